@@ -1,0 +1,10 @@
+pub mod Base128
+pub mod TwosComplement
+pub mod Fault
+pub mod Header
+pub mod Tree
+pub mod View
+pub mod Contents
+pub mod Grammar
+pub mod HeadersBegun
+pub mod Canonical

@@ -1,0 +1,157 @@
+// Why octets are no document, and why a block can't be written.
+ghost use Rattle.std.specs.Prelude.{◌≡◌, IfOk};
+ghost use Rattle.simple_asn1.specs.Fault.{fault_of};
+
+use std::alloc::{AllocError, AllocFailed, Global};
+use std::str::Utf8Error;
+use thiserror::Error;
+
+/// Why octets were not read.
+#[derive(Debug, Drop, Error, PartialEq)]
+pub enum ASN1DecodeErr {
+    /// A document, or the contents octets of a SEQUENCE or SET, is empty.
+    #[error("Encountered an empty buffer decoding ASN1 block.")]
+    EmptyBuffer,
+    /// The contents octets of a BOOLEAN are not one; their number.
+    #[error("Bad length field in boolean block: {0}")]
+    BadBooleanLength(usize),
+    /// A length that passes a `usize`: the number of its length octets, if that is more than 8, and else the length.
+    #[error("Length field too large for object type: {0}")]
+    LengthTooLarge(usize),
+    /// Contents octets that should be UTF-8 are not.
+    #[error("UTF8 string failed to properly decode: {0}")]
+    UTF8DecodeFailure(Utf8Error),
+    /// Contents octets of a PrintableString hold another character.
+    #[error("Printable string failed to properly decode.")]
+    PrintableStringDecodeFailure,
+    /// A time is no valid moment; its text, or the number of its octets.
+    #[error("Invalid date value: {0}")]
+    InvalidDateValue(String),
+    /// A BIT STRING has more unused bits than bits; the difference, below 0.
+    #[error("Invalid length of bit string: {0}")]
+    InvalidBitStringLength(isize),
+    /// A class that does not exist. Never answered.
+    #[error("Invalid class value: {0}")]
+    InvalidClass(u8),
+    /// More octets were expected. Octets that mean something else can lead to it.
+    #[error("Incomplete data or invalid ASN1")]
+    Incomplete,
+    /// A component of an object identifier does not fit the type that was asked for.
+    #[error("Value overflow")]
+    Overflow,
+    /// Memory ran out. Nothing is said of the octets.
+    #[error("Out of memory")]
+    OutOfMemory,
+}
+
+impl From<AllocError> for ASN1DecodeErr {
+    ghost use Rattle.simple_asn1.specs.declared.error.ASN1DecodeErr.TheVariants.{OutOfMemory};
+
+    ghost from_gives = { λ _ e. e ≡ OutOfMemory };
+
+    fn from(_: AllocError) -> ASN1DecodeErr {
+        ASN1DecodeErr::OutOfMemory
+    }
+}
+
+impl<T: Drop> From<AllocFailed<T>> for ASN1DecodeErr {
+    ghost use Rattle.simple_asn1.specs.declared.error.ASN1DecodeErr.TheVariants.{OutOfMemory};
+
+    ghost from_gives = { λ _ e. e ≡ OutOfMemory };
+
+    fn from(_: AllocFailed<T>) -> ASN1DecodeErr {
+        ASN1DecodeErr::OutOfMemory
+    }
+}
+
+impl ASN1DecodeErr {
+    /// The same error. The only error of the call is that memory ran out.
+    pub fn clone(&self, _alloc: Global) -> Result<ASN1DecodeErr, AllocError>
+        ensures { IfOk result (λ e. fault_of e ≡ fault_of self.now) }
+    {
+        match self {
+            ASN1DecodeErr::EmptyBuffer => Ok(ASN1DecodeErr::EmptyBuffer),
+            ASN1DecodeErr::BadBooleanLength(n) => Ok(ASN1DecodeErr::BadBooleanLength(*n)),
+            ASN1DecodeErr::LengthTooLarge(n) => Ok(ASN1DecodeErr::LengthTooLarge(*n)),
+            ASN1DecodeErr::UTF8DecodeFailure(e) => Ok(ASN1DecodeErr::UTF8DecodeFailure(*e)),
+            ASN1DecodeErr::PrintableStringDecodeFailure => {
+                Ok(ASN1DecodeErr::PrintableStringDecodeFailure)
+            }
+            ASN1DecodeErr::InvalidDateValue(text) => {
+                Ok(ASN1DecodeErr::InvalidDateValue(text.clone()?))
+            }
+            ASN1DecodeErr::InvalidBitStringLength(n) => {
+                Ok(ASN1DecodeErr::InvalidBitStringLength(*n))
+            }
+            ASN1DecodeErr::InvalidClass(n) => Ok(ASN1DecodeErr::InvalidClass(*n)),
+            ASN1DecodeErr::Incomplete => Ok(ASN1DecodeErr::Incomplete),
+            ASN1DecodeErr::Overflow => Ok(ASN1DecodeErr::Overflow),
+            ASN1DecodeErr::OutOfMemory => Ok(ASN1DecodeErr::OutOfMemory),
+        }
+    }
+}
+
+/// Why a block was not written.
+#[derive(Debug, Drop, Error, PartialEq)]
+pub enum ASN1EncodeErr {
+    /// An object identifier has fewer than two components.
+    #[error("ASN1 object identifier has too few fields.")]
+    ObjectIdentHasTooFewFields,
+    /// The first component of an object identifier is above 2.
+    #[error("First value in ASN1 OID is too big.")]
+    ObjectIdentVal1TooLarge,
+    /// The second component of an object identifier is too large for the first subidentifier.
+    #[error("Second value in ASN1 OID is too big.")]
+    ObjectIdentVal2TooLarge,
+    /// The number of bits of a bit string does not fit its bytes.
+    #[error("Bit count does not fit the bytes of the bit string")]
+    BitStringLength,
+    /// A string of one octet a character holds a character past 255.
+    #[error("Character does not fit one byte")]
+    CharacterTooLarge,
+    /// The year of a time is below 0.
+    #[error("Year is below 0")]
+    YearOutOfRange,
+    /// Memory ran out. Nothing is said of the block.
+    #[error("Out of memory")]
+    OutOfMemory,
+}
+
+impl From<AllocError> for ASN1EncodeErr {
+    ghost use Rattle.simple_asn1.specs.declared.error.ASN1EncodeErr.TheVariants.{OutOfMemory};
+
+    ghost from_gives = { λ _ e. e ≡ OutOfMemory };
+
+    fn from(_: AllocError) -> ASN1EncodeErr {
+        ASN1EncodeErr::OutOfMemory
+    }
+}
+
+impl<T: Drop> From<AllocFailed<T>> for ASN1EncodeErr {
+    ghost use Rattle.simple_asn1.specs.declared.error.ASN1EncodeErr.TheVariants.{OutOfMemory};
+
+    ghost from_gives = { λ _ e. e ≡ OutOfMemory };
+
+    fn from(_: AllocFailed<T>) -> ASN1EncodeErr {
+        ASN1EncodeErr::OutOfMemory
+    }
+}
+
+impl ASN1EncodeErr {
+    /// The same error. It takes no memory today; the allocator is there for errors to come.
+    pub fn clone(&self, _alloc: Global) -> Result<ASN1EncodeErr, AllocError>
+        ensures { IfOk result (λ e. e ≡ self.now) }
+    {
+        match self {
+            ASN1EncodeErr::ObjectIdentHasTooFewFields => {
+                Ok(ASN1EncodeErr::ObjectIdentHasTooFewFields)
+            }
+            ASN1EncodeErr::ObjectIdentVal1TooLarge => Ok(ASN1EncodeErr::ObjectIdentVal1TooLarge),
+            ASN1EncodeErr::ObjectIdentVal2TooLarge => Ok(ASN1EncodeErr::ObjectIdentVal2TooLarge),
+            ASN1EncodeErr::BitStringLength => Ok(ASN1EncodeErr::BitStringLength),
+            ASN1EncodeErr::CharacterTooLarge => Ok(ASN1EncodeErr::CharacterTooLarge),
+            ASN1EncodeErr::YearOutOfRange => Ok(ASN1EncodeErr::YearOutOfRange),
+            ASN1EncodeErr::OutOfMemory => Ok(ASN1EncodeErr::OutOfMemory),
+        }
+    }
+}

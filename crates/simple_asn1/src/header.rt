@@ -1,0 +1,254 @@
+// Identifier and length octets, each way.
+//
+// Each decoder is a function from a slice to the value and how many octets it took, with a wrapper that moves an index.
+ghost use Rattle.std.specs.Prelude.{◌≡◌, ℕ, ◌+◌, ◌*◌, ◌/◌, ◌++◌, ◌<◌, ◌≤◌, ◌^◌, ◌⊎◌, List, length, drop, take, IfOk, OnOk, OnErr, slice_index, slice_range, IsOk, IfErr, IfSome, IfNone};
+ghost use Rattle.std.specs.Int.Digits.{number_from_digits, digits_of};
+ghost use Rattle.simple_asn1.specs.Base128.{IsBase128, shortest_base128};
+ghost use Rattle.simple_asn1.specs.Fault.{OutOfMemoryOr, fault_of};
+ghost use Rattle.simple_asn1.specs.Header.{BeginsWithNo, IsIdentifier, IsIncomplete, IsLength, IsSomeIdentifier, class_number, length_fault, shortest_identifier, shortest_length};
+
+use crate::error::ASN1DecodeErr;
+use crate::number::big_uint::BigUint;
+use std::alloc::{AllocError, Global};
+use std::marker::Model;
+
+/// The class of a tag (X.690 8.1.2.2).
+#[derive(Clone, Copy, Debug, PartialEq)]
+pub enum ASN1Class {
+    Universal,
+    Application,
+    ContextSpecific,
+    Private,
+}
+
+/// How many headers were begun. [`decode_tag`] alone raises it.
+#[derive(Debug, Drop)]
+pub struct HeaderCount {
+    begun: u64,
+}
+
+impl Model for HeaderCount {
+    ghost use Rattle.std.specs.Prelude.{ℕ};
+
+    ghost Value = { ℕ };
+
+    ghost view = { λ c. c.begun };
+}
+
+impl HeaderCount {
+    /// No header yet.
+    pub fn new() -> HeaderCount
+        ensures { result ≡ 0 }
+    {
+        HeaderCount { begun: 0 }
+    }
+
+    /// The number so far.
+    pub fn count(&self) -> u64
+        ensures { result ≡ self.now }
+    {
+        self.begun
+    }
+}
+
+// The place of the first octet whose bit 8 is clear.
+fn last_octet_at(octets: &[u8]) -> Option<usize>
+    ensures found { IfSome result (λ i. (i < length octets.now) × (slice_index octets.now i < 128)) }
+    ensures before { IfSome result (λ i. (j : ℕ) → j < i → 128 ≤ slice_index octets.now j) }
+    ensures none { IfNone result ((j : ℕ) → j < length octets.now → 128 ≤ slice_index octets.now j) }
+{
+    octets.iter().position(|b| *b < 128)
+}
+
+// The base-128 number at the front, and how many octets it has.
+fn base128_at(alloc: Global, octets: &[u8]) -> Result<(BigUint, usize), ASN1DecodeErr>
+    ensures found { IfOk result (λ x. (x.1 ≤ length octets.now) × IsBase128 (take x.1 octets.now) x.0) }
+    ensures refused { IfErr result (OutOfMemoryOr (IsIncomplete IsBase128 octets.now)) }
+{
+    let Some(last) = last_octet_at(octets) else {
+        return Err(ASN1DecodeErr::Incomplete);
+    };
+    let (number, _) = octets.split_at(last + 1);
+    let n = BigUint::from_low_bits(alloc, number)?;
+    Ok((n, last + 1))
+}
+
+// The identifier octets at the front, and how many they are.
+fn tag_at(
+    alloc: Global,
+    octets: &[u8],
+) -> Result<((BigUint, bool, ASN1Class), usize), ASN1DecodeErr>
+    ensures found { IfOk result (λ x. (0 < x.1) × (x.1 ≤ length octets.now) × IsIdentifier (take x.1 octets.now) x.0.2 x.0.1 x.0.0) }
+    ensures refused { IfErr result (OutOfMemoryOr (IsIncomplete IsSomeIdentifier octets.now)) }
+{
+    let Some((first, rest)) = octets.split_first() else {
+        return Err(ASN1DecodeErr::Incomplete);
+    };
+    let class = class_of(*first);
+    let constructed = *first % 64 / 32 == 1;
+    let low = *first % 32;
+    if low != 31 {
+        let n = BigUint::from_u64(alloc, low as u64)?;
+        return Ok(((n, constructed, class), 1));
+    }
+    match base128_at(alloc, rest) {
+        Ok((n, size)) => Ok(((n, constructed, class), 1 + size)),
+        Err(e) => Err(e),
+    }
+}
+
+/// Reads identifier octets (X.690 8.1.2) at `index`, and moves the index past them. Adds one to the count, whatever the
+/// answer.
+///
+/// Gives the tag number, whether the encoding is constructed, and the class. The long form is read for any number, and
+/// with leading octets 80. After a refusal the index stands where it stood.
+///
+/// # Errors
+/// `Incomplete` where the octets run out, also for an index past the end; `OutOfMemory`.
+pub fn decode_tag(
+    alloc: Global,
+    i: &[u8],
+    index: &mut usize,
+    count: &mut HeaderCount,
+) -> Result<(BigUint, bool, ASN1Class), ASN1DecodeErr>
+    requires { count.old + 1 < 2 ^ 64 }
+    ensures moved { OnOk result ((index.old < index.new) × (index.new ≤ length i.now)) }
+    ensures found { IfOk result (λ x. IsIdentifier (slice_range i.now index.old index.new) x.2 x.1 x.0) }
+    ensures refused { IfErr result (OutOfMemoryOr (IsIncomplete IsSomeIdentifier (drop index.old i.now))) }
+    ensures unmoved { OnErr result (index.new ≡ index.old) }
+    ensures counted { count.new ≡ count.old + 1 }
+{
+    count.begun += 1;
+    if *index > i.len() {
+        return Err(ASN1DecodeErr::Incomplete);
+    }
+    let (_, rest) = i.split_at(*index);
+    match tag_at(alloc, rest) {
+        Ok((tag, size)) => {
+            *index += size;
+            Ok(tag)
+        }
+        Err(e) => Err(e),
+    }
+}
+
+/// Reads a base-128 number (X.690 8.1.2.4.2) at `index`, and moves the index past it. Leading octets 80 are read.
+/// After a refusal the index stands where it stood.
+///
+/// # Errors
+/// `Incomplete` where the octets run out, also for an index past the end; `OutOfMemory`.
+pub fn decode_base127(
+    alloc: Global,
+    i: &[u8],
+    index: &mut usize,
+) -> Result<BigUint, ASN1DecodeErr>
+    ensures moved { OnOk result ((index.old ≤ index.new) × (index.new ≤ length i.now)) }
+    ensures found { IfOk result (λ n. IsBase128 (slice_range i.now index.old index.new) n) }
+    ensures refused { IfErr result (OutOfMemoryOr (IsIncomplete IsBase128 (drop index.old i.now))) }
+    ensures unmoved { OnErr result (index.new ≡ index.old) }
+{
+    if *index > i.len() {
+        return Err(ASN1DecodeErr::Incomplete);
+    }
+    let (_, rest) = i.split_at(*index);
+    match base128_at(alloc, rest) {
+        Ok((n, size)) => {
+            *index += size;
+            Ok(n)
+        }
+        Err(e) => Err(e),
+    }
+}
+
+// The number of the octets, the first of them the most significant.
+fn big_endian(octets: &[u8]) -> usize
+    requires { length octets.now ≤ 8 }
+    ensures { result ≡ number_from_digits 256 octets.now }
+{
+    let mut n: usize = 0;
+    for b in octets {
+        n = n * 256 + *b as usize;
+    }
+    n
+}
+
+// The length octets at the front: the length, and how many they are.
+fn length_at(octets: &[u8]) -> Result<(usize, usize), ASN1DecodeErr>
+    ensures found { IfOk result (λ x. (x.1 ≤ length octets.now) × IsLength (take x.1 octets.now) x.0) }
+    ensures refused { OnErr result (BeginsWithNo IsLength octets.now) }
+    ensures fault { IfErr result (λ e. fault_of e ≡ length_fault octets.now) }
+{
+    let Some((first, rest)) = octets.split_first() else {
+        return Err(ASN1DecodeErr::Incomplete);
+    };
+    if *first < 128 {
+        return Ok((*first as usize, 1));
+    }
+    let count = (*first - 128) as usize;
+    if count > 8 {
+        return Err(ASN1DecodeErr::LengthTooLarge(count));
+    }
+    if rest.len() < count {
+        return Err(ASN1DecodeErr::Incomplete);
+    }
+    let (digits, _) = rest.split_at(count);
+    Ok((big_endian(digits), 1 + count))
+}
+
+/// Reads length octets of the definite form (X.690 8.1.3) at `index`, and moves the index past them. Longer forms than
+/// the shortest are read, and 80 is the length 0. After a refusal the index stands where it stood.
+///
+/// # Errors
+/// `LengthTooLarge` where more than 8 octets follow the first, with their number; else `Incomplete` where the octets
+/// run out, also for an index past the end.
+pub fn decode_length(i: &[u8], index: &mut usize) -> Result<usize, ASN1DecodeErr>
+    ensures moved { OnOk result ((index.old ≤ index.new) × (index.new ≤ length i.now)) }
+    ensures found { IfOk result (λ n. IsLength (slice_range i.now index.old index.new) n) }
+    ensures refused { OnErr result (BeginsWithNo IsLength (drop index.old i.now)) }
+    ensures fault { IfErr result (λ e. fault_of e ≡ length_fault (drop index.old i.now)) }
+    ensures unmoved { OnErr result (index.new ≡ index.old) }
+{
+    if *index > i.len() {
+        return Err(ASN1DecodeErr::Incomplete);
+    }
+    let (_, rest) = i.split_at(*index);
+    match length_at(rest) {
+        Ok((n, size)) => {
+            *index += size;
+            Ok(n)
+        }
+        Err(e) => Err(e),
+    }
+}
+
+// The class of a leading octet.
+fn class_of(leading: u8) -> ASN1Class
+    ensures { class_number result ≡ leading / 64 }
+{
+    match leading >> 6 {
+        0 => ASN1Class::Universal,
+        1 => ASN1Class::Application,
+        2 => ASN1Class::ContextSpecific,
+        _ => ASN1Class::Private,
+    }
+}
+
+/// The class of a leading octet, by its two high bits (X.690 table 1). It is always `Ok`.
+pub fn decode_class(i: u8) -> Result<ASN1Class, ASN1DecodeErr>
+    ensures ok { IsOk result }
+    ensures class { IfOk result (λ class. class_number class ≡ i / 64) }
+{
+    Ok(class_of(i))
+}
+
+/// The two high bits of a leading octet of this class, the others zero (X.690 table 1).
+pub fn encode_class(c: ASN1Class) -> u8
+    ensures { result ≡ class_number c * 64 }
+{
+    match c {
+        ASN1Class::Universal => 0,
+        ASN1Class::Application => 0x40,
+        ASN1Class::ContextSpecific => 0x80,
+        ASN1Class::Private => 0xC0,
+    }
+}
