@@ -8,3 +8,5 @@ pub mod Contents
 pub mod Grammar
 pub mod HeadersBegun
 pub mod Canonical
+pub mod Equality
+pub mod EqualityLaws

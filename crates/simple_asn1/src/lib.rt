@@ -18,6 +18,7 @@ mod block;
 mod error;
 mod header;
 mod number;
+mod octets;
 
 pub use crate::block::ASN1Block;
 pub use crate::error::{ASN1DecodeErr, ASN1EncodeErr};

@@ -1,0 +1,3 @@
+pub mod Base128Digits
+pub mod HeaderOctets
+pub mod BlockLists
