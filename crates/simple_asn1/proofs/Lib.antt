@@ -1,0 +1,5 @@
+pub mod Leaves
+pub mod Prefixes
+pub mod OneReading
+pub mod Faults
+pub mod HeaderCounts
