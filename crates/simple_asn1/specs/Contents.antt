@@ -3,7 +3,7 @@ use Rattle.std.specs.Prelude.{◌≡◌, ℕ, ◌==◌, ◌||◌, ◌++◌, Bool
 use Rattle.simple_asn1.specs.declared.block.GroupKind.{GroupKind}
 use Rattle.simple_asn1.specs.declared.block.GroupKind.TheVariants.{Sequence, Set}
 use Rattle.simple_asn1.specs.declared.error.ASN1EncodeErr.{ASN1EncodeErr}
-use Rattle.simple_asn1.specs.Tree.{Leaf, integer, octet_string}
+use Rattle.simple_asn1.specs.Tree.{Leaf, integer, octet_string, Tree, leaf, group, explicit, unknown}
 use Rattle.simple_asn1.specs.Fault.{DecodeFault}
 use Rattle.simple_asn1.specs.TwosComplement.{signed_number, shortest_octets}
 
@@ -45,3 +45,10 @@ leaf_contents (octet_string v) = v
 abbrev pub leaf_write_fault : Leaf → Option ASN1EncodeErr
 leaf_write_fault (integer n) = None
 leaf_write_fault (octet_string v) = None
+
+-- the tree is a leaf at the offset, with this tag and these contents octets
+abbrev pub IsLeafOf : ℕ → ℕ → List ℕ → Tree ℕ → Type 0
+IsLeafOf offset tag contents (leaf o l) = (o ≡ offset) × (tag ≡ leaf_tag l) × LeafContents l contents
+IsLeafOf offset tag contents (group o g bs) = ⊥
+IsLeafOf offset tag contents (explicit c o n b) = ⊥
+IsLeafOf offset tag contents (unknown c k o n v) = ⊥

@@ -1,6 +1,6 @@
 -- What is claimed of a refusal: its variant with its number or text. The cause that a failed decoding of UTF-8
 -- carries is shown by tests alone.
-use Rattle.std.specs.Prelude.{◌≡◌, ◌⊎◌, ℕ, ℤ, List, string_bytes}
+use Rattle.std.specs.Prelude.{◌≡◌, ◌⊎◌, ℕ, ℤ, List, Result, Ok, Err, string_bytes}
 use Rattle.simple_asn1.specs.declared.error.ASN1DecodeErr.{ASN1DecodeErr}
 use Rattle.simple_asn1.specs.declared.error.ASN1DecodeErr.TheVariants.{EmptyBuffer, BadBooleanLength, LengthTooLarge, UTF8DecodeFailure, PrintableStringDecodeFailure, InvalidDateValue, InvalidBitStringLength, InvalidClass, Incomplete, Overflow, OutOfMemory}
 
@@ -33,3 +33,8 @@ fault_of OutOfMemory = out_of_memory
 -- memory ran out, or the fault is one of these
 abbrev pub OutOfMemoryOr : (DecodeFault → Type 0) → ASN1DecodeErr → Type 0
 OutOfMemoryOr P e = (e ≡ OutOfMemory) ⊎ P (fault_of e)
+
+-- the claim holds unless memory ran out
+abbrev pub UnlessOutOfMemory : {A : Type 0} → Result A ASN1DecodeErr → Type 0 → Type 0
+UnlessOutOfMemory (Ok x) P = P
+UnlessOutOfMemory (Err e) P = (e ≡ OutOfMemory) ⊎ P

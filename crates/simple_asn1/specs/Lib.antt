@@ -10,3 +10,4 @@ pub mod HeadersBegun
 pub mod Canonical
 pub mod Equality
 pub mod EqualityLaws
+pub mod OpenFrames

@@ -15,10 +15,12 @@
 #![tactic(auto)]
 
 mod block;
+mod body;
 mod error;
 mod header;
 mod number;
 mod octets;
+mod read;
 
 pub use crate::block::ASN1Block;
 pub use crate::error::{ASN1DecodeErr, ASN1EncodeErr};
@@ -27,3 +29,4 @@ pub use crate::header::{
 };
 pub use crate::number::big_int::BigInt;
 pub use crate::number::big_uint::BigUint;
+pub use crate::read::{from_der, from_der_counted};
