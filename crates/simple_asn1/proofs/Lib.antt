@@ -6,3 +6,6 @@ pub mod Prefixes
 pub mod OneReading
 pub mod Faults
 pub mod HeaderCounts
+pub mod SignedNumbers
+pub mod ReadSteps
+pub mod FrameSteps
