@@ -4,8 +4,12 @@ use Rattle.std.specs.List.{slice_range}
 use Rattle.std.proofs.lemmas.List.{drop-take, take_all, reverse-append}
 use Rattle.simple_asn1.specs.declared.header.ASN1Class.{ASN1Class}
 use Rattle.simple_asn1.specs.declared.header.ASN1Class.TheVariants.{Universal}
-use Rattle.simple_asn1.specs.declared.header.DecodeFault.{DecodeFault}
-use Rattle.simple_asn1.specs.declared.header.DecodeFault.TheVariants.{EmptyBuffer, OutOfMemory}
+use Rattle.simple_asn1.specs.declared.error.ASN1DecodeErr.{ASN1DecodeErr}
+use Rattle.simple_asn1.specs.declared.error.ASN1DecodeErr.TheVariants.{OutOfMemory}
+use Rattle.simple_asn1.specs.declared.block.GroupKind.{GroupKind}
+use Rattle.simple_asn1.specs.Fault.{DecodeFault, fault_of, OutOfMemoryOr, empty_buffer}
+use Rattle.simple_asn1.specs.Contents.{group_tag, is_group_tag}
+use Rattle.simple_asn1.proofs.Leaves.{group_tag_is}
 use Rattle.simple_asn1.specs.Header.{Encoding}
 use Rattle.simple_asn1.specs.declared.read.FrameKind.{FrameKind}
 use Rattle.simple_asn1.specs.declared.read.FrameKind.TheVariants.{Whole, Group, Attempt}
@@ -18,7 +22,7 @@ use Rattle.simple_asn1.specs.Tree.{Tree, Trees, leaf, group, explicit, unknown, 
 use Rattle.simple_asn1.specs.View.{view, views}
 use Rattle.simple_asn1.specs.Grammar.{MayBeGroupContents, IsBlock, of_other_class, of_group, AreBlocks, Encodes, EncodesAll, HeaderFault, BlockFault, in_header, in_contents, ContentsFault, of_item, of_empty_group, BlocksFault, after_blocks}
 use Rattle.simple_asn1.specs.HeadersBegun.{IsReadInside, HeadersBegun, begun_none, begun_some, BegunInside, inside_first, nothing_inside, BegunAfter, after_first, nothing_after}
-use Rattle.simple_asn1.specs.OpenFrames.{ReadTo, Headed, Opened, StopsAt, Stopping, Follows, Reading, Turned, left, Nearer, IsPut}
+use Rattle.simple_asn1.specs.OpenFrames.{IsKindFor, ReadTo, Headed, Opened, StopsAt, Stopping, Follows, Reading, Turned, left, Nearer, IsPut}
 use Rattle.simple_asn1.proofs.Prefixes.{SameEncoding, encoding_alone}
 use Rattle.simple_asn1.proofs.OneReading.{encodes_block, encodes_blocks, block_some}
 use Rattle.simple_asn1.proofs.Faults.{block_is_blocks, block_fault_no_block, blocks_fault_no_blocks, header_no_encoding}
@@ -100,7 +104,7 @@ opened_open octets f h gs p n e H lt le fits o =
     let none_yet = slice_none octets h.start in
     (p, 0, n, H, lt, fits, record { from = omega arith; to = le; within = omega (arith, fits, w.within); encoded = subst (λ z. EncodesAll h.start (slice_range octets h.start h.start) (views z)) (sym e) none_yet; begun = begun_none none_yet }, o, omega arith)
 
--- the contents of a frame where a block is refused
+-- the contents of a frame where a block is at fault
 refused_read : (octets : List ℕ) (f : OpenFrame) (p : ℕ) (e : DecodeFault) (a b : ℕ) → ReadTo octets f p a → StopsAt octets f p e b → BlocksFault (slice_range octets f.start f.end) e × HeadersBegun (slice_range octets f.start f.end) (a + b)
 refused_read octets f p e a b r s =
     let front = slice_range octets f.start p in
@@ -110,26 +114,26 @@ refused_read octets f p e a b r s =
     let l : length front ≡ p - f.start = slice_length octets f.start p r.from (omega (arith, r.to, r.within)) in
     (after_blocks front rest whole k (omega (arith, slice_length octets p f.end r.to r.within, s.here)) (subst (λ z. BlockFault z rest e) (sym l) s.stops), subst (λ z. HeadersBegun z (a + b)) (sym whole) (begun_join front rest a b k r.begun s.begun))
 
--- a group whose contents has a fault
-group_stops : (octets : List ℕ) (g : OpenFrame) (o s e : ℕ) (k : Bool) (fault : DecodeFault) (a : ℕ) → length octets < 2 ^ 64 → g.start ≤ o → o < s → s ≤ e → e ≤ g.end → g.end ≤ length octets → Encoding (slice_range octets o e) Universal k 16 (slice_range octets s e) (s - o) → ContentsFault 16 (slice_range octets s e) fault → HeadersBegun (slice_range octets s e) a → StopsAt octets g o fault (1 + a)
-group_stops octets g o s e k fault a small low lt le fits within F w B =
+-- a group whose contents are at fault
+group_stops : (octets : List ℕ) (g : OpenFrame) (o s e : ℕ) (y : GroupKind) (k : Bool) (fault : DecodeFault) (a : ℕ) → length octets < 2 ^ 64 → g.start ≤ o → o < s → s ≤ e → e ≤ g.end → g.end ≤ length octets → Encoding (slice_range octets o e) Universal k (group_tag y) (slice_range octets s e) (s - o) → ContentsFault (group_tag y) (slice_range octets s e) fault → HeadersBegun (slice_range octets s e) a → StopsAt octets g o fault (1 + a)
+group_stops octets g o s e y k fault a small low lt le fits within F w B =
     let d = slice_join octets o e g.end (omega arith) fits in
     let len = slice_length octets o g.end (omega arith) within in
     let stops : BlockFault (o - g.start) (slice_range octets o g.end) fault = in_contents (slice_range octets o e) (slice_range octets e g.end) d F w in
     record {
       here = omega arith;
       stops = stops;
-      begun = begun_some (omega (arith, len)) a 0 (inside_first (slice_range octets o e) (slice_range octets e g.end) d F (inl (refl, refl)) B) (nothing_after (λ x r c b. block_fault_no_block (o - g.start) (slice_range octets o g.end) x r fault stops (omega (arith, len, small)) c b)) (omega arith)
+      begun = begun_some (omega (arith, len)) a 0 (inside_first (slice_range octets o e) (slice_range octets e g.end) d F (inl (refl, group_tag_is y)) B) (nothing_after (λ x r c b. block_fault_no_block (o - g.start) (slice_range octets o g.end) x r fault stops (omega (arith, len, small)) c b)) (omega arith)
     }
 
 -- a fault leaves a group
-pub stop_group : (octets : List ℕ) (f g : OpenFrame) (gs : List OpenFrame) (e : DecodeFault) (n x : ℕ) → length octets < 2 ^ 64 → f.kind ≡ Group x → Stopping octets f (g ∷ gs) e n → Stopping octets g gs e n
-stop_group octets f g gs e n x small k w =
+pub stop_group : (octets : List ℕ) (f g : OpenFrame) (gs : List OpenFrame) (e : DecodeFault) (n x : ℕ) (y : GroupKind) → length octets < 2 ^ 64 → f.kind ≡ Group y x → Stopping octets f (g ∷ gs) e n → Stopping octets g gs e n
+stop_group octets f g gs e n x y small k w =
     let (p, a, b, o, s, q) = w in
     let H = subst (λ z. Headed octets z o.0 f.start f.end) k o.3 in
     let r = refused_read octets f p e o.1 b o.6 s in
     let v = opened_places octets g gs o.0 o.2 o.7 in
-    (o.0, o.2, 1 + (o.1 + b), o.7, group_stops octets g o.0 f.start f.end H.1 e (o.1 + b) small v.from o.4 (omega (arith, o.6.from, o.6.to)) o.5 v.within H.2 (of_item refl r.0) r.1, omega (arith, q, o.8))
+    (o.0, o.2, 1 + (o.1 + b), o.7, group_stops octets g o.0 f.start f.end y H.1 e (o.1 + b) small v.from o.4 (omega (arith, o.6.from, o.6.to)) o.5 v.within H.2 (of_item y refl r.0) r.1, omega (arith, q, o.8))
 
 -- what a closed frame is in the frame around it
 pub record Closed (octets : List ℕ) (g : OpenFrame) (gs : List OpenFrame) (p q : ℕ) (b : Tree ℕ) (n : ℕ) : Type 0 where
@@ -175,25 +179,25 @@ end_document octets f n o =
     let d : slice_range octets f.start f.end ≡ octets = ap (λ z. slice_range octets z f.end) o.1 ∙ (ap (slice_range octets 0) o.2 ∙ slice_all octets) in
     (subst (λ z. EncodesAll z octets (views f.blocks.items)) o.1 (subst (λ z. EncodesAll f.start z (views f.blocks.items)) d o.3.encoded), subst (λ z. HeadersBegun z n) d o.3.begun)
 
-bytes_of_some : (o : ℕ) (contents : List ℕ) (bs : List ASN1Block) → 0 < length bs → EncodesAll o contents (views bs) → 0 < length contents
-bytes_of_some o contents [] h s = absurd (omega (arith, h))
-bytes_of_some o contents (b ∷ bs) h s = omega (arith, block_some s.0 (encodes_block o s.0 (view b) s.3), ap length s.2, length-append s.0 s.1)
+octets_of_some : (o : ℕ) (contents : List ℕ) (bs : List ASN1Block) → 0 < length bs → EncodesAll o contents (views bs) → 0 < length contents
+octets_of_some o contents [] h s = absurd (omega (arith, h))
+octets_of_some o contents (b ∷ bs) h s = omega (arith, block_some s.0 (encodes_block o s.0 (view b) s.3), ap length s.2, length-append s.0 s.1)
 
-bytes_of_none : (o : ℕ) (contents : List ℕ) (bs : List ASN1Block) → length bs ≡ 0 → EncodesAll o contents (views bs) → contents ≡ []
-bytes_of_none o contents [] h s = s
-bytes_of_none o contents (b ∷ bs) h s = absurd (omega (arith, h))
+octets_of_none : (o : ℕ) (contents : List ℕ) (bs : List ASN1Block) → length bs ≡ 0 → EncodesAll o contents (views bs) → contents ≡ []
+octets_of_none o contents [] h s = s
+octets_of_none o contents (b ∷ bs) h s = absurd (omega (arith, h))
 
 may_be : (contents : List ℕ) → 0 < length contents → MayBeGroupContents contents
 unfolding MayBeGroupContents
 may_be contents h = h
 
 -- the end of a group
-pub close_group : (octets : List ℕ) (f g : OpenFrame) (gs : List OpenFrame) (n x : ℕ) → f.kind ≡ Group x → 0 < length f.blocks.items → Opened octets f (g ∷ gs) f.end n → Closed octets g gs x f.end (group x (views f.blocks.items)) n
-close_group octets f g gs n x k some o =
+pub close_group : (octets : List ℕ) (f g : OpenFrame) (gs : List OpenFrame) (n x : ℕ) (y : GroupKind) → f.kind ≡ Group y x → 0 < length f.blocks.items → Opened octets f (g ∷ gs) f.end n → Closed octets g gs x f.end (group x y (views f.blocks.items)) n
+close_group octets f g gs n x y k some o =
     let contents = slice_range octets f.start f.end in
     let H = subst (λ z. Headed octets z o.0 f.start f.end) k o.3 in
-    let F = subst (λ z. Encoding (slice_range octets z f.end) Universal H.1 16 contents (f.start - z)) (sym H.0) H.2 in
-    let m = may_be contents (bytes_of_some f.start contents f.blocks.items some o.6.encoded) in
+    let F = subst (λ z. Encoding (slice_range octets z f.end) Universal H.1 (group_tag y) contents (f.start - z)) (sym H.0) H.2 in
+    let m = may_be contents (octets_of_some f.start contents f.blocks.items some o.6.encoded) in
     let at : f.start ≡ x + (f.start - x) = omega (arith, H.0, o.4) in
     record {
       before = o.2;
@@ -203,18 +207,18 @@ close_group octets f g gs n x k some o =
         from = omega (arith, H.0, o.4, o.6.from, o.6.to);
         to = o.5;
         encoded = (H.1, contents, f.start - x, F, refl, m, subst (λ z. EncodesAll z contents (views f.blocks.items)) at o.6.encoded);
-        begun = begun_opened (slice_range octets x f.end) Universal H.1 16 contents (f.start - x) o.1 F (inl (refl, refl)) (of_group F refl m (encodes_blocks f.start contents (views f.blocks.items) o.6.encoded)) o.6.begun
+        begun = begun_opened (slice_range octets x f.end) Universal H.1 (group_tag y) contents (f.start - x) o.1 F (inl (refl, group_tag_is y)) (of_group F y refl m (encodes_blocks f.start contents (views f.blocks.items) o.6.encoded)) o.6.begun
       };
       total = o.8
     }
 
 -- the end of a group without blocks
-pub close_empty : (octets : List ℕ) (f g : OpenFrame) (gs : List OpenFrame) (n x : ℕ) → length octets < 2 ^ 64 → f.kind ≡ Group x → length f.blocks.items ≡ 0 → Opened octets f (g ∷ gs) f.end n → Stopping octets g gs EmptyBuffer n
-close_empty octets f g gs n x small k empty o =
+pub close_empty : (octets : List ℕ) (f g : OpenFrame) (gs : List OpenFrame) (n x : ℕ) (y : GroupKind) → length octets < 2 ^ 64 → f.kind ≡ Group y x → length f.blocks.items ≡ 0 → Opened octets f (g ∷ gs) f.end n → Stopping octets g gs empty_buffer n
+close_empty octets f g gs n x y small k empty o =
     let contents = slice_range octets f.start f.end in
     let H = subst (λ z. Headed octets z o.0 f.start f.end) k o.3 in
     let v = opened_places octets g gs o.0 o.2 o.7 in
-    (o.0, o.2, 1 + o.1, o.7, group_stops octets g o.0 f.start f.end H.1 EmptyBuffer o.1 small v.from o.4 (omega (arith, o.6.from, o.6.to)) o.5 v.within H.2 (of_empty_group refl (bytes_of_none f.start contents f.blocks.items empty o.6.encoded)) o.6.begun, o.8)
+    (o.0, o.2, 1 + o.1, o.7, group_stops octets g o.0 f.start f.end y H.1 empty_buffer o.1 small v.from o.4 (omega (arith, o.6.from, o.6.to)) o.5 v.within H.2 (of_empty_group y refl (octets_of_none f.start contents f.blocks.items empty o.6.encoded)) o.6.begun, o.8)
 
 -- the end of an attempt
 pub close_attempt : (octets : List ℕ) (f g : OpenFrame) (gs : List OpenFrame) (n : ℕ) (c : ASN1Class) (x t : ℕ) (b : Tree ℕ) → f.kind ≡ Attempt c x t → ((all : List ℕ) (h : ℕ) → c ≢ Universal → Encoding all c true t (slice_range octets f.start f.end) h → EncodesAll (x + h) (slice_range octets f.start f.end) (views f.blocks.items) → Encodes x all b) → Opened octets f (g ∷ gs) f.end n → Closed octets g gs x f.end b n
@@ -237,7 +241,7 @@ close_attempt octets f g gs n c x t b k means o =
     }
 
 -- a block was put into the frame
-pub turned_put : (t : Result Turn DecodeFault) (octets : List ℕ) (f : OpenFrame) (gs : List OpenFrame) (p q n m count base : ℕ) (b : ASN1Block) → IsPut f gs q b t → Opened octets f (reverse gs) p n → Follows octets f p q (view b) m → count ≡ base + (n + m) → Turned octets t count base
+pub turned_put : (t : Result Turn ASN1DecodeErr) (octets : List ℕ) (f : OpenFrame) (gs : List OpenFrame) (p q n m count base : ℕ) (b : ASN1Block) → IsPut f gs q b t → Opened octets f (reverse gs) p n → Follows octets f p q (view b) m → count ≡ base + (n + m) → Turned octets t count base
 turned_put (Ok (Continues r)) octets f gs p q n m count base b u o w e =
     let s = opened_more octets f r.inner (reverse gs) p q n m b u.0 u.1 u.2 u.3 o w in
     (n + m, e, subst (λ z. Opened octets r.inner (reverse r.outer.items) z (n + m)) (sym u.5) (subst (λ z. Opened octets r.inner (reverse z) q (n + m)) (sym u.4) s))
@@ -246,11 +250,6 @@ turned_put (Err x) octets f gs p q n m count base b u o w e =
     let v = opened_places octets f (reverse gs) p n o in
     inl (u, omega (arith, e, opened_bound octets f (reverse gs) p n o, begun_le (slice_range octets p q) m w.begun, slice_length octets p q (omega (arith, w.from)) (omega (arith, w.to, v.within)), w.to, w.from, v.within))
 
-pub nearer_put : (t : Result Turn DecodeFault) (f : OpenFrame) (gs : List OpenFrame) (q size most : ℕ) (b : ASN1Block) → IsPut f gs q b t → left size q gs < most → Nearer size t most
-nearer_put (Ok (Continues r)) f gs q size most b u h = omega (arith, h, u.5, ap length u.4)
-nearer_put (Ok (Ends v)) f gs q size most b u h = tt
-nearer_put (Err e) f gs q size most b u h = tt
-
 pub reverse_push : {X : Type 0} (old new : List X) (x : X) → old ≡ new ++ x ∷ [] → reverse old ≡ x ∷ reverse new
 reverse_push old new x e = ap reverse e ∙ reverse-append new (x ∷ [])
 
@@ -258,12 +257,12 @@ pub reverse_none : {X : Type 0} (xs : List X) → length xs ≡ 0 → reverse xs
 reverse_none [] e = refl
 reverse_none (x ∷ xs) e = absurd (omega (arith, e))
 
-pub nearer_more : (t : Result Turn DecodeFault) (size a b : ℕ) → a ≤ b → Nearer size t a → Nearer size t b
+pub nearer_more : (t : Result Turn ASN1DecodeErr) (size a b : ℕ) → a ≤ b → Nearer size t a → Nearer size t b
 nearer_more (Ok (Continues r)) size a b h n = omega (arith, h, n)
 nearer_more (Ok (Ends v)) size a b h n = tt
 nearer_more (Err e) size a b h n = tt
 
-pub turned_memory : (t : Result Turn DecodeFault) (octets : List ℕ) (count base : ℕ) → IsErr t × IsErrAnd t (λ e. e ≡ OutOfMemory) → count ≤ base + length octets → Turned octets t count base
+pub turned_memory : (t : Result Turn ASN1DecodeErr) (octets : List ℕ) (count base : ℕ) → IsErr t × IsErrAnd t (λ e. e ≡ OutOfMemory) → count ≤ base + length octets → Turned octets t count base
 turned_memory (Ok x) octets count base e h = absurd e.1
 turned_memory (Err x) octets count base e h = inl (e.1, h)
 
@@ -283,12 +282,12 @@ stop_pop octets f g gs e n small other w = (go f.kind refl, w.3.5)
   where
     go : (k : FrameKind) → f.kind ≡ k → Stopping octets g gs e n
     go Whole d = absurd (subst (λ z. Headed octets z w.3.0 f.start f.end) d w.3.3)
-    go (Group x) d = stop_group octets f g gs e n x small d w
+    go (Group y x) d = stop_group octets f g gs e n x y small d w
     go (Attempt c x t) d = absurd (other c x t d)
 
--- the frame of a header in a contents
-pub frame_here : (octets : List ℕ) (f : OpenFrame) (p a z : ℕ) (c : ASN1Class) (k : Bool) (n : ℕ) → Places octets f p → p - f.start < a → a ≤ z → z ≤ f.end - f.start → Encoding (slice_range (slice_range octets f.start f.end) (p - f.start) z) c k n (slice_range (slice_range octets f.start f.end) a z) (a - (p - f.start)) → Encoding (slice_range octets p (f.start + z)) c k n (slice_range octets (f.start + a) (f.start + z)) (f.start + a - p)
-frame_here octets f p a z c k n v lt le fits F =
+-- the encoding of a header in the contents of a frame
+pub header_here : (octets : List ℕ) (f : OpenFrame) (p a z : ℕ) (c : ASN1Class) (k : Bool) (n : ℕ) → Places octets f p → p - f.start < a → a ≤ z → z ≤ f.end - f.start → Encoding (slice_range (slice_range octets f.start f.end) (p - f.start) z) c k n (slice_range (slice_range octets f.start f.end) a z) (a - (p - f.start)) → Encoding (slice_range octets p (f.start + z)) c k n (slice_range octets (f.start + a) (f.start + z)) (f.start + a - p)
+header_here octets f p a z c k n v lt le fits F =
     let e1 : slice_range (slice_range octets f.start f.end) (p - f.start) z ≡ slice_range octets (f.start + (p - f.start)) (f.start + z) = slice_slice octets f.start f.end (p - f.start) z (omega (arith, v.from, v.to)) (omega arith) (omega (arith, v.from, v.to)) in
     let e2 : slice_range (slice_range octets f.start f.end) a z ≡ slice_range octets (f.start + a) (f.start + z) = slice_slice octets f.start f.end a z (omega (arith, v.from, v.to)) le (omega (arith, v.from, v.to)) in
     let e3 : f.start + (p - f.start) ≡ p = omega (arith, v.from) in
@@ -298,7 +297,7 @@ frame_here octets f p a z c k n v lt le fits F =
         (subst (λ w. Encoding (slice_range (slice_range octets f.start f.end) (p - f.start) z) c k n w (f.start + a - p)) e2
           (subst (λ w. Encoding (slice_range (slice_range octets f.start f.end) (p - f.start) z) c k n (slice_range (slice_range octets f.start f.end) a z) w) e4 F)))
 
--- a header is refused
+-- a header is at fault
 pub header_stopping : (octets : List ℕ) (f : OpenFrame) (gs : List OpenFrame) (p n : ℕ) (e : DecodeFault) → length octets < 2 ^ 64 → p ≢ f.end → Opened octets f gs p n → HeaderFault (p - f.start) (drop (p - f.start) (slice_range octets f.start f.end)) e → Stopping octets f gs e (n + 1)
 header_stopping octets f gs p n e small ne o w =
     let v = opened_places octets f gs p n o in
@@ -311,7 +310,7 @@ header_stopping octets f gs p n e small ne o w =
     let here : p < f.end = omega (arith, v.to, ne) in
     (p, n, 1, o, record { here = here; stops = stops; begun = begun_some (omega (arith, l, here)) 0 0 (nothing_inside (λ x r c k t contents h g F op. header_no_encoding (p - f.start) rest x r e c k t contents h u near g F)) (nothing_after (λ x r g b. block_fault_no_block (p - f.start) rest x r e stops near g b)) refl }, refl)
 
--- the contents of a leaf is refused
+-- the contents of a leaf are at fault
 pub leaf_stopping : (octets : List ℕ) (f : OpenFrame) (gs : List OpenFrame) (p q s n : ℕ) (e : DecodeFault) (c : ASN1Class) (k : Bool) (t : ℕ) → length octets < 2 ^ 64 → p < q → q ≤ f.end → Opened octets f gs p n → Encoding (slice_range octets p q) c k t (slice_range octets s q) (s - p) → (IsReadInside c k t → ⊥) → c ≡ Universal → ContentsFault t (slice_range octets s q) e → Stopping octets f gs e (n + 1)
 leaf_stopping octets f gs p q s n e c k t small lt fits o F shut u w =
     let v = opened_places octets f gs p n o in
@@ -329,21 +328,20 @@ pub leaf_follows : (octets : List ℕ) (f : OpenFrame) (p q s : ℕ) (c : ASN1Cl
 leaf_follows octets f p q s c k t b lt fits F shut w =
     record { from = lt; to = fits; encoded = w; begun = begun_leaf (slice_range octets p q) c k t (slice_range octets s q) (s - p) F shut (encodes_block p (slice_range octets p q) b w) }
 
--- the kind of a frame that is opened
-pub headed_group : (octets : List ℕ) (kind : FrameKind) (o s e : ℕ) (c : ASN1Class) (k : Bool) (n : ℕ) → kind ≡ Group o → c ≡ Universal → IsReadInside c k n → Encoding (slice_range octets o e) c k n (slice_range octets s e) (s - o) → Headed octets kind o s e
-headed_group octets kind o s e c k n d u (inl w) F =
-    subst (λ z. Headed octets z o s e) (sym d) (refl, k, subst (λ z. Encoding (slice_range octets o e) Universal k z (slice_range octets s e) (s - o)) w.1 (subst (λ z. Encoding (slice_range octets o e) z k n (slice_range octets s e) (s - o)) u F))
-headed_group octets kind o s e c k n d u (inr w) F = absurd (w.0 u)
-
-pub headed_attempt : (octets : List ℕ) (kind : FrameKind) (o s e : ℕ) (c : ASN1Class) (k : Bool) (n : ℕ) → kind ≡ Attempt c o n → c ≢ Universal → IsReadInside c k n → Encoding (slice_range octets o e) c k n (slice_range octets s e) (s - o) → Headed octets kind o s e
-headed_attempt octets kind o s e c k n d ne (inl w) F = absurd (ne w.0)
-headed_attempt octets kind o s e c k n d ne (inr w) F =
-    subst (λ z. Headed octets z o s e) (sym d) (refl, ne, subst (λ z. Encoding (slice_range octets o e) c z n (slice_range octets s e) (s - o)) w.1 F)
+-- the frame of contents that are read inside
+pub headed_by : (octets : List ℕ) (kind : FrameKind) (o s e : ℕ) (c : ASN1Class) (k : Bool) (n : ℕ) → IsKindFor kind c n o → IsReadInside c k n → Encoding (slice_range octets o e) c k n (slice_range octets s e) (s - o) → Headed octets kind o s e
+headed_by octets Whole o s e c k n h r F = absurd h
+headed_by octets (Group y p) o s e c k n h (inl r) F =
+    (h.1, k, subst (λ z. Encoding (slice_range octets o e) Universal k z (slice_range octets s e) (s - o)) (h.2 r.1) (subst (λ z. Encoding (slice_range octets o e) z k n (slice_range octets s e) (s - o)) h.0 F))
+headed_by octets (Group y p) o s e c k n h (inr r) F = absurd (r.0 h.0)
+headed_by octets (Attempt d p m) o s e c k n h (inl r) F = absurd (h.0 r.0)
+headed_by octets (Attempt d p m) o s e c k n h (inr r) F =
+    (h.2, λ u. h.0 (sym h.1 ∙ u), subst (λ z. Encoding (slice_range octets o e) d true z (slice_range octets s e) (s - o)) (sym h.3) (subst (λ z. Encoding (slice_range octets o e) z true n (slice_range octets s e) (s - o)) (sym h.1) (subst (λ z. Encoding (slice_range octets o e) c z n (slice_range octets s e) (s - o)) r.1 F)))
 
 -- a header in the contents of the innermost frame
 pub record HeaderAt (octets : List ℕ) (f : OpenFrame) (p a z : ℕ) (c : ASN1Class) (k : Bool) (n : ℕ) : Type 0 where
-  pub frame : Encoding (slice_range octets p (f.start + z)) c k n (slice_range octets (f.start + a) (f.start + z)) (f.start + a - p)
-  pub after_blocks : p < f.start + a
+  pub encoding : Encoding (slice_range octets p (f.start + z)) c k n (slice_range octets (f.start + a) (f.start + z)) (f.start + a - p)
+  pub past : p < f.start + a
   pub order : f.start + a ≤ f.start + z
   pub fits : f.start + z ≤ f.end
 
@@ -352,8 +350,9 @@ header_found octets f gs p m a z c k n o b F =
     let v = opened_places octets f gs p m o in
     let l = slice_length octets f.start f.end (omega (arith, v.from, v.to)) v.within in
     let fits : z ≤ f.end - f.start = omega (arith, l, b.2) in
-    record { frame = frame_here octets f p a z c k n v b.0 b.1 fits F; after_blocks = omega (arith, b.0, v.from); order = omega (arith, b.1); fits = omega (arith, fits, v.from, v.to) }
+    record { encoding = header_here octets f p a z c k n v b.0 b.1 fits F; past = omega (arith, b.0, v.from); order = omega (arith, b.1); fits = omega (arith, fits, v.from, v.to) }
 
-pub not_memory : {P : Type 0} (e : DecodeFault) → (e ≡ OutOfMemory) ⊎ P → (e ≡ OutOfMemory → ⊥) → P
-not_memory e (inl m) other = absurd (other m)
-not_memory e (inr p) other = p
+-- a fault that is not want of memory
+pub fault_here : (P : DecodeFault → Type 0) (e : ASN1DecodeErr) → OutOfMemoryOr P e → (e ≡ OutOfMemory → ⊥) → P (fault_of e)
+fault_here P e (inl m) other = absurd (other m)
+fault_here P e (inr p) other = p

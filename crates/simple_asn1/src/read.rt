@@ -305,10 +305,10 @@ fn close(
     }
 }
 
-fn group_block(group: GroupKind, offset: usize, blocks: Vec<ASN1Block>) -> ASN1Block
-    ensures { view result ≡ group offset group (views blocks.items) }
+fn group_block(kind: GroupKind, offset: usize, blocks: Vec<ASN1Block>) -> ASN1Block
+    ensures { view result ≡ group offset kind (views blocks.items) }
 {
-    match group {
+    match kind {
         GroupKind::Sequence => ASN1Block::Sequence(offset, blocks),
         GroupKind::Set => ASN1Block::Set(offset, blocks),
     }

@@ -3,21 +3,22 @@ use Rattle.std.specs.List.{slice_range}
 use Rattle.std.proofs.lemmas.Grind.{common_steps}
 use Rattle.simple_asn1.specs.declared.header.ASN1Class.{ASN1Class}
 use Rattle.simple_asn1.specs.declared.header.ASN1Class.TheVariants.{Universal}
-use Rattle.simple_asn1.specs.declared.header.DecodeFault.{DecodeFault}
-use Rattle.simple_asn1.specs.declared.header.DecodeFault.TheVariants.{EmptyBuffer, OutOfMemory}
+use Rattle.simple_asn1.specs.declared.error.ASN1DecodeErr.{ASN1DecodeErr}
+use Rattle.simple_asn1.specs.declared.error.ASN1DecodeErr.TheVariants.{OutOfMemory}
+use Rattle.simple_asn1.specs.Fault.{fault_of}
 use Rattle.simple_asn1.specs.Header.{Encoding}
 use Rattle.simple_asn1.specs.declared.read.FrameKind.{FrameKind}
 use Rattle.simple_asn1.specs.declared.read.FrameKind.TheVariants.{Whole, Group, Attempt}
 use Rattle.simple_asn1.specs.declared.read.OpenFrame.{OpenFrame}
 use Rattle.simple_asn1.specs.declared.read.Turn.TheVariants.{Continues, Ends}
-use Rattle.simple_asn1.specs.Tree.{unknown, group}
+use Rattle.simple_asn1.specs.Tree.{unknown}
 use Rattle.simple_asn1.specs.View.{view, views}
 use Rattle.simple_asn1.specs.Grammar.{Encodes, EncodesAll, IsBlock, BlocksFault, FirstFault, Document, HeaderFault, ContentsFault}
 use Rattle.simple_asn1.specs.HeadersBegun.{HeadersBegun, IsReadInside, begun_none}
 use Rattle.simple_asn1.specs.OpenFrames.{Opened, Stopping, StopsAt, Reading, Turned, Follows, Nearer, left, IsPut, ReadTo}
-use Rattle.simple_asn1.proofs.ReadSteps.{slice_length, view-Sequence, view-Unknown, no_bytes}
+use Rattle.simple_asn1.proofs.ReadSteps.{slice_length, view-Unknown, no_octets}
 use Rattle.simple_asn1.proofs.HeaderCounts.{begun_le}
-use Rattle.simple_asn1.proofs.FrameSteps.{Closed, Places, opened_places, opened_bound, opened_open, stop_attempt, stop_document, end_document, close_group, close_empty, close_attempt, turned_put, nearer_put, reverse_push, reverse_none, nearer_more, turned_memory, follows_as, stopping_places, stop_pop, frame_here, header_stopping, leaf_stopping, leaf_follows, headed_group, headed_attempt}
+use Rattle.simple_asn1.proofs.FrameSteps.{Closed, Places, opened_places, opened_bound, opened_open, stop_attempt, stop_document, end_document, close_group, close_empty, close_attempt, turned_put, reverse_push, reverse_none, nearer_more, turned_memory, follows_as, stopping_places, stop_pop, header_here, header_stopping, leaf_stopping, leaf_follows, headed_by}
 use Rattle.simple_asn1.proofs.read.close.Goals as goal
 
 pub refuse-requires-clause-stopping : goal.refuse-requires-clause-stopping
@@ -25,20 +26,20 @@ refuse-requires-clause-stopping c =
     let r = reverse_push c.args.outer.items c.pop.new.self.items c.in-Some.parent c.in-Some.ensures.items in
     let l : length c.args.inner.blocks.items ≡ 0 = grind (arith, common_steps) in
     let n = c.requires.opened.0 in
-    (n, close_empty c.args.octets.now c.args.inner c.in-Some.parent (reverse c.pop.new.self.items) n c.in-Group.offset c.requires.small c.in-Group.is l (subst (λ z. Opened c.args.octets.now c.args.inner z c.args.inner.end n) r c.requires.opened.1))
+    (n, close_empty c.args.octets.now c.args.inner c.in-Some.parent (reverse c.pop.new.self.items) n c.in-Group.offset c.in-Group.group c.requires.small c.in-Group.is l (subst (λ z. Opened c.args.octets.now c.args.inner z c.args.inner.end n) r c.requires.opened.1))
 
 pub returns-then-len-eq0-clause-turned : goal.returns-then-len-eq0-clause-turned
 returns-then-len-eq0-clause-turned c n base o =
     let r = reverse_push c.args.outer.items c.pop.new.self.items c.in-Some.parent c.in-Some.ensures.items in
     let l : length c.args.inner.blocks.items ≡ 0 = grind (arith, common_steps) in
-    c.refuse.ensures.turned n base (close_empty c.args.octets.now c.args.inner c.in-Some.parent (reverse c.pop.new.self.items) n c.in-Group.offset c.requires.small c.in-Group.is l (subst (λ z. Opened c.args.octets.now c.args.inner z c.args.inner.end n) r o))
+    c.refuse.ensures.turned n base (close_empty c.args.octets.now c.args.inner c.in-Some.parent (reverse c.pop.new.self.items) n c.in-Group.offset c.in-Group.group c.requires.small c.in-Group.is l (subst (λ z. Opened c.args.octets.now c.args.inner z c.args.inner.end n) r o))
 
 pub returns-else-len-eq0-clause-turned : goal.returns-else-len-eq0-clause-turned
 returns-else-len-eq0-clause-turned c n base o =
     let r = reverse_push c.args.outer.items c.pop.new.self.items c.in-Some.parent c.in-Some.ensures.items in
     let l : 0 < length c.args.inner.blocks.items = grind (arith, common_steps) in
-    let k = close_group c.args.octets.now c.args.inner c.in-Some.parent (reverse c.pop.new.self.items) n c.in-Group.offset c.in-Group.is l (subst (λ z. Opened c.args.octets.now c.args.inner z c.args.inner.end n) r o) in
-    turned_put c.put.result c.args.octets.now c.in-Some.parent c.pop.new.self.items c.in-Group.offset c.args.inner.end k.before k.own (base + n) base _ c.put.ensures k.opened (follows_as c.args.octets.now c.in-Some.parent c.in-Group.offset c.args.inner.end _ _ k.own (view-Sequence c.in-Group.offset c.args.inner.blocks) k.follows) (omega (arith, k.total))
+    let k = close_group c.args.octets.now c.args.inner c.in-Some.parent (reverse c.pop.new.self.items) n c.in-Group.offset c.in-Group.group c.in-Group.is l (subst (λ z. Opened c.args.octets.now c.args.inner z c.args.inner.end n) r o) in
+    turned_put c.put.result c.args.octets.now c.in-Some.parent c.pop.new.self.items c.in-Group.offset c.args.inner.end k.before k.own (base + n) base _ c.put.ensures k.opened (follows_as c.args.octets.now c.in-Some.parent c.in-Group.offset c.args.inner.end _ _ k.own c.group_block.ensures k.follows) (omega (arith, k.total))
 
 pub returns-in-Ok-clause-turned : goal.returns-in-Ok-clause-turned
 returns-in-Ok-clause-turned c n base o =

@@ -3,25 +3,26 @@ use Rattle.std.specs.List.{slice_range}
 use Rattle.std.proofs.lemmas.Grind.{common_steps}
 use Rattle.simple_asn1.specs.declared.header.ASN1Class.{ASN1Class}
 use Rattle.simple_asn1.specs.declared.header.ASN1Class.TheVariants.{Universal}
-use Rattle.simple_asn1.specs.declared.header.DecodeFault.{DecodeFault}
-use Rattle.simple_asn1.specs.declared.header.DecodeFault.TheVariants.{EmptyBuffer, OutOfMemory}
+use Rattle.simple_asn1.specs.declared.error.ASN1DecodeErr.{ASN1DecodeErr}
+use Rattle.simple_asn1.specs.declared.error.ASN1DecodeErr.TheVariants.{OutOfMemory}
+use Rattle.simple_asn1.specs.Fault.{fault_of}
 use Rattle.simple_asn1.specs.Header.{Encoding}
 use Rattle.simple_asn1.specs.declared.read.FrameKind.{FrameKind}
 use Rattle.simple_asn1.specs.declared.read.FrameKind.TheVariants.{Whole, Group, Attempt}
 use Rattle.simple_asn1.specs.declared.read.OpenFrame.{OpenFrame}
 use Rattle.simple_asn1.specs.declared.read.Turn.TheVariants.{Continues, Ends}
-use Rattle.simple_asn1.specs.Tree.{unknown, group}
+use Rattle.simple_asn1.specs.Tree.{unknown}
 use Rattle.simple_asn1.specs.View.{view, views}
 use Rattle.simple_asn1.specs.Grammar.{Encodes, EncodesAll, IsBlock, BlocksFault, FirstFault, Document, HeaderFault, ContentsFault}
 use Rattle.simple_asn1.specs.HeadersBegun.{HeadersBegun, IsReadInside, begun_none}
 use Rattle.simple_asn1.specs.OpenFrames.{Headed, Opened, Stopping, StopsAt, Reading, Turned, Follows, Nearer, left, IsPut, ReadTo}
-use Rattle.simple_asn1.proofs.ReadSteps.{slice_length, view-Sequence, view-Unknown, no_bytes}
+use Rattle.simple_asn1.proofs.ReadSteps.{slice_length, view-Unknown, no_octets}
 use Rattle.simple_asn1.proofs.HeaderCounts.{begun_le}
-use Rattle.simple_asn1.proofs.FrameSteps.{Closed, Places, slice_none, opened_places, opened_bound, opened_open, stop_attempt, stop_document, end_document, close_group, close_empty, close_attempt, turned_put, nearer_put, reverse_push, reverse_none, nearer_more, turned_memory, follows_as, stopping_places, stop_pop, frame_here, header_stopping, leaf_stopping, leaf_follows, headed_group, headed_attempt}
+use Rattle.simple_asn1.proofs.FrameSteps.{Closed, Places, slice_none, opened_places, opened_bound, opened_open, stop_attempt, stop_document, end_document, close_group, close_empty, close_attempt, turned_put, reverse_push, reverse_none, nearer_more, turned_memory, follows_as, stopping_places, stop_pop, header_here, header_stopping, leaf_stopping, leaf_follows, headed_by}
 use Rattle.simple_asn1.proofs.read.from_der_counted.Goals as goal
 
 pub returns-then-i-eq0-clause-counted : goal.returns-then-i-eq0-clause-counted
-returns-then-i-eq0-clause-counted c = inr (0, begun_none (no_bytes c.args.i.now c.if-i-eq0.true), omega arith)
+returns-then-i-eq0-clause-counted c = inr (0, begun_none (no_octets c.args.i.now c.if-i-eq0.true), omega arith)
 
 pub loop-next-init : goal.loop-next-init
 loop-next-init c =
@@ -48,7 +49,7 @@ ended c =
     subst (λ t. Turned c.args.i.now t c.take_turn.new.count c.args.count.now) (c.in-Ok-Ends.is ∙ ap Ok c.in-Ok-Ends.field-0-is) (c.take_turn.ensures.turned c.args.count.now c.loop-next.invariant)
 
 pub returns-in-Ok-Ends-clause-document : goal.returns-in-Ok-Ends-clause-document
-returns-in-Ok-Ends-clause-document c = record { some = omega (arith, c.if-i-eq0.false); encoded = (ended c).0 }
+returns-in-Ok-Ends-clause-document c = record { some = omega (arith, c.if-i-eq0.false); blocks = (ended c).0 }
 
 pub returns-in-Ok-Ends-clause-counted : goal.returns-in-Ok-Ends-clause-counted
 returns-in-Ok-Ends-clause-counted c = ((ended c).1, (ended c).3, (ended c).2)

@@ -3,55 +3,56 @@ use Rattle.std.specs.List.{slice_range}
 use Rattle.std.proofs.lemmas.Grind.{common_steps}
 use Rattle.simple_asn1.specs.declared.header.ASN1Class.{ASN1Class}
 use Rattle.simple_asn1.specs.declared.header.ASN1Class.TheVariants.{Universal}
-use Rattle.simple_asn1.specs.declared.header.DecodeFault.{DecodeFault}
-use Rattle.simple_asn1.specs.declared.header.DecodeFault.TheVariants.{EmptyBuffer, OutOfMemory}
+use Rattle.simple_asn1.specs.declared.error.ASN1DecodeErr.{ASN1DecodeErr}
+use Rattle.simple_asn1.specs.declared.error.ASN1DecodeErr.TheVariants.{OutOfMemory}
+use Rattle.simple_asn1.specs.Fault.{fault_of}
 use Rattle.simple_asn1.specs.Header.{Encoding}
 use Rattle.simple_asn1.specs.declared.read.FrameKind.{FrameKind}
 use Rattle.simple_asn1.specs.declared.read.FrameKind.TheVariants.{Whole, Group, Attempt}
 use Rattle.simple_asn1.specs.declared.read.OpenFrame.{OpenFrame}
 use Rattle.simple_asn1.specs.declared.read.Turn.TheVariants.{Continues, Ends}
-use Rattle.simple_asn1.specs.Tree.{unknown, group}
+use Rattle.simple_asn1.specs.Tree.{unknown}
 use Rattle.simple_asn1.specs.View.{view, views}
 use Rattle.simple_asn1.specs.Grammar.{Encodes, EncodesAll, IsBlock, BlocksFault, FirstFault, Document, HeaderFault, ContentsFault}
 use Rattle.simple_asn1.specs.HeadersBegun.{HeadersBegun, IsReadInside, begun_none}
 use Rattle.simple_asn1.specs.OpenFrames.{Opened, Stopping, StopsAt, Reading, Turned, Follows, Nearer, left, IsPut, ReadTo}
-use Rattle.simple_asn1.proofs.ReadSteps.{slice_length, view-Sequence, view-Unknown, no_bytes}
+use Rattle.simple_asn1.proofs.ReadSteps.{slice_length, view-Unknown, no_octets}
 use Rattle.simple_asn1.proofs.HeaderCounts.{begun_le}
-use Rattle.simple_asn1.proofs.FrameSteps.{Closed, Places, opened_places, opened_bound, opened_open, stop_attempt, stop_document, end_document, close_group, close_empty, close_attempt, turned_put, nearer_put, reverse_push, reverse_none, nearer_more, turned_memory, follows_as, stopping_places, stop_pop, frame_here, header_stopping, leaf_stopping, leaf_follows, headed_group, headed_attempt}
+use Rattle.simple_asn1.proofs.FrameSteps.{Closed, Places, opened_places, opened_bound, opened_open, stop_attempt, stop_document, end_document, close_group, close_empty, close_attempt, turned_put, reverse_push, reverse_none, nearer_more, turned_memory, follows_as, stopping_places, stop_pop, header_here, header_stopping, leaf_stopping, leaf_follows, headed_by}
 use Rattle.simple_asn1.proofs.read.refuse.Goals as goal
 
 -- the fault as the loop has it
-now : (c : goal.In-Attempt) (n : ℕ) → Stopping c.args.octets.now c.args.inner (reverse c.args.outer.items) c.args.e n → Stopping c.args.octets.now c.loop-parent.inner (c.in-Some.parent ∷ reverse c.pop.new.self.items) c.args.e n
-now c n w = subst (λ z. Stopping c.args.octets.now c.loop-parent.inner z c.args.e n) (reverse_push c.loop-parent.outer.items c.pop.new.self.items c.in-Some.parent c.in-Some.ensures.items) (c.loop-parent.invariant.stopping n w)
+now : (c : goal.In-Attempt) (n : ℕ) → Stopping c.args.octets.now c.args.inner (reverse c.args.outer.items) (fault_of c.args.e) n → Stopping c.args.octets.now c.loop-parent.inner (c.in-Some.parent ∷ reverse c.pop.new.self.items) (fault_of c.loop-parent.e-1) n
+now c n w = subst (λ z. Stopping c.args.octets.now c.loop-parent.inner z (fault_of c.loop-parent.e-1) n) (reverse_push c.loop-parent.outer.items c.pop.new.self.items c.in-Some.parent c.in-Some.ensures.items) (c.loop-parent.invariant.stopping n w)
 
-pub slice_bounds-copy_bytes-count : goal.slice_bounds-copy_bytes-count
-slice_bounds-copy_bytes-count c =
-    (stopping_places c.args.octets.now c.loop-parent.inner (c.in-Some.parent ∷ reverse c.pop.new.self.items) c.args.e c.requires.stopping.0 (now c c.requires.stopping.0 c.requires.stopping.1)).0
+pub slice_bounds-copy_of-count : goal.slice_bounds-copy_of-count
+slice_bounds-copy_of-count c =
+    (stopping_places c.args.octets.now c.loop-parent.inner (c.in-Some.parent ∷ reverse c.pop.new.self.items) (fault_of c.loop-parent.e-1) c.requires.stopping.0 (now c c.requires.stopping.0 c.requires.stopping.1)).0
 
-pub slice_bounds-copy_bytes-start : goal.slice_bounds-copy_bytes-start
-slice_bounds-copy_bytes-start c =
-    let p = stopping_places c.args.octets.now c.loop-parent.inner (c.in-Some.parent ∷ reverse c.pop.new.self.items) c.args.e c.requires.stopping.0 (now c c.requires.stopping.0 c.requires.stopping.1) in
+pub slice_bounds-copy_of-start : goal.slice_bounds-copy_of-start
+slice_bounds-copy_of-start c =
+    let p = stopping_places c.args.octets.now c.loop-parent.inner (c.in-Some.parent ∷ reverse c.pop.new.self.items) (fault_of c.loop-parent.e-1) c.requires.stopping.0 (now c c.requires.stopping.0 c.requires.stopping.1) in
     let a : c.loop-parent.inner.start ≤ c.loop-parent.inner.end = p.0 in
     let b : c.loop-parent.inner.end ≤ length c.args.octets.now = p.1 in
     grind (arith, common_steps)
 
-pub slice_bounds-copy_bytes-end : goal.slice_bounds-copy_bytes-end
-slice_bounds-copy_bytes-end c =
-    let p = stopping_places c.args.octets.now c.loop-parent.inner (c.in-Some.parent ∷ reverse c.pop.new.self.items) c.args.e c.requires.stopping.0 (now c c.requires.stopping.0 c.requires.stopping.1) in
+pub slice_bounds-copy_of-end : goal.slice_bounds-copy_of-end
+slice_bounds-copy_of-end c =
+    let p = stopping_places c.args.octets.now c.loop-parent.inner (c.in-Some.parent ∷ reverse c.pop.new.self.items) (fault_of c.loop-parent.e-1) c.requires.stopping.0 (now c c.requires.stopping.0 c.requires.stopping.1) in
     let a : c.loop-parent.inner.start ≤ c.loop-parent.inner.end = p.0 in
     let b : c.loop-parent.inner.end ≤ length c.args.octets.now = p.1 in
     grind (arith, common_steps)
 
-pub returns-in_err-content-clause-turned : goal.returns-in_err-content-clause-turned
-returns-in_err-content-clause-turned c n base w =
-    let p = stopping_places c.args.octets.now c.args.inner (reverse c.args.outer.items) c.args.e n w in
+pub returns-in_err-contents-clause-turned : goal.returns-in_err-contents-clause-turned
+returns-in_err-contents-clause-turned c n base w =
+    let p = stopping_places c.args.octets.now c.args.inner (reverse c.args.outer.items) (fault_of c.args.e) n w in
     turned_memory c.from_residual.result c.args.octets.now (base + n) base c.from_residual.ensures (omega (arith, p.2))
 
 pub returns-in-Attempt-clause-turned : goal.returns-in-Attempt-clause-turned
 returns-in-Attempt-clause-turned c n base w =
-    let s = subst (λ z. Stopping c.args.octets.now c.loop-parent.inner z c.args.e n) (reverse_push c.loop-parent.outer.items c.pop.new.self.items c.in-Some.parent c.in-Some.ensures.items) (c.loop-parent.invariant.stopping n w) in
-    let k = stop_attempt c.args.octets.now c.loop-parent.inner c.in-Some.parent (reverse c.pop.new.self.items) c.args.e n c.in-Attempt.class c.in-Attempt.offset c.in-Attempt.tag c.requires.small c.in-Attempt.is s in
-    let v = c.in_ok-content.content in
+    let s = subst (λ z. Stopping c.args.octets.now c.loop-parent.inner z (fault_of c.loop-parent.e-1) n) (reverse_push c.loop-parent.outer.items c.pop.new.self.items c.in-Some.parent c.in-Some.ensures.items) (c.loop-parent.invariant.stopping n w) in
+    let k = stop_attempt c.args.octets.now c.loop-parent.inner c.in-Some.parent (reverse c.pop.new.self.items) (fault_of c.loop-parent.e-1) n c.in-Attempt.class c.in-Attempt.offset c.in-Attempt.tag c.requires.small c.in-Attempt.is s in
+    let v = c.in_ok-contents.contents in
     let e : v.items ≡ slice_range c.args.octets.now c.loop-parent.inner.start c.loop-parent.inner.end = grind (arith, common_steps) in
     let d = view-Unknown c.in-Attempt.class true c.in-Attempt.offset c.in-Attempt.tag v ∙ ap (unknown c.in-Attempt.class true c.in-Attempt.offset c.in-Attempt.tag) e in
     turned_put c.put.result c.args.octets.now c.in-Some.parent c.pop.new.self.items c.in-Attempt.offset c.loop-parent.inner.end k.before k.own (base + n) base _ c.put.ensures k.opened (follows_as c.args.octets.now c.in-Some.parent c.in-Attempt.offset c.loop-parent.inner.end _ _ k.own d k.follows) (omega (arith, k.total))
@@ -59,7 +60,7 @@ returns-in-Attempt-clause-turned c n base w =
 pub loop-parent-preserved : goal.loop-parent-preserved
 loop-parent-preserved c =
     let r = reverse_push c.loop-parent.outer.items c.pop.new.self.items c.in-Some.parent c.in-Some.ensures.items in
-    let step = λ (n : ℕ) (w : Stopping c.args.octets.now c.args.inner (reverse c.args.outer.items) c.args.e n). stop_pop c.args.octets.now c.loop-parent.inner c.in-Some.parent (reverse c.pop.new.self.items) c.args.e n c.requires.small (λ x y z. c.in_default-kind.not-Attempt x y z) (subst (λ z. Stopping c.args.octets.now c.loop-parent.inner z c.args.e n) r (c.loop-parent.invariant.stopping n w)) in
+    let step = λ (n : ℕ) (w : Stopping c.args.octets.now c.args.inner (reverse c.args.outer.items) (fault_of c.args.e) n). stop_pop c.args.octets.now c.loop-parent.inner c.in-Some.parent (reverse c.pop.new.self.items) (fault_of c.loop-parent.e-1) n c.requires.small (λ x y z. c.in_default-kind.not-Attempt x y z) (subst (λ z. Stopping c.args.octets.now c.loop-parent.inner z (fault_of c.loop-parent.e-1) n) r (c.loop-parent.invariant.stopping n w)) in
     record {
       stopping = λ n w. (step n w).0;
       within = omega (arith, c.loop-parent.invariant.within, (step c.requires.stopping.0 c.requires.stopping.1).1);
@@ -69,6 +70,6 @@ loop-parent-preserved c =
 pub returns-clause-turned : goal.returns-clause-turned
 returns-clause-turned c n base w =
     let l : length c.loop-parent.outer.items ≡ 0 = grind (arith, common_steps) in
-    let s = subst (λ z. Stopping c.args.octets.now c.loop-parent.inner z c.args.e n) (reverse_none c.loop-parent.outer.items l) (c.loop-parent.invariant.stopping n w) in
-    let r = stop_document c.args.octets.now c.loop-parent.inner c.args.e n s in
+    let s = subst (λ z. Stopping c.args.octets.now c.loop-parent.inner z (fault_of c.loop-parent.e-1) n) (reverse_none c.loop-parent.outer.items l) (c.loop-parent.invariant.stopping n w) in
+    let r = stop_document c.args.octets.now c.loop-parent.inner (fault_of c.loop-parent.e-1) n s in
     inr (r.0, n, refl, r.1)
