@@ -90,6 +90,10 @@ universal_contents x k n contents h f (of_group g j t m bs) =
 pub split_encoding : (octets x rest : List ℕ) (c : ASN1Class) (k : Bool) (n : ℕ) (contents : List ℕ) (h : ℕ) (f : Encoding x c k n contents h) → octets ≡ x ++ rest → octets ≡ f.identifier ++ (f.len ++ (contents ++ rest))
 split_encoding octets x rest c k n contents h f e = e ∙ ap (λ z. z ++ rest) f.whole ∙ simp append_assoc
 
+-- the contents octets of an encoding at the front are among the octets
+pub encoding_within : (octets x rest : List ℕ) (c : ASN1Class) (k : Bool) (n : ℕ) (contents : List ℕ) (h : ℕ) → Encoding x c k n contents h → octets ≡ x ++ rest → length contents ≤ length octets
+encoding_within octets x rest c k n contents h f e = omega (arith, ap length e, length-append x rest, ap length f.whole, length-append f.identifier (f.len ++ contents), length-append f.len contents)
+
 -- length octets are some
 pub length_first : (l : List ℕ) (n : ℕ) → IsLength l n → (b : ℕ) × (r : List ℕ) × (l ≡ b ∷ r)
 length_first [] n p = absurd p
@@ -126,7 +130,7 @@ mutual
   block_fault_no_block place octets x rest e (in_contents y r {k = k} {n = n} {contents = contents} {h = h} g f fault) small d b =
       let F = block_encoding x b in
       let q = encoding_alone _ _ _ _ _ _ _ _ _ _ _ _ r rest f F.encoding (sym g ∙ d) in
-      contents_fault_no_block n contents e fault (omega (arith, small, ap length g, length-append y r, ap length f.whole, length-append f.identifier (f.len ++ contents), length-append f.len contents)) (universal_contents y k n contents h f (subst IsBlock (sym q.octets) b))
+      contents_fault_no_block n contents e fault (omega (arith, small, encoding_within octets y r Universal k n contents h f g)) (universal_contents y k n contents h f (subst IsBlock (sym q.octets) b))
 
   -- contents octets at fault are those of no block
   pub contents_fault_no_block : (n : ℕ) (contents : List ℕ) (e : DecodeFault) → ContentsFault n contents e → length contents < 2 ^ 64 → UniversalContents n contents → ⊥
