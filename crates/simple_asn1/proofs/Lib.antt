@@ -5,3 +5,4 @@ pub mod Faults
 pub mod FaultsAlone
 pub mod HeaderCounts
 pub mod BlockCounts
+pub mod Fronts
