@@ -104,6 +104,12 @@ pub no_empty_group : (contents : List ℕ) → MayBeGroupContents contents → c
 unfolding MayBeGroupContents
 no_empty_group contents m e = omega (arith, m, ap length e)
 
+-- contents octets of a SEQUENCE or SET are none, or they may be such
+pub group_contents : (contents : List ℕ) → (contents ≡ []) ⊎ MayBeGroupContents contents
+unfolding MayBeGroupContents
+group_contents [] = inl refl
+group_contents (b ∷ contents) = inr (omega arith)
+
 -- no encoding stands where a header is at fault
 pub header_no_encoding : (place : ℕ) (octets x rest : List ℕ) (e : DecodeFault) (c' : ASN1Class) (k' : Bool) (n' : ℕ) (contents : List ℕ) (h' : ℕ) → HeaderFault place octets e → place + length octets < 2 ^ 64 → octets ≡ x ++ rest → Encoding x c' k' n' contents h' → ⊥
 header_no_encoding place octets x rest e c' k' n' contents h' (no_identifier missing) small d f =

@@ -6,3 +6,5 @@ pub mod FaultsAlone
 pub mod HeaderCounts
 pub mod BlockCounts
 pub mod Fronts
+pub mod Totality
+pub mod HeaderCountsExist
