@@ -20,7 +20,8 @@ continued_none : (s rest : List ℕ) → IsContinued s → [] ≡ s ++ rest → 
 continued_none [] rest p e = p
 continued_none (a ∷ s) rest p e = omega (arith, ap length e)
 
-continued_more : (b : ℕ) (s : List ℕ) → 128 ≤ b → IsContinued s → IsContinued (b ∷ s)
+-- an octet with bit 8 set before continued octets
+pub continued_more : (b : ℕ) (s : List ℕ) → 128 ≤ b → IsContinued s → IsContinued (b ∷ s)
 continued_more b [] h p = absurd p
 continued_more b (c ∷ s) h p = (h, p)
 

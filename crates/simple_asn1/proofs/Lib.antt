@@ -8,3 +8,4 @@ pub mod BlockCounts
 pub mod Fronts
 pub mod Totality
 pub mod HeaderCountsExist
+pub mod Shortest

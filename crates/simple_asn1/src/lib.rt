@@ -17,6 +17,7 @@
 mod block;
 mod error;
 mod header;
+mod laws;
 mod number;
 
 pub use crate::block::ASN1Block;
@@ -24,5 +25,6 @@ pub use crate::error::{ASN1DecodeErr, ASN1EncodeErr};
 pub use crate::header::{
     ASN1Class, HeaderCount, decode_base127, decode_class, decode_length, decode_tag, encode_class,
 };
+pub use crate::laws::{law_header, law_one_reading};
 pub use crate::number::big_int::BigInt;
 pub use crate::number::big_uint::BigUint;
