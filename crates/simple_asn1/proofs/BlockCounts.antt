@@ -1,16 +1,16 @@
 -- Each block of a document was begun.
-use Rattle.std.proofs.Common.{◌≡◌, ◌≢◌, ℕ, zero, suc, ◌+◌, ◌<◌, ◌≤◌, ◌^◌, Bool, true, false, List, [], ◌∷◌, ◌++◌, ◌⊎◌, inl, inr, length, refl, sym, ap, ◌∙◌, subst, arith, rules, length-append, append_assoc, append-nil}
+use Rattle.std.proofs.Common.{◌≡◌, ℕ, ◌+◌, ◌<◌, ◌≤◌, Bool, true, List, [], ◌++◌, inl, inr, length, refl, sym, ap, ◌∙◌, subst, arith, length-append, append_assoc, append-nil}
 use Rattle.simple_asn1.specs.declared.header.ASN1Class.{ASN1Class}
 use Rattle.simple_asn1.specs.declared.header.ASN1Class.TheVariants.{Universal}
 use Rattle.simple_asn1.specs.Header.{Encoding}
 use Rattle.simple_asn1.specs.Contents.{group_tag}
 use Rattle.simple_asn1.specs.Tree.{Tree, Trees, leaf, group, explicit, unknown, no_trees, more_trees}
-use Rattle.simple_asn1.specs.Grammar.{IsBlock, Encodes, EncodesAll, Document}
-use Rattle.simple_asn1.specs.HeadersBegun.{IsReadInside, HeadersBegun, begun_none, begun_some, BegunInside, inside_first, nothing_inside, BegunAfter, after_first, nothing_after, blocks_in, all_blocks_in}
+use Rattle.simple_asn1.specs.Grammar.{IsBlock, Encodes, EncodesAll}
+use Rattle.simple_asn1.specs.HeadersBegun.{IsReadInside, HeadersBegun, begun_none, begun_some, BegunInside, inside_first, nothing_inside, after_first, nothing_after, blocks_in, all_blocks_in}
 use Rattle.simple_asn1.proofs.Leaves.{group_tag_is}
-use Rattle.simple_asn1.proofs.Prefixes.{SameEncoding, encoding_alone}
+use Rattle.simple_asn1.proofs.Prefixes.{encoding_alone}
 use Rattle.simple_asn1.proofs.OneReading.{encodes_block, block_some, encoding_some}
-use Rattle.simple_asn1.proofs.Faults.{BlockEncoding, block_encoding, block_alone}
+use Rattle.simple_asn1.proofs.Faults.{block_encoding, block_alone}
 
 -- octets begin a header
 pub begun_pos : (octets : List ℕ) (n : ℕ) → 0 < length octets → HeadersBegun octets n → 1 ≤ n

@@ -1,16 +1,16 @@
 -- What is at fault is no block.
-use Rattle.std.proofs.Common.{◌≡◌, ◌≢◌, ℕ, zero, suc, ◌+◌, ◌<◌, ◌≤◌, ◌^◌, ◌==◌, ◌||◌, Bool, true, false, List, [], ◌∷◌, ◌++◌, ◌⊎◌, inl, inr, length, refl, sym, ap, ◌∙◌, subst, arith, rules, length-append, append_assoc, append-nil}
+use Rattle.std.proofs.Common.{◌≡◌, ◌≢◌, ℕ, suc, ◌+◌, ◌<◌, ◌≤◌, ◌^◌, Bool, false, List, [], ◌∷◌, ◌++◌, ◌⊎◌, inl, inr, length, refl, sym, ap, ◌∙◌, subst, arith, length-append, append_assoc, append-nil}
 use Rattle.std.proofs.lemmas.Bool.{false≢true}
 use Rattle.simple_asn1.specs.declared.header.ASN1Class.{ASN1Class}
 use Rattle.simple_asn1.specs.declared.header.ASN1Class.TheVariants.{Universal}
 use Rattle.simple_asn1.specs.declared.block.GroupKind.{GroupKind}
 use Rattle.simple_asn1.specs.Fault.{DecodeFault}
-use Rattle.simple_asn1.specs.Header.{Encoding, IsIdentifier, IsLength}
-use Rattle.simple_asn1.specs.Tree.{Leaf, Tree, Trees, no_trees, more_trees}
+use Rattle.simple_asn1.specs.Header.{Encoding, IsLength}
+use Rattle.simple_asn1.specs.Tree.{Leaf, Trees, no_trees, more_trees}
 use Rattle.simple_asn1.specs.Contents.{leaf_tag, group_tag, LeafContents, is_known_tag}
 use Rattle.simple_asn1.specs.Grammar.{MayBeGroupContents, IsBlock, of_other_class, of_unknown_tag, of_leaf, of_group, AreBlocks, no_blocks, more_blocks, EncodesAll, HeaderFault, no_identifier, no_length, too_far, too_long, BlockFault, in_header, in_contents, ContentsFault, of_leaf_contents, of_empty_group, of_item, BlocksFault, after_blocks}
 use Rattle.simple_asn1.proofs.Leaves.{leaf_no_group, leaf_no_fault, leaf_fault_tag, leaf_tag_known, leaf_tag_no_group, group_known}
-use Rattle.simple_asn1.proofs.Prefixes.{SameEncoding, encoding_alone, identifier_alone, length_alone}
+use Rattle.simple_asn1.proofs.Prefixes.{encoding_alone, identifier_alone, length_alone}
 use Rattle.simple_asn1.proofs.OneReading.{block_some, encodes_block}
 
 -- the encoding that a block is

@@ -1,12 +1,12 @@
 -- Octets have at most one first fault.
-use Rattle.std.proofs.Common.{◌≡◌, ◌≢◌, ℕ, ◌+◌, ◌<◌, ◌≤◌, ◌^◌, Bool, List, [], ◌∷◌, ◌++◌, ◌⊎◌, inl, inr, length, refl, sym, ap, ◌∙◌, subst, arith, length-append, append_assoc}
+use Rattle.std.proofs.Common.{◌≡◌, ℕ, ◌+◌, ◌<◌, ◌^◌, Bool, List, [], ◌∷◌, ◌++◌, inl, inr, length, refl, sym, ap, ◌∙◌, subst, arith, length-append, append_assoc}
 use Rattle.simple_asn1.specs.declared.header.ASN1Class.{ASN1Class}
 use Rattle.simple_asn1.specs.declared.header.ASN1Class.TheVariants.{Universal}
-use Rattle.simple_asn1.specs.Fault.{DecodeFault, incomplete, length_too_large}
-use Rattle.simple_asn1.specs.Header.{Encoding, IsIdentifier, IsLength, length_fault}
+use Rattle.simple_asn1.specs.Fault.{DecodeFault, length_too_large}
+use Rattle.simple_asn1.specs.Header.{IsIdentifier, IsLength, length_fault}
 use Rattle.simple_asn1.specs.Grammar.{IsBlock, AreBlocks, no_blocks, more_blocks, HeaderFault, no_identifier, no_length, too_far, too_long, BlockFault, in_header, in_contents, ContentsFault, of_leaf_contents, of_empty_group, of_item, BlocksFault, after_blocks, FirstFault}
 use Rattle.simple_asn1.proofs.Leaves.{leaf_fault_tag, leaf_fault_alone, leaf_tag_no_group}
-use Rattle.simple_asn1.proofs.Prefixes.{SameEncoding, encoding_alone, identifier_alone, length_alone}
+use Rattle.simple_asn1.proofs.Prefixes.{encoding_alone, identifier_alone, length_alone}
 use Rattle.simple_asn1.proofs.Faults.{block_alone, encoding_within, header_no_encoding, block_fault_no_block, length_first}
 
 -- no identifier and length octets stand where an octet after the identifier octets is missing

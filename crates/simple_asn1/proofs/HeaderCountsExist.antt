@@ -1,16 +1,14 @@
 -- All octets have a number of headers begun.
-use Rattle.std.proofs.Common.{◌≡◌, ◌≢◌, ℕ, zero, suc, ◌+◌, ◌<◌, ◌≤◌, ◌^◌, Bool, true, false, List, [], ◌∷◌, ◌++◌, ◌⊎◌, inl, inr, length, refl, sym, ap, ◌∙◌, subst, arith, length-append}
+use Rattle.std.proofs.Common.{◌≢◌, ℕ, zero, suc, ◌+◌, ◌<◌, ◌^◌, Bool, List, [], ◌∷◌, ◌⊎◌, inl, inr, length, refl, sym, ap, ◌∙◌, arith, length-append}
 use Rattle.std.proofs.lemmas.Bool.{false≢true, cases_Bool}
 use Rattle.simple_asn1.specs.declared.header.ASN1Class.{ASN1Class}
-use Rattle.simple_asn1.specs.declared.header.ASN1Class.TheVariants.{Universal}
-use Rattle.simple_asn1.specs.Header.{Encoding}
 use Rattle.simple_asn1.specs.Contents.{is_group_tag}
 use Rattle.simple_asn1.specs.HeadersBegun.{IsReadInside, HeadersBegun, begun_none, begun_some, BegunInside, inside_first, nothing_inside, BegunAfter, after_first, nothing_after}
 use Rattle.simple_asn1.proofs.OneReading.{encodes_block, block_some}
-use Rattle.simple_asn1.proofs.Faults.{header_no_encoding, block_fault_no_block, encoding_within}
+use Rattle.simple_asn1.proofs.Faults.{header_no_encoding, block_fault_no_block}
 use Rattle.simple_asn1.proofs.HeaderCounts.{encoding_length, nothing_inside_first}
-use Rattle.simple_asn1.proofs.Fronts.{EncodingFront, begins, begins_not, encoding_front}
-use Rattle.simple_asn1.proofs.Totality.{BlockFront, block_first, fault_first, block_front, is_universal}
+use Rattle.simple_asn1.proofs.Fronts.{begins, begins_not, encoding_front}
+use Rattle.simple_asn1.proofs.Totality.{block_first, fault_first, block_front, is_universal}
 
 -- contents octets with these fields are read inside or not
 read_inside_or_not : (c : ASN1Class) (k : Bool) (n : ℕ) → IsReadInside c k n ⊎ (IsReadInside c k n → ⊥)

@@ -1,5 +1,5 @@
 -- The shortest forms of headers are such forms, and no others are shorter.
-use Rattle.std.proofs.Common.{◌≡◌, ℕ, zero, suc, ◌+◌, ◌*◌, ◌/◌, ◌%◌, ◌^◌, ◌-◌, ◌<◌, ◌≤◌, Bool, List, [], ◌∷◌, ◌++◌, ◌⊎◌, inl, inr, length, map, refl, sym, ap, ◌∙◌, subst, arith, length-append}
+use Rattle.std.proofs.Common.{◌≡◌, ℕ, suc, ◌+◌, ◌*◌, ◌/◌, ◌%◌, ◌^◌, ◌<◌, ◌≤◌, Bool, List, [], ◌∷◌, ◌++◌, inl, inr, length, map, refl, sym, ap, ◌∙◌, subst, arith, length-append}
 use Rattle.std.specs.Int.Digits.{digits_of, AllBelowBase, number_from_digits}
 use Rattle.std.specs.List.{All}
 use Rattle.std.proofs.Math.Nat.{pow-suc}
@@ -8,7 +8,7 @@ use Rattle.std.proofs.lemmas.List.Elements.{recursion_from_All}
 use Rattle.std.proofs.lemmas.Int.Digits.{number_digits_of, number_push, number_lt, all_below_base_digits_of, length-digits_of-le}
 use Rattle.std.proofs.lemmas.Bool.{cases_lt, cond_below, cond_above}
 use Rattle.simple_asn1.specs.declared.header.ASN1Class.{ASN1Class}
-use Rattle.simple_asn1.specs.Base128.{IsBase128, IsContinued, low_bits_number, shortest_base128}
+use Rattle.simple_asn1.specs.Base128.{IsBase128, IsContinued, shortest_base128}
 use Rattle.simple_asn1.specs.Header.{IsIdentifier, IsLength, leading_octet, shortest_identifier, shortest_length}
 use Rattle.simple_asn1.proofs.OneReading.{identifier_some}
 use Rattle.simple_asn1.proofs.Fronts.{continued_more, long_identifier}

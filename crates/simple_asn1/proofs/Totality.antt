@@ -1,18 +1,17 @@
 -- All octets encode trees or are at fault.
-use Rattle.std.proofs.Common.{◌≡◌, ◌≢◌, ℕ, zero, suc, ◌+◌, ◌*◌, ◌<◌, ◌≤◌, ◌^◌, Bool, true, false, List, [], ◌∷◌, ◌++◌, ◌⊎◌, inl, inr, length, refl, sym, ap, ◌∙◌, subst, arith, length-append, append_assoc, append-nil}
+use Rattle.std.proofs.Common.{◌≡◌, ◌≢◌, ℕ, zero, suc, ◌+◌, ◌*◌, ◌<◌, ◌^◌, Bool, true, false, List, [], ◌∷◌, ◌++◌, ◌⊎◌, inl, inr, length, refl, sym, ap, ◌∙◌, subst, arith, length-append, append_assoc, append-nil}
 use Rattle.std.proofs.lemmas.Bool.{false≢true}
 use Rattle.simple_asn1.specs.declared.header.ASN1Class.{ASN1Class}
 use Rattle.simple_asn1.specs.declared.header.ASN1Class.TheVariants.{Universal, Application, ContextSpecific, Private}
 use Rattle.simple_asn1.specs.Fault.{DecodeFault, empty_buffer}
 use Rattle.simple_asn1.specs.Header.{Encoding}
-use Rattle.simple_asn1.specs.Tree.{Leaf, Tree, Trees, leaf, group, explicit, unknown, no_trees, more_trees}
-use Rattle.simple_asn1.specs.Contents.{group_tag, LeafContents}
-use Rattle.simple_asn1.specs.Grammar.{MayBeGroupContents, IsBlock, AreBlocks, no_blocks, more_blocks, Encodes, EncodesAll, Document, BlockFault, in_header, in_contents, ContentsFault, of_leaf_contents, of_empty_group, of_item, BlocksFault, after_blocks, FirstFault}
-use Rattle.simple_asn1.proofs.Leaves.{LeafMeaning, means_leaf, means_fault, leaf_total, TagKind, unknown_tag, group_tag_of, leaf_tag_of, tag_kind}
-use Rattle.simple_asn1.proofs.OneReading.{encodes_block, encodes_blocks, block_some}
+use Rattle.simple_asn1.specs.Tree.{Tree, Trees, leaf, group, explicit, unknown, no_trees, more_trees}
+use Rattle.simple_asn1.specs.Grammar.{IsBlock, AreBlocks, no_blocks, more_blocks, Encodes, EncodesAll, Document, BlockFault, in_header, in_contents, of_leaf_contents, of_empty_group, of_item, BlocksFault, after_blocks, FirstFault}
+use Rattle.simple_asn1.proofs.Leaves.{means_leaf, means_fault, leaf_total, unknown_tag, group_tag_of, leaf_tag_of, tag_kind}
+use Rattle.simple_asn1.proofs.OneReading.{encodes_block, block_some}
 use Rattle.simple_asn1.proofs.Faults.{block_alone, blocks_fault_no_blocks, block_fault_no_block, one_block, block_is_blocks, encoding_within, group_contents}
 use Rattle.simple_asn1.proofs.HeaderCounts.{encoding_length}
-use Rattle.simple_asn1.proofs.Fronts.{EncodingFront, begins, begins_not, encoding_front}
+use Rattle.simple_asn1.proofs.Fronts.{begins, begins_not, encoding_front}
 
 -- at the front stands a tree's encoding, at any offset, or the first block is at fault
 pub data BlockFront (place : ℕ) (octets : List ℕ) : Type 0 where

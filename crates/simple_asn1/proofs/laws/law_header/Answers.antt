@@ -1,4 +1,4 @@
-use Rattle.simple_asn1.proofs.Prefixes.{base128_alone, identifier_alone, length_alone, SameEncoding, encoding_alone}
+use Rattle.simple_asn1.proofs.Prefixes.{base128_alone, identifier_alone, length_alone, encoding_alone}
 use Rattle.simple_asn1.proofs.Shortest.{shortest_base128_is, shortest_identifier_is, shortest_length_is, shortest_base128_le, shortest_identifier_le, shortest_length_le}
 use Rattle.simple_asn1.proofs.laws.law_header.Goals as goal
 

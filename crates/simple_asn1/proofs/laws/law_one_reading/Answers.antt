@@ -1,4 +1,4 @@
-use Rattle.std.proofs.Common.{arith, ap, length, [], ◌⊎◌, inl, inr, refl}
+use Rattle.std.proofs.Common.{arith, ap, length, [], inl, inr, refl}
 use Rattle.simple_asn1.proofs.OneReading.{encodes_block, encodes_blocks, encodes_alone, all_alone}
 use Rattle.simple_asn1.proofs.Faults.{blocks_fault_no_blocks}
 use Rattle.simple_asn1.proofs.FaultsAlone.{first_fault_alone}
