@@ -1,16 +1,16 @@
 -- What is at fault is no block.
-use Rattle.std.proofs.Common.{◌≡◌, ◌≢◌, ℕ, zero, suc, ◌+◌, ◌<◌, ◌≤◌, ◌^◌, ◌==◌, ◌||◌, Bool, true, false, List, [], ◌∷◌, ◌++◌, ◌⊎◌, inl, inr, length, refl, sym, ap, ◌∙◌, subst, arith, rules, length-append, append_assoc, append-nil}
+use Rattle.std.proofs.Common.{◌≡◌, ◌≢◌, ℕ, suc, ◌+◌, ◌<◌, ◌≤◌, ◌^◌, Bool, false, List, [], ◌∷◌, ◌++◌, ◌⊎◌, inl, inr, length, refl, sym, ap, ◌∙◌, subst, arith, length-append, append_assoc, append-nil}
 use Rattle.std.proofs.lemmas.Bool.{false≢true}
 use Rattle.simple_asn1.specs.declared.header.ASN1Class.{ASN1Class}
 use Rattle.simple_asn1.specs.declared.header.ASN1Class.TheVariants.{Universal}
 use Rattle.simple_asn1.specs.declared.block.GroupKind.{GroupKind}
 use Rattle.simple_asn1.specs.Fault.{DecodeFault}
-use Rattle.simple_asn1.specs.Header.{Encoding, IsIdentifier, IsLength}
-use Rattle.simple_asn1.specs.Tree.{Leaf, Tree, Trees, no_trees, more_trees}
+use Rattle.simple_asn1.specs.Header.{Encoding, IsLength}
+use Rattle.simple_asn1.specs.Tree.{Leaf, Trees, no_trees, more_trees}
 use Rattle.simple_asn1.specs.Contents.{leaf_tag, group_tag, LeafContents, is_known_tag}
 use Rattle.simple_asn1.specs.Grammar.{MayBeGroupContents, IsBlock, of_other_class, of_unknown_tag, of_leaf, of_group, AreBlocks, no_blocks, more_blocks, EncodesAll, HeaderFault, no_identifier, no_length, too_far, too_long, BlockFault, in_header, in_contents, ContentsFault, of_leaf_contents, of_empty_group, of_item, BlocksFault, after_blocks}
 use Rattle.simple_asn1.proofs.Leaves.{leaf_no_group, leaf_no_fault, leaf_fault_tag, leaf_tag_known, leaf_tag_no_group, group_known}
-use Rattle.simple_asn1.proofs.Prefixes.{SameEncoding, encoding_alone, identifier_alone, length_alone}
+use Rattle.simple_asn1.proofs.Prefixes.{encoding_alone, identifier_alone, length_alone}
 use Rattle.simple_asn1.proofs.OneReading.{block_some, encodes_block}
 
 -- the encoding that a block is
@@ -90,6 +90,10 @@ universal_contents x k n contents h f (of_group g j t m bs) =
 pub split_encoding : (octets x rest : List ℕ) (c : ASN1Class) (k : Bool) (n : ℕ) (contents : List ℕ) (h : ℕ) (f : Encoding x c k n contents h) → octets ≡ x ++ rest → octets ≡ f.identifier ++ (f.len ++ (contents ++ rest))
 split_encoding octets x rest c k n contents h f e = e ∙ ap (λ z. z ++ rest) f.whole ∙ simp append_assoc
 
+-- the contents octets of an encoding at the front are among the octets
+pub encoding_within : (octets x rest : List ℕ) (c : ASN1Class) (k : Bool) (n : ℕ) (contents : List ℕ) (h : ℕ) → Encoding x c k n contents h → octets ≡ x ++ rest → length contents ≤ length octets
+encoding_within octets x rest c k n contents h f e = omega (arith, ap length e, length-append x rest, ap length f.whole, length-append f.identifier (f.len ++ contents), length-append f.len contents)
+
 -- length octets are some
 pub length_first : (l : List ℕ) (n : ℕ) → IsLength l n → (b : ℕ) × (r : List ℕ) × (l ≡ b ∷ r)
 length_first [] n p = absurd p
@@ -99,6 +103,12 @@ length_first (b ∷ r) n p = (b, r, refl)
 pub no_empty_group : (contents : List ℕ) → MayBeGroupContents contents → contents ≡ [] → ⊥
 unfolding MayBeGroupContents
 no_empty_group contents m e = omega (arith, m, ap length e)
+
+-- contents octets of a SEQUENCE or SET are none, or they may be such
+pub group_contents : (contents : List ℕ) → (contents ≡ []) ⊎ MayBeGroupContents contents
+unfolding MayBeGroupContents
+group_contents [] = inl refl
+group_contents (b ∷ contents) = inr (omega arith)
 
 -- no encoding stands where a header is at fault
 pub header_no_encoding : (place : ℕ) (octets x rest : List ℕ) (e : DecodeFault) (c' : ASN1Class) (k' : Bool) (n' : ℕ) (contents : List ℕ) (h' : ℕ) → HeaderFault place octets e → place + length octets < 2 ^ 64 → octets ≡ x ++ rest → Encoding x c' k' n' contents h' → ⊥
@@ -126,7 +136,7 @@ mutual
   block_fault_no_block place octets x rest e (in_contents y r {k = k} {n = n} {contents = contents} {h = h} g f fault) small d b =
       let F = block_encoding x b in
       let q = encoding_alone _ _ _ _ _ _ _ _ _ _ _ _ r rest f F.encoding (sym g ∙ d) in
-      contents_fault_no_block n contents e fault (omega (arith, small, ap length g, length-append y r, ap length f.whole, length-append f.identifier (f.len ++ contents), length-append f.len contents)) (universal_contents y k n contents h f (subst IsBlock (sym q.octets) b))
+      contents_fault_no_block n contents e fault (omega (arith, small, encoding_within octets y r Universal k n contents h f g)) (universal_contents y k n contents h f (subst IsBlock (sym q.octets) b))
 
   -- contents octets at fault are those of no block
   pub contents_fault_no_block : (n : ℕ) (contents : List ℕ) (e : DecodeFault) → ContentsFault n contents e → length contents < 2 ^ 64 → UniversalContents n contents → ⊥

@@ -1,12 +1,12 @@
 -- The number of headers that a reader begins.
-use Rattle.std.proofs.Common.{◌≡◌, ◌≢◌, ℕ, zero, suc, ◌+◌, ◌-◌, ◌<◌, ◌≤◌, ◌^◌, Bool, true, false, List, [], ◌∷◌, ◌++◌, ◌⊎◌, inl, inr, length, refl, sym, ap, ◌∙◌, subst, arith, rules, length-append, append_assoc, append-nil}
+use Rattle.std.proofs.Common.{◌≡◌, ℕ, ◌+◌, ◌<◌, ◌≤◌, Bool, List, [], ◌++◌, length, refl, sym, ap, ◌∙◌, subst, arith, length-append, append_assoc, append-nil}
 use Rattle.simple_asn1.specs.declared.header.ASN1Class.{ASN1Class}
 use Rattle.simple_asn1.specs.Header.{Encoding}
 use Rattle.simple_asn1.specs.Grammar.{IsBlock, AreBlocks, no_blocks, more_blocks}
 use Rattle.simple_asn1.specs.HeadersBegun.{IsReadInside, HeadersBegun, begun_none, begun_some, BegunInside, inside_first, nothing_inside, BegunAfter, after_first, nothing_after}
-use Rattle.simple_asn1.proofs.Prefixes.{SameEncoding, encoding_alone}
+use Rattle.simple_asn1.proofs.Prefixes.{encoding_alone}
 use Rattle.simple_asn1.proofs.OneReading.{block_some, identifier_some, encoding_some}
-use Rattle.simple_asn1.proofs.Faults.{BlockEncoding, block_encoding, block_alone}
+use Rattle.simple_asn1.proofs.Faults.{block_encoding, block_alone}
 
 mutual
   -- the number is one
@@ -83,12 +83,13 @@ pub begun_opened : (x : List ℕ) (c : ASN1Class) (k : Bool) (n : ℕ) (contents
 begun_opened x c k n contents h a F o b B =
     begun_some (encoding_some x c k n contents h F) a 0 (inside_first x [] (sym (append-nil x)) F o B) (after_first x [] (sym (append-nil x)) b (begun_none refl)) (omega arith)
 
+-- nothing is begun inside an encoding that is not read inside
+pub nothing_inside_first : (octets x rest : List ℕ) (c : ASN1Class) (k : Bool) (n : ℕ) (contents : List ℕ) (h : ℕ) → Encoding x c k n contents h → octets ≡ x ++ rest → (IsReadInside c k n → ⊥) → BegunInside octets 0
+nothing_inside_first octets x rest c k n contents h f d shut = nothing_inside (λ y q c' j m v g e G p.
+    let s = encoding_alone _ _ _ _ _ _ _ _ _ _ _ _ rest q f G (sym d ∙ e) in
+    shut (subst (λ z. IsReadInside z k n) (sym s.class) (subst (λ z. IsReadInside c' z n) (sym s.constructed) (subst (λ z. IsReadInside c' j z) (sym s.tag) p))))
+
 -- a block that is not read inside
 pub begun_leaf : (x : List ℕ) (c : ASN1Class) (k : Bool) (n : ℕ) (contents : List ℕ) (h : ℕ) → Encoding x c k n contents h → (IsReadInside c k n → ⊥) → IsBlock x → HeadersBegun x 1
 begun_leaf x c k n contents h F o b =
-    begun_some (encoding_some x c k n contents h F) 0 0 (shut x [] c k n contents h F o) (after_first x [] (sym (append-nil x)) b (begun_none refl)) refl
-  where
-    shut : (x rest : List ℕ) (c : ASN1Class) (k : Bool) (n : ℕ) (contents : List ℕ) (h : ℕ) → Encoding x c k n contents h → (IsReadInside c k n → ⊥) → BegunInside x 0
-    shut x rest c k n contents h F o = nothing_inside (λ y q d j m v g e G p.
-      let s = encoding_alone _ _ _ _ _ _ _ _ _ _ _ _ [] q F G (append-nil x ∙ e) in
-      o (subst (λ z. IsReadInside z k n) (sym s.class) (subst (λ z. IsReadInside d z n) (sym s.constructed) (subst (λ z. IsReadInside d j z) (sym s.tag) p))))
+    begun_some (encoding_some x c k n contents h F) 0 0 (nothing_inside_first x x [] c k n contents h F (sym (append-nil x)) o) (after_first x [] (sym (append-nil x)) b (begun_none refl)) refl

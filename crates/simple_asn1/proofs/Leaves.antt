@@ -1,5 +1,5 @@
 -- What is known of leaves and groups by their tags. The other lemmas of the grammar build on these alone.
-use Rattle.std.proofs.Common.{◌≡◌, ℕ, ◌+◌, ◌<◌, ◌^◌, ◌==◌, ◌||◌, Bool, true, false, List, length, ◌⊎◌, inl, inr, refl, sym, ap, ◌∙◌, subst, arith, rules}
+use Rattle.std.proofs.Common.{◌≡◌, ℕ, ◌<◌, ◌^◌, ◌==◌, ◌||◌, true, false, List, length, inl, inr, refl, sym, ap, ◌∙◌, arith}
 use Rattle.std.proofs.lemmas.Bool.{false≢true, cases_Bool, or_cases, eqb-true}
 use Rattle.simple_asn1.specs.declared.block.GroupKind.{GroupKind}
 use Rattle.simple_asn1.specs.declared.block.GroupKind.TheVariants.{Sequence, Set}

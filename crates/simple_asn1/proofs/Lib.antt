@@ -5,7 +5,13 @@ pub mod Leaves
 pub mod Prefixes
 pub mod OneReading
 pub mod Faults
+pub mod FaultsAlone
 pub mod HeaderCounts
 pub mod SignedNumbers
 pub mod ReadSteps
 pub mod FrameSteps
+pub mod BlockCounts
+pub mod Fronts
+pub mod Totality
+pub mod HeaderCountsExist
+pub mod Shortest

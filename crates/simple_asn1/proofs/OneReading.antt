@@ -1,14 +1,13 @@
 -- Octets encode at most one tree.
-use Rattle.std.proofs.Common.{◌≡◌, ◌≢◌, ℕ, zero, suc, ◌+◌, ◌<◌, ◌==◌, ◌||◌, Bool, true, false, List, [], ◌∷◌, ◌++◌, ◌⊎◌, inl, inr, length, refl, sym, ap, ◌∙◌, subst, arith, rules, length-append}
+use Rattle.std.proofs.Common.{◌≡◌, ◌≢◌, ℕ, ◌+◌, ◌<◌, Bool, List, [], ◌∷◌, ◌++◌, inl, inr, length, refl, sym, ap, ◌∙◌, subst, arith, length-append}
 use Rattle.std.proofs.lemmas.Bool.{false≢true}
 use Rattle.simple_asn1.specs.declared.header.ASN1Class.{ASN1Class}
-use Rattle.simple_asn1.specs.declared.header.ASN1Class.TheVariants.{Universal}
 use Rattle.simple_asn1.specs.Header.{Encoding, IsIdentifier}
 use Rattle.simple_asn1.specs.Tree.{Tree, Trees, leaf, group, explicit, unknown, no_trees, more_trees}
 use Rattle.simple_asn1.specs.Contents.{LeafContents, is_known_tag}
 use Rattle.simple_asn1.specs.Grammar.{IsBlock, of_other_class, of_unknown_tag, of_leaf, of_group, AreBlocks, no_blocks, more_blocks, Encodes, EncodesAll}
 use Rattle.simple_asn1.proofs.Leaves.{leaf_known, leaf_no_group, leaf_alone, group_known, group_alone}
-use Rattle.simple_asn1.proofs.Prefixes.{SameEncoding, encoding_alone}
+use Rattle.simple_asn1.proofs.Prefixes.{encoding_alone}
 
 mutual
   -- octets that encode a tree are a block

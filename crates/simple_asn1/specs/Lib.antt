@@ -11,3 +11,4 @@ pub mod Canonical
 pub mod Equality
 pub mod EqualityLaws
 pub mod OpenFrames
+pub mod Laws

@@ -18,6 +18,7 @@ mod block;
 mod body;
 mod error;
 mod header;
+mod laws;
 mod number;
 mod octets;
 mod read;
@@ -27,6 +28,7 @@ pub use crate::error::{ASN1DecodeErr, ASN1EncodeErr};
 pub use crate::header::{
     ASN1Class, HeaderCount, decode_base127, decode_class, decode_length, decode_tag, encode_class,
 };
+pub use crate::laws::{law_header, law_one_reading};
 pub use crate::number::big_int::BigInt;
 pub use crate::number::big_uint::BigUint;
 pub use crate::read::{from_der, from_der_counted};
