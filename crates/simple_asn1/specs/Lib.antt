@@ -8,3 +8,4 @@ pub mod Contents
 pub mod Grammar
 pub mod HeadersBegun
 pub mod Canonical
+pub mod WriteWalk

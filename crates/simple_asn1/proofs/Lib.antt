@@ -1,0 +1,3 @@
+pub mod Base128Forms
+pub mod OctetCounts
+pub mod WriteSteps

@@ -1,0 +1,24 @@
+// Octets into vectors.
+ghost use Rattle.std.specs.Prelude.{◌≡◌, ◌++◌, ◌+◌, ◌≤◌, length, vec_len, vec_capacity, IfOk};
+
+use std::alloc::{AllocError, Global};
+
+// A copy of the octets, in one allocation of their size.
+pub(crate) fn copy_of(alloc: Global, octets: &[u8]) -> Result<Vec<u8>, AllocError>
+    ensures { IfOk result (λ v. v.items ≡ octets.now) }
+{
+    let mut copy = Vec::with_capacity(alloc, octets.len())?;
+    append(octets, &mut copy);
+    Ok(copy)
+}
+
+// Puts the octets at the end, where there is room for them.
+pub(crate) fn append(octets: &[u8], out: &mut Vec<u8>)
+    requires { vec_len out.old + length octets.now ≤ vec_capacity out.old }
+    ensures appended { out.new.items ≡ out.old.items ++ octets.now }
+    ensures capacity { vec_capacity out.old ≤ vec_capacity out.new }
+{
+    let Ok(()) = out.extend_from_slice(octets) else {
+        return;
+    };
+}
