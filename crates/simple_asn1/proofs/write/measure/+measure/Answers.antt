@@ -10,7 +10,7 @@ pub measure_block-returns-in_ok-contents-in-Explicit-clause-lengths : goal.measu
 measure_block-returns-in_ok-contents-in-Explicit-clause-lengths t c =
     let v = ap view c.in-Explicit.is ∙ view_explicit c.in-Explicit.class c.in-Explicit.field-1 c.in-Explicit.tag c.in-Explicit.item in
     let e = ap content_lengths v in
-    grind (arith, common_steps, e, set_kept_place c.args.lengths.now.items (c.args.lengths.now.items ++ 0 ∷ []) c.measure_block-contents.new.lengths.items (content_lengths (view c.in-Explicit.item.value)) c.len-place.result c.in_ok-contents.contents)
+    grind (arith, common_steps, e, set_kept_place c.args.lengths.now.items (c.args.lengths.now.items ++ 0 ∷ []) c.measure_block.new.lengths.items (content_lengths (view c.in-Explicit.item.value)) c.len-place.result c.in_ok-contents-in-Explicit.contents)
 
 pub measure_block-returns-in-Unknown-clause-size : goal.measure_block-returns-in-Unknown-clause-size
 measure_block-returns-in-Unknown-clause-size t c =
