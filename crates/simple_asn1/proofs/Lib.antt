@@ -1,3 +1,5 @@
+pub mod Base128Digits
+pub mod HeaderOctets
+pub mod BlockLists
 pub mod Base128Forms
-pub mod OctetCounts
 pub mod WriteSteps

@@ -8,4 +8,6 @@ pub mod Contents
 pub mod Grammar
 pub mod HeadersBegun
 pub mod Canonical
+pub mod Equality
+pub mod EqualityLaws
 pub mod WriteWalk

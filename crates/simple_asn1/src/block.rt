@@ -6,6 +6,7 @@ ghost use Rattle.simple_asn1.specs.View.{tree_class, tree_offset, view, views};
 use crate::header::ASN1Class;
 use crate::number::big_int::BigInt;
 use crate::number::big_uint::BigUint;
+use crate::octets::copy_of;
 use std::alloc::{AllocError, Global};
 
 // Which blocks hold blocks one after another.
@@ -32,4 +33,120 @@ pub enum ASN1Block {
     Explicit(ASN1Class, usize, BigUint, Box<ASN1Block>),
     /// Any other encoding: class, whether it is constructed, offset, tag number, contents octets.
     Unknown(ASN1Class, bool, usize, BigUint, Vec<u8>),
+}
+
+impl ASN1Block {
+    /// The class: the field of an `Explicit` or `Unknown` block, and `Universal` for all others.
+    pub fn class(&self) -> ASN1Class
+        ensures { result ≡ tree_class (view self.now) }
+    {
+        match self {
+            ASN1Block::Explicit(class, _, _, _) | ASN1Block::Unknown(class, _, _, _, _) => *class,
+            _ => ASN1Class::Universal,
+        }
+    }
+
+    /// The offset of the block's first octet from the start of the document that it was read from, in octets.
+    pub fn offset(&self) -> usize
+        ensures { result ≡ tree_offset (view self.now) }
+    {
+        match self {
+            ASN1Block::Integer(offset, _) => *offset,
+            ASN1Block::OctetString(offset, _) => *offset,
+            ASN1Block::Sequence(offset, _) => *offset,
+            ASN1Block::Set(offset, _) => *offset,
+            ASN1Block::Explicit(_, offset, _, _) => *offset,
+            ASN1Block::Unknown(_, _, offset, _, _) => *offset,
+        }
+    }
+
+    /// The same block, offsets too. The only error is that memory ran out.
+    pub fn clone(&self, alloc: Global) -> Result<ASN1Block, AllocError>
+        ensures { IfOk result (λ b. view b ≡ view self.now) }
+    {
+        copy(alloc, self)
+    }
+}
+
+/// Two blocks are equal where their variants and fields are; offsets are ignored at every depth.
+impl PartialEq for ASN1Block {
+    ghost use Rattle.simple_asn1.specs.Equality.{same_block};
+    ghost use Rattle.simple_asn1.specs.EqualityLaws.{same_block_laws};
+
+    ghost eq = { same_block };
+
+    ghost laws = { same_block_laws };
+
+    fn eq(&self, other: &Self) -> bool
+        ensures same_shape { IsTrue result ↔ (shape (view self.now) ≡ shape (view other.now)) }
+        ensures decided { result ≡ same_block self.now other.now }
+    {
+        same(self, other)
+    }
+}
+
+#[cycle(copy)]
+fn copy(alloc: Global, b: &ASN1Block) -> Result<ASN1Block, AllocError>
+    ensures { IfOk result (λ r. view r ≡ view b.now) }
+{
+    match b {
+        ASN1Block::Integer(o, n) => Ok(ASN1Block::Integer(*o, n.clone(alloc)?)),
+        ASN1Block::OctetString(o, v) => Ok(ASN1Block::OctetString(*o, copy_of(alloc, v)?)),
+        ASN1Block::Sequence(o, v) => Ok(ASN1Block::Sequence(*o, copy_all(alloc, v)?)),
+        ASN1Block::Set(o, v) => Ok(ASN1Block::Set(*o, copy_all(alloc, v)?)),
+        ASN1Block::Explicit(c, o, t, item) => Ok(ASN1Block::Explicit(
+            *c,
+            *o,
+            t.clone(alloc)?,
+            Box::new(alloc, copy(alloc, item)?)?,
+        )),
+        ASN1Block::Unknown(c, k, o, t, v) => {
+            Ok(ASN1Block::Unknown(*c, *k, *o, t.clone(alloc)?, copy_of(alloc, v)?))
+        }
+    }
+}
+
+#[cycle(copy)]
+fn copy_all(alloc: Global, bs: &Vec<ASN1Block>) -> Result<Vec<ASN1Block>, AllocError>
+    ensures { IfOk result (λ v. views v.items ≡ views bs.now.items) }
+{
+    let mut all = Vec::with_capacity(alloc, bs.len())?;
+    for b in bs {
+        all.push(copy(alloc, b)?)?;
+    }
+    Ok(all)
+}
+
+#[cycle(same)]
+fn same(a: &ASN1Block, b: &ASN1Block) -> bool
+    ensures { IsTrue result ↔ (shape (view a.now) ≡ shape (view b.now)) }
+{
+    match (a, b) {
+        (ASN1Block::Integer(_, m), ASN1Block::Integer(_, n)) => m == n,
+        (ASN1Block::OctetString(_, v), ASN1Block::OctetString(_, w)) => v == w,
+        (ASN1Block::Sequence(_, v), ASN1Block::Sequence(_, w)) => same_all(v, w),
+        (ASN1Block::Set(_, v), ASN1Block::Set(_, w)) => same_all(v, w),
+        (ASN1Block::Explicit(c, _, m, x), ASN1Block::Explicit(d, _, n, y)) => {
+            c == d && m == n && same(x, y)
+        }
+        (ASN1Block::Unknown(c, j, _, m, v), ASN1Block::Unknown(d, k, _, n, w)) => {
+            c == d && j == k && m == n && v == w
+        }
+        _ => false,
+    }
+}
+
+#[cycle(same)]
+fn same_all(a: &Vec<ASN1Block>, b: &Vec<ASN1Block>) -> bool
+    ensures { IsTrue result ↔ (shapes (views a.now.items) ≡ shapes (views b.now.items)) }
+{
+    if a.len() != b.len() {
+        return false;
+    }
+    for i in 0..a.len() {
+        if !same(&a[i], &b[i]) {
+            return false;
+        }
+    }
+    true
 }

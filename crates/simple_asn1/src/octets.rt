@@ -1,14 +1,13 @@
-// Octets into vectors.
-ghost use Rattle.std.specs.Prelude.{◌≡◌, ◌++◌, ◌+◌, ◌≤◌, length, vec_len, vec_capacity, IfOk};
+// Octets as they stand, from a slice into a vector.
+ghost use Rattle.std.specs.Prelude.{◌≡◌, ◌+◌, ◌++◌, ◌≤◌, length, vec_len, vec_capacity, IfOk};
 
 use std::alloc::{AllocError, Global};
 
-// A copy of the octets, in one allocation of their size.
 pub(crate) fn copy_of(alloc: Global, octets: &[u8]) -> Result<Vec<u8>, AllocError>
     ensures { IfOk result (λ v. v.items ≡ octets.now) }
 {
     let mut copy = Vec::with_capacity(alloc, octets.len())?;
-    append(octets, &mut copy);
+    copy.extend_from_slice(octets)?;
     Ok(copy)
 }
 
