@@ -33,12 +33,7 @@ fn take_length(lengths: &[usize], next: &mut usize) -> usize
 // Puts the block's octets at the end. The sizes of its contents octets are in the list from the place on, which is
 // moved past them.
 #[cycle(append)]
-pub(crate) fn append_block(
-    b: &ASN1Block,
-    lengths: &[usize],
-    next: &mut usize,
-    out: &mut Vec<u8>,
-)
+pub(crate) fn append_block(b: &ASN1Block, lengths: &[usize], next: &mut usize, out: &mut Vec<u8>)
     requires ahead { Ahead (content_lengths (view b.now)) lengths.now next.old }
     requires room { vec_len out.old + length (canonical (view b.now)) ≤ vec_capacity out.old }
     requires writable { write_fault (view b.now) ≡ None }

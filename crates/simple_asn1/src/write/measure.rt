@@ -43,10 +43,7 @@ fn measure_contents(
 
 // The size of the block's octets. The sizes of its contents octets go to the end of the list.
 #[cycle(measure)]
-pub(crate) fn measure_block(
-    b: &ASN1Block,
-    lengths: &mut Vec<usize>,
-) -> Result<usize, ASN1EncodeErr>
+pub(crate) fn measure_block(b: &ASN1Block, lengths: &mut Vec<usize>) -> Result<usize, ASN1EncodeErr>
     ensures size { IfOk result (λ n. n ≡ length (canonical (view b.now))) }
     ensures lengths { OnOk result (lengths.new.items ≡ lengths.old.items ++ content_lengths (view b.now)) }
     ensures writable { OnOk result (write_fault (view b.now) ≡ None) }
@@ -72,10 +69,7 @@ pub(crate) fn measure_block(
 
 // The size of a SEQUENCE or SET of these blocks.
 #[cycle(measure)]
-fn measure_group(
-    bs: &Vec<ASN1Block>,
-    lengths: &mut Vec<usize>,
-) -> Result<usize, ASN1EncodeErr>
+fn measure_group(bs: &Vec<ASN1Block>, lengths: &mut Vec<usize>) -> Result<usize, ASN1EncodeErr>
     ensures size { IfOk result (λ n. n ≡ 1 + (length (shortest_length (length (all_canonical (views bs.now.items)))) + length (all_canonical (views bs.now.items)))) }
     ensures lengths { OnOk result (lengths.new.items ≡ lengths.old.items ++ length (all_canonical (views bs.now.items)) ∷ all_content_lengths (views bs.now.items)) }
     ensures writable { OnOk result (first_write_fault (views bs.now.items) ≡ None) }

@@ -35,7 +35,7 @@ append_all-loop-b-preserved t c =
     let n = sym (ap first_write_fault e) ∙ c.loop-b.invariant.writable in
     let g = ap length c.append_block.ensures.appended ∙ length-append c.loop-b.out.items (canonical (view x)) in
     let w : c.append_block.new.out.items ++ all_canonical rest ≡ c.loop-b.out.items ++ all_canonical (views (drop i xs)) =
-        ap (λ z. z ++ all_canonical rest) c.append_block.ensures.appended ∙ (append_assoc c.loop-b.out.items (canonical (view x)) (all_canonical rest) ∙ ap (λ z. c.loop-b.out.items ++ all_canonical z) (sym e)) in
+    ap (λ z. z ++ all_canonical rest) c.append_block.ensures.appended ∙ (append_assoc c.loop-b.out.items (canonical (view x)) (all_canonical rest) ∙ ap (λ z. c.loop-b.out.items ++ all_canonical z) (sym e)) in
     record {
       octets = w ∙ c.loop-b.invariant.octets;
       size = grind (arith, common_steps, l, g, c.append_block.new.out.ok.0, c.loop-b.out.ok.0);
