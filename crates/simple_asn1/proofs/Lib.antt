@@ -15,3 +15,5 @@ pub mod Fronts
 pub mod Totality
 pub mod HeaderCountsExist
 pub mod Shortest
+pub mod Base128Forms
+pub mod WriteSteps

@@ -12,3 +12,4 @@ pub mod Equality
 pub mod EqualityLaws
 pub mod OpenFrames
 pub mod Laws
+pub mod WriteWalk

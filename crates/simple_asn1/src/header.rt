@@ -1,7 +1,7 @@
 // Identifier and length octets, each way.
 //
 // Each decoder is a function from a slice to the value and how many octets it took, with a wrapper that moves an index.
-ghost use Rattle.std.specs.Prelude.{◌≡◌, ℕ, ◌+◌, ◌*◌, ◌/◌, ◌++◌, ◌<◌, ◌≤◌, ◌^◌, ◌⊎◌, List, length, drop, take, IfOk, OnOk, OnErr, slice_index, slice_range, IsOk, IfErr, IfSome, IfNone};
+ghost use Rattle.std.specs.Prelude.{◌≡◌, ℕ, ◌+◌, ◌*◌, ◌/◌, ◌++◌, ◌∷◌, ◌<◌, ◌≤◌, ◌^◌, ◌⊎◌, List, length, drop, take, vec_len, vec_capacity, IfOk, OnOk, OnErr, slice_index, slice_range, IsOk, IfErr, IfSome, IfNone};
 ghost use Rattle.std.specs.Int.Digits.{number_from_digits, digits_of};
 ghost use Rattle.simple_asn1.specs.Base128.{IsBase128, shortest_base128};
 ghost use Rattle.simple_asn1.specs.Fault.{OutOfMemoryOr, fault_of};
@@ -251,4 +251,141 @@ pub fn encode_class(c: ASN1Class) -> u8
         ASN1Class::ContextSpecific => 0x80,
         ASN1Class::Private => 0xC0,
     }
+}
+
+// How many octets the number has, of 0 none.
+fn octet_count(n: usize) -> usize
+    ensures { result ≡ length (digits_of 256 n) }
+{
+    if n == 0 {
+        return 0;
+    }
+    octet_count(n / 256) + 1
+}
+
+// Puts the octets of the number at the end, the most significant first.
+fn append_big_endian(n: usize, out: &mut Vec<u8>)
+    requires { vec_len out.old + length (digits_of 256 n) ≤ vec_capacity out.old }
+    ensures appended { out.new.items ≡ out.old.items ++ digits_of 256 n }
+    ensures capacity { vec_capacity out.old ≤ vec_capacity out.new }
+{
+    if n == 0 {
+        return;
+    }
+    append_big_endian(n / 256, out);
+    out.push_reserved((n % 256) as u8);
+}
+
+// How many length octets this length has.
+pub(crate) fn length_size(n: usize) -> usize
+    ensures size { result ≡ length (shortest_length n) }
+    ensures most { result ≤ 9 }
+{
+    if n < 128 { 1 } else { octet_count(n) + 1 }
+}
+
+// Puts the length octets at the end.
+pub(crate) fn append_length(n: usize, out: &mut Vec<u8>)
+    requires { vec_len out.old + length (shortest_length n) ≤ vec_capacity out.old }
+    ensures appended { out.new.items ≡ out.old.items ++ shortest_length n }
+    ensures capacity { vec_capacity out.old ≤ vec_capacity out.new }
+{
+    if n < 128 {
+        out.push_reserved(n as u8);
+        return;
+    }
+    out.push_reserved(128 + octet_count(n) as u8);
+    append_big_endian(n, out);
+}
+
+// How many identifier octets this tag has.
+pub(crate) fn identifier_size(class: ASN1Class, constructed: bool, tag: &BigUint) -> usize
+    ensures { result ≡ length (shortest_identifier class constructed tag.now) }
+{
+    match tag.to_u64() {
+        Some(n) if n < 31 => 1,
+        _ => tag.base128_size() + 1,
+    }
+}
+
+// Puts the identifier octets at the end.
+pub(crate) fn append_identifier(
+    class: ASN1Class,
+    constructed: bool,
+    tag: &BigUint,
+    out: &mut Vec<u8>,
+)
+    requires { vec_len out.old + length (shortest_identifier class constructed tag.now) ≤ vec_capacity out.old }
+    ensures appended { out.new.items ≡ out.old.items ++ shortest_identifier class constructed tag.now }
+    ensures capacity { vec_capacity out.old ≤ vec_capacity out.new }
+{
+    let high = encode_class(class) + if constructed { 0x20 } else { 0 };
+    match tag.to_u64() {
+        Some(n) if n < 31 => out.push_reserved(high + n as u8),
+        _ => {
+            out.push_reserved(high + 31);
+            tag.append_base128(out);
+        }
+    }
+}
+
+// Puts a header at the end whose identifier octets are this one.
+pub(crate) fn append_known_header(identifier: u8, size: usize, out: &mut Vec<u8>)
+    requires { vec_len out.old + (1 + length (shortest_length size)) ≤ vec_capacity out.old }
+    ensures appended { out.new.items ≡ out.old.items ++ identifier ∷ shortest_length size }
+    ensures capacity { vec_capacity out.old ≤ vec_capacity out.new }
+{
+    out.push_reserved(identifier);
+    append_length(size, out);
+}
+
+// Puts the header of contents octets of this size at the end.
+pub(crate) fn append_header(
+    class: ASN1Class,
+    constructed: bool,
+    tag: &BigUint,
+    size: usize,
+    out: &mut Vec<u8>,
+)
+    requires { vec_len out.old + (length (shortest_identifier class constructed tag.now) + length (shortest_length size)) ≤ vec_capacity out.old }
+    ensures appended { out.new.items ≡ out.old.items ++ (shortest_identifier class constructed tag.now ++ shortest_length size) }
+    ensures capacity { vec_capacity out.old ≤ vec_capacity out.new }
+{
+    append_identifier(class, constructed, tag, out);
+    append_length(size, out);
+}
+
+/// The shortest identifier octets of the tag (X.690 8.1.2, 10.1), in one allocation of their size. The only error is
+/// that memory ran out.
+pub fn encode_tag(
+    alloc: Global,
+    class: ASN1Class,
+    constructed: bool,
+    tag: &BigUint,
+) -> Result<Vec<u8>, AllocError>
+    ensures { IfOk result (λ v. v.items ≡ shortest_identifier class constructed tag.now) }
+{
+    let mut octets = Vec::with_capacity(alloc, identifier_size(class, constructed, tag))?;
+    append_identifier(class, constructed, tag, &mut octets);
+    Ok(octets)
+}
+
+/// The shortest base-128 form of the number (X.690 8.1.2.4.2), in one allocation of its size. The only error is that
+/// memory ran out.
+pub fn encode_base127(alloc: Global, n: &BigUint) -> Result<Vec<u8>, AllocError>
+    ensures { IfOk result (λ v. v.items ≡ shortest_base128 n.now) }
+{
+    let mut octets = Vec::with_capacity(alloc, n.base128_size())?;
+    n.append_base128(&mut octets);
+    Ok(octets)
+}
+
+/// The shortest length octets of the length (X.690 8.1.3, 10.1), in one allocation of their size. The only error is
+/// that memory ran out.
+pub fn encode_len(alloc: Global, n: usize) -> Result<Vec<u8>, AllocError>
+    ensures { IfOk result (λ v. v.items ≡ shortest_length n) }
+{
+    let mut octets = Vec::with_capacity(alloc, length_size(n))?;
+    append_length(n, &mut octets);
+    Ok(octets)
 }

@@ -22,13 +22,16 @@ mod laws;
 mod number;
 mod octets;
 mod read;
+mod write;
 
 pub use crate::block::ASN1Block;
 pub use crate::error::{ASN1DecodeErr, ASN1EncodeErr};
 pub use crate::header::{
-    ASN1Class, HeaderCount, decode_base127, decode_class, decode_length, decode_tag, encode_class,
+    ASN1Class, HeaderCount, decode_base127, decode_class, decode_length, decode_tag,
+    encode_base127, encode_class, encode_len, encode_tag,
 };
 pub use crate::laws::{law_header, law_one_reading};
 pub use crate::number::big_int::BigInt;
 pub use crate::number::big_uint::BigUint;
 pub use crate::read::{from_der, from_der_counted};
+pub use crate::write::to_der;

@@ -10,3 +10,14 @@ pub(crate) fn copy_of(alloc: Global, octets: &[u8]) -> Result<Vec<u8>, AllocErro
     copy.extend_from_slice(octets)?;
     Ok(copy)
 }
+
+// Puts the octets at the end, where there is room for them.
+pub(crate) fn append(octets: &[u8], out: &mut Vec<u8>)
+    requires { vec_len out.old + length octets.now ≤ vec_capacity out.old }
+    ensures appended { out.new.items ≡ out.old.items ++ octets.now }
+    ensures capacity { vec_capacity out.old ≤ vec_capacity out.new }
+{
+    let Ok(()) = out.extend_from_slice(octets) else {
+        return;
+    };
+}

@@ -1,0 +1,85 @@
+// The second walk: it takes no memory and refuses nothing.
+ghost use Rattle.std.specs.Prelude.{◌≡◌, ◌++◌, ◌∷◌, ◌+◌, ◌<◌, ◌≤◌, None, length, slice_index, vec_len, vec_capacity};
+ghost use Rattle.simple_asn1.specs.Canonical.{all_canonical, canonical, first_write_fault, write_fault};
+ghost use Rattle.simple_asn1.specs.Header.{shortest_length};
+ghost use Rattle.simple_asn1.specs.View.{view, views};
+ghost use Rattle.simple_asn1.specs.WriteWalk.{Ahead, all_content_lengths, content_lengths};
+
+use crate::block::ASN1Block;
+use crate::header::{append_header, append_known_header};
+use crate::octets::append;
+
+// Puts a block at the end whose identifier octets are this one.
+fn append_known(identifier: u8, contents: &[u8], out: &mut Vec<u8>)
+    requires { vec_len out.old + (1 + (length (shortest_length (length contents.now)) + length contents.now)) ≤ vec_capacity out.old }
+    ensures appended { out.new.items ≡ out.old.items ++ identifier ∷ (shortest_length (length contents.now) ++ contents.now) }
+    ensures capacity { vec_capacity out.old ≤ vec_capacity out.new }
+{
+    append_known_header(identifier, contents.len(), out);
+    append(contents, out);
+}
+
+// The length at the place, which is moved on.
+fn take_length(lengths: &[usize], next: &mut usize) -> usize
+    requires { next.old < length lengths.now }
+    ensures value { result ≡ slice_index lengths.now next.old }
+    ensures moved { next.new ≡ next.old + 1 }
+{
+    let n = lengths[*next];
+    *next += 1;
+    n
+}
+
+// Puts the block's octets at the end. The sizes of its contents octets are in the list from the place on, which is
+// moved past them.
+#[cycle(append)]
+pub(crate) fn append_block(b: &ASN1Block, lengths: &[usize], next: &mut usize, out: &mut Vec<u8>)
+    requires ahead { Ahead (content_lengths (view b.now)) lengths.now next.old }
+    requires room { vec_len out.old + length (canonical (view b.now)) ≤ vec_capacity out.old }
+    requires writable { write_fault (view b.now) ≡ None }
+    ensures appended { out.new.items ≡ out.old.items ++ canonical (view b.now) }
+    ensures capacity { vec_capacity out.old ≤ vec_capacity out.new }
+    ensures moved { next.new ≡ next.old + length (content_lengths (view b.now)) }
+{
+    let size = take_length(lengths, next);
+    match b {
+        ASN1Block::Integer(_, n) => append_known(0x02, n.octets(), out),
+        ASN1Block::OctetString(_, v) => append_known(0x04, v, out),
+        ASN1Block::Sequence(_, items) => {
+            append_known_header(0x30, size, out);
+            append_all(items, lengths, next, out);
+        }
+        ASN1Block::Set(_, items) => {
+            append_known_header(0x31, size, out);
+            append_all(items, lengths, next, out);
+        }
+        ASN1Block::Explicit(class, _, tag, item) => {
+            append_header(*class, true, tag, size, out);
+            append_block(item, lengths, next, out);
+        }
+        ASN1Block::Unknown(class, constructed, _, tag, v) => {
+            append_header(*class, *constructed, tag, size, out);
+            append(v, out);
+        }
+    }
+}
+
+// Puts the octets of the blocks at the end, as `append_block` does for one.
+#[cycle(append)]
+pub(crate) fn append_all(
+    bs: &Vec<ASN1Block>,
+    lengths: &[usize],
+    next: &mut usize,
+    out: &mut Vec<u8>,
+)
+    requires ahead { Ahead (all_content_lengths (views bs.now.items)) lengths.now next.old }
+    requires room { vec_len out.old + length (all_canonical (views bs.now.items)) ≤ vec_capacity out.old }
+    requires writable { first_write_fault (views bs.now.items) ≡ None }
+    ensures appended { out.new.items ≡ out.old.items ++ all_canonical (views bs.now.items) }
+    ensures capacity { vec_capacity out.old ≤ vec_capacity out.new }
+    ensures moved { next.new ≡ next.old + length (all_content_lengths (views bs.now.items)) }
+{
+    for b in bs {
+        append_block(b, lengths, next, out);
+    }
+}
