@@ -54,9 +54,8 @@ group_alone Set Set e = refl
 -- contents octets of one tag mean at most one leaf
 pub leaf_alone : (l m : Leaf) (contents : List ℕ) → leaf_tag l ≡ leaf_tag m → LeafContents l contents → LeafContents m contents → l ≡ m
 leaf_alone (integer y) (integer z) contents e p q = ap integer (p ∙ sym q)
-leaf_alone (integer y) (octet_string w) contents e p q = absurd (omega (arith, e))
-leaf_alone (octet_string v) (integer z) contents e p q = absurd (omega (arith, e))
 leaf_alone (octet_string v) (octet_string w) contents e p q = ap octet_string (p ∙ sym q)
+leaf_alone l m contents e p q = absurd (omega (arith, e))
 
 -- contents octets at fault mean no leaf
 pub leaf_no_fault : (n : ℕ) (contents : List ℕ) (e : DecodeFault) (l : Leaf) → n ≡ leaf_tag l → LeafContents l contents → LeafFault n contents e → ⊥
