@@ -22,6 +22,7 @@ pub record BlockEncoding (octets : List ℕ) : Type 0 where
   pub header : ℕ
   pub encoding : Encoding octets class constructed tag contents header
 
+-- a block is an encoding
 pub block_encoding : (octets : List ℕ) → IsBlock octets → BlockEncoding octets
 block_encoding octets (of_other_class f ne) = record { class = _; constructed = _; tag = _; contents = _; header = _; encoding = f }
 block_encoding octets (of_unknown_tag f ne) = record { class = _; constructed = _; tag = _; contents = _; header = _; encoding = f }

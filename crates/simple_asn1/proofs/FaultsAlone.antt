@@ -27,6 +27,7 @@ same_header octets s s' l l' rest rest' c c' k k' n n' m m' t u g t' u' g' =
     let v = length_alone l l' rest rest' m m' u u' q.1 in
     (omega (arith, ap length q.0, ap length v.0), v.2)
 
+-- a header has at most one fault
 pub header_fault_alone : (place : ℕ) (octets : List ℕ) (e d : DecodeFault) → HeaderFault place octets e → HeaderFault place octets d → e ≡ d
 header_fault_alone place octets e d (no_identifier none) (no_identifier none') = refl
 header_fault_alone place octets e d (no_identifier none) (no_length s b r c k n t g shut h) = absurd (none s r c k n b t g)
@@ -73,6 +74,7 @@ same_fronts octets front rest front' rest' (more_blocks {x = x} {rest = r} g b b
     (g ∙ ap (λ z. z ++ r) f.0 ∙ ap (λ z. y ++ z) i.0 ∙ sym h, i.1)
 
 mutual
+  -- so has the first block
   pub block_fault_alone : (place : ℕ) (octets : List ℕ) (e d : DecodeFault) → BlockFault place octets e → BlockFault place octets d → place + length octets < 2 ^ 64 → e ≡ d
   block_fault_alone place octets e d (in_header p) (in_header q) small = header_fault_alone place octets e d p q
   block_fault_alone place octets e d (in_header p) (in_contents x rest g f fault) small = absurd (header_no_encoding place octets x rest e _ _ _ _ _ p small g f)
@@ -81,6 +83,7 @@ mutual
       let s = encoding_alone _ _ _ _ _ _ _ _ _ _ _ _ rest rest' f f' (sym g ∙ g') in
       contents_fault_alone n v e d p (subst (λ z. ContentsFault n z d) (sym s.contents) (subst (λ z. ContentsFault z w d) (sym s.tag) q)) (omega (arith, small, encoding_within octets x rest Universal k n v h f g))
 
+  -- and contents octets
   pub contents_fault_alone : (n : ℕ) (contents : List ℕ) (e d : DecodeFault) → ContentsFault n contents e → ContentsFault n contents d → length contents < 2 ^ 64 → e ≡ d
   contents_fault_alone n contents e d (of_leaf_contents p) (of_leaf_contents q) small = leaf_fault_alone n contents e d p q
   contents_fault_alone n contents e d (of_leaf_contents p) (of_empty_group g t q) small = absurd (leaf_tag_no_group n g (leaf_fault_tag n contents e p) t)
@@ -92,6 +95,7 @@ mutual
   contents_fault_alone n contents e d (of_item g t p) (of_empty_group g' t' q) small = absurd (blocks_fault_some contents e p q)
   contents_fault_alone n contents e d (of_item g t p) (of_item g' t' q) small = blocks_fault_alone contents e d p q small
 
+  -- and blocks one after another
   pub blocks_fault_alone : (octets : List ℕ) (e d : DecodeFault) → BlocksFault octets e → BlocksFault octets d → length octets < 2 ^ 64 → e ≡ d
   blocks_fault_alone octets e d (after_blocks front rest g bs some p) (after_blocks front' rest' g' bs' some' q) small =
       let fits : length front + length rest < 2 ^ 64 = omega (arith, small, ap length g, length-append front rest) in

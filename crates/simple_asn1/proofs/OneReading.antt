@@ -18,6 +18,7 @@ mutual
   encodes_block o octets (unknown c k p n v) s =
       elim s.3 [ inl u ↦ of_unknown_tag (subst (λ d. Encoding octets d k n v s.0) u.0 s.1) u.1 | inr u ↦ of_other_class s.1 u.0 ]
 
+  -- and those that encode trees are blocks
   pub encodes_blocks : (o : ℕ) (octets : List ℕ) (bs : Trees ℕ) → EncodesAll o octets bs → AreBlocks octets
   encodes_blocks o octets no_trees s = subst AreBlocks (sym s) no_blocks
   encodes_blocks o octets (more_trees b bs) s = more_blocks s.2 (encodes_block o s.0 b s.3) (encodes_blocks (o + length s.0) s.1 bs s.4)

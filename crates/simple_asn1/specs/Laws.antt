@@ -1,4 +1,4 @@
--- Laws of the definitions. Octets below 2 ^ 64 are what a slice can hold.
+-- Laws of the definitions. A slice can hold fewer than 2 ^ 64 octets.
 use Rattle.std.specs.Prelude.{◌≡◌, ◌↔◌, ◌⊎◌, ℕ, ◌<◌, ◌≤◌, ◌^◌, ◌++◌, Bool, List, length, All}
 use Rattle.simple_asn1.specs.declared.header.ASN1Class.{ASN1Class}
 use Rattle.simple_asn1.specs.Base128.{IsBase128, shortest_base128}
@@ -8,7 +8,7 @@ use Rattle.simple_asn1.specs.Tree.{Tree, Trees}
 use Rattle.simple_asn1.specs.Grammar.{IsBlock, Encodes, Document, FirstFault}
 use Rattle.simple_asn1.specs.HeadersBegun.{HeadersBegun, all_blocks_in}
 
--- the parts of a header, and encodings, end where they end, and the shortest forms are such parts
+-- the parts of a header, and encodings, end where they end: none begins another. The shortest forms are such parts
 pub record HeaderLaws : Type 0 where
   -- of two base-128 numbers at the front of the same octets, the octets and the numbers are equal
   pub one_base128 : (s t x y : List ℕ) (m n : ℕ) → IsBase128 s m → IsBase128 t n → s ++ x ≡ t ++ y → (s ≡ t) × (m ≡ n)
@@ -28,14 +28,14 @@ pub record HeaderLaws : Type 0 where
   pub base128_shortest : (octets : List ℕ) (n : ℕ) → IsBase128 octets n → length (shortest_base128 n) ≤ length octets
   -- no identifier octets of the same fields are fewer
   pub identifier_shortest : (octets : List ℕ) (c : ASN1Class) (k : Bool) (n : ℕ) → IsIdentifier octets c k n → length (shortest_identifier c k n) ≤ length octets
-  -- no length octets of the same length are fewer
+  -- no length octets of the same length are fewer, where each is an octet
   pub length_shortest : (octets : List ℕ) (n : ℕ) → All (λ b. b < 256) octets → IsLength octets n → length (shortest_length n) ≤ length octets
 
 -- all octets have one reading
 pub record OneReading : Type 0 where
   -- octets at an offset encode at most one tree
   pub one_tree : (offset : ℕ) (octets : List ℕ) (a b : Tree ℕ) → Encodes offset octets a → Encodes offset octets b → a ≡ b
-  -- and where they do, no other octets at their front do
+  -- of two trees encoded at the front of the same octets, at one offset, the octets and the trees are equal
   pub one_front : (offset : ℕ) (s t x y : List ℕ) (a b : Tree ℕ) → Encodes offset s a → Encodes offset t b → s ++ x ≡ t ++ y → (s ≡ t) × (a ≡ b)
   -- octets are a block exactly if they encode some tree, at whatever offset
   pub block : (offset : ℕ) (octets : List ℕ) → length octets < 2 ^ 64 → IsBlock octets ↔ ((b : Tree ℕ) × Encodes offset octets b)

@@ -6,8 +6,7 @@ ghost use Rattle.simple_asn1.specs.Laws.{HeaderLaws, OneReading};
 /// fewer.
 pub fn law_header()
     ensures { HeaderLaws }
-{
-}
+{}
 
 /// A law, with no code. Octets encode at most one tree, and are a block exactly if they encode one. All octets that a
 /// slice can hold are one document or have one first fault, and never both.
@@ -16,5 +15,4 @@ pub fn law_header()
 /// document.
 pub fn law_one_reading()
     ensures { OneReading }
-{
-}
+{}

@@ -20,5 +20,5 @@ returns c = record {
   headers_begun = begun_exists;
   one_number = begun_alone;
   at_most = begun_le;
-  at_least = λ octets bs n d b. all_blocks_in_le 0 octets bs n d.blocks b
+  at_least = λ octets bs n d b. all_blocks_in_le 0 octets bs n d.blocks b;
 }
