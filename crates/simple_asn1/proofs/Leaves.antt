@@ -1,12 +1,12 @@
 -- What is known of leaves and groups by their tags. The other lemmas of the grammar build on these alone.
-use Rattle.std.proofs.Common.{◌≡◌, ℕ, ◌<◌, ◌^◌, ◌==◌, ◌||◌, true, false, List, length, inl, inr, refl, sym, ap, ◌∙◌, arith}
+use Rattle.std.proofs.Common.{◌≡◌, ℕ, ◌<◌, ◌^◌, ◌==◌, ◌||◌, true, false, List, Option, None, length, inl, inr, refl, sym, ap, ◌∙◌, arith}
 use Rattle.std.proofs.lemmas.Bool.{false≢true, cases_Bool, or_cases, eqb-true}
 use Rattle.simple_asn1.specs.declared.block.GroupKind.{GroupKind}
 use Rattle.simple_asn1.specs.declared.block.GroupKind.TheVariants.{Sequence, Set}
 use Rattle.simple_asn1.specs.Fault.{DecodeFault}
 use Rattle.simple_asn1.specs.TwosComplement.{signed_number}
 use Rattle.simple_asn1.specs.Tree.{Leaf, integer, octet_string}
-use Rattle.simple_asn1.specs.Contents.{leaf_tag, group_tag, is_leaf_tag, is_group_tag, is_known_tag, LeafContents, LeafFault}
+use Rattle.simple_asn1.specs.Contents.{leaf_tag, group_tag, is_leaf_tag, is_group_tag, is_known_tag, LeafContents, LeafFault, leaf_write_fault}
 
 -- the tag of a leaf is a leaf's
 pub leaf_tag_is : (l : Leaf) → is_leaf_tag (leaf_tag l) ≡ true
@@ -96,3 +96,8 @@ tag_kind n = elim (cases_Bool (is_known_tag n)) [
     | inr a ↦ elim (or_cases (n == 16) (n == 17) a) [ inl b ↦ group_tag_of Sequence (eqb-true n 16 b) | inr b ↦ group_tag_of Set (eqb-true n 17 b) ]
   ]
 ]
+
+-- a leaf that was read can be written
+pub leaf_writable : (l : Leaf) (contents : List ℕ) → LeafContents l contents → leaf_write_fault l ≡ None
+leaf_writable (integer n) contents p = refl
+leaf_writable (octet_string v) contents p = refl

@@ -17,3 +17,5 @@ pub mod HeaderCountsExist
 pub mod Shortest
 pub mod Base128Forms
 pub mod WriteSteps
+pub mod Readings
+pub mod Writable

@@ -34,4 +34,4 @@ pub use crate::laws::{law_header, law_one_reading};
 pub use crate::number::big_int::BigInt;
 pub use crate::number::big_uint::BigUint;
 pub use crate::read::{from_der, from_der_counted};
-pub use crate::write::to_der;
+pub use crate::write::{rewrite, to_der};

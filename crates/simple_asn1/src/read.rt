@@ -1,10 +1,10 @@
 // Reading documents: one loop over the frames that are open, so that no function calls itself.
-ghost use Rattle.std.specs.Prelude.{◌≡◌, ◌≢◌, ◌↔◌, ℕ, ◌+◌, ◌-◌, ◌<◌, ◌≤◌, ◌^◌, ◌⊎◌, true, List, length, drop, reverse, slice_range, IfOk, IfErr, IsTrue};
+ghost use Rattle.std.specs.Prelude.{◌≡◌, ◌≢◌, ◌↔◌, ℕ, ◌+◌, ◌-◌, ◌<◌, ◌≤◌, ◌^◌, ◌⊎◌, true, List, length, drop, reverse, slice_range, IfOk, IfErr, IsErrAnd, IsTrue, MatchResult};
 ghost use Rattle.simple_asn1.specs.declared.header.ASN1Class.TheVariants.{Universal};
 ghost use Rattle.simple_asn1.specs.declared.error.ASN1DecodeErr.TheVariants.{OutOfMemory};
 ghost use Rattle.simple_asn1.specs.Header.{Encoding};
-ghost use Rattle.simple_asn1.specs.Fault.{OutOfMemoryOr, UnlessOutOfMemory, fault_of};
-ghost use Rattle.simple_asn1.specs.Tree.{group};
+ghost use Rattle.simple_asn1.specs.Fault.{DecodeFault, OutOfMemoryOr, UnlessOutOfMemory, fault_of};
+ghost use Rattle.simple_asn1.specs.Tree.{Trees, group};
 ghost use Rattle.simple_asn1.specs.View.{view, views};
 ghost use Rattle.simple_asn1.specs.Grammar.{Document, Encodes, EncodesAll, FirstFault, HeaderFault};
 ghost use Rattle.simple_asn1.specs.HeadersBegun.{HeadersBegun, IsReadInside};
@@ -79,7 +79,11 @@ struct Header {
 /// ```
 pub fn from_der(alloc: Global, i: &[u8]) -> Result<Vec<ASN1Block>, ASN1DecodeErr>
     ensures document { IfOk result (λ blocks. Document i.now (views blocks.items)) }
-    ensures refused { IfErr result (OutOfMemoryOr (FirstFault i.now)) }
+    ensures fault { IfErr result (OutOfMemoryOr (FirstFault i.now)) }
+
+    // Memory aside, each document is read as its trees, and other octets are refused with their first fault.
+    ensures accepts { (bs : Trees ℕ) → Document i.now bs → MatchResult result (λ blocks. views blocks.items ≡ bs) (λ e. e ≡ OutOfMemory) }
+    ensures refuses { (fault : DecodeFault) → FirstFault i.now fault → IsErrAnd result (OutOfMemoryOr (λ e. e ≡ fault)) }
 {
     let mut count = HeaderCount::new();
     from_der_counted(alloc, i, &mut count)
@@ -91,6 +95,23 @@ pub fn from_der(alloc: Global, i: &[u8]) -> Result<Vec<ASN1Block>, ASN1DecodeErr
 /// # Errors
 /// Those of [`from_der`].
 pub fn from_der_counted(
+    alloc: Global,
+    i: &[u8],
+    count: &mut HeaderCount,
+) -> Result<Vec<ASN1Block>, ASN1DecodeErr>
+    requires room { count.old + length i.now < 2 ^ 64 }
+    ensures document { IfOk result (λ blocks. Document i.now (views blocks.items)) }
+    ensures fault { IfErr result (OutOfMemoryOr (FirstFault i.now)) }
+    ensures accepts { (bs : Trees ℕ) → Document i.now bs → MatchResult result (λ blocks. views blocks.items ≡ bs) (λ e. e ≡ OutOfMemory) }
+    ensures refuses { (fault : DecodeFault) → FirstFault i.now fault → IsErrAnd result (OutOfMemoryOr (λ e. e ≡ fault)) }
+
+    ensures counted { UnlessOutOfMemory result ((n : ℕ) × HeadersBegun i.now n × (count.new ≡ count.old + n)) }
+    ensures bounded { count.new ≤ count.old + length i.now }
+{
+    read_blocks(alloc, i, count)
+}
+
+fn read_blocks(
     alloc: Global,
     i: &[u8],
     count: &mut HeaderCount,

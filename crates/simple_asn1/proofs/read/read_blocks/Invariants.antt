@@ -1,6 +1,6 @@
 use Rattle.std.proofs.Common.{length}
 use Rattle.simple_asn1.specs.OpenFrames.{Reading, left}
-use Rattle.simple_asn1.proofs.read.from_der_counted.Given as goal
+use Rattle.simple_asn1.proofs.read.read_blocks.Given as goal
 
 abbrev pub invariant-loop-next : goal.invariant-loop-next
 invariant-loop-next l = Reading l.i l.reader l.count l.fn.count

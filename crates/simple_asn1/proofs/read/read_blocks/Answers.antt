@@ -1,0 +1,70 @@
+use Rattle.std.proofs.Common.{◌≡◌, ◌≢◌, ℕ, zero, suc, ◌+◌, ◌*◌, ◌-◌, ◌<◌, ◌≤◌, ◌^◌, Bool, true, false, List, [], ◌∷◌, ◌++◌, ◌⊎◌, inl, inr, length, take, drop, reverse, Result, Ok, Err, refl, sym, ap, ◌∙◌, subst, arith, rules}
+use Rattle.std.specs.List.{slice_range}
+use Rattle.std.proofs.lemmas.Grind.{common_steps}
+use Rattle.simple_asn1.specs.declared.header.ASN1Class.{ASN1Class}
+use Rattle.simple_asn1.specs.declared.header.ASN1Class.TheVariants.{Universal}
+use Rattle.simple_asn1.specs.declared.error.ASN1DecodeErr.{ASN1DecodeErr}
+use Rattle.simple_asn1.specs.declared.error.ASN1DecodeErr.TheVariants.{OutOfMemory}
+use Rattle.simple_asn1.specs.Fault.{fault_of}
+use Rattle.simple_asn1.specs.Header.{Encoding}
+use Rattle.simple_asn1.specs.declared.read.FrameKind.{FrameKind}
+use Rattle.simple_asn1.specs.declared.read.FrameKind.TheVariants.{Whole, Group, Attempt}
+use Rattle.simple_asn1.specs.declared.read.OpenFrame.{OpenFrame}
+use Rattle.simple_asn1.specs.declared.read.Turn.TheVariants.{Continues, Ends}
+use Rattle.simple_asn1.specs.Tree.{unknown}
+use Rattle.simple_asn1.specs.View.{view, views}
+use Rattle.simple_asn1.specs.Grammar.{Encodes, EncodesAll, IsBlock, BlocksFault, FirstFault, Document, HeaderFault, ContentsFault}
+use Rattle.simple_asn1.specs.HeadersBegun.{HeadersBegun, IsReadInside, begun_none}
+use Rattle.simple_asn1.specs.OpenFrames.{Headed, Opened, Stopping, StopsAt, Reading, Turned, Follows, Nearer, left, IsPut, ReadTo}
+use Rattle.simple_asn1.proofs.ReadSteps.{slice_length, view-Unknown, no_octets}
+use Rattle.simple_asn1.proofs.HeaderCounts.{begun_le}
+use Rattle.simple_asn1.proofs.FrameSteps.{Closed, Places, slice_none, opened_places, opened_bound, opened_open, stop_attempt, stop_document, end_document, close_group, close_empty, close_attempt, turned_put, reverse_push, reverse_none, nearer_more, turned_memory, follows_as, stopping_places, stop_pop, header_here, header_stopping, leaf_stopping, leaf_follows, headed_by}
+use Rattle.simple_asn1.proofs.read.read_blocks.Goals as goal
+
+pub returns-then-i-eq0-clause-counted : goal.returns-then-i-eq0-clause-counted
+returns-then-i-eq0-clause-counted c = inr (0, begun_none (no_octets c.args.i.now c.if-i-eq0.true), omega arith)
+
+pub loop-next-init : goal.loop-next-init
+loop-next-init c =
+    let octets = c.args.i.now in
+    let f : OpenFrame = record { kind = Whole; start = 0; end = length octets; blocks = c.new.result } in
+    let z : slice_range octets 0 0 ≡ [] = slice_none octets 0 in
+    let o : Opened octets f [] 0 0 = (refl, refl, refl, record { from = omega arith; to = omega arith; within = omega arith; encoded = subst (λ l. EncodesAll 0 (slice_range octets 0 0) (views l)) (sym c.new.ensures.items) z; begun = begun_none z }) in
+    (0, omega arith, subst (λ l. Opened octets f l 0 0) (sym (ap reverse c.new-2.ensures.items)) o)
+
+pub take_turn-requires-clause-room : goal.take_turn-requires-clause-room
+take_turn-requires-clause-room c =
+    let r = c.loop-next.reader in
+    let v = opened_places c.args.i.now r.inner (reverse r.outer.items) r.index c.loop-next.invariant.0 c.loop-next.invariant.2 in
+    let u = opened_bound c.args.i.now r.inner (reverse r.outer.items) r.index c.loop-next.invariant.0 c.loop-next.invariant.2 in
+    omega (arith, v.to, v.within, u, c.loop-next.invariant.1, c.requires.room)
+
+pub loop-next-preserved : goal.loop-next-preserved
+loop-next-preserved c =
+    subst (λ t. Turned c.args.i.now t c.take_turn.new.count c.args.count.now) (c.in-Ok-Continues.is ∙ ap Ok c.in-Ok-Continues.field-0-is) (c.take_turn.ensures.turned c.args.count.now c.loop-next.invariant)
+
+-- the end of the document
+ended : (c : goal.In-Ok-Ends) → EncodesAll 0 c.args.i.now (views c.in-Ok-Ends.blocks.items) × (n : ℕ) × (c.take_turn.new.count ≡ c.args.count.now + n) × HeadersBegun c.args.i.now n
+ended c =
+    subst (λ t. Turned c.args.i.now t c.take_turn.new.count c.args.count.now) (c.in-Ok-Ends.is ∙ ap Ok c.in-Ok-Ends.field-0-is) (c.take_turn.ensures.turned c.args.count.now c.loop-next.invariant)
+
+pub returns-in-Ok-Ends-clause-document : goal.returns-in-Ok-Ends-clause-document
+returns-in-Ok-Ends-clause-document c = record { some = omega (arith, c.if-i-eq0.false); blocks = (ended c).0 }
+
+pub returns-in-Ok-Ends-clause-counted : goal.returns-in-Ok-Ends-clause-counted
+returns-in-Ok-Ends-clause-counted c = ((ended c).1, (ended c).3, (ended c).2)
+
+pub returns-in-Ok-Ends-clause-bounded : goal.returns-in-Ok-Ends-clause-bounded
+returns-in-Ok-Ends-clause-bounded c = omega (arith, (ended c).2, begun_le c.args.i.now (ended c).1 (ended c).3)
+
+failed : (c : goal.In-Err) → Turned c.args.i.now (Err c.in-Err.e) c.take_turn.new.count c.args.count.now
+failed c = subst (λ t. Turned c.args.i.now t c.take_turn.new.count c.args.count.now) c.in-Err.is (c.take_turn.ensures.turned c.args.count.now c.loop-next.invariant)
+
+pub returns-in-Err-clause-refused : goal.returns-in-Err-clause-refused
+returns-in-Err-clause-refused c = elim (failed c) [ inl m ↦ inl m.0 | inr r ↦ inr (inr r.0) ]
+
+pub returns-in-Err-clause-counted : goal.returns-in-Err-clause-counted
+returns-in-Err-clause-counted c = elim (failed c) [ inl m ↦ inl m.0 | inr r ↦ inr (r.1, r.3, r.2) ]
+
+pub returns-in-Err-clause-bounded : goal.returns-in-Err-clause-bounded
+returns-in-Err-clause-bounded c = elim (failed c) [ inl m ↦ m.1 | inr r ↦ omega (arith, r.2, begun_le c.args.i.now r.1 r.3) ]
