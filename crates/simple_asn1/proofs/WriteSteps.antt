@@ -1,13 +1,14 @@
 -- Steps of both walks of writing.
-use Rattle.std.proofs.Common.{◌≡◌, ℕ, ◌+◌, ◌<◌, ◌≤◌, Bool, List, [], ◌∷◌, ◌++◌, length, take, drop, get_or, set, drop-drop, refl, sym, ap, ◌∙◌, arith, rules, length-append, append_assoc, Vec, Global, Box}
+use Rattle.std.proofs.Common.{◌≡◌, ℕ, ◌+◌, ◌<◌, ◌≤◌, Bool, List, [], ◌∷◌, ◌++◌, length, take, drop, get_or, set, drop-drop, refl, sym, ap, subst, ◌∙◌, None, arith, rules, length-append, append_assoc, Vec, Global, Box}
 use Rattle.std.proofs.lemmas.List.{take-append-drop, take_at, drop_at, set_at, drop_more}
 use Rattle.simple_asn1.specs.declared.header.ASN1Class.{ASN1Class}
 use Rattle.simple_asn1.specs.declared.block.ASN1Block.{ASN1Block, Explicit, Unknown, the_lemmas}
 use Rattle.simple_asn1.specs.Header.{shortest_identifier, shortest_length}
-use Rattle.simple_asn1.specs.Canonical.{shortest_encoding}
+use Rattle.std.proofs.lemmas.Grind.{common_steps}
+use Rattle.simple_asn1.specs.Canonical.{all_canonical, canonical, first_write_fault, shortest_encoding, write_fault}
 use Rattle.simple_asn1.specs.Tree.{explicit, unknown, more_trees}
 use Rattle.simple_asn1.specs.View.{view, views}
-use Rattle.simple_asn1.specs.WriteWalk.{Ahead}
+use Rattle.simple_asn1.specs.WriteWalk.{Ahead, all_content_lengths, content_lengths}
 
 -- the blocks from i on are the block at i and those after it
 pub views_from : (bs : List ASN1Block) (i : ℕ) (b : ASN1Block) → i < length bs → b ≡ get_or bs i b → views (drop i bs) ≡ more_trees (view b) (views (drop (i + 1) bs))
@@ -27,6 +28,21 @@ ahead_append a b whole n h =
     let g : drop (n + length a) whole ≡ b ++ r = sym (drop-drop (length a) n whole) ∙ (ap (λ z. drop (length a) z) (sym e) ∙ drop_at a (b ++ r) (length a) refl) in
     let k : take (length b) (drop (n + length a) whole) ≡ b = ap (λ z. take (length b) z) g ∙ take_at b r (length b) refl in
     ((omega (arith, h.0, length-append a b), f), (omega (arith, h.0, length-append a b), k))
+
+-- what is ahead of the blocks from i on, at the block at i and at those after it
+pub ahead_from : (bs : List ASN1Block) (i : ℕ) (b : ASN1Block) (whole : List ℕ) (n : ℕ) → i < length bs → b ≡ get_or bs i b → Ahead (all_content_lengths (views (drop i bs))) whole n → Ahead (content_lengths (view b)) whole n × Ahead (all_content_lengths (views (drop (i + 1) bs))) whole (n + length (content_lengths (view b)))
+ahead_from bs i b whole n h e a =
+    ahead_append (content_lengths (view b)) (all_content_lengths (views (drop (i + 1) bs))) whole n (subst (λ z. Ahead (all_content_lengths z) whole n) (views_from bs i b h e) a)
+
+-- the octets of the blocks from i on are those of the block at i and of those after it
+pub canonical_from : (bs : List ASN1Block) (i : ℕ) (b : ASN1Block) → i < length bs → b ≡ get_or bs i b → all_canonical (views (drop i bs)) ≡ canonical (view b) ++ all_canonical (views (drop (i + 1) bs))
+canonical_from bs i b h e = ap (λ z. all_canonical z) (views_from bs i b h e)
+
+-- where the blocks from i on can be written, the block at i can be, and those after it
+pub writable_from : (bs : List ASN1Block) (i : ℕ) (b : ASN1Block) → i < length bs → b ≡ get_or bs i b → first_write_fault (views (drop i bs)) ≡ None → (write_fault (view b) ≡ None) × (first_write_fault (views (drop (i + 1) bs)) ≡ None)
+writable_from bs i b h e f =
+    let n = sym (ap first_write_fault (views_from bs i b h e)) ∙ f in
+    (grind (arith, common_steps, n), grind (arith, common_steps, n))
 
 -- a length, put at the place that was kept for it
 pub set_kept_place : (olds news now rest : List ℕ) (place x : ℕ) → place ≡ length olds → news ≡ olds ++ 0 ∷ [] → now ≡ news ++ rest → set now place x ≡ olds ++ x ∷ rest

@@ -21,7 +21,8 @@ use std::alloc::Global;
 /// The canonical octets of a block: every length definite, every length and tag in its shortest form (X.690 10.1), SETs
 /// in the order that they have.
 ///
-/// The offsets play no part. Beside the result, a `usize` for each block is kept while it is written.
+/// The offsets play no part. Beside the result, writing keeps a `usize` for each block, and a call on the stack for each
+/// level of nesting.
 ///
 /// # Errors
 /// The fault of the first block, in the order of the octets, that can't be written; `OutOfMemory`, also where the
