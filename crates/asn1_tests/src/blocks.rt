@@ -1,0 +1,173 @@
+// Blocks made by hand: written, compared and cloned.
+use crate::notation::{hex_of, octets, text_of};
+use simple_asn1::{ASN1Block, ASN1Class, BigInt, BigUint, from_der, to_der};
+use std::alloc::Global;
+use std::process::Abort;
+use std::test::Fail;
+
+fn unknown(
+    alloc: Global,
+    class: ASN1Class,
+    constructed: bool,
+    tag: u64,
+    contents: &str,
+) -> Result<ASN1Block, Fail> {
+    let tag = BigUint::from_u64(alloc, tag)?;
+    Ok(ASN1Block::Unknown(class, constructed, 0, tag, octets(alloc, contents)?))
+}
+
+// The block is written as these octets.
+fn check_written(
+    rt: &impl Abort,
+    alloc: Global,
+    block: &ASN1Block,
+    written: &str,
+) -> Result<(), Fail> {
+    let octets = to_der(alloc, block)?;
+    assert_eq!(rt; hex_of(alloc, &octets)?.as_str(), written);
+    Ok(())
+}
+
+#[test]
+fn blocks_are_written(rt: HostRuntime) -> Result<(), Fail> {
+    let alloc = rt.alloc();
+    let large = BigInt::from_signed_bytes_be(alloc, &octets(alloc, "01 00 00 00 00 00 00 00 00")?)?;
+    let large = ASN1Block::Integer(0, large);
+    check_written(&rt, alloc, &large, "02 09 01 00 00 00 00 00 00 00 00")?;
+    check_written(
+        &rt,
+        alloc,
+        &ASN1Block::Sequence(0, Vec::new(alloc)),
+        "30 00",
+    )?;
+    let high_tag = unknown(alloc, ASN1Class::Application, false, 16384, "")?;
+    check_written(&rt, alloc, &high_tag, "5F 81 80 00 00")?;
+    let known_tag = unknown(alloc, ASN1Class::Universal, false, 2, "05")?;
+    check_written(&rt, alloc, &known_tag, "02 01 05")
+}
+
+#[test]
+fn unfaithful_blocks_are_read_as_others(rt: HostRuntime) -> Result<(), Fail> {
+    let alloc = rt.alloc();
+    let block = unknown(alloc, ASN1Class::ContextSpecific, true, 0, "02 01 05")?;
+    check_written(&rt, alloc, &block, "A0 03 02 01 05")?;
+    let read = from_der(alloc, &to_der(alloc, &block)?)?;
+    assert_eq!(rt;
+        text_of(alloc, &read)?.as_str(),
+        "Explicit(CS, 0, 0, Integer(2, 5))"
+    );
+    let item = unknown(alloc, ASN1Class::Universal, false, 5, "")?;
+    let tag = BigUint::from_u64(alloc, 2)?;
+    let block = ASN1Block::Explicit(ASN1Class::Universal, 0, tag, Box::new(alloc, item)?);
+    check_written(&rt, alloc, &block, "22 02 05 00")?;
+    let read = from_der(alloc, &to_der(alloc, &block)?)?;
+    assert_eq!(rt; text_of(alloc, &read)?.as_str(), "Integer(0, 1280)");
+    Ok(())
+}
+
+#[test]
+fn long_contents_have_long_lengths(rt: HostRuntime) -> Result<(), Fail> {
+    let alloc = rt.alloc();
+    for (size, header) in [
+        (127, "04 7F"),
+        (128, "04 81 80"),
+        (255, "04 81 FF"),
+        (256, "04 82 01 00"),
+        (65535, "04 82 FF FF"),
+        (65536, "04 83 01 00 00"),
+    ] {
+        let mut contents = Vec::new(alloc);
+        contents.resize(size, 0)?;
+        let written = to_der(alloc, &ASN1Block::OctetString(0, contents))?;
+        let header = octets(alloc, header)?;
+        assert!(rt; written.starts_with(&header), "{size} octets");
+        assert_eq!(rt; written.len(), header.len() + size);
+    }
+    Ok(())
+}
+
+#[test]
+fn blocks_have_classes_and_offsets(rt: HostRuntime) -> Result<(), Fail> {
+    let alloc = rt.alloc();
+    for (input, class, offset) in [
+        ("05 00 02 01 05", ASN1Class::Universal, 2),
+        ("05 00 04 01 05", ASN1Class::Universal, 2),
+        ("05 00 30 03 02 01 05", ASN1Class::Universal, 2),
+        ("05 00 31 03 02 01 05", ASN1Class::Universal, 2),
+        ("05 00 05 00", ASN1Class::Universal, 2),
+        ("05 00 E1 02 05 00", ASN1Class::Private, 2),
+        ("05 00 60 02 05 00", ASN1Class::Application, 2),
+        ("05 00 9F 1F 00", ASN1Class::ContextSpecific, 2),
+    ] {
+        let blocks = from_der(alloc, &octets(alloc, input)?)?;
+        assert_eq!(rt; blocks.len(), 2);
+        assert_eq!(rt; blocks[1].class(), class, "{input}");
+        assert_eq!(rt; blocks[1].offset(), offset, "{input}");
+    }
+    Ok(())
+}
+
+#[test]
+fn equality_ignores_offsets(rt: HostRuntime) -> Result<(), Fail> {
+    let alloc = rt.alloc();
+    let inputs = [
+        "02 01 05",
+        "02 01 06",
+        "04 01 05",
+        "05 00",
+        "30 03 02 01 05",
+        "31 03 02 01 05",
+        "30 06 02 01 05 02 01 05",
+        "A0 03 02 01 05",
+        "A0 03 02 01 06",
+        "A1 03 02 01 05",
+        "E0 03 02 01 05",
+        "80 03 02 01 05",
+        "A0 02 02 05",
+        "30 05 A0 03 02 01 05",
+        "30 05 A0 03 02 01 06",
+    ];
+    for input in inputs {
+        let first = from_der(alloc, &octets(alloc, input)?)?;
+        for other in inputs {
+            // The block stands behind another one, so each offset in it is another.
+            let mut moved = octets(alloc, "05 00")?;
+            moved.extend_from_slice(&octets(alloc, other)?)?;
+            let second = from_der(alloc, &moved)?;
+            assert_eq!(rt; first.len(), 1);
+            assert_eq!(rt; second.len(), 2);
+            assert!(rt; first[0].offset() != second[1].offset());
+            assert_eq!(rt;
+                first[0] == second[1],
+                input == other,
+                "{input} and {other}"
+            );
+        }
+    }
+    Ok(())
+}
+
+#[test]
+fn clones_keep_offsets(rt: HostRuntime) -> Result<(), Fail> {
+    let alloc = rt.alloc();
+    for input in [
+        "02 01 05",
+        "04 01 05",
+        "30 06 02 01 01 04 01 02",
+        "31 05 01 01 00 05 00",
+        "A0 08 30 06 A1 04 30 02 02 05",
+        "A0 06 A0 04 A0 02 02 01",
+    ] {
+        let mut moved = octets(alloc, "05 00")?;
+        moved.extend_from_slice(&octets(alloc, input)?)?;
+        let blocks = from_der(alloc, &moved)?;
+        let mut clones = Vec::new(alloc);
+        for block in &blocks {
+            clones.push(block.clone(alloc)?)?;
+        }
+        assert!(rt; clones == blocks, "{input}");
+        let text = text_of(alloc, &blocks)?;
+        assert_eq!(rt; text_of(alloc, &clones)?.as_str(), text.as_str());
+    }
+    Ok(())
+}

@@ -1,0 +1,129 @@
+// The errors: their texts, their equality and their clones.
+use simple_asn1::{ASN1DecodeErr, ASN1EncodeErr};
+use std::alloc::AllocError;
+use std::fmt::Write;
+use std::test::Fail;
+
+#[test]
+fn decode_errors_have_texts(rt: HostRuntime) -> Result<(), Fail> {
+    let alloc = rt.alloc();
+    let date = String::from_str(alloc, "20+50101000000Z")?;
+    for (error, text) in [
+        (
+            ASN1DecodeErr::EmptyBuffer,
+            "Encountered an empty buffer decoding ASN1 block.",
+        ),
+        (
+            ASN1DecodeErr::BadBooleanLength(2),
+            "Bad length field in boolean block: 2",
+        ),
+        (
+            ASN1DecodeErr::LengthTooLarge(9),
+            "Length field too large for object type: 9",
+        ),
+        (
+            ASN1DecodeErr::PrintableStringDecodeFailure,
+            "Printable string failed to properly decode.",
+        ),
+        (
+            ASN1DecodeErr::InvalidDateValue(date),
+            "Invalid date value: 20+50101000000Z",
+        ),
+        (
+            ASN1DecodeErr::InvalidBitStringLength(-1),
+            "Invalid length of bit string: -1",
+        ),
+        (ASN1DecodeErr::InvalidClass(4), "Invalid class value: 4"),
+        (ASN1DecodeErr::Incomplete, "Incomplete data or invalid ASN1"),
+        (ASN1DecodeErr::Overflow, "Value overflow"),
+        (ASN1DecodeErr::OutOfMemory, "Out of memory"),
+    ] {
+        let mut printed = String::new(alloc);
+        write!(printed, "{error}")?;
+        assert_eq!(rt; printed.as_str(), text);
+        let clone = error.clone(alloc)?;
+        assert!(rt; clone == error, "the clone of: {text}");
+        assert_eq!(rt;
+            error == ASN1DecodeErr::OutOfMemory,
+            text == "Out of memory"
+        );
+    }
+    Ok(())
+}
+
+#[test]
+fn utf8_failures_have_texts(rt: HostRuntime) -> Result<(), Fail> {
+    let alloc = rt.alloc();
+    let Err(e) = std::str::from_utf8(&[0xFF]) else {
+        return Err(Fail::new("FF is no UTF-8"));
+    };
+    let error = ASN1DecodeErr::UTF8DecodeFailure(e);
+    let mut printed = String::new(alloc);
+    write!(printed, "{error}")?;
+    assert!(rt;
+        printed
+            .as_str()
+            .starts_with("UTF8 string failed to properly decode: ")
+    );
+    assert!(rt; error.clone(alloc)? == error);
+    assert!(rt; error != ASN1DecodeErr::Incomplete);
+    Ok(())
+}
+
+#[test]
+fn encode_errors_have_texts(rt: HostRuntime) -> Result<(), Fail> {
+    let alloc = rt.alloc();
+    for (error, text) in [
+        (
+            ASN1EncodeErr::ObjectIdentHasTooFewFields,
+            "ASN1 object identifier has too few fields.",
+        ),
+        (
+            ASN1EncodeErr::ObjectIdentVal1TooLarge,
+            "First value in ASN1 OID is too big.",
+        ),
+        (
+            ASN1EncodeErr::ObjectIdentVal2TooLarge,
+            "Second value in ASN1 OID is too big.",
+        ),
+        (
+            ASN1EncodeErr::BitStringLength,
+            "Bit count does not fit the bytes of the bit string",
+        ),
+        (
+            ASN1EncodeErr::CharacterTooLarge,
+            "Character does not fit one byte",
+        ),
+        (ASN1EncodeErr::YearOutOfRange, "Year is below 0"),
+        (ASN1EncodeErr::OutOfMemory, "Out of memory"),
+    ] {
+        let mut printed = String::new(alloc);
+        write!(printed, "{error}")?;
+        assert_eq!(rt; printed.as_str(), text);
+        let clone = error.clone(alloc)?;
+        assert!(rt; clone == error, "the clone of: {text}");
+        assert_eq!(rt;
+            error == ASN1EncodeErr::OutOfMemory,
+            text == "Out of memory"
+        );
+    }
+    Ok(())
+}
+
+#[test]
+fn payloads_are_compared(rt: HostRuntime) -> Result<(), Fail> {
+    let alloc = rt.alloc();
+    let eleven = ASN1DecodeErr::InvalidDateValue(String::from_str(alloc, "11")?);
+    let one = ASN1DecodeErr::InvalidDateValue(String::from_str(alloc, "1")?);
+    assert!(rt; eleven.clone(alloc)? == eleven);
+    assert!(rt; eleven != one);
+    assert!(rt; ASN1DecodeErr::LengthTooLarge(9) != ASN1DecodeErr::LengthTooLarge(127));
+    assert!(rt; ASN1DecodeErr::LengthTooLarge(2) != ASN1DecodeErr::BadBooleanLength(2));
+    Ok(())
+}
+
+#[test]
+fn want_of_memory_is_an_error_of_both(rt: HostRuntime) {
+    assert_eq!(rt; ASN1DecodeErr::from(AllocError), ASN1DecodeErr::OutOfMemory);
+    assert_eq!(rt; ASN1EncodeErr::from(AllocError), ASN1EncodeErr::OutOfMemory);
+}
