@@ -70,7 +70,7 @@ follows_read octets f g p q n m b s e i r w =
       to = omega (arith, e, w.to);
       within = omega (arith, e, r.within);
       encoded = subst (λ z. EncodesAll z (slice_range octets z q) (views g.blocks.items)) (sym s) (subst (λ z. EncodesAll f.start z (views g.blocks.items)) (sym whole) u);
-      begun = subst (λ z. HeadersBegun (slice_range octets z q) (n + m)) (sym s) (subst (λ z. HeadersBegun z (n + m)) (sym whole) j)
+      begun = subst (λ z. HeadersBegun (slice_range octets z q) (n + m)) (sym s) (subst (λ z. HeadersBegun z (n + m)) (sym whole) j);
     }
 
 pub opened_more : (octets : List ℕ) (f g : OpenFrame) (gs : List OpenFrame) (p q n m : ℕ) (b : ASN1Block) → g.kind ≡ f.kind → g.start ≡ f.start → g.end ≡ f.end → g.blocks.items ≡ f.blocks.items ++ b ∷ [] → Opened octets f gs p n → Follows octets f p q (view b) m → Opened octets g gs q (n + m)
@@ -123,7 +123,7 @@ group_stops octets g o s e y k fault a small low lt le fits within F w B =
     record {
       here = omega arith;
       stops = stops;
-      begun = begun_some (omega (arith, len)) a 0 (inside_first (slice_range octets o e) (slice_range octets e g.end) d F (inl (refl, group_tag_is y)) B) (nothing_after (λ x r c b. block_fault_no_block (o - g.start) (slice_range octets o g.end) x r fault stops (omega (arith, len, small)) c b)) (omega arith)
+      begun = begun_some (omega (arith, len)) a 0 (inside_first (slice_range octets o e) (slice_range octets e g.end) d F (inl (refl, group_tag_is y)) B) (nothing_after (λ x r c b. block_fault_no_block (o - g.start) (slice_range octets o g.end) x r fault stops (omega (arith, len, small)) c b)) (omega arith);
     }
 
 -- a fault leaves a group
@@ -160,9 +160,9 @@ stop_attempt octets f g gs e n c x t small k w =
         from = omega (arith, H.0, o.4, o.6.from, o.6.to);
         to = o.5;
         encoded = (f.start - x, F, refl, inr (H.1, λ z. blocks_fault_no_blocks contents e r.0 (omega (arith, l, small, o.6.within)) (block_is_blocks contents z.1)));
-        begun = begun_opened (slice_range octets x f.end) c true t contents (f.start - x) (o.1 + b) F (inr (H.1, refl)) (of_other_class F H.1) r.1
+        begun = begun_opened (slice_range octets x f.end) c true t contents (f.start - x) (o.1 + b) F (inr (H.1, refl)) (of_other_class F H.1) r.1;
       };
-      total = omega (arith, q, o.8)
+      total = omega (arith, q, o.8);
     }
 
 -- a fault in no attempt
@@ -207,9 +207,9 @@ close_group octets f g gs n x y k some o =
         from = omega (arith, H.0, o.4, o.6.from, o.6.to);
         to = o.5;
         encoded = (H.1, contents, f.start - x, F, refl, m, subst (λ z. EncodesAll z contents (views f.blocks.items)) at o.6.encoded);
-        begun = begun_opened (slice_range octets x f.end) Universal H.1 (group_tag y) contents (f.start - x) o.1 F (inl (refl, group_tag_is y)) (of_group F y refl m (encodes_blocks f.start contents (views f.blocks.items) o.6.encoded)) o.6.begun
+        begun = begun_opened (slice_range octets x f.end) Universal H.1 (group_tag y) contents (f.start - x) o.1 F (inl (refl, group_tag_is y)) (of_group F y refl m (encodes_blocks f.start contents (views f.blocks.items) o.6.encoded)) o.6.begun;
       };
-      total = o.8
+      total = o.8;
     }
 
 -- the end of a group without blocks
@@ -235,9 +235,9 @@ close_attempt octets f g gs n c x t b k means o =
         from = omega (arith, H.0, o.4, o.6.from, o.6.to);
         to = o.5;
         encoded = means (slice_range octets x f.end) (f.start - x) H.1 F (subst (λ z. EncodesAll z contents (views f.blocks.items)) at o.6.encoded);
-        begun = begun_opened (slice_range octets x f.end) c true t contents (f.start - x) o.1 F (inr (H.1, refl)) (of_other_class F H.1) o.6.begun
+        begun = begun_opened (slice_range octets x f.end) c true t contents (f.start - x) o.1 F (inr (H.1, refl)) (of_other_class F H.1) o.6.begun;
       };
-      total = o.8
+      total = o.8;
     }
 
 -- a block was put into the frame
@@ -293,9 +293,9 @@ header_here octets f p a z c k n v lt le fits F =
     let e3 : f.start + (p - f.start) ≡ p = omega (arith, v.from) in
     let e4 : a - (p - f.start) ≡ f.start + a - p = omega (arith, v.from) in
     subst (λ w. Encoding (slice_range octets w (f.start + z)) c k n (slice_range octets (f.start + a) (f.start + z)) (f.start + a - p)) e3
-      (subst (λ w. Encoding w c k n (slice_range octets (f.start + a) (f.start + z)) (f.start + a - p)) e1
-        (subst (λ w. Encoding (slice_range (slice_range octets f.start f.end) (p - f.start) z) c k n w (f.start + a - p)) e2
-          (subst (λ w. Encoding (slice_range (slice_range octets f.start f.end) (p - f.start) z) c k n (slice_range (slice_range octets f.start f.end) a z) w) e4 F)))
+    (subst (λ w. Encoding w c k n (slice_range octets (f.start + a) (f.start + z)) (f.start + a - p)) e1
+    (subst (λ w. Encoding (slice_range (slice_range octets f.start f.end) (p - f.start) z) c k n w (f.start + a - p)) e2
+    (subst (λ w. Encoding (slice_range (slice_range octets f.start f.end) (p - f.start) z) c k n (slice_range (slice_range octets f.start f.end) a z) w) e4 F)))
 
 -- a header is at fault
 pub header_stopping : (octets : List ℕ) (f : OpenFrame) (gs : List OpenFrame) (p n : ℕ) (e : DecodeFault) → length octets < 2 ^ 64 → p ≢ f.end → Opened octets f gs p n → HeaderFault (p - f.start) (drop (p - f.start) (slice_range octets f.start f.end)) e → Stopping octets f gs e (n + 1)
@@ -318,10 +318,20 @@ leaf_stopping octets f gs p q s n e c k t small lt fits o F shut u w =
     let d = slice_join octets p q f.end (omega arith) fits in
     let l = slice_length octets p f.end v.to v.within in
     let near : p - f.start + length rest < 2 ^ 64 = omega (arith, l, v.from, v.to, v.within, small) in
-    let stops : BlockFault (p - f.start) rest e = in_contents (slice_range octets p q) (slice_range octets q f.end) d (subst (λ z. Encoding (slice_range octets p q) z k t (slice_range octets s q) (s - p)) u F) w in
-    (p, n, 1, o, record { here = omega (arith, lt, fits); stops = stops; begun = begun_some (omega (arith, l, lt, fits)) 0 0 (nothing_inside (λ y r c' k' t' contents h g G op.
-      let z = encoding_alone _ _ _ _ _ _ _ _ _ _ _ _ (slice_range octets q f.end) r F G (sym d ∙ g) in
-      shut (subst (λ i. IsReadInside i k t) (sym z.class) (subst (λ i. IsReadInside c' i t) (sym z.constructed) (subst (λ i. IsReadInside c' k' i) (sym z.tag) op))))) (nothing_after (λ x r g b. block_fault_no_block (p - f.start) rest x r e stops near g b)) refl }, refl)
+    let stops : BlockFault (p - f.start) rest e = in_contents (slice_range octets p q) (slice_range octets q f.end) d (subst (λ z. Encoding (slice_range octets p q) z k t (slice_range octets s q) (s - p)) u F) w in (
+      p,
+      n,
+      1,
+      o,
+      record {
+        here = omega (arith, lt, fits);
+        stops = stops;
+        begun = begun_some (omega (arith, l, lt, fits)) 0 0 (nothing_inside (λ y r c' k' t' contents h g G op.
+            let z = encoding_alone _ _ _ _ _ _ _ _ _ _ _ _ (slice_range octets q f.end) r F G (sym d ∙ g) in
+            shut (subst (λ i. IsReadInside i k t) (sym z.class) (subst (λ i. IsReadInside c' i t) (sym z.constructed) (subst (λ i. IsReadInside c' k' i) (sym z.tag) op))))) (nothing_after (λ x r g b. block_fault_no_block (p - f.start) rest x r e stops near g b)) refl;
+      },
+      refl,
+    )
 
 -- a leaf is read
 pub leaf_follows : (octets : List ℕ) (f : OpenFrame) (p q s : ℕ) (c : ASN1Class) (k : Bool) (t : ℕ) (b : Tree ℕ) → p < q → q ≤ f.end → Encoding (slice_range octets p q) c k t (slice_range octets s q) (s - p) → (IsReadInside c k t → ⊥) → Encodes p (slice_range octets p q) b → Follows octets f p q b 1

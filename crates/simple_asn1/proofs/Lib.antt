@@ -19,3 +19,4 @@ pub mod Base128Forms
 pub mod WriteSteps
 pub mod Readings
 pub mod Writable
+pub mod Characters

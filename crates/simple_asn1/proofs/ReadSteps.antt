@@ -55,7 +55,7 @@ module _ (octets : List ℕ) (c : ASN1Class) (b : Bool) (n i j k m : ℕ) (h : i
         identifier_octets = t;
         length_octets = subst (IsLength (slice_range octets j k)) (sym s) u;
         whole = slice_join octets i j e h (omega arith) ∙ ap (λ r. slice_range octets i j ++ r) (slice_join octets j k e l (omega arith));
-        size = omega (arith, slice_length octets i j h (omega arith), slice_length octets j k l (omega arith))
+        size = omega (arith, slice_length octets i j h (omega arith), slice_length octets j k l (omega arith));
       }
 
   split_here : drop i octets ≡ slice_range octets i j ++ (slice_range octets j k ++ drop k octets)

@@ -4,13 +4,17 @@ use Rattle.std.specs.Ordering.{int_eq}
 use Rattle.std.specs.Str.{bytes_eq}
 use Rattle.simple_asn1.specs.declared.block.ASN1Block.{ASN1Block}
 use Rattle.simple_asn1.specs.Header.{class_number, constructed_bit}
-use Rattle.simple_asn1.specs.Contents.{group_tag}
-use Rattle.simple_asn1.specs.Tree.{Leaf, integer, octet_string, Tree, Trees, leaf, group, explicit, unknown, no_trees, more_trees}
+use Rattle.simple_asn1.specs.Contents.{string_tag, group_tag}
+use Rattle.simple_asn1.specs.Tree.{Leaf, boolean, integer, bit_string, octet_string, null, text, Tree, Trees, leaf, group, explicit, unknown, no_trees, more_trees}
 use Rattle.simple_asn1.specs.View.{view}
 
 abbrev pub same_leaf : Leaf → Leaf → Bool
+same_leaf (boolean a) (boolean b) = constructed_bit a == constructed_bit b
 same_leaf (integer m) (integer n) = int_eq m n
+same_leaf (bit_string m v) (bit_string n w) = (m == n) && bytes_eq v w
 same_leaf (octet_string v) (octet_string w) = bytes_eq v w
+same_leaf null null = true
+same_leaf (text j cs) (text k ds) = (string_tag j == string_tag k) && bytes_eq cs ds
 same_leaf l m = false
 
 abbrev mutual

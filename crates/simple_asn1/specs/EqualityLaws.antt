@@ -1,5 +1,5 @@
 -- `==` of blocks is an equivalence, which holds exactly where the trees are equal but for their offsets.
-use Rattle.std.specs.Prelude.{◌≡◌, ◌==◌, ◌&&◌, ◌↔◌, ℕ, ◌<◌, Bool, true, false, IsTrue}
+use Rattle.std.specs.Prelude.{◌≡◌, ◌==◌, ◌&&◌, ◌↔◌, ℕ, ◌<◌, Bool, true, false, IsTrue, if◌then◌else◌}
 use Rattle.std.specs.Bool.{Decides, one_answer}
 use Rattle.std.specs.Cmp.{IsEquivalence, IsPartialEquivalence, partial_equiv_from_equiv, equiv}
 use Rattle.std.proofs.Common.{sym, ap, ◌∙◌, refl, arith, subst}
@@ -13,8 +13,8 @@ use Rattle.simple_asn1.specs.declared.block.GroupKind.{GroupKind}
 use Rattle.simple_asn1.specs.declared.block.GroupKind.TheVariants.{Sequence, Set}
 use Rattle.simple_asn1.specs.declared.block.ASN1Block.{ASN1Block}
 use Rattle.simple_asn1.specs.Header.{class_number, constructed_bit}
-use Rattle.simple_asn1.specs.Contents.{group_tag}
-use Rattle.simple_asn1.specs.Tree.{Leaf, integer, octet_string, Tree, Trees, leaf, group, explicit, unknown, no_trees, more_trees, shape, shapes}
+use Rattle.simple_asn1.specs.Contents.{string_tag, group_tag}
+use Rattle.simple_asn1.specs.Tree.{StringKind, utf8, printable, teletex, ia5, universal, bmp, Leaf, boolean, integer, bit_string, octet_string, null, text, Tree, Trees, leaf, group, explicit, unknown, no_trees, more_trees, shape, shapes}
 use Rattle.simple_asn1.specs.View.{view}
 use Rattle.simple_asn1.specs.Equality.{same_leaf, same_tree, same_trees, same_block}
 
@@ -64,15 +64,46 @@ eqb_yes m n = (Decides-eqb m n).0
 yes_eqb : (m n : ℕ) → m ≡ n → (m == n) ≡ true
 yes_eqb m n = (Decides-eqb m n).1
 
+-- the kind of a string by its tag
+string_of : ℕ → StringKind
+string_of n = if n == 12 then utf8 else (if n == 19 then printable else (if n == 20 then teletex else (if n == 22 then ia5 else (if n == 28 then universal else bmp))))
+
+string_back : (k : StringKind) → string_of (string_tag k) ≡ k
+unfolding string_of
+string_back utf8 = refl
+string_back printable = refl
+string_back teletex = refl
+string_back ia5 = refl
+string_back universal = refl
+string_back bmp = refl
+
+pub equal_string : (j k : StringKind) → string_tag j ≡ string_tag k → j ≡ k
+equal_string j k e = sym (string_back j) ∙ (ap string_of e ∙ string_back k)
+
 leaf_yes : (l m : Leaf) → same_leaf l m ≡ true → l ≡ m
+leaf_yes (boolean a) (boolean b) e = ap boolean (equal_bit a b (eqb_yes (constructed_bit a) (constructed_bit b) e))
 leaf_yes (integer m) (integer n) e = ap integer ((Decides-int_eq m n).0 e)
+leaf_yes (bit_string m v) (bit_string n w) e =
+    let q = both (m == n) (bytes_eq v w) e in
+    let f : m ≡ n = eqb_yes m n q.0 in
+    let g : v ≡ w = (bytes_eq-Decides v w).0 q.1 in
+    cc
 leaf_yes (octet_string v) (octet_string w) e = ap octet_string ((bytes_eq-Decides v w).0 e)
-leaf_yes (integer m) (octet_string w) e = cc
-leaf_yes (octet_string v) (integer n) e = cc
+leaf_yes null null e = refl
+leaf_yes (text j cs) (text k ds) e =
+    let q = both (string_tag j == string_tag k) (bytes_eq cs ds) e in
+    let f : j ≡ k = equal_string j k (eqb_yes (string_tag j) (string_tag k) q.0) in
+    let g : cs ≡ ds = (bytes_eq-Decides cs ds).0 q.1 in
+    cc
+leaf_yes l m e = cc
 
 leaf_same : (l : Leaf) → same_leaf l l ≡ true
+leaf_same (boolean b) = yes_eqb (constructed_bit b) (constructed_bit b) refl
 leaf_same (integer m) = (Decides-int_eq m m).1 refl
+leaf_same (bit_string n v) = and_true (n == n) (bytes_eq v v) (yes_eqb n n refl) ((bytes_eq-Decides v v).1 refl)
 leaf_same (octet_string v) = (bytes_eq-Decides v v).1 refl
+leaf_same null = refl
+leaf_same (text k cs) = and_true (string_tag k == string_tag k) (bytes_eq cs cs) (yes_eqb (string_tag k) (string_tag k) refl) ((bytes_eq-Decides cs cs).1 refl)
 
 mutual
   pub tree_yes : {O P : Type 0} (s : Tree O) (t : Tree P) → same_tree s t ≡ true → shape s ≡ shape t
@@ -130,8 +161,8 @@ mutual
       and_true ((class_number c == class_number c) && (n == n)) (same_tree b (shape b)) (and_true (class_number c == class_number c) (n == n) (yes_eqb (class_number c) (class_number c) refl) (yes_eqb n n refl)) (shape_same b)
   shape_same (unknown c k o n v) =
       and_true ((class_number c == class_number c) && (constructed_bit k == constructed_bit k) && (n == n)) (bytes_eq v v)
-        (and_true ((class_number c == class_number c) && (constructed_bit k == constructed_bit k)) (n == n) (and_true (class_number c == class_number c) (constructed_bit k == constructed_bit k) (yes_eqb (class_number c) (class_number c) refl) (yes_eqb (constructed_bit k) (constructed_bit k) refl)) (yes_eqb n n refl))
-        ((bytes_eq-Decides v v).1 refl)
+      (and_true ((class_number c == class_number c) && (constructed_bit k == constructed_bit k)) (n == n) (and_true (class_number c == class_number c) (constructed_bit k == constructed_bit k) (yes_eqb (class_number c) (class_number c) refl) (yes_eqb (constructed_bit k) (constructed_bit k) refl)) (yes_eqb n n refl))
+      ((bytes_eq-Decides v v).1 refl)
 
   shapes_same : {O : Type 0} (ts : Trees O) → same_trees ts (shapes ts) ≡ true
   shapes_same no_trees = refl
@@ -175,7 +206,7 @@ pub same_block_equivalence : IsEquivalence same_block
 same_block_equivalence = record {
   refl = λ a. (same_tree-decides (view a) (view a)).1 refl;
   symm = λ a b. one_answer (same_block a b) (same_block b a) (same_tree-decides (view a) (view b)) (λ e. sym ((same_tree-decides (view b) (view a)).0 e), λ e. (same_tree-decides (view b) (view a)).1 (sym e));
-  congr = λ a b c e. one_answer (same_block a c) (same_block b c) (same_tree-decides (view a) (view c)) (λ f. tree_yes (view a) (view b) e ∙ tree_yes (view b) (view c) f, λ f. (same_tree-decides (view b) (view c)).1 (sym (tree_yes (view a) (view b) e) ∙ f))
+  congr = λ a b c e. one_answer (same_block a c) (same_block b c) (same_tree-decides (view a) (view c)) (λ f. tree_yes (view a) (view b) e ∙ tree_yes (view b) (view c) f, λ f. (same_tree-decides (view b) (view c)).1 (sym (tree_yes (view a) (view b) e) ∙ f));
 }
 
 pub same_block_laws : IsPartialEquivalence same_block

@@ -1,5 +1,6 @@
 // The tree of blocks.
-ghost use Rattle.std.specs.Prelude.{◌≡◌, ◌↔◌, IfOk, IsTrue, map};
+ghost use Rattle.std.specs.Prelude.{◌≡◌, ◌↔◌, IfOk, IsTrue, map, string_bytes};
+ghost use Rattle.std.specs.Str.{chars};
 ghost use Rattle.simple_asn1.specs.Tree.{shape, shapes};
 ghost use Rattle.simple_asn1.specs.View.{tree_class, tree_offset, view, views};
 
@@ -20,10 +21,29 @@ pub enum GroupKind {
 /// no part in equality or in writing.
 #[derive(Debug, Drop)]
 pub enum ASN1Block {
+    /// BOOLEAN (X.690 8.2).
+    Boolean(usize, bool),
     /// INTEGER (X.690 8.3).
     Integer(usize, BigInt),
+    /// BIT STRING (X.690 8.6): the number of bits, and the bytes that hold them, the first bit the most significant of
+    /// the first byte.
+    BitString(usize, usize, Vec<u8>),
     /// OCTET STRING (X.690 8.7).
     OctetString(usize, Vec<u8>),
+    /// NULL (X.690 8.8).
+    Null(usize),
+    /// UTF8String (X.690 8.23).
+    UTF8String(usize, String),
+    /// PrintableString (X.690 8.23).
+    PrintableString(usize, String),
+    /// TeletexString, whose octets are taken as UTF-8.
+    TeletexString(usize, String),
+    /// IA5String, an octet for each character.
+    IA5String(usize, String),
+    /// UniversalString, whose octets are taken as UTF-8.
+    UniversalString(usize, String),
+    /// BMPString, whose octets are taken as UTF-8.
+    BMPString(usize, String),
     /// SEQUENCE or SEQUENCE OF (X.690 8.9, 8.10): its items in order.
     Sequence(usize, Vec<ASN1Block>),
     /// SET or SET OF (X.690 8.11, 8.12): its items in the order of their octets.
@@ -51,8 +71,17 @@ impl ASN1Block {
         ensures { result ≡ tree_offset (view self.now) }
     {
         match self {
+            ASN1Block::Boolean(offset, _) => *offset,
             ASN1Block::Integer(offset, _) => *offset,
+            ASN1Block::BitString(offset, _, _) => *offset,
             ASN1Block::OctetString(offset, _) => *offset,
+            ASN1Block::Null(offset) => *offset,
+            ASN1Block::UTF8String(offset, _) => *offset,
+            ASN1Block::PrintableString(offset, _) => *offset,
+            ASN1Block::TeletexString(offset, _) => *offset,
+            ASN1Block::IA5String(offset, _) => *offset,
+            ASN1Block::UniversalString(offset, _) => *offset,
+            ASN1Block::BMPString(offset, _) => *offset,
             ASN1Block::Sequence(offset, _) => *offset,
             ASN1Block::Set(offset, _) => *offset,
             ASN1Block::Explicit(_, offset, _, _) => *offset,
@@ -90,8 +119,17 @@ fn copy(alloc: Global, b: &ASN1Block) -> Result<ASN1Block, AllocError>
     ensures { IfOk result (λ r. view r ≡ view b.now) }
 {
     match b {
+        ASN1Block::Boolean(o, x) => Ok(ASN1Block::Boolean(*o, *x)),
         ASN1Block::Integer(o, n) => Ok(ASN1Block::Integer(*o, n.clone(alloc)?)),
+        ASN1Block::BitString(o, n, v) => Ok(ASN1Block::BitString(*o, *n, copy_of(alloc, v)?)),
         ASN1Block::OctetString(o, v) => Ok(ASN1Block::OctetString(*o, copy_of(alloc, v)?)),
+        ASN1Block::Null(o) => Ok(ASN1Block::Null(*o)),
+        ASN1Block::UTF8String(o, s) => Ok(ASN1Block::UTF8String(*o, s.clone()?)),
+        ASN1Block::PrintableString(o, s) => Ok(ASN1Block::PrintableString(*o, s.clone()?)),
+        ASN1Block::TeletexString(o, s) => Ok(ASN1Block::TeletexString(*o, s.clone()?)),
+        ASN1Block::IA5String(o, s) => Ok(ASN1Block::IA5String(*o, s.clone()?)),
+        ASN1Block::UniversalString(o, s) => Ok(ASN1Block::UniversalString(*o, s.clone()?)),
+        ASN1Block::BMPString(o, s) => Ok(ASN1Block::BMPString(*o, s.clone()?)),
         ASN1Block::Sequence(o, v) => Ok(ASN1Block::Sequence(*o, copy_all(alloc, v)?)),
         ASN1Block::Set(o, v) => Ok(ASN1Block::Set(*o, copy_all(alloc, v)?)),
         ASN1Block::Explicit(c, o, t, item) => Ok(ASN1Block::Explicit(
@@ -117,13 +155,47 @@ fn copy_all(alloc: Global, bs: &Vec<ASN1Block>) -> Result<Vec<ASN1Block>, AllocE
     Ok(all)
 }
 
+// Whether two texts have the same characters.
+fn same_text(s: &str, t: &str) -> bool
+    ensures { IsTrue result ↔ (chars s.now ≡ chars t.now) }
+{
+    s == t
+}
+
 #[cycle(same)]
 fn same(a: &ASN1Block, b: &ASN1Block) -> bool
     ensures { IsTrue result ↔ (shape (view a.now) ≡ shape (view b.now)) }
 {
     match (a, b) {
+        (ASN1Block::Boolean(_, x), ASN1Block::Boolean(_, y)) => x == y,
         (ASN1Block::Integer(_, m), ASN1Block::Integer(_, n)) => m == n,
+        (ASN1Block::BitString(_, m, v), ASN1Block::BitString(_, n, w)) => m == n && v == w,
         (ASN1Block::OctetString(_, v), ASN1Block::OctetString(_, w)) => v == w,
+        (ASN1Block::Null(_), ASN1Block::Null(_)) => true,
+        (ASN1Block::UTF8String(_, s), ASN1Block::UTF8String(_, t)) => same_text(
+            s.as_str(),
+            t.as_str(),
+        ),
+        (ASN1Block::PrintableString(_, s), ASN1Block::PrintableString(_, t)) => same_text(
+            s.as_str(),
+            t.as_str(),
+        ),
+        (ASN1Block::TeletexString(_, s), ASN1Block::TeletexString(_, t)) => same_text(
+            s.as_str(),
+            t.as_str(),
+        ),
+        (ASN1Block::IA5String(_, s), ASN1Block::IA5String(_, t)) => same_text(
+            s.as_str(),
+            t.as_str(),
+        ),
+        (ASN1Block::UniversalString(_, s), ASN1Block::UniversalString(_, t)) => same_text(
+            s.as_str(),
+            t.as_str(),
+        ),
+        (ASN1Block::BMPString(_, s), ASN1Block::BMPString(_, t)) => same_text(
+            s.as_str(),
+            t.as_str(),
+        ),
         (ASN1Block::Sequence(_, v), ASN1Block::Sequence(_, w)) => same_all(v, w),
         (ASN1Block::Set(_, v), ASN1Block::Set(_, w)) => same_all(v, w),
         (ASN1Block::Explicit(c, _, m, x), ASN1Block::Explicit(d, _, n, y)) => {

@@ -137,11 +137,7 @@ pub fn decode_tag(
 ///
 /// # Errors
 /// `Incomplete` where the octets run out, also for an index past the end; `OutOfMemory`.
-pub fn decode_base127(
-    alloc: Global,
-    i: &[u8],
-    index: &mut usize,
-) -> Result<BigUint, ASN1DecodeErr>
+pub fn decode_base127(alloc: Global, i: &[u8], index: &mut usize) -> Result<BigUint, ASN1DecodeErr>
     ensures moved { OnOk result ((index.old ≤ index.new) × (index.new ≤ length i.now)) }
     ensures found { IfOk result (λ n. IsBase128 (slice_range i.now index.old index.new) n) }
     ensures refused { IfErr result (OutOfMemoryOr (IsIncomplete IsBase128 (drop index.old i.now))) }

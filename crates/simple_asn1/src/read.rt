@@ -371,12 +371,20 @@ fn refuse(
 {
     while let Some(parent) = outer.pop() {
         let OpenFrame {
-            kind, start, end, ..
+            kind,
+            start,
+            end,
+            ..
         } = inner;
         inner = parent;
         if let FrameKind::Attempt(class, offset, tag) = kind {
             let contents = copy_of(alloc, &octets[start..end])?;
-            return put(inner, outer, end, ASN1Block::Unknown(class, true, offset, tag, contents));
+            return put(
+                inner,
+                outer,
+                end,
+                ASN1Block::Unknown(class, true, offset, tag, contents),
+            );
         }
     }
     Err(e)

@@ -6,6 +6,7 @@ ghost use Rattle.simple_asn1.specs.View.{view, views};
 ghost use Rattle.simple_asn1.specs.WriteWalk.{Ahead, all_content_lengths, content_lengths};
 
 use crate::block::ASN1Block;
+use crate::body::{append_bit_string, append_characters, append_utf8};
 use crate::header::{append_header, append_known_header};
 use crate::octets::append;
 
@@ -43,8 +44,38 @@ pub(crate) fn append_block(b: &ASN1Block, lengths: &[usize], next: &mut usize, o
 {
     let size = take_length(lengths, next);
     match b {
+        ASN1Block::Boolean(_, x) => append_known(0x01, &[if *x { 0xFF } else { 0 }], out),
         ASN1Block::Integer(_, n) => append_known(0x02, n.octets(), out),
+        ASN1Block::BitString(_, bits, v) => {
+            append_known_header(0x03, size, out);
+            append_bit_string(*bits, v, out);
+        }
         ASN1Block::OctetString(_, v) => append_known(0x04, v, out),
+        ASN1Block::Null(_) => append_known(0x05, &[], out),
+        ASN1Block::UTF8String(_, s) => {
+            append_known_header(0x0C, size, out);
+            append_utf8(s, out);
+        }
+        ASN1Block::PrintableString(_, s) => {
+            append_known_header(0x13, size, out);
+            append_characters(s.as_str(), out);
+        }
+        ASN1Block::TeletexString(_, s) => {
+            append_known_header(0x14, size, out);
+            append_utf8(s, out);
+        }
+        ASN1Block::IA5String(_, s) => {
+            append_known_header(0x16, size, out);
+            append_characters(s.as_str(), out);
+        }
+        ASN1Block::UniversalString(_, s) => {
+            append_known_header(0x1C, size, out);
+            append_utf8(s, out);
+        }
+        ASN1Block::BMPString(_, s) => {
+            append_known_header(0x1E, size, out);
+            append_utf8(s, out);
+        }
         ASN1Block::Sequence(_, items) => {
             append_known_header(0x30, size, out);
             append_all(items, lengths, next, out);

@@ -7,6 +7,7 @@ ghost use Rattle.simple_asn1.specs.WriteWalk.{all_content_lengths, content_lengt
 ghost use Rattle.simple_asn1.specs.declared.error.ASN1EncodeErr.TheVariants.{OutOfMemory};
 
 use crate::block::ASN1Block;
+use crate::body::{bit_string_size, character_count, utf8_size};
 use crate::error::ASN1EncodeErr;
 use crate::header::{identifier_size, length_size};
 
@@ -50,8 +51,26 @@ pub(crate) fn measure_block(b: &ASN1Block, lengths: &mut Vec<usize>) -> Result<u
     ensures refused { IfErr result (λ e. (e ≡ OutOfMemory) ⊎ (write_fault (view b.now) ≡ Some e)) }
 {
     match b {
+        ASN1Block::Boolean(_, _) => measure_contents(1, 1, lengths),
         ASN1Block::Integer(_, n) => measure_contents(1, n.octets().len(), lengths),
+        ASN1Block::BitString(_, bits, v) => {
+            let contents = bit_string_size(*bits, v)?;
+            measure_contents(1, contents, lengths)
+        }
         ASN1Block::OctetString(_, v) => measure_contents(1, v.len(), lengths),
+        ASN1Block::Null(_) => measure_contents(1, 0, lengths),
+        ASN1Block::UTF8String(_, s) => measure_contents(1, utf8_size(s), lengths),
+        ASN1Block::PrintableString(_, s) => {
+            let contents = character_count(s.as_str())?;
+            measure_contents(1, contents, lengths)
+        }
+        ASN1Block::TeletexString(_, s) => measure_contents(1, utf8_size(s), lengths),
+        ASN1Block::IA5String(_, s) => {
+            let contents = character_count(s.as_str())?;
+            measure_contents(1, contents, lengths)
+        }
+        ASN1Block::UniversalString(_, s) => measure_contents(1, utf8_size(s), lengths),
+        ASN1Block::BMPString(_, s) => measure_contents(1, utf8_size(s), lengths),
         ASN1Block::Sequence(_, items) => measure_group(items, lengths),
         ASN1Block::Set(_, items) => measure_group(items, lengths),
         ASN1Block::Explicit(class, _, tag, item) => {

@@ -5,7 +5,7 @@ use Rattle.simple_asn1.specs.declared.block.ASN1Block.{ASN1Block}
 use Rattle.simple_asn1.specs.declared.error.ASN1DecodeErr.{ASN1DecodeErr}
 use Rattle.simple_asn1.specs.declared.error.ASN1DecodeErr.TheVariants.{OutOfMemory}
 use Rattle.simple_asn1.specs.Fault.{DecodeFault, OutOfMemoryOr}
-use Rattle.simple_asn1.specs.Grammar.{Encodes, ContentsFault}
+use Rattle.simple_asn1.specs.Grammar.{Encodes, ContentsFault, of_leaf_contents}
 use Rattle.simple_asn1.specs.Header.{Encoding}
 use Rattle.simple_asn1.specs.HeadersBegun.{IsReadInside}
 use Rattle.simple_asn1.specs.Tree.{unknown}
@@ -28,3 +28,6 @@ returns-in_default-clause-encoded c =
 
 pub returns-in_default-clause-refused : goal.returns-in_default-clause-refused
 returns-in_default-clause-refused c = memory_alone (λ e. (c.args.class ≡ Universal) × ContentsFault c.args.tag c.args.contents.now e) c.unknown_block-in_default.result c.unknown_block-in_default.ensures.refused
+
+pub returns-in-Err-clause-refused : goal.returns-in-Err-clause-refused
+returns-in-Err-clause-refused c = elim c.in-Err.ensures.refused [ inl memory ↦ inl memory | inr fault ↦ inr (c.in-Universal.is, of_leaf_contents fault) ]

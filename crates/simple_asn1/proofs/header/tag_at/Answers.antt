@@ -8,5 +8,6 @@ pub returns-in-Err-clause-refused : goal.returns-in-Err-clause-refused
 returns-in-Err-clause-refused c =
     let e : c.args.octets.now ≡ c.in-Some.first.now ∷ c.in-Some.rest.now = grind (arith, common_steps) in
     elim c.in-Err.ensures.refused [
-      inl memory ↦ inl memory
-      | inr missing ↦ inr (missing.0, subst (BeginsWithNo IsSomeIdentifier) (sym e) (no_long_identifier c.in-Some.first.now c.in-Some.rest.now c.if-low-ne31.false missing.1)) ]
+      | inl memory ↦ inl memory
+      | inr missing ↦ inr (missing.0, subst (BeginsWithNo IsSomeIdentifier) (sym e) (no_long_identifier c.in-Some.first.now c.in-Some.rest.now c.if-low-ne31.false missing.1))
+    ]

@@ -16,4 +16,4 @@ returns-clause-encoded c octets h ne f s =
     let items = c.args.blocks.items in
     let many : length items ≡ 1 → ⊥ = elim c.if-len-eq1.branch [ then-len-eq1+in_default w ↦ grind (arith, common_steps) | else-len-eq1 w ↦ grind (arith, common_steps) ] in
     subst (Encodes c.args.offset octets) (sym (view-Unknown c.args.class true c.args.offset c.args.tag v ∙ ap (unknown c.args.class true c.args.offset c.args.tag) e))
-      (h, f, refl, inr (ne, λ z. many (sym (count_views items) ∙ one_block (c.args.offset + h) c.args.contents.now (views items) s z.1)))
+    (h, f, refl, inr (ne, λ z. many (sym (count_views items) ∙ one_block (c.args.offset + h) c.args.contents.now (views items) s z.1)))

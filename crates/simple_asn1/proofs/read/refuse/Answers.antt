@@ -64,7 +64,7 @@ loop-parent-preserved c =
     record {
       stopping = λ n w. (step n w).0;
       within = omega (arith, c.loop-parent.invariant.within, (step c.requires.stopping.0 c.requires.stopping.1).1);
-      fewer = grind (arith, common_steps)
+      fewer = grind (arith, common_steps);
     }
 
 pub returns-clause-turned : goal.returns-clause-turned

@@ -64,9 +64,9 @@ returns-in_default c =
     let v = opened_places c.args.octets.now c.args.reader.inner (reverse c.args.reader.outer.items) c.args.reader.index c.requires.opened.1.0 c.requires.opened.1.2 in
     record {
       turned = λ base r.
-        let q : base + (r.0 + 1) ≡ c.header_at.new.count = omega (arith, r.1, c.in-Err.ensures.counted) in
-        subst (λ z. Turned c.args.octets.now c.refuse.result z base) q (c.refuse.ensures.turned (r.0 + 1) base (header_stopping c.args.octets.now c.args.reader.inner (reverse c.args.reader.outer.items) c.args.reader.index r.0 (fault_of c.in-Err.e) c.requires.small c.if-index-inner.false r.2 (fault_here (HeaderFault (c.args.reader.index - c.args.reader.inner.start) (drop (c.args.reader.index - c.args.reader.inner.start) (slice_range c.args.octets.now c.args.reader.inner.start c.args.reader.inner.end))) c.in-Err.e c.in-Err.ensures.refused c.in_default.not-OutOfMemory)));
-      nearer = nearer_more c.refuse.result (length c.args.octets.now) (left (length c.args.octets.now) c.args.reader.inner.end c.args.reader.outer.items) (left (length c.args.octets.now) c.args.reader.index c.args.reader.outer.items) (omega (arith, v.to)) c.refuse.ensures.nearer
+          let q : base + (r.0 + 1) ≡ c.header_at.new.count = omega (arith, r.1, c.in-Err.ensures.counted) in
+          subst (λ z. Turned c.args.octets.now c.refuse.result z base) q (c.refuse.ensures.turned (r.0 + 1) base (header_stopping c.args.octets.now c.args.reader.inner (reverse c.args.reader.outer.items) c.args.reader.index r.0 (fault_of c.in-Err.e) c.requires.small c.if-index-inner.false r.2 (fault_here (HeaderFault (c.args.reader.index - c.args.reader.inner.start) (drop (c.args.reader.index - c.args.reader.inner.start) (slice_range c.args.octets.now c.args.reader.inner.start c.args.reader.inner.end))) c.in-Err.e c.in-Err.ensures.refused c.in_default.not-OutOfMemory)));
+      nearer = nearer_more c.refuse.result (length c.args.octets.now) (left (length c.args.octets.now) c.args.reader.inner.end c.args.reader.outer.items) (left (length c.args.octets.now) c.args.reader.index c.args.reader.outer.items) (omega (arith, v.to)) c.refuse.ensures.nearer;
     }
 
 pub returns-in-OutOfMemory-clause-turned : goal.returns-in-OutOfMemory-clause-turned
@@ -113,9 +113,9 @@ returns-in_default-e c =
     let v = opened_places c.args.octets.now c.args.reader.inner (reverse c.args.reader.outer.items) c.args.reader.index c.requires.opened.1.0 c.requires.opened.1.2 in
     record {
       turned = λ base r.
-        let q : base + (r.0 + 1) ≡ c.header_at.new.count = omega (arith, r.1, c.in-Ok.ensures.counted) in
-        subst (λ z. Turned c.args.octets.now c.refuse-in_default-e.result z base) q (c.refuse-in_default-e.ensures.turned (r.0 + 1) base (leaf_stopping c.args.octets.now f (reverse c.args.reader.outer.items) c.args.reader.index (f.start + h.end) (f.start + h.start) r.0 (fault_of c.in-Err-leaf_block.e) h.class h.constructed h.tag c.requires.small (omega (arith, F.past, F.order)) F.fits r.2 F.encoding shut w.0 w.1));
-      nearer = nearer_more c.refuse-in_default-e.result (length c.args.octets.now) (left (length c.args.octets.now) c.args.reader.inner.end c.args.reader.outer.items) (left (length c.args.octets.now) c.args.reader.index c.args.reader.outer.items) (omega (arith, v.to)) c.refuse-in_default-e.ensures.nearer
+          let q : base + (r.0 + 1) ≡ c.header_at.new.count = omega (arith, r.1, c.in-Ok.ensures.counted) in
+          subst (λ z. Turned c.args.octets.now c.refuse-in_default-e.result z base) q (c.refuse-in_default-e.ensures.turned (r.0 + 1) base (leaf_stopping c.args.octets.now f (reverse c.args.reader.outer.items) c.args.reader.index (f.start + h.end) (f.start + h.start) r.0 (fault_of c.in-Err-leaf_block.e) h.class h.constructed h.tag c.requires.small (omega (arith, F.past, F.order)) F.fits r.2 F.encoding shut w.0 w.1));
+      nearer = nearer_more c.refuse-in_default-e.result (length c.args.octets.now) (left (length c.args.octets.now) c.args.reader.inner.end c.args.reader.outer.items) (left (length c.args.octets.now) c.args.reader.index c.args.reader.outer.items) (omega (arith, v.to)) c.refuse-in_default-e.ensures.nearer;
     }
 
 pub returns-in-OutOfMemory-e-clause-turned : goal.returns-in-OutOfMemory-e-clause-turned

@@ -1,5 +1,5 @@
-use Rattle.std.proofs.Common.{◌≡◌, Some, None, ◌⊎◌, inl, inr, sym, ap, ◌∙◌}
-use Rattle.std.proofs.lemmas.Grind.{common_steps}
+use Rattle.std.proofs.Common.{◌<◌, arith, ◌≡◌, Some, None, ◌⊎◌, inl, inr, sym, ap, ◌∙◌}
+use Rattle.std.proofs.lemmas.List.Elements.{All-from_get_or}
 use Rattle.simple_asn1.specs.View.{views}
 use Rattle.simple_asn1.specs.Canonical.{first_write_fault}
 use Rattle.simple_asn1.proofs.Writable.{document_writable}
@@ -7,7 +7,8 @@ use Rattle.simple_asn1.proofs.write.rewrite.Goals as goal
 
 pub unreachable-requires : goal.unreachable-requires
 unreachable-requires c =
-    let w = document_writable c.args.i.now (views c.in-Ok.blocks.items) c.in-Ok.ensures.document in
+    let w = document_writable c.args.i.now (views c.in-Ok.blocks.items) (All-from_get_or (λ b. b < 256) c.args.i.now 0 (λ k h. omega (arith, c.type_inv.i k))) c.in-Ok.ensures.document in
     elim c.in-Err-measure_all.ensures.refused [
-      inl memory ↦ c.in_default.not-OutOfMemory memory
-      | inr fault ↦ let e : None ≡ Some c.in-Err-measure_all.e = sym w ∙ fault in cc ]
+      | inl memory ↦ c.in_default.not-OutOfMemory memory
+      | inr fault ↦ let e : None ≡ Some c.in-Err-measure_all.e = sym w ∙ fault in cc
+    ]
