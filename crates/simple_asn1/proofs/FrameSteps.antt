@@ -1,5 +1,5 @@
 -- Open frames and their places.
-use Rattle.std.proofs.Common.{◌≡◌, ◌≢◌, ℕ, zero, suc, ◌+◌, ◌*◌, ◌-◌, ◌<◌, ◌≤◌, ◌^◌, Bool, true, false, List, [], ◌∷◌, ◌++◌, ◌⊎◌, inl, inr, length, take, drop, reverse, Result, Ok, Err, IsErr, IsErrAnd, refl, sym, ap, ◌∙◌, subst, arith, rules, length-append, append_assoc, append-nil, drop-drop, length-drop, length-take}
+use Rattle.std.proofs.Common.{◌≡◌, ◌≢◌, ℕ, zero, suc, ◌+◌, ◌-◌, ◌<◌, ◌≤◌, ◌^◌, Bool, true, List, [], ◌∷◌, ◌++◌, inl, inr, length, take, drop, reverse, Result, Ok, Err, IsErr, IsErrAnd, refl, sym, ap, ◌∙◌, subst, arith, length-append, drop-drop}
 use Rattle.std.specs.List.{slice_range}
 use Rattle.std.proofs.lemmas.List.{drop-take, take_all, reverse-append}
 use Rattle.simple_asn1.specs.declared.header.ASN1Class.{ASN1Class}
@@ -8,26 +8,25 @@ use Rattle.simple_asn1.specs.declared.error.ASN1DecodeErr.{ASN1DecodeErr}
 use Rattle.simple_asn1.specs.declared.error.ASN1DecodeErr.TheVariants.{OutOfMemory}
 use Rattle.simple_asn1.specs.declared.block.GroupKind.{GroupKind}
 use Rattle.simple_asn1.specs.Fault.{DecodeFault, fault_of, OutOfMemoryOr, empty_buffer}
-use Rattle.simple_asn1.specs.Contents.{group_tag, is_group_tag}
+use Rattle.simple_asn1.specs.Contents.{group_tag}
 use Rattle.simple_asn1.proofs.Leaves.{group_tag_is}
 use Rattle.simple_asn1.specs.Header.{Encoding}
 use Rattle.simple_asn1.specs.declared.read.FrameKind.{FrameKind}
 use Rattle.simple_asn1.specs.declared.read.FrameKind.TheVariants.{Whole, Group, Attempt}
 use Rattle.simple_asn1.specs.declared.read.OpenFrame.{OpenFrame}
-use Rattle.simple_asn1.specs.declared.read.Reader.{Reader}
 use Rattle.simple_asn1.specs.declared.read.Turn.{Turn}
 use Rattle.simple_asn1.specs.declared.read.Turn.TheVariants.{Continues, Ends}
 use Rattle.simple_asn1.specs.declared.block.ASN1Block.{ASN1Block}
-use Rattle.simple_asn1.specs.Tree.{Tree, Trees, leaf, group, explicit, unknown, no_trees, more_trees}
+use Rattle.simple_asn1.specs.Tree.{Tree, group, unknown}
 use Rattle.simple_asn1.specs.View.{view, views}
-use Rattle.simple_asn1.specs.Grammar.{MayBeGroupContents, IsBlock, of_other_class, of_group, AreBlocks, Encodes, EncodesAll, HeaderFault, BlockFault, in_header, in_contents, ContentsFault, of_item, of_empty_group, BlocksFault, after_blocks}
-use Rattle.simple_asn1.specs.HeadersBegun.{IsReadInside, HeadersBegun, begun_none, begun_some, BegunInside, inside_first, nothing_inside, BegunAfter, after_first, nothing_after}
-use Rattle.simple_asn1.specs.OpenFrames.{IsKindFor, ReadTo, Headed, Opened, StopsAt, Stopping, Follows, Reading, Turned, left, Nearer, IsPut}
-use Rattle.simple_asn1.proofs.Prefixes.{SameEncoding, encoding_alone}
+use Rattle.simple_asn1.specs.Grammar.{MayBeGroupContents, of_other_class, of_group, Encodes, EncodesAll, HeaderFault, BlockFault, in_header, in_contents, ContentsFault, of_item, of_empty_group, BlocksFault, after_blocks}
+use Rattle.simple_asn1.specs.HeadersBegun.{IsReadInside, HeadersBegun, begun_none, begun_some, inside_first, nothing_inside, nothing_after}
+use Rattle.simple_asn1.specs.OpenFrames.{IsKindFor, ReadTo, Headed, Opened, StopsAt, Stopping, Follows, Turned, Nearer, IsPut}
+use Rattle.simple_asn1.proofs.Prefixes.{encoding_alone}
 use Rattle.simple_asn1.proofs.OneReading.{encodes_block, encodes_blocks, block_some}
 use Rattle.simple_asn1.proofs.Faults.{block_is_blocks, block_fault_no_block, blocks_fault_no_blocks, header_no_encoding}
 use Rattle.simple_asn1.proofs.ReadSteps.{encodes_more, views_push, slice_length, slice_join}
-use Rattle.simple_asn1.proofs.HeaderCounts.{begun_alone, begun_le, begun_join, begun_opened, begun_leaf}
+use Rattle.simple_asn1.proofs.HeaderCounts.{begun_le, begun_join, begun_opened, begun_leaf}
 
 -- slices of slices
 pub drop_slice : (octets : List ℕ) (s e a : ℕ) → s + a ≤ e → drop a (slice_range octets s e) ≡ slice_range octets (s + a) e

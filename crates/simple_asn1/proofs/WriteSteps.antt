@@ -1,5 +1,5 @@
 -- Steps of both walks of writing.
-use Rattle.std.proofs.Common.{◌≡◌, ℕ, ◌+◌, ◌<◌, ◌≤◌, Bool, List, [], ◌∷◌, ◌++◌, length, take, drop, get_or, set, drop-drop, refl, sym, ap, subst, ◌∙◌, None, arith, rules, length-append, append_assoc, Vec, Global, Box}
+use Rattle.std.proofs.Common.{◌≡◌, ℕ, ◌+◌, ◌<◌, Bool, List, [], ◌∷◌, ◌++◌, length, take, drop, get_or, set, drop-drop, refl, sym, ap, subst, ◌∙◌, None, arith, rules, length-append, append_assoc, Vec, Global, Box}
 use Rattle.std.proofs.lemmas.List.{take-append-drop, take_at, drop_at, set_at, drop_more}
 use Rattle.simple_asn1.specs.declared.header.ASN1Class.{ASN1Class}
 use Rattle.simple_asn1.specs.declared.block.ASN1Block.{ASN1Block, Explicit, Unknown, the_lemmas}

@@ -1,5 +1,5 @@
 -- Contents octets of class Universal.
-use Rattle.std.specs.Prelude.{◌≡◌, ◌≢◌, ◌==◌, ◌||◌, ◌&&◌, ◌⊎◌, ℕ, ◌+◌, ◌-◌, ◌*◌, ◌^◌, ◌<◌, ◌≤◌, ◌-ℤ◌, pos, Bool, true, not, List, [], ◌∷◌, length, nat_lt, nat_le, if◌then◌else◌, codes, Option, Some, None, All, IsTrue, IsUtf8, encode_utf8_all}
+use Rattle.std.specs.Prelude.{◌≡◌, ◌≢◌, ◌==◌, ◌||◌, ◌&&◌, ◌⊎◌, ℕ, ◌+◌, ◌-◌, ◌*◌, ◌^◌, ◌<◌, ◌≤◌, ◌-ℤ◌, pos, Bool, true, not, List, [], ◌∷◌, length, nat_lt, nat_le, if◌then◌else◌, codes, Option, Some, None, IsUtf8, encode_utf8_all}
 use Rattle.std.specs.Str.{all_scalars}
 use Rattle.std.specs.List.{list_all, list_any}
 use Rattle.simple_asn1.specs.declared.block.GroupKind.{GroupKind}

@@ -13,8 +13,8 @@ use Rattle.simple_asn1.specs.declared.read.Turn.{Turn}
 use Rattle.simple_asn1.specs.declared.read.Turn.TheVariants.{Continues, Ends}
 use Rattle.simple_asn1.specs.Header.{Encoding}
 use Rattle.simple_asn1.specs.Fault.{DecodeFault, fault_of}
-use Rattle.simple_asn1.specs.Tree.{Tree, Trees}
-use Rattle.simple_asn1.specs.View.{view, views}
+use Rattle.simple_asn1.specs.Tree.{Tree}
+use Rattle.simple_asn1.specs.View.{views}
 use Rattle.simple_asn1.specs.Contents.{group_tag, is_group_tag}
 use Rattle.simple_asn1.specs.Grammar.{Encodes, EncodesAll, BlockFault, BlocksFault}
 use Rattle.simple_asn1.specs.HeadersBegun.{HeadersBegun}

@@ -1,4 +1,4 @@
-use Rattle.std.proofs.Common.{◌≡◌, map, take}
+use Rattle.std.proofs.Common.{◌≡◌, take}
 use Rattle.simple_asn1.specs.View.{views}
 use Rattle.simple_asn1.specs.Tree.{shapes}
 use Rattle.simple_asn1.proofs.block.+same.Given as goal

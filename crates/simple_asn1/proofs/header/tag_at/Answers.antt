@@ -1,4 +1,4 @@
-use Rattle.std.proofs.Common.{arith, ◌≡◌, ◌∷◌, subst, sym, refl, inl, inr, ap, ◌∙◌}
+use Rattle.std.proofs.Common.{arith, ◌≡◌, ◌∷◌, subst, sym, inl, inr}
 use Rattle.std.proofs.lemmas.Grind.{common_steps}
 use Rattle.simple_asn1.specs.Header.{BeginsWithNo, IsSomeIdentifier}
 use Rattle.simple_asn1.proofs.HeaderOctets.{no_long_identifier}

@@ -1,24 +1,8 @@
-use Rattle.std.proofs.Common.{◌≡◌, ◌≢◌, ℕ, zero, suc, ◌+◌, ◌*◌, ◌-◌, ◌<◌, ◌≤◌, ◌^◌, Bool, true, false, List, [], ◌∷◌, ◌++◌, ◌⊎◌, inl, inr, length, take, drop, reverse, Result, Ok, Err, refl, sym, ap, ◌∙◌, subst, arith, rules}
-use Rattle.std.specs.List.{slice_range}
+use Rattle.std.proofs.Common.{◌≡◌, ◌+◌, ◌<◌, inl, length, reverse, subst, arith}
 use Rattle.std.proofs.lemmas.Grind.{common_steps}
-use Rattle.simple_asn1.specs.declared.header.ASN1Class.{ASN1Class}
-use Rattle.simple_asn1.specs.declared.header.ASN1Class.TheVariants.{Universal}
-use Rattle.simple_asn1.specs.declared.error.ASN1DecodeErr.{ASN1DecodeErr}
-use Rattle.simple_asn1.specs.declared.error.ASN1DecodeErr.TheVariants.{OutOfMemory}
-use Rattle.simple_asn1.specs.Fault.{fault_of}
-use Rattle.simple_asn1.specs.Header.{Encoding}
-use Rattle.simple_asn1.specs.declared.read.FrameKind.{FrameKind}
-use Rattle.simple_asn1.specs.declared.read.FrameKind.TheVariants.{Whole, Group, Attempt}
-use Rattle.simple_asn1.specs.declared.read.OpenFrame.{OpenFrame}
-use Rattle.simple_asn1.specs.declared.read.Turn.TheVariants.{Continues, Ends}
-use Rattle.simple_asn1.specs.Tree.{unknown}
-use Rattle.simple_asn1.specs.View.{view, views}
-use Rattle.simple_asn1.specs.Grammar.{Encodes, EncodesAll, IsBlock, BlocksFault, FirstFault, Document, HeaderFault, ContentsFault}
-use Rattle.simple_asn1.specs.HeadersBegun.{HeadersBegun, IsReadInside, begun_none}
-use Rattle.simple_asn1.specs.OpenFrames.{Opened, Stopping, StopsAt, Reading, Turned, Follows, Nearer, left, IsPut, ReadTo}
-use Rattle.simple_asn1.proofs.ReadSteps.{slice_length, view-Unknown, no_octets}
-use Rattle.simple_asn1.proofs.HeaderCounts.{begun_le}
-use Rattle.simple_asn1.proofs.FrameSteps.{Closed, Places, opened_places, opened_bound, opened_open, stop_attempt, stop_document, end_document, close_group, close_empty, close_attempt, turned_put, reverse_push, reverse_none, nearer_more, turned_memory, follows_as, stopping_places, stop_pop, header_here, header_stopping, leaf_stopping, leaf_follows, headed_by}
+use Rattle.simple_asn1.specs.View.{view}
+use Rattle.simple_asn1.specs.OpenFrames.{Opened}
+use Rattle.simple_asn1.proofs.FrameSteps.{opened_places, opened_bound, close_group, close_empty, close_attempt, turned_put, reverse_push, follows_as}
 use Rattle.simple_asn1.proofs.read.close.Goals as goal
 
 pub refuse-requires-clause-stopping : goal.refuse-requires-clause-stopping

@@ -1,9 +1,6 @@
-use Rattle.std.proofs.Common.{◌≡◌, ◌≢◌, ℕ, ◌+◌, ◌-◌, ◌<◌, ◌≤◌, ◌++◌, List, length, take, drop, sym, ap, ◌∙◌, subst, refl, inl, inr, ◌⊎◌, arith, rules}
+use Rattle.std.proofs.Common.{◌<◌, ◌≤◌, length, drop, inr, arith}
 use Rattle.std.specs.List.{slice_range}
-use Rattle.std.proofs.lemmas.Grind.{common_steps}
-use Rattle.simple_asn1.specs.declared.error.ASN1DecodeErr.TheVariants.{OutOfMemory}
 use Rattle.simple_asn1.specs.Fault.{fault_of}
-use Rattle.simple_asn1.specs.Grammar.{HeaderFault}
 use Rattle.simple_asn1.proofs.ReadSteps.{slice_split, encoding_read, far_here, long_here, identifier_missed, length_missed}
 use Rattle.simple_asn1.proofs.read.header_at.Goals as goal
 

@@ -1,7 +1,6 @@
-use Rattle.std.proofs.Common.{◌<◌, arith, ◌≡◌, Some, None, ◌⊎◌, inl, inr, sym, ap, ◌∙◌}
+use Rattle.std.proofs.Common.{◌<◌, arith, ◌≡◌, Some, None, inl, inr, sym, ◌∙◌}
 use Rattle.std.proofs.lemmas.List.Elements.{All-from_get_or}
 use Rattle.simple_asn1.specs.View.{views}
-use Rattle.simple_asn1.specs.Canonical.{first_write_fault}
 use Rattle.simple_asn1.proofs.Writable.{document_writable}
 use Rattle.simple_asn1.proofs.write.rewrite.Goals as goal
 

@@ -1,7 +1,7 @@
 use Rattle.std.proofs.Common.{◌≡◌, ◌+◌, ◌++◌, ◌≤◌, length, drop, None}
 use Rattle.std.specs.Vec.{vec_len, vec_capacity}
 use Rattle.simple_asn1.specs.Canonical.{all_canonical, first_write_fault}
-use Rattle.simple_asn1.specs.View.{view, views}
+use Rattle.simple_asn1.specs.View.{views}
 use Rattle.simple_asn1.specs.WriteWalk.{Ahead, all_content_lengths}
 use Rattle.simple_asn1.proofs.write.append.+append.Given as goal
 

@@ -1,6 +1,6 @@
 use Rattle.std.proofs.Common.{◌≡◌, ◌+◌, ◌++◌, length, drop}
 use Rattle.simple_asn1.specs.Canonical.{all_canonical, first_write_fault}
-use Rattle.simple_asn1.specs.View.{view, views}
+use Rattle.simple_asn1.specs.View.{views}
 use Rattle.simple_asn1.specs.WriteWalk.{all_content_lengths}
 use Rattle.simple_asn1.proofs.write.measure.+measure.Given as goal
 
