@@ -65,9 +65,19 @@ fn unfaithful_blocks_are_read_as_others(rt: HostRuntime) -> Result<(), Fail> {
     Ok(())
 }
 
+// Zero octets of this size are written with this header.
+fn check_header(rt: &impl Abort, alloc: Global, size: usize, header: &str) -> Result<(), Fail> {
+    let mut contents = Vec::new(alloc);
+    contents.resize(size, 0)?;
+    let written = to_der(alloc, &ASN1Block::OctetString(0, contents))?;
+    let header = octets(alloc, header)?;
+    assert!(rt; written.starts_with(&header), "{size} octets");
+    assert_eq!(rt; written.len().checked_sub(size), Some(header.len()));
+    Ok(())
+}
+
 #[test]
 fn long_contents_have_long_lengths(rt: HostRuntime) -> Result<(), Fail> {
-    let alloc = rt.alloc();
     for (size, header) in [
         (127, "04 7F"),
         (128, "04 81 80"),
@@ -76,40 +86,61 @@ fn long_contents_have_long_lengths(rt: HostRuntime) -> Result<(), Fail> {
         (65535, "04 82 FF FF"),
         (65536, "04 83 01 00 00"),
     ] {
-        let mut contents = Vec::new(alloc);
-        contents.resize(size, 0)?;
-        let written = to_der(alloc, &ASN1Block::OctetString(0, contents))?;
-        let header = octets(alloc, header)?;
-        assert!(rt; written.starts_with(&header), "{size} octets");
-        assert_eq!(rt; written.len(), header.len() + size);
+        check_header(&rt, rt.alloc(), size, header)?;
     }
+    Ok(())
+}
+
+// The second block of the document has this class, and the offset 2.
+fn check_class(rt: &impl Abort, alloc: Global, input: &str, class: ASN1Class) -> Result<(), Fail> {
+    let blocks = from_der(alloc, &octets(alloc, input)?)?;
+    assert_eq!(rt; blocks.len(), 2);
+    assert_eq!(rt; blocks[1].class(), class, "{input}");
+    assert_eq!(rt; blocks[1].offset(), 2, "{input}");
     Ok(())
 }
 
 #[test]
 fn blocks_have_classes_and_offsets(rt: HostRuntime) -> Result<(), Fail> {
-    let alloc = rt.alloc();
-    for (input, class, offset) in [
-        ("05 00 02 01 05", ASN1Class::Universal, 2),
-        ("05 00 04 01 05", ASN1Class::Universal, 2),
-        ("05 00 30 03 02 01 05", ASN1Class::Universal, 2),
-        ("05 00 31 03 02 01 05", ASN1Class::Universal, 2),
-        ("05 00 05 00", ASN1Class::Universal, 2),
-        ("05 00 E1 02 05 00", ASN1Class::Private, 2),
-        ("05 00 60 02 05 00", ASN1Class::Application, 2),
-        ("05 00 9F 1F 00", ASN1Class::ContextSpecific, 2),
+    for (input, class) in [
+        ("05 00 02 01 05", ASN1Class::Universal),
+        ("05 00 04 01 05", ASN1Class::Universal),
+        ("05 00 30 03 02 01 05", ASN1Class::Universal),
+        ("05 00 31 03 02 01 05", ASN1Class::Universal),
+        ("05 00 05 00", ASN1Class::Universal),
+        ("05 00 E1 02 05 00", ASN1Class::Private),
+        ("05 00 60 02 05 00", ASN1Class::Application),
+        ("05 00 9F 1F 00", ASN1Class::ContextSpecific),
     ] {
-        let blocks = from_der(alloc, &octets(alloc, input)?)?;
-        assert_eq!(rt; blocks.len(), 2);
-        assert_eq!(rt; blocks[1].class(), class, "{input}");
-        assert_eq!(rt; blocks[1].offset(), offset, "{input}");
+        check_class(&rt, rt.alloc(), input, class)?;
     }
+    Ok(())
+}
+
+// The document of the text behind another block, so that each offset in it is another.
+fn moved(alloc: Global, text: &str) -> Result<Vec<u8>, Fail> {
+    let mut document = octets(alloc, "05 00")?;
+    document.extend_from_slice(&octets(alloc, text)?)?;
+    Ok(document)
+}
+
+// The two blocks are equal exactly if their texts are.
+fn check_equality(rt: &impl Abort, alloc: Global, input: &str, other: &str) -> Result<(), Fail> {
+    let blocks = from_der(alloc, &octets(alloc, input)?)?;
+    let others = from_der(alloc, &moved(alloc, other)?)?;
+    assert_eq!(rt; blocks.len(), 1);
+    assert_eq!(rt; others.len(), 2);
+    assert!(rt; blocks[0].offset() != others[1].offset());
+    assert_eq!(rt;
+        blocks[0] == others[1],
+        input == other,
+        "{input} and {other}"
+    );
     Ok(())
 }
 
 #[test]
 fn equality_ignores_offsets(rt: HostRuntime) -> Result<(), Fail> {
-    let alloc = rt.alloc();
     let inputs = [
         "02 01 05",
         "02 01 06",
@@ -128,28 +159,28 @@ fn equality_ignores_offsets(rt: HostRuntime) -> Result<(), Fail> {
         "30 05 A0 03 02 01 06",
     ];
     for input in inputs {
-        let first = from_der(alloc, &octets(alloc, input)?)?;
         for other in inputs {
-            // The block stands behind another one, so each offset in it is another.
-            let mut moved = octets(alloc, "05 00")?;
-            moved.extend_from_slice(&octets(alloc, other)?)?;
-            let second = from_der(alloc, &moved)?;
-            assert_eq!(rt; first.len(), 1);
-            assert_eq!(rt; second.len(), 2);
-            assert!(rt; first[0].offset() != second[1].offset());
-            assert_eq!(rt;
-                first[0] == second[1],
-                input == other,
-                "{input} and {other}"
-            );
+            check_equality(&rt, rt.alloc(), input, other)?;
         }
     }
     Ok(())
 }
 
+// The clones equal the blocks, and have their offsets.
+fn check_clones(rt: &impl Abort, alloc: Global, input: &str) -> Result<(), Fail> {
+    let blocks = from_der(alloc, &moved(alloc, input)?)?;
+    let mut clones = Vec::new(alloc);
+    for block in &blocks {
+        clones.push(block.clone(alloc)?)?;
+    }
+    assert!(rt; clones == blocks, "{input}");
+    let text = text_of(alloc, &blocks)?;
+    assert_eq!(rt; text_of(alloc, &clones)?.as_str(), text.as_str());
+    Ok(())
+}
+
 #[test]
 fn clones_keep_offsets(rt: HostRuntime) -> Result<(), Fail> {
-    let alloc = rt.alloc();
     for input in [
         "02 01 05",
         "04 01 05",
@@ -158,16 +189,7 @@ fn clones_keep_offsets(rt: HostRuntime) -> Result<(), Fail> {
         "A0 08 30 06 A1 04 30 02 02 05",
         "A0 06 A0 04 A0 02 02 01",
     ] {
-        let mut moved = octets(alloc, "05 00")?;
-        moved.extend_from_slice(&octets(alloc, input)?)?;
-        let blocks = from_der(alloc, &moved)?;
-        let mut clones = Vec::new(alloc);
-        for block in &blocks {
-            clones.push(block.clone(alloc)?)?;
-        }
-        assert!(rt; clones == blocks, "{input}");
-        let text = text_of(alloc, &blocks)?;
-        assert_eq!(rt; text_of(alloc, &clones)?.as_str(), text.as_str());
+        check_clones(&rt, rt.alloc(), input)?;
     }
     Ok(())
 }

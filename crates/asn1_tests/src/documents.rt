@@ -5,93 +5,102 @@ use std::alloc::Global;
 use std::process::Abort;
 use std::test::Fail;
 
-// Reads each input to the blocks beside it.
-fn check_read(rt: &impl Abort, alloc: Global, rows: &[(&str, &str)]) -> Result<(), Fail> {
-    for (input, blocks) in rows {
-        let read = from_der(alloc, &octets(alloc, input)?);
-        match read {
-            Ok(read) => assert_eq!(rt; text_of(alloc, &read)?.as_str(), *blocks, "{input}"),
-            Err(e) => assert!(rt; false, "{input}: {e}"),
-        }
+// Reads the input to the blocks.
+fn check_read(rt: &impl Abort, alloc: Global, input: &str, blocks: &str) -> Result<(), Fail> {
+    match from_der(alloc, &octets(alloc, input)?) {
+        Ok(read) => assert_eq!(rt; text_of(alloc, &read)?.as_str(), blocks, "{input}"),
+        Err(e) => assert!(rt; false, "{input}: {e}"),
     }
     Ok(())
 }
 
 #[test]
 fn leaves_and_groups_are_read(rt: HostRuntime) -> Result<(), Fail> {
-    check_read(
-        &rt,
-        rt.alloc(),
-        &[
-            ("02 01 00", "Integer(0, 0)"),
-            ("02 01 7F", "Integer(0, 127)"),
-            ("02 02 00 80", "Integer(0, 128)"),
-            ("02 02 01 00", "Integer(0, 256)"),
-            ("02 01 80", "Integer(0, -128)"),
-            ("02 02 FF 7F", "Integer(0, -129)"),
-            ("02 03 00 00 80", "Integer(0, 128)"),
-            ("02 80", "Integer(0, 0)"),
-            ("02 01 01 04 01 02", "Integer(0, 1), OctetString(3, [02])"),
-            ("24 03 04 01 05", "OctetString(0, [04 01 05])"),
-            ("04 81 02 05 06", "OctetString(0, [05 06])"),
-            ("04 80", "OctetString(0, [])"),
-            (
-                "04 80 00 00",
-                "OctetString(0, []), Unknown(Universal, false, 2, 0, [])",
-            ),
-            ("04 88 00 00 00 00 00 00 00 01 05", "OctetString(0, [05])"),
-            ("05 00", "Unknown(Universal, false, 0, 5, [])"),
-            ("9F 80 1F 00", "Unknown(CS, false, 0, 31, [])"),
-            (
-                "30 06 02 01 01 04 01 02",
-                "Sequence(0, [Integer(2, 1), OctetString(5, [02])])",
-            ),
-            (
-                "31 05 01 01 00 05 00",
-                "Set(0, [Unknown(Universal, false, 2, 1, [00]), Unknown(Universal, false, 5, 5, [])])",
-            ),
-        ],
-    )
+    for (input, blocks) in [
+        ("02 01 00", "Integer(0, 0)"),
+        ("02 01 7F", "Integer(0, 127)"),
+        ("02 02 00 80", "Integer(0, 128)"),
+        ("02 02 01 00", "Integer(0, 256)"),
+        ("02 01 80", "Integer(0, -128)"),
+        ("02 02 FF 7F", "Integer(0, -129)"),
+        ("02 03 00 00 80", "Integer(0, 128)"),
+        ("02 80", "Integer(0, 0)"),
+        ("02 01 01 04 01 02", "Integer(0, 1), OctetString(3, [02])"),
+        ("24 03 04 01 05", "OctetString(0, [04 01 05])"),
+        ("04 81 02 05 06", "OctetString(0, [05 06])"),
+        ("04 80", "OctetString(0, [])"),
+        (
+            "04 80 00 00",
+            "OctetString(0, []), Unknown(Universal, false, 2, 0, [])",
+        ),
+        ("04 88 00 00 00 00 00 00 00 01 05", "OctetString(0, [05])"),
+        ("05 00", "Unknown(Universal, false, 0, 5, [])"),
+        ("9F 80 1F 00", "Unknown(CS, false, 0, 31, [])"),
+        (
+            "30 06 02 01 01 04 01 02",
+            "Sequence(0, [Integer(2, 1), OctetString(5, [02])])",
+        ),
+        (
+            "31 05 01 01 00 05 00",
+            "Set(0, [Unknown(Universal, false, 2, 1, [00]), Unknown(Universal, false, 5, 5, [])])",
+        ),
+    ] {
+        check_read(&rt, rt.alloc(), input, blocks)?;
+    }
+    Ok(())
 }
 
 #[test]
 fn attempts_are_read(rt: HostRuntime) -> Result<(), Fail> {
-    check_read(
-        &rt,
-        rt.alloc(),
-        &[
-            ("A0 03 02 01 05", "Explicit(CS, 0, 0, Integer(2, 5))"),
-            (
-                "A0 06 02 01 05 02 01 06",
-                "Unknown(CS, true, 0, 0, [02 01 05 02 01 06])",
-            ),
-            ("A0 02 02 05", "Unknown(CS, true, 0, 0, [02 05])"),
-            ("A0 00", "Unknown(CS, true, 0, 0, [])"),
-            ("A0 02 30 00", "Unknown(CS, true, 0, 0, [30 00])"),
-            ("A0 03 30 81 00", "Unknown(CS, true, 0, 0, [30 81 00])"),
-            (
-                "BF 1F 02 05 00",
-                "Explicit(CS, 0, 31, Unknown(Universal, false, 3, 5, []))",
-            ),
-            (
-                "60 02 05 00",
-                "Explicit(Application, 0, 0, Unknown(Universal, false, 2, 5, []))",
-            ),
-            (
-                "E1 04 A0 02 05 00",
-                "Explicit(Private, 0, 1, Explicit(CS, 2, 0, Unknown(Universal, false, 4, 5, [])))",
-            ),
-            (
-                "30 04 A0 02 02 05",
-                "Sequence(0, [Unknown(CS, true, 2, 0, [02 05])])",
-            ),
-        ],
-    )
+    for (input, blocks) in [
+        ("A0 03 02 01 05", "Explicit(CS, 0, 0, Integer(2, 5))"),
+        (
+            "A0 06 02 01 05 02 01 06",
+            "Unknown(CS, true, 0, 0, [02 01 05 02 01 06])",
+        ),
+        ("A0 02 02 05", "Unknown(CS, true, 0, 0, [02 05])"),
+        ("A0 00", "Unknown(CS, true, 0, 0, [])"),
+        ("A0 02 30 00", "Unknown(CS, true, 0, 0, [30 00])"),
+        ("A0 03 30 81 00", "Unknown(CS, true, 0, 0, [30 81 00])"),
+        (
+            "BF 1F 02 05 00",
+            "Explicit(CS, 0, 31, Unknown(Universal, false, 3, 5, []))",
+        ),
+        (
+            "60 02 05 00",
+            "Explicit(Application, 0, 0, Unknown(Universal, false, 2, 5, []))",
+        ),
+        (
+            "E1 04 A0 02 05 00",
+            "Explicit(Private, 0, 1, Explicit(CS, 2, 0, Unknown(Universal, false, 4, 5, [])))",
+        ),
+        (
+            "30 04 A0 02 02 05",
+            "Sequence(0, [Unknown(CS, true, 2, 0, [02 05])])",
+        ),
+    ] {
+        check_read(&rt, rt.alloc(), input, blocks)?;
+    }
+    Ok(())
+}
+
+// Reads the input to the blocks, with so many headers begun.
+fn check_counted(
+    rt: &impl Abort,
+    alloc: Global,
+    input: &str,
+    blocks: &str,
+    begun: u64,
+) -> Result<(), Fail> {
+    let mut count = HeaderCount::new();
+    let read = from_der_counted(alloc, &octets(alloc, input)?, &mut count)?;
+    assert_eq!(rt; text_of(alloc, &read)?.as_str(), blocks, "{input}");
+    assert_eq!(rt; count.count(), begun, "headers of {input}");
+    Ok(())
 }
 
 #[test]
 fn headers_are_counted(rt: HostRuntime) -> Result<(), Fail> {
-    let alloc = rt.alloc();
     for (input, blocks, begun) in [
         (
             "A0 06 A0 04 A0 02 02 01",
@@ -109,17 +118,32 @@ fn headers_are_counted(rt: HostRuntime) -> Result<(), Fail> {
             4,
         ),
     ] {
-        let mut count = HeaderCount::new();
-        let read = from_der_counted(alloc, &octets(alloc, input)?, &mut count)?;
-        assert_eq!(rt; text_of(alloc, &read)?.as_str(), blocks, "{input}");
-        assert_eq!(rt; count.count(), begun, "headers of {input}");
+        check_counted(&rt, rt.alloc(), input, blocks, begun)?;
+    }
+    Ok(())
+}
+
+// Neither reads nor rewrites the input.
+fn check_refused(
+    rt: &impl Abort,
+    alloc: Global,
+    input: &str,
+    fault: &ASN1DecodeErr,
+) -> Result<(), Fail> {
+    let input_octets = octets(alloc, input)?;
+    match from_der(alloc, &input_octets) {
+        Ok(_) => assert!(rt; false, "{input} was read"),
+        Err(e) => assert_eq!(rt; &e, fault, "{input}"),
+    }
+    match rewrite(alloc, &input_octets) {
+        Ok(_) => assert!(rt; false, "{input} was rewritten"),
+        Err(e) => assert_eq!(rt; &e, fault, "{input} rewritten"),
     }
     Ok(())
 }
 
 #[test]
 fn documents_are_refused(rt: HostRuntime) -> Result<(), Fail> {
-    let alloc = rt.alloc();
     for (input, fault) in [
         ("", ASN1DecodeErr::EmptyBuffer),
         ("30 00", ASN1DecodeErr::EmptyBuffer),
@@ -151,38 +175,29 @@ fn documents_are_refused(rt: HostRuntime) -> Result<(), Fail> {
             ASN1DecodeErr::LengthTooLarge(18446744073709551615),
         ),
     ] {
-        let input_octets = octets(alloc, input)?;
-        let Err(e) = from_der(alloc, &input_octets) else {
-            return Err(Fail::new(input));
-        };
-        assert_eq!(rt; e, fault, "{input}");
-        let Err(e) = rewrite(alloc, &input_octets) else {
-            return Err(Fail::new(input));
-        };
-        assert_eq!(rt; e, fault, "{input} rewritten");
+        check_refused(&rt, rt.alloc(), input, &fault)?;
     }
     Ok(())
 }
 
-// Each proper front of the document is refused, the empty one with a fault of its own.
-fn check_fronts(rt: &impl Abort, alloc: Global, document: &[u8]) -> Result<(), Fail> {
-    for size in 0..document.len() {
-        let fault = if size == 0 {
-            ASN1DecodeErr::EmptyBuffer
-        } else {
-            ASN1DecodeErr::Incomplete
-        };
-        let Err(e) = from_der(alloc, &document[..size]) else {
-            return Err(Fail::new(size));
-        };
-        assert_eq!(rt; e, fault, "the front of {size} octets");
+// Refuses each proper front of the document, which has so many octets. The empty front has a fault of its own.
+fn check_fronts(rt: &impl Abort, alloc: Global, document: &str, size: usize) -> Result<(), Fail> {
+    let document = octets(alloc, document)?;
+    assert_eq!(rt; document.len(), size);
+    let empty = from_der(alloc, &document[..0]);
+    assert!(rt; matches!(empty, Err(ASN1DecodeErr::EmptyBuffer)));
+    for front in 1..document.len() {
+        let read = from_der(alloc, &document[..front]);
+        assert!(rt;
+            matches!(read, Err(ASN1DecodeErr::Incomplete)),
+            "{front} octets"
+        );
     }
     Ok(())
 }
 
 #[test]
 fn fronts_are_refused(rt: HostRuntime) -> Result<(), Fail> {
-    let alloc = rt.alloc();
     for (document, size) in [
         (
             "30 13 06 07 2A 86 48 CE 3D 02 01 06 08 2A 86 48 CE 3D 03 01 07",
@@ -193,20 +208,23 @@ fn fronts_are_refused(rt: HostRuntime) -> Result<(), Fail> {
             23,
         ),
     ] {
-        let document_octets = octets(alloc, document)?;
-        assert_eq!(rt; document_octets.len(), size);
-        check_fronts(&rt, alloc, &document_octets)?;
+        check_fronts(&rt, rt.alloc(), document, size)?;
     }
     for front in ["04", "04 80 00"] {
-        let read = from_der(alloc, &octets(alloc, front)?);
-        assert!(rt; matches!(read, Err(ASN1DecodeErr::Incomplete)), "{front}");
+        check_refused(&rt, rt.alloc(), front, &ASN1DecodeErr::Incomplete)?;
     }
+    Ok(())
+}
+
+// Rewrites the input to these octets.
+fn check_rewritten(rt: &impl Abort, alloc: Global, input: &str, written: &str) -> Result<(), Fail> {
+    let rewritten = rewrite(alloc, &octets(alloc, input)?)?;
+    assert_eq!(rt; hex_of(alloc, &rewritten)?.as_str(), written, "{input}");
     Ok(())
 }
 
 #[test]
 fn documents_are_rewritten(rt: HostRuntime) -> Result<(), Fail> {
-    let alloc = rt.alloc();
     for (input, written) in [
         ("02 80", "02 01 00"),
         ("02 03 00 00 80", "02 02 00 80"),
@@ -227,8 +245,7 @@ fn documents_are_rewritten(rt: HostRuntime) -> Result<(), Fail> {
         ("31 05 01 01 00 05 00", "31 05 01 01 00 05 00"),
         ("A0 03 30 81 00", "A0 03 30 81 00"),
     ] {
-        let rewritten = rewrite(alloc, &octets(alloc, input)?)?;
-        assert_eq!(rt; hex_of(alloc, &rewritten)?.as_str(), written, "{input}");
+        check_rewritten(&rt, rt.alloc(), input, written)?;
     }
     Ok(())
 }

@@ -1,13 +1,32 @@
 // The errors: their texts, their equality and their clones.
 use simple_asn1::{ASN1DecodeErr, ASN1EncodeErr};
-use std::alloc::AllocError;
+use std::alloc::{AllocError, Global};
 use std::fmt::Write;
+use std::process::Abort;
 use std::test::Fail;
+
+// The error prints this text, equals its clone, and is another one than `Overflow` unless it is that.
+fn check_decode_error(
+    rt: &impl Abort,
+    alloc: Global,
+    error: &ASN1DecodeErr,
+    text: &str,
+) -> Result<(), Fail> {
+    let mut printed = String::new(alloc);
+    write!(printed, "{error}")?;
+    assert_eq!(rt; printed.as_str(), text);
+    assert!(rt; error.clone(alloc)? == *error, "the clone of: {text}");
+    assert_eq!(rt;
+        *error == ASN1DecodeErr::Overflow,
+        text == "Value overflow",
+        "{text}"
+    );
+    Ok(())
+}
 
 #[test]
 fn decode_errors_have_texts(rt: HostRuntime) -> Result<(), Fail> {
-    let alloc = rt.alloc();
-    let date = String::from_str(alloc, "20+50101000000Z")?;
+    let date = String::from_str(rt.alloc(), "20+50101000000Z")?;
     for (error, text) in [
         (
             ASN1DecodeErr::EmptyBuffer,
@@ -38,15 +57,7 @@ fn decode_errors_have_texts(rt: HostRuntime) -> Result<(), Fail> {
         (ASN1DecodeErr::Overflow, "Value overflow"),
         (ASN1DecodeErr::OutOfMemory, "Out of memory"),
     ] {
-        let mut printed = String::new(alloc);
-        write!(printed, "{error}")?;
-        assert_eq!(rt; printed.as_str(), text);
-        let clone = error.clone(alloc)?;
-        assert!(rt; clone == error, "the clone of: {text}");
-        assert_eq!(rt;
-            error == ASN1DecodeErr::OutOfMemory,
-            text == "Out of memory"
-        );
+        check_decode_error(&rt, rt.alloc(), &error, text)?;
     }
     Ok(())
 }
@@ -70,9 +81,27 @@ fn utf8_failures_have_texts(rt: HostRuntime) -> Result<(), Fail> {
     Ok(())
 }
 
+// The error prints this text, equals its clone, and is another one than `YearOutOfRange` unless it is that.
+fn check_encode_error(
+    rt: &impl Abort,
+    alloc: Global,
+    error: &ASN1EncodeErr,
+    text: &str,
+) -> Result<(), Fail> {
+    let mut printed = String::new(alloc);
+    write!(printed, "{error}")?;
+    assert_eq!(rt; printed.as_str(), text);
+    assert!(rt; error.clone(alloc)? == *error, "the clone of: {text}");
+    assert_eq!(rt;
+        *error == ASN1EncodeErr::YearOutOfRange,
+        text == "Year is below 0",
+        "{text}"
+    );
+    Ok(())
+}
+
 #[test]
 fn encode_errors_have_texts(rt: HostRuntime) -> Result<(), Fail> {
-    let alloc = rt.alloc();
     for (error, text) in [
         (
             ASN1EncodeErr::ObjectIdentHasTooFewFields,
@@ -97,15 +126,7 @@ fn encode_errors_have_texts(rt: HostRuntime) -> Result<(), Fail> {
         (ASN1EncodeErr::YearOutOfRange, "Year is below 0"),
         (ASN1EncodeErr::OutOfMemory, "Out of memory"),
     ] {
-        let mut printed = String::new(alloc);
-        write!(printed, "{error}")?;
-        assert_eq!(rt; printed.as_str(), text);
-        let clone = error.clone(alloc)?;
-        assert!(rt; clone == error, "the clone of: {text}");
-        assert_eq!(rt;
-            error == ASN1EncodeErr::OutOfMemory,
-            text == "Out of memory"
-        );
+        check_encode_error(&rt, rt.alloc(), &error, text)?;
     }
     Ok(())
 }
@@ -123,7 +144,7 @@ fn payloads_are_compared(rt: HostRuntime) -> Result<(), Fail> {
 }
 
 #[test]
-fn want_of_memory_is_an_error_of_both(rt: HostRuntime) {
+fn refused_memory_is_out_of_memory(rt: HostRuntime) {
     assert_eq!(rt; ASN1DecodeErr::from(AllocError), ASN1DecodeErr::OutOfMemory);
     assert_eq!(rt; ASN1EncodeErr::from(AllocError), ASN1EncodeErr::OutOfMemory);
 }

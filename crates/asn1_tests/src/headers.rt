@@ -4,7 +4,15 @@ use simple_asn1::{
     ASN1Class, ASN1DecodeErr, BigUint, HeaderCount, decode_base127, decode_class, decode_length,
     decode_tag, encode_base127, encode_class, encode_len, encode_tag, law_header, law_one_reading,
 };
+use std::alloc::Global;
+use std::process::Abort;
 use std::test::Fail;
+
+// These are the octets.
+fn check_octets(rt: &impl Abort, alloc: Global, octets: &[u8], written: &str) -> Result<(), Fail> {
+    assert_eq!(rt; hex_of(alloc, octets)?.as_str(), written);
+    Ok(())
+}
 
 #[test]
 fn lengths_are_written(rt: HostRuntime) -> Result<(), Fail> {
@@ -16,8 +24,7 @@ fn lengths_are_written(rt: HostRuntime) -> Result<(), Fail> {
         (255, "81 FF"),
         (256, "82 01 00"),
     ] {
-        let octets = encode_len(alloc, n)?;
-        assert_eq!(rt; hex_of(alloc, &octets)?.as_str(), written, "the length {n}");
+        check_octets(&rt, alloc, &encode_len(alloc, n)?, written)?;
     }
     Ok(())
 }
@@ -32,8 +39,12 @@ fn tags_are_written(rt: HostRuntime) -> Result<(), Fail> {
         (ASN1Class::Private, true, 128, "FF 81 00"),
     ] {
         let tag = BigUint::from_u64(alloc, tag)?;
-        let octets = encode_tag(alloc, class, constructed, &tag)?;
-        assert_eq!(rt; hex_of(alloc, &octets)?.as_str(), written);
+        check_octets(
+            &rt,
+            alloc,
+            &encode_tag(alloc, class, constructed, &tag)?,
+            written,
+        )?;
     }
     Ok(())
 }
@@ -42,8 +53,8 @@ fn tags_are_written(rt: HostRuntime) -> Result<(), Fail> {
 fn base128_numbers_are_written(rt: HostRuntime) -> Result<(), Fail> {
     let alloc = rt.alloc();
     for (n, written) in [(0, "00"), (127, "7F"), (840, "86 48")] {
-        let octets = encode_base127(alloc, &BigUint::from_u64(alloc, n)?)?;
-        assert_eq!(rt; hex_of(alloc, &octets)?.as_str(), written, "the number {n}");
+        let n = BigUint::from_u64(alloc, n)?;
+        check_octets(&rt, alloc, &encode_base127(alloc, &n)?, written)?;
     }
     Ok(())
 }
@@ -84,19 +95,17 @@ fn base128_numbers_are_read(rt: HostRuntime) -> Result<(), Fail> {
 fn tags_are_read(rt: HostRuntime) -> Result<(), Fail> {
     let alloc = rt.alloc();
     let tag = BigUint::from_u64(alloc, 128)?;
-    let mut count = HeaderCount::new();
-    assert_eq!(rt; count.count(), 0);
-    for (input, answer, after, begun) in [
-        ("1F", Err(ASN1DecodeErr::Incomplete), 0, 1),
-        ("FF 81 00 05", Ok((tag, true, ASN1Class::Private)), 3, 2),
+    for (input, answer, after) in [
+        ("1F", Err(ASN1DecodeErr::Incomplete), 0),
+        ("FF 81 00 05", Ok((tag, true, ASN1Class::Private)), 3),
     ] {
         let mut index = 0;
-        if count.count() < 2 {
-            let found = decode_tag(alloc, &octets(alloc, input)?, &mut index, &mut count);
-            assert_eq!(rt; found, answer, "{input}");
-        }
+        let mut count = HeaderCount::new();
+        assert_eq!(rt; count.count(), 0);
+        let found = decode_tag(alloc, &octets(alloc, input)?, &mut index, &mut count);
+        assert_eq!(rt; found, answer, "{input}");
         assert_eq!(rt; index, after, "the index after {input}");
-        assert_eq!(rt; count.count(), begun, "the count after {input}");
+        assert_eq!(rt; count.count(), 1, "the count after {input}");
     }
     Ok(())
 }

