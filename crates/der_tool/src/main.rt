@@ -2,10 +2,9 @@
 #![tactic(auto)]
 
 mod answers;
-mod tool;
-
 #[cfg(test)]
 mod tests;
+mod tool;
 
 use crate::tool::{fault_text, run, status};
 use std::process::ExitCode;

@@ -1,6 +1,6 @@
 // The run of the program: all input is read before anything is written.
 ghost use Rattle.std.specs.Prelude.{◌≡◌, ◌⊎◌, List, ℕ, Ok, Err, IfOk, IfErr, IfSome, OnOk, IsOk, codes};
-ghost use Rattle.std.specs.Io.KnownBytes.{Appends, Keeps};
+ghost use Rattle.std.specs.Io.KnownBytes.{Appends, IsAtEnd, Keeps};
 ghost use Rattle.der_tool.specs.Answers.{AreAnswers};
 ghost use Rattle.der_tool.specs.declared.tool.ToolFault.TheVariants.{Read as read_fault, Write as write_fault, Memory as memory_fault};
 
@@ -30,6 +30,7 @@ pub enum ToolFault {
 /// `Read` and `Memory`, after which nothing was written; `Write`, after which nothing is known of what was.
 pub fn run<R: Read, W: Write>(alloc: Global, r: &mut R, w: &mut W) -> Result<(), ToolFault>
     ensures answered { OnOk result (IfSome (R.remaining r.old) (λ input. (output : List ℕ) × AreAnswers input output × Appends (W.contents w.old) (W.contents w.new) output)) }
+    ensures read { OnOk result (IsAtEnd (R.remaining r.new)) }
     ensures kept { IfErr result (λ e. (e ≡ write_fault) ⊎ Keeps (W.contents w.old) (W.contents w.new)) }
 {
     let input = read_all(alloc, r)?;
@@ -48,7 +49,8 @@ pub fn run<R: Read, W: Write>(alloc: Global, r: &mut R, w: &mut W) -> Result<(),
 
 // All that the reader has left.
 fn read_all<R: Read>(alloc: Global, r: &mut R) -> Result<Vec<u8>, ToolFault>
-    ensures { IfOk result (λ input. IfSome (R.remaining r.old) (λ bytes. input.items ≡ bytes)) }
+    ensures bytes { IfOk result (λ input. IfSome (R.remaining r.old) (λ bytes. input.items ≡ bytes)) }
+    ensures read { OnOk result (IsAtEnd (R.remaining r.new)) }
 {
     let mut input = Vec::new(alloc);
     let mut buffer = [0u8; 8192];

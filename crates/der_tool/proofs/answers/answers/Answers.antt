@@ -16,7 +16,7 @@ pub loop-rest-preserved : goal.loop-rest-preserved
 loop-rest-preserved c = λ later h.
     let a = c.in_ok-append_answer.ensures in
     let now : AreLineAnswers (lines_of c.loop-rest.rest.now) (a.0 ++ 10 ∷ later) =
-        subst (λ lines. AreLineAnswers lines (a.0 ++ 10 ∷ later)) (sym c.split_line.ensures.first) (a.0, later, refl, a.1, h) in
+    subst (λ lines. AreLineAnswers lines (a.0 ++ 10 ∷ later)) (sym c.split_line.ensures.first) (a.0, later, refl, a.1, h) in
     subst (AreLineAnswers (lines_of c.args.input.now)) (one_more _ _ _ a.0 later a.2 c.in_ok-push.ensures.items)
     (c.loop-rest.invariant (a.0 ++ 10 ∷ later) now)
 
