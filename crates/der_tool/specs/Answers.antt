@@ -1,0 +1,59 @@
+-- What is answered to lines, each a document in hex digits.
+use Rattle.std.specs.Prelude.{◌≡◌, ◌⊎◌, ◌==◌, ◌++◌, ℕ, List, [], ◌∷◌, if◌then◌else◌, MatchResult, codes, decimal}
+use Rattle.std.specs.Fmt.{signed_decimal}
+use Rattle.hex.specs.Hex.{decode_of, encode_upper}
+use Rattle.simple_asn1.specs.Tree.{Trees}
+use Rattle.simple_asn1.specs.Grammar.{Document, FirstFault}
+use Rattle.simple_asn1.specs.Canonical.{all_canonical}
+use Rattle.simple_asn1.specs.Fault.{DecodeFault, empty_buffer, bad_boolean_length, length_too_large, utf8_failure, printable_string_failure, invalid_date_value, invalid_bit_string_length, invalid_class, incomplete, overflow, out_of_memory}
+
+-- the byte at the front of the first line
+abbrev pub onto_first_line : ℕ → List (List ℕ) → List (List ℕ)
+onto_first_line b [] = (b ∷ []) ∷ []
+onto_first_line b (line ∷ lines) = (b ∷ line) ∷ lines
+
+-- the lines of the input, each ended by byte 0A. What stands after the last such byte is a line if it isn't empty
+abbrev pub lines_of : List ℕ → List (List ℕ)
+lines_of [] = []
+lines_of (b ∷ input) = if b == 10 then [] ∷ lines_of input else onto_first_line b (lines_of input)
+
+-- the name of a fault
+abbrev pub name_of : DecodeFault → List ℕ
+name_of empty_buffer = codes "EmptyBuffer"
+name_of (bad_boolean_length n) = codes "BadBooleanLength"
+name_of (length_too_large n) = codes "LengthTooLarge"
+name_of utf8_failure = codes "UTF8DecodeFailure"
+name_of printable_string_failure = codes "PrintableStringDecodeFailure"
+name_of (invalid_date_value text) = codes "InvalidDateValue"
+name_of (invalid_bit_string_length n) = codes "InvalidBitStringLength"
+name_of (invalid_class n) = codes "InvalidClass"
+name_of incomplete = codes "Incomplete"
+name_of overflow = codes "Overflow"
+name_of out_of_memory = codes "OutOfMemory"
+
+-- what follows the name: of three faults a space and their number
+abbrev pub number_after : DecodeFault → List ℕ
+number_after (bad_boolean_length n) = codes " " ++ decimal n
+number_after (length_too_large n) = codes " " ++ decimal n
+number_after (invalid_bit_string_length n) = codes " " ++ signed_decimal n
+number_after fault = []
+
+-- what is said of octets: of a document its canonical octets, and else the first fault
+abbrev pub IsVerdict : List ℕ → List ℕ → Type 0
+IsVerdict octets answer =
+    ((bs : Trees ℕ) × Document octets bs × (answer ≡ codes "ok " ++ encode_upper (all_canonical bs)))
+    ⊎ ((fault : DecodeFault) × FirstFault octets fault × (answer ≡ codes "refused " ++ (name_of fault ++ number_after fault)))
+
+-- what is said of a line
+abbrev pub IsAnswer : List ℕ → List ℕ → Type 0
+IsAnswer line answer = MatchResult (decode_of line) (λ octets. IsVerdict octets answer) (λ _. answer ≡ codes "badhex")
+
+-- the output is the answers to the lines, each ended by byte 0A
+abbrev pub AreLineAnswers : List (List ℕ) → List ℕ → Type 0
+AreLineAnswers [] output = output ≡ []
+AreLineAnswers (line ∷ lines) output =
+    (answer : List ℕ) × (rest : List ℕ) × (output ≡ answer ++ 10 ∷ rest) × IsAnswer line answer × AreLineAnswers lines rest
+
+-- the output is the answers to the input's lines
+abbrev pub AreAnswers : List ℕ → List ℕ → Type 0
+AreAnswers input output = AreLineAnswers (lines_of input) output

@@ -1,0 +1,107 @@
+// The answers to lines, each a document in hex digits.
+ghost use Rattle.std.specs.Prelude.{◌≡◌, ◌<◌, ◌++◌, ℕ, List, ◌∷◌, length, IfOk, OnOk, string_bytes};
+ghost use Rattle.der_tool.specs.Answers.{AreAnswers, IsAnswer, IsVerdict, lines_of, name_of, number_after};
+ghost use Rattle.simple_asn1.specs.Fault.{fault_of};
+
+use hex::FromHexError;
+use simple_asn1::{ASN1DecodeErr, rewrite};
+use std::alloc::{AllocError, Global};
+
+// The answers to the lines of the input.
+pub fn answers(alloc: Global, input: &[u8]) -> Result<Vec<u8>, AllocError>
+    ensures { IfOk result (λ output. AreAnswers input.now output.items) }
+{
+    let mut output = Vec::new(alloc);
+    let mut rest = input;
+    while !rest.is_empty() {
+        let (line, after) = split_line(rest);
+        append_answer(alloc, line, &mut output)?;
+        output.push(b'\n')?;
+        rest = after;
+    }
+    Ok(output)
+}
+
+// The first line, and what stands after its end.
+fn split_line(input: &[u8]) -> (&[u8], &[u8])
+    requires { 0 < length input.now }
+    ensures first { lines_of input.now ≡ result.0.now ∷ lines_of result.1.now }
+    ensures shorter { length result.1.now < length input.now }
+{
+    let mut end = 0;
+    while end < input.len() {
+        if input[end] == b'\n' {
+            return (&input[..end], &input[end + 1..]);
+        }
+        end += 1;
+    }
+    (input, &[])
+}
+
+// Appends the answer to a line.
+fn append_answer(alloc: Global, line: &[u8], output: &mut Vec<u8>) -> Result<(), AllocError>
+    ensures { OnOk result ((answer : List ℕ) × IsAnswer line.now answer × (output.new.items ≡ output.old.items ++ answer)) }
+{
+    match hex::decode(alloc, line) {
+        Ok(octets) => append_verdict(alloc, &octets, output),
+        Err(FromHexError::OutOfMemory) => Err(AllocError),
+        Err(_) => output.extend_from_slice(b"badhex"),
+    }
+}
+
+// Appends what is said of octets: their canonical ones, or why they are no document.
+fn append_verdict(alloc: Global, octets: &[u8], output: &mut Vec<u8>) -> Result<(), AllocError>
+    ensures { OnOk result ((answer : List ℕ) × IsVerdict octets.now answer × (output.new.items ≡ output.old.items ++ answer)) }
+{
+    match rewrite(alloc, octets) {
+        Ok(canonical) => {
+            let text = hex::encode_upper(alloc, canonical.as_slice())?;
+            output.extend_from_slice(b"ok ")?;
+            output.extend_from_slice(text.as_bytes())
+        }
+        Err(ASN1DecodeErr::OutOfMemory) => Err(AllocError),
+        Err(fault) => {
+            let number = number_text(alloc, &fault)?;
+            output.extend_from_slice(b"refused ")?;
+            output.extend_from_slice(fault_name(&fault).as_bytes())?;
+            output.extend_from_slice(number.as_bytes())
+        }
+    }
+}
+
+fn fault_name(fault: &ASN1DecodeErr) -> &'static str
+    ensures { result.now ≡ name_of (fault_of fault.now) }
+{
+    match fault {
+        ASN1DecodeErr::EmptyBuffer => "EmptyBuffer",
+        ASN1DecodeErr::BadBooleanLength(_) => "BadBooleanLength",
+        ASN1DecodeErr::LengthTooLarge(_) => "LengthTooLarge",
+        ASN1DecodeErr::UTF8DecodeFailure(_) => "UTF8DecodeFailure",
+        ASN1DecodeErr::PrintableStringDecodeFailure => "PrintableStringDecodeFailure",
+        ASN1DecodeErr::InvalidDateValue(_) => "InvalidDateValue",
+        ASN1DecodeErr::InvalidBitStringLength(_) => "InvalidBitStringLength",
+        ASN1DecodeErr::InvalidClass(_) => "InvalidClass",
+        ASN1DecodeErr::Incomplete => "Incomplete",
+        ASN1DecodeErr::Overflow => "Overflow",
+        ASN1DecodeErr::OutOfMemory => "OutOfMemory",
+    }
+}
+
+// A space and the number of a fault, if it is one of the three whose number is told.
+fn number_text(alloc: Global, fault: &ASN1DecodeErr) -> Result<String, AllocError>
+    ensures { IfOk result (λ text. string_bytes text ≡ number_after (fault_of fault.now)) }
+{
+    match fault {
+        ASN1DecodeErr::BadBooleanLength(n) => format!(in alloc; " {n}"),
+        ASN1DecodeErr::LengthTooLarge(n) => format!(in alloc; " {n}"),
+        ASN1DecodeErr::InvalidBitStringLength(n) => format!(in alloc; " {n}"),
+        ASN1DecodeErr::EmptyBuffer
+        | ASN1DecodeErr::UTF8DecodeFailure(_)
+        | ASN1DecodeErr::PrintableStringDecodeFailure
+        | ASN1DecodeErr::InvalidDateValue(_)
+        | ASN1DecodeErr::InvalidClass(_)
+        | ASN1DecodeErr::Incomplete
+        | ASN1DecodeErr::Overflow
+        | ASN1DecodeErr::OutOfMemory => Ok(String::new(alloc)),
+    }
+}
