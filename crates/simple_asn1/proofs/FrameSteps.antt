@@ -13,7 +13,9 @@ use Rattle.simple_asn1.proofs.Leaves.{group_tag_is}
 use Rattle.simple_asn1.specs.Header.{Encoding}
 use Rattle.simple_asn1.specs.declared.read.FrameKind.{FrameKind}
 use Rattle.simple_asn1.specs.declared.read.FrameKind.TheVariants.{Whole, Group, Attempt}
+use Rattle.simple_asn1.specs.declared.read.Header.{Header}
 use Rattle.simple_asn1.specs.declared.read.OpenFrame.{OpenFrame}
+use Rattle.simple_asn1.specs.declared.read.Reader.{Reader}
 use Rattle.simple_asn1.specs.declared.read.Turn.{Turn}
 use Rattle.simple_asn1.specs.declared.read.Turn.TheVariants.{Continues, Ends}
 use Rattle.simple_asn1.specs.declared.block.ASN1Block.{ASN1Block}
@@ -21,7 +23,7 @@ use Rattle.simple_asn1.specs.Tree.{Tree, group, unknown}
 use Rattle.simple_asn1.specs.View.{view, views}
 use Rattle.simple_asn1.specs.Grammar.{MayBeGroupContents, of_other_class, of_group, Encodes, EncodesAll, HeaderFault, BlockFault, in_header, in_contents, ContentsFault, of_item, of_empty_group, BlocksFault, after_blocks}
 use Rattle.simple_asn1.specs.HeadersBegun.{IsReadInside, HeadersBegun, begun_none, begun_some, inside_first, nothing_inside, nothing_after}
-use Rattle.simple_asn1.specs.OpenFrames.{IsKindFor, ReadTo, Headed, Opened, StopsAt, Stopping, Follows, Turned, Nearer, IsPut}
+use Rattle.simple_asn1.specs.OpenFrames.{IsKindFor, ReadTo, Headed, Opened, StopsAt, Stopping, Follows, Turned, Nearer, IsPut, Reading, left}
 use Rattle.simple_asn1.proofs.Prefixes.{encoding_alone}
 use Rattle.simple_asn1.proofs.OneReading.{encodes_block, encodes_blocks, block_some}
 use Rattle.simple_asn1.proofs.Faults.{block_is_blocks, block_fault_no_block, blocks_fault_no_blocks, header_no_encoding}
@@ -34,21 +36,25 @@ drop_slice octets s e a h =
     let q : e - s ≡ a + (e - (s + a)) = omega arith in
     ap (λ n. drop a (take n (drop s octets))) q ∙ (drop-take a (e - (s + a)) (drop s octets) ∙ ap (take (e - (s + a))) (drop-drop a s octets ∙ ap (λ n. drop n octets) (omega arith)))
 
+-- the shorter of two fronts
 take_take : (n m : ℕ) (xs : List ℕ) → n ≤ m → take n (take m xs) ≡ take n xs
 take_take zero m xs h = refl
 take_take (suc n) zero xs h = absurd (omega (arith, h))
 take_take (suc n) (suc m) [] h = refl
 take_take (suc n) (suc m) (x ∷ xs) h = ap (λ z. x ∷ z) (take_take n m xs (omega (arith, h)))
 
+-- a slice of a slice
 pub slice_slice : (octets : List ℕ) (s e a b : ℕ) → s ≤ e → a ≤ b → s + b ≤ e → slice_range (slice_range octets s e) a b ≡ slice_range octets (s + a) (s + b)
 slice_slice octets s e a b h l w =
     ap (take (b - a)) (drop_slice octets s e a (omega arith)) ∙ (take_take (b - a) (e - (s + a)) (drop (s + a) octets) (omega arith) ∙ ap (λ n. take n (drop (s + a) octets)) (omega arith))
 
+-- an empty slice
 pub slice_none : (octets : List ℕ) (s : ℕ) → slice_range octets s s ≡ []
 slice_none octets s =
     let z : s - s ≡ 0 = omega arith in
     ap (λ n. take n (drop s octets)) z
 
+-- the slice of all
 pub slice_all : (octets : List ℕ) → slice_range octets 0 (length octets) ≡ octets
 slice_all octets =
     let z : length octets - 0 ≡ length octets = omega arith in
@@ -72,6 +78,7 @@ follows_read octets f g p q n m b s e i r w =
       begun = subst (λ z. HeadersBegun (slice_range octets z q) (n + m)) (sym s) (subst (λ z. HeadersBegun z (n + m)) (sym whole) j);
     }
 
+-- and in the innermost frame
 pub opened_more : (octets : List ℕ) (f g : OpenFrame) (gs : List OpenFrame) (p q n m : ℕ) (b : ASN1Block) → g.kind ≡ f.kind → g.start ≡ f.start → g.end ≡ f.end → g.blocks.items ≡ f.blocks.items ++ b ∷ [] → Opened octets f gs p n → Follows octets f p q (view b) m → Opened octets g gs q (n + m)
 opened_more octets f g [] p q n m b k s e i o w = (k ∙ o.0, s ∙ o.1, e ∙ o.2, follows_read octets f g p q n m b s e i o.3 w)
 opened_more octets f g (h ∷ hs) p q n m b k s e i o w =
@@ -83,6 +90,7 @@ pub record Places (octets : List ℕ) (f : OpenFrame) (p : ℕ) : Type 0 where
   pub to : p ≤ f.end
   pub within : f.end ≤ length octets
 
+-- it is between its ends
 pub opened_places : (octets : List ℕ) (f : OpenFrame) (gs : List OpenFrame) (p n : ℕ) → Opened octets f gs p n → Places octets f p
 opened_places octets f [] p n o = record { from = o.3.from; to = o.3.to; within = o.3.within }
 opened_places octets f (g ∷ gs) p n o = record { from = o.6.from; to = o.6.to; within = o.6.within }
@@ -92,6 +100,7 @@ read_bound : (octets : List ℕ) (f : OpenFrame) (p n : ℕ) → ReadTo octets f
 read_bound octets f p n r =
     omega (arith, begun_le (slice_range octets f.start p) n r.begun, slice_length octets f.start p r.from (omega (arith, r.to, r.within)), r.from)
 
+-- also in all open frames
 pub opened_bound : (octets : List ℕ) (f : OpenFrame) (gs : List OpenFrame) (p n : ℕ) → Opened octets f gs p n → n ≤ p
 opened_bound octets f [] p n o = omega (arith, read_bound octets f p n o.3)
 opened_bound octets f (g ∷ gs) p n o = omega (arith, read_bound octets f p o.1 o.6, opened_bound octets g gs o.0 o.2 o.7, o.4, o.8)
@@ -178,14 +187,17 @@ end_document octets f n o =
     let d : slice_range octets f.start f.end ≡ octets = ap (λ z. slice_range octets z f.end) o.1 ∙ (ap (slice_range octets 0) o.2 ∙ slice_all octets) in
     (subst (λ z. EncodesAll z octets (views f.blocks.items)) o.1 (subst (λ z. EncodesAll f.start z (views f.blocks.items)) d o.3.encoded), subst (λ z. HeadersBegun z n) d o.3.begun)
 
+-- blocks have octets
 octets_of_some : (o : ℕ) (contents : List ℕ) (bs : List ASN1Block) → 0 < length bs → EncodesAll o contents (views bs) → 0 < length contents
 octets_of_some o contents [] h s = absurd (omega (arith, h))
 octets_of_some o contents (b ∷ bs) h s = omega (arith, block_some s.0 (encodes_block o s.0 (view b) s.3), ap length s.2, length-append s.0 s.1)
 
+-- no blocks have none
 octets_of_none : (o : ℕ) (contents : List ℕ) (bs : List ASN1Block) → length bs ≡ 0 → EncodesAll o contents (views bs) → contents ≡ []
 octets_of_none o contents [] h s = s
 octets_of_none o contents (b ∷ bs) h s = absurd (omega (arith, h))
 
+-- a group may hold some octets
 may_be : (contents : List ℕ) → 0 < length contents → MayBeGroupContents contents
 unfolding MayBeGroupContents
 may_be contents h = h
@@ -249,6 +261,7 @@ turned_put (Err x) octets f gs p q n m count base b u o w e =
     let v = opened_places octets f (reverse gs) p n o in
     inl (u, omega (arith, e, opened_bound octets f (reverse gs) p n o, begun_le (slice_range octets p q) m w.begun, slice_length octets p q (omega (arith, w.from)) (omega (arith, w.to, v.within)), w.to, w.from, v.within))
 
+-- what a push or a pop does to the frames from the innermost out
 pub reverse_push : {X : Type 0} (old new : List X) (x : X) → old ≡ new ++ x ∷ [] → reverse old ≡ x ∷ reverse new
 reverse_push old new x e = ap reverse e ∙ reverse-append new (x ∷ [])
 
@@ -256,15 +269,18 @@ pub reverse_none : {X : Type 0} (xs : List X) → length xs ≡ 0 → reverse xs
 reverse_none [] e = refl
 reverse_none (x ∷ xs) e = absurd (omega (arith, e))
 
+-- less than less is less
 pub nearer_more : (t : Result Turn ASN1DecodeErr) (size a b : ℕ) → a ≤ b → Nearer size t a → Nearer size t b
 nearer_more (Ok (Continues r)) size a b h n = omega (arith, h, n)
 nearer_more (Ok (Ends v)) size a b h n = tt
 nearer_more (Err e) size a b h n = tt
 
+-- memory ran out
 pub turned_memory : (t : Result Turn ASN1DecodeErr) (octets : List ℕ) (count base : ℕ) → IsErr t × IsErrAnd t (λ e. e ≡ OutOfMemory) → count ≤ base + length octets → Turned octets t count base
 turned_memory (Ok x) octets count base e h = absurd e.1
 turned_memory (Err x) octets count base e h = inl (e.1, h)
 
+-- the same block
 pub follows_as : (octets : List ℕ) (g : OpenFrame) (p q : ℕ) (a b : Tree ℕ) (n : ℕ) → b ≡ a → Follows octets g p q a n → Follows octets g p q b n
 follows_as octets g p q a b n e w = subst (λ z. Follows octets g p q z n) (sym e) w
 
@@ -354,6 +370,7 @@ pub record HeaderAt (octets : List ℕ) (f : OpenFrame) (p a z : ℕ) (c : ASN1C
   pub order : f.start + a ≤ f.start + z
   pub fits : f.start + z ≤ f.end
 
+-- it is where the header was found
 pub header_found : (octets : List ℕ) (f : OpenFrame) (gs : List OpenFrame) (p m a z : ℕ) (c : ASN1Class) (k : Bool) (n : ℕ) → Opened octets f gs p m → (p - f.start < a) × (a ≤ z) × (z ≤ length (slice_range octets f.start f.end)) → Encoding (slice_range (slice_range octets f.start f.end) (p - f.start) z) c k n (slice_range (slice_range octets f.start f.end) a z) (a - (p - f.start)) → HeaderAt octets f p a z c k n
 header_found octets f gs p m a z c k n o b F =
     let v = opened_places octets f gs p m o in
@@ -365,3 +382,21 @@ header_found octets f gs p m a z c k n o b F =
 pub fault_here : (P : DecodeFault → Type 0) (e : ASN1DecodeErr) → OutOfMemoryOr P e → (e ≡ OutOfMemory → ⊥) → P (fault_of e)
 fault_here P e (inl m) other = absurd (other m)
 fault_here P e (inr p) other = p
+
+-- where the reader is
+pub reading_places : (octets : List ℕ) (r : Reader) (count base : ℕ) → Reading octets r count base → Places octets r.inner r.index
+reading_places octets r count base w = opened_places octets r.inner (reverse r.outer.items) r.index w.0 w.2
+
+-- one header more is still at most one for each octet
+pub reading_room : (octets : List ℕ) (r : Reader) (count base : ℕ) → Reading octets r count base → r.index ≢ r.inner.end → count + 1 ≤ base + length octets
+reading_room octets r count base w ne =
+    let v = reading_places octets r count base w in
+    omega (arith, w.1, opened_bound octets r.inner (reverse r.outer.items) r.index w.0 w.2, v.to, v.within, ne)
+
+-- the header that the reader has found
+pub header_read : (octets : List ℕ) (r : Reader) (h : Header) (count base : ℕ) → Reading octets r count base → (r.index - r.inner.start < h.start) × (h.start ≤ h.end) × (h.end ≤ length (slice_range octets r.inner.start r.inner.end)) → Encoding (slice_range (slice_range octets r.inner.start r.inner.end) (r.index - r.inner.start) h.end) h.class h.constructed h.tag (slice_range (slice_range octets r.inner.start r.inner.end) h.start h.end) (h.start - (r.index - r.inner.start)) → HeaderAt octets r.inner r.index h.start h.end h.class h.constructed h.tag
+header_read octets r h count base w bounds found = header_found octets r.inner (reverse r.outer.items) r.index w.0 h.start h.end h.class h.constructed h.tag w.2 bounds found
+
+-- a fault leaves less to do
+pub nearer_refused : (t : Result Turn ASN1DecodeErr) (octets : List ℕ) (r : Reader) → Places octets r.inner r.index → Nearer (length octets) t (left (length octets) r.inner.end r.outer.items) → Nearer (length octets) t (left (length octets) r.index r.outer.items)
+nearer_refused t octets r v n = nearer_more t (length octets) (left (length octets) r.inner.end r.outer.items) (left (length octets) r.index r.outer.items) (omega (arith, v.to)) n
