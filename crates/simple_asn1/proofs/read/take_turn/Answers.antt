@@ -55,7 +55,7 @@ refuse-requires c =
     let fault = fault_here (HeaderFault place (drop place (slice_range c.args.octets.now f.start f.end))) c.in-Err.e c.in-Err.ensures.refused c.in_default.not-OutOfMemory in
     record {
       small = c.requires.small;
-      stopping = (r.0 + 1, header_stopping c.args.octets.now f (reverse c.args.reader.outer.items) c.args.reader.index r.0 (fault_of c.in-Err.e) c.requires.small c.if-index-inner.false r.2 fault)
+      stopping = (r.0 + 1, header_stopping c.args.octets.now f (reverse c.args.reader.outer.items) c.args.reader.index r.0 (fault_of c.in-Err.e) c.requires.small c.if-index-inner.false r.2 fault);
     }
 
 pub returns-in_default : goal.returns-in_default
@@ -68,7 +68,7 @@ returns-in_default c =
           let counted : base + (r.0 + 1) ≡ c.header_at.new.count = omega (arith, r.1, c.in-Err.ensures.counted) in
           let stopping = header_stopping c.args.octets.now f (reverse c.args.reader.outer.items) c.args.reader.index r.0 (fault_of c.in-Err.e) c.requires.small c.if-index-inner.false r.2 fault in
           subst (λ z. Turned c.args.octets.now c.refuse.result z base) counted (c.refuse.ensures.turned (r.0 + 1) base stopping);
-      nearer = nearer_refused c.refuse.result c.args.octets.now c.args.reader (reading_places c.args.octets.now c.args.reader c.args.count.now c.requires.opened.0 c.requires.opened.1) c.refuse.ensures.nearer
+      nearer = nearer_refused c.refuse.result c.args.octets.now c.args.reader (reading_places c.args.octets.now c.args.reader c.args.count.now c.requires.opened.0 c.requires.opened.1) c.refuse.ensures.nearer;
     }
 
 pub returns-in-OutOfMemory-clause-turned : goal.returns-in-OutOfMemory-clause-turned
@@ -108,7 +108,7 @@ refuse-requires-in_default-e c =
     let fault = fault_here (λ z. (h.class ≡ Universal) × ContentsFault h.tag (slice_range octets (f.start + h.start) (f.start + h.end)) z) c.in-Err-leaf_block.e c.in-Err-leaf_block.ensures.refused c.in_default-e.not-OutOfMemory in
     record {
       small = c.requires.small;
-      stopping = (r.0 + 1, leaf_stopping octets f (reverse c.args.reader.outer.items) c.args.reader.index (f.start + h.end) (f.start + h.start) r.0 (fault_of c.in-Err-leaf_block.e) h.class h.constructed h.tag c.requires.small (omega (arith, F.past, F.order)) F.fits r.2 F.encoding shut fault.0 fault.1)
+      stopping = (r.0 + 1, leaf_stopping octets f (reverse c.args.reader.outer.items) c.args.reader.index (f.start + h.end) (f.start + h.start) r.0 (fault_of c.in-Err-leaf_block.e) h.class h.constructed h.tag c.requires.small (omega (arith, F.past, F.order)) F.fits r.2 F.encoding shut fault.0 fault.1);
     }
 
 pub returns-in_default-e : goal.returns-in_default-e
@@ -124,7 +124,7 @@ returns-in_default-e c =
           let counted : base + (r.0 + 1) ≡ c.header_at.new.count = omega (arith, r.1, c.in-Ok.ensures.counted) in
           let stopping = leaf_stopping octets f (reverse c.args.reader.outer.items) c.args.reader.index (f.start + h.end) (f.start + h.start) r.0 (fault_of c.in-Err-leaf_block.e) h.class h.constructed h.tag c.requires.small (omega (arith, F.past, F.order)) F.fits r.2 F.encoding shut fault.0 fault.1 in
           subst (λ z. Turned octets c.refuse-in_default-e.result z base) counted (c.refuse-in_default-e.ensures.turned (r.0 + 1) base stopping);
-      nearer = nearer_refused c.refuse-in_default-e.result octets c.args.reader (reading_places octets c.args.reader c.args.count.now c.requires.opened.0 c.requires.opened.1) c.refuse-in_default-e.ensures.nearer
+      nearer = nearer_refused c.refuse-in_default-e.result octets c.args.reader (reading_places octets c.args.reader c.args.count.now c.requires.opened.0 c.requires.opened.1) c.refuse-in_default-e.ensures.nearer;
     }
 
 pub returns-in-OutOfMemory-e-clause-turned : goal.returns-in-OutOfMemory-e-clause-turned
