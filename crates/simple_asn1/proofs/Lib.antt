@@ -20,3 +20,4 @@ pub mod WriteSteps
 pub mod Readings
 pub mod Writable
 pub mod Characters
+pub mod FaultKinds

@@ -38,3 +38,10 @@ OutOfMemoryOr P e = (e ≡ OutOfMemory) ⊎ P (fault_of e)
 abbrev pub UnlessOutOfMemory : {A : Type 0} → Result A ASN1DecodeErr → Type 0 → Type 0
 UnlessOutOfMemory (Ok x) P = P
 UnlessOutOfMemory (Err e) P = (e ≡ OutOfMemory) ⊎ P
+
+-- the fault is of octets that are read: of no class that doesn't exist, no overflow and no want of memory
+abbrev pub IsOfReading : DecodeFault → Type 0
+IsOfReading (invalid_class n) = ⊥
+IsOfReading overflow = ⊥
+IsOfReading out_of_memory = ⊥
+IsOfReading fault = Unit {0}

@@ -3,7 +3,7 @@ use Rattle.std.specs.Prelude.{◌≡◌, ◌↔◌, ◌⊎◌, ℕ, ◌<◌, ◌
 use Rattle.simple_asn1.specs.declared.header.ASN1Class.{ASN1Class}
 use Rattle.simple_asn1.specs.Base128.{IsBase128, shortest_base128}
 use Rattle.simple_asn1.specs.Header.{IsIdentifier, IsLength, Encoding, shortest_identifier, shortest_length}
-use Rattle.simple_asn1.specs.Fault.{DecodeFault}
+use Rattle.simple_asn1.specs.Fault.{DecodeFault, IsOfReading}
 use Rattle.simple_asn1.specs.Tree.{Tree, Trees}
 use Rattle.simple_asn1.specs.Grammar.{IsBlock, Encodes, Document, FirstFault}
 use Rattle.simple_asn1.specs.HeadersBegun.{HeadersBegun, all_blocks_in}
@@ -47,6 +47,8 @@ pub record OneReading : Type 0 where
   pub one_document : (octets : List ℕ) (xs ys : Trees ℕ) → Document octets xs → Document octets ys → xs ≡ ys
   -- and have at most one first fault
   pub one_fault : (octets : List ℕ) (e d : DecodeFault) → length octets < 2 ^ 64 → FirstFault octets e → FirstFault octets d → e ≡ d
+  -- the first fault is of octets: a class always exists, nothing overflows, and memory is none of them
+  pub of_reading : (octets : List ℕ) (e : DecodeFault) → FirstFault octets e → IsOfReading e
   -- a reader begins some number of headers
   pub headers_begun : (octets : List ℕ) → length octets < 2 ^ 64 → (n : ℕ) × HeadersBegun octets n
   -- and no other number
