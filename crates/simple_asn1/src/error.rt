@@ -20,7 +20,7 @@ pub enum ASN1DecodeErr {
     /// BIT STRING the number of contents octets whose bits a `usize` can't count.
     #[error("Length field too large for object type: {0}")]
     LengthTooLarge(usize),
-    /// The contents octets of a UTF8String, TeletexString, UniversalString or BMPString are no UTF-8.
+    /// Contents octets of a UTF8String, TeletexString, UniversalString or BMPString are no UTF-8.
     #[error("UTF8 string failed to properly decode: {0}")]
     UTF8DecodeFailure(Utf8Error),
     /// A contents octet of a PrintableString is none of its 74 characters (X.680 table 10).

@@ -27,8 +27,8 @@ use std::alloc::Global;
 ///
 /// # Errors
 /// The fault of the first block, in the order of the octets, that can't be written:
-/// `BitStringLength` or `CharacterTooLarge`; `OutOfMemory`, also where the octets would be more than
-/// memory can hold.
+/// `BitStringLength` or `CharacterTooLarge`; `OutOfMemory`, also where the octets would be more
+/// than memory can hold.
 pub fn to_der(alloc: Global, i: &ASN1Block) -> Result<Vec<u8>, ASN1EncodeErr>
     ensures encoded { IfOk result (λ v. v.items ≡ canonical (view i.now)) }
     ensures writable { OnOk result (write_fault (view i.now) ≡ None) }
