@@ -75,6 +75,9 @@ struct Header {
 /// `PrintableStringDecodeFailure`; or `OutOfMemory`, which says nothing of the octets.
 ///
 /// ```rust
+/// use simple_asn1::{ASN1DecodeErr, from_der};
+/// use std::alloc::Global;
+///
 /// // How many blocks stand one after another: in `05 00 30 03 02 01 05` two.
 /// fn block_count(alloc: Global, octets: &[u8]) -> Result<usize, ASN1DecodeErr> {
 ///     let blocks = from_der(alloc, octets)?;
