@@ -1,4 +1,5 @@
--- The one encoding of a tree that is written (X.690 10.1: shortest forms).
+-- The one encoding of a tree that is written: the shortest identifier octets (X.690 8.1.2.2,
+-- 8.1.2.4.2), length octets (X.690 10.1) and integers (X.690 8.3.2).
 use Rattle.std.specs.Prelude.{ℕ, ◌++◌, Bool, true, false, List, [], length, Option, Some, None}
 use Rattle.simple_asn1.specs.declared.header.ASN1Class.{ASN1Class}
 use Rattle.simple_asn1.specs.declared.header.ASN1Class.TheVariants.{Universal}

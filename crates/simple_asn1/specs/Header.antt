@@ -37,10 +37,11 @@ IsLength (b ∷ octets) n =
     ((b < 128) × (octets ≡ []) × (n ≡ b))
     ⊎ ((b ≡ 128 + length octets) × (length octets ≤ 8) × (n ≡ number_from_digits 256 octets))
 
--- the shortest forms, which are written (X.690 10.1)
+-- the shortest length octets, which are written (X.690 10.1)
 abbrev pub shortest_length : ℕ → List ℕ
 shortest_length n = if nat_lt n 128 then n ∷ [] else (128 + length (digits_of 256 n)) ∷ digits_of 256 n
 
+-- the shortest identifier octets, which are written (X.690 8.1.2.2, 8.1.2.4.2)
 abbrev pub shortest_identifier : ASN1Class → Bool → ℕ → List ℕ
 shortest_identifier class constructed tag =
     if nat_lt tag 31 then leading_octet class constructed tag ∷ [] else leading_octet class constructed 31 ∷ shortest_base128 tag

@@ -17,41 +17,42 @@ pub enum GroupKind {
     Set,
 }
 
-/// A block. The first `usize` of each variant is the offset of its first octet from the start of the document; it plays
-/// no part in equality or in writing.
+/// A block. The first `usize` of each variant is its offset, in bytes: where its first octet stands
+/// from the start of the document. It plays no part in equality or in writing.
 #[derive(Debug, Drop)]
 pub enum ASN1Block {
-    /// BOOLEAN (X.690 8.2).
+    /// BOOLEAN (X.690 8.2): its value.
     Boolean(usize, bool),
-    /// INTEGER (X.690 8.3).
+    /// INTEGER (X.690 8.3): the number, of any size.
     Integer(usize, BigInt),
-    /// BIT STRING (X.690 8.6): the number of bits, and the bytes that hold them, the first bit the most significant of
-    /// the first byte.
+    /// BIT STRING (X.690 8.6): the number of bits, and the bytes that hold them, the first bit the
+    /// most significant of the first byte. The other bits of these bytes are unused.
     BitString(usize, usize, Vec<u8>),
-    /// OCTET STRING (X.690 8.7).
+    /// OCTET STRING (X.690 8.7): its bytes.
     OctetString(usize, Vec<u8>),
-    /// NULL (X.690 8.8).
+    /// NULL (X.690 8.8), which has no value.
     Null(usize),
-    /// UTF8String (X.690 8.23).
+    /// UTF8String (X.690 8.23), whose octets are UTF-8.
     UTF8String(usize, String),
-    /// PrintableString (X.690 8.23).
+    /// PrintableString (X.690 8.23), an octet for each character.
     PrintableString(usize, String),
-    /// TeletexString, whose octets are taken as UTF-8.
+    /// TeletexString (X.690 8.23), whose octets are taken as UTF-8.
     TeletexString(usize, String),
-    /// IA5String, an octet for each character.
+    /// IA5String (X.690 8.23), an octet for each character, up to 255.
     IA5String(usize, String),
-    /// UniversalString, whose octets are taken as UTF-8.
+    /// UniversalString (X.690 8.23), whose octets are taken as UTF-8.
     UniversalString(usize, String),
-    /// BMPString, whose octets are taken as UTF-8.
+    /// BMPString (X.690 8.23), whose octets are taken as UTF-8.
     BMPString(usize, String),
     /// SEQUENCE or SEQUENCE OF (X.690 8.9, 8.10): its items in order.
     Sequence(usize, Vec<ASN1Block>),
     /// SET or SET OF (X.690 8.11, 8.12): its items in the order of their octets.
     Set(usize, Vec<ASN1Block>),
-    /// A constructed encoding of another class around one block, as explicit tagging makes it (X.690 8.14): class,
-    /// offset, tag number, the block.
+    /// A constructed encoding of another class around one block, as explicit tagging makes it
+    /// (X.690 8.14): class, offset, tag number, the block.
     Explicit(ASN1Class, usize, BigUint, Box<ASN1Block>),
-    /// Any other encoding: class, whether it is constructed, offset, tag number, contents octets.
+    /// Any other encoding (X.690 8.1.1): class, whether it is constructed, offset, tag number, and
+    /// the bytes of its contents as they came.
     Unknown(ASN1Class, bool, usize, BigUint, Vec<u8>),
 }
 

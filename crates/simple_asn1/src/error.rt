@@ -15,19 +15,22 @@ pub enum ASN1DecodeErr {
     /// The contents octets of a BOOLEAN are not one; their number.
     #[error("Bad length field in boolean block: {0}")]
     BadBooleanLength(usize),
-    /// A length that passes a `usize`: the number of its length octets, if that is more than 8, and else the length.
+    /// A length that passes a `usize`: the number of octets that follow the initial length octet,
+    /// if that is more than 8; the length, if the contents octets would end past a `usize`; for a
+    /// BIT STRING the number of contents octets whose bits a `usize` can't count.
     #[error("Length field too large for object type: {0}")]
     LengthTooLarge(usize),
-    /// Contents octets that should be UTF-8 are not.
+    /// Contents octets of a UTF8String, TeletexString, UniversalString or BMPString are no UTF-8.
     #[error("UTF8 string failed to properly decode: {0}")]
     UTF8DecodeFailure(Utf8Error),
-    /// Contents octets of a PrintableString hold another character.
+    /// A contents octet of a PrintableString is none of its 74 characters (X.680 table 10).
     #[error("Printable string failed to properly decode.")]
     PrintableStringDecodeFailure,
     /// A time is no valid moment; its text, or the number of its octets.
     #[error("Invalid date value: {0}")]
     InvalidDateValue(String),
-    /// A BIT STRING has more unused bits than bits; the difference, below 0.
+    /// The initial contents octet of a BIT STRING counts more unused bits than the octets after it
+    /// have; the number of those bits less the count, which is below 0.
     #[error("Invalid length of bit string: {0}")]
     InvalidBitStringLength(isize),
     /// A class that does not exist. Never answered.
@@ -44,6 +47,7 @@ pub enum ASN1DecodeErr {
     OutOfMemory,
 }
 
+/// What a copy, a text or a reserved size answers where memory runs out.
 impl From<AllocError> for ASN1DecodeErr {
     ghost use Rattle.simple_asn1.specs.declared.error.ASN1DecodeErr.TheVariants.{OutOfMemory};
 
@@ -54,6 +58,7 @@ impl From<AllocError> for ASN1DecodeErr {
     }
 }
 
+/// What a `push` and a `Box` answer, which hand back what they could not keep.
 impl<T: Drop> From<AllocFailed<T>> for ASN1DecodeErr {
     ghost use Rattle.simple_asn1.specs.declared.error.ASN1DecodeErr.TheVariants.{OutOfMemory};
 
@@ -103,10 +108,11 @@ pub enum ASN1EncodeErr {
     /// The second component of an object identifier is too large for the first subidentifier.
     #[error("Second value in ASN1 OID is too big.")]
     ObjectIdentVal2TooLarge,
-    /// The number of bits of a bit string does not fit its bytes.
+    /// A bit string has more bits than 8 for each of its bytes, or some bits and more than 255
+    /// unused ones.
     #[error("Bit count does not fit the bytes of the bit string")]
     BitStringLength,
-    /// A string of one octet a character holds a character past 255.
+    /// A PrintableString or IA5String, of one octet a character, holds a character past 255.
     #[error("Character does not fit one byte")]
     CharacterTooLarge,
     /// The year of a time is below 0.
@@ -117,6 +123,7 @@ pub enum ASN1EncodeErr {
     OutOfMemory,
 }
 
+/// What a copy, a text or a reserved size answers where memory runs out.
 impl From<AllocError> for ASN1EncodeErr {
     ghost use Rattle.simple_asn1.specs.declared.error.ASN1EncodeErr.TheVariants.{OutOfMemory};
 
@@ -127,6 +134,7 @@ impl From<AllocError> for ASN1EncodeErr {
     }
 }
 
+/// What a `push` and a `Box` answer, which hand back what they could not keep.
 impl<T: Drop> From<AllocFailed<T>> for ASN1EncodeErr {
     ghost use Rattle.simple_asn1.specs.declared.error.ASN1EncodeErr.TheVariants.{OutOfMemory};
 

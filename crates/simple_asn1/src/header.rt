@@ -351,8 +351,8 @@ pub(crate) fn append_header(
     append_length(size, out);
 }
 
-/// The shortest identifier octets of the tag (X.690 8.1.2, 10.1), in one allocation of their size. The only error is
-/// that memory ran out.
+/// The shortest identifier octets of the tag (X.690 8.1.2.2, 8.1.2.4.2), in one allocation of their
+/// size. The only error is that memory ran out.
 pub fn encode_tag(
     alloc: Global,
     class: ASN1Class,

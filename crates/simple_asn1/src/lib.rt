@@ -4,12 +4,18 @@
 //! writes a block as its canonical octets, and [`rewrite`] does one after the other.
 //!
 //! ```rust
-//! use simple_asn1::{ASN1Block, from_der, to_der};
+//! use simple_asn1::{ASN1Block, ASN1DecodeErr, from_der};
+//! use std::alloc::Global;
 //!
-//! let blocks = from_der(alloc, &[0x30, 0x03, 0x02, 0x01, 0x05])?;
-//! for block in &blocks {
-//!     let octets = to_der(alloc, block)?;
-//!     assert_eq!(rt; octets.as_slice(), [0x30, 0x03, 0x02, 0x01, 0x05].as_slice());
+//! // The first INTEGER of the document, where it fits an `i64`: of `04 01 FF 02 02 01 00` 256.
+//! fn first_integer(alloc: Global, octets: &[u8]) -> Result<Option<i64>, ASN1DecodeErr> {
+//!     let blocks = from_der(alloc, octets)?;
+//!     for block in &blocks {
+//!         if let ASN1Block::Integer(_, n) = block {
+//!             return Ok(n.to_i64());
+//!         }
+//!     }
+//!     Ok(None)
 //! }
 //! ```
 #![tactic(auto)]

@@ -70,12 +70,19 @@ struct Header {
 /// `Unknown` otherwise: a fault inside refuses nothing. Memory is taken for the blocks, and for the frames that are open.
 ///
 /// # Errors
-/// The first fault from the left: `EmptyBuffer`, `LengthTooLarge`, `Incomplete`; or `OutOfMemory`, which says nothing of
-/// the octets.
+/// The first fault from the left: `EmptyBuffer`, `LengthTooLarge`, `Incomplete`,
+/// `BadBooleanLength`, `InvalidBitStringLength`, `UTF8DecodeFailure`,
+/// `PrintableStringDecodeFailure`; or `OutOfMemory`, which says nothing of the octets.
 ///
 /// ```rust
-/// let blocks = from_der(alloc, &[0x04, 0x01, 0x2A])?;
-/// assert_eq!(rt; blocks.len(), 1);
+/// use simple_asn1::{ASN1DecodeErr, from_der};
+/// use std::alloc::Global;
+///
+/// // How many blocks stand one after another: in `05 00 30 03 02 01 05` two.
+/// fn block_count(alloc: Global, octets: &[u8]) -> Result<usize, ASN1DecodeErr> {
+///     let blocks = from_der(alloc, octets)?;
+///     Ok(blocks.len())
+/// }
 /// ```
 pub fn from_der(alloc: Global, i: &[u8]) -> Result<Vec<ASN1Block>, ASN1DecodeErr>
     ensures document { IfOk result (λ blocks. Document i.now (views blocks.items)) }

@@ -18,15 +18,17 @@ use crate::write::append::{append_all, append_block};
 use crate::write::measure::{measure_all, measure_block};
 use std::alloc::Global;
 
-/// The canonical octets of a block: every length definite, every length and tag in its shortest form (X.690 10.1), SETs
-/// in the order that they have.
+/// The canonical octets of a block: every length definite and in its shortest form (X.690 10.1),
+/// every tag number (X.690 8.1.2.2, 8.1.2.4.2) and integer (X.690 8.3.2) in its shortest, SETs in
+/// the order that they have.
 ///
 /// The offsets play no part. Beside the result, writing keeps a `usize` for each block, and a call on the stack for each
 /// level of nesting.
 ///
 /// # Errors
-/// The fault of the first block, in the order of the octets, that can't be written; `OutOfMemory`, also where the
-/// octets would be more than memory can hold.
+/// The fault of the first block, in the order of the octets, that can't be written:
+/// `BitStringLength` or `CharacterTooLarge`; `OutOfMemory`, also where the octets would be more
+/// than memory can hold.
 pub fn to_der(alloc: Global, i: &ASN1Block) -> Result<Vec<u8>, ASN1EncodeErr>
     ensures encoded { IfOk result (λ v. v.items ≡ canonical (view i.now)) }
     ensures writable { OnOk result (write_fault (view i.now) ≡ None) }
