@@ -56,9 +56,9 @@ fn unfaithful_blocks_are_read_as_others(rt: HostRuntime) -> Result<(), Fail> {
         text_of(alloc, &read)?.as_str(),
         "Explicit(CS, 0, 0, Integer(2, 5))"
     );
-    let item = unknown(alloc, ASN1Class::Universal, false, 5, "")?;
     let tag = BigUint::from_u64(alloc, 2)?;
-    let block = ASN1Block::Explicit(ASN1Class::Universal, 0, tag, Box::new(alloc, item)?);
+    let item = Box::new(alloc, ASN1Block::Null(0))?;
+    let block = ASN1Block::Explicit(ASN1Class::Universal, 0, tag, item);
     check_written(&rt, alloc, &block, "22 02 05 00")?;
     let read = from_der(alloc, &to_der(alloc, &block)?)?;
     assert_eq!(rt; text_of(alloc, &read)?.as_str(), "Integer(0, 1280)");
@@ -103,11 +103,19 @@ fn check_class(rt: &impl Abort, alloc: Global, input: &str, class: ASN1Class) ->
 #[test]
 fn blocks_have_classes_and_offsets(rt: HostRuntime) -> Result<(), Fail> {
     for (input, class) in [
+        ("05 00 01 01 FF", ASN1Class::Universal),
         ("05 00 02 01 05", ASN1Class::Universal),
+        ("05 00 03 03 09 FF 80", ASN1Class::Universal),
         ("05 00 04 01 05", ASN1Class::Universal),
         ("05 00 30 03 02 01 05", ASN1Class::Universal),
         ("05 00 31 03 02 01 05", ASN1Class::Universal),
         ("05 00 05 00", ASN1Class::Universal),
+        ("05 00 0C 02 C3 A9", ASN1Class::Universal),
+        ("05 00 13 00", ASN1Class::Universal),
+        ("05 00 14 02 C3 A9", ASN1Class::Universal),
+        ("05 00 16 02 C3 A9", ASN1Class::Universal),
+        ("05 00 1C 02 C3 A9", ASN1Class::Universal),
+        ("05 00 1E 02 00 41", ASN1Class::Universal),
         ("05 00 E1 02 05 00", ASN1Class::Private),
         ("05 00 60 02 05 00", ASN1Class::Application),
         ("05 00 9F 1F 00", ASN1Class::ContextSpecific),
@@ -142,10 +150,23 @@ fn check_equality(rt: &impl Abort, alloc: Global, input: &str, other: &str) -> R
 #[test]
 fn equality_ignores_offsets(rt: HostRuntime) -> Result<(), Fail> {
     let inputs = [
+        "01 01 00",
+        "01 01 FF",
         "02 01 05",
         "02 01 06",
+        "03 00",
+        "03 02 08 FF",
+        "03 03 09 FF 80",
         "04 01 05",
         "05 00",
+        "0C 02 C3 A9",
+        "0C 02 00 41",
+        "13 00",
+        "14 02 C3 A9",
+        "16 02 C3 A9",
+        "1C 02 C3 A9",
+        "1E 02 C3 A9",
+        "1E 02 00 41",
         "30 03 02 01 05",
         "31 03 02 01 05",
         "30 06 02 01 05 02 01 05",
@@ -183,7 +204,14 @@ fn check_clones(rt: &impl Abort, alloc: Global, input: &str) -> Result<(), Fail>
 fn clones_keep_offsets(rt: HostRuntime) -> Result<(), Fail> {
     for input in [
         "02 01 05",
+        "03 03 09 FF 80",
         "04 01 05",
+        "0C 02 C3 A9",
+        "13 00",
+        "14 02 C3 A9",
+        "16 02 C3 A9",
+        "1C 02 C3 A9",
+        "1E 02 00 41",
         "30 06 02 01 01 04 01 02",
         "31 05 01 01 00 05 00",
         "A0 08 30 06 A1 04 30 02 02 05",

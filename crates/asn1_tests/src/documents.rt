@@ -6,7 +6,7 @@ use std::process::Abort;
 use std::test::Fail;
 
 // Reads the input to the blocks.
-fn check_read(rt: &impl Abort, alloc: Global, input: &str, blocks: &str) -> Result<(), Fail> {
+pub fn check_read(rt: &impl Abort, alloc: Global, input: &str, blocks: &str) -> Result<(), Fail> {
     match from_der(alloc, &octets(alloc, input)?) {
         Ok(read) => assert_eq!(rt; text_of(alloc, &read)?.as_str(), blocks, "{input}"),
         Err(e) => assert!(rt; false, "{input}: {e}"),
@@ -34,7 +34,7 @@ fn leaves_and_groups_are_read(rt: HostRuntime) -> Result<(), Fail> {
             "OctetString(0, []), Unknown(Universal, false, 2, 0, [])",
         ),
         ("04 88 00 00 00 00 00 00 00 01 05", "OctetString(0, [05])"),
-        ("05 00", "Unknown(Universal, false, 0, 5, [])"),
+        ("05 00", "Null(0)"),
         ("9F 80 1F 00", "Unknown(CS, false, 0, 31, [])"),
         (
             "30 06 02 01 01 04 01 02",
@@ -42,7 +42,7 @@ fn leaves_and_groups_are_read(rt: HostRuntime) -> Result<(), Fail> {
         ),
         (
             "31 05 01 01 00 05 00",
-            "Set(0, [Unknown(Universal, false, 2, 1, [00]), Unknown(Universal, false, 5, 5, [])])",
+            "Set(0, [Boolean(2, false), Null(5)])",
         ),
     ] {
         check_read(&rt, rt.alloc(), input, blocks)?;
@@ -62,17 +62,11 @@ fn attempts_are_read(rt: HostRuntime) -> Result<(), Fail> {
         ("A0 00", "Unknown(CS, true, 0, 0, [])"),
         ("A0 02 30 00", "Unknown(CS, true, 0, 0, [30 00])"),
         ("A0 03 30 81 00", "Unknown(CS, true, 0, 0, [30 81 00])"),
-        (
-            "BF 1F 02 05 00",
-            "Explicit(CS, 0, 31, Unknown(Universal, false, 3, 5, []))",
-        ),
-        (
-            "60 02 05 00",
-            "Explicit(Application, 0, 0, Unknown(Universal, false, 2, 5, []))",
-        ),
+        ("BF 1F 02 05 00", "Explicit(CS, 0, 31, Null(3))"),
+        ("60 02 05 00", "Explicit(Application, 0, 0, Null(2))"),
         (
             "E1 04 A0 02 05 00",
-            "Explicit(Private, 0, 1, Explicit(CS, 2, 0, Unknown(Universal, false, 4, 5, [])))",
+            "Explicit(Private, 0, 1, Explicit(CS, 2, 0, Null(4)))",
         ),
         (
             "30 04 A0 02 02 05",
@@ -114,7 +108,7 @@ fn headers_are_counted(rt: HostRuntime) -> Result<(), Fail> {
         ),
         (
             "A0 04 30 02 02 05 05 00",
-            "Unknown(CS, true, 0, 0, [30 02 02 05]), Unknown(Universal, false, 6, 5, [])",
+            "Unknown(CS, true, 0, 0, [30 02 02 05]), Null(6)",
             4,
         ),
     ] {
@@ -124,7 +118,7 @@ fn headers_are_counted(rt: HostRuntime) -> Result<(), Fail> {
 }
 
 // Neither reads nor rewrites the input.
-fn check_refused(
+pub fn check_refused(
     rt: &impl Abort,
     alloc: Global,
     input: &str,
@@ -217,7 +211,12 @@ fn fronts_are_refused(rt: HostRuntime) -> Result<(), Fail> {
 }
 
 // Rewrites the input to these octets.
-fn check_rewritten(rt: &impl Abort, alloc: Global, input: &str, written: &str) -> Result<(), Fail> {
+pub fn check_rewritten(
+    rt: &impl Abort,
+    alloc: Global,
+    input: &str,
+    written: &str,
+) -> Result<(), Fail> {
     let rewritten = rewrite(alloc, &octets(alloc, input)?)?;
     assert_eq!(rt; hex_of(alloc, &rewritten)?.as_str(), written, "{input}");
     Ok(())

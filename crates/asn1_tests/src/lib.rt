@@ -11,6 +11,8 @@ mod errors;
 #[cfg(test)]
 mod headers;
 #[cfg(test)]
+mod leaves;
+#[cfg(test)]
 mod nesting;
 #[cfg(test)]
 mod notation;

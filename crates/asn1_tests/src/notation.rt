@@ -41,9 +41,46 @@ fn class_text(class: ASN1Class) -> &'static str {
     }
 }
 
+fn write_bit_string(
+    out: &mut String,
+    offset: usize,
+    bits: usize,
+    octets: &[u8],
+) -> Result<(), Fail> {
+    write!(out, "BitString({offset}, {bits}, [")?;
+    write_octets(out, octets)?;
+    out.push_str("])")?;
+    Ok(())
+}
+
+// The characters are in brackets, each as U+ and its number in hex.
+fn write_text(out: &mut String, name: &str, offset: usize, text: &str) -> Result<(), Fail> {
+    write!(out, "{name}({offset}, [")?;
+    let mut is_first = true;
+    for c in text.chars() {
+        if !is_first {
+            out.push_str(" ")?;
+        }
+        let number = c as u32;
+        write!(out, "U+{number:04X}")?;
+        is_first = false;
+    }
+    out.push_str("])")?;
+    Ok(())
+}
+
 #[cycle(write)]
 fn write_block(out: &mut String, block: &ASN1Block) -> Result<(), Fail> {
     match block {
+        ASN1Block::Boolean(offset, value) => write!(out, "Boolean({offset}, {value})")?,
+        ASN1Block::BitString(offset, bits, v) => write_bit_string(out, *offset, *bits, v)?,
+        ASN1Block::Null(offset) => write!(out, "Null({offset})")?,
+        ASN1Block::UTF8String(offset, s) => write_text(out, "UTF8String", *offset, s)?,
+        ASN1Block::PrintableString(offset, s) => write_text(out, "PrintableString", *offset, s)?,
+        ASN1Block::TeletexString(offset, s) => write_text(out, "TeletexString", *offset, s)?,
+        ASN1Block::IA5String(offset, s) => write_text(out, "IA5String", *offset, s)?,
+        ASN1Block::UniversalString(offset, s) => write_text(out, "UniversalString", *offset, s)?,
+        ASN1Block::BMPString(offset, s) => write_text(out, "BMPString", *offset, s)?,
         ASN1Block::Integer(offset, n) => {
             write!(
                 out,
