@@ -173,9 +173,8 @@ fn take_turn(
     if index == inner.end {
         return close(alloc, octets, inner, outer);
     }
-    let place = index - inner.start;
     let contents = &octets[inner.start..inner.end];
-    let header = match header_at(alloc, contents, place, count) {
+    let header = match header_at(alloc, contents, index - inner.start, count) {
         Ok(header) => header,
         Err(e) => {
             return match e {
@@ -195,14 +194,13 @@ fn take_turn(
     let end = inner.start + end;
     if is_read_inside(class, constructed, &tag) {
         let kind = frame_kind(class, tag, index);
-        let blocks = Vec::new(alloc);
         outer.push(inner)?;
         return Ok(Turn::Continues(Reader {
             inner: OpenFrame {
                 kind,
                 start,
                 end,
-                blocks,
+                blocks: Vec::new(alloc),
             },
             outer,
             index: start,

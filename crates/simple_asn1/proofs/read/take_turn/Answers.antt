@@ -12,8 +12,8 @@ use Rattle.simple_asn1.proofs.ReadSteps.{slice_length}
 use Rattle.simple_asn1.proofs.FrameSteps.{reading_places, reading_room, header_read, nearer_refused, opened_open, turned_put, reverse_push, turned_memory, header_stopping, leaf_stopping, leaf_follows, headed_by, fault_here}
 use Rattle.simple_asn1.proofs.read.take_turn.Goals as goal
 
-pub overflow_sub-place : goal.overflow_sub-place
-overflow_sub-place c = (reading_places c.args.octets.now c.args.reader c.args.count.now c.requires.opened.0 c.requires.opened.1).from
+pub overflow_sub-index : goal.overflow_sub-index
+overflow_sub-index c = (reading_places c.args.octets.now c.args.reader c.args.count.now c.requires.opened.0 c.requires.opened.1).from
 
 pub slice_bounds-contents-count : goal.slice_bounds-contents-count
 slice_bounds-contents-count c =
@@ -91,8 +91,8 @@ returns-then-is_read_inside-clause-turned c base r =
     let kind = c.frame_kind-kind.result in
     let headed : Headed octets kind c.args.reader.index (f.start + h.start) (f.start + h.end) = headed_by octets kind c.args.reader.index (f.start + h.start) (f.start + h.end) h.class h.constructed h.tag c.frame_kind-kind.ensures inside F.encoding in
     let items : c.push.new.self.items ≡ c.args.reader.outer.items ++ f ∷ [] = c.in_ok-push.ensures.items in
-    let g : OpenFrame = record { kind = kind; start = f.start + h.start; end = f.start + h.end; blocks = c.new-blocks.result } in
-    let o = opened_open octets f g (reverse c.args.reader.outer.items) c.args.reader.index r.0 c.new-blocks.ensures.items headed F.past F.order F.fits r.2 in
+    let g : OpenFrame = record { kind = kind; start = f.start + h.start; end = f.start + h.end; blocks = c.new.result } in
+    let o = opened_open octets f g (reverse c.args.reader.outer.items) c.args.reader.index r.0 c.new.ensures.items headed F.past F.order F.fits r.2 in
     (r.0 + 1, omega (arith, r.1, c.in-Ok.ensures.counted), subst (λ z. Opened octets g z (f.start + h.start) (r.0 + 1)) (sym (reverse_push c.push.new.self.items c.args.reader.outer.items f items)) o)
 
 -- contents of a leaf, or that stay as they came
