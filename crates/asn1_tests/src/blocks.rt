@@ -46,23 +46,41 @@ fn blocks_are_written(rt: HostRuntime) -> Result<(), Fail> {
     check_written(&rt, alloc, &known_tag, "02 01 05")
 }
 
+// The block is written as these octets, which are read as these blocks.
+pub fn check_back(
+    rt: &impl Abort,
+    alloc: Global,
+    block: &ASN1Block,
+    written: &str,
+    blocks: &str,
+) -> Result<(), Fail> {
+    let octets = to_der(alloc, block)?;
+    assert_eq!(rt; hex_of(alloc, &octets)?.as_str(), written);
+    let read = from_der(alloc, &octets)?;
+    assert_eq!(rt; text_of(alloc, &read)?.as_str(), blocks);
+    Ok(())
+}
+
 #[test]
-fn unfaithful_blocks_are_read_as_others(rt: HostRuntime) -> Result<(), Fail> {
+fn an_unknown_of_one_block_is_read_as_explicit(rt: HostRuntime) -> Result<(), Fail> {
     let alloc = rt.alloc();
     let block = unknown(alloc, ASN1Class::ContextSpecific, true, 0, "02 01 05")?;
-    check_written(&rt, alloc, &block, "A0 03 02 01 05")?;
-    let read = from_der(alloc, &to_der(alloc, &block)?)?;
-    assert_eq!(rt;
-        text_of(alloc, &read)?.as_str(),
-        "Explicit(CS, 0, 0, Integer(2, 5))"
-    );
+    check_back(
+        &rt,
+        alloc,
+        &block,
+        "A0 03 02 01 05",
+        "Explicit(CS, 0, 0, Integer(2, 5))",
+    )
+}
+
+#[test]
+fn an_explicit_of_class_universal_is_read_by_its_tag(rt: HostRuntime) -> Result<(), Fail> {
+    let alloc = rt.alloc();
     let tag = BigUint::from_u64(alloc, 2)?;
     let item = Box::new(alloc, ASN1Block::Null(0))?;
     let block = ASN1Block::Explicit(ASN1Class::Universal, 0, tag, item);
-    check_written(&rt, alloc, &block, "22 02 05 00")?;
-    let read = from_der(alloc, &to_der(alloc, &block)?)?;
-    assert_eq!(rt; text_of(alloc, &read)?.as_str(), "Integer(0, 1280)");
-    Ok(())
+    check_back(&rt, alloc, &block, "22 02 05 00", "Integer(0, 1280)")
 }
 
 // Zero octets of this size are written with this header.

@@ -1,6 +1,7 @@
 // Blocks without blocks inside: read, refused and written.
+use crate::blocks::check_back;
 use crate::documents::{check_read, check_refused, check_rewritten};
-use crate::notation::{hex_of, octets, text_of};
+use crate::notation::{hex_of, octets};
 use simple_asn1::{ASN1Block, ASN1DecodeErr, ASN1EncodeErr, from_der, to_der};
 use std::alloc::Global;
 use std::process::Abort;
@@ -110,21 +111,6 @@ fn pair(alloc: Global, first: ASN1Block, second: ASN1Block) -> Result<ASN1Block,
     items.push(first)?;
     items.push(second)?;
     Ok(ASN1Block::Sequence(0, items))
-}
-
-// The block is written as these octets, which are read as these blocks.
-fn check_back(
-    rt: &impl Abort,
-    alloc: Global,
-    block: &ASN1Block,
-    written: &str,
-    blocks: &str,
-) -> Result<(), Fail> {
-    let octets = to_der(alloc, block)?;
-    assert_eq!(rt; hex_of(alloc, &octets)?.as_str(), written);
-    let read = from_der(alloc, &octets)?;
-    assert_eq!(rt; text_of(alloc, &read)?.as_str(), blocks);
-    Ok(())
 }
 
 #[test]
