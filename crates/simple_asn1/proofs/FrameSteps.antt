@@ -284,6 +284,14 @@ turned_memory (Err x) octets count base e h = inl (e.1, h)
 pub follows_as : (octets : List ℕ) (g : OpenFrame) (p q : ℕ) (a b : Tree ℕ) (n : ℕ) → b ≡ a → Follows octets g p q a n → Follows octets g p q b n
 follows_as octets g p q a b n e w = subst (λ z. Follows octets g p q z n) (sym e) w
 
+-- the innermost of the frames around a fault was popped
+pub stopping_popped : (octets : List ℕ) (f g : OpenFrame) (before after : List OpenFrame) (e : DecodeFault) (n : ℕ) → before ≡ after ++ g ∷ [] → Stopping octets f (reverse before) e n → Stopping octets f (g ∷ reverse after) e n
+stopping_popped octets f g before after e n is w = subst (λ z. Stopping octets f z e n) (reverse_push before after g is) w
+
+-- there are none around it
+pub stopping_alone : (octets : List ℕ) (f : OpenFrame) (before : List OpenFrame) (e : DecodeFault) (n : ℕ) → length before ≡ 0 → Stopping octets f (reverse before) e n → Stopping octets f [] e n
+stopping_alone octets f before e n none w = subst (λ z. Stopping octets f z e n) (reverse_none before none) w
+
 -- where a fault is
 pub stopping_places : (octets : List ℕ) (f : OpenFrame) (gs : List OpenFrame) (e : DecodeFault) (n : ℕ) → Stopping octets f gs e n → (f.start ≤ f.end) × (f.end ≤ length octets) × (n ≤ length octets)
 stopping_places octets f gs e n w =

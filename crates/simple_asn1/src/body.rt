@@ -34,10 +34,9 @@ pub(crate) fn leaf_block(
     ensures refused { IfErr result (OutOfMemoryOr (λ e. (class ≡ Universal) × ContentsFault tag contents.now e)) }
 {
     match class {
-        ASN1Class::Universal => match universal_leaf(alloc, &tag, contents, offset) {
-            Ok(Some(block)) => Ok(block),
-            Ok(None) => unknown_block(alloc, class, constructed, tag, contents, offset),
-            Err(e) => Err(e),
+        ASN1Class::Universal => match universal_leaf(alloc, &tag, contents, offset)? {
+            Some(block) => Ok(block),
+            None => unknown_block(alloc, class, constructed, tag, contents, offset),
         },
         _ => unknown_block(alloc, class, constructed, tag, contents, offset),
     }

@@ -91,10 +91,8 @@ fn tag_at(
         let n = BigUint::from_u64(alloc, low as u64)?;
         return Ok(((n, constructed, class), 1));
     }
-    match base128_at(alloc, rest) {
-        Ok((n, size)) => Ok(((n, constructed, class), 1 + size)),
-        Err(e) => Err(e),
-    }
+    let (n, size) = base128_at(alloc, rest)?;
+    Ok(((n, constructed, class), 1 + size))
 }
 
 /// Reads identifier octets (X.690 8.1.2) at `index`, and moves the index past them. Adds one to the count, whatever the
@@ -123,13 +121,9 @@ pub fn decode_tag(
         return Err(ASN1DecodeErr::Incomplete);
     }
     let (_, rest) = i.split_at(*index);
-    match tag_at(alloc, rest) {
-        Ok((tag, size)) => {
-            *index += size;
-            Ok(tag)
-        }
-        Err(e) => Err(e),
-    }
+    let (tag, size) = tag_at(alloc, rest)?;
+    *index += size;
+    Ok(tag)
 }
 
 /// Reads a base-128 number (X.690 8.1.2.4.2) at `index`, and moves the index past it. Leading octets 80 are read.
@@ -147,13 +141,9 @@ pub fn decode_base127(alloc: Global, i: &[u8], index: &mut usize) -> Result<BigU
         return Err(ASN1DecodeErr::Incomplete);
     }
     let (_, rest) = i.split_at(*index);
-    match base128_at(alloc, rest) {
-        Ok((n, size)) => {
-            *index += size;
-            Ok(n)
-        }
-        Err(e) => Err(e),
-    }
+    let (n, size) = base128_at(alloc, rest)?;
+    *index += size;
+    Ok(n)
 }
 
 // The number of the octets, the first of them the most significant.
@@ -208,13 +198,9 @@ pub fn decode_length(i: &[u8], index: &mut usize) -> Result<usize, ASN1DecodeErr
         return Err(ASN1DecodeErr::Incomplete);
     }
     let (_, rest) = i.split_at(*index);
-    match length_at(rest) {
-        Ok((n, size)) => {
-            *index += size;
-            Ok(n)
-        }
-        Err(e) => Err(e),
-    }
+    let (n, size) = length_at(rest)?;
+    *index += size;
+    Ok(n)
 }
 
 // The class of a leading octet.

@@ -144,10 +144,9 @@ fn read_blocks(
         index: 0,
     };
     loop {
-        match take_turn(alloc, i, reader, count) {
-            Ok(Turn::Continues(next)) => reader = next,
-            Ok(Turn::Ends(blocks)) => return Ok(blocks),
-            Err(e) => return Err(e),
+        match take_turn(alloc, i, reader, count)? {
+            Turn::Continues(next) => reader = next,
+            Turn::Ends(blocks) => return Ok(blocks),
         }
     }
 }
@@ -253,14 +252,8 @@ fn header_at(
     ensures counted { count.new ≡ count.old + 1 }
 {
     let mut index = place;
-    let (tag, constructed, class) = match decode_tag(alloc, contents, &mut index, count) {
-        Ok(found) => found,
-        Err(e) => return Err(e),
-    };
-    let len = match decode_length(contents, &mut index) {
-        Ok(len) => len,
-        Err(e) => return Err(e),
-    };
+    let (tag, constructed, class) = decode_tag(alloc, contents, &mut index, count)?;
+    let len = decode_length(contents, &mut index)?;
     let Some(end) = index.checked_add(len) else {
         return Err(ASN1DecodeErr::LengthTooLarge(len));
     };
@@ -323,10 +316,8 @@ fn close(
             put(parent, outer, end, group_block(group, offset, blocks))
         }
         FrameKind::Attempt(class, offset, tag) => {
-            match attempt_block(alloc, class, offset, tag, blocks, &octets[start..end]) {
-                Ok(block) => put(parent, outer, end, block),
-                Err(e) => Err(e),
-            }
+            let block = attempt_block(alloc, class, offset, tag, blocks, &octets[start..end])?;
+            put(parent, outer, end, block)
         }
     }
 }

@@ -52,10 +52,7 @@ pub fn rewrite(alloc: Global, i: &[u8]) -> Result<Vec<u8>, ASN1DecodeErr>
     ensures accepts { (bs : Trees ℕ) → Document i.now bs → MatchResult result (λ v. v.items ≡ all_canonical bs) (λ e. e ≡ no_memory) }
     ensures refuses { (fault : DecodeFault) → FirstFault i.now fault → IsErrAnd result (OutOfMemoryOr (λ e. e ≡ fault)) }
 {
-    let blocks = match from_der(alloc, i) {
-        Ok(blocks) => blocks,
-        Err(e) => return Err(e),
-    };
+    let blocks = from_der(alloc, i)?;
     let mut lengths = Vec::new(alloc);
     let size = match measure_all(&blocks, &mut lengths) {
         Ok(size) => size,

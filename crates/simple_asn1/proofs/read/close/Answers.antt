@@ -1,5 +1,6 @@
 use Rattle.std.proofs.Common.{◌≡◌, ◌+◌, ◌<◌, inl, length, reverse, subst, arith}
 use Rattle.std.proofs.lemmas.Grind.{common_steps}
+use Rattle.std.proofs.lemmas.Result.{err_from_is_err_and}
 use Rattle.simple_asn1.specs.View.{view}
 use Rattle.simple_asn1.specs.OpenFrames.{Opened}
 use Rattle.simple_asn1.proofs.FrameSteps.{opened_places, opened_bound, close_group, close_empty, close_attempt, turned_put, reverse_push, follows_as}
@@ -25,13 +26,14 @@ returns-else-len-eq0-clause-turned c n base o =
     let k = close_group c.args.octets.now c.args.inner c.in-Some.parent (reverse c.pop.new.self.items) n c.in-Group.offset c.in-Group.group c.in-Group.is l (subst (λ z. Opened c.args.octets.now c.args.inner z c.args.inner.end n) r o) in
     turned_put c.put.result c.args.octets.now c.in-Some.parent c.pop.new.self.items c.in-Group.offset c.args.inner.end k.before k.own (base + n) base _ c.put.ensures k.opened (follows_as c.args.octets.now c.in-Some.parent c.in-Group.offset c.args.inner.end _ _ k.own c.group_block.ensures k.follows) (omega (arith, k.total))
 
-pub returns-in-Ok-clause-turned : goal.returns-in-Ok-clause-turned
-returns-in-Ok-clause-turned c n base o =
+pub returns-in_ok-block-in-Attempt-clause-turned : goal.returns-in_ok-block-in-Attempt-clause-turned
+returns-in_ok-block-in-Attempt-clause-turned c n base o =
     let r = reverse_push c.args.outer.items c.pop.new.self.items c.in-Some.parent c.in-Some.ensures.items in
-    let k = close_attempt c.args.octets.now c.args.inner c.in-Some.parent (reverse c.pop.new.self.items) n c.in-Attempt.class c.in-Attempt.offset c.in-Attempt.tag (view c.in-Ok.block) c.in-Attempt.is c.in-Ok.ensures.encoded (subst (λ z. Opened c.args.octets.now c.args.inner z c.args.inner.end n) r o) in
-    turned_put c.put-in-Ok.result c.args.octets.now c.in-Some.parent c.pop.new.self.items c.in-Attempt.offset c.args.inner.end k.before k.own (base + n) base _ c.put-in-Ok.ensures k.opened k.follows (omega (arith, k.total))
+    let k = close_attempt c.args.octets.now c.args.inner c.in-Some.parent (reverse c.pop.new.self.items) n c.in-Attempt.class c.in-Attempt.offset c.in-Attempt.tag (view c.in_ok-block-in-Attempt.block) c.in-Attempt.is c.in_ok-block-in-Attempt.ensures.encoded (subst (λ z. Opened c.args.octets.now c.args.inner z c.args.inner.end n) r o) in
+    turned_put c.put-in-Attempt.result c.args.octets.now c.in-Some.parent c.pop.new.self.items c.in-Attempt.offset c.args.inner.end k.before k.own (base + n) base _ c.put-in-Attempt.ensures k.opened k.follows (omega (arith, k.total))
 
-pub returns-in-Err-clause-turned : goal.returns-in-Err-clause-turned
-returns-in-Err-clause-turned c n base o =
+pub returns-in_err-block-in-Attempt-clause-turned : goal.returns-in_err-block-in-Attempt-clause-turned
+returns-in_err-block-in-Attempt-clause-turned c n base o =
+    let p = err_from_is_err_and c.from_residual.result c.from_residual.ensures.1 in
     let v = opened_places c.args.octets.now c.args.inner (reverse c.args.outer.items) c.args.inner.end n o in
-    inl (c.in-Err.ensures.refused, omega (arith, opened_bound c.args.octets.now c.args.inner (reverse c.args.outer.items) c.args.inner.end n o, v.within))
+    rw (p.1, p.2) (inl (c.in_err-block-in-Attempt.ensures.refused, omega (arith, opened_bound c.args.octets.now c.args.inner (reverse c.args.outer.items) c.args.inner.end n o, v.within)))

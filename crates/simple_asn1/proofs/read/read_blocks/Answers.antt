@@ -1,4 +1,5 @@
 use Rattle.std.proofs.Common.{◌≡◌, ℕ, ◌+◌, [], inl, inr, length, reverse, Ok, Err, refl, sym, ap, ◌∙◌, subst, arith}
+use Rattle.std.proofs.lemmas.Result.{err_from_is_err_and}
 use Rattle.std.specs.List.{slice_range}
 use Rattle.simple_asn1.specs.declared.read.FrameKind.TheVariants.{Whole}
 use Rattle.simple_asn1.specs.declared.read.OpenFrame.{OpenFrame}
@@ -31,30 +32,34 @@ take_turn-requires-clause-room c =
 
 pub loop-next-preserved : goal.loop-next-preserved
 loop-next-preserved c =
-    subst (λ t. Turned c.args.i.now t c.take_turn.new.count c.args.count.now) (c.in-Ok-Continues.is ∙ ap Ok c.in-Ok-Continues.field-0-is) (c.take_turn.ensures.turned c.args.count.now c.loop-next.invariant)
+    subst (λ t. Turned c.args.i.now t c.take_turn.new.count c.args.count.now) (c.in_ok-next.was ∙ ap Ok c.in-Continues.is) (c.take_turn.ensures.turned c.args.count.now c.loop-next.invariant)
 
 -- the end of the document
-ended : (c : goal.In-Ok-Ends) → EncodesAll 0 c.args.i.now (views c.in-Ok-Ends.blocks.items) × (n : ℕ) × (c.take_turn.new.count ≡ c.args.count.now + n) × HeadersBegun c.args.i.now n
+ended : (c : goal.In-Ends) → EncodesAll 0 c.args.i.now (views c.in-Ends.blocks.items) × (n : ℕ) × (c.take_turn.new.count ≡ c.args.count.now + n) × HeadersBegun c.args.i.now n
 ended c =
-    subst (λ t. Turned c.args.i.now t c.take_turn.new.count c.args.count.now) (c.in-Ok-Ends.is ∙ ap Ok c.in-Ok-Ends.field-0-is) (c.take_turn.ensures.turned c.args.count.now c.loop-next.invariant)
+    subst (λ t. Turned c.args.i.now t c.take_turn.new.count c.args.count.now) (c.in_ok-next.was ∙ ap Ok c.in-Ends.is) (c.take_turn.ensures.turned c.args.count.now c.loop-next.invariant)
 
-pub returns-in-Ok-Ends-clause-document : goal.returns-in-Ok-Ends-clause-document
-returns-in-Ok-Ends-clause-document c = record { some = omega (arith, c.if-i-eq0.false); blocks = (ended c).0 }
+pub returns-in-Ends-clause-document : goal.returns-in-Ends-clause-document
+returns-in-Ends-clause-document c = record { some = omega (arith, c.if-i-eq0.false); blocks = (ended c).0 }
 
-pub returns-in-Ok-Ends-clause-counted : goal.returns-in-Ok-Ends-clause-counted
-returns-in-Ok-Ends-clause-counted c = ((ended c).1, (ended c).3, (ended c).2)
+pub returns-in-Ends-clause-counted : goal.returns-in-Ends-clause-counted
+returns-in-Ends-clause-counted c = ((ended c).1, (ended c).3, (ended c).2)
 
-pub returns-in-Ok-Ends-clause-bounded : goal.returns-in-Ok-Ends-clause-bounded
-returns-in-Ok-Ends-clause-bounded c = omega (arith, (ended c).2, begun_le c.args.i.now (ended c).1 (ended c).3)
+pub returns-in-Ends-clause-bounded : goal.returns-in-Ends-clause-bounded
+returns-in-Ends-clause-bounded c = omega (arith, (ended c).2, begun_le c.args.i.now (ended c).1 (ended c).3)
 
-failed : (c : goal.In-Err) → Turned c.args.i.now (Err c.in-Err.e) c.take_turn.new.count c.args.count.now
-failed c = subst (λ t. Turned c.args.i.now t c.take_turn.new.count c.args.count.now) c.in-Err.is (c.take_turn.ensures.turned c.args.count.now c.loop-next.invariant)
+failed : (c : goal.After-from_residual) → Turned c.args.i.now (Err c.in_err-next.field-0.0) c.take_turn.new.count c.args.count.now
+failed c = subst (λ t. Turned c.args.i.now t c.take_turn.new.count c.args.count.now) c.in_err-next.was (c.take_turn.ensures.turned c.args.count.now c.loop-next.invariant)
 
-pub returns-in-Err-clause-refused : goal.returns-in-Err-clause-refused
-returns-in-Err-clause-refused c = elim (failed c) [ inl m ↦ inl m.0 | inr r ↦ inr (inr r.0) ]
+pub returns-in_err-next-clause-refused : goal.returns-in_err-next-clause-refused
+returns-in_err-next-clause-refused c =
+    let p = err_from_is_err_and c.from_residual.result c.from_residual.ensures.1 in
+    rw (p.1, p.2) (elim (failed c) [ inl m ↦ inl m.0 | inr r ↦ inr (inr r.0) ])
 
-pub returns-in-Err-clause-counted : goal.returns-in-Err-clause-counted
-returns-in-Err-clause-counted c = elim (failed c) [ inl m ↦ inl m.0 | inr r ↦ inr (r.1, r.3, r.2) ]
+pub returns-in_err-next-clause-counted : goal.returns-in_err-next-clause-counted
+returns-in_err-next-clause-counted c =
+    let p = err_from_is_err_and c.from_residual.result c.from_residual.ensures.1 in
+    rw (p.1, p.2) (elim (failed c) [ inl m ↦ inl m.0 | inr r ↦ inr (r.1, r.3, r.2) ])
 
-pub returns-in-Err-clause-bounded : goal.returns-in-Err-clause-bounded
-returns-in-Err-clause-bounded c = elim (failed c) [ inl m ↦ m.1 | inr r ↦ omega (arith, r.2, begun_le c.args.i.now r.1 r.3) ]
+pub returns-in_err-next-clause-bounded : goal.returns-in_err-next-clause-bounded
+returns-in_err-next-clause-bounded c = elim (failed c) [ inl m ↦ m.1 | inr r ↦ omega (arith, r.2, begun_le c.args.i.now r.1 r.3) ]

@@ -6,8 +6,8 @@ use Rattle.simple_asn1.proofs.write.rewrite.Goals as goal
 
 pub unreachable-requires : goal.unreachable-requires
 unreachable-requires c =
-    let w = document_writable c.args.i.now (views c.in-Ok.blocks.items) (All-from_get_or (λ b. b < 256) c.args.i.now 0 (λ k h. omega (arith, c.type_inv.i k))) c.in-Ok.ensures.document in
-    elim c.in-Err-measure_all.ensures.refused [
+    let w = document_writable c.args.i.now (views c.in_ok-blocks.blocks.items) (All-from_get_or (λ b. b < 256) c.args.i.now 0 (λ k h. omega (arith, c.type_inv.i k))) c.in_ok-blocks.ensures.document in
+    elim c.in-Err.ensures.refused [
       | inl memory ↦ c.in_default.not-OutOfMemory memory
-      | inr fault ↦ let e : None ≡ Some c.in-Err-measure_all.e = sym w ∙ fault in cc
+      | inr fault ↦ let e : None ≡ Some c.in-Err.e = sym w ∙ fault in cc
     ]
