@@ -259,7 +259,7 @@ turned_put (Ok (Continues r)) octets f gs p q n m count base b u o w e =
 turned_put (Ok (Ends v)) octets f gs p q n m count base b u o w e = absurd u
 turned_put (Err x) octets f gs p q n m count base b u o w e =
     let v = opened_places octets f (reverse gs) p n o in
-    inl (u, omega (arith, e, opened_bound octets f (reverse gs) p n o, begun_le (slice_range octets p q) m w.begun, slice_length octets p q (omega (arith, w.from)) (omega (arith, w.to, v.within)), w.to, w.from, v.within))
+    inl (u, omega (arith, e), omega (arith, e, opened_bound octets f (reverse gs) p n o, begun_le (slice_range octets p q) m w.begun, slice_length octets p q (omega (arith, w.from)) (omega (arith, w.to, v.within)), w.to, w.from, v.within))
 
 -- what a push or a pop does to the frames from the innermost out
 pub reverse_push : {X : Type 0} (old new : List X) (x : X) → old ≡ new ++ x ∷ [] → reverse old ≡ x ∷ reverse new
@@ -276,9 +276,9 @@ nearer_more (Ok (Ends v)) size a b h n = tt
 nearer_more (Err e) size a b h n = tt
 
 -- memory ran out
-pub turned_memory : (t : Result Turn ASN1DecodeErr) (octets : List ℕ) (count base : ℕ) → IsErr t × IsErrAnd t (λ e. e ≡ OutOfMemory) → count ≤ base + length octets → Turned octets t count base
-turned_memory (Ok x) octets count base e h = absurd e.1
-turned_memory (Err x) octets count base e h = inl (e.1, h)
+pub turned_memory : (t : Result Turn ASN1DecodeErr) (octets : List ℕ) (count base : ℕ) → IsErr t × IsErrAnd t (λ e. e ≡ OutOfMemory) → base ≤ count → count ≤ base + length octets → Turned octets t count base
+turned_memory (Ok x) octets count base e g h = absurd e.1
+turned_memory (Err x) octets count base e g h = inl (e.1, g, h)
 
 -- the same block
 pub follows_as : (octets : List ℕ) (g : OpenFrame) (p q : ℕ) (a b : Tree ℕ) (n : ℕ) → b ≡ a → Follows octets g p q a n → Follows octets g p q b n

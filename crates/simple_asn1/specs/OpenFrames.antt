@@ -71,7 +71,7 @@ abbrev pub Turned : List ℕ → Result Turn ASN1DecodeErr → ℕ → ℕ → T
 Turned octets (Ok (Continues r)) count base = Reading octets r count base
 Turned octets (Ok (Ends v)) count base = EncodesAll 0 octets (views v.items) × (n : ℕ) × (count ≡ base + n) × HeadersBegun octets n
 Turned octets (Err e) count base =
-    ((e ≡ OutOfMemory) × (count ≤ base + length octets)) ⊎ (BlocksFault octets (fault_of e) × (n : ℕ) × (count ≡ base + n) × HeadersBegun octets n)
+    ((e ≡ OutOfMemory) × (base ≤ count) × (count ≤ base + length octets)) ⊎ (BlocksFault octets (fault_of e) × (n : ℕ) × (count ≡ base + n) × HeadersBegun octets n)
 
 -- how much is left to do: each turn goes on in the octets, or closes a frame
 abbrev pub left : ℕ → ℕ → List OpenFrame → ℕ

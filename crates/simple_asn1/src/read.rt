@@ -113,6 +113,7 @@ pub fn from_der_counted(
     ensures refuses { (fault : DecodeFault) → FirstFault i.now fault → IsErrAnd result (OutOfMemoryOr (λ e. e ≡ fault)) }
 
     ensures counted { UnlessOutOfMemory result ((n : ℕ) × HeadersBegun i.now n × (count.new ≡ count.old + n)) }
+    ensures grown { count.old ≤ count.new }
     ensures bounded { count.new ≤ count.old + length i.now }
 {
     read_blocks(alloc, i, count)
@@ -127,6 +128,7 @@ fn read_blocks(
     ensures document { IfOk result (λ blocks. Document i.now (views blocks.items)) }
     ensures refused { IfErr result (OutOfMemoryOr (FirstFault i.now)) }
     ensures counted { UnlessOutOfMemory result ((n : ℕ) × HeadersBegun i.now n × (count.new ≡ count.old + n)) }
+    ensures grown { count.old ≤ count.new }
     ensures bounded { count.new ≤ count.old + length i.now }
 {
     if i.len() == 0 {

@@ -36,4 +36,4 @@ pub returns-in_err-block-in-Attempt-clause-turned : goal.returns-in_err-block-in
 returns-in_err-block-in-Attempt-clause-turned c n base o =
     let p = err_from_is_err_and c.from_residual.result c.from_residual.ensures.1 in
     let v = opened_places c.args.octets.now c.args.inner (reverse c.args.outer.items) c.args.inner.end n o in
-    rw (p.1, p.2) (inl (c.in_err-block-in-Attempt.ensures.refused, omega (arith, opened_bound c.args.octets.now c.args.inner (reverse c.args.outer.items) c.args.inner.end n o, v.within)))
+    rw (p.1, p.2) (inl (c.in_err-block-in-Attempt.ensures.refused, omega arith, omega (arith, opened_bound c.args.octets.now c.args.inner (reverse c.args.outer.items) c.args.inner.end n o, v.within)))

@@ -45,6 +45,9 @@ returns-in-Ends-clause-document c = record { some = omega (arith, c.if-i-eq0.fal
 pub returns-in-Ends-clause-counted : goal.returns-in-Ends-clause-counted
 returns-in-Ends-clause-counted c = ((ended c).1, (ended c).3, (ended c).2)
 
+pub returns-in-Ends-clause-grown : goal.returns-in-Ends-clause-grown
+returns-in-Ends-clause-grown c = omega (arith, (ended c).2)
+
 pub returns-in-Ends-clause-bounded : goal.returns-in-Ends-clause-bounded
 returns-in-Ends-clause-bounded c = omega (arith, (ended c).2, begun_le c.args.i.now (ended c).1 (ended c).3)
 
@@ -61,5 +64,8 @@ returns-in_err-next-clause-counted c =
     let p = err_from_is_err_and c.from_residual.result c.from_residual.ensures.1 in
     rw (p.1, p.2) (elim (failed c) [ inl m ↦ inl m.0 | inr r ↦ inr (r.1, r.3, r.2) ])
 
+pub returns-in_err-next-clause-grown : goal.returns-in_err-next-clause-grown
+returns-in_err-next-clause-grown c = elim (failed c) [ inl m ↦ m.1 | inr r ↦ omega (arith, r.2) ]
+
 pub returns-in_err-next-clause-bounded : goal.returns-in_err-next-clause-bounded
-returns-in_err-next-clause-bounded c = elim (failed c) [ inl m ↦ m.1 | inr r ↦ omega (arith, r.2, begun_le c.args.i.now r.1 r.3) ]
+returns-in_err-next-clause-bounded c = elim (failed c) [ inl m ↦ m.2 | inr r ↦ omega (arith, r.2, begun_le c.args.i.now r.1 r.3) ]

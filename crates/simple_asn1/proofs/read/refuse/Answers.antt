@@ -29,7 +29,7 @@ slice_bounds-copy_of-end c =
 pub returns-in_err-contents-clause-turned : goal.returns-in_err-contents-clause-turned
 returns-in_err-contents-clause-turned c n base w =
     let p = stopping_places c.args.octets.now c.args.inner (reverse c.args.outer.items) (fault_of c.args.e) n w in
-    turned_memory c.from_residual.result c.args.octets.now (base + n) base c.from_residual.ensures (omega (arith, p.2))
+    turned_memory c.from_residual.result c.args.octets.now (base + n) base c.from_residual.ensures (omega arith) (omega (arith, p.2))
 
 pub returns-in-Attempt-clause-turned : goal.returns-in-Attempt-clause-turned
 returns-in-Attempt-clause-turned c n base w =

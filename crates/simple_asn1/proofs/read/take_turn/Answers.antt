@@ -73,13 +73,13 @@ returns-in_default c =
 
 pub returns-in-OutOfMemory-clause-turned : goal.returns-in-OutOfMemory-clause-turned
 returns-in-OutOfMemory-clause-turned c base r =
-    inl (c.in-OutOfMemory.is, omega (arith, reading_room c.args.octets.now c.args.reader c.args.count.now base r c.if-index-inner.false, c.in-Err.ensures.counted))
+    inl (c.in-OutOfMemory.is, omega (arith, r.1, c.in-Err.ensures.counted), omega (arith, reading_room c.args.octets.now c.args.reader c.args.count.now base r c.if-index-inner.false, c.in-Err.ensures.counted))
 
 -- contents that are read as blocks
 
 pub returns-in_err-push-clause-turned : goal.returns-in_err-push-clause-turned
 returns-in_err-push-clause-turned c base r =
-    turned_memory c.from_residual.result c.args.octets.now c.header_at.new.count base c.from_residual.ensures (omega (arith, reading_room c.args.octets.now c.args.reader c.args.count.now base r c.if-index-inner.false, c.in-Ok.ensures.counted))
+    turned_memory c.from_residual.result c.args.octets.now c.header_at.new.count base c.from_residual.ensures (omega (arith, r.1, c.in-Ok.ensures.counted)) (omega (arith, reading_room c.args.octets.now c.args.reader c.args.count.now base r c.if-index-inner.false, c.in-Ok.ensures.counted))
 
 pub returns-then-is_read_inside-clause-turned : goal.returns-then-is_read_inside-clause-turned
 returns-then-is_read_inside-clause-turned c base r =
@@ -129,7 +129,7 @@ returns-in_default-e c =
 
 pub returns-in-OutOfMemory-e-clause-turned : goal.returns-in-OutOfMemory-e-clause-turned
 returns-in-OutOfMemory-e-clause-turned c base r =
-    inl (c.in-OutOfMemory-e.is, omega (arith, reading_room c.args.octets.now c.args.reader c.args.count.now base r c.if-index-inner.false, c.in-Ok.ensures.counted))
+    inl (c.in-OutOfMemory-e.is, omega (arith, r.1, c.in-Ok.ensures.counted), omega (arith, reading_room c.args.octets.now c.args.reader c.args.count.now base r c.if-index-inner.false, c.in-Ok.ensures.counted))
 
 pub returns-in-Ok-leaf_block-clause-turned : goal.returns-in-Ok-leaf_block-clause-turned
 returns-in-Ok-leaf_block-clause-turned c base r =
