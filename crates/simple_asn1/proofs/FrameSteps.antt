@@ -23,7 +23,7 @@ use Rattle.simple_asn1.specs.Tree.{Tree, group, unknown}
 use Rattle.simple_asn1.specs.View.{view, views}
 use Rattle.simple_asn1.specs.Grammar.{MayBeGroupContents, of_other_class, of_group, Encodes, EncodesAll, HeaderFault, BlockFault, in_header, in_contents, ContentsFault, of_item, of_empty_group, BlocksFault, after_blocks}
 use Rattle.simple_asn1.specs.HeadersBegun.{IsReadInside, HeadersBegun, begun_none, begun_some, inside_first, nothing_inside, nothing_after}
-use Rattle.simple_asn1.specs.OpenFrames.{IsKindFor, ReadTo, Headed, Opened, StopsAt, Stopping, Follows, Turned, Nearer, IsPut, Reading, left}
+use Rattle.simple_asn1.specs.OpenFrames.{IsKindFor, ReadTo, Headed, Opened, StopsAt, Stopping, Follows, Turned, Nearer, IsOpen, IsPut, Reading, left}
 use Rattle.simple_asn1.proofs.Prefixes.{encoding_alone}
 use Rattle.simple_asn1.proofs.OneReading.{encodes_block, encodes_blocks, block_some}
 use Rattle.simple_asn1.proofs.Faults.{block_is_blocks, block_fault_no_block, blocks_fault_no_blocks, header_no_encoding}
@@ -268,6 +268,14 @@ reverse_push old new x e = ap reverse e ∙ reverse-append new (x ∷ [])
 pub reverse_none : {X : Type 0} (xs : List X) → length xs ≡ 0 → reverse xs ≡ []
 reverse_none [] e = refl
 reverse_none (x ∷ xs) e = absurd (omega (arith, e))
+
+-- a frame was opened
+pub turned_open : (t : Result Turn ASN1DecodeErr) (octets : List ℕ) (f g : OpenFrame) (gs : List OpenFrame) (n count base : ℕ) → IsOpen f g gs t → Opened octets f (g ∷ reverse gs) f.start n → count ≡ base + n → count ≤ base + length octets → Turned octets t count base
+turned_open (Ok (Continues r)) octets f g gs n count base u o e m =
+    let s = subst (λ z. Opened octets f z f.start n) (sym (reverse_push r.outer.items gs g u.1)) o in
+    (n, e, subst (λ z. Opened octets r.inner (reverse r.outer.items) z n) (sym u.2) (subst (λ z. Opened octets z (reverse r.outer.items) f.start n) (sym u.0) s))
+turned_open (Ok (Ends v)) octets f g gs n count base u o e m = absurd u
+turned_open (Err x) octets f g gs n count base u o e m = inl (u, omega (arith, e), m)
 
 -- less than less is less
 pub nearer_more : (t : Result Turn ASN1DecodeErr) (size a b : ℕ) → a ≤ b → Nearer size t a → Nearer size t b

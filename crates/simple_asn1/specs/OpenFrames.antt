@@ -83,6 +83,12 @@ Nearer size (Ok (Continues r)) most = left size r.index r.outer.items < most
 Nearer size (Ok (Ends v)) most = Unit {0}
 Nearer size (Err e) most = Unit {0}
 
+-- reading goes on at the start of the new frame f inside g
+abbrev pub IsOpen : OpenFrame → OpenFrame → List OpenFrame → Result Turn ASN1DecodeErr → Type 0
+IsOpen f g gs (Ok (Continues r)) = (r.inner ≡ f) × (r.outer.items ≡ gs ++ g ∷ []) × (r.index ≡ f.start)
+IsOpen f g gs (Ok (Ends v)) = ⊥
+IsOpen f g gs (Err e) = e ≡ OutOfMemory
+
 -- the block was put at the end of the frame, and reading goes on at q
 abbrev pub IsPut : OpenFrame → List OpenFrame → ℕ → ASN1Block → Result Turn ASN1DecodeErr → Type 0
 IsPut f gs q b (Ok (Continues r)) =

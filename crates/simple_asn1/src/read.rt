@@ -8,7 +8,7 @@ ghost use Rattle.simple_asn1.specs.Tree.{Trees, group};
 ghost use Rattle.simple_asn1.specs.View.{view, views};
 ghost use Rattle.simple_asn1.specs.Grammar.{Document, Encodes, EncodesAll, FirstFault, HeaderFault};
 ghost use Rattle.simple_asn1.specs.HeadersBegun.{HeadersBegun, IsReadInside};
-ghost use Rattle.simple_asn1.specs.OpenFrames.{IsKindFor, IsPut, Nearer, Opened, Reading, Stopping, Turned, left};
+ghost use Rattle.simple_asn1.specs.OpenFrames.{IsKindFor, IsOpen, IsPut, Nearer, Opened, Reading, Stopping, Turned, left};
 
 use crate::block::{ASN1Block, GroupKind};
 use crate::body::leaf_block;
@@ -168,7 +168,7 @@ fn take_turn(
 {
     let Reader {
         inner,
-        mut outer,
+        outer,
         index,
     } = reader;
     if index == inner.end {
@@ -194,18 +194,13 @@ fn take_turn(
     let start = inner.start + start;
     let end = inner.start + end;
     if is_read_inside(class, constructed, &tag) {
-        let kind = frame_kind(class, tag, index);
-        outer.push(inner)?;
-        return Ok(Turn::Continues(Reader {
-            inner: OpenFrame {
-                kind,
-                start,
-                end,
-                blocks: Vec::new(alloc),
-            },
-            outer,
-            index: start,
-        }));
+        let frame = OpenFrame {
+            kind: frame_kind(class, tag, index),
+            start,
+            end,
+            blocks: Vec::new(alloc),
+        };
+        return open(frame, inner, outer);
     }
     match leaf_block(alloc, class, constructed, tag, &octets[start..end], index) {
         Ok(block) => put(inner, outer, end, block),
@@ -271,6 +266,23 @@ fn header_at(
     })
 }
 
+// Goes on inside a new frame, the innermost from now on.
+fn open(
+    frame: OpenFrame,
+    inner: OpenFrame,
+    mut outer: Vec<OpenFrame>,
+) -> Result<Turn, ASN1DecodeErr>
+    ensures { IsOpen frame inner outer.items result }
+{
+    let index = frame.start;
+    outer.push(inner)?;
+    Ok(Turn::Continues(Reader {
+        inner: frame,
+        outer,
+        index,
+    }))
+}
+
 // Puts a block at the end of the innermost frame, and goes on after it.
 fn put(
     mut inner: OpenFrame,
@@ -310,7 +322,7 @@ fn close(
         return Ok(Turn::Ends(blocks));
     };
     match kind {
-        FrameKind::Whole => Ok(Turn::Ends(blocks)),
+        FrameKind::Whole => unreachable!(),
         FrameKind::Group(group, offset) => {
             if blocks.len() == 0 {
                 return refuse(alloc, octets, parent, outer, ASN1DecodeErr::EmptyBuffer);

@@ -2,7 +2,7 @@ use Rattle.std.proofs.Common.{◌≡◌, ◌+◌, ◌<◌, inl, length, reverse,
 use Rattle.std.proofs.lemmas.Grind.{common_steps}
 use Rattle.std.proofs.lemmas.Result.{err_from_is_err_and}
 use Rattle.simple_asn1.specs.View.{view}
-use Rattle.simple_asn1.specs.OpenFrames.{Opened}
+use Rattle.simple_asn1.specs.OpenFrames.{Headed, Opened}
 use Rattle.simple_asn1.proofs.FrameSteps.{opened_places, opened_bound, close_group, close_empty, close_attempt, turned_put, reverse_push, follows_as}
 use Rattle.simple_asn1.proofs.read.close.Goals as goal
 
@@ -37,3 +37,10 @@ returns-in_err-block-in-Attempt-clause-turned c n base o =
     let p = err_from_is_err_and c.from_residual.result c.from_residual.ensures.1 in
     let v = opened_places c.args.octets.now c.args.inner (reverse c.args.outer.items) c.args.inner.end n o in
     rw (p.1, p.2) (inl (c.in_err-block-in-Attempt.ensures.refused, omega arith, omega (arith, opened_bound c.args.octets.now c.args.inner (reverse c.args.outer.items) c.args.inner.end n o, v.within)))
+
+-- only the outermost frame is the whole document
+pub unreachable-requires : goal.unreachable-requires
+unreachable-requires c =
+    let n = c.requires.opened.0 in
+    let o = subst (λ z. Opened c.args.octets.now c.args.inner z c.args.inner.end n) (reverse_push c.args.outer.items c.pop.new.self.items c.in-Some.parent c.in-Some.ensures.items) c.requires.opened.1 in
+    subst (λ k. Headed c.args.octets.now k o.0 c.args.inner.start c.args.inner.end) c.in-Whole.is o.3

@@ -1,4 +1,4 @@
-use Rattle.std.proofs.Common.{◌≡◌, ◌+◌, ◌-◌, ◌≤◌, [], ◌∷◌, ◌++◌, inl, length, drop, reverse, sym, subst, arith}
+use Rattle.std.proofs.Common.{◌≡◌, ◌+◌, ◌-◌, ◌≤◌, inl, length, drop, reverse, subst, arith}
 use Rattle.std.specs.List.{slice_range}
 use Rattle.std.proofs.lemmas.Grind.{common_steps}
 use Rattle.simple_asn1.specs.declared.header.ASN1Class.TheVariants.{Universal}
@@ -7,9 +7,9 @@ use Rattle.simple_asn1.specs.Fault.{fault_of}
 use Rattle.simple_asn1.specs.View.{view}
 use Rattle.simple_asn1.specs.Grammar.{HeaderFault, ContentsFault}
 use Rattle.simple_asn1.specs.HeadersBegun.{IsReadInside}
-use Rattle.simple_asn1.specs.OpenFrames.{Headed, Opened, Turned}
+use Rattle.simple_asn1.specs.OpenFrames.{Headed, Turned}
 use Rattle.simple_asn1.proofs.ReadSteps.{slice_length}
-use Rattle.simple_asn1.proofs.FrameSteps.{reading_places, reading_room, header_read, nearer_refused, opened_open, turned_put, reverse_push, turned_memory, header_stopping, leaf_stopping, leaf_follows, headed_by, fault_here}
+use Rattle.simple_asn1.proofs.FrameSteps.{reading_places, reading_room, header_read, nearer_refused, opened_open, turned_open, turned_put, header_stopping, leaf_stopping, leaf_follows, headed_by, fault_here}
 use Rattle.simple_asn1.proofs.read.take_turn.Goals as goal
 
 pub overflow_sub-index : goal.overflow_sub-index
@@ -77,10 +77,6 @@ returns-in-OutOfMemory-clause-turned c base r =
 
 -- contents that are read as blocks
 
-pub returns-in_err-push-clause-turned : goal.returns-in_err-push-clause-turned
-returns-in_err-push-clause-turned c base r =
-    turned_memory c.from_residual.result c.args.octets.now c.header_at.new.count base c.from_residual.ensures (omega (arith, r.1, c.in-Ok.ensures.counted)) (omega (arith, reading_room c.args.octets.now c.args.reader c.args.count.now base r c.if-index-inner.false, c.in-Ok.ensures.counted))
-
 pub returns-then-is_read_inside-clause-turned : goal.returns-then-is_read_inside-clause-turned
 returns-then-is_read_inside-clause-turned c base r =
     let octets = c.args.octets.now in
@@ -88,12 +84,11 @@ returns-then-is_read_inside-clause-turned c base r =
     let h = c.in-Ok.header in
     let F = header_read octets c.args.reader h c.args.count.now base r c.in-Ok.ensures.bounds c.in-Ok.ensures.found in
     let inside : IsReadInside h.class h.constructed h.tag = grind (arith, common_steps) in
-    let kind = c.frame_kind-kind.result in
-    let headed : Headed octets kind c.args.reader.index (f.start + h.start) (f.start + h.end) = headed_by octets kind c.args.reader.index (f.start + h.start) (f.start + h.end) h.class h.constructed h.tag c.frame_kind-kind.ensures inside F.encoding in
-    let items : c.push.new.self.items ≡ c.args.reader.outer.items ++ f ∷ [] = c.in_ok-push.ensures.items in
+    let kind = c.frame_kind.result in
+    let headed : Headed octets kind c.args.reader.index (f.start + h.start) (f.start + h.end) = headed_by octets kind c.args.reader.index (f.start + h.start) (f.start + h.end) h.class h.constructed h.tag c.frame_kind.ensures inside F.encoding in
     let g : OpenFrame = record { kind = kind; start = f.start + h.start; end = f.start + h.end; blocks = c.new.result } in
     let o = opened_open octets f g (reverse c.args.reader.outer.items) c.args.reader.index r.0 c.new.ensures.items headed F.past F.order F.fits r.2 in
-    (r.0 + 1, omega (arith, r.1, c.in-Ok.ensures.counted), subst (λ z. Opened octets g z (f.start + h.start) (r.0 + 1)) (sym (reverse_push c.push.new.self.items c.args.reader.outer.items f items)) o)
+    turned_open c.open.result octets g f c.args.reader.outer.items (r.0 + 1) c.header_at.new.count base c.open.ensures o (omega (arith, r.1, c.in-Ok.ensures.counted)) (omega (arith, reading_room octets c.args.reader c.args.count.now base r c.if-index-inner.false, c.in-Ok.ensures.counted))
 
 -- contents of a leaf, or that stay as they came
 
