@@ -180,10 +180,10 @@ fn read_ia5(alloc: Global, contents: &[u8]) -> Result<String, ASN1DecodeErr>
 }
 
 // The size of the contents octets of a bit string.
-pub(crate) fn bit_string_size(bits: usize, octets: &Vec<u8>) -> Result<usize, ASN1EncodeErr>
-    ensures size { IfOk result (λ n. n ≡ length (leaf_contents (bit_string bits octets.now.items))) }
-    ensures writable { OnOk result (leaf_write_fault (bit_string bits octets.now.items) ≡ None) }
-    ensures refused { IfErr result (λ e. leaf_write_fault (bit_string bits octets.now.items) ≡ Some e) }
+pub(crate) fn bit_string_size(bits: usize, octets: &[u8]) -> Result<usize, ASN1EncodeErr>
+    ensures size { IfOk result (λ n. n ≡ length (leaf_contents (bit_string bits octets.now))) }
+    ensures writable { OnOk result (leaf_write_fault (bit_string bits octets.now) ≡ None) }
+    ensures refused { IfErr result (λ e. leaf_write_fault (bit_string bits octets.now) ≡ Some e) }
 {
     if bits == 0 {
         return Ok(0);
@@ -197,10 +197,10 @@ pub(crate) fn bit_string_size(bits: usize, octets: &Vec<u8>) -> Result<usize, AS
 }
 
 // Puts the contents octets of a bit string at the end.
-pub(crate) fn append_bit_string(bits: usize, octets: &Vec<u8>, out: &mut Vec<u8>)
-    requires room { vec_len out.old + length (leaf_contents (bit_string bits octets.now.items)) ≤ vec_capacity out.old }
-    requires writable { leaf_write_fault (bit_string bits octets.now.items) ≡ None }
-    ensures appended { out.new.items ≡ out.old.items ++ leaf_contents (bit_string bits octets.now.items) }
+pub(crate) fn append_bit_string(bits: usize, octets: &[u8], out: &mut Vec<u8>)
+    requires room { vec_len out.old + length (leaf_contents (bit_string bits octets.now)) ≤ vec_capacity out.old }
+    requires writable { leaf_write_fault (bit_string bits octets.now) ≡ None }
+    ensures appended { out.new.items ≡ out.old.items ++ leaf_contents (bit_string bits octets.now) }
     ensures capacity { vec_capacity out.old ≤ vec_capacity out.new }
 {
     if bits == 0 {
@@ -212,16 +212,16 @@ pub(crate) fn append_bit_string(bits: usize, octets: &Vec<u8>, out: &mut Vec<u8>
 }
 
 // The size of a text in UTF-8.
-pub(crate) fn utf8_size(text: &String) -> usize
-    ensures { result ≡ length (encode_utf8_all (chars (string_bytes text.now))) }
+pub(crate) fn utf8_size(text: &str) -> usize
+    ensures { result ≡ length (encode_utf8_all (chars text.now)) }
 {
     text.len()
 }
 
 // Puts a text at the end, in UTF-8.
-pub(crate) fn append_utf8(text: &String, out: &mut Vec<u8>)
-    requires { vec_len out.old + length (encode_utf8_all (chars (string_bytes text.now))) ≤ vec_capacity out.old }
-    ensures appended { out.new.items ≡ out.old.items ++ encode_utf8_all (chars (string_bytes text.now)) }
+pub(crate) fn append_utf8(text: &str, out: &mut Vec<u8>)
+    requires { vec_len out.old + length (encode_utf8_all (chars text.now)) ≤ vec_capacity out.old }
+    ensures appended { out.new.items ≡ out.old.items ++ encode_utf8_all (chars text.now) }
     ensures capacity { vec_capacity out.old ≤ vec_capacity out.new }
 {
     append(text.as_bytes(), out);

@@ -54,7 +54,7 @@ pub(crate) fn append_block(b: &ASN1Block, lengths: &[usize], next: &mut usize, o
         ASN1Block::Null(_) => append_known(0x05, &[], out),
         ASN1Block::UTF8String(_, s) => {
             append_known_header(0x0C, size, out);
-            append_utf8(s, out);
+            append_utf8(s.as_str(), out);
         }
         ASN1Block::PrintableString(_, s) => {
             append_known_header(0x13, size, out);
@@ -62,7 +62,7 @@ pub(crate) fn append_block(b: &ASN1Block, lengths: &[usize], next: &mut usize, o
         }
         ASN1Block::TeletexString(_, s) => {
             append_known_header(0x14, size, out);
-            append_utf8(s, out);
+            append_utf8(s.as_str(), out);
         }
         ASN1Block::IA5String(_, s) => {
             append_known_header(0x16, size, out);
@@ -70,11 +70,11 @@ pub(crate) fn append_block(b: &ASN1Block, lengths: &[usize], next: &mut usize, o
         }
         ASN1Block::UniversalString(_, s) => {
             append_known_header(0x1C, size, out);
-            append_utf8(s, out);
+            append_utf8(s.as_str(), out);
         }
         ASN1Block::BMPString(_, s) => {
             append_known_header(0x1E, size, out);
-            append_utf8(s, out);
+            append_utf8(s.as_str(), out);
         }
         ASN1Block::Sequence(_, items) => {
             append_known_header(0x30, size, out);

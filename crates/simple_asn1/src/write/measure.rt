@@ -59,18 +59,18 @@ pub(crate) fn measure_block(b: &ASN1Block, lengths: &mut Vec<usize>) -> Result<u
         }
         ASN1Block::OctetString(_, v) => measure_contents(1, v.len(), lengths),
         ASN1Block::Null(_) => measure_contents(1, 0, lengths),
-        ASN1Block::UTF8String(_, s) => measure_contents(1, utf8_size(s), lengths),
+        ASN1Block::UTF8String(_, s) => measure_contents(1, utf8_size(s.as_str()), lengths),
         ASN1Block::PrintableString(_, s) => {
             let contents = character_count(s.as_str())?;
             measure_contents(1, contents, lengths)
         }
-        ASN1Block::TeletexString(_, s) => measure_contents(1, utf8_size(s), lengths),
+        ASN1Block::TeletexString(_, s) => measure_contents(1, utf8_size(s.as_str()), lengths),
         ASN1Block::IA5String(_, s) => {
             let contents = character_count(s.as_str())?;
             measure_contents(1, contents, lengths)
         }
-        ASN1Block::UniversalString(_, s) => measure_contents(1, utf8_size(s), lengths),
-        ASN1Block::BMPString(_, s) => measure_contents(1, utf8_size(s), lengths),
+        ASN1Block::UniversalString(_, s) => measure_contents(1, utf8_size(s.as_str()), lengths),
+        ASN1Block::BMPString(_, s) => measure_contents(1, utf8_size(s.as_str()), lengths),
         ASN1Block::Sequence(_, items) => measure_group(items, lengths),
         ASN1Block::Set(_, items) => measure_group(items, lengths),
         ASN1Block::Explicit(class, _, tag, item) => {
