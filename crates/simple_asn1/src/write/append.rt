@@ -1,23 +1,46 @@
 // The second walk: it takes no memory and refuses nothing.
-ghost use Rattle.std.specs.Prelude.{◌≡◌, ◌++◌, ◌∷◌, ◌+◌, ◌<◌, ◌≤◌, None, length, slice_index, vec_len, vec_capacity};
+ghost use Rattle.std.specs.Prelude.{◌≡◌, ◌++◌, ◌+◌, ◌<◌, ◌≤◌, None, length, encode_utf8_all, slice_index, vec_len, vec_capacity};
+ghost use Rattle.std.specs.Str.{chars};
 ghost use Rattle.simple_asn1.specs.Canonical.{all_canonical, canonical, first_write_fault, write_fault};
-ghost use Rattle.simple_asn1.specs.Header.{shortest_length};
+ghost use Rattle.simple_asn1.specs.Contents.{octet_write_fault};
 ghost use Rattle.simple_asn1.specs.View.{view, views};
-ghost use Rattle.simple_asn1.specs.WriteWalk.{Ahead, all_content_lengths, content_lengths};
+ghost use Rattle.simple_asn1.specs.WriteWalk.{Ahead, all_content_lengths, content_lengths, known_encoding};
 
 use crate::block::ASN1Block;
-use crate::body::{append_bit_string, append_characters, append_utf8};
+use crate::body::{append_bit_string, append_characters, append_utf8, utf8_size};
 use crate::header::{append_header, append_known_header};
 use crate::octets::append;
 
 // Puts a block at the end whose identifier octets are this one.
 fn append_known(identifier: u8, contents: &[u8], out: &mut Vec<u8>)
-    requires { vec_len out.old + (1 + (length (shortest_length (length contents.now)) + length contents.now)) ≤ vec_capacity out.old }
-    ensures appended { out.new.items ≡ out.old.items ++ identifier ∷ (shortest_length (length contents.now) ++ contents.now) }
+    requires { vec_len out.old + length (known_encoding identifier contents.now) ≤ vec_capacity out.old }
+    ensures appended { out.new.items ≡ out.old.items ++ known_encoding identifier contents.now }
     ensures capacity { vec_capacity out.old ≤ vec_capacity out.new }
 {
     append_known_header(identifier, contents.len(), out);
     append(contents, out);
+}
+
+// The same of a text in UTF-8.
+fn append_known_utf8(identifier: u8, text: &str, out: &mut Vec<u8>)
+    requires { vec_len out.old + length (known_encoding identifier (encode_utf8_all (chars text.now))) ≤ vec_capacity out.old }
+    ensures appended { out.new.items ≡ out.old.items ++ known_encoding identifier (encode_utf8_all (chars text.now)) }
+    ensures capacity { vec_capacity out.old ≤ vec_capacity out.new }
+{
+    append_known_header(identifier, utf8_size(text), out);
+    append_utf8(text, out);
+}
+
+// The same of a text of `size` characters, each of which fits an octet.
+fn append_known_characters(identifier: u8, size: usize, text: &str, out: &mut Vec<u8>)
+    requires room { vec_len out.old + length (known_encoding identifier (chars text.now)) ≤ vec_capacity out.old }
+    requires size { size ≡ length (chars text.now) }
+    requires writable { octet_write_fault (chars text.now) ≡ None }
+    ensures appended { out.new.items ≡ out.old.items ++ known_encoding identifier (chars text.now) }
+    ensures capacity { vec_capacity out.old ≤ vec_capacity out.new }
+{
+    append_known_header(identifier, size, out);
+    append_characters(text, out);
 }
 
 // The length at the place, which is moved on.
@@ -52,30 +75,12 @@ pub(crate) fn append_block(b: &ASN1Block, lengths: &[usize], next: &mut usize, o
         }
         ASN1Block::OctetString(_, v) => append_known(0x04, v, out),
         ASN1Block::Null(_) => append_known(0x05, &[], out),
-        ASN1Block::UTF8String(_, s) => {
-            append_known_header(0x0C, size, out);
-            append_utf8(s.as_str(), out);
-        }
-        ASN1Block::PrintableString(_, s) => {
-            append_known_header(0x13, size, out);
-            append_characters(s.as_str(), out);
-        }
-        ASN1Block::TeletexString(_, s) => {
-            append_known_header(0x14, size, out);
-            append_utf8(s.as_str(), out);
-        }
-        ASN1Block::IA5String(_, s) => {
-            append_known_header(0x16, size, out);
-            append_characters(s.as_str(), out);
-        }
-        ASN1Block::UniversalString(_, s) => {
-            append_known_header(0x1C, size, out);
-            append_utf8(s.as_str(), out);
-        }
-        ASN1Block::BMPString(_, s) => {
-            append_known_header(0x1E, size, out);
-            append_utf8(s.as_str(), out);
-        }
+        ASN1Block::UTF8String(_, s) => append_known_utf8(0x0C, s.as_str(), out),
+        ASN1Block::PrintableString(_, s) => append_known_characters(0x13, size, s.as_str(), out),
+        ASN1Block::TeletexString(_, s) => append_known_utf8(0x14, s.as_str(), out),
+        ASN1Block::IA5String(_, s) => append_known_characters(0x16, size, s.as_str(), out),
+        ASN1Block::UniversalString(_, s) => append_known_utf8(0x1C, s.as_str(), out),
+        ASN1Block::BMPString(_, s) => append_known_utf8(0x1E, s.as_str(), out),
         ASN1Block::Sequence(_, items) => {
             append_known_header(0x30, size, out);
             append_all(items, lengths, next, out);
