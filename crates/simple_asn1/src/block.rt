@@ -146,8 +146,8 @@ fn copy(alloc: Global, b: &ASN1Block) -> Result<ASN1Block, AllocError>
 }
 
 #[cycle(copy)]
-fn copy_all(alloc: Global, bs: &Vec<ASN1Block>) -> Result<Vec<ASN1Block>, AllocError>
-    ensures { IfOk result (λ v. views v.items ≡ views bs.now.items) }
+fn copy_all(alloc: Global, bs: &[ASN1Block]) -> Result<Vec<ASN1Block>, AllocError>
+    ensures { IfOk result (λ v. views v.items ≡ views bs.now) }
 {
     let mut all = Vec::with_capacity(alloc, bs.len())?;
     for b in bs {
@@ -210,8 +210,8 @@ fn same(a: &ASN1Block, b: &ASN1Block) -> bool
 }
 
 #[cycle(same)]
-fn same_all(a: &Vec<ASN1Block>, b: &Vec<ASN1Block>) -> bool
-    ensures { IsTrue result ↔ (shapes (views a.now.items) ≡ shapes (views b.now.items)) }
+fn same_all(a: &[ASN1Block], b: &[ASN1Block]) -> bool
+    ensures { IsTrue result ↔ (shapes (views a.now) ≡ shapes (views b.now)) }
 {
     if a.len() != b.len() {
         return false;

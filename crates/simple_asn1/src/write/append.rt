@@ -103,17 +103,17 @@ pub(crate) fn append_block(b: &ASN1Block, lengths: &[usize], next: &mut usize, o
 // Puts the octets of the blocks at the end, as `append_block` does for one.
 #[cycle(append)]
 pub(crate) fn append_all(
-    bs: &Vec<ASN1Block>,
+    bs: &[ASN1Block],
     lengths: &[usize],
     next: &mut usize,
     out: &mut Vec<u8>,
 )
-    requires ahead { Ahead (all_content_lengths (views bs.now.items)) lengths.now next.old }
-    requires room { vec_len out.old + length (all_canonical (views bs.now.items)) ≤ vec_capacity out.old }
-    requires writable { first_write_fault (views bs.now.items) ≡ None }
-    ensures appended { out.new.items ≡ out.old.items ++ all_canonical (views bs.now.items) }
+    requires ahead { Ahead (all_content_lengths (views bs.now)) lengths.now next.old }
+    requires room { vec_len out.old + length (all_canonical (views bs.now)) ≤ vec_capacity out.old }
+    requires writable { first_write_fault (views bs.now) ≡ None }
+    ensures appended { out.new.items ≡ out.old.items ++ all_canonical (views bs.now) }
     ensures capacity { vec_capacity out.old ≤ vec_capacity out.new }
-    ensures moved { next.new ≡ next.old + length (all_content_lengths (views bs.now.items)) }
+    ensures moved { next.new ≡ next.old + length (all_content_lengths (views bs.now)) }
 {
     for b in bs {
         append_block(b, lengths, next, out);

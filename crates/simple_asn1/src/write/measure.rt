@@ -88,11 +88,11 @@ pub(crate) fn measure_block(b: &ASN1Block, lengths: &mut Vec<usize>) -> Result<u
 
 // The size of a SEQUENCE or SET of these blocks.
 #[cycle(measure)]
-fn measure_group(bs: &Vec<ASN1Block>, lengths: &mut Vec<usize>) -> Result<usize, ASN1EncodeErr>
-    ensures size { IfOk result (λ n. n ≡ 1 + (length (shortest_length (length (all_canonical (views bs.now.items)))) + length (all_canonical (views bs.now.items)))) }
-    ensures lengths { OnOk result (lengths.new.items ≡ lengths.old.items ++ length (all_canonical (views bs.now.items)) ∷ all_content_lengths (views bs.now.items)) }
-    ensures writable { OnOk result (first_write_fault (views bs.now.items) ≡ None) }
-    ensures refused { IfErr result (λ e. (e ≡ OutOfMemory) ⊎ (first_write_fault (views bs.now.items) ≡ Some e)) }
+fn measure_group(bs: &[ASN1Block], lengths: &mut Vec<usize>) -> Result<usize, ASN1EncodeErr>
+    ensures size { IfOk result (λ n. n ≡ 1 + (length (shortest_length (length (all_canonical (views bs.now)))) + length (all_canonical (views bs.now)))) }
+    ensures lengths { OnOk result (lengths.new.items ≡ lengths.old.items ++ length (all_canonical (views bs.now)) ∷ all_content_lengths (views bs.now)) }
+    ensures writable { OnOk result (first_write_fault (views bs.now) ≡ None) }
+    ensures refused { IfErr result (λ e. (e ≡ OutOfMemory) ⊎ (first_write_fault (views bs.now) ≡ Some e)) }
 {
     let place = lengths.len();
     lengths.push(0)?;
@@ -104,13 +104,13 @@ fn measure_group(bs: &Vec<ASN1Block>, lengths: &mut Vec<usize>) -> Result<usize,
 // The size of the blocks' octets together.
 #[cycle(measure)]
 pub(crate) fn measure_all(
-    bs: &Vec<ASN1Block>,
+    bs: &[ASN1Block],
     lengths: &mut Vec<usize>,
 ) -> Result<usize, ASN1EncodeErr>
-    ensures size { IfOk result (λ n. n ≡ length (all_canonical (views bs.now.items))) }
-    ensures lengths { OnOk result (lengths.new.items ≡ lengths.old.items ++ all_content_lengths (views bs.now.items)) }
-    ensures writable { OnOk result (first_write_fault (views bs.now.items) ≡ None) }
-    ensures refused { IfErr result (λ e. (e ≡ OutOfMemory) ⊎ (first_write_fault (views bs.now.items) ≡ Some e)) }
+    ensures size { IfOk result (λ n. n ≡ length (all_canonical (views bs.now))) }
+    ensures lengths { OnOk result (lengths.new.items ≡ lengths.old.items ++ all_content_lengths (views bs.now)) }
+    ensures writable { OnOk result (first_write_fault (views bs.now) ≡ None) }
+    ensures refused { IfErr result (λ e. (e ≡ OutOfMemory) ⊎ (first_write_fault (views bs.now) ≡ Some e)) }
 {
     let mut total = 0;
     for b in bs {

@@ -9,19 +9,18 @@ use Rattle.simple_asn1.proofs.write.append.+append.Goals as goal
 
 pub append_all-append_block-requires : goal.append_all-append_block-requires
 append_all-append_block-requires t c =
-    let xs = c.deref-b-items.result.now in
+    let xs = c.args.bs.now in
     let i = c.loop-b.b-index in
     let x = c.b-item.result in
     let h = c.loop-b-test.true in
     let a = ahead_from xs i x c.args.lengths.now c.loop-b.next h c.b-item.is c.loop-b.invariant.ahead in
     let l = ap length (canonical_from xs i x h c.b-item.is) ∙ length-append (canonical (view x)) (all_canonical (views (drop (i + 1) xs))) in
     let w = writable_from xs i x h c.b-item.is c.loop-b.invariant.writable in
-    let d = ap (λ z. length (all_canonical (views z))) c.deref-b-items.ensures.value in
-    (search (rules, the_lemmas), (a.0, (omega (arith, l, d), w.0)))
+    (search (rules, the_lemmas), (a.0, (omega (arith, l), w.0)))
 
 pub append_all-loop-b-preserved : goal.append_all-loop-b-preserved
 append_all-loop-b-preserved t c =
-    let xs = c.deref-b-items.result.now in
+    let xs = c.args.bs.now in
     let i = c.loop-b.b-index in
     let x = c.b-item.result in
     let h = c.loop-b-test.true in
