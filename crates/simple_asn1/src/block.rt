@@ -173,30 +173,12 @@ fn same(a: &ASN1Block, b: &ASN1Block) -> bool
         (ASN1Block::BitString(_, m, v), ASN1Block::BitString(_, n, w)) => m == n && v == w,
         (ASN1Block::OctetString(_, v), ASN1Block::OctetString(_, w)) => v == w,
         (ASN1Block::Null(_), ASN1Block::Null(_)) => true,
-        (ASN1Block::UTF8String(_, s), ASN1Block::UTF8String(_, t)) => same_text(
-            s.as_str(),
-            t.as_str(),
-        ),
-        (ASN1Block::PrintableString(_, s), ASN1Block::PrintableString(_, t)) => same_text(
-            s.as_str(),
-            t.as_str(),
-        ),
-        (ASN1Block::TeletexString(_, s), ASN1Block::TeletexString(_, t)) => same_text(
-            s.as_str(),
-            t.as_str(),
-        ),
-        (ASN1Block::IA5String(_, s), ASN1Block::IA5String(_, t)) => same_text(
-            s.as_str(),
-            t.as_str(),
-        ),
-        (ASN1Block::UniversalString(_, s), ASN1Block::UniversalString(_, t)) => same_text(
-            s.as_str(),
-            t.as_str(),
-        ),
-        (ASN1Block::BMPString(_, s), ASN1Block::BMPString(_, t)) => same_text(
-            s.as_str(),
-            t.as_str(),
-        ),
+        (ASN1Block::UTF8String(_, s), ASN1Block::UTF8String(_, t)) => same_text(s, t),
+        (ASN1Block::PrintableString(_, s), ASN1Block::PrintableString(_, t)) => same_text(s, t),
+        (ASN1Block::TeletexString(_, s), ASN1Block::TeletexString(_, t)) => same_text(s, t),
+        (ASN1Block::IA5String(_, s), ASN1Block::IA5String(_, t)) => same_text(s, t),
+        (ASN1Block::UniversalString(_, s), ASN1Block::UniversalString(_, t)) => same_text(s, t),
+        (ASN1Block::BMPString(_, s), ASN1Block::BMPString(_, t)) => same_text(s, t),
         (ASN1Block::Sequence(_, v), ASN1Block::Sequence(_, w)) => same_all(v, w),
         (ASN1Block::Set(_, v), ASN1Block::Set(_, w)) => same_all(v, w),
         (ASN1Block::Explicit(c, _, m, x), ASN1Block::Explicit(d, _, n, y)) => {

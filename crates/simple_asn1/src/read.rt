@@ -131,7 +131,7 @@ fn read_blocks(
     ensures grown { count.old ≤ count.new }
     ensures bounded { count.new ≤ count.old + length i.now }
 {
-    if i.len() == 0 {
+    if i.is_empty() {
         return Err(ASN1DecodeErr::EmptyBuffer);
     }
     let inner = OpenFrame {
@@ -324,7 +324,7 @@ fn close(
     match kind {
         FrameKind::Whole => unreachable!(),
         FrameKind::Group(group, offset) => {
-            if blocks.len() == 0 {
+            if blocks.is_empty() {
                 return refuse(alloc, octets, parent, outer, ASN1DecodeErr::EmptyBuffer);
             }
             put(parent, outer, end, group_block(group, offset, blocks))

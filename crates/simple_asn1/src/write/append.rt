@@ -102,12 +102,7 @@ pub(crate) fn append_block(b: &ASN1Block, lengths: &[usize], next: &mut usize, o
 
 // Puts the octets of the blocks at the end, as `append_block` does for one.
 #[cycle(append)]
-pub(crate) fn append_all(
-    bs: &[ASN1Block],
-    lengths: &[usize],
-    next: &mut usize,
-    out: &mut Vec<u8>,
-)
+pub(crate) fn append_all(bs: &[ASN1Block], lengths: &[usize], next: &mut usize, out: &mut Vec<u8>)
     requires ahead { Ahead (all_content_lengths (views bs.now)) lengths.now next.old }
     requires room { vec_len out.old + length (all_canonical (views bs.now)) ≤ vec_capacity out.old }
     requires writable { first_write_fault (views bs.now) ≡ None }

@@ -13,14 +13,14 @@ refuse-requires-clause-stopping c =
     let n = c.requires.opened.0 in
     (n, close_empty c.args.octets.now c.args.inner c.in-Some.parent (reverse c.pop.new.self.items) n c.in-Group.offset c.in-Group.group c.requires.small c.in-Group.is l (subst (λ z. Opened c.args.octets.now c.args.inner z c.args.inner.end n) r c.requires.opened.1))
 
-pub returns-then-len-eq0-clause-turned : goal.returns-then-len-eq0-clause-turned
-returns-then-len-eq0-clause-turned c n base o =
+pub returns-then-is_empty-clause-turned : goal.returns-then-is_empty-clause-turned
+returns-then-is_empty-clause-turned c n base o =
     let r = reverse_push c.args.outer.items c.pop.new.self.items c.in-Some.parent c.in-Some.ensures.items in
     let l : length c.args.inner.blocks.items ≡ 0 = grind (arith, common_steps) in
     c.refuse.ensures.turned n base (close_empty c.args.octets.now c.args.inner c.in-Some.parent (reverse c.pop.new.self.items) n c.in-Group.offset c.in-Group.group c.requires.small c.in-Group.is l (subst (λ z. Opened c.args.octets.now c.args.inner z c.args.inner.end n) r o))
 
-pub returns-else-len-eq0-clause-turned : goal.returns-else-len-eq0-clause-turned
-returns-else-len-eq0-clause-turned c n base o =
+pub returns-else-is_empty-clause-turned : goal.returns-else-is_empty-clause-turned
+returns-else-is_empty-clause-turned c n base o =
     let r = reverse_push c.args.outer.items c.pop.new.self.items c.in-Some.parent c.in-Some.ensures.items in
     let l : 0 < length c.args.inner.blocks.items = grind (arith, common_steps) in
     let k = close_group c.args.octets.now c.args.inner c.in-Some.parent (reverse c.pop.new.self.items) n c.in-Group.offset c.in-Group.group c.in-Group.is l (subst (λ z. Opened c.args.octets.now c.args.inner z c.args.inner.end n) r o) in

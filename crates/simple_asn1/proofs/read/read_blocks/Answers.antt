@@ -1,4 +1,5 @@
 use Rattle.std.proofs.Common.{◌≡◌, ℕ, ◌+◌, [], inl, inr, length, reverse, Ok, Err, refl, sym, ap, ◌∙◌, subst, arith}
+use Rattle.std.proofs.lemmas.Grind.{common_steps}
 use Rattle.std.proofs.lemmas.Result.{err_from_is_err_and}
 use Rattle.std.specs.List.{slice_range}
 use Rattle.simple_asn1.specs.declared.read.FrameKind.TheVariants.{Whole}
@@ -12,8 +13,10 @@ use Rattle.simple_asn1.proofs.HeaderCounts.{begun_le}
 use Rattle.simple_asn1.proofs.FrameSteps.{slice_none, opened_places, opened_bound}
 use Rattle.simple_asn1.proofs.read.read_blocks.Goals as goal
 
-pub returns-then-i-eq0-clause-counted : goal.returns-then-i-eq0-clause-counted
-returns-then-i-eq0-clause-counted c = inr (0, begun_none (no_octets c.args.i.now c.if-i-eq0.true), omega arith)
+pub returns-then-is_empty-clause-counted : goal.returns-then-is_empty-clause-counted
+returns-then-is_empty-clause-counted c =
+    let none : length c.args.i.now ≡ 0 = grind (arith, common_steps) in
+    inr (0, begun_none (no_octets c.args.i.now none), omega arith)
 
 pub loop-next-init : goal.loop-next-init
 loop-next-init c =
@@ -40,7 +43,7 @@ ended c =
     subst (λ t. Turned c.args.i.now t c.take_turn.new.count c.args.count.now) (c.in_ok-next.was ∙ ap Ok c.in-Ends.is) (c.take_turn.ensures.turned c.args.count.now c.loop-next.invariant)
 
 pub returns-in-Ends-clause-document : goal.returns-in-Ends-clause-document
-returns-in-Ends-clause-document c = record { some = omega (arith, c.if-i-eq0.false); blocks = (ended c).0 }
+returns-in-Ends-clause-document c = record { some = grind (arith, common_steps); blocks = (ended c).0 }
 
 pub returns-in-Ends-clause-counted : goal.returns-in-Ends-clause-counted
 returns-in-Ends-clause-counted c = ((ended c).1, (ended c).3, (ended c).2)
