@@ -1,5 +1,5 @@
 -- Laws of the definitions. A slice can hold fewer than 2 ^ 64 octets.
-use Rattle.std.specs.Prelude.{◌≡◌, ◌↔◌, ◌⊎◌, ℕ, ◌<◌, ◌≤◌, ◌^◌, ◌++◌, Bool, List, length, All}
+use Rattle.std.specs.Prelude.{◌≡◌, ◌≢◌, ◌↔◌, ◌⊎◌, ℕ, ◌<◌, ◌≤◌, ◌^◌, ◌++◌, Bool, List, [], ◌∷◌, length, All}
 use Rattle.simple_asn1.specs.declared.header.ASN1Class.{ASN1Class}
 use Rattle.simple_asn1.specs.Base128.{IsBase128, shortest_base128}
 use Rattle.simple_asn1.specs.Header.{IsIdentifier, IsLength, Encoding, shortest_identifier, shortest_length}
@@ -8,7 +8,8 @@ use Rattle.simple_asn1.specs.Tree.{Tree, Trees}
 use Rattle.simple_asn1.specs.Grammar.{IsBlock, Encodes, Document, FirstFault}
 use Rattle.simple_asn1.specs.HeadersBegun.{HeadersBegun, all_blocks_in}
 
--- the parts of a header, and encodings, end where they end: none begins another. The shortest forms are such parts
+-- the parts of a header, and encodings, end where they end: none begins another. Each shortest form is such a part,
+-- and the one shortest
 pub record HeaderLaws : Type 0 where
   -- of two base-128 numbers at the front of the same octets, the octets and the numbers are equal
   pub one_base128 : (s t x y : List ℕ) (m n : ℕ) → IsBase128 s m → IsBase128 t n → s ++ x ≡ t ++ y → (s ≡ t) × (m ≡ n)
@@ -30,6 +31,14 @@ pub record HeaderLaws : Type 0 where
   pub identifier_shortest : (octets : List ℕ) (c : ASN1Class) (k : Bool) (n : ℕ) → IsIdentifier octets c k n → length (shortest_identifier c k n) ≤ length octets
   -- no length octets of the same length are fewer, where each is an octet
   pub length_shortest : (octets : List ℕ) (n : ℕ) → All (λ b. b < 256) octets → IsLength octets n → length (shortest_length n) ≤ length octets
+  -- no other octets of the same base-128 number are as few, where each is an octet
+  pub base128_only : (octets : List ℕ) (n : ℕ) → All (λ b. b < 256) octets → IsBase128 octets n → length octets ≤ length (shortest_base128 n) → octets ≡ shortest_base128 n
+  -- so with identifier octets of the same fields
+  pub identifier_only : (octets : List ℕ) (c : ASN1Class) (k : Bool) (n : ℕ) → All (λ b. b < 256) octets → IsIdentifier octets c k n → length octets ≤ length (shortest_identifier c k n) → octets ≡ shortest_identifier c k n
+  -- so with length octets of the same length, but that 80 (hexadecimal) is as short as 00 for the length 0
+  pub length_only : (octets : List ℕ) (n : ℕ) → All (λ b. b < 256) octets → octets ≢ 128 ∷ [] → IsLength octets n → length octets ≤ length (shortest_length n) → octets ≡ shortest_length n
+  -- the shortest octets of a base-128 number do not begin with 80 (hexadecimal; X.690 8.19.2)
+  pub base128_leading : (n : ℕ) (rest : List ℕ) → shortest_base128 n ≢ 128 ∷ rest
 
 -- all octets have one reading
 pub record OneReading : Type 0 where

@@ -2,8 +2,8 @@
 ghost use Rattle.simple_asn1.specs.Laws.{HeaderLaws, OneReading};
 
 /// A law, with no code. Base-128 numbers, identifier octets, length octets and encodings end where they end: none of
-/// them begins another. The shortest forms, which are written, are such octets, and no others of the same value are
-/// fewer.
+/// them begins another. The shortest forms, which are written, are such octets, and all others of the same value are
+/// longer, with one exception: for the length 0 the octet 80 (hexadecimal) is as short as 00.
 pub fn law_header()
     ensures { HeaderLaws }
 {}
