@@ -1,6 +1,6 @@
 // The numbers that blocks hold.
 use crate::notation::{hex_of, octets};
-use simple_asn1::{BigInt, BigUint, decode_base127, rewrite};
+use simple_asn1::{BigInt, BigUint, decode_base127, law_integer, rewrite};
 use std::alloc::Global;
 use std::process::Abort;
 use std::test::Fail;
@@ -90,6 +90,7 @@ fn whole_numbers_are_converted(rt: HostRuntime) -> Result<(), Fail> {
     ] {
         check_whole(&rt, rt.alloc(), input, n, shortest)?;
     }
+    law_integer();
     Ok(())
 }
 

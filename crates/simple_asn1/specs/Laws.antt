@@ -1,14 +1,16 @@
 -- Laws of the definitions. A slice can hold fewer than 2 ^ 64 octets.
-use Rattle.std.specs.Prelude.{◌≡◌, ◌↔◌, ◌⊎◌, ℕ, ◌<◌, ◌≤◌, ◌^◌, ◌++◌, Bool, List, length, All}
+use Rattle.std.specs.Prelude.{◌≡◌, ◌≢◌, ◌↔◌, ◌⊎◌, ℕ, ◌<◌, ◌≤◌, ◌^◌, ◌++◌, Bool, List, [], ◌∷◌, ℤ, length, All}
 use Rattle.simple_asn1.specs.declared.header.ASN1Class.{ASN1Class}
 use Rattle.simple_asn1.specs.Base128.{IsBase128, shortest_base128}
+use Rattle.simple_asn1.specs.TwosComplement.{signed_number, shortest_octets}
 use Rattle.simple_asn1.specs.Header.{IsIdentifier, IsLength, Encoding, shortest_identifier, shortest_length}
 use Rattle.simple_asn1.specs.Fault.{DecodeFault, IsOfReading}
 use Rattle.simple_asn1.specs.Tree.{Tree, Trees}
 use Rattle.simple_asn1.specs.Grammar.{IsBlock, Encodes, Document, FirstFault}
 use Rattle.simple_asn1.specs.HeadersBegun.{HeadersBegun, all_blocks_in}
 
--- the parts of a header, and encodings, end where they end: none begins another. The shortest forms are such parts
+-- the parts of a header, and encodings, end where they end: none begins another. Each shortest form is such a part,
+-- and the one shortest
 pub record HeaderLaws : Type 0 where
   -- of two base-128 numbers at the front of the same octets, the octets and the numbers are equal
   pub one_base128 : (s t x y : List ℕ) (m n : ℕ) → IsBase128 s m → IsBase128 t n → s ++ x ≡ t ++ y → (s ≡ t) × (m ≡ n)
@@ -30,6 +32,31 @@ pub record HeaderLaws : Type 0 where
   pub identifier_shortest : (octets : List ℕ) (c : ASN1Class) (k : Bool) (n : ℕ) → IsIdentifier octets c k n → length (shortest_identifier c k n) ≤ length octets
   -- no length octets of the same length are fewer, where each is an octet
   pub length_shortest : (octets : List ℕ) (n : ℕ) → All (λ b. b < 256) octets → IsLength octets n → length (shortest_length n) ≤ length octets
+  -- no other octets of the same base-128 number are as few, where each is an octet
+  pub base128_only : (octets : List ℕ) (n : ℕ) → All (λ b. b < 256) octets → IsBase128 octets n → length octets ≤ length (shortest_base128 n) → octets ≡ shortest_base128 n
+  -- so with identifier octets of the same fields
+  pub identifier_only : (octets : List ℕ) (c : ASN1Class) (k : Bool) (n : ℕ) → All (λ b. b < 256) octets → IsIdentifier octets c k n → length octets ≤ length (shortest_identifier c k n) → octets ≡ shortest_identifier c k n
+  -- so with length octets of the same length, but that 80 (hexadecimal) is as short as 00 for the length 0
+  pub length_only : (octets : List ℕ) (n : ℕ) → All (λ b. b < 256) octets → octets ≢ 128 ∷ [] → IsLength octets n → length octets ≤ length (shortest_length n) → octets ≡ shortest_length n
+  -- the shortest octets of a base-128 number do not begin with 80 (hexadecimal; X.690 8.19.2)
+  pub base128_leading : (n : ℕ) (rest : List ℕ) → shortest_base128 n ≢ 128 ∷ rest
+
+-- the two's complement octets that are written of a whole number are its one shortest
+pub record IntegerLaws : Type 0 where
+  -- the shortest octets of a number have that number
+  pub number : (n : ℤ) → signed_number (shortest_octets n) ≡ n
+  -- they are one or more
+  pub some : (n : ℤ) → 0 < length (shortest_octets n)
+  -- each is an octet
+  pub below : (n : ℤ) → All (λ b. b < 256) (shortest_octets n)
+  -- no octets of the same number are fewer, where they are one or more and each is an octet
+  pub shortest : (octets : List ℕ) (n : ℤ) → 0 < length octets → All (λ b. b < 256) octets → signed_number octets ≡ n → length (shortest_octets n) ≤ length octets
+  -- and no others are as few, where so
+  pub only : (octets : List ℕ) (n : ℤ) → 0 < length octets → All (λ b. b < 256) octets → signed_number octets ≡ n → length octets ≤ length (shortest_octets n) → octets ≡ shortest_octets n
+  -- of two octets or more, the first nine bits are not all zeros (X.690 8.3.2)
+  pub not_zeros : (n : ℤ) (c : ℕ) (rest : List ℕ) → c < 128 → shortest_octets n ≢ 0 ∷ c ∷ rest
+  -- nor all ones
+  pub not_ones : (n : ℤ) (c : ℕ) (rest : List ℕ) → 128 ≤ c → shortest_octets n ≢ 255 ∷ c ∷ rest
 
 -- all octets have one reading
 pub record OneReading : Type 0 where

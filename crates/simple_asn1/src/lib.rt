@@ -36,7 +36,7 @@ pub use crate::header::{
     ASN1Class, HeaderCount, decode_base127, decode_class, decode_length, decode_tag,
     encode_base127, encode_class, encode_len, encode_tag,
 };
-pub use crate::laws::{law_header, law_one_reading};
+pub use crate::laws::{law_header, law_integer, law_one_reading};
 pub use crate::number::big_int::BigInt;
 pub use crate::number::big_uint::BigUint;
 pub use crate::read::{from_der, from_der_counted};
