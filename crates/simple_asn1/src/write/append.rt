@@ -75,12 +75,12 @@ pub(crate) fn append_block(b: &ASN1Block, lengths: &[usize], next: &mut usize, o
         }
         ASN1Block::OctetString(_, v) => append_known(0x04, v, out),
         ASN1Block::Null(_) => append_known(0x05, &[], out),
-        ASN1Block::UTF8String(_, s) => append_known_utf8(0x0C, s.as_str(), out),
-        ASN1Block::PrintableString(_, s) => append_known_characters(0x13, size, s.as_str(), out),
-        ASN1Block::TeletexString(_, s) => append_known_utf8(0x14, s.as_str(), out),
-        ASN1Block::IA5String(_, s) => append_known_characters(0x16, size, s.as_str(), out),
-        ASN1Block::UniversalString(_, s) => append_known_utf8(0x1C, s.as_str(), out),
-        ASN1Block::BMPString(_, s) => append_known_utf8(0x1E, s.as_str(), out),
+        ASN1Block::UTF8String(_, s) => append_known_utf8(0x0C, s, out),
+        ASN1Block::PrintableString(_, s) => append_known_characters(0x13, size, s, out),
+        ASN1Block::TeletexString(_, s) => append_known_utf8(0x14, s, out),
+        ASN1Block::IA5String(_, s) => append_known_characters(0x16, size, s, out),
+        ASN1Block::UniversalString(_, s) => append_known_utf8(0x1C, s, out),
+        ASN1Block::BMPString(_, s) => append_known_utf8(0x1E, s, out),
         ASN1Block::Sequence(_, items) => {
             append_known_header(0x30, size, out);
             append_all(items, lengths, next, out);
