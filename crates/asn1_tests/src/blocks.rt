@@ -1,6 +1,6 @@
 // Blocks made by hand: written, compared and cloned.
 use crate::notation::{hex_of, octets, text_of};
-use simple_asn1::{ASN1Block, ASN1Class, BigInt, BigUint, from_der, to_der};
+use simple_asn1::{ASN1Block, ASN1Class, BigUint, from_der, to_der};
 use std::alloc::Global;
 use std::process::Abort;
 use std::test::Fail;
@@ -31,9 +31,6 @@ fn check_written(
 #[test]
 fn blocks_are_written(rt: HostRuntime) -> Result<(), Fail> {
     let alloc = rt.alloc();
-    let large = BigInt::from_signed_bytes_be(alloc, &octets(alloc, "01 00 00 00 00 00 00 00 00")?)?;
-    let large = ASN1Block::Integer(0, large);
-    check_written(&rt, alloc, &large, "02 09 01 00 00 00 00 00 00 00 00")?;
     check_written(
         &rt,
         alloc,
@@ -83,7 +80,7 @@ fn an_explicit_of_class_universal_is_read_by_its_tag(rt: HostRuntime) -> Result<
     check_back(&rt, alloc, &block, "22 02 05 00", "Integer(0, 1280)")
 }
 
-// Zero octets of this size are written with this header.
+// So many octets 00 are written with this header.
 fn check_header(rt: &impl Abort, alloc: Global, size: usize, header: &str) -> Result<(), Fail> {
     let mut contents = Vec::new(alloc);
     contents.resize(size, 0)?;

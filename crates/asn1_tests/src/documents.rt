@@ -40,12 +40,27 @@ fn leaves_and_groups_are_read(rt: HostRuntime) -> Result<(), Fail> {
             "30 06 02 01 01 04 01 02",
             "Sequence(0, [Integer(2, 1), OctetString(5, [02])])",
         ),
+        ("30 81 02 05 00", "Sequence(0, [Null(3)])"),
         (
             "31 05 01 01 00 05 00",
             "Set(0, [Boolean(2, false), Null(5)])",
         ),
     ] {
         check_read(&rt, rt.alloc(), input, blocks)?;
+    }
+    Ok(())
+}
+
+#[test]
+fn tags_that_are_not_carried_yet_are_unknown(rt: HostRuntime) -> Result<(), Fail> {
+    for (input, blocks) in [
+        ("06 01 2A", "Unknown(Universal, false, 0, 6, [2A])"),
+        ("06 00", "Unknown(Universal, false, 0, 6, [])"),
+        ("17 00", "Unknown(Universal, false, 0, 23, [])"),
+        ("18 00", "Unknown(Universal, false, 0, 24, [])"),
+    ] {
+        check_read(&rt, rt.alloc(), input, blocks)?;
+        check_rewritten(&rt, rt.alloc(), input, input)?;
     }
     Ok(())
 }
@@ -241,6 +256,7 @@ fn documents_are_rewritten(rt: HostRuntime) -> Result<(), Fail> {
         ("05 00", "05 00"),
         ("02 01 01 04 01 02", "02 01 01 04 01 02"),
         ("30 06 02 01 01 04 01 02", "30 06 02 01 01 04 01 02"),
+        ("30 81 02 05 00", "30 02 05 00"),
         ("31 05 01 01 00 05 00", "31 05 01 01 00 05 00"),
         ("A0 03 30 81 00", "A0 03 30 81 00"),
     ] {

@@ -1,5 +1,5 @@
-//! Tests of `simple_asn1` through its public calls: worked documents, header vectors, printed texts and deep nesting.
-//! What the contracts of that crate say of all inputs is proved there and has no test here.
+//! Tests of `simple_asn1` through its public calls: values that were worked out outside it, for what its contracts say,
+//! and what no contract says: answers with ample memory, printed texts, equal errors, deep nesting.
 #![tactic(auto)]
 
 #[cfg(test)]

@@ -1,6 +1,9 @@
 // The numbers that blocks hold.
 use crate::notation::{hex_of, octets};
-use simple_asn1::{BigInt, BigUint, decode_base127, law_integer, rewrite};
+use simple_asn1::{
+    ASN1Block, ASN1Class, BigInt, BigUint, decode_base127, encode_base127, encode_tag, rewrite,
+    to_der,
+};
 use std::alloc::Global;
 use std::process::Abort;
 use std::test::Fail;
@@ -28,26 +31,53 @@ fn natural_numbers_are_converted(rt: HostRuntime) -> Result<(), Fail> {
     Ok(())
 }
 
+// A number past a `u64` with this base-128 form is read, compared, cloned and written; `other` is another number.
+fn check_large_natural(
+    rt: &impl Abort,
+    alloc: Global,
+    digits: &str,
+    other: &str,
+) -> Result<(), Fail> {
+    let number = decode_base127(alloc, &octets(alloc, digits)?, &mut 0)?;
+    assert_eq!(rt; number.to_u64(), None, "{digits}");
+    assert_eq!(rt; number.to_u8(), None, "{digits}");
+    let other = decode_base127(alloc, &octets(alloc, other)?, &mut 0)?;
+    assert!(rt; number != other, "{digits}");
+    assert!(rt; number.clone(alloc)? == number, "the clone of {digits}");
+    let written = encode_base127(alloc, &number)?;
+    assert_eq!(rt; hex_of(alloc, &written)?.as_str(), digits);
+    Ok(())
+}
+
+// Identifier octets with this tag number are written, and a document that begins with them is rewritten the same.
+fn check_large_tag(rt: &impl Abort, alloc: Global, digits: &str) -> Result<(), Fail> {
+    let tag = decode_base127(alloc, &octets(alloc, digits)?, &mut 0)?;
+    let mut document = encode_tag(alloc, ASN1Class::ContextSpecific, false, &tag)?;
+    let mut identifier = String::from_str(alloc, "9F ")?;
+    identifier.push_str(digits)?;
+    assert_eq!(rt; hex_of(alloc, &document)?.as_str(), identifier.as_str());
+    document.push(0)?;
+    let rewritten = rewrite(alloc, &document)?;
+    assert_eq!(rt; rewritten.as_slice(), document.as_slice(), "{digits}");
+    Ok(())
+}
+
 #[test]
 fn natural_numbers_pass_64_bits(rt: HostRuntime) -> Result<(), Fail> {
-    let alloc = rt.alloc();
-    let mut index = 0;
-    let number = decode_base127(
-        alloc,
-        &octets(alloc, "82 80 80 80 80 80 80 80 80 00")?,
-        &mut index,
-    )?;
-    assert_eq!(rt; index, 10);
-    assert_eq!(rt; number.to_u64(), None);
-    assert_eq!(rt; number.to_u8(), None);
-    assert!(rt; number.clone(alloc)? == number);
-    // A tag number of 20 digits.
-    let document = octets(
-        alloc,
-        "9F 81 80 80 80 80 80 80 80 80 80 80 80 80 80 80 80 80 80 80 05 00",
-    )?;
-    let rewritten = rewrite(alloc, &document)?;
-    assert_eq!(rt; rewritten.as_slice(), document.as_slice());
+    // The numbers are 2^64, 2^64 + 1, 2^133 + 5 and 2^133 + 6.
+    for (digits, other) in [
+        (
+            "82 80 80 80 80 80 80 80 80 00",
+            "82 80 80 80 80 80 80 80 80 01",
+        ),
+        (
+            "81 80 80 80 80 80 80 80 80 80 80 80 80 80 80 80 80 80 80 05",
+            "81 80 80 80 80 80 80 80 80 80 80 80 80 80 80 80 80 80 80 06",
+        ),
+    ] {
+        check_large_natural(&rt, rt.alloc(), digits, other)?;
+        check_large_tag(&rt, rt.alloc(), digits)?;
+    }
     Ok(())
 }
 
@@ -90,24 +120,46 @@ fn whole_numbers_are_converted(rt: HostRuntime) -> Result<(), Fail> {
     ] {
         check_whole(&rt, rt.alloc(), input, n, shortest)?;
     }
-    law_integer();
+    Ok(())
+}
+
+// A number past an `i64` with these shortest octets is read, compared, cloned and written, also as a block; `other` is
+// another number.
+fn check_large_whole(
+    rt: &impl Abort,
+    alloc: Global,
+    shortest: &str,
+    other: &str,
+    block: &str,
+) -> Result<(), Fail> {
+    let number = BigInt::from_signed_bytes_be(alloc, &octets(alloc, shortest)?)?;
+    assert_eq!(rt; number.to_i64(), None, "{shortest}");
+    let other = BigInt::from_signed_bytes_be(alloc, &octets(alloc, other)?)?;
+    assert!(rt; number != other, "{shortest}");
+    assert!(rt; number.clone(alloc)? == number, "the clone of {shortest}");
+    let written = number.to_signed_bytes_be(alloc)?;
+    assert_eq!(rt; hex_of(alloc, &written)?.as_str(), shortest);
+    let written = to_der(alloc, &ASN1Block::Integer(0, number))?;
+    assert_eq!(rt; hex_of(alloc, &written)?.as_str(), block);
     Ok(())
 }
 
 #[test]
 fn whole_numbers_pass_64_bits(rt: HostRuntime) -> Result<(), Fail> {
-    let alloc = rt.alloc();
-    let number = BigInt::from_signed_bytes_be(
-        alloc,
-        &octets(alloc, "01 00 00 00 00 00 00 00 00")?,
-    )?;
-    assert_eq!(rt; number.to_i64(), None);
-    assert!(rt; number != BigInt::from_i64(alloc, 0)?);
-    assert!(rt; number.clone(alloc)? == number);
-    let written = number.to_signed_bytes_be(alloc)?;
-    assert_eq!(rt;
-        hex_of(alloc, &written)?.as_str(),
-        "01 00 00 00 00 00 00 00 00"
-    );
+    // The numbers are 2^64, 2^64 + 1, 2^127 and 2^127 + 1.
+    for (shortest, other, block) in [
+        (
+            "01 00 00 00 00 00 00 00 00",
+            "01 00 00 00 00 00 00 00 01",
+            "02 09 01 00 00 00 00 00 00 00 00",
+        ),
+        (
+            "00 80 00 00 00 00 00 00 00 00 00 00 00 00 00 00 00",
+            "00 80 00 00 00 00 00 00 00 00 00 00 00 00 00 00 01",
+            "02 11 00 80 00 00 00 00 00 00 00 00 00 00 00 00 00 00 00",
+        ),
+    ] {
+        check_large_whole(&rt, rt.alloc(), shortest, other, block)?;
+    }
     Ok(())
 }

@@ -4,7 +4,7 @@ use std::io;
 use std::io::{ErrorKind, Read, Write};
 use std::test::Fail;
 
-// Hands out one byte a call, and fails at the call after so many.
+// Gives a single octet for each of its first `calls` reads, while there is one, and then a fault.
 #[derive(Drop)]
 struct FailingReader<'a> {
     bytes: &'a [u8],
@@ -26,7 +26,7 @@ impl Read for FailingReader<'_> {
     }
 }
 
-// Takes so many writes, and fails at the next, and at each flush.
+// Has a fault at each flush, and at each write but the first `writes`.
 #[derive(Drop)]
 struct FailingWriter {
     writes: usize,
@@ -46,13 +46,15 @@ impl Write for FailingWriter {
     }
 }
 
+// The lines of the stored run, in `stdin` and `stdout` beside `src`, and their answers.
+const LINES: &str = "0280\nzz\n0489\n";
+
+const ANSWERS: &str = "ok 020100\nbadhex\nrefused LengthTooLarge 9\n";
+
 #[test]
 fn each_line_has_its_answer(rt: HostRuntime) -> Result<(), Fail> {
     for (input, output) in [
-        (
-            "0280\nzz\n0489\n",
-            "ok 020100\nbadhex\nrefused LengthTooLarge 9\n",
-        ),
+        (LINES, ANSWERS),
         (
             "0280\n3000\nzz\n0489\n\n",
             "ok 020100\nrefused EmptyBuffer\nbadhex\nrefused LengthTooLarge 9\nrefused EmptyBuffer\n",
@@ -87,7 +89,7 @@ fn each_line_has_its_answer(rt: HostRuntime) -> Result<(), Fail> {
 fn a_fault_of_a_stream_is_told(rt: HostRuntime) -> Result<(), Fail> {
     for calls in 0..3 {
         let mut reader = FailingReader {
-            bytes: "0280\n".as_bytes(),
+            bytes: LINES.as_bytes(),
             calls,
         };
         let mut writer = Vec::new(rt.alloc());
@@ -96,15 +98,15 @@ fn a_fault_of_a_stream_is_told(rt: HostRuntime) -> Result<(), Fail> {
         assert!(rt; writer.is_empty(), "after {calls} calls");
     }
     let mut reader = FailingReader {
-        bytes: "0280\n".as_bytes(),
-        calls: 6,
+        bytes: LINES.as_bytes(),
+        calls: 14,
     };
     let mut writer = Vec::new(rt.alloc());
     let outcome = run(rt.alloc(), &mut reader, &mut writer);
     assert_eq!(rt; outcome, Ok(()));
-    assert_eq!(rt; writer.as_slice(), b"ok 020100\n".as_slice());
+    assert_eq!(rt; writer.as_slice(), ANSWERS.as_bytes());
     for writes in 0..2 {
-        let mut reader = "0280\n".as_bytes();
+        let mut reader = LINES.as_bytes();
         let mut writer = FailingWriter { writes };
         let outcome = run(rt.alloc(), &mut reader, &mut writer);
         assert_eq!(rt; outcome, Err(ToolFault::Write), "after {writes} writes");

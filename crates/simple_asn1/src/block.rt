@@ -17,18 +17,18 @@ pub enum GroupKind {
     Set,
 }
 
-/// A block. The first `usize` of each variant is its offset, in bytes: where its first octet stands
-/// from the start of the document. It plays no part in equality or in writing.
+/// A block. The first `usize` of each variant is its offset, in octets: where its first octet stands from the start of
+/// the document. It plays no part in equality or in writing.
 #[derive(Debug, Drop)]
 pub enum ASN1Block {
     /// BOOLEAN (X.690 8.2): its value.
     Boolean(usize, bool),
     /// INTEGER (X.690 8.3): the number, of any size.
     Integer(usize, BigInt),
-    /// BIT STRING (X.690 8.6): the number of bits, and the bytes that hold them, the first bit the
-    /// most significant of the first byte. The other bits of these bytes are unused.
+    /// BIT STRING (X.690 8.6): the number of bits, and the octets that hold them, the first bit the most significant of
+    /// the first octet. The other bits of these octets are unused.
     BitString(usize, usize, Vec<u8>),
-    /// OCTET STRING (X.690 8.7): its bytes.
+    /// OCTET STRING (X.690 8.7): its octets.
     OctetString(usize, Vec<u8>),
     /// NULL (X.690 8.8), which has no value.
     Null(usize),
@@ -48,11 +48,11 @@ pub enum ASN1Block {
     Sequence(usize, Vec<ASN1Block>),
     /// SET or SET OF (X.690 8.11, 8.12): its items in the order of their octets.
     Set(usize, Vec<ASN1Block>),
-    /// A constructed encoding of another class around one block, as explicit tagging makes it
-    /// (X.690 8.14): class, offset, tag number, the block.
+    /// A constructed encoding of another class around one block, as explicit tagging makes it (X.690 8.14): class,
+    /// offset, tag number, the block.
     Explicit(ASN1Class, usize, BigUint, Box<ASN1Block>),
-    /// Any other encoding (X.690 8.1.1): class, whether it is constructed, offset, tag number, and
-    /// the bytes of its contents as they came.
+    /// Any other encoding (X.690 8.1.1): class, whether it is constructed, offset, tag number, and its contents octets
+    /// as they came.
     Unknown(ASN1Class, bool, usize, BigUint, Vec<u8>),
 }
 
@@ -91,6 +91,10 @@ impl ASN1Block {
     }
 
     /// The same block, offsets too. The only error is that memory ran out.
+    ///
+    /// Memory is taken for each box of the tree, each vector and text that is not empty, and each number of more than
+    /// 16 octets or base-128 digits: one allocation each. Beside it, cloning keeps a call on the stack for each level
+    /// of nesting.
     pub fn clone(&self, alloc: Global) -> Result<ASN1Block, AllocError>
         ensures { IfOk result (λ b. view b ≡ view self.now) }
     {

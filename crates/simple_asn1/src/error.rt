@@ -15,9 +15,9 @@ pub enum ASN1DecodeErr {
     /// The contents octets of a BOOLEAN are not one; their number.
     #[error("Bad length field in boolean block: {0}")]
     BadBooleanLength(usize),
-    /// A length that passes a `usize`: the number of octets that follow the initial length octet,
-    /// if that is more than 8; the length, if the contents octets would end past a `usize`; for a
-    /// BIT STRING the number of contents octets whose bits a `usize` can't count.
+    /// A length that passes a `usize`: the number of octets that follow the initial length octet, if that is more than
+    /// 8; the length, if the contents octets would end past a `usize`; for a BIT STRING the number of contents octets
+    /// whose bits a `usize` can't count.
     #[error("Length field too large for object type: {0}")]
     LengthTooLarge(usize),
     /// Contents octets of a UTF8String, TeletexString, UniversalString or BMPString are no UTF-8.
@@ -26,11 +26,11 @@ pub enum ASN1DecodeErr {
     /// A contents octet of a PrintableString is none of its 74 characters (X.680 table 10).
     #[error("Printable string failed to properly decode.")]
     PrintableStringDecodeFailure,
-    /// A time is no valid moment; its text, or the number of its octets.
+    /// A time is no valid moment; its text, or the number of its octets. Not answered yet.
     #[error("Invalid date value: {0}")]
     InvalidDateValue(String),
-    /// The initial contents octet of a BIT STRING counts more unused bits than the octets after it
-    /// have; the number of those bits less the count, which is below 0.
+    /// The initial contents octet of a BIT STRING counts more unused bits than the octets after it have; the number of
+    /// those bits less the count, which is below 0.
     #[error("Invalid length of bit string: {0}")]
     InvalidBitStringLength(isize),
     /// A class that does not exist. Never answered.
@@ -39,7 +39,7 @@ pub enum ASN1DecodeErr {
     /// More octets were expected. Octets that mean something else can lead to it.
     #[error("Incomplete data or invalid ASN1")]
     Incomplete,
-    /// A component of an object identifier does not fit the type that was asked for.
+    /// A component of an object identifier does not fit the type that was asked for. Not answered yet.
     #[error("Value overflow")]
     Overflow,
     /// Memory ran out. Nothing is said of the octets.
@@ -47,7 +47,7 @@ pub enum ASN1DecodeErr {
     OutOfMemory,
 }
 
-/// What a copy, a text or a reserved size answers where memory runs out.
+/// Makes `OutOfMemory` of what a copy, a text or a reserved size answers where memory runs out.
 impl From<AllocError> for ASN1DecodeErr {
     ghost use Rattle.simple_asn1.specs.declared.error.ASN1DecodeErr.TheVariants.{OutOfMemory};
 
@@ -58,7 +58,7 @@ impl From<AllocError> for ASN1DecodeErr {
     }
 }
 
-/// What a `push` and a `Box` answer, which hand back what they could not keep.
+/// Makes `OutOfMemory` of what a `push` and a `Box` answer there, which hand back what they could not keep.
 impl<T: Drop> From<AllocFailed<T>> for ASN1DecodeErr {
     ghost use Rattle.simple_asn1.specs.declared.error.ASN1DecodeErr.TheVariants.{OutOfMemory};
 
@@ -99,23 +99,22 @@ impl ASN1DecodeErr {
 /// Why a block was not written.
 #[derive(Debug, Drop, Error, PartialEq)]
 pub enum ASN1EncodeErr {
-    /// An object identifier has fewer than two components.
+    /// An object identifier has fewer than two components. Not answered yet.
     #[error("ASN1 object identifier has too few fields.")]
     ObjectIdentHasTooFewFields,
-    /// The first component of an object identifier is above 2.
+    /// The first component of an object identifier is above 2. Not answered yet.
     #[error("First value in ASN1 OID is too big.")]
     ObjectIdentVal1TooLarge,
-    /// The second component of an object identifier is too large for the first subidentifier.
+    /// The second component of an object identifier is too large for the first subidentifier. Not answered yet.
     #[error("Second value in ASN1 OID is too big.")]
     ObjectIdentVal2TooLarge,
-    /// A bit string has more bits than 8 for each of its bytes, or some bits and more than 255
-    /// unused ones.
+    /// A bit string has more bits than 8 for each of its octets, or some bits and more than 255 unused ones.
     #[error("Bit count does not fit the bytes of the bit string")]
     BitStringLength,
     /// A PrintableString or IA5String, of one octet a character, holds a character past 255.
     #[error("Character does not fit one byte")]
     CharacterTooLarge,
-    /// The year of a time is below 0.
+    /// The year of a time is below 0. Not answered yet.
     #[error("Year is below 0")]
     YearOutOfRange,
     /// Memory ran out. Nothing is said of the block.
@@ -123,7 +122,7 @@ pub enum ASN1EncodeErr {
     OutOfMemory,
 }
 
-/// What a copy, a text or a reserved size answers where memory runs out.
+/// Makes `OutOfMemory` of what a copy, a text or a reserved size answers where memory runs out.
 impl From<AllocError> for ASN1EncodeErr {
     ghost use Rattle.simple_asn1.specs.declared.error.ASN1EncodeErr.TheVariants.{OutOfMemory};
 
@@ -134,7 +133,7 @@ impl From<AllocError> for ASN1EncodeErr {
     }
 }
 
-/// What a `push` and a `Box` answer, which hand back what they could not keep.
+/// Makes `OutOfMemory` of what a `push` and a `Box` answer there, which hand back what they could not keep.
 impl<T: Drop> From<AllocFailed<T>> for ASN1EncodeErr {
     ghost use Rattle.simple_asn1.specs.declared.error.ASN1EncodeErr.TheVariants.{OutOfMemory};
 

@@ -15,9 +15,13 @@ use std::marker::Model;
 /// The class of a tag (X.690 8.1.2.2).
 #[derive(Clone, Copy, Debug, PartialEq)]
 pub enum ASN1Class {
+    /// Bits 8 and 7 of the leading octet are 00 (X.690 table 1).
     Universal,
+    /// Bits 8 and 7 of the leading octet are 01 (X.690 table 1).
     Application,
+    /// Bits 8 and 7 of the leading octet are 10 (X.690 table 1).
     ContextSpecific,
+    /// Bits 8 and 7 of the leading octet are 11 (X.690 table 1).
     Private,
 }
 
@@ -96,10 +100,11 @@ fn tag_at(
 }
 
 /// Reads identifier octets (X.690 8.1.2) at `index`, and moves the index past them. Adds one to the count, whatever the
-/// answer.
+/// answer. It asks that the count is below the greatest `u64`.
 ///
 /// Gives the tag number, whether the encoding is constructed, and the class. The long form is read for any number, and
-/// with leading octets 80. After a refusal the index stands where it stood.
+/// with leading octets 80. After a refusal the index stands where it stood. A tag number below 2^112, so of up to 16
+/// base-128 digits, takes no memory; a greater one takes one allocation, which may grow.
 ///
 /// # Errors
 /// `Incomplete` where the octets run out, also for an index past the end; `OutOfMemory`.
@@ -126,8 +131,9 @@ pub fn decode_tag(
     Ok(tag)
 }
 
-/// Reads a base-128 number (X.690 8.1.2.4.2) at `index`, and moves the index past it. Leading octets 80 are read.
-/// After a refusal the index stands where it stood.
+/// Reads a base-128 number (X.690 8.1.2.4.2) at `index`, and moves the index past it. Leading octets 80 are read. After
+/// a refusal the index stands where it stood. A number of up to 16 digits, leading zeros aside, takes no memory; a
+/// greater one takes one allocation, which may grow.
 ///
 /// # Errors
 /// `Incomplete` where the octets run out, also for an index past the end; `OutOfMemory`.
@@ -337,8 +343,8 @@ pub(crate) fn append_header(
     append_length(size, out);
 }
 
-/// The shortest identifier octets of the tag (X.690 8.1.2.2, 8.1.2.4.2), in one allocation of their
-/// size. The only error is that memory ran out.
+/// The shortest identifier octets of the tag (X.690 8.1.2.2, 8.1.2.4.2), in one allocation of their size. The only
+/// error is that memory ran out.
 pub fn encode_tag(
     alloc: Global,
     class: ASN1Class,

@@ -18,17 +18,16 @@ use crate::write::append::{append_all, append_block};
 use crate::write::measure::{measure_all, measure_block};
 use std::alloc::Global;
 
-/// The canonical octets of a block: every length definite and in its shortest form (X.690 10.1),
-/// every tag number (X.690 8.1.2.2, 8.1.2.4.2) and integer (X.690 8.3.2) in its shortest, SETs in
-/// the order that they have.
+/// The canonical octets of a block: every length definite and in its shortest form (X.690 10.1), every tag number
+/// (X.690 8.1.2.2, 8.1.2.4.2) and integer (X.690 8.3.2) in its shortest, SETs in the order that they have. The contents
+/// octets of an `Unknown` are written as they are.
 ///
-/// The offsets play no part. Beside the result, writing keeps a `usize` for each block, and a call on the stack for each
-/// level of nesting.
+/// The offsets play no part. Beside the result, writing keeps a `usize` for each block, and a call on the stack for
+/// each level of nesting.
 ///
 /// # Errors
-/// The fault of the first block, in the order of the octets, that can't be written:
-/// `BitStringLength` or `CharacterTooLarge`; `OutOfMemory`, also where the octets would be more
-/// than memory can hold.
+/// The fault of the first block, in the order of the octets, that can't be written: `BitStringLength` or
+/// `CharacterTooLarge`; `OutOfMemory`, also where the octets would be more than memory can hold.
 pub fn to_der(alloc: Global, i: &ASN1Block) -> Result<Vec<u8>, ASN1EncodeErr>
     ensures encoded { IfOk result (λ v. v.items ≡ canonical (view i.now)) }
     ensures writable { OnOk result (write_fault (view i.now) ≡ None) }
@@ -43,6 +42,7 @@ pub fn to_der(alloc: Global, i: &ASN1Block) -> Result<Vec<u8>, ASN1EncodeErr>
 }
 
 /// The canonical octets of a document: reads it as [`from_der`] does, and joins what [`to_der`] writes of its blocks.
+/// Each length (X.690 10.1), tag number (X.690 8.1.2.2, 8.1.2.4.2) and integer (X.690 8.3.2) has its shortest form.
 ///
 /// # Errors
 /// Those of [`from_der`]. A document that was read is always written, so beside them it is `OutOfMemory` alone.
