@@ -39,7 +39,7 @@ abbrev pub UnlessOutOfMemory : {A : Type 0} → Result A ASN1DecodeErr → Type 
 UnlessOutOfMemory (Ok x) P = P
 UnlessOutOfMemory (Err e) P = (e ≡ OutOfMemory) ⊎ P
 
--- the fault is of octets that are read: of no class that doesn't exist, no overflow and no want of memory
+-- the fault is one that octets can have: no class that doesn't exist, no overflow, and not that memory ran out
 abbrev pub IsOfReading : DecodeFault → Type 0
 IsOfReading (invalid_class n) = ⊥
 IsOfReading overflow = ⊥
