@@ -41,7 +41,14 @@ UnlessOutOfMemory (Err e) P = (e ≡ OutOfMemory) ⊎ P
 
 -- the fault is one that octets can have: no class that doesn't exist, no overflow, and not that memory ran out
 abbrev pub IsOfReading : DecodeFault → Type 0
+IsOfReading empty_buffer = Unit {0}
+IsOfReading (bad_boolean_length n) = Unit {0}
+IsOfReading (length_too_large n) = Unit {0}
+IsOfReading utf8_failure = Unit {0}
+IsOfReading printable_string_failure = Unit {0}
+IsOfReading (invalid_date_value text) = Unit {0}
+IsOfReading (invalid_bit_string_length n) = Unit {0}
 IsOfReading (invalid_class n) = ⊥
+IsOfReading incomplete = Unit {0}
 IsOfReading overflow = ⊥
 IsOfReading out_of_memory = ⊥
-IsOfReading fault = Unit {0}
