@@ -1,4 +1,5 @@
 pub mod Base128
+pub mod Natural
 pub mod TwosComplement
 pub mod Fault
 pub mod Header
