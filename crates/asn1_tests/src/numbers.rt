@@ -38,7 +38,10 @@ fn check_large_natural(
     digits: &str,
     other: &str,
 ) -> Result<(), Fail> {
-    let number = decode_base127(alloc, &octets(alloc, digits)?, &mut 0)?;
+    let input = octets(alloc, digits)?;
+    let mut index = 0;
+    let number = decode_base127(alloc, &input, &mut index)?;
+    assert_eq!(rt; index, input.len(), "the index after {digits}");
     assert_eq!(rt; number.to_u64(), None, "{digits}");
     assert_eq!(rt; number.to_u8(), None, "{digits}");
     let other = decode_base127(alloc, &octets(alloc, other)?, &mut 0)?;
