@@ -103,8 +103,8 @@ fn tag_at(
 /// answer. It asks that the count is below the greatest `u64`.
 ///
 /// Gives the tag number, whether the encoding is constructed, and the class. The long form is read for any number, and
-/// with leading octets 80. After a refusal the index stands where it stood. A tag number below 2^112, so of up to 16
-/// base-128 digits, takes no memory; a greater one takes one allocation, which may grow.
+/// with leading octets 80. After a refusal the index stands where it stood. A tag number below 2^64 takes no memory; a
+/// greater one takes one allocation, which may grow.
 ///
 /// # Errors
 /// `Incomplete` where the octets run out, also for an index past the end; `OutOfMemory`.
@@ -132,8 +132,8 @@ pub fn decode_tag(
 }
 
 /// Reads a base-128 number (X.690 8.1.2.4.2) at `index`, and moves the index past it. Leading octets 80 are read. After
-/// a refusal the index stands where it stood. A number of up to 16 digits, leading zeros aside, takes no memory; a
-/// greater one takes one allocation, which may grow.
+/// a refusal the index stands where it stood. A number below 2^64 takes no memory; a greater one takes one allocation,
+/// which may grow.
 ///
 /// # Errors
 /// `Incomplete` where the octets run out, also for an index past the end; `OutOfMemory`.
