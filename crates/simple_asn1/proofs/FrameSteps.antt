@@ -1,5 +1,5 @@
 -- Open frames and their places.
-use Rattle.std.proofs.Common.{◌≡◌, ◌≢◌, ℕ, zero, suc, ◌+◌, ◌-◌, ◌<◌, ◌≤◌, ◌^◌, Bool, true, List, [], ◌∷◌, ◌++◌, inl, inr, length, take, drop, reverse, Result, Ok, Err, Option, Some, None, Vec, Global, IsErr, IsErrAnd, refl, sym, ap, ◌∙◌, subst, arith, length-append, drop-drop}
+use Rattle.std.proofs.Common.{◌≡◌, ◌≢◌, ℕ, zero, suc, ◌+◌, ◌-◌, ◌<◌, ◌≤◌, ◌^◌, Bool, true, List, [], ◌∷◌, ◌++◌, inl, inr, length, take, drop, reverse, Ok, Err, Some, None, IsErr, IsErrAnd, refl, sym, ap, ◌∙◌, subst, arith, length-append, drop-drop}
 use Rattle.std.specs.List.{slice_range}
 use Rattle.std.proofs.lemmas.List.{drop-take, take_all, reverse-append}
 use Rattle.simple_asn1.specs.declared.header.ASN1Class.{ASN1Class}
@@ -21,7 +21,7 @@ use Rattle.simple_asn1.specs.Tree.{Tree, group, unknown}
 use Rattle.simple_asn1.specs.View.{view, views}
 use Rattle.simple_asn1.specs.Grammar.{MayBeGroupContents, of_other_class, of_group, Encodes, EncodesAll, HeaderFault, BlockFault, in_header, in_contents, ContentsFault, of_item, of_empty_group, BlocksFault, after_blocks}
 use Rattle.simple_asn1.specs.HeadersBegun.{IsReadInside, HeadersBegun, begun_none, begun_some, inside_first, nothing_inside, nothing_after}
-use Rattle.simple_asn1.specs.OpenFrames.{IsKindFor, ReadTo, Headed, Opened, StopsAt, Stopping, Follows, Turned, Nearer, IsOpen, IsPut, Reading, left}
+use Rattle.simple_asn1.specs.OpenFrames.{IsKindFor, ReadTo, Headed, Opened, StopsAt, Stopping, Follows, Turn, Turned, Nearer, IsOpen, IsPut, Reading, left}
 use Rattle.simple_asn1.proofs.Prefixes.{encoding_alone}
 use Rattle.simple_asn1.proofs.OneReading.{encodes_block, encodes_blocks, block_some}
 use Rattle.simple_asn1.proofs.Faults.{block_is_blocks, block_fault_no_block, blocks_fault_no_blocks, header_no_encoding}
@@ -250,7 +250,7 @@ close_attempt octets f g gs n c x t b k means o =
     }
 
 -- a block was put into the innermost frame
-pub turned_put : (t : Result (Option (Vec ASN1Block Global)) ASN1DecodeErr) (octets : List ℕ) (a r : Reader) (p q n m count base : ℕ) (b : ASN1Block) → IsPut a q b t r → Opened octets a.inner (reverse a.outer.items) p n → Follows octets a.inner p q (view b) m → count ≡ base + (n + m) → Turned octets t r count base
+pub turned_put : (t : Turn) (octets : List ℕ) (a r : Reader) (p q n m count base : ℕ) (b : ASN1Block) → IsPut a q b t r → Opened octets a.inner (reverse a.outer.items) p n → Follows octets a.inner p q (view b) m → count ≡ base + (n + m) → Turned octets t r count base
 turned_put (Ok None) octets a r p q n m count base b u o w e =
     let s = opened_more octets a.inner r.inner (reverse a.outer.items) p q n m b u.0 u.1 u.2 u.3 o w in
     (n + m, e, subst (λ z. Opened octets r.inner (reverse r.outer.items) z (n + m)) (sym u.5) (subst (λ z. Opened octets r.inner (reverse z) q (n + m)) (sym u.4) s))
@@ -268,7 +268,7 @@ reverse_none [] e = refl
 reverse_none (x ∷ xs) e = absurd (omega (arith, e))
 
 -- a frame was opened
-pub turned_open : (t : Result (Option (Vec ASN1Block Global)) ASN1DecodeErr) (octets : List ℕ) (a r : Reader) (f : OpenFrame) (n count base : ℕ) → IsOpen a f t r → Opened octets f (a.inner ∷ reverse a.outer.items) f.start n → count ≡ base + n → count ≤ base + length octets → Turned octets t r count base
+pub turned_open : (t : Turn) (octets : List ℕ) (a r : Reader) (f : OpenFrame) (n count base : ℕ) → IsOpen a f t r → Opened octets f (a.inner ∷ reverse a.outer.items) f.start n → count ≡ base + n → count ≤ base + length octets → Turned octets t r count base
 turned_open (Ok None) octets a r f n count base u o e m =
     let s = subst (λ z. Opened octets f z f.start n) (sym (reverse_push r.outer.items a.outer.items a.inner u.1)) o in
     (n, e, subst (λ z. Opened octets r.inner (reverse r.outer.items) z n) (sym u.2) (subst (λ z. Opened octets z (reverse r.outer.items) f.start n) (sym u.0) s))
@@ -276,13 +276,13 @@ turned_open (Ok (Some v)) octets a r f n count base u o e m = absurd u
 turned_open (Err x) octets a r f n count base u o e m = inl (u, omega (arith, e), m)
 
 -- less than less is less
-pub nearer_more : (t : Result (Option (Vec ASN1Block Global)) ASN1DecodeErr) (r : Reader) (size a b : ℕ) → a ≤ b → Nearer size t r a → Nearer size t r b
+pub nearer_more : (t : Turn) (r : Reader) (size a b : ℕ) → a ≤ b → Nearer size t r a → Nearer size t r b
 nearer_more (Ok None) r size a b h n = omega (arith, h, n)
 nearer_more (Ok (Some v)) r size a b h n = tt
 nearer_more (Err e) r size a b h n = tt
 
 -- memory ran out
-pub turned_memory : (t : Result (Option (Vec ASN1Block Global)) ASN1DecodeErr) (octets : List ℕ) (r : Reader) (count base : ℕ) → IsErr t × IsErrAnd t (λ e. e ≡ OutOfMemory) → base ≤ count → count ≤ base + length octets → Turned octets t r count base
+pub turned_memory : (t : Turn) (octets : List ℕ) (r : Reader) (count base : ℕ) → IsErr t × IsErrAnd t (λ e. e ≡ OutOfMemory) → base ≤ count → count ≤ base + length octets → Turned octets t r count base
 turned_memory (Ok x) octets r count base e g h = absurd e.1
 turned_memory (Err x) octets r count base e g h = inl (e.1, g, h)
 
@@ -418,5 +418,5 @@ pub header_read : (octets : List ℕ) (r : Reader) (h : Header) (count base : �
 header_read octets r h count base w bounds found = header_found octets r.inner (reverse r.outer.items) r.index w.0 h.start h.end h.class h.constructed h.tag w.2 bounds found
 
 -- a fault leaves less to do
-pub nearer_refused : (t : Result (Option (Vec ASN1Block Global)) ASN1DecodeErr) (octets : List ℕ) (a r : Reader) → Places octets a.inner a.index → Nearer (length octets) t r (left (length octets) a.inner.end a.outer.items) → Nearer (length octets) t r (left (length octets) a.index a.outer.items)
+pub nearer_refused : (t : Turn) (octets : List ℕ) (a r : Reader) → Places octets a.inner a.index → Nearer (length octets) t r (left (length octets) a.inner.end a.outer.items) → Nearer (length octets) t r (left (length octets) a.index a.outer.items)
 nearer_refused t octets a r v n = nearer_more t r (length octets) (left (length octets) a.inner.end a.outer.items) (left (length octets) a.index a.outer.items) (omega (arith, v.to)) n

@@ -65,8 +65,12 @@ Stopping octets f gs e n = (p : ℕ) × (a : ℕ) × (b : ℕ) × Opened octets 
 abbrev pub Reading : List ℕ → Reader → ℕ → ℕ → Type 0
 Reading octets r count base = (n : ℕ) × (count ≡ base + n) × Opened octets r.inner (reverse r.outer.items) r.index n
 
--- where a turn leads: on with the reader, to the blocks of the document, or to an error, after which there is no reader
-abbrev pub Turned : List ℕ → Result (Option (Vec ASN1Block Global)) ASN1DecodeErr → Reader → ℕ → ℕ → Type 0
+-- what a turn answers: nothing as long as there is more to read, and the blocks of the document at its end
+abbrev pub Turn : Type 0
+Turn = Result (Option (Vec ASN1Block Global)) ASN1DecodeErr
+
+-- where a turn leads; after the last one nothing is said of the reader r
+abbrev pub Turned : List ℕ → Turn → Reader → ℕ → ℕ → Type 0
 Turned octets (Ok None) r count base = Reading octets r count base
 Turned octets (Ok (Some v)) r count base = EncodesAll 0 octets (views v.items) × (n : ℕ) × (count ≡ base + n) × HeadersBegun octets n
 Turned octets (Err e) r count base =
@@ -77,19 +81,19 @@ abbrev pub left : ℕ → ℕ → List OpenFrame → ℕ
 left size index outer = 2 * (size - index) + length outer
 
 -- a turn leaves less to do
-abbrev pub Nearer : ℕ → Result (Option (Vec ASN1Block Global)) ASN1DecodeErr → Reader → ℕ → Type 0
+abbrev pub Nearer : ℕ → Turn → Reader → ℕ → Type 0
 Nearer size (Ok None) r most = left size r.index r.outer.items < most
 Nearer size (Ok (Some v)) r most = Unit {0}
 Nearer size (Err e) r most = Unit {0}
 
 -- reading goes on at the start of the new frame f, inside what was the innermost frame of the reader a
-abbrev pub IsOpen : Reader → OpenFrame → Result (Option (Vec ASN1Block Global)) ASN1DecodeErr → Reader → Type 0
+abbrev pub IsOpen : Reader → OpenFrame → Turn → Reader → Type 0
 IsOpen a f (Ok None) r = (r.inner ≡ f) × (r.outer.items ≡ a.outer.items ++ a.inner ∷ []) × (r.index ≡ f.start)
 IsOpen a f (Ok (Some v)) r = ⊥
 IsOpen a f (Err e) r = e ≡ OutOfMemory
 
 -- the block was put at the end of the innermost frame of the reader a, and reading goes on at q
-abbrev pub IsPut : Reader → ℕ → ASN1Block → Result (Option (Vec ASN1Block Global)) ASN1DecodeErr → Reader → Type 0
+abbrev pub IsPut : Reader → ℕ → ASN1Block → Turn → Reader → Type 0
 IsPut a q b (Ok None) r =
     (r.inner.kind ≡ a.inner.kind) × (r.inner.start ≡ a.inner.start) × (r.inner.end ≡ a.inner.end) × (r.inner.blocks.items ≡ a.inner.blocks.items ++ b ∷ []) × (r.outer.items ≡ a.outer.items) × (r.index ≡ q)
 IsPut a q b (Ok (Some v)) r = ⊥

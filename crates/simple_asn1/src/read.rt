@@ -147,7 +147,7 @@ fn read_blocks(
     }
 }
 
-// Reads one header and what it leads, or closes a frame at its end. The blocks of the document come with its end.
+// Reads one header and what it leads, or closes a frame at its end. At the end of the document it gives the blocks.
 fn take_turn(
     alloc: Global,
     octets: &[u8],

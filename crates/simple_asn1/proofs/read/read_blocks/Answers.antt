@@ -1,16 +1,14 @@
-use Rattle.std.proofs.Common.{◌≡◌, ℕ, List, [], inl, inr, length, reverse, Result, Ok, Err, Option, Some, None, Vec, Global, refl, sym, ap, ◌∙◌, subst, arith}
+use Rattle.std.proofs.Common.{◌≡◌, ℕ, List, [], inl, inr, length, reverse, Ok, Err, Some, None, refl, sym, ap, ◌∙◌, subst, arith}
 use Rattle.std.proofs.lemmas.Grind.{common_steps}
 use Rattle.std.proofs.lemmas.Result.{err_from_is_err_and}
 use Rattle.std.specs.List.{slice_range}
 use Rattle.simple_asn1.specs.declared.read.FrameKind.TheVariants.{Whole}
 use Rattle.simple_asn1.specs.declared.read.OpenFrame.{OpenFrame}
 use Rattle.simple_asn1.specs.declared.read.Reader.{Reader}
-use Rattle.simple_asn1.specs.declared.block.ASN1Block.{ASN1Block}
-use Rattle.simple_asn1.specs.declared.error.ASN1DecodeErr.{ASN1DecodeErr}
 use Rattle.simple_asn1.specs.View.{views}
 use Rattle.simple_asn1.specs.Grammar.{EncodesAll}
 use Rattle.simple_asn1.specs.HeadersBegun.{begun_none}
-use Rattle.simple_asn1.specs.OpenFrames.{Opened, Turned}
+use Rattle.simple_asn1.specs.OpenFrames.{Opened, Turn, Turned}
 use Rattle.simple_asn1.proofs.ReadSteps.{no_octets}
 use Rattle.simple_asn1.proofs.HeaderCounts.{begun_le}
 use Rattle.simple_asn1.proofs.FrameSteps.{slice_none, opened_places, opened_bound}
@@ -37,7 +35,7 @@ take_turn-requires-clause-room c =
     omega (arith, v.to, v.within, u, c.loop-reader.invariant.1, c.requires.room)
 
 -- what a turn did, by its answer
-turned_as : (octets : List ℕ) (t u : Result (Option (Vec ASN1Block Global)) ASN1DecodeErr) (r : Reader) (count base : ℕ) → t ≡ u → Turned octets t r count base → Turned octets u r count base
+turned_as : (octets : List ℕ) (t u : Turn) (r : Reader) (count base : ℕ) → t ≡ u → Turned octets t r count base → Turned octets u r count base
 turned_as octets t u r count base is w = subst (λ z. Turned octets z r count base) is w
 
 pub loop-reader-preserved : goal.loop-reader-preserved
