@@ -1,5 +1,5 @@
 -- Open frames and their places.
-use Rattle.std.proofs.Common.{◌≡◌, ◌≢◌, ℕ, zero, suc, ◌+◌, ◌-◌, ◌<◌, ◌≤◌, ◌^◌, Bool, true, List, [], ◌∷◌, ◌++◌, inl, inr, length, take, drop, reverse, Result, Ok, Err, IsErr, IsErrAnd, refl, sym, ap, ◌∙◌, subst, arith, length-append, drop-drop}
+use Rattle.std.proofs.Common.{◌≡◌, ◌≢◌, ℕ, zero, suc, ◌+◌, ◌-◌, ◌<◌, ◌≤◌, ◌^◌, Bool, true, List, [], ◌∷◌, ◌++◌, inl, inr, length, take, drop, reverse, Ok, Err, Some, None, IsErr, IsErrAnd, refl, sym, ap, ◌∙◌, subst, arith, length-append, drop-drop}
 use Rattle.std.specs.List.{slice_range}
 use Rattle.std.proofs.lemmas.List.{drop-take, take_all, reverse-append}
 use Rattle.simple_asn1.specs.declared.header.ASN1Class.{ASN1Class}
@@ -16,14 +16,12 @@ use Rattle.simple_asn1.specs.declared.read.FrameKind.TheVariants.{Whole, Group, 
 use Rattle.simple_asn1.specs.declared.read.Header.{Header}
 use Rattle.simple_asn1.specs.declared.read.OpenFrame.{OpenFrame}
 use Rattle.simple_asn1.specs.declared.read.Reader.{Reader}
-use Rattle.simple_asn1.specs.declared.read.Turn.{Turn}
-use Rattle.simple_asn1.specs.declared.read.Turn.TheVariants.{Continues, Ends}
 use Rattle.simple_asn1.specs.declared.block.ASN1Block.{ASN1Block}
 use Rattle.simple_asn1.specs.Tree.{Tree, group, unknown}
 use Rattle.simple_asn1.specs.View.{view, views}
 use Rattle.simple_asn1.specs.Grammar.{MayBeGroupContents, of_other_class, of_group, Encodes, EncodesAll, HeaderFault, BlockFault, in_header, in_contents, ContentsFault, of_item, of_empty_group, BlocksFault, after_blocks}
 use Rattle.simple_asn1.specs.HeadersBegun.{IsReadInside, HeadersBegun, begun_none, begun_some, inside_first, nothing_inside, nothing_after}
-use Rattle.simple_asn1.specs.OpenFrames.{IsKindFor, ReadTo, Headed, Opened, StopsAt, Stopping, Follows, Turned, Nearer, IsOpen, IsPut, Reading, left}
+use Rattle.simple_asn1.specs.OpenFrames.{IsKindFor, ReadTo, Headed, Opened, StopsAt, Stopping, Follows, Turn, Turned, Nearer, IsOpen, IsPut, Reading, left}
 use Rattle.simple_asn1.proofs.Prefixes.{encoding_alone}
 use Rattle.simple_asn1.proofs.OneReading.{encodes_block, encodes_blocks, block_some}
 use Rattle.simple_asn1.proofs.Faults.{block_is_blocks, block_fault_no_block, blocks_fault_no_blocks, header_no_encoding}
@@ -251,15 +249,15 @@ close_attempt octets f g gs n c x t b k means o =
       total = o.8;
     }
 
--- a block was put into the frame
-pub turned_put : (t : Result Turn ASN1DecodeErr) (octets : List ℕ) (f : OpenFrame) (gs : List OpenFrame) (p q n m count base : ℕ) (b : ASN1Block) → IsPut f gs q b t → Opened octets f (reverse gs) p n → Follows octets f p q (view b) m → count ≡ base + (n + m) → Turned octets t count base
-turned_put (Ok (Continues r)) octets f gs p q n m count base b u o w e =
-    let s = opened_more octets f r.inner (reverse gs) p q n m b u.0 u.1 u.2 u.3 o w in
+-- a block was put into the innermost frame
+pub turned_put : (t : Turn) (octets : List ℕ) (a r : Reader) (p q n m count base : ℕ) (b : ASN1Block) → IsPut a q b t r → Opened octets a.inner (reverse a.outer.items) p n → Follows octets a.inner p q (view b) m → count ≡ base + (n + m) → Turned octets t r count base
+turned_put (Ok None) octets a r p q n m count base b u o w e =
+    let s = opened_more octets a.inner r.inner (reverse a.outer.items) p q n m b u.0 u.1 u.2 u.3 o w in
     (n + m, e, subst (λ z. Opened octets r.inner (reverse r.outer.items) z (n + m)) (sym u.5) (subst (λ z. Opened octets r.inner (reverse z) q (n + m)) (sym u.4) s))
-turned_put (Ok (Ends v)) octets f gs p q n m count base b u o w e = absurd u
-turned_put (Err x) octets f gs p q n m count base b u o w e =
-    let v = opened_places octets f (reverse gs) p n o in
-    inl (u, omega (arith, e), omega (arith, e, opened_bound octets f (reverse gs) p n o, begun_le (slice_range octets p q) m w.begun, slice_length octets p q (omega (arith, w.from)) (omega (arith, w.to, v.within)), w.to, w.from, v.within))
+turned_put (Ok (Some v)) octets a r p q n m count base b u o w e = absurd u
+turned_put (Err x) octets a r p q n m count base b u o w e =
+    let v = opened_places octets a.inner (reverse a.outer.items) p n o in
+    inl (u, omega (arith, e), omega (arith, e, opened_bound octets a.inner (reverse a.outer.items) p n o, begun_le (slice_range octets p q) m w.begun, slice_length octets p q (omega (arith, w.from)) (omega (arith, w.to, v.within)), w.to, w.from, v.within))
 
 -- what a push or a pop does to the frames from the innermost out
 pub reverse_push : {X : Type 0} (old new : List X) (x : X) → old ≡ new ++ x ∷ [] → reverse old ≡ x ∷ reverse new
@@ -270,31 +268,37 @@ reverse_none [] e = refl
 reverse_none (x ∷ xs) e = absurd (omega (arith, e))
 
 -- a frame was opened
-pub turned_open : (t : Result Turn ASN1DecodeErr) (octets : List ℕ) (f g : OpenFrame) (gs : List OpenFrame) (n count base : ℕ) → IsOpen f g gs t → Opened octets f (g ∷ reverse gs) f.start n → count ≡ base + n → count ≤ base + length octets → Turned octets t count base
-turned_open (Ok (Continues r)) octets f g gs n count base u o e m =
-    let s = subst (λ z. Opened octets f z f.start n) (sym (reverse_push r.outer.items gs g u.1)) o in
+pub turned_open : (t : Turn) (octets : List ℕ) (a r : Reader) (f : OpenFrame) (n count base : ℕ) → IsOpen a f t r → Opened octets f (a.inner ∷ reverse a.outer.items) f.start n → count ≡ base + n → count ≤ base + length octets → Turned octets t r count base
+turned_open (Ok None) octets a r f n count base u o e m =
+    let s = subst (λ z. Opened octets f z f.start n) (sym (reverse_push r.outer.items a.outer.items a.inner u.1)) o in
     (n, e, subst (λ z. Opened octets r.inner (reverse r.outer.items) z n) (sym u.2) (subst (λ z. Opened octets z (reverse r.outer.items) f.start n) (sym u.0) s))
-turned_open (Ok (Ends v)) octets f g gs n count base u o e m = absurd u
-turned_open (Err x) octets f g gs n count base u o e m = inl (u, omega (arith, e), m)
+turned_open (Ok (Some v)) octets a r f n count base u o e m = absurd u
+turned_open (Err x) octets a r f n count base u o e m = inl (u, omega (arith, e), m)
 
 -- less than less is less
-pub nearer_more : (t : Result Turn ASN1DecodeErr) (size a b : ℕ) → a ≤ b → Nearer size t a → Nearer size t b
-nearer_more (Ok (Continues r)) size a b h n = omega (arith, h, n)
-nearer_more (Ok (Ends v)) size a b h n = tt
-nearer_more (Err e) size a b h n = tt
+pub nearer_more : (t : Turn) (r : Reader) (size a b : ℕ) → a ≤ b → Nearer size t r a → Nearer size t r b
+nearer_more (Ok None) r size a b h n = omega (arith, h, n)
+nearer_more (Ok (Some v)) r size a b h n = tt
+nearer_more (Err e) r size a b h n = tt
 
 -- memory ran out
-pub turned_memory : (t : Result Turn ASN1DecodeErr) (octets : List ℕ) (count base : ℕ) → IsErr t × IsErrAnd t (λ e. e ≡ OutOfMemory) → base ≤ count → count ≤ base + length octets → Turned octets t count base
-turned_memory (Ok x) octets count base e g h = absurd e.1
-turned_memory (Err x) octets count base e g h = inl (e.1, g, h)
+pub turned_memory : (t : Turn) (octets : List ℕ) (r : Reader) (count base : ℕ) → IsErr t × IsErrAnd t (λ e. e ≡ OutOfMemory) → base ≤ count → count ≤ base + length octets → Turned octets t r count base
+turned_memory (Ok x) octets r count base e g h = absurd e.1
+turned_memory (Err x) octets r count base e g h = inl (e.1, g, h)
 
 -- the same block
 pub follows_as : (octets : List ℕ) (g : OpenFrame) (p q : ℕ) (a b : Tree ℕ) (n : ℕ) → b ≡ a → Follows octets g p q a n → Follows octets g p q b n
 follows_as octets g p q a b n e w = subst (λ z. Follows octets g p q z n) (sym e) w
 
--- the innermost of the frames around a fault was popped
-pub stopping_popped : (octets : List ℕ) (f g : OpenFrame) (before after : List OpenFrame) (e : DecodeFault) (n : ℕ) → before ≡ after ++ g ∷ [] → Stopping octets f (reverse before) e n → Stopping octets f (g ∷ reverse after) e n
-stopping_popped octets f g before after e n is w = subst (λ z. Stopping octets f z e n) (reverse_push before after g is) w
+-- the innermost of the frames around a fault was popped, and took its place
+pub stopping_popped : (octets : List ℕ) (f k g h : OpenFrame) (before after : List OpenFrame) (e : DecodeFault) (n : ℕ) → k ≡ f → h ≡ g → before ≡ after ++ g ∷ [] → Stopping octets f (reverse before) e n → Stopping octets k (h ∷ reverse after) e n
+stopping_popped octets f k g h before after e n own new is w =
+    subst (λ z. Stopping octets k (z ∷ reverse after) e n) (sym new) (subst (λ z. Stopping octets z (g ∷ reverse after) e n) (sym own) (subst (λ z. Stopping octets f z e n) (reverse_push before after g is) w))
+
+-- and so at the end of a frame
+pub closing_popped : (octets : List ℕ) (f k g h : OpenFrame) (before after : List OpenFrame) (n : ℕ) → k ≡ f → h ≡ g → before ≡ after ++ g ∷ [] → Opened octets f (reverse before) f.end n → Opened octets k (h ∷ reverse after) k.end n
+closing_popped octets f k g h before after n own new is w =
+    subst (λ z. Opened octets k (z ∷ reverse after) k.end n) (sym new) (subst (λ z. Opened octets z (g ∷ reverse after) z.end n) (sym own) (subst (λ z. Opened octets f z f.end n) (reverse_push before after g is) w))
 
 -- there are none around it
 pub stopping_alone : (octets : List ℕ) (f : OpenFrame) (before : List OpenFrame) (e : DecodeFault) (n : ℕ) → length before ≡ 0 → Stopping octets f (reverse before) e n → Stopping octets f [] e n
@@ -414,5 +418,5 @@ pub header_read : (octets : List ℕ) (r : Reader) (h : Header) (count base : �
 header_read octets r h count base w bounds found = header_found octets r.inner (reverse r.outer.items) r.index w.0 h.start h.end h.class h.constructed h.tag w.2 bounds found
 
 -- a fault leaves less to do
-pub nearer_refused : (t : Result Turn ASN1DecodeErr) (octets : List ℕ) (r : Reader) → Places octets r.inner r.index → Nearer (length octets) t (left (length octets) r.inner.end r.outer.items) → Nearer (length octets) t (left (length octets) r.index r.outer.items)
-nearer_refused t octets r v n = nearer_more t (length octets) (left (length octets) r.inner.end r.outer.items) (left (length octets) r.index r.outer.items) (omega (arith, v.to)) n
+pub nearer_refused : (t : Turn) (octets : List ℕ) (a r : Reader) → Places octets a.inner a.index → Nearer (length octets) t r (left (length octets) a.inner.end a.outer.items) → Nearer (length octets) t r (left (length octets) a.index a.outer.items)
+nearer_refused t octets a r v n = nearer_more t r (length octets) (left (length octets) a.inner.end a.outer.items) (left (length octets) a.index a.outer.items) (omega (arith, v.to)) n

@@ -1,5 +1,6 @@
 -- The frames that are open while a document is read. Only private contracts of `read` name these.
-use Rattle.std.specs.Prelude.{◌≡◌, ◌≢◌, ℕ, ◌+◌, ◌*◌, ◌-◌, ◌<◌, ◌≤◌, ◌⊎◌, ◌++◌, Bool, true, List, [], ◌∷◌, length, reverse, slice_range, Result, Ok, Err}
+use Rattle.std.specs.Prelude.{◌≡◌, ◌≢◌, ℕ, ◌+◌, ◌*◌, ◌-◌, ◌<◌, ◌≤◌, ◌⊎◌, ◌++◌, Bool, true, List, [], ◌∷◌, length, reverse, slice_range, Result, Ok, Err, Option, Some, None, Vec}
+use Rattle.std.specs.Global.{Global}
 use Rattle.simple_asn1.specs.declared.header.ASN1Class.{ASN1Class}
 use Rattle.simple_asn1.specs.declared.header.ASN1Class.TheVariants.{Universal}
 use Rattle.simple_asn1.specs.declared.error.ASN1DecodeErr.{ASN1DecodeErr}
@@ -9,8 +10,6 @@ use Rattle.simple_asn1.specs.declared.read.FrameKind.{FrameKind}
 use Rattle.simple_asn1.specs.declared.read.FrameKind.TheVariants.{Whole, Group, Attempt}
 use Rattle.simple_asn1.specs.declared.read.OpenFrame.{OpenFrame}
 use Rattle.simple_asn1.specs.declared.read.Reader.{Reader}
-use Rattle.simple_asn1.specs.declared.read.Turn.{Turn}
-use Rattle.simple_asn1.specs.declared.read.Turn.TheVariants.{Continues, Ends}
 use Rattle.simple_asn1.specs.Header.{Encoding}
 use Rattle.simple_asn1.specs.Fault.{DecodeFault, fault_of}
 use Rattle.simple_asn1.specs.Tree.{Tree}
@@ -66,11 +65,15 @@ Stopping octets f gs e n = (p : ℕ) × (a : ℕ) × (b : ℕ) × Opened octets 
 abbrev pub Reading : List ℕ → Reader → ℕ → ℕ → Type 0
 Reading octets r count base = (n : ℕ) × (count ≡ base + n) × Opened octets r.inner (reverse r.outer.items) r.index n
 
--- where a turn leads
-abbrev pub Turned : List ℕ → Result Turn ASN1DecodeErr → ℕ → ℕ → Type 0
-Turned octets (Ok (Continues r)) count base = Reading octets r count base
-Turned octets (Ok (Ends v)) count base = EncodesAll 0 octets (views v.items) × (n : ℕ) × (count ≡ base + n) × HeadersBegun octets n
-Turned octets (Err e) count base =
+-- what a turn answers: nothing as long as there is more to read, and the blocks of the document at its end
+abbrev pub Turn : Type 0
+Turn = Result (Option (Vec ASN1Block Global)) ASN1DecodeErr
+
+-- where a turn leads; after the last one nothing is said of the reader r
+abbrev pub Turned : List ℕ → Turn → Reader → ℕ → ℕ → Type 0
+Turned octets (Ok None) r count base = Reading octets r count base
+Turned octets (Ok (Some v)) r count base = EncodesAll 0 octets (views v.items) × (n : ℕ) × (count ≡ base + n) × HeadersBegun octets n
+Turned octets (Err e) r count base =
     ((e ≡ OutOfMemory) × (base ≤ count) × (count ≤ base + length octets)) ⊎ (BlocksFault octets (fault_of e) × (n : ℕ) × (count ≡ base + n) × HeadersBegun octets n)
 
 -- how much is left to do: each turn goes on in the octets, or closes a frame
@@ -78,20 +81,20 @@ abbrev pub left : ℕ → ℕ → List OpenFrame → ℕ
 left size index outer = 2 * (size - index) + length outer
 
 -- a turn leaves less to do
-abbrev pub Nearer : ℕ → Result Turn ASN1DecodeErr → ℕ → Type 0
-Nearer size (Ok (Continues r)) most = left size r.index r.outer.items < most
-Nearer size (Ok (Ends v)) most = Unit {0}
-Nearer size (Err e) most = Unit {0}
+abbrev pub Nearer : ℕ → Turn → Reader → ℕ → Type 0
+Nearer size (Ok None) r most = left size r.index r.outer.items < most
+Nearer size (Ok (Some v)) r most = Unit {0}
+Nearer size (Err e) r most = Unit {0}
 
--- reading goes on at the start of the new frame f inside g
-abbrev pub IsOpen : OpenFrame → OpenFrame → List OpenFrame → Result Turn ASN1DecodeErr → Type 0
-IsOpen f g gs (Ok (Continues r)) = (r.inner ≡ f) × (r.outer.items ≡ gs ++ g ∷ []) × (r.index ≡ f.start)
-IsOpen f g gs (Ok (Ends v)) = ⊥
-IsOpen f g gs (Err e) = e ≡ OutOfMemory
+-- reading goes on at the start of the new frame f, inside what was the innermost frame of the reader a
+abbrev pub IsOpen : Reader → OpenFrame → Turn → Reader → Type 0
+IsOpen a f (Ok None) r = (r.inner ≡ f) × (r.outer.items ≡ a.outer.items ++ a.inner ∷ []) × (r.index ≡ f.start)
+IsOpen a f (Ok (Some v)) r = ⊥
+IsOpen a f (Err e) r = e ≡ OutOfMemory
 
--- the block was put at the end of the frame, and reading goes on at q
-abbrev pub IsPut : OpenFrame → List OpenFrame → ℕ → ASN1Block → Result Turn ASN1DecodeErr → Type 0
-IsPut f gs q b (Ok (Continues r)) =
-    (r.inner.kind ≡ f.kind) × (r.inner.start ≡ f.start) × (r.inner.end ≡ f.end) × (r.inner.blocks.items ≡ f.blocks.items ++ b ∷ []) × (r.outer.items ≡ gs) × (r.index ≡ q)
-IsPut f gs q b (Ok (Ends v)) = ⊥
-IsPut f gs q b (Err e) = e ≡ OutOfMemory
+-- the block was put at the end of the innermost frame of the reader a, and reading goes on at q
+abbrev pub IsPut : Reader → ℕ → ASN1Block → Turn → Reader → Type 0
+IsPut a q b (Ok None) r =
+    (r.inner.kind ≡ a.inner.kind) × (r.inner.start ≡ a.inner.start) × (r.inner.end ≡ a.inner.end) × (r.inner.blocks.items ≡ a.inner.blocks.items ++ b ∷ []) × (r.outer.items ≡ a.outer.items) × (r.index ≡ q)
+IsPut a q b (Ok (Some v)) r = ⊥
+IsPut a q b (Err e) r = e ≡ OutOfMemory

@@ -17,6 +17,7 @@ use crate::header::{ASN1Class, HeaderCount, decode_length, decode_tag};
 use crate::number::big_uint::BigUint;
 use crate::octets::copy_of;
 use std::alloc::Global;
+use std::mem;
 
 // What the contents of a frame are.
 #[derive(Drop)]
@@ -45,12 +46,6 @@ struct Reader {
     inner: OpenFrame,
     outer: Vec<OpenFrame>,
     index: usize,
-}
-
-#[derive(Drop)]
-enum Turn {
-    Continues(Reader),
-    Ends(Vec<ASN1Block>),
 }
 
 // The header of an encoding: its fields, and where the contents begin and end.
@@ -146,41 +141,36 @@ fn read_blocks(
         index: 0,
     };
     loop {
-        match take_turn(alloc, i, reader, count)? {
-            Turn::Continues(next) => reader = next,
-            Turn::Ends(blocks) => return Ok(blocks),
+        if let Some(blocks) = take_turn(alloc, i, &mut reader, count)? {
+            return Ok(blocks);
         }
     }
 }
 
-// Reads one header and what it leads, or closes a frame at its end.
+// Reads one header and what it leads, or closes a frame at its end. At the end of the document it gives the blocks.
 fn take_turn(
     alloc: Global,
     octets: &[u8],
-    reader: Reader,
+    reader: &mut Reader,
     count: &mut HeaderCount,
-) -> Result<Turn, ASN1DecodeErr>
-    requires room { count.old + (length octets.now - reader.index) < 2 ^ 64 }
+) -> Result<Option<Vec<ASN1Block>>, ASN1DecodeErr>
+    requires room { count.old + (length octets.now - reader.old.index) < 2 ^ 64 }
     requires small { length octets.now < 2 ^ 64 }
-    requires opened { (base : ℕ) × Reading octets.now reader count.old base }
-    ensures turned { (base : ℕ) → Reading octets.now reader count.old base → Turned octets.now result count.new base }
-    ensures nearer { Nearer (length octets.now) result (left (length octets.now) reader.index reader.outer.items) }
+    requires opened { (base : ℕ) × Reading octets.now reader.old count.old base }
+    ensures turned { (base : ℕ) → Reading octets.now reader.old count.old base → Turned octets.now result reader.new count.new base }
+    ensures nearer { Nearer (length octets.now) result reader.new (left (length octets.now) reader.old.index reader.old.outer.items) }
 {
-    let Reader {
-        inner,
-        outer,
-        index,
-    } = reader;
-    if index == inner.end {
-        return close(alloc, octets, inner, outer);
+    let index = reader.index;
+    if index == reader.inner.end {
+        return close(alloc, octets, reader);
     }
-    let contents = &octets[inner.start..inner.end];
-    let header = match header_at(alloc, contents, index - inner.start, count) {
+    let contents = &octets[reader.inner.start..reader.inner.end];
+    let header = match header_at(alloc, contents, index - reader.inner.start, count) {
         Ok(header) => header,
         Err(e) => {
             return match e {
                 ASN1DecodeErr::OutOfMemory => Err(e),
-                _ => refuse(alloc, octets, inner, outer, e),
+                _ => refuse(alloc, octets, reader, e),
             };
         }
     };
@@ -191,8 +181,8 @@ fn take_turn(
         start,
         end,
     } = header;
-    let start = inner.start + start;
-    let end = inner.start + end;
+    let start = reader.inner.start + start;
+    let end = reader.inner.start + end;
     if is_read_inside(class, constructed, &tag) {
         let frame = OpenFrame {
             kind: frame_kind(class, tag, index),
@@ -200,13 +190,13 @@ fn take_turn(
             end,
             blocks: Vec::new(alloc),
         };
-        return open(frame, inner, outer);
+        return open(reader, frame);
     }
     match leaf_block(alloc, class, constructed, tag, &octets[start..end], index) {
-        Ok(block) => put(inner, outer, end, block),
+        Ok(block) => put(reader, end, block),
         Err(e) => match e {
             ASN1DecodeErr::OutOfMemory => Err(e),
-            _ => refuse(alloc, octets, inner, outer, e),
+            _ => refuse(alloc, octets, reader, e),
         },
     }
 }
@@ -267,71 +257,60 @@ fn header_at(
 }
 
 // Goes on inside a new frame, the innermost from now on.
-fn open(
-    frame: OpenFrame,
-    inner: OpenFrame,
-    mut outer: Vec<OpenFrame>,
-) -> Result<Turn, ASN1DecodeErr>
-    ensures { IsOpen frame inner outer.items result }
+fn open(reader: &mut Reader, frame: OpenFrame) -> Result<Option<Vec<ASN1Block>>, ASN1DecodeErr>
+    ensures { IsOpen reader.old frame result reader.new }
 {
-    let index = frame.start;
-    outer.push(inner)?;
-    Ok(Turn::Continues(Reader {
-        inner: frame,
-        outer,
-        index,
-    }))
+    reader.index = frame.start;
+    let parent = mem::replace(&mut reader.inner, frame);
+    reader.outer.push(parent)?;
+    Ok(None)
 }
 
 // Puts a block at the end of the innermost frame, and goes on after it.
 fn put(
-    mut inner: OpenFrame,
-    outer: Vec<OpenFrame>,
+    reader: &mut Reader,
     index: usize,
     block: ASN1Block,
-) -> Result<Turn, ASN1DecodeErr>
-    ensures { IsPut inner outer.items index block result }
+) -> Result<Option<Vec<ASN1Block>>, ASN1DecodeErr>
+    ensures { IsPut reader.old index block result reader.new }
 {
-    inner.blocks.push(block)?;
-    Ok(Turn::Continues(Reader {
-        inner,
-        outer,
-        index,
-    }))
+    reader.index = index;
+    reader.inner.blocks.push(block)?;
+    Ok(None)
 }
 
 // The end of the innermost frame.
 fn close(
     alloc: Global,
     octets: &[u8],
-    inner: OpenFrame,
-    mut outer: Vec<OpenFrame>,
-) -> Result<Turn, ASN1DecodeErr>
+    reader: &mut Reader,
+) -> Result<Option<Vec<ASN1Block>>, ASN1DecodeErr>
     requires small { length octets.now < 2 ^ 64 }
-    requires opened { (n : ℕ) × Opened octets.now inner (reverse outer.items) inner.end n }
-    ensures turned { (n base : ℕ) → Opened octets.now inner (reverse outer.items) inner.end n → Turned octets.now result (base + n) base }
-    ensures nearer { Nearer (length octets.now) result (left (length octets.now) inner.end outer.items) }
+    requires opened { (n : ℕ) × Opened octets.now reader.old.inner (reverse reader.old.outer.items) reader.old.inner.end n }
+    ensures turned { (n base : ℕ) → Opened octets.now reader.old.inner (reverse reader.old.outer.items) reader.old.inner.end n → Turned octets.now result reader.new (base + n) base }
+    ensures nearer { Nearer (length octets.now) result reader.new (left (length octets.now) reader.old.inner.end reader.old.outer.items) }
 {
+    let Some(parent) = reader.outer.pop() else {
+        let blocks = mem::replace(&mut reader.inner.blocks, Vec::new(alloc));
+        return Ok(Some(blocks));
+    };
     let OpenFrame {
         kind,
         start,
         end,
         blocks,
-    } = inner;
-    let Some(parent) = outer.pop() else {
-        return Ok(Turn::Ends(blocks));
-    };
+    } = mem::replace(&mut reader.inner, parent);
     match kind {
         FrameKind::Whole => unreachable!(),
         FrameKind::Group(group, offset) => {
             if blocks.is_empty() {
-                return refuse(alloc, octets, parent, outer, ASN1DecodeErr::EmptyBuffer);
+                return refuse(alloc, octets, reader, ASN1DecodeErr::EmptyBuffer);
             }
-            put(parent, outer, end, group_block(group, offset, blocks))
+            put(reader, end, group_block(group, offset, blocks))
         }
         FrameKind::Attempt(class, offset, tag) => {
             let block = attempt_block(alloc, class, offset, tag, blocks, &octets[start..end])?;
-            put(parent, outer, end, block)
+            put(reader, end, block)
         }
     }
 }
@@ -370,31 +349,25 @@ fn attempt_block(
 fn refuse(
     alloc: Global,
     octets: &[u8],
-    mut inner: OpenFrame,
-    mut outer: Vec<OpenFrame>,
+    reader: &mut Reader,
     e: ASN1DecodeErr,
-) -> Result<Turn, ASN1DecodeErr>
+) -> Result<Option<Vec<ASN1Block>>, ASN1DecodeErr>
     requires small { length octets.now < 2 ^ 64 }
-    requires stopping { (n : ℕ) × Stopping octets.now inner (reverse outer.items) (fault_of e) n }
-    ensures turned { (n base : ℕ) → Stopping octets.now inner (reverse outer.items) (fault_of e) n → Turned octets.now result (base + n) base }
-    ensures nearer { Nearer (length octets.now) result (left (length octets.now) inner.end outer.items) }
+    requires stopping { (n : ℕ) × Stopping octets.now reader.old.inner (reverse reader.old.outer.items) (fault_of e) n }
+    ensures turned { (n base : ℕ) → Stopping octets.now reader.old.inner (reverse reader.old.outer.items) (fault_of e) n → Turned octets.now result reader.new (base + n) base }
+    ensures nearer { Nearer (length octets.now) result reader.new (left (length octets.now) reader.old.inner.end reader.old.outer.items) }
 {
-    while let Some(parent) = outer.pop() {
+    while let Some(parent) = reader.outer.pop() {
         let OpenFrame {
             kind,
             start,
             end,
             ..
-        } = inner;
-        inner = parent;
+        } = mem::replace(&mut reader.inner, parent);
         if let FrameKind::Attempt(class, offset, tag) = kind {
             let contents = copy_of(alloc, &octets[start..end])?;
-            return put(
-                inner,
-                outer,
-                end,
-                ASN1Block::Unknown(class, true, offset, tag, contents),
-            );
+            let block = ASN1Block::Unknown(class, true, offset, tag, contents);
+            return put(reader, end, block);
         }
     }
     Err(e)
