@@ -11,7 +11,7 @@ use crate::octets::copy_of;
 use std::alloc::{AllocError, Global};
 
 // Which blocks hold blocks one after another.
-#[derive(Clone, Copy, Debug, PartialEq)]
+#[derive(Drop)]
 pub enum GroupKind {
     Sequence,
     Set,

@@ -26,8 +26,8 @@ enum FrameKind {
     Whole,
     // Those of a SEQUENCE or SET at the offset.
     Group(GroupKind, usize),
-    // Those of a constructed encoding of another class: its class, offset and tag number. They are read as blocks; where
-    // that fails, or gives any other number than one, the encoding stays as it came.
+    // Those of a constructed encoding of another class: its class, offset and tag number. They are read as blocks;
+    // where that fails, or gives any other number than one, the encoding stays as it came.
     Attempt(ASN1Class, usize, BigUint),
 }
 
@@ -60,14 +60,15 @@ struct Header {
 
 /// Reads a document: blocks one after another to the end of `i`, at least one.
 ///
-/// Each block has the offset of its first octet in `i`. Longer forms of tags and lengths than the shortest are read.
-/// A constructed encoding of another class than Universal gives `Explicit` where its contents are exactly one block, and
-/// `Unknown` otherwise: a fault inside refuses nothing. Memory is taken for the blocks, and for the frames that are open.
+/// Each block has the offset of its first octet in `i`. Longer forms of tags and lengths than the shortest are read. A
+/// constructed encoding of another class than Universal gives `Explicit` where its contents are exactly one block, and
+/// `Unknown` otherwise (X.690 8.1.1, 8.14): a fault inside refuses nothing. Memory is taken for the blocks, and for the
+/// frames that are open: a frame for each level of nesting.
 ///
 /// # Errors
-/// The first fault from the left: `EmptyBuffer`, `LengthTooLarge`, `Incomplete`,
-/// `BadBooleanLength`, `InvalidBitStringLength`, `UTF8DecodeFailure`,
-/// `PrintableStringDecodeFailure`; or `OutOfMemory`, which says nothing of the octets.
+/// The first fault from the left: `EmptyBuffer`, `LengthTooLarge`, `Incomplete`, `BadBooleanLength`,
+/// `InvalidBitStringLength`, `UTF8DecodeFailure`, `PrintableStringDecodeFailure`; or `OutOfMemory`, which says nothing
+/// of the octets.
 ///
 /// ```rust
 /// use simple_asn1::{ASN1DecodeErr, from_der};
