@@ -93,7 +93,8 @@ pub fn from_der(alloc: Global, i: &[u8]) -> Result<Vec<ASN1Block>, ASN1DecodeErr
 }
 
 /// Reads a document as [`from_der`] does, and adds one to the count for each header that is begun, those of failed
-/// attempts too. The count rises by at most the number of octets, also where memory runs out.
+/// attempts too. The count never falls, and rises by at most the number of octets, also where memory runs out. It asks
+/// that the count has room for the number of octets.
 ///
 /// # Errors
 /// Those of [`from_der`].
