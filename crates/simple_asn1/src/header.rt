@@ -209,6 +209,40 @@ pub fn decode_length(i: &[u8], index: &mut usize) -> Result<usize, ASN1DecodeErr
     Ok(n)
 }
 
+// The size of the encoding at the front as its header tells it, where the octets hold so much.
+fn encoding_size(octets: &[u8]) -> Option<usize>
+    ensures { IfSome result (λ n. (2 ≤ n) × (n ≤ length octets.now)) }
+{
+    let (first, rest) = octets.split_first()?;
+    let identifier = if *first % 32 == 31 {
+        last_octet_at(rest)? + 2
+    } else {
+        1
+    };
+    let (_, rest) = octets.split_at(identifier);
+    let (contents, length) = length_at(rest).ok()?;
+    let size = (identifier + length).checked_add(contents)?;
+    if size <= octets.len() {
+        Some(size)
+    } else {
+        None
+    }
+}
+
+// How many encodings stand one after another, as their headers tell it. It is a hint for the room that their blocks
+// take, and no more than that.
+pub(crate) fn encoding_count(octets: &[u8]) -> usize
+    ensures { 2 * result ≤ length octets.now }
+{
+    let mut count = 0;
+    let mut rest = octets;
+    while let Some(size) = encoding_size(rest) {
+        count += 1;
+        rest = &rest[size..];
+    }
+    count
+}
+
 // The class of a leading octet.
 fn class_of(leading: u8) -> ASN1Class
     ensures { class_number result ≡ leading / 64 }
