@@ -2,6 +2,7 @@
 #![tactic(auto)]
 
 mod answers;
+mod laws;
 #[cfg(test)]
 mod tests;
 mod tool;

@@ -1,0 +1,85 @@
+-- Each input has one output that answers it.
+use Rattle.std.proofs.Common.{◌≡◌, ◌==◌, ◌<◌, ◌≤◌, ◌^◌, ◌++◌, ℕ, zero, suc, List, [], ◌∷◌, length, Result, Ok, Err, inl, inr, refl, sym, ap, ◌∙◌, arith}
+use Rattle.std.specs.Prelude.{MatchResult, codes}
+use Rattle.std.proofs.lemmas.Bool.{cond_both}
+use Rattle.hex.specs.declared.error.FromHexError.{FromHexError}
+use Rattle.hex.specs.Hex.{decode_of, encode_upper}
+use Rattle.hex.proofs.HexLemmas.{decode_of-ok}
+use Rattle.simple_asn1.specs.Canonical.{all_canonical}
+use Rattle.simple_asn1.specs.Laws.{OneReading}
+use Rattle.der_tool.specs.Answers.{onto_first_line, lines_of, name_of, number_after, IsVerdict, IsAnswer, AreLineAnswers}
+
+-- no line is longer than n
+abbrev AreWithin : ℕ → List (List ℕ) → Type 0
+AreWithin n [] = Unit {0}
+AreWithin n (line ∷ lines) = (length line ≤ n) × AreWithin n lines
+
+weaker : (lines : List (List ℕ)) (n : ℕ) → AreWithin n lines → AreWithin (suc n) lines
+weaker [] n all = tt
+weaker (line ∷ lines) n all = (omega (arith, all.0), weaker lines n all.1)
+
+onto_within : (b : ℕ) (lines : List (List ℕ)) (n : ℕ) → AreWithin n lines → AreWithin (suc n) (onto_first_line b lines)
+onto_within b [] n all = (omega arith, tt)
+onto_within b (line ∷ lines) n all = (omega (arith, all.0), weaker lines n all.1)
+
+-- no line is longer than the input
+lines_within : (input : List ℕ) (n : ℕ) → length input ≤ n → AreWithin n (lines_of input)
+lines_within [] n h = tt
+lines_within (b ∷ input) zero h = absurd (omega (arith, h))
+lines_within (b ∷ input) (suc n) h =
+    let all = lines_within input n (omega (arith, h)) in
+    cond_both (b == 10) ([] ∷ lines_of input) (onto_first_line b (lines_of input)) (AreWithin (suc n)) (λ _. (omega arith, weaker (lines_of input) n all)) (λ _. onto_within b (lines_of input) n all)
+
+-- the octets of a line are fewer than its digits
+few_octets : (line octets : List ℕ) (n : ℕ) → length line ≤ n → n < 2 ^ 64 → decode_of line ≡ Ok octets → length octets < 2 ^ 64
+few_octets line octets n within small is = omega (arith, within, small, (decode_of-ok line octets is).2)
+
+one_verdict : OneReading → (octets a b : List ℕ) → length octets < 2 ^ 64 → IsVerdict octets a → IsVerdict octets b → a ≡ b
+one_verdict law octets a b small (inl d) (inl e) =
+    d.2 ∙ (ap (λ bs. codes "ok " ++ encode_upper (all_canonical bs)) (law.one_document octets d.0 e.0 d.1 e.1) ∙ sym e.2)
+one_verdict law octets a b small (inl d) (inr f) = absurd (law.not_both octets d.0 f.0 small d.1 f.1)
+one_verdict law octets a b small (inr f) (inl d) = absurd (law.not_both octets d.0 f.0 small d.1 f.1)
+one_verdict law octets a b small (inr f) (inr g) =
+    f.2 ∙ (ap (λ fault. codes "refused " ++ (name_of fault ++ number_after fault)) (law.one_fault octets f.0 g.0 small f.1 g.1) ∙ sym g.2)
+
+some_verdict : OneReading → (octets : List ℕ) → length octets < 2 ^ 64 → (answer : List ℕ) × IsVerdict octets answer
+some_verdict law octets small =
+    elim (law.either octets small) [ inl d ↦ (codes "ok " ++ encode_upper (all_canonical d.0), inl (d.0, d.1, refl)) | inr f ↦ (codes "refused " ++ (name_of f.0 ++ number_after f.0), inr (f.0, f.1, refl)) ]
+
+one_answer : OneReading → (line a b : List ℕ) (n : ℕ) → length line ≤ n → n < 2 ^ 64 → IsAnswer line a → IsAnswer line b → a ≡ b
+one_answer law line a b n within small u v = go (decode_of line) refl u v
+  where
+    go : (r : Result (List ℕ) FromHexError) → decode_of line ≡ r → MatchResult r (λ octets. IsVerdict octets a) (λ _. a ≡ codes "badhex") → MatchResult r (λ octets. IsVerdict octets b) (λ _. b ≡ codes "badhex") → a ≡ b
+    go (Ok octets) is u v = one_verdict law octets a b (few_octets line octets n within small is) u v
+    go (Err e) is u v = u ∙ sym v
+
+some_answer : OneReading → (line : List ℕ) (n : ℕ) → length line ≤ n → n < 2 ^ 64 → (answer : List ℕ) × IsAnswer line answer
+some_answer law line n within small = go (decode_of line) refl
+  where
+    go : (r : Result (List ℕ) FromHexError) → decode_of line ≡ r → (answer : List ℕ) × MatchResult r (λ octets. IsVerdict octets answer) (λ _. answer ≡ codes "badhex")
+    go (Ok octets) is = some_verdict law octets (few_octets line octets n within small is)
+    go (Err e) is = (codes "badhex", refl)
+
+one_of_lines : OneReading → (lines : List (List ℕ)) (a b : List ℕ) (n : ℕ) → AreWithin n lines → n < 2 ^ 64 → AreLineAnswers lines a → AreLineAnswers lines b → a ≡ b
+one_of_lines law [] a b n all small u v = u ∙ sym v
+one_of_lines law (line ∷ lines) a b n all small u v =
+    let (x, xs, p, i, r) = u in
+    let (y, ys, q, j, s) = v in
+    let first = one_answer law line x y n all.0 small i j in
+    let rest = one_of_lines law lines xs ys n all.1 small r s in
+    p ∙ (ap (λ z. z ++ 10 ∷ xs) first ∙ (ap (λ z. y ++ 10 ∷ z) rest ∙ sym q))
+
+some_of_lines : OneReading → (lines : List (List ℕ)) (n : ℕ) → AreWithin n lines → n < 2 ^ 64 → (output : List ℕ) × AreLineAnswers lines output
+some_of_lines law [] n all small = ([], refl)
+some_of_lines law (line ∷ lines) n all small =
+    let x = some_answer law line n all.0 small in
+    let r = some_of_lines law lines n all.1 small in
+    (x.0 ++ 10 ∷ r.0, (x.0, r.0, refl, x.1, r.1))
+
+-- an input has an output that answers it
+pub some_output : OneReading → (input : List ℕ) → length input < 2 ^ 64 → (output : List ℕ) × AreLineAnswers (lines_of input) output
+some_output law input small = some_of_lines law (lines_of input) (length input) (lines_within input (length input) (omega arith)) small
+
+-- and no other
+pub one_output : OneReading → (input a b : List ℕ) → length input < 2 ^ 64 → AreLineAnswers (lines_of input) a → AreLineAnswers (lines_of input) b → a ≡ b
+one_output law input a b small u v = one_of_lines law (lines_of input) a b (length input) (lines_within input (length input) (omega arith)) small u v

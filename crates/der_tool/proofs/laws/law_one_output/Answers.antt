@@ -1,0 +1,8 @@
+use Rattle.der_tool.proofs.Outputs.{some_output, one_output}
+use Rattle.der_tool.proofs.laws.law_one_output.Goals as goal
+
+pub returns-clause-some : goal.returns-clause-some
+returns-clause-some c input small = some_output c.law_one_reading.ensures input small
+
+pub returns-clause-one : goal.returns-clause-one
+returns-clause-one c input a b small u v = one_output c.law_one_reading.ensures input a b small u v
