@@ -9,6 +9,7 @@ pub mod Contents
 pub mod Grammar
 pub mod HeadersBegun
 pub mod Canonical
+pub mod LeafEquality
 pub mod Equality
 pub mod EqualityLaws
 pub mod OpenFrames

@@ -3,14 +3,20 @@ ghost use Rattle.std.specs.Prelude.{◌≡◌, ◌≢◌, ◌+◌, ◌++◌, ◌
 ghost use Rattle.std.specs.List.{list_all};
 ghost use Rattle.std.specs.Str.{all_scalars, chars};
 ghost use Rattle.simple_asn1.specs.declared.header.ASN1Class.TheVariants.{Universal};
-ghost use Rattle.simple_asn1.specs.Contents.{BitStringContents, BitStringFault, BooleanFault, IsLeafOf, LeafContents, LeafFault, StringContents, StringFault, is_leaf_tag, is_printable, leaf_contents, leaf_write_fault, octet_write_fault};
+ghost use Rattle.simple_asn1.specs.Contents.{IsLeafOf, LeafContents, LeafFault, is_leaf_tag, leaf_contents, leaf_write_fault};
+ghost use Rattle.simple_asn1.specs.Contents.BitString.{BitStringContents, BitStringFault};
+ghost use Rattle.simple_asn1.specs.Contents.Boolean.{BooleanFault};
+ghost use Rattle.simple_asn1.specs.Contents.Text.{TextContents, TextFault, is_printable, octet_write_fault};
+ghost use Rattle.simple_asn1.specs.declared.body.text.TextForm.TheVariants.{Printable};
 ghost use Rattle.simple_asn1.specs.Fault.{OutOfMemoryOr, fault_of, utf8_failure};
 ghost use Rattle.simple_asn1.specs.Grammar.{ContentsFault, Encodes};
 ghost use Rattle.simple_asn1.specs.Header.{Encoding};
 ghost use Rattle.simple_asn1.specs.HeadersBegun.{IsReadInside};
-ghost use Rattle.simple_asn1.specs.Tree.{bit_string, boolean, printable, unknown};
+ghost use Rattle.simple_asn1.specs.Tree.{bit_string, boolean, unknown};
 ghost use Rattle.simple_asn1.specs.View.{view};
 ghost use Rattle.simple_asn1.specs.declared.error.ASN1DecodeErr.TheVariants.{OutOfMemory};
+
+mod text;
 
 use crate::block::ASN1Block;
 use crate::error::{ASN1DecodeErr, ASN1EncodeErr};
@@ -155,8 +161,8 @@ fn are_printable(contents: &[u8]) -> bool
 }
 
 fn read_printable(alloc: Global, contents: &[u8]) -> Result<String, ASN1DecodeErr>
-    ensures found { IfOk result (λ s. StringContents printable (chars (string_bytes s)) contents.now) }
-    ensures refused { IfErr result (OutOfMemoryOr (StringFault printable contents.now)) }
+    ensures found { IfOk result (λ s. TextContents Printable (chars (string_bytes s)) contents.now) }
+    ensures refused { IfErr result (OutOfMemoryOr (TextFault Printable contents.now)) }
 {
     if !are_printable(contents) {
         return Err(ASN1DecodeErr::PrintableStringDecodeFailure);

@@ -2,7 +2,7 @@
 ghost use Rattle.std.specs.Prelude.{◌≡◌, ◌++◌, ◌+◌, ◌<◌, ◌≤◌, None, length, encode_utf8_all, slice_index, vec_len, vec_capacity};
 ghost use Rattle.std.specs.Str.{chars};
 ghost use Rattle.simple_asn1.specs.Canonical.{all_canonical, canonical, first_write_fault, write_fault};
-ghost use Rattle.simple_asn1.specs.Contents.{octet_write_fault};
+ghost use Rattle.simple_asn1.specs.Contents.Text.{octet_write_fault};
 ghost use Rattle.simple_asn1.specs.View.{view, views};
 ghost use Rattle.simple_asn1.specs.WriteWalk.{Ahead, all_content_lengths, content_lengths, known_encoding};
 

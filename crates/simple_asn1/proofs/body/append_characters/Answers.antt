@@ -4,7 +4,7 @@ use Rattle.std.proofs.lemmas.Grind.{common_steps}
 use Rattle.std.proofs.lemmas.Iterator.{YieldsList-from_chars}
 use Rattle.std.proofs.lemmas.Iterator.Consumers.{YieldsList-turn, YieldsList-end}
 use Rattle.std.proofs.lemmas.List.{drop_more, drop_all, length_push}
-use Rattle.simple_asn1.specs.Contents.{octet_write_fault}
+use Rattle.simple_asn1.specs.Contents.Text.{octet_write_fault}
 use Rattle.simple_asn1.proofs.Characters.{fault_at, fits_first}
 use Rattle.simple_asn1.proofs.body.append_characters.Goals as goal
 

@@ -1,7 +1,7 @@
 use Rattle.std.proofs.Common.{◌≡◌, ◌+◌, ◌++◌, ◌≤◌, length, drop, None}
 use Rattle.std.specs.Vec.{vec_len, vec_capacity}
 use Rattle.std.specs.Str.{chars}
-use Rattle.simple_asn1.specs.Contents.{octet_write_fault}
+use Rattle.simple_asn1.specs.Contents.Text.{octet_write_fault}
 use Rattle.simple_asn1.proofs.body.append_characters.Given as goal
 
 -- the characters that are left complete the octets
