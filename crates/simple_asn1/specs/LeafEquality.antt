@@ -1,7 +1,5 @@
 -- When two leaves are the same, and that they then are equal, where the trait of `==` wants it.
-use Rattle.std.specs.Prelude.{
-  ◌≡◌, ◌==◌, ◌&&◌, ℕ, Bool, true, false, if◌then◌else◌
-}
+use Rattle.std.specs.Prelude.{◌≡◌, ◌==◌, ◌&&◌, ℕ, Bool, true, false, if◌then◌else◌}
 use Rattle.std.specs.Ordering.{int_eq}
 use Rattle.std.specs.Str.{bytes_eq}
 use Rattle.std.proofs.Common.{sym, ap, ◌∙◌, refl, arith}
@@ -10,10 +8,7 @@ use Rattle.std.proofs.lemmas.Bool.Decides.{Decides-eqb, Decides-int_eq}
 use Rattle.std.proofs.lemmas.Slice.Eq.{bytes_eq-Decides}
 use Rattle.simple_asn1.specs.Contents.{string_tag}
 use Rattle.simple_asn1.specs.Header.{constructed_bit}
-use Rattle.simple_asn1.specs.Tree.{
-  StringKind, utf8, printable, teletex, ia5, universal, bmp, Leaf, boolean, integer, bit_string,
-  octet_string, null, text
-}
+use Rattle.simple_asn1.specs.Tree.{StringKind, utf8, printable, teletex, ia5, universal, bmp, Leaf, boolean, integer, bit_string, octet_string, null, text}
 
 abbrev pub same_leaf : Leaf → Leaf → Bool
 same_leaf (boolean a) (boolean b) = constructed_bit a == constructed_bit b

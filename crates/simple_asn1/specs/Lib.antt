@@ -15,3 +15,5 @@ pub mod EqualityLaws
 pub mod OpenFrames
 pub mod Laws
 pub mod WriteWalk
+pub mod Sinks
+pub mod Comparisons

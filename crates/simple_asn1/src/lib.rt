@@ -28,6 +28,7 @@ mod laws;
 mod number;
 mod octets;
 mod read;
+mod sink;
 mod write;
 
 pub use crate::block::ASN1Block;

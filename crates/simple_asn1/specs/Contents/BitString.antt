@@ -1,9 +1,6 @@
 -- Contents octets of a BIT STRING (X.690 8.6): the number of its bits, and the octets that hold
 -- them.
-use Rattle.std.specs.Prelude.{
-  ◌≡◌, ◌==◌, ◌||◌, ◌⊎◌, ℕ, ◌+◌, ◌-◌, ◌*◌, ◌^◌, ◌<◌, ◌≤◌, ◌-ℤ◌, pos, List, [], ◌∷◌, length, nat_lt,
-  if◌then◌else◌, Option, Some, None
-}
+use Rattle.std.specs.Prelude.{◌≡◌, ◌==◌, ◌||◌, ◌⊎◌, ℕ, ◌+◌, ◌-◌, ◌*◌, ◌^◌, ◌<◌, ◌≤◌, ◌-ℤ◌, pos, List, [], ◌∷◌, length, nat_lt, if◌then◌else◌, Option, Some, None}
 use Rattle.simple_asn1.specs.declared.error.ASN1EncodeErr.{ASN1EncodeErr}
 use Rattle.simple_asn1.specs.declared.error.ASN1EncodeErr.TheVariants.{BitStringLength}
 use Rattle.simple_asn1.specs.Fault.{DecodeFault, length_too_large, invalid_bit_string_length}
@@ -21,7 +18,7 @@ BitStringFault [] fault = ⊥
 BitStringFault (u ∷ v) fault =
     ((2 ^ 64 ≤ 8 * length v) × (fault ≡ length_too_large (length (u ∷ v))))
     ⊎ ((8 * length v < 2 ^ 64) × (8 * length v < u)
-      × (fault ≡ invalid_bit_string_length (pos (8 * length v) -ℤ pos u)))
+    × (fault ≡ invalid_bit_string_length (pos (8 * length v) -ℤ pos u)))
 
 -- the octets that are written: none of no bits, where X.690 8.6.2.3 has the one octet 00
 abbrev pub bit_string_contents : ℕ → List ℕ → List ℕ

@@ -1,8 +1,5 @@
 -- Contents octets of the strings of characters (X.690 8.23): six tags, three forms.
-use Rattle.std.specs.Prelude.{
-  ◌≡◌, ◌==◌, ◌||◌, ◌&&◌, ℕ, Bool, true, List, nat_lt, nat_le, if◌then◌else◌, codes, Option, Some,
-  None, IsUtf8, encode_utf8_all
-}
+use Rattle.std.specs.Prelude.{◌≡◌, ◌==◌, ◌||◌, ◌&&◌, ℕ, Bool, true, List, nat_lt, nat_le, if◌then◌else◌, codes, Option, Some, None, IsUtf8, encode_utf8_all}
 use Rattle.std.specs.Str.{all_scalars}
 use Rattle.std.specs.List.{list_all, list_any}
 use Rattle.simple_asn1.specs.declared.body.text.TextForm.{TextForm}

@@ -1,46 +1,26 @@
 // The second walk: it takes no memory and refuses nothing.
-ghost use Rattle.std.specs.Prelude.{◌≡◌, ◌++◌, ◌+◌, ◌<◌, ◌≤◌, None, length, encode_utf8_all, slice_index, vec_len, vec_capacity};
-ghost use Rattle.std.specs.Str.{chars};
+ghost use Rattle.std.specs.Prelude.{◌≡◌, ◌++◌, ◌+◌, ◌<◌, ◌≤◌, None, length, slice_index, vec_len, vec_capacity};
 ghost use Rattle.simple_asn1.specs.Canonical.{all_canonical, canonical, first_write_fault, write_fault};
-ghost use Rattle.simple_asn1.specs.Contents.Text.{octet_write_fault};
 ghost use Rattle.simple_asn1.specs.View.{view, views};
-ghost use Rattle.simple_asn1.specs.WriteWalk.{Ahead, all_content_lengths, content_lengths, known_encoding};
+ghost use Rattle.simple_asn1.specs.WriteWalk.{Ahead, all_content_lengths, content_lengths, known_encoding, own_contents, own_fault};
 
 use crate::block::ASN1Block;
-use crate::body::{append_bit_string, append_characters, append_utf8, utf8_size};
+use crate::body::put_own;
 use crate::header::{append_header, append_known_header};
 use crate::octets::append;
 
-// Puts a block at the end whose identifier octets are this one.
-fn append_known(identifier: u8, contents: &[u8], out: &mut Vec<u8>)
-    requires { vec_len out.old + length (known_encoding identifier contents.now) ≤ vec_capacity out.old }
-    ensures appended { out.new.items ≡ out.old.items ++ known_encoding identifier contents.now }
-    ensures capacity { vec_capacity out.old ≤ vec_capacity out.new }
-{
-    append_known_header(identifier, contents.len(), out);
-    append(contents, out);
-}
-
-// The same of a text in UTF-8.
-fn append_known_utf8(identifier: u8, text: &str, out: &mut Vec<u8>)
-    requires { vec_len out.old + length (known_encoding identifier (encode_utf8_all (chars text.now))) ≤ vec_capacity out.old }
-    ensures appended { out.new.items ≡ out.old.items ++ known_encoding identifier (encode_utf8_all (chars text.now)) }
-    ensures capacity { vec_capacity out.old ≤ vec_capacity out.new }
-{
-    append_known_header(identifier, utf8_size(text), out);
-    append_utf8(text, out);
-}
-
-// The same of a text of `size` characters, each of which fits an octet.
-fn append_known_characters(identifier: u8, size: usize, text: &str, out: &mut Vec<u8>)
-    requires room { vec_len out.old + length (known_encoding identifier (chars text.now)) ≤ vec_capacity out.old }
-    requires size { size ≡ length (chars text.now) }
-    requires writable { octet_write_fault (chars text.now) ≡ None }
-    ensures appended { out.new.items ≡ out.old.items ++ known_encoding identifier (chars text.now) }
+// Puts a leaf at the end with this identifier octet and so many contents octets.
+fn append_leaf(identifier: u8, size: usize, b: &ASN1Block, out: &mut Vec<u8>)
+    requires room { vec_len out.old + length (known_encoding identifier (own_contents (view b.now)))
+        ≤ vec_capacity out.old }
+    requires size { size ≡ length (own_contents (view b.now)) }
+    requires writable { own_fault (view b.now) ≡ None }
+    ensures appended { out.new.items
+        ≡ out.old.items ++ known_encoding identifier (own_contents (view b.now)) }
     ensures capacity { vec_capacity out.old ≤ vec_capacity out.new }
 {
     append_known_header(identifier, size, out);
-    append_characters(text, out);
+    put_own(b, out);
 }
 
 // The length at the place, which is moved on.
@@ -67,20 +47,17 @@ pub(crate) fn append_block(b: &ASN1Block, lengths: &[usize], next: &mut usize, o
 {
     let size = take_length(lengths, next);
     match b {
-        ASN1Block::Boolean(_, x) => append_known(0x01, &[if *x { 0xFF } else { 0 }], out),
-        ASN1Block::Integer(_, n) => append_known(0x02, n.octets(), out),
-        ASN1Block::BitString(_, bits, v) => {
-            append_known_header(0x03, size, out);
-            append_bit_string(*bits, v, out);
-        }
-        ASN1Block::OctetString(_, v) => append_known(0x04, v, out),
-        ASN1Block::Null(_) => append_known(0x05, &[], out),
-        ASN1Block::UTF8String(_, s) => append_known_utf8(0x0C, s, out),
-        ASN1Block::PrintableString(_, s) => append_known_characters(0x13, size, s, out),
-        ASN1Block::TeletexString(_, s) => append_known_utf8(0x14, s, out),
-        ASN1Block::IA5String(_, s) => append_known_characters(0x16, size, s, out),
-        ASN1Block::UniversalString(_, s) => append_known_utf8(0x1C, s, out),
-        ASN1Block::BMPString(_, s) => append_known_utf8(0x1E, s, out),
+        ASN1Block::Boolean(_, _) => append_leaf(0x01, size, b, out),
+        ASN1Block::Integer(_, _) => append_leaf(0x02, size, b, out),
+        ASN1Block::BitString(_, _, _) => append_leaf(0x03, size, b, out),
+        ASN1Block::OctetString(_, _) => append_leaf(0x04, size, b, out),
+        ASN1Block::Null(_) => append_leaf(0x05, size, b, out),
+        ASN1Block::UTF8String(_, _) => append_leaf(0x0C, size, b, out),
+        ASN1Block::PrintableString(_, _) => append_leaf(0x13, size, b, out),
+        ASN1Block::TeletexString(_, _) => append_leaf(0x14, size, b, out),
+        ASN1Block::IA5String(_, _) => append_leaf(0x16, size, b, out),
+        ASN1Block::UniversalString(_, _) => append_leaf(0x1C, size, b, out),
+        ASN1Block::BMPString(_, _) => append_leaf(0x1E, size, b, out),
         ASN1Block::Sequence(_, items) => {
             append_known_header(0x30, size, out);
             append_all(items, lengths, next, out);
