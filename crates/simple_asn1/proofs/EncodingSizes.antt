@@ -22,45 +22,75 @@ short_identifier_at octets rest b e h ne =
     (b % 32, (c, k, subst (λ z. IsIdentifier z c k (b % 32)) (sym t) (lt, p)))
 
 -- more of them
-pub long_identifier_at : (octets rest : List ℕ) (b i : ℕ) → octets ≡ b ∷ rest → b < 256 → b % 32 ≡ 31 → i < length rest → get_or rest i 0 < 128 → ((j : ℕ) → j < i → 128 ≤ get_or rest j 0) → (tag : ℕ) × IsSomeIdentifier (take (i + 2) octets) tag
+pub long_identifier_at :
+    (octets rest : List ℕ) (b i : ℕ) → octets ≡ b ∷ rest → b < 256 → b % 32 ≡ 31 → i < length rest →
+    get_or rest i 0 < 128 → ((j : ℕ) → j < i → 128 ≤ get_or rest j 0) →
+    (tag : ℕ) × IsSomeIdentifier (take (i + 2) octets) tag
 long_identifier_at octets rest b i e h low lt end high =
     let (c, k, p) = leading_parts b h in
     let s = take (suc i) rest in
     let n : suc (suc i) ≡ i + 2 = omega arith in
     let t : take (i + 2) octets ≡ b ∷ s = ap (λ z. take z octets) (sym n) ∙ ap (take (suc (suc i))) e in
-    let q : IsBase128 s (low_bits_number s) = record { continued = continued_at rest i lt end high; value = refl } in
-    (low_bits_number s, (c, k, subst (λ z. IsIdentifier z c k (low_bits_number s)) (sym t) (long_identifier b s c k (low_bits_number s) (p ∙ ap (leading_octet c k) low) q)))
+    let q : IsBase128 s (low_bits_number s) = record { continued = continued_at rest i lt end high; value = refl } in (
+      low_bits_number s,
+      (
+        c,
+        k,
+        subst (λ z. IsIdentifier z c k (low_bits_number s)) (sym t)
+            (long_identifier b s c k (low_bits_number s) (p ∙ ap (leading_octet c k) low) q),
+      ),
+    )
 
 -- no encoding stands where there are no identifier octets
 pub no_identifier_here : (octets : List ℕ) → BeginsWithNo IsSomeIdentifier octets → (x rest : List ℕ) → octets ≡ x ++ rest → IsEncoding x → ⊥
 no_identifier_here octets missing x rest e (c, k, n, v, h, f) =
     let w = split_encoding octets x rest c k n v h f e in
-    missing n (length f.identifier) (c, k, subst (λ z. IsIdentifier z c k n) (sym (ap (take (length f.identifier)) w ∙ take_at f.identifier (f.len ++ (v ++ rest)) (length f.identifier) refl)) f.identifier_octets)
+    missing n (length f.identifier) (
+      c,
+      k,
+      subst (λ z. IsIdentifier z c k n)
+          (sym (ap (take (length f.identifier)) w ∙ take_at f.identifier (f.len ++ (v ++ rest)) (length f.identifier) refl)) f.identifier_octets,
+    )
 
 -- what follows the identifier octets of an encoding
-after_identifier : (octets : List ℕ) (i tag : ℕ) → IsSomeIdentifier (take i octets) tag → (x rest : List ℕ) → octets ≡ x ++ rest → (p : IsEncoding x) → (take i octets ≡ p.5.identifier) × (drop i octets ≡ p.5.len ++ (p.3 ++ rest))
+after_identifier :
+    (octets : List ℕ) (i tag : ℕ) → IsSomeIdentifier (take i octets) tag → (x rest : List ℕ) →
+    octets ≡ x ++ rest → (p : IsEncoding x) →
+    (take i octets ≡ p.5.identifier) × (drop i octets ≡ p.5.len ++ (p.3 ++ rest))
 after_identifier octets i tag t x rest e (c, k, n, v, h, f) =
     let w = split_encoding octets x rest c k n v h f e in
-    let q = identifier_alone (take i octets) f.identifier (drop i octets) (f.len ++ (v ++ rest)) t.0 c t.1 k tag n t.2 f.identifier_octets (take-append-drop i octets ∙ w) in
+    let q = identifier_alone (take i octets) f.identifier (drop i octets) (f.len ++ (v ++ rest)) t.0 c t.1 k tag n t.2 f.identifier_octets
+    (take-append-drop i octets ∙ w) in
     (q.0, q.1)
 
 -- nor where there are no length octets
-pub no_length_here : (octets : List ℕ) (i tag : ℕ) → IsSomeIdentifier (take i octets) tag → BeginsWithNo IsLength (drop i octets) → (x rest : List ℕ) → octets ≡ x ++ rest → IsEncoding x → ⊥
+pub no_length_here :
+    (octets : List ℕ) (i tag : ℕ) → IsSomeIdentifier (take i octets) tag →
+    BeginsWithNo IsLength (drop i octets) → (x rest : List ℕ) → octets ≡ x ++ rest → IsEncoding x →
+    ⊥
 no_length_here octets i tag t missing x rest e p =
     let a = after_identifier octets i tag t x rest e p in
     let f = p.5 in
-    missing (length p.3) (length f.len) (subst (λ z. IsLength z (length p.3)) (sym (ap (take (length f.len)) a.1 ∙ take_at f.len (p.3 ++ rest) (length f.len) refl)) f.length_octets)
+    missing (length p.3) (length f.len) (subst (λ z. IsLength z (length p.3))
+    (sym (ap (take (length f.len)) a.1 ∙ take_at f.len (p.3 ++ rest) (length f.len) refl)) f.length_octets)
 
 -- nor where the octets are too few
-pub no_contents_here : (octets : List ℕ) (i l m tag : ℕ) → IsSomeIdentifier (take i octets) tag → i ≤ length octets → IsLength (take l (drop i octets)) m → l ≤ length (drop i octets) → length octets < i + l + m → (x rest : List ℕ) → octets ≡ x ++ rest → IsEncoding x → ⊥
+pub no_contents_here :
+    (octets : List ℕ) (i l m tag : ℕ) → IsSomeIdentifier (take i octets) tag → i ≤ length octets →
+    IsLength (take l (drop i octets)) m → l ≤ length (drop i octets) → length octets < i + l + m →
+    (x rest : List ℕ) → octets ≡ x ++ rest → IsEncoding x → ⊥
 no_contents_here octets i l m tag t le u few short x rest e p =
     let a = after_identifier octets i tag t x rest e p in
     let f = p.5 in
-    let q = length_alone (take l (drop i octets)) f.len (drop l (drop i octets)) (p.3 ++ rest) m (length p.3) u f.length_octets (take-append-drop l (drop i octets) ∙ a.1) in
+    let q = length_alone (take l (drop i octets)) f.len (drop l (drop i octets)) (p.3 ++ rest) m (length p.3) u f.length_octets
+    (take-append-drop l (drop i octets) ∙ a.1) in
     omega (arith, short, few, le, q.2, ap length q.1, length-append p.3 rest, length-drop l (drop i octets), length-drop i octets)
 
 -- the encoding that is there
-pub encoding_here : (octets : List ℕ) (i l m tag : ℕ) → IsSomeIdentifier (take i octets) tag → i ≤ length octets → IsLength (take l (drop i octets)) m → l ≤ length (drop i octets) → i + l + m ≤ length octets → IsEncoding (take (i + l + m) octets)
+pub encoding_here :
+    (octets : List ℕ) (i l m tag : ℕ) → IsSomeIdentifier (take i octets) tag → i ≤ length octets →
+    IsLength (take l (drop i octets)) m → l ≤ length (drop i octets) → i + l + m ≤ length octets →
+    IsEncoding (take (i + l + m) octets)
 encoding_here octets i l m tag t le u few fits =
     let r = drop i octets in
     let v = take m (drop l r) in
@@ -92,7 +122,14 @@ none_past_end document offset h octets p =
 pub encoding_two : (octets : List ℕ) → IsEncoding octets → 2 ≤ length octets
 encoding_two octets (c, k, n, v, h, f) =
     let (b, r, e) = length_first f.len (length v) f.length_octets in
-    omega (arith, identifier_some f.identifier c k n f.identifier_octets, ap length e, ap length f.whole, length-append f.identifier (f.len ++ v), length-append f.len v)
+    omega (
+      arith,
+      identifier_some f.identifier c k n f.identifier_octets,
+      ap length e,
+      ap length f.whole,
+      length-append f.identifier (f.len ++ v),
+      length-append f.len v,
+    )
 
 -- what stands at the offset of a tree of a document
 pub encoding_of : (document : List ℕ) (offset : ℕ) (octets : List ℕ) → TreeAt document offset octets → EncodingAt document offset octets

@@ -1,5 +1,5 @@
 -- Characters that fit what they are written in.
-use Rattle.std.proofs.Common.{◌≡◌, ℕ, ◌<◌, ◌↔◌, true, List, [], ◌∷◌, Some, None, inl, inr, refl, sym, ap, ◌∙◌, arith}
+use Rattle.std.proofs.Common.{◌≡◌, ℕ, ◌↔◌, true, List, [], ◌∷◌, Some, None, inl, inr, refl, sym, ap, ◌∙◌, arith}
 use Rattle.std.specs.Prelude.{nat_lt, IsUtf8, encode_utf8_all, if◌then◌else◌}
 use Rattle.std.specs.List.{list_all}
 use Rattle.std.specs.Str.{chars}
@@ -29,6 +29,7 @@ pub printable_bytes : (bs : List ℕ) → IsUtf8 bs → (list_all is_printable b
 printable_bytes bs u =
     let back : list_all is_printable (chars bs) ≡ true → list_all is_printable bs ≡ true = λ q.
     let a = printable_ascii (chars bs) q in
-    let e : encode_utf8_all (chars bs) ≡ chars bs = ap encode_utf8_all (sym (chars-IsAscii (chars bs) a)) ∙ encodes-chars (chars bs) (IsUtf8-from_ascii (chars bs) a) in
+    let e : encode_utf8_all (chars bs) ≡ chars bs = ap encode_utf8_all (sym (chars-IsAscii (chars bs) a)) ∙
+    encodes-chars (chars bs) (IsUtf8-from_ascii (chars bs) a) in
     ap (list_all is_printable) (sym (encodes-chars bs u) ∙ e) ∙ q in
     (λ p. ap (list_all is_printable) (chars-IsAscii bs (printable_ascii bs p)) ∙ p, back)

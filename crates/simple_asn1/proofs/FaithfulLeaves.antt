@@ -74,7 +74,9 @@ leaf_faithful_writable (text kind cs) f = string_fits kind cs f
 
 -- a leaf that can be written is faithful where what is written means it
 
-bit_string_kept : (n : ℕ) (v : List ℕ) → leaf_write_fault (bit_string n v) ≡ None → BitStringContents n v (leaf_contents (bit_string n v)) → IsFaithfulBitString n v
+bit_string_kept :
+    (n : ℕ) (v : List ℕ) → leaf_write_fault (bit_string n v) ≡ None →
+    BitStringContents n v (leaf_contents (bit_string n v)) → IsFaithfulBitString n v
 bit_string_kept zero v w p = inl (refl, p.1)
 bit_string_kept (suc n) v w p =
     let q = subst (BitStringContents (suc n) v) (some_bits_written n v) p in

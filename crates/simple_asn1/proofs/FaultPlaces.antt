@@ -46,16 +46,21 @@ first_fault_placed octets e = (there, back)
 
 mutual
   -- it has one
-  block_place_alone : (place : ℕ) (octets : List ℕ) (e d : DecodeFault) (o p : ℕ) → BlockFaultAt place octets e o → BlockFaultAt place octets d p → place + length octets < 2 ^ 64 → o ≡ p
-  block_place_alone place octets e d o p (at_item x rest g f y t i r q) (at_header w) small = absurd (header_no_encoding place octets x rest d _ _ _ _ _ w small g f)
+  block_place_alone :
+      (place : ℕ) (octets : List ℕ) (e d : DecodeFault) (o p : ℕ) → BlockFaultAt place octets e o →
+      BlockFaultAt place octets d p → place + length octets < 2 ^ 64 → o ≡ p
+  block_place_alone place octets e d o p (at_item x rest g f y t i r q) (at_header w) small =
+      absurd (header_no_encoding place octets x rest d _ _ _ _ _ w small g f)
   block_place_alone place octets e d o p (at_item x rest g f y t i r q) (at_leaf x' rest' {n = n'} {contents = v'} g' f' l) small =
       let s = encoding_alone _ _ _ _ _ _ _ _ _ _ _ _ rest rest' f f' (sym g ∙ g') in
       absurd (leaf_tag_no_group n' y (leaf_fault_tag n' v' d l) (sym s.tag ∙ t))
   block_place_alone place octets e d o p (at_item x rest {k = k} {n = n} {contents = v} {h = h} g f y t i r q) (at_item x' rest' g' f' y' t' i' r' q') small =
       let s = encoding_alone _ _ _ _ _ _ _ _ _ _ _ _ rest rest' f f' (sym g ∙ g') in
-      let a = blocks_place_alone v e d i i' r (subst (λ z. BlocksFaultAt z d i') (sym s.contents) r') (omega (arith, small, encoding_within octets x rest Universal k n v h f g)) in
+      let a = blocks_place_alone v e d i i' r (subst (λ z. BlocksFaultAt z d i') (sym s.contents) r')
+      (omega (arith, small, encoding_within octets x rest Universal k n v h f g)) in
       omega (arith, q, q', a, s.header)
-  block_place_alone place octets e d o p (at_header w) (at_item x rest g f y t i r q) small = absurd (header_no_encoding place octets x rest e _ _ _ _ _ w small g f)
+  block_place_alone place octets e d o p (at_header w) (at_item x rest g f y t i r q) small =
+      absurd (header_no_encoding place octets x rest e _ _ _ _ _ w small g f)
   block_place_alone place octets e d o p (at_leaf x' rest' {n = n'} {contents = v'} g' f' l) (at_item x rest g f y t i r q) small =
       let s = encoding_alone _ _ _ _ _ _ _ _ _ _ _ _ rest rest' f f' (sym g ∙ g') in
       absurd (leaf_tag_no_group n' y (leaf_fault_tag n' v' e l) (sym s.tag ∙ t))
@@ -71,10 +76,13 @@ mutual
       let s = same_fronts octets front rest front' rest' bs bs' g g'
       (λ x z h b. block_fault_no_block (length front) rest x z e (block_placed (length front) rest e i r) fits h b)
       (λ x z h b. block_fault_no_block (length front') rest' x z d (block_placed (length front') rest' d i' r') fits' h b) in
-      let a = block_place_alone (length front) rest e d i i' r (subst (λ z. BlockFaultAt (length front) z d i') (sym s.1) (subst (λ z. BlockFaultAt (length z) rest' d i') (sym s.0) r')) fits in
+      let a = block_place_alone (length front) rest e d i i' r
+      (subst (λ z. BlockFaultAt (length front) z d i') (sym s.1) (subst (λ z. BlockFaultAt (length z) rest' d i') (sym s.0) r')) fits in
       omega (arith, q, q', a, ap length s.0)
 
-pub first_place_alone : (octets : List ℕ) (e d : DecodeFault) (o p : ℕ) → length octets < 2 ^ 64 → FirstFaultAt octets e o → FirstFaultAt octets d p → (e ≡ d) × (o ≡ p)
+pub first_place_alone :
+    (octets : List ℕ) (e d : DecodeFault) (o p : ℕ) → length octets < 2 ^ 64 →
+    FirstFaultAt octets e o → FirstFaultAt octets d p → (e ≡ d) × (o ≡ p)
 first_place_alone octets e d o p small a b =
     (first_fault_alone octets e d ((first_fault_placed octets e).1 (o, a)) ((first_fault_placed octets d).1 (p, b)) small, go a b)
   where

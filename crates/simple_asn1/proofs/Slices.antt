@@ -33,13 +33,18 @@ mutual
   -- the same octets at another offset
   pub encodes_at : (f : ℕ → ℕ) (o q : ℕ) (x : List ℕ) (b : Tree ℕ) → ((d : ℕ) → f (o + d) ≡ q + d) → Encodes o x b → Encodes q x (with_offsets f b)
   encodes_at f o q x (leaf p l) h s = (s.0, s.1, s.2, s.3, ap f s.4 ∙ first_at f o q h, s.5)
-  encodes_at f o q x (group p g bs) h s = (s.0, s.1, s.2, s.3, ap f s.4 ∙ first_at f o q h, encodes_all_at f (o + s.2) (q + s.2) s.1 bs (further f o q s.2 h) s.5)
-  encodes_at f o q x (explicit c p n b) h s = (s.0, s.1, s.2, ap f s.3 ∙ first_at f o q h, s.4, encodes_at f (o + s.1) (q + s.1) s.0 b (further f o q s.1 h) s.5)
+  encodes_at f o q x (group p g bs) h s =
+      (s.0, s.1, s.2, s.3, ap f s.4 ∙ first_at f o q h, encodes_all_at f (o + s.2) (q + s.2) s.1 bs (further f o q s.2 h) s.5)
+  encodes_at f o q x (explicit c p n b) h s =
+      (s.0, s.1, s.2, ap f s.3 ∙ first_at f o q h, s.4, encodes_at f (o + s.1) (q + s.1) s.0 b (further f o q s.1 h) s.5)
   encodes_at f o q x (unknown c k p n v) h s = (s.0, s.1, ap f s.2 ∙ first_at f o q h, s.3)
 
-  pub encodes_all_at : (f : ℕ → ℕ) (o q : ℕ) (x : List ℕ) (bs : Trees ℕ) → ((d : ℕ) → f (o + d) ≡ q + d) → EncodesAll o x bs → EncodesAll q x (all_with_offsets f bs)
+  pub encodes_all_at :
+      (f : ℕ → ℕ) (o q : ℕ) (x : List ℕ) (bs : Trees ℕ) → ((d : ℕ) → f (o + d) ≡ q + d) →
+      EncodesAll o x bs → EncodesAll q x (all_with_offsets f bs)
   encodes_all_at f o q x no_trees h s = s
-  encodes_all_at f o q x (more_trees b bs) h s = (s.0, s.1, s.2, encodes_at f o q s.0 b h s.3, encodes_all_at f (o + length s.0) (q + length s.0) s.1 bs (further f o q (length s.0) h) s.4)
+  encodes_all_at f o q x (more_trees b bs) h s =
+      (s.0, s.1, s.2, encodes_at f o q s.0 b h s.3, encodes_all_at f (o + length s.0) (q + length s.0) s.1 bs (further f o q (length s.0) h) s.4)
 
 -- b stands in the octets i, and ends at j
 pub record Found (i : List ℕ) (b : Tree ℕ) (j : ℕ) : Type 0 where
@@ -68,22 +73,28 @@ module _ (i u x v : List ℕ) (w : i ≡ u ++ (x ++ v)) where
 
 mutual
   -- a tree that stands in one that was read
-  pub found_in : (a : Tree ℕ) (e : ℕ) (b : Tree ℕ) (j : ℕ) (i u x v : List ℕ) → i ≡ u ++ (x ++ v) → e ≡ length u + length x → Encodes (length u) x a → StandsIn a e b j → Found i b j
+  pub found_in :
+      (a : Tree ℕ) (e : ℕ) (b : Tree ℕ) (j : ℕ) (i u x v : List ℕ) → i ≡ u ++ (x ++ v) →
+      e ≡ length u + length x → Encodes (length u) x a → StandsIn a e b j → Found i b j
   found_in a e b j i u x v w n s itself = record { before = u; octets = x; behind = v; whole = w; ends = n; encoded = s }
   found_in a e b j i u x v w n s (in_group {bs = bs} t) =
       let f = s.3 in
-      let h : length u + s.2 ≡ length (u ++ (f.identifier ++ f.len)) = omega (arith, f.size, length-append u (f.identifier ++ f.len), length-append f.identifier f.len) in
+      let h : length u + s.2 ≡ length (u ++ (f.identifier ++ f.len)) = omega
+      (arith, f.size, length-append u (f.identifier ++ f.len), length-append f.identifier f.len) in
       found_among bs e b j i (u ++ (f.identifier ++ f.len)) s.1 v (open_contents i u x v w f.identifier f.len s.1 f.whole)
       (omega (arith, n, h, f.size, ap length f.whole, length-append f.identifier (f.len ++ s.1), length-append f.len s.1))
       (subst (λ z. EncodesAll z s.1 bs) h s.5) t
   found_in a e b j i u x v w n s (in_explicit {a = y} t) =
       let f = s.2 in
-      let h : length u + s.1 ≡ length (u ++ (f.identifier ++ f.len)) = omega (arith, f.size, length-append u (f.identifier ++ f.len), length-append f.identifier f.len) in
+      let h : length u + s.1 ≡ length (u ++ (f.identifier ++ f.len)) = omega
+      (arith, f.size, length-append u (f.identifier ++ f.len), length-append f.identifier f.len) in
       found_in y e b j i (u ++ (f.identifier ++ f.len)) s.0 v (open_contents i u x v w f.identifier f.len s.0 f.whole)
       (omega (arith, n, h, f.size, ap length f.whole, length-append f.identifier (f.len ++ s.0), length-append f.len s.0))
       (subst (λ z. Encodes z s.0 y) h s.5) t
 
-  pub found_among : (bs : Trees ℕ) (e : ℕ) (b : Tree ℕ) (j : ℕ) (i u x v : List ℕ) → i ≡ u ++ (x ++ v) → e ≡ length u + length x → EncodesAll (length u) x bs → StandsAmong bs e b j → Found i b j
+  pub found_among :
+      (bs : Trees ℕ) (e : ℕ) (b : Tree ℕ) (j : ℕ) (i u x v : List ℕ) → i ≡ u ++ (x ++ v) →
+      e ≡ length u + length x → EncodesAll (length u) x bs → StandsAmong bs e b j → Found i b j
   found_among bs e b j i u x v w n s (in_first {a = a} {bs = cs} t) =
       found_in a (end_before cs e) b j i u s.0 (s.1 ++ v) (open_first i u x v w s.0 s.1 s.2)
       (end_is (length u + length s.0) e s.1 cs s.4 (omega (arith, n, ap length s.2, length-append s.0 s.1))) s.3 t
@@ -109,19 +120,30 @@ encodes_document o x b s =
     }
 
 -- where the octets of a tree of a document stand
-pub found_octets : (i : List ℕ) (bs : Trees ℕ) (b : Tree ℕ) (octets : List ℕ) → Document i bs → HasOctets i bs b octets → (before : List ℕ) × (behind : List ℕ) × (i ≡ before ++ (octets ++ behind)) × (length before ≡ tree_offset b) × Encodes (tree_offset b) octets b
+pub found_octets :
+    (i : List ℕ) (bs : Trees ℕ) (b : Tree ℕ) (octets : List ℕ) → Document i bs →
+    HasOctets i bs b octets →
+    (before : List ℕ) × (behind : List ℕ) × (i ≡ before ++ (octets ++ behind)) × (length before ≡ tree_offset b) × Encodes (tree_offset b) octets b
 found_octets i bs b octets d h =
     let f = found_among bs (length i) b h.0 i [] i [] (sym (append-nil i)) (omega arith) d.blocks h.1 in
     let o = encodes_offset (length f.before) f.octets b f.encoded in
-    let e : octets ≡ f.octets = h.2 ∙ slice_here i f.before f.octets f.behind (tree_offset b) h.0 f.whole o f.ends in
-    (f.before, f.behind, f.whole ∙ ap (λ z. f.before ++ (z ++ f.behind)) (sym e), sym o, subst (λ z. Encodes (tree_offset b) z b) (sym e) (subst (λ z. Encodes z f.octets b) (sym o) f.encoded))
+    let e : octets ≡ f.octets = h.2 ∙ slice_here i f.before f.octets f.behind (tree_offset b) h.0 f.whole o f.ends in (
+      f.before,
+      f.behind,
+      f.whole ∙ ap (λ z. f.before ++ (z ++ f.behind)) (sym e),
+      sym o,
+      subst (λ z. Encodes (tree_offset b) z b) (sym e) (subst (λ z. Encodes z f.octets b) (sym o) f.encoded),
+    )
 
 -- they are an encoding at its offset
 pub octets_encoding : (i : List ℕ) (bs : Trees ℕ) (b : Tree ℕ) (octets : List ℕ) → Document i bs → HasOctets i bs b octets → EncodingAt i (tree_offset b) octets
 octets_encoding i bs b octets d h =
     let (before, behind, whole, at, s) = found_octets i bs b octets d h in
-    let F = block_encoding octets (encodes_block (tree_offset b) octets b s) in
-    (behind, ap (drop (tree_offset b)) whole ∙ drop_at before (octets ++ behind) (tree_offset b) at, (F.class, F.constructed, F.tag, F.contents, F.header, F.encoding))
+    let F = block_encoding octets (encodes_block (tree_offset b) octets b s) in (
+      behind,
+      ap (drop (tree_offset b)) whole ∙ drop_at before (octets ++ behind) (tree_offset b) at,
+      (F.class, F.constructed, F.tag, F.contents, F.header, F.encoding),
+    )
 
 -- one encoding stands at an offset
 pub encoding_at_alone : (i : List ℕ) (o : ℕ) (x y : List ℕ) → EncodingAt i o x → EncodingAt i o y → x ≡ y
@@ -129,7 +151,9 @@ encoding_at_alone i o x y p q =
     (encoding_alone _ _ _ _ _ _ _ _ _ _ _ _ p.0 q.0 p.2.5 q.2.5 (sym p.1 ∙ q.1)).octets
 
 -- so it is that of the tree
-pub encoding_at_octets : (i : List ℕ) (bs : Trees ℕ) (b : Tree ℕ) (octets other : List ℕ) → Document i bs → HasOctets i bs b octets → EncodingAt i (tree_offset b) other ↔ (other ≡ octets)
+pub encoding_at_octets :
+    (i : List ℕ) (bs : Trees ℕ) (b : Tree ℕ) (octets other : List ℕ) → Document i bs →
+    HasOctets i bs b octets → EncodingAt i (tree_offset b) other ↔ (other ≡ octets)
 encoding_at_octets i bs b octets other d h =
     let e = octets_encoding i bs b octets d h in
     (λ p. encoding_at_alone i (tree_offset b) other octets p e, λ q. subst (EncodingAt i (tree_offset b)) (sym q) e)

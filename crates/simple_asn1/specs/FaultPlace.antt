@@ -1,5 +1,5 @@
--- Where the first fault is: the offset of the innermost block at fault. What stands in a constructed
--- encoding of another class is read as an attempt, and a fault there is none.
+-- Where the first fault is: the offset of the innermost block at fault. What stands in a
+-- constructed encoding of another class is read as an attempt, and a fault there is none.
 use Rattle.std.specs.Prelude.{◌≡◌, ℕ, ◌+◌, ◌<◌, ◌⊎◌, ◌++◌, Bool, List, [], length}
 use Rattle.simple_asn1.specs.declared.header.ASN1Class.TheVariants.{Universal}
 use Rattle.simple_asn1.specs.declared.block.GroupKind.{GroupKind}

@@ -212,11 +212,9 @@ pub fn decode_length(i: &[u8], index: &mut usize) -> Result<usize, ASN1DecodeErr
 
 // How many identifier octets stand at the front.
 fn identifier_at(octets: &[u8]) -> Option<usize>
-    ensures found {
-        IfSome result (λ n.
-            (0 < n) × (n ≤ length octets.now)
-            × (tag : ℕ) × IsSomeIdentifier (take n octets.now) tag)
-    }
+    ensures found { IfSome result (λ n.
+        (0 < n) × (n ≤ length octets.now)
+        × (tag : ℕ) × IsSomeIdentifier (take n octets.now) tag) }
     ensures none { IfNone result (BeginsWithNo IsSomeIdentifier octets.now) }
 {
     let Some((first, rest)) = octets.split_first() else {
@@ -233,12 +231,9 @@ fn identifier_at(octets: &[u8]) -> Option<usize>
 
 // The size of the encoding at the front, as its header tells it.
 fn encoding_size(octets: &[u8]) -> Option<usize>
-    ensures found {
-        IfSome result (λ n. (2 ≤ n) × (n ≤ length octets.now) × IsEncoding (take n octets.now))
-    }
-    ensures none {
-        IfNone result ((x rest : List ℕ) → octets.now ≡ x ++ rest → IsEncoding x → ⊥)
-    }
+    ensures found { IfSome result (λ n.
+        (2 ≤ n) × (n ≤ length octets.now) × IsEncoding (take n octets.now)) }
+    ensures none { IfNone result ((x rest : List ℕ) → octets.now ≡ x ++ rest → IsEncoding x → ⊥) }
 {
     let Some(identifier) = identifier_at(octets) else {
         return None;
@@ -268,10 +263,8 @@ fn encoding_size(octets: &[u8]) -> Option<usize>
 pub fn encoding_at(document: &[u8], offset: usize) -> Option<&[u8]>
     ensures found { IfSome result (λ octets. EncodingAt document.now offset octets.now) }
     ensures none { IfNone result (HasNoEncodingAt document.now offset) }
-    ensures block {
-        (octets : List ℕ) → TreeAt document.now offset octets →
-        IsSomeAnd result (λ found. found.now ≡ octets)
-    }
+    ensures block { (octets : List ℕ) → TreeAt document.now offset octets →
+        IsSomeAnd result (λ found. found.now ≡ octets) }
 {
     if offset > document.len() {
         return None;

@@ -21,5 +21,6 @@ returns-clause-block c octets t =
     let n = c.in-Some.size in
     let r = c.split_at.ensures.back in
     let f = c.split_at-2.ensures.front ∙ ap (take n) r in
-    let q : EncodingAt document o (take n (drop o document)) = (drop n (drop o document), sym (take-append-drop n (drop o document)), subst (λ z. IsEncoding (take n z)) r c.in-Some.ensures.found.2) in
+    let q : EncodingAt document o (take n (drop o document)) =
+    (drop n (drop o document), sym (take-append-drop n (drop o document)), subst (λ z. IsEncoding (take n z)) r c.in-Some.ensures.found.2) in
     f ∙ encoding_at_alone document o (take n (drop o document)) octets q (encoding_of document o octets t)
