@@ -6,7 +6,7 @@ use Rattle.hex.specs.declared.error.FromHexError.{FromHexError}
 use Rattle.hex.specs.Hex.{decode_of, encode_upper}
 use Rattle.hex.proofs.HexLemmas.{decode_of-ok}
 use Rattle.simple_asn1.specs.Canonical.{all_canonical}
-use Rattle.simple_asn1.specs.Laws.{OneReading}
+use Rattle.simple_asn1.specs.Laws.OneReading.{OneReading}
 use Rattle.der_tool.specs.Answers.{onto_first_line, lines_of, name_of, number_after, IsVerdict, IsAnswer, AreLineAnswers}
 
 -- no line is longer than n

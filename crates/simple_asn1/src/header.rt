@@ -1,10 +1,11 @@
 // Identifier and length octets, each way.
 //
 // Each decoder is a function from a slice to the value and how many octets it took, with a wrapper that moves an index.
-ghost use Rattle.std.specs.Prelude.{◌≡◌, ℕ, ◌+◌, ◌*◌, ◌/◌, ◌++◌, ◌∷◌, ◌<◌, ◌≤◌, ◌^◌, ◌⊎◌, List, length, drop, take, vec_len, vec_capacity, IfOk, OnOk, OnErr, slice_index, slice_range, IsOk, IfErr, IfSome, IfNone};
+ghost use Rattle.std.specs.Prelude.{◌≡◌, ℕ, ◌+◌, ◌*◌, ◌/◌, ◌++◌, ◌∷◌, ◌<◌, ◌≤◌, ◌^◌, ◌⊎◌, List, length, drop, take, vec_len, vec_capacity, IfOk, OnOk, OnErr, slice_index, slice_range, IsOk, IfErr, IfSome, IfNone, IsSomeAnd};
 ghost use Rattle.std.specs.Int.Digits.{number_from_digits, digits_of};
 ghost use Rattle.simple_asn1.specs.Base128.{IsBase128, shortest_base128};
 ghost use Rattle.simple_asn1.specs.Fault.{OutOfMemoryOr, fault_of};
+ghost use Rattle.simple_asn1.specs.Places.{EncodingAt, HasNoEncodingAt, IsEncoding, TreeAt};
 ghost use Rattle.simple_asn1.specs.Header.{BeginsWithNo, IsIdentifier, IsIncomplete, IsLength, IsSomeIdentifier, class_number, length_fault, shortest_identifier, shortest_length};
 
 use crate::error::ASN1DecodeErr;
@@ -209,24 +210,71 @@ pub fn decode_length(i: &[u8], index: &mut usize) -> Result<usize, ASN1DecodeErr
     Ok(n)
 }
 
-// The size of the encoding at the front as its header tells it, where the octets hold so much.
-fn encoding_size(octets: &[u8]) -> Option<usize>
-    ensures { IfSome result (λ n. (2 ≤ n) × (n ≤ length octets.now)) }
+// How many identifier octets stand at the front.
+fn identifier_at(octets: &[u8]) -> Option<usize>
+    ensures found { IfSome result (λ n.
+        (0 < n) × (n ≤ length octets.now)
+        × (tag : ℕ) × IsSomeIdentifier (take n octets.now) tag) }
+    ensures none { IfNone result (BeginsWithNo IsSomeIdentifier octets.now) }
 {
-    let (first, rest) = octets.split_first()?;
-    let identifier = if *first % 32 == 31 {
-        last_octet_at(rest)? + 2
-    } else {
-        1
+    let Some((first, rest)) = octets.split_first() else {
+        return None;
+    };
+    if *first % 32 != 31 {
+        return Some(1);
+    }
+    let Some(last) = last_octet_at(rest) else {
+        return None;
+    };
+    Some(last + 2)
+}
+
+// The size of the encoding at the front, as its header tells it.
+fn encoding_size(octets: &[u8]) -> Option<usize>
+    ensures found { IfSome result (λ n.
+        (2 ≤ n) × (n ≤ length octets.now) × IsEncoding (take n octets.now)) }
+    ensures none { IfNone result ((x rest : List ℕ) → octets.now ≡ x ++ rest → IsEncoding x → ⊥) }
+{
+    let Some(identifier) = identifier_at(octets) else {
+        return None;
     };
     let (_, rest) = octets.split_at(identifier);
-    let (contents, length) = length_at(rest).ok()?;
-    let size = (identifier + length).checked_add(contents)?;
+    let (contents, length) = match length_at(rest) {
+        Ok(found) => found,
+        Err(_) => return None,
+    };
+    let Some(size) = (identifier + length).checked_add(contents) else {
+        return None;
+    };
     if size <= octets.len() {
         Some(size)
     } else {
         None
     }
+}
+
+/// The octets of the encoding that stands at the offset (X.690 8.1.1), by its header alone: the
+/// contents octets are not looked into. Where the offset is that of a block that was read from the
+/// document, at any depth, they are the octets of that block.
+///
+/// `None` where no encoding stands at the offset, also past the end. It takes no memory.
+///
+/// The octets `30 07 02 01 05 A0 02 05 00` have `02 01 05` at 2, and no encoding at 3.
+pub fn encoding_at(document: &[u8], offset: usize) -> Option<&[u8]>
+    ensures found { IfSome result (λ octets. EncodingAt document.now offset octets.now) }
+    ensures none { IfNone result (HasNoEncodingAt document.now offset) }
+    ensures block { (octets : List ℕ) → TreeAt document.now offset octets →
+        IsSomeAnd result (λ found. found.now ≡ octets) }
+{
+    if offset > document.len() {
+        return None;
+    }
+    let (_, rest) = document.split_at(offset);
+    let Some(size) = encoding_size(rest) else {
+        return None;
+    };
+    let (octets, _) = rest.split_at(size);
+    Some(octets)
 }
 
 // How many encodings stand one after another, as their headers tell it. It is a hint for the room that their blocks

@@ -1,11 +1,11 @@
 -- What is known of the contents octets of a BIT STRING.
-use Rattle.std.proofs.Common.{◌≡◌, ℕ, ◌-◌, ◌*◌, ◌<◌, ◌^◌, ◌⊎◌, List, [], ◌∷◌, None, length, inl, inr, refl, sym, ap, ◌∙◌, subst, arith}
-use Rattle.std.specs.Prelude.{pos, ◌-ℤ◌, All}
-use Rattle.std.proofs.lemmas.Bool.{cases_lt}
+use Rattle.std.proofs.Common.{◌≡◌, ◌==◌, ℕ, zero, suc, ◌+◌, ◌-◌, ◌*◌, ◌<◌, ◌≤◌, ◌^◌, ◌⊎◌, false, List, [], ◌∷◌, None, length, inl, inr, refl, sym, ap, ◌∙◌, subst, arith}
+use Rattle.std.specs.Prelude.{pos, ◌-ℤ◌, All, if◌then◌else◌}
+use Rattle.std.proofs.lemmas.Bool.{cases_Bool, cases_lt, eqb-true}
 use Rattle.std.proofs.lemmas.Grind.{common_steps}
 use Rattle.std.proofs.lemmas.List.Elements.{All-head}
 use Rattle.simple_asn1.specs.Fault.{DecodeFault, IsOfReading, length_too_large, invalid_bit_string_length}
-use Rattle.simple_asn1.specs.Contents.BitString.{BitStringContents, BitStringFault, bit_string_write_fault}
+use Rattle.simple_asn1.specs.Contents.BitString.{BitStringContents, BitStringFault, IsFaithfulBitString, bit_string_contents, bit_string_write_fault, written_bits}
 
 -- they mean one number of bits, and one list of octets
 pub bit_string_alone : (m n : ℕ) (v w contents : List ℕ) → BitStringContents m v contents → BitStringContents n w contents → (m ≡ n) × (v ≡ w)
@@ -51,3 +51,50 @@ bit_string_writable n v [] all p = ap (λ z. bit_string_write_fault z v) p.0
 bit_string_writable n v (u ∷ contents) all p =
     let h : u < 256 = All-head (λ b. b < 256) u contents all in
     grind (arith, common_steps, h, p.1)
+
+-- some bits are not none
+some_bits : (n : ℕ) → (suc n == 0) ≡ false
+some_bits n = elim (cases_Bool (suc n == 0)) [ inl e ↦ absurd (omega (arith, eqb-true (suc n) 0 e)) | inr e ↦ e ]
+
+-- what is written of a bit string that has some, and what is left of it
+some_written : (n : ℕ) (v : List ℕ) → bit_string_contents (suc n) v ≡ (8 * length v - suc n) ∷ v
+some_written n v = ap (λ z. if z then [] else ((8 * length v - suc n) ∷ v)) (some_bits n)
+
+some_left : (n : ℕ) (v : List ℕ) → written_bits (suc n) v ≡ v
+some_left n v = ap (λ z. if z then [] else v) (some_bits n)
+
+-- what is written of faithful bits means them
+pub bit_string_again : (n : ℕ) (v : List ℕ) → IsFaithfulBitString n v → BitStringContents n v (bit_string_contents n v)
+bit_string_again zero v (inl f) = (refl, f.1)
+bit_string_again zero v (inr f) = absurd (omega (arith, f.0))
+bit_string_again (suc n) v (inl f) = absurd (omega (arith, f.0))
+bit_string_again (suc n) v (inr f) = subst (BitStringContents (suc n) v) (sym (some_written n v)) (refl, omega (arith, f.1), f.3)
+
+-- they can be written
+pub bit_string_fits : (n : ℕ) (v : List ℕ) → IsFaithfulBitString n v → bit_string_write_fault n v ≡ None
+bit_string_fits zero v f = refl
+bit_string_fits (suc n) v (inl f) = absurd (omega (arith, f.0))
+bit_string_fits (suc n) v (inr f) = grind (arith, common_steps, f.1, f.2)
+
+-- bits that can be written are faithful where what is written means them
+pub bit_string_kept : (n : ℕ) (v : List ℕ) → bit_string_write_fault n v ≡ None → BitStringContents n v (bit_string_contents n v) → IsFaithfulBitString n v
+bit_string_kept zero v w p = inl (refl, p.1)
+bit_string_kept (suc n) v w p =
+    let q = subst (BitStringContents (suc n) v) (some_written n v) p in
+    let h : 8 * length v ≤ suc n + 255 = grind (arith, common_steps, w, q.1) in
+    inr (omega arith, omega (arith, q.1), h, q.2)
+
+-- what is left of bits that were read is faithful
+pub bit_string_read : (n : ℕ) (v contents : List ℕ) → All (λ b. b < 256) contents → BitStringContents n v contents → IsFaithfulBitString n (written_bits n v)
+bit_string_read zero v contents all p = inl (refl, refl)
+bit_string_read (suc n) v [] all p = absurd (omega (arith, p.0))
+bit_string_read (suc n) v (u ∷ contents) all p =
+    let h : u < 256 = All-head (λ b. b < 256) u contents all in
+    let few : 8 * length v ≤ suc n + 255 = omega (arith, h, p.1, ap length p.0) in
+    let fits : 8 * length v < 2 ^ 64 = omega (arith, p.2, ap length p.0) in
+    subst (IsFaithfulBitString (suc n)) (sym (some_left n v)) (inr (omega arith, omega (arith, p.1, ap length p.0), few, fits))
+
+-- what is not left is not written
+pub bit_string_same : (n : ℕ) (v : List ℕ) → bit_string_contents n (written_bits n v) ≡ bit_string_contents n v
+bit_string_same zero v = refl
+bit_string_same (suc n) v = ap (bit_string_contents (suc n)) (some_left n v)

@@ -1,7 +1,7 @@
 -- What is known of the contents octets of a BOOLEAN.
-use Rattle.std.proofs.Common.{◌≡◌, ℕ, ◌==◌, ◌⊎◌, Bool, not, List, [], ◌∷◌, length, inl, inr, refl, sym, ap, ◌∙◌, subst, arith}
+use Rattle.std.proofs.Common.{◌≡◌, ℕ, ◌==◌, ◌⊎◌, Bool, true, false, not, List, [], ◌∷◌, length, inl, inr, refl, sym, ap, ◌∙◌, subst, arith}
 use Rattle.simple_asn1.specs.Fault.{DecodeFault, IsOfReading, bad_boolean_length}
-use Rattle.simple_asn1.specs.Contents.Boolean.{BooleanContents, BooleanFault}
+use Rattle.simple_asn1.specs.Contents.Boolean.{BooleanContents, BooleanFault, boolean_contents}
 
 -- they mean one value
 pub boolean_alone : (a b : Bool) (contents : List ℕ) → BooleanContents a contents → BooleanContents b contents → a ≡ b
@@ -27,3 +27,8 @@ boolean_meaning (x ∷ y ∷ rest) = inr (bad_boolean_length (length (x ∷ y �
 -- it is one of reading
 pub boolean_fault_of_reading : (contents : List ℕ) (e : DecodeFault) → BooleanFault contents e → IsOfReading e
 boolean_fault_of_reading contents e f = subst IsOfReading (sym f.1) tt
+
+-- what is written means the value
+pub boolean_again : (b : Bool) → BooleanContents b (boolean_contents b)
+boolean_again true = (255, refl, refl)
+boolean_again false = (0, refl, refl)

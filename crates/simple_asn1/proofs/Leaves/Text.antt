@@ -8,8 +8,8 @@ use Rattle.std.proofs.lemmas.Str.{encodes_same, IsUtf8-from_is_utf8, is_utf8-fro
 use Rattle.simple_asn1.specs.declared.body.text.TextForm.{TextForm}
 use Rattle.simple_asn1.specs.declared.body.text.TextForm.TheVariants.{Utf8, Printable, Octets}
 use Rattle.simple_asn1.specs.Fault.{DecodeFault, IsOfReading, utf8_failure, printable_string_failure}
-use Rattle.simple_asn1.specs.Contents.Text.{is_printable, TextContents, TextFault, octet_write_fault, text_write_fault}
-use Rattle.simple_asn1.proofs.Characters.{octets_writable}
+use Rattle.simple_asn1.specs.Contents.Text.{is_printable, HasCharacters, TextContents, TextFault, octet_write_fault, text_contents, text_write_fault}
+use Rattle.simple_asn1.proofs.Characters.{octets_writable, octet_write_none, printable_write_none}
 
 -- they mean one list of characters
 pub text_alone : (form : TextForm) (cs ds contents : List ℕ) → TextContents form cs contents → TextContents form ds contents → cs ≡ ds
@@ -52,3 +52,27 @@ pub text_writable : (form : TextForm) (cs contents : List ℕ) → All (λ b. b 
 text_writable Utf8 cs contents all p = refl
 text_writable Printable cs contents all p = ap octet_write_fault p.1 ∙ octets_writable contents all
 text_writable Octets cs contents all p = ap octet_write_fault p ∙ octets_writable contents all
+
+-- what is written of characters that the form has means them
+pub text_again : (form : TextForm) (cs : List ℕ) → HasCharacters form cs → TextContents form cs (text_contents form cs)
+text_again Utf8 cs f = (f, refl)
+text_again Printable cs f = (f, refl)
+text_again Octets cs f = refl
+
+-- they can be written
+pub text_fits : (form : TextForm) (cs : List ℕ) → HasCharacters form cs → text_write_fault form cs ≡ None
+text_fits Utf8 cs f = refl
+text_fits Printable cs f = printable_write_none cs f
+text_fits Octets cs f = rw f refl
+
+-- characters that can be written are such where what is written means them
+pub text_kept : (form : TextForm) (cs : List ℕ) → text_write_fault form cs ≡ None → TextContents form cs (text_contents form cs) → HasCharacters form cs
+text_kept Utf8 cs w p = p.0
+text_kept Printable cs w p = p.0
+text_kept Octets cs w p = octet_write_none cs w
+
+-- characters that were read are such
+pub text_read : (form : TextForm) (cs contents : List ℕ) → All (λ b. b < 256) contents → TextContents form cs contents → HasCharacters form cs
+text_read Utf8 cs contents all p = p.0
+text_read Printable cs contents all p = ap (list_all is_printable) p.1 ∙ p.0
+text_read Octets cs contents all p = octet_write_none cs (text_writable Octets cs contents all p)

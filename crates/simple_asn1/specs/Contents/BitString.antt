@@ -30,3 +30,14 @@ bit_string_write_fault n v =
     if n == 0 then None
     else (if nat_lt (8 * length v) n || nat_lt (n + 255) (8 * length v) then Some BitStringLength
     else None)
+
+-- there are neither bits nor octets; or there are bits and octets enough for them, at most 255 bits
+-- of the octets are unused, and a usize can count all bits of the octets
+abbrev pub IsFaithfulBitString : ℕ → List ℕ → Type 0
+IsFaithfulBitString n v =
+    ((n ≡ 0) × (v ≡ []))
+    ⊎ ((0 < n) × (n ≤ 8 * length v) × (8 * length v ≤ n + 255) × (8 * length v < 2 ^ 64))
+
+-- the octets that are left of a bit string of so many bits: of no bits none
+abbrev pub written_bits : ℕ → List ℕ → List ℕ
+written_bits n v = if n == 0 then [] else v

@@ -51,3 +51,9 @@ abbrev pub text_write_fault : TextForm → List ℕ → Option ASN1EncodeErr
 text_write_fault Utf8 cs = None
 text_write_fault Printable cs = octet_write_fault cs
 text_write_fault Octets cs = octet_write_fault cs
+
+-- the characters that the form has: any, the 74, or those up to 255
+abbrev pub HasCharacters : TextForm → List ℕ → Type 0
+HasCharacters Utf8 cs = all_scalars cs ≡ true
+HasCharacters Printable cs = list_all is_printable cs ≡ true
+HasCharacters Octets cs = list_all (λ c. nat_lt c 256) cs ≡ true

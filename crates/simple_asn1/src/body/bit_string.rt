@@ -1,6 +1,6 @@
 // Contents octets of a BIT STRING (X.690 8.6).
-ghost use Rattle.std.specs.Prelude.{◌≡◌, ◌≤◌, length, None, Some, IfOk, IfErr, OnOk};
-ghost use Rattle.simple_asn1.specs.Contents.BitString.{BitStringContents, BitStringFault, bit_string_contents, bit_string_write_fault};
+ghost use Rattle.std.specs.Prelude.{◌≡◌, ◌↔◌, ◌≤◌, length, None, Some, IfOk, IfErr, IsTrue, OnOk};
+ghost use Rattle.simple_asn1.specs.Contents.BitString.{BitStringContents, BitStringFault, IsFaithfulBitString, bit_string_contents, bit_string_write_fault};
 ghost use Rattle.simple_asn1.specs.Fault.{OutOfMemoryOr};
 
 use crate::error::{ASN1DecodeErr, ASN1EncodeErr};
@@ -54,4 +54,16 @@ pub(crate) fn put<S: Sink>(bits: usize, octets: &[u8], out: &mut S)
     let unused = 8 * octets.len() as u128 - bits as u128;
     out.put_one(unused as u8);
     out.put(octets);
+}
+
+// Whether the bits are read back as they are, once they are written.
+pub(crate) fn is_faithful(bits: usize, octets: &[u8]) -> bool
+    ensures { IsTrue result ↔ IsFaithfulBitString bits octets.now }
+{
+    if bits == 0 {
+        return octets.is_empty();
+    }
+    let room = 8 * octets.len() as u128;
+    let bits = bits as u128;
+    bits <= room && room <= bits + 255 && room <= usize::MAX as u128
 }

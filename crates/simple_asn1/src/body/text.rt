@@ -1,8 +1,8 @@
 // Contents octets of the strings of characters (X.690 8.23).
-ghost use Rattle.std.specs.Prelude.{◌≡◌, ◌+◌, ◌≤◌, ℕ, List, length, None, Some, IfOk, IfErr, OnOk, IsUtf8, encode_utf8_all, string_bytes};
+ghost use Rattle.std.specs.Prelude.{◌≡◌, ◌↔◌, ◌+◌, ◌≤◌, ℕ, List, length, None, Some, IfOk, IfErr, IsTrue, OnOk, IsUtf8, encode_utf8_all, string_bytes};
 ghost use Rattle.std.specs.List.{list_all};
 ghost use Rattle.std.specs.Str.{IsAscii, all_scalars, chars};
-ghost use Rattle.simple_asn1.specs.Contents.Text.{TextContents, TextFault, is_printable, octet_write_fault, text_contents, text_write_fault};
+ghost use Rattle.simple_asn1.specs.Contents.Text.{HasCharacters, TextContents, TextFault, is_printable, octet_write_fault, text_contents, text_write_fault};
 ghost use Rattle.simple_asn1.specs.Fault.{OutOfMemoryOr};
 ghost use Rattle.simple_asn1.specs.declared.body.text.TextForm.TheVariants.{Printable, Utf8};
 ghost use Rattle.simple_asn1.specs.declared.error.ASN1DecodeErr.TheVariants.{OutOfMemory};
@@ -165,5 +165,16 @@ fn put_characters<S: Sink>(text: &str, out: &mut S)
     }
     for c in text.chars() {
         out.put_one(c as u8);
+    }
+}
+
+// Whether the text is read back as it is, once it is written.
+pub(crate) fn is_faithful(form: TextForm, text: &str) -> bool
+    ensures { IsTrue result ↔ HasCharacters form (chars text.now) }
+{
+    match form {
+        TextForm::Utf8 => true,
+        TextForm::Printable => are_printable(text.as_bytes()),
+        TextForm::Octets => character_count(text).is_ok(),
     }
 }

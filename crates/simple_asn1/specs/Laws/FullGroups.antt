@@ -1,0 +1,46 @@
+-- The narrower grammar of the Rust crate, in which a SEQUENCE or SET has at least one item.
+use Rattle.std.specs.Prelude.{◌≡◌, ◌≢◌, ℕ, ◌<◌, ◌++◌, Bool, false, List, [], length}
+use Rattle.simple_asn1.specs.declared.header.ASN1Class.{ASN1Class}
+use Rattle.simple_asn1.specs.declared.header.ASN1Class.TheVariants.{Universal}
+use Rattle.simple_asn1.specs.declared.block.GroupKind.{GroupKind}
+use Rattle.simple_asn1.specs.Octets.{FitInSlice}
+use Rattle.simple_asn1.specs.Header.{Encoding}
+use Rattle.simple_asn1.specs.Tree.{Leaf, Trees}
+use Rattle.simple_asn1.specs.Contents.{leaf_tag, group_tag, is_known_tag, LeafContents}
+use Rattle.simple_asn1.specs.Grammar.{IsBlock, AreBlocks, Document}
+
+mutual
+  -- the octets are a block, and no SEQUENCE or SET that is read in it is empty
+  pub data IsFullBlock : List ℕ → Type 0 where
+    full_other_class :
+        {octets : List ℕ} {c : ASN1Class} {k : Bool} {n : ℕ} {contents : List ℕ} {h : ℕ} →
+        Encoding octets c k n contents h → c ≢ Universal → IsFullBlock octets
+    full_unknown_tag :
+        {octets : List ℕ} {k : Bool} {n : ℕ} {contents : List ℕ} {h : ℕ} →
+        Encoding octets Universal k n contents h → is_known_tag n ≡ false → IsFullBlock octets
+    full_leaf :
+        {octets : List ℕ} {k : Bool} {n : ℕ} {contents : List ℕ} {h : ℕ} →
+        Encoding octets Universal k n contents h →
+        (l : Leaf) → n ≡ leaf_tag l → LeafContents l contents → IsFullBlock octets
+    full_group :
+        {octets : List ℕ} {k : Bool} {n : ℕ} {contents : List ℕ} {h : ℕ} →
+        Encoding octets Universal k n contents h →
+        (g : GroupKind) → n ≡ group_tag g → 0 < length contents → AreFullBlocks contents →
+        IsFullBlock octets
+
+  -- the octets are such blocks one after another, also none
+  pub data AreFullBlocks : List ℕ → Type 0 where
+    no_full_blocks : AreFullBlocks []
+    more_full_blocks :
+        {octets x rest : List ℕ} →
+        octets ≡ x ++ rest → IsFullBlock x → AreFullBlocks rest → AreFullBlocks octets
+
+-- the wider grammar reads all that the narrower reads
+pub record Wider : Type 0 where
+  pub block : (octets : List ℕ) → IsFullBlock octets → IsBlock octets
+  pub blocks : (octets : List ℕ) → AreFullBlocks octets → AreBlocks octets
+  -- so every document of the narrower grammar is one
+  pub document :
+      (octets : List ℕ) →
+      FitInSlice octets → 0 < length octets → AreFullBlocks octets →
+      (bs : Trees ℕ) × Document octets bs

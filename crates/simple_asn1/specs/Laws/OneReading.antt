@@ -1,0 +1,66 @@
+-- Octets have one reading.
+use Rattle.std.specs.Prelude.{◌≡◌, ◌↔◌, ◌⊎◌, ℕ, ◌≤◌, ◌++◌, List, length}
+use Rattle.simple_asn1.specs.Octets.{FitInSlice}
+use Rattle.simple_asn1.specs.Fault.{DecodeFault, IsOfReading}
+use Rattle.simple_asn1.specs.FaultPlace.{FirstFaultAt}
+use Rattle.simple_asn1.specs.Tree.{Tree, Trees}
+use Rattle.simple_asn1.specs.Grammar.{IsBlock, Encodes, Document, FirstFault}
+use Rattle.simple_asn1.specs.HeadersBegun.{HeadersBegun, all_blocks_in}
+
+-- all octets have one reading
+pub record OneReading : Type 0 where
+  -- octets at an offset encode at most one tree
+  pub one_tree :
+      (offset : ℕ) (octets : List ℕ) (a b : Tree ℕ) →
+      Encodes offset octets a → Encodes offset octets b → a ≡ b
+  -- of two trees encoded at the front of the same octets, at one offset, the octets and the trees
+  -- are equal
+  pub one_front :
+      (offset : ℕ) (s t x y : List ℕ) (a b : Tree ℕ) →
+      Encodes offset s a → Encodes offset t b → s ++ x ≡ t ++ y → (s ≡ t) × (a ≡ b)
+  -- octets are a block exactly if they encode some tree, at whatever offset
+  pub block :
+      (offset : ℕ) (octets : List ℕ) →
+      FitInSlice octets → IsBlock octets ↔ ((b : Tree ℕ) × Encodes offset octets b)
+  -- all octets are a document or have a first fault
+  pub either :
+      (octets : List ℕ) →
+      FitInSlice octets →
+      ((bs : Trees ℕ) × Document octets bs) ⊎ ((e : DecodeFault) × FirstFault octets e)
+  -- and never both
+  pub not_both :
+      (octets : List ℕ) (bs : Trees ℕ) (e : DecodeFault) →
+      FitInSlice octets → Document octets bs → FirstFault octets e → ⊥
+  -- they are at most one document
+  pub one_document :
+      (octets : List ℕ) (xs ys : Trees ℕ) → Document octets xs → Document octets ys → xs ≡ ys
+  -- and have at most one first fault
+  pub one_fault :
+      (octets : List ℕ) (e d : DecodeFault) →
+      FitInSlice octets → FirstFault octets e → FirstFault octets d → e ≡ d
+  -- the first fault is of octets: a class always exists, nothing overflows, and memory is none of
+  -- them
+  pub of_reading : (octets : List ℕ) (e : DecodeFault) → FirstFault octets e → IsOfReading e
+  -- a reader begins some number of headers
+  pub headers_begun : (octets : List ℕ) → FitInSlice octets → (n : ℕ) × HeadersBegun octets n
+  -- and no other number
+  pub one_number :
+      (octets : List ℕ) (m n : ℕ) → HeadersBegun octets m → HeadersBegun octets n → m ≡ n
+  -- at most one header for each octet
+  pub at_most : (octets : List ℕ) (n : ℕ) → HeadersBegun octets n → n ≤ length octets
+  -- and at least one for each block of a document, at all depths
+  pub at_least :
+      (octets : List ℕ) (bs : Trees ℕ) (n : ℕ) →
+      Document octets bs → HeadersBegun octets n → all_blocks_in bs ≤ n
+
+-- the first fault has one place
+pub record OnePlace : Type 0 where
+  -- it has a place, and what has one is a first fault
+  pub placed :
+      (octets : List ℕ) (e : DecodeFault) →
+      FirstFault octets e ↔ ((offset : ℕ) × FirstFaultAt octets e offset)
+  -- and no other place
+  pub one :
+      (octets : List ℕ) (e d : DecodeFault) (m n : ℕ) →
+      FitInSlice octets → FirstFaultAt octets e m → FirstFaultAt octets d n →
+      (e ≡ d) × (m ≡ n)

@@ -1,0 +1,10 @@
+-- Octets, as lists of naturals.
+use Rattle.std.specs.Prelude.{ℕ, ◌<◌, ◌^◌, List, length, All}
+
+-- each number of the list is an octet
+abbrev pub AreOctets : List ℕ → Type 0
+AreOctets octets = All (λ b. b < 256) octets
+
+-- a slice can hold so many
+abbrev pub FitInSlice : List ℕ → Type 0
+FitInSlice octets = length octets < 2 ^ 64
