@@ -1,16 +1,18 @@
 -- Two digits, fields of two digits, and the digits of a fraction.
-use Rattle.std.proofs.Common.{◌≡◌, ℕ, zero, suc, ◌+◌, ◌-◌, ◌*◌, ◌/◌, ◌%◌, ◌^◌, ◌<◌, ◌≤◌, ◌⊎◌, ◌&&◌, ◌++◌, true, false, inl, inr, List, [], ◌∷◌, length, refl, sym, ap, ◌∙◌, subst, arith}
-use Rattle.std.specs.Prelude.{ℤ, Option, Some, None, IfNone}
+use Rattle.std.proofs.Common.{◌≡◌, ℕ, zero, suc, ◌+◌, ◌-◌, ◌*◌, ◌/◌, ◌%◌, ◌^◌, ◌<◌, ◌≤◌, ◌⊎◌, ◌&&◌, ◌==◌, ◌++◌, true, false, inl, inr, List, [], ◌∷◌, length, refl, sym, ap, ◌∙◌, subst, arith, length-append}
+use Rattle.std.specs.Prelude.{ℤ, pos, negsuc, ◌≤ℤ◌, unsigned_abs, slice_index, Option, Some, None, IfNone}
 use Rattle.std.specs.Char.{is_ascii_digit}
 use Rattle.std.specs.List.{list_all}
 use Rattle.std.proofs.Math.Nat.{div-lt_iff_lt-mul, pow-succ'}
-use Rattle.std.proofs.lemmas.Bool.{false≢true, and_from}
+use Rattle.std.proofs.lemmas.Bool.{false≢true, and_from, cases_Bool, eqb-true}
 use Rattle.std.proofs.lemmas.Bool.Decides.{nat_tests}
+use Rattle.std.proofs.lemmas.Int.{ints}
 use Rattle.std.proofs.lemmas.List.{append_cancel_right}
 use Rattle.std.proofs.lemmas.Nat.{div-add-mod'}
 use Rattle.jiff_core.specs.Calendar.{days_in_month}
-use Rattle.simple_asn1.specs.Contents.Moment.{Moment, IsPair}
+use Rattle.simple_asn1.specs.Contents.Moment.{Moment, IsPair, IsValid, moment_write_fault, year_write_fault}
 use Rattle.simple_asn1.specs.Contents.GeneralizedTime.{IsEnd, fraction_number, fraction_digits, tenth}
+use Rattle.simple_asn1.proofs.Leaves.Known.{Known, known_within, below_known, range_known}
 
 -- what follows where there is no value
 pub none_then : {X P Q : Type 0} (r : Option X) → IfNone r P → (P → Q) → IfNone r Q
@@ -108,3 +110,95 @@ unit_step (suc (suc j)) unit h e =
     let u : 10 ^ suc j ≡ 10 * 10 ^ j = pow-succ' 10 j in
     let v : suc j ≡ suc (suc j) - 1 = omega arith in
     (t ∙ ap (λ z. 10 ^ z) v, omega (arith, t, pow_positive (suc j)), λ l. let w : unit / 10 * 10 ≡ unit = omega (arith, t, u) in w ∙ (t ∙ ap (λ z. 10 ^ z) v))
+
+-- the number of the two digits at a place
+abbrev pub number_at : List ℕ → ℕ → ℕ
+number_at octets place = (slice_index octets place - 48) * 10 + (slice_index octets (place + 1) - 48)
+
+pub number_two_digits : (n : ℕ) → n < 100 → (48 + n / 10 - 48) * 10 + (48 + n % 10 - 48) ≡ n
+number_two_digits n h = omega arith
+
+-- a moment from year 0 on is known to be valid or not
+pub valid_known : (m : Moment) → pos 0 ≤ℤ m.year → Known (IsValid m)
+valid_known m from_zero =
+    known_within (below_known (unsigned_abs m.year) 10000) (λ v. omega (arith, ints, v.four_digits, v.from_zero)) (λ year.
+    known_within (range_known 1 12 m.month) (λ v. v.month) (λ month.
+    known_within (range_known 1 (days_in_month m.year m.month) m.day) (λ v. v.day) (λ day.
+    known_within (below_known m.hour 24) (λ v. v.hour) (λ hour.
+    known_within (below_known m.minute 60) (λ v. v.minute) (λ minute.
+    known_within (below_known m.second 60) (λ v. v.second) (λ second.
+    known_within (below_known m.nanosecond 1000000000) (λ v. v.nanosecond) (λ nanosecond.
+    inl (record {
+      from_zero = from_zero;
+      four_digits = omega (arith, ints, year, from_zero);
+      month = month;
+      day = day;
+      hour = hour;
+      minute = minute;
+      second = second;
+      nanosecond = nanosecond
+    }))))))))
+
+-- a valid moment can be written
+year_writable : (y : ℤ) → pos 0 ≤ℤ y → year_write_fault y ≡ None
+year_writable (pos n) h = refl
+year_writable (negsuc n) h = absurd (omega (arith, ints, h))
+
+pub valid_writable : (m : Moment) → IsValid m → moment_write_fault m ≡ None
+valid_writable m v = year_writable m.year v.from_zero
+
+-- a list is empty or has a last element
+data Last (xs : List ℕ) : Type 0 where
+  empty : xs ≡ [] → Last xs
+  ends_in : (front : List ℕ) (z : ℕ) → xs ≡ front ++ z ∷ [] → Last xs
+
+last_of : (xs : List ℕ) → Last xs
+last_of [] = empty refl
+last_of (x ∷ xs) = elim (last_of xs) [
+  | empty e ↦ ends_in [] x (ap (λ z. x ∷ z) e)
+  | ends_in front z e ↦ ends_in (x ∷ front) z (ap (λ y. x ∷ y) e)
+]
+
+-- the digits after the point, if there is one
+after_point : (front : List ℕ) → (digits : List ℕ) × ((front ≡ 46 ∷ digits) ⊎ ((digits ≡ front) × ((r : List ℕ) → front ≡ 46 ∷ r → ⊥)))
+after_point [] = ([], inr (refl, λ r e. cc))
+after_point (c ∷ r) = elim (cases_Bool (c == 46)) [
+  | inl e ↦ let h : c ≡ 46 = eqb-true c 46 e in (r, inl (ap (λ z. z ∷ r) h))
+  | inr e ↦ (c ∷ r, inr (refl, λ s f. let h : c ≡ 46 = cc in false≢true (sym e ∙ ap (λ z. z == 46) h)))
+]
+
+-- the last elements of one list are one
+last_alone : (f g : List ℕ) (y z : ℕ) → f ++ y ∷ [] ≡ g ++ z ∷ [] → y ≡ z
+last_alone [] [] y z e = cc
+last_alone [] (b ∷ g) y z e = absurd (omega (arith, ap length e, length-append g (z ∷ [])))
+last_alone (a ∷ f) [] y z e = absurd (omega (arith, ap length e, length-append f (y ∷ [])))
+last_alone (a ∷ f) (b ∷ g) y z e = let t : f ++ y ∷ [] ≡ g ++ z ∷ [] = cc in last_alone f g y z t
+
+-- no end without Z
+no_end : (f : List ℕ) → IsEnd f [] → ⊥
+no_end f (a, inl q) = omega (arith, ap length q, length-append f (90 ∷ []))
+no_end f (a, inr q) = omega (arith, ap length q)
+
+not_ended : (front f : List ℕ) (z : ℕ) → (z ≡ 90 → ⊥) → IsEnd f (front ++ z ∷ []) → ⊥
+not_ended front f z n (a, inl q) = n (last_alone front f z 90 q)
+not_ended front f z n (a, inr q) = n (last_alone front (46 ∷ f) z 90 q)
+
+ended : (end front digits : List ℕ) → list_all is_ascii_digit digits ≡ true → end ≡ front ++ 90 ∷ [] → (front ≡ 46 ∷ digits) ⊎ ((digits ≡ front) × ((r : List ℕ) → front ≡ 46 ∷ r → ⊥)) → IsEnd digits end
+ended end front digits a e (inl p) = (a, inr (e ∙ ap (λ z. z ++ 90 ∷ []) p))
+ended end front digits a e (inr p) = (a, inl (e ∙ ap (λ z. z ++ 90 ∷ []) (sym p.0)))
+
+-- octets are known to be the end of a time or not
+pub end_known : (end : List ℕ) → Known ((digits : List ℕ) × IsEnd digits end)
+end_known end = elim (last_of end) [
+  | empty e ↦ inr (λ d. no_end d.0 (subst (IsEnd d.0) e d.1))
+  | ends_in front z e ↦ elim (cases_Bool (z == 90)) [
+    | inr n ↦ inr (λ d. not_ended front d.0 z (λ h. false≢true (sym n ∙ ap (λ y. y == 90) h)) (subst (IsEnd d.0) e d.1))
+    | inl y ↦
+        let p = after_point front in
+        let e' : end ≡ front ++ 90 ∷ [] = e ∙ ap (λ x. front ++ x ∷ []) (eqb-true z 90 y) in
+        elim (cases_Bool (list_all is_ascii_digit p.0)) [
+          | inl a ↦ inl (p.0, ended end front p.0 a e' p.1)
+          | inr n ↦ inr (λ d. false≢true (sym n ∙ (ap (list_all is_ascii_digit) (end_is end front p.0 d.0 e' p.1 d.1) ∙ d.1.0)))
+        ]
+  ]
+]
