@@ -10,7 +10,8 @@ use Rattle.std.proofs.lemmas.Int.{ints}
 use Rattle.std.proofs.lemmas.List.{append_cancel_right}
 use Rattle.std.proofs.lemmas.Nat.{div-add-mod'}
 use Rattle.jiff_core.specs.Calendar.{days_in_month}
-use Rattle.simple_asn1.specs.Contents.Moment.{Moment, IsPair, IsValid, moment_write_fault, year_write_fault}
+use Rattle.simple_asn1.specs.Contents.DigitFields.{FollowsPoint, IsPair}
+use Rattle.simple_asn1.specs.Contents.Moment.{Moment, IsValid, moment_write_fault, year_write_fault}
 use Rattle.simple_asn1.specs.Contents.GeneralizedTime.{IsEnd, fraction_number, fraction_digits, tenth}
 use Rattle.simple_asn1.proofs.Leaves.Known.{Known, known_within, below_known, range_known}
 
@@ -27,11 +28,20 @@ pub days_few : (y : ℤ) (m : ℕ) → days_in_month y m ≤ 31
 days_few y m = grind (arith, nat_tests)
 
 -- moments of the same fields are the same
-fields_same : (y y' : ℤ) (a a' b b' c c' d d' e e' f f' : ℕ) → y ≡ y' → a ≡ a' → b ≡ b' → c ≡ c' → d ≡ d' → e ≡ e' → f ≡ f' → ◌≡◌ {A = Moment} (record { year = y; month = a; day = b; hour = c; minute = d; second = e; nanosecond = f }) (record { year = y'; month = a'; day = b'; hour = c'; minute = d'; second = e'; nanosecond = f' })
+fields_same :
+  (y y' : ℤ) (a a' b b' c c' d d' e e' f f' : ℕ) → y ≡ y' → a ≡ a' → b ≡ b' → c ≡ c' → d ≡ d' → e ≡ e' → f ≡ f'
+  → ◌≡◌ {A = Moment}
+    (record { year = y; month = a; day = b; hour = c; minute = d; second = e; nanosecond = f })
+    (record { year = y'; month = a'; day = b'; hour = c'; minute = d'; second = e'; nanosecond = f' })
 fields_same y y' a a' b b' c c' d d' e e' f f' p q r s t u v = cc
 
-pub moment_same : (m n : Moment) → m.year ≡ n.year → m.month ≡ n.month → m.day ≡ n.day → m.hour ≡ n.hour → m.minute ≡ n.minute → m.second ≡ n.second → m.nanosecond ≡ n.nanosecond → m ≡ n
-moment_same m n a b c d e f g = fields_same m.year n.year m.month n.month m.day n.day m.hour n.hour m.minute n.minute m.second n.second m.nanosecond n.nanosecond a b c d e f g
+pub moment_same :
+  (m n : Moment) → m.year ≡ n.year → m.month ≡ n.month → m.day ≡ n.day → m.hour ≡ n.hour → m.minute ≡ n.minute → m.second ≡ n.second
+  → m.nanosecond ≡ n.nanosecond → m ≡ n
+moment_same m n a b c d e f g =
+    fields_same
+      m.year n.year m.month n.month m.day n.day m.hour n.hour m.minute n.minute m.second n.second m.nanosecond n.nanosecond
+      a b c d e f g
 
 -- digits hold no point
 pub no_point : (f r : List ℕ) → list_all is_ascii_digit f ≡ true → f ≡ 46 ∷ r → ⊥
@@ -40,7 +50,7 @@ no_point f r a e =
     false≢true w
 
 -- the digits before Z are those after the point, if there is one
-pub end_is : (end front digits f : List ℕ) → end ≡ front ++ 90 ∷ [] → (front ≡ 46 ∷ digits) ⊎ ((digits ≡ front) × ((r : List ℕ) → front ≡ 46 ∷ r → ⊥)) → IsEnd f end → digits ≡ f
+pub end_is : (end front digits f : List ℕ) → end ≡ front ++ 90 ∷ [] → FollowsPoint front digits → IsEnd f end → digits ≡ f
 end_is end front digits f e (inl p) (a, inl q) =
     let h : front ≡ f = append_cancel_right front f (90 ∷ []) (sym e ∙ q) in
     absurd (no_point f digits a (sym h ∙ p))
@@ -67,7 +77,9 @@ digit_is : (d : ℕ) → d ≤ 9 → is_ascii_digit (48 + d) ≡ true
 digit_is d h = grind (arith, nat_tests)
 
 -- the digits of a number are digits, and mean it
-pub fraction_again : (k unit n : ℕ) → unit ≡ 10 ^ k → n < 10 * unit → (list_all is_ascii_digit (fraction_digits (suc k) unit n) ≡ true) × (fraction_number unit (fraction_digits (suc k) unit n) ≡ n)
+pub fraction_again :
+  (k unit n : ℕ) → unit ≡ 10 ^ k → n < 10 * unit
+  → (list_all is_ascii_digit (fraction_digits (suc k) unit n) ≡ true) × (fraction_number unit (fraction_digits (suc k) unit n) ≡ n)
 fraction_again zero unit zero e h = (refl, refl)
 fraction_again zero unit (suc n) e h =
     let one : unit ≡ 1 = e in
@@ -89,7 +101,9 @@ fraction_again (suc k) unit (suc n) e h =
     )
 
 -- one digit and then the others
-pub digits_step : (places unit n : ℕ) → 0 < places → 0 < n → fraction_digits places unit n ≡ (48 + n / unit) ∷ fraction_digits (places - 1) (unit / 10) (n % unit)
+pub digits_step :
+  (places unit n : ℕ) → 0 < places → 0 < n
+  → fraction_digits places unit n ≡ (48 + n / unit) ∷ fraction_digits (places - 1) (unit / 10) (n % unit)
 digits_step zero unit n h l = absurd (omega (arith, h))
 digits_step (suc k) unit zero h l = absurd (omega (arith, l))
 digits_step (suc k) unit (suc n) h l = ap (λ z. (48 + suc n / unit) ∷ fraction_digits z (unit / 10) (suc n % unit)) {x = k} {y = suc k - 1} (omega arith)
@@ -100,7 +114,9 @@ digits_none zero unit = refl
 digits_none (suc k) unit = refl
 
 -- what the digit at so many places from the end counts
-pub unit_step : (places unit : ℕ) → 0 < places → unit * 10 ≡ 10 ^ places → (unit ≡ 10 ^ (places - 1)) × (0 < unit) × (0 < places - 1 → unit / 10 * 10 ≡ 10 ^ (places - 1))
+pub unit_step :
+  (places unit : ℕ) → 0 < places → unit * 10 ≡ 10 ^ places
+  → (unit ≡ 10 ^ (places - 1)) × (0 < unit) × (0 < places - 1 → unit / 10 * 10 ≡ 10 ^ (places - 1))
 unit_step zero unit h e = absurd (omega (arith, h))
 unit_step (suc zero) unit h e =
     let one : unit ≡ 1 = omega (arith, e) in
@@ -160,7 +176,7 @@ last_of (x ∷ xs) = elim (last_of xs) [
 ]
 
 -- the digits after the point, if there is one
-after_point : (front : List ℕ) → (digits : List ℕ) × ((front ≡ 46 ∷ digits) ⊎ ((digits ≡ front) × ((r : List ℕ) → front ≡ 46 ∷ r → ⊥)))
+after_point : (front : List ℕ) → (digits : List ℕ) × FollowsPoint front digits
 after_point [] = ([], inr (refl, λ r e. cc))
 after_point (c ∷ r) = elim (cases_Bool (c == 46)) [
   | inl e ↦ let h : c ≡ 46 = eqb-true c 46 e in (r, inl (ap (λ z. z ∷ r) h))
@@ -183,7 +199,7 @@ not_ended : (front f : List ℕ) (z : ℕ) → (z ≡ 90 → ⊥) → IsEnd f (f
 not_ended front f z n (a, inl q) = n (last_alone front f z 90 q)
 not_ended front f z n (a, inr q) = n (last_alone front (46 ∷ f) z 90 q)
 
-ended : (end front digits : List ℕ) → list_all is_ascii_digit digits ≡ true → end ≡ front ++ 90 ∷ [] → (front ≡ 46 ∷ digits) ⊎ ((digits ≡ front) × ((r : List ℕ) → front ≡ 46 ∷ r → ⊥)) → IsEnd digits end
+ended : (end front digits : List ℕ) → list_all is_ascii_digit digits ≡ true → end ≡ front ++ 90 ∷ [] → FollowsPoint front digits → IsEnd digits end
 ended end front digits a e (inl p) = (a, inr (e ∙ ap (λ z. z ++ 90 ∷ []) p))
 ended end front digits a e (inr p) = (a, inl (e ∙ ap (λ z. z ++ 90 ∷ []) (sym p.0)))
 

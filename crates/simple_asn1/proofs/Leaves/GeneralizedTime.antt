@@ -11,14 +11,17 @@ use Rattle.std.proofs.lemmas.Int.{ints}
 use Rattle.std.proofs.lemmas.List.{take-append-drop}
 use Rattle.std.proofs.lemmas.Str.{IsAscii-append, IsAscii-take, IsAscii-drop, IsUtf8-from_ascii, IsUtf8-from_is_utf8, is_utf8-from_IsUtf8}
 use Rattle.std.proofs.lemmas.Str.Ascii.{IsAscii-nil, IsAscii-cons}
-use Rattle.simple_asn1.specs.Contents.Moment.{Moment, IsValid, IsSpelled, PairAt, moment_write_fault}
+use Rattle.simple_asn1.specs.Contents.DigitFields.{IsSpelled, PairAt}
+use Rattle.simple_asn1.specs.Contents.Moment.{Moment, IsValid, moment_write_fault}
 use Rattle.simple_asn1.specs.Contents.GeneralizedTime.{GeneralizedTimeContents, GeneralizedTimeFault, IsEnd, IsFaithfulGeneralizedTime, fraction_digits, fraction_number, generalized_time_contents, generalized_time_fault, tenth, to_second, with_point, with_zeros, written_fraction}
 use Rattle.simple_asn1.specs.Fault.{DecodeFault, IsOfReading, invalid_date_value, utf8_failure}
 use Rattle.simple_asn1.proofs.Leaves.Known.{octets_known}
 use Rattle.simple_asn1.proofs.Leaves.Digits.{days_few, end_alone, end_known, fraction_again, moment_same, number_at, number_two_digits, two_digits_pair, valid_known, valid_writable}
 
 -- fourteen octets by place are those of the moment
-pub second_spelled : (second : List ℕ) (high low n : ℕ) (m : Moment) → length second ≡ 14 → PairAt second 0 high → PairAt second 2 low → IsSpelled (high * 100 + low) (slice_range second 4 14) n m → second ≡ to_second m
+pub second_spelled :
+  (second : List ℕ) (high low n : ℕ) (m : Moment) → length second ≡ 14 → PairAt second 0 high → PairAt second 2 low
+  → IsSpelled (high * 100 + low) (slice_range second 4 14) n m → second ≡ to_second m
 second_spelled (a ∷ b ∷ c ∷ d ∷ e ∷ f ∷ g ∷ h ∷ i ∷ j ∷ k ∷ l ∷ x ∷ y ∷ []) high low n m size hi lo q =
     let y1 : unsigned_abs m.year ≡ high * 100 + low = ap unsigned_abs q.year_is in
     let y2 : unsigned_abs m.year / 100 ≡ high = omega (arith, y1, lo.0) in
@@ -35,7 +38,9 @@ second_spelled (a ∷ b ∷ c ∷ d ∷ e ∷ f ∷ g ∷ h ∷ i ∷ j ∷ k �
 second_spelled second high low n m size hi lo q = absurd (omega (arith, size))
 
 -- and the other way round
-pub second_by_place : (second : List ℕ) (high low n : ℕ) (m : Moment) → IsValid m → m.nanosecond ≡ n → second ≡ to_second m → PairAt second 0 high → PairAt second 2 low → IsSpelled (high * 100 + low) (slice_range second 4 14) n m
+pub second_by_place :
+  (second : List ℕ) (high low n : ℕ) (m : Moment) → IsValid m → m.nanosecond ≡ n → second ≡ to_second m → PairAt second 0 high
+  → PairAt second 2 low → IsSpelled (high * 100 + low) (slice_range second 4 14) n m
 second_by_place second high low n m v f e hi lo =
     let hi' = subst (λ z. PairAt z 0 high) e hi in
     let lo' = subst (λ z. PairAt z 2 low) e lo in
@@ -87,10 +92,14 @@ fault_not_utf8 contents h f = elim (cases_Bool (is_utf8 contents)) [
   | inr e ↦ grind (arith, nat_tests, h, e)
 ]
 
-pub fault_not_ascii : (contents : List ℕ) → 15 ≤ length contents → IsUtf8 contents → list_all is_ascii contents ≡ false → invalid_date_value contents ≡ generalized_time_fault contents
+pub fault_not_ascii :
+  (contents : List ℕ) → 15 ≤ length contents → IsUtf8 contents → list_all is_ascii contents ≡ false
+  → invalid_date_value contents ≡ generalized_time_fault contents
 fault_not_ascii contents h u a = let e = is_utf8-from_IsUtf8 contents u in grind (arith, nat_tests, h, e, a)
 
-pub fault_ascii : (contents : List ℕ) → 15 ≤ length contents → IsUtf8 contents → list_all is_ascii contents ≡ true → invalid_date_value (with_zeros (with_point contents)) ≡ generalized_time_fault contents
+pub fault_ascii :
+  (contents : List ℕ) → 15 ≤ length contents → IsUtf8 contents → list_all is_ascii contents ≡ true
+  → invalid_date_value (with_zeros (with_point contents)) ≡ generalized_time_fault contents
 fault_ascii contents h u a = let e = is_utf8-from_IsUtf8 contents u in grind (arith, nat_tests, h, e, a)
 
 -- the moment that fourteen digits spell
@@ -112,7 +121,8 @@ second_moment_again m v =
     let top : y ≤ 9999 = omega (arith, ints, v.four_digits, v.from_zero) in
     let high = number_two_digits (y / 100) (omega (arith, top)) in
     let low = number_two_digits (y % 100) (omega arith) in
-    let sum : y ≡ ((48 + y / 100 / 10 - 48) * 10 + (48 + y / 100 % 10 - 48)) * 100 + ((48 + y % 100 / 10 - 48) * 10 + (48 + y % 100 % 10 - 48)) = omega (arith, high, low) in
+    let octets = to_second m in
+    let sum : y ≡ number_at octets 0 * 100 + number_at octets 2 = omega (arith, high, low) in
     let p : m.year ≡ pos y = omega (arith, ints, v.from_zero) in
     moment_same m (second_moment (to_second m) m.nanosecond)
       (p ∙ ap pos sum)
@@ -124,7 +134,9 @@ second_moment_again m v =
       refl
 
 -- so contents octets mean that of their first fourteen, with the fraction after them
-time_is : (m : Moment) (contents digits : List ℕ) → GeneralizedTimeContents m contents → IsEnd digits (drop 14 contents) → m ≡ second_moment (take 14 contents) (fraction_number tenth digits)
+time_is :
+  (m : Moment) (contents digits : List ℕ) → GeneralizedTimeContents m contents → IsEnd digits (drop 14 contents)
+  → m ≡ second_moment (take 14 contents) (fraction_number tenth digits)
 time_is m contents digits p d =
     let e : drop 14 contents ≡ p.end = ap (drop 14) p.octets in
     let f : p.digits ≡ digits = end_alone (drop 14 contents) p.digits digits (subst (λ z. IsEnd p.digits z) (sym e) p.is_end) d in
@@ -152,7 +164,9 @@ generalized_time_no_fault m contents e p f = f.0 m p
 -- the fault is one that octets can have
 fault_of_reading : (contents : List ℕ) → IsOfReading (generalized_time_fault contents)
 fault_of_reading contents = elim (cases_lt (length contents) 15) [
-  | inl l ↦ let e : generalized_time_fault contents ≡ invalid_date_value (decimal (length contents)) = grind (arith, nat_tests, l) in subst IsOfReading (sym e) tt
+  | inl l ↦
+      let e : generalized_time_fault contents ≡ invalid_date_value (decimal (length contents)) = grind (arith, nat_tests, l) in
+      subst IsOfReading (sym e) tt
   | inr h ↦ elim (cases_Bool (is_utf8 contents)) [
     | inr f ↦ subst IsOfReading (fault_not_utf8 contents h (λ u. false≢true (sym f ∙ is_utf8-from_IsUtf8 contents u))) tt
     | inl u ↦ elim (cases_Bool (list_all is_ascii contents)) [

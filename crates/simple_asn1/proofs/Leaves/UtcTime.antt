@@ -4,14 +4,17 @@ use Rattle.std.specs.Prelude.{if◌then◌else◌, nat_lt, pos, ◌≤ℤ◌, un
 use Rattle.std.specs.List.{slice_range}
 use Rattle.std.proofs.lemmas.Bool.Decides.{nat_tests}
 use Rattle.std.proofs.lemmas.Int.{ints}
-use Rattle.simple_asn1.specs.Contents.Moment.{Moment, IsValid, IsSpelled, PairAt, moment_write_fault}
+use Rattle.simple_asn1.specs.Contents.DigitFields.{IsSpelled, PairAt}
+use Rattle.simple_asn1.specs.Contents.Moment.{Moment, IsValid, moment_write_fault}
 use Rattle.simple_asn1.specs.Contents.UtcTime.{IsFaithfulUtcTime, UtcTimeContents, UtcTimeFault, utc_time_contents, utc_time_fault}
 use Rattle.simple_asn1.specs.Fault.{DecodeFault, IsOfReading}
 use Rattle.simple_asn1.proofs.Leaves.Known.{Known, known_within, below_known, octets_known}
 use Rattle.simple_asn1.proofs.Leaves.Digits.{days_few, moment_same, number_at, number_two_digits, valid_known, valid_writable}
 
 -- octets by place are those that are written
-pub utc_time_spelled : (contents : List ℕ) (year short : ℕ) (m : Moment) → length contents ≡ 13 → slice_index contents 12 ≡ 90 → PairAt contents 0 short → year % 100 ≡ short → IsSpelled year (slice_range contents 2 12) 0 m → contents ≡ utc_time_contents m
+pub utc_time_spelled :
+  (contents : List ℕ) (year short : ℕ) (m : Moment) → length contents ≡ 13 → slice_index contents 12 ≡ 90 → PairAt contents 0 short
+  → year % 100 ≡ short → IsSpelled year (slice_range contents 2 12) 0 m → contents ≡ utc_time_contents m
 utc_time_spelled (a ∷ b ∷ c ∷ d ∷ e ∷ f ∷ g ∷ h ∷ i ∷ j ∷ k ∷ l ∷ z ∷ []) year short m size ends p s q =
     let y : unsigned_abs m.year % 100 ≡ short = ap (λ x. unsigned_abs x % 100) q.year_is ∙ s in
     rw y (

@@ -9,7 +9,8 @@ use Rattle.simple_asn1.specs.Fault.{DecodeFault, invalid_date_value, utf8_failur
 -- the year in four digits, and the rest to the second: YYYYMMDDhhmmss
 abbrev pub to_second : Moment → List ℕ
 to_second m =
-    two_digits (unsigned_abs m.year / 100) ++ (two_digits (unsigned_abs m.year % 100) ++ from_month m)
+    let year = unsigned_abs m.year in
+    two_digits (year / 100) ++ (two_digits (year % 100) ++ from_month m)
 
 -- what follows the second: perhaps a point, the digits of a fraction, and Z
 abbrev pub IsEnd : List ℕ → List ℕ → Type 0
@@ -17,8 +18,8 @@ IsEnd digits end =
     (list_all is_ascii_digit digits ≡ true)
     × ((end ≡ digits ++ (90 ∷ [])) ⊎ (end ≡ 46 ∷ (digits ++ (90 ∷ []))))
 
--- the number that digits mean where the first counts `unit`: each further one counts a tenth of the one before it, and
--- from where that is below 1 nothing
+-- the number that digits mean where the first counts `unit`: each further one counts a tenth of the
+-- one before it, and from where that is below 1 nothing
 abbrev pub fraction_number : ℕ → List ℕ → ℕ
 fraction_number unit [] = 0
 fraction_number unit (d ∷ ds) = (d - 48) * unit + fraction_number (unit / 10) ds
@@ -36,18 +37,19 @@ pub record GeneralizedTimeContents (m : Moment) (contents : List ℕ) : Type 0 w
   pub is_end : IsEnd digits end
   pub nanosecond : m.nanosecond ≡ fraction_number tenth digits
 
--- the digits of a number, of at most so many places where the first counts `unit`, up to the last that is not 0
+-- the digits of a number where the first counts `unit`, in at most so many places, up to the last
+-- that is not 0
 abbrev pub fraction_digits : ℕ → ℕ → ℕ → List ℕ
 fraction_digits zero unit n = []
 fraction_digits (suc places) unit zero = []
 fraction_digits (suc places) unit (suc n) =
     (48 + suc n / unit) ∷ fraction_digits places (unit / 10) (suc n % unit)
 
--- the fraction that is written: no point where there are no digits, and no zeros at the end (11.7.3)
+-- the fraction that is written: no point where there are no digits, no zeros at the end (11.7.3)
 abbrev pub written_fraction : ℕ → List ℕ
 written_fraction n = if n == 0 then [] else 46 ∷ fraction_digits 9 tenth n
 
--- the contents octets that are written: YYYYMMDDhhmmss, the fraction if there is one, and Z (11.7.1)
+-- the contents octets that are written: YYYYMMDDhhmmss, the fraction if there is one, and Z (11.7)
 abbrev pub generalized_time_contents : Moment → List ℕ
 generalized_time_contents m = to_second m ++ (written_fraction m.nanosecond ++ (90 ∷ []))
 
@@ -77,4 +79,5 @@ generalized_time_fault contents =
 -- the contents octets mean no moment, with this fault
 abbrev pub GeneralizedTimeFault : List ℕ → DecodeFault → Type 0
 GeneralizedTimeFault contents fault =
-    ((m : Moment) → GeneralizedTimeContents m contents → ⊥) × (fault ≡ generalized_time_fault contents)
+    ((m : Moment) → GeneralizedTimeContents m contents → ⊥)
+    × (fault ≡ generalized_time_fault contents)

@@ -1,5 +1,6 @@
--- Moments, of which UTCTime and GeneralizedTime are two notations (X.680 46, 47), and what both notations share.
-use Rattle.std.specs.Prelude.{◌≡◌, ℕ, slice_index, ◌+◌, ◌/◌, ◌%◌, ◌<◌, ◌≤ℤ◌, ◌++◌, ℤ, pos, negsuc, List, [], ◌∷◌, Option, Some, None}
+-- Moments, of which UTCTime and GeneralizedTime are two notations (X.680 46, 47), and what both
+-- share. In texts 43 is +, 46 a point, 48 to 57 are the digits, and 90 is Z.
+use Rattle.std.specs.Prelude.{ℕ, ◌+◌, ◌/◌, ◌%◌, ◌<◌, ◌≤ℤ◌, ◌++◌, ℤ, pos, negsuc, List, [], ◌∷◌, Option, Some, None}
 use Rattle.std.specs.Int.{IsInRange}
 use Rattle.jiff_core.specs.Calendar.{days_in_month}
 use Rattle.jiff_core.specs.declared.civil.datetime.DateTime.{DateTime}
@@ -28,8 +29,8 @@ moment_of d = record {
   nanosecond = d.time.subsec_nanosecond
 }
 
--- a year of at most four digits, a day that it has by the Gregorian rule, by which year 0 is a leap year, and a time of
--- that day
+-- a year of at most four digits, a day that it has by the Gregorian rule, by which year 0 is a
+-- leap year, and a time of that day
 pub record IsValid (m : Moment) : Type 0 where
   pub from_zero : pos 0 ≤ℤ m.year
   pub four_digits : m.year ≤ℤ pos 9999
@@ -60,33 +61,3 @@ year_write_fault (negsuc n) = Some YearOutOfRange
 
 abbrev pub moment_write_fault : Moment → Option ASN1EncodeErr
 moment_write_fault m = year_write_fault m.year
-
--- What follows is for private contracts of `body` alone.
-
--- the octets are the two digits of the number
-abbrev pub IsPair : ℕ → ℕ → ℕ → Type 0
-IsPair a b n = (n < 100) × (a ≡ 48 + n / 10) × (b ≡ 48 + n % 10)
-
--- and so are those at the place
-abbrev pub PairAt : List ℕ → ℕ → ℕ → Type 0
-PairAt octets place n = IsPair (slice_index octets place) (slice_index octets (place + 1)) n
-
-pub record HasFields (year month day hour minute second nanosecond : ℕ) (m : Moment) : Type 0 where
-  pub year_is : m.year ≡ pos year
-  pub month_is : m.month ≡ month
-  pub day_is : m.day ≡ day
-  pub hour_is : m.hour ≡ hour
-  pub minute_is : m.minute ≡ minute
-  pub second_is : m.second ≡ second
-  pub nanosecond_is : m.nanosecond ≡ nanosecond
-
--- the moment is valid, of this year and fraction, and ten octets are its other fields
-pub record IsSpelled (year : ℕ) (octets : List ℕ) (nanosecond : ℕ) (m : Moment) : Type 0 where
-  pub valid : IsValid m
-  pub year_is : m.year ≡ pos year
-  pub month_at : PairAt octets 0 m.month
-  pub day_at : PairAt octets 2 m.day
-  pub hour_at : PairAt octets 4 m.hour
-  pub minute_at : PairAt octets 6 m.minute
-  pub second_at : PairAt octets 8 m.second
-  pub nanosecond_is : m.nanosecond ≡ nanosecond

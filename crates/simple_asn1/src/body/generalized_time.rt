@@ -1,8 +1,10 @@
-// Contents octets of a GeneralizedTime: YYYYMMDDhhmmss, perhaps a fraction of a second, and Z (X.690 8.25, 11.7).
+// Contents octets of a GeneralizedTime: YYYYMMDDhhmmss, perhaps a fraction of a second, and Z
+// (X.690 8.25, 11.7).
 ghost use Rattle.std.specs.Prelude.{◌≡◌, ◌==◌, ◌↔◌, ◌⊎◌, ℕ, ◌+◌, ◌++◌, ◌∷◌, ◌<◌, ◌≤◌, ◌≤ℤ◌, true, false, pos, List, length, take, drop, slice_index, string_bytes, None, Some, IfErr, IfNone, IfOk, IfSome, IsTrue, OnOk};
 ghost use Rattle.std.specs.Char.{is_ascii, is_ascii_digit};
 ghost use Rattle.std.specs.List.{list_all, list_any};
 ghost use Rattle.simple_asn1.specs.Contents.GeneralizedTime.{GeneralizedTimeContents, GeneralizedTimeFault, IsEnd, IsFaithfulGeneralizedTime, fraction_digits, fraction_number, generalized_time_contents, generalized_time_fault, tenth, to_second, with_point, with_zeros, written_fraction};
+ghost use Rattle.simple_asn1.specs.Contents.DigitFields.{FollowsPoint, IsFractionOf};
 ghost use Rattle.simple_asn1.specs.Contents.Moment.{Moment, moment_of, moment_write_fault};
 ghost use Rattle.simple_asn1.specs.Fault.{OutOfMemoryOr, fault_of};
 
@@ -42,7 +44,7 @@ fn moment(contents: &[u8]) -> Option<DateTime>
 
 // The nanoseconds of a fraction, which Z ends.
 fn fraction(end: &[u8]) -> Option<u32>
-    ensures found { IfSome result (λ n. (digits : List ℕ) × IsEnd digits end.now × (n ≡ fraction_number tenth digits)) }
+    ensures found { IfSome result (λ n. IsFractionOf end.now n) }
     ensures small { IfSome result (λ n. n < 1000000000) }
     ensures none { IfNone result ((digits : List ℕ) → IsEnd digits end.now → ⊥) }
 {
@@ -55,7 +57,7 @@ fn fraction(end: &[u8]) -> Option<u32>
 
 // What follows the point, if the text begins with one.
 fn after_point(text: &[u8]) -> &[u8]
-    ensures { (text.now ≡ 46 ∷ result.now) ⊎ ((result.now ≡ text.now) × ((r : List ℕ) → text.now ≡ 46 ∷ r → ⊥)) }
+    ensures { FollowsPoint text.now result.now }
 {
     if let Some((first, rest)) = text.split_first() {
         if *first == b'.' {

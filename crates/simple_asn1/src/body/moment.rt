@@ -1,6 +1,7 @@
 // What the two kinds of times share: digits, the fields from the month on, and texts of faults.
 ghost use Rattle.std.specs.Prelude.{◌≡◌, ◌↔◌, ℕ, ◌≤◌, ◌<◌, pos, length, IfOk, IfErr, IfSome, IfNone, IsTrue, OnOk, None, Some};
-ghost use Rattle.simple_asn1.specs.Contents.Moment.{HasFields, IsPair, IsSpelled, IsValid, Moment, moment_of, moment_write_fault};
+ghost use Rattle.simple_asn1.specs.Contents.DigitFields.{HasFields, IsPair, IsSpelled};
+ghost use Rattle.simple_asn1.specs.Contents.Moment.{IsValid, Moment, moment_of, moment_write_fault};
 
 use crate::error::ASN1EncodeErr;
 use jiff::civil::DateTime;
@@ -29,9 +30,14 @@ fn valid_moment(
     requires year { year ≤ 9999 }
     requires pairs { (month < 100) × (day < 100) × (hour < 100) × (minute < 100) × (second < 100) }
     requires nanosecond { nanosecond < 1000000000 }
-    ensures found { IfSome result (λ d. HasFields year month day hour minute second nanosecond (moment_of d)) }
+    ensures found {
+        IfSome result (λ d. HasFields year month day hour minute second nanosecond (moment_of d))
+    }
     ensures valid { IfSome result (λ d. IsValid (moment_of d)) }
-    ensures none { IfNone result ((m : Moment) → HasFields year month day hour minute second nanosecond m → IsValid m → ⊥) }
+    ensures none {
+        IfNone result ((m : Moment) →
+            HasFields year month day hour minute second nanosecond m → IsValid m → ⊥)
+    }
 {
     DateTime::new(
         year as i16,

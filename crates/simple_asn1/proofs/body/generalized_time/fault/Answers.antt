@@ -12,7 +12,8 @@ returns-in-Err c = fault_not_utf8 c.args.contents.now c.if-contents-lt15.false c
 pub returns-then-not-are_ascii : goal.returns-then-not-are_ascii
 returns-then-not-are_ascii c =
     let a : list_all is_ascii c.args.contents.now ≡ false = grind (arith, common_steps) in
-    ap invalid_date_value (c.in_ok-from_str.ensures.ok ∙ c.in-Ok.ensures.cases.0) ∙ fault_not_ascii c.args.contents.now c.if-contents-lt15.false c.in-Ok.ensures.cases.1 a
+    ap invalid_date_value (c.in_ok-from_str.ensures.ok ∙ c.in-Ok.ensures.cases.0)
+    ∙ fault_not_ascii c.args.contents.now c.if-contents-lt15.false c.in-Ok.ensures.cases.1 a
 
 pub returns : goal.returns
 returns c =

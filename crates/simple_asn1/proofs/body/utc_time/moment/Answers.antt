@@ -13,5 +13,7 @@ returns-clause-found c = IfSome_then c.moment_from.result c.moment_from.ensures.
       to_2049 = omega (arith, ints, p.year_is);
       whole_second = p.nanosecond_is
     },
-    utc_time_spelled c.args.contents.now c.full_year-year.result c.in_ok-pair.field-0 (moment_of d) (omega arith) (omega arith) c.in_ok-pair.ensures.found c.full_year-year.ensures.ends p
+    utc_time_spelled
+      c.args.contents.now c.full_year-year.result c.in_ok-pair.field-0 (moment_of d) (omega arith) (omega arith)
+      c.in_ok-pair.ensures.found c.full_year-year.ensures.ends p
   ))
