@@ -29,19 +29,19 @@ days_few y m = grind (arith, nat_tests)
 
 -- moments of the same fields are the same
 fields_same :
-  (y y' : ℤ) (a a' b b' c c' d d' e e' f f' : ℕ) → y ≡ y' → a ≡ a' → b ≡ b' → c ≡ c' → d ≡ d' → e ≡ e' → f ≡ f'
-  → ◌≡◌ {A = Moment}
+    (y y' : ℤ) (a a' b b' c c' d d' e e' f f' : ℕ) → y ≡ y' → a ≡ a' → b ≡ b' → c ≡ c' → d ≡ d' → e ≡ e' → f ≡ f'
+    → ◌≡◌ {A = Moment}
     (record { year = y; month = a; day = b; hour = c; minute = d; second = e; nanosecond = f })
     (record { year = y'; month = a'; day = b'; hour = c'; minute = d'; second = e'; nanosecond = f' })
 fields_same y y' a a' b b' c c' d d' e e' f f' p q r s t u v = cc
 
 pub moment_same :
-  (m n : Moment) → m.year ≡ n.year → m.month ≡ n.month → m.day ≡ n.day → m.hour ≡ n.hour → m.minute ≡ n.minute → m.second ≡ n.second
-  → m.nanosecond ≡ n.nanosecond → m ≡ n
+    (m n : Moment) → m.year ≡ n.year → m.month ≡ n.month → m.day ≡ n.day → m.hour ≡ n.hour → m.minute ≡ n.minute → m.second ≡ n.second
+    → m.nanosecond ≡ n.nanosecond → m ≡ n
 moment_same m n a b c d e f g =
     fields_same
-      m.year n.year m.month n.month m.day n.day m.hour n.hour m.minute n.minute m.second n.second m.nanosecond n.nanosecond
-      a b c d e f g
+    m.year n.year m.month n.month m.day n.day m.hour n.hour m.minute n.minute m.second n.second m.nanosecond n.nanosecond
+    a b c d e f g
 
 -- digits hold no point
 pub no_point : (f r : List ℕ) → list_all is_ascii_digit f ≡ true → f ≡ 46 ∷ r → ⊥
@@ -78,8 +78,8 @@ digit_is d h = grind (arith, nat_tests)
 
 -- the digits of a number are digits, and mean it
 pub fraction_again :
-  (k unit n : ℕ) → unit ≡ 10 ^ k → n < 10 * unit
-  → (list_all is_ascii_digit (fraction_digits (suc k) unit n) ≡ true) × (fraction_number unit (fraction_digits (suc k) unit n) ≡ n)
+    (k unit n : ℕ) → unit ≡ 10 ^ k → n < 10 * unit
+    → (list_all is_ascii_digit (fraction_digits (suc k) unit n) ≡ true) × (fraction_number unit (fraction_digits (suc k) unit n) ≡ n)
 fraction_again zero unit zero e h = (refl, refl)
 fraction_again zero unit (suc n) e h =
     let one : unit ≡ 1 = e in
@@ -94,16 +94,15 @@ fraction_again (suc k) unit (suc n) e h =
     let r : m % unit < 10 * (unit / 10) = omega (arith, t, d, some) in
     let i = fraction_again k (unit / 10) (m % unit) d r in
     let w : (48 + m / unit - 48) * unit ≡ m / unit * unit = ap (λ z. z * unit) (omega arith) in
-    let rest = fraction_digits (suc k) (unit / 10) (m % unit) in
-    (
+    let rest = fraction_digits (suc k) (unit / 10) (m % unit) in (
       and_from _ _ (digit_is (m / unit) q) i.0,
-      ap (λ z. z + fraction_number (unit / 10) rest) w ∙ (ap (λ z. m / unit * unit + z) i.1 ∙ div-add-mod' m unit)
+      ap (λ z. z + fraction_number (unit / 10) rest) w ∙ (ap (λ z. m / unit * unit + z) i.1 ∙ div-add-mod' m unit),
     )
 
 -- one digit and then the others
 pub digits_step :
-  (places unit n : ℕ) → 0 < places → 0 < n
-  → fraction_digits places unit n ≡ (48 + n / unit) ∷ fraction_digits (places - 1) (unit / 10) (n % unit)
+    (places unit n : ℕ) → 0 < places → 0 < n
+    → fraction_digits places unit n ≡ (48 + n / unit) ∷ fraction_digits (places - 1) (unit / 10) (n % unit)
 digits_step zero unit n h l = absurd (omega (arith, h))
 digits_step (suc k) unit zero h l = absurd (omega (arith, l))
 digits_step (suc k) unit (suc n) h l = ap (λ z. (48 + suc n / unit) ∷ fraction_digits z (unit / 10) (suc n % unit)) {x = k} {y = suc k - 1} (omega arith)
@@ -115,8 +114,8 @@ digits_none (suc k) unit = refl
 
 -- what the digit at so many places from the end counts
 pub unit_step :
-  (places unit : ℕ) → 0 < places → unit * 10 ≡ 10 ^ places
-  → (unit ≡ 10 ^ (places - 1)) × (0 < unit) × (0 < places - 1 → unit / 10 * 10 ≡ 10 ^ (places - 1))
+    (places unit : ℕ) → 0 < places → unit * 10 ≡ 10 ^ places
+    → (unit ≡ 10 ^ (places - 1)) × (0 < unit) × (0 < places - 1 → unit / 10 * 10 ≡ 10 ^ (places - 1))
 unit_step zero unit h e = absurd (omega (arith, h))
 unit_step (suc zero) unit h e =
     let one : unit ≡ 1 = omega (arith, e) in
@@ -152,7 +151,7 @@ valid_known m from_zero =
       hour = hour;
       minute = minute;
       second = second;
-      nanosecond = nanosecond
+      nanosecond = nanosecond;
     }))))))))
 
 -- a valid moment can be written

@@ -20,27 +20,27 @@ use Rattle.simple_asn1.proofs.Leaves.Digits.{days_few, end_alone, end_known, fra
 
 -- fourteen octets by place are those of the moment
 pub second_spelled :
-  (second : List ℕ) (high low n : ℕ) (m : Moment) → length second ≡ 14 → PairAt second 0 high → PairAt second 2 low
-  → IsSpelled (high * 100 + low) (slice_range second 4 14) n m → second ≡ to_second m
+    (second : List ℕ) (high low n : ℕ) (m : Moment) → length second ≡ 14 → PairAt second 0 high → PairAt second 2 low
+    → IsSpelled (high * 100 + low) (slice_range second 4 14) n m → second ≡ to_second m
 second_spelled (a ∷ b ∷ c ∷ d ∷ e ∷ f ∷ g ∷ h ∷ i ∷ j ∷ k ∷ l ∷ x ∷ y ∷ []) high low n m size hi lo q =
     let y1 : unsigned_abs m.year ≡ high * 100 + low = ap unsigned_abs q.year_is in
     let y2 : unsigned_abs m.year / 100 ≡ high = omega (arith, y1, lo.0) in
     let y3 : unsigned_abs m.year % 100 ≡ low = omega (arith, y1, lo.0) in
     rw (y2, y3) (
-      let a' = hi.1 in let b' = hi.2 in
-      let c' = lo.1 in let d' = lo.2 in
-      let e' = q.month_at.1 in let f' = q.month_at.2 in
-      let g' = q.day_at.1 in let h' = q.day_at.2 in
-      let i' = q.hour_at.1 in let j' = q.hour_at.2 in
-      let k' = q.minute_at.1 in let l' = q.minute_at.2 in
-      let x' = q.second_at.1 in let y' = q.second_at.2 in
-      cc)
+    let a' = hi.1 in let b' = hi.2 in
+    let c' = lo.1 in let d' = lo.2 in
+    let e' = q.month_at.1 in let f' = q.month_at.2 in
+    let g' = q.day_at.1 in let h' = q.day_at.2 in
+    let i' = q.hour_at.1 in let j' = q.hour_at.2 in
+    let k' = q.minute_at.1 in let l' = q.minute_at.2 in
+    let x' = q.second_at.1 in let y' = q.second_at.2 in
+    cc)
 second_spelled second high low n m size hi lo q = absurd (omega (arith, size))
 
 -- and the other way round
 pub second_by_place :
-  (second : List ℕ) (high low n : ℕ) (m : Moment) → IsValid m → m.nanosecond ≡ n → second ≡ to_second m → PairAt second 0 high
-  → PairAt second 2 low → IsSpelled (high * 100 + low) (slice_range second 4 14) n m
+    (second : List ℕ) (high low n : ℕ) (m : Moment) → IsValid m → m.nanosecond ≡ n → second ≡ to_second m → PairAt second 0 high
+    → PairAt second 2 low → IsSpelled (high * 100 + low) (slice_range second 4 14) n m
 second_by_place second high low n m v f e hi lo =
     let hi' = subst (λ z. PairAt z 0 high) e hi in
     let lo' = subst (λ z. PairAt z 2 low) e lo in
@@ -56,7 +56,7 @@ second_by_place second high low n m v f e hi lo =
       hour_at = two_digits_pair m.hour (omega (arith, v));
       minute_at = two_digits_pair m.minute (omega (arith, v));
       second_at = two_digits_pair m.second (omega (arith, v));
-      nanosecond_is = f
+      nanosecond_is = f;
     })
 
 -- ASCII stays ASCII in the longer form, and so it is UTF-8
@@ -93,13 +93,13 @@ fault_not_utf8 contents h f = elim (cases_Bool (is_utf8 contents)) [
 ]
 
 pub fault_not_ascii :
-  (contents : List ℕ) → 15 ≤ length contents → IsUtf8 contents → list_all is_ascii contents ≡ false
-  → invalid_date_value contents ≡ generalized_time_fault contents
+    (contents : List ℕ) → 15 ≤ length contents → IsUtf8 contents → list_all is_ascii contents ≡ false
+    → invalid_date_value contents ≡ generalized_time_fault contents
 fault_not_ascii contents h u a = let e = is_utf8-from_IsUtf8 contents u in grind (arith, nat_tests, h, e, a)
 
 pub fault_ascii :
-  (contents : List ℕ) → 15 ≤ length contents → IsUtf8 contents → list_all is_ascii contents ≡ true
-  → invalid_date_value (with_zeros (with_point contents)) ≡ generalized_time_fault contents
+    (contents : List ℕ) → 15 ≤ length contents → IsUtf8 contents → list_all is_ascii contents ≡ true
+    → invalid_date_value (with_zeros (with_point contents)) ≡ generalized_time_fault contents
 fault_ascii contents h u a = let e = is_utf8-from_IsUtf8 contents u in grind (arith, nat_tests, h, e, a)
 
 -- the moment that fourteen digits spell
@@ -111,7 +111,7 @@ second_moment second n = record {
   hour = number_at second 8;
   minute = number_at second 10;
   second = number_at second 12;
-  nanosecond = n
+  nanosecond = n;
 }
 
 -- is that of the octets that are written
@@ -125,18 +125,18 @@ second_moment_again m v =
     let sum : y ≡ number_at octets 0 * 100 + number_at octets 2 = omega (arith, high, low) in
     let p : m.year ≡ pos y = omega (arith, ints, v.from_zero) in
     moment_same m (second_moment (to_second m) m.nanosecond)
-      (p ∙ ap pos sum)
-      (sym (number_two_digits m.month (omega (arith, v.month))))
-      (sym (number_two_digits m.day (omega (arith, v.day, days_few m.year m.month))))
-      (sym (number_two_digits m.hour (omega (arith, v.hour))))
-      (sym (number_two_digits m.minute (omega (arith, v.minute))))
-      (sym (number_two_digits m.second (omega (arith, v.second))))
-      refl
+    (p ∙ ap pos sum)
+    (sym (number_two_digits m.month (omega (arith, v.month))))
+    (sym (number_two_digits m.day (omega (arith, v.day, days_few m.year m.month))))
+    (sym (number_two_digits m.hour (omega (arith, v.hour))))
+    (sym (number_two_digits m.minute (omega (arith, v.minute))))
+    (sym (number_two_digits m.second (omega (arith, v.second))))
+    refl
 
 -- so contents octets mean that of their first fourteen, with the fraction after them
 time_is :
-  (m : Moment) (contents digits : List ℕ) → GeneralizedTimeContents m contents → IsEnd digits (drop 14 contents)
-  → m ≡ second_moment (take 14 contents) (fraction_number tenth digits)
+    (m : Moment) (contents digits : List ℕ) → GeneralizedTimeContents m contents → IsEnd digits (drop 14 contents)
+    → m ≡ second_moment (take 14 contents) (fraction_number tenth digits)
 time_is m contents digits p d =
     let e : drop 14 contents ≡ p.end = ap (drop 14) p.octets in
     let f : p.digits ≡ digits = end_alone (drop 14 contents) p.digits digits (subst (λ z. IsEnd p.digits z) (sym e) p.is_end) d in
@@ -192,14 +192,17 @@ generalized_time_meaning contents = elim (end_known (drop 14 contents)) [
         | inr no_v ↦ inr (at_fault contents (λ n p. no_v (subst IsValid (time_is n contents d.0 p d.1) p.valid)))
         | inl v ↦ elim (octets_known (take 14 contents) (to_second m)) [
           | inr no_s ↦ inr (at_fault contents (λ n p. no_s (ap (take 14) p.octets ∙ ap to_second (time_is n contents d.0 p d.1))))
-          | inl s ↦ inl (m, record {
+          | inl s ↦ inl (
+            m,
+            record {
               valid = v;
               digits = d.0;
               end = drop 14 contents;
               octets = sym (take-append-drop 14 contents) ∙ ap (λ z. z ++ drop 14 contents) s;
               is_end = d.1;
-              nanosecond = refl
-            })
+              nanosecond = refl;
+            },
+          )
         ]
       ]
 ]

@@ -13,18 +13,18 @@ use Rattle.simple_asn1.proofs.Leaves.Digits.{days_few, moment_same, number_at, n
 
 -- octets by place are those that are written
 pub utc_time_spelled :
-  (contents : List ℕ) (year short : ℕ) (m : Moment) → length contents ≡ 13 → slice_index contents 12 ≡ 90 → PairAt contents 0 short
-  → year % 100 ≡ short → IsSpelled year (slice_range contents 2 12) 0 m → contents ≡ utc_time_contents m
+    (contents : List ℕ) (year short : ℕ) (m : Moment) → length contents ≡ 13 → slice_index contents 12 ≡ 90 → PairAt contents 0 short
+    → year % 100 ≡ short → IsSpelled year (slice_range contents 2 12) 0 m → contents ≡ utc_time_contents m
 utc_time_spelled (a ∷ b ∷ c ∷ d ∷ e ∷ f ∷ g ∷ h ∷ i ∷ j ∷ k ∷ l ∷ z ∷ []) year short m size ends p s q =
     let y : unsigned_abs m.year % 100 ≡ short = ap (λ x. unsigned_abs x % 100) q.year_is ∙ s in
     rw y (
-      let a' = p.1 in let b' = p.2 in
-      let c' = q.month_at.1 in let d' = q.month_at.2 in
-      let e' = q.day_at.1 in let f' = q.day_at.2 in
-      let g' = q.hour_at.1 in let h' = q.hour_at.2 in
-      let i' = q.minute_at.1 in let j' = q.minute_at.2 in
-      let k' = q.second_at.1 in let l' = q.second_at.2 in
-      cc)
+    let a' = p.1 in let b' = p.2 in
+    let c' = q.month_at.1 in let d' = q.month_at.2 in
+    let e' = q.day_at.1 in let f' = q.day_at.2 in
+    let g' = q.hour_at.1 in let h' = q.hour_at.2 in
+    let i' = q.minute_at.1 in let j' = q.minute_at.2 in
+    let k' = q.second_at.1 in let l' = q.second_at.2 in
+    cc)
 utc_time_spelled contents year short m size ends p s q = absurd (omega (arith, size))
 
 -- the moment that twelve digits spell
@@ -39,7 +39,7 @@ utc_moment contents = record {
   hour = number_at contents 6;
   minute = number_at contents 8;
   second = number_at contents 10;
-  nanosecond = 0
+  nanosecond = 0;
 }
 
 full_year_from : (n : ℕ) → 1950 ≤ full_year n
@@ -64,13 +64,13 @@ utc_moment_again m f =
     let g = full_year_of y ((48 + y % 100 / 10 - 48) * 10 + (48 + y % 100 % 10 - 48)) a b n in
     let p : m.year ≡ pos y = omega (arith, ints, f.from_1950) in
     moment_same m (utc_moment (utc_time_contents m))
-      (p ∙ ap pos g)
-      (sym (number_two_digits m.month (omega (arith, f.valid.month))))
-      (sym (number_two_digits m.day (omega (arith, f.valid.day, days_few m.year m.month))))
-      (sym (number_two_digits m.hour (omega (arith, f.valid.hour))))
-      (sym (number_two_digits m.minute (omega (arith, f.valid.minute))))
-      (sym (number_two_digits m.second (omega (arith, f.valid.second))))
-      f.whole_second
+    (p ∙ ap pos g)
+    (sym (number_two_digits m.month (omega (arith, f.valid.month))))
+    (sym (number_two_digits m.day (omega (arith, f.valid.day, days_few m.year m.month))))
+    (sym (number_two_digits m.hour (omega (arith, f.valid.hour))))
+    (sym (number_two_digits m.minute (omega (arith, f.valid.minute))))
+    (sym (number_two_digits m.second (omega (arith, f.valid.second))))
+    f.whole_second
 
 utc_time_is : (m : Moment) (contents : List ℕ) → UtcTimeContents m contents → m ≡ utc_moment contents
 utc_time_is m contents p = utc_moment_again m p.0 ∙ ap utc_moment (sym p.1)

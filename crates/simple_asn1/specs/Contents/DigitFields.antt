@@ -13,7 +13,7 @@ abbrev pub PairAt : List ℕ → ℕ → ℕ → Type 0
 PairAt octets place n = IsPair (slice_index octets place) (slice_index octets (place + 1)) n
 
 pub record HasFields
-  (year month day hour minute second nanosecond : ℕ) (m : Moment) : Type 0 where
+    (year month day hour minute second nanosecond : ℕ) (m : Moment) : Type 0 where
   pub year_is : m.year ≡ pos year
   pub month_is : m.month ≡ month
   pub day_is : m.day ≡ day

@@ -26,7 +26,7 @@ moment_of d = record {
   hour = d.time.hour;
   minute = d.time.minute;
   second = d.time.second;
-  nanosecond = d.time.subsec_nanosecond
+  nanosecond = d.time.subsec_nanosecond;
 }
 
 -- a year of at most four digits, a day that it has by the Gregorian rule, by which year 0 is a

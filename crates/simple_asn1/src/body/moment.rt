@@ -30,14 +30,11 @@ fn valid_moment(
     requires year { year ≤ 9999 }
     requires pairs { (month < 100) × (day < 100) × (hour < 100) × (minute < 100) × (second < 100) }
     requires nanosecond { nanosecond < 1000000000 }
-    ensures found {
-        IfSome result (λ d. HasFields year month day hour minute second nanosecond (moment_of d))
-    }
+    ensures found { IfSome result (λ d.
+        HasFields year month day hour minute second nanosecond (moment_of d)) }
     ensures valid { IfSome result (λ d. IsValid (moment_of d)) }
-    ensures none {
-        IfNone result ((m : Moment) →
-            HasFields year month day hour minute second nanosecond m → IsValid m → ⊥)
-    }
+    ensures none { IfNone result ((m : Moment) →
+        HasFields year month day hour minute second nanosecond m → IsValid m → ⊥) }
 {
     DateTime::new(
         year as i16,

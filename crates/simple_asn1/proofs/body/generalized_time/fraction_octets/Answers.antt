@@ -29,7 +29,7 @@ loop-count-preserved c =
       size = grind (arith, common_steps);
       all = ap (λ z. z ++ rest) t ∙ (append_assoc (take i digits) (x ∷ []) rest ∙ (ap (λ z. take i digits ++ z) (sym s') ∙ c.loop-count.invariant.all));
       unit = λ l. rw (← p) (k.2 (omega arith));
-      small = rw (← p) (omega (arith, k.0, k.1))
+      small = rw (← p) (omega (arith, k.0, k.1));
     }
 
 pub returns-clause-count : goal.returns-clause-count

@@ -8,5 +8,5 @@ invariant-loop-count l = record {
   size : length l.digits ≡ 9;
   all : take l.count l.digits ++ fraction_digits (9 - l.count) l.unit l.left ≡ fraction_digits 9 tenth l.nanosecond;
   unit : 0 < 9 - l.count → l.unit * 10 ≡ 10 ^ (9 - l.count);
-  small : l.left < 10 ^ (9 - l.count)
+  small : l.left < 10 ^ (9 - l.count);
 }

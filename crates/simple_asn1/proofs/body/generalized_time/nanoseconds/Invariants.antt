@@ -10,5 +10,5 @@ invariant-loop-digit l = record {
   sum : l.nanoseconds + fraction_number l.unit (drop l.digit-index l.digits) ≡ fraction_number tenth l.digits;
   digits : list_all is_ascii_digit (drop l.digit-index l.digits) ≡ list_all is_ascii_digit l.digits;
   small : l.nanoseconds < 1000000000;
-  room : l.nanoseconds + 10 * l.unit ≤ 1000000000
+  room : l.nanoseconds + 10 * l.unit ≤ 1000000000;
 }

@@ -8,6 +8,6 @@ returns g c =
     let n = c.args.nanosecond in
     let e : written_fraction n ≡ 46 ∷ fraction_digits 9 tenth n = grind (arith, common_steps) in
     let p : g.S.Sink.puts c.put_one.new.self (fraction_digits 9 tenth n) c.put.new.self =
-      grind (arith, common_steps, c.put.ensures, c.fraction_octets-count.ensures.digits) in
+    grind (arith, common_steps, c.put.ensures, c.fraction_octets-count.ensures.digits) in
     subst (λ z. g.S.Sink.puts c.args.out.now z c.put.new.self) (sym e)
     (g.S.Sink.more c.args.out.now c.put_one.new.self c.put.new.self (46 ∷ []) (fraction_digits 9 tenth n) c.put_one.ensures p)

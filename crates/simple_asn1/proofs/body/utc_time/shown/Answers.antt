@@ -13,6 +13,6 @@ loop-b-preserved c =
     let m = take_more cs i 0 (omega arith) in
     let o : encode_utf8_all (b ∷ []) ≡ encode_utf8 b = append-nil (encode_utf8 b) in
     let e : encode_utf8_all (take (i + 1) cs) ≡ encode_utf8_all (take i cs) ++ encode_utf8 b =
-      ap encode_utf8_all m ∙ (encodes-append (take i cs) (b ∷ []) ∙ ap (λ z. encode_utf8_all (take i cs) ++ z) o) in
+    ap encode_utf8_all m ∙ (encodes-append (take i cs) (b ∷ []) ∙ ap (λ z. encode_utf8_all (take i cs) ++ z) o) in
     let a = append_assoc c.args.front.now (encode_utf8_all (take i cs)) (encode_utf8 b) in
     grind (arith, common_steps, e, a, c.in_ok-push.ensures.bytes)
