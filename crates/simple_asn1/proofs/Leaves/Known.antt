@@ -1,0 +1,29 @@
+-- Facts that are known to hold or known to fail.
+use Rattle.std.proofs.Common.{◌≡◌, ℕ, ◌+◌, ◌<◌, ◌≤◌, ◌⊎◌, inl, inr, List, false, true, sym, ◌∙◌, arith}
+use Rattle.std.specs.Int.{IsInRange}
+use Rattle.std.proofs.lemmas.Bool.{false≢true, cases_Bool, cases_lt}
+use Rattle.std.specs.Str.{bytes_eq}
+use Rattle.std.proofs.lemmas.Slice.Eq.{bytes_eq-Decides}
+
+abbrev pub Known : Type 0 → Type 0
+Known P = P ⊎ (P → ⊥)
+
+-- a fact that holds only where another does
+pub known_within : {A B : Type 0} → Known A → (B → A) → (A → Known B) → Known B
+known_within (inl a) f g = g a
+known_within (inr no_a) f g = inr (λ b. no_a (f b))
+
+pub below_known : (a b : ℕ) → Known (a < b)
+below_known a b = elim (cases_lt a b) [ inl l ↦ inl l | inr g ↦ inr (λ l. omega (arith, l, g)) ]
+
+pub range_known : (low high n : ℕ) → Known (IsInRange low high n)
+range_known low high n = elim (cases_lt n low) [
+  | inl l ↦ inr (λ r. omega (arith, l, r))
+  | inr g ↦ elim (cases_lt high n) [ inl m ↦ inr (λ r. omega (arith, m, r)) | inr h ↦ inl (g, h) ]
+]
+
+pub octets_known : (xs ys : List ℕ) → Known (xs ≡ ys)
+octets_known xs ys = let d = bytes_eq-Decides xs ys in elim (cases_Bool (bytes_eq xs ys)) [
+  | inl e ↦ inl (d.0 e)
+  | inr e ↦ inr (λ s. false≢true (sym e ∙ d.1 s))
+]
