@@ -394,7 +394,7 @@ pub(crate) fn append_identifier(
         Some(n) if n < 31 => out.push_reserved(high + n as u8),
         _ => {
             out.push_reserved(high + 31);
-            tag.append_base128(out);
+            tag.put_base128(out);
         }
     }
 }
@@ -446,7 +446,7 @@ pub fn encode_base127(alloc: Global, n: &BigUint) -> Result<Vec<u8>, AllocError>
     ensures { IfOk result (λ v. v.items ≡ shortest_base128 n.now) }
 {
     let mut octets = Vec::with_capacity(alloc, n.base128_size())?;
-    n.append_base128(&mut octets);
+    n.put_base128(&mut octets);
     Ok(octets)
 }
 
