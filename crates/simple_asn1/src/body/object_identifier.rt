@@ -1,10 +1,10 @@
 // Contents octets of an OBJECT IDENTIFIER (X.690 8.19).
-ghost use Rattle.std.specs.Prelude.{◌≡◌, ◌⊎◌, ◌++◌, ◌∷◌, ◌+◌, ◌≤◌, ℕ, List, drop, length, None, Some};
-ghost use Rattle.std.specs.Prelude.{IfOk, IfErr, IfSome, OnOk};
+ghost use Rattle.std.specs.Prelude.{◌≡◌, ◌↔◌, ◌⊎◌, ◌++◌, ◌∷◌, ◌+◌, ◌≤◌, ℕ, List, drop, length, None, Some};
+ghost use Rattle.std.specs.Prelude.{IfOk, IfErr, IfSome, IsTrue, OnOk};
 ghost use Rattle.std.specs.List.{flat_map};
 ghost use Rattle.simple_asn1.specs.Base128.{shortest_base128};
 ghost use Rattle.simple_asn1.specs.Contents.ObjectIdentifier.{
-    AreFirstTwo, ObjectIdentifierContents, ObjectIdentifierFault, Subidentifiers,
+    AreFirstTwo, IsFaithfulObjectIdentifier, ObjectIdentifierContents, ObjectIdentifierFault, Subidentifiers,
     object_identifier_contents, object_identifier_write_fault
 };
 ghost use Rattle.simple_asn1.specs.Fault.{OutOfMemoryOr, incomplete};
@@ -149,4 +149,11 @@ pub(crate) fn put<S: Sink>(oid: &OID, out: &mut S)
     out.put_one(octet);
     let (_, rest) = components.split_at(2);
     put_subidentifiers(rest, out);
+}
+
+// Whether the components are read back as they are, once they are written.
+pub(crate) fn is_faithful(oid: &OID) -> bool
+    ensures { IsTrue result ↔ IsFaithfulObjectIdentifier oid.now }
+{
+    first_octet(oid.components()).is_ok()
 }
