@@ -1,0 +1,88 @@
+// Where octets are put, one after another: a vector that takes them, or octets that they are
+// compared with. So that writing and comparing are one code.
+ghost use Rattle.std.specs.Prelude.{◌≡◌, ℕ, ◌+◌, ◌++◌, ◌∷◌, ◌≤◌, [], List, length};
+
+use crate::octets::append;
+
+pub(crate) trait Sink {
+    // How many octets there is room for.
+    ghost room: { Self → ℕ };
+
+    // The octets were put into the first, which has become the second.
+    ghost puts: { Self → List ℕ → Self → Type 0 };
+
+    ghost none: { (a : Self) → puts a [] a };
+
+    ghost more: {
+        (a b c : Self) (xs ys : List ℕ) → puts a xs b → puts b ys c → puts a (xs ++ ys) c
+    };
+
+    ghost room_after: { (a b : Self) (xs : List ℕ) → puts a xs b → room a ≤ room b + length xs };
+
+    fn put(&mut self, octets: &[u8])
+        requires { length octets.now ≤ room self.old }
+        ensures { puts self.old octets.now self.new };
+
+    fn put_one(&mut self, octet: u8)
+        requires { 1 ≤ room self.old }
+        ensures { puts self.old (octet ∷ []) self.new };
+}
+
+// At its end, without growing.
+impl Sink for Vec<u8> {
+    ghost use Rattle.simple_asn1.specs.Sinks.{
+        vec_puts, vec_room, vec_puts_none, vec_puts_more, vec_room_after
+    };
+
+    ghost room = { vec_room };
+
+    ghost puts = { vec_puts };
+
+    ghost none = { vec_puts_none };
+
+    ghost more = { vec_puts_more };
+
+    ghost room_after = { vec_room_after };
+
+    fn put(&mut self, octets: &[u8]) {
+        append(octets, self);
+    }
+
+    fn put_one(&mut self, octet: u8) {
+        self.push_reserved(octet);
+    }
+}
+
+// Octets that are compared with those that are put: what is left of them, and whether all so far
+// were the same.
+#[derive(Drop)]
+pub(crate) struct Comparison<'a> {
+    pub(crate) rest: &'a [u8],
+    pub(crate) same: bool,
+}
+
+impl<'a> Sink for Comparison<'a> {
+    ghost use Rattle.simple_asn1.specs.Comparisons.{
+        compared, left, compared_none, compared_more, left_after
+    };
+
+    ghost room = { left };
+
+    ghost puts = { compared };
+
+    ghost none = { compared_none };
+
+    ghost more = { compared_more };
+
+    ghost room_after = { left_after };
+
+    fn put(&mut self, octets: &[u8]) {
+        let (front, rest) = self.rest.split_at(octets.len());
+        self.same = self.same && front == octets;
+        self.rest = rest;
+    }
+
+    fn put_one(&mut self, octet: u8) {
+        self.put(&[octet]);
+    }
+}
