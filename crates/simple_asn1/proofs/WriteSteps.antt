@@ -11,7 +11,7 @@ use Rattle.simple_asn1.specs.declared.error.ASN1EncodeErr.{ASN1EncodeErr}
 use Rattle.simple_asn1.specs.Canonical.{all_canonical, canonical, first_of, first_write_fault, write_fault}
 use Rattle.simple_asn1.specs.Header.{shortest_length}
 use Rattle.simple_asn1.specs.Contents.{leaf_write_fault}
-use Rattle.simple_asn1.specs.Tree.{Tree, Trees, leaf, group, explicit, unknown, no_trees, more_trees}
+use Rattle.simple_asn1.specs.Tree.{Tree, leaf, group, explicit, unknown}
 use Rattle.simple_asn1.specs.TreeOrder.{IsInTreeOrder, IsNext, inside}
 use Rattle.simple_asn1.specs.View.{view, views}
 use Rattle.simple_asn1.specs.WriteWalk.{all_own_octets, contents_of, contents_size_of, first_own_fault, identifier_of, measured_blocks, measured_sizes, own_contents, own_fault, own_octets}
@@ -47,7 +47,7 @@ pub own_order : (order blocks : List ASN1Block) → IsInTreeOrder order blocks �
 own_order [] blocks h = ap (λ z. all_canonical (views z)) (sym h)
 own_order (b ∷ order) blocks (after, n, h) =
     let r : all_own_octets order ≡ all_canonical (inside (view b)) ++ all_canonical (views n.rest) =
-        own_order order after h ∙ (ap (λ z. all_canonical (views z)) n.then ∙ (canonical_join n.held n.rest ∙ ap (λ z. all_canonical z ++ all_canonical (views n.rest)) n.holds)) in
+    own_order order after h ∙ (ap (λ z. all_canonical (views z)) n.then ∙ (canonical_join n.held n.rest ∙ ap (λ z. all_canonical z ++ all_canonical (views n.rest)) n.holds)) in
     ap (λ z. own_octets (view b) ++ z) r ∙ (sym (append_assoc (own_octets (view b)) (all_canonical (inside (view b))) (all_canonical (views n.rest)))
     ∙ (ap (λ z. z ++ all_canonical (views n.rest)) (sym (own_parts (view b))) ∙ ap (λ z. all_canonical (views z)) (sym n.first)))
 

@@ -39,11 +39,9 @@ impl<'a> TreeWalk<'a> {
 
     // The next block.
     pub(crate) fn next(&mut self) -> Result<Option<&'a ASN1Block>, AllocError>
-        ensures {
-            IfOk result (λ found. MatchOption found
-                (ahead self.old ≡ [])
-                (λ b. IsNext b.now (ahead self.old) (ahead self.new)))
-        }
+        ensures { IfOk result (λ found. MatchOption found
+            (ahead self.old ≡ [])
+            (λ b. IsNext b.now (ahead self.old) (ahead self.new))) }
     {
         loop {
             match self.front.split_first() {
@@ -62,10 +60,8 @@ impl<'a> TreeWalk<'a> {
     // Goes on with what a block holds, and then with the rest. Where either is empty, that takes no
     // memory.
     fn enter(&mut self, held: &'a [ASN1Block], rest: &'a [ASN1Block]) -> Result<(), AllocError>
-        ensures {
-            OnOk result (ahead self.new
-                ≡ held.now ++ (rest.now ++ stacked (map (λ x. x.now) self.old.outer.items)))
-        }
+        ensures { OnOk result (ahead self.new
+            ≡ held.now ++ (rest.now ++ stacked (map (λ x. x.now) self.old.outer.items))) }
     {
         if held.is_empty() {
             self.front = rest;

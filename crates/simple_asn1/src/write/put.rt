@@ -2,8 +2,14 @@
 ghost use Rattle.std.specs.Prelude.{◌≡◌, ◌≤◌, None, length, map};
 ghost use Rattle.simple_asn1.specs.View.{view};
 ghost use Rattle.simple_asn1.specs.WriteWalk.{
-    all_own_octets, contents_size_of, first_own_fault, identifier_of, measured_blocks,
-    measured_sizes, own_fault, own_octets
+  all_own_octets,
+  contents_size_of,
+  first_own_fault,
+  identifier_of,
+  measured_blocks,
+  measured_sizes,
+  own_fault,
+  own_octets,
 };
 
 use crate::block::ASN1Block;

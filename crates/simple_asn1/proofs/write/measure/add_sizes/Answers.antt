@@ -1,4 +1,4 @@
-use Rattle.std.proofs.Common.{◌≡◌, ◌+◌, ◌-◌, ◌++◌, ◌∷◌, [], ◌≤◌, ◌<◌, List, length, map, take, drop, get_or, set, refl, sym, ap, subst, ◌∙◌, arith}
+use Rattle.std.proofs.Common.{◌≡◌, ◌+◌, ◌-◌, ◌++◌, ◌∷◌, [], ◌≤◌, ◌<◌, length, take, drop, get_or, set, refl, sym, ap, subst, ◌∙◌, arith}
 use Rattle.std.proofs.lemmas.Grind.{common_steps}
 use Rattle.std.proofs.lemmas.List.{get_or-map, length-map, map-set}
 use Rattle.std.proofs.Math.Seq.{map-set_same}
@@ -11,7 +11,7 @@ use Rattle.simple_asn1.specs.View.{view}
 use Rattle.simple_asn1.specs.WriteWalk.{contents_size_of, measured_blocks, measured_sizes, own_size_of}
 use Rattle.simple_asn1.specs.declared.write.measure.Measured.{Measured}
 use Rattle.simple_asn1.proofs.TreeOrders.{order_drop}
-use Rattle.simple_asn1.proofs.WriteSteps.{length_canonical, length_contents, place_at, sizes_back, step_at, sum_back, total_of}
+use Rattle.simple_asn1.proofs.WriteSteps.{length_canonical, length_contents, place_at, step_at, sum_back, total_of}
 use Rattle.simple_asn1.proofs.write.measure.add_sizes.Goals as goal
 
 pub take_sum-requires : goal.take_sum-requires

@@ -2,9 +2,8 @@ use Rattle.std.proofs.Common.{◌≡◌, ◌++◌, ◌∷◌, [], map, sym, ap, 
 use Rattle.std.proofs.lemmas.Grind.{common_steps}
 use Rattle.std.proofs.lemmas.List.{map_push}
 use Rattle.simple_asn1.specs.Canonical.{first_of, first_write_fault}
-use Rattle.simple_asn1.specs.HeadersBegun.{all_blocks_in}
 use Rattle.simple_asn1.specs.TreeOrder.{IsNext, ahead}
-use Rattle.simple_asn1.specs.View.{view, views}
+use Rattle.simple_asn1.specs.View.{views}
 use Rattle.simple_asn1.specs.WriteWalk.{measured_blocks, measured_sizes, own_size_of}
 use Rattle.simple_asn1.specs.declared.write.measure.Measured.{Measured}
 use Rattle.simple_asn1.proofs.TreeOrders.{IsFound, fewer_ahead, found_all, found_next}
