@@ -1,56 +1,188 @@
--- Steps of both walks of writing.
-use Rattle.std.proofs.Common.{◌≡◌, ℕ, ◌+◌, ◌<◌, Bool, List, [], ◌∷◌, ◌++◌, length, take, drop, get_or, set, drop-drop, refl, sym, ap, subst, ◌∙◌, None, arith, rules, length-append, append_assoc, Vec, Global, Box}
-use Rattle.std.proofs.lemmas.List.{take-append-drop, take_at, drop_at, set_at, drop_more}
-use Rattle.simple_asn1.specs.declared.header.ASN1Class.{ASN1Class}
-use Rattle.simple_asn1.specs.declared.block.ASN1Block.{ASN1Block, Explicit, Unknown, the_lemmas}
-use Rattle.simple_asn1.specs.Header.{shortest_identifier, shortest_length}
+-- What blocks write, by the list of all blocks in tree order.
+use Rattle.std.proofs.Common.{◌≡◌, ℕ, zero, suc, ◌+◌, ◌-◌, ◌≤◌, ◌<◌, Option, Some, None, List, [], ◌∷◌, ◌++◌, length, take, drop, refl, sym, ap, subst, ◌∙◌, arith, append_assoc, append-nil, length-append, get_or, set, map}
+use Rattle.std.specs.List.{sum}
+use Rattle.std.specs.Prelude.{Result, Ok, Err, IfOk}
 use Rattle.std.proofs.lemmas.Grind.{common_steps}
-use Rattle.simple_asn1.specs.Canonical.{all_canonical, canonical, first_write_fault, shortest_encoding, write_fault}
-use Rattle.simple_asn1.specs.Tree.{explicit, unknown, more_trees}
+use Rattle.std.proofs.Math.Seq.{get_or-append_seam}
+use Rattle.std.proofs.lemmas.List.{take_at, take_more, drop_at, set_at, drop_more, map_more}
+use Rattle.std.proofs.lemmas.List.Sums.{sum_by-append}
+use Rattle.simple_asn1.specs.declared.block.ASN1Block.{ASN1Block}
+use Rattle.simple_asn1.specs.declared.error.ASN1EncodeErr.{ASN1EncodeErr}
+use Rattle.simple_asn1.specs.Canonical.{all_canonical, canonical, first_of, first_write_fault, write_fault}
+use Rattle.simple_asn1.specs.Header.{shortest_length}
+use Rattle.simple_asn1.specs.Contents.{leaf_write_fault}
+use Rattle.simple_asn1.specs.Tree.{Tree, leaf, group, explicit, unknown}
+use Rattle.simple_asn1.specs.TreeOrder.{IsInTreeOrder, IsNext, inside}
 use Rattle.simple_asn1.specs.View.{view, views}
-use Rattle.simple_asn1.specs.WriteWalk.{Ahead, all_content_lengths, content_lengths}
+use Rattle.simple_asn1.specs.WriteWalk.{all_own_octets, contents_of, contents_size_of, first_own_fault, identifier_of, measured_blocks, measured_sizes, own_contents, own_fault, own_octets}
+use Rattle.simple_asn1.specs.declared.write.measure.Measured.{Measured}
+use Rattle.simple_asn1.proofs.BlockLists.{count, count_views}
+use Rattle.simple_asn1.proofs.TreeOrders.{from_place}
 
--- the blocks from i on are the block at i and those after it
-pub views_from : (bs : List ASN1Block) (i : ℕ) (b : ASN1Block) → i < length bs → b ≡ get_or bs i b → views (drop i bs) ≡ more_trees (view b) (views (drop (i + 1) bs))
-views_from bs i b h e = ap views (drop_more bs i b h) ∙ ap (λ z. more_trees (view z) (views (drop (i + 1) bs))) (sym e)
+pub canonical_parts : (b : Tree ℕ) → canonical b ≡ identifier_of b ++ (shortest_length (length (contents_of b)) ++ contents_of b)
+canonical_parts (leaf o l) = refl
+canonical_parts (group o g bs) = refl
+canonical_parts (explicit c o n b) = refl
+canonical_parts (unknown c k o n v) = refl
 
--- the octets of an encoding are those of its three parts
-pub length_shortest_encoding : (c : ASN1Class) (k : Bool) (n : ℕ) (contents : List ℕ) → length (shortest_encoding c k n contents) ≡ length (shortest_identifier c k n) + (length (shortest_length (length contents)) + length contents)
-length_shortest_encoding c k n contents = omega (arith, length-append (shortest_identifier c k n) (shortest_length (length contents) ++ contents), length-append (shortest_length (length contents)) contents)
+pub contents_parts : (b : Tree ℕ) → contents_of b ≡ own_contents b ++ all_canonical (inside b)
+contents_parts (leaf o l) = sym (append-nil _)
+contents_parts (group o g bs) = refl
+contents_parts (explicit c o n b) = sym (append-nil _)
+contents_parts (unknown c k o n v) = sym (append-nil _)
 
--- of two parts that are ahead, the first is ahead, and the second at its end
-pub ahead_append : (a b whole : List ℕ) (n : ℕ) → Ahead (a ++ b) whole n → Ahead a whole n × Ahead b whole (n + length a)
-ahead_append a b whole n h =
-    let w = drop n whole in
-    let r = drop (length (a ++ b)) w in
-    let e : a ++ (b ++ r) ≡ w = sym (append_assoc a b r) ∙ (ap (λ z. z ++ r) (sym h.1) ∙ take-append-drop (length (a ++ b)) w) in
-    let f : take (length a) w ≡ a = ap (λ z. take (length a) z) (sym e) ∙ take_at a (b ++ r) (length a) refl in
-    let g : drop (n + length a) whole ≡ b ++ r = sym (drop-drop (length a) n whole) ∙ (ap (λ z. drop (length a) z) (sym e) ∙ drop_at a (b ++ r) (length a) refl) in
-    let k : take (length b) (drop (n + length a) whole) ≡ b = ap (λ z. take (length b) z) g ∙ take_at b r (length b) refl in
-    ((omega (arith, h.0, length-append a b), f), (omega (arith, h.0, length-append a b), k))
+regroup : (i s c x : List ℕ) → i ++ (s ++ (c ++ x)) ≡ (i ++ (s ++ c)) ++ x
+regroup i s c x = sym (append_assoc i (s ++ c) x ∙ ap (λ z. i ++ z) (append_assoc s c x))
 
--- what is ahead of the blocks from i on, at the block at i and at those after it
-pub ahead_from : (bs : List ASN1Block) (i : ℕ) (b : ASN1Block) (whole : List ℕ) (n : ℕ) → i < length bs → b ≡ get_or bs i b → Ahead (all_content_lengths (views (drop i bs))) whole n → Ahead (content_lengths (view b)) whole n × Ahead (all_content_lengths (views (drop (i + 1) bs))) whole (n + length (content_lengths (view b)))
-ahead_from bs i b whole n h e a =
-    ahead_append (content_lengths (view b)) (all_content_lengths (views (drop (i + 1) bs))) whole n (subst (λ z. Ahead (all_content_lengths z) whole n) (views_from bs i b h e) a)
+own_parts : (b : Tree ℕ) → canonical b ≡ own_octets b ++ all_canonical (inside b)
+own_parts b =
+    canonical_parts b ∙ (ap (λ z. identifier_of b ++ (shortest_length (length (contents_of b)) ++ z)) (contents_parts b) ∙ regroup (identifier_of b) (shortest_length (length (contents_of b))) (own_contents b) (all_canonical (inside b)))
 
--- the octets of the blocks from i on are those of the block at i and of those after it
-pub canonical_from : (bs : List ASN1Block) (i : ℕ) (b : ASN1Block) → i < length bs → b ≡ get_or bs i b → all_canonical (views (drop i bs)) ≡ canonical (view b) ++ all_canonical (views (drop (i + 1) bs))
-canonical_from bs i b h e = ap (λ z. all_canonical z) (views_from bs i b h e)
+canonical_join : (xs ys : List ASN1Block) → all_canonical (views (xs ++ ys)) ≡ all_canonical (views xs) ++ all_canonical (views ys)
+canonical_join [] ys = refl
+canonical_join (x ∷ xs) ys = ap (λ z. canonical (view x) ++ z) (canonical_join xs ys) ∙ sym (append_assoc (canonical (view x)) (all_canonical (views xs)) (all_canonical (views ys)))
 
--- where the blocks from i on can be written, the block at i can be, and those after it
-pub writable_from : (bs : List ASN1Block) (i : ℕ) (b : ASN1Block) → i < length bs → b ≡ get_or bs i b → first_write_fault (views (drop i bs)) ≡ None → (write_fault (view b) ≡ None) × (first_write_fault (views (drop (i + 1) bs)) ≡ None)
-writable_from bs i b h e f =
-    let n = sym (ap first_write_fault (views_from bs i b h e)) ∙ f in
-    (grind (arith, common_steps, n), grind (arith, common_steps, n))
+-- the octets of trees are those that the blocks write themselves
+pub own_order : (order blocks : List ASN1Block) → IsInTreeOrder order blocks → all_own_octets order ≡ all_canonical (views blocks)
+own_order [] blocks h = ap (λ z. all_canonical (views z)) (sym h)
+own_order (b ∷ order) blocks (after, n, h) =
+    let r : all_own_octets order ≡ all_canonical (inside (view b)) ++ all_canonical (views n.rest) =
+    own_order order after h ∙ (ap (λ z. all_canonical (views z)) n.then ∙ (canonical_join n.held n.rest ∙ ap (λ z. all_canonical z ++ all_canonical (views n.rest)) n.holds)) in
+    ap (λ z. own_octets (view b) ++ z) r ∙ (sym (append_assoc (own_octets (view b)) (all_canonical (inside (view b))) (all_canonical (views n.rest)))
+    ∙ (ap (λ z. z ++ all_canonical (views n.rest)) (sym (own_parts (view b))) ∙ ap (λ z. all_canonical (views z)) (sym n.first)))
 
--- a length, put at the place that was kept for it
-pub set_kept_place : (olds news now rest : List ℕ) (place x : ℕ) → place ≡ length olds → news ≡ olds ++ 0 ∷ [] → now ≡ news ++ rest → set now place x ≡ olds ++ x ∷ rest
-set_kept_place olds news now rest place x p e f =
-    ap (λ z. set z place x) (f ∙ (ap (λ z. z ++ rest) e ∙ append_assoc olds (0 ∷ []) rest)) ∙ set_at olds 0 rest x place (sym p)
+first_of_none : (a : Option ASN1EncodeErr) → a ≡ first_of a None
+first_of_none None = refl
+first_of_none (Some e) = refl
 
-pub view_explicit : (c : ASN1Class) (o n : ℕ) (b : Box ASN1Block Global) → view (Explicit c o n b) ≡ explicit c o n (view b.value)
-view_explicit c o n b = search (rules, the_lemmas)
+first_of_assoc : (a b c : Option ASN1EncodeErr) → first_of a (first_of b c) ≡ first_of (first_of a b) c
+first_of_assoc None b c = refl
+first_of_assoc (Some e) b c = refl
 
-pub view_unknown : (c : ASN1Class) (k : Bool) (o n : ℕ) (v : Vec ℕ Global) → view (Unknown c k o n v) ≡ unknown c k o n v.items
-view_unknown c k o n v = search (rules, the_lemmas)
+fault_parts : (b : Tree ℕ) → write_fault b ≡ first_of (own_fault b) (first_write_fault (inside b))
+fault_parts (leaf o l) = first_of_none (leaf_write_fault l)
+fault_parts (group o g bs) = refl
+fault_parts (explicit c o n b) = first_of_none (write_fault b)
+fault_parts (unknown c k o n v) = refl
+
+faults_join : (xs ys : List ASN1Block) → first_write_fault (views (xs ++ ys)) ≡ first_of (first_write_fault (views xs)) (first_write_fault (views ys))
+faults_join [] ys = refl
+faults_join (x ∷ xs) ys = ap (λ z. first_of (write_fault (view x)) z) (faults_join xs ys) ∙ first_of_assoc (write_fault (view x)) (first_write_fault (views xs)) (first_write_fault (views ys))
+
+-- the first fault of what is ahead is that of the next block, or that of what comes after it
+pub fault_next : (b : ASN1Block) (before after : List ASN1Block) → IsNext b before after → first_write_fault (views before) ≡ first_of (own_fault (view b)) (first_write_fault (views after))
+fault_next b before after n =
+    let rest = first_write_fault (views n.rest) in
+    ap (λ z. first_write_fault (views z)) n.first ∙ (ap (λ z. first_of z rest) (fault_parts (view b)) ∙ (sym (first_of_assoc (own_fault (view b)) (first_write_fault (inside (view b))) rest)
+    ∙ ap (λ z. first_of (own_fault (view b)) z) (sym (ap (λ z. first_write_fault (views z)) n.then ∙ (faults_join n.held n.rest ∙ ap (λ z. first_of (first_write_fault z) rest) n.holds)))))
+
+-- and the first fault is the first of the blocks' own
+pub fault_order : (order blocks : List ASN1Block) → IsInTreeOrder order blocks → first_own_fault order ≡ first_write_fault (views blocks)
+fault_order [] blocks h = ap (λ z. first_write_fault (views z)) (sym h)
+fault_order (b ∷ order) blocks (after, n, h) = ap (λ z. first_of (own_fault (view b)) z) (fault_order order after h) ∙ sym (fault_next b blocks after n)
+
+-- the sizes of blocks, the first last
+abbrev pub sizes_back : List ASN1Block → List ℕ
+sizes_back [] = []
+sizes_back (b ∷ bs) = sizes_back bs ++ length (canonical (view b)) ∷ []
+
+back_join : (xs ys : List ASN1Block) → sizes_back (xs ++ ys) ≡ sizes_back ys ++ sizes_back xs
+back_join [] ys = sym (append-nil (sizes_back ys))
+back_join (x ∷ xs) ys = ap (λ z. z ++ length (canonical (view x)) ∷ []) (back_join xs ys) ∙ append_assoc (sizes_back ys) (sizes_back xs) (length (canonical (view x)) ∷ [])
+
+length_back : (bs : List ASN1Block) → length (sizes_back bs) ≡ length bs
+length_back [] = refl
+length_back (b ∷ bs) = omega (arith, length-append (sizes_back bs) (length (canonical (view b)) ∷ []), length_back bs)
+
+pub sum_back : (bs : List ASN1Block) → sum (sizes_back bs) ≡ length (all_canonical (views bs))
+sum_back [] = refl
+sum_back (b ∷ bs) = omega (arith, sum_by-append (λ (x : ℕ). x) (sizes_back bs) (length (canonical (view b)) ∷ []), sum_back bs, length-append (canonical (view b)) (all_canonical (views bs)))
+
+-- what is taken from the sizes of what comes after a block, and what then stands for the block itself
+pub record Step (b : ASN1Block) (left : List ASN1Block) (sizes : List ℕ) (m n : ℕ) : Type 0 where
+  pub enough : n ≤ m
+  pub sum_inside : sum (drop (m - n) sizes) ≡ length (all_canonical (inside (view b)))
+  pub after : take (m - n) sizes ++ length (canonical (view b)) ∷ [] ≡ sizes_back left
+
+-- n blocks are held
+pub step : (b : ASN1Block) (left after : List ASN1Block) (sizes : List ℕ) (m n : ℕ) → IsNext b left after → m ≡ length sizes → sizes ≡ sizes_back after → n ≡ count (inside (view b)) → Step b left sizes m n
+step b left after sizes m n x w s k =
+    let j : sizes ≡ sizes_back x.rest ++ sizes_back x.held = s ∙ (ap sizes_back x.then ∙ back_join x.held x.rest) in
+    let u : length x.held ≡ n = sym (count_views x.held) ∙ (ap count x.holds ∙ sym k) in
+    let t : length sizes ≡ length (sizes_back x.rest) + length (sizes_back x.held) = ap length j ∙ length-append (sizes_back x.rest) (sizes_back x.held) in
+    let q : length (sizes_back x.rest) ≡ m - n = omega (arith, t, length_back x.held, u, w) in
+    record {
+      enough = omega (arith, t, length_back x.held, u, w);
+      sum_inside = ap (λ z. sum (drop (m - n) z)) j ∙ (ap sum (drop_at (sizes_back x.rest) (sizes_back x.held) (m - n) q) ∙ (sum_back x.held ∙ ap (λ z. length (all_canonical z)) x.holds));
+      after = ap (λ z. z ++ length (canonical (view b)) ∷ []) (ap (λ z. take (m - n) z) j ∙ take_at (sizes_back x.rest) (sizes_back x.held) (m - n) q) ∙ ap sizes_back (sym x.first);
+    }
+
+-- the same at a place of the list
+pub step_at : (order : List ASN1Block) (i j : ℕ) (b : ASN1Block) (sizes : List ℕ) (m : ℕ) (held : List ASN1Block) → j + 1 ≡ i → i ≤ length order → b ≡ get_or order j b → m ≡ length sizes → ((left : List ASN1Block) → IsInTreeOrder (drop i order) left → sizes ≡ sizes_back left) → views held ≡ inside (view b) → (left : List ASN1Block) → IsInTreeOrder (drop j order) left → Step b left sizes m (length held)
+step_at order i j b sizes m held e l g w s k left h =
+    let p = from_place order left i j b e l g h in
+    step b left p.after sizes m (length held) p.next w (s p.after p.ordered) (sym (count_views held) ∙ ap count k)
+
+-- the number at a place of a list of numbers, of which those before it are by f and the others by g
+pub place_at : (f g : ASN1Block → ℕ) (order : List ASN1Block) (i j : ℕ) (x : ASN1Block) (sizes : List ℕ) → j + 1 ≡ i → i ≤ length order → x ≡ get_or order j x → sizes ≡ map f (take i order) ++ map g (drop i order) → (get_or sizes j 0 ≡ f x) × (set sizes j (g x) ≡ map f (take j order) ++ map g (drop j order))
+place_at f g order i j x sizes e l k p =
+    let h : j < length order = omega (arith, e, l) in
+    let a = map f (take j order) in
+    let c = map g (drop i order) in
+    let t : map f (take i order) ≡ a ++ f x ∷ [] = ap (λ z. map f (take z order)) (sym e) ∙ (map_more f order j x h ∙ ap (λ z. a ++ f z ∷ []) (sym k)) in
+    let d : map g (drop j order) ≡ g x ∷ c = ap (map g) (drop_more order j x h ∙ (ap (λ z. z ∷ drop (j + 1) order) (sym k) ∙ ap (λ z. x ∷ drop z order) e)) in
+    let q : sizes ≡ a ++ f x ∷ c = p ∙ (ap (λ z. z ++ c) t ∙ append_assoc a (f x ∷ []) c) in
+    let n : length a ≡ j = grind (arith, common_steps) in
+    (ap (λ z. get_or z j 0) q ∙ (ap (λ z. get_or (a ++ f x ∷ c) z 0) (sym n) ∙ get_or-append_seam a (f x) c 0), ap (λ z. set z j (g x)) q ∙ (set_at a (f x) c (g x) j n ∙ ap (λ z. a ++ z) (sym d)))
+
+pub length_canonical : (b : Tree ℕ) → length (canonical b) ≡ length (identifier_of b) + (length (shortest_length (length (contents_of b))) + length (contents_of b))
+length_canonical b = omega (arith, ap length (canonical_parts b), length-append (identifier_of b) (shortest_length (length (contents_of b)) ++ contents_of b), length-append (shortest_length (length (contents_of b))) (contents_of b))
+
+pub length_contents : (b : Tree ℕ) → length (contents_of b) ≡ length (own_contents b) + length (all_canonical (inside b))
+length_contents b = omega (arith, ap length (contents_parts b), length-append (own_contents b) (all_canonical (inside b)))
+
+-- the sum of all sizes
+pub total_of : (r : Result ℕ ASN1EncodeErr) (t : ℕ) (order : List ASN1Block) → IfOk r (λ s. s ≡ t) → ((blocks : List ASN1Block) → IsInTreeOrder order blocks → t ≡ length (all_canonical (views blocks))) → IfOk r (λ n. (blocks : List ASN1Block) → IsInTreeOrder order blocks → n ≡ length (all_canonical (views blocks)))
+total_of (Ok s) t order h f = λ blocks k. h ∙ f blocks k
+total_of (Err e) t order h f = tt
+
+-- a block of the list of the first walk: its size is the one beside it
+pub size_at : (list : List Measured) (i : ℕ) (m : Measured) → i < length list → m ≡ get_or list i m → measured_sizes list ≡ map contents_size_of (measured_blocks list) → m.contents ≡ contents_size_of m.block.now
+size_at [] i m h e s = absurd (omega (arith, h))
+size_at (x ∷ list) zero m h e s =
+    let f : x.contents ≡ contents_size_of x.block.now = cc in
+    let P : Measured → Type 0 = λ y. y.contents ≡ contents_size_of y.block.now in
+    subst P (sym e) f
+size_at (x ∷ list) (suc i) m h e s =
+    let r : measured_sizes list ≡ map contents_size_of (measured_blocks list) = cc in
+    size_at list i m (omega (arith, h)) e r
+
+none_of_both : (a b : Option ASN1EncodeErr) → first_of a b ≡ None → (a ≡ None) × (b ≡ None)
+none_of_both None b e = (refl, e)
+none_of_both (Some x) b e = cc
+
+-- it has no fault
+pub own_fault_at : (list : List Measured) (i : ℕ) (m : Measured) → i < length list → m ≡ get_or list i m → first_own_fault (measured_blocks list) ≡ None → own_fault (view m.block.now) ≡ None
+own_fault_at [] i m h e f = absurd (omega (arith, h))
+own_fault_at (x ∷ list) zero m h e f =
+    let P : Measured → Type 0 = λ y. own_fault (view y.block.now) ≡ None in
+    subst P (sym e) (none_of_both (own_fault (view x.block.now)) (first_own_fault (measured_blocks list)) f).0
+own_fault_at (x ∷ list) (suc i) m h e f =
+    own_fault_at list i m (omega (arith, h)) e (none_of_both (own_fault (view x.block.now)) (first_own_fault (measured_blocks list)) f).1
+
+own_join : (xs : List Measured) (m : Measured) → all_own_octets (measured_blocks (xs ++ m ∷ [])) ≡ all_own_octets (measured_blocks xs) ++ own_octets (view m.block.now)
+own_join [] m = append-nil (own_octets (view m.block.now))
+own_join (x ∷ xs) m = ap (λ z. own_octets (view x.block.now) ++ z) (own_join xs m) ∙ sym (append_assoc (own_octets (view x.block.now)) (all_own_octets (measured_blocks xs)) (own_octets (view m.block.now)))
+
+-- its octets come after those of the blocks before
+pub own_at : (list : List Measured) (i : ℕ) (m : Measured) → i < length list → m ≡ get_or list i m → all_own_octets (measured_blocks (take (i + 1) list)) ≡ all_own_octets (measured_blocks (take i list)) ++ own_octets (view m.block.now)
+own_at list i m h e =
+    ap (λ z. all_own_octets (measured_blocks z)) (take_more list i m h ∙ ap (λ z. take i list ++ z ∷ []) (sym e)) ∙ own_join (take i list) m
+
+-- and are among those of all
+pub own_fits : (list : List Measured) (i : ℕ) (m : Measured) → i < length list → m ≡ get_or list i m → length (all_own_octets (measured_blocks (take i list))) + length (own_octets (view m.block.now)) ≤ length (all_own_octets (measured_blocks list))
+own_fits [] i m h e = absurd (omega (arith, h))
+own_fits (x ∷ list) zero m h e =
+    omega (arith, ap (λ (y : Measured). length (own_octets (view y.block.now))) e, length-append (own_octets (view x.block.now)) (all_own_octets (measured_blocks list)))
+own_fits (x ∷ list) (suc i) m h e =
+    omega (arith, own_fits list i m (omega (arith, h)) e, length-append (own_octets (view x.block.now)) (all_own_octets (measured_blocks list)), length-append (own_octets (view x.block.now)) (all_own_octets (measured_blocks (take i list))))

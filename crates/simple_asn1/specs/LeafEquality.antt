@@ -76,7 +76,10 @@ equal_moment m n e =
       ((bytes_eq-Decides _ _).0 q.1)
 
 moment_same : (m : Moment) → same_moment m m ≡ true
-moment_same m = and_from _ _ ((Decides-int_eq m.year m.year).1 refl) ((bytes_eq-Decides _ _).1 refl)
+moment_same m =
+    let fields =
+      m.month ∷ m.day ∷ m.hour ∷ m.minute ∷ m.second ∷ m.nanosecond ∷ [] in
+    and_from _ _ ((Decides-int_eq m.year m.year).1 refl) ((bytes_eq-Decides fields fields).1 refl)
 
 pub leaf_yes : (l m : Leaf) → same_leaf l m ≡ true → l ≡ m
 leaf_yes (boolean a) (boolean b) e =

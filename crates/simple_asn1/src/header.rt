@@ -1,15 +1,16 @@
 // Identifier and length octets, each way.
 //
 // Each decoder is a function from a slice to the value and how many octets it took, with a wrapper that moves an index.
-ghost use Rattle.std.specs.Prelude.{◌≡◌, ℕ, ◌+◌, ◌*◌, ◌/◌, ◌++◌, ◌∷◌, ◌<◌, ◌≤◌, ◌^◌, ◌⊎◌, List, length, drop, take, vec_len, vec_capacity, IfOk, OnOk, OnErr, slice_index, slice_range, IsOk, IfErr, IfSome, IfNone, IsSomeAnd};
+ghost use Rattle.std.specs.Prelude.{◌≡◌, ℕ, ◌+◌, ◌*◌, ◌/◌, ◌++◌, ◌∷◌, ◌<◌, ◌≤◌, ◌^◌, ◌⊎◌, List, length, drop, take, IfOk, OnOk, OnErr, slice_index, slice_range, IsOk, IfErr, IfSome, IfNone, vec_capacity, vec_len, IsSomeAnd};
 ghost use Rattle.std.specs.Int.Digits.{number_from_digits, digits_of};
 ghost use Rattle.simple_asn1.specs.Base128.{IsBase128, shortest_base128};
 ghost use Rattle.simple_asn1.specs.Fault.{OutOfMemoryOr, fault_of};
+ghost use Rattle.simple_asn1.specs.Header.{BeginsWithNo, IsIdentifier, IsIncomplete, IsLength, IsSomeIdentifier, class_number, leading_octet, length_fault, shortest_identifier, shortest_length};
 ghost use Rattle.simple_asn1.specs.Places.{EncodingAt, HasNoEncodingAt, IsEncoding, TreeAt};
-ghost use Rattle.simple_asn1.specs.Header.{BeginsWithNo, IsIdentifier, IsIncomplete, IsLength, IsSomeIdentifier, class_number, length_fault, shortest_identifier, shortest_length};
 
 use crate::error::ASN1DecodeErr;
 use crate::number::big_uint::BigUint;
+use crate::sink::Sink;
 use std::alloc::{AllocError, Global};
 use std::marker::Model;
 
@@ -333,17 +334,16 @@ fn octet_count(n: usize) -> usize
     octet_count(n / 256) + 1
 }
 
-// Puts the octets of the number at the end, the most significant first.
-fn append_big_endian(n: usize, out: &mut Vec<u8>)
-    requires { vec_len out.old + length (digits_of 256 n) ≤ vec_capacity out.old }
-    ensures appended { out.new.items ≡ out.old.items ++ digits_of 256 n }
-    ensures capacity { vec_capacity out.old ≤ vec_capacity out.new }
+// Puts the octets of the number, the most significant first. A usize has at most 8.
+fn put_big_endian<S: Sink>(n: usize, out: &mut S)
+    requires { length (digits_of 256 n) ≤ S.room out.old }
+    ensures { S.puts out.old (digits_of 256 n) out.new }
 {
     if n == 0 {
         return;
     }
-    append_big_endian(n / 256, out);
-    out.push_reserved((n % 256) as u8);
+    put_big_endian(n / 256, out);
+    out.put_one((n % 256) as u8);
 }
 
 // How many length octets this length has.
@@ -354,18 +354,17 @@ pub(crate) fn length_size(n: usize) -> usize
     if n < 128 { 1 } else { octet_count(n) + 1 }
 }
 
-// Puts the length octets at the end.
-pub(crate) fn append_length(n: usize, out: &mut Vec<u8>)
-    requires { vec_len out.old + length (shortest_length n) ≤ vec_capacity out.old }
-    ensures appended { out.new.items ≡ out.old.items ++ shortest_length n }
-    ensures capacity { vec_capacity out.old ≤ vec_capacity out.new }
+// Puts the length octets.
+pub(crate) fn put_length<S: Sink>(n: usize, out: &mut S)
+    requires { length (shortest_length n) ≤ S.room out.old }
+    ensures { S.puts out.old (shortest_length n) out.new }
 {
     if n < 128 {
-        out.push_reserved(n as u8);
+        out.put_one(n as u8);
         return;
     }
-    out.push_reserved(128 + octet_count(n) as u8);
-    append_big_endian(n, out);
+    out.put_one(128 + octet_count(n) as u8);
+    put_big_endian(n, out);
 }
 
 // How many identifier octets this tag has.
@@ -378,51 +377,31 @@ pub(crate) fn identifier_size(class: ASN1Class, constructed: bool, tag: &BigUint
     }
 }
 
-// Puts the identifier octets at the end.
-pub(crate) fn append_identifier(
+// The leading octet of identifier octets, whose bits 5 to 1 are these.
+fn leading(class: ASN1Class, constructed: bool, low: u8) -> u8
+    requires { low < 32 }
+    ensures { result ≡ leading_octet class constructed low }
+{
+    encode_class(class) + if constructed { 0x20 } else { 0 } + low
+}
+
+// Puts the identifier octets.
+pub(crate) fn put_identifier<S: Sink>(
     class: ASN1Class,
     constructed: bool,
     tag: &BigUint,
-    out: &mut Vec<u8>,
+    out: &mut S,
 )
-    requires { vec_len out.old + length (shortest_identifier class constructed tag.now) ≤ vec_capacity out.old }
-    ensures appended { out.new.items ≡ out.old.items ++ shortest_identifier class constructed tag.now }
-    ensures capacity { vec_capacity out.old ≤ vec_capacity out.new }
+    requires { length (shortest_identifier class constructed tag.now) ≤ S.room out.old }
+    ensures { S.puts out.old (shortest_identifier class constructed tag.now) out.new }
 {
-    let high = encode_class(class) + if constructed { 0x20 } else { 0 };
     match tag.to_u64() {
-        Some(n) if n < 31 => out.push_reserved(high + n as u8),
+        Some(n) if n < 31 => out.put_one(leading(class, constructed, n as u8)),
         _ => {
-            out.push_reserved(high + 31);
+            out.put_one(leading(class, constructed, 31));
             tag.put_base128(out);
         }
     }
-}
-
-// Puts a header at the end whose identifier octets are this one.
-pub(crate) fn append_known_header(identifier: u8, size: usize, out: &mut Vec<u8>)
-    requires { vec_len out.old + (1 + length (shortest_length size)) ≤ vec_capacity out.old }
-    ensures appended { out.new.items ≡ out.old.items ++ identifier ∷ shortest_length size }
-    ensures capacity { vec_capacity out.old ≤ vec_capacity out.new }
-{
-    out.push_reserved(identifier);
-    append_length(size, out);
-}
-
-// Puts the header of contents octets of this size at the end.
-pub(crate) fn append_header(
-    class: ASN1Class,
-    constructed: bool,
-    tag: &BigUint,
-    size: usize,
-    out: &mut Vec<u8>,
-)
-    requires { vec_len out.old + (length (shortest_identifier class constructed tag.now) + length (shortest_length size)) ≤ vec_capacity out.old }
-    ensures appended { out.new.items ≡ out.old.items ++ (shortest_identifier class constructed tag.now ++ shortest_length size) }
-    ensures capacity { vec_capacity out.old ≤ vec_capacity out.new }
-{
-    append_identifier(class, constructed, tag, out);
-    append_length(size, out);
 }
 
 /// The shortest identifier octets of the tag (X.690 8.1.2.2, 8.1.2.4.2), in one allocation of their size. The only
@@ -436,7 +415,7 @@ pub fn encode_tag(
     ensures { IfOk result (λ v. v.items ≡ shortest_identifier class constructed tag.now) }
 {
     let mut octets = Vec::with_capacity(alloc, identifier_size(class, constructed, tag))?;
-    append_identifier(class, constructed, tag, &mut octets);
+    put_identifier(class, constructed, tag, &mut octets);
     Ok(octets)
 }
 
@@ -456,6 +435,6 @@ pub fn encode_len(alloc: Global, n: usize) -> Result<Vec<u8>, AllocError>
     ensures { IfOk result (λ v. v.items ≡ shortest_length n) }
 {
     let mut octets = Vec::with_capacity(alloc, length_size(n))?;
-    append_length(n, &mut octets);
+    put_length(n, &mut octets);
     Ok(octets)
 }

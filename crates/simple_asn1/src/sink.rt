@@ -1,10 +1,11 @@
-// Where octets are put, one after another: a vector that takes them, or octets that they are compared with.
+// Where octets are put, one after another: a vector that takes them, or octets that they are
+// compared with. So that writing and comparing are one code.
 ghost use Rattle.std.specs.Prelude.{◌≡◌, ℕ, ◌+◌, ◌++◌, ◌∷◌, ◌≤◌, [], List, length};
 
 use crate::octets::append;
 
 pub(crate) trait Sink {
-    // So many octets fit.
+    // How many octets there is room for.
     ghost room: { Self → ℕ };
 
     // The octets were put into the first, which has become the second.
@@ -12,7 +13,8 @@ pub(crate) trait Sink {
 
     ghost none: { (a : Self) → puts a [] a };
 
-    ghost more: { (a b c : Self) (xs ys : List ℕ) → puts a xs b → puts b ys c → puts a (xs ++ ys) c };
+    ghost more: { (a b c : Self) (xs ys : List ℕ)
+        → puts a xs b → puts b ys c → puts a (xs ++ ys) c };
 
     ghost room_after: { (a b : Self) (xs : List ℕ) → puts a xs b → room a ≤ room b + length xs };
 
@@ -25,8 +27,15 @@ pub(crate) trait Sink {
         ensures { puts self.old (octet ∷ []) self.new };
 }
 
+// At its end, without growing.
 impl Sink for Vec<u8> {
-    ghost use Rattle.simple_asn1.specs.Sinks.{vec_puts, vec_room, vec_puts_none, vec_puts_more, vec_room_after};
+    ghost use Rattle.simple_asn1.specs.Sinks.{
+      vec_puts,
+      vec_room,
+      vec_puts_none,
+      vec_puts_more,
+      vec_room_after,
+    };
 
     ghost room = { vec_room };
 
@@ -47,7 +56,8 @@ impl Sink for Vec<u8> {
     }
 }
 
-// Octets that are compared with those that are put: what is left of them, and whether all so far were the same.
+// Octets that are compared with those that are put: what is left of them, and whether all so far
+// were the same.
 #[derive(Drop)]
 pub(crate) struct Comparison<'a> {
     pub(crate) rest: &'a [u8],
@@ -55,7 +65,13 @@ pub(crate) struct Comparison<'a> {
 }
 
 impl<'a> Sink for Comparison<'a> {
-    ghost use Rattle.simple_asn1.specs.Comparisons.{compared, left, compared_none, compared_more, left_after};
+    ghost use Rattle.simple_asn1.specs.Comparisons.{
+      compared,
+      left,
+      compared_none,
+      compared_more,
+      left_after,
+    };
 
     ghost room = { left };
 

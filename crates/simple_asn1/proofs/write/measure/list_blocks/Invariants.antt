@@ -1,0 +1,19 @@
+use Rattle.std.proofs.Common.{◌≡◌, map}
+use Rattle.simple_asn1.specs.Canonical.{first_write_fault}
+use Rattle.simple_asn1.specs.HeadersBegun.{all_blocks_in}
+use Rattle.simple_asn1.specs.TreeOrder.{ahead}
+use Rattle.simple_asn1.specs.View.{views}
+use Rattle.simple_asn1.specs.WriteWalk.{measured_blocks, measured_sizes, own_size_of}
+use Rattle.simple_asn1.proofs.TreeOrders.{IsFound}
+use Rattle.simple_asn1.proofs.write.measure.list_blocks.Given as goal
+
+-- the blocks before those that are ahead, none of which has a fault
+abbrev pub invariant-loop-walk : goal.invariant-loop-walk
+invariant-loop-walk l = record {
+  found : IsFound (measured_blocks l.list.items) (ahead l.walk) l.fn.blocks;
+  own : measured_sizes l.list.items ≡ map own_size_of (measured_blocks l.list.items);
+  fault : first_write_fault (views (ahead l.walk)) ≡ first_write_fault (views l.fn.blocks);
+}
+
+abbrev pub decreases-loop-walk : goal.decreases-loop-walk
+decreases-loop-walk l = all_blocks_in (views (ahead l.walk))

@@ -1,0 +1,74 @@
+// The blocks of a document under an owner that drops them by a loop.
+ghost use Rattle.std.specs.Prelude.{◌≡◌, ℕ, IfErr, IfOk, IsErrAnd, MatchResult};
+ghost use Rattle.simple_asn1.specs.Fault.{DecodeFault, OutOfMemoryOr};
+ghost use Rattle.simple_asn1.specs.Grammar.{Document as IsDocument, FirstFault};
+ghost use Rattle.simple_asn1.specs.Tree.{Trees};
+ghost use Rattle.simple_asn1.specs.View.{document_trees, views};
+ghost use Rattle.simple_asn1.specs.declared.error.ASN1DecodeErr.TheVariants.{OutOfMemory};
+
+use crate::block::ASN1Block;
+use crate::block::discard::discard;
+use crate::error::ASN1DecodeErr;
+use crate::read::from_der;
+use std::alloc::Global;
+
+/// The blocks of a document, for octets that nobody vouches for: however deeply they are nested,
+/// dropping a `Document` takes no memory and a few calls on the stack, where dropping the blocks
+/// themselves takes a call for each level of nesting.
+///
+/// ```rust
+/// use simple_asn1::{ASN1DecodeErr, Document};
+/// use std::alloc::Global;
+///
+/// // How many blocks the document has at its top: of `05 00 05 00` 2.
+/// fn count(alloc: Global, octets: &[u8]) -> Result<usize, ASN1DecodeErr> {
+///     let document = Document::from_der(alloc, octets)?;
+///     Ok(document.blocks().len())
+/// }
+/// ```
+#[derive(Debug)]
+pub struct Document {
+    blocks: Vec<ASN1Block>,
+}
+
+impl Drop for Document {
+    fn drop(self) {
+        discard(self.into_blocks());
+    }
+}
+
+impl Document {
+    /// Reads a document as the function [`from_der`] does, with its answers.
+    ///
+    /// # Errors
+    /// Those of [`from_der`].
+    pub fn from_der(alloc: Global, i: &[u8]) -> Result<Document, ASN1DecodeErr>
+        ensures document { IfOk result (λ document. IsDocument i.now (document_trees document)) }
+        ensures fault { IfErr result (OutOfMemoryOr (FirstFault i.now)) }
+        ensures accepts { (bs : Trees ℕ) → IsDocument i.now bs
+            → MatchResult result
+            (λ document. document_trees document ≡ bs)
+            (λ e. e ≡ OutOfMemory) }
+        ensures refuses { (fault : DecodeFault) → FirstFault i.now fault
+            → IsErrAnd result (OutOfMemoryOr (λ e. e ≡ fault)) }
+    {
+        let blocks = from_der(alloc, i)?;
+        Ok(Document { blocks })
+    }
+
+    /// Lends the blocks at the top, in order.
+    pub fn blocks(&self) -> &[ASN1Block]
+        ensures { views result.now ≡ document_trees self.now }
+    {
+        &self.blocks
+    }
+
+    /// Gives up the blocks at the top, in order. From then on dropping them takes a call on the
+    /// stack for each level of nesting, unless [`discard`] does it.
+    pub fn into_blocks(self) -> Vec<ASN1Block>
+        ensures { views result.items ≡ document_trees self }
+    {
+        let Document { blocks } = self;
+        blocks
+    }
+}
