@@ -7,6 +7,8 @@ ghost use Rattle.simple_asn1.specs.Base128.{IsBase128, shortest_base128};
 ghost use Rattle.simple_asn1.specs.Fault.{OutOfMemoryOr, fault_of};
 ghost use Rattle.simple_asn1.specs.Header.{BeginsWithNo, IsIdentifier, IsIncomplete, IsLength, IsSomeIdentifier, class_number, length_fault, shortest_identifier, shortest_length};
 
+pub(crate) mod parsed;
+
 use crate::error::ASN1DecodeErr;
 use crate::number::big_uint::BigUint;
 use std::alloc::{AllocError, Global};

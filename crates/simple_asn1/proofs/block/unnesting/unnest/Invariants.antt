@@ -1,0 +1,11 @@
+use Rattle.std.proofs.Common.{◌+◌, ◌≤◌}
+use Rattle.simple_asn1.specs.HeadersBegun.{all_blocks_in, blocks_in}
+use Rattle.simple_asn1.specs.View.{view, views}
+use Rattle.simple_asn1.proofs.block.unnesting.unnest.Given as goal
+
+abbrev pub invariant-loop-block : goal.invariant-loop-block
+invariant-loop-block l = blocks_in (view l.block) + all_blocks_in (views l.rest.items) ≤ blocks_in (view l.initial.block) + all_blocks_in (views l.initial.rest.items)
+
+-- the block is taken apart
+abbrev pub decreases-loop-block : goal.decreases-loop-block
+decreases-loop-block l = blocks_in (view l.block)
