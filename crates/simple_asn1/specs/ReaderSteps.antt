@@ -21,16 +21,8 @@ use Rattle.simple_asn1.specs.Grammar.{EncodesAll, BlocksFault}
 use Rattle.simple_asn1.specs.HeadersBegun.{HeadersBegun, IsReadInside}
 use Rattle.simple_asn1.specs.OpenFrames.{Frame, Opened, Stopping}
 use Rattle.simple_asn1.specs.Owed.{Leads, after_all, as_it_came}
-use Rattle.simple_asn1.specs.Places.{EncodingAt}
 use Rattle.simple_asn1.specs.Tree.{Tree, trees_of}
 use Rattle.simple_asn1.specs.View.{view}
-
--- a header found at a place of a frame, whose own contents octets begin and end in the document
-pub record HeaderFound (octets : List ℕ) (place limit : ℕ) (h : Header) : Type 0 where
-  pub encoding : EncodingAt octets h.class h.constructed h.tag place h.start h.end
-  pub past : place < h.start
-  pub order : h.start ≤ h.end
-  pub fits : h.end ≤ limit
 
 -- the frame is of an encoding with this header, whose first octet is at the offset
 abbrev pub IsKindOf : FrameKind → Header → ℕ → Type 0

@@ -15,8 +15,8 @@ use Rattle.simple_asn1.specs.Grammar.{Encodes, EncodesAll, HeaderFault, BlockFau
 use Rattle.simple_asn1.specs.Header.{Encoding}
 use Rattle.simple_asn1.specs.HeadersBegun.{IsReadInside, begun_none, begun_some, nothing_inside, nothing_after}
 use Rattle.simple_asn1.specs.OpenFrames.{Frame, Headed, Opened, Stopping}
-use Rattle.simple_asn1.specs.Places.{EncodingAt}
-use Rattle.simple_asn1.specs.ReaderSteps.{HeaderFound, IsKindOf}
+use Rattle.simple_asn1.specs.Places.{EncodingAt, HeaderFound}
+use Rattle.simple_asn1.specs.ReaderSteps.{IsKindOf}
 use Rattle.simple_asn1.specs.Tree.{Tree, trees_of}
 use Rattle.simple_asn1.proofs.Faults.{block_fault_no_block, header_no_encoding}
 use Rattle.simple_asn1.proofs.Frames.Advances.{Follows, Places, opened_places}

@@ -11,7 +11,8 @@ use Rattle.simple_asn1.specs.Fault.{DecodeFault}
 use Rattle.simple_asn1.specs.Grammar.{Encodes, HeaderFault, ContentsFault}
 use Rattle.simple_asn1.specs.HeadersBegun.{IsReadInside}
 use Rattle.simple_asn1.specs.OpenFrames.{Headed, Opened, Stopping}
-use Rattle.simple_asn1.specs.ReaderSteps.{AllHold, frame, frames, HeaderFound, IsKindOf, IsOpened, Reading, GoesOn, Faulty, left}
+use Rattle.simple_asn1.specs.Places.{HeaderFound}
+use Rattle.simple_asn1.specs.ReaderSteps.{AllHold, frame, frames, IsKindOf, IsOpened, Reading, GoesOn, Faulty, left}
 use Rattle.simple_asn1.specs.View.{view}
 use Rattle.simple_asn1.proofs.Frames.Advances.{Places, opened_places, opened_bound}
 use Rattle.simple_asn1.proofs.Frames.Opening.{headed_by, opened_open, header_stopping, leaf_stopping, leaf_follows}

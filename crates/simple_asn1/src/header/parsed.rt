@@ -2,7 +2,7 @@
 ghost use Rattle.std.specs.Prelude.{◌≡◌, ◌+◌, ◌-◌, ◌<◌, ◌≤◌, ◌^◌, length, drop, slice_range, IfOk, IfErr};
 ghost use Rattle.simple_asn1.specs.Fault.{OutOfMemoryOr};
 ghost use Rattle.simple_asn1.specs.Grammar.{HeaderFault};
-ghost use Rattle.simple_asn1.specs.Places.{EncodingAt};
+ghost use Rattle.simple_asn1.specs.Places.{EncodingAt, HeaderFound};
 
 use crate::error::ASN1DecodeErr;
 use crate::header::{ASN1Class, HeaderCount, decode_length, decode_tag};
@@ -19,9 +19,38 @@ pub(crate) struct Header {
     pub(crate) end: usize,
 }
 
+// The header at a place of the document, inside the contents octets from `start` to `end`. Its own contents octets begin
+// and end in the document.
+#[inline(always)]
+pub(crate) fn header_within(
+    alloc: Global,
+    octets: &[u8],
+    start: usize,
+    end: usize,
+    place: usize,
+    count: &mut HeaderCount,
+) -> Result<Header, ASN1DecodeErr>
+    requires room { count.old + 1 < 2 ^ 64 }
+    requires from { start ≤ place }
+    requires more { place < end }
+    requires within { end ≤ length octets.now }
+    ensures found { IfOk result (HeaderFound octets.now place end) }
+    ensures refused {
+        IfErr result (OutOfMemoryOr
+            (HeaderFault (place - start) (slice_range octets.now place end)))
+    }
+    ensures counted { count.new ≡ count.old + 1 }
+{
+    let contents = &octets[start..end];
+    let mut header = header_at(alloc, contents, place - start, count)?;
+    header.start += start;
+    header.end += start;
+    Ok(header)
+}
+
 // The header at a place of the octets.
 #[inline(always)]
-pub(crate) fn header_at(
+fn header_at(
     alloc: Global,
     octets: &[u8],
     place: usize,

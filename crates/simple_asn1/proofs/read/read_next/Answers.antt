@@ -9,23 +9,23 @@ use Rattle.simple_asn1.specs.Fault.{DecodeFault, OutOfMemoryOr}
 use Rattle.simple_asn1.specs.Grammar.{Encodes, ContentsFault}
 use Rattle.simple_asn1.specs.Header.{Encoding}
 use Rattle.simple_asn1.specs.HeadersBegun.{IsReadInside}
-use Rattle.simple_asn1.specs.ReaderSteps.{HeaderFound, IsReadAs}
+use Rattle.simple_asn1.specs.ReaderSteps.{IsReadAs}
 use Rattle.simple_asn1.specs.View.{view}
 use Rattle.simple_asn1.proofs.Reader.Adding.{put_goes_on}
 use Rattle.simple_asn1.proofs.Reader.Memory.{stepped_memory}
 use Rattle.simple_asn1.proofs.Reader.Opening.{reader_places, open_goes_on, leaf_ready, leaf_nearer, header_faulty, leaf_faulty}
 use Rattle.simple_asn1.proofs.read.read_next.Goals as goal
 
-pub next_header-requires-clause-from : goal.next_header-requires-clause-from
-next_header-requires-clause-from c = (reader_places c.args.octets.now c.args.reader.now c.requires.reading.0 c.requires.reading.1).from
+pub header_within-requires-clause-from : goal.header_within-requires-clause-from
+header_within-requires-clause-from c = (reader_places c.args.octets.now c.args.reader.now c.requires.reading.0 c.requires.reading.1).from
 
-pub next_header-requires-clause-more : goal.next_header-requires-clause-more
-next_header-requires-clause-more c =
+pub header_within-requires-clause-more : goal.header_within-requires-clause-more
+header_within-requires-clause-more c =
     let v = reader_places c.args.octets.now c.args.reader.now c.requires.reading.0 c.requires.reading.1 in
     omega (arith, v.to, c.requires.more)
 
-pub next_header-requires-clause-within : goal.next_header-requires-clause-within
-next_header-requires-clause-within c = (reader_places c.args.octets.now c.args.reader.now c.requires.reading.0 c.requires.reading.1).within
+pub header_within-requires-clause-within : goal.header_within-requires-clause-within
+header_within-requires-clause-within c = (reader_places c.args.octets.now c.args.reader.now c.requires.reading.0 c.requires.reading.1).within
 
 pub returns-in_err-header-clause-stepped : goal.returns-in_err-header-clause-stepped
 returns-in_err-header-clause-stepped c n w =
