@@ -8,6 +8,8 @@ ghost use Rattle.simple_asn1.specs.Fault.{OutOfMemoryOr, fault_of};
 ghost use Rattle.simple_asn1.specs.Header.{BeginsWithNo, IsIdentifier, IsIncomplete, IsLength, IsSomeIdentifier, class_number, leading_octet, length_fault, shortest_identifier, shortest_length};
 ghost use Rattle.simple_asn1.specs.Places.{EncodingAt, HasNoEncodingAt, IsEncoding, TreeAt};
 
+pub(crate) mod parsed;
+
 use crate::error::ASN1DecodeErr;
 use crate::number::big_uint::BigUint;
 use crate::sink::Sink;

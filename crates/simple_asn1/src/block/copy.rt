@@ -68,7 +68,7 @@ impl Copies {
         match Box::new(alloc, block) {
             Ok(item) => Ok(item),
             Err(refused) => {
-                discard_one(alloc, refused.value);
+                discard_one(refused.value);
                 Err(AllocError)
             }
         }

@@ -4,7 +4,6 @@ ghost use Rattle.simple_asn1.specs.HeadersBegun.{all_blocks_in, blocks_in};
 ghost use Rattle.simple_asn1.specs.View.{view, views};
 
 use crate::block::ASN1Block;
-use std::alloc::Global;
 use std::mem;
 
 /// Drops blocks that may be nested deeply: in time linear in their number, with no memory, and
@@ -12,8 +11,7 @@ use std::mem;
 ///
 /// ```rust
 /// use simple_asn1::{ASN1DecodeErr, discard, from_der};
-/// use std::alloc::Global;
-///
+/// ///
 /// // How many blocks the document has at its top.
 /// fn count(alloc: Global, octets: &[u8]) -> Result<usize, ASN1DecodeErr> {
 ///     let blocks = from_der(alloc, octets)?;
@@ -71,6 +69,31 @@ fn unnest(mut block: ASN1Block, mut rest: Vec<ASN1Block>) -> Vec<ASN1Block>
 }
 
 // Drops one block.
-pub(crate) fn discard_one(alloc: Global, block: ASN1Block) {
-    discard(unnest(block, Vec::new(alloc)));
+#[cold]
+#[inline(never)]
+pub(crate) fn discard_one(mut block: ASN1Block) {
+    loop {
+        match block {
+            ASN1Block::Explicit(_, _, _, item) => block = Box::into_inner(item),
+            ASN1Block::Sequence(_, items) | ASN1Block::Set(_, items) => {
+                discard(items);
+                return;
+            }
+            ASN1Block::Boolean(_, _)
+            | ASN1Block::Null(_)
+            | ASN1Block::Integer(_, _)
+            | ASN1Block::BitString(_, _, _)
+            | ASN1Block::OctetString(_, _)
+            | ASN1Block::ObjectIdentifier(_, _)
+            | ASN1Block::UTCTime(_, _)
+            | ASN1Block::GeneralizedTime(_, _)
+            | ASN1Block::UTF8String(_, _)
+            | ASN1Block::PrintableString(_, _)
+            | ASN1Block::TeletexString(_, _)
+            | ASN1Block::IA5String(_, _)
+            | ASN1Block::UniversalString(_, _)
+            | ASN1Block::BMPString(_, _)
+            | ASN1Block::Unknown(_, _, _, _, _) => return,
+        }
+    }
 }

@@ -1,0 +1,6 @@
+-- Open frames: what they have read, and how they are opened, closed and left.
+pub mod Slices
+pub mod Advances
+pub mod Opening
+pub mod Stopping
+pub mod Closing

@@ -1,0 +1,10 @@
+-- What taking the frame around out of the list does to the frames from the innermost out.
+use Rattle.std.proofs.Common.{◌≡◌, ℕ, List, [], ◌∷◌, ◌++◌, length, reverse, refl, ap, ◌∙◌, arith}
+use Rattle.std.proofs.lemmas.List.{reverse-append}
+
+pub reverse_push : {X : Type 0} (old new : List X) (x : X) → old ≡ new ++ x ∷ [] → reverse old ≡ x ∷ reverse new
+reverse_push old new x e = ap reverse e ∙ reverse-append new (x ∷ [])
+
+pub reverse_none : {X : Type 0} (xs : List X) → length xs ≡ 0 → reverse xs ≡ []
+reverse_none [] e = refl
+reverse_none (x ∷ xs) e = absurd (omega (arith, e))
