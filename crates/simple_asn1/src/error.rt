@@ -9,7 +9,7 @@ use thiserror::Error;
 /// Why octets were not read.
 #[derive(Debug, Drop, Error, PartialEq)]
 pub enum ASN1DecodeErr {
-    /// A document, or the contents octets of a SEQUENCE or SET, is empty.
+    /// The document is empty.
     #[error("Encountered an empty buffer decoding ASN1 block.")]
     EmptyBuffer,
     /// The contents octets of a BOOLEAN are not one; their number.

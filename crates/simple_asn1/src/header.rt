@@ -262,7 +262,14 @@ fn encoding_size(octets: &[u8]) -> Option<usize>
 ///
 /// `None` where no encoding stands at the offset, also past the end. It takes no memory.
 ///
-/// The octets `30 07 02 01 05 A0 02 05 00` have `02 01 05` at 2, and no encoding at 3.
+/// ```rust
+/// use simple_asn1::{ASN1Block, encoding_at};
+///
+/// // The octets of a block: of the first item of `30 07 02 01 05 A0 02 05 00` they are `02 01 05`.
+/// fn octets_of<'a>(document: &'a [u8], block: &ASN1Block) -> Option<&'a [u8]> {
+///     encoding_at(document, block.offset())
+/// }
+/// ```
 pub fn encoding_at(document: &[u8], offset: usize) -> Option<&[u8]>
     ensures found { IfSome result (λ octets. EncodingAt document.now offset octets.now) }
     ensures none { IfNone result (HasNoEncodingAt document.now offset) }
