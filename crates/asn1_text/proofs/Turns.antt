@@ -24,8 +24,18 @@ pub fewer : (outer less more : List OpenList) (taken back inside : OpenList) (b 
     → taken.left.now ≡ b ∷ rest → back.left.now ≡ rest → views inside.left.now ≡ trees_inside (view b)
     → turns more < turns (outer ++ taken ∷ [])
 fewer outer less more taken back inside b rest q r f g h =
-    omega (arith, turns_push outer taken, ap turns q, turns_push outer back, ap turns r, turns_push less inside,
-      ap (λ z. count_all (views z)) f, ap (λ z. count_all (views z)) g, ap count_all h, count_of (view b))
+    omega (
+      arith,
+      turns_push outer taken,
+      ap turns q,
+      turns_push outer back,
+      ap turns r,
+      turns_push less inside,
+      ap (λ z. count_all (views z)) f,
+      ap (λ z. count_all (views z)) g,
+      ap count_all h,
+      count_of (view b),
+    )
 
 -- or it is not put back
 pub one_fewer : (r : Result (Unit {0}) AllocError) (outer : List OpenList) (taken : OpenList) → OnOk r (turns outer < turns (outer ++ taken ∷ []))

@@ -9,5 +9,5 @@ pub returns : goal.returns
 returns c =
     record {
       fewer = fewer c.args.open.now.items c.push.new.self.items c.push-2.new.self.items c.args.list _ c.inside.result c.in-Some.block.now
-        c.in-Some.left.now c.in_ok-push.ensures.items c.in_ok-push-2.ensures.items c.in-Some.ensures.cases.0 refl c.inside.ensures
+          c.in-Some.left.now c.in_ok-push.ensures.items c.in_ok-push-2.ensures.items c.in-Some.ensures.cases.0 refl c.inside.ensures;
     }
