@@ -1,5 +1,6 @@
-// Blocks made by hand: written, compared and cloned.
-use crate::notation::{hex_of, octets, text_of};
+// Blocks made by hand, and what of blocks no line of `asn1_calls` says: classes, equality, clones.
+use crate::helpers::{check_back, check_written, octets};
+use asn1_text::blocks_text;
 use simple_asn1::{ASN1Block, ASN1Class, BigUint, from_der, to_der};
 use std::alloc::Global;
 use std::process::Abort;
@@ -16,45 +17,22 @@ fn unknown(
     Ok(ASN1Block::Unknown(class, constructed, 0, tag, octets(alloc, contents)?))
 }
 
-// The block is written as these octets.
-fn check_written(
-    rt: &impl Abort,
-    alloc: Global,
-    block: &ASN1Block,
-    written: &str,
-) -> Result<(), Fail> {
-    let octets = to_der(alloc, block)?;
-    assert_eq!(rt; hex_of(alloc, &octets)?.as_str(), written);
-    Ok(())
-}
-
 #[test]
 fn blocks_are_written(rt: HostRuntime) -> Result<(), Fail> {
     let alloc = rt.alloc();
-    check_written(
-        &rt,
-        alloc,
-        &ASN1Block::Sequence(0, Vec::new(alloc)),
-        "30 00",
-    )?;
-    let high_tag = unknown(alloc, ASN1Class::Application, false, 16384, "")?;
-    check_written(&rt, alloc, &high_tag, "5F 81 80 00 00")?;
-    let known_tag = unknown(alloc, ASN1Class::Universal, false, 2, "05")?;
-    check_written(&rt, alloc, &known_tag, "02 01 05")
-}
-
-// The block is written as these octets, which are read as these blocks.
-pub fn check_back(
-    rt: &impl Abort,
-    alloc: Global,
-    block: &ASN1Block,
-    written: &str,
-    blocks: &str,
-) -> Result<(), Fail> {
-    let octets = to_der(alloc, block)?;
-    assert_eq!(rt; hex_of(alloc, &octets)?.as_str(), written);
-    let read = from_der(alloc, &octets)?;
-    assert_eq!(rt; text_of(alloc, &read)?.as_str(), blocks);
+    for (block, written) in [
+        (ASN1Block::Sequence(0, Vec::new(alloc)), "30 00"),
+        (
+            unknown(alloc, ASN1Class::Application, false, 16384, "")?,
+            "5F 81 80 00 00",
+        ),
+        (
+            unknown(alloc, ASN1Class::Universal, false, 2, "05")?,
+            "02 01 05",
+        ),
+    ] {
+        check_written(&rt, alloc, &block, written)?;
+    }
     Ok(())
 }
 
@@ -79,7 +57,6 @@ fn an_explicit_of_class_universal_is_read_by_its_tag(rt: HostRuntime) -> Result<
     let block = ASN1Block::Explicit(ASN1Class::Universal, 0, tag, item);
     check_back(&rt, alloc, &block, "22 02 05 00", "Integer(0, 1280)")
 }
-
 // So many octets 00 are written with this header.
 fn check_header(rt: &impl Abort, alloc: Global, size: usize, header: &str) -> Result<(), Fail> {
     let mut contents = Vec::new(alloc);
@@ -210,8 +187,8 @@ fn check_clones(rt: &impl Abort, alloc: Global, input: &str) -> Result<(), Fail>
         clones.push(block.clone(alloc)?)?;
     }
     assert!(rt; clones == blocks, "{input}");
-    let text = text_of(alloc, &blocks)?;
-    assert_eq!(rt; text_of(alloc, &clones)?.as_str(), text.as_str());
+    let text = blocks_text(alloc, &blocks)?;
+    assert_eq!(rt; blocks_text(alloc, &clones)?.as_str(), text.as_str());
     Ok(())
 }
 

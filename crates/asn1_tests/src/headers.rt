@@ -1,18 +1,10 @@
 // Identifier octets, length octets and base-128 numbers alone.
-use crate::notation::{hex_of, octets};
+use crate::helpers::{check_octets, octets};
 use simple_asn1::{
     ASN1Class, ASN1DecodeErr, BigUint, HeaderCount, decode_base127, decode_class, decode_length,
     decode_tag, encode_base127, encode_class, encode_len, encode_tag,
 };
-use std::alloc::Global;
-use std::process::Abort;
 use std::test::Fail;
-
-// These are the octets.
-fn check_octets(rt: &impl Abort, alloc: Global, octets: &[u8], written: &str) -> Result<(), Fail> {
-    assert_eq!(rt; hex_of(alloc, octets)?.as_str(), written);
-    Ok(())
-}
 
 #[test]
 fn lengths_are_written(rt: HostRuntime) -> Result<(), Fail> {

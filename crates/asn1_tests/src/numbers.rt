@@ -1,8 +1,7 @@
 // The numbers that blocks hold.
-use crate::notation::{hex_of, octets};
+use crate::helpers::{check_octets, check_written, octets};
 use simple_asn1::{
     ASN1Block, ASN1Class, BigInt, BigUint, decode_base127, encode_base127, encode_tag, rewrite,
-    to_der,
 };
 use std::alloc::Global;
 use std::process::Abort;
@@ -48,8 +47,7 @@ fn check_large_natural(
     assert!(rt; number != other, "{digits}");
     assert!(rt; number.clone(alloc)? == number, "the clone of {digits}");
     let written = encode_base127(alloc, &number)?;
-    assert_eq!(rt; hex_of(alloc, &written)?.as_str(), digits);
-    Ok(())
+    check_octets(rt, alloc, &written, digits)
 }
 
 // Identifier octets with this tag number are written, and a document that begins with them is rewritten the same.
@@ -58,7 +56,7 @@ fn check_large_tag(rt: &impl Abort, alloc: Global, digits: &str) -> Result<(), F
     let mut document = encode_tag(alloc, ASN1Class::ContextSpecific, false, &tag)?;
     let mut identifier = String::from_str(alloc, "9F ")?;
     identifier.push_str(digits)?;
-    assert_eq!(rt; hex_of(alloc, &document)?.as_str(), identifier.as_str());
+    check_octets(rt, alloc, &document, identifier.as_str())?;
     document.push(0)?;
     let rewritten = rewrite(alloc, &document)?;
     assert_eq!(rt; rewritten.as_slice(), document.as_slice(), "{digits}");
@@ -96,12 +94,7 @@ fn check_whole(
     assert!(rt; number == BigInt::from_i64(alloc, n)?, "{input} and {n}");
     assert!(rt; number.clone(alloc)? == number, "the clone of {n}");
     let written = number.to_signed_bytes_be(alloc)?;
-    assert_eq!(rt;
-        hex_of(alloc, &written)?.as_str(),
-        shortest,
-        "{input} written"
-    );
-    Ok(())
+    check_octets(rt, alloc, &written, shortest)
 }
 
 #[test]
@@ -141,10 +134,8 @@ fn check_large_whole(
     assert!(rt; number != other, "{shortest}");
     assert!(rt; number.clone(alloc)? == number, "the clone of {shortest}");
     let written = number.to_signed_bytes_be(alloc)?;
-    assert_eq!(rt; hex_of(alloc, &written)?.as_str(), shortest);
-    let written = to_der(alloc, &ASN1Block::Integer(0, number))?;
-    assert_eq!(rt; hex_of(alloc, &written)?.as_str(), block);
-    Ok(())
+    check_octets(rt, alloc, &written, shortest)?;
+    check_written(rt, alloc, &ASN1Block::Integer(0, number), block)
 }
 
 #[test]

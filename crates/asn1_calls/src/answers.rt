@@ -1,0 +1,60 @@
+// The answers to the lines of the input.
+//
+// A line is ended by octet 0A, and the last one perhaps by the end of the input. A line that begins with `#` is a
+// comment, and is not answered. Any other line has one line as its answer. What stands on it from a `#` on is a comment
+// too, and white space at either end is left out. If nothing is left, the answer is an empty line, so that groups of rows
+// stand apart in the answers too. Else the line is the name of a call, and after a space its octets in hex digits of
+// either case, with spaces or without; for no octets the name stands alone.
+//
+//     read 30 03 02 01 05     Sequence(0, [Integer(2, 5)])
+//     count A0 02 02 05       2 begun, read
+//     count 04 89             1 begun, refused LengthTooLarge 9
+//     rewrite 02 80           02 01 00
+//     read 04 89              refused LengthTooLarge 9
+//
+// `read` is answered by the blocks in the notation of `asn1_text`, `count` by the number of headers that were begun, and
+// whether the octets were read, `rewrite` by the canonical octets. A call that refuses its octets is answered by
+// `refused`, the name of the fault, and after a space what the fault holds: its number in decimal, or its characters as
+// in the notation. A line that is anything else is answered by `badline`.
+ghost use Rattle.std.specs.Prelude.{◌≡◌, ◌++◌, ◌∷◌, ℕ, List, IfOk, OnOk, string_bytes, if◌then◌else◌};
+ghost use Rattle.asn1_calls.specs.Answers.{AreAnswers, IsAnswer, is_comment};
+
+use crate::calls::Call;
+use crate::lines::{is_comment_line, split_line, split_name, without_comment};
+use asn1_text::octets_of;
+use std::alloc::{AllocError, Global};
+
+// The answers to the lines of the input.
+pub fn answers(alloc: Global, input: &[u8]) -> Result<Vec<u8>, AllocError>
+    ensures { IfOk result (λ output. AreAnswers input.now output.items) }
+{
+    let mut output = Vec::new(alloc);
+    let mut rest = input;
+    while !rest.is_empty() {
+        let (line, after) = split_line(rest);
+        if !is_comment_line(line) {
+            output.extend_from_slice(answer(alloc, line)?.as_bytes())?;
+            output.push(b'\n')?;
+        }
+        rest = after;
+    }
+    Ok(output)
+}
+
+// The answer to a line that is no comment.
+fn answer(alloc: Global, line: &[u8]) -> Result<String, AllocError>
+    ensures { IfOk result (λ text. IsAnswer line.now (string_bytes text)) }
+{
+    if line.is_empty() {
+        return Ok(String::new(alloc));
+    }
+    let text = without_comment(line);
+    if text.is_empty() {
+        return Ok(String::new(alloc));
+    }
+    let (name, digits) = split_name(text);
+    match (Call::named(name), octets_of(alloc, digits)?) {
+        (Some(call), Some(octets)) => call.answer(alloc, &octets),
+        _ => String::from_str(alloc, "badline"),
+    }
+}

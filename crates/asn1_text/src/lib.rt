@@ -1,0 +1,41 @@
+//! The notation of blocks and of octets, in which the rows of tests and the answers of `asn1_calls` are written.
+//!
+//! It says each field of a block whole, offsets too: two lists of blocks are written the same exactly if they are the
+//! same blocks at the same offsets.
+//!
+//! **Octets** are pairs of hex digits in capitals, with a space between two pairs: `02 01 FF`. Of none nothing is
+//! written. In a block they stand in brackets: `[02 01 FF]`, `[]`.
+//!
+//! **Characters** are `U+` and their number in hex, in capitals and with at least four digits, with a space between two
+//! of them, and in brackets: `[U+00E9 U+1F600]`, `[]`.
+//!
+//! **Numbers.** Offsets and counts of bits are decimal. So is an integer that an `i64` holds, with `-` where it is below
+//! 0; any other is its shortest two's complement octets (X.690 8.3), in brackets: 2^64 is
+//! `[01 00 00 00 00 00 00 00 00]`. A tag number that a `u64` holds is decimal; any other is the octets of its shortest
+//! base-128 form (X.690 8.1.2.4.2), in brackets: 2^64 is `[82 80 80 80 80 80 80 80 80 00]`.
+//!
+//! **Blocks** are the name of their variant and its fields, with `, ` between two fields, in parentheses:
+//!
+//! | Block | Written |
+//! |---|---|
+//! | BOOLEAN | `Boolean(OFFSET, true)`, `Boolean(OFFSET, false)` |
+//! | INTEGER | `Integer(OFFSET, NUMBER)` |
+//! | BIT STRING | `BitString(OFFSET, BITS, [OCTETS])` |
+//! | OCTET STRING | `OctetString(OFFSET, [OCTETS])` |
+//! | NULL | `Null(OFFSET)` |
+//! | the six strings of characters | `UTF8String(OFFSET, [CHARACTERS])`, and so `PrintableString`, `TeletexString`, `IA5String`, `UniversalString`, `BMPString` |
+//! | SEQUENCE, SET | `Sequence(OFFSET, [BLOCKS])`, `Set(OFFSET, [BLOCKS])` |
+//! | explicit tagging | `Explicit(CLASS, OFFSET, TAG, BLOCK)` |
+//! | any other encoding | `Unknown(CLASS, CONSTRUCTED, OFFSET, TAG, [OCTETS])`, `CONSTRUCTED` being `true` or `false` |
+//!
+//! A class is `Universal`, `Application`, `CS` (for `ContextSpecific`) or `Private`. Between two blocks of a list stands
+//! `, `: `Sequence(0, [Integer(2, 5), Null(5)])`. A document is written as the list of its blocks, without brackets.
+#![tactic(auto)]
+
+mod blocks;
+mod octets;
+mod scalars;
+
+pub use crate::blocks::blocks_text;
+pub use crate::octets::{octets_of, octets_text};
+pub use crate::scalars::characters_text;
