@@ -3,7 +3,9 @@
 // A type names what it reads and writes by ghost members, relations over the trees of blocks. The calls here are proved once, for
 // all types, by these relations alone.
 ghost use Rattle.std.specs.Prelude.{◌≡◌, ℕ, List, Result, Ok, Err, MatchResult, IfOk, IfErr};
-ghost use Rattle.simple_asn1.specs.Conversions.{Decodes, DecodeFails, Encodes, EncodeFails};
+ghost use Rattle.simple_asn1.specs.Conversions.{ComeBack, Decodes, DecodeFails, Encodes, EncodeFails, OwnDecodeFault, OwnEncodeFault, TripFails};
+ghost use Rattle.simple_asn1.specs.Canonical.{all_canonical};
+ghost use Rattle.simple_asn1.specs.Faithful.{AreFaithful};
 ghost use Rattle.simple_asn1.specs.Tree.{Trees, no_trees, shapes};
 ghost use Rattle.simple_asn1.specs.View.{views};
 ghost use Rattle.simple_asn1.specs.declared.header.ASN1Class.{ASN1Class};
@@ -142,5 +144,44 @@ pub fn der_encode<T: ToASN1>(alloc: Global, v: &T) -> Result<Vec<u8>, T::Error>
     match write_all(alloc, &blocks) {
         Ok(octets) => Ok(octets),
         Err(e) => Err(T::Error::from(e)),
+    }
+}
+
+/// Which half of [`round_trip`] failed, and why.
+#[derive(Debug, Drop, PartialEq)]
+pub enum TripFault<E, D> {
+    /// The value was not written.
+    Encode(E),
+    /// What was written was not read again.
+    Decode(D),
+}
+
+/// Writes the value as [`der_encode`] does, and reads the octets as [`der_decode`] does. Where the value has trees and each
+/// is faithful, what is read is the value.
+///
+/// # Errors
+/// `Encode` with an error of [`der_encode`], `Decode` with one of [`der_decode`]. Where the value has trees and each is
+/// faithful, they are those of the type, or memory ran out.
+pub fn round_trip<T: RoundTrip>(
+    alloc: Global,
+    x: &T,
+) -> Result<T, TripFault<<T as ToASN1>::Error, <T as FromASN1>::Error>>
+    ensures decoded { IfOk result (Decodes T.reads (all_canonical (T.trees_of x.now))) }
+    ensures same { AreFaithful (T.trees_of x.now) → IfOk result (λ y. y ≡ x.now) }
+    ensures refused { IfErr result (TripFails
+        (EncodeFails (T.writes x.now Universal) ⟦<<T as ToASN1>::Error as From<ASN1EncodeErr>>⟧.from_gives)
+        (DecodeFails T.reads ⟦<<T as FromASN1>::Error as From<ASN1DecodeErr>>⟧.from_gives
+            (all_canonical (T.trees_of x.now)))) }
+    ensures own { ComeBack (T.trees_of x.now) → IfErr result (TripFails
+        (OwnEncodeFault (T.writes x.now Universal) ⟦<<T as ToASN1>::Error as From<ASN1EncodeErr>>⟧.from_gives)
+        (OwnDecodeFault T.reads ⟦<<T as FromASN1>::Error as From<ASN1DecodeErr>>⟧.from_gives (T.trees_of x.now))) }
+{
+    let octets = match der_encode(alloc, x) {
+        Ok(octets) => octets,
+        Err(e) => return Err(TripFault::Encode(e)),
+    };
+    match der_decode::<T>(alloc, &octets) {
+        Ok(y) => Ok(y),
+        Err(e) => Err(TripFault::Decode(e)),
     }
 }
