@@ -29,9 +29,9 @@ mutual
 document_of : (ss : Trees (Unit {0})) → ComeBack ss → length (all_canonical ss) < 2 ^ 64 → Document (all_canonical ss) (all_placed 0 ss)
 document_of no_trees k small = absurd (k.0 refl)
 document_of (more_trees b bs) k small = record {
-    some = omega (arith, canonical_some b, length-append (canonical b) (all_canonical bs));
-    blocks = all_canonical_encodes 0 (more_trees b bs) small k.1
-  }
+  some = omega (arith, canonical_some b, length-append (canonical b) (all_canonical bs));
+  blocks = all_canonical_encodes 0 (more_trees b bs) small k.1;
+}
 
 -- and of no others
 read_shapes : (ss : Trees (Unit {0})) (bs : Trees ℕ) → AreFaithful ss → length (all_canonical ss) < 2 ^ 64 → Document (all_canonical ss) bs → shapes bs ≡ ss

@@ -10,7 +10,9 @@ pub one_point : (p q : Point) → point_tree p ≡ point_tree q → p ≡ q
 one_point p q e =
     let x : p.x ≡ q.x = cc in
     let y : p.y ≡ q.y = cc in
-    cc
+    let with_x : ℤ → Point = λ z. record { x = z; y = p.y } in
+    let with_y : ℤ → Point = λ z. record { x = q.x; y = z } in
+    ap with_x x ∙ ap with_y y
 
 pub point_read_back : (x y : Point) (bs rest : Trees ℕ) → shapes bs ≡ point_trees x → BeginsWithPoint bs y rest → (y ≡ x) × (rest ≡ no_trees)
 point_read_back x y no_trees rest e r = absurd r

@@ -171,7 +171,7 @@ pub fn round_trip<T: RoundTrip>(
     ensures refused { IfErr result (TripFails
         (EncodeFails (T.writes x.now Universal) ⟦<<T as ToASN1>::Error as From<ASN1EncodeErr>>⟧.from_gives)
         (DecodeFails T.reads ⟦<<T as FromASN1>::Error as From<ASN1DecodeErr>>⟧.from_gives
-            (all_canonical (T.trees_of x.now)))) }
+        (all_canonical (T.trees_of x.now)))) }
     ensures own { ComeBack (T.trees_of x.now) → IfErr result (TripFails
         (OwnEncodeFault (T.writes x.now Universal) ⟦<<T as ToASN1>::Error as From<ASN1EncodeErr>>⟧.from_gives)
         (OwnDecodeFault T.reads ⟦<<T as FromASN1>::Error as From<ASN1DecodeErr>>⟧.from_gives (T.trees_of x.now))) }

@@ -21,7 +21,7 @@ returns-in-Ok-der_decode-clause-same g c f =
     let e = trip_octets (g.T.ToASN1.writes x Universal) (g.T.RoundTrip.trees_of x) (g.met.T.RoundTrip.written x) c.in-Ok.octets.items c.in-Ok.ensures.encoded in
     let small : length c.in-Ok.octets.items < 2 ^ 64 = omega (arith, c.in-Ok.octets.small, c.in-Ok.octets.ok.0, c.in-Ok.octets.ok.1) in
     trip_same g.T.FromASN1.reads x (g.T.RoundTrip.trees_of x) (subst (λ z. length z < 2 ^ 64) e small) (g.met.T.RoundTrip.read_back x) c.in-Ok-der_decode.y f
-      (subst (λ z. Decodes g.T.FromASN1.reads z c.in-Ok-der_decode.y) (c.deref.ensures.value ∙ e) c.in-Ok-der_decode.ensures.decoded)
+    (subst (λ z. Decodes g.T.FromASN1.reads z c.in-Ok-der_decode.y) (c.deref.ensures.value ∙ e) c.in-Ok-der_decode.ensures.decoded)
 
 pub returns-clause-refused : goal.returns-clause-refused
 returns-clause-refused g c =
@@ -35,4 +35,4 @@ returns-clause-own g c k =
     let e = trip_octets (g.T.ToASN1.writes x Universal) (g.T.RoundTrip.trees_of x) (g.met.T.RoundTrip.written x) c.in-Ok.octets.items c.in-Ok.ensures.encoded in
     let small : length c.in-Ok.octets.items < 2 ^ 64 = omega (arith, c.in-Ok.octets.small, c.in-Ok.octets.ok.0, c.in-Ok.octets.ok.1) in
     trip_decode g.T.FromASN1.reads x (g.T.RoundTrip.trees_of x) (subst (λ z. length z < 2 ^ 64) e small) g.T.Error.From-1.from_gives c.in-Err-der_decode.e k
-      (subst (λ z. DecodeFails g.T.FromASN1.reads g.T.Error.From-1.from_gives z c.in-Err-der_decode.e) (c.deref.ensures.value ∙ e) c.in-Err-der_decode.ensures.refused)
+    (subst (λ z. DecodeFails g.T.FromASN1.reads g.T.Error.From-1.from_gives z c.in-Err-der_decode.e) (c.deref.ensures.value ∙ e) c.in-Err-der_decode.ensures.refused)
