@@ -1,0 +1,15 @@
+-- What has no two items is no point.
+use Rattle.std.proofs.Common.{◌≡◌, ◌≢◌, ℕ, List, [], ◌∷◌, length, refl, sym, ◌∙◌}
+use Rattle.simple_asn1.specs.declared.block.ASN1Block.{ASN1Block}
+use Rattle.simple_asn1.specs.declared.block.GroupKind.TheVariants.{Sequence}
+use Rattle.simple_asn1.specs.declared.convert.point.Point.{Point}
+use Rattle.simple_asn1.specs.PointTrees.{point_tree}
+use Rattle.simple_asn1.specs.Tree.{Tree, group, shape, shapes}
+use Rattle.simple_asn1.specs.View.{view, views}
+
+pub no_point : (t : Tree ℕ) (p : Point) (items : List ASN1Block) → length items ≢ 2 →
+    shape t ≡ group tt Sequence (shapes (views items)) → shape t ≢ point_tree p
+no_point t p [] h e f = let g = sym e ∙ f in cc
+no_point t p (a ∷ []) h e f = let g = sym e ∙ f in cc
+no_point t p (a ∷ b ∷ []) h e f = h refl
+no_point t p (a ∷ b ∷ c ∷ items) h e f = let g = sym e ∙ f in cc

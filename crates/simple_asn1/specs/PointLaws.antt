@@ -1,0 +1,22 @@
+-- A point is read back from its trees.
+use Rattle.std.specs.Prelude.{◌≡◌, ℕ, ℤ}
+use Rattle.std.proofs.Common.{sym, ap, ◌∙◌, refl}
+use Rattle.simple_asn1.specs.declared.convert.point.Point.{Point}
+use Rattle.simple_asn1.specs.Tree.{Leaf, Tree, Trees, leaf, group, explicit, unknown, boolean, integer, bit_string, octet_string, null, text, no_trees, more_trees, shape, shapes}
+use Rattle.simple_asn1.specs.PointTrees.{point_tree, point_trees, BeginsWithPoint}
+
+-- one tree, one point
+pub one_point : (p q : Point) → point_tree p ≡ point_tree q → p ≡ q
+one_point p q e =
+    let x : p.x ≡ q.x = cc in
+    let y : p.y ≡ q.y = cc in
+    let with_x : ℤ → Point = λ z. record { x = z; y = p.y } in
+    let with_y : ℤ → Point = λ z. record { x = q.x; y = z } in
+    ap with_x x ∙ ap with_y y
+
+pub point_read_back : (x y : Point) (bs rest : Trees ℕ) → shapes bs ≡ point_trees x → BeginsWithPoint bs y rest → (y ≡ x) × (rest ≡ no_trees)
+point_read_back x y no_trees rest e r = absurd r
+point_read_back x y (more_trees b no_trees) rest e r =
+    let f : shape b ≡ point_tree x = cc in
+    (one_point y x (sym r.0 ∙ f), r.3)
+point_read_back x y (more_trees b (more_trees c cs)) rest e r = cc

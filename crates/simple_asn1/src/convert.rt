@@ -1,0 +1,190 @@
+// Types of one's own, read from blocks and written as blocks.
+//
+// A type names what it reads and writes by ghost members, relations over the trees of blocks. The calls here are proved once, for
+// all types, by these relations alone.
+ghost use Rattle.std.specs.Prelude.{◌≡◌, ℕ, List, Result, Ok, Err, MatchResult, IfOk, IfErr};
+ghost use Rattle.simple_asn1.specs.Conversions.{ComeBack, Decodes, DecodeFails, Encodes, EncodeFails, OwnDecodeFault, OwnEncodeFault, TripFails};
+ghost use Rattle.simple_asn1.specs.Canonical.{all_canonical};
+ghost use Rattle.simple_asn1.specs.Faithful.{AreFaithful};
+ghost use Rattle.simple_asn1.specs.Tree.{Trees, no_trees, shapes};
+ghost use Rattle.simple_asn1.specs.View.{views};
+ghost use Rattle.simple_asn1.specs.declared.header.ASN1Class.{ASN1Class};
+ghost use Rattle.simple_asn1.specs.declared.header.ASN1Class.TheVariants.{Universal};
+
+pub mod point;
+
+use crate::block::ASN1Block;
+use crate::block::discard::discard;
+use crate::document::Document;
+use crate::error::{ASN1DecodeErr, ASN1EncodeErr};
+use crate::header::ASN1Class;
+use crate::write::write_all;
+use std::alloc::Global;
+
+/// A type that is read from the blocks of a document and from the document's own octets, as the place of a signature's
+/// content wants them. A type that has no use for the octets implements [`FromASN1`] instead.
+pub trait FromASN1WithBody: Sized {
+    /// Why blocks are not read, or why octets are no document.
+    type Error: From<ASN1DecodeErr>;
+
+    /// What is read of trees and octets: a value with the trees after it, or an error.
+    ghost reads_with: { Trees ℕ → List ℕ → Result (Self × Trees ℕ) Self.Error → Type 0 };
+
+    /// Reads a value from the first of the blocks `v`, whose document is `b`, and gives it with the blocks after those that
+    /// it has taken.
+    fn from_asn1_with_body<'a>(
+        alloc: Global,
+        v: &'a [ASN1Block],
+        b: &[u8],
+    ) -> Result<(Self, &'a [ASN1Block]), Self::Error>
+        ensures { MatchResult result
+            (λ x. reads_with (views v.now) b.now (Ok (x.0, views x.1.now)))
+            (λ e. reads_with (views v.now) b.now (Err e)) };
+}
+
+/// A type that is read from blocks.
+pub trait FromASN1: Sized {
+    /// Why blocks are not read, or why octets are no document.
+    type Error: From<ASN1DecodeErr>;
+
+    /// What is read of trees: a value with the trees after it, or an error.
+    ghost reads: { Trees ℕ → Result (Self × Trees ℕ) Self.Error → Type 0 };
+
+    /// Reads a value from the first of the blocks, and gives it with the blocks after those that it has taken.
+    fn from_asn1<'a>(
+        alloc: Global,
+        v: &'a [ASN1Block],
+    ) -> Result<(Self, &'a [ASN1Block]), Self::Error>
+        ensures { MatchResult result
+            (λ x. reads (views v.now) (Ok (x.0, views x.1.now)))
+            (λ e. reads (views v.now) (Err e)) };
+}
+
+/// What is read from blocks is read from blocks and octets, whatever these are.
+impl<T: FromASN1> FromASN1WithBody for T {
+    type Error = <T as FromASN1>::Error;
+
+    ghost reads_with = { λ bs octets r. T.reads bs r };
+
+    fn from_asn1_with_body<'a>(
+        alloc: Global,
+        v: &'a [ASN1Block],
+        _b: &[u8],
+    ) -> Result<(T, &'a [ASN1Block]), <T as FromASN1>::Error> {
+        T::from_asn1(alloc, v)
+    }
+}
+
+/// A type that is written as blocks.
+pub trait ToASN1 {
+    /// Why a value has no blocks, or why blocks can't be written.
+    type Error: From<ASN1EncodeErr>;
+
+    /// What is written of a value where this class is asked for: trees, or an error.
+    ghost writes: { Self → ASN1Class → Result (Trees ℕ) Self.Error → Type 0 };
+
+    /// The blocks of the value. The class asked for is Universal.
+    fn to_asn1(&self, alloc: Global) -> Result<Vec<ASN1Block>, Self::Error>
+        ensures { MatchResult result
+            (λ v. writes self.now Universal (Ok (views v.items)))
+            (λ e. writes self.now Universal (Err e)) }
+    {
+        self.to_asn1_class(alloc, ASN1Class::Universal)
+    }
+
+    /// The blocks of the value, where `c` is the class of those that the value itself doesn't settle.
+    fn to_asn1_class(&self, alloc: Global, c: ASN1Class) -> Result<Vec<ASN1Block>, Self::Error>
+        ensures { MatchResult result
+            (λ v. writes self.now c (Ok (views v.items)))
+            (λ e. writes self.now c (Err e)) };
+}
+
+/// A type that is written as blocks from which the same value is read.
+pub trait RoundTrip: FromASN1 + ToASN1 {
+    /// The trees of a value, without offsets.
+    ghost trees_of: { Self → Trees (Unit {0}) };
+
+    /// What is written are these trees.
+    ghost written: { (x : Self) (bs : Trees ℕ) → Self.writes x Universal (Ok bs) → shapes bs ≡ trees_of x };
+
+    /// What is read of these trees is the value, and no tree is left.
+    ghost read_back: { (x y : Self) (bs rest : Trees ℕ) →
+        shapes bs ≡ trees_of x → Self.reads bs (Ok (y, rest)) → (y ≡ x) × (rest ≡ no_trees) };
+}
+
+/// Reads a document as [`from_der`](crate::from_der) does, and a value from its blocks. Blocks that the type leaves over are ignored.
+///
+/// # Errors
+/// Those of [`from_der`](crate::from_der), by `From`; those of the type.
+pub fn der_decode<T: FromASN1WithBody>(alloc: Global, v: &[u8]) -> Result<T, T::Error>
+    ensures decoded { IfOk result (Decodes (λ bs r. T.reads_with bs v.now r) v.now) }
+    ensures refused { IfErr result (DecodeFails (λ bs r. T.reads_with bs v.now r) T.Error.from_gives v.now) }
+{
+    let document = match Document::from_der(alloc, v) {
+        Ok(document) => document,
+        Err(e) => return Err(T::Error::from(e)),
+    };
+    match T::from_asn1_with_body(alloc, document.blocks(), v) {
+        Ok((x, _)) => Ok(x),
+        Err(e) => Err(e),
+    }
+}
+
+/// The canonical octets of the value's blocks, joined.
+///
+/// # Errors
+/// Those of the type; the first fault of writing its blocks, or `OutOfMemory`, by `From`.
+pub fn der_encode<T: ToASN1>(alloc: Global, v: &T) -> Result<Vec<u8>, T::Error>
+    ensures encoded { IfOk result (λ octets. Encodes (T.writes v.now Universal) octets.items) }
+    ensures refused { IfErr result (EncodeFails (T.writes v.now Universal) T.Error.from_gives) }
+{
+    let blocks = match v.to_asn1(alloc) {
+        Ok(blocks) => blocks,
+        Err(e) => return Err(e),
+    };
+    let written = write_all(alloc, &blocks);
+    discard(blocks);
+    match written {
+        Ok(octets) => Ok(octets),
+        Err(e) => Err(T::Error::from(e)),
+    }
+}
+
+/// Which half of [`round_trip`] failed, and why.
+#[derive(Debug, Drop, PartialEq)]
+pub enum TripFault<E, D> {
+    /// The value was not written.
+    Encode(E),
+    /// What was written was not read again.
+    Decode(D),
+}
+
+/// Writes the value as [`der_encode`] does, and reads the octets as [`der_decode`] does. Where the value has trees and each
+/// is faithful, what is read is the value.
+///
+/// # Errors
+/// `Encode` with an error of [`der_encode`], `Decode` with one of [`der_decode`]. Where the value has trees and each is
+/// faithful, they are those of the type, or memory ran out.
+pub fn round_trip<T: RoundTrip>(
+    alloc: Global,
+    x: &T,
+) -> Result<T, TripFault<<T as ToASN1>::Error, <T as FromASN1>::Error>>
+    ensures decoded { IfOk result (Decodes T.reads (all_canonical (T.trees_of x.now))) }
+    ensures same { AreFaithful (T.trees_of x.now) → IfOk result (λ y. y ≡ x.now) }
+    ensures refused { IfErr result (TripFails
+        (EncodeFails (T.writes x.now Universal) ⟦<<T as ToASN1>::Error as From<ASN1EncodeErr>>⟧.from_gives)
+        (DecodeFails T.reads ⟦<<T as FromASN1>::Error as From<ASN1DecodeErr>>⟧.from_gives
+        (all_canonical (T.trees_of x.now)))) }
+    ensures own { ComeBack (T.trees_of x.now) → IfErr result (TripFails
+        (OwnEncodeFault (T.writes x.now Universal) ⟦<<T as ToASN1>::Error as From<ASN1EncodeErr>>⟧.from_gives)
+        (OwnDecodeFault T.reads ⟦<<T as FromASN1>::Error as From<ASN1DecodeErr>>⟧.from_gives (T.trees_of x.now))) }
+{
+    let octets = match der_encode(alloc, x) {
+        Ok(octets) => octets,
+        Err(e) => return Err(TripFault::Encode(e)),
+    };
+    match der_decode::<T>(alloc, &octets) {
+        Ok(y) => Ok(y),
+        Err(e) => Err(TripFault::Decode(e)),
+    }
+}
