@@ -13,9 +13,7 @@ pub(crate) trait Sink {
 
     ghost none: { (a : Self) → puts a [] a };
 
-    ghost more: {
-        (a b c : Self) (xs ys : List ℕ) → puts a xs b → puts b ys c → puts a (xs ++ ys) c
-    };
+    ghost more: { (a b c : Self) (xs ys : List ℕ) → puts a xs b → puts b ys c → puts a (xs ++ ys) c };
 
     ghost room_after: { (a b : Self) (xs : List ℕ) → puts a xs b → room a ≤ room b + length xs };
 
@@ -31,7 +29,11 @@ pub(crate) trait Sink {
 // At its end, without growing.
 impl Sink for Vec<u8> {
     ghost use Rattle.simple_asn1.specs.Sinks.{
-        vec_puts, vec_room, vec_puts_none, vec_puts_more, vec_room_after
+      vec_puts,
+      vec_room,
+      vec_puts_none,
+      vec_puts_more,
+      vec_room_after,
     };
 
     ghost room = { vec_room };
@@ -63,7 +65,11 @@ pub(crate) struct Comparison<'a> {
 
 impl<'a> Sink for Comparison<'a> {
     ghost use Rattle.simple_asn1.specs.Comparisons.{
-        compared, left, compared_none, compared_more, left_after
+      compared,
+      left,
+      compared_none,
+      compared_more,
+      left_after,
     };
 
     ghost room = { left };
