@@ -2,7 +2,8 @@
 ghost use Rattle.std.specs.Prelude.{◌≡◌, ◌⊎◌, ℕ, Ok, Err, MatchResult};
 ghost use Rattle.simple_asn1.specs.Tree.{Trees, no_trees, shapes};
 
-use crate::notation::{hex_of, octets};
+use asn1_text::octets_text;
+use crate::helpers::octets;
 use simple_asn1::{
     ASN1Block, ASN1Class, ASN1DecodeErr, ASN1EncodeErr, FromASN1, Point, PointErr, RoundTrip,
     ToASN1, TripFault, der_decode, der_encode, round_trip,
@@ -126,7 +127,7 @@ fn a_point_is_written_as_two_integers(rt: HostRuntime) -> Result<(), Fail> {
     match der_encode(rt.alloc(), &Point { x: 1, y: -1 }) {
         Ok(octets) => {
             assert_eq!(rt;
-                hex_of(rt.alloc(), &octets)?.as_str(),
+                octets_text(rt.alloc(), &octets)?.as_str(),
                 "30 06 02 01 01 02 01 FF"
             );
         }

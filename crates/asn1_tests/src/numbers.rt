@@ -157,3 +157,129 @@ fn whole_numbers_pass_64_bits(rt: HostRuntime) -> Result<(), Fail> {
     }
     Ok(())
 }
+
+// The number as each of the types, none or the number itself.
+fn check_types(rt: &impl Abort, number: &BigUint, n: u128) -> Result<(), Fail> {
+    assert_eq!(rt; number.to_u16(), u16::try_from(n).ok(), "{n} as a u16");
+    assert_eq!(rt; number.to_u32(), u32::try_from(n).ok(), "{n} as a u32");
+    assert_eq!(rt;
+        number.to_usize(),
+        usize::try_from(n).ok(),
+        "{n} as a usize"
+    );
+    assert_eq!(rt; number.to_u128(), Some(n), "{n} as a u128");
+    Ok(())
+}
+
+#[test]
+fn natural_numbers_are_of_types(rt: HostRuntime) -> Result<(), Fail> {
+    for n in [
+        0,
+        65535,
+        65536,
+        4294967295,
+        4294967296,
+        18446744073709551615,
+        18446744073709551616,
+        340282366920938463463374607431768211455,
+    ] {
+        check_types(&rt, &BigUint::from_u128(rt.alloc(), n)?, n)?;
+    }
+    Ok(())
+}
+
+#[test]
+fn natural_numbers_pass_128_bits(rt: HostRuntime) -> Result<(), Fail> {
+    // The numbers are 2^128 and 2^128 - 1.
+    let alloc = rt.alloc();
+    let past = octets(
+        alloc,
+        "84 80 80 80 80 80 80 80 80 80 80 80 80 80 80 80 80 80 00",
+    )?;
+    let past = decode_base127(alloc, &past, &mut 0)?;
+    assert_eq!(&rt; past.to_u128(), None);
+    let greatest = BigUint::from_u128(alloc, 340282366920938463463374607431768211455)?;
+    assert!(&rt; greatest < past);
+    let written = encode_base127(alloc, &greatest)?;
+    assert_eq!(&rt;
+        hex_of(alloc, &written)?.as_str(),
+        "83 FF FF FF FF FF FF FF FF FF FF FF FF FF FF FF FF FF 7F"
+    );
+    Ok(())
+}
+
+fn check_order(rt: &impl Abort, alloc: Global, less: u128, more: u128) -> Result<(), Fail> {
+    let less = BigUint::from_u128(alloc, less)?;
+    let more = BigUint::from_u128(alloc, more)?;
+    assert!(rt; less < more);
+    assert!(rt; !(more < less));
+    assert!(rt; !(less < less));
+    Ok(())
+}
+
+#[test]
+fn natural_numbers_are_ordered(rt: HostRuntime) -> Result<(), Fail> {
+    for (less, more) in [
+        (0, 1),
+        (18446744073709551615, 18446744073709551616),
+        (18446744073709551616, 18446744073709551617),
+        // 128^10 - 1 and 128^10: ten digits 127, and eleven of which the first alone is not 0.
+        (1180591620717411303423, 1180591620717411303424),
+    ] {
+        check_order(&rt, rt.alloc(), less, more)?;
+    }
+    Ok(())
+}
+
+fn check_wide(
+    rt: &impl Abort,
+    number: &BigInt,
+    as_u64: Option<u64>,
+    as_i128: Option<i128>,
+    as_u128: Option<u128>,
+) -> Result<(), Fail> {
+    assert_eq!(rt; number.to_u64(), as_u64);
+    assert_eq!(rt; number.to_i128(), as_i128);
+    assert_eq!(rt; number.to_u128(), as_u128);
+    Ok(())
+}
+
+#[test]
+fn whole_numbers_are_of_types(rt: HostRuntime) -> Result<(), Fail> {
+    let alloc = rt.alloc();
+    let number = BigInt::from_i64(alloc, -1)?;
+    check_wide(&rt, &number, None, Some(-1), None)?;
+    assert_eq!(&rt; number.to_i64(), Some(-1));
+    let number = BigInt::from_u64(alloc, 18446744073709551615)?;
+    let n = 18446744073709551615;
+    check_wide(&rt, &number, Some(n), Some(n as i128), Some(n as u128))?;
+    assert_eq!(&rt; number.to_i64(), None);
+    Ok(())
+}
+
+#[test]
+fn whole_numbers_are_of_128_bits(rt: HostRuntime) -> Result<(), Fail> {
+    let alloc = rt.alloc();
+    let n = 170141183460469231731687303715884105728;
+    let number = BigInt::from_u128(alloc, n)?;
+    check_wide(&rt, &number, None, None, Some(n))?;
+    let written = number.to_signed_bytes_be(alloc)?;
+    assert_eq!(&rt;
+        hex_of(alloc, &written)?.as_str(),
+        "00 80 00 00 00 00 00 00 00 00 00 00 00 00 00 00 00"
+    );
+    let least = BigInt::from_i128(alloc, i128::MIN)?;
+    check_wide(&rt, &least, None, Some(i128::MIN), None)?;
+    Ok(())
+}
+
+#[test]
+fn whole_numbers_of_65_bits_have_nine_octets(rt: HostRuntime) -> Result<(), Fail> {
+    let alloc = rt.alloc();
+    let written = BigInt::from_u128(alloc, 18446744073709551616)?.to_signed_bytes_be(alloc)?;
+    assert_eq!(&rt;
+        hex_of(alloc, &written)?.as_str(),
+        "01 00 00 00 00 00 00 00 00"
+    );
+    Ok(())
+}

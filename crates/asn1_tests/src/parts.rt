@@ -1,5 +1,6 @@
 // The octets of single blocks of a document.
-use crate::notation::{hex_of, octets};
+use asn1_text::octets_text;
+use crate::helpers::octets;
 use simple_asn1::encoding_at;
 use std::alloc::Global;
 use std::process::Abort;
@@ -15,7 +16,7 @@ fn check_encoding(
 ) -> Result<(), Fail> {
     let document = octets(alloc, document)?;
     let text = match encoding_at(&document, offset) {
-        Some(octets) => hex_of(alloc, octets)?,
+        Some(octets) => octets_text(alloc, octets)?,
         None => String::from_str(alloc, "-")?,
     };
     assert_eq!(rt; text.as_str(), found, "at {offset}");

@@ -24,13 +24,13 @@ missing_at has (n ∷ ns) zero h p = inl p
 missing_at has (n ∷ ns) (suc i) h p = inr (missing_at has ns i (omega (arith, h)) p)
 
 -- the values with that of the item at a place
-pub numbers_pushed : {T : Type 0} (has : ℕ → Type 0) (is_number : T → ℕ → Type 0) (xs ys : List T) (ns : List ℕ) (i n : ℕ) (x : T) → i < length ns → n ≡ get_or ns i n
-    → AreNumbers has is_number xs (take i ns) → has n → is_number x n → ys ≡ xs ++ x ∷ [] → AreNumbers has is_number ys (take (i + 1) ns)
+pub numbers_pushed : {T : Type 0} (has : ℕ → Type 0) (is_number : T → ℕ → Type 0) (xs ys : List T) (ns : List ℕ) (i n : ℕ) (x : T)
+    → i < length ns → n ≡ get_or ns i n → AreNumbers has is_number xs (take i ns) → has n → is_number x n → ys ≡ xs ++ x ∷ [] → AreNumbers has is_number ys (take (i + 1) ns)
 numbers_pushed {T} has is_number xs ys ns i n x h at p f g e =
     let there : n ≡ get_or ns i 0 = item_at ns i n h at in
     let next : suc i ≡ i + 1 = omega arith in
     let more : AreNumbers has is_number (xs ++ x ∷ []) (take (suc i) ns) =
-        numbers_more has is_number xs ns i x h p (subst has there f) (subst (is_number x) there g) in
+    numbers_more has is_number xs ns i x h p (subst has there f) (subst (is_number x) there g) in
     subst (λ (zs : List T). AreNumbers has is_number zs (take (i + 1) ns)) (sym e)
     (subst (λ (k : ℕ). AreNumbers has is_number (xs ++ x ∷ []) (take k ns)) next more)
 

@@ -1,12 +1,11 @@
 -- Subidentifiers, one after another.
-use Rattle.std.proofs.Common.{◌≡◌, ℕ, zero, suc, ◌+◌, ◌<◌, ◌≤◌, ◌⊎◌, inl, inr, List, [], ◌∷◌, ◌++◌, length, take, drop, refl, sym, ap, ◌∙◌, subst, arith, length-append, append_assoc, append-nil}
+use Rattle.std.proofs.Common.{◌≡◌, ℕ, ◌<◌, ◌≤◌, ◌⊎◌, inl, inr, List, [], ◌∷◌, ◌++◌, length, take, refl, sym, ap, ◌∙◌, subst, arith, length-append, append_assoc, append-nil}
 use Rattle.std.specs.List.{flat_map}
 use Rattle.std.proofs.lemmas.Bool.{cases_lt}
 use Rattle.std.proofs.lemmas.List.{take_at}
-use Rattle.simple_asn1.specs.declared.error.ASN1DecodeErr.{ASN1DecodeErr}
 use Rattle.simple_asn1.specs.Base128.{IsBase128, IsContinued, low_bits_number, shortest_base128}
 use Rattle.simple_asn1.specs.Contents.ObjectIdentifier.{Subidentifiers}
-use Rattle.simple_asn1.specs.Fault.{DecodeFault, OutOfMemoryOr, incomplete}
+use Rattle.simple_asn1.specs.Fault.{DecodeFault, incomplete}
 use Rattle.simple_asn1.specs.Header.{BeginsWithNo, IsIncomplete}
 use Rattle.simple_asn1.proofs.Prefixes.{continued_alone}
 use Rattle.simple_asn1.proofs.Shortest.{shortest_base128_is}
@@ -18,7 +17,8 @@ subidentifiers_more (m ∷ ms) octets last n s t =
     (s.0, s.1 ++ last, ap (λ z. z ++ last) s.2 ∙ append_assoc s.0 s.1 last, s.3, subidentifiers_more ms s.1 last n s.4 t)
 
 -- where octets after the first subidentifier are none, neither are all of them
-pub none_after : (first rest : List ℕ) (n : ℕ) → IsBase128 first n → ((ns : List ℕ) → Subidentifiers ns rest → ⊥) → (octets : List ℕ) → octets ≡ first ++ rest → (ns : List ℕ) → Subidentifiers ns octets → ⊥
+pub none_after : (first rest : List ℕ) (n : ℕ) → IsBase128 first n
+    → ((ns : List ℕ) → Subidentifiers ns rest → ⊥) → (octets : List ℕ) → octets ≡ first ++ rest → (ns : List ℕ) → Subidentifiers ns octets → ⊥
 none_after [] rest n t none octets e ns s = t.continued
 none_after (a ∷ first) rest n t none octets e [] s = absurd (omega (arith, ap length (sym s ∙ e)))
 none_after (a ∷ first) rest n t none octets e (m ∷ ms) s =
@@ -32,7 +32,8 @@ none_first octets some missing (m ∷ ms) s =
     missing m (length s.0) (subst (λ z. IsBase128 z m) (sym (ap (λ z. take (length s.0) z) s.2 ∙ take_at s.0 s.1 (length s.0) refl)) s.3)
 
 -- a fault of the first is one of all
-pub first_fault : (octets : List ℕ) (e : DecodeFault) → 0 < length octets → IsIncomplete IsBase128 octets e → (e ≡ incomplete) × ((ns : List ℕ) → Subidentifiers ns octets → ⊥)
+pub first_fault : (octets : List ℕ) (e : DecodeFault) → 0 < length octets → IsIncomplete IsBase128 octets e
+    → (e ≡ incomplete) × ((ns : List ℕ) → Subidentifiers ns octets → ⊥)
 first_fault octets e some p = (p.0, none_first octets some p.1)
 
 -- a number has an octet
@@ -97,8 +98,10 @@ subidentifiers_decided (b ∷ octets) = by_rest (subidentifiers_decided octets) 
         inr (none_after (b ∷ []) octets (low_bits_number (b ∷ [])) (record { continued = low; value = refl }) none (b ∷ octets) refl)
     by_rest (inl ([], s)) (inr high) = inr (first_unfinished b octets s high)
     by_rest (inl (n ∷ ns, s)) (inr high) =
-        inl (low_bits_number (b ∷ s.0) ∷ ns,
-          (b ∷ s.0, s.1, ap (λ z. b ∷ z) s.2, record { continued = continued_more b s.0 high s.3.continued; value = refl }, s.4))
+        inl (
+          low_bits_number (b ∷ s.0) ∷ ns,
+          (b ∷ s.0, s.1, ap (λ z. b ∷ z) s.2, record { continued = continued_more b s.0 high s.3.continued; value = refl }, s.4),
+        )
     by_rest (inr none) (inr high) = inr (first_of_none b octets none high)
 
 -- the shortest forms are subidentifiers

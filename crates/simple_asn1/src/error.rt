@@ -39,7 +39,7 @@ pub enum ASN1DecodeErr {
     /// More octets were expected. Octets that mean something else can lead to it.
     #[error("Incomplete data or invalid ASN1")]
     Incomplete,
-    /// A component of an object identifier does not fit the type that was asked for. Not answered yet.
+    /// A component of an object identifier does not fit the type that was asked for.
     #[error("Value overflow")]
     Overflow,
     /// Memory ran out. Nothing is said of the octets.
@@ -99,13 +99,13 @@ impl ASN1DecodeErr {
 /// Why a block was not written.
 #[derive(Debug, Drop, Error, PartialEq)]
 pub enum ASN1EncodeErr {
-    /// An object identifier has fewer than two components. Not answered yet.
+    /// An object identifier has fewer than two components.
     #[error("ASN1 object identifier has too few fields.")]
     ObjectIdentHasTooFewFields,
-    /// The first component of an object identifier is above 2. Not answered yet.
+    /// The first component of an object identifier is above 2.
     #[error("First value in ASN1 OID is too big.")]
     ObjectIdentVal1TooLarge,
-    /// The second component of an object identifier is too large for the first subidentifier. Not answered yet.
+    /// The second component of an object identifier is too large for the first octet.
     #[error("Second value in ASN1 OID is too big.")]
     ObjectIdentVal2TooLarge,
     /// A bit string has more bits than 8 for each of its octets, or some bits and more than 255 unused ones.

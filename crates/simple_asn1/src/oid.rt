@@ -1,12 +1,13 @@
 // Object identifiers.
 ghost use Rattle.std.specs.Prelude.{◌≡◌, ◌⊎◌, ℕ, List, None, Some, IfOk, IfErr, OnOk};
 ghost use Rattle.simple_asn1.specs.Contents.ObjectIdentifier.{
-    object_identifier_contents, object_identifier_write_fault
+  object_identifier_contents,
+  object_identifier_write_fault,
 };
 ghost use Rattle.simple_asn1.specs.FittingNumbers.{AreNumbers, HasNotAll};
 ghost use Rattle.simple_asn1.specs.declared.error.ASN1DecodeErr.TheVariants.{Overflow, OutOfMemory};
 ghost use Rattle.simple_asn1.specs.declared.error.ASN1EncodeErr.TheVariants.{
-    OutOfMemory as no_memory
+  OutOfMemory as no_memory,
 };
 
 use crate::body::object_identifier;
@@ -40,7 +41,8 @@ impl OID {
         OID { components: x }
     }
 
-    /// The object identifier of these components, in one allocation. The only error is that memory ran out.
+    /// The object identifier of these components, in one allocation. The only error is that memory
+    /// ran out.
     ///
     /// [`oid!`](crate::oid) is the same with the components written one by one.
     pub fn from_u64s(alloc: Global, components: &[u64]) -> Result<OID, AllocError>
@@ -60,19 +62,18 @@ impl OID {
         self.components.as_slice()
     }
 
-    /// The contents octets (X.690 8.19), in one allocation of their size: the first two components in one octet, and
-    /// each of the others as a base-128 number in its shortest form. 1.2.840 has `2A 86 48`.
+    /// The contents octets (X.690 8.19), in one allocation of their size: the first two components
+    /// in one octet, and each of the others as a base-128 number in its shortest form. 1.2.840 has
+    /// `2A 86 48`.
     ///
     /// # Errors
     /// In this order: `ObjectIdentHasTooFewFields` where there are fewer than two components;
-    /// `ObjectIdentVal1TooLarge` where the first is above 2; `ObjectIdentVal2TooLarge` where the second is above 39, or
-    /// above 175 where the first is 2; `OutOfMemory`.
+    /// `ObjectIdentVal1TooLarge` where the first is above 2; `ObjectIdentVal2TooLarge` where the
+    /// second is above 39, or above 175 where the first is 2; `OutOfMemory`.
     pub fn as_raw(&self, alloc: Global) -> Result<Vec<u8>, ASN1EncodeErr>
         ensures contents { IfOk result (λ v. v.items ≡ object_identifier_contents self.now) }
         ensures writable { OnOk result (object_identifier_write_fault self.now ≡ None) }
-        ensures refused {
-            IfErr result (λ e. (e ≡ no_memory) ⊎ (object_identifier_write_fault self.now ≡ Some e))
-        }
+        ensures refused { IfErr result (λ e. (e ≡ no_memory) ⊎ (object_identifier_write_fault self.now ≡ Some e)) }
     {
         let size = object_identifier::size(self)?;
         let mut octets = Vec::with_capacity(alloc, size)?;
@@ -86,9 +87,7 @@ impl OID {
     /// `Overflow` exactly where the type does not have one of them; `OutOfMemory`.
     pub fn as_vec<T: FromBigUint>(&self, alloc: Global) -> Result<Vec<T>, ASN1DecodeErr>
         ensures all { IfOk result (λ v. AreNumbers T.has T.is_number v.items self.now) }
-        ensures refused {
-            IfErr result (λ e. (e ≡ OutOfMemory) ⊎ ((e ≡ Overflow) × HasNotAll T.has self.now))
-        }
+        ensures refused { IfErr result (λ e. (e ≡ OutOfMemory) ⊎ ((e ≡ Overflow) × HasNotAll T.has self.now)) }
     {
         let mut numbers = Vec::with_capacity(alloc, self.components.len())?;
         for component in &self.components {
@@ -100,8 +99,8 @@ impl OID {
         Ok(numbers)
     }
 
-    /// The same object identifier, in one allocation where all components are below 2^64. The only error is that
-    /// memory ran out.
+    /// The same object identifier, in one allocation where all components are below 2^64. The only
+    /// error is that memory ran out.
     pub fn clone(&self, alloc: Global) -> Result<OID, AllocError>
         ensures { IfOk result (λ oid. oid ≡ self.now) }
     {

@@ -1,12 +1,11 @@
 -- What is known of the contents octets of an OBJECT IDENTIFIER.
-use Rattle.std.proofs.Common.{◌≡◌, ℕ, ◌+◌, ◌*◌, ◌-◌, ◌<◌, ◌≤◌, ◌⊎◌, List, [], ◌∷◌, None, Some, inl, inr, refl, sym, ap, ◌∙◌, subst, arith}
+use Rattle.std.proofs.Common.{◌≡◌, ℕ, ◌+◌, ◌*◌, ◌-◌, ◌<◌, ◌⊎◌, List, [], ◌∷◌, None, inl, inr, refl, sym, ◌∙◌, subst, arith}
 use Rattle.std.specs.Prelude.{All}
 use Rattle.std.specs.List.{flat_map}
 use Rattle.std.proofs.lemmas.Bool.{cases_lt}
-use Rattle.std.proofs.lemmas.Grind.{common_steps}
 use Rattle.std.proofs.lemmas.List.Elements.{All-head}
 use Rattle.simple_asn1.specs.Base128.{shortest_base128}
-use Rattle.simple_asn1.specs.Contents.ObjectIdentifier.{AreFirstTwo, IsFaithfulObjectIdentifier, ObjectIdentifierContents, ObjectIdentifierFault, Subidentifiers, greatest_second, object_identifier_contents, object_identifier_write_fault}
+use Rattle.simple_asn1.specs.Contents.ObjectIdentifier.{AreFirstTwo, IsFaithfulObjectIdentifier, ObjectIdentifierContents, ObjectIdentifierFault, Subidentifiers, object_identifier_contents, object_identifier_write_fault}
 use Rattle.simple_asn1.specs.Fault.{DecodeFault, IsOfReading, incomplete}
 use Rattle.simple_asn1.proofs.Subidentifiers.{subidentifiers_alone, subidentifiers_decided, subidentifiers_shortest}
 
@@ -64,7 +63,8 @@ no_octets (x ∷ []) p = p
 no_octets (x ∷ y ∷ ns) (c, rest, e, f, s) = cc
 
 -- all others have one
-pub object_identifier_meaning : (contents : List ℕ) → ((ns : List ℕ) × ObjectIdentifierContents ns contents) ⊎ ((e : DecodeFault) × ObjectIdentifierFault contents e)
+pub object_identifier_meaning : (contents : List ℕ)
+    → ((ns : List ℕ) × ObjectIdentifierContents ns contents) ⊎ ((e : DecodeFault) × ObjectIdentifierFault contents e)
 object_identifier_meaning [] = inr (incomplete, (refl, no_octets))
 object_identifier_meaning (b ∷ octets) = elim (subidentifiers_decided octets) [
   | inl s ↦ let f = first_two b in inl (f.0 ∷ f.1 ∷ s.0, (b, octets, refl, f.2, s.1))
@@ -80,7 +80,8 @@ first_writable x y b ns small (e, p, inl q) = grind (arith, e, p, q, small)
 first_writable x y b ns small (e, p, inr q) = grind (arith, e, p, q, small)
 
 -- components that octets mean can be written
-pub object_identifier_writable : (ns contents : List ℕ) → All (λ b. b < 256) contents → ObjectIdentifierContents ns contents → object_identifier_write_fault ns ≡ None
+pub object_identifier_writable : (ns contents : List ℕ) → All (λ b. b < 256) contents → ObjectIdentifierContents ns contents
+    → object_identifier_write_fault ns ≡ None
 object_identifier_writable [] contents all p = absurd p
 object_identifier_writable (x ∷ []) contents all p = absurd p
 object_identifier_writable (x ∷ y ∷ ns) contents all (b, rest, e, f, s) =
@@ -101,7 +102,8 @@ pub object_identifier_fits : (ns : List ℕ) → IsFaithfulObjectIdentifier ns �
 object_identifier_fits ns f = f
 
 -- components that can be written are faithful where what is written means them
-pub object_identifier_kept : (ns : List ℕ) → object_identifier_write_fault ns ≡ None → ObjectIdentifierContents ns (object_identifier_contents ns) → IsFaithfulObjectIdentifier ns
+pub object_identifier_kept : (ns : List ℕ) → object_identifier_write_fault ns ≡ None → ObjectIdentifierContents ns (object_identifier_contents ns)
+    → IsFaithfulObjectIdentifier ns
 object_identifier_kept ns fits p = fits
 
 -- components that octets mean are faithful

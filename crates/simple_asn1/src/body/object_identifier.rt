@@ -1,11 +1,16 @@
 // Contents octets of an OBJECT IDENTIFIER (X.690 8.19).
-ghost use Rattle.std.specs.Prelude.{◌≡◌, ◌↔◌, ◌⊎◌, ◌++◌, ◌∷◌, ◌+◌, ◌≤◌, ℕ, List, drop, length, None, Some};
-ghost use Rattle.std.specs.Prelude.{IfOk, IfErr, IfSome, IsTrue, OnOk};
+ghost use Rattle.std.specs.Prelude.{◌≡◌, ◌↔◌, ◌⊎◌, ◌++◌, ◌∷◌, ◌+◌, ◌≤◌, ℕ, List, drop, length};
+ghost use Rattle.std.specs.Prelude.{None, Some, IfOk, IfErr, IfSome, IsTrue, OnOk};
 ghost use Rattle.std.specs.List.{flat_map};
 ghost use Rattle.simple_asn1.specs.Base128.{shortest_base128};
 ghost use Rattle.simple_asn1.specs.Contents.ObjectIdentifier.{
-    AreFirstTwo, IsFaithfulObjectIdentifier, ObjectIdentifierContents, ObjectIdentifierFault, Subidentifiers,
-    object_identifier_contents, object_identifier_write_fault
+  AreFirstTwo,
+  IsFaithfulObjectIdentifier,
+  ObjectIdentifierContents,
+  ObjectIdentifierFault,
+  Subidentifiers,
+  object_identifier_contents,
+  object_identifier_write_fault,
 };
 ghost use Rattle.simple_asn1.specs.Fault.{OutOfMemoryOr, incomplete};
 ghost use Rattle.simple_asn1.specs.declared.error.ASN1EncodeErr.TheVariants.{OutOfMemory};
@@ -36,15 +41,11 @@ fn push_subidentifiers(
     octets: &[u8],
     components: &mut Vec<BigUint>,
 ) -> Result<(), ASN1DecodeErr>
-    ensures found {
-        OnOk result
-            ((ns : List ℕ) × (components.new.items ≡ components.old.items ++ ns)
-            × Subidentifiers ns octets.now)
-    }
-    ensures refused {
-        IfErr result (OutOfMemoryOr
-            (λ e. (e ≡ incomplete) × ((ns : List ℕ) → Subidentifiers ns octets.now → ⊥)))
-    }
+    ensures found { OnOk result
+        ((ns : List ℕ) × (components.new.items ≡ components.old.items ++ ns)
+        × Subidentifiers ns octets.now) }
+    ensures refused { IfErr result (OutOfMemoryOr
+        (λ e. (e ≡ incomplete) × ((ns : List ℕ) → Subidentifiers ns octets.now → ⊥))) }
 {
     let mut index: usize = 0;
     while index < octets.len() {
@@ -75,10 +76,8 @@ pub(crate) fn read(alloc: Global, contents: &[u8]) -> Result<OID, ASN1DecodeErr>
 // The first octet that is written, of the first two components.
 fn first_octet(components: &[BigUint]) -> Result<u8, ASN1EncodeErr>
     ensures some { OnOk result (2 ≤ length components.now) }
-    ensures octet {
-        IfOk result (λ b. object_identifier_contents components.now
-            ≡ b ∷ flat_map shortest_base128 (drop 2 components.now))
-    }
+    ensures octet { IfOk result (λ b. object_identifier_contents components.now
+        ≡ b ∷ flat_map shortest_base128 (drop 2 components.now)) }
     ensures writable { OnOk result (object_identifier_write_fault components.now ≡ None) }
     ensures refused { IfErr result (λ e. object_identifier_write_fault components.now ≡ Some e) }
 {
@@ -98,9 +97,7 @@ fn first_octet(components: &[BigUint]) -> Result<u8, ASN1EncodeErr>
 
 // The number of octets of the subidentifiers, if a usize can count them and one more.
 fn subidentifiers_size(components: &[BigUint]) -> Option<usize>
-    ensures {
-        IfSome result (λ n. n ≡ 1 + length (flat_map shortest_base128 components.now))
-    }
+    ensures { IfSome result (λ n. n ≡ 1 + length (flat_map shortest_base128 components.now)) }
 {
     let mut size: usize = 1;
     for component in components {
@@ -113,9 +110,7 @@ fn subidentifiers_size(components: &[BigUint]) -> Option<usize>
 pub(crate) fn size(oid: &OID) -> Result<usize, ASN1EncodeErr>
     ensures size { IfOk result (λ n. n ≡ length (object_identifier_contents oid.now)) }
     ensures writable { OnOk result (object_identifier_write_fault oid.now ≡ None) }
-    ensures refused {
-        IfErr result (λ e. (e ≡ OutOfMemory) ⊎ (object_identifier_write_fault oid.now ≡ Some e))
-    }
+    ensures refused { IfErr result (λ e. (e ≡ OutOfMemory) ⊎ (object_identifier_write_fault oid.now ≡ Some e)) }
 {
     let components = oid.components();
     first_octet(components)?;

@@ -1,4 +1,4 @@
-use Rattle.std.proofs.Common.{arith, ◌≡◌, ◌++◌, ◌≤◌, ◌+◌, ◌-◌, List, ℕ, [], ◌∷◌, inl, inr, take, drop, length, ap, sym, subst, ◌∙◌, append_assoc, length-drop}
+use Rattle.std.proofs.Common.{arith, ◌≡◌, ◌++◌, ◌+◌, ◌-◌, [], ◌∷◌, inl, inr, take, drop, ap, sym, subst, ◌∙◌, append_assoc, length-drop}
 use Rattle.std.specs.List.{slice_range}
 use Rattle.std.proofs.Math.Seq.{take-add}
 use Rattle.std.proofs.lemmas.Result.{err_from_is_err_and}
@@ -26,11 +26,14 @@ loop-index-preserved c =
     let j = c.decode_base127.new.index in
     let n = c.in_ok-n.n in
     let moved = c.in_ok-n.ensures.moved in
+    let found = c.in_ok-n.ensures.found in
     let so_far = c.loop-index.invariant.1 in
     let ns = so_far.0 in
     let items = c.in_ok-push.ensures.items ∙ ap (λ z. z ++ n ∷ []) so_far.1 ∙ append_assoc before ns (n ∷ []) in
     let forward : i + (j - i) ≡ j = omega (arith, moved.0) in
     let front : take j octets ≡ take i octets ++ slice_range octets i j = ap (λ k. take k octets) (sym forward) ∙ take-add i (j - i) octets in
-    let more = subidentifiers_more ns (take i octets) (slice_range octets i j) n so_far.2 c.in_ok-n.ensures.found in
-    (moved.1, (ns ++ n ∷ [], items, subst (Subidentifiers (ns ++ n ∷ [])) (sym front) more), 
-      λ h. c.loop-index.invariant.2 (none_after (slice_range octets i j) (drop j octets) n c.in_ok-n.ensures.found h (drop i octets) (slice_split octets i j moved.0)))
+    let more = subidentifiers_more ns (take i octets) (slice_range octets i j) n so_far.2 found in (
+      moved.1,
+      (ns ++ n ∷ [], items, subst (Subidentifiers (ns ++ n ∷ [])) (sym front) more),
+      λ h. c.loop-index.invariant.2 (none_after (slice_range octets i j) (drop j octets) n found h (drop i octets) (slice_split octets i j moved.0)),
+    )

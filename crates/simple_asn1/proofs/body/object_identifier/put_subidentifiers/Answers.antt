@@ -1,4 +1,4 @@
-use Rattle.std.proofs.Common.{arith, ℕ, List, length, take, ap}
+use Rattle.std.proofs.Common.{arith, ℕ, length, take, ap}
 use Rattle.std.specs.List.{flat_map}
 use Rattle.std.proofs.lemmas.List.Folds.{length-flat_map-take}
 use Rattle.simple_asn1.specs.Base128.{shortest_base128}

@@ -7,7 +7,8 @@ pub returns-in-None-clause-refused : goal.returns-in-None-clause-refused
 returns-in-None-clause-refused g c =
     let has = g.T.FromBigUint.has in
     let items = c.deref-component-items.result.now in
-    let missing = missing_item has items c.loop-component.component-index c.component-item.result c.loop-component-test.true c.component-item.is c.in-None.ensures in
+    let i = c.loop-component.component-index in
+    let missing = missing_item has items i c.component-item.result c.loop-component-test.true c.component-item.is c.in-None.ensures in
     inr (refl, subst (HasNotAll has) (c.deref-component-items.ensures.value ∙ c.self.view_is) missing)
 
 pub loop-component-preserved : goal.loop-component-preserved
