@@ -3,7 +3,9 @@ ghost use Rattle.std.specs.Prelude.{◌≡◌, ◌<◌, ◌++◌, ◌∷◌, [],
 ghost use Rattle.asn1_text.specs.Inside.{trees_inside, turns};
 ghost use Rattle.simple_asn1.specs.View.{view, views};
 
-use crate::scalars::{write_bracketed, write_characters, write_integer, write_tag_number};
+use crate::scalars::{
+    write_bracketed, write_characters, write_components, write_integer, write_moment, write_tag_number,
+};
 use simple_asn1::{ASN1Block, ASN1Class, BigUint};
 use std::alloc::{AllocError, Global};
 use std::slice;
@@ -101,6 +103,18 @@ fn write_front(alloc: Global, out: &mut String, block: &ASN1Block) -> Result<(),
         ASN1Block::OctetString(offset, octets) => {
             write!(out, "OctetString({offset}, ")?;
             write_bracketed(out, octets)
+        }
+        ASN1Block::ObjectIdentifier(offset, oid) => {
+            write!(out, "ObjectIdentifier({offset}, ")?;
+            write_components(alloc, out, oid)
+        }
+        ASN1Block::UTCTime(offset, moment) => {
+            write!(out, "UTCTime({offset}, ")?;
+            write_moment(out, moment)
+        }
+        ASN1Block::GeneralizedTime(offset, moment) => {
+            write!(out, "GeneralizedTime({offset}, ")?;
+            write_moment(out, moment)
         }
         ASN1Block::Explicit(class, offset, tag, _) => {
             write_explicit(alloc, out, *class, *offset, tag)

@@ -14,6 +14,12 @@
 //! `[01 00 00 00 00 00 00 00 00]`. A tag number that a `u64` holds is decimal; any other is the octets of its shortest
 //! base-128 form (X.690 8.1.2.4.2), in brackets: 2^64 is `[82 80 80 80 80 80 80 80 80 00]`.
 //!
+//! **Components** of an object identifier are decimal, with a point between two of them: `1.2.840`. Where one is 2^128 or
+//! more, the contents octets that are written of the identifier stand in their place, in brackets.
+//!
+//! **Moments** are `YYYY-MM-DD hh:mm:ss`, and a point and nine digits of nanoseconds where they are not 0:
+//! `1992-05-21 00:00:00.300000000`.
+//!
 //! **Blocks** are the name of their variant and its fields, with `, ` between two fields, in parentheses:
 //!
 //! | Block | Written |
@@ -23,6 +29,8 @@
 //! | BIT STRING | `BitString(OFFSET, BITS, [OCTETS])` |
 //! | OCTET STRING | `OctetString(OFFSET, [OCTETS])` |
 //! | NULL | `Null(OFFSET)` |
+//! | OBJECT IDENTIFIER | `ObjectIdentifier(OFFSET, COMPONENTS)` |
+//! | UTCTime, GeneralizedTime | `UTCTime(OFFSET, MOMENT)`, `GeneralizedTime(OFFSET, MOMENT)` |
 //! | the six strings of characters | `UTF8String(OFFSET, [CHARACTERS])`, and so `PrintableString`, `TeletexString`, `IA5String`, `UniversalString`, `BMPString` |
 //! | SEQUENCE, SET | `Sequence(OFFSET, [BLOCKS])`, `Set(OFFSET, [BLOCKS])` |
 //! | explicit tagging | `Explicit(CLASS, OFFSET, TAG, BLOCK)` |

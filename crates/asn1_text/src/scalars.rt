@@ -1,6 +1,7 @@
 // Characters and numbers.
 use crate::octets::write_octets;
-use simple_asn1::{BigInt, BigUint, encode_base127};
+use jiff::civil::DateTime;
+use simple_asn1::{ASN1DecodeErr, ASN1EncodeErr, BigInt, BigUint, OID, encode_base127};
 use std::alloc::{AllocError, Global};
 
 /// The characters of the text, in brackets, with a space between two of them, each as `U+` and its number in hex, in
@@ -58,4 +59,64 @@ pub(crate) fn write_tag_number(
         Some(n) => write!(out, "{n}"),
         None => write_bracketed(out, &encode_base127(alloc, number)?),
     }
+}
+
+// Puts the components of an object identifier at the end, with a point between two of them. Where one is past a `u128`, the
+// contents octets of the identifier stand in brackets in their place.
+pub(crate) fn write_components(
+    alloc: Global,
+    out: &mut String,
+    oid: &OID,
+) -> Result<(), AllocError> {
+    match oid.as_vec::<u128>(alloc) {
+        Ok(components) => write_numbers(out, &components),
+        Err(ASN1DecodeErr::OutOfMemory) => Err(AllocError),
+        Err(_) => write_contents(alloc, out, oid),
+    }
+}
+
+fn write_numbers(out: &mut String, numbers: &[u128]) -> Result<(), AllocError> {
+    let mut is_first = true;
+    for number in numbers {
+        if !is_first {
+            out.push_str(".")?;
+        }
+        write!(out, "{number}")?;
+        is_first = false;
+    }
+    Ok(())
+}
+
+fn write_contents(alloc: Global, out: &mut String, oid: &OID) -> Result<(), AllocError> {
+    match oid.as_raw(alloc) {
+        Ok(octets) => write_bracketed(out, &octets),
+        Err(ASN1EncodeErr::OutOfMemory) => Err(AllocError),
+        Err(_) => out.push_str("[]"),
+    }
+}
+
+// Puts a date and a time of day at the end, and the nanoseconds where there are any.
+pub(crate) fn write_moment(out: &mut String, moment: &DateTime) -> Result<(), AllocError> {
+    write_date(out, moment)?;
+    out.push_str(" ")?;
+    write_time(out, moment)
+}
+
+fn write_date(out: &mut String, moment: &DateTime) -> Result<(), AllocError> {
+    let year = moment.year();
+    let month = moment.month();
+    let day = moment.day();
+    write!(out, "{year:04}-{month:02}-{day:02}")
+}
+
+fn write_time(out: &mut String, moment: &DateTime) -> Result<(), AllocError> {
+    let hour = moment.hour();
+    let minute = moment.minute();
+    let second = moment.second();
+    let nanosecond = moment.subsec_nanosecond();
+    write!(out, "{hour:02}:{minute:02}:{second:02}")?;
+    if nanosecond == 0 {
+        return Ok(());
+    }
+    write!(out, ".{nanosecond:09}")
 }
