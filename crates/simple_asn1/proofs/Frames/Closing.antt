@@ -47,7 +47,8 @@ unfolding MayBeGroupContents
 may_be contents h = h
 
 -- a group
-pub close_group : (octets : List ℕ) (f g : Frame) (gs : List Frame) (n x : ℕ) (y : GroupKind) → f.extent.kind ≡ Group y x → 0 < length f.trees → Opened octets f (g ∷ gs) f.extent.end n → Closed octets g gs f.extent.end (group x y (trees_of f.trees)) n
+pub close_group : (octets : List ℕ) (f g : Frame) (gs : List Frame) (n x : ℕ) (y : GroupKind) → f.extent.kind ≡ Group y x → 0 < length f.trees
+    → Opened octets f (g ∷ gs) f.extent.end n → Closed octets g gs f.extent.end (group x y (trees_of f.trees)) n
 close_group octets f g gs n x y k some o =
     let s = f.extent.start in
     let z = f.extent.end in
@@ -74,7 +75,8 @@ close_group octets f g gs n x y k some o =
     }
 
 -- a group without blocks
-pub close_empty : (octets : List ℕ) (f g : Frame) (gs : List Frame) (n x : ℕ) (y : GroupKind) → length octets < 2 ^ 64 → f.extent.kind ≡ Group y x → length f.trees ≡ 0 → Opened octets f (g ∷ gs) f.extent.end n → Stopping octets g gs empty_buffer n
+pub close_empty : (octets : List ℕ) (f g : Frame) (gs : List Frame) (n x : ℕ) (y : GroupKind) → length octets < 2 ^ 64 → f.extent.kind ≡ Group y x
+    → length f.trees ≡ 0 → Opened octets f (g ∷ gs) f.extent.end n → Stopping octets g gs empty_buffer n
 close_empty octets f g gs n x y small k empty o =
     let s = f.extent.start in
     let z = f.extent.end in
@@ -87,17 +89,20 @@ close_empty octets f g gs n x y small k empty o =
       before = o.before;
       own = 1 + o.own;
       opened = subst (λ i. Opened octets g gs i o.before) (sym H.0) o.around;
-      stops = group_stops octets g x s z y empty_buffer o.own small (omega (arith, H.0, v.from)) (omega (arith, H.0, o.after)) (omega (arith, o.read.from, o.read.to)) o.fits v.within H.1 fault o.read.begun;
+      stops = group_stops octets g x s z y empty_buffer o.own small (omega (arith, H.0, v.from)) (omega (arith, H.0, o.after))
+          (omega (arith, o.read.from, o.read.to)) o.fits v.within H.1 fault o.read.begun;
       total = o.total;
     }
 
 -- around contents octets that are these trees, the encoding of an attempt encodes the tree
 abbrev pub Means : owed.Attempt → List ℕ → List (Tree ℕ) → Tree ℕ → Type 0
 Means a contents ts t =
-    (all : List ℕ) (h : ℕ) → a.class ≢ Universal → Encoding all a.class true a.tag contents h → EncodesAll (a.offset + h) contents (trees_of ts) → Encodes a.offset all t
+    (all : List ℕ) (h : ℕ) → a.class ≢ Universal → Encoding all a.class true a.tag contents h → EncodesAll (a.offset + h) contents (trees_of ts) → Encodes
+    a.offset all t
 
 -- an attempt
-pub close_attempt : (octets : List ℕ) (f g : Frame) (gs : List Frame) (n : ℕ) (a : owed.Attempt) (t : Tree ℕ) → f.extent.kind ≡ Attempt a → Means a (slice_range octets f.extent.start f.extent.end) f.trees t → Opened octets f (g ∷ gs) f.extent.end n → Closed octets g gs f.extent.end t n
+pub close_attempt : (octets : List ℕ) (f g : Frame) (gs : List Frame) (n : ℕ) (a : owed.Attempt) (t : Tree ℕ) → f.extent.kind ≡ Attempt a
+    → Means a (slice_range octets f.extent.start f.extent.end) f.trees t → Opened octets f (g ∷ gs) f.extent.end n → Closed octets g gs f.extent.end t n
 close_attempt octets f g gs n a t k means o =
     let s = f.extent.start in
     let z = f.extent.end in

@@ -49,7 +49,8 @@ one_means a contents ts t is all h ne F s =
     let whole : contents ≡ w.0 = w.2 ∙ (ap (λ z. w.0 ++ z) w.4 ∙ append-nil w.0) in
     (contents, h, F, refl, ne, subst (λ z. Encodes (a.offset + h) z t) (sym whole) w.3)
 
-other_means : (octets : List ℕ) (a : owed.Attempt) (s e : ℕ) (ts : List (Tree ℕ)) → (length ts ≡ 1 → ⊥) → Means a (slice_range octets s e) ts (as_it_came octets a s e)
+other_means : (octets : List ℕ) (a : owed.Attempt) (s e : ℕ) (ts : List (Tree ℕ)) → (length ts ≡ 1 → ⊥)
+    → Means a (slice_range octets s e) ts (as_it_came octets a s e)
 other_means octets a s e ts many all h ne F r =
     (h, F, refl, inr (ne, λ z. many (sym (count_trees ts) ∙ one_block (a.offset + h) (slice_range octets s e) (trees_of ts) r z.1)))
 
@@ -90,20 +91,24 @@ module _ (octets : List ℕ) (es : List Entry) (k h : OpenFrame) (gs : List Open
   later_ready : (t : Tree ℕ) → Closed octets (frame h N.next) (frames gs N.others) k.extent.end t n → Ready octets (take k.begin es) h gs k.extent.end t n
   later_ready t d = record { trees = N.next; outer = N.others; holds = N.around; closed = d }
 
-  pub clean_group : (y : GroupKind) (p : ℕ) → k.extent.kind ≡ Group y p → k.later ≡ 0 → 0 < length k.blocks → Ready octets es h gs k.extent.end (group p y (views k.blocks)) n
+  pub clean_group : (y : GroupKind) (p : ℕ) → k.extent.kind ≡ Group y p → k.later ≡ 0 → 0 < length k.blocks
+      → Ready octets es h gs k.extent.end (group p y (views k.blocks)) n
   clean_group y p is z some =
       let t = (clean z).trees in
       let l : length w.trees ≡ length k.blocks = ap length t ∙ length-map k.blocks view in
       let d = close_group octets (frame k w.trees) (frame h N.next) (frames gs N.others) n p y is (omega (arith, l, some)) ending in
       clean_ready (group p y (views k.blocks)) z (subst (λ v. Closed octets (frame h N.next) (frames gs N.others) k.extent.end (group p y (trees_of v)) n) t d)
 
-  pub later_group : (y : GroupKind) (p : ℕ) → k.extent.kind ≡ Group y p → 0 < k.later → Ready octets (take k.begin es) h gs k.extent.end (group p y (trees_of (map view k.blocks ++ N.own.owed))) n
+  pub later_group : (y : GroupKind) (p : ℕ) → k.extent.kind ≡ Group y p → 0 < k.later
+      → Ready octets (take k.begin es) h gs k.extent.end (group p y (trees_of (map view k.blocks ++ N.own.owed))) n
   later_group y p is some =
       let l : length w.trees ≡ length (map view k.blocks) + length N.own.owed = ap length N.own.trees ∙ length-append (map view k.blocks) N.own.owed in
       let d = close_group octets (frame k w.trees) (frame h N.next) (frames gs N.others) n p y is (omega (arith, l, some, N.own.later)) ending in
-      later_ready (group p y (trees_of (map view k.blocks ++ N.own.owed))) (subst (λ v. Closed octets (frame h N.next) (frames gs N.others) k.extent.end (group p y (trees_of v)) n) N.own.trees d)
+      later_ready (group p y (trees_of (map view k.blocks ++ N.own.owed)))
+      (subst (λ v. Closed octets (frame h N.next) (frames gs N.others) k.extent.end (group p y (trees_of v)) n) N.own.trees d)
 
-  pub empty_group : (y : GroupKind) (p : ℕ) → length octets < 2 ^ 64 → k.extent.kind ≡ Group y p → k.later ≡ 0 → length k.blocks ≡ 0 → Refused octets es h gs empty_buffer n
+  pub empty_group : (y : GroupKind) (p : ℕ) → length octets < 2 ^ 64 → k.extent.kind ≡ Group y p → k.later ≡ 0 → length k.blocks ≡ 0
+      → Refused octets es h gs empty_buffer n
   empty_group y p small is z none =
       let c = clean z in
       let l : length w.trees ≡ 0 = ap length c.trees ∙ (length-map k.blocks view ∙ none) in
@@ -117,24 +122,32 @@ module _ (octets : List ℕ) (es : List Entry) (k h : OpenFrame) (gs : List Open
         stopping = close_empty octets (frame k w.trees) (frame h N.next) (frames gs N.others) n p y small is l ending;
       }
 
-  attempt : (a : owed.Attempt) (t : Tree ℕ) → k.extent.kind ≡ Attempt a → Means a (slice_range octets k.extent.start k.extent.end) w.trees t → Closed octets (frame h N.next) (frames gs N.others) k.extent.end t n
+  attempt : (a : owed.Attempt) (t : Tree ℕ) → k.extent.kind ≡ Attempt a → Means a (slice_range octets k.extent.start k.extent.end) w.trees t
+      → Closed octets (frame h N.next) (frames gs N.others) k.extent.end t n
   attempt a t is means = close_attempt octets (frame k w.trees) (frame h N.next) (frames gs N.others) n a t is means ending
 
-  pub one_block_ended : (a : owed.Attempt) (b : ASN1Block) → k.extent.kind ≡ Attempt a → k.later ≡ 0 → k.blocks ≡ b ∷ [] → Ready octets es h gs k.extent.end (around a (view b)) n
+  pub one_block_ended : (a : owed.Attempt) (b : ASN1Block) → k.extent.kind ≡ Attempt a → k.later ≡ 0 → k.blocks ≡ b ∷ []
+      → Ready octets es h gs k.extent.end (around a (view b)) n
   one_block_ended a b is z one =
       let contents = slice_range octets k.extent.start k.extent.end in
       clean_ready (around a (view b)) z (attempt a (around a (view b)) is (one_means a contents w.trees (view b) ((clean z).trees ∙ ap (map view) one)))
 
   -- the one tree that is owed
-  pub one_owed_ended : (a : owed.Attempt) → k.extent.kind ≡ Attempt a → k.later ≡ 1 → length k.blocks ≡ 0 → (t : Tree ℕ) × Leads octets (drop k.begin es) (t ∷ []) × Ready octets (take k.begin es) h gs k.extent.end (around a t) n
+  pub one_owed_ended : (a : owed.Attempt) → k.extent.kind ≡ Attempt a → k.later ≡ 1 → length k.blocks ≡ 0
+      → (t : Tree ℕ) × Leads octets (drop k.begin es) (t ∷ []) × Ready octets (take k.begin es) h gs k.extent.end (around a t) n
   one_owed_ended a is z none =
       let s = single N.own.owed (sym z ∙ N.own.later) in
       let seen = ap (λ bs. map view bs ++ N.own.owed) (no_items k.blocks none) in
       let one : w.trees ≡ s.0 ∷ [] = N.own.trees ∙ (seen ∙ s.1) in
-      let contents = slice_range octets k.extent.start k.extent.end in
-      (s.0, subst (λ v. Leads octets (drop k.begin es) v) s.1 N.own.leads, later_ready (around a s.0) (attempt a (around a s.0) is (one_means a contents w.trees s.0 one)))
+      let contents = slice_range octets k.extent.start k.extent.end in (
+        s.0,
+        subst (λ v. Leads octets (drop k.begin es) v) s.1 N.own.leads,
+        later_ready (around a s.0)
+            (attempt a (around a s.0) is (one_means a contents w.trees s.0 one)),
+      )
 
-  pub other_ended : (a : owed.Attempt) → k.extent.kind ≡ Attempt a → (length k.blocks + k.later ≡ 1 → ⊥) → Ready octets (take k.begin es) h gs k.extent.end (as_it_came octets a k.extent.start k.extent.end) n
+  pub other_ended : (a : owed.Attempt) → k.extent.kind ≡ Attempt a → (length k.blocks + k.later ≡ 1 → ⊥)
+      → Ready octets (take k.begin es) h gs k.extent.end (as_it_came octets a k.extent.start k.extent.end) n
   other_ended a is many =
       let both = length-append (map view k.blocks) N.own.owed in
       let l : length w.trees ≡ length k.blocks + k.later = omega (arith, ap length N.own.trees, both, length-map k.blocks view, N.own.later) in

@@ -18,9 +18,8 @@ pub fn discard(mut blocks: Vec<ASN1Block>) {
 // Drops a part of a block, and gives what is left beside the others: where the block holds others, they take the place
 // of `rest`, which is kept in a SEQUENCE in the place of the first of them.
 fn unnest(mut block: ASN1Block, mut rest: Vec<ASN1Block>) -> Vec<ASN1Block>
-    ensures {
-        all_blocks_in (views result.items) < blocks_in (view block) + all_blocks_in (views rest.items)
-    }
+    ensures { all_blocks_in (views result.items)
+        < blocks_in (view block) + all_blocks_in (views rest.items) }
 {
     loop {
         match block {

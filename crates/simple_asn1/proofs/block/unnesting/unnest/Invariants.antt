@@ -4,7 +4,8 @@ use Rattle.simple_asn1.specs.View.{view, views}
 use Rattle.simple_asn1.proofs.block.unnesting.unnest.Given as goal
 
 abbrev pub invariant-loop-block : goal.invariant-loop-block
-invariant-loop-block l = blocks_in (view l.block) + all_blocks_in (views l.rest.items) ≤ blocks_in (view l.initial.block) + all_blocks_in (views l.initial.rest.items)
+invariant-loop-block l = blocks_in (view l.block) + all_blocks_in (views l.rest.items) ≤ blocks_in (view l.initial.block) + all_blocks_in
+    (views l.initial.rest.items)
 
 -- the block is taken apart
 abbrev pub decreases-loop-block : goal.decreases-loop-block
