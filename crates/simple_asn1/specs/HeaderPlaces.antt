@@ -7,7 +7,8 @@ use Rattle.simple_asn1.specs.Header.{Encoding}
 -- an encoding stands from the offset to the end, and its contents octets begin at the start
 abbrev pub EncodingBetween : List ℕ → ASN1Class → Bool → ℕ → ℕ → ℕ → ℕ → Type 0
 EncodingBetween octets class constructed tag offset start end =
-    Encoding (slice_range octets offset end) class constructed tag (slice_range octets start end) (start - offset)
+    Encoding (slice_range octets offset end) class constructed tag (slice_range octets start end)
+    (start - offset)
 
 -- the encoding at the place has this header, and ends before the limit
 pub record HeaderFound (octets : List ℕ) (place limit : ℕ) (h : Header) : Type 0 where

@@ -29,7 +29,8 @@ abbrev pub IsKindOf : FrameKind → Header → ℕ → Type 0
 IsKindOf Whole h offset = ⊥
 IsKindOf (Group g o) h offset = (h.class ≡ Universal) × (h.tag ≡ group_tag g) × (o ≡ offset)
 IsKindOf (Attempt a) h offset =
-    (h.class ≢ Universal) × (h.constructed ≡ true) × (a ≡ record { class = h.class; offset = offset; tag = h.tag })
+    (h.class ≢ Universal) × (h.constructed ≡ true) ×
+    (a ≡ record { class = h.class; offset = offset; tag = h.tag })
 
 -- what the contents octets of such an encoding are read as
 abbrev pub IsReadAs : Header → ℕ → Contents → Type 0
@@ -42,8 +43,10 @@ attempt_of Whole = None
 attempt_of (Group g o) = None
 attempt_of (Attempt a) = Some a
 
--- the frame, whose entries are the last of these, has read these trees: its blocks, and those that its entries lead to
-pub record Holds (octets : List ℕ) (es : List Entry) (f : OpenFrame) (ts : List (Tree ℕ)) : Type 0 where
+-- the frame, whose entries are the last of these, has read these trees: its blocks, and those that
+-- its entries lead to
+pub record Holds (octets : List ℕ) (es : List Entry) (f : OpenFrame)
+    (ts : List (Tree ℕ)) : Type 0 where
   pub begin : f.begin ≤ length es
   pub owed : List (Tree ℕ)
   pub leads : Leads octets (drop f.begin es) owed
@@ -51,11 +54,13 @@ pub record Holds (octets : List ℕ) (es : List Entry) (f : OpenFrame) (ts : Lis
   pub trees : ts ≡ map view f.blocks ++ owed
 
 -- and so do the frames around it, the innermost first, whose entries are those before
-abbrev pub AllHold : List ℕ → List Entry → OpenFrame → List OpenFrame → List (Tree ℕ) → List (List (Tree ℕ)) → Type 0
+abbrev pub AllHold : List ℕ → List Entry → OpenFrame → List OpenFrame → List (Tree ℕ)
+    → List (List (Tree ℕ)) → Type 0
 AllHold octets es f [] ts [] = Holds octets es f ts × (f.begin ≡ 0)
 AllHold octets es f [] ts (us ∷ rest) = ⊥
 AllHold octets es f (g ∷ gs) ts [] = ⊥
-AllHold octets es f (g ∷ gs) ts (us ∷ rest) = Holds octets es f ts × AllHold octets (take f.begin es) g gs us rest
+AllHold octets es f (g ∷ gs) ts (us ∷ rest) =
+    Holds octets es f ts × AllHold octets (take f.begin es) g gs us rest
 
 abbrev pub frame : OpenFrame → List (Tree ℕ) → Frame
 frame f ts = record { extent = f.extent; trees = ts }
@@ -66,7 +71,8 @@ frames (f ∷ fs) [] = []
 frames (f ∷ fs) (ts ∷ rest) = frame f ts ∷ frames fs rest
 
 -- the frames are open and all is read up to the place; n headers were begun
-pub record Reads (octets : List ℕ) (es : List Entry) (f : OpenFrame) (gs : List OpenFrame) (place n : ℕ) : Type 0 where
+pub record Reads (octets : List ℕ) (es : List Entry) (f : OpenFrame) (gs : List OpenFrame)
+    (place n : ℕ) : Type 0 where
   pub trees : List (Tree ℕ)
   pub outer : List (List (Tree ℕ))
   pub holds : AllHold octets es f gs trees outer
@@ -76,7 +82,8 @@ abbrev pub Reading : List ℕ → Reader → ℕ → Type 0
 Reading octets r n = Reads octets r.entries.items r.inner (reverse r.outer.items) r.index n
 
 -- a fault is in the frame, of whose entries and those around some at the end are left over
-pub record Refused (octets : List ℕ) (es : List Entry) (f : OpenFrame) (gs : List OpenFrame) (e : DecodeFault) (n : ℕ) : Type 0 where
+pub record Refused (octets : List ℕ) (es : List Entry) (f : OpenFrame) (gs : List OpenFrame)
+    (e : DecodeFault) (n : ℕ) : Type 0 where
   pub trees : List (Tree ℕ)
   pub outer : List (List (Tree ℕ))
   pub front : List Entry
@@ -109,7 +116,8 @@ pub record FaultyDocument (octets : List ℕ) (e : DecodeFault) (n : ℕ) : Type
   pub fault : BlocksFault octets e
   pub begun : HeadersBegun octets n
 
--- where the end of the innermost attempt leads a fault: reading goes on, memory ran out, or it is that of the document
+-- where the end of the innermost attempt leads a fault: reading goes on, memory ran out, or it is
+-- that of the document
 abbrev pub Answered : {A : Type 0} → List ℕ → Result A ASN1DecodeErr → Reader → ℕ → ℕ → Type 0
 Answered octets (Ok x) r n most = GoesOn octets r n most
 Answered octets (Err e) r n most = OutOfMemoryOr (λ fault. FaultyDocument octets fault n) e
@@ -160,7 +168,8 @@ IsPut a b r = IsPushed a b r ⊎ IsOwed a (Ready b) r
 -- an encoding that stays as it came was put there, as a block or owed
 abbrev pub IsKept : List ℕ → Reader → owed.Attempt → ℕ → ℕ → Reader → Type 0
 IsKept octets a k start end r =
-    ((b : ASN1Block) × (view b ≡ as_it_came octets k start end) × IsPut a b r) ⊎ IsOwed a (Kept k start end) r
+    ((b : ASN1Block) × (view b ≡ as_it_came octets k start end) × IsPut a b r) ⊎ IsOwed a
+    (Kept k start end) r
 
 -- reading goes on inside a new frame, the innermost from now on
 pub record IsOpened (a : Reader) (f : OpenFrame) (r : Reader) : Type 0 where

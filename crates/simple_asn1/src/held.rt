@@ -73,10 +73,8 @@ impl HeldBlocks {
 
     #[inline(always)]
     pub(crate) fn pop(&mut self) -> Option<ASN1Block>
-        ensures {
-            MatchOption result ((self.old ≡ []) × (self.new ≡ []))
-                (λ block. self.old ≡ self.new ++ block ∷ [])
-        }
+        ensures { MatchOption result ((self.old ≡ []) × (self.new ≡ []))
+            (λ block. self.old ≡ self.new ++ block ∷ []) }
     {
         self.blocks.pop()
     }

@@ -45,7 +45,8 @@ follows_read octets f p q n m t r w =
     }
 
 -- one tree more in the innermost frame
-pub opened_more : (octets : List ℕ) (f : Frame) (gs : List Frame) (p q n m : ℕ) (t : Tree ℕ) → Opened octets f gs p n → Follows octets f p q t m → Opened octets (grown f t) gs q (n + m)
+pub opened_more : (octets : List ℕ) (f : Frame) (gs : List Frame) (p q n m : ℕ) (t : Tree ℕ) → Opened octets f gs p n → Follows octets f p q t m
+    → Opened octets (grown f t) gs q (n + m)
 opened_more octets f [] p q n m t o w =
     record { whole = record { kind = o.whole.kind; start = o.whole.start; end = o.whole.end }; read = follows_read octets f p q n m t o.read w }
 opened_more octets f (g ∷ gs) p q n m t o w =
@@ -83,7 +84,8 @@ opened_bound octets f (g ∷ gs) p n o =
     omega (arith, read_bound octets f p o.own o.read, opened_bound octets g gs o.offset o.before o.around, o.after, o.total)
 
 -- also with the block that follows
-pub follows_bound : (octets : List ℕ) (f : Frame) (gs : List Frame) (p q n m : ℕ) (t : Tree ℕ) → Opened octets f gs p n → Follows octets f p q t m → n + m ≤ length octets
+pub follows_bound : (octets : List ℕ) (f : Frame) (gs : List Frame) (p q n m : ℕ) (t : Tree ℕ) → Opened octets f gs p n → Follows octets f p q t m
+    → n + m ≤ length octets
 follows_bound octets f gs p q n m t o w =
     let v = opened_places octets f gs p n o in
     let l = slice_length octets p q (omega (arith, w.from)) (omega (arith, w.to, v.within)) in

@@ -28,7 +28,8 @@ record FaultyContents (octets contents : List ℕ) (e : DecodeFault) (n : ℕ) :
   begun : HeadersBegun contents n
 
 -- those of a frame where a block is at fault
-refused_read : (octets : List ℕ) (f : Frame) (p : ℕ) (e : DecodeFault) (a b : ℕ) → ReadTo octets f p a → StopsAt octets f p e b → FaultyContents octets (slice_range octets f.extent.start f.extent.end) e (a + b)
+refused_read : (octets : List ℕ) (f : Frame) (p : ℕ) (e : DecodeFault) (a b : ℕ) → ReadTo octets f p a → StopsAt octets f p e b
+    → FaultyContents octets (slice_range octets f.extent.start f.extent.end) e (a + b)
 refused_read octets f p e a b r s =
     let from = f.extent.start in
     let to = f.extent.end in
@@ -44,7 +45,9 @@ refused_read octets f p e a b r s =
     }
 
 -- a group whose contents octets are at fault
-pub group_stops : (octets : List ℕ) (g : Frame) (o s e : ℕ) (y : GroupKind) (fault : DecodeFault) (a : ℕ) → length octets < 2 ^ 64 → g.extent.start ≤ o → o < s → s ≤ e → e ≤ g.extent.end → g.extent.end ≤ length octets → GroupAt octets y o s e → ContentsFault (group_tag y) (slice_range octets s e) fault → HeadersBegun (slice_range octets s e) a → StopsAt octets g o fault (1 + a)
+pub group_stops : (octets : List ℕ) (g : Frame) (o s e : ℕ) (y : GroupKind) (fault : DecodeFault) (a : ℕ) → length octets < 2 ^ 64 → g.extent.start ≤ o → o < s
+    → s ≤ e → e ≤ g.extent.end → g.extent.end ≤ length octets → GroupAt octets y o s e → ContentsFault (group_tag y) (slice_range octets s e) fault
+    → HeadersBegun (slice_range octets s e) a → StopsAt octets g o fault (1 + a)
 group_stops octets g o s e y fault a small low lt le fits within G w B =
     let end = g.extent.end in
     let i = o - g.extent.start in
@@ -59,7 +62,8 @@ group_stops octets g o s e y fault a small low lt le fits within G w B =
     record { here = omega arith; stops = stops; begun = begun_some (omega (arith, len)) a 0 inside no_block (omega arith) }
 
 -- a fault leaves a group
-stop_group : (octets : List ℕ) (f g : Frame) (gs : List Frame) (e : DecodeFault) (n x : ℕ) (y : GroupKind) → length octets < 2 ^ 64 → f.extent.kind ≡ Group y x → Stopping octets f (g ∷ gs) e n → Stopping octets g gs e n
+stop_group : (octets : List ℕ) (f g : Frame) (gs : List Frame) (e : DecodeFault) (n x : ℕ) (y : GroupKind) → length octets < 2 ^ 64 → f.extent.kind ≡ Group y x
+    → Stopping octets f (g ∷ gs) e n → Stopping octets g gs e n
 stop_group octets f g gs e n x y small k w =
     let o = w.opened in
     let s = f.extent.start in
@@ -71,12 +75,14 @@ stop_group octets f g gs e n x y small k w =
       before = o.before;
       own = 1 + (o.own + w.own);
       opened = subst (λ z. Opened octets g gs z o.before) (sym H.0) o.around;
-      stops = group_stops octets g x s f.extent.end y e (o.own + w.own) small (omega (arith, H.0, v.from)) (omega (arith, H.0, o.after)) (omega (arith, o.read.from, o.read.to)) o.fits v.within H.1 (of_item y refl r.fault) r.begun;
+      stops = group_stops octets g x s f.extent.end y e (o.own + w.own) small (omega (arith, H.0, v.from)) (omega (arith, H.0, o.after))
+          (omega (arith, o.read.from, o.read.to)) o.fits v.within H.1 (of_item y refl r.fault) r.begun;
       total = omega (arith, w.total, o.total);
     }
 
 -- a fault goes on to the frame around it
-pub stop_pop : (octets : List ℕ) (f g : Frame) (gs : List Frame) (e : DecodeFault) (n : ℕ) → length octets < 2 ^ 64 → ((a : owed.Attempt) → f.extent.kind ≡ Attempt a → ⊥) → Stopping octets f (g ∷ gs) e n → Stopping octets g gs e n
+pub stop_pop : (octets : List ℕ) (f g : Frame) (gs : List Frame) (e : DecodeFault) (n : ℕ) → length octets < 2 ^ 64
+    → ((a : owed.Attempt) → f.extent.kind ≡ Attempt a → ⊥) → Stopping octets f (g ∷ gs) e n → Stopping octets g gs e n
 stop_pop octets f g gs e n small other w = go f.extent.kind refl
   where
     go : (k : FrameKind) → f.extent.kind ≡ k → Stopping octets g gs e n
@@ -94,7 +100,8 @@ pub record Closed (octets : List ℕ) (g : Frame) (gs : List Frame) (end : ℕ) 
   pub total : n ≡ before + own
 
 -- a fault closes an attempt
-pub stop_attempt : (octets : List ℕ) (f g : Frame) (gs : List Frame) (e : DecodeFault) (n : ℕ) (a : owed.Attempt) → length octets < 2 ^ 64 → f.extent.kind ≡ Attempt a → Stopping octets f (g ∷ gs) e n → Closed octets g gs f.extent.end (as_it_came octets a f.extent.start f.extent.end) n
+pub stop_attempt : (octets : List ℕ) (f g : Frame) (gs : List Frame) (e : DecodeFault) (n : ℕ) (a : owed.Attempt) → length octets < 2 ^ 64
+    → f.extent.kind ≡ Attempt a → Stopping octets f (g ∷ gs) e n → Closed octets g gs f.extent.end (as_it_came octets a f.extent.start f.extent.end) n
 stop_attempt octets f g gs e n a small k w =
     let o = w.opened in
     let s = f.extent.start in
@@ -116,7 +123,8 @@ stop_attempt octets f g gs e n a small k w =
         from = omega (arith, H.0, o.after, o.read.from, o.read.to);
         to = o.fits;
         encoded = (s - a.offset, F, refl, inr (H.1.other, no_block));
-        begun = begun_opened (slice_range octets a.offset z) a.class true a.tag contents (s - a.offset) m F (inr (H.1.other, refl)) (of_other_class F H.1.other) r.begun;
+        begun = begun_opened (slice_range octets a.offset z) a.class true a.tag contents (s - a.offset) m F (inr (H.1.other, refl)) (of_other_class F H.1.other)
+            r.begun;
       };
       total = omega (arith, w.total, o.total);
     }

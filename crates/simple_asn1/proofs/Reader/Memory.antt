@@ -6,10 +6,12 @@ use Rattle.simple_asn1.specs.declared.read.Reader.{Reader}
 use Rattle.simple_asn1.specs.Fault.{DecodeFault, OutOfMemoryOr}
 use Rattle.simple_asn1.specs.ReaderSteps.{Stepped, Answered}
 
-pub stepped_memory : {A : Type 0} (octets : List ℕ) (t : Result A ASN1DecodeErr) (r : Reader) (n most : ℕ) → IsErr t × IsErrAnd t (λ e. e ≡ OutOfMemory) → Stepped octets t r n most
+pub stepped_memory : {A : Type 0} (octets : List ℕ) (t : Result A ASN1DecodeErr) (r : Reader) (n most : ℕ) → IsErr t × IsErrAnd t (λ e. e ≡ OutOfMemory)
+    → Stepped octets t r n most
 stepped_memory octets (Ok x) r n most h = absurd h.1
 stepped_memory octets (Err e) r n most h = inl h.1
 
-pub answered_memory : {A : Type 0} (octets : List ℕ) (t : Result A ASN1DecodeErr) (r : Reader) (n most : ℕ) → IsErr t × IsErrAnd t (λ e. e ≡ OutOfMemory) → Answered octets t r n most
+pub answered_memory : {A : Type 0} (octets : List ℕ) (t : Result A ASN1DecodeErr) (r : Reader) (n most : ℕ) → IsErr t × IsErrAnd t (λ e. e ≡ OutOfMemory)
+    → Answered octets t r n most
 answered_memory octets (Ok x) r n most h = absurd h.1
 answered_memory octets (Err e) r n most h = inl h.1

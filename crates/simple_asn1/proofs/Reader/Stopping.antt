@@ -16,7 +16,8 @@ use Rattle.simple_asn1.proofs.Reader.Popping.{reverse_push, reverse_none}
 use Rattle.simple_asn1.proofs.Reader.Holding.{Nested, nested, alone}
 
 -- where the frame is in which a fault is
-pub refused_places : (octets : List ℕ) (es : List Entry) (f : OpenFrame) (gs : List OpenFrame) (e : DecodeFault) (n : ℕ) (r : Refused octets es f gs e n) → StoppingPlaces octets (frame f r.trees) n
+pub refused_places : (octets : List ℕ) (es : List Entry) (f : OpenFrame) (gs : List OpenFrame) (e : DecodeFault) (n : ℕ) (r : Refused octets es f gs e n)
+    → StoppingPlaces octets (frame f r.trees) n
 refused_places octets es f gs e n r = stopping_places octets (frame f r.trees) (frames gs r.outer) e n r.stopping
 
 -- a fault in no attempt
@@ -24,7 +25,8 @@ pub refused_document : (octets : List ℕ) (es : List Entry) (f : OpenFrame) (e 
 refused_document octets es f e n r = stop_document octets (frame f r.trees) e n r.stopping
 
 -- a fault in the frame k inside the frame h
-module _ (octets : List ℕ) (es : List Entry) (k h : OpenFrame) (gs : List OpenFrame) (e : DecodeFault) (n : ℕ) (small : length octets < 2 ^ 64) (r : Refused octets es k (h ∷ gs) e n) where
+module _ (octets : List ℕ) (es : List Entry) (k h : OpenFrame) (gs : List OpenFrame) (e : DecodeFault) (n : ℕ) (small : length octets < 2 ^ 64)
+    (r : Refused octets es k (h ∷ gs) e n) where
   N : Nested octets r.front k h gs r.trees r.outer
   N = nested octets r.front k h gs r.trees r.outer r.holds
 
@@ -50,7 +52,8 @@ module _ (octets : List ℕ) (es : List Entry) (k h : OpenFrame) (gs : List Open
       }
 
   -- and ends it, if it is one
-  pub refused_attempt : (a : owed.Attempt) → k.extent.kind ≡ Attempt a → Ready octets (take k.begin es) h gs k.extent.end (as_it_came octets a k.extent.start k.extent.end) n
+  pub refused_attempt : (a : owed.Attempt) → k.extent.kind ≡ Attempt a
+      → Ready octets (take k.begin es) h gs k.extent.end (as_it_came octets a k.extent.start k.extent.end) n
   refused_attempt a kind =
       let front : take k.begin es ≡ take k.begin r.front = ap (take k.begin) r.whole ∙ take-append-le k.begin r.front r.more N.own.begin in
       record {
@@ -61,18 +64,22 @@ module _ (octets : List ℕ) (es : List Entry) (k h : OpenFrame) (gs : List Open
       }
 
 -- the frame around was taken out of the list
-pub refused_taken : (octets : List ℕ) (es : List Entry) (f k g h : OpenFrame) (before after : List OpenFrame) (e : DecodeFault) (n : ℕ) → k ≡ f → h ≡ g → before ≡ after ++ g ∷ [] → Refused octets es f (reverse before) e n → Refused octets es k (h ∷ reverse after) e n
+pub refused_taken : (octets : List ℕ) (es : List Entry) (f k g h : OpenFrame) (before after : List OpenFrame) (e : DecodeFault) (n : ℕ) → k ≡ f → h ≡ g
+    → before ≡ after ++ g ∷ [] → Refused octets es f (reverse before) e n → Refused octets es k (h ∷ reverse after) e n
 refused_taken octets es f k g h before after e n own new is r =
-    subst (λ z. Refused octets es k (z ∷ reverse after) e n) (sym new) (subst (λ z. Refused octets es z (g ∷ reverse after) e n) (sym own) (subst (λ z. Refused octets es f z e n) (reverse_push before after g is) r))
+    subst (λ z. Refused octets es k (z ∷ reverse after) e n) (sym new) (subst (λ z. Refused octets es z (g ∷ reverse after) e n) (sym own)
+    (subst (λ z. Refused octets es f z e n) (reverse_push before after g is) r))
 
 -- so there is less left to do
-pub taken_nearer : (size : ℕ) (f k g : OpenFrame) (before after : List OpenFrame) → k ≡ f → before ≡ after ++ g ∷ [] → left size k.extent.end after < left size f.extent.end before
+pub taken_nearer : (size : ℕ) (f k g : OpenFrame) (before after : List OpenFrame) → k ≡ f → before ≡ after ++ g ∷ []
+    → left size k.extent.end after < left size f.extent.end before
 taken_nearer size f k g before after own is =
     let e : k.extent.end ≡ f.extent.end = ap (λ (z : OpenFrame). z.extent.end) own in
     omega (arith, e, ap length is, length-append after (g ∷ []))
 
 -- no others are left
-pub refused_outermost : (octets : List ℕ) (es : List Entry) (f : OpenFrame) (outer : List OpenFrame) (e : DecodeFault) (n : ℕ) → length outer ≡ 0 → Refused octets es f (reverse outer) e n → FaultyDocument octets e n
+pub refused_outermost : (octets : List ℕ) (es : List Entry) (f : OpenFrame) (outer : List OpenFrame) (e : DecodeFault) (n : ℕ) → length outer ≡ 0
+    → Refused octets es f (reverse outer) e n → FaultyDocument octets e n
 refused_outermost octets es f outer e n none r = refused_document octets es f e n (subst (λ z. Refused octets es f z e n) (reverse_none outer none) r)
 
 -- the attempt that a frame is

@@ -43,9 +43,11 @@ begin_reading octets blocks none =
       };
     }
 
-pub first_reading : (octets : List ℕ) (es : List Entry) (blocks : List ASN1Block) (outer : List OpenFrame) → es ≡ [] → blocks ≡ [] → outer ≡ [] → Reads octets es (document_frame octets blocks) (reverse outer) 0 0
+pub first_reading : (octets : List ℕ) (es : List Entry) (blocks : List ASN1Block) (outer : List OpenFrame) → es ≡ [] → blocks ≡ [] → outer ≡ []
+    → Reads octets es (document_frame octets blocks) (reverse outer) 0 0
 first_reading octets es blocks outer e b o =
-    subst (λ z. Reads octets z (document_frame octets blocks) (reverse outer) 0 0) (sym e) (subst (λ z. Reads octets [] (document_frame octets blocks) (reverse z) 0 0) (sym o) (begin_reading octets blocks b))
+    subst (λ z. Reads octets z (document_frame octets blocks) (reverse outer) 0 0) (sym e)
+    (subst (λ z. Reads octets [] (document_frame octets blocks) (reverse z) 0 0) (sym o) (begin_reading octets blocks b))
 
 pub turned_more : (octets : List ℕ) (t : Turn) (r : Reader) (n most : ℕ) → t ≡ More → Turned octets t r n most → GoesOn octets r n most
 turned_more octets t r n most e w = subst (λ z. Turned octets z r n most) e w
@@ -53,9 +55,11 @@ turned_more octets t r n most e w = subst (λ z. Turned octets z r n most) e w
 pub turned_end : (octets : List ℕ) (t : Turn) (r : Reader) (n most : ℕ) → t ≡ End → Turned octets t r n most → Ended octets r n
 turned_end octets t r n most e w = subst (λ z. Turned octets z r n most) e w
 
-pub turned_stop : (octets : List ℕ) (t : Turn) (r : Reader) (n most : ℕ) → t ≡ Stop → Turned octets t r n most → OutOfMemoryOr (λ fault. FaultyDocument octets fault n) r.fault
+pub turned_stop : (octets : List ℕ) (t : Turn) (r : Reader) (n most : ℕ) → t ≡ Stop → Turned octets t r n most
+    → OutOfMemoryOr (λ fault. FaultyDocument octets fault n) r.fault
 turned_stop octets t r n most e w = subst (λ z. Turned octets z r n most) e w
 
 -- the blocks are those that the document has
-pub ended_views : (octets : List ℕ) (r : Reader) (n : ℕ) (blocks : List ASN1Block) (w : Ended octets r n) → map view blocks ≡ w.trees → EncodesAll 0 octets (views blocks)
+pub ended_views : (octets : List ℕ) (r : Reader) (n : ℕ) (blocks : List ASN1Block) (w : Ended octets r n) → map view blocks ≡ w.trees
+    → EncodesAll 0 octets (views blocks)
 ended_views octets r n blocks w e = subst (λ z. EncodesAll 0 octets (trees_of z)) (sym e) w.encoded

@@ -2,7 +2,7 @@
 ghost use Rattle.std.specs.Prelude.{◌≡◌, ◌+◌, ◌-◌, ◌<◌, ◌≤◌, ◌^◌, length, drop, slice_range, IfOk, IfErr};
 ghost use Rattle.simple_asn1.specs.Fault.{OutOfMemoryOr};
 ghost use Rattle.simple_asn1.specs.Grammar.{HeaderFault};
-ghost use Rattle.simple_asn1.specs.HeaderPlaces.{EncodingBetween, HeaderFound};
+ghost use Rattle.simple_asn1.specs.HeaderPlaces.{HeaderFound};
 
 use crate::error::ASN1DecodeErr;
 use crate::header::{ASN1Class, HeaderCount, decode_length, decode_tag};
@@ -19,8 +19,8 @@ pub(crate) struct Header {
     pub(crate) end: usize,
 }
 
-// The header at a place of the document, inside the contents octets from `start` to `end`. Its own contents octets begin
-// and end in the document.
+// The header at a place of the document, inside the contents octets from `start` to `end`. Where its own contents
+// octets begin and end is counted from the start of the document.
 #[inline(always)]
 pub(crate) fn header_within(
     alloc: Global,
@@ -35,10 +35,8 @@ pub(crate) fn header_within(
     requires more { place < end }
     requires within { end ≤ length octets.now }
     ensures found { IfOk result (HeaderFound octets.now place end) }
-    ensures refused {
-        IfErr result (OutOfMemoryOr
-            (HeaderFault (place - start) (slice_range octets.now place end)))
-    }
+    ensures refused { IfErr result (OutOfMemoryOr
+        (HeaderFault (place - start) (slice_range octets.now place end))) }
     ensures counted { count.new ≡ count.old + 1 }
 {
     let contents = &octets[start..end];
@@ -58,12 +56,7 @@ fn header_at(
 ) -> Result<Header, ASN1DecodeErr>
     requires room { count.old + 1 < 2 ^ 64 }
     requires more { place < length octets.now }
-    ensures bounds {
-        IfOk result (λ h. (place < h.start) × (h.start ≤ h.end) × (h.end ≤ length octets.now))
-    }
-    ensures found {
-        IfOk result (λ h. EncodingBetween octets.now h.class h.constructed h.tag place h.start h.end)
-    }
+    ensures found { IfOk result (HeaderFound octets.now place (length octets.now)) }
     ensures refused { IfErr result (OutOfMemoryOr (HeaderFault place (drop place octets.now))) }
     ensures counted { count.new ≡ count.old + 1 }
 {

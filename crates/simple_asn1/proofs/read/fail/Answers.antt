@@ -8,8 +8,12 @@ use Rattle.simple_asn1.proofs.read.fail.Goals as goal
 
 pub refuse-requires-clause-faulty : goal.refuse-requires-clause-faulty
 refuse-requires-clause-faulty c =
-    let other : c.args.e ≡ OutOfMemory → ⊥ = grind (arith, common_steps) in
-    (c.requires.failed.0, c.requires.failed.1, fault_here (λ z. Faulty c.args.octets.now c.args.reader.now z c.requires.failed.0 c.requires.failed.1) c.args.e c.requires.failed.2 other)
+    let other : c.args.e ≡ OutOfMemory → ⊥ = grind (arith, common_steps) in (
+      c.requires.failed.0,
+      c.requires.failed.1,
+      fault_here (λ z. Faulty c.args.octets.now c.args.reader.now z c.requires.failed.0 c.requires.failed.1) c.args.e
+          c.requires.failed.2 other,
+    )
 
 pub returns-in-Ok : goal.returns-in-Ok
 returns-in-Ok c =

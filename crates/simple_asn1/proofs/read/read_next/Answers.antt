@@ -77,7 +77,8 @@ returns-in_ok-open-in-Blocks-clause-stepped c n w =
       later = 0;
     } in
     let b : c.len.result ≡ length a.entries.items = grind (arith, common_steps) in
-    open_goes_on c.args.octets.now a c.open.new.reader f h n c.in_ok-open-in-Blocks.ensures.opened c.in_ok-open-in-Blocks.ensures.index kind refl refl b refl c.in_ok-with_capacity-in-Blocks.ensures c.in_ok-header.ensures.found w
+    open_goes_on c.args.octets.now a c.open.new.reader f h n c.in_ok-open-in-Blocks.ensures.opened c.in_ok-open-in-Blocks.ensures.index kind refl refl b refl
+    c.in_ok-with_capacity-in-Blocks.ensures c.in_ok-header.ensures.found w
 
 pub returns-in_ok-put-in-Leaf-clause-stepped : goal.returns-in_ok-put-in-Leaf-clause-stepped
 returns-in_ok-put-in-Leaf-clause-stepped c n w =
@@ -87,6 +88,8 @@ returns-in_ok-put-in-Leaf-clause-stepped c n w =
     let block = c.in_ok-block-in-Leaf.block in
     let found = c.in_ok-header.ensures.found in
     let leaf = subst (λ z. IsReadAs h a.index z) c.in-Leaf.is c.contents_of.ensures in
-    let Encoded = λ (g : Header). (all : List ℕ) (i : ℕ) → Encoding all g.class g.constructed g.tag (slice_range octets h.start h.end) i → Encodes a.index all (view block) in
+    let Encoded = λ (g : Header). (all : List ℕ) (i : ℕ) → Encoding all g.class g.constructed g.tag (slice_range octets h.start h.end) i → Encodes a.index all
+    (view block) in
     let encoded = subst Encoded leaf.0 c.in_ok-block-in-Leaf.ensures.encoded (slice_range octets a.index h.end) (h.start - a.index) found.encoding in
-    put_goes_on octets a c.put.new.reader block h.end (n + 1) _ c.in_ok-put-in-Leaf.ensures.put c.in_ok-put-in-Leaf.ensures.index (leaf_nearer octets a h n found w) (leaf_ready octets a h block n found leaf.1 encoded w)
+    put_goes_on octets a c.put.new.reader block h.end (n + 1) _ c.in_ok-put-in-Leaf.ensures.put c.in_ok-put-in-Leaf.ensures.index
+    (leaf_nearer octets a h n found w) (leaf_ready octets a h block n found leaf.1 encoded w)

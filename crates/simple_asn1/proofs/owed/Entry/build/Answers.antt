@@ -31,7 +31,8 @@ returns c =
           let n : w.saturating_sub.result ≡ length old - w.in-Group.later = grind (arith, common_steps) in
           let split = w.in_ok-others-in-Group.ensures in
           let own = ap view w.block-is ∙ w.group_block-block.ensures in
-          group_built octets old kept w.in_ok-others-in-Group.others w.append.new.self w.in-Group.kind w.in-Group.offset w.in-Group.later w.saturating_sub.result w.in-Group.first block n (w.blocks-is ∙ split.kept) split.parted w.in_ok-append-in-Group.ensures own ∙ sym order
+          group_built octets old kept w.in_ok-others-in-Group.others w.append.new.self w.in-Group.kind w.in-Group.offset w.in-Group.later
+          w.saturating_sub.result w.in-Group.first block n (w.blocks-is ∙ split.kept) split.parted w.in_ok-append-in-Group.ensures own ∙ sym order
       | in-Explicit+in-Some+in_ok-block-in-Explicit w ↦
           let order = ap (λ z. after octets z s) w.in-Explicit.is in
           let last = w.in-Some.ensures ∙ ap (λ z. z ++ w.in-Some.item ∷ []) (sym w.blocks-is) in
@@ -39,7 +40,8 @@ returns c =
       | in-Kept+in_ok-block-in-Kept w ↦
           let order = ap (λ z. after octets z s) w.in-Kept.is in
           let a = w.in-Kept.attempt in
-          let own : view block ≡ as_it_came octets a w.in-Kept.start w.in-Kept.end = ap view w.block-is ∙ (w.in_ok-block-in-Kept.ensures ∙ ap (unknown a.class true a.offset a.tag) w.octets_between.ensures) in
+          let own : view block ≡ as_it_came octets a w.in-Kept.start w.in-Kept.end = ap view w.block-is ∙
+          (w.in_ok-block-in-Kept.ensures ∙ ap (unknown a.class true a.offset a.tag) w.octets_between.ensures) in
           ap (λ z. map view z ++ view block ∷ []) w.blocks-is ∙ (ap (λ z. s ++ z ∷ []) own ∙ sym order)
     ] in
     pushed kept c.push.new.self block c.in_ok-push.ensures ∙ built
