@@ -1,5 +1,5 @@
 -- Two digits, fields of two digits, and the digits of a fraction.
-use Rattle.std.proofs.Common.{◌≡◌, ℕ, zero, suc, ◌+◌, ◌-◌, ◌*◌, ◌/◌, ◌%◌, ◌^◌, ◌<◌, ◌≤◌, ◌⊎◌, ◌&&◌, ◌==◌, ◌++◌, true, false, inl, inr, List, [], ◌∷◌, length, refl, sym, ap, ◌∙◌, subst, arith, length-append}
+use Rattle.std.proofs.Common.{◌≡◌, ℕ, zero, suc, ◌+◌, ◌-◌, ◌*◌, ◌/◌, ◌%◌, ◌^◌, ◌<◌, ◌≤◌, ◌==◌, ◌++◌, true, false, inl, inr, List, [], ◌∷◌, length, refl, sym, ap, ◌∙◌, subst, arith, length-append}
 use Rattle.std.specs.Prelude.{ℤ, pos, negsuc, ◌≤ℤ◌, unsigned_abs, slice_index, Option, Some, None, IfNone}
 use Rattle.std.specs.Char.{is_ascii_digit}
 use Rattle.std.specs.List.{list_all}
@@ -12,7 +12,7 @@ use Rattle.std.proofs.lemmas.Nat.{div-add-mod'}
 use Rattle.jiff_core.specs.Calendar.{days_in_month}
 use Rattle.simple_asn1.specs.Contents.DigitFields.{FollowsPoint, IsPair}
 use Rattle.simple_asn1.specs.Contents.Moment.{Moment, IsValid, moment_write_fault, year_write_fault}
-use Rattle.simple_asn1.specs.Contents.GeneralizedTime.{IsEnd, fraction_number, fraction_digits, tenth}
+use Rattle.simple_asn1.specs.Contents.GeneralizedTime.{IsEnd, fraction_number, fraction_digits}
 use Rattle.simple_asn1.proofs.Leaves.Known.{Known, known_within, below_known, range_known}
 
 -- what follows where there is no value

@@ -5,7 +5,7 @@ use Rattle.std.specs.List.{slice_range}
 use Rattle.std.proofs.lemmas.Bool.Decides.{nat_tests}
 use Rattle.std.proofs.lemmas.Int.{ints}
 use Rattle.simple_asn1.specs.Contents.DigitFields.{IsSpelled, PairAt}
-use Rattle.simple_asn1.specs.Contents.Moment.{Moment, IsValid, moment_write_fault}
+use Rattle.simple_asn1.specs.Contents.Moment.{Moment, moment_write_fault}
 use Rattle.simple_asn1.specs.Contents.UtcTime.{IsFaithfulUtcTime, UtcTimeContents, UtcTimeFault, utc_time_contents, utc_time_fault}
 use Rattle.simple_asn1.specs.Fault.{DecodeFault, IsOfReading}
 use Rattle.simple_asn1.proofs.Leaves.Known.{Known, known_within, below_known, octets_known}

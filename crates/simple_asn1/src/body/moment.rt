@@ -1,5 +1,5 @@
 // What the two kinds of times share: digits, the fields from the month on, and texts of faults.
-ghost use Rattle.std.specs.Prelude.{◌≡◌, ◌↔◌, ℕ, ◌≤◌, ◌<◌, pos, length, IfOk, IfErr, IfSome, IfNone, IsTrue, OnOk, None, Some};
+ghost use Rattle.std.specs.Prelude.{◌≡◌, ◌↔◌, ℕ, ◌≤◌, ◌<◌, length, IfErr, IfSome, IfNone, IsTrue, OnOk, None, Some};
 ghost use Rattle.simple_asn1.specs.Contents.DigitFields.{HasFields, IsPair, IsSpelled};
 ghost use Rattle.simple_asn1.specs.Contents.Moment.{IsValid, Moment, moment_of, moment_write_fault};
 

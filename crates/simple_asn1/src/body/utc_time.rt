@@ -1,5 +1,5 @@
 // Contents octets of a UTCTime: YYMMDDhhmmssZ, of the years 1950 to 2049 (X.690 8.25, 11.8).
-ghost use Rattle.std.specs.Prelude.{◌≡◌, ◌↔◌, ℕ, ◌+◌, ◌%◌, ◌++◌, ◌<◌, ◌≤◌, ◌≤ℤ◌, pos, length, slice_index, string_bytes, None, Some, IfErr, IfNone, IfOk, IfSome, IsTrue, OnOk, encode_utf8_all};
+ghost use Rattle.std.specs.Prelude.{◌≡◌, ◌↔◌, ◌+◌, ◌%◌, ◌++◌, ◌<◌, ◌≤◌, length, string_bytes, None, Some, IfErr, IfNone, IfOk, IfSome, IsTrue, OnOk, encode_utf8_all};
 ghost use Rattle.simple_asn1.specs.Contents.Moment.{Moment, moment_of, moment_write_fault};
 ghost use Rattle.simple_asn1.specs.Contents.UtcTime.{IsFaithfulUtcTime, UtcTimeContents, UtcTimeFault, century_shown, utc_time_contents, utc_time_fault};
 ghost use Rattle.simple_asn1.specs.Fault.{OutOfMemoryOr, fault_of};

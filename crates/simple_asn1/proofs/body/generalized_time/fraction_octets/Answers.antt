@@ -1,8 +1,8 @@
-use Rattle.std.proofs.Common.{◌≡◌, ◌+◌, ◌-◌, ◌/◌, ◌%◌, ◌++◌, ◌<◌, [], ◌∷◌, List, length, take, arith, sym, ap, ◌∙◌, append-nil, append_assoc, length-append, add-one}
+use Rattle.std.proofs.Common.{◌≡◌, ◌+◌, ◌-◌, ◌/◌, ◌%◌, ◌++◌, ◌<◌, [], ◌∷◌, length, take, arith, sym, ap, ◌∙◌, append_assoc, add-one}
 use Rattle.std.specs.Prelude.{slice_set}
 use Rattle.std.proofs.Math.Seq.{take-suc-set}
 use Rattle.std.proofs.lemmas.Grind.{common_steps}
-use Rattle.simple_asn1.specs.Contents.GeneralizedTime.{fraction_digits, tenth}
+use Rattle.simple_asn1.specs.Contents.GeneralizedTime.{fraction_digits}
 use Rattle.simple_asn1.proofs.Leaves.Digits.{digits_none, digits_step, unit_step}
 use Rattle.simple_asn1.proofs.body.generalized_time.fraction_octets.Goals as goal
 

@@ -1,4 +1,4 @@
-use Rattle.std.proofs.Common.{arith, ap, ◌∙◌}
+use Rattle.std.proofs.Common.{arith}
 use Rattle.std.proofs.lemmas.Grind.{common_steps}
 use Rattle.simple_asn1.proofs.Leaves.GeneralizedTime.{longer_form_utf8}
 use Rattle.simple_asn1.proofs.body.generalized_time.longer_form.Goals as goal

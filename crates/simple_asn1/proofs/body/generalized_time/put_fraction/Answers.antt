@@ -1,4 +1,4 @@
-use Rattle.std.proofs.Common.{◌≡◌, ◌∷◌, [], arith, take, sym, ap, subst, ◌∙◌}
+use Rattle.std.proofs.Common.{◌≡◌, ◌∷◌, [], arith, sym, subst}
 use Rattle.std.proofs.lemmas.Grind.{common_steps}
 use Rattle.simple_asn1.specs.Contents.GeneralizedTime.{fraction_digits, tenth, written_fraction}
 use Rattle.simple_asn1.proofs.body.generalized_time.put_fraction.Goals as goal
