@@ -9,8 +9,7 @@ use Rattle.simple_asn1.specs.Places.{EncodingAt, IsEncoding, TreeAt}
 use Rattle.simple_asn1.proofs.Slices.{octets_encoding}
 use Rattle.simple_asn1.proofs.HeaderOctets.{continued_at}
 use Rattle.simple_asn1.proofs.Fronts.{leading_parts, long_identifier}
-use Rattle.simple_asn1.proofs.OneReading.{encoding_some, identifier_some}
-use Rattle.simple_asn1.proofs.Prefixes.{identifier_alone, length_alone}
+use Rattle.simple_asn1.proofs.Prefixes.{identifier_alone, length_alone, encoding_some, identifier_some}
 use Rattle.simple_asn1.proofs.Faults.{length_first, split_encoding}
 
 -- one identifier octet
