@@ -1,9 +1,10 @@
 -- Steps of copying trees from the last block to the first.
-use Rattle.std.proofs.Common.{◌≡◌, ◌≤◌, List, [], ◌∷◌, ◌++◌, length, length-append, reverse, refl, sym, ap, ◌∙◌, arith, rules, ℕ, Box, Global}
+use Rattle.std.proofs.Common.{◌≡◌, ◌≤◌, List, [], ◌∷◌, ◌++◌, length, length-append, reverse, refl, sym, ap, ◌∙◌, arith, rules, ℕ, Box, Vec, Global}
 use Rattle.std.proofs.lemmas.List.{length-reverse, reverse-append}
-use Rattle.simple_asn1.specs.declared.block.ASN1Block.{ASN1Block, Explicit, the_lemmas}
+use Rattle.simple_asn1.specs.declared.block.ASN1Block.{ASN1Block, Sequence, Set, Explicit, the_lemmas}
+use Rattle.simple_asn1.specs.declared.block.GroupKind.{GroupKind}
 use Rattle.simple_asn1.specs.declared.header.ASN1Class.{ASN1Class}
-use Rattle.simple_asn1.specs.Tree.{explicit, more_trees}
+use Rattle.simple_asn1.specs.Tree.{group, explicit, more_trees}
 use Rattle.simple_asn1.specs.TreeOrder.{IsNext, inside}
 use Rattle.simple_asn1.specs.View.{view, views}
 use Rattle.simple_asn1.proofs.BlockLists.{count, count_views}
@@ -45,3 +46,17 @@ enough_made b left after done n s =
 
 pub view_explicit : (c : ASN1Class) (o n : ℕ) (b : Box ASN1Block Global) → view (Explicit c o n b) ≡ explicit c o n (view b.value)
 view_explicit c o n b = search (rules, the_lemmas)
+
+view_sequence : (o : ℕ) (v : Vec ASN1Block Global) → view (Sequence o v) ≡ group o GroupKind.Sequence (views v.items)
+view_sequence o v = search (rules, the_lemmas)
+
+view_set : (o : ℕ) (v : Vec ASN1Block Global) → view (Set o v) ≡ group o GroupKind.Set (views v.items)
+view_set o v = search (rules, the_lemmas)
+
+-- copies of what a group holds make its copy
+pub sequence_of_copies : (o : ℕ) (held made : Vec ASN1Block Global) → views made.items ≡ inside (view (Sequence o held)) → view (Sequence o made) ≡ view (Sequence o held)
+sequence_of_copies o held made e =
+    view_sequence o made ∙ (ap (group o GroupKind.Sequence) (e ∙ ap inside (view_sequence o held)) ∙ sym (view_sequence o held))
+
+pub set_of_copies : (o : ℕ) (held made : Vec ASN1Block Global) → views made.items ≡ inside (view (Set o held)) → view (Set o made) ≡ view (Set o held)
+set_of_copies o held made e = view_set o made ∙ (ap (group o GroupKind.Set) (e ∙ ap inside (view_set o held)) ∙ sym (view_set o held))

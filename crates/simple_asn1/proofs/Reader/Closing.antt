@@ -19,7 +19,7 @@ use Rattle.simple_asn1.specs.Tree.{Tree, group, trees_of}
 use Rattle.simple_asn1.specs.View.{view, views}
 use Rattle.simple_asn1.proofs.Faults.{one_block, tree_count}
 use Rattle.simple_asn1.proofs.Frames.Advances.{opened_places}
-use Rattle.simple_asn1.proofs.Frames.Closing.{Means, end_document, close_group, close_empty, close_attempt}
+use Rattle.simple_asn1.proofs.Frames.Closing.{Means, end_document, close_group, close_attempt}
 use Rattle.simple_asn1.proofs.Frames.Stopping.{Closed}
 use Rattle.simple_asn1.proofs.Reader.Adding.{Ready}
 use Rattle.simple_asn1.proofs.Reader.Holding.{Clean, Nested, nested, alone, left_clean}
