@@ -5,7 +5,7 @@ use Rattle.simple_asn1.specs.declared.block.GroupKind.TheVariants.{Sequence}
 use Rattle.simple_asn1.specs.declared.convert.point.Point.{Point}
 use Rattle.simple_asn1.specs.PointTrees.{point_tree}
 use Rattle.simple_asn1.specs.Tree.{Tree, group, shape, shapes}
-use Rattle.simple_asn1.specs.View.{view, views}
+use Rattle.simple_asn1.specs.View.{views}
 
 pub no_point : (t : Tree ℕ) (p : Point) (items : List ASN1Block) → length items ≢ 2 →
     shape t ≡ group tt Sequence (shapes (views items)) → shape t ≢ point_tree p

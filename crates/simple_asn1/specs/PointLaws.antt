@@ -1,8 +1,8 @@
 -- A point is read back from its trees.
 use Rattle.std.specs.Prelude.{◌≡◌, ℕ, ℤ}
-use Rattle.std.proofs.Common.{sym, ap, ◌∙◌, refl}
+use Rattle.std.proofs.Common.{sym, ap, ◌∙◌}
 use Rattle.simple_asn1.specs.declared.convert.point.Point.{Point}
-use Rattle.simple_asn1.specs.Tree.{Leaf, Tree, Trees, leaf, group, explicit, unknown, boolean, integer, bit_string, octet_string, null, text, no_trees, more_trees, shape, shapes}
+use Rattle.simple_asn1.specs.Tree.{Trees, no_trees, more_trees, shape, shapes}
 use Rattle.simple_asn1.specs.PointTrees.{point_tree, point_trees, BeginsWithPoint}
 
 -- one tree, one point

@@ -1,5 +1,5 @@
 -- The reader, and what its steps do. Only private contracts of `read` name these.
-use Rattle.std.specs.Prelude.{◌≡◌, ◌≢◌, ℕ, ◌+◌, ◌*◌, ◌-◌, ◌<◌, ◌≤◌, ◌⊎◌, ◌++◌, true, List, [], ◌∷◌, length, reverse, map, take, drop, slice_range, Result, Ok, Err, Option, Some, None}
+use Rattle.std.specs.Prelude.{◌≡◌, ◌≢◌, ℕ, ◌+◌, ◌*◌, ◌-◌, ◌<◌, ◌≤◌, ◌⊎◌, ◌++◌, true, List, [], ◌∷◌, length, reverse, map, take, drop, Result, Ok, Err, Option, Some, None}
 use Rattle.simple_asn1.specs.declared.header.ASN1Class.TheVariants.{Universal}
 use Rattle.simple_asn1.specs.declared.header.parsed.Header.{Header}
 use Rattle.simple_asn1.specs.declared.error.ASN1DecodeErr.{ASN1DecodeErr}

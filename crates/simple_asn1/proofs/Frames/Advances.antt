@@ -1,7 +1,6 @@
 -- Frames that are read further, and where they are.
-use Rattle.std.proofs.Common.{◌≡◌, ℕ, ◌+◌, ◌-◌, ◌<◌, ◌≤◌, List, [], ◌∷◌, ◌++◌, length, refl, sym, ap, ◌∙◌, subst, arith}
+use Rattle.std.proofs.Common.{◌≡◌, ℕ, ◌+◌, ◌-◌, ◌<◌, ◌≤◌, List, [], ◌∷◌, ◌++◌, length, refl, sym, ap, subst, arith}
 use Rattle.std.specs.List.{slice_range}
-use Rattle.simple_asn1.specs.declared.read.Extent.{Extent}
 use Rattle.simple_asn1.specs.Tree.{Tree, trees_of, more_trees}
 use Rattle.simple_asn1.specs.Grammar.{Encodes, EncodesAll}
 use Rattle.simple_asn1.specs.HeadersBegun.{HeadersBegun}

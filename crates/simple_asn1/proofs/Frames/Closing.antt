@@ -1,5 +1,5 @@
 -- A frame has ended: it is a block of the frame around it, or the document.
-use Rattle.std.proofs.Common.{◌≡◌, ◌≢◌, ℕ, ◌+◌, ◌-◌, ◌<◌, ◌≤◌, ◌^◌, Bool, true, List, [], ◌∷◌, ◌++◌, inl, inr, length, refl, sym, ap, ◌∙◌, subst, arith, length-append}
+use Rattle.std.proofs.Common.{◌≡◌, ◌≢◌, ℕ, ◌+◌, ◌-◌, true, List, [], ◌∷◌, inl, inr, refl, sym, subst, arith}
 use Rattle.std.specs.List.{slice_range}
 use Rattle.simple_asn1.specs.declared.block.GroupKind.{GroupKind}
 use Rattle.simple_asn1.specs.declared.header.ASN1Class.TheVariants.{Universal}
@@ -9,13 +9,12 @@ use Rattle.simple_asn1.specs.Contents.{group_tag}
 use Rattle.simple_asn1.specs.Grammar.{of_other_class, of_group, Encodes, EncodesAll}
 use Rattle.simple_asn1.specs.Header.{Encoding}
 use Rattle.simple_asn1.specs.HeadersBegun.{HeadersBegun}
-use Rattle.simple_asn1.specs.OpenFrames.{Frame, Headed, Opened, Stopping}
+use Rattle.simple_asn1.specs.OpenFrames.{Frame, Headed, Opened}
 use Rattle.simple_asn1.specs.Tree.{Tree, group, trees_of}
-use Rattle.simple_asn1.proofs.Frames.Advances.{opened_places}
-use Rattle.simple_asn1.proofs.Frames.Stopping.{Closed, group_stops, whole_document}
+use Rattle.simple_asn1.proofs.Frames.Stopping.{Closed, whole_document}
 use Rattle.simple_asn1.proofs.HeaderCounts.{begun_opened}
 use Rattle.simple_asn1.proofs.Leaves.{group_tag_is}
-use Rattle.simple_asn1.proofs.OneReading.{encodes_block, encodes_blocks, block_some}
+use Rattle.simple_asn1.proofs.OneReading.{encodes_blocks}
 
 -- the document has ended
 pub record DocumentRead (octets : List ℕ) (f : Frame) (n : ℕ) : Type 0 where

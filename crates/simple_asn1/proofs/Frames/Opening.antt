@@ -1,12 +1,11 @@
 -- A header in a frame, and what it leads: a frame inside, or a leaf.
-use Rattle.std.proofs.Common.{◌≡◌, ◌≢◌, ℕ, ◌+◌, ◌-◌, ◌<◌, ◌≤◌, ◌^◌, Bool, true, List, [], ◌∷◌, ◌++◌, inl, inr, length, drop, refl, sym, ap, ◌∙◌, subst, arith}
+use Rattle.std.proofs.Common.{◌≡◌, ℕ, ◌+◌, ◌-◌, ◌<◌, ◌≤◌, ◌^◌, Bool, List, [], ◌∷◌, inl, inr, length, refl, sym, ◌∙◌, subst, arith}
 use Rattle.std.specs.List.{slice_range}
 use Rattle.simple_asn1.specs.declared.error.ASN1DecodeErr.{ASN1DecodeErr}
 use Rattle.simple_asn1.specs.declared.error.ASN1DecodeErr.TheVariants.{OutOfMemory}
 use Rattle.simple_asn1.specs.declared.header.ASN1Class.{ASN1Class}
 use Rattle.simple_asn1.specs.declared.header.ASN1Class.TheVariants.{Universal}
 use Rattle.simple_asn1.specs.declared.header.parsed.Header.{Header}
-use Rattle.simple_asn1.specs.declared.read.Extent.{Extent}
 use Rattle.simple_asn1.specs.declared.read.FrameKind.{FrameKind}
 use Rattle.simple_asn1.specs.declared.read.FrameKind.TheVariants.{Whole, Group, Attempt}
 use Rattle.simple_asn1.specs.Fault.{DecodeFault, OutOfMemoryOr, fault_of}
@@ -19,8 +18,8 @@ use Rattle.simple_asn1.specs.HeaderPlaces.{EncodingBetween, HeaderFound}
 use Rattle.simple_asn1.specs.ReaderSteps.{IsKindOf}
 use Rattle.simple_asn1.specs.Tree.{Tree, trees_of}
 use Rattle.simple_asn1.proofs.Faults.{block_fault_no_block, header_no_encoding}
-use Rattle.simple_asn1.proofs.Frames.Advances.{Follows, Places, opened_places}
-use Rattle.simple_asn1.proofs.Frames.Slices.{drop_slice, slice_none, slice_slice}
+use Rattle.simple_asn1.proofs.Frames.Advances.{Follows, opened_places}
+use Rattle.simple_asn1.proofs.Frames.Slices.{slice_none, slice_slice}
 use Rattle.simple_asn1.proofs.HeaderCounts.{begun_leaf}
 use Rattle.simple_asn1.proofs.OneReading.{encodes_block}
 use Rattle.simple_asn1.proofs.Prefixes.{encoding_alone}

@@ -1,5 +1,5 @@
 -- A fault goes outward through frames: out of groups, to the innermost attempt or to the document.
-use Rattle.std.proofs.Common.{◌≡◌, ◌≢◌, ℕ, ◌+◌, ◌-◌, ◌<◌, ◌≤◌, ◌^◌, Bool, true, List, [], ◌∷◌, ◌++◌, inl, inr, length, refl, sym, ap, ◌∙◌, subst, arith}
+use Rattle.std.proofs.Common.{◌≡◌, ℕ, ◌+◌, ◌-◌, ◌<◌, ◌≤◌, ◌^◌, true, List, [], ◌∷◌, ◌++◌, inl, inr, length, refl, sym, ap, ◌∙◌, subst, arith}
 use Rattle.std.specs.List.{slice_range}
 use Rattle.simple_asn1.specs.declared.block.GroupKind.{GroupKind}
 use Rattle.simple_asn1.specs.declared.owed.Attempt as owed
@@ -7,11 +7,10 @@ use Rattle.simple_asn1.specs.declared.read.FrameKind.{FrameKind}
 use Rattle.simple_asn1.specs.declared.read.FrameKind.TheVariants.{Whole, Group, Attempt}
 use Rattle.simple_asn1.specs.Contents.{group_tag}
 use Rattle.simple_asn1.specs.Fault.{DecodeFault}
-use Rattle.simple_asn1.specs.Grammar.{IsBlock, of_other_class, EncodesAll, BlockFault, in_contents, ContentsFault, of_item, BlocksFault, after_blocks}
+use Rattle.simple_asn1.specs.Grammar.{IsBlock, of_other_class, BlockFault, in_contents, ContentsFault, of_item, BlocksFault, after_blocks}
 use Rattle.simple_asn1.specs.HeadersBegun.{HeadersBegun, begun_some, inside_first, nothing_after}
-use Rattle.simple_asn1.specs.OpenFrames.{Frame, ReadTo, GroupAt, AttemptAt, Headed, Inside, Opened, StopsAt, Stopping}
+use Rattle.simple_asn1.specs.OpenFrames.{Frame, ReadTo, GroupAt, Headed, Opened, StopsAt, Stopping}
 use Rattle.simple_asn1.specs.Owed.{as_it_came}
-use Rattle.simple_asn1.specs.HeaderPlaces.{EncodingBetween}
 use Rattle.simple_asn1.specs.ReaderSteps.{FaultyDocument}
 use Rattle.simple_asn1.specs.Tree.{Tree, trees_of}
 use Rattle.simple_asn1.proofs.Faults.{block_is_blocks, block_fault_no_block, blocks_fault_no_blocks}

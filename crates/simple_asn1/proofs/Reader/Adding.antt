@@ -1,5 +1,5 @@
 -- One tree more in the innermost frame, as a block or owed.
-use Rattle.std.proofs.Common.{◌≡◌, ℕ, ◌+◌, ◌*◌, ◌-◌, ◌<◌, ◌≤◌, List, [], ◌∷◌, ◌++◌, ◌⊎◌, inl, inr, length, map, take, drop, reverse, refl, sym, ap, ◌∙◌, subst, arith, append_assoc}
+use Rattle.std.proofs.Common.{◌≡◌, ℕ, ◌+◌, ◌<◌, List, [], ◌∷◌, ◌++◌, inl, inr, length, map, take, drop, reverse, refl, sym, ap, ◌∙◌, subst, append_assoc}
 use Rattle.std.proofs.lemmas.List.{take-append-drop}
 use Rattle.simple_asn1.specs.declared.block.ASN1Block.{ASN1Block}
 use Rattle.simple_asn1.specs.declared.block.GroupKind.{GroupKind}
@@ -9,12 +9,12 @@ use Rattle.simple_asn1.specs.declared.owed.Entry.TheVariants as Orders
 use Rattle.simple_asn1.specs.declared.read.Extent.{Extent}
 use Rattle.simple_asn1.specs.declared.read.OpenFrame.{OpenFrame}
 use Rattle.simple_asn1.specs.declared.read.Reader.{Reader}
-use Rattle.simple_asn1.specs.OpenFrames.{Frame, Opened}
+use Rattle.simple_asn1.specs.OpenFrames.{Opened}
 use Rattle.simple_asn1.specs.Owed.{Leads, around, as_it_came}
-use Rattle.simple_asn1.specs.ReaderSteps.{AllHold, frame, frames, GoesOn, IsPushed, IsOwed, IsPut, IsKept, left}
+use Rattle.simple_asn1.specs.ReaderSteps.{AllHold, frame, frames, GoesOn, IsOwed, IsPut, IsKept, left}
 use Rattle.simple_asn1.specs.Tree.{Tree, group, trees_of}
-use Rattle.simple_asn1.specs.View.{view, views}
-use Rattle.simple_asn1.proofs.Frames.Advances.{Follows, opened_more}
+use Rattle.simple_asn1.specs.View.{view}
+use Rattle.simple_asn1.proofs.Frames.Advances.{opened_more}
 use Rattle.simple_asn1.proofs.Frames.Stopping.{Closed}
 use Rattle.simple_asn1.proofs.Orders.{leads_ready, leads_kept, leads_group, leads_around}
 use Rattle.simple_asn1.proofs.Reader.Holding.{Grown, Owing, Pushing, all_owed, all_pushed}

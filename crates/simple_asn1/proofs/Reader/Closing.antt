@@ -1,20 +1,18 @@
 -- The innermost frame has ended.
-use Rattle.std.proofs.Common.{◌≡◌, ◌≢◌, ℕ, zero, suc, ◌+◌, ◌*◌, ◌-◌, ◌<◌, ◌≤◌, ◌^◌, true, List, [], ◌∷◌, ◌++◌, inl, inr, length, map, take, drop, reverse, refl, sym, ap, ◌∙◌, subst, arith, length-append, append-nil}
+use Rattle.std.proofs.Common.{◌≡◌, ℕ, suc, ◌+◌, ◌≤◌, List, [], ◌∷◌, ◌++◌, inr, length, map, take, drop, refl, sym, ap, ◌∙◌, subst, arith, length-append, append-nil}
 use Rattle.std.specs.List.{slice_range}
 use Rattle.std.proofs.lemmas.List.{length-map}
 use Rattle.simple_asn1.specs.declared.block.ASN1Block.{ASN1Block}
 use Rattle.simple_asn1.specs.declared.block.GroupKind.{GroupKind}
-use Rattle.simple_asn1.specs.declared.header.ASN1Class.TheVariants.{Universal}
 use Rattle.simple_asn1.specs.declared.owed.Attempt as owed
 use Rattle.simple_asn1.specs.declared.owed.Entry.{Entry}
 use Rattle.simple_asn1.specs.declared.read.FrameKind.TheVariants.{Group, Attempt}
 use Rattle.simple_asn1.specs.declared.read.OpenFrame.{OpenFrame}
 use Rattle.simple_asn1.specs.declared.read.Reader.{Reader}
 use Rattle.simple_asn1.specs.Grammar.{Encodes, EncodesAll}
-use Rattle.simple_asn1.specs.Header.{Encoding}
-use Rattle.simple_asn1.specs.OpenFrames.{Frame, Opened, Stopping}
+use Rattle.simple_asn1.specs.OpenFrames.{Opened}
 use Rattle.simple_asn1.specs.Owed.{Leads, after_all, around, as_it_came}
-use Rattle.simple_asn1.specs.ReaderSteps.{AllHold, Holds, frame, frames, Reads, Refused, Reading, Ended, Faulty, left}
+use Rattle.simple_asn1.specs.ReaderSteps.{frame, frames, Reads, Ended}
 use Rattle.simple_asn1.specs.Tree.{Tree, group, trees_of}
 use Rattle.simple_asn1.specs.View.{view, views}
 use Rattle.simple_asn1.proofs.Faults.{one_block, tree_count}

@@ -3,7 +3,6 @@ use Rattle.std.proofs.Common.{◌≡◌, ℕ, List, Result, Ok, Err, IsErr, IsEr
 use Rattle.simple_asn1.specs.declared.error.ASN1DecodeErr.{ASN1DecodeErr}
 use Rattle.simple_asn1.specs.declared.error.ASN1DecodeErr.TheVariants.{OutOfMemory}
 use Rattle.simple_asn1.specs.declared.read.Reader.{Reader}
-use Rattle.simple_asn1.specs.Fault.{DecodeFault, OutOfMemoryOr}
 use Rattle.simple_asn1.specs.ReaderSteps.{Stepped, Answered}
 
 pub stepped_memory : {A : Type 0} (octets : List ℕ) (t : Result A ASN1DecodeErr) (r : Reader) (n most : ℕ) → IsErr t × IsErrAnd t (λ e. e ≡ OutOfMemory)

@@ -1,5 +1,5 @@
 -- The reader at a header: where it is, and what a frame inside, a leaf or a fault there leads to.
-use Rattle.std.proofs.Common.{◌≡◌, ◌≢◌, ℕ, ◌+◌, ◌*◌, ◌-◌, ◌<◌, ◌≤◌, ◌^◌, List, [], ◌∷◌, ◌++◌, length, reverse, refl, sym, ap, ◌∙◌, subst, arith, append-nil, length-append}
+use Rattle.std.proofs.Common.{◌≡◌, ◌≢◌, ℕ, ◌+◌, ◌-◌, ◌<◌, ◌≤◌, ◌^◌, List, [], ◌∷◌, length, reverse, refl, sym, ap, ◌∙◌, subst, arith, append-nil, length-append}
 use Rattle.std.specs.List.{slice_range}
 use Rattle.std.proofs.lemmas.List.{reverse-append}
 use Rattle.simple_asn1.specs.declared.block.ASN1Block.{ASN1Block}
@@ -14,7 +14,7 @@ use Rattle.simple_asn1.specs.OpenFrames.{Headed, Opened, Stopping}
 use Rattle.simple_asn1.specs.HeaderPlaces.{HeaderFound}
 use Rattle.simple_asn1.specs.ReaderSteps.{AllHold, frame, frames, IsKindOf, IsOpened, Reading, GoesOn, Faulty, left}
 use Rattle.simple_asn1.specs.View.{view}
-use Rattle.simple_asn1.proofs.Frames.Advances.{Places, opened_places, opened_bound}
+use Rattle.simple_asn1.proofs.Frames.Advances.{opened_places, opened_bound}
 use Rattle.simple_asn1.proofs.Frames.Opening.{headed_by, opened_open, header_stopping, leaf_stopping, leaf_follows}
 use Rattle.simple_asn1.proofs.Reader.Adding.{Ready}
 use Rattle.simple_asn1.proofs.Reader.Holding.{all_open}

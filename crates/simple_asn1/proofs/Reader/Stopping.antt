@@ -1,5 +1,5 @@
 -- A fault goes outward through the frames of the reader.
-use Rattle.std.proofs.Common.{◌≡◌, ◌≢◌, ℕ, ◌+◌, ◌<◌, ◌≤◌, ◌^◌, List, [], ◌∷◌, ◌++◌, length, take, drop, reverse, refl, sym, ap, ◌∙◌, subst, arith, append_assoc, length-append, Option, Some, None}
+use Rattle.std.proofs.Common.{◌≡◌, ℕ, ◌<◌, ◌≤◌, ◌^◌, List, [], ◌∷◌, ◌++◌, length, take, drop, reverse, sym, ap, ◌∙◌, subst, arith, append_assoc, length-append, Some}
 use Rattle.std.proofs.lemmas.List.{take-append-drop, take-append-le}
 use Rattle.simple_asn1.specs.declared.owed.Attempt as owed
 use Rattle.simple_asn1.specs.declared.owed.Entry.{Entry}
@@ -7,13 +7,13 @@ use Rattle.simple_asn1.specs.declared.read.FrameKind.{FrameKind}
 use Rattle.simple_asn1.specs.declared.read.FrameKind.TheVariants.{Whole, Group, Attempt}
 use Rattle.simple_asn1.specs.declared.read.OpenFrame.{OpenFrame}
 use Rattle.simple_asn1.specs.Fault.{DecodeFault}
-use Rattle.simple_asn1.specs.OpenFrames.{Opened, Stopping}
+use Rattle.simple_asn1.specs.OpenFrames.{Stopping}
 use Rattle.simple_asn1.specs.Owed.{as_it_came}
 use Rattle.simple_asn1.specs.ReaderSteps.{AllHold, frame, frames, Refused, FaultyDocument, attempt_of, left}
 use Rattle.simple_asn1.proofs.Frames.Stopping.{StoppingPlaces, stop_attempt, stop_document, stop_pop, stopping_places}
 use Rattle.simple_asn1.proofs.Reader.Adding.{Ready}
 use Rattle.simple_asn1.proofs.Reader.Popping.{reverse_push, reverse_none}
-use Rattle.simple_asn1.proofs.Reader.Holding.{Nested, nested, alone}
+use Rattle.simple_asn1.proofs.Reader.Holding.{Nested, nested}
 
 -- where the frame is in which a fault is
 pub refused_places : (octets : List ℕ) (es : List Entry) (f : OpenFrame) (gs : List OpenFrame) (e : DecodeFault) (n : ℕ) (r : Refused octets es f gs e n)

@@ -1,5 +1,5 @@
 -- The first turn, and what each kind of turn says.
-use Rattle.std.proofs.Common.{◌≡◌, ℕ, ◌+◌, ◌<◌, ◌≤◌, List, [], ◌++◌, length, map, reverse, refl, sym, ap, ◌∙◌, subst, arith, append-nil}
+use Rattle.std.proofs.Common.{◌≡◌, ℕ, List, [], length, map, reverse, refl, sym, ap, ◌∙◌, subst, arith, append-nil}
 use Rattle.std.specs.List.{slice_range}
 use Rattle.simple_asn1.specs.declared.block.ASN1Block.{ASN1Block}
 use Rattle.simple_asn1.specs.declared.owed.Entry.{Entry}
@@ -8,7 +8,7 @@ use Rattle.simple_asn1.specs.declared.read.OpenFrame.{OpenFrame}
 use Rattle.simple_asn1.specs.declared.read.Reader.{Reader}
 use Rattle.simple_asn1.specs.declared.read.Turn.{Turn}
 use Rattle.simple_asn1.specs.declared.read.Turn.TheVariants.{More, End, Stop}
-use Rattle.simple_asn1.specs.Fault.{DecodeFault, OutOfMemoryOr}
+use Rattle.simple_asn1.specs.Fault.{OutOfMemoryOr}
 use Rattle.simple_asn1.specs.Grammar.{EncodesAll}
 use Rattle.simple_asn1.specs.HeadersBegun.{begun_none}
 use Rattle.simple_asn1.specs.ReaderSteps.{Reads, GoesOn, Ended, FaultyDocument, Turned}

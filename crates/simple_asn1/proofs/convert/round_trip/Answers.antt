@@ -1,4 +1,4 @@
-use Rattle.std.proofs.Common.{◌≡◌, ◌<◌, ◌^◌, ℕ, List, length, sym, subst, ◌∙◌, arith}
+use Rattle.std.proofs.Common.{◌<◌, ◌^◌, length, subst, ◌∙◌, arith}
 use Rattle.simple_asn1.specs.declared.header.ASN1Class.TheVariants.{Universal}
 use Rattle.simple_asn1.specs.Conversions.{Decodes, DecodeFails}
 use Rattle.simple_asn1.proofs.Trips.{trip_octets, trip_encode, trip_same, trip_decode}

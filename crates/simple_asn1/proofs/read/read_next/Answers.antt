@@ -1,4 +1,4 @@
-use Rattle.std.proofs.Common.{◌≡◌, ◌≢◌, ℕ, ◌+◌, ◌-◌, ◌<◌, ◌≤◌, List, length, inl, inr, refl, sym, ap, ◌∙◌, subst, arith}
+use Rattle.std.proofs.Common.{◌≡◌, ℕ, ◌+◌, ◌-◌, ◌≤◌, List, length, inl, inr, refl, subst, arith}
 use Rattle.std.specs.List.{slice_range}
 use Rattle.std.proofs.lemmas.Grind.{common_steps}
 use Rattle.std.proofs.lemmas.Result.{err_from_is_err_and}
@@ -8,7 +8,6 @@ use Rattle.simple_asn1.specs.declared.read.OpenFrame.{OpenFrame}
 use Rattle.simple_asn1.specs.Fault.{DecodeFault, OutOfMemoryOr}
 use Rattle.simple_asn1.specs.Grammar.{Encodes, ContentsFault}
 use Rattle.simple_asn1.specs.Header.{Encoding}
-use Rattle.simple_asn1.specs.HeadersBegun.{IsReadInside}
 use Rattle.simple_asn1.specs.ReaderSteps.{IsReadAs}
 use Rattle.simple_asn1.specs.View.{view}
 use Rattle.simple_asn1.proofs.Reader.Adding.{put_goes_on}

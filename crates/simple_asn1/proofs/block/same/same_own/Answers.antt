@@ -1,7 +1,7 @@
-use Rattle.std.proofs.Common.{◌≡◌, ℕ, List, rules, refl, sym, ap, ◌∙◌}
+use Rattle.std.proofs.Common.{◌≡◌, ℕ, List, rules, sym, ap, ◌∙◌}
 use Rattle.std.proofs.lemmas.Bool.Decides.{Decides-eqb}
 use Rattle.std.proofs.lemmas.Slice.Eq.{slice_eq-Decides}
-use Rattle.simple_asn1.specs.declared.block.ASN1Block.{ASN1Block, ObjectIdentifier, the_lemmas}
+use Rattle.simple_asn1.specs.declared.block.ASN1Block.{ObjectIdentifier, the_lemmas}
 use Rattle.simple_asn1.specs.Tree.{Tree, leaf, object_identifier}
 use Rattle.simple_asn1.specs.TreeOrder.{own_shape}
 use Rattle.simple_asn1.specs.View.{view}

@@ -1,4 +1,4 @@
-use Rattle.std.proofs.Common.{◌≡◌, ◌+◌, ◌-◌, ◌*◌, ◌^◌, ◌++◌, ◌<◌, length, take}
+use Rattle.std.proofs.Common.{◌≡◌, ◌-◌, ◌*◌, ◌^◌, ◌++◌, ◌<◌, length, take}
 use Rattle.simple_asn1.specs.Contents.GeneralizedTime.{fraction_digits, tenth}
 use Rattle.simple_asn1.proofs.body.generalized_time.fraction_octets.Given as goal
 

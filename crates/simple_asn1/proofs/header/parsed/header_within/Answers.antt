@@ -1,9 +1,8 @@
-use Rattle.std.proofs.Common.{◌≡◌, ℕ, ◌+◌, ◌-◌, ◌<◌, ◌≤◌, length, drop, sym, ap, ◌∙◌, subst, arith}
+use Rattle.std.proofs.Common.{◌≡◌, ◌+◌, ◌-◌, drop, ap, ◌∙◌, subst, arith}
 use Rattle.std.specs.List.{slice_range}
 use Rattle.std.proofs.lemmas.Result.{err_from_is_err_and}
 use Rattle.simple_asn1.specs.Fault.{OutOfMemoryOr}
 use Rattle.simple_asn1.specs.Grammar.{HeaderFault}
-use Rattle.simple_asn1.specs.HeaderPlaces.{EncodingBetween}
 use Rattle.simple_asn1.proofs.Frames.Opening.{encoding_here, EncodingAt_moved}
 use Rattle.simple_asn1.proofs.Frames.Slices.{drop_slice}
 use Rattle.simple_asn1.proofs.ReadSteps.{slice_length}
