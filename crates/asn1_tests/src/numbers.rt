@@ -201,10 +201,7 @@ fn natural_numbers_pass_128_bits(rt: HostRuntime) -> Result<(), Fail> {
     let greatest = BigUint::from_u128(alloc, 340282366920938463463374607431768211455)?;
     assert!(&rt; greatest < past);
     let written = encode_base127(alloc, &greatest)?;
-    assert_eq!(&rt;
-        hex_of(alloc, &written)?.as_str(),
-        "83 FF FF FF FF FF FF FF FF FF FF FF FF FF FF FF FF FF 7F"
-    );
+    check_octets(&rt, alloc, &written, "83 FF FF FF FF FF FF FF FF FF FF FF FF FF FF FF FF FF 7F")?;
     Ok(())
 }
 
@@ -264,10 +261,7 @@ fn whole_numbers_are_of_128_bits(rt: HostRuntime) -> Result<(), Fail> {
     let number = BigInt::from_u128(alloc, n)?;
     check_wide(&rt, &number, None, None, Some(n))?;
     let written = number.to_signed_bytes_be(alloc)?;
-    assert_eq!(&rt;
-        hex_of(alloc, &written)?.as_str(),
-        "00 80 00 00 00 00 00 00 00 00 00 00 00 00 00 00 00"
-    );
+    check_octets(&rt, alloc, &written, "00 80 00 00 00 00 00 00 00 00 00 00 00 00 00 00 00")?;
     let least = BigInt::from_i128(alloc, i128::MIN)?;
     check_wide(&rt, &least, None, Some(i128::MIN), None)?;
     Ok(())
@@ -277,9 +271,6 @@ fn whole_numbers_are_of_128_bits(rt: HostRuntime) -> Result<(), Fail> {
 fn whole_numbers_of_65_bits_have_nine_octets(rt: HostRuntime) -> Result<(), Fail> {
     let alloc = rt.alloc();
     let written = BigInt::from_u128(alloc, 18446744073709551616)?.to_signed_bytes_be(alloc)?;
-    assert_eq!(&rt;
-        hex_of(alloc, &written)?.as_str(),
-        "01 00 00 00 00 00 00 00 00"
-    );
+    check_octets(&rt, alloc, &written, "01 00 00 00 00 00 00 00 00")?;
     Ok(())
 }
