@@ -20,13 +20,15 @@ pub enum ASN1DecodeErr {
     /// whose bits a `usize` can't count.
     #[error("Length field too large for object type: {0}")]
     LengthTooLarge(usize),
-    /// Contents octets of a UTF8String, TeletexString, UniversalString or BMPString are no UTF-8.
+    /// Contents octets of a UTF8String, TeletexString, UniversalString, BMPString or GeneralizedTime
+    /// are no UTF-8.
     #[error("UTF8 string failed to properly decode: {0}")]
     UTF8DecodeFailure(Utf8Error),
     /// A contents octet of a PrintableString is none of its 74 characters (X.680 table 10).
     #[error("Printable string failed to properly decode.")]
     PrintableStringDecodeFailure,
-    /// A time is no valid moment; its text, or the number of its octets. Not answered yet.
+    /// Contents octets of a UTCTime or GeneralizedTime are no valid moment; their text, or their
+    /// number in decimal.
     #[error("Invalid date value: {0}")]
     InvalidDateValue(String),
     /// The initial contents octet of a BIT STRING counts more unused bits than the octets after it have; the number of
@@ -114,7 +116,7 @@ pub enum ASN1EncodeErr {
     /// A PrintableString or IA5String, of one octet a character, holds a character past 255.
     #[error("Character does not fit one byte")]
     CharacterTooLarge,
-    /// The year of a time is below 0. Not answered yet.
+    /// The year of a time is below 0.
     #[error("Year is below 0")]
     YearOutOfRange,
     /// Memory ran out. Nothing is said of the block.

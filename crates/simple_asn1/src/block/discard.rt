@@ -11,7 +11,8 @@ use std::mem;
 ///
 /// ```rust
 /// use simple_asn1::{ASN1DecodeErr, discard, from_der};
-/// ///
+/// use std::alloc::Global;
+///
 /// // How many blocks the document has at its top.
 /// fn count(alloc: Global, octets: &[u8]) -> Result<usize, ASN1DecodeErr> {
 ///     let blocks = from_der(alloc, octets)?;
