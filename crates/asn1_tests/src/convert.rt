@@ -2,8 +2,8 @@
 ghost use Rattle.std.specs.Prelude.{◌≡◌, ◌⊎◌, ℕ, Ok, Err, MatchResult};
 ghost use Rattle.simple_asn1.specs.Tree.{Trees, no_trees, shapes};
 
-use asn1_text::octets_text;
 use crate::helpers::octets;
+use asn1_text::octets_text;
 use simple_asn1::{
     ASN1Block, ASN1Class, ASN1DecodeErr, ASN1EncodeErr, FromASN1, Point, PointErr, RoundTrip,
     ToASN1, TripFault, der_decode, der_encode, round_trip,

@@ -201,7 +201,12 @@ fn natural_numbers_pass_128_bits(rt: HostRuntime) -> Result<(), Fail> {
     let greatest = BigUint::from_u128(alloc, 340282366920938463463374607431768211455)?;
     assert!(&rt; greatest < past);
     let written = encode_base127(alloc, &greatest)?;
-    check_octets(&rt, alloc, &written, "83 FF FF FF FF FF FF FF FF FF FF FF FF FF FF FF FF FF 7F")?;
+    check_octets(
+        &rt,
+        alloc,
+        &written,
+        "83 FF FF FF FF FF FF FF FF FF FF FF FF FF FF FF FF FF 7F",
+    )?;
     Ok(())
 }
 
@@ -261,7 +266,12 @@ fn whole_numbers_are_of_128_bits(rt: HostRuntime) -> Result<(), Fail> {
     let number = BigInt::from_u128(alloc, n)?;
     check_wide(&rt, &number, None, None, Some(n))?;
     let written = number.to_signed_bytes_be(alloc)?;
-    check_octets(&rt, alloc, &written, "00 80 00 00 00 00 00 00 00 00 00 00 00 00 00 00 00")?;
+    check_octets(
+        &rt,
+        alloc,
+        &written,
+        "00 80 00 00 00 00 00 00 00 00 00 00 00 00 00 00 00",
+    )?;
     let least = BigInt::from_i128(alloc, i128::MIN)?;
     check_wide(&rt, &least, None, Some(i128::MIN), None)?;
     Ok(())

@@ -1,6 +1,6 @@
 // Object identifiers.
-use asn1_text::octets_text;
 use crate::helpers::octets;
+use asn1_text::octets_text;
 use simple_asn1::{ASN1DecodeErr, ASN1EncodeErr, BigUint, OID, oid};
 use std::alloc::Global;
 use std::process::Abort;

@@ -1,6 +1,6 @@
 // The octets of single blocks of a document.
-use asn1_text::octets_text;
 use crate::helpers::octets;
+use asn1_text::octets_text;
 use simple_asn1::encoding_at;
 use std::alloc::Global;
 use std::process::Abort;
@@ -26,7 +26,11 @@ fn check_encoding(
 #[test]
 fn encodings_stand_at_offsets(rt: HostRuntime) -> Result<(), Fail> {
     for (document, offset, found) in [
-        ("30 07 02 01 05 A0 02 05 00", 0, "30 07 02 01 05 A0 02 05 00"),
+        (
+            "30 07 02 01 05 A0 02 05 00",
+            0,
+            "30 07 02 01 05 A0 02 05 00",
+        ),
         ("30 07 02 01 05 A0 02 05 00", 2, "02 01 05"),
         ("30 07 02 01 05 A0 02 05 00", 5, "A0 02 05 00"),
         ("30 07 02 01 05 A0 02 05 00", 7, "05 00"),

@@ -43,7 +43,12 @@ fn a_fraction_is_written_without_zeros_at_its_end(rt: HostRuntime) -> Result<(),
 fn a_utc_time_drops_its_nanoseconds(rt: HostRuntime) -> Result<(), Fail> {
     let alloc = rt.alloc();
     let block = ASN1Block::UTCTime(0, DateTime::new(2049, 12, 31, 23, 59, 59, 1)?);
-    check_written(&rt, alloc, &block, "17 0D 34 39 31 32 33 31 32 33 35 39 35 39 5A")?;
+    check_written(
+        &rt,
+        alloc,
+        &block,
+        "17 0D 34 39 31 32 33 31 32 33 35 39 35 39 5A",
+    )?;
     check_faithful(&rt, alloc, block, false)
 }
 
@@ -61,12 +66,20 @@ fn a_utc_time_survives_from_1950_to_2049(rt: HostRuntime) -> Result<(), Fail> {
 fn a_year_below_0_is_not_written(rt: HostRuntime) -> Result<(), Fail> {
     let alloc = rt.alloc();
     let block = ASN1Block::UTCTime(0, new_year(0)?);
-    check_written(&rt, alloc, &block, "17 0D 30 30 30 31 30 31 30 30 30 30 30 30 5A")?;
+    check_written(
+        &rt,
+        alloc,
+        &block,
+        "17 0D 30 30 30 31 30 31 30 30 30 30 30 30 5A",
+    )?;
     for block in [
         ASN1Block::UTCTime(0, new_year(-1)?),
         ASN1Block::GeneralizedTime(0, new_year(-1)?),
     ] {
-        assert_eq!(&rt; to_der(alloc, &block).err(), Some(ASN1EncodeErr::YearOutOfRange));
+        assert_eq!(&rt;
+            to_der(alloc, &block).err(),
+            Some(ASN1EncodeErr::YearOutOfRange)
+        );
         check_faithful(&rt, alloc, block, false)?;
     }
     Ok(())

@@ -4,7 +4,8 @@ ghost use Rattle.asn1_text.specs.Inside.{trees_inside, turns};
 ghost use Rattle.simple_asn1.specs.View.{view, views};
 
 use crate::scalars::{
-    write_bracketed, write_characters, write_components, write_integer, write_moment, write_tag_number,
+    write_bracketed, write_characters, write_components, write_integer, write_moment,
+    write_tag_number,
 };
 use simple_asn1::{ASN1Block, ASN1Class, BigUint};
 use std::alloc::{AllocError, Global};

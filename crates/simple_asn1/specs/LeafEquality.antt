@@ -15,7 +15,7 @@ abbrev pub same_moment : Moment → Moment → Bool
 same_moment m n =
     int_eq m.year n.year
     && bytes_eq (m.month ∷ m.day ∷ m.hour ∷ m.minute ∷ m.second ∷ m.nanosecond ∷ [])
-      (n.month ∷ n.day ∷ n.hour ∷ n.minute ∷ n.second ∷ n.nanosecond ∷ [])
+    (n.month ∷ n.day ∷ n.hour ∷ n.minute ∷ n.second ∷ n.nanosecond ∷ [])
 
 abbrev pub same_leaf : Leaf → Leaf → Bool
 same_leaf (boolean a) (boolean b) = constructed_bit a == constructed_bit b
@@ -64,21 +64,21 @@ fields_equal :
     (y y' : ℤ) (m m' d d' h h' i i' s s' n n' : ℕ) → y ≡ y' →
     m ∷ d ∷ h ∷ i ∷ s ∷ n ∷ [] ≡ m' ∷ d' ∷ h' ∷ i' ∷ s' ∷ n' ∷ [] →
     ◌≡◌ {A = Moment}
-      (record { year = y; month = m; day = d; hour = h; minute = i; second = s; nanosecond = n })
-      (record { year = y'; month = m'; day = d'; hour = h'; minute = i'; second = s'; nanosecond = n' })
+    (record { year = y; month = m; day = d; hour = h; minute = i; second = s; nanosecond = n })
+    (record { year = y'; month = m'; day = d'; hour = h'; minute = i'; second = s'; nanosecond = n' })
 fields_equal y y' m m' d d' h h' i i' s s' n n' e f = cc
 
 equal_moment : (m n : Moment) → same_moment m n ≡ true → m ≡ n
 equal_moment m n e =
     let q = and_parts (int_eq m.year n.year) _ e in
     fields_equal m.year n.year m.month n.month m.day n.day m.hour n.hour m.minute n.minute m.second
-      n.second m.nanosecond n.nanosecond ((Decides-int_eq m.year n.year).0 q.0)
-      ((bytes_eq-Decides _ _).0 q.1)
+    n.second m.nanosecond n.nanosecond ((Decides-int_eq m.year n.year).0 q.0)
+    ((bytes_eq-Decides _ _).0 q.1)
 
 moment_same : (m : Moment) → same_moment m m ≡ true
 moment_same m =
     let fields =
-      m.month ∷ m.day ∷ m.hour ∷ m.minute ∷ m.second ∷ m.nanosecond ∷ [] in
+    m.month ∷ m.day ∷ m.hour ∷ m.minute ∷ m.second ∷ m.nanosecond ∷ [] in
     and_from _ _ ((Decides-int_eq m.year m.year).1 refl) ((bytes_eq-Decides fields fields).1 refl)
 
 pub leaf_yes : (l m : Leaf) → same_leaf l m ≡ true → l ≡ m

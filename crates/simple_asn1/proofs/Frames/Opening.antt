@@ -111,10 +111,10 @@ leaf_stopping octets f gs p n h e small found o shut u w =
     let stops : BlockFault i rest e = in_contents first behind d F w in
     let here : p < f.extent.end = omega (arith, found.past, found.order, found.fits) in
     let no_header = nothing_inside (λ y r c k t contents m g G op.
-            let z = encoding_alone _ _ _ _ _ _ _ _ _ _ _ _ behind r found.encoding G (sym d ∙ g) in
-            let tag = subst (λ i. IsReadInside c k i) (sym z.tag) op in
-            let bit = subst (λ i. IsReadInside c i h.tag) (sym z.constructed) tag in
-            shut (subst (λ i. IsReadInside i h.constructed h.tag) (sym z.class) bit)) in
+    let z = encoding_alone _ _ _ _ _ _ _ _ _ _ _ _ behind r found.encoding G (sym d ∙ g) in
+    let tag = subst (λ i. IsReadInside c k i) (sym z.tag) op in
+    let bit = subst (λ i. IsReadInside c i h.tag) (sym z.constructed) tag in
+    shut (subst (λ i. IsReadInside i h.constructed h.tag) (sym z.class) bit)) in
     let no_block = nothing_after (λ x r g b. block_fault_no_block i rest x r e stops near g b) in
     record {
       place = p;
