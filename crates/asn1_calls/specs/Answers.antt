@@ -30,7 +30,8 @@ IsAnswer (b ∷ line) answer = Unit {0}
 abbrev pub AreCallAnswers : List (List ℕ) → List ℕ → Type 0
 AreCallAnswers [] output = output ≡ []
 AreCallAnswers (line ∷ lines) output =
-    (answer : List ℕ) × (rest : List ℕ) × (output ≡ answer ++ 10 ∷ rest) × IsAnswer line answer × AreCallAnswers lines rest
+    (answer : List ℕ) × (rest : List ℕ) × (output ≡ answer ++ 10 ∷ rest) × IsAnswer line answer
+    × AreCallAnswers lines rest
 
 -- the output answers the lines of the input that are no comments, in their order
 abbrev pub AreAnswers : List ℕ → List ℕ → Type 0

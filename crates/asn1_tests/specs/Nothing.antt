@@ -4,6 +4,7 @@ use Rattle.std.proofs.Common.{refl, sym, ◌∙◌}
 use Rattle.asn1_tests.specs.declared.convert.Nothing.{Nothing}
 use Rattle.simple_asn1.specs.Tree.{Trees, no_trees, more_trees, shapes}
 
-pub nothing_read_back : (x y : Nothing) (bs rest : Trees ℕ) → shapes bs ≡ no_trees → rest ≡ bs → (y ≡ x) × (rest ≡ no_trees)
+pub nothing_read_back : (x y : Nothing) (bs rest : Trees ℕ) → shapes bs ≡ no_trees → rest ≡ bs → (y ≡ x)
+    × (rest ≡ no_trees)
 nothing_read_back x y no_trees rest e r = (refl, r)
 nothing_read_back x y (more_trees b bs) rest e r = cc

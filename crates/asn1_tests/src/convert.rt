@@ -87,7 +87,8 @@ impl<T: FromASN1 + Drop> FromASN1 for Pair<T> {
 
     ghost reads = { λ bs r. MatchResult r
         (λ x. (mid : Trees ℕ) × T.reads bs (Ok (x.0.first, mid)) × T.reads mid (Ok (x.0.second, x.1)))
-        (λ e. T.reads bs (Err e) ⊎ ((a : T) × (mid : Trees ℕ) × T.reads bs (Ok (a, mid)) × T.reads mid (Err e))) };
+        (λ e. T.reads bs (Err e) ⊎ ((a : T) × (mid : Trees ℕ) × T.reads bs (Ok (a, mid))
+        × T.reads mid (Err e))) };
 
     fn from_asn1<'a>(
         alloc: Global,

@@ -12,7 +12,8 @@ pub pair_text : (n : ℕ) → n < 256 → padded_integral (format_spec 32 0 4 2 
 pair_text n h = hex_byte true n h
 
 -- one octet is written after those before it
-pub one_more : (out new octets : List ℕ) (i n : ℕ) → i < length octets → n ≡ get_or octets i 0 → new ≡ out ++ (32 ∷ pair n) → new ++ pairs_after_spaces (drop (i + 1) octets) ≡ out ++ pairs_after_spaces (drop i octets)
+pub one_more : (out new octets : List ℕ) (i n : ℕ) → i < length octets → n ≡ get_or octets i 0 → new ≡ out ++ (32 ∷ pair n)
+    → new ++ pairs_after_spaces (drop (i + 1) octets) ≡ out ++ pairs_after_spaces (drop i octets)
 one_more out new octets i n h x e =
     let d : drop i octets ≡ n ∷ drop (i + 1) octets = drop_more octets i 0 h ∙ ap (λ z. z ∷ drop (i + 1) octets) (sym x) in
     ap (λ z. z ++ pairs_after_spaces (drop (i + 1) octets)) e ∙ (append_assoc out (32 ∷ pair n) (pairs_after_spaces (drop (i + 1) octets)) ∙ ap (λ z. out ++ pairs_after_spaces z) (sym d))

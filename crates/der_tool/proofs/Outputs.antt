@@ -28,7 +28,10 @@ lines_within [] n h = tt
 lines_within (b ∷ input) zero h = absurd (omega (arith, h))
 lines_within (b ∷ input) (suc n) h =
     let all = lines_within input n (omega (arith, h)) in
-    cond_both (b == 10) ([] ∷ lines_of input) (onto_first_line b (lines_of input)) (AreWithin (suc n)) (λ _. (omega arith, weaker (lines_of input) n all)) (λ _. onto_within b (lines_of input) n all)
+    cond_both (b == 10) ([] ∷ lines_of input) (onto_first_line b (lines_of input)) (AreWithin (suc n)) (λ _. (
+      omega arith,
+      weaker (lines_of input) n all,
+    )) (λ _. onto_within b (lines_of input) n all)
 
 -- the octets of a line are fewer than its digits
 few_octets : (line octets : List ℕ) (n : ℕ) → length line ≤ n → n < 2 ^ 64 → decode_of line ≡ Ok octets → length octets < 2 ^ 64
@@ -49,7 +52,8 @@ some_verdict law octets small =
 one_answer : OneReading → (line a b : List ℕ) (n : ℕ) → length line ≤ n → n < 2 ^ 64 → IsAnswer line a → IsAnswer line b → a ≡ b
 one_answer law line a b n within small u v = go (decode_of line) refl u v
   where
-    go : (r : Result (List ℕ) FromHexError) → decode_of line ≡ r → MatchResult r (λ octets. IsVerdict octets a) (λ _. a ≡ codes "badhex") → MatchResult r (λ octets. IsVerdict octets b) (λ _. b ≡ codes "badhex") → a ≡ b
+    go : (r : Result (List ℕ) FromHexError) → decode_of line ≡ r → MatchResult r (λ octets. IsVerdict octets a) (λ _. a ≡ codes "badhex")
+        → MatchResult r (λ octets. IsVerdict octets b) (λ _. b ≡ codes "badhex") → a ≡ b
     go (Ok octets) is u v = one_verdict law octets a b (few_octets line octets n within small is) u v
     go (Err e) is u v = u ∙ sym v
 

@@ -42,7 +42,8 @@ number_after fault = []
 abbrev pub IsVerdict : List ℕ → List ℕ → Type 0
 IsVerdict octets answer =
     ((bs : Trees ℕ) × Document octets bs × (answer ≡ codes "ok " ++ encode_upper (all_canonical bs)))
-    ⊎ ((fault : DecodeFault) × FirstFault octets fault × (answer ≡ codes "refused " ++ (name_of fault ++ number_after fault)))
+    ⊎ ((fault : DecodeFault) × FirstFault octets fault
+    × (answer ≡ codes "refused " ++ (name_of fault ++ number_after fault)))
 
 -- what is said of a line
 abbrev pub IsAnswer : List ℕ → List ℕ → Type 0
@@ -52,7 +53,8 @@ IsAnswer line answer = MatchResult (decode_of line) (λ octets. IsVerdict octets
 abbrev pub AreLineAnswers : List (List ℕ) → List ℕ → Type 0
 AreLineAnswers [] output = output ≡ []
 AreLineAnswers (line ∷ lines) output =
-    (answer : List ℕ) × (rest : List ℕ) × (output ≡ answer ++ 10 ∷ rest) × IsAnswer line answer × AreLineAnswers lines rest
+    (answer : List ℕ) × (rest : List ℕ) × (output ≡ answer ++ 10 ∷ rest) × IsAnswer line answer
+    × AreLineAnswers lines rest
 
 -- the output is the answers to the input's lines
 abbrev pub AreAnswers : List ℕ → List ℕ → Type 0

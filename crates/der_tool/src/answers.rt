@@ -40,7 +40,8 @@ fn split_line(input: &[u8]) -> (&[u8], &[u8])
 
 // Appends the answer to a line.
 fn append_answer(alloc: Global, line: &[u8], output: &mut Vec<u8>) -> Result<(), AllocError>
-    ensures { OnOk result ((answer : List ℕ) × IsAnswer line.now answer × (output.new.items ≡ output.old.items ++ answer)) }
+    ensures { OnOk result ((answer : List ℕ) × IsAnswer line.now answer
+        × (output.new.items ≡ output.old.items ++ answer)) }
 {
     match hex::decode(alloc, line) {
         Ok(octets) => append_verdict(alloc, &octets, output),
@@ -51,7 +52,8 @@ fn append_answer(alloc: Global, line: &[u8], output: &mut Vec<u8>) -> Result<(),
 
 // Appends what is said of octets: their canonical ones, or why they are no document.
 fn append_verdict(alloc: Global, octets: &[u8], output: &mut Vec<u8>) -> Result<(), AllocError>
-    ensures { OnOk result ((answer : List ℕ) × IsVerdict octets.now answer × (output.new.items ≡ output.old.items ++ answer)) }
+    ensures { OnOk result ((answer : List ℕ) × IsVerdict octets.now answer
+        × (output.new.items ≡ output.old.items ++ answer)) }
 {
     match rewrite(alloc, octets) {
         Ok(canonical) => {

@@ -7,7 +7,8 @@ use simple_asn1::law_one_reading;
 /// A law. Each input that a slice can hold has an output that answers it, and no other.
 pub fn law_one_output()
     ensures some { (input : List ℕ) → length input < 2 ^ 64 → (output : List ℕ) × AreAnswers input output }
-    ensures one { (input a b : List ℕ) → length input < 2 ^ 64 → AreAnswers input a → AreAnswers input b → a ≡ b }
+    ensures one { (input a b : List ℕ) → length input < 2 ^ 64 → AreAnswers input a → AreAnswers input b
+        → a ≡ b }
 {
     law_one_reading();
 }

@@ -29,7 +29,8 @@ pub enum ToolFault {
 /// # Errors
 /// `Read` and `Memory`, after which nothing was written; `Write`, after which nothing is known of what was.
 pub fn run<R: Read, W: Write>(alloc: Global, r: &mut R, w: &mut W) -> Result<(), ToolFault>
-    ensures answered { OnOk result (IfSome (R.remaining r.old) (λ input. (output : List ℕ) × AreAnswers input output × Appends (W.contents w.old) (W.contents w.new) output)) }
+    ensures answered { OnOk result (IfSome (R.remaining r.old) (λ input. (output : List ℕ)
+        × AreAnswers input output × Appends (W.contents w.old) (W.contents w.new) output)) }
     ensures read { OnOk result (IsAtEnd (R.remaining r.new)) }
     ensures kept { IfErr result (λ e. (e ≡ write_fault) ⊎ Keeps (W.contents w.old) (W.contents w.new)) }
 {

@@ -29,7 +29,8 @@ pub record Taken (b : ASN1Block) (left taken kept : List ASN1Block) : Type 0 whe
   pub held : views taken ≡ inside (view b)
   pub copied : (r : ASN1Block) → view r ≡ view b → views (reverse (kept ++ r ∷ [])) ≡ views left
 
-pub taken_for : (b : ASN1Block) (left after done taken kept : List ASN1Block) → IsNext b left after → views (reverse done) ≡ views after → length taken ≡ count (inside (view b)) → done ≡ kept ++ reverse taken → Taken b left taken kept
+pub taken_for : (b : ASN1Block) (left after done taken kept : List ASN1Block) → IsNext b left after → views (reverse done) ≡ views after
+    → length taken ≡ count (inside (view b)) → done ≡ kept ++ reverse taken → Taken b left taken kept
 taken_for b left after done taken kept n s k t =
     let v : reverse done ≡ taken ++ reverse kept = ap reverse t ∙ (reverse-append kept (reverse taken) ∙ ap (λ z. z ++ reverse kept) (reverse_twice taken)) in
     let m : length taken ≡ length n.held = k ∙ (sym (ap count n.holds) ∙ count_views n.held) in
@@ -42,7 +43,16 @@ taken_for b left after done taken kept n s k t =
 -- enough copies are made
 pub enough_made : (b : ASN1Block) (left after done : List ASN1Block) → IsNext b left after → views (reverse done) ≡ views after → count (inside (view b)) ≤ length done
 enough_made b left after done n s =
-    omega (arith, ap count (s ∙ ap views n.then), count_views (reverse done), count_views (n.held ++ n.rest), length-append n.held n.rest, ap count n.holds, count_views n.held, length-reverse done)
+    omega (
+      arith,
+      ap count (s ∙ ap views n.then),
+      count_views (reverse done),
+      count_views (n.held ++ n.rest),
+      length-append n.held n.rest,
+      ap count n.holds,
+      count_views n.held,
+      length-reverse done,
+    )
 
 pub view_explicit : (c : ASN1Class) (o n : ℕ) (b : Box ASN1Block Global) → view (Explicit c o n b) ≡ explicit c o n (view b.value)
 view_explicit c o n b = search (rules, the_lemmas)

@@ -109,7 +109,8 @@ lasts v w xs ys x y e f =
     }
 
 -- fewer blocks are before the last one, and inside it
-pub fewer_blocks : (v xs : List ASN1Block) (x : ASN1Block) → v ≡ xs ++ x ∷ [] → (all_blocks_in (views xs) < all_blocks_in (views v)) × (all_blocks_in (inside (view x)) < all_blocks_in (views v))
+pub fewer_blocks : (v xs : List ASN1Block) (x : ASN1Block) → v ≡ xs ++ x ∷ [] → (all_blocks_in (views xs) < all_blocks_in (views v))
+    × (all_blocks_in (inside (view x)) < all_blocks_in (views v))
 fewer_blocks v xs x e =
     let n = ap (λ z. all_blocks_in (views z)) e ∙ blocks_push xs x in
     (omega (arith, n, some_block (view x)), omega (arith, n, blocks_inside_of (view x)))

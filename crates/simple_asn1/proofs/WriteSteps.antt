@@ -36,7 +36,8 @@ regroup i s c x = sym (append_assoc i (s ++ c) x ∙ ap (λ z. i ++ z) (append_a
 
 own_parts : (b : Tree ℕ) → canonical b ≡ own_octets b ++ all_canonical (inside b)
 own_parts b =
-    canonical_parts b ∙ (ap (λ z. identifier_of b ++ (shortest_length (length (contents_of b)) ++ z)) (contents_parts b) ∙ regroup (identifier_of b) (shortest_length (length (contents_of b))) (own_contents b) (all_canonical (inside b)))
+    canonical_parts b ∙ (ap (λ z. identifier_of b ++ (shortest_length (length (contents_of b)) ++ z)) (contents_parts b)
+    ∙ regroup (identifier_of b) (shortest_length (length (contents_of b))) (own_contents b) (all_canonical (inside b)))
 
 canonical_join : (xs ys : List ASN1Block) → all_canonical (views (xs ++ ys)) ≡ all_canonical (views xs) ++ all_canonical (views ys)
 canonical_join [] ys = refl
@@ -67,10 +68,12 @@ fault_parts (unknown c k o n v) = refl
 
 faults_join : (xs ys : List ASN1Block) → first_write_fault (views (xs ++ ys)) ≡ first_of (first_write_fault (views xs)) (first_write_fault (views ys))
 faults_join [] ys = refl
-faults_join (x ∷ xs) ys = ap (λ z. first_of (write_fault (view x)) z) (faults_join xs ys) ∙ first_of_assoc (write_fault (view x)) (first_write_fault (views xs)) (first_write_fault (views ys))
+faults_join (x ∷ xs) ys = ap (λ z. first_of (write_fault (view x)) z) (faults_join xs ys)
+    ∙ first_of_assoc (write_fault (view x)) (first_write_fault (views xs)) (first_write_fault (views ys))
 
 -- the first fault of what is ahead is that of the next block, or that of what comes after it
-pub fault_next : (b : ASN1Block) (before after : List ASN1Block) → IsNext b before after → first_write_fault (views before) ≡ first_of (own_fault (view b)) (first_write_fault (views after))
+pub fault_next : (b : ASN1Block) (before after : List ASN1Block) → IsNext b before after
+    → first_write_fault (views before) ≡ first_of (own_fault (view b)) (first_write_fault (views after))
 fault_next b before after n =
     let rest = first_write_fault (views n.rest) in
     ap (λ z. first_write_fault (views z)) n.first ∙ (ap (λ z. first_of z rest) (fault_parts (view b)) ∙ (sym (first_of_assoc (own_fault (view b)) (first_write_fault (inside (view b))) rest)
@@ -105,7 +108,8 @@ pub record Step (b : ASN1Block) (left : List ASN1Block) (sizes : List ℕ) (m n 
   pub after : take (m - n) sizes ++ length (canonical (view b)) ∷ [] ≡ sizes_back left
 
 -- n blocks are held
-pub step : (b : ASN1Block) (left after : List ASN1Block) (sizes : List ℕ) (m n : ℕ) → IsNext b left after → m ≡ length sizes → sizes ≡ sizes_back after → n ≡ count (inside (view b)) → Step b left sizes m n
+pub step : (b : ASN1Block) (left after : List ASN1Block) (sizes : List ℕ) (m n : ℕ) → IsNext b left after → m ≡ length sizes → sizes ≡ sizes_back after
+    → n ≡ count (inside (view b)) → Step b left sizes m n
 step b left after sizes m n x w s k =
     let j : sizes ≡ sizes_back x.rest ++ sizes_back x.held = s ∙ (ap sizes_back x.then ∙ back_join x.held x.rest) in
     let u : length x.held ≡ n = sym (count_views x.held) ∙ (ap count x.holds ∙ sym k) in
@@ -118,13 +122,16 @@ step b left after sizes m n x w s k =
     }
 
 -- the same at a place of the list
-pub step_at : (order : List ASN1Block) (i j : ℕ) (b : ASN1Block) (sizes : List ℕ) (m : ℕ) (held : List ASN1Block) → j + 1 ≡ i → i ≤ length order → b ≡ get_or order j b → m ≡ length sizes → ((left : List ASN1Block) → IsInTreeOrder (drop i order) left → sizes ≡ sizes_back left) → views held ≡ inside (view b) → (left : List ASN1Block) → IsInTreeOrder (drop j order) left → Step b left sizes m (length held)
+pub step_at : (order : List ASN1Block) (i j : ℕ) (b : ASN1Block) (sizes : List ℕ) (m : ℕ) (held : List ASN1Block) → j + 1 ≡ i → i ≤ length order
+    → b ≡ get_or order j b → m ≡ length sizes → ((left : List ASN1Block) → IsInTreeOrder (drop i order) left → sizes ≡ sizes_back left)
+    → views held ≡ inside (view b) → (left : List ASN1Block) → IsInTreeOrder (drop j order) left → Step b left sizes m (length held)
 step_at order i j b sizes m held e l g w s k left h =
     let p = from_place order left i j b e l g h in
     step b left p.after sizes m (length held) p.next w (s p.after p.ordered) (sym (count_views held) ∙ ap count k)
 
 -- the number at a place of a list of numbers, of which those before it are by f and the others by g
-pub place_at : (f g : ASN1Block → ℕ) (order : List ASN1Block) (i j : ℕ) (x : ASN1Block) (sizes : List ℕ) → j + 1 ≡ i → i ≤ length order → x ≡ get_or order j x → sizes ≡ map f (take i order) ++ map g (drop i order) → (get_or sizes j 0 ≡ f x) × (set sizes j (g x) ≡ map f (take j order) ++ map g (drop j order))
+pub place_at : (f g : ASN1Block → ℕ) (order : List ASN1Block) (i j : ℕ) (x : ASN1Block) (sizes : List ℕ) → j + 1 ≡ i → i ≤ length order → x ≡ get_or order j x
+    → sizes ≡ map f (take i order) ++ map g (drop i order) → (get_or sizes j 0 ≡ f x) × (set sizes j (g x) ≡ map f (take j order) ++ map g (drop j order))
 place_at f g order i j x sizes e l k p =
     let h : j < length order = omega (arith, e, l) in
     let a = map f (take j order) in
@@ -132,22 +139,34 @@ place_at f g order i j x sizes e l k p =
     let t : map f (take i order) ≡ a ++ f x ∷ [] = ap (λ z. map f (take z order)) (sym e) ∙ (map_more f order j x h ∙ ap (λ z. a ++ f z ∷ []) (sym k)) in
     let d : map g (drop j order) ≡ g x ∷ c = ap (map g) (drop_more order j x h ∙ (ap (λ z. z ∷ drop (j + 1) order) (sym k) ∙ ap (λ z. x ∷ drop z order) e)) in
     let q : sizes ≡ a ++ f x ∷ c = p ∙ (ap (λ z. z ++ c) t ∙ append_assoc a (f x ∷ []) c) in
-    let n : length a ≡ j = grind (arith, common_steps) in
-    (ap (λ z. get_or z j 0) q ∙ (ap (λ z. get_or (a ++ f x ∷ c) z 0) (sym n) ∙ get_or-append_seam a (f x) c 0), ap (λ z. set z j (g x)) q ∙ (set_at a (f x) c (g x) j n ∙ ap (λ z. a ++ z) (sym d)))
+    let n : length a ≡ j = grind (arith, common_steps) in (
+      ap (λ z. get_or z j 0) q ∙ (ap (λ z. get_or (a ++ f x ∷ c) z 0) (sym n) ∙ get_or-append_seam a (f x) c 0),
+      ap (λ z. set z j (g x)) q
+          ∙ (set_at a (f x) c (g x) j n ∙ ap (λ z. a ++ z) (sym d)),
+    )
 
 pub length_canonical : (b : Tree ℕ) → length (canonical b) ≡ length (identifier_of b) + (length (shortest_length (length (contents_of b))) + length (contents_of b))
-length_canonical b = omega (arith, ap length (canonical_parts b), length-append (identifier_of b) (shortest_length (length (contents_of b)) ++ contents_of b), length-append (shortest_length (length (contents_of b))) (contents_of b))
+length_canonical b =
+    omega (
+      arith,
+      ap length (canonical_parts b),
+      length-append (identifier_of b) (shortest_length (length (contents_of b)) ++ contents_of b),
+      length-append (shortest_length (length (contents_of b))) (contents_of b),
+    )
 
 pub length_contents : (b : Tree ℕ) → length (contents_of b) ≡ length (own_contents b) + length (all_canonical (inside b))
 length_contents b = omega (arith, ap length (contents_parts b), length-append (own_contents b) (all_canonical (inside b)))
 
 -- the sum of all sizes
-pub total_of : (r : Result ℕ ASN1EncodeErr) (t : ℕ) (order : List ASN1Block) → IfOk r (λ s. s ≡ t) → ((blocks : List ASN1Block) → IsInTreeOrder order blocks → t ≡ length (all_canonical (views blocks))) → IfOk r (λ n. (blocks : List ASN1Block) → IsInTreeOrder order blocks → n ≡ length (all_canonical (views blocks)))
+pub total_of : (r : Result ℕ ASN1EncodeErr) (t : ℕ) (order : List ASN1Block) → IfOk r (λ s. s ≡ t)
+    → ((blocks : List ASN1Block) → IsInTreeOrder order blocks → t ≡ length (all_canonical (views blocks)))
+    → IfOk r (λ n. (blocks : List ASN1Block) → IsInTreeOrder order blocks → n ≡ length (all_canonical (views blocks)))
 total_of (Ok s) t order h f = λ blocks k. h ∙ f blocks k
 total_of (Err e) t order h f = tt
 
 -- a block of the list of the first walk: its size is the one beside it
-pub size_at : (list : List Measured) (i : ℕ) (m : Measured) → i < length list → m ≡ get_or list i m → measured_sizes list ≡ map contents_size_of (measured_blocks list) → m.contents ≡ contents_size_of m.block.now
+pub size_at : (list : List Measured) (i : ℕ) (m : Measured) → i < length list → m ≡ get_or list i m
+    → measured_sizes list ≡ map contents_size_of (measured_blocks list) → m.contents ≡ contents_size_of m.block.now
 size_at [] i m h e s = absurd (omega (arith, h))
 size_at (x ∷ list) zero m h e s =
     let f : x.contents ≡ contents_size_of x.block.now = cc in
@@ -162,7 +181,8 @@ none_of_both None b e = (refl, e)
 none_of_both (Some x) b e = cc
 
 -- it has no fault
-pub own_fault_at : (list : List Measured) (i : ℕ) (m : Measured) → i < length list → m ≡ get_or list i m → first_own_fault (measured_blocks list) ≡ None → own_fault (view m.block.now) ≡ None
+pub own_fault_at : (list : List Measured) (i : ℕ) (m : Measured) → i < length list → m ≡ get_or list i m → first_own_fault (measured_blocks list) ≡ None
+    → own_fault (view m.block.now) ≡ None
 own_fault_at [] i m h e f = absurd (omega (arith, h))
 own_fault_at (x ∷ list) zero m h e f =
     let P : Measured → Type 0 = λ y. own_fault (view y.block.now) ≡ None in
@@ -172,17 +192,25 @@ own_fault_at (x ∷ list) (suc i) m h e f =
 
 own_join : (xs : List Measured) (m : Measured) → all_own_octets (measured_blocks (xs ++ m ∷ [])) ≡ all_own_octets (measured_blocks xs) ++ own_octets (view m.block.now)
 own_join [] m = append-nil (own_octets (view m.block.now))
-own_join (x ∷ xs) m = ap (λ z. own_octets (view x.block.now) ++ z) (own_join xs m) ∙ sym (append_assoc (own_octets (view x.block.now)) (all_own_octets (measured_blocks xs)) (own_octets (view m.block.now)))
+own_join (x ∷ xs) m =
+    ap (λ z. own_octets (view x.block.now) ++ z) (own_join xs m) ∙ sym (append_assoc (own_octets (view x.block.now)) (all_own_octets (measured_blocks xs)) (own_octets (view m.block.now)))
 
 -- its octets come after those of the blocks before
-pub own_at : (list : List Measured) (i : ℕ) (m : Measured) → i < length list → m ≡ get_or list i m → all_own_octets (measured_blocks (take (i + 1) list)) ≡ all_own_octets (measured_blocks (take i list)) ++ own_octets (view m.block.now)
+pub own_at : (list : List Measured) (i : ℕ) (m : Measured) → i < length list → m ≡ get_or list i m
+    → all_own_octets (measured_blocks (take (i + 1) list)) ≡ all_own_octets (measured_blocks (take i list)) ++ own_octets (view m.block.now)
 own_at list i m h e =
     ap (λ z. all_own_octets (measured_blocks z)) (take_more list i m h ∙ ap (λ z. take i list ++ z ∷ []) (sym e)) ∙ own_join (take i list) m
 
 -- and are among those of all
-pub own_fits : (list : List Measured) (i : ℕ) (m : Measured) → i < length list → m ≡ get_or list i m → length (all_own_octets (measured_blocks (take i list))) + length (own_octets (view m.block.now)) ≤ length (all_own_octets (measured_blocks list))
+pub own_fits : (list : List Measured) (i : ℕ) (m : Measured) → i < length list → m ≡ get_or list i m
+    → length (all_own_octets (measured_blocks (take i list))) + length (own_octets (view m.block.now)) ≤ length (all_own_octets (measured_blocks list))
 own_fits [] i m h e = absurd (omega (arith, h))
 own_fits (x ∷ list) zero m h e =
     omega (arith, ap (λ (y : Measured). length (own_octets (view y.block.now))) e, length-append (own_octets (view x.block.now)) (all_own_octets (measured_blocks list)))
 own_fits (x ∷ list) (suc i) m h e =
-    omega (arith, own_fits list i m (omega (arith, h)) e, length-append (own_octets (view x.block.now)) (all_own_octets (measured_blocks list)), length-append (own_octets (view x.block.now)) (all_own_octets (measured_blocks (take i list))))
+    omega (
+      arith,
+      own_fits list i m (omega (arith, h)) e,
+      length-append (own_octets (view x.block.now)) (all_own_octets (measured_blocks list)),
+      length-append (own_octets (view x.block.now)) (all_own_octets (measured_blocks (take i list))),
+    )

@@ -14,7 +14,8 @@ one_point p q e =
     let with_y : ℤ → Point = λ z. record { x = q.x; y = z } in
     ap with_x x ∙ ap with_y y
 
-pub point_read_back : (x y : Point) (bs rest : Trees ℕ) → shapes bs ≡ point_trees x → BeginsWithPoint bs y rest → (y ≡ x) × (rest ≡ no_trees)
+pub point_read_back : (x y : Point) (bs rest : Trees ℕ) → shapes bs ≡ point_trees x → BeginsWithPoint bs y rest
+    → (y ≡ x) × (rest ≡ no_trees)
 point_read_back x y no_trees rest e r = absurd r
 point_read_back x y (more_trees b no_trees) rest e r =
     let f : shape b ≡ point_tree x = cc in

@@ -86,7 +86,8 @@ fn tag_at(
     alloc: Global,
     octets: &[u8],
 ) -> Result<((BigUint, bool, ASN1Class), usize), ASN1DecodeErr>
-    ensures found { IfOk result (λ x. (0 < x.1) × (x.1 ≤ length octets.now) × IsIdentifier (take x.1 octets.now) x.0.2 x.0.1 x.0.0) }
+    ensures found { IfOk result (λ x. (0 < x.1) × (x.1 ≤ length octets.now)
+        × IsIdentifier (take x.1 octets.now) x.0.2 x.0.1 x.0.0) }
     ensures refused { IfErr result (OutOfMemoryOr (IsIncomplete IsSomeIdentifier octets.now)) }
 {
     let Some((first, rest)) = octets.split_first() else {

@@ -73,7 +73,8 @@ impl OID {
     pub fn as_raw(&self, alloc: Global) -> Result<Vec<u8>, ASN1EncodeErr>
         ensures contents { IfOk result (λ v. v.items ≡ object_identifier_contents self.now) }
         ensures writable { OnOk result (object_identifier_write_fault self.now ≡ None) }
-        ensures refused { IfErr result (λ e. (e ≡ no_memory) ⊎ (object_identifier_write_fault self.now ≡ Some e)) }
+        ensures refused { IfErr result (λ e. (e ≡ no_memory)
+            ⊎ (object_identifier_write_fault self.now ≡ Some e)) }
     {
         let size = object_identifier::size(self)?;
         let mut octets = Vec::with_capacity(alloc, size)?;
@@ -87,7 +88,8 @@ impl OID {
     /// `Overflow` exactly where the type does not have one of them; `OutOfMemory`.
     pub fn as_vec<T: FromBigUint>(&self, alloc: Global) -> Result<Vec<T>, ASN1DecodeErr>
         ensures all { IfOk result (λ v. AreNumbers T.has T.is_number v.items self.now) }
-        ensures refused { IfErr result (λ e. (e ≡ OutOfMemory) ⊎ ((e ≡ Overflow) × HasNotAll T.has self.now)) }
+        ensures refused { IfErr result (λ e. (e ≡ OutOfMemory)
+            ⊎ ((e ≡ Overflow) × HasNotAll T.has self.now)) }
     {
         let mut numbers = Vec::with_capacity(alloc, self.components.len())?;
         for component in &self.components {

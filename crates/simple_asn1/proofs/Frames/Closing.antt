@@ -31,7 +31,8 @@ end_document octets f n o =
     }
 
 -- a group
-pub close_group : (octets : List ℕ) (f g : Frame) (gs : List Frame) (n x : ℕ) (y : GroupKind) → f.extent.kind ≡ Group y x → Opened octets f (g ∷ gs) f.extent.end n → Closed octets g gs f.extent.end (group x y (trees_of f.trees)) n
+pub close_group : (octets : List ℕ) (f g : Frame) (gs : List Frame) (n x : ℕ) (y : GroupKind) → f.extent.kind ≡ Group y x
+    → Opened octets f (g ∷ gs) f.extent.end n → Closed octets g gs f.extent.end (group x y (trees_of f.trees)) n
 close_group octets f g gs n x y k o =
     let s = f.extent.start in
     let z = f.extent.end in
@@ -62,7 +63,8 @@ Means a contents ts t =
     (all : List ℕ) (h : ℕ) → a.class ≢ Universal → Encoding all a.class true a.tag contents h → EncodesAll (a.offset + h) contents (trees_of ts) → Encodes a.offset all t
 
 -- an attempt
-pub close_attempt : (octets : List ℕ) (f g : Frame) (gs : List Frame) (n : ℕ) (a : owed.Attempt) (t : Tree ℕ) → f.extent.kind ≡ Attempt a → Means a (slice_range octets f.extent.start f.extent.end) f.trees t → Opened octets f (g ∷ gs) f.extent.end n → Closed octets g gs f.extent.end t n
+pub close_attempt : (octets : List ℕ) (f g : Frame) (gs : List Frame) (n : ℕ) (a : owed.Attempt) (t : Tree ℕ) → f.extent.kind ≡ Attempt a
+    → Means a (slice_range octets f.extent.start f.extent.end) f.trees t → Opened octets f (g ∷ gs) f.extent.end n → Closed octets g gs f.extent.end t n
 close_attempt octets f g gs n a t k means o =
     let s = f.extent.start in
     let z = f.extent.end in

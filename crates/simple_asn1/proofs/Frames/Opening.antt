@@ -26,7 +26,8 @@ use Rattle.simple_asn1.proofs.Prefixes.{encoding_alone}
 use Rattle.simple_asn1.proofs.ReadSteps.{slice_length, slice_join}
 
 -- the header found in a slice of the document, in the document
-pub encoding_here : (octets : List ℕ) (s e i a z : ℕ) (c : ASN1Class) (k : Bool) (n : ℕ) → s ≤ e → e ≤ length octets → i < a → a ≤ z → s + z ≤ e → EncodingBetween (slice_range octets s e) c k n i a z → EncodingBetween octets c k n (s + i) (s + a) (s + z)
+pub encoding_here : (octets : List ℕ) (s e i a z : ℕ) (c : ASN1Class) (k : Bool) (n : ℕ) → s ≤ e → e ≤ length octets → i < a → a ≤ z → s + z ≤ e
+    → EncodingBetween (slice_range octets s e) c k n i a z → EncodingBetween octets c k n (s + i) (s + a) (s + z)
 encoding_here octets s e i a z c k n h l lt le fits F =
     let whole : slice_range (slice_range octets s e) i z ≡ slice_range octets (s + i) (s + z) = slice_slice octets s e i z h (omega (arith, lt, le)) fits in
     let contents : slice_range (slice_range octets s e) a z ≡ slice_range octets (s + a) (s + z) = slice_slice octets s e a z h le fits in
@@ -36,12 +37,14 @@ encoding_here octets s e i a z c k n h l lt le fits F =
     (subst (λ w. Encoding (slice_range (slice_range octets s e) i z) c k n (slice_range (slice_range octets s e) a z) w) size F))
 
 -- the same places in other words
-pub EncodingAt_moved : (octets : List ℕ) (i j a b y z : ℕ) (c : ASN1Class) (k : Bool) (n : ℕ) → i ≡ j → a ≡ b → y ≡ z → EncodingBetween octets c k n i a y → EncodingBetween octets c k n j b z
+pub EncodingAt_moved : (octets : List ℕ) (i j a b y z : ℕ) (c : ASN1Class) (k : Bool) (n : ℕ) → i ≡ j → a ≡ b → y ≡ z → EncodingBetween octets c k n i a y
+    → EncodingBetween octets c k n j b z
 EncodingAt_moved octets i j a b y z c k n e f g F =
     subst (λ w. EncodingBetween octets c k n j b w) g (subst (λ w. EncodingBetween octets c k n j w y) f (subst (λ w. EncodingBetween octets c k n w a y) e F))
 
 -- the frame of contents octets that are read as blocks
-pub headed_by : (octets : List ℕ) (kind : FrameKind) (place limit : ℕ) (h : Header) → IsKindOf kind h place → HeaderFound octets place limit h → Headed octets kind place h.start h.end
+pub headed_by : (octets : List ℕ) (kind : FrameKind) (place limit : ℕ) (h : Header) → IsKindOf kind h place → HeaderFound octets place limit h
+    → Headed octets kind place h.start h.end
 headed_by octets Whole place limit h k w = absurd k
 headed_by octets (Group g o) place limit h k w =
     let tag = subst (λ z. EncodingBetween octets h.class h.constructed z place h.start h.end) k.1 w.encoding in
@@ -52,7 +55,9 @@ headed_by octets (Attempt a) place limit h k w =
     subst (λ z. Headed octets (Attempt z) place h.start h.end) (sym k.2) (refl, record { other = k.0; encoding = bit })
 
 -- a frame is opened
-pub opened_open : (octets : List ℕ) (f h : Frame) (gs : List Frame) (p n : ℕ) → h.trees ≡ [] → Headed octets h.extent.kind p h.extent.start h.extent.end → p < h.extent.start → h.extent.start ≤ h.extent.end → h.extent.end ≤ f.extent.end → Opened octets f gs p n → Opened octets h (f ∷ gs) h.extent.start (n + 1)
+pub opened_open : (octets : List ℕ) (f h : Frame) (gs : List Frame) (p n : ℕ) → h.trees ≡ [] → Headed octets h.extent.kind p h.extent.start h.extent.end
+    → p < h.extent.start → h.extent.start ≤ h.extent.end → h.extent.end ≤ f.extent.end → Opened octets f gs p n
+    → Opened octets h (f ∷ gs) h.extent.start (n + 1)
 opened_open octets f h gs p n e H lt le fits o =
     let w = opened_places octets f gs p n o in
     let s = h.extent.start in
@@ -76,7 +81,8 @@ opened_open octets f h gs p n e H lt le fits o =
     }
 
 -- the header is at fault
-pub header_stopping : (octets : List ℕ) (f : Frame) (gs : List Frame) (p n : ℕ) (e : DecodeFault) → length octets < 2 ^ 64 → p < f.extent.end → Opened octets f gs p n → HeaderFault (p - f.extent.start) (slice_range octets p f.extent.end) e → Stopping octets f gs e (n + 1)
+pub header_stopping : (octets : List ℕ) (f : Frame) (gs : List Frame) (p n : ℕ) (e : DecodeFault) → length octets < 2 ^ 64 → p < f.extent.end
+    → Opened octets f gs p n → HeaderFault (p - f.extent.start) (slice_range octets p f.extent.end) e → Stopping octets f gs e (n + 1)
 header_stopping octets f gs p n e small here o u =
     let v = opened_places octets f gs p n o in
     let i = p - f.extent.start in
@@ -96,7 +102,9 @@ header_stopping octets f gs p n e small here o u =
     }
 
 -- the contents octets of a leaf are at fault
-pub leaf_stopping : (octets : List ℕ) (f : Frame) (gs : List Frame) (p n : ℕ) (h : Header) (e : DecodeFault) → length octets < 2 ^ 64 → HeaderFound octets p f.extent.end h → Opened octets f gs p n → (IsReadInside h.class h.constructed h.tag → ⊥) → h.class ≡ Universal → ContentsFault h.tag (slice_range octets h.start h.end) e → Stopping octets f gs e (n + 1)
+pub leaf_stopping : (octets : List ℕ) (f : Frame) (gs : List Frame) (p n : ℕ) (h : Header) (e : DecodeFault) → length octets < 2 ^ 64
+    → HeaderFound octets p f.extent.end h → Opened octets f gs p n → (IsReadInside h.class h.constructed h.tag → ⊥) → h.class ≡ Universal
+    → ContentsFault h.tag (slice_range octets h.start h.end) e → Stopping octets f gs e (n + 1)
 leaf_stopping octets f gs p n h e small found o shut u w =
     let v = opened_places octets f gs p n o in
     let i = p - f.extent.start in
@@ -126,7 +134,8 @@ leaf_stopping octets f gs p n h e small found o shut u w =
     }
 
 -- a leaf is read
-pub leaf_follows : (octets : List ℕ) (f : Frame) (p : ℕ) (h : Header) (t : Tree ℕ) → HeaderFound octets p f.extent.end h → (IsReadInside h.class h.constructed h.tag → ⊥) → Encodes p (slice_range octets p h.end) t → Follows octets f p h.end t 1
+pub leaf_follows : (octets : List ℕ) (f : Frame) (p : ℕ) (h : Header) (t : Tree ℕ) → HeaderFound octets p f.extent.end h
+    → (IsReadInside h.class h.constructed h.tag → ⊥) → Encodes p (slice_range octets p h.end) t → Follows octets f p h.end t 1
 leaf_follows octets f p h t found shut w =
     let all = slice_range octets p h.end in
     let contents = slice_range octets h.start h.end in

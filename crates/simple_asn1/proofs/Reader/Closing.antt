@@ -93,12 +93,14 @@ module _ (octets : List ℕ) (es : List Entry) (k h : OpenFrame) (gs : List Open
       let d = close_group octets (frame k w.trees) (frame h N.next) (frames gs N.others) n p y is ending in
       clean_ready (group p y (views k.blocks)) z (subst (λ v. Closed octets (frame h N.next) (frames gs N.others) k.extent.end (group p y (trees_of v)) n) t d)
 
-  pub later_group : (y : GroupKind) (p : ℕ) → k.extent.kind ≡ Group y p → Ready octets (take k.begin es) h gs k.extent.end (group p y (trees_of (map view k.blocks ++ N.own.owed))) n
+  pub later_group : (y : GroupKind) (p : ℕ) → k.extent.kind ≡ Group y p
+      → Ready octets (take k.begin es) h gs k.extent.end (group p y (trees_of (map view k.blocks ++ N.own.owed))) n
   later_group y p is =
       let d = close_group octets (frame k w.trees) (frame h N.next) (frames gs N.others) n p y is ending in
       later_ready (group p y (trees_of (map view k.blocks ++ N.own.owed))) (subst (λ v. Closed octets (frame h N.next) (frames gs N.others) k.extent.end (group p y (trees_of v)) n) N.own.trees d)
 
-  attempt : (a : owed.Attempt) (t : Tree ℕ) → k.extent.kind ≡ Attempt a → Means a (slice_range octets k.extent.start k.extent.end) w.trees t → Closed octets (frame h N.next) (frames gs N.others) k.extent.end t n
+  attempt : (a : owed.Attempt) (t : Tree ℕ) → k.extent.kind ≡ Attempt a → Means a (slice_range octets k.extent.start k.extent.end) w.trees t
+      → Closed octets (frame h N.next) (frames gs N.others) k.extent.end t n
   attempt a t is means = close_attempt octets (frame k w.trees) (frame h N.next) (frames gs N.others) n a t is means ending
 
   pub one_block_ended : (a : owed.Attempt) (b : ASN1Block) → k.extent.kind ≡ Attempt a → k.later ≡ 0 → k.blocks ≡ b ∷ [] → Ready octets es h gs k.extent.end (around a (view b)) n
@@ -107,7 +109,8 @@ module _ (octets : List ℕ) (es : List Entry) (k h : OpenFrame) (gs : List Open
       clean_ready (around a (view b)) z (attempt a (around a (view b)) is (one_means a contents w.trees (view b) ((clean z).trees ∙ ap (map view) one)))
 
   -- the one tree that is owed
-  pub one_owed_ended : (a : owed.Attempt) → k.extent.kind ≡ Attempt a → k.later ≡ 1 → length k.blocks ≡ 0 → (t : Tree ℕ) × Leads octets (drop k.begin es) (t ∷ []) × Ready octets (take k.begin es) h gs k.extent.end (around a t) n
+  pub one_owed_ended : (a : owed.Attempt) → k.extent.kind ≡ Attempt a → k.later ≡ 1 → length k.blocks ≡ 0 → (t : Tree ℕ)
+      × Leads octets (drop k.begin es) (t ∷ []) × Ready octets (take k.begin es) h gs k.extent.end (around a t) n
   one_owed_ended a is z none =
       let s = single N.own.owed (sym z ∙ N.own.later) in
       let seen = ap (λ bs. map view bs ++ N.own.owed) (no_items k.blocks none) in
@@ -115,7 +118,8 @@ module _ (octets : List ℕ) (es : List Entry) (k h : OpenFrame) (gs : List Open
       let contents = slice_range octets k.extent.start k.extent.end in
       (s.0, subst (λ v. Leads octets (drop k.begin es) v) s.1 N.own.leads, later_ready (around a s.0) (attempt a (around a s.0) is (one_means a contents w.trees s.0 one)))
 
-  pub other_ended : (a : owed.Attempt) → k.extent.kind ≡ Attempt a → (length k.blocks + k.later ≡ 1 → ⊥) → Ready octets (take k.begin es) h gs k.extent.end (as_it_came octets a k.extent.start k.extent.end) n
+  pub other_ended : (a : owed.Attempt) → k.extent.kind ≡ Attempt a → (length k.blocks + k.later ≡ 1 → ⊥)
+      → Ready octets (take k.begin es) h gs k.extent.end (as_it_came octets a k.extent.start k.extent.end) n
   other_ended a is many =
       let both = length-append (map view k.blocks) N.own.owed in
       let l : length w.trees ≡ length k.blocks + k.later = omega (arith, ap length N.own.trees, both, length-map k.blocks view, N.own.later) in

@@ -8,7 +8,12 @@ put_big_endian-requires g t c κs within = (omega arith, (within, omega (arith, 
 
 pub put_one-requires : goal.put_one-requires
 put_one-requires g t c =
-    omega (arith, c.requires, g.S.Sink.room_after c.args.out.now c.put_big_endian.new.out (digits_of 256 (c.args.n / 256)) c.put_big_endian.ensures, length-digits_of_step 256 c.args.n (omega arith) (omega arith))
+    omega (
+      arith,
+      c.requires,
+      g.S.Sink.room_after c.args.out.now c.put_big_endian.new.out (digits_of 256 (c.args.n / 256)) c.put_big_endian.ensures,
+      length-digits_of_step 256 c.args.n (omega arith) (omega arith),
+    )
 
 pub returns : goal.returns
 returns g t c =

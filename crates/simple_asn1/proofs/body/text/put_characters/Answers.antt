@@ -44,7 +44,8 @@ loop-c-preserved g c =
     let l : length (c.loop-c.yielded ++ x ∷ []) ≡ n + 1 = length_push c.loop-c.yielded x in
     let e : take (length (c.loop-c.yielded ++ x ∷ [])) cs ≡ take n cs ++ x ∷ [] = ap (λ z. take z cs) l ∙ (take_more cs n x t.0 ∙ ap (λ z. take n cs ++ z ∷ []) (sym t.1)) in
     record {
-      put = subst (λ z. g.S.Sink.puts c.args.out.now z c.put_one.new.self) (sym e) (g.S.Sink.more c.args.out.now c.loop-c.out c.put_one.new.self (take n cs) (x ∷ []) c.loop-c.invariant.put c.put_one.ensures);
+      put =
+          subst (λ z. g.S.Sink.puts c.args.out.now z c.put_one.new.self) (sym e) (g.S.Sink.more c.args.out.now c.loop-c.out c.put_one.new.self (take n cs) (x ∷ []) c.loop-c.invariant.put c.put_one.ensures);
       writable = ap octet_write_fault (ap (λ z. drop z cs) l) ∙ f.1;
     }
 

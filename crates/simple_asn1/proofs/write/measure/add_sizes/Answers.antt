@@ -21,7 +21,10 @@ take_sum-requires c =
     let x = get_or c.loop-i.list j c.index-list-i.result in
     let order = measured_blocks c.args.list.now in
     let l : i ≤ length order = omega (arith, c.loop-i.invariant.within, c.loop-i.auto.list, length-map c.args.list.now (λ (m : Measured). m.block.now)) in
-    let g = sym (get_or-map (λ (m : Measured). m.block.now) c.loop-i.list j c.index-list-i.result x.block.now (omega (arith, c.loop-i.invariant.within))) ∙ ap (λ z. get_or z j x.block.now) c.loop-i.invariant.blocks in
+    let g = sym (get_or-map (λ (m : Measured). m.block.now) c.loop-i.list j c.index-list-i.result x.block.now (omega (
+      arith,
+      c.loop-i.invariant.within,
+    ))) ∙ ap (λ z. get_or z j x.block.now) c.loop-i.invariant.blocks in
     let some = order_drop order c.requires.ordered.0 j c.requires.ordered.1 (omega (arith, l)) in
     let s = step_at order i j x.block.now c.loop-i.sizes.items (length c.loop-i.sizes.items) c.blocks_inside.result.now (omega arith) l g (λ k. length c.loop-i.sizes.items) c.loop-i.invariant.sizes c.blocks_inside.ensures some.0 some.1 in
     omega (arith, s.enough, c.loop-i.sizes.ok.0)
@@ -48,14 +51,22 @@ loop-i-preserved c =
     let m = get_or-map (λ (m : Measured). m.contents) c.loop-i.list j c.index-list-i-in-loop-i.result 0 h in
     let q : c.in_ok-contents.contents ≡ contents_size_of b = c.in_ok-contents.ensures.sum ∙ omega (arith, p.0, m, c.in_ok-inside.ensures.sum, s.sum_inside, length_contents (view b)) in
     record {
-      within = omega (arith, c.loop-i.invariant.within, length-set c.loop-i.list j (record { block = (get_or c.loop-i.list j c.index-list-i-in-loop-i-2.result).block; contents = c.in_ok-contents.contents }));
+      within =
+          omega (
+            arith,
+            c.loop-i.invariant.within,
+            length-set c.loop-i.list j (record { block = (get_or c.loop-i.list j c.index-list-i-in-loop-i-2.result).block; contents = c.in_ok-contents.contents }),
+          );
       blocks = map-set_same (λ (m : Measured). m.block.now) c.loop-i.list j _ c.index-list-i-in-loop-i-2.result refl ∙ c.loop-i.invariant.blocks;
       contents = map-set (λ (m : Measured). m.contents) c.loop-i.list j _ ∙ (ap (λ z. set (measured_sizes c.loop-i.list) j z) q ∙ p.1);
       sizes = λ left o.
           let r = steps left o in
           let t : c.push.new.self.items ≡ c.take_sum.new.sizes.items ++ c.in_ok-size.size ∷ [] = grind (arith, common_steps) in
-          let z : c.in_ok-size.size ≡ length (canonical (view b)) = c.in_ok-size.ensures.size ∙ (ap (λ w. c.identifier_size_of.result + (length (shortest_length w) + w)) q ∙ omega (arith, c.identifier_size_of.ensures, length_canonical (view b))) in
-          t ∙ (ap (λ w. w ++ c.in_ok-size.size ∷ []) c.in_ok-inside.ensures.rest ∙ (ap (λ w. take (c.loop-i.sizes.len - length c.blocks_inside.result.now) c.loop-i.sizes.items ++ w ∷ []) z ∙ r.after));
+          let z : c.in_ok-size.size ≡ length (canonical (view b)) = c.in_ok-size.ensures.size
+          ∙ (ap (λ w. c.identifier_size_of.result + (length (shortest_length w) + w)) q
+          ∙ omega (arith, c.identifier_size_of.ensures, length_canonical (view b))) in
+          t ∙ (ap (λ w. w ++ c.in_ok-size.size ∷ []) c.in_ok-inside.ensures.rest
+          ∙ (ap (λ w. take (c.loop-i.sizes.len - length c.blocks_inside.result.now) c.loop-i.sizes.items ++ w ∷ []) z ∙ r.after));
     }
 
 pub returns-in_err-push-clause-blocks : goal.returns-in_err-push-clause-blocks

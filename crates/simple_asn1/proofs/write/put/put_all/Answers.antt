@@ -11,7 +11,12 @@ put_block-requires-clause-size g c =
 pub put_block-requires-clause-room : goal.put_block-requires-clause-room
 put_block-requires-clause-room g c =
     let done = all_own_octets (measured_blocks (take c.loop-m.m-index c.args.list.now)) in
-    omega (arith, c.requires.room, own_fits c.args.list.now c.loop-m.m-index c.m-item.result c.loop-m-test.true c.m-item.is, g.S.Sink.room_after c.args.out.now c.loop-m.out done c.loop-m.invariant)
+    omega (
+      arith,
+      c.requires.room,
+      own_fits c.args.list.now c.loop-m.m-index c.m-item.result c.loop-m-test.true c.m-item.is,
+      g.S.Sink.room_after c.args.out.now c.loop-m.out done c.loop-m.invariant,
+    )
 
 pub put_block-requires-clause-writable : goal.put_block-requires-clause-writable
 put_block-requires-clause-writable g c =
