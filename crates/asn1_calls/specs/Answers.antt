@@ -1,5 +1,5 @@
 -- Which lines are answered. What the answers are is tested.
-use Rattle.std.specs.Prelude.{◌≡◌, ◌==◌, ◌++◌, ℕ, Bool, true, false, List, [], ◌∷◌, if◌then◌else◌}
+use Rattle.std.specs.Prelude.{◌≡◌, ◌==◌, ◌++◌, ℕ, Bool, false, List, [], ◌∷◌, if◌then◌else◌}
 
 -- the byte at the front of the first line
 abbrev pub onto_first_line : ℕ → List (List ℕ) → List (List ℕ)

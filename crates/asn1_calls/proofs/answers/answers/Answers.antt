@@ -1,4 +1,4 @@
-use Rattle.std.proofs.Common.{rules, [], ◌≡◌, ◌++◌, false, length, ap, ◌∙◌, subst, append-nil}
+use Rattle.std.proofs.Common.{rules, [], ◌≡◌, ◌++◌, false, length, subst, append-nil}
 use Rattle.std.specs.String.{string_bytes}
 use Rattle.std.proofs.lemmas.Grind.{common_steps}
 use Rattle.std.proofs.Common.{arith}
