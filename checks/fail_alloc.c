@@ -1,19 +1,22 @@
-// Preloaded: refuses the allocation of this number, counted from 1, that the environment names, and all after it.
+// Preloaded: refuses the allocation of the number that the environment names in FAIL_ALLOC, counted from 1, and, where
+// FAIL_AFTER is set, all after it. A refused allocation leaves a file of the name in REFUSED, where that is set.
 #define _GNU_SOURCE
 #include <dlfcn.h>
+#include <fcntl.h>
 #include <stddef.h>
 #include <stdlib.h>
+#include <unistd.h>
 
 static long asked;
-static long refused;
 
 static int is_refused(void) {
-    if (refused == 0) {
-        const char *n = getenv("FAIL_ALLOC");
-        refused = n ? atol(n) : -1;
-    }
+    const char *n = getenv("FAIL_ALLOC");
+    long refused = n ? atol(n) : -1;
     asked++;
-    return refused > 0 && asked >= refused;
+    if (asked != refused && !(refused > 0 && asked > refused && getenv("FAIL_AFTER"))) return 0;
+    const char *name = getenv("REFUSED");
+    if (name) close(open(name, O_CREAT | O_WRONLY, 0600));
+    return 1;
 }
 
 void *malloc(size_t size) {

@@ -1,5 +1,18 @@
 // The calls that a line can name, and their answers.
-use asn1_text::{blocks_text, characters_text, octets_text};
+mod blocks;
+mod headers;
+mod identifiers;
+mod numbers;
+mod own;
+mod refusals;
+
+use crate::calls::blocks::BlockCall;
+use crate::calls::headers::HeaderCall;
+use crate::calls::identifiers::IdentifierCall;
+use crate::calls::numbers::{ErrorCall, NaturalCall, WholeCall};
+use crate::calls::own::PointCall;
+use crate::calls::refusals::{ran_out, refusal};
+use asn1_text::{blocks_text, octets_text};
 use simple_asn1::{ASN1DecodeErr, HeaderCount, from_der, from_der_counted, rewrite};
 use std::alloc::{AllocError, Global};
 
@@ -9,6 +22,13 @@ pub enum Call {
     Read,
     Count,
     Rewrite,
+    OfBlock(BlockCall),
+    OfIdentifier(IdentifierCall),
+    OfNatural(NaturalCall),
+    OfWhole(WholeCall),
+    OfError(ErrorCall),
+    OfHeader(HeaderCall),
+    OfPoint(PointCall),
 }
 
 impl Call {
@@ -18,7 +38,7 @@ impl Call {
             b"read" => Some(Call::Read),
             b"count" => Some(Call::Count),
             b"rewrite" => Some(Call::Rewrite),
-            _ => None,
+            _ => named_otherwise(name),
         }
     }
 
@@ -28,8 +48,37 @@ impl Call {
             Call::Read => read_answer(alloc, octets),
             Call::Count => count_answer(alloc, octets),
             Call::Rewrite => rewrite_answer(alloc, octets),
+            Call::OfBlock(call) => call.answer(alloc, octets),
+            Call::OfIdentifier(call) => call.answer(alloc, octets),
+            Call::OfNatural(call) => call.answer(alloc, octets),
+            Call::OfWhole(call) => call.answer(alloc, octets),
+            Call::OfError(call) => call.answer(alloc, octets),
+            Call::OfHeader(call) => call.answer(alloc, octets),
+            Call::OfPoint(call) => call.answer(alloc, octets),
         }
     }
+}
+
+fn named_otherwise(name: &[u8]) -> Option<Call> {
+    if let Some(call) = BlockCall::named(name) {
+        return Some(Call::OfBlock(call));
+    }
+    if let Some(call) = IdentifierCall::named(name) {
+        return Some(Call::OfIdentifier(call));
+    }
+    if let Some(call) = NaturalCall::named(name) {
+        return Some(Call::OfNatural(call));
+    }
+    if let Some(call) = WholeCall::named(name) {
+        return Some(Call::OfWhole(call));
+    }
+    if let Some(call) = ErrorCall::named(name) {
+        return Some(Call::OfError(call));
+    }
+    if let Some(call) = HeaderCall::named(name) {
+        return Some(Call::OfHeader(call));
+    }
+    PointCall::named(name).map(Call::OfPoint)
 }
 
 fn read_answer(alloc: Global, octets: &[u8]) -> Result<String, AllocError> {
@@ -45,6 +94,7 @@ fn count_answer(alloc: Global, octets: &[u8]) -> Result<String, AllocError> {
     let begun = count.count();
     match read {
         Ok(_) => format!(in alloc; "{begun} begun, read"),
+        Err(ASN1DecodeErr::OutOfMemory) => ran_out(alloc, begun <= octets.len() as u64),
         Err(fault) => {
             let refusal = refusal(alloc, &fault)?;
             format!(in alloc; "{begun} begun, {refusal}")
@@ -56,29 +106,5 @@ fn rewrite_answer(alloc: Global, octets: &[u8]) -> Result<String, AllocError> {
     match rewrite(alloc, octets) {
         Ok(canonical) => octets_text(alloc, &canonical),
         Err(fault) => refusal(alloc, &fault),
-    }
-}
-
-// What is said of a fault. Memory that ran out is no answer.
-fn refusal(alloc: Global, fault: &ASN1DecodeErr) -> Result<String, AllocError> {
-    match fault {
-        ASN1DecodeErr::EmptyBuffer => String::from_str(alloc, "refused EmptyBuffer"),
-        ASN1DecodeErr::BadBooleanLength(n) => format!(in alloc; "refused BadBooleanLength {n}"),
-        ASN1DecodeErr::LengthTooLarge(n) => format!(in alloc; "refused LengthTooLarge {n}"),
-        ASN1DecodeErr::UTF8DecodeFailure(_) => String::from_str(alloc, "refused UTF8DecodeFailure"),
-        ASN1DecodeErr::PrintableStringDecodeFailure => {
-            String::from_str(alloc, "refused PrintableStringDecodeFailure")
-        }
-        ASN1DecodeErr::InvalidDateValue(text) => {
-            let characters = characters_text(alloc, text)?;
-            format!(in alloc; "refused InvalidDateValue {characters}")
-        }
-        ASN1DecodeErr::InvalidBitStringLength(n) => {
-            format!(in alloc; "refused InvalidBitStringLength {n}")
-        }
-        ASN1DecodeErr::InvalidClass(n) => format!(in alloc; "refused InvalidClass {n}"),
-        ASN1DecodeErr::Incomplete => String::from_str(alloc, "refused Incomplete"),
-        ASN1DecodeErr::Overflow => String::from_str(alloc, "refused Overflow"),
-        ASN1DecodeErr::OutOfMemory => Err(AllocError),
     }
 }

@@ -1,0 +1,76 @@
+// Calls of blocks. They are given the blocks of a document.
+use crate::calls::refusals::{ran_out, refusal, write_refusal};
+use asn1_text::{blocks_text, octets_text};
+use simple_asn1::{ASN1Block, ASN1EncodeErr, Document, to_der};
+use std::alloc::{AllocError, Global};
+
+// A call of each of the blocks.
+#[derive(Drop)]
+pub enum BlockCall {
+    Write,
+    Clone,
+    IsFaithful,
+}
+
+impl BlockCall {
+    // The call of this name.
+    pub fn named(name: &[u8]) -> Option<BlockCall> {
+        match name {
+            b"to_der" => Some(BlockCall::Write),
+            b"clone" => Some(BlockCall::Clone),
+            b"is_faithful" => Some(BlockCall::IsFaithful),
+            _ => None,
+        }
+    }
+
+    // The answers of the call, of the blocks of the document.
+    pub fn answer(&self, alloc: Global, octets: &[u8]) -> Result<String, AllocError> {
+        let document = match Document::from_der(alloc, octets) {
+            Ok(document) => document,
+            Err(fault) => return refusal(alloc, &fault),
+        };
+        let before = match Document::from_der(alloc, octets) {
+            Ok(before) => before,
+            Err(fault) => return refusal(alloc, &fault),
+        };
+        let answers = match self {
+            BlockCall::Write => written(alloc, document.blocks()),
+            BlockCall::Clone => cloned(alloc, document.blocks()),
+            BlockCall::IsFaithful => faithful(alloc, document.blocks()),
+        };
+        match answers {
+            Ok(text) => Ok(text),
+            Err(AllocError) => ran_out(alloc, document.blocks() == before.blocks()),
+        }
+    }
+}
+
+fn written(alloc: Global, blocks: &[ASN1Block]) -> Result<String, AllocError> {
+    let mut octets = Vec::new(alloc);
+    for block in blocks {
+        match to_der(alloc, block) {
+            Ok(canonical) => octets.extend_from_slice(&canonical)?,
+            Err(fault) => return write_refusal(alloc, &fault),
+        }
+    }
+    octets_text(alloc, &octets)
+}
+
+fn cloned(alloc: Global, blocks: &[ASN1Block]) -> Result<String, AllocError> {
+    let mut clones = Vec::new(alloc);
+    for block in blocks {
+        clones.push(block.clone(alloc)?)?;
+    }
+    blocks_text(alloc, &clones)
+}
+
+fn faithful(alloc: Global, blocks: &[ASN1Block]) -> Result<String, AllocError> {
+    let mut text = String::new(alloc);
+    for block in blocks {
+        if !text.is_empty() {
+            text.push_str(", ")?;
+        }
+        text.push_str(if block.is_faithful(alloc)? { "true" } else { "false" })?;
+    }
+    Ok(text)
+}

@@ -1,0 +1,130 @@
+// Calls of the parts of headers. They are given octets with such a part at their front.
+use crate::calls::refusals::{ran_out, refusal};
+use asn1_text::octets_text;
+use simple_asn1::{
+    ASN1Class, ASN1DecodeErr, BigUint, HeaderCount, decode_base127, decode_length, decode_tag,
+    encode_base127, encode_len, encode_tag,
+};
+use std::alloc::{AllocError, Global};
+
+// A call of a part of a header.
+#[derive(Drop)]
+pub enum HeaderCall {
+    DecodeTag,
+    DecodeLength,
+    DecodeBase128,
+    EncodeTag,
+    EncodeLength,
+    EncodeBase128,
+}
+
+impl HeaderCall {
+    // The call of this name.
+    pub fn named(name: &[u8]) -> Option<HeaderCall> {
+        match name {
+            b"decode_tag" => Some(HeaderCall::DecodeTag),
+            b"decode_length" => Some(HeaderCall::DecodeLength),
+            b"decode_base127" => Some(HeaderCall::DecodeBase128),
+            b"encode_tag" => Some(HeaderCall::EncodeTag),
+            b"encode_len" => Some(HeaderCall::EncodeLength),
+            b"encode_base127" => Some(HeaderCall::EncodeBase128),
+            _ => None,
+        }
+    }
+
+    // What is decoded and the index after it, or the shortest octets of what was decoded.
+    pub fn answer(&self, alloc: Global, octets: &[u8]) -> Result<String, AllocError> {
+        match self {
+            HeaderCall::DecodeTag => tag_answer(alloc, octets),
+            HeaderCall::DecodeLength => length_answer(alloc, octets),
+            HeaderCall::DecodeBase128 => base128_answer(alloc, octets),
+            HeaderCall::EncodeTag => tag_octets(alloc, octets),
+            HeaderCall::EncodeLength => length_octets(alloc, octets),
+            HeaderCall::EncodeBase128 => base128_octets(alloc, octets),
+        }
+    }
+}
+
+fn tag_answer(alloc: Global, octets: &[u8]) -> Result<String, AllocError> {
+    let mut index = 0;
+    let mut count = HeaderCount::new();
+    let decoded = decode_tag(alloc, octets, &mut index, &mut count);
+    let counted = count.count();
+    match decoded {
+        Ok((tag, constructed, class)) => {
+            let class = class_name(class);
+            let tag = number_text(alloc, &tag)?;
+            format!(in alloc; "{class} {constructed} {tag}, index {index}, count {counted}")
+        }
+        Err(ASN1DecodeErr::OutOfMemory) => ran_out(alloc, index == 0 && counted == 1),
+        Err(fault) => refused_at(alloc, &fault, index),
+    }
+}
+
+fn length_answer(alloc: Global, octets: &[u8]) -> Result<String, AllocError> {
+    let mut index = 0;
+    match decode_length(octets, &mut index) {
+        Ok(n) => format!(in alloc; "{n}, index {index}"),
+        Err(fault) => refused_at(alloc, &fault, index),
+    }
+}
+
+fn base128_answer(alloc: Global, octets: &[u8]) -> Result<String, AllocError> {
+    let mut index = 0;
+    match decode_base127(alloc, octets, &mut index) {
+        Ok(n) => {
+            let n = number_text(alloc, &n)?;
+            format!(in alloc; "{n}, index {index}")
+        }
+        Err(ASN1DecodeErr::OutOfMemory) => ran_out(alloc, index == 0),
+        Err(fault) => refused_at(alloc, &fault, index),
+    }
+}
+
+fn tag_octets(alloc: Global, octets: &[u8]) -> Result<String, AllocError> {
+    let mut index = 0;
+    let mut count = HeaderCount::new();
+    match decode_tag(alloc, octets, &mut index, &mut count) {
+        Ok((tag, constructed, class)) => {
+            octets_text(alloc, &encode_tag(alloc, class, constructed, &tag)?)
+        }
+        Err(fault) => refused_at(alloc, &fault, index),
+    }
+}
+
+fn length_octets(alloc: Global, octets: &[u8]) -> Result<String, AllocError> {
+    let mut index = 0;
+    match decode_length(octets, &mut index) {
+        Ok(n) => octets_text(alloc, &encode_len(alloc, n)?),
+        Err(fault) => refused_at(alloc, &fault, index),
+    }
+}
+
+fn base128_octets(alloc: Global, octets: &[u8]) -> Result<String, AllocError> {
+    let mut index = 0;
+    match decode_base127(alloc, octets, &mut index) {
+        Ok(n) => octets_text(alloc, &encode_base127(alloc, &n)?),
+        Err(fault) => refused_at(alloc, &fault, index),
+    }
+}
+
+fn refused_at(alloc: Global, fault: &ASN1DecodeErr, index: usize) -> Result<String, AllocError> {
+    let refusal = refusal(alloc, fault)?;
+    format!(in alloc; "{refusal}, index {index}")
+}
+
+fn class_name(class: ASN1Class) -> &'static str {
+    match class {
+        ASN1Class::Universal => "Universal",
+        ASN1Class::Application => "Application",
+        ASN1Class::ContextSpecific => "CS",
+        ASN1Class::Private => "Private",
+    }
+}
+
+fn number_text(alloc: Global, number: &BigUint) -> Result<String, AllocError> {
+    match number.to_u64() {
+        Some(n) => format!(in alloc; "{n}"),
+        None => octets_text(alloc, &encode_base127(alloc, number)?),
+    }
+}

@@ -1,0 +1,59 @@
+// What is said of calls that refuse.
+use asn1_text::characters_text;
+use simple_asn1::{ASN1DecodeErr, ASN1EncodeErr, PointErr};
+use std::alloc::{AllocError, Global};
+
+// What is said where memory ran out: that alone, if all that the call was given is as it was.
+pub fn ran_out(alloc: Global, is_kept: bool) -> Result<String, AllocError> {
+    if is_kept {
+        return Err(AllocError);
+    }
+    String::from_str(alloc, "changed by a call for which memory ran out")
+}
+
+// What is said of a fault. Memory that ran out is no answer.
+pub fn refusal(alloc: Global, fault: &ASN1DecodeErr) -> Result<String, AllocError> {
+    match fault {
+        ASN1DecodeErr::EmptyBuffer => String::from_str(alloc, "refused EmptyBuffer"),
+        ASN1DecodeErr::BadBooleanLength(n) => format!(in alloc; "refused BadBooleanLength {n}"),
+        ASN1DecodeErr::LengthTooLarge(n) => format!(in alloc; "refused LengthTooLarge {n}"),
+        ASN1DecodeErr::UTF8DecodeFailure(_) => String::from_str(alloc, "refused UTF8DecodeFailure"),
+        ASN1DecodeErr::PrintableStringDecodeFailure => {
+            String::from_str(alloc, "refused PrintableStringDecodeFailure")
+        }
+        ASN1DecodeErr::InvalidDateValue(text) => {
+            let characters = characters_text(alloc, text)?;
+            format!(in alloc; "refused InvalidDateValue {characters}")
+        }
+        ASN1DecodeErr::InvalidBitStringLength(n) => {
+            format!(in alloc; "refused InvalidBitStringLength {n}")
+        }
+        ASN1DecodeErr::InvalidClass(n) => format!(in alloc; "refused InvalidClass {n}"),
+        ASN1DecodeErr::Incomplete => String::from_str(alloc, "refused Incomplete"),
+        ASN1DecodeErr::Overflow => String::from_str(alloc, "refused Overflow"),
+        ASN1DecodeErr::OutOfMemory => Err(AllocError),
+    }
+}
+
+// What is said of a fault of writing. Memory that ran out is no answer.
+pub fn write_refusal(alloc: Global, fault: &ASN1EncodeErr) -> Result<String, AllocError> {
+    let text = match fault {
+        ASN1EncodeErr::ObjectIdentHasTooFewFields => "refused ObjectIdentHasTooFewFields",
+        ASN1EncodeErr::ObjectIdentVal1TooLarge => "refused ObjectIdentVal1TooLarge",
+        ASN1EncodeErr::ObjectIdentVal2TooLarge => "refused ObjectIdentVal2TooLarge",
+        ASN1EncodeErr::BitStringLength => "refused BitStringLength",
+        ASN1EncodeErr::CharacterTooLarge => "refused CharacterTooLarge",
+        ASN1EncodeErr::YearOutOfRange => "refused YearOutOfRange",
+        ASN1EncodeErr::OutOfMemory => return Err(AllocError),
+    };
+    String::from_str(alloc, text)
+}
+
+// What is said where octets are no point, or a point has no octets.
+pub fn point_refusal(alloc: Global, fault: &PointErr) -> Result<String, AllocError> {
+    match fault {
+        PointErr::Decode(fault) => refusal(alloc, fault),
+        PointErr::Encode(fault) => write_refusal(alloc, fault),
+        PointErr::Shape => String::from_str(alloc, "refused Shape"),
+    }
+}
