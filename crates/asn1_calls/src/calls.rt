@@ -13,7 +13,7 @@ use crate::calls::numbers::{ErrorCall, NaturalCall, WholeCall};
 use crate::calls::own::PointCall;
 use crate::calls::refusals::{ran_out, refusal};
 use asn1_text::{blocks_text, octets_text};
-use simple_asn1::{ASN1DecodeErr, HeaderCount, from_der, from_der_counted, rewrite};
+use simple_asn1::{ASN1DecodeErr, Document, HeaderCount, discard, from_der_counted, rewrite};
 use std::alloc::{AllocError, Global};
 
 // A call that a line names.
@@ -82,8 +82,8 @@ fn named_otherwise(name: &[u8]) -> Option<Call> {
 }
 
 fn read_answer(alloc: Global, octets: &[u8]) -> Result<String, AllocError> {
-    match from_der(alloc, octets) {
-        Ok(blocks) => blocks_text(alloc, &blocks),
+    match Document::from_der(alloc, octets) {
+        Ok(document) => blocks_text(alloc, document.blocks()),
         Err(fault) => refusal(alloc, &fault),
     }
 }
@@ -93,7 +93,10 @@ fn count_answer(alloc: Global, octets: &[u8]) -> Result<String, AllocError> {
     let read = from_der_counted(alloc, octets, &mut count);
     let begun = count.count();
     match read {
-        Ok(_) => format!(in alloc; "{begun} begun, read"),
+        Ok(blocks) => {
+            discard(blocks);
+            format!(in alloc; "{begun} begun, read")
+        }
         Err(ASN1DecodeErr::OutOfMemory) => ran_out(alloc, begun <= octets.len() as u64),
         Err(fault) => {
             let refusal = refusal(alloc, &fault)?;

@@ -1,7 +1,7 @@
 // Calls of blocks. They are given the blocks of a document.
 use crate::calls::refusals::{ran_out, refusal, write_refusal};
 use asn1_text::{blocks_text, octets_text};
-use simple_asn1::{ASN1Block, ASN1EncodeErr, Document, to_der};
+use simple_asn1::{ASN1Block, Document, discard, to_der};
 use std::alloc::{AllocError, Global};
 
 // A call of each of the blocks.
@@ -57,11 +57,22 @@ fn written(alloc: Global, blocks: &[ASN1Block]) -> Result<String, AllocError> {
 }
 
 fn cloned(alloc: Global, blocks: &[ASN1Block]) -> Result<String, AllocError> {
-    let mut clones = Vec::new(alloc);
+    let mut text = String::new(alloc);
     for block in blocks {
-        clones.push(block.clone(alloc)?)?;
+        if !text.is_empty() {
+            text.push_str(", ")?;
+        }
+        text.push_str(&clone_text(alloc, block)?)?;
     }
-    blocks_text(alloc, &clones)
+    Ok(text)
+}
+
+fn clone_text(alloc: Global, block: &ASN1Block) -> Result<String, AllocError> {
+    let mut clones = Vec::with_capacity(alloc, 1)?;
+    clones.push_reserved(block.clone(alloc)?);
+    let text = blocks_text(alloc, &clones);
+    discard(clones);
+    text
 }
 
 fn faithful(alloc: Global, blocks: &[ASN1Block]) -> Result<String, AllocError> {
