@@ -1,7 +1,7 @@
 // Trees as lists of their blocks, each before those that it holds, so that what goes over them is
 // a loop.
 ghost use Rattle.std.specs.Prelude.{◌≡◌, ◌++◌, [], IfOk, MatchOption, OnOk, map};
-ghost use Rattle.simple_asn1.specs.TreeOrder.{IsNext, ahead, inside, stacked};
+ghost use Rattle.simple_asn1.specs.TreeOrder.{IsInTreeOrder, IsNext, ahead, inside, stacked};
 ghost use Rattle.simple_asn1.specs.View.{view, views};
 
 use crate::block::ASN1Block;
@@ -75,4 +75,19 @@ impl<'a> TreeWalk<'a> {
         self.front = held;
         Ok(())
     }
+}
+
+// The blocks at all depths, each before those that it holds.
+pub(crate) fn in_tree_order<'a>(
+    alloc: Global,
+    blocks: &'a [ASN1Block],
+) -> Result<Vec<&'a ASN1Block>, AllocError>
+    ensures { IfOk result (λ order. IsInTreeOrder (map (λ b. b.now) order.items) blocks.now) }
+{
+    let mut order = Vec::new(alloc);
+    let mut walk = TreeWalk::over(alloc, blocks);
+    while let Some(block) = walk.next()? {
+        order.push(block)?;
+    }
+    Ok(order)
 }

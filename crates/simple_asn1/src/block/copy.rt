@@ -12,13 +12,13 @@ ghost use Rattle.std.specs.Prelude.{
   vec_len,
 };
 ghost use Rattle.simple_asn1.specs.Tree.{more_trees, no_trees};
-ghost use Rattle.simple_asn1.specs.TreeOrder.{IsInTreeOrder, inside};
+ghost use Rattle.simple_asn1.specs.TreeOrder.{inside};
 ghost use Rattle.simple_asn1.specs.View.{view, views};
 
 use crate::block::ASN1Block;
 use crate::block::discard::{discard, discard_one};
 use crate::octets::copy_of;
-use crate::walk::{TreeWalk, blocks_inside};
+use crate::walk::{blocks_inside, in_tree_order};
 use std::alloc::{AllocError, Global};
 use std::slice;
 
@@ -107,21 +107,6 @@ fn copy_over(alloc: Global, b: &ASN1Block, held: Copies) -> Result<ASN1Block, Al
             Ok(ASN1Block::Unknown(*c, *k, *o, t.clone(alloc)?, copy_of(alloc, v)?))
         }
     }
-}
-
-// The blocks at all depths, each before those that it holds.
-fn in_tree_order<'a>(
-    alloc: Global,
-    blocks: &'a [ASN1Block],
-) -> Result<Vec<&'a ASN1Block>, AllocError>
-    ensures { IfOk result (λ order. IsInTreeOrder (map (λ b. b.now) order.items) blocks.now) }
-{
-    let mut order = Vec::new(alloc);
-    let mut walk = TreeWalk::over(alloc, blocks);
-    while let Some(block) = walk.next()? {
-        order.push(block)?;
-    }
-    Ok(order)
 }
 
 pub(crate) fn copy(alloc: Global, b: &ASN1Block) -> Result<ASN1Block, AllocError>

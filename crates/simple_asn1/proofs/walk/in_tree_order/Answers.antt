@@ -4,7 +4,7 @@ use Rattle.std.proofs.lemmas.List.{map_push}
 use Rattle.simple_asn1.specs.TreeOrder.{IsNext, ahead}
 use Rattle.simple_asn1.specs.declared.block.ASN1Block.{ASN1Block}
 use Rattle.simple_asn1.proofs.TreeOrders.{IsFound, fewer_ahead, found_all, found_next}
-use Rattle.simple_asn1.proofs.block.copy.in_tree_order.Goals as goal
+use Rattle.simple_asn1.proofs.walk.in_tree_order.Goals as goal
 
 pub loop-walk-smaller : goal.loop-walk-smaller
 loop-walk-smaller c =

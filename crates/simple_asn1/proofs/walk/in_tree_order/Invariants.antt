@@ -3,7 +3,7 @@ use Rattle.simple_asn1.specs.HeadersBegun.{all_blocks_in}
 use Rattle.simple_asn1.specs.TreeOrder.{ahead}
 use Rattle.simple_asn1.specs.View.{views}
 use Rattle.simple_asn1.proofs.TreeOrders.{IsFound}
-use Rattle.simple_asn1.proofs.block.copy.in_tree_order.Given as goal
+use Rattle.simple_asn1.proofs.walk.in_tree_order.Given as goal
 
 abbrev pub invariant-loop-walk : goal.invariant-loop-walk
 invariant-loop-walk l = IsFound (map (λ b. b.now) l.order.items) (ahead l.walk) l.fn.blocks
