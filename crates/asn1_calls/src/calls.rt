@@ -1,6 +1,8 @@
 // The calls that a line can name, and their answers.
 use asn1_text::{blocks_text, characters_text, octets_text};
-use simple_asn1::{ASN1DecodeErr, HeaderCount, from_der, from_der_counted, rewrite};
+use simple_asn1::{
+    ASN1DecodeErr, HeaderCount, from_der, from_der_counted, from_der_strict, rewrite,
+};
 use std::alloc::{AllocError, Global};
 
 // A call that a line names.
@@ -9,6 +11,7 @@ pub enum Call {
     Read,
     Count,
     Rewrite,
+    Strict,
 }
 
 impl Call {
@@ -18,6 +21,7 @@ impl Call {
             b"read" => Some(Call::Read),
             b"count" => Some(Call::Count),
             b"rewrite" => Some(Call::Rewrite),
+            b"strict" => Some(Call::Strict),
             _ => None,
         }
     }
@@ -28,6 +32,7 @@ impl Call {
             Call::Read => read_answer(alloc, octets),
             Call::Count => count_answer(alloc, octets),
             Call::Rewrite => rewrite_answer(alloc, octets),
+            Call::Strict => strict_answer(alloc, octets),
         }
     }
 }
@@ -59,6 +64,13 @@ fn rewrite_answer(alloc: Global, octets: &[u8]) -> Result<String, AllocError> {
     }
 }
 
+fn strict_answer(alloc: Global, octets: &[u8]) -> Result<String, AllocError> {
+    match from_der_strict(alloc, octets) {
+        Ok(blocks) => blocks_text(alloc, &blocks),
+        Err(fault) => refusal(alloc, &fault),
+    }
+}
+
 // What is said of a fault. Memory that ran out is no answer.
 fn refusal(alloc: Global, fault: &ASN1DecodeErr) -> Result<String, AllocError> {
     match fault {
@@ -80,5 +92,6 @@ fn refusal(alloc: Global, fault: &ASN1DecodeErr) -> Result<String, AllocError> {
         ASN1DecodeErr::Incomplete => String::from_str(alloc, "refused Incomplete"),
         ASN1DecodeErr::Overflow => String::from_str(alloc, "refused Overflow"),
         ASN1DecodeErr::OutOfMemory => Err(AllocError),
+        ASN1DecodeErr::NotCanonical(n) => format!(in alloc; "refused NotCanonical {n}"),
     }
 }
