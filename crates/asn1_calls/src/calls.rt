@@ -13,7 +13,9 @@ use crate::calls::numbers::{ErrorCall, NaturalCall, WholeCall};
 use crate::calls::own::PointCall;
 use crate::calls::refusals::{ran_out, refusal};
 use asn1_text::{blocks_text, octets_text};
-use simple_asn1::{ASN1DecodeErr, Document, HeaderCount, discard, from_der_counted, rewrite};
+use simple_asn1::{
+    ASN1DecodeErr, Document, HeaderCount, discard, from_der_counted, from_der_strict, rewrite,
+};
 use std::alloc::{AllocError, Global};
 
 // A call that a line names.
@@ -22,6 +24,7 @@ pub enum Call {
     Read,
     Count,
     Rewrite,
+    Strict,
     OfBlock(BlockCall),
     OfIdentifier(IdentifierCall),
     OfNatural(NaturalCall),
@@ -38,6 +41,7 @@ impl Call {
             b"read" => Some(Call::Read),
             b"count" => Some(Call::Count),
             b"rewrite" => Some(Call::Rewrite),
+            b"strict" => Some(Call::Strict),
             _ => named_otherwise(name),
         }
     }
@@ -48,6 +52,7 @@ impl Call {
             Call::Read => read_answer(alloc, octets),
             Call::Count => count_answer(alloc, octets),
             Call::Rewrite => rewrite_answer(alloc, octets),
+            Call::Strict => strict_answer(alloc, octets),
             Call::OfBlock(call) => call.answer(alloc, octets),
             Call::OfIdentifier(call) => call.answer(alloc, octets),
             Call::OfNatural(call) => call.answer(alloc, octets),
@@ -108,6 +113,17 @@ fn count_answer(alloc: Global, octets: &[u8]) -> Result<String, AllocError> {
 fn rewrite_answer(alloc: Global, octets: &[u8]) -> Result<String, AllocError> {
     match rewrite(alloc, octets) {
         Ok(canonical) => octets_text(alloc, &canonical),
+        Err(fault) => refusal(alloc, &fault),
+    }
+}
+
+fn strict_answer(alloc: Global, octets: &[u8]) -> Result<String, AllocError> {
+    match from_der_strict(alloc, octets) {
+        Ok(blocks) => {
+            let text = blocks_text(alloc, &blocks);
+            discard(blocks);
+            text
+        }
         Err(fault) => refusal(alloc, &fault),
     }
 }

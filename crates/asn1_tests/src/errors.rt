@@ -56,6 +56,10 @@ fn decode_errors_have_texts(rt: HostRuntime) -> Result<(), Fail> {
         (ASN1DecodeErr::Incomplete, "Incomplete data or invalid ASN1"),
         (ASN1DecodeErr::Overflow, "Value overflow"),
         (ASN1DecodeErr::OutOfMemory, "Out of memory"),
+        (
+            ASN1DecodeErr::NotCanonical(2),
+            "Block is not in canonical form: 2",
+        ),
     ] {
         check_decode_error(&rt, rt.alloc(), &error, text)?;
     }

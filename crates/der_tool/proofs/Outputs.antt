@@ -1,5 +1,5 @@
 -- Each input has one output that answers it.
-use Rattle.std.proofs.Common.{◌≡◌, ◌==◌, ◌<◌, ◌≤◌, ◌^◌, ◌++◌, ℕ, zero, suc, List, [], ◌∷◌, length, Result, Ok, Err, inl, inr, refl, sym, ap, ◌∙◌, arith}
+use Rattle.std.proofs.Common.{◌≡◌, ◌==◌, ◌<◌, ◌≤◌, ◌^◌, ◌++◌, ◌⊎◌, ℕ, zero, suc, List, [], ◌∷◌, length, Result, Ok, Err, inl, inr, refl, sym, ap, ◌∙◌, arith}
 use Rattle.std.specs.Prelude.{MatchResult, codes}
 use Rattle.std.proofs.lemmas.Bool.{cond_both}
 use Rattle.hex.specs.declared.error.FromHexError.{FromHexError}
@@ -7,7 +7,11 @@ use Rattle.hex.specs.Hex.{decode_of, encode_upper}
 use Rattle.hex.proofs.HexLemmas.{decode_of-ok}
 use Rattle.simple_asn1.specs.Canonical.{all_canonical}
 use Rattle.simple_asn1.specs.Laws.OneReading.{OneReading}
-use Rattle.der_tool.specs.Answers.{onto_first_line, lines_of, name_of, number_after, IsVerdict, IsAnswer, AreLineAnswers}
+use Rattle.simple_asn1.specs.Laws.Strict.{StrictReading}
+use Rattle.simple_asn1.specs.Fault.{DecodeFault}
+use Rattle.der_tool.specs.declared.answers.Reading.{Reading}
+use Rattle.der_tool.specs.declared.answers.Reading.TheVariants.{Lenient, Strict}
+use Rattle.der_tool.specs.Answers.{IsAccepted, IsRefused, onto_first_line, lines_of, refusal, IsVerdict, IsAnswer, AreLineAnswers}
 
 -- no line is longer than n
 abbrev AreWithin : ℕ → List (List ℕ) → Type 0
@@ -37,53 +41,77 @@ lines_within (b ∷ input) (suc n) h =
 few_octets : (line octets : List ℕ) (n : ℕ) → length line ≤ n → n < 2 ^ 64 → decode_of line ≡ Ok octets → length octets < 2 ^ 64
 few_octets line octets n within small is = omega (arith, within, small, (decode_of-ok line octets is).2)
 
-one_verdict : OneReading → (octets a b : List ℕ) → length octets < 2 ^ 64 → IsVerdict octets a → IsVerdict octets b → a ≡ b
-one_verdict law octets a b small (inl d) (inl e) =
-    d.2 ∙ (ap (λ bs. codes "ok " ++ encode_upper (all_canonical bs)) (law.one_document octets d.0 e.0 d.1 e.1) ∙ sym e.2)
-one_verdict law octets a b small (inl d) (inr f) = absurd (law.not_both octets d.0 f.0 small d.1 f.1)
-one_verdict law octets a b small (inr f) (inl d) = absurd (law.not_both octets d.0 f.0 small d.1 f.1)
-one_verdict law octets a b small (inr f) (inr g) =
-    f.2 ∙ (ap (λ fault. codes "refused " ++ (name_of fault ++ number_after fault)) (law.one_fault octets f.0 g.0 small f.1 g.1) ∙ sym g.2)
+-- of all octets one thing is said
+record Settled (reading : Reading) : Type 0 where
+  either : (octets : List ℕ) → length octets < 2 ^ 64 → ((canonical : List ℕ) × IsAccepted reading octets canonical) ⊎ ((e : DecodeFault) × IsRefused reading octets e)
+  not_both : (octets a : List ℕ) (e : DecodeFault) → length octets < 2 ^ 64 → IsAccepted reading octets a → IsRefused reading octets e → ⊥
+  one : (octets a b : List ℕ) → IsAccepted reading octets a → IsAccepted reading octets b → a ≡ b
+  one_fault : (octets : List ℕ) (e d : DecodeFault) → length octets < 2 ^ 64 → IsRefused reading octets e → IsRefused reading octets d → e ≡ d
 
-some_verdict : OneReading → (octets : List ℕ) → length octets < 2 ^ 64 → (answer : List ℕ) × IsVerdict octets answer
-some_verdict law octets small =
-    elim (law.either octets small) [ inl d ↦ (codes "ok " ++ encode_upper (all_canonical d.0), inl (d.0, d.1, refl)) | inr f ↦ (codes "refused " ++ (name_of f.0 ++ number_after f.0), inr (f.0, f.1, refl)) ]
+settled : OneReading → StrictReading → (reading : Reading) → Settled reading
+settled law strict Lenient = record {
+  either = λ octets small. elim (law.either octets small) [ inl d ↦ inl (all_canonical d.0, (d.0, d.1, refl)) | inr f ↦ inr f ];
+  not_both = λ octets a e small d f. law.not_both octets d.0 e small d.1 f;
+  one = λ octets a b d e. d.2 ∙ (ap all_canonical (law.one_document octets d.0 e.0 d.1 e.1) ∙ sym e.2);
+  one_fault = law.one_fault;
+}
+settled law strict Strict = record {
+  either = λ octets small. elim (strict.either octets small) [ inl d ↦ inl (octets, (d, refl)) | inr f ↦ inr f ];
+  not_both = λ octets a e small d f. strict.not_both octets d.0.0 e small d.0.1 f;
+  one = λ octets a b d e. d.1 ∙ sym e.1;
+  one_fault = strict.one_fault;
+}
 
-one_answer : OneReading → (line a b : List ℕ) (n : ℕ) → length line ≤ n → n < 2 ^ 64 → IsAnswer line a → IsAnswer line b → a ≡ b
-one_answer law line a b n within small u v = go (decode_of line) refl u v
+one_verdict : (reading : Reading) → Settled reading → (octets a b : List ℕ) → length octets < 2 ^ 64 → IsVerdict reading octets a → IsVerdict reading octets b → a ≡ b
+one_verdict reading law octets a b small (inl d) (inl e) = d.2 ∙ (ap (λ s. codes "ok " ++ encode_upper s) (law.one octets d.0 e.0 d.1 e.1) ∙ sym e.2)
+one_verdict reading law octets a b small (inl d) (inr f) = absurd (law.not_both octets d.0 f.0 small d.1 f.1)
+one_verdict reading law octets a b small (inr f) (inl d) = absurd (law.not_both octets d.0 f.0 small d.1 f.1)
+one_verdict reading law octets a b small (inr f) (inr g) =
+    f.2 ∙ (ap refusal (law.one_fault octets f.0 g.0 small f.1 g.1) ∙ sym g.2)
+
+some_verdict : (reading : Reading) → Settled reading → (octets : List ℕ) → length octets < 2 ^ 64 → (answer : List ℕ) × IsVerdict reading octets answer
+some_verdict reading law octets small =
+    elim (law.either octets small) [ inl d ↦ (codes "ok " ++ encode_upper d.0, inl (d.0, d.1, refl)) | inr f ↦ (refusal f.0, inr (f.0, f.1, refl)) ]
+
+one_answer : (reading : Reading) → Settled reading → (line a b : List ℕ) (n : ℕ) → length line ≤ n → n < 2 ^ 64 → IsAnswer reading line a → IsAnswer reading line b → a ≡ b
+one_answer reading law line a b n within small u v = go (decode_of line) refl u v
   where
-    go : (r : Result (List ℕ) FromHexError) → decode_of line ≡ r → MatchResult r (λ octets. IsVerdict octets a) (λ _. a ≡ codes "badhex")
-        → MatchResult r (λ octets. IsVerdict octets b) (λ _. b ≡ codes "badhex") → a ≡ b
-    go (Ok octets) is u v = one_verdict law octets a b (few_octets line octets n within small is) u v
+    go : (r : Result (List ℕ) FromHexError) → decode_of line ≡ r → MatchResult r (λ octets. IsVerdict reading octets a) (λ _. a ≡ codes "badhex")
+        → MatchResult r (λ octets. IsVerdict reading octets b) (λ _. b ≡ codes "badhex") → a ≡ b
+    go (Ok octets) is u v = one_verdict reading law octets a b (few_octets line octets n within small is) u v
     go (Err e) is u v = u ∙ sym v
 
-some_answer : OneReading → (line : List ℕ) (n : ℕ) → length line ≤ n → n < 2 ^ 64 → (answer : List ℕ) × IsAnswer line answer
-some_answer law line n within small = go (decode_of line) refl
+some_answer : (reading : Reading) → Settled reading → (line : List ℕ) (n : ℕ) → length line ≤ n → n < 2 ^ 64 → (answer : List ℕ) × IsAnswer reading line answer
+some_answer reading law line n within small = go (decode_of line) refl
   where
-    go : (r : Result (List ℕ) FromHexError) → decode_of line ≡ r → (answer : List ℕ) × MatchResult r (λ octets. IsVerdict octets answer) (λ _. answer ≡ codes "badhex")
-    go (Ok octets) is = some_verdict law octets (few_octets line octets n within small is)
+    go : (r : Result (List ℕ) FromHexError) → decode_of line ≡ r → (answer : List ℕ) × MatchResult r (λ octets. IsVerdict reading octets answer) (λ _. answer ≡ codes "badhex")
+    go (Ok octets) is = some_verdict reading law octets (few_octets line octets n within small is)
     go (Err e) is = (codes "badhex", refl)
 
-one_of_lines : OneReading → (lines : List (List ℕ)) (a b : List ℕ) (n : ℕ) → AreWithin n lines → n < 2 ^ 64 → AreLineAnswers lines a → AreLineAnswers lines b → a ≡ b
-one_of_lines law [] a b n all small u v = u ∙ sym v
-one_of_lines law (line ∷ lines) a b n all small u v =
+one_of_lines : (reading : Reading) → Settled reading → (lines : List (List ℕ)) (a b : List ℕ) (n : ℕ) → AreWithin n lines → n < 2 ^ 64 → AreLineAnswers reading lines a → AreLineAnswers reading lines b → a ≡ b
+one_of_lines reading law [] a b n all small u v = u ∙ sym v
+one_of_lines reading law (line ∷ lines) a b n all small u v =
     let (x, xs, p, i, r) = u in
     let (y, ys, q, j, s) = v in
-    let first = one_answer law line x y n all.0 small i j in
-    let rest = one_of_lines law lines xs ys n all.1 small r s in
+    let first = one_answer reading law line x y n all.0 small i j in
+    let rest = one_of_lines reading law lines xs ys n all.1 small r s in
     p ∙ (ap (λ z. z ++ 10 ∷ xs) first ∙ (ap (λ z. y ++ 10 ∷ z) rest ∙ sym q))
 
-some_of_lines : OneReading → (lines : List (List ℕ)) (n : ℕ) → AreWithin n lines → n < 2 ^ 64 → (output : List ℕ) × AreLineAnswers lines output
-some_of_lines law [] n all small = ([], refl)
-some_of_lines law (line ∷ lines) n all small =
-    let x = some_answer law line n all.0 small in
-    let r = some_of_lines law lines n all.1 small in
+some_of_lines : (reading : Reading) → Settled reading → (lines : List (List ℕ)) (n : ℕ) → AreWithin n lines → n < 2 ^ 64 → (output : List ℕ) × AreLineAnswers reading lines output
+some_of_lines reading law [] n all small = ([], refl)
+some_of_lines reading law (line ∷ lines) n all small =
+    let x = some_answer reading law line n all.0 small in
+    let r = some_of_lines reading law lines n all.1 small in
     (x.0 ++ 10 ∷ r.0, (x.0, r.0, refl, x.1, r.1))
 
 -- an input has an output that answers it
-pub some_output : OneReading → (input : List ℕ) → length input < 2 ^ 64 → (output : List ℕ) × AreLineAnswers (lines_of input) output
-some_output law input small = some_of_lines law (lines_of input) (length input) (lines_within input (length input) (omega arith)) small
+pub some_output : OneReading → StrictReading → (reading : Reading) (input : List ℕ) → length input < 2 ^ 64 → (output : List ℕ) × AreLineAnswers reading (lines_of input) output
+some_output law strict reading input small =
+    some_of_lines reading (settled law strict reading) (lines_of input) (length input) (lines_within input (length input) (omega arith)) small
 
 -- and no other
-pub one_output : OneReading → (input a b : List ℕ) → length input < 2 ^ 64 → AreLineAnswers (lines_of input) a → AreLineAnswers (lines_of input) b → a ≡ b
-one_output law input a b small u v = one_of_lines law (lines_of input) a b (length input) (lines_within input (length input) (omega arith)) small u v
+pub one_output :
+    OneReading → StrictReading → (reading : Reading) (input a b : List ℕ) → length input < 2 ^ 64 →
+    AreLineAnswers reading (lines_of input) a → AreLineAnswers reading (lines_of input) b → a ≡ b
+one_output law strict reading input a b small u v =
+    one_of_lines reading (settled law strict reading) (lines_of input) a b (length input) (lines_within input (length input) (omega arith)) small u v

@@ -5,7 +5,11 @@ use Rattle.hex.specs.Hex.{decode_of, encode_upper}
 use Rattle.simple_asn1.specs.Tree.{Trees}
 use Rattle.simple_asn1.specs.Grammar.{Document, FirstFault}
 use Rattle.simple_asn1.specs.Canonical.{all_canonical}
-use Rattle.simple_asn1.specs.Fault.{DecodeFault, empty_buffer, bad_boolean_length, length_too_large, utf8_failure, printable_string_failure, invalid_date_value, invalid_bit_string_length, invalid_class, incomplete, overflow, out_of_memory}
+use Rattle.simple_asn1.specs.Fault.{DecodeFault, empty_buffer, bad_boolean_length, length_too_large, utf8_failure, printable_string_failure, invalid_date_value, invalid_bit_string_length, invalid_class, incomplete, overflow, out_of_memory, not_canonical}
+use Rattle.simple_asn1.specs.ReadBack.{IsCanonicalDocument}
+use Rattle.simple_asn1.specs.Strict.{StrictFault}
+use Rattle.der_tool.specs.declared.answers.Reading.{Reading}
+use Rattle.der_tool.specs.declared.answers.Reading.TheVariants.{Lenient, Strict}
 
 -- the byte at the front of the first line
 abbrev pub onto_first_line : ℕ → List (List ℕ) → List (List ℕ)
@@ -30,32 +34,53 @@ name_of (invalid_class n) = codes "InvalidClass"
 name_of incomplete = codes "Incomplete"
 name_of overflow = codes "Overflow"
 name_of out_of_memory = codes "OutOfMemory"
+name_of (not_canonical n) = codes "NotCanonical"
 
--- what follows the name: of three faults a space and their number
+-- what follows the name: of four faults a space and their number
 abbrev pub number_after : DecodeFault → List ℕ
 number_after (bad_boolean_length n) = codes " " ++ decimal n
 number_after (length_too_large n) = codes " " ++ decimal n
 number_after (invalid_bit_string_length n) = codes " " ++ signed_decimal n
+number_after (not_canonical n) = codes " " ++ decimal n
 number_after fault = []
 
--- what is said of octets: of a document its canonical octets, and else the first fault
-abbrev pub IsVerdict : List ℕ → List ℕ → Type 0
-IsVerdict octets answer =
-    ((bs : Trees ℕ) × Document octets bs × (answer ≡ codes "ok " ++ encode_upper (all_canonical bs)))
-    ⊎ ((fault : DecodeFault) × FirstFault octets fault
-    × (answer ≡ codes "refused " ++ (name_of fault ++ number_after fault)))
+-- what is said of a fault
+abbrev pub refusal : DecodeFault → List ℕ
+refusal fault = codes "refused " ++ (name_of fault ++ number_after fault)
+
+-- the octets are accepted, and these are their canonical ones: of any document; strictly, of one that
+-- is its canonical octets
+abbrev pub IsAccepted : Reading → List ℕ → List ℕ → Type 0
+IsAccepted Lenient octets canonical =
+    (bs : Trees ℕ) × Document octets bs × (canonical ≡ all_canonical bs)
+IsAccepted Strict octets canonical = IsCanonicalDocument octets × (canonical ≡ octets)
+
+-- the octets are refused, with this fault
+abbrev pub IsRefused : Reading → List ℕ → DecodeFault → Type 0
+IsRefused Lenient octets fault = FirstFault octets fault
+IsRefused Strict octets fault = StrictFault octets fault
+
+-- what is said of octets: the canonical octets of those that are accepted, and else the fault
+abbrev pub IsVerdict : Reading → List ℕ → List ℕ → Type 0
+IsVerdict reading octets answer =
+    ((canonical : List ℕ) × IsAccepted reading octets canonical
+    × (answer ≡ codes "ok " ++ encode_upper canonical))
+    ⊎ ((fault : DecodeFault) × IsRefused reading octets fault × (answer ≡ refusal fault))
 
 -- what is said of a line
-abbrev pub IsAnswer : List ℕ → List ℕ → Type 0
-IsAnswer line answer = MatchResult (decode_of line) (λ octets. IsVerdict octets answer) (λ _. answer ≡ codes "badhex")
+abbrev pub IsAnswer : Reading → List ℕ → List ℕ → Type 0
+IsAnswer reading line answer =
+    MatchResult (decode_of line)
+    (λ octets. IsVerdict reading octets answer)
+    (λ _. answer ≡ codes "badhex")
 
 -- the output is the answers to the lines, each ended by byte 0A
-abbrev pub AreLineAnswers : List (List ℕ) → List ℕ → Type 0
-AreLineAnswers [] output = output ≡ []
-AreLineAnswers (line ∷ lines) output =
-    (answer : List ℕ) × (rest : List ℕ) × (output ≡ answer ++ 10 ∷ rest) × IsAnswer line answer
-    × AreLineAnswers lines rest
+abbrev pub AreLineAnswers : Reading → List (List ℕ) → List ℕ → Type 0
+AreLineAnswers reading [] output = output ≡ []
+AreLineAnswers reading (line ∷ lines) output =
+    (answer : List ℕ) × (rest : List ℕ) × (output ≡ answer ++ 10 ∷ rest)
+    × IsAnswer reading line answer × AreLineAnswers reading lines rest
 
 -- the output is the answers to the input's lines
-abbrev pub AreAnswers : List ℕ → List ℕ → Type 0
-AreAnswers input output = AreLineAnswers (lines_of input) output
+abbrev pub AreAnswers : Reading → List ℕ → List ℕ → Type 0
+AreAnswers reading input output = AreLineAnswers reading (lines_of input) output

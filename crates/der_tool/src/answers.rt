@@ -1,21 +1,40 @@
 // The answers to lines, each a document in hex digits.
-ghost use Rattle.std.specs.Prelude.{◌≡◌, ◌<◌, ◌++◌, ℕ, List, ◌∷◌, length, IfOk, OnOk, string_bytes};
-ghost use Rattle.der_tool.specs.Answers.{AreAnswers, IsAnswer, IsVerdict, lines_of, name_of, number_after};
-ghost use Rattle.simple_asn1.specs.Fault.{fault_of};
+ghost use Rattle.std.specs.Prelude.{◌≡◌, ◌<◌, ◌++◌, ℕ, List, ◌∷◌, length, IfErr, IfOk, OnOk, string_bytes};
+ghost use Rattle.der_tool.specs.Answers.{
+  AreAnswers,
+  IsAccepted,
+  IsAnswer,
+  IsRefused,
+  IsVerdict,
+  lines_of,
+  name_of,
+  number_after,
+  refusal,
+};
+ghost use Rattle.simple_asn1.specs.Fault.{OutOfMemoryOr, fault_of};
 
 use hex::FromHexError;
-use simple_asn1::{ASN1DecodeErr, rewrite};
+use simple_asn1::{ASN1DecodeErr, discard, from_der_strict, rewrite};
 use std::alloc::{AllocError, Global};
 
+// Which documents are accepted, and with which octets they are answered.
+#[derive(Clone, Copy)]
+pub enum Reading {
+    // All, with their canonical octets.
+    Lenient,
+    // Those that are their canonical octets, with these.
+    Strict,
+}
+
 // The answers to the lines of the input.
-pub fn answers(alloc: Global, input: &[u8]) -> Result<Vec<u8>, AllocError>
-    ensures { IfOk result (λ output. AreAnswers input.now output.items) }
+pub fn answers(alloc: Global, reading: Reading, input: &[u8]) -> Result<Vec<u8>, AllocError>
+    ensures { IfOk result (λ output. AreAnswers reading input.now output.items) }
 {
     let mut output = Vec::new(alloc);
     let mut rest = input;
     while !rest.is_empty() {
         let (line, after) = split_line(rest);
-        append_answer(alloc, line, &mut output)?;
+        append_answer(alloc, reading, line, &mut output)?;
         output.push(b'\n')?;
         rest = after;
     }
@@ -39,34 +58,72 @@ fn split_line(input: &[u8]) -> (&[u8], &[u8])
 }
 
 // Appends the answer to a line.
-fn append_answer(alloc: Global, line: &[u8], output: &mut Vec<u8>) -> Result<(), AllocError>
-    ensures { OnOk result ((answer : List ℕ) × IsAnswer line.now answer
+fn append_answer(
+    alloc: Global,
+    reading: Reading,
+    line: &[u8],
+    output: &mut Vec<u8>,
+) -> Result<(), AllocError>
+    ensures { OnOk result ((answer : List ℕ) × IsAnswer reading line.now answer
         × (output.new.items ≡ output.old.items ++ answer)) }
 {
     match hex::decode(alloc, line) {
-        Ok(octets) => append_verdict(alloc, &octets, output),
+        Ok(octets) => append_verdict(alloc, reading, &octets, output),
         Err(FromHexError::OutOfMemory) => Err(AllocError),
         Err(_) => output.extend_from_slice(b"badhex"),
     }
 }
 
-// Appends what is said of octets: their canonical ones, or why they are no document.
-fn append_verdict(alloc: Global, octets: &[u8], output: &mut Vec<u8>) -> Result<(), AllocError>
-    ensures { OnOk result ((answer : List ℕ) × IsVerdict octets.now answer
+// Appends what is said of octets: their canonical ones, or why they are refused.
+fn append_verdict(
+    alloc: Global,
+    reading: Reading,
+    octets: &[u8],
+    output: &mut Vec<u8>,
+) -> Result<(), AllocError>
+    ensures { OnOk result ((answer : List ℕ) × IsVerdict reading octets.now answer
         × (output.new.items ≡ output.old.items ++ answer)) }
 {
-    match rewrite(alloc, octets) {
+    match canonical_octets(alloc, reading, octets) {
         Ok(canonical) => {
             let text = hex::encode_upper(alloc, canonical.as_slice())?;
             output.extend_from_slice(b"ok ")?;
             output.extend_from_slice(text.as_bytes())
         }
         Err(ASN1DecodeErr::OutOfMemory) => Err(AllocError),
-        Err(fault) => {
-            let number = number_text(alloc, &fault)?;
-            output.extend_from_slice(b"refused ")?;
-            output.extend_from_slice(fault_name(&fault).as_bytes())?;
-            output.extend_from_slice(number.as_bytes())
+        Err(fault) => append_refusal(alloc, &fault, output),
+    }
+}
+
+// Appends what is said of a fault.
+fn append_refusal(
+    alloc: Global,
+    fault: &ASN1DecodeErr,
+    output: &mut Vec<u8>,
+) -> Result<(), AllocError>
+    ensures { OnOk result (output.new.items
+        ≡ output.old.items ++ refusal (fault_of fault.now)) }
+{
+    let number = number_text(alloc, fault)?;
+    output.extend_from_slice(b"refused ")?;
+    output.extend_from_slice(fault_name(fault).as_bytes())?;
+    output.extend_from_slice(number.as_bytes())
+}
+
+// The canonical octets of a document that is accepted.
+fn canonical_octets(
+    alloc: Global,
+    reading: Reading,
+    octets: &[u8],
+) -> Result<Vec<u8>, ASN1DecodeErr>
+    ensures accepted { IfOk result (λ canonical. IsAccepted reading octets.now canonical.items) }
+    ensures refused { IfErr result (OutOfMemoryOr (IsRefused reading octets.now)) }
+{
+    match reading {
+        Reading::Lenient => rewrite(alloc, octets),
+        Reading::Strict => {
+            discard(from_der_strict(alloc, octets)?);
+            Ok(octets.to_vec(alloc)?)
         }
     }
 }
@@ -86,10 +143,11 @@ fn fault_name(fault: &ASN1DecodeErr) -> &'static str
         ASN1DecodeErr::Incomplete => "Incomplete",
         ASN1DecodeErr::Overflow => "Overflow",
         ASN1DecodeErr::OutOfMemory => "OutOfMemory",
+        ASN1DecodeErr::NotCanonical(_) => "NotCanonical",
     }
 }
 
-// A space and the number of a fault, if it is one of the three whose number is told.
+// A space and the number of a fault, if it is one of the four whose number is told.
 fn number_text(alloc: Global, fault: &ASN1DecodeErr) -> Result<String, AllocError>
     ensures { IfOk result (λ text. string_bytes text ≡ number_after (fault_of fault.now)) }
 {
@@ -97,6 +155,7 @@ fn number_text(alloc: Global, fault: &ASN1DecodeErr) -> Result<String, AllocErro
         ASN1DecodeErr::BadBooleanLength(n) => format!(in alloc; " {n}"),
         ASN1DecodeErr::LengthTooLarge(n) => format!(in alloc; " {n}"),
         ASN1DecodeErr::InvalidBitStringLength(n) => format!(in alloc; " {n}"),
+        ASN1DecodeErr::NotCanonical(n) => format!(in alloc; " {n}"),
         ASN1DecodeErr::EmptyBuffer
         | ASN1DecodeErr::UTF8DecodeFailure(_)
         | ASN1DecodeErr::PrintableStringDecodeFailure

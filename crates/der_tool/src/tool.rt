@@ -2,9 +2,10 @@
 ghost use Rattle.std.specs.Prelude.{◌≡◌, ◌⊎◌, List, ℕ, Ok, Err, IfOk, IfErr, IfSome, OnOk, IsOk, codes};
 ghost use Rattle.std.specs.Io.KnownBytes.{Appends, IsAtEnd, Keeps};
 ghost use Rattle.der_tool.specs.Answers.{AreAnswers};
+ghost use Rattle.der_tool.specs.declared.answers.Reading.TheVariants.{Lenient, Strict};
 ghost use Rattle.der_tool.specs.declared.tool.ToolFault.TheVariants.{Read as read_fault, Write as write_fault, Memory as memory_fault};
 
-use crate::answers::answers;
+use crate::answers::{Reading, answers};
 use std::alloc::Global;
 use std::io::{Read, Write};
 
@@ -30,12 +31,42 @@ pub enum ToolFault {
 /// `Read` and `Memory`, after which nothing was written; `Write`, after which nothing is known of what was.
 pub fn run<R: Read, W: Write>(alloc: Global, r: &mut R, w: &mut W) -> Result<(), ToolFault>
     ensures answered { OnOk result (IfSome (R.remaining r.old) (λ input. (output : List ℕ)
-        × AreAnswers input output × Appends (W.contents w.old) (W.contents w.new) output)) }
+        × AreAnswers Lenient input output × Appends (W.contents w.old) (W.contents w.new) output)) }
+    ensures read { OnOk result (IsAtEnd (R.remaining r.new)) }
+    ensures kept { IfErr result (λ e. (e ≡ write_fault) ⊎ Keeps (W.contents w.old) (W.contents w.new)) }
+{
+    run_with(alloc, Reading::Lenient, r, w)
+}
+
+/// As [`run`], but a document is answered with `ok` only where it is its own canonical octets, and with `refused` and
+/// `NotCanonical` where it is not: its number is the offset of the first block at the top level whose octets are not
+/// its canonical ones.
+///
+/// # Errors
+/// Those of [`run`].
+pub fn run_strict<R: Read, W: Write>(alloc: Global, r: &mut R, w: &mut W) -> Result<(), ToolFault>
+    ensures answered { OnOk result (IfSome (R.remaining r.old) (λ input. (output : List ℕ)
+        × AreAnswers Strict input output × Appends (W.contents w.old) (W.contents w.new) output)) }
+    ensures read { OnOk result (IsAtEnd (R.remaining r.new)) }
+    ensures kept { IfErr result (λ e. (e ≡ write_fault) ⊎ Keeps (W.contents w.old) (W.contents w.new)) }
+{
+    run_with(alloc, Reading::Strict, r, w)
+}
+
+// Reads all of `r`, and writes the answer to each line to `w`.
+fn run_with<R: Read, W: Write>(
+    alloc: Global,
+    reading: Reading,
+    r: &mut R,
+    w: &mut W,
+) -> Result<(), ToolFault>
+    ensures answered { OnOk result (IfSome (R.remaining r.old) (λ input. (output : List ℕ)
+        × AreAnswers reading input output × Appends (W.contents w.old) (W.contents w.new) output)) }
     ensures read { OnOk result (IsAtEnd (R.remaining r.new)) }
     ensures kept { IfErr result (λ e. (e ≡ write_fault) ⊎ Keeps (W.contents w.old) (W.contents w.new)) }
 {
     let input = read_all(alloc, r)?;
-    let Ok(output) = answers(alloc, &input) else {
+    let Ok(output) = answers(alloc, reading, &input) else {
         return Err(ToolFault::Memory);
     };
     match w.write_all(&output) {

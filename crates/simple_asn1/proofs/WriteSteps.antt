@@ -176,7 +176,7 @@ size_at (x ∷ list) (suc i) m h e s =
     let r : measured_sizes list ≡ map contents_size_of (measured_blocks list) = cc in
     size_at list i m (omega (arith, h)) e r
 
-none_of_both : (a b : Option ASN1EncodeErr) → first_of a b ≡ None → (a ≡ None) × (b ≡ None)
+pub none_of_both : (a b : Option ASN1EncodeErr) → first_of a b ≡ None → (a ≡ None) × (b ≡ None)
 none_of_both None b e = (refl, e)
 none_of_both (Some x) b e = cc
 

@@ -2,7 +2,7 @@
 -- carries is shown by tests alone.
 use Rattle.std.specs.Prelude.{◌≡◌, ◌⊎◌, ℕ, ℤ, List, Result, Ok, Err, string_bytes}
 use Rattle.simple_asn1.specs.declared.error.ASN1DecodeErr.{ASN1DecodeErr}
-use Rattle.simple_asn1.specs.declared.error.ASN1DecodeErr.TheVariants.{EmptyBuffer, BadBooleanLength, LengthTooLarge, UTF8DecodeFailure, PrintableStringDecodeFailure, InvalidDateValue, InvalidBitStringLength, InvalidClass, Incomplete, Overflow, OutOfMemory}
+use Rattle.simple_asn1.specs.declared.error.ASN1DecodeErr.TheVariants.{EmptyBuffer, BadBooleanLength, LengthTooLarge, UTF8DecodeFailure, PrintableStringDecodeFailure, InvalidDateValue, InvalidBitStringLength, InvalidClass, Incomplete, Overflow, OutOfMemory, NotCanonical}
 
 pub data DecodeFault : Type 0 where
   empty_buffer : DecodeFault
@@ -16,6 +16,7 @@ pub data DecodeFault : Type 0 where
   incomplete : DecodeFault
   overflow : DecodeFault
   out_of_memory : DecodeFault
+  not_canonical : ℕ → DecodeFault
 
 abbrev pub fault_of : ASN1DecodeErr → DecodeFault
 fault_of EmptyBuffer = empty_buffer
@@ -29,6 +30,7 @@ fault_of (InvalidClass n) = invalid_class n
 fault_of Incomplete = incomplete
 fault_of Overflow = overflow
 fault_of OutOfMemory = out_of_memory
+fault_of (NotCanonical n) = not_canonical n
 
 -- memory ran out, or the fault is one of these
 abbrev pub OutOfMemoryOr : (DecodeFault → Type 0) → ASN1DecodeErr → Type 0
@@ -39,7 +41,8 @@ abbrev pub UnlessOutOfMemory : {A : Type 0} → Result A ASN1DecodeErr → Type 
 UnlessOutOfMemory (Ok x) P = P
 UnlessOutOfMemory (Err e) P = (e ≡ OutOfMemory) ⊎ P
 
--- the fault is one that octets can have: no class that doesn't exist, no overflow, and not that memory ran out
+-- the fault is one that octets can have in reading: no class that doesn't exist, no overflow, not that memory ran out,
+-- and not that a block is not canonical
 abbrev pub IsOfReading : DecodeFault → Type 0
 IsOfReading empty_buffer = Unit {0}
 IsOfReading (bad_boolean_length n) = Unit {0}
@@ -52,3 +55,4 @@ IsOfReading (invalid_class n) = ⊥
 IsOfReading incomplete = Unit {0}
 IsOfReading overflow = ⊥
 IsOfReading out_of_memory = ⊥
+IsOfReading (not_canonical n) = ⊥

@@ -15,10 +15,13 @@ ReadsBackAs octets b =
 abbrev pub AllReadBackAs : List ℕ → Trees ℕ → Type 0
 AllReadBackAs octets bs = (cs : Trees ℕ) × Document octets cs × (shapes cs ≡ shapes bs)
 
+-- the octets are a document of these trees, and their canonical octets
+abbrev pub CanonicalDocument : List ℕ → Trees ℕ → Type 0
+CanonicalDocument octets bs = Document octets bs × (octets ≡ all_canonical bs)
+
 -- the octets are a document, and the canonical octets of its trees
 abbrev pub IsCanonicalDocument : List ℕ → Type 0
-IsCanonicalDocument octets =
-    (bs : Trees ℕ) × Document octets bs × (octets ≡ all_canonical bs)
+IsCanonicalDocument octets = (bs : Trees ℕ) × CanonicalDocument octets bs
 
 -- normalized, the trees are equal but for their offsets
 abbrev pub AreEqualNormalized : Trees ℕ → Trees ℕ → Type 0

@@ -47,6 +47,10 @@ pub enum ASN1DecodeErr {
     /// Memory ran out. Nothing is said of the octets.
     #[error("Out of memory")]
     OutOfMemory,
+    /// The octets of a block at the top level of the document are not its canonical ones, which `to_der` writes; the
+    /// offset of the first such block. Answered by `from_der_strict` alone.
+    #[error("Block is not in canonical form: {0}")]
+    NotCanonical(usize),
 }
 
 /// Makes `OutOfMemory` of what a copy, a text or a reserved size answers where memory runs out.
@@ -94,6 +98,7 @@ impl ASN1DecodeErr {
             ASN1DecodeErr::Incomplete => Ok(ASN1DecodeErr::Incomplete),
             ASN1DecodeErr::Overflow => Ok(ASN1DecodeErr::Overflow),
             ASN1DecodeErr::OutOfMemory => Ok(ASN1DecodeErr::OutOfMemory),
+            ASN1DecodeErr::NotCanonical(n) => Ok(ASN1DecodeErr::NotCanonical(*n)),
         }
     }
 }

@@ -32,6 +32,7 @@ pub fn refusal(alloc: Global, fault: &ASN1DecodeErr) -> Result<String, AllocErro
         ASN1DecodeErr::Incomplete => String::from_str(alloc, "refused Incomplete"),
         ASN1DecodeErr::Overflow => String::from_str(alloc, "refused Overflow"),
         ASN1DecodeErr::OutOfMemory => Err(AllocError),
+        ASN1DecodeErr::NotCanonical(n) => format!(in alloc; "refused NotCanonical {n}"),
     }
 }
 

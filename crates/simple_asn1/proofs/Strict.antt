@@ -1,0 +1,210 @@
+-- Canonical documents.
+use Rattle.std.proofs.Common.{◌≡◌, ◌≢◌, ℕ, ◌+◌, ◌<◌, ◌≤◌, ◌^◌, Bool, true, false, List, [], ◌++◌, ◌⊎◌, ◌↔◌, inl, inr, length, refl, sym, ap, ◌∙◌, subst, arith, length-append, append_assoc, append-nil, take, drop, length-drop, get_or, None, Result, Ok, Err, Vec, Global, IfOk, IfErr, IsErrAnd, IsTrue, MatchResult}
+use Rattle.std.specs.List.{slice_range}
+use Rattle.std.proofs.lemmas.List.{take-append-drop, length-take-le, drop_at, drop_more}
+use Rattle.simple_asn1.specs.declared.block.ASN1Block.{ASN1Block}
+use Rattle.simple_asn1.specs.declared.error.ASN1DecodeErr.{ASN1DecodeErr}
+use Rattle.simple_asn1.specs.declared.error.ASN1DecodeErr.TheVariants.{OutOfMemory}
+use Rattle.simple_asn1.specs.declared.header.ASN1Class.{ASN1Class}
+use Rattle.simple_asn1.specs.declared.header.ASN1Class.TheVariants.{Universal}
+use Rattle.simple_asn1.specs.declared.sink.Comparison.{Comparison}
+use Rattle.simple_asn1.specs.Comparisons.{compared}
+use Rattle.simple_asn1.specs.Fault.{DecodeFault, OutOfMemoryOr, fault_of, not_canonical}
+use Rattle.simple_asn1.specs.Tree.{Tree, Trees, leaf, group, explicit, unknown, no_trees, more_trees, shapes}
+use Rattle.simple_asn1.specs.View.{tree_offset, view, views}
+use Rattle.simple_asn1.specs.Contents.{group_tag, leaf_contents, leaf_tag}
+use Rattle.simple_asn1.specs.Canonical.{shortest_encoding, canonical, all_canonical, first_write_fault, write_fault}
+use Rattle.simple_asn1.specs.Grammar.{EncodesAll, Document}
+use Rattle.simple_asn1.specs.Places.{end_before}
+use Rattle.simple_asn1.specs.ReadBack.{CanonicalDocument}
+use Rattle.simple_asn1.specs.Strict.{EqualByOctets, FirstNotCanonical, StandCanonical, StrictFault, top_octets}
+use Rattle.simple_asn1.proofs.Leaves.Known.{octets_known}
+use Rattle.simple_asn1.proofs.Prefixes.{encoding_alone, same_split}
+use Rattle.simple_asn1.proofs.OneReading.{encodes_block, all_alone}
+use Rattle.simple_asn1.proofs.Faults.{BlockEncoding, block_encoding}
+use Rattle.simple_asn1.proofs.FaultsAlone.{first_fault_alone}
+use Rattle.simple_asn1.proofs.Totality.{document_or_fault}
+use Rattle.simple_asn1.proofs.Readings.{document_no_fault}
+use Rattle.simple_asn1.proofs.ReadSteps.{slice_split}
+use Rattle.simple_asn1.proofs.Slices.{encodes_offset, end_is, slice_here}
+use Rattle.simple_asn1.proofs.WriteSteps.{none_of_both}
+use Rattle.simple_asn1.proofs.Placed.{canonical_shapes, contents_le, header_size, shortest_encodes}
+
+-- what is written of a tree is an encoding
+written_encoding : (c : ASN1Class) (k : Bool) (n : ℕ) (contents : List ℕ) → length (shortest_encoding c k n contents) < 2 ^ 64 → BlockEncoding (shortest_encoding c k n contents)
+written_encoding c k n contents h = record {
+  class = c;
+  constructed = k;
+  tag = n;
+  contents = contents;
+  header = header_size c k n contents;
+  encoding = shortest_encodes c k n contents (omega (arith, h, contents_le c k n contents));
+}
+
+canonical_encoding : (b : Tree ℕ) → length (canonical b) < 2 ^ 64 → BlockEncoding (canonical b)
+canonical_encoding (leaf o l) h = written_encoding Universal false (leaf_tag l) (leaf_contents l) h
+canonical_encoding (group o g bs) h = written_encoding Universal true (group_tag g) (all_canonical bs) h
+canonical_encoding (explicit c o n b) h = written_encoding c true n (canonical b) h
+canonical_encoding (unknown c k o n v) h = written_encoding c k n v h
+
+-- the octets of the first of trees
+pub octets_here : (i u x : List ℕ) (b : Tree ℕ) (bs : Trees ℕ) → i ≡ u ++ x → (s : EncodesAll (length u) x (more_trees b bs)) → (top_octets i b bs ≡ s.0) × (tree_offset b ≡ length u) × (end_before bs (length i) ≡ length u + length s.0) × (i ≡ (u ++ s.0) ++ s.1) × EncodesAll (length (u ++ s.0)) s.1 bs
+octets_here i u x b bs w s =
+    let n = ap length w ∙ length-append u x in
+    let m = ap length s.2 ∙ length-append s.0 s.1 in
+    let o = encodes_offset (length u) s.0 b s.3 in
+    let e = end_is (length u + length s.0) (length i) s.1 bs s.4 (omega (arith, n, m)) in
+    let d : i ≡ u ++ (s.0 ++ s.1) = w ∙ ap (λ z. u ++ z) s.2 in
+    let k : length u + length s.0 ≡ length (u ++ s.0) = omega (arith, length-append u s.0) in
+    (slice_here i u s.0 s.1 (tree_offset b) (end_before bs (length i)) d o e, o, e, d ∙ sym (append_assoc u s.0 s.1), subst (λ z. EncodesAll z s.1 bs) k s.4)
+
+-- one step over the octets of a document, from a place on
+pub record Step (i : List ℕ) (o : ℕ) (b : Tree ℕ) (bs : Trees ℕ) (e : ℕ) : Type 0 where
+  pub from : o ≤ e
+  pub to : e ≤ length i
+  pub at : tree_offset b ≡ o
+  pub left : EncodesAll e (drop e i) bs
+  pub whole : drop o i ≡ slice_range i o e ++ drop e i
+  -- what decides of the trees after the first
+  pub first_is : (n : ℕ) → slice_range i o e ≡ canonical b → FirstNotCanonical i bs n → FirstNotCanonical i (more_trees b bs) n
+  pub first_here : slice_range i o e ≢ canonical b → FirstNotCanonical i (more_trees b bs) o
+
+pub step : (i : List ℕ) (o : ℕ) (b : Tree ℕ) (bs : Trees ℕ) (e : ℕ) → o ≤ length i → e ≡ end_before bs (length i) → EncodesAll o (drop o i) (more_trees b bs) → Step i o b bs e
+step i o b bs e h d s =
+    let u = take o i in
+    let l : length u ≡ o = length-take-le o i h in
+    let w : i ≡ u ++ drop o i = sym (take-append-drop o i) in
+    let t : EncodesAll (length u) (drop o i) (more_trees b bs) = subst (λ z. EncodesAll z (drop o i) (more_trees b bs)) (sym l) s in
+    let p = octets_here i u (drop o i) b bs w t in
+    let n : e ≡ o + length t.0 = omega (arith, d, p.2, l) in
+    let k : length (u ++ t.0) ≡ e = omega (arith, n, l, length-append u t.0) in
+    let at : tree_offset b ≡ o = p.1 ∙ l in
+    let len : length (drop o i) ≡ length t.0 + length t.1 = ap length t.2 ∙ length-append t.0 t.1 in
+    let to : e ≤ length i = omega (arith, n, len, length-drop o i, h) in
+    let r : drop e i ≡ t.1 = ap (drop e) p.3 ∙ drop_at (u ++ t.0) t.1 e k in
+    let same : top_octets i b bs ≡ slice_range i o e = ap (λ z. slice_range i z (end_before bs (length i))) at ∙ ap (slice_range i o) (sym d) in
+    let after : EncodesAll e t.1 bs = subst (λ z. EncodesAll z t.1 bs) k p.4 in
+    let ordered : o ≤ e = omega (arith, n) in
+    record {
+      from = ordered;
+      to = to;
+      at = at;
+      left = subst (λ z. EncodesAll e z bs) (sym r) after;
+      whole = slice_split i o e ordered;
+      first_is = λ m c f. inr (same ∙ c, f);
+      first_here = λ ne. inl (λ c. ne (sym same ∙ c), sym at);
+    }
+
+-- the block at a place, and those after it
+pub views_from : (bs : List ASN1Block) (i : ℕ) (b : ASN1Block) → i < length bs → b ≡ get_or bs i b → views (drop i bs) ≡ more_trees (view b) (views (drop (i + 1) bs))
+views_from bs i b h e = ap views (drop_more bs i b h) ∙ ap (λ z. more_trees (view z) (views (drop (i + 1) bs))) (sym e)
+
+-- where those from a place on can be written, the one at the place can be, and those after it
+pub writable_from :
+    (bs : List ASN1Block) (i : ℕ) (b : ASN1Block) → i < length bs → b ≡ get_or bs i b → first_write_fault (views (drop i bs)) ≡ None →
+    (write_fault (view b) ≡ None) × (first_write_fault (views (drop (i + 1) bs)) ≡ None)
+writable_from bs i b h e f =
+    none_of_both (write_fault (view b)) (first_write_fault (views (drop (i + 1) bs))) (sym (ap first_write_fault (views_from bs i b h e)) ∙ f)
+
+-- octets that are compared with as many are the same exactly if the comparison says so
+pub compared_whole : (a b : Comparison) (xs : List ℕ) → compared a xs b → length xs ≡ length a.rest.now → IsTrue a.same → IsTrue b.same ↔ (a.rest.now ≡ xs)
+compared_whole a b xs p n s =
+    let front : a.rest.now ≡ p.0 = (same_split a.rest.now p.0 [] b.rest.now (omega (arith, n, p.2)) (append-nil a.rest.now ∙ p.1)).0 in
+    (λ h. front ∙ (p.3.0 h).1, λ e. p.3.1 (s, sym front ∙ e))
+
+-- what is written of trees is, of each, where it stands
+written_stand : (bs : Trees ℕ) (i u x : List ℕ) → i ≡ u ++ x → length x < 2 ^ 64 → EncodesAll (length u) x bs → x ≡ all_canonical bs → StandCanonical i bs
+written_stand no_trees i u x w small s e = tt
+written_stand (more_trees b bs) i u x w small s e =
+    let p = octets_here i u x b bs w s in
+    let l = ap length e ∙ length-append (canonical b) (all_canonical bs) in
+    let F = block_encoding s.0 (encodes_block (length u) s.0 b s.3) in
+    let G = canonical_encoding b (omega (arith, small, l)) in
+    let h = encoding_alone _ _ _ _ _ _ _ _ _ _ _ _ s.1 (all_canonical bs) F.encoding G.encoding (sym s.2 ∙ e) in
+    (p.0 ∙ h.octets, written_stand bs i (u ++ s.0) s.1 p.3 (omega (arith, small, ap length s.2, length-append s.0 s.1)) p.4 h.rest)
+
+-- and the other way round
+stand_written : (bs : Trees ℕ) (i u x : List ℕ) → i ≡ u ++ x → EncodesAll (length u) x bs → StandCanonical i bs → x ≡ all_canonical bs
+stand_written no_trees i u x w s c = s
+stand_written (more_trees b bs) i u x w s c =
+    let p = octets_here i u x b bs w s in
+    s.2 ∙ (ap (λ z. z ++ s.1) (sym p.0 ∙ c.0) ∙ ap (λ z. canonical b ++ z) (stand_written bs i (u ++ s.0) s.1 p.3 p.4 c.1))
+
+-- each stands so, or one is the first that does not
+stand_or_first : (i : List ℕ) (bs : Trees ℕ) → StandCanonical i bs ⊎ ((n : ℕ) × FirstNotCanonical i bs n)
+stand_or_first i no_trees = inl tt
+stand_or_first i (more_trees b bs) = elim (octets_known (top_octets i b bs) (canonical b)) [
+  | inr ne ↦ inr (tree_offset b, inl (ne, refl))
+  | inl e ↦ elim (stand_or_first i bs) [ inl s ↦ inl (e, s) | inr f ↦ inr (f.0, inr (e, f.1)) ]
+]
+
+-- not both
+stand_no_first : (i : List ℕ) (bs : Trees ℕ) (n : ℕ) → StandCanonical i bs → FirstNotCanonical i bs n → ⊥
+stand_no_first i no_trees n s f = f
+stand_no_first i (more_trees b bs) n s (inl f) = f.0 s.0
+stand_no_first i (more_trees b bs) n s (inr f) = stand_no_first i bs n s.1 f.1
+
+-- there is one first
+first_alone : (i : List ℕ) (bs : Trees ℕ) (m n : ℕ) → FirstNotCanonical i bs m → FirstNotCanonical i bs n → m ≡ n
+first_alone i no_trees m n p q = absurd p
+first_alone i (more_trees b bs) m n (inl p) (inl q) = p.1 ∙ sym q.1
+first_alone i (more_trees b bs) m n (inl p) (inr q) = absurd (p.0 q.0)
+first_alone i (more_trees b bs) m n (inr p) (inl q) = absurd (q.0 p.0)
+first_alone i (more_trees b bs) m n (inr p) (inr q) = first_alone i bs m n p.1 q.1
+
+pub stand_exactly : (i : List ℕ) (bs : Trees ℕ) → length i < 2 ^ 64 → Document i bs → (i ≡ all_canonical bs) ↔ StandCanonical i bs
+stand_exactly i bs small d = (λ e. written_stand bs i [] i refl small d.blocks e, λ s. stand_written bs i [] i refl d.blocks s)
+
+-- a canonical document has no tree that is not canonical
+canonical_no_first : (i : List ℕ) (bs cs : Trees ℕ) (n : ℕ) → length i < 2 ^ 64 → CanonicalDocument i bs → Document i cs → FirstNotCanonical i cs n → ⊥
+canonical_no_first i bs cs n small d a f =
+    let same : cs ≡ bs = all_alone 0 i cs bs a.blocks d.0.blocks in
+    stand_no_first i bs n ((stand_exactly i bs small d.0).0 d.1) (subst (λ z. FirstNotCanonical i z n) same f)
+
+pub strict_either : (i : List ℕ) → length i < 2 ^ 64 → ((bs : Trees ℕ) × CanonicalDocument i bs) ⊎ ((e : DecodeFault) × StrictFault i e)
+strict_either i small = elim (document_or_fault i small) [
+  | inr f ↦ inr (f.0, inl f.1)
+  | inl d ↦ elim (stand_or_first i d.0) [
+    | inl s ↦ inl (d.0, (d.1, (stand_exactly i d.0 small d.1).1 s))
+    | inr f ↦ inr (not_canonical f.0, inr (f.0, (d.0, d.1, f.1), refl))
+  ]
+]
+
+pub strict_not_both : (i : List ℕ) (bs : Trees ℕ) (e : DecodeFault) → length i < 2 ^ 64 → CanonicalDocument i bs → StrictFault i e → ⊥
+strict_not_both i bs e small d (inl f) = document_no_fault i bs e small d.0 f
+strict_not_both i bs e small d (inr (n, (cs, a, f), g)) = canonical_no_first i bs cs n small d a f
+
+pub strict_fault_alone : (i : List ℕ) (e d : DecodeFault) → length i < 2 ^ 64 → StrictFault i e → StrictFault i d → e ≡ d
+strict_fault_alone i e d small (inl p) (inl q) = first_fault_alone i e d p q small
+strict_fault_alone i e d small (inl p) (inr (n, (bs, a, f), g)) = absurd (document_no_fault i bs e small a p)
+strict_fault_alone i e d small (inr (n, (bs, a, f), g)) (inl q) = absurd (document_no_fault i bs d small a q)
+strict_fault_alone i e d small (inr (n, (bs, a, f), g)) (inr (m, (cs, b, h), k)) =
+    let same : cs ≡ bs = all_alone 0 i cs bs b.blocks a.blocks in
+    g ∙ (ap not_canonical (first_alone i bs n m f (subst (λ z. FirstNotCanonical i z m) same h)) ∙ sym k)
+
+pub strict_equal : (i : List ℕ) (bs : Trees ℕ) → CanonicalDocument i bs → EqualByOctets i bs
+strict_equal i bs d other cs e = (
+  λ p. d.1 ∙ (sym (canonical_shapes bs) ∙ (ap all_canonical p ∙ (canonical_shapes cs ∙ sym e.1))),
+  λ q. ap shapes (all_alone 0 i bs cs d.0.blocks (subst (λ z. EncodesAll 0 z cs) (sym q) e.0.blocks)),
+)
+
+-- an answer that is a canonical document or a strict fault is the only one
+pub strict_accepted :
+    (i : List ℕ) (r : Result (Vec ASN1Block Global) ASN1DecodeErr) → length i < 2 ^ 64 →
+    IfOk r (λ v. CanonicalDocument i (views v.items)) → IfErr r (OutOfMemoryOr (StrictFault i)) →
+    (bs : Trees ℕ) → CanonicalDocument i bs → MatchResult r (λ v. views v.items ≡ bs) (λ e. e ≡ OutOfMemory)
+strict_accepted i (Ok v) small ok err bs d = all_alone 0 i (views v.items) bs ok.0.blocks d.0.blocks
+strict_accepted i (Err e) small ok (inl memory) bs d = memory
+strict_accepted i (Err e) small ok (inr fault) bs d = absurd (strict_not_both i bs (fault_of e) small d fault)
+
+pub strict_refused :
+    (i : List ℕ) (r : Result (Vec ASN1Block Global) ASN1DecodeErr) → length i < 2 ^ 64 →
+    IfOk r (λ v. CanonicalDocument i (views v.items)) → IfErr r (OutOfMemoryOr (StrictFault i)) →
+    (fault : DecodeFault) → StrictFault i fault → IsErrAnd r (OutOfMemoryOr (λ e. e ≡ fault))
+strict_refused i (Ok v) small ok err fault f = strict_not_both i (views v.items) fault small ok f
+strict_refused i (Err e) small ok (inl memory) fault f = inl memory
+strict_refused i (Err e) small ok (inr first) fault f = inr (strict_fault_alone i (fault_of e) fault small first f)
+
+pub strict_shared : (i : List ℕ) (r : Result (Vec ASN1Block Global) ASN1DecodeErr) → IfOk r (λ v. CanonicalDocument i (views v.items)) → IfOk r (λ v. EqualByOctets i (views v.items))
+strict_shared i (Ok v) ok = strict_equal i (views v.items) ok
+strict_shared i (Err e) ok = tt

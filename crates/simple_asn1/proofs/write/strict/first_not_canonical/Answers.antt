@@ -1,0 +1,74 @@
+use Rattle.std.proofs.Common.{◌≡◌, None, append-nil, ◌<◌, ◌≤◌, ◌+◌, ◌++◌, drop, length, sym, ap, ◌∙◌, subst, arith}
+use Rattle.std.specs.List.{slice_range}
+use Rattle.std.proofs.lemmas.Bool.{false≢true}
+use Rattle.std.proofs.lemmas.Grind.{common_steps}
+use Rattle.std.proofs.lemmas.List.Elements.{All-from_get_or}
+use Rattle.simple_asn1.specs.Canonical.{all_canonical, canonical, first_of, first_write_fault}
+use Rattle.simple_asn1.specs.Grammar.{EncodesAll}
+use Rattle.simple_asn1.specs.Strict.{FirstNotCanonical}
+use Rattle.simple_asn1.specs.View.{view, views}
+use Rattle.simple_asn1.proofs.Strict.{step, views_from, writable_from}
+use Rattle.simple_asn1.proofs.Writable.{document_writable}
+use Rattle.simple_asn1.proofs.write.strict.first_not_canonical.Goals as goal
+
+pub slice_bounds-are_canonical-end : goal.slice_bounds-are_canonical-end
+slice_bounds-are_canonical-end c =
+    let xs = c.args.blocks.now in
+    let k = c.loop-k.k in
+    let v = views_from xs k c.index-blocks-k.result c.loop-k-test.true c.index-blocks-k.is in
+    let i = c.args.i.now in
+    let o = c.loop-k.start in
+    let s = step i o (view c.index-blocks-k.result) (views (drop (k + 1) xs)) c.end_at-end.result c.loop-k.invariant.within c.end_at-end.ensures (subst (EncodesAll o (drop o i)) v c.loop-k.invariant.left) in
+    let a : o ≤ c.end_at-end.result = s.from in
+    let b : c.end_at-end.result ≤ length i = s.to in
+    grind (arith, common_steps)
+
+pub loop-k-init : goal.loop-k-init
+loop-k-init c = record {
+  within = omega arith;
+  left = c.requires.blocks;
+  writable = document_writable c.args.i.now (views c.args.blocks.now) (All-from_get_or (λ b. b < 256) c.args.i.now 0 (λ k h. omega (arith, c.type_inv.i k))) c.requires;
+  same = λ q. q;
+  first = λ n f. f;
+}
+
+pub are_canonical-requires : goal.are_canonical-requires
+are_canonical-requires c =
+    document_writable c.args.i.now (views c.args.blocks.now) (All-from_get_or (λ b. b < 256) c.args.i.now 0 (λ k h. omega (arith, c.type_inv.i k))) c.requires
+
+pub are_canonical-requires-in-loop-k : goal.are_canonical-requires-in-loop-k
+are_canonical-requires-in-loop-k c =
+    let f = (writable_from c.args.blocks.now c.loop-k.k c.index-blocks-k.result c.loop-k-test.true c.index-blocks-k.is c.loop-k.invariant.writable).0 in
+    ap (λ z. first_write_fault (views z)) c.from_ref.ensures.value ∙ ap (λ z. first_of z None) f
+
+pub returns-then-not-branch-clause-found : goal.returns-then-not-branch-clause-found
+returns-then-not-branch-clause-found c =
+    let xs = c.args.blocks.now in
+    let k = c.loop-k.k in
+    let i = c.args.i.now in
+    let o = c.loop-k.start in
+    let v = views_from xs k c.index-blocks-k.result c.loop-k-test.true c.index-blocks-k.is in
+    let s = step i o (view c.index-blocks-k.result) (views (drop (k + 1) xs)) c.end_at-end.result c.loop-k.invariant.within c.end_at-end.ensures (subst (EncodesAll o (drop o i)) v c.loop-k.invariant.left) in
+    let one = ap (λ z. all_canonical (views z)) c.from_ref.ensures.value ∙ append-nil (canonical (view c.index-blocks-k.result)) in
+    c.loop-k.invariant.first o (subst (λ z. FirstNotCanonical i z o) (sym v) (s.first_here (λ e. absurd (false≢true (sym c.if-not-branch.true ∙ c.in_ok-are_canonical-2.ensures.are.1 (e ∙ sym one))))))
+
+pub loop-k-preserved : goal.loop-k-preserved
+loop-k-preserved c =
+    let xs = c.args.blocks.now in
+    let k = c.loop-k.k in
+    let i = c.args.i.now in
+    let o = c.loop-k.start in
+    let x = c.index-blocks-k.result in
+    let e = c.end_at-end.result in
+    let rest = views (drop (k + 1) xs) in
+    let v = views_from xs k x c.loop-k-test.true c.index-blocks-k.is in
+    let s = step i o (view x) rest e c.loop-k.invariant.within c.end_at-end.ensures (subst (EncodesAll o (drop o i)) v c.loop-k.invariant.left) in
+    let here : slice_range i o e ≡ canonical (view x) = c.in_ok-are_canonical-2.ensures.are.0 c.if-not-branch.false ∙
+    (ap (λ z. all_canonical (views z)) c.from_ref.ensures.value ∙ append-nil (canonical (view x))) in
+    record {
+      within = s.to;
+      left = s.left;
+      writable = (writable_from xs k x c.loop-k-test.true c.index-blocks-k.is c.loop-k.invariant.writable).1;
+      same = λ q. c.loop-k.invariant.same (s.whole ∙ (ap (λ z. z ++ drop e i) here ∙ (ap (λ z. canonical (view x) ++ z) q ∙ sym (ap all_canonical v))));
+      first = λ n f. c.loop-k.invariant.first n (subst (λ z. FirstNotCanonical i z n) (sym v) (s.first_is n here f));
+    }

@@ -1,0 +1,16 @@
+use Rattle.std.proofs.Common.{◌≡◌, ◌≤◌, ℕ, None, drop, length}
+use Rattle.simple_asn1.specs.Canonical.{all_canonical, first_write_fault}
+use Rattle.simple_asn1.specs.Grammar.{EncodesAll}
+use Rattle.simple_asn1.specs.Strict.{FirstNotCanonical}
+use Rattle.simple_asn1.specs.View.{views}
+use Rattle.simple_asn1.proofs.write.strict.first_not_canonical.Given as goal
+
+-- the blocks that are left are in the octets from the start on, and decide of all
+abbrev pub invariant-loop-k : goal.invariant-loop-k
+invariant-loop-k l = record {
+  within : l.start ≤ length l.i;
+  left : EncodesAll l.start (drop l.start l.i) (views (drop l.k l.blocks));
+  writable : first_write_fault (views (drop l.k l.blocks)) ≡ None;
+  same : drop l.start l.i ≡ all_canonical (views (drop l.k l.blocks)) → l.i ≡ all_canonical (views l.blocks);
+  first : (n : ℕ) → FirstNotCanonical l.i (views (drop l.k l.blocks)) n → FirstNotCanonical l.i (views l.blocks) n;
+}

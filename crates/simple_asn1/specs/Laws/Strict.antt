@@ -1,0 +1,34 @@
+-- What canonical documents are.
+use Rattle.std.specs.Prelude.{◌≡◌, ◌↔◌, ◌⊎◌, ℕ, List}
+use Rattle.simple_asn1.specs.Octets.{FitInSlice}
+use Rattle.simple_asn1.specs.Fault.{DecodeFault}
+use Rattle.simple_asn1.specs.Tree.{Trees}
+use Rattle.simple_asn1.specs.Grammar.{Document}
+use Rattle.simple_asn1.specs.Canonical.{all_canonical}
+use Rattle.simple_asn1.specs.ReadBack.{CanonicalDocument}
+use Rattle.simple_asn1.specs.Strict.{EqualByOctets, StandCanonical, StrictFault}
+
+pub record StrictReading : Type 0 where
+  -- a document is the canonical octets of its trees exactly if each tree of the top level stands in
+  -- its own
+  pub canonical :
+      (document : List ℕ) (bs : Trees ℕ) →
+      FitInSlice document → Document document bs →
+      (document ≡ all_canonical bs) ↔ StandCanonical document bs
+  -- all octets are a canonical document or have a strict fault
+  pub either :
+      (octets : List ℕ) →
+      FitInSlice octets →
+      ((bs : Trees ℕ) × CanonicalDocument octets bs) ⊎ ((e : DecodeFault) × StrictFault octets e)
+  -- and never both
+  pub not_both :
+      (octets : List ℕ) (bs : Trees ℕ) (e : DecodeFault) →
+      FitInSlice octets → CanonicalDocument octets bs → StrictFault octets e → ⊥
+  -- they have at most one strict fault
+  pub one_fault :
+      (octets : List ℕ) (e d : DecodeFault) →
+      FitInSlice octets → StrictFault octets e → StrictFault octets d → e ≡ d
+  -- two canonical documents have equal trees, offsets aside, exactly if they are the same octets
+  pub equal :
+      (document : List ℕ) (bs : Trees ℕ) →
+      CanonicalDocument document bs → EqualByOctets document bs

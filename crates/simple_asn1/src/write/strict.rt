@@ -1,0 +1,156 @@
+// Reading documents that are in canonical form, and no others.
+ghost use Rattle.std.specs.Prelude.{
+  ◌≡◌,
+  ◌↔◌,
+  ℕ,
+  None,
+  drop,
+  IfOk,
+  IfErr,
+  IsErrAnd,
+  IsTrue,
+  MatchOption,
+  MatchResult,
+};
+ghost use Rattle.simple_asn1.specs.Canonical.{all_canonical, first_write_fault};
+ghost use Rattle.simple_asn1.specs.Fault.{DecodeFault, OutOfMemoryOr, not_canonical};
+ghost use Rattle.simple_asn1.specs.Grammar.{Document as IsDocument, FirstFault};
+ghost use Rattle.simple_asn1.specs.Places.{end_before};
+ghost use Rattle.simple_asn1.specs.ReadBack.{CanonicalDocument};
+ghost use Rattle.simple_asn1.specs.Strict.{
+  EqualByOctets,
+  FirstNotCanonical,
+  IsNotCanonicalAt,
+  StrictFault,
+};
+ghost use Rattle.simple_asn1.specs.Tree.{Trees};
+ghost use Rattle.simple_asn1.specs.View.{views};
+ghost use Rattle.simple_asn1.specs.declared.error.ASN1DecodeErr.TheVariants.{OutOfMemory};
+
+use crate::block::ASN1Block;
+use crate::document::Document;
+use crate::error::{ASN1DecodeErr, ASN1EncodeErr};
+use crate::sink::Comparison;
+use crate::write::measure::measure;
+use crate::write::put::put_all;
+use std::alloc::Global;
+use std::slice;
+
+/// Reads a document as [`from_der`](crate::from_der) does, where its octets are the canonical ones
+/// of its blocks, which [`to_der`](crate::to_der) writes. Whoever demands one form of each document
+/// reads with it: two documents that it accepts have equal blocks exactly if their octets are the
+/// same.
+///
+/// Memory is taken as reading takes it, and then for a list of all blocks inside one block at the
+/// top level, as [`to_der`](crate::to_der) has it. The octets are compared in place, and none are
+/// written. What was read of a document that is refused is dropped by a loop.
+///
+/// ```rust
+/// use simple_asn1::{ASN1DecodeErr, discard, from_der_strict};
+/// use std::alloc::Global;
+///
+/// // Whether each block is in canonical form: of `05 00 01 01 FF`; not of `05 00 01 01 2A`.
+/// fn is_canonical(alloc: Global, octets: &[u8]) -> Result<bool, ASN1DecodeErr> {
+///     match from_der_strict(alloc, octets) {
+///         Ok(blocks) => {
+///             discard(blocks);
+///             Ok(true)
+///         }
+///         Err(ASN1DecodeErr::NotCanonical(_)) => Ok(false),
+///         Err(fault) => Err(fault),
+///     }
+/// }
+/// ```
+///
+/// # Errors
+/// Those of [`from_der`](crate::from_der). With none, `NotCanonical` with the offset of the first
+/// block at the top level whose octets are not its canonical ones.
+pub fn from_der_strict(alloc: Global, i: &[u8]) -> Result<Vec<ASN1Block>, ASN1DecodeErr>
+    ensures document { IfOk result (λ blocks. CanonicalDocument i.now (views blocks.items)) }
+    ensures fault { IfErr result (OutOfMemoryOr (StrictFault i.now)) }
+    ensures accepts { (bs : Trees ℕ) → CanonicalDocument i.now bs
+        → MatchResult result (λ blocks. views blocks.items ≡ bs) (λ e. e ≡ OutOfMemory) }
+    ensures refuses { (fault : DecodeFault) → FirstFault i.now fault
+        → IsErrAnd result (OutOfMemoryOr (λ e. e ≡ fault)) }
+    ensures not_canonical { (offset : ℕ) → IsNotCanonicalAt i.now offset
+        → IsErrAnd result (OutOfMemoryOr (λ e. e ≡ not_canonical offset)) }
+
+    // Another document that is accepted has equal blocks exactly if its octets are the same.
+    ensures equal { IfOk result (λ blocks. EqualByOctets i.now (views blocks.items)) }
+{
+    strict_blocks(alloc, i)
+}
+
+// The blocks of a canonical document.
+fn strict_blocks(alloc: Global, i: &[u8]) -> Result<Vec<ASN1Block>, ASN1DecodeErr>
+    ensures document { IfOk result (λ blocks. CanonicalDocument i.now (views blocks.items)) }
+    ensures fault { IfErr result (OutOfMemoryOr (StrictFault i.now)) }
+{
+    let document = Document::from_der(alloc, i)?;
+    match first_not_canonical(alloc, i, document.blocks())? {
+        None => Ok(document.into_blocks()),
+        Some(offset) => Err(ASN1DecodeErr::NotCanonical(offset)),
+    }
+}
+
+// The offset of the first of a document's blocks whose octets are not its canonical ones.
+fn first_not_canonical(
+    alloc: Global,
+    i: &[u8],
+    blocks: &[ASN1Block],
+) -> Result<Option<usize>, ASN1DecodeErr>
+    requires { IsDocument i.now (views blocks.now) }
+    ensures found { IfOk result (λ found. MatchOption found
+        (i.now ≡ all_canonical (views blocks.now))
+        (FirstNotCanonical i.now (views blocks.now))) }
+    ensures refused { IfErr result (λ e. e ≡ OutOfMemory) }
+{
+    // nearly always so, and then all blocks are measured at once
+    if are_canonical(alloc, blocks, i)? {
+        return Ok(None);
+    }
+    let mut start = 0;
+    for k in 0..blocks.len() {
+        let end = end_at(blocks, k + 1, i.len());
+        if !are_canonical(alloc, slice::from_ref(&blocks[k]), &i[start..end])? {
+            return Ok(Some(start));
+        }
+        start = end;
+    }
+    Ok(None)
+}
+
+// Where what stands before the block at the place ends, in octets of this size.
+fn end_at(blocks: &[ASN1Block], place: usize, size: usize) -> usize
+    ensures { result ≡ end_before (views (drop place blocks.now)) size }
+{
+    match blocks.get(place) {
+        Some(next) => next.offset(),
+        None => size,
+    }
+}
+
+// Whether the octets are the canonical ones of the blocks, joined.
+fn are_canonical(alloc: Global, blocks: &[ASN1Block], octets: &[u8]) -> Result<bool, ASN1DecodeErr>
+    requires { first_write_fault (views blocks.now) ≡ None }
+    ensures are { IfOk result
+        (λ yes. IsTrue yes ↔ (octets.now ≡ all_canonical (views blocks.now))) }
+    ensures refused { IfErr result (λ e. e ≡ OutOfMemory) }
+{
+    let (list, size) = match measure(alloc, blocks) {
+        Ok(measured) => measured,
+        Err(e) => match e {
+            ASN1EncodeErr::OutOfMemory => return Err(ASN1DecodeErr::OutOfMemory),
+            _ => unreachable!(),
+        },
+    };
+    if size != octets.len() {
+        return Ok(false);
+    }
+    let mut comparison = Comparison {
+        rest: octets,
+        same: true,
+    };
+    put_all(&list, &mut comparison);
+    Ok(comparison.same)
+}
