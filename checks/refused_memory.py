@@ -1,5 +1,7 @@
-"""The lines of a stored run, each with every one of its allocations refused in turn: PROGRAM CRATE WORK."""
-import collections
+"""Every one of the allocations refused in turn: of each line of a stored run, or of one test.
+
+PROGRAM CRATE WORK: the program, the folder of its crate, and one for files. PROGRAM CRATE WORK TEST: a program of tests.
+"""
 import concurrent.futures
 import os
 import pathlib
@@ -7,25 +9,38 @@ import subprocess
 import sys
 
 program, crate, work = sys.argv[1:4]
+test = sys.argv[4] if len(sys.argv) > 4 else None
 name = pathlib.Path(crate).name
+# what a run ends with where memory ran out: its status, what it wrote, and what stands on standard error
+RAN_OUT = (101, b"", b"error: AllocError\nthe test failed: its result gives status 1\n") if test else (2, b"", b"out of memory\n")
 
 
 def rows():
-    """The lines of the stored run that are answered, each once, with their answers."""
+    """The lines of the stored run that are answered, each once, with their answers; or the test, with its result."""
+    if test:
+        return [(test, "\ntest result: ok")]
     lines = [it for it in pathlib.Path(crate, "stdin").read_text().splitlines() if not it.startswith("#")]
     answers = pathlib.Path(crate, "stdout").read_text().splitlines()
     assert len(lines) == len(answers), f"{name}: {len(lines)} lines have {len(answers)} answers"
     return [it for it in dict(zip(lines, answers)).items() if it[0]]
 
 
+def called(line, answer):
+    """The call that the line names."""
+    if test or name != "asn1_calls":
+        return test or "run"
+    return line.split()[0] if answer not in ("", "badline") else "no call"
+
+
 def ran(line, number, mark):
-    """The run in which the allocation of this number is refused, and whether there was one."""
+    """How the run ended in which the allocation of this number is refused, and whether there was one."""
     words = {"LD_PRELOAD": f"{work}/fail_alloc.so", "FAIL_ALLOC": str(number), "REFUSED": mark}
-    run = subprocess.run([program], input=f"{line}\n".encode(), capture_output=True, env={**os.environ, **words})
+    command, given = ([program, test], b"") if test else ([program], f"{line}\n".encode())
+    run = subprocess.run(command, input=given, capture_output=True, env={**os.environ, **words})
     met = os.path.exists(mark)
     if met:
         os.unlink(mark)
-    return run, met
+    return (run.returncode, run.stdout, run.stderr), met
 
 
 def refused_in_turn(at, line, answer):
@@ -33,26 +48,19 @@ def refused_in_turn(at, line, answer):
     number, wrong, mark = 0, [], f"{work}/refused{at}"
     while True:
         number += 1
-        run, met = ran(line, number, mark)
+        ended, met = ran(line, number, mark)
         if not met:
-            if run.returncode != 0 or run.stdout != f"{answer}\n".encode():
-                wrong.append(f"none refused: status {run.returncode}, {run.stdout[:80]}")
+            if ended != (0, f"{answer}\n".encode(), b""):
+                wrong.append(f"none refused: {ended}"[:200])
             return number - 1, wrong
-        if (run.returncode, run.stdout, run.stderr) != (2, b"", b"out of memory\n"):
-            wrong.append(f"allocation {number} refused: status {run.returncode}, {run.stdout[:80]} {run.stderr[:80]}")
-
-
-def called(line, answer):
-    """The call that the line names."""
-    if name != "asn1_calls":
-        return "run"
-    return line.split()[0] if answer not in ("", "badline") else "no call"
+        if ended != RAN_OUT:
+            wrong.append(f"allocation {number} refused: {ended}"[:200])
 
 
 lines = rows()
 with concurrent.futures.ThreadPoolExecutor(os.cpu_count()) as pool:
     counts = list(pool.map(refused_in_turn, range(len(lines)), *zip(*lines)))
-calls = collections.OrderedDict()
+calls = {}
 for (line, answer), (count, wrong) in zip(lines, counts):
     call = calls.setdefault(called(line, answer), [0, 0, 0])
     call[0] += 1
