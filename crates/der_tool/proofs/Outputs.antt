@@ -43,7 +43,9 @@ few_octets line octets n within small is = omega (arith, within, small, (decode_
 
 -- of all octets one thing is said
 record Settled (reading : Reading) : Type 0 where
-  either : (octets : List ℕ) → length octets < 2 ^ 64 → ((canonical : List ℕ) × IsAccepted reading octets canonical) ⊎ ((e : DecodeFault) × IsRefused reading octets e)
+  either :
+      (octets : List ℕ) → length octets < 2 ^ 64 →
+      ((canonical : List ℕ) × IsAccepted reading octets canonical) ⊎ ((e : DecodeFault) × IsRefused reading octets e)
   not_both : (octets a : List ℕ) (e : DecodeFault) → length octets < 2 ^ 64 → IsAccepted reading octets a → IsRefused reading octets e → ⊥
   one : (octets a b : List ℕ) → IsAccepted reading octets a → IsAccepted reading octets b → a ≡ b
   one_fault : (octets : List ℕ) (e d : DecodeFault) → length octets < 2 ^ 64 → IsRefused reading octets e → IsRefused reading octets d → e ≡ d
@@ -62,7 +64,9 @@ settled law strict Strict = record {
   one_fault = strict.one_fault;
 }
 
-one_verdict : (reading : Reading) → Settled reading → (octets a b : List ℕ) → length octets < 2 ^ 64 → IsVerdict reading octets a → IsVerdict reading octets b → a ≡ b
+one_verdict :
+    (reading : Reading) → Settled reading → (octets a b : List ℕ) → length octets < 2 ^ 64 →
+    IsVerdict reading octets a → IsVerdict reading octets b → a ≡ b
 one_verdict reading law octets a b small (inl d) (inl e) = d.2 ∙ (ap (λ s. codes "ok " ++ encode_upper s) (law.one octets d.0 e.0 d.1 e.1) ∙ sym e.2)
 one_verdict reading law octets a b small (inl d) (inr f) = absurd (law.not_both octets d.0 f.0 small d.1 f.1)
 one_verdict reading law octets a b small (inr f) (inl d) = absurd (law.not_both octets d.0 f.0 small d.1 f.1)
@@ -73,7 +77,9 @@ some_verdict : (reading : Reading) → Settled reading → (octets : List ℕ) �
 some_verdict reading law octets small =
     elim (law.either octets small) [ inl d ↦ (codes "ok " ++ encode_upper d.0, inl (d.0, d.1, refl)) | inr f ↦ (refusal f.0, inr (f.0, f.1, refl)) ]
 
-one_answer : (reading : Reading) → Settled reading → (line a b : List ℕ) (n : ℕ) → length line ≤ n → n < 2 ^ 64 → IsAnswer reading line a → IsAnswer reading line b → a ≡ b
+one_answer :
+    (reading : Reading) → Settled reading → (line a b : List ℕ) (n : ℕ) → length line ≤ n → n < 2 ^ 64 →
+    IsAnswer reading line a → IsAnswer reading line b → a ≡ b
 one_answer reading law line a b n within small u v = go (decode_of line) refl u v
   where
     go : (r : Result (List ℕ) FromHexError) → decode_of line ≡ r → MatchResult r (λ octets. IsVerdict reading octets a) (λ _. a ≡ codes "badhex")
@@ -84,11 +90,15 @@ one_answer reading law line a b n within small u v = go (decode_of line) refl u 
 some_answer : (reading : Reading) → Settled reading → (line : List ℕ) (n : ℕ) → length line ≤ n → n < 2 ^ 64 → (answer : List ℕ) × IsAnswer reading line answer
 some_answer reading law line n within small = go (decode_of line) refl
   where
-    go : (r : Result (List ℕ) FromHexError) → decode_of line ≡ r → (answer : List ℕ) × MatchResult r (λ octets. IsVerdict reading octets answer) (λ _. answer ≡ codes "badhex")
+    go :
+        (r : Result (List ℕ) FromHexError) → decode_of line ≡ r →
+        (answer : List ℕ) × MatchResult r (λ octets. IsVerdict reading octets answer) (λ _. answer ≡ codes "badhex")
     go (Ok octets) is = some_verdict reading law octets (few_octets line octets n within small is)
     go (Err e) is = (codes "badhex", refl)
 
-one_of_lines : (reading : Reading) → Settled reading → (lines : List (List ℕ)) (a b : List ℕ) (n : ℕ) → AreWithin n lines → n < 2 ^ 64 → AreLineAnswers reading lines a → AreLineAnswers reading lines b → a ≡ b
+one_of_lines :
+    (reading : Reading) → Settled reading → (lines : List (List ℕ)) (a b : List ℕ) (n : ℕ) → AreWithin n lines → n < 2 ^ 64 →
+    AreLineAnswers reading lines a → AreLineAnswers reading lines b → a ≡ b
 one_of_lines reading law [] a b n all small u v = u ∙ sym v
 one_of_lines reading law (line ∷ lines) a b n all small u v =
     let (x, xs, p, i, r) = u in
@@ -97,7 +107,9 @@ one_of_lines reading law (line ∷ lines) a b n all small u v =
     let rest = one_of_lines reading law lines xs ys n all.1 small r s in
     p ∙ (ap (λ z. z ++ 10 ∷ xs) first ∙ (ap (λ z. y ++ 10 ∷ z) rest ∙ sym q))
 
-some_of_lines : (reading : Reading) → Settled reading → (lines : List (List ℕ)) (n : ℕ) → AreWithin n lines → n < 2 ^ 64 → (output : List ℕ) × AreLineAnswers reading lines output
+some_of_lines :
+    (reading : Reading) → Settled reading → (lines : List (List ℕ)) (n : ℕ) → AreWithin n lines → n < 2 ^ 64 →
+    (output : List ℕ) × AreLineAnswers reading lines output
 some_of_lines reading law [] n all small = ([], refl)
 some_of_lines reading law (line ∷ lines) n all small =
     let x = some_answer reading law line n all.0 small in
@@ -105,7 +117,9 @@ some_of_lines reading law (line ∷ lines) n all small =
     (x.0 ++ 10 ∷ r.0, (x.0, r.0, refl, x.1, r.1))
 
 -- an input has an output that answers it
-pub some_output : OneReading → StrictReading → (reading : Reading) (input : List ℕ) → length input < 2 ^ 64 → (output : List ℕ) × AreLineAnswers reading (lines_of input) output
+pub some_output :
+    OneReading → StrictReading → (reading : Reading) (input : List ℕ) → length input < 2 ^ 64 →
+    (output : List ℕ) × AreLineAnswers reading (lines_of input) output
 some_output law strict reading input small =
     some_of_lines reading (settled law strict reading) (lines_of input) (length input) (lines_within input (length input) (omega arith)) small
 

@@ -31,7 +31,9 @@ use Rattle.simple_asn1.proofs.WriteSteps.{none_of_both}
 use Rattle.simple_asn1.proofs.Placed.{canonical_shapes, contents_le, header_size, shortest_encodes}
 
 -- what is written of a tree is an encoding
-written_encoding : (c : ASN1Class) (k : Bool) (n : ℕ) (contents : List ℕ) → length (shortest_encoding c k n contents) < 2 ^ 64 → BlockEncoding (shortest_encoding c k n contents)
+written_encoding :
+    (c : ASN1Class) (k : Bool) (n : ℕ) (contents : List ℕ) → length (shortest_encoding c k n contents) < 2 ^ 64 →
+    BlockEncoding (shortest_encoding c k n contents)
 written_encoding c k n contents h = record {
   class = c;
   constructed = k;
@@ -47,8 +49,11 @@ canonical_encoding (group o g bs) h = written_encoding Universal true (group_tag
 canonical_encoding (explicit c o n b) h = written_encoding c true n (canonical b) h
 canonical_encoding (unknown c k o n v) h = written_encoding c k n v h
 
--- the octets of the first of trees
-pub octets_here : (i u x : List ℕ) (b : Tree ℕ) (bs : Trees ℕ) → i ≡ u ++ x → (s : EncodesAll (length u) x (more_trees b bs)) → (top_octets i b bs ≡ s.0) × (tree_offset b ≡ length u) × (end_before bs (length i) ≡ length u + length s.0) × (i ≡ (u ++ s.0) ++ s.1) × EncodesAll (length (u ++ s.0)) s.1 bs
+-- the octets of the first of trees, which stand after u, and what comes after it
+pub octets_here :
+    (i u x : List ℕ) (b : Tree ℕ) (bs : Trees ℕ) → i ≡ u ++ x → (s : EncodesAll (length u) x (more_trees b bs)) →
+    (top_octets i b bs ≡ s.0) × (tree_offset b ≡ length u) × (end_before bs (length i) ≡ length u + length s.0)
+    × (i ≡ (u ++ s.0) ++ s.1) × EncodesAll (length (u ++ s.0)) s.1 bs
 octets_here i u x b bs w s =
     let n = ap length w ∙ length-append u x in
     let m = ap length s.2 ∙ length-append s.0 s.1 in
@@ -69,7 +74,9 @@ pub record Step (i : List ℕ) (o : ℕ) (b : Tree ℕ) (bs : Trees ℕ) (e : �
   pub first_is : (n : ℕ) → slice_range i o e ≡ canonical b → FirstNotCanonical i bs n → FirstNotCanonical i (more_trees b bs) n
   pub first_here : slice_range i o e ≢ canonical b → FirstNotCanonical i (more_trees b bs) o
 
-pub step : (i : List ℕ) (o : ℕ) (b : Tree ℕ) (bs : Trees ℕ) (e : ℕ) → o ≤ length i → e ≡ end_before bs (length i) → EncodesAll o (drop o i) (more_trees b bs) → Step i o b bs e
+pub step :
+    (i : List ℕ) (o : ℕ) (b : Tree ℕ) (bs : Trees ℕ) (e : ℕ) → o ≤ length i → e ≡ end_before bs (length i) →
+    EncodesAll o (drop o i) (more_trees b bs) → Step i o b bs e
 step i o b bs e h d s =
     let u = take o i in
     let l : length u ≡ o = length-take-le o i h in
@@ -96,7 +103,9 @@ step i o b bs e h d s =
     }
 
 -- the block at a place, and those after it
-pub views_from : (bs : List ASN1Block) (i : ℕ) (b : ASN1Block) → i < length bs → b ≡ get_or bs i b → views (drop i bs) ≡ more_trees (view b) (views (drop (i + 1) bs))
+pub views_from :
+    (bs : List ASN1Block) (i : ℕ) (b : ASN1Block) → i < length bs → b ≡ get_or bs i b →
+    views (drop i bs) ≡ more_trees (view b) (views (drop (i + 1) bs))
 views_from bs i b h e = ap views (drop_more bs i b h) ∙ ap (λ z. more_trees (view z) (views (drop (i + 1) bs))) (sym e)
 
 -- where those from a place on can be written, the one at the place can be, and those after it
@@ -205,6 +214,8 @@ strict_refused i (Ok v) small ok err fault f = strict_not_both i (views v.items)
 strict_refused i (Err e) small ok (inl memory) fault f = inl memory
 strict_refused i (Err e) small ok (inr first) fault f = inr (strict_fault_alone i (fault_of e) fault small first f)
 
-pub strict_shared : (i : List ℕ) (r : Result (Vec ASN1Block Global) ASN1DecodeErr) → IfOk r (λ v. CanonicalDocument i (views v.items)) → IfOk r (λ v. EqualByOctets i (views v.items))
+pub strict_shared :
+    (i : List ℕ) (r : Result (Vec ASN1Block Global) ASN1DecodeErr) → IfOk r (λ v. CanonicalDocument i (views v.items)) →
+    IfOk r (λ v. EqualByOctets i (views v.items))
 strict_shared i (Ok v) ok = strict_equal i (views v.items) ok
 strict_shared i (Err e) ok = tt

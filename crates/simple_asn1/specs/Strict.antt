@@ -8,7 +8,8 @@ use Rattle.simple_asn1.specs.Canonical.{canonical}
 use Rattle.simple_asn1.specs.Places.{end_before}
 use Rattle.simple_asn1.specs.ReadBack.{CanonicalDocument}
 
--- the octets of a tree at the top level of a document: from its offset to that of the trees after it
+-- the octets of a tree at the top level of a document: from its offset to that of the tree after it,
+-- or to the end
 abbrev pub top_octets : List ℕ → Tree ℕ → Trees ℕ → List ℕ
 top_octets document b after = slice_range document (tree_offset b) (end_before after (length document))
 

@@ -1,6 +1,6 @@
 // Where octets are put, one after another: a vector that takes them, or octets that they are
 // compared with. So that writing and comparing are one code.
-ghost use Rattle.std.specs.Prelude.{◌≡◌, ℕ, ◌+◌, ◌++◌, ◌∷◌, ◌≤◌, [], List, length};
+ghost use Rattle.std.specs.Prelude.{◌≡◌, ◌↔◌, ℕ, ◌+◌, ◌++◌, ◌∷◌, ◌≤◌, [], List, length, IsTrue};
 
 use crate::octets::append;
 
@@ -90,6 +90,16 @@ impl<'a> Sink for Comparison<'a> {
     }
 
     fn put_one(&mut self, octet: u8) {
-        self.put(&[octet]);
+        let (front, rest) = self.rest.split_at(1);
+        self.same = self.same && is_octet(front, octet);
+        self.rest = rest;
     }
+}
+
+// Whether what is one octet is this one.
+fn is_octet(one: &[u8], octet: u8) -> bool
+    requires { length one.now ≡ 1 }
+    ensures { IsTrue result ↔ (one.now ≡ octet ∷ []) }
+{
+    one[0] == octet
 }

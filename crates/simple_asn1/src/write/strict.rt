@@ -41,9 +41,9 @@ use std::slice;
 /// reads with it: two documents that it accepts have equal blocks exactly if their octets are the
 /// same.
 ///
-/// Memory is taken as reading takes it, and then for a list of all blocks inside one block at the
-/// top level, as [`to_der`](crate::to_der) has it. The octets are compared in place, and none are
-/// written. What was read of a document that is refused is dropped by a loop.
+/// Memory is taken as reading takes it, and then for a list of all blocks, as
+/// [`to_der`](crate::to_der) has it. The octets are compared in place, and none are written. What
+/// was read of a document that is refused is dropped by a loop.
 ///
 /// ```rust
 /// use simple_asn1::{ASN1DecodeErr, discard, from_der_strict};

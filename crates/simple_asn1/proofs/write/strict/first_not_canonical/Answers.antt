@@ -1,4 +1,4 @@
-use Rattle.std.proofs.Common.{◌≡◌, None, append-nil, ◌<◌, ◌≤◌, ◌+◌, ◌++◌, drop, length, sym, ap, ◌∙◌, subst, arith}
+use Rattle.std.proofs.Common.{◌≡◌, ◌≢◌, None, append-nil, ◌<◌, ◌≤◌, ◌+◌, ◌++◌, drop, length, sym, ap, ◌∙◌, subst, arith}
 use Rattle.std.specs.List.{slice_range}
 use Rattle.std.proofs.lemmas.Bool.{false≢true}
 use Rattle.std.proofs.lemmas.Grind.{common_steps}
@@ -18,7 +18,9 @@ slice_bounds-are_canonical-end c =
     let v = views_from xs k c.index-blocks-k.result c.loop-k-test.true c.index-blocks-k.is in
     let i = c.args.i.now in
     let o = c.loop-k.start in
-    let s = step i o (view c.index-blocks-k.result) (views (drop (k + 1) xs)) c.end_at-end.result c.loop-k.invariant.within c.end_at-end.ensures (subst (EncodesAll o (drop o i)) v c.loop-k.invariant.left) in
+    let rest = views (drop (k + 1) xs) in
+    let s = step i o (view c.index-blocks-k.result) rest c.end_at-end.result c.loop-k.invariant.within c.end_at-end.ensures
+    (subst (EncodesAll o (drop o i)) v c.loop-k.invariant.left) in
     let a : o ≤ c.end_at-end.result = s.from in
     let b : c.end_at-end.result ≤ length i = s.to in
     grind (arith, common_steps)
@@ -27,18 +29,22 @@ pub loop-k-init : goal.loop-k-init
 loop-k-init c = record {
   within = omega arith;
   left = c.requires.blocks;
-  writable = document_writable c.args.i.now (views c.args.blocks.now) (All-from_get_or (λ b. b < 256) c.args.i.now 0 (λ k h. omega (arith, c.type_inv.i k))) c.requires;
+  writable =
+      document_writable c.args.i.now (views c.args.blocks.now)
+      (All-from_get_or (λ b. b < 256) c.args.i.now 0 (λ k h. omega (arith, c.type_inv.i k))) c.requires;
   same = λ q. q;
   first = λ n f. f;
 }
 
 pub are_canonical-requires : goal.are_canonical-requires
 are_canonical-requires c =
-    document_writable c.args.i.now (views c.args.blocks.now) (All-from_get_or (λ b. b < 256) c.args.i.now 0 (λ k h. omega (arith, c.type_inv.i k))) c.requires
+    document_writable c.args.i.now (views c.args.blocks.now)
+    (All-from_get_or (λ b. b < 256) c.args.i.now 0 (λ k h. omega (arith, c.type_inv.i k))) c.requires
 
 pub are_canonical-requires-in-loop-k : goal.are_canonical-requires-in-loop-k
 are_canonical-requires-in-loop-k c =
-    let f = (writable_from c.args.blocks.now c.loop-k.k c.index-blocks-k.result c.loop-k-test.true c.index-blocks-k.is c.loop-k.invariant.writable).0 in
+    let xs = c.args.blocks.now in
+    let f = (writable_from xs c.loop-k.k c.index-blocks-k.result c.loop-k-test.true c.index-blocks-k.is c.loop-k.invariant.writable).0 in
     ap (λ z. first_write_fault (views z)) c.from_ref.ensures.value ∙ ap (λ z. first_of z None) f
 
 pub returns-then-not-branch-clause-found : goal.returns-then-not-branch-clause-found
@@ -48,9 +54,13 @@ returns-then-not-branch-clause-found c =
     let i = c.args.i.now in
     let o = c.loop-k.start in
     let v = views_from xs k c.index-blocks-k.result c.loop-k-test.true c.index-blocks-k.is in
-    let s = step i o (view c.index-blocks-k.result) (views (drop (k + 1) xs)) c.end_at-end.result c.loop-k.invariant.within c.end_at-end.ensures (subst (EncodesAll o (drop o i)) v c.loop-k.invariant.left) in
+    let rest = views (drop (k + 1) xs) in
+    let s = step i o (view c.index-blocks-k.result) rest c.end_at-end.result c.loop-k.invariant.within c.end_at-end.ensures
+    (subst (EncodesAll o (drop o i)) v c.loop-k.invariant.left) in
     let one = ap (λ z. all_canonical (views z)) c.from_ref.ensures.value ∙ append-nil (canonical (view c.index-blocks-k.result)) in
-    c.loop-k.invariant.first o (subst (λ z. FirstNotCanonical i z o) (sym v) (s.first_here (λ e. absurd (false≢true (sym c.if-not-branch.true ∙ c.in_ok-are_canonical-2.ensures.are.1 (e ∙ sym one))))))
+    let differs : slice_range i o c.end_at-end.result ≢ canonical (view c.index-blocks-k.result) =
+    λ e. absurd (false≢true (sym c.if-not-branch.true ∙ c.in_ok-are_canonical-2.ensures.are.1 (e ∙ sym one))) in
+    c.loop-k.invariant.first o (subst (λ z. FirstNotCanonical i z o) (sym v) (s.first_here differs))
 
 pub loop-k-preserved : goal.loop-k-preserved
 loop-k-preserved c =

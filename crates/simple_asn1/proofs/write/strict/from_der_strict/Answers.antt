@@ -4,15 +4,19 @@ use Rattle.simple_asn1.proofs.Strict.{strict_accepted, strict_refused, strict_sh
 use Rattle.simple_asn1.proofs.write.strict.from_der_strict.Goals as goal
 
 pub returns-clause-accepts : goal.returns-clause-accepts
-returns-clause-accepts c = strict_accepted c.args.i.now c.strict_blocks.result (omega arith) c.strict_blocks.ensures.document c.strict_blocks.ensures.fault
+returns-clause-accepts c =
+    let read = c.strict_blocks.ensures in
+    strict_accepted c.args.i.now c.strict_blocks.result (omega arith) read.document read.fault
 
 pub returns-clause-refuses : goal.returns-clause-refuses
 returns-clause-refuses c fault f =
-    strict_refused c.args.i.now c.strict_blocks.result (omega arith) c.strict_blocks.ensures.document c.strict_blocks.ensures.fault fault (inl f)
+    let read = c.strict_blocks.ensures in
+    strict_refused c.args.i.now c.strict_blocks.result (omega arith) read.document read.fault fault (inl f)
 
 pub returns-clause-not_canonical : goal.returns-clause-not_canonical
 returns-clause-not_canonical c offset n =
-    strict_refused c.args.i.now c.strict_blocks.result (omega arith) c.strict_blocks.ensures.document c.strict_blocks.ensures.fault (not_canonical offset) (inr (offset, n, refl))
+    let read = c.strict_blocks.ensures in
+    strict_refused c.args.i.now c.strict_blocks.result (omega arith) read.document read.fault (not_canonical offset) (inr (offset, n, refl))
 
 pub returns-clause-equal : goal.returns-clause-equal
 returns-clause-equal c = strict_shared c.args.i.now c.strict_blocks.result c.strict_blocks.ensures.document
