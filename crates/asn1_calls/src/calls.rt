@@ -1,6 +1,8 @@
 // The calls that a line can name, and their answers.
 use asn1_text::{blocks_text, characters_text, octets_text};
-use simple_asn1::{ASN1DecodeErr, HeaderCount, from_der, from_der_counted, rewrite};
+use simple_asn1::{
+    ASN1DecodeErr, HeaderCount, from_der, from_der_counted, from_der_located, rewrite,
+};
 use std::alloc::{AllocError, Global};
 
 // A call that a line names.
@@ -8,6 +10,7 @@ use std::alloc::{AllocError, Global};
 pub enum Call {
     Read,
     Count,
+    Place,
     Rewrite,
 }
 
@@ -17,6 +20,7 @@ impl Call {
         match name {
             b"read" => Some(Call::Read),
             b"count" => Some(Call::Count),
+            b"place" => Some(Call::Place),
             b"rewrite" => Some(Call::Rewrite),
             _ => None,
         }
@@ -27,6 +31,7 @@ impl Call {
         match self {
             Call::Read => read_answer(alloc, octets),
             Call::Count => count_answer(alloc, octets),
+            Call::Place => place_answer(alloc, octets),
             Call::Rewrite => rewrite_answer(alloc, octets),
         }
     }
@@ -48,6 +53,16 @@ fn count_answer(alloc: Global, octets: &[u8]) -> Result<String, AllocError> {
         Err(fault) => {
             let refusal = refusal(alloc, &fault)?;
             format!(in alloc; "{begun} begun, {refusal}")
+        }
+    }
+}
+
+fn place_answer(alloc: Global, octets: &[u8]) -> Result<String, AllocError> {
+    match from_der_located(alloc, octets) {
+        Ok(_) => String::from_str(alloc, "read"),
+        Err(located) => {
+            let refusal = refusal(alloc, &located.error)?;
+            format!(in alloc; "{refusal} at {}", located.offset)
         }
     }
 }
