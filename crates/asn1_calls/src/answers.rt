@@ -9,14 +9,16 @@
 //     read 30 03 02 01 05     Sequence(0, [Integer(2, 5)])
 //     count A0 02 02 05       2 begun, read
 //     count 04 89             1 begun, refused LengthTooLarge 9
+//     place 05 00 04 89       refused LengthTooLarge 9 at 2
 //     rewrite 02 80           02 01 00
 //     strict 01 01 2A         refused NotCanonical 0
 //     read 04 89              refused LengthTooLarge 9
 //
 // `read` is answered by the blocks in the notation of `asn1_text`, `count` by the number of headers that were begun, and
-// whether the octets were read, `rewrite` by the canonical octets, and `strict` as `read`, of canonical documents alone.
-// A call that refuses its octets is answered by `refused`, the name of the fault, and after a space what the fault holds:
-// its number in decimal, or its characters as in the notation. A line that is anything else is answered by `badline`.
+// whether the octets were read, `place` by whether they were read, and at which offset they are at fault, `rewrite` by
+// the canonical octets, and `strict` as `read`, of canonical documents alone. A call that refuses its octets is answered
+// by `refused`, the name of the fault, and after a space what the fault holds: its number in decimal, or its characters
+// as in the notation. The other calls are named as in the library. A line that is anything else is answered by `badline`.
 ghost use Rattle.std.specs.Prelude.{◌≡◌, ◌++◌, ◌∷◌, ℕ, List, IfOk, OnOk, string_bytes, if◌then◌else◌};
 ghost use Rattle.asn1_calls.specs.Answers.{AreAnswers, IsAnswer, is_comment};
 

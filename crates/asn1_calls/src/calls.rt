@@ -14,7 +14,8 @@ use crate::calls::own::PointCall;
 use crate::calls::refusals::{ran_out, refusal};
 use asn1_text::{blocks_text, octets_text};
 use simple_asn1::{
-    ASN1DecodeErr, Document, HeaderCount, discard, from_der_counted, from_der_strict, rewrite,
+    ASN1DecodeErr, Document, HeaderCount, discard, from_der_counted, from_der_located,
+    from_der_strict, rewrite,
 };
 use std::alloc::{AllocError, Global};
 
@@ -23,6 +24,7 @@ use std::alloc::{AllocError, Global};
 pub enum Call {
     Read,
     Count,
+    Place,
     Rewrite,
     Strict,
     OfBlock(BlockCall),
@@ -40,6 +42,7 @@ impl Call {
         match name {
             b"read" => Some(Call::Read),
             b"count" => Some(Call::Count),
+            b"place" => Some(Call::Place),
             b"rewrite" => Some(Call::Rewrite),
             b"strict" => Some(Call::Strict),
             _ => named_otherwise(name),
@@ -51,6 +54,7 @@ impl Call {
         match self {
             Call::Read => read_answer(alloc, octets),
             Call::Count => count_answer(alloc, octets),
+            Call::Place => place_answer(alloc, octets),
             Call::Rewrite => rewrite_answer(alloc, octets),
             Call::Strict => strict_answer(alloc, octets),
             Call::OfBlock(call) => call.answer(alloc, octets),
@@ -106,6 +110,19 @@ fn count_answer(alloc: Global, octets: &[u8]) -> Result<String, AllocError> {
         Err(fault) => {
             let refusal = refusal(alloc, &fault)?;
             format!(in alloc; "{begun} begun, {refusal}")
+        }
+    }
+}
+
+fn place_answer(alloc: Global, octets: &[u8]) -> Result<String, AllocError> {
+    match from_der_located(alloc, octets) {
+        Ok(blocks) => {
+            discard(blocks);
+            String::from_str(alloc, "read")
+        }
+        Err(located) => {
+            let refusal = refusal(alloc, &located.error)?;
+            format!(in alloc; "{refusal} at {}", located.offset)
         }
     }
 }

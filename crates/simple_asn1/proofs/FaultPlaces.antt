@@ -11,12 +11,12 @@ use Rattle.simple_asn1.proofs.FaultsAlone.{same_fronts, blocks_fault_some, first
 
 mutual
   -- a fault at a place is a fault
-  block_placed : (place : ℕ) (octets : List ℕ) (e : DecodeFault) (o : ℕ) → BlockFaultAt place octets e o → BlockFault place octets e
+  pub block_placed : (place : ℕ) (octets : List ℕ) (e : DecodeFault) (o : ℕ) → BlockFaultAt place octets e o → BlockFault place octets e
   block_placed place octets e o (at_header w) = in_header w
   block_placed place octets e o (at_leaf x rest g f p) = in_contents x rest g f (of_leaf_contents p)
   block_placed place octets e o (at_item x rest {contents = v} g f y t i p q) = in_contents x rest g f (of_item y t (blocks_placed v e i p))
 
-  blocks_placed : (octets : List ℕ) (e : DecodeFault) (o : ℕ) → BlocksFaultAt octets e o → BlocksFault octets e
+  pub blocks_placed : (octets : List ℕ) (e : DecodeFault) (o : ℕ) → BlocksFaultAt octets e o → BlocksFault octets e
   blocks_placed octets e o (at_block front rest g bs some i p q) = after_blocks front rest g bs some (block_placed (length front) rest e i p)
 
 mutual

@@ -17,7 +17,8 @@ use Rattle.simple_asn1.specs.declared.read.Turn.{Turn}
 use Rattle.simple_asn1.specs.declared.read.Turn.TheVariants.{More, End, Stop}
 use Rattle.simple_asn1.specs.Contents.{group_tag}
 use Rattle.simple_asn1.specs.Fault.{DecodeFault, OutOfMemoryOr}
-use Rattle.simple_asn1.specs.Grammar.{EncodesAll, BlocksFault}
+use Rattle.simple_asn1.specs.Grammar.{EncodesAll}
+use Rattle.simple_asn1.specs.FaultPlace.{BlocksFaultAt}
 use Rattle.simple_asn1.specs.HeadersBegun.{HeadersBegun, IsReadInside}
 use Rattle.simple_asn1.specs.OpenFrames.{Frame, Opened, Stopping}
 use Rattle.simple_asn1.specs.Owed.{Leads, after_all, as_it_came}
@@ -81,24 +82,26 @@ pub record Reads (octets : List ℕ) (es : List Entry) (f : OpenFrame) (gs : Lis
 abbrev pub Reading : List ℕ → Reader → ℕ → Type 0
 Reading octets r n = Reads octets r.entries.items r.inner (reverse r.outer.items) r.index n
 
--- a fault is in the frame, of whose entries and those around some at the end are left over
+-- a fault is in the frame, of a block at the offset; of the entries of this frame and those around
+-- some at the end are left over
 pub record Refused (octets : List ℕ) (es : List Entry) (f : OpenFrame) (gs : List OpenFrame)
-    (e : DecodeFault) (n : ℕ) : Type 0 where
+    (e : DecodeFault) (offset n : ℕ) : Type 0 where
   pub trees : List (Tree ℕ)
   pub outer : List (List (Tree ℕ))
   pub front : List Entry
   pub more : List Entry
   pub whole : es ≡ front ++ more
   pub holds : AllHold octets front f gs trees outer
-  pub stopping : Stopping octets (frame f trees) (frames gs outer) e n
+  pub stopping : Stopping octets (frame f trees) (frames gs outer) e offset n
 
 -- how much is left to do: each turn goes on in the octets, or closes a frame
 abbrev pub left : ℕ → ℕ → List OpenFrame → ℕ
 left size index outer = 2 * (size - index) + length outer
 
--- a fault in the innermost frame, with less left to do behind it
+-- a fault in the innermost frame, of the block that the reader has come to, with less left to do
+-- behind it
 pub record Faulty (octets : List ℕ) (r : Reader) (e : DecodeFault) (n most : ℕ) : Type 0 where
-  pub refused : Refused octets r.entries.items r.inner (reverse r.outer.items) e n
+  pub refused : Refused octets r.entries.items r.inner (reverse r.outer.items) e r.index n
   pub nearer : left (length octets) r.inner.extent.end r.outer.items ≤ most
 
 -- reading goes on, with less left to do
@@ -111,16 +114,16 @@ abbrev pub Stepped : {A : Type 0} → List ℕ → Result A ASN1DecodeErr → Re
 Stepped octets (Ok x) r n most = GoesOn octets r n most
 Stepped octets (Err e) r n most = OutOfMemoryOr (λ fault. Faulty octets r fault n most) e
 
--- the fault is that of the document
-pub record FaultyDocument (octets : List ℕ) (e : DecodeFault) (n : ℕ) : Type 0 where
-  pub fault : BlocksFault octets e
+-- the fault is that of the document, of a block at the offset
+pub record FaultyDocument (octets : List ℕ) (e : DecodeFault) (offset n : ℕ) : Type 0 where
+  pub fault : BlocksFaultAt octets e offset
   pub begun : HeadersBegun octets n
 
 -- where the end of the innermost attempt leads a fault: reading goes on, memory ran out, or it is
 -- that of the document
 abbrev pub Answered : {A : Type 0} → List ℕ → Result A ASN1DecodeErr → Reader → ℕ → ℕ → Type 0
 Answered octets (Ok x) r n most = GoesOn octets r n most
-Answered octets (Err e) r n most = OutOfMemoryOr (λ fault. FaultyDocument octets fault n) e
+Answered octets (Err e) r n most = OutOfMemoryOr (λ fault. FaultyDocument octets fault r.index n) e
 
 -- the whole document was read
 pub record Ended (octets : List ℕ) (r : Reader) (n : ℕ) : Type 0 where
@@ -133,7 +136,7 @@ pub record Ended (octets : List ℕ) (r : Reader) (n : ℕ) : Type 0 where
 abbrev pub Turned : List ℕ → Turn → Reader → ℕ → ℕ → Type 0
 Turned octets More r n most = GoesOn octets r n most
 Turned octets End r n most = Ended octets r n
-Turned octets Stop r n most = OutOfMemoryOr (λ fault. FaultyDocument octets fault n) r.fault
+Turned octets Stop r n most = OutOfMemoryOr (λ fault. FaultyDocument octets fault r.index n) r.fault
 
 -- and how many headers were begun since the count was at the base
 pub record TurnTaken (octets : List ℕ) (t : Turn) (r : Reader) (count base most : ℕ) : Type 0 where

@@ -1,6 +1,7 @@
 // The blocks of a document under an owner that drops them by a loop.
 ghost use Rattle.std.specs.Prelude.{◌≡◌, ℕ, IfErr, IfOk, IsErrAnd, MatchResult};
 ghost use Rattle.simple_asn1.specs.Fault.{DecodeFault, OutOfMemoryOr};
+ghost use Rattle.simple_asn1.specs.FaultPlace.{FirstFaultAt};
 ghost use Rattle.simple_asn1.specs.Grammar.{Document as IsDocument, FirstFault};
 ghost use Rattle.simple_asn1.specs.Tree.{Trees};
 ghost use Rattle.simple_asn1.specs.View.{document_trees, views};
@@ -8,8 +9,8 @@ ghost use Rattle.simple_asn1.specs.declared.error.ASN1DecodeErr.TheVariants.{Out
 
 use crate::block::ASN1Block;
 use crate::block::discard::discard;
-use crate::error::ASN1DecodeErr;
-use crate::read::from_der;
+use crate::error::{ASN1DecodeErr, LocatedErr};
+use crate::read::{from_der, from_der_located};
 use std::alloc::Global;
 
 /// The blocks of a document, for octets that nobody vouches for: however deeply they are nested,
@@ -54,6 +55,41 @@ impl Document {
     {
         let blocks = from_der(alloc, i)?;
         Ok(Document { blocks })
+    }
+
+    /// Reads a document as the function [`from_der_located`] does, with its answers.
+    ///
+    /// # Errors
+    /// Those of [`from_der`], each with the offset of the innermost block at fault.
+    ///
+    /// ```rust
+    /// use simple_asn1::Document;
+    /// use std::alloc::Global;
+    ///
+    /// // Where the octets are at fault: `05 00 01 00` at 2.
+    /// fn fault_offset(alloc: Global, octets: &[u8]) -> Option<usize> {
+    ///     match Document::from_der_located(alloc, octets) {
+    ///         Ok(_) => None,
+    ///         Err(located) => Some(located.offset),
+    ///     }
+    /// }
+    /// ```
+    pub fn from_der_located(alloc: Global, i: &[u8]) -> Result<Document, LocatedErr>
+        ensures document { IfOk result (λ document. IsDocument i.now (document_trees document)) }
+        ensures fault { IfErr result
+            (λ e. OutOfMemoryOr (λ fault. FirstFaultAt i.now fault e.offset) e.error) }
+        ensures accepts { (bs : Trees ℕ) → IsDocument i.now bs
+            → MatchResult result
+            (λ document. document_trees document ≡ bs)
+            (λ e. e.error ≡ OutOfMemory) }
+        ensures refuses { (fault : DecodeFault) (offset : ℕ) → FirstFaultAt i.now fault offset
+            → IsErrAnd result
+            (λ e. OutOfMemoryOr (λ found. (found ≡ fault) × (e.offset ≡ offset)) e.error) }
+    {
+        match from_der_located(alloc, i) {
+            Ok(blocks) => Ok(Document { blocks }),
+            Err(located) => Err(located),
+        }
     }
 
     /// Lends the blocks at the top, in order.

@@ -103,6 +103,41 @@ impl ASN1DecodeErr {
     }
 }
 
+/// Why octets were not read, and where: an error of reading with its place.
+#[derive(Debug, Drop, Error, PartialEq)]
+#[error("{error} at offset {offset}")]
+pub struct LocatedErr {
+    /// The first fault, or that memory ran out.
+    pub error: ASN1DecodeErr,
+    /// The offset of the block at fault, the innermost that the fault belongs to, in octets from the start of the
+    /// document; 0 where there are no octets. Where memory ran out, how far reading had come, and nothing is said of
+    /// the octets.
+    pub offset: usize,
+}
+
+/// Makes the error of reading of it, and drops the place.
+impl From<LocatedErr> for ASN1DecodeErr {
+    ghost from_gives = { λ located e. e ≡ located.error };
+
+    fn from(located: LocatedErr) -> ASN1DecodeErr {
+        located.error
+    }
+}
+
+impl LocatedErr {
+    /// The same error at the same place. The only error of the call is that memory ran out.
+    pub fn clone(&self, alloc: Global) -> Result<LocatedErr, AllocError>
+        ensures error { IfOk result (λ e. fault_of e.error ≡ fault_of self.now.error) }
+        ensures offset { IfOk result (λ e. e.offset ≡ self.now.offset) }
+    {
+        let error = self.error.clone(alloc)?;
+        Ok(LocatedErr {
+            error,
+            offset: self.offset,
+        })
+    }
+}
+
 /// Why a block was not written.
 #[derive(Debug, Drop, Error, PartialEq)]
 pub enum ASN1EncodeErr {

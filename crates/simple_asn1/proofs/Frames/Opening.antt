@@ -1,6 +1,7 @@
 -- A header in a frame, and what it leads: a frame inside, or a leaf.
-use Rattle.std.proofs.Common.{◌≡◌, ℕ, ◌+◌, ◌-◌, ◌<◌, ◌≤◌, ◌^◌, Bool, List, [], ◌∷◌, inl, inr, length, refl, sym, ◌∙◌, subst, arith}
+use Rattle.std.proofs.Common.{◌≡◌, ℕ, ◌+◌, ◌-◌, ◌<◌, ◌≤◌, ◌^◌, Bool, List, [], ◌∷◌, inl, inr, length, refl, sym, ap, ◌∙◌, subst, arith}
 use Rattle.std.specs.List.{slice_range}
+use Rattle.simple_asn1.specs.declared.block.GroupKind.{GroupKind}
 use Rattle.simple_asn1.specs.declared.error.ASN1DecodeErr.{ASN1DecodeErr}
 use Rattle.simple_asn1.specs.declared.error.ASN1DecodeErr.TheVariants.{OutOfMemory}
 use Rattle.simple_asn1.specs.declared.header.ASN1Class.{ASN1Class}
@@ -9,8 +10,9 @@ use Rattle.simple_asn1.specs.declared.header.parsed.Header.{Header}
 use Rattle.simple_asn1.specs.declared.read.FrameKind.{FrameKind}
 use Rattle.simple_asn1.specs.declared.read.FrameKind.TheVariants.{Whole, Group, Attempt}
 use Rattle.simple_asn1.specs.Fault.{DecodeFault, OutOfMemoryOr, fault_of}
-use Rattle.simple_asn1.specs.Contents.{group_tag}
-use Rattle.simple_asn1.specs.Grammar.{Encodes, EncodesAll, HeaderFault, BlockFault, in_header, in_contents, ContentsFault}
+use Rattle.simple_asn1.specs.Contents.{group_tag, is_group_tag, LeafFault}
+use Rattle.simple_asn1.specs.Grammar.{Encodes, EncodesAll, HeaderFault, in_header, in_contents, ContentsFault, of_leaf_contents, of_item}
+use Rattle.simple_asn1.specs.FaultPlace.{BlockFaultAt, at_header, at_leaf}
 use Rattle.simple_asn1.specs.Header.{Encoding}
 use Rattle.simple_asn1.specs.HeadersBegun.{IsReadInside, begun_none, begun_some, nothing_inside, nothing_after}
 use Rattle.simple_asn1.specs.OpenFrames.{Frame, Headed, Opened, Stopping}
@@ -21,6 +23,7 @@ use Rattle.simple_asn1.proofs.Faults.{block_fault_no_block, header_no_encoding}
 use Rattle.simple_asn1.proofs.Frames.Advances.{Follows, opened_places}
 use Rattle.simple_asn1.proofs.Frames.Slices.{slice_none, slice_slice}
 use Rattle.simple_asn1.proofs.HeaderCounts.{begun_leaf}
+use Rattle.simple_asn1.proofs.Leaves.{group_tag_is}
 use Rattle.simple_asn1.proofs.OneReading.{encodes_block}
 use Rattle.simple_asn1.proofs.Prefixes.{encoding_alone}
 use Rattle.simple_asn1.proofs.ReadSteps.{slice_length, slice_join}
@@ -82,29 +85,39 @@ opened_open octets f h gs p n e H lt le fits o =
 
 -- the header is at fault
 pub header_stopping : (octets : List ℕ) (f : Frame) (gs : List Frame) (p n : ℕ) (e : DecodeFault) → length octets < 2 ^ 64 → p < f.extent.end
-    → Opened octets f gs p n → HeaderFault (p - f.extent.start) (slice_range octets p f.extent.end) e → Stopping octets f gs e (n + 1)
+    → Opened octets f gs p n → HeaderFault (p - f.extent.start) (slice_range octets p f.extent.end) e → Stopping octets f gs e p (n + 1)
 header_stopping octets f gs p n e small here o u =
     let v = opened_places octets f gs p n o in
     let i = p - f.extent.start in
     let rest = slice_range octets p f.extent.end in
     let l = slice_length octets p f.extent.end v.to v.within in
     let near : i + length rest < 2 ^ 64 = omega (arith, l, v.from, v.to, v.within, small) in
-    let stops : BlockFault i rest e = in_header u in
     let no_header = nothing_inside (λ x r c k t contents h g F op. header_no_encoding i rest x r e c k t contents h u near g F) in
-    let no_block = nothing_after (λ x r g b. block_fault_no_block i rest x r e stops near g b) in
+    let no_block = nothing_after (λ x r g b. block_fault_no_block i rest x r e (in_header u) near g b) in
     record {
       place = p;
       before = n;
       own = 1;
       opened = o;
-      stops = record { here = here; stops = stops; begun = begun_some (omega (arith, l, here)) 0 0 no_header no_block refl };
+      stops = record {
+        here = here;
+        inside = 0;
+        stops = at_header u;
+        innermost = omega arith;
+        begun = begun_some (omega (arith, l, here)) 0 0 no_header no_block refl;
+      };
       total = refl;
     }
+
+-- contents octets at fault that are no group's are a leaf's
+leaf_at_fault : (n : ℕ) (contents : List ℕ) (e : DecodeFault) → ((g : GroupKind) → n ≡ group_tag g → ⊥) → ContentsFault n contents e → LeafFault n contents e
+leaf_at_fault n contents e other (of_leaf_contents p) = p
+leaf_at_fault n contents e other (of_item g t p) = absurd (other g t)
 
 -- the contents octets of a leaf are at fault
 pub leaf_stopping : (octets : List ℕ) (f : Frame) (gs : List Frame) (p n : ℕ) (h : Header) (e : DecodeFault) → length octets < 2 ^ 64
     → HeaderFound octets p f.extent.end h → Opened octets f gs p n → (IsReadInside h.class h.constructed h.tag → ⊥) → h.class ≡ Universal
-    → ContentsFault h.tag (slice_range octets h.start h.end) e → Stopping octets f gs e (n + 1)
+    → ContentsFault h.tag (slice_range octets h.start h.end) e → Stopping octets f gs e p (n + 1)
 leaf_stopping octets f gs p n h e small found o shut u w =
     let v = opened_places octets f gs p n o in
     let i = p - f.extent.start in
@@ -116,20 +129,27 @@ leaf_stopping octets f gs p n h e small found o shut u w =
     let l = slice_length octets p f.extent.end v.to v.within in
     let near : i + length rest < 2 ^ 64 = omega (arith, l, v.from, v.to, v.within, small) in
     let F = subst (λ z. EncodingBetween octets z h.constructed h.tag p h.start h.end) u found.encoding in
-    let stops : BlockFault i rest e = in_contents first behind d F w in
+    let no_group = λ (g : GroupKind) (t : h.tag ≡ group_tag g). shut (inl (u, ap is_group_tag t ∙ group_tag_is g)) in
+    let stops : BlockFaultAt i rest e 0 = at_leaf first behind d F (leaf_at_fault h.tag (slice_range octets h.start h.end) e no_group w) in
     let here : p < f.extent.end = omega (arith, found.past, found.order, found.fits) in
     let no_header = nothing_inside (λ y r c k t contents m g G op.
     let z = encoding_alone _ _ _ _ _ _ _ _ _ _ _ _ behind r found.encoding G (sym d ∙ g) in
     let tag = subst (λ i. IsReadInside c k i) (sym z.tag) op in
     let bit = subst (λ i. IsReadInside c i h.tag) (sym z.constructed) tag in
     shut (subst (λ i. IsReadInside i h.constructed h.tag) (sym z.class) bit)) in
-    let no_block = nothing_after (λ x r g b. block_fault_no_block i rest x r e stops near g b) in
+    let no_block = nothing_after (λ x r g b. block_fault_no_block i rest x r e (in_contents first behind d F w) near g b) in
     record {
       place = p;
       before = n;
       own = 1;
       opened = o;
-      stops = record { here = here; stops = stops; begun = begun_some (omega (arith, l, here)) 0 0 no_header no_block refl };
+      stops = record {
+        here = here;
+        inside = 0;
+        stops = stops;
+        innermost = omega arith;
+        begun = begun_some (omega (arith, l, here)) 0 0 no_header no_block refl;
+      };
       total = refl;
     }
 

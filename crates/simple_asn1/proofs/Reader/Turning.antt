@@ -56,7 +56,7 @@ pub turned_end : (octets : List ℕ) (t : Turn) (r : Reader) (n most : ℕ) → 
 turned_end octets t r n most e w = subst (λ z. Turned octets z r n most) e w
 
 pub turned_stop : (octets : List ℕ) (t : Turn) (r : Reader) (n most : ℕ) → t ≡ Stop → Turned octets t r n most
-    → OutOfMemoryOr (λ fault. FaultyDocument octets fault n) r.fault
+    → OutOfMemoryOr (λ fault. FaultyDocument octets fault r.index n) r.fault
 turned_stop octets t r n most e w = subst (λ z. Turned octets z r n most) e w
 
 -- the blocks are those that the document has
