@@ -81,7 +81,11 @@ fn faithful(alloc: Global, blocks: &[ASN1Block]) -> Result<String, AllocError> {
         if !text.is_empty() {
             text.push_str(", ")?;
         }
-        text.push_str(if block.is_faithful(alloc)? { "true" } else { "false" })?;
+        text.push_str(if block.is_faithful(alloc)? {
+            "true"
+        } else {
+            "false"
+        })?;
     }
     Ok(text)
 }
