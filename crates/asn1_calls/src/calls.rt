@@ -1,6 +1,9 @@
 // The calls that a line can name, and their answers.
-use asn1_text::{blocks_text, characters_text, octets_text};
-use simple_asn1::{ASN1DecodeErr, HeaderCount, from_der, from_der_counted, rewrite};
+use asn1_text::{blocks_text, characters_text, components_text, octets_text};
+use simple_asn1::{
+    ASN1DecodeErr, HeaderCount, SignedTriple, TripleErr, from_der, from_der_counted, read_signed,
+    rewrite,
+};
 use std::alloc::{AllocError, Global};
 
 // A call that a line names.
@@ -9,6 +12,7 @@ pub enum Call {
     Read,
     Count,
     Rewrite,
+    Signed,
 }
 
 impl Call {
@@ -18,6 +22,7 @@ impl Call {
             b"read" => Some(Call::Read),
             b"count" => Some(Call::Count),
             b"rewrite" => Some(Call::Rewrite),
+            b"signed" => Some(Call::Signed),
             _ => None,
         }
     }
@@ -28,6 +33,7 @@ impl Call {
             Call::Read => read_answer(alloc, octets),
             Call::Count => count_answer(alloc, octets),
             Call::Rewrite => rewrite_answer(alloc, octets),
+            Call::Signed => signed_answer(alloc, octets),
         }
     }
 }
@@ -57,6 +63,22 @@ fn rewrite_answer(alloc: Global, octets: &[u8]) -> Result<String, AllocError> {
         Ok(canonical) => octets_text(alloc, &canonical),
         Err(fault) => refusal(alloc, &fault),
     }
+}
+
+fn signed_answer(alloc: Global, octets: &[u8]) -> Result<String, AllocError> {
+    match read_signed(alloc, octets) {
+        Ok(triple) => triple_text(alloc, &triple),
+        Err(TripleErr::Codec(fault)) => refusal(alloc, &fault),
+        Err(TripleErr::Shape) => String::from_str(alloc, "refused Shape"),
+    }
+}
+
+fn triple_text(alloc: Global, triple: &SignedTriple) -> Result<String, AllocError> {
+    let content = octets_text(alloc, &triple.content)?;
+    let algorithm = components_text(alloc, &triple.algorithm)?;
+    let bits = triple.bits;
+    let signature = octets_text(alloc, &triple.signature)?;
+    format!(in alloc; "content {content}, algorithm {algorithm}, {bits} bits, {signature}")
 }
 
 // What is said of a fault. Memory that ran out is no answer.
