@@ -14,10 +14,10 @@
 //     signed 05 00            refused Shape
 //
 // `read` is answered by the blocks in the notation of `asn1_text`, `count` by the number of headers that were begun, and
-// whether the octets were read, `rewrite` by the canonical octets, and `signed` by the content, the algorithm, the number
-// of bits and the octets of the signature: `content 30 00, algorithm 1.2, 8 bits, AB`. A call that refuses its octets is
-// answered by `refused`, the name of the fault, and after a space what the fault holds: its number in decimal, or its
-// characters as in the notation. A line that is anything else is answered by `badline`.
+// whether the octets were read, `rewrite` by the canonical octets, and `signed` by the content, the algorithm, the
+// number of bits and the octets of the signature: `content 30 00, algorithm 1.2, 8 bits, AB`. A call that refuses its
+// octets is answered by `refused`, the name of the fault, and after a space what the fault holds: its number in
+// decimal, or its characters as in the notation. A line that is anything else is answered by `badline`.
 ghost use Rattle.std.specs.Prelude.{◌≡◌, ◌++◌, ◌∷◌, ℕ, List, IfOk, OnOk, string_bytes, if◌then◌else◌};
 ghost use Rattle.asn1_calls.specs.Answers.{AreAnswers, IsAnswer, is_comment};
 

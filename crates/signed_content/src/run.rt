@@ -24,11 +24,12 @@ pub enum RunFault {
     NotSigned,
 }
 
-/// Reads all of `r`, and writes the octets that were signed to `w`, where the input is a document that begins with a signed
-/// triple. The whole input is kept in memory, with its blocks while it is read, and the content beside it.
+/// Reads all of `r`, and writes the octets that were signed to `w`, where the input is a document that begins with a
+/// signed triple. The whole input is kept in memory, with its blocks while it is read, and the content beside it.
 ///
 /// # Errors
-/// `Read`, `Memory` and `NotSigned`, after which nothing was written; `Write`, after which nothing is known of what was.
+/// `Read`, `Memory` and `NotSigned`, after which nothing was written; `Write`, after which nothing is known of what
+/// was.
 pub fn run<R: Read, W: Write>(alloc: Global, r: &mut R, w: &mut W) -> Result<(), RunFault>
     ensures written { OnOk result (IfSome (R.remaining r.old) (λ input. (content : List ℕ)
         × IsContent input content × Appends (W.contents w.old) (W.contents w.new) content)) }
@@ -86,8 +87,8 @@ fn codec_fault(fault: &ASN1DecodeErr) -> RunFault
     }
 }
 
-/// The exit status after a run: 0 where the content was written, 1 after a fault of reading or writing, 2 where memory ran
-/// out, 3 where the input is no signed triple.
+/// The exit status after a run: 0 where the content was written, 1 after a fault of reading or writing, 2 where memory
+/// ran out, 3 where the input is no signed triple.
 pub fn status(outcome: &Result<(), RunFault>) -> u8
     ensures written { IsOk outcome.now → result ≡ 0 }
     ensures stream { IfErr outcome.now (λ e. (e ≡ read_fault) ⊎ (e ≡ write_fault) → result ≡ 1) }
