@@ -79,7 +79,8 @@ fn content_of(alloc: Global, input: &[u8]) -> Result<Vec<u8>, RunFault>
 
 // Whether memory ran out, or the octets are at fault.
 fn codec_fault(fault: &ASN1DecodeErr) -> RunFault
-    ensures { (result ≡ memory_fault) ⊎ ((result ≡ not_signed) × (fault.now ≢ OutOfMemory)) }
+    ensures { ((result ≡ memory_fault) × (fault.now ≡ OutOfMemory))
+        ⊎ ((result ≡ not_signed) × (fault.now ≢ OutOfMemory)) }
 {
     match fault {
         ASN1DecodeErr::OutOfMemory => RunFault::Memory,

@@ -2,10 +2,9 @@
 ghost use Rattle.std.specs.Prelude.{◌≡◌, ◌≢◌, ℕ, ℤ, MatchOption, MatchResult, IfOk, IfErr, FitsSigned};
 ghost use Rattle.std.specs.Int.{w64};
 ghost use Rattle.simple_asn1.specs.PointTrees.{point_tree, point_trees, BeginsWithPoint};
-ghost use Rattle.simple_asn1.specs.Tree.{Trees, group, integer, leaf, shape, shapes};
+ghost use Rattle.simple_asn1.specs.Tree.{Trees, integer, leaf, shape, shapes};
 ghost use Rattle.simple_asn1.specs.View.{view, views};
 ghost use Rattle.simple_asn1.specs.declared.error.ASN1EncodeErr.TheVariants.{OutOfMemory};
-ghost use Rattle.simple_asn1.specs.declared.block.GroupKind.TheVariants.{Sequence};
 ghost use Rattle.simple_asn1.specs.declared.convert.point.Point.{Point};
 
 use crate::block::ASN1Block;

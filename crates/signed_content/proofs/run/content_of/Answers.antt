@@ -7,6 +7,6 @@ returns-in-Err-Codec-clause-refused c =
     let fault = c.in-Err-Codec.fault in
     let first = c.in-Err-Codec.ensures.codec fault c.in-Err-Codec.field-0-is in
     elim c.codec_fault.ensures [
-      | inl memory ↦ inl memory
+      | inl memory ↦ inl memory.0
       | inr octets ↦ elim first [ inl memory ↦ absurd (octets.1 memory) | inr first ↦ inr (octets.0, inl (fault_of fault, first)) ]
     ]
