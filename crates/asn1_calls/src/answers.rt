@@ -13,12 +13,15 @@
 //     rewrite 02 80           02 01 00
 //     strict 01 01 2A         refused NotCanonical 0
 //     read 04 89              refused LengthTooLarge 9
+//     signed 05 00            refused Shape
 //
 // `read` is answered by the blocks in the notation of `asn1_text`, `count` by the number of headers that were begun, and
 // whether the octets were read, `place` by whether they were read, and at which offset they are at fault, `rewrite` by
-// the canonical octets, and `strict` as `read`, of canonical documents alone. A call that refuses its octets is answered
-// by `refused`, the name of the fault, and after a space what the fault holds: its number in decimal, or its characters
-// as in the notation. The other calls are named as in the library. A line that is anything else is answered by `badline`.
+// the canonical octets, `strict` as `read`, of canonical documents alone, and `signed` by the content, the algorithm, the
+// number of bits and the octets of the signature: `content 30 00, algorithm 1.2, 8 bits, AB`. A call that refuses its
+// octets is answered by `refused`, the name of the fault, and after a space what the fault holds: its number in decimal,
+// or its characters as in the notation. The other calls are named as in the library. A line that is anything else is
+// answered by `badline`.
 ghost use Rattle.std.specs.Prelude.{◌≡◌, ◌++◌, ◌∷◌, ℕ, List, IfOk, OnOk, string_bytes, if◌then◌else◌};
 ghost use Rattle.asn1_calls.specs.Answers.{AreAnswers, IsAnswer, is_comment};
 

@@ -5,6 +5,7 @@ mod identifiers;
 mod numbers;
 mod own;
 mod refusals;
+mod signed;
 
 use crate::calls::blocks::BlockCall;
 use crate::calls::headers::HeaderCall;
@@ -12,6 +13,7 @@ use crate::calls::identifiers::IdentifierCall;
 use crate::calls::numbers::{ErrorCall, NaturalCall, WholeCall};
 use crate::calls::own::PointCall;
 use crate::calls::refusals::{ran_out, refusal};
+use crate::calls::signed::signed_answer;
 use asn1_text::{blocks_text, octets_text};
 use simple_asn1::{
     ASN1DecodeErr, Document, HeaderCount, discard, from_der_counted, from_der_located,
@@ -27,6 +29,7 @@ pub enum Call {
     Place,
     Rewrite,
     Strict,
+    Signed,
     OfBlock(BlockCall),
     OfIdentifier(IdentifierCall),
     OfNatural(NaturalCall),
@@ -45,6 +48,7 @@ impl Call {
             b"place" => Some(Call::Place),
             b"rewrite" => Some(Call::Rewrite),
             b"strict" => Some(Call::Strict),
+            b"signed" => Some(Call::Signed),
             _ => named_otherwise(name),
         }
     }
@@ -57,6 +61,7 @@ impl Call {
             Call::Place => place_answer(alloc, octets),
             Call::Rewrite => rewrite_answer(alloc, octets),
             Call::Strict => strict_answer(alloc, octets),
+            Call::Signed => signed_answer(alloc, octets),
             Call::OfBlock(call) => call.answer(alloc, octets),
             Call::OfIdentifier(call) => call.answer(alloc, octets),
             Call::OfNatural(call) => call.answer(alloc, octets),

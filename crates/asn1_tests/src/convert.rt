@@ -2,7 +2,10 @@
 use crate::helpers::octets;
 use crate::types::{Nothing, NothingErr, Pair};
 use asn1_text::octets_text;
-use simple_asn1::{ASN1DecodeErr, Point, PointErr, TripFault, der_decode, der_encode, round_trip};
+use simple_asn1::{
+    ASN1DecodeErr, FromASN1WithBody, Point, PointErr, SignedTriple, TripFault, TripleErr,
+    der_decode, der_encode, from_der, round_trip,
+};
 use std::alloc::Global;
 use std::process::Abort;
 use std::test::Fail;
@@ -81,5 +84,19 @@ fn a_pair_is_read_by_its_type(rt: HostRuntime) -> Result<(), Fail> {
     let first = Point { x: 1, y: -1 };
     let second = Point { x: 2, y: 3 };
     assert_eq!(rt; pair, Ok(Pair { first, second }));
+    Ok(())
+}
+
+#[test]
+fn a_content_past_the_octets_is_refused(rt: HostRuntime) -> Result<(), Fail> {
+    let document = octets(
+        rt.alloc(),
+        "30 15 30 03 02 01 2A 30 09 06 05 2B 0E 03 02 1A 05 00 03 03 00 AB CD",
+    )?;
+    let blocks = from_der(rt.alloc(), &document)?;
+    match SignedTriple::from_asn1_with_body(rt.alloc(), &blocks, b"0\0") {
+        Ok(_) => assert!(rt; false),
+        Err(fault) => assert_eq!(rt; fault, TripleErr::Shape),
+    }
     Ok(())
 }

@@ -46,4 +46,4 @@ mod scalars;
 
 pub use crate::blocks::blocks_text;
 pub use crate::octets::{octets_of, octets_text};
-pub use crate::scalars::characters_text;
+pub use crate::scalars::{characters_text, components_text};

@@ -15,6 +15,16 @@ pub fn characters_text(alloc: Global, text: &str) -> Result<String, AllocError> 
     Ok(characters)
 }
 
+/// The components of the object identifier: `1.2.840`.
+///
+/// # Errors
+/// Memory ran out.
+pub fn components_text(alloc: Global, oid: &OID) -> Result<String, AllocError> {
+    let mut components = String::new(alloc);
+    write_components(alloc, &mut components, oid)?;
+    Ok(components)
+}
+
 // Puts the characters at the end, in brackets.
 pub(crate) fn write_characters(out: &mut String, text: &str) -> Result<(), AllocError> {
     out.push_str("[")?;

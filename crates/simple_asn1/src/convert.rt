@@ -2,16 +2,19 @@
 //
 // A type names what it reads and writes by ghost members, relations over the trees of blocks. The calls here are proved once, for
 // all types, by these relations alone.
-ghost use Rattle.std.specs.Prelude.{◌≡◌, ℕ, List, Result, Ok, Err, MatchResult, IfOk, IfErr};
+ghost use Rattle.std.specs.Prelude.{◌≡◌, ◌≢◌, ℕ, List, Result, Ok, Err, IfOk, IfErr};
+ghost use Rattle.std.specs.Prelude.{MatchOption, MatchResult};
 ghost use Rattle.simple_asn1.specs.Conversions.{ComeBack, Decodes, DecodeFails, Encodes, EncodeFails, OwnDecodeFault, OwnEncodeFault, TripFails};
 ghost use Rattle.simple_asn1.specs.Canonical.{all_canonical};
 ghost use Rattle.simple_asn1.specs.Faithful.{AreFaithful};
-ghost use Rattle.simple_asn1.specs.Tree.{Trees, no_trees, shapes};
-ghost use Rattle.simple_asn1.specs.View.{views};
+ghost use Rattle.simple_asn1.specs.Tree.{Trees, group, no_trees, shape, shapes};
+ghost use Rattle.simple_asn1.specs.View.{tree_offset, view, views};
+ghost use Rattle.simple_asn1.specs.declared.block.GroupKind.TheVariants.{Sequence};
 ghost use Rattle.simple_asn1.specs.declared.header.ASN1Class.{ASN1Class};
 ghost use Rattle.simple_asn1.specs.declared.header.ASN1Class.TheVariants.{Universal};
 
 pub mod point;
+pub mod signed;
 
 use crate::block::ASN1Block;
 use crate::block::discard::discard;
@@ -186,5 +189,20 @@ pub fn round_trip<T: RoundTrip>(
     match der_decode::<T>(alloc, &octets) {
         Ok(y) => Ok(y),
         Err(e) => Err(TripFault::Decode(e)),
+    }
+}
+
+// The items of a SEQUENCE.
+pub(crate) fn sequence_items(b: &ASN1Block) -> Option<&[ASN1Block]>
+    ensures items { MatchOption result
+        ((o : ℕ) (bs : Trees ℕ) → view b.now ≢ group o Sequence bs)
+        (λ items. view b.now ≡ group (tree_offset (view b.now)) Sequence (views items.now)) }
+    ensures shape { MatchOption result
+        ((ss : Trees (Unit {0})) → shape (view b.now) ≢ group tt Sequence ss)
+        (λ items. shape (view b.now) ≡ group tt Sequence (shapes (views items.now))) }
+{
+    match b {
+        ASN1Block::Sequence(_, items) => Some(items),
+        _ => None,
     }
 }

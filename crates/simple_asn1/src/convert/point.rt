@@ -2,14 +2,13 @@
 ghost use Rattle.std.specs.Prelude.{◌≡◌, ◌≢◌, ℕ, ℤ, MatchOption, MatchResult, IfOk, IfErr, FitsSigned};
 ghost use Rattle.std.specs.Int.{w64};
 ghost use Rattle.simple_asn1.specs.PointTrees.{point_tree, point_trees, BeginsWithPoint};
-ghost use Rattle.simple_asn1.specs.Tree.{Trees, group, integer, leaf, shape, shapes};
+ghost use Rattle.simple_asn1.specs.Tree.{Trees, integer, leaf, shape, shapes};
 ghost use Rattle.simple_asn1.specs.View.{view, views};
 ghost use Rattle.simple_asn1.specs.declared.error.ASN1EncodeErr.TheVariants.{OutOfMemory};
-ghost use Rattle.simple_asn1.specs.declared.block.GroupKind.TheVariants.{Sequence};
 ghost use Rattle.simple_asn1.specs.declared.convert.point.Point.{Point};
 
 use crate::block::ASN1Block;
-use crate::convert::{FromASN1, RoundTrip, ToASN1};
+use crate::convert::{FromASN1, RoundTrip, ToASN1, sequence_items};
 use crate::error::{ASN1DecodeErr, ASN1EncodeErr};
 use crate::header::ASN1Class;
 use crate::number::big_int::BigInt;
@@ -54,18 +53,6 @@ impl From<ASN1EncodeErr> for PointErr {
 
     fn from(e: ASN1EncodeErr) -> PointErr {
         PointErr::Encode(e)
-    }
-}
-
-// The items of a SEQUENCE.
-fn sequence_items(b: &ASN1Block) -> Option<&[ASN1Block]>
-    ensures { MatchOption result
-        ((ss : Trees (Unit {0})) → shape (view b.now) ≢ group tt Sequence ss)
-        (λ items. shape (view b.now) ≡ group tt Sequence (shapes (views items.now))) }
-{
-    match b {
-        ASN1Block::Sequence(_, items) => Some(items),
-        _ => None,
     }
 }
 

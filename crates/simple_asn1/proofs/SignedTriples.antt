@@ -1,0 +1,169 @@
+-- What is no signed triple, and what follows where a document begins with one.
+use Rattle.std.proofs.Common.{◌≡◌, ◌≢◌, ◌+◌, ◌-◌, ◌++◌, ℕ, List, [], ◌∷◌, length, get_or, drop, min, refl, sym, ap, subst, ◌∙◌, inl, inr, arith, length-append, Result, Ok, Err}
+use Rattle.std.specs.Prelude.{MatchResult, IfOk, IfErr, slice_range}
+use Rattle.std.proofs.lemmas.List.{length-take}
+use Rattle.simple_asn1.specs.declared.block.ASN1Block.{ASN1Block}
+use Rattle.simple_asn1.specs.declared.block.GroupKind.TheVariants.{Sequence}
+use Rattle.simple_asn1.specs.declared.convert.signed.SignedTriple.{SignedTriple}
+use Rattle.simple_asn1.specs.declared.convert.signed.TripleErr.{TripleErr}
+use Rattle.simple_asn1.specs.declared.convert.signed.TripleErr.TheVariants.{Codec, Shape}
+use Rattle.simple_asn1.specs.declared.error.ASN1DecodeErr.TheVariants.{OutOfMemory}
+use Rattle.simple_asn1.specs.Conversions.{Decodes, DecodeFails}
+use Rattle.simple_asn1.specs.Fault.{fault_of}
+use Rattle.simple_asn1.specs.Grammar.{Document}
+use Rattle.simple_asn1.specs.Laws.OneReading.{OneReading}
+use Rattle.simple_asn1.specs.Laws.Parts.{Slices}
+use Rattle.simple_asn1.specs.Octets.{FitInSlice}
+use Rattle.simple_asn1.specs.Places.{HasOctets, rebased, in_first, in_later, in_group, itself}
+use Rattle.simple_asn1.specs.SignedTrees.{SignedParts, BeginWithSigned, HasFields, IsAlgorithm, IsOfAnotherShape, IsSigned, ReadsSigned, algorithm_tree, signed_tree, signed_trees}
+use Rattle.simple_asn1.specs.Tree.{Tree, Trees, leaf, group, bit_string, object_identifier, no_trees, more_trees}
+use Rattle.simple_asn1.specs.View.{tree_offset, view, views}
+
+-- a SEQUENCE of any other number of items is none
+pub no_triple : (t : Tree ℕ) (p : SignedParts) (o : ℕ) (items : List ASN1Block) → length items ≢ 3 →
+    t ≡ group o Sequence (views items) → t ≢ signed_tree p
+no_triple t p o [] h e f = let g = sym e ∙ f in cc
+no_triple t p o (a ∷ []) h e f = let g = sym e ∙ f in cc
+no_triple t p o (a ∷ b ∷ []) h e f = let g = sym e ∙ f in cc
+no_triple t p o (a ∷ b ∷ c ∷ []) h e f = h refl
+no_triple t p o (a ∷ b ∷ c ∷ d ∷ items) h e f = let g = sym e ∙ f in cc
+
+-- without a BIT STRING at its end it is none
+pub no_signature : (t : Tree ℕ) (p : SignedParts) (o : ℕ) (items : List ASN1Block) (z : ASN1Block) → length items ≡ 3 →
+    z ≡ get_or items 2 z → t ≡ group o Sequence (views items) →
+    ((a n : ℕ) (v : List ℕ) → view z ≢ leaf a (bit_string n v)) → t ≢ signed_tree p
+no_signature t p o [] z h i e other f = cc
+no_signature t p o (a ∷ []) z h i e other f = cc
+no_signature t p o (a ∷ b ∷ []) z h i e other f = cc
+no_signature t p o (a ∷ b ∷ c ∷ []) z h i e other f =
+    let g = sym e ∙ f in
+    let last : view c ≡ leaf p.signature_offset (bit_string p.bits p.signature) = cc in
+    other p.signature_offset p.bits p.signature (ap view i ∙ last)
+no_signature t p o (a ∷ b ∷ c ∷ d ∷ items) z h i e other f = let g = sym e ∙ f in cc
+
+-- the parts of three items
+pub parts_of_three :
+    (t : Tree ℕ) (o : ℕ) (items : List ASN1Block) (x y z : ASN1Block) (algorithm : List ℕ) (n : ℕ) (v : List ℕ) → length items ≡ 3 →
+    x ≡ get_or items 0 x → y ≡ get_or items 1 y → z ≡ get_or items 2 z → t ≡ group o Sequence (views items) →
+    IsAlgorithm (view y) algorithm → view z ≡ leaf (tree_offset (view z)) (bit_string n v) →
+    (p : SignedParts) × (t ≡ signed_tree p) × (view x ≡ p.content) × (tree_offset (view y) ≡ p.algorithm_offset)
+    × (algorithm ≡ p.algorithm) × (n ≡ p.bits) × (v ≡ p.signature)
+parts_of_three t o [] x y z algorithm n v h i j k e a b = cc
+parts_of_three t o (l ∷ []) x y z algorithm n v h i j k e a b = cc
+parts_of_three t o (l ∷ m ∷ []) x y z algorithm n v h i j k e a b = cc
+parts_of_three t o (q ∷ r ∷ s ∷ []) x y z algorithm n v h i j k e (u, w, rest, a) b = (
+  record {
+    offset = o;
+    content = view x;
+    algorithm_offset = u;
+    identifier_offset = w;
+    algorithm = algorithm;
+    parameters = rest;
+    signature_offset = tree_offset (view z);
+    bits = n;
+    signature = v;
+  },
+  let first : view q ≡ view x = ap view (sym i) in
+      let second : view r ≡ group u Sequence (more_trees (leaf w (object_identifier algorithm)) rest) = ap view (sym j) ∙ a in
+      let third : view s ≡ leaf (tree_offset (view z)) (bit_string n v) = ap view (sym k) ∙ b in
+      e ∙ cc,
+  refl,
+  ap tree_offset a,
+  refl,
+  refl,
+  refl,
+)
+parts_of_three t o (l ∷ m ∷ s ∷ d ∷ items) x y z algorithm n v h i j k e a b = cc
+
+has_content : (octets : List ℕ) (p : SignedParts) (rest : Trees ℕ) (content : List ℕ) →
+    content ≡ slice_range octets (tree_offset p.content) p.algorithm_offset → HasOctets octets (signed_trees p rest) p.content content
+has_content octets p rest content e = (p.algorithm_offset, in_first (in_group (in_first itself)), e)
+
+has_algorithm : (octets : List ℕ) (p : SignedParts) (rest : Trees ℕ) →
+    HasOctets octets (signed_trees p rest) (algorithm_tree p) (slice_range octets p.algorithm_offset p.signature_offset)
+has_algorithm octets p rest = (p.signature_offset, in_first (in_group (in_later (in_first itself))), refl)
+
+-- in a document the offsets of a triple stand in their order
+begins : Slices → (octets : List ℕ) (p : SignedParts) (rest : Trees ℕ) (bs : Trees ℕ) → Document octets bs →
+    bs ≡ signed_trees p rest → BeginWithSigned bs octets p rest
+begins law octets p rest bs d e =
+    let t = subst (Document octets) e d in
+    let o = tree_offset p.content in
+    let alone = law.alone octets (signed_trees p rest) p.content (slice_range octets o p.algorithm_offset) t (has_content octets p rest _ refl) in
+    let cut : length (slice_range octets o p.algorithm_offset) ≡ min (p.algorithm_offset - o) (length (drop o octets)) =
+    length-take (p.algorithm_offset - o) (drop o octets) in
+    let (before, behind, whole, at) = law.stand octets (signed_trees p rest) (algorithm_tree p) _ t (has_algorithm octets p rest) in
+    let some = alone.some in
+    let all : length octets ≡ length before + length (slice_range octets p.algorithm_offset p.signature_offset ++ behind) =
+    ap length whole ∙ length-append before _ in
+    record {
+      trees = e;
+      ordered = omega (arith, cut, some);
+      within = omega (arith, all, at);
+    }
+
+-- trees have one triple: what is read of one is read of the other
+same_fields : (octets : List ℕ) (t : SignedTriple) (p q : SignedParts) (xs ys : Trees ℕ) → signed_trees p xs ≡ signed_trees q ys →
+    HasFields octets q t → HasFields octets p t
+same_fields octets t p q xs ys e h =
+    let content : p.content ≡ q.content = cc in
+    let end : p.algorithm_offset ≡ q.algorithm_offset = cc in
+    let algorithm : p.algorithm ≡ q.algorithm = cc in
+    let bits : p.bits ≡ q.bits = cc in
+    let signature : p.signature ≡ q.signature = cc in
+    record {
+      content = h.content ∙ (ap (λ b. slice_range octets (tree_offset b) q.algorithm_offset) (sym content)
+          ∙ ap (slice_range octets (tree_offset p.content)) (sym end));
+      algorithm = h.algorithm ∙ sym algorithm;
+      bits = h.bits ∙ sym bits;
+      signature = h.signature ∙ sym signature;
+    }
+
+-- what der_decode says where the octets are read as a triple, and where they are refused
+abbrev pub IsRead : List ℕ → SignedTriple → Type 0
+IsRead octets t = Decodes (λ bs r. ReadsSigned bs octets r) octets t
+
+abbrev pub IsRefused : List ℕ → TripleErr → Type 0
+IsRefused octets e = DecodeFails (λ bs r. ReadsSigned bs octets r) (λ f e. e ≡ Codec f) octets e
+
+fields_of : OneReading → (octets : List ℕ) (t : SignedTriple) → IsRead octets t → (p : SignedParts) → IsSigned octets p → HasFields octets p t
+fields_of law octets t (bs, rest, d, (q, begin, fields)) p (xs, e) =
+    same_fields octets t p q xs rest (law.one_document octets (signed_trees p xs) bs e d ∙ begin.trees) fields
+
+only_memory : OneReading → Slices → (octets : List ℕ) → FitInSlice octets → (e : TripleErr) → IsRefused octets e →
+    (p : SignedParts) → IsSigned octets p →
+    e ≡ Codec OutOfMemory
+only_memory law parts octets small e (inl (bs, d, inl g)) p s = g
+only_memory law parts octets small e (inl (bs, d, inr (g, other))) p (xs, s) =
+    absurd (other p xs (begins parts octets p xs bs d (law.one_document octets bs (signed_trees p xs) d s)))
+only_memory law parts octets small e (inr (f, inl m, g)) p s = g ∙ ap Codec m
+only_memory law parts octets small e (inr (f, inr at, g)) p (xs, s) =
+    absurd (law.not_both octets (signed_trees p xs) (fault_of f) small s at)
+
+another_shape : Slices → (octets : List ℕ) → IsRefused octets Shape → IsOfAnotherShape octets
+another_shape law octets (inl (bs, d, inl e)) = cc
+another_shape law octets (inl (bs, d, inr (e, other))) = (bs, d, λ p rest e. other p rest (begins law octets p rest bs d e))
+another_shape law octets (inr (f, _, e)) = cc
+
+pub kept_content : OneReading → (octets : List ℕ) (r : Result SignedTriple TripleErr) → IfOk r (IsRead octets) →
+    IfOk r (λ t. (p : SignedParts) (rest : Trees ℕ) → Document octets (signed_trees p rest) →
+    HasOctets octets (signed_trees p rest) p.content t.content.items)
+kept_content law octets (Ok t) is = λ p rest d. has_content octets p rest t.content.items (fields_of law octets t is p (rest, d)).content
+kept_content law octets (Err e) is = tt
+
+pub content_alone : OneReading → Slices → (octets : List ℕ) (r : Result SignedTriple TripleErr) → IfOk r (IsRead octets) →
+    IfOk r (λ t. (p : SignedParts) → IsSigned octets p → Document t.content.items (more_trees (rebased p.content) no_trees))
+content_alone law parts octets (Ok t) is = λ p s.
+    parts.alone octets (signed_trees p s.0) p.content t.content.items s.1
+    (has_content octets p s.0 t.content.items (fields_of law octets t is p s).content)
+content_alone law parts octets (Err e) is = tt
+
+pub shape_is_another : Slices → (octets : List ℕ) (r : Result SignedTriple TripleErr) → IfErr r (IsRefused octets) →
+    IfErr r (λ e. e ≡ Shape → IsOfAnotherShape octets)
+shape_is_another law octets (Ok t) is = tt
+shape_is_another law octets (Err e) is = λ s. another_shape law octets (subst (IsRefused octets) s is)
+
+pub accepted : OneReading → Slices → (octets : List ℕ) → FitInSlice octets → (r : Result SignedTriple TripleErr) → IfOk r (IsRead octets) →
+    IfErr r (IsRefused octets) → (p : SignedParts) → IsSigned octets p → MatchResult r (HasFields octets p) (λ e. e ≡ Codec OutOfMemory)
+accepted law parts octets small (Ok t) is _ p s = fields_of law octets t is p s
+accepted law parts octets small (Err e) _ is p s = only_memory law parts octets small e is p s
