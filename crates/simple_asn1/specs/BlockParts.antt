@@ -1,7 +1,26 @@
 -- What is taken out of a tree: its tag number, what it holds, its value, and its blocks in order.
 use Rattle.std.specs.Prelude.{ℕ, ℤ, List, [], ◌∷◌, ◌++◌, Option, Some, None}
 use Rattle.simple_asn1.specs.Contents.{leaf_tag, group_tag}
-use Rattle.simple_asn1.specs.Tree.{Leaf, boolean, integer, bit_string, octet_string, null, object_identifier, text, utc_time, generalized_time, Tree, leaf, group, explicit, unknown, Trees, no_trees, more_trees}
+use Rattle.simple_asn1.specs.Tree.{
+  Leaf,
+  Tree,
+  Trees,
+  bit_string,
+  boolean,
+  explicit,
+  generalized_time,
+  group,
+  integer,
+  leaf,
+  more_trees,
+  no_trees,
+  null,
+  object_identifier,
+  octet_string,
+  text,
+  unknown,
+  utc_time,
+}
 
 -- the tag number: that of its kind, or its own
 abbrev pub tree_tag : {O : Type 0} → Tree O → ℕ

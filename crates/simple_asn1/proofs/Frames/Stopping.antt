@@ -73,8 +73,8 @@ group_stops octets g o s e y fault offset a small low lt le fits within G r =
     }
 
 -- a fault leaves a group
-stop_group : (octets : List ℕ) (f g : Frame) (gs : List Frame) (e : DecodeFault) (offset n x : ℕ) (y : GroupKind) → length octets < 2 ^ 64 → f.extent.kind ≡ Group y x
-    → Stopping octets f (g ∷ gs) e offset n → Stopping octets g gs e offset n
+stop_group : (octets : List ℕ) (f g : Frame) (gs : List Frame) (e : DecodeFault) (offset n x : ℕ) (y : GroupKind) → length octets < 2 ^ 64
+    → f.extent.kind ≡ Group y x → Stopping octets f (g ∷ gs) e offset n → Stopping octets g gs e offset n
 stop_group octets f g gs e offset n x y small k w =
     let o = w.opened in
     let s = f.extent.start in
@@ -123,7 +123,8 @@ stop_attempt octets f g gs e offset n a small k w =
     let r = refused_read octets f w.place e offset o.own w.own o.read w.stops in
     let l = slice_length octets s z (omega (arith, o.read.from, o.read.to)) o.read.within in
     let short : length contents < 2 ^ 64 = omega (arith, l, small, o.read.within) in
-    let no_block = λ (i : (true ≡ true) × IsBlock contents). blocks_fault_no_blocks contents e (blocks_placed contents e r.after r.fault) short (block_is_blocks contents i.1) in
+    let fault = blocks_placed contents e r.after r.fault in
+    let no_block = λ (i : (true ≡ true) × IsBlock contents). blocks_fault_no_blocks contents e fault short (block_is_blocks contents i.1) in
     let m = o.own + w.own in
     record {
       place = a.offset;
@@ -160,7 +161,8 @@ pub record StoppingPlaces (octets : List ℕ) (f : Frame) (n : ℕ) : Type 0 whe
   pub within : f.extent.end ≤ length octets
   pub bound : n ≤ length octets
 
-pub stopping_places : (octets : List ℕ) (f : Frame) (gs : List Frame) (e : DecodeFault) (offset n : ℕ) → Stopping octets f gs e offset n → StoppingPlaces octets f n
+pub stopping_places : (octets : List ℕ) (f : Frame) (gs : List Frame) (e : DecodeFault) (offset n : ℕ) → Stopping octets f gs e offset n
+    → StoppingPlaces octets f n
 stopping_places octets f gs e offset n w =
     let p = w.place in
     let v = opened_places octets f gs p w.before w.opened in

@@ -93,7 +93,8 @@ leaf_nearer octets a h n found w =
 
 -- the reader as it was, where a fault is
 still_faulty : (octets : List ℕ) (a : Reader) (e : DecodeFault) (n m : ℕ) (w : Reading octets a n)
-    → Stopping octets (frame a.inner w.trees) (frames (reverse a.outer.items) w.outer) e a.index m → Faulty octets a e m (left (length octets) a.index a.outer.items)
+    → Stopping octets (frame a.inner w.trees) (frames (reverse a.outer.items) w.outer) e a.index m
+    → Faulty octets a e m (left (length octets) a.index a.outer.items)
 still_faulty octets a e n m w s =
     let v = reader_places octets a n w in
     record {

@@ -16,12 +16,13 @@ use Rattle.simple_asn1.proofs.Reader.Popping.{reverse_push, reverse_none}
 use Rattle.simple_asn1.proofs.Reader.Holding.{Nested, nested}
 
 -- where the frame is in which a fault is
-pub refused_places : (octets : List ℕ) (es : List Entry) (f : OpenFrame) (gs : List OpenFrame) (e : DecodeFault) (offset n : ℕ) (r : Refused octets es f gs e offset n)
-    → StoppingPlaces octets (frame f r.trees) n
+pub refused_places : (octets : List ℕ) (es : List Entry) (f : OpenFrame) (gs : List OpenFrame) (e : DecodeFault) (offset n : ℕ)
+    (r : Refused octets es f gs e offset n) → StoppingPlaces octets (frame f r.trees) n
 refused_places octets es f gs e offset n r = stopping_places octets (frame f r.trees) (frames gs r.outer) e offset n r.stopping
 
 -- a fault in no attempt
-pub refused_document : (octets : List ℕ) (es : List Entry) (f : OpenFrame) (e : DecodeFault) (offset n : ℕ) → Refused octets es f [] e offset n → FaultyDocument octets e offset n
+pub refused_document : (octets : List ℕ) (es : List Entry) (f : OpenFrame) (e : DecodeFault) (offset n : ℕ)
+    → Refused octets es f [] e offset n → FaultyDocument octets e offset n
 refused_document octets es f e offset n r = stop_document octets (frame f r.trees) e offset n r.stopping
 
 -- a fault in the frame k inside the frame h
@@ -80,7 +81,8 @@ taken_nearer size f k g before after own is =
 -- no others are left
 pub refused_outermost : (octets : List ℕ) (es : List Entry) (f : OpenFrame) (outer : List OpenFrame) (e : DecodeFault) (offset n : ℕ) → length outer ≡ 0
     → Refused octets es f (reverse outer) e offset n → FaultyDocument octets e offset n
-refused_outermost octets es f outer e offset n none r = refused_document octets es f e offset n (subst (λ z. Refused octets es f z e offset n) (reverse_none outer none) r)
+refused_outermost octets es f outer e offset n none r =
+    refused_document octets es f e offset n (subst (λ z. Refused octets es f z e offset n) (reverse_none outer none) r)
 
 -- the attempt that a frame is
 pub attempt_is : (kind : FrameKind) (a : owed.Attempt) → Some a ≡ attempt_of kind → kind ≡ Attempt a

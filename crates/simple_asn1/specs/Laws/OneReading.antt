@@ -38,8 +38,8 @@ pub record OneReading : Type 0 where
   pub one_fault :
       (octets : List ℕ) (e d : DecodeFault) →
       FitInSlice octets → FirstFault octets e → FirstFault octets d → e ≡ d
-  -- the first fault is of octets: a class always exists, nothing overflows, and memory is none of
-  -- them
+  -- the first fault is of octets: a class always exists, nothing overflows, and neither memory nor a
+  -- block that is not canonical is one of them
   pub of_reading : (octets : List ℕ) (e : DecodeFault) → FirstFault octets e → IsOfReading e
   -- a reader begins some number of headers
   pub headers_begun : (octets : List ℕ) → FitInSlice octets → (n : ℕ) × HeadersBegun octets n

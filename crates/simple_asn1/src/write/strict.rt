@@ -43,7 +43,9 @@ use std::slice;
 ///
 /// Memory is taken as reading takes it, and then for a list of all blocks, as
 /// [`to_der`](crate::to_der) has it. The octets are compared in place, and none are written. What
-/// was read of a document that is refused is dropped by a loop.
+/// was read of a document that is refused is dropped by a loop; the blocks that are answered are
+/// dropped as those of [`from_der`](crate::from_der) are, by a loop where
+/// [`discard`](crate::discard) is called.
 ///
 /// ```rust
 /// use simple_asn1::{ASN1DecodeErr, discard, from_der_strict};
