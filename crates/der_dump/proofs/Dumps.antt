@@ -2,12 +2,13 @@
 use Rattle.std.proofs.Common.{◌≡◌, ◌≢◌, ◌⊎◌, ℕ, zero, suc, ◌+◌, List, [], ◌∷◌, ◌++◌, replicate, Bool, true, false, if◌then◌else◌, refl, sym, ap, ◌∙◌, subst, map, append_assoc, append-nil, arith}
 use Rattle.std.proofs.lemmas.List.{map-append}
 use Rattle.std.specs.Fmt.{decimal}
+use Rattle.std.specs.Io.KnownBytes.{Appends, Keeps}
 use Rattle.std.specs.List.{All}
-use Rattle.std.specs.Prelude.{Result, Ok, Err, IfOk, OnOk}
+use Rattle.std.specs.Prelude.{Option, Some, None, Result, Ok, Err, IfOk, IfSome, OnOk}
 use Rattle.std.specs.declared.alloc.AllocError.{AllocError}
 use Rattle.der_dump.specs.declared.document.Verdict.{Verdict}
 use Rattle.der_dump.specs.declared.document.Verdict.TheVariants.{AllRead, Refused}
-use Rattle.der_dump.specs.Dump.{Adds, AddsDumpOf, IsBlockLine, IsDump, IsNote, IsOneLine, block_line, no_lines, note, all_offsets, shown_at}
+use Rattle.der_dump.specs.Dump.{Adds, AddsAnswer, AddsDumpOf, AddsDumpsOf, AreOffsetsOf, IsBlockLine, IsDump, IsNote, IsOneLine, block_line, no_lines, note, all_offsets, both_read, of_hex, of_no_hex, of_objects, of_octets, shown_at, spelled}
 
 -- a dump after a dump
 pub dump_join : (os ps a b : List ℕ) → IsDump os a → IsDump ps b → IsDump (os ++ ps) (a ++ b)
@@ -98,14 +99,70 @@ pub dump_some : (octets : List ℕ) (verdict : Verdict) (a b : List ℕ) → Add
 dump_some octets AllRead a b (bs, d, adds) = (all_offsets bs, adds)
 dump_some octets Refused a b (fault, f, offsets, adds) = (offsets, adds)
 
-pub dump_after : (r : Result Verdict AllocError) (octets a b c : List ℕ) → AddsSome a b → IfOk r (λ v. AddsDumpOf octets v b c) → OnOk r (AddsSome a c)
-dump_after (Ok v) octets a b c x y = some_join a b c x (dump_some octets v b c y)
-dump_after (Err e) octets a b c x y = tt
+-- objects after objects
+pub offsets_join : (xs ys : List (List ℕ)) (os ps : List ℕ) → AreOffsetsOf xs os → AreOffsetsOf ys ps → AreOffsetsOf (xs ++ ys) (os ++ ps)
+offsets_join [] ys os ps e h = rw e h
+offsets_join (x ∷ xs) ys os ps (bs, later, d, e, r) h =
+    (bs, later ++ ps, d, ap (λ z. z ++ ps) e ∙ append_assoc (all_offsets bs) later ps, offsets_join xs ys later ps r h)
 
-pub none_done : {X : Type 0} (r : Result X AllocError) (a : List ℕ) → OnOk r (AddsSome a a)
-none_done (Ok x) a = some_nothing a
-none_done (Err e) a = tt
+abbrev pub Dumps : Verdict → List ℕ → List ℕ → Type 0
+Dumps verdict a b = (objects : List (List ℕ)) × AddsDumpsOf objects verdict a b
 
--- an object and a note after what was put
-pub noted : (a b c d : List ℕ) → AddsSome a b → AddsSome b c → Adds [] c d → AddsSome a d
-noted a b c d x y z = some_join a c d (some_join a b c x y) ([], z)
+pub dumps_some : (verdict : Verdict) (a b : List ℕ) → Dumps verdict a b → AddsSome a b
+dumps_some AllRead a b (objects, (os, r, adds)) = (os, adds)
+dumps_some Refused a b (objects, (os, adds)) = (os, adds)
+
+pub dumps_join : (v w : Verdict) (a b c : List ℕ) → Dumps v a b → Dumps w b c → Dumps (both_read v w) a c
+dumps_join AllRead AllRead a b c (xs, (os, r, x)) (ys, (ps, t, y)) = (xs ++ ys, (os ++ ps, offsets_join xs ys os ps r t, adds_join os ps a b c x y))
+dumps_join AllRead Refused a b c (xs, (os, r, x)) (ys, (ps, y)) = ([], (os ++ ps, adds_join os ps a b c x y))
+dumps_join Refused w a b c (xs, (os, x)) y = ([], some_join a b c (os, x) (dumps_some w b c y))
+
+pub dumps_none : (a : List ℕ) → Dumps AllRead a a
+dumps_none a = ([], ([], refl, adds_nothing a))
+
+-- an object under its label
+pub dumps_one : (octets : List ℕ) (v : Verdict) (a b c : List ℕ) → Adds [] a b → AddsDumpOf octets v b c → Dumps v a c
+dumps_one octets AllRead a b c x (bs, d, adds) = (octets ∷ [], (all_offsets bs, (bs, [], d, sym (append-nil (all_offsets bs)), refl), adds_join [] _ a b c x adds))
+dumps_one octets Refused a b c x (fault, f, os, adds) = (octets ∷ [], (os, adds_join [] os a b c x adds))
+
+pub object_done : (r : Result Verdict AllocError) (octets a b c : List ℕ) → Adds [] a b → IfOk r (λ v. AddsDumpOf octets v b c)
+    → IfOk r (λ v. Dumps v a c)
+object_done (Ok v) octets a b c x y = dumps_one octets v a b c x y
+object_done (Err e) octets a b c x y = tt
+
+pub object_refused : (a b c : List ℕ) → Adds [] a b → Adds [] b c → Dumps Refused a c
+object_refused a b c x y = ([], ([], adds_join [] [] a b c x y))
+
+pub none_taken : {X : Type 0} (verdict : X → Verdict) (r : Result X AllocError) (a : List ℕ) → IfOk r (λ x. verdict x ≡ AllRead) → IfOk r (λ x. Dumps (verdict x) a a)
+none_taken verdict (Ok x) a e = subst (λ v. Dumps v a a) (sym e) (dumps_none a)
+none_taken verdict (Err f) a e = tt
+
+pub lines_done : (v w : Verdict) (a b c d : List ℕ) → Dumps v a b → Dumps w b c → Adds [] c d → Dumps Refused a d
+lines_done v w a b c d x y z = ([], some_join a c d (some_join a b c (dumps_some v a b x) (dumps_some w b c y)) ([], z))
+
+pub answer_octets : (r : Result Verdict AllocError) (input a b : List ℕ) → IfOk r (λ v. AddsDumpOf input v a b) → IfOk r (λ v. AddsAnswer input v a b)
+answer_octets (Ok v) input a b h = of_octets h
+answer_octets (Err e) input a b h = tt
+
+pub answer_hex : (r : Result Verdict AllocError) (input octets a b : List ℕ) → spelled input ≡ Some octets → IfOk r (λ v. AddsDumpOf octets v a b)
+    → IfOk r (λ v. AddsAnswer input v a b)
+answer_hex (Ok v) input octets a b e h = of_hex octets e h
+answer_hex (Err f) input octets a b e h = tt
+
+pub answer_objects : (r : Result Verdict AllocError) (input a b : List ℕ) → IfOk r (λ v. Dumps v a b) → IfOk r (λ v. AddsAnswer input v a b)
+answer_objects (Ok v) input a b (objects, h) = of_objects objects h
+answer_objects (Err e) input a b h = tt
+
+-- what was read is the input, and all that was put is the output
+pub input_answered : (o : Option (List ℕ)) (bytes start out : List ℕ) (v : Verdict) (P : List ℕ → Type 0) → IfSome o (λ i. bytes ≡ i) → start ≡ []
+    → AddsAnswer bytes v start out → P out → IfSome o (λ i. (x : List ℕ) × AddsAnswer i v [] x × P x)
+input_answered None bytes start out v P e n a p = tt
+input_answered (Some i) bytes start out v P e n a p =
+    (out, subst (λ z. AddsAnswer i v z out) n (subst (λ z. AddsAnswer z v start out) e a), p)
+
+-- what was written stays
+pub kept_after : (a b c : Option (List ℕ)) (bs : List ℕ) → Appends a b bs → Keeps b c → Appends a c bs
+kept_after None b c bs p k = tt
+kept_after (Some xs) None c bs p k = absurd p
+kept_after (Some xs) (Some ys) None bs p k = absurd k
+kept_after (Some xs) (Some ys) (Some zs) bs p k = k ∙ p

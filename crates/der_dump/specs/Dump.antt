@@ -1,5 +1,8 @@
 -- What is written of a document: lines, one for each block in tree order, with its offset.
-use Rattle.std.specs.Prelude.{◌≡◌, ◌≢◌, ◌⊎◌, ℕ, ◌+◌, Bool, true, false, List, [], ◌∷◌, ◌++◌, map, replicate, decimal}
+use Rattle.std.specs.Prelude.{◌≡◌, ◌≢◌, ◌⊎◌, ℕ, ◌+◌, Bool, true, false, List, [], ◌∷◌, ◌++◌, map, replicate, decimal, if◌then◌else◌, Option, None, Some, Result, Ok, Err}
+use Rattle.std.specs.Char.{is_ascii_whitespace}
+use Rattle.hex.specs.Hex.{decode_of}
+use Rattle.hex.specs.declared.error.FromHexError.{FromHexError}
 use Rattle.std.specs.List.{All}
 use Rattle.der_dump.specs.declared.document.Verdict.{Verdict}
 use Rattle.der_dump.specs.declared.document.Verdict.TheVariants.{AllRead, Refused}
@@ -67,3 +70,45 @@ AddsDumpOf octets AllRead before after =
     (bs : Trees ℕ) × Document octets bs × Adds (all_offsets bs) before after
 AddsDumpOf octets Refused before after =
     (fault : DecodeFault) × FirstFault octets fault × (offsets : List ℕ) × Adds offsets before after
+
+-- the offsets of the blocks of documents one after another
+abbrev pub AreOffsetsOf : List (List ℕ) → List ℕ → Type 0
+AreOffsetsOf [] offsets = offsets ≡ []
+AreOffsetsOf (octets ∷ objects) offsets =
+    (bs : Trees ℕ) × (later : List ℕ) × Document octets bs × (offsets ≡ all_offsets bs ++ later)
+    × AreOffsetsOf objects later
+
+-- what is put after the text of objects: where all were read, the lines of documents, one for each of their blocks
+abbrev pub AddsDumpsOf : List (List ℕ) → Verdict → List ℕ → List ℕ → Type 0
+AddsDumpsOf objects AllRead before after = (offsets : List ℕ) × AreOffsetsOf objects offsets × Adds offsets before after
+AddsDumpsOf objects Refused before after = (offsets : List ℕ) × Adds offsets before after
+
+-- where one and then another were read, all was
+abbrev pub both_read : Verdict → Verdict → Verdict
+both_read AllRead verdict = verdict
+both_read Refused verdict = Refused
+
+-- the text without its white space
+abbrev pub but_spaces : List ℕ → List ℕ
+but_spaces [] = []
+but_spaces (b ∷ text) = if is_ascii_whitespace b then but_spaces text else b ∷ but_spaces text
+
+-- the octets of pairs of hex digits, or none where the text is anything else
+abbrev pub octets_or_none : Result (List ℕ) FromHexError → Option (List ℕ)
+octets_or_none (Ok octets) = Some octets
+octets_or_none (Err e) = None
+
+-- the octets that a text spells in hex digits, wherever white space stands
+abbrev pub spelled : List ℕ → Option (List ℕ)
+spelled text = octets_or_none (decode_of (but_spaces text))
+
+-- what is put of an input: it is a document itself, or the hex digits of one, or holds objects
+pub data AddsAnswer (input : List ℕ) (verdict : Verdict) (before after : List ℕ) : Type 0 where
+  of_octets : AddsDumpOf input verdict before after → AddsAnswer input verdict before after
+  of_hex :
+      (octets : List ℕ) → spelled input ≡ Some octets →
+      AddsDumpOf octets verdict before after → AddsAnswer input verdict before after
+  of_no_hex :
+      spelled input ≡ None → verdict ≡ Refused → Adds [] before after → AddsAnswer input verdict before after
+  of_objects :
+      (objects : List (List ℕ)) → AddsDumpsOf objects verdict before after → AddsAnswer input verdict before after

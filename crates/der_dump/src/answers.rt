@@ -1,6 +1,8 @@
 // What is written of an input, in each of the forms.
-ghost use Rattle.std.specs.Prelude.{◌<◌, List, ℕ, [], length, OnOk};
-ghost use Rattle.der_dump.specs.Dump.{Adds};
+ghost use Rattle.std.specs.Prelude.{◌≡◌, ◌<◌, List, ℕ, [], length, IfOk, OnOk};
+ghost use Rattle.std.specs.Option.{option_map};
+ghost use Rattle.der_dump.specs.Dump.{Adds, AddsAnswer, AddsDumpsOf, both_read, but_spaces, spelled};
+ghost use Rattle.der_dump.specs.declared.document.Verdict.TheVariants.{AllRead};
 
 use crate::document::{Verdict, push_document};
 use crate::forms::{Form, form_of, is_end, label_of};
@@ -13,7 +15,7 @@ use std::alloc::{AllocError, Global};
 
 // Puts what is said of an input.
 pub fn push_answer(alloc: Global, input: &[u8], out: &mut Vec<u8>) -> Result<Verdict, AllocError>
-    ensures { OnOk result ((offsets : List ℕ) × Adds offsets out.old.items out.new.items) }
+    ensures { IfOk result (λ verdict. AddsAnswer input.now verdict out.old.items out.new.items) }
 {
     let names = Names::new(alloc)?;
     match form_of(input) {
@@ -29,20 +31,32 @@ fn push_hex(
     input: &[u8],
     out: &mut Vec<u8>,
 ) -> Result<Verdict, AllocError>
-    ensures { OnOk result ((offsets : List ℕ) × Adds offsets out.old.items out.new.items) }
+    ensures { IfOk result (λ verdict. AddsAnswer input.now verdict out.old.items out.new.items) }
 {
-    let digits = without_spaces(alloc, input)?;
-    match hex::decode(alloc, digits.as_slice()) {
-        Ok(octets) => push_document(alloc, names, &octets, out),
-        Err(FromHexError::OutOfMemory) => Err(AllocError),
-        Err(_) => {
+    match octets_of(alloc, input)? {
+        Some(octets) => push_document(alloc, names, &octets, out),
+        None => {
             push_note(Mark::Fault, b" refused: an odd number of hex digits", out)?;
             Ok(Verdict::Refused)
         }
     }
 }
 
-fn without_spaces(alloc: Global, text: &[u8]) -> Result<Vec<u8>, AllocError> {
+// The octets that the text spells in hex digits.
+fn octets_of(alloc: Global, text: &[u8]) -> Result<Option<Vec<u8>>, AllocError>
+    ensures { IfOk result (λ octets. option_map (λ v. v.items) octets ≡ spelled text.now) }
+{
+    let digits = without_spaces(alloc, text)?;
+    match hex::decode(alloc, digits.as_slice()) {
+        Ok(octets) => Ok(Some(octets)),
+        Err(FromHexError::OutOfMemory) => Err(AllocError),
+        Err(_) => Ok(None),
+    }
+}
+
+fn without_spaces(alloc: Global, text: &[u8]) -> Result<Vec<u8>, AllocError>
+    ensures { IfOk result (λ symbols. symbols.items ≡ but_spaces text.now) }
+{
     let mut symbols = Vec::new(alloc);
     for b in text {
         if !b.is_ascii_whitespace() {
@@ -65,7 +79,8 @@ fn push_pem(
     input: &[u8],
     out: &mut Vec<u8>,
 ) -> Result<Verdict, AllocError>
-    ensures { OnOk result ((offsets : List ℕ) × Adds offsets out.old.items out.new.items) }
+    ensures { IfOk result (λ verdict. (objects : List (List ℕ))
+        × AddsDumpsOf objects verdict out.old.items out.new.items) }
 {
     let mut verdict = Verdict::AllRead;
     let mut open = None;
@@ -101,7 +116,8 @@ fn take_line<'a>(
     open: Option<Open<'a>>,
     out: &mut Vec<u8>,
 ) -> Result<Turn<'a>, AllocError>
-    ensures { OnOk result ((offsets : List ℕ) × Adds offsets out.old.items out.new.items) }
+    ensures { IfOk result (λ turn. (objects : List (List ℕ))
+        × AddsDumpsOf objects turn.verdict out.old.items out.new.items) }
 {
     let Some(object) = open else {
         return begin_object(alloc, line);
@@ -116,7 +132,9 @@ fn take_line<'a>(
     go_on(object, line)
 }
 
-fn begin_object<'a>(alloc: Global, line: &'a [u8]) -> Result<Turn<'a>, AllocError> {
+fn begin_object<'a>(alloc: Global, line: &'a [u8]) -> Result<Turn<'a>, AllocError>
+    ensures { IfOk result (λ turn. turn.verdict ≡ AllRead) }
+{
     let open = match label_of(line) {
         Some(label) => Some(Open {
             label,
@@ -131,7 +149,9 @@ fn begin_object<'a>(alloc: Global, line: &'a [u8]) -> Result<Turn<'a>, AllocErro
 }
 
 // Adds the symbols of a line. A line with a colon is a header of the object (RFC 1421).
-fn go_on<'a>(mut object: Open<'a>, line: &[u8]) -> Result<Turn<'a>, AllocError> {
+fn go_on<'a>(mut object: Open<'a>, line: &[u8]) -> Result<Turn<'a>, AllocError>
+    ensures { IfOk result (λ turn. turn.verdict ≡ AllRead) }
+{
     if !line.contains(&b':') {
         for b in line {
             if !b.is_ascii_whitespace() {
@@ -152,7 +172,8 @@ fn push_object(
     object: &Open<'_>,
     out: &mut Vec<u8>,
 ) -> Result<Verdict, AllocError>
-    ensures { OnOk result ((offsets : List ℕ) × Adds offsets out.old.items out.new.items) }
+    ensures { IfOk result (λ verdict. (objects : List (List ℕ))
+        × AddsDumpsOf objects verdict out.old.items out.new.items) }
 {
     push_label(alloc, object.label, out)?;
     match STANDARD.decode(alloc, &object.symbols) {
@@ -173,7 +194,9 @@ fn push_label(alloc: Global, label: &[u8], out: &mut Vec<u8>) -> Result<(), Allo
     push_note(Mark::Object, &text, out)
 }
 
-fn both(a: Verdict, b: Verdict) -> Verdict {
+fn both(a: Verdict, b: Verdict) -> Verdict
+    ensures { result ≡ both_read a b }
+{
     match a {
         Verdict::AllRead => b,
         Verdict::Refused => Verdict::Refused,

@@ -1,7 +1,7 @@
 // The run of the program: all input is read before anything is written.
-ghost use Rattle.std.specs.Prelude.{◌≡◌, ◌⊎◌, List, ℕ, IfOk, IfErr, IfSome, IsErr, OnOk, codes};
+ghost use Rattle.std.specs.Prelude.{◌≡◌, ◌⊎◌, List, ℕ, [], IfOk, IfErr, IfSome, IsErr, OnOk, codes};
 ghost use Rattle.std.specs.Io.KnownBytes.{Appends, IsAtEnd, Keeps};
-ghost use Rattle.der_dump.specs.Dump.{IsDump};
+ghost use Rattle.der_dump.specs.Dump.{AddsAnswer};
 ghost use Rattle.der_dump.specs.declared.document.Verdict.TheVariants.{AllRead, Refused};
 ghost use Rattle.der_dump.specs.declared.tool.ToolFault.TheVariants.{Read as read_fault, Write as write_fault, Memory as memory_fault};
 
@@ -29,8 +29,8 @@ pub enum ToolFault {
 /// # Errors
 /// `Read` and `Memory`, after which nothing was written; `Write`, after which nothing is known of what was.
 pub fn run<R: Read, W: Write>(alloc: Global, r: &mut R, w: &mut W) -> Result<Verdict, ToolFault>
-    ensures answered { OnOk result (IfSome (R.remaining r.old) (λ input. (output : List ℕ) × (offsets : List ℕ)
-        × IsDump offsets output × Appends (W.contents w.old) (W.contents w.new) output)) }
+    ensures answered { IfOk result (λ verdict. IfSome (R.remaining r.old) (λ input. (output : List ℕ)
+        × AddsAnswer input verdict [] output × Appends (W.contents w.old) (W.contents w.new) output)) }
     ensures read { OnOk result (IsAtEnd (R.remaining r.new)) }
     ensures kept { IfErr result (λ e. (e ≡ write_fault) ⊎ Keeps (W.contents w.old) (W.contents w.new)) }
 {

@@ -1,0 +1,5 @@
+use Rattle.der_dump.proofs.Dumps.{answer_objects}
+use Rattle.der_dump.proofs.answers.push_answer.Goals as goal
+
+pub returns-in-Pem : goal.returns-in-Pem
+returns-in-Pem c = answer_objects c.push_pem.result _ _ _ c.push_pem.ensures
