@@ -6,6 +6,8 @@ use Rattle.std.specs.Io.KnownBytes.{Appends, Keeps}
 use Rattle.std.specs.List.{All}
 use Rattle.std.specs.Prelude.{Option, Some, None, Result, Ok, Err, IfOk, IfSome, OnOk}
 use Rattle.std.specs.declared.alloc.AllocError.{AllocError}
+use Rattle.der_dump.specs.Forms.{form_is}
+use Rattle.der_dump.specs.declared.forms.Form.TheVariants.{Pem, Hex, Der}
 use Rattle.der_dump.specs.declared.document.Verdict.{Verdict}
 use Rattle.der_dump.specs.declared.document.Verdict.TheVariants.{AllRead, Refused}
 use Rattle.der_dump.specs.Dump.{Adds, AddsAnswer, AddsDumpOf, AddsDumpsOf, AreOffsetsOf, IsBlockLine, IsDump, IsNote, IsOneLine, block_line, no_lines, note, all_offsets, both_read, of_hex, of_no_hex, of_objects, of_octets, shown_at, spelled}
@@ -140,18 +142,18 @@ none_taken verdict (Err f) a e = tt
 pub lines_done : (v w : Verdict) (a b c d : List ℕ) → Dumps v a b → Dumps w b c → Adds [] c d → Dumps Refused a d
 lines_done v w a b c d x y z = ([], some_join a c d (some_join a b c (dumps_some v a b x) (dumps_some w b c y)) ([], z))
 
-pub answer_octets : (r : Result Verdict AllocError) (input a b : List ℕ) → IfOk r (λ v. AddsDumpOf input v a b) → IfOk r (λ v. AddsAnswer input v a b)
-answer_octets (Ok v) input a b h = of_octets h
-answer_octets (Err e) input a b h = tt
+pub answer_octets : (r : Result Verdict AllocError) (input a b : List ℕ) → form_is input ≡ Der → IfOk r (λ v. AddsDumpOf input v a b) → IfOk r (λ v. AddsAnswer input v a b)
+answer_octets (Ok v) input a b f h = of_octets f h
+answer_octets (Err e) input a b f h = tt
 
-pub answer_hex : (r : Result Verdict AllocError) (input octets a b : List ℕ) → spelled input ≡ Some octets → IfOk r (λ v. AddsDumpOf octets v a b)
+pub answer_hex : (r : Result Verdict AllocError) (input octets a b : List ℕ) → form_is input ≡ Hex → spelled input ≡ Some octets → IfOk r (λ v. AddsDumpOf octets v a b)
     → IfOk r (λ v. AddsAnswer input v a b)
-answer_hex (Ok v) input octets a b e h = of_hex octets e h
-answer_hex (Err f) input octets a b e h = tt
+answer_hex (Ok v) input octets a b f e h = of_hex octets f e h
+answer_hex (Err x) input octets a b f e h = tt
 
-pub answer_objects : (r : Result Verdict AllocError) (input a b : List ℕ) → IfOk r (λ v. Dumps v a b) → IfOk r (λ v. AddsAnswer input v a b)
-answer_objects (Ok v) input a b (objects, h) = of_objects objects h
-answer_objects (Err e) input a b h = tt
+pub answer_objects : (r : Result Verdict AllocError) (input a b : List ℕ) → form_is input ≡ Pem → IfOk r (λ v. Dumps v a b) → IfOk r (λ v. AddsAnswer input v a b)
+answer_objects (Ok v) input a b f (objects, h) = of_objects objects f h
+answer_objects (Err e) input a b f h = tt
 
 -- what was read is the input, and all that was put is the output
 pub input_answered : (o : Option (List ℕ)) (bytes start out : List ℕ) (v : Verdict) (P : List ℕ → Type 0) → IfSome o (λ i. bytes ≡ i) → start ≡ []

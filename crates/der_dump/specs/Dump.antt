@@ -4,6 +4,8 @@ use Rattle.std.specs.Char.{is_ascii_whitespace}
 use Rattle.hex.specs.Hex.{decode_of}
 use Rattle.hex.specs.declared.error.FromHexError.{FromHexError}
 use Rattle.std.specs.List.{All}
+use Rattle.der_dump.specs.Forms.{form_is}
+use Rattle.der_dump.specs.declared.forms.Form.TheVariants.{Pem, Hex, Der}
 use Rattle.der_dump.specs.declared.document.Verdict.{Verdict}
 use Rattle.der_dump.specs.declared.document.Verdict.TheVariants.{AllRead, Refused}
 use Rattle.simple_asn1.specs.Fault.{DecodeFault}
@@ -102,13 +104,16 @@ octets_or_none (Err e) = None
 abbrev pub spelled : List ℕ → Option (List ℕ)
 spelled text = octets_or_none (decode_of (but_spaces text))
 
--- what is put of an input: it is a document itself, or the hex digits of one, or holds objects
+-- what is put of an input, which has its documents in one of the forms
 pub data AddsAnswer (input : List ℕ) (verdict : Verdict) (before after : List ℕ) : Type 0 where
-  of_octets : AddsDumpOf input verdict before after → AddsAnswer input verdict before after
+  of_octets :
+      form_is input ≡ Der → AddsDumpOf input verdict before after → AddsAnswer input verdict before after
   of_hex :
-      (octets : List ℕ) → spelled input ≡ Some octets →
+      (octets : List ℕ) → form_is input ≡ Hex → spelled input ≡ Some octets →
       AddsDumpOf octets verdict before after → AddsAnswer input verdict before after
   of_no_hex :
-      spelled input ≡ None → verdict ≡ Refused → Adds [] before after → AddsAnswer input verdict before after
+      form_is input ≡ Hex → spelled input ≡ None → verdict ≡ Refused → Adds [] before after →
+      AddsAnswer input verdict before after
   of_objects :
-      (objects : List (List ℕ)) → AddsDumpsOf objects verdict before after → AddsAnswer input verdict before after
+      (objects : List (List ℕ)) → form_is input ≡ Pem → AddsDumpsOf objects verdict before after →
+      AddsAnswer input verdict before after

@@ -1,2 +1,3 @@
 pub mod Dump
 pub mod Walk
+pub mod Forms

@@ -1,11 +1,13 @@
 // What is written of an input, in each of the forms.
-ghost use Rattle.std.specs.Prelude.{◌≡◌, ◌<◌, List, ℕ, [], length, IfOk, OnOk};
+ghost use Rattle.std.specs.Prelude.{◌≡◌, List, ℕ, [], IfOk, OnOk};
 ghost use Rattle.std.specs.Option.{option_map};
 ghost use Rattle.der_dump.specs.Dump.{Adds, AddsAnswer, AddsDumpsOf, both_read, but_spaces, spelled};
+ghost use Rattle.der_dump.specs.Forms.{form_is};
 ghost use Rattle.der_dump.specs.declared.document.Verdict.TheVariants.{AllRead};
+ghost use Rattle.der_dump.specs.declared.forms.Form.TheVariants.{Hex};
 
 use crate::document::{Verdict, push_document};
-use crate::forms::{Form, form_of, is_end, label_of};
+use crate::forms::{Form, form_of, is_end, label_of, split_line};
 use crate::lines::{Mark, push_note};
 use crate::names::Names;
 use base64::DecodeAllocError;
@@ -31,6 +33,7 @@ fn push_hex(
     input: &[u8],
     out: &mut Vec<u8>,
 ) -> Result<Verdict, AllocError>
+    requires { form_is input.now ≡ Hex }
     ensures { IfOk result (λ verdict. AddsAnswer input.now verdict out.old.items out.new.items) }
 {
     match octets_of(alloc, input)? {
@@ -201,19 +204,4 @@ fn both(a: Verdict, b: Verdict) -> Verdict
         Verdict::AllRead => b,
         Verdict::Refused => Verdict::Refused,
     }
-}
-
-// The first line, and what stands after its end.
-pub fn split_line(input: &[u8]) -> (&[u8], &[u8])
-    requires { 0 < length input.now }
-    ensures { length result.1.now < length input.now }
-{
-    let mut end = 0;
-    while end < input.len() {
-        if input[end] == b'\n' {
-            return (&input[..end], &input[end + 1..]);
-        }
-        end += 1;
-    }
-    (input, &[])
 }

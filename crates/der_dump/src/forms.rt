@@ -1,5 +1,14 @@
 // The forms in which documents come, told apart by their octets.
-use crate::answers::split_line;
+ghost use Rattle.std.specs.Prelude.{◌≡◌, ◌∷◌, ◌<◌, false, length};
+ghost use Rattle.std.specs.List.{list_all};
+ghost use Rattle.der_dump.specs.Forms.{
+  are_hex_digits,
+  begins_object,
+  form_is,
+  has_object,
+  is_text_octet,
+  lines_of,
+};
 
 // How an input has its documents.
 #[derive(Clone, Copy, Drop)]
@@ -13,7 +22,9 @@ pub enum Form {
 }
 
 // PEM has a line that begins an object, and above it nothing but lines of text.
-pub fn form_of(input: &[u8]) -> Form {
+pub fn form_of(input: &[u8]) -> Form
+    ensures { result ≡ form_is input.now }
+{
     if is_pem(input) {
         Form::Pem
     } else if is_hex(input) {
@@ -23,14 +34,16 @@ pub fn form_of(input: &[u8]) -> Form {
     }
 }
 
-fn is_pem(input: &[u8]) -> bool {
+fn is_pem(input: &[u8]) -> bool
+    ensures { result ≡ has_object (lines_of input.now) }
+{
     let mut rest = input;
     while !rest.is_empty() {
         let (line, after) = split_line(rest);
-        if label_of(line).is_some() {
+        if is_begin(line) {
             return true;
         }
-        if !line.iter().all(is_text) {
+        if !is_text(line) {
             return false;
         }
         rest = after;
@@ -38,9 +51,16 @@ fn is_pem(input: &[u8]) -> bool {
     false
 }
 
-// Whether an octet is none of those that no line of text has.
-fn is_text(b: &u8) -> bool {
-    *b >= b' ' || b.is_ascii_whitespace()
+// Whether a line begins an object.
+fn is_begin(line: &[u8]) -> bool
+    ensures { result ≡ begins_object line.now }
+{
+    line.starts_with(b"-----BEGIN ")
+}
+
+// Whether a line ends an object.
+pub fn is_end(line: &[u8]) -> bool {
+    line.starts_with(b"-----END ")
 }
 
 // What stands between the dashes of a line that begins an object.
@@ -52,15 +72,49 @@ pub fn label_of(line: &[u8]) -> Option<&[u8]> {
     })
 }
 
-// Whether a line ends an object.
-pub fn is_end(line: &[u8]) -> bool {
-    line.starts_with(b"-----END ")
+fn is_text(line: &[u8]) -> bool
+    ensures { result ≡ list_all is_text_octet line.now }
+{
+    for b in line {
+        if !may_stand_in_text(*b) {
+            return false;
+        }
+    }
+    true
 }
 
-fn is_hex(input: &[u8]) -> bool {
-    input.iter().any(u8::is_ascii_hexdigit) && input.iter().all(is_hex_or_space)
+fn may_stand_in_text(b: u8) -> bool
+    ensures { result ≡ is_text_octet b }
+{
+    b >= b' ' || b.is_ascii_whitespace()
 }
 
-fn is_hex_or_space(b: &u8) -> bool {
-    b.is_ascii_hexdigit() || b.is_ascii_whitespace()
+fn is_hex(input: &[u8]) -> bool
+    ensures { result ≡ are_hex_digits false input.now }
+{
+    let mut has_digit = false;
+    for b in input {
+        if b.is_ascii_hexdigit() {
+            has_digit = true;
+        } else if !b.is_ascii_whitespace() {
+            return false;
+        }
+    }
+    has_digit
+}
+
+// The first line, and what stands after its end.
+pub fn split_line(input: &[u8]) -> (&[u8], &[u8])
+    requires { 0 < length input.now }
+    ensures first { lines_of input.now ≡ result.0.now ∷ lines_of result.1.now }
+    ensures shorter { length result.1.now < length input.now }
+{
+    let mut end = 0;
+    while end < input.len() {
+        if input[end] == b'\n' {
+            return (&input[..end], &input[end + 1..]);
+        }
+        end += 1;
+    }
+    (input, &[])
 }

@@ -6,7 +6,7 @@ use crate::faults::fault_words;
 use crate::header::{Header, read_header};
 use crate::lines::{Mark, push_line, push_note};
 use crate::names::Names;
-use crate::scalars::write_hex;
+use crate::scalars::write_after_space;
 use crate::tree::{Place, push_blocks};
 use crate::values::{write_sizes, write_tag};
 use simple_asn1::{ASN1Class, ASN1DecodeErr, Document, encoding_at};
@@ -215,7 +215,8 @@ fn push_cut(
         return Ok(Step::Cut(offset.saturating_add(header.size)));
     }
     let contents = contents_text(alloc, &header, rest)?;
-    let text = format!(in alloc; "{cut}:{contents}")?;
+    let colon = if there == 0 { "" } else { ":" };
+    let text = format!(in alloc; "{cut}{colon}{contents}")?;
     push_header(alloc, &header, offset, depth, &text, out)?;
     Ok(Step::Fault)
 }
@@ -228,8 +229,8 @@ fn is_group(header: &Header) -> bool {
 // A space and the contents octets of the encoding, as far as they are there.
 fn contents_text(alloc: Global, header: &Header, encoding: &[u8]) -> Result<String, AllocError> {
     let (_, contents) = encoding.split_at(header.size.min(encoding.len()));
-    let mut text = String::from_str(alloc, " ")?;
-    write_hex(&mut text, contents)?;
+    let mut text = String::new(alloc);
+    write_after_space(&mut text, contents)?;
     Ok(text)
 }
 

@@ -4,6 +4,15 @@ use std::alloc::{AllocError, Global};
 // How many octets are written at most; of longer ones the first of them, and how many there are.
 const MOST_OCTETS: usize = 32;
 
+// Puts a space and the octets at the end, if there are any.
+pub fn write_after_space(out: &mut String, octets: &[u8]) -> Result<(), AllocError> {
+    if octets.is_empty() {
+        return Ok(());
+    }
+    out.push_str(" ")?;
+    write_hex(out, octets)
+}
+
 // Puts the octets at the end in pairs of hex digits.
 pub fn write_hex(out: &mut String, octets: &[u8]) -> Result<(), AllocError> {
     if octets.len() <= MOST_OCTETS {

@@ -2,7 +2,7 @@
 // more of it than that it is one line, which whoever puts it into a line sees to.
 use crate::header::Header;
 use crate::names::Names;
-use crate::scalars::{write_components, write_hex, write_quoted};
+use crate::scalars::{write_after_space, write_components, write_hex, write_quoted};
 use simple_asn1::{ASN1Block, ASN1Class, ASN1DecodeErr, BigInt, BigUint, OID};
 use std::alloc::{AllocError, Global};
 
@@ -106,8 +106,7 @@ fn write_octets(
     if is_opened {
         return out.push_str(", which holds");
     }
-    out.push_str(" ")?;
-    write_hex(out, octets)
+    write_after_space(out, octets)
 }
 
 fn write_bit_string(
@@ -125,8 +124,11 @@ fn write_bit_string(
     if unused > 0 {
         write!(out, ", {unused} unused")?;
     }
-    out.push_str(": ")?;
-    write_hex(out, octets)
+    if octets.is_empty() {
+        return Ok(());
+    }
+    out.push_str(":")?;
+    write_after_space(out, octets)
 }
 
 fn write_identifier(
@@ -232,8 +234,7 @@ fn write_unknown(
         let number = BigInt::from_signed_bytes_be(alloc, octets)?;
         return write_integer(alloc, out, "", &number);
     }
-    out.push_str(" ")?;
-    write_hex(out, octets)?;
+    write_after_space(out, octets)?;
     if is_text(octets) {
         write_ascii(out, octets)?;
     }

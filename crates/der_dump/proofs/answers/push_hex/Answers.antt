@@ -9,4 +9,4 @@ pub returns-in-Some : goal.returns-in-Some
 returns-in-Some c =
     let e : spelled c.args.input.now ≡ Some c.in-Some.octets.items = grind (arith, common_steps) in
     let d : c.deref.result.now ≡ c.in-Some.octets.items = grind (arith, common_steps) in
-    answer_hex c.push_document.result _ _ _ _ e (rw d at c.push_document.ensures)
+    answer_hex c.push_document.result _ _ _ _ c.requires e (rw d at c.push_document.ensures)
