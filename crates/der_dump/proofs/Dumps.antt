@@ -1,16 +1,15 @@
 -- Lines are put after lines.
-use Rattle.std.proofs.Common.{◌≡◌, ◌≢◌, ◌⊎◌, ℕ, zero, suc, ◌+◌, List, [], ◌∷◌, ◌++◌, replicate, Bool, true, false, if◌then◌else◌, refl, sym, ap, ◌∙◌, subst, map, append_assoc, append-nil, arith}
+use Rattle.std.proofs.Common.{◌≡◌, ◌⊎◌, ℕ, ◌+◌, List, [], ◌∷◌, ◌++◌, replicate, Bool, true, false, refl, sym, ap, ◌∙◌, subst, map, append_assoc, append-nil, arith}
 use Rattle.std.proofs.lemmas.List.{map-append}
 use Rattle.std.specs.Fmt.{decimal}
 use Rattle.std.specs.Io.KnownBytes.{Appends, Keeps}
-use Rattle.std.specs.List.{All}
-use Rattle.std.specs.Prelude.{Option, Some, None, Result, Ok, Err, IfOk, IfSome, OnOk}
+use Rattle.std.specs.Prelude.{Option, Some, None, Result, Ok, Err, IfOk, IfSome}
 use Rattle.std.specs.declared.alloc.AllocError.{AllocError}
 use Rattle.der_dump.specs.Forms.{form_is}
 use Rattle.der_dump.specs.declared.forms.Form.TheVariants.{Pem, Hex, Der}
 use Rattle.der_dump.specs.declared.document.Verdict.{Verdict}
 use Rattle.der_dump.specs.declared.document.Verdict.TheVariants.{AllRead, Refused}
-use Rattle.der_dump.specs.Dump.{Adds, AddsAnswer, AddsDumpOf, AddsDumpsOf, AreOffsetsOf, IsBlockLine, IsDump, IsNote, IsOneLine, block_line, no_lines, note, all_offsets, both_read, of_hex, of_no_hex, of_objects, of_octets, shown_at, spelled}
+use Rattle.der_dump.specs.Dump.{Adds, AddsAnswer, AddsDumpOf, AddsDumpsOf, AreOffsetsOf, IsDump, IsOneLine, block_line, no_lines, note, all_offsets, both_read, of_hex, of_objects, of_octets, shown_at, spelled}
 
 -- a dump after a dump
 pub dump_join : (os ps a b : List ℕ) → IsDump os a → IsDump ps b → IsDump (os ++ ps) (a ++ b)
@@ -124,7 +123,8 @@ dumps_none a = ([], ([], refl, adds_nothing a))
 
 -- an object under its label
 pub dumps_one : (octets : List ℕ) (v : Verdict) (a b c : List ℕ) → Adds [] a b → AddsDumpOf octets v b c → Dumps v a c
-dumps_one octets AllRead a b c x (bs, d, adds) = (octets ∷ [], (all_offsets bs, (bs, [], d, sym (append-nil (all_offsets bs)), refl), adds_join [] _ a b c x adds))
+dumps_one octets AllRead a b c x (bs, d, adds) =
+    (octets ∷ [], (all_offsets bs, (bs, [], d, sym (append-nil (all_offsets bs)), refl), adds_join [] _ a b c x adds))
 dumps_one octets Refused a b c x (fault, f, os, adds) = (octets ∷ [], (os, adds_join [] os a b c x adds))
 
 pub object_done : (r : Result Verdict AllocError) (octets a b c : List ℕ) → Adds [] a b → IfOk r (λ v. AddsDumpOf octets v b c)
@@ -135,23 +135,27 @@ object_done (Err e) octets a b c x y = tt
 pub object_refused : (a b c : List ℕ) → Adds [] a b → Adds [] b c → Dumps Refused a c
 object_refused a b c x y = ([], ([], adds_join [] [] a b c x y))
 
-pub none_taken : {X : Type 0} (verdict : X → Verdict) (r : Result X AllocError) (a : List ℕ) → IfOk r (λ x. verdict x ≡ AllRead) → IfOk r (λ x. Dumps (verdict x) a a)
+pub none_taken : {X : Type 0} (verdict : X → Verdict) (r : Result X AllocError) (a : List ℕ)
+    → IfOk r (λ x. verdict x ≡ AllRead) → IfOk r (λ x. Dumps (verdict x) a a)
 none_taken verdict (Ok x) a e = subst (λ v. Dumps v a a) (sym e) (dumps_none a)
 none_taken verdict (Err f) a e = tt
 
 pub lines_done : (v w : Verdict) (a b c d : List ℕ) → Dumps v a b → Dumps w b c → Adds [] c d → Dumps Refused a d
 lines_done v w a b c d x y z = ([], some_join a c d (some_join a b c (dumps_some v a b x) (dumps_some w b c y)) ([], z))
 
-pub answer_octets : (r : Result Verdict AllocError) (input a b : List ℕ) → form_is input ≡ Der → IfOk r (λ v. AddsDumpOf input v a b) → IfOk r (λ v. AddsAnswer input v a b)
+pub answer_octets : (r : Result Verdict AllocError) (input a b : List ℕ) → form_is input ≡ Der
+    → IfOk r (λ v. AddsDumpOf input v a b) → IfOk r (λ v. AddsAnswer input v a b)
 answer_octets (Ok v) input a b f h = of_octets f h
 answer_octets (Err e) input a b f h = tt
 
-pub answer_hex : (r : Result Verdict AllocError) (input octets a b : List ℕ) → form_is input ≡ Hex → spelled input ≡ Some octets → IfOk r (λ v. AddsDumpOf octets v a b)
+pub answer_hex : (r : Result Verdict AllocError) (input octets a b : List ℕ) → form_is input ≡ Hex
+    → spelled input ≡ Some octets → IfOk r (λ v. AddsDumpOf octets v a b)
     → IfOk r (λ v. AddsAnswer input v a b)
 answer_hex (Ok v) input octets a b f e h = of_hex octets f e h
 answer_hex (Err x) input octets a b f e h = tt
 
-pub answer_objects : (r : Result Verdict AllocError) (input a b : List ℕ) → form_is input ≡ Pem → IfOk r (λ v. Dumps v a b) → IfOk r (λ v. AddsAnswer input v a b)
+pub answer_objects : (r : Result Verdict AllocError) (input a b : List ℕ) → form_is input ≡ Pem
+    → IfOk r (λ v. Dumps v a b) → IfOk r (λ v. AddsAnswer input v a b)
 answer_objects (Ok v) input a b f (objects, h) = of_objects objects f h
 answer_objects (Err e) input a b f h = tt
 

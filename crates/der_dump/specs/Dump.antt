@@ -65,8 +65,8 @@ abbrev pub shown_at : Bool → ℕ → List ℕ → List ℕ
 shown_at true base offsets = []
 shown_at false base offsets = map (λ o. base + o) offsets
 
--- what is put after the text of octets: a document's lines, one for each block in tree order; of other octets, which have
--- a first fault, lines of some blocks
+-- what is put after the text of octets: a document's lines, one for each block in tree order; of other octets, which
+-- have a first fault, lines of some blocks
 abbrev pub AddsDumpOf : List ℕ → Verdict → List ℕ → List ℕ → Type 0
 AddsDumpOf octets AllRead before after =
     (bs : Trees ℕ) × Document octets bs × Adds (all_offsets bs) before after

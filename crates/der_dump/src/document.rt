@@ -17,8 +17,8 @@ pub enum Verdict {
     Refused,
 }
 
-/// Puts the lines of a document: one for each block, in tree order. Of octets that are none, those of the blocks up to the
-/// first fault, and what is at fault.
+/// Puts the lines of a document: one for each block, in tree order. Of octets that are none, those of the blocks up to
+/// the first fault, and what is at fault. The only error is that memory ran out.
 pub fn push_document(
     alloc: Global,
     names: &Names,

@@ -2,8 +2,8 @@
 use simple_asn1::{ASN1Class, ASN1DecodeErr, BigUint, HeaderCount, decode_length, decode_tag};
 use std::alloc::{AllocError, Global};
 
-// The header of an encoding: the fields of its identifier octets, how many octets it has, and how many contents octets it
-// announces.
+// The header of an encoding: the fields of its identifier octets, how many octets it has, and how many contents octets
+// it announces.
 #[derive(Drop)]
 pub struct Header {
     pub tag: BigUint,

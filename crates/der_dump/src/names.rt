@@ -32,7 +32,8 @@ fn number_in(row: &'static str) -> &'static str {
     }
 }
 
-// A row has the number, the name and the standard, with a space between two. The rows are in the order of the numbers' texts.
+// A row has the number, the name and the standard, with a space between two. The rows are in the order of the numbers'
+// texts.
 const NAMES: &str = "\
 0.4.0.1862.1.1 qcCompliance ETSI EN 319 412-5
 0.4.0.1862.1.2 qcLimitValue ETSI EN 319 412-5

@@ -97,8 +97,8 @@ impl Cursor {
     }
 }
 
-// Puts the blocks up to the first fault, with the headers around it, and gives its offset, which is that of the innermost
-// block at fault. A block that is cut short is shown as far as it goes.
+// Puts the blocks up to the first fault, with the headers around it, and gives its offset, which is that of the
+// innermost block at fault. A block that is cut short is shown as far as it goes.
 fn push_to_fault(
     alloc: Global,
     names: &Names,

@@ -23,8 +23,8 @@ pub enum ToolFault {
 
 /// Reads all of `r`, and writes what is said of it to `w`.
 ///
-/// The input is a document, or documents in PEM, or a document in hex digits, told apart by their octets. The whole input
-/// and the whole output are kept in memory.
+/// The input is a document, or documents in PEM, or a document in hex digits, told apart by their octets. The whole
+/// input and the whole output are kept in memory.
 ///
 /// # Errors
 /// `Read` and `Memory`, after which nothing was written; `Write`, after which nothing is known of what was.
@@ -69,8 +69,8 @@ fn read_all<R: Read>(alloc: Global, r: &mut R) -> Result<Vec<u8>, ToolFault>
     Err(ToolFault::Read)
 }
 
-/// The exit status after a run: 0 where all was read, 1 where some of the input is no document, 2 after a fault of reading
-/// or writing and where memory ran out.
+/// The exit status after a run: 0 where all was read, 1 where some of the input is no document, 2 after a fault of
+/// reading or writing and where memory ran out.
 pub fn status(outcome: &Result<Verdict, ToolFault>) -> u8
     ensures all { IfOk outcome.now (λ verdict. verdict ≡ AllRead → result ≡ 0) }
     ensures refused { IfOk outcome.now (λ verdict. verdict ≡ Refused → result ≡ 1) }

@@ -107,8 +107,7 @@ fn header_size(header: &Option<Header>) -> usize {
     }
 }
 
-// The document that stands inside the octets of a block, whose contents octets begin at an offset, if fewer than so many
-// are shown.
+// The document that stands inside the octets of a block, whose contents octets begin at an offset, if one may be shown.
 fn held_document<'a>(
     alloc: Global,
     block: &'a ASN1Block,

@@ -1,5 +1,5 @@
-// What is said of a block after its offset: the sizes of its header and contents, its tag, and its value. No contract says
-// more of it than that it is one line, which whoever puts it into a line sees to.
+// What is said of a block after its offset: the sizes of its header and contents, its tag, and its value. No contract
+// says anything of it; that it becomes one line is seen to where it is put.
 use crate::header::Header;
 use crate::names::Names;
 use crate::scalars::{write_after_space, write_components, write_hex, write_quoted};

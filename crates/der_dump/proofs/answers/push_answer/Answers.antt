@@ -1,5 +1,5 @@
-use Rattle.std.proofs.Common.{◌≡◌, sym, ◌∙◌}
-use Rattle.der_dump.proofs.Dumps.{answer_objects, answer_octets}
+use Rattle.std.proofs.Common.{sym, ◌∙◌}
+use Rattle.der_dump.proofs.Dumps.{answer_objects}
 use Rattle.der_dump.proofs.answers.push_answer.Goals as goal
 
 pub returns-in-Pem : goal.returns-in-Pem

@@ -1,7 +1,7 @@
-use Rattle.std.proofs.Common.{◌≡◌, refl, arith}
-use Rattle.std.specs.Prelude.{None, Some}
+use Rattle.std.proofs.Common.{◌≡◌, arith}
+use Rattle.std.specs.Prelude.{Some}
 use Rattle.std.proofs.lemmas.Grind.{common_steps}
-use Rattle.der_dump.specs.Dump.{of_no_hex, spelled}
+use Rattle.der_dump.specs.Dump.{spelled}
 use Rattle.der_dump.proofs.Dumps.{answer_hex}
 use Rattle.der_dump.proofs.answers.push_hex.Goals as goal
 

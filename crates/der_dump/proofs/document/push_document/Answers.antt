@@ -1,5 +1,5 @@
-use Rattle.std.proofs.Common.{◌≡◌, ap, subst}
-use Rattle.simple_asn1.specs.View.{document_trees, views}
+use Rattle.std.proofs.Common.{subst}
+use Rattle.simple_asn1.specs.View.{document_trees}
 use Rattle.der_dump.specs.Dump.{Adds, all_offsets}
 use Rattle.der_dump.proofs.Dumps.{top_adds}
 use Rattle.der_dump.proofs.document.push_document.Goals as goal

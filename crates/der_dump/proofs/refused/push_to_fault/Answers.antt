@@ -1,5 +1,4 @@
-use Rattle.std.proofs.Common.{◌≡◌, ◌<◌, ◌^◌, arith}
-use Rattle.std.proofs.lemmas.Grind.{common_steps}
+use Rattle.std.proofs.Common.{arith}
 use Rattle.der_dump.proofs.Dumps.{some_join, some_nothing}
 use Rattle.der_dump.proofs.refused.push_to_fault.Goals as goal
 

@@ -1,8 +1,5 @@
-use Rattle.std.proofs.Common.{◌≡◌, ◌++◌, ◌∷◌, [], map, sym, ap, ◌∙◌, append_assoc, arith}
+use Rattle.std.proofs.Common.{◌≡◌, ◌++◌, ◌∷◌, [], sym, ◌∙◌, arith}
 use Rattle.std.proofs.lemmas.Grind.{common_steps}
-use Rattle.simple_asn1.specs.View.{tree_offset, view, views}
-use Rattle.der_dump.specs.Dump.{all_offsets}
-use Rattle.der_dump.specs.Walk.{ahead, stacked}
 use Rattle.der_dump.proofs.Walks.{found_next, list_ended}
 use Rattle.der_dump.proofs.walk.Walk.next.Goals as goal
 
