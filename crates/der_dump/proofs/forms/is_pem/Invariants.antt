@@ -1,0 +1,9 @@
+use Rattle.std.proofs.Common.{◌≡◌, length}
+use Rattle.der_dump.specs.Forms.{has_object, lines_of}
+use Rattle.der_dump.proofs.forms.is_pem.Given as goal
+
+abbrev pub invariant-loop-rest : goal.invariant-loop-rest
+invariant-loop-rest l = has_object (lines_of l.rest) ≡ has_object (lines_of l.input)
+
+abbrev pub decreases-loop-rest : goal.decreases-loop-rest
+decreases-loop-rest l = length l.rest

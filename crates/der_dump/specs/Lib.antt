@@ -1,0 +1,3 @@
+pub mod Dump
+pub mod Walk
+pub mod Forms

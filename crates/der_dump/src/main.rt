@@ -1,0 +1,28 @@
+//! Shows DER documents, which come as octets, in PEM or in hex digits.
+#![tactic(auto)]
+
+mod answers;
+mod document;
+mod faults;
+mod forms;
+mod header;
+mod lines;
+mod names;
+mod refused;
+mod scalars;
+mod tool;
+mod tree;
+mod values;
+mod walk;
+
+use crate::tool::{fault_text, run, status};
+use std::process::ExitCode;
+
+// Arguments are ignored.
+fn main(rt: HostRuntime) -> ExitCode {
+    let outcome = run(rt.alloc(), &mut rt.stdin(), &mut rt.stdout());
+    if let Err(fault) = &outcome {
+        let _ = eprintln!(rt; "{}", fault_text(fault));
+    }
+    ExitCode::from(status(&outcome))
+}

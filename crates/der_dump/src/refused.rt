@@ -1,0 +1,253 @@
+// The lines of a refused document, as far as it can be read.
+ghost use Rattle.std.specs.Prelude.{◌≡◌, ◌<◌, ◌^◌, List, ℕ, false, IfOk, IsTrue, OnOk};
+ghost use Rattle.der_dump.specs.Dump.{Adds};
+
+use crate::faults::fault_words;
+use crate::header::{Header, read_header};
+use crate::lines::{Mark, push_line, push_note};
+use crate::names::Names;
+use crate::scalars::write_after_space;
+use crate::tree::{Place, push_blocks};
+use crate::values::{write_sizes, write_tag};
+use simple_asn1::{ASN1Class, ASN1DecodeErr, Document, encoding_at};
+use std::alloc::{AllocError, Global};
+
+// What was put of the octets at an offset.
+#[derive(Drop)]
+enum Step {
+    // all of an encoding, which ends here
+    Past(usize),
+    // the header of a SEQUENCE or SET: where its contents octets begin and end
+    Inside(usize, usize),
+    // a header whose contents octets are cut short: where they begin
+    Cut(usize),
+    // nothing can be read from here on
+    Fault,
+}
+
+// Puts the blocks up to the first fault, with the headers around it, and then the fault and its offset in words.
+pub fn push_refused(
+    alloc: Global,
+    names: &Names,
+    octets: &[u8],
+    fault: &ASN1DecodeErr,
+    out: &mut Vec<u8>,
+) -> Result<(), AllocError>
+    ensures { OnOk result ((offsets : List ℕ) × Adds offsets out.old.items out.new.items) }
+{
+    let offset = push_to_fault(alloc, names, octets, out)?;
+    let words = fault_words(alloc, fault)?;
+    let text = format!(in alloc; " refused at offset {offset}: {words}")?;
+    push_note(Mark::Fault, text.as_bytes(), out)
+}
+
+// How far a refused document was shown.
+#[derive(Drop)]
+struct Cursor {
+    offset: usize,
+    // where the innermost contents octets end that are open
+    end: usize,
+    // and those around them, the innermost last
+    ends: Vec<usize>,
+    // the offset of the first block that is cut short
+    cut: Option<usize>,
+}
+
+impl Cursor {
+    // Leaves the contents octets that have ended. Whether any are left.
+    fn leave_ended(&mut self) -> bool
+        ensures { self.new.offset ≡ self.old.offset }
+    {
+        while self.offset >= self.end {
+            match self.ends.pop() {
+                Some(end) => self.end = end,
+                None => return false,
+            }
+        }
+        true
+    }
+
+    // Goes on after a step. Whether there is more to show.
+    fn take(&mut self, step: Step) -> Result<bool, AllocError>
+        ensures { IfOk result (λ more. IsTrue more →
+            (self.old.offset < self.new.offset) × (self.new.offset < 2 ^ 64)) }
+    {
+        let next = match step {
+            Step::Past(next) => next,
+            Step::Inside(first, last) => {
+                self.ends.push(self.end)?;
+                self.end = last;
+                first
+            }
+            Step::Cut(first) => {
+                self.ends.push(self.end)?;
+                self.cut = Some(self.fault());
+                first
+            }
+            Step::Fault => return Ok(false),
+        };
+        let is_later = self.offset < next;
+        self.offset = next;
+        Ok(is_later)
+    }
+
+    // The offset of the innermost block at fault.
+    fn fault(&self) -> usize {
+        self.cut.unwrap_or(self.offset)
+    }
+}
+
+// Puts the blocks up to the first fault, with the headers around it, and gives its offset, which is that of the
+// innermost block at fault. A block that is cut short is shown as far as it goes.
+fn push_to_fault(
+    alloc: Global,
+    names: &Names,
+    octets: &[u8],
+    out: &mut Vec<u8>,
+) -> Result<usize, AllocError>
+    ensures { OnOk result ((offsets : List ℕ) × Adds offsets out.old.items out.new.items) }
+{
+    let mut cursor = Cursor {
+        offset: 0,
+        end: octets.len(),
+        ends: Vec::new(alloc),
+        cut: None,
+    };
+    while cursor.leave_ended() {
+        let step = push_step(alloc, names, octets, &cursor, out)?;
+        if !cursor.take(step)? {
+            return Ok(cursor.fault());
+        }
+    }
+    Ok(cursor.fault())
+}
+
+// Puts what stands where the cursor is.
+fn push_step(
+    alloc: Global,
+    names: &Names,
+    octets: &[u8],
+    cursor: &Cursor,
+    out: &mut Vec<u8>,
+) -> Result<Step, AllocError>
+    ensures { OnOk result ((offsets : List ℕ) × Adds offsets out.old.items out.new.items) }
+{
+    let offset = cursor.offset;
+    let depth = cursor.ends.len();
+    let (within, _) = octets.split_at(cursor.end.min(octets.len()));
+    match encoding_at(within, offset) {
+        Some(encoding) => push_encoding(alloc, names, encoding, offset, depth, out),
+        None => {
+            let (_, rest) = within.split_at(offset.min(within.len()));
+            push_cut(alloc, rest, offset, depth, out)
+        }
+    }
+}
+
+// Puts an encoding that is there whole: the header alone of a SEQUENCE or SET, or of one at fault.
+fn push_encoding(
+    alloc: Global,
+    names: &Names,
+    encoding: &[u8],
+    offset: usize,
+    depth: usize,
+    out: &mut Vec<u8>,
+) -> Result<Step, AllocError>
+    ensures { OnOk result ((offsets : List ℕ) × Adds offsets out.old.items out.new.items) }
+{
+    let Some(header) = read_header(alloc, encoding)? else {
+        return Ok(Step::Fault);
+    };
+    let end = offset.saturating_add(encoding.len());
+    if is_group(&header) {
+        push_header(alloc, &header, offset, depth, "", out)?;
+        return Ok(Step::Inside(offset.saturating_add(header.size), end));
+    }
+    match Document::from_der(alloc, encoding) {
+        Ok(document) => {
+            let place = place_at(offset, depth);
+            push_blocks(alloc, names, encoding, document.blocks(), place, out)?;
+            Ok(Step::Past(end))
+        }
+        Err(ASN1DecodeErr::OutOfMemory) => Err(AllocError),
+        Err(_) => {
+            let contents = contents_text(alloc, &header, encoding)?;
+            push_header(alloc, &header, offset, depth, &contents, out)?;
+            Ok(Step::Fault)
+        }
+    }
+}
+
+// How many documents are shown inside one another.
+const MOST_DOCUMENTS: usize = 8;
+
+// Where blocks are shown that stand at an offset and a depth of the document itself.
+pub fn place_at(base: usize, depth: usize) -> Place
+    ensures outside { result.is_inside ≡ false }
+    ensures base { result.base ≡ base }
+{
+    Place {
+        is_inside: false,
+        base,
+        depth,
+        documents: MOST_DOCUMENTS,
+    }
+}
+
+// Puts the header of an encoding that is cut short.
+fn push_cut(
+    alloc: Global,
+    rest: &[u8],
+    offset: usize,
+    depth: usize,
+    out: &mut Vec<u8>,
+) -> Result<Step, AllocError>
+    ensures { OnOk result ((offsets : List ℕ) × Adds offsets out.old.items out.new.items) }
+{
+    let Some(header) = read_header(alloc, rest)? else {
+        return Ok(Step::Fault);
+    };
+    let there = rest.len().saturating_sub(header.size);
+    let announced = header.announced;
+    let cut = format!(in alloc; ", of whose {announced} octets {there} are there")?;
+    if is_group(&header) || header.constructed {
+        push_header(alloc, &header, offset, depth, &cut, out)?;
+        return Ok(Step::Cut(offset.saturating_add(header.size)));
+    }
+    let contents = contents_text(alloc, &header, rest)?;
+    let colon = if there == 0 { "" } else { ":" };
+    let text = format!(in alloc; "{cut}{colon}{contents}")?;
+    push_header(alloc, &header, offset, depth, &text, out)?;
+    Ok(Step::Fault)
+}
+
+fn is_group(header: &Header) -> bool {
+    matches!(header.class, ASN1Class::Universal)
+        && (header.tag.to_u8() == Some(16) || header.tag.to_u8() == Some(17))
+}
+
+// A space and the contents octets of the encoding, as far as they are there.
+fn contents_text(alloc: Global, header: &Header, encoding: &[u8]) -> Result<String, AllocError> {
+    let (_, contents) = encoding.split_at(header.size.min(encoding.len()));
+    let mut text = String::new(alloc);
+    write_after_space(&mut text, contents)?;
+    Ok(text)
+}
+
+// Puts the line of a block of which the header was read.
+fn push_header(
+    alloc: Global,
+    header: &Header,
+    offset: usize,
+    depth: usize,
+    after: &str,
+    out: &mut Vec<u8>,
+) -> Result<(), AllocError>
+    ensures { OnOk result ((offsets : List ℕ) × Adds offsets out.old.items out.new.items) }
+{
+    let mut text = String::new(alloc);
+    write_sizes(&mut text, header.size, header.announced, depth)?;
+    write_tag(alloc, &mut text, header.class, &header.tag)?;
+    text.push_str(after)?;
+    push_line(alloc, false, offset, text.as_bytes(), out)
+}

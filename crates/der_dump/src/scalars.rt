@@ -1,0 +1,84 @@
+// Octets, characters and numbers.
+use std::alloc::{AllocError, Global};
+
+// How many octets are written at most; of longer ones the first of them, and how many there are.
+const MOST_OCTETS: usize = 32;
+
+// Puts a space and the octets at the end, if there are any.
+pub fn write_after_space(out: &mut String, octets: &[u8]) -> Result<(), AllocError> {
+    if octets.is_empty() {
+        return Ok(());
+    }
+    out.push_str(" ")?;
+    write_hex(out, octets)
+}
+
+// Puts the octets at the end in pairs of hex digits.
+pub fn write_hex(out: &mut String, octets: &[u8]) -> Result<(), AllocError> {
+    if octets.len() <= MOST_OCTETS {
+        return write_pairs(out, octets);
+    }
+    let (first, _) = octets.split_at(MOST_OCTETS);
+    write_pairs(out, first)?;
+    let n = octets.len();
+    write!(out, ".. ({n} octets)")
+}
+
+fn write_pairs(out: &mut String, octets: &[u8]) -> Result<(), AllocError> {
+    for octet in octets {
+        write!(out, "{octet:02x}")?;
+    }
+    Ok(())
+}
+
+// Puts the text at the end in quotation marks, with what is no printable character escaped.
+pub fn write_quoted(out: &mut String, text: &str) -> Result<(), AllocError> {
+    out.push_str("\"")?;
+    for c in text.chars() {
+        write_character(out, c)?;
+    }
+    out.push_str("\"")
+}
+
+fn write_character(out: &mut String, c: char) -> Result<(), AllocError> {
+    match c {
+        '\n' => out.push_str("\\n"),
+        '\r' => out.push_str("\\r"),
+        '\t' => out.push_str("\\t"),
+        '"' => out.push_str("\\\""),
+        '\\' => out.push_str("\\\\"),
+        _ => {
+            let number = c as u32;
+            if is_printable(number) {
+                out.push(c)
+            } else {
+                write!(out, "\\u{{{number:x}}}")
+            }
+        }
+    }
+}
+
+// Whether a character is shown as it is: no control character, and none that changes how those around it are shown.
+fn is_printable(number: u32) -> bool {
+    !(number < 0x20
+        || (0x7F <= number && number < 0xA0)
+        || number == 0xAD
+        || (0x200B <= number && number < 0x2010)
+        || (0x2028 <= number && number < 0x2030)
+        || (0x2060 <= number && number < 0x2070)
+        || number == 0xFEFF
+        || (0xFFF0 <= number && number < 0xFFFC)
+        || 0xE0000 <= number)
+}
+
+// Components of an object identifier, with a point between two of them.
+pub fn write_components(alloc: Global, numbers: &[u128]) -> Result<String, AllocError> {
+    let mut text = String::new(alloc);
+    for number in numbers {
+        if !text.is_empty() {
+            text.push_str(".")?;
+        }
+        write!(text, "{number}")?;
+    }
+    Ok(text)
+}

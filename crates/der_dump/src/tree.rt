@@ -1,0 +1,178 @@
+// The lines of blocks, and of the documents that stand inside their octets.
+ghost use Rattle.std.specs.Prelude.{◌≡◌, ◌+◌, ◌<◌, ◌∷◌, [], true, IfOk, IfSome, OnOk};
+ghost use Rattle.der_dump.specs.Dump.{Adds, all_offsets, shown_at};
+ghost use Rattle.simple_asn1.specs.View.{tree_offset, view, views};
+
+use crate::header::{Header, read_header};
+use crate::lines::push_line;
+use crate::names::Names;
+use crate::values::block_text;
+use crate::walk::{Found, Walk};
+use simple_asn1::{ASN1Block, ASN1DecodeErr, Document, encoding_at};
+use std::alloc::{AllocError, Global};
+
+// Where blocks are shown that were read from octets.
+#[derive(Clone, Copy, Drop)]
+pub struct Place {
+    // whether they stand inside octets of a block
+    pub is_inside: bool,
+    // how many octets stand before theirs
+    pub base: usize,
+    // how many levels are around them
+    pub depth: usize,
+    // how many documents are shown inside one another in them
+    pub documents: usize,
+}
+
+// A document that stands inside octets of a block.
+#[derive(Drop)]
+pub struct Held<'a> {
+    octets: &'a [u8],
+    document: Document,
+    place: Place,
+}
+
+// Puts the lines of blocks that were read from the octets, and of all inside them.
+pub fn push_blocks(
+    alloc: Global,
+    names: &Names,
+    octets: &[u8],
+    blocks: &[ASN1Block],
+    place: Place,
+    out: &mut Vec<u8>,
+) -> Result<(), AllocError>
+    ensures { OnOk result (Adds (shown_at place.is_inside place.base (all_offsets (views blocks.now)))
+        out.old.items out.new.items) }
+{
+    let mut walk = Walk::over(alloc, blocks)?;
+    while let Some(found) = walk.next()? {
+        if let Some(held) = push_block(alloc, names, octets, &found, place, out)? {
+            push_blocks(
+                alloc,
+                names,
+                held.octets,
+                held.document.blocks(),
+                held.place,
+                out,
+            )?;
+        }
+    }
+    Ok(())
+}
+
+// Puts the line of a block, and gives the document that stands inside its octets, if one is to be shown.
+fn push_block<'a>(
+    alloc: Global,
+    names: &Names,
+    octets: &[u8],
+    found: &Found<'a>,
+    place: Place,
+    out: &mut Vec<u8>,
+) -> Result<Option<Held<'a>>, AllocError>
+    ensures line { OnOk result
+        (Adds (shown_at place.is_inside place.base (tree_offset (view found.now.block.now) ∷ []))
+        out.old.items out.new.items) }
+    ensures inside { IfOk result (λ held. IfSome held (λ h. h.place.is_inside ≡ true)) }
+    ensures fewer { IfOk result (λ held. IfSome held (λ h. h.place.documents < place.documents)) }
+{
+    let block = found.block;
+    let offset = sum_of(place.base, block.offset())?;
+    let depth = place.depth.saturating_add(found.depth);
+    let header = header_of(alloc, octets, block.offset())?;
+    let first = offset.saturating_add(header_size(&header));
+    let held = held_document(alloc, block, first, depth, place.documents)?;
+    let text = block_text(alloc, names, &header, depth, block, held.is_some())?;
+    push_line(alloc, place.is_inside, offset, text.as_bytes(), out)?;
+    Ok(held)
+}
+
+// The sum. Octets of a size that passes a usize fit no memory.
+fn sum_of(a: usize, b: usize) -> Result<usize, AllocError>
+    ensures { IfOk result (λ n. n ≡ a + b) }
+{
+    a.checked_add(b).ok_or(AllocError)
+}
+
+fn header_of(alloc: Global, octets: &[u8], offset: usize) -> Result<Option<Header>, AllocError> {
+    match encoding_at(octets, offset) {
+        Some(encoding) => read_header(alloc, encoding),
+        None => Ok(None),
+    }
+}
+
+fn header_size(header: &Option<Header>) -> usize {
+    match header {
+        Some(header) => header.size,
+        None => 0,
+    }
+}
+
+// The document that stands inside the octets of a block, whose contents octets begin at an offset, if one may be shown.
+fn held_document<'a>(
+    alloc: Global,
+    block: &'a ASN1Block,
+    first: usize,
+    depth: usize,
+    documents: usize,
+) -> Result<Option<Held<'a>>, AllocError>
+    ensures inside { IfOk result (λ held. IfSome held (λ h. h.place.is_inside ≡ true)) }
+    ensures fewer { IfOk result (λ held. IfSome held (λ h. h.place.documents < documents)) }
+{
+    if documents == 0 {
+        return Ok(None);
+    }
+    let Some((octets, before)) = octets_inside(block) else {
+        return Ok(None);
+    };
+    let Some(document) = document_in(alloc, octets)? else {
+        return Ok(None);
+    };
+    if !is_shown(block, document.blocks()) {
+        return Ok(None);
+    }
+    let place = Place {
+        is_inside: true,
+        base: first.saturating_add(before),
+        depth: depth.saturating_add(1),
+        documents: documents - 1,
+    };
+    Ok(Some(Held {
+        octets,
+        document,
+        place,
+    }))
+}
+
+// The octets of a block in which a document may stand, and how many contents octets stand before them.
+fn octets_inside(block: &ASN1Block) -> Option<(&[u8], usize)> {
+    match block {
+        ASN1Block::OctetString(_, octets) => Some((octets, 0)),
+        ASN1Block::BitString(_, bits, octets) => {
+            if octets.len().checked_mul(8) == Some(*bits) {
+                Some((octets, 1))
+            } else {
+                None
+            }
+        }
+        ASN1Block::Unknown(_, true, _, _, octets) => Some((octets, 0)),
+        _ => None,
+    }
+}
+
+fn document_in(alloc: Global, octets: &[u8]) -> Result<Option<Document>, AllocError> {
+    match Document::from_der(alloc, octets) {
+        Ok(document) => Ok(Some(document)),
+        Err(ASN1DecodeErr::OutOfMemory) => Err(AllocError),
+        Err(_) => Ok(None),
+    }
+}
+
+// Whether blocks that were read from the octets of a block are shown. In strings they are not where one is of no known
+// type, since octets that are no document may be read as such by chance.
+fn is_shown(block: &ASN1Block, inside: &[ASN1Block]) -> bool {
+    matches!(block, ASN1Block::Unknown(_, _, _, _, _)) || inside.iter().all(is_known)
+}
+
+fn is_known(block: &ASN1Block) -> bool {
+    !matches!(block, ASN1Block::Unknown(_, _, _, _, _))
+}
