@@ -52,7 +52,8 @@ impl<'a> Certificate<'a> {
         let serial = fields.first()?.integer()?;
         let subject = fields.get(4)?.items()?;
         let key = fields.get(5)?.items()?;
-        let Some(ASN1Block::ObjectIdentifier(_, key_algorithm)) = key.first()?.items()?.first() else {
+        let Some(ASN1Block::ObjectIdentifier(_, key_algorithm)) = key.first()?.items()?.first()
+        else {
             return None;
         };
         Some(Certificate {
@@ -86,7 +87,11 @@ fn components(alloc: Global, oid: &OID) -> Result<String, CertificateErr> {
 }
 
 // A name is a list of sets of pairs, each an identifier and a string (X.501 9.2).
-fn write_name<W: Write>(alloc: Global, out: &mut W, name: &[ASN1Block]) -> Result<(), CertificateErr> {
+fn write_name<W: Write>(
+    alloc: Global,
+    out: &mut W,
+    name: &[ASN1Block],
+) -> Result<(), CertificateErr> {
     for set in name {
         for pair in set.items().unwrap_or(&[]) {
             if let Some([ASN1Block::ObjectIdentifier(_, kind), value]) = pair.items() {
@@ -99,14 +104,21 @@ fn write_name<W: Write>(alloc: Global, out: &mut W, name: &[ASN1Block]) -> Resul
     Ok(())
 }
 
-fn print<R: Read, W: Write>(alloc: Global, input: &mut R, out: &mut W) -> Result<(), CertificateErr> {
+fn print<R: Read, W: Write>(
+    alloc: Global,
+    input: &mut R,
+    out: &mut W,
+) -> Result<(), CertificateErr> {
     let mut octets = Vec::new(alloc);
     input.read_to_end(&mut octets)?;
     let document = Document::from_der(alloc, &octets)?;
     let Some(certificate) = Certificate::find(&octets, &document) else {
         return Err(CertificateErr::Shape);
     };
-    let serial = hex::encode_upper(alloc, certificate.serial.to_signed_bytes_be(alloc)?.as_slice())?;
+    let serial = hex::encode_upper(
+        alloc,
+        certificate.serial.to_signed_bytes_be(alloc)?.as_slice(),
+    )?;
     writeln!(out, "serial number {serial}")?;
     writeln!(out, "subject")?;
     write_name(alloc, out, certificate.subject)?;
