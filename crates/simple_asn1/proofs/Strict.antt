@@ -43,7 +43,7 @@ written_encoding c k n contents h = record {
   encoding = shortest_encodes c k n contents (omega (arith, h, contents_le c k n contents));
 }
 
-canonical_encoding : (b : Tree ℕ) → length (canonical b) < 2 ^ 64 → BlockEncoding (canonical b)
+pub canonical_encoding : (b : Tree ℕ) → length (canonical b) < 2 ^ 64 → BlockEncoding (canonical b)
 canonical_encoding (leaf o l) h = written_encoding Universal false (leaf_tag l) (leaf_contents l) h
 canonical_encoding (group o g bs) h = written_encoding Universal true (group_tag g) (all_canonical bs) h
 canonical_encoding (explicit c o n b) h = written_encoding c true n (canonical b) h

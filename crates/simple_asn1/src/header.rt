@@ -170,7 +170,7 @@ fn big_endian(octets: &[u8]) -> usize
 }
 
 // The length octets at the front: the length, and how many they are.
-fn length_at(octets: &[u8]) -> Result<(usize, usize), ASN1DecodeErr>
+pub(crate) fn length_at(octets: &[u8]) -> Result<(usize, usize), ASN1DecodeErr>
     ensures found { IfOk result (λ x. (x.1 ≤ length octets.now) × IsLength (take x.1 octets.now) x.0) }
     ensures refused { OnErr result (BeginsWithNo IsLength octets.now) }
     ensures fault { IfErr result (λ e. fault_of e ≡ length_fault octets.now) }

@@ -73,6 +73,26 @@ pub(crate) fn read(alloc: Global, contents: &[u8]) -> Result<OID, ASN1DecodeErr>
     Ok(OID::new(components))
 }
 
+// Whether no subidentifier begins with 80 (hexadecimal), so that each has its shortest form (X.690
+// 8.19.2).
+pub(crate) fn are_shortest(contents: &[u8]) -> bool
+    ensures { IsTrue result → (components : List ℕ)
+        → ObjectIdentifierContents components contents.now
+        → contents.now ≡ object_identifier_contents components }
+{
+    let Some((_, rest)) = contents.split_first() else {
+        return true;
+    };
+    let mut begins = true;
+    for octet in rest {
+        if begins && *octet == 128 {
+            return false;
+        }
+        begins = *octet < 128;
+    }
+    true
+}
+
 // The first octet that is written, of the first two components.
 fn first_octet(components: &[BigUint]) -> Result<u8, ASN1EncodeErr>
     ensures some { OnOk result (2 ≤ length components.now) }

@@ -6,6 +6,7 @@ ghost use Rattle.simple_asn1.specs.WriteWalk.{
   contents_size_of,
   first_own_fault,
   identifier_of,
+  known_octet,
   measured_blocks,
   measured_sizes,
   own_fault,
@@ -18,32 +19,42 @@ use crate::header::{put_identifier, put_length};
 use crate::sink::Sink;
 use crate::write::measure::Measured;
 
+// The identifier octet of a block whose tag has a rule.
+pub(crate) fn known_octet(b: &ASN1Block) -> u8
+    ensures { result ≡ known_octet (view b.now) }
+{
+    match b {
+        ASN1Block::Boolean(_, _) => 0x01,
+        ASN1Block::Integer(_, _) => 0x02,
+        ASN1Block::BitString(_, _, _) => 0x03,
+        ASN1Block::OctetString(_, _) => 0x04,
+        ASN1Block::Null(_) => 0x05,
+        ASN1Block::ObjectIdentifier(_, _) => 0x06,
+        ASN1Block::UTF8String(_, _) => 0x0C,
+        ASN1Block::PrintableString(_, _) => 0x13,
+        ASN1Block::TeletexString(_, _) => 0x14,
+        ASN1Block::IA5String(_, _) => 0x16,
+        ASN1Block::UTCTime(_, _) => 0x17,
+        ASN1Block::GeneralizedTime(_, _) => 0x18,
+        ASN1Block::UniversalString(_, _) => 0x1C,
+        ASN1Block::BMPString(_, _) => 0x1E,
+        ASN1Block::Sequence(_, _) => 0x30,
+        ASN1Block::Set(_, _) => 0x31,
+        ASN1Block::Explicit(_, _, _, _) | ASN1Block::Unknown(_, _, _, _, _) => 0,
+    }
+}
+
 // Puts the identifier octets of a block.
-fn put_identifier_of<S: Sink>(b: &ASN1Block, out: &mut S)
+pub(crate) fn put_identifier_of<S: Sink>(b: &ASN1Block, out: &mut S)
     requires { length (identifier_of (view b.now)) ≤ S.room out.old }
     ensures { S.puts out.old (identifier_of (view b.now)) out.new }
 {
     match b {
-        ASN1Block::Boolean(_, _) => out.put_one(0x01),
-        ASN1Block::Integer(_, _) => out.put_one(0x02),
-        ASN1Block::BitString(_, _, _) => out.put_one(0x03),
-        ASN1Block::OctetString(_, _) => out.put_one(0x04),
-        ASN1Block::Null(_) => out.put_one(0x05),
-        ASN1Block::ObjectIdentifier(_, _) => out.put_one(0x06),
-        ASN1Block::UTF8String(_, _) => out.put_one(0x0C),
-        ASN1Block::PrintableString(_, _) => out.put_one(0x13),
-        ASN1Block::TeletexString(_, _) => out.put_one(0x14),
-        ASN1Block::IA5String(_, _) => out.put_one(0x16),
-        ASN1Block::UTCTime(_, _) => out.put_one(0x17),
-        ASN1Block::GeneralizedTime(_, _) => out.put_one(0x18),
-        ASN1Block::UniversalString(_, _) => out.put_one(0x1C),
-        ASN1Block::BMPString(_, _) => out.put_one(0x1E),
-        ASN1Block::Sequence(_, _) => out.put_one(0x30),
-        ASN1Block::Set(_, _) => out.put_one(0x31),
         ASN1Block::Explicit(class, _, tag, _) => put_identifier(*class, true, tag, out),
         ASN1Block::Unknown(class, constructed, _, tag, _) => {
             put_identifier(*class, *constructed, tag, out)
         }
+        _ => out.put_one(known_octet(b)),
     }
 }
 

@@ -33,6 +33,7 @@ use crate::error::{ASN1DecodeErr, ASN1EncodeErr};
 use crate::sink::Comparison;
 use crate::write::measure::measure;
 use crate::write::put::put_all;
+use crate::write::stand::stand_canonical;
 use std::alloc::Global;
 use std::slice;
 
@@ -41,11 +42,11 @@ use std::slice;
 /// reads with it: two documents that it accepts have equal blocks exactly if their octets are the
 /// same.
 ///
-/// Memory is taken as reading takes it, and then for a list of all blocks, as
-/// [`to_der`](crate::to_der) has it. The octets are compared in place, and none are written. What
-/// was read of a document that is refused is dropped by a loop; the blocks that are answered are
-/// dropped as those of [`from_der`](crate::from_der) are, by a loop where
-/// [`discard`](crate::discard) is called.
+/// Memory is taken as reading takes it, and then for the lists of blocks that are begun; where the
+/// octets are not canonical, also for a list of all blocks, as [`to_der`](crate::to_der) has it. The
+/// octets are compared in place, and none are written. What was read of a document that is refused
+/// is dropped by a loop; the blocks that are answered are dropped as those of
+/// [`from_der`](crate::from_der) are, by a loop where [`discard`](crate::discard) is called.
 ///
 /// ```rust
 /// use simple_asn1::{ASN1DecodeErr, discard, from_der_strict};
@@ -107,7 +108,10 @@ fn first_not_canonical(
         (FirstNotCanonical i.now (views blocks.now))) }
     ensures refused { IfErr result (λ e. e ≡ OutOfMemory) }
 {
-    // nearly always so, and then all blocks are measured at once
+    // nearly always found so, and then no block is measured
+    if stand_canonical(alloc, i, blocks)? {
+        return Ok(None);
+    }
     if are_canonical(alloc, blocks, i)? {
         return Ok(None);
     }

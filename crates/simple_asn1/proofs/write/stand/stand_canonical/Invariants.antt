@@ -1,0 +1,17 @@
+use Rattle.std.proofs.Common.{◌<◌, ◌^◌, length}
+use Rattle.simple_asn1.specs.Canonical.{all_canonical}
+use Rattle.simple_asn1.specs.HeadersBegun.{all_blocks_in}
+use Rattle.simple_asn1.specs.TreeOrder.{ahead}
+use Rattle.simple_asn1.specs.View.{views}
+use Rattle.simple_asn1.proofs.Stand.{Decides}
+use Rattle.simple_asn1.proofs.write.stand.stand_canonical.Given as goal
+
+-- the blocks ahead are in the rest, which decides of all
+abbrev pub invariant-loop-walk : goal.invariant-loop-walk
+invariant-loop-walk l = record {
+  few : length l.rest < 2 ^ 64;
+  decides : Decides l.fn.i l.rest (views (ahead l.walk)) (all_canonical (views l.fn.blocks));
+}
+
+abbrev pub decreases-loop-walk : goal.decreases-loop-walk
+decreases-loop-walk l = all_blocks_in (views (ahead l.walk))
