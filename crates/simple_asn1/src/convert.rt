@@ -119,6 +119,16 @@ pub trait RoundTrip: FromASN1 + ToASN1 {
 ///
 /// # Errors
 /// Those of [`from_der`](crate::from_der), by `From`; those of the type.
+///
+/// ```rust
+/// use simple_asn1::{Point, PointErr, der_decode};
+/// use std::alloc::Global;
+///
+/// // Of `30 06 02 01 01 02 01 FF` the point 1, -1.
+/// fn point(alloc: Global, octets: &[u8]) -> Result<Point, PointErr> {
+///     der_decode(alloc, octets)
+/// }
+/// ```
 pub fn der_decode<T: FromASN1WithBody>(alloc: Global, v: &[u8]) -> Result<T, T::Error>
     ensures decoded { IfOk result (Decodes (λ bs r. T.reads_with bs v.now r) v.now) }
     ensures refused { IfErr result (DecodeFails (λ bs r. T.reads_with bs v.now r) T.Error.from_gives v.now) }
@@ -137,6 +147,16 @@ pub fn der_decode<T: FromASN1WithBody>(alloc: Global, v: &[u8]) -> Result<T, T::
 ///
 /// # Errors
 /// Those of the type; the first fault of writing its blocks, or `OutOfMemory`, by `From`.
+///
+/// ```rust
+/// use simple_asn1::{Point, PointErr, der_encode};
+/// use std::alloc::Global;
+///
+/// // `30 06 02 01 01 02 01 FF`
+/// fn octets(alloc: Global) -> Result<Vec<u8>, PointErr> {
+///     der_encode(alloc, &Point { x: 1, y: -1 })
+/// }
+/// ```
 pub fn der_encode<T: ToASN1>(alloc: Global, v: &T) -> Result<Vec<u8>, T::Error>
     ensures encoded { IfOk result (λ octets. Encodes (T.writes v.now Universal) octets.items) }
     ensures refused { IfErr result (EncodeFails (T.writes v.now Universal) T.Error.from_gives) }
@@ -168,6 +188,19 @@ pub enum TripFault<E, D> {
 /// # Errors
 /// `Encode` with an error of [`der_encode`], `Decode` with one of [`der_decode`]. Where the value has trees and each is
 /// faithful, they are those of the type, or memory ran out.
+///
+/// ```rust
+/// use simple_asn1::{Point, round_trip};
+/// use std::alloc::Global;
+///
+/// // Memory aside always so: the trees of a point are faithful.
+/// fn comes_back(alloc: Global, point: &Point) -> bool {
+///     match round_trip(alloc, point) {
+///         Ok(read) => read == *point,
+///         Err(_) => false,
+///     }
+/// }
+/// ```
 pub fn round_trip<T: RoundTrip>(
     alloc: Global,
     x: &T,
