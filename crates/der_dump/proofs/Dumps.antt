@@ -1,5 +1,5 @@
 -- Lines are put after lines.
-use Rattle.std.proofs.Common.{◌≡◌, ◌⊎◌, ℕ, ◌+◌, List, [], ◌∷◌, ◌++◌, replicate, Bool, true, false, refl, sym, ap, ◌∙◌, subst, map, append_assoc, append-nil, arith}
+use Rattle.std.proofs.Common.{◌≡◌, ◌⊎◌, ℕ, ◌+◌, List, [], ◌∷◌, ◌++◌, codes, replicate, Bool, true, false, refl, sym, ap, ◌∙◌, subst, map, append_assoc, append-nil, arith}
 use Rattle.std.proofs.lemmas.List.{map-append}
 use Rattle.std.specs.Fmt.{decimal}
 use Rattle.std.specs.Io.KnownBytes.{Appends, Keeps}
@@ -9,7 +9,7 @@ use Rattle.der_dump.specs.Forms.{form_is}
 use Rattle.der_dump.specs.declared.forms.Form.TheVariants.{Pem, Hex, Der}
 use Rattle.der_dump.specs.declared.document.Verdict.{Verdict}
 use Rattle.der_dump.specs.declared.document.Verdict.TheVariants.{AllRead, Refused}
-use Rattle.der_dump.specs.Dump.{Adds, AddsAnswer, AddsDumpOf, AddsDumpsOf, AreOffsetsOf, IsDump, IsOneLine, block_line, no_lines, note, all_offsets, both_read, of_hex, of_objects, of_octets, shown_at, spelled}
+use Rattle.der_dump.specs.Dump.{Adds, AddsAnswer, AddsDumpOf, AddsDumpsOf, AreOffsetsOf, IsDump, IsOneLine, TellsFault, block_line, fault_line, no_lines, note, all_offsets, both_read, of_hex, of_objects, of_octets, shown_at, spelled}
 
 -- a dump after a dump
 pub dump_join : (os ps a b : List ℕ) → IsDump os a → IsDump ps b → IsDump (os ++ ps) (a ++ b)
@@ -19,6 +19,8 @@ dump_join os ps a b (block_line o later line rest p q l d) h =
     (ap (λ z. z ++ b) q ∙ append_assoc line (10 ∷ rest) b) l (dump_join later ps rest b d h)
 dump_join os ps a b (note line rest q l d) h =
     note line (rest ++ b) (ap (λ z. z ++ b) q ∙ append_assoc line (10 ∷ rest) b) l (dump_join os ps rest b d h)
+dump_join os ps a b (fault_line o line rest q l d) h =
+    fault_line o line (rest ++ b) (ap (λ z. z ++ b) q ∙ append_assoc line (10 ∷ rest) b) l (dump_join os ps rest b d h)
 
 pub adds_nothing : (a : List ℕ) → Adds [] a a
 adds_nothing a = ([], sym (append-nil a), no_lines refl refl)
@@ -42,6 +44,14 @@ note_added a b c d said mark p q r m one =
     let line : List ℕ = mark ∷ said in
     let whole : d ≡ a ++ (line ++ 10 ∷ []) = rw (r, q, p) (simp append_assoc) in
     (line ++ 10 ∷ [], whole, note line [] refl (record { mark = mark; said = said; is = refl; marked = m; one = one }) (no_lines refl refl))
+
+-- the parts of the line of a fault
+pub fault_added : (a b c d e f g said : List ℕ) (offset : ℕ) → b ≡ a ++ codes "! refused at offset " → c ≡ b ++ decimal offset
+    → d ≡ c ++ 58 ∷ [] → e ≡ d ++ 32 ∷ [] → f ≡ e ++ said → g ≡ f ++ 10 ∷ [] → IsOneLine said → TellsFault offset a g
+fault_added a b c d e f g said offset p q r s t u one =
+    let line : List ℕ = codes "! refused at offset " ++ decimal offset ++ 58 ∷ 32 ∷ said in
+    let whole : g ≡ a ++ (line ++ 10 ∷ []) = rw (u, t, s, r, q, p) (simp append_assoc) in
+    (line, whole, record { said = said; is = refl; one = one })
 
 pub shown_join : (inside : Bool) (base : ℕ) (xs ys : List ℕ) → shown_at inside base (xs ++ ys) ≡ shown_at inside base xs ++ shown_at inside base ys
 shown_join true base xs ys = refl
@@ -95,10 +105,15 @@ pub top_adds : (inside : Bool) (base : ℕ) (os a b : List ℕ) → inside ≡ f
 top_adds true base os a b e z adds = absurd (cc e)
 top_adds false base os a b e z adds = subst (λ l. Adds l a b) (ap (λ n. map (λ o. n + o) os) z ∙ later_by_none os) adds
 
+-- the line of a fault is one more
+pub fault_adds : (offset : ℕ) (a b : List ℕ) → TellsFault offset a b → Adds [] a b
+fault_adds offset a b (line, is, l) = (line ++ 10 ∷ [], is, fault_line offset line [] refl l (no_lines refl refl))
+
 -- whatever is said of octets, it is lines
 pub dump_some : (octets : List ℕ) (verdict : Verdict) (a b : List ℕ) → AddsDumpOf octets verdict a b → AddsSome a b
 dump_some octets AllRead a b (bs, d, adds) = (all_offsets bs, adds)
-dump_some octets Refused a b (fault, f, offsets, adds) = (offsets, adds)
+dump_some octets Refused a b (fault, offset, f, offsets, shown, adds, tells) =
+    some_join a shown b (offsets, adds) ([], fault_adds offset shown b tells)
 
 -- objects after objects
 pub offsets_join : (xs ys : List (List ℕ)) (os ps : List ℕ) → AreOffsetsOf xs os → AreOffsetsOf ys ps → AreOffsetsOf (xs ++ ys) (os ++ ps)
@@ -125,7 +140,7 @@ dumps_none a = ([], ([], refl, adds_nothing a))
 pub dumps_one : (octets : List ℕ) (v : Verdict) (a b c : List ℕ) → Adds [] a b → AddsDumpOf octets v b c → Dumps v a c
 dumps_one octets AllRead a b c x (bs, d, adds) =
     (octets ∷ [], (all_offsets bs, (bs, [], d, sym (append-nil (all_offsets bs)), refl), adds_join [] _ a b c x adds))
-dumps_one octets Refused a b c x (fault, f, os, adds) = (octets ∷ [], (os, adds_join [] os a b c x adds))
+dumps_one octets Refused a b c x y = (octets ∷ [], some_join a b c ([], x) (dump_some octets Refused b c y))
 
 pub object_done : (r : Result Verdict AllocError) (octets a b c : List ℕ) → Adds [] a b → IfOk r (λ v. AddsDumpOf octets v b c)
     → IfOk r (λ v. Dumps v a c)

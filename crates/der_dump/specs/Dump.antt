@@ -1,5 +1,5 @@
 -- What is written of a document: lines, one for each block in tree order, with its offset.
-use Rattle.std.specs.Prelude.{◌≡◌, ◌≢◌, ◌⊎◌, ℕ, ◌+◌, Bool, true, false, List, [], ◌∷◌, ◌++◌, map, replicate, decimal, if◌then◌else◌, Option, None, Some, Result, Ok, Err}
+use Rattle.std.specs.Prelude.{◌≡◌, ◌≢◌, ◌⊎◌, ℕ, ◌+◌, Bool, true, false, List, [], ◌∷◌, ◌++◌, map, replicate, codes, decimal, if◌then◌else◌, Option, None, Some, Result, Ok, Err}
 use Rattle.std.specs.Char.{is_ascii_whitespace}
 use Rattle.hex.specs.Hex.{decode_of}
 use Rattle.hex.specs.declared.error.FromHexError.{FromHexError}
@@ -9,7 +9,8 @@ use Rattle.der_dump.specs.declared.forms.Form.TheVariants.{Pem, Hex, Der}
 use Rattle.der_dump.specs.declared.document.Verdict.{Verdict}
 use Rattle.der_dump.specs.declared.document.Verdict.TheVariants.{AllRead, Refused}
 use Rattle.simple_asn1.specs.Fault.{DecodeFault}
-use Rattle.simple_asn1.specs.Grammar.{Document, FirstFault}
+use Rattle.simple_asn1.specs.FaultPlace.{FirstFaultAt}
+use Rattle.simple_asn1.specs.Grammar.{Document}
 use Rattle.simple_asn1.specs.Tree.{Tree, Trees, leaf, group, explicit, unknown, no_trees, more_trees}
 
 abbrev mutual
@@ -45,6 +46,12 @@ pub record IsNote (line : List ℕ) : Type 0 where
   pub marked : (mark ≡ 62) ⊎ (mark ≡ 33) ⊎ (mark ≡ 61)
   pub one : IsOneLine said
 
+-- the line of a fault: `! refused at offset`, the offset in decimal, a colon, a space, and words
+pub record IsFaultLine (offset : ℕ) (line : List ℕ) : Type 0 where
+  pub said : List ℕ
+  pub is : line ≡ codes "! refused at offset " ++ decimal offset ++ 58 ∷ 32 ∷ said
+  pub one : IsOneLine said
+
 -- the text is lines, each ended by octet 0A. Those of blocks have these offsets, in order
 pub data IsDump : List ℕ → List ℕ → Type 0 where
   no_lines : {offsets text : List ℕ} → offsets ≡ [] → text ≡ [] → IsDump offsets text
@@ -55,6 +62,9 @@ pub data IsDump : List ℕ → List ℕ → Type 0 where
   note :
       {offsets text : List ℕ} (line rest : List ℕ) →
       text ≡ line ++ 10 ∷ rest → IsNote line → IsDump offsets rest → IsDump offsets text
+  fault_line :
+      {offsets text : List ℕ} (offset : ℕ) (line rest : List ℕ) →
+      text ≡ line ++ 10 ∷ rest → IsFaultLine offset line → IsDump offsets rest → IsDump offsets text
 
 -- lines of blocks with these offsets were put after the text, and notes among them
 abbrev pub Adds : List ℕ → List ℕ → List ℕ → Type 0
@@ -65,13 +75,18 @@ abbrev pub shown_at : Bool → ℕ → List ℕ → List ℕ
 shown_at true base offsets = []
 shown_at false base offsets = map (λ o. base + o) offsets
 
--- what is put after the text of octets: a document's lines, one for each block in tree order; of other octets, which
--- have a first fault, lines of some blocks
+-- a last line was put after the text, that of a fault at the offset
+abbrev pub TellsFault : ℕ → List ℕ → List ℕ → Type 0
+TellsFault offset before after = (line : List ℕ) × (after ≡ before ++ (line ++ 10 ∷ [])) × IsFaultLine offset line
+
+-- what is put after the text of octets: a document's lines, one for each block in tree order; of other octets lines of
+-- some blocks, and then their first fault, at the offset of the innermost block at fault
 abbrev pub AddsDumpOf : List ℕ → Verdict → List ℕ → List ℕ → Type 0
 AddsDumpOf octets AllRead before after =
     (bs : Trees ℕ) × Document octets bs × Adds (all_offsets bs) before after
 AddsDumpOf octets Refused before after =
-    (fault : DecodeFault) × FirstFault octets fault × (offsets : List ℕ) × Adds offsets before after
+    (fault : DecodeFault) × (offset : ℕ) × FirstFaultAt octets fault offset
+    × (offsets shown : List ℕ) × Adds offsets before shown × TellsFault offset shown after
 
 -- the offsets of the blocks of documents one after another
 abbrev pub AreOffsetsOf : List (List ℕ) → List ℕ → Type 0

@@ -27,15 +27,17 @@ pub fn push_document(
 ) -> Result<Verdict, AllocError>
     ensures { IfOk result (λ verdict. AddsDumpOf octets.now verdict out.old.items out.new.items) }
 {
-    match Document::from_der(alloc, octets) {
+    match Document::from_der_located(alloc, octets) {
         Ok(document) => {
             push_blocks(alloc, names, octets, document.blocks(), place_at(0, 0), out)?;
             Ok(Verdict::AllRead)
         }
-        Err(ASN1DecodeErr::OutOfMemory) => Err(AllocError),
-        Err(fault) => {
-            push_refused(alloc, names, octets, &fault, out)?;
-            Ok(Verdict::Refused)
-        }
+        Err(located) => match located.error {
+            ASN1DecodeErr::OutOfMemory => Err(AllocError),
+            fault => {
+                push_refused(alloc, names, octets, &fault, located.offset, out)?;
+                Ok(Verdict::Refused)
+            }
+        },
     }
 }

@@ -40,5 +40,8 @@ pub fn fault_words(alloc: Global, fault: &ASN1DecodeErr) -> Result<String, Alloc
         ASN1DecodeErr::Incomplete => String::from_str(alloc, "the octets run out (Incomplete)"),
         ASN1DecodeErr::Overflow => String::from_str(alloc, "a number is too large (Overflow)"),
         ASN1DecodeErr::OutOfMemory => String::from_str(alloc, "memory ran out"),
+        ASN1DecodeErr::NotCanonical(n) => {
+            format!(in alloc; "the block at {n} is not in canonical form (NotCanonical)")
+        }
     }
 }

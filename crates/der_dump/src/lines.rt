@@ -1,6 +1,6 @@
 // Lines, each put at the end of what is written.
 ghost use Rattle.std.specs.Prelude.{◌≡◌, ◌≢◌, ◌⊎◌, ◌++◌, ◌∷◌, [], List, ℕ, OnOk, if◌then◌else◌, replicate};
-ghost use Rattle.der_dump.specs.Dump.{Adds, IsOneLine};
+ghost use Rattle.der_dump.specs.Dump.{Adds, IsOneLine, TellsFault};
 
 use std::alloc::{AllocError, Global};
 
@@ -67,6 +67,25 @@ pub fn push_note(mark: Mark, said: &[u8], out: &mut Vec<u8>) -> Result<(), Alloc
     ensures { OnOk result (Adds [] out.old.items out.new.items) }
 {
     out.push(mark_octet(mark))?;
+    push_plain(said, out)?;
+    out.push(b'\n')?;
+    Ok(())
+}
+
+// The line of a fault: its offset, and what is said of it.
+pub fn push_fault(
+    alloc: Global,
+    offset: usize,
+    said: &[u8],
+    out: &mut Vec<u8>,
+) -> Result<(), AllocError>
+    ensures { OnOk result (TellsFault offset out.old.items out.new.items) }
+{
+    out.extend_from_slice(b"! refused at offset ")?;
+    let number = format!(in alloc; "{offset}")?;
+    out.extend_from_slice(number.as_bytes())?;
+    out.push(b':')?;
+    out.push(b' ')?;
     push_plain(said, out)?;
     out.push(b'\n')?;
     Ok(())

@@ -1,10 +1,10 @@
 // The lines of a refused document, as far as it can be read.
 ghost use Rattle.std.specs.Prelude.{◌≡◌, ◌<◌, ◌^◌, List, ℕ, false, IfOk, IsTrue, OnOk};
-ghost use Rattle.der_dump.specs.Dump.{Adds};
+ghost use Rattle.der_dump.specs.Dump.{Adds, TellsFault};
 
 use crate::faults::fault_words;
 use crate::header::{Header, read_header};
-use crate::lines::{Mark, push_line, push_note};
+use crate::lines::{push_fault, push_line};
 use crate::names::Names;
 use crate::scalars::write_after_space;
 use crate::tree::{Place, push_blocks};
@@ -31,14 +31,15 @@ pub fn push_refused(
     names: &Names,
     octets: &[u8],
     fault: &ASN1DecodeErr,
+    offset: usize,
     out: &mut Vec<u8>,
 ) -> Result<(), AllocError>
-    ensures { OnOk result ((offsets : List ℕ) × Adds offsets out.old.items out.new.items) }
+    ensures { OnOk result ((offsets shown : List ℕ)
+        × Adds offsets out.old.items shown × TellsFault offset shown out.new.items) }
 {
-    let offset = push_to_fault(alloc, names, octets, out)?;
+    push_to_fault(alloc, names, octets, out)?;
     let words = fault_words(alloc, fault)?;
-    let text = format!(in alloc; " refused at offset {offset}: {words}")?;
-    push_note(Mark::Fault, text.as_bytes(), out)
+    push_fault(alloc, offset, words.as_bytes(), out)
 }
 
 // How far a refused document was shown.
@@ -49,8 +50,6 @@ struct Cursor {
     end: usize,
     // and those around them, the innermost last
     ends: Vec<usize>,
-    // the offset of the first block that is cut short
-    cut: Option<usize>,
 }
 
 impl Cursor {
@@ -81,7 +80,6 @@ impl Cursor {
             }
             Step::Cut(first) => {
                 self.ends.push(self.end)?;
-                self.cut = Some(self.fault());
                 first
             }
             Step::Fault => return Ok(false),
@@ -90,36 +88,30 @@ impl Cursor {
         self.offset = next;
         Ok(is_later)
     }
-
-    // The offset of the innermost block at fault.
-    fn fault(&self) -> usize {
-        self.cut.unwrap_or(self.offset)
-    }
 }
 
-// Puts the blocks up to the first fault, with the headers around it, and gives its offset, which is that of the
-// innermost block at fault. A block that is cut short is shown as far as it goes.
+// Puts the blocks up to the first fault, with the headers around it. A block that is cut short is shown as far as it
+// goes.
 fn push_to_fault(
     alloc: Global,
     names: &Names,
     octets: &[u8],
     out: &mut Vec<u8>,
-) -> Result<usize, AllocError>
+) -> Result<(), AllocError>
     ensures { OnOk result ((offsets : List ℕ) × Adds offsets out.old.items out.new.items) }
 {
     let mut cursor = Cursor {
         offset: 0,
         end: octets.len(),
         ends: Vec::new(alloc),
-        cut: None,
     };
     while cursor.leave_ended() {
         let step = push_step(alloc, names, octets, &cursor, out)?;
         if !cursor.take(step)? {
-            return Ok(cursor.fault());
+            return Ok(());
         }
     }
-    Ok(cursor.fault())
+    Ok(())
 }
 
 // Puts what stands where the cursor is.

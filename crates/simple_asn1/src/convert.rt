@@ -1,7 +1,7 @@
 // Types of one's own, read from blocks and written as blocks.
 //
-// A type names what it reads and writes by ghost members, relations over the trees of blocks. The calls here are proved once, for
-// all types, by these relations alone.
+// A type names what it reads and writes by ghost members, relations over the trees of blocks. The
+// calls here are proved once, for all types, by these relations alone.
 ghost use Rattle.std.specs.Prelude.{◌≡◌, ◌≢◌, ℕ, List, Result, Ok, Err, IfOk, IfErr};
 ghost use Rattle.std.specs.Prelude.{MatchOption, MatchResult};
 ghost use Rattle.simple_asn1.specs.Conversions.{ComeBack, Decodes, DecodeFails, Encodes, EncodeFails, OwnDecodeFault, OwnEncodeFault, TripFails};
@@ -33,8 +33,8 @@ pub trait FromASN1WithBody: Sized {
     /// What is read of trees and octets: a value with the trees after it, or an error.
     ghost reads_with: { Trees ℕ → List ℕ → Result (Self × Trees ℕ) Self.Error → Type 0 };
 
-    /// Reads a value from the first of the blocks `v`, whose document is `b`, and gives it with the blocks after those that
-    /// it has taken.
+    /// Reads a value from the first of the blocks `v`, whose document is `b`, and gives it with the
+    /// blocks after those that it has taken.
     fn from_asn1_with_body<'a>(
         alloc: Global,
         v: &'a [ASN1Block],
@@ -115,10 +115,21 @@ pub trait RoundTrip: FromASN1 + ToASN1 {
         shapes bs ≡ trees_of x → Self.reads bs (Ok (y, rest)) → (y ≡ x) × (rest ≡ no_trees) };
 }
 
-/// Reads a document as [`from_der`](crate::from_der) does, and a value from its blocks. Blocks that the type leaves over are ignored.
+/// Reads a document as [`from_der`](crate::from_der) does, and a value from its blocks. Blocks that
+/// the type leaves over are ignored.
 ///
 /// # Errors
 /// Those of [`from_der`](crate::from_der), by `From`; those of the type.
+///
+/// ```rust
+/// use simple_asn1::{Point, PointErr, der_decode};
+/// use std::alloc::Global;
+///
+/// // Of `30 06 02 01 01 02 01 FF` the point 1, -1.
+/// fn point(alloc: Global, octets: &[u8]) -> Result<Point, PointErr> {
+///     der_decode(alloc, octets)
+/// }
+/// ```
 pub fn der_decode<T: FromASN1WithBody>(alloc: Global, v: &[u8]) -> Result<T, T::Error>
     ensures decoded { IfOk result (Decodes (λ bs r. T.reads_with bs v.now r) v.now) }
     ensures refused { IfErr result (DecodeFails (λ bs r. T.reads_with bs v.now r) T.Error.from_gives v.now) }
@@ -137,6 +148,16 @@ pub fn der_decode<T: FromASN1WithBody>(alloc: Global, v: &[u8]) -> Result<T, T::
 ///
 /// # Errors
 /// Those of the type; the first fault of writing its blocks, or `OutOfMemory`, by `From`.
+///
+/// ```rust
+/// use simple_asn1::{Point, PointErr, der_encode};
+/// use std::alloc::Global;
+///
+/// // `30 06 02 01 01 02 01 FF`
+/// fn octets(alloc: Global) -> Result<Vec<u8>, PointErr> {
+///     der_encode(alloc, &Point { x: 1, y: -1 })
+/// }
+/// ```
 pub fn der_encode<T: ToASN1>(alloc: Global, v: &T) -> Result<Vec<u8>, T::Error>
     ensures encoded { IfOk result (λ octets. Encodes (T.writes v.now Universal) octets.items) }
     ensures refused { IfErr result (EncodeFails (T.writes v.now Universal) T.Error.from_gives) }
@@ -162,12 +183,25 @@ pub enum TripFault<E, D> {
     Decode(D),
 }
 
-/// Writes the value as [`der_encode`] does, and reads the octets as [`der_decode`] does. Where the value has trees and each
-/// is faithful, what is read is the value.
+/// Writes the value as [`der_encode`] does, and reads the octets as [`der_decode`] does. Where the
+/// value has trees and each is faithful, what is read is the value.
 ///
 /// # Errors
 /// `Encode` with an error of [`der_encode`], `Decode` with one of [`der_decode`]. Where the value has trees and each is
 /// faithful, they are those of the type, or memory ran out.
+///
+/// ```rust
+/// use simple_asn1::{Point, round_trip};
+/// use std::alloc::Global;
+///
+/// // Memory aside always so: the trees of a point are faithful.
+/// fn comes_back(alloc: Global, point: &Point) -> bool {
+///     match round_trip(alloc, point) {
+///         Ok(read) => read == *point,
+///         Err(_) => false,
+///     }
+/// }
+/// ```
 pub fn round_trip<T: RoundTrip>(
     alloc: Global,
     x: &T,

@@ -43,6 +43,17 @@ impl Document {
     ///
     /// # Errors
     /// Those of [`from_der`].
+    ///
+    /// ```rust
+    /// use simple_asn1::{ASN1DecodeErr, Document};
+    /// use std::alloc::Global;
+    ///
+    /// // The offset of the last block at the top: of `05 00 05 00` 2.
+    /// fn last(alloc: Global, octets: &[u8]) -> Result<Option<usize>, ASN1DecodeErr> {
+    ///     let document = Document::from_der(alloc, octets)?;
+    ///     Ok(document.blocks().last().map(|block| block.offset()))
+    /// }
+    /// ```
     pub fn from_der(alloc: Global, i: &[u8]) -> Result<Document, ASN1DecodeErr>
         ensures document { IfOk result (λ document. IsDocument i.now (document_trees document)) }
         ensures fault { IfErr result (OutOfMemoryOr (FirstFault i.now)) }
@@ -93,6 +104,18 @@ impl Document {
     }
 
     /// Lends the blocks at the top, in order.
+    ///
+    /// ```rust
+    /// use simple_asn1::{ASN1Block, Document};
+    ///
+    /// // The items of a document that is one SEQUENCE.
+    /// fn items(document: &Document) -> Option<&[ASN1Block]> {
+    ///     match document.blocks() {
+    ///         [ASN1Block::Sequence(_, items)] => Some(items),
+    ///         _ => None,
+    ///     }
+    /// }
+    /// ```
     pub fn blocks(&self) -> &[ASN1Block]
         ensures { views result.now ≡ document_trees self.now }
     {
@@ -101,6 +124,17 @@ impl Document {
 
     /// Gives up the blocks at the top, in order. From then on dropping them takes a call on the
     /// stack for each level of nesting, unless [`discard`] does it.
+    ///
+    /// ```rust
+    /// use simple_asn1::{ASN1Block, ASN1DecodeErr, Document};
+    /// use std::alloc::Global;
+    ///
+    /// // The blocks, to be kept by whoever calls.
+    /// fn kept(alloc: Global, octets: &[u8]) -> Result<Vec<ASN1Block>, ASN1DecodeErr> {
+    ///     let document = Document::from_der(alloc, octets)?;
+    ///     Ok(document.into_blocks())
+    /// }
+    /// ```
     pub fn into_blocks(self) -> Vec<ASN1Block>
         ensures { views result.items ≡ document_trees self }
     {

@@ -77,6 +77,16 @@ impl<T: Drop> From<AllocFailed<T>> for ASN1DecodeErr {
 
 impl ASN1DecodeErr {
     /// The same error. The only error of the call is that memory ran out.
+    ///
+    /// ```rust
+    /// use simple_asn1::ASN1DecodeErr;
+    /// use std::alloc::{AllocError, Global};
+    ///
+    /// // The error, for one who keeps it.
+    /// fn kept(alloc: Global, e: &ASN1DecodeErr) -> Result<ASN1DecodeErr, AllocError> {
+    ///     e.clone(alloc)
+    /// }
+    /// ```
     pub fn clone(&self, _alloc: Global) -> Result<ASN1DecodeErr, AllocError>
         ensures { IfOk result (λ e. fault_of e ≡ fault_of self.now) }
     {
@@ -126,6 +136,16 @@ impl From<LocatedErr> for ASN1DecodeErr {
 
 impl LocatedErr {
     /// The same error at the same place. The only error of the call is that memory ran out.
+    ///
+    /// ```rust
+    /// use simple_asn1::LocatedErr;
+    /// use std::alloc::{AllocError, Global};
+    ///
+    /// // The error, for one who keeps it.
+    /// fn kept(alloc: Global, e: &LocatedErr) -> Result<LocatedErr, AllocError> {
+    ///     e.clone(alloc)
+    /// }
+    /// ```
     pub fn clone(&self, alloc: Global) -> Result<LocatedErr, AllocError>
         ensures error { IfOk result (λ e. fault_of e.error ≡ fault_of self.now.error) }
         ensures offset { IfOk result (λ e. e.offset ≡ self.now.offset) }
@@ -188,6 +208,16 @@ impl<T: Drop> From<AllocFailed<T>> for ASN1EncodeErr {
 
 impl ASN1EncodeErr {
     /// The same error. It takes no memory today; the allocator is there for errors to come.
+    ///
+    /// ```rust
+    /// use simple_asn1::ASN1EncodeErr;
+    /// use std::alloc::{AllocError, Global};
+    ///
+    /// // The error, for one who keeps it.
+    /// fn kept(alloc: Global, e: &ASN1EncodeErr) -> Result<ASN1EncodeErr, AllocError> {
+    ///     e.clone(alloc)
+    /// }
+    /// ```
     pub fn clone(&self, _alloc: Global) -> Result<ASN1EncodeErr, AllocError>
         ensures { IfOk result (λ e. e ≡ self.now) }
     {

@@ -45,6 +45,18 @@ impl Model for HeaderCount {
 
 impl HeaderCount {
     /// No header yet.
+    ///
+    /// ```rust
+    /// use simple_asn1::{ASN1DecodeErr, HeaderCount, discard, from_der_counted};
+    /// use std::alloc::Global;
+    ///
+    /// // How many headers are begun in reading: of `A0 06 A0 04 A0 02 02 01` four.
+    /// fn begun(alloc: Global, octets: &[u8]) -> Result<u64, ASN1DecodeErr> {
+    ///     let mut count = HeaderCount::new();
+    ///     discard(from_der_counted(alloc, octets, &mut count)?);
+    ///     Ok(count.count())
+    /// }
+    /// ```
     pub fn new() -> HeaderCount
         ensures { result ≡ 0 }
     {
@@ -52,6 +64,15 @@ impl HeaderCount {
     }
 
     /// The number so far.
+    ///
+    /// ```rust
+    /// use simple_asn1::HeaderCount;
+    ///
+    /// // Whether another header may be begun.
+    /// fn may_go_on(count: &HeaderCount, most: u64) -> bool {
+    ///     count.count() < most
+    /// }
+    /// ```
     pub fn count(&self) -> u64
         ensures { result ≡ self.now }
     {
@@ -113,6 +134,19 @@ fn tag_at(
 ///
 /// # Errors
 /// `Incomplete` where the octets run out, also for an index past the end; `OutOfMemory`.
+///
+/// ```rust
+/// use simple_asn1::{ASN1Class, ASN1DecodeErr, HeaderCount, decode_tag};
+/// use std::alloc::Global;
+///
+/// // The class of the first header: of `A0 02 05 00` ContextSpecific.
+/// fn first_class(alloc: Global, octets: &[u8]) -> Result<ASN1Class, ASN1DecodeErr> {
+///     let mut index = 0;
+///     let mut count = HeaderCount::new();
+///     let (_, _, class) = decode_tag(alloc, octets, &mut index, &mut count)?;
+///     Ok(class)
+/// }
+/// ```
 pub fn decode_tag(
     alloc: Global,
     i: &[u8],
@@ -138,10 +172,21 @@ pub fn decode_tag(
 
 /// Reads a base-128 number (X.690 8.1.2.4.2) at `index`, and moves the index past it. Leading octets 80 are read. After
 /// a refusal the index stands where it stood. A number below 2^64 takes no memory; a greater one takes one allocation,
-/// which may grow.
+/// which may grow. The name is that of the Rust crate: the greatest digit is 127, and the base is 128.
 ///
 /// # Errors
 /// `Incomplete` where the octets run out, also for an index past the end; `OutOfMemory`.
+///
+/// ```rust
+/// use simple_asn1::{ASN1DecodeErr, BigUint, decode_base127};
+/// use std::alloc::Global;
+///
+/// // Of `86 48` 840.
+/// fn number(alloc: Global, octets: &[u8]) -> Result<BigUint, ASN1DecodeErr> {
+///     let mut index = 0;
+///     decode_base127(alloc, octets, &mut index)
+/// }
+/// ```
 pub fn decode_base127(alloc: Global, i: &[u8], index: &mut usize) -> Result<BigUint, ASN1DecodeErr>
     ensures moved { OnOk result ((index.old ≤ index.new) × (index.new ≤ length i.now)) }
     ensures found { IfOk result (λ n. IsBase128 (slice_range i.now index.old index.new) n) }
@@ -198,6 +243,16 @@ pub(crate) fn length_at(octets: &[u8]) -> Result<(usize, usize), ASN1DecodeErr>
 /// # Errors
 /// `LengthTooLarge` where more than 8 octets follow the first, with their number; else `Incomplete` where the octets
 /// run out, also for an index past the end.
+///
+/// ```rust
+/// use simple_asn1::{ASN1DecodeErr, decode_length};
+///
+/// // The length after an identifier octet: of `04 82 01 00` 256.
+/// fn contents_size(encoding: &[u8]) -> Result<usize, ASN1DecodeErr> {
+///     let mut index = 1;
+///     decode_length(encoding, &mut index)
+/// }
+/// ```
 pub fn decode_length(i: &[u8], index: &mut usize) -> Result<usize, ASN1DecodeErr>
     ensures moved { OnOk result ((index.old ≤ index.new) × (index.new ≤ length i.now)) }
     ensures found { IfOk result (λ n. IsLength (slice_range i.now index.old index.new) n) }
@@ -315,6 +370,15 @@ fn class_of(leading: u8) -> ASN1Class
 }
 
 /// The class of a leading octet, by its two high bits (X.690 table 1). It is always `Ok`.
+///
+/// ```rust
+/// use simple_asn1::{ASN1Class, decode_class};
+///
+/// // Whether an identifier octet is of the class Universal: 30 is, and A0 is not.
+/// fn is_universal(octet: u8) -> bool {
+///     matches!(decode_class(octet), Ok(ASN1Class::Universal))
+/// }
+/// ```
 pub fn decode_class(i: u8) -> Result<ASN1Class, ASN1DecodeErr>
     ensures ok { IsOk result }
     ensures class { IfOk result (λ class. class_number class ≡ i / 64) }
@@ -323,6 +387,15 @@ pub fn decode_class(i: u8) -> Result<ASN1Class, ASN1DecodeErr>
 }
 
 /// The two high bits of a leading octet of this class, the others zero (X.690 table 1).
+///
+/// ```rust
+/// use simple_asn1::{ASN1Class, encode_class};
+///
+/// // The identifier octet of [n], primitive, of a number below 31: 80 and n.
+/// fn tagged(n: u8) -> u8 {
+///     encode_class(ASN1Class::ContextSpecific) | (n & 0x1F)
+/// }
+/// ```
 pub fn encode_class(c: ASN1Class) -> u8
     ensures { result ≡ class_number c * 64 }
 {
@@ -416,6 +489,17 @@ pub(crate) fn put_identifier<S: Sink>(
 
 /// The shortest identifier octets of the tag (X.690 8.1.2.2, 8.1.2.4.2), in one allocation of their size. The only
 /// error is that memory ran out.
+///
+/// ```rust
+/// use simple_asn1::{ASN1Class, BigUint, encode_tag};
+/// use std::alloc::{AllocError, Global};
+///
+/// // [31], constructed: `BF 1F`.
+/// fn tagged_31(alloc: Global) -> Result<Vec<u8>, AllocError> {
+///     let tag = BigUint::from_u64(alloc, 31)?;
+///     encode_tag(alloc, ASN1Class::ContextSpecific, true, &tag)
+/// }
+/// ```
 pub fn encode_tag(
     alloc: Global,
     class: ASN1Class,
@@ -431,6 +515,16 @@ pub fn encode_tag(
 
 /// The shortest base-128 form of the number (X.690 8.1.2.4.2), in one allocation of its size. The only error is that
 /// memory ran out.
+///
+/// ```rust
+/// use simple_asn1::{BigUint, encode_base127};
+/// use std::alloc::{AllocError, Global};
+///
+/// // Of 840 `86 48`.
+/// fn digits(alloc: Global, n: u64) -> Result<Vec<u8>, AllocError> {
+///     encode_base127(alloc, &BigUint::from_u64(alloc, n)?)
+/// }
+/// ```
 pub fn encode_base127(alloc: Global, n: &BigUint) -> Result<Vec<u8>, AllocError>
     ensures { IfOk result (λ v. v.items ≡ shortest_base128 n.now) }
 {
@@ -441,6 +535,16 @@ pub fn encode_base127(alloc: Global, n: &BigUint) -> Result<Vec<u8>, AllocError>
 
 /// The shortest length octets of the length (X.690 8.1.3, 10.1), in one allocation of their size. The only error is
 /// that memory ran out.
+///
+/// ```rust
+/// use simple_asn1::encode_len;
+/// use std::alloc::{AllocError, Global};
+///
+/// // The length octets of a text: of 200 octets `81 C8`.
+/// fn length_octets(alloc: Global, text: &str) -> Result<Vec<u8>, AllocError> {
+///     encode_len(alloc, text.len())
+/// }
+/// ```
 pub fn encode_len(alloc: Global, n: usize) -> Result<Vec<u8>, AllocError>
     ensures { IfOk result (λ v. v.items ≡ shortest_length n) }
 {

@@ -35,6 +35,15 @@ impl Model for OID {
 
 impl OID {
     /// The object identifier of these components. It takes no memory.
+    ///
+    /// ```rust
+    /// use simple_asn1::{BigUint, OID};
+    ///
+    /// // The object identifier of these components.
+    /// fn identifier(components: Vec<BigUint>) -> OID {
+    ///     OID::new(components)
+    /// }
+    /// ```
     pub fn new(x: Vec<BigUint>) -> OID
         ensures { result ≡ x.items }
     {
@@ -45,6 +54,16 @@ impl OID {
     /// ran out.
     ///
     /// [`oid!`](crate::oid) is the same with the components written one by one.
+    ///
+    /// ```rust
+    /// use simple_asn1::OID;
+    /// use std::alloc::{AllocError, Global};
+    ///
+    /// // 2.5.4.3, commonName of X.520
+    /// fn common_name(alloc: Global) -> Result<OID, AllocError> {
+    ///     OID::from_u64s(alloc, &[2, 5, 4, 3])
+    /// }
+    /// ```
     pub fn from_u64s(alloc: Global, components: &[u64]) -> Result<OID, AllocError>
         ensures { IfOk result (λ oid. oid ≡ components.now) }
     {
@@ -70,6 +89,17 @@ impl OID {
     /// In this order: `ObjectIdentHasTooFewFields` where there are fewer than two components;
     /// `ObjectIdentVal1TooLarge` where the first is above 2; `ObjectIdentVal2TooLarge` where the
     /// second is above 39, or above 175 where the first is 2; `OutOfMemory`.
+    ///
+    /// ```rust
+    /// use simple_asn1::{ASN1EncodeErr, OID};
+    /// use std::alloc::Global;
+    ///
+    /// // Whether these are its contents octets: of 2.5.4.3 `55 04 03`.
+    /// fn has_contents(alloc: Global, oid: &OID, contents: &[u8]) -> Result<bool, ASN1EncodeErr> {
+    ///     let raw = oid.as_raw(alloc)?;
+    ///     Ok(raw.as_slice() == contents)
+    /// }
+    /// ```
     pub fn as_raw(&self, alloc: Global) -> Result<Vec<u8>, ASN1EncodeErr>
         ensures contents { IfOk result (λ v. v.items ≡ object_identifier_contents self.now) }
         ensures writable { OnOk result (object_identifier_write_fault self.now ≡ None) }
@@ -86,6 +116,17 @@ impl OID {
     ///
     /// # Errors
     /// `Overflow` exactly where the type does not have one of them; `OutOfMemory`.
+    ///
+    /// ```rust
+    /// use simple_asn1::{ASN1DecodeErr, OID};
+    /// use std::alloc::Global;
+    ///
+    /// // Whether it is 2.5.4.3.
+    /// fn is_common_name(alloc: Global, oid: &OID) -> Result<bool, ASN1DecodeErr> {
+    ///     let components = oid.as_vec::<u64>(alloc)?;
+    ///     Ok(components.as_slice() == [2, 5, 4, 3].as_slice())
+    /// }
+    /// ```
     pub fn as_vec<T: FromBigUint>(&self, alloc: Global) -> Result<Vec<T>, ASN1DecodeErr>
         ensures all { IfOk result (λ v. AreNumbers T.has T.is_number v.items self.now) }
         ensures refused { IfErr result (λ e. (e ≡ OutOfMemory)
@@ -103,6 +144,16 @@ impl OID {
 
     /// The same object identifier, in one allocation where all components are below 2^64. The only
     /// error is that memory ran out.
+    ///
+    /// ```rust
+    /// use simple_asn1::{ASN1Block, OID};
+    /// use std::alloc::{AllocError, Global};
+    ///
+    /// // A block of the same identifier.
+    /// fn block(alloc: Global, oid: &OID) -> Result<ASN1Block, AllocError> {
+    ///     Ok(ASN1Block::ObjectIdentifier(0, oid.clone(alloc)?))
+    /// }
+    /// ```
     pub fn clone(&self, alloc: Global) -> Result<OID, AllocError>
         ensures { IfOk result (λ oid. oid ≡ self.now) }
     {

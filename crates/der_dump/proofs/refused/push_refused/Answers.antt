@@ -1,13 +1,14 @@
 use Rattle.std.specs.Prelude.{Result, Ok, Err, OnOk}
 use Rattle.std.specs.declared.alloc.AllocError.{AllocError}
-use Rattle.std.proofs.Common.{List, ℕ, []}
-use Rattle.der_dump.specs.Dump.{Adds}
-use Rattle.der_dump.proofs.Dumps.{AddsSome, some_join}
+use Rattle.std.proofs.Common.{List, ℕ}
+use Rattle.der_dump.specs.Dump.{Adds, TellsFault}
+use Rattle.der_dump.proofs.Dumps.{AddsSome}
 use Rattle.der_dump.proofs.refused.push_refused.Goals as goal
 
-noted : (r : Result (Unit {0}) AllocError) (a b c : List ℕ) → AddsSome a b → OnOk r (Adds [] b c) → OnOk r (AddsSome a c)
-noted (Ok u) a b c x y = some_join a b c x ([], y)
-noted (Err e) a b c x y = tt
+told : (r : Result (Unit {0}) AllocError) (offset : ℕ) (a b c : List ℕ) → AddsSome a b → OnOk r (TellsFault offset b c)
+    → OnOk r ((offsets shown : List ℕ) × Adds offsets a shown × TellsFault offset shown c)
+told (Ok u) offset a b c (offsets, adds) t = (offsets, b, adds, t)
+told (Err e) offset a b c x t = tt
 
 pub returns : goal.returns
-returns c = noted c.push_note.result _ _ _ c.in_ok-offset.ensures c.push_note.ensures
+returns c = told c.push_fault.result c.args.offset _ _ _ c.in_ok-push_to_fault.ensures c.push_fault.ensures
