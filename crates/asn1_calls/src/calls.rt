@@ -9,7 +9,7 @@ mod signed;
 
 use crate::calls::blocks::BlockCall;
 use crate::calls::headers::HeaderCall;
-use crate::calls::identifiers::IdentifierCall;
+use crate::calls::identifiers::{IdentifierCall, made};
 use crate::calls::numbers::{ErrorCall, NaturalCall, WholeCall};
 use crate::calls::own::PointCall;
 use crate::calls::refusals::{ran_out, refusal};
@@ -30,6 +30,7 @@ pub enum Call {
     Rewrite,
     Strict,
     Signed,
+    MakeIdentifier,
     OfBlock(BlockCall),
     OfIdentifier(IdentifierCall),
     OfNatural(NaturalCall),
@@ -49,6 +50,7 @@ impl Call {
             b"rewrite" => Some(Call::Rewrite),
             b"strict" => Some(Call::Strict),
             b"signed" => Some(Call::Signed),
+            b"oid!" => Some(Call::MakeIdentifier),
             _ => named_otherwise(name),
         }
     }
@@ -62,6 +64,7 @@ impl Call {
             Call::Rewrite => rewrite_answer(alloc, octets),
             Call::Strict => strict_answer(alloc, octets),
             Call::Signed => signed_answer(alloc, octets),
+            Call::MakeIdentifier => made(alloc),
             Call::OfBlock(call) => call.answer(alloc, octets),
             Call::OfIdentifier(call) => call.answer(alloc, octets),
             Call::OfNatural(call) => call.answer(alloc, octets),

@@ -7,7 +7,6 @@ use std::alloc::{AllocError, Global};
 // A call of an object identifier.
 #[derive(Drop)]
 pub enum IdentifierCall {
-    Make,
     Clone,
     AsRaw,
     AsVec,
@@ -17,7 +16,6 @@ impl IdentifierCall {
     // The call of this name.
     pub fn named(name: &[u8]) -> Option<IdentifierCall> {
         match name {
-            b"oid!" => Some(IdentifierCall::Make),
             b"OID::clone" => Some(IdentifierCall::Clone),
             b"as_raw" => Some(IdentifierCall::AsRaw),
             b"as_vec" => Some(IdentifierCall::AsVec),
@@ -25,11 +23,8 @@ impl IdentifierCall {
         }
     }
 
-    // The answer of the call, of the object identifier that is the first block of the document. `oid!` takes no octets.
+    // The answer of the call, of the object identifier that is the first block of the document.
     pub fn answer(&self, alloc: Global, octets: &[u8]) -> Result<String, AllocError> {
-        if let IdentifierCall::Make = self {
-            return identifier_text(alloc, oid!(alloc; 1, 2, 840, 113549, 2, 5)?);
-        }
         let document = match Document::from_der(alloc, octets) {
             Ok(document) => document,
             Err(fault) => return refusal(alloc, &fault),
@@ -49,7 +44,6 @@ impl IdentifierCall {
 
     fn answer_of(&self, alloc: Global, oid: &OID) -> Result<String, AllocError> {
         match self {
-            IdentifierCall::Make => Err(AllocError),
             IdentifierCall::Clone => identifier_text(alloc, oid.clone(alloc)?),
             IdentifierCall::AsRaw => match oid.as_raw(alloc) {
                 Ok(contents) => octets_text(alloc, &contents),
@@ -61,6 +55,11 @@ impl IdentifierCall {
             },
         }
     }
+}
+
+// An object identifier that `oid!` makes, whatever the octets.
+pub fn made(alloc: Global) -> Result<String, AllocError> {
+    identifier_text(alloc, oid!(alloc; 1, 2, 840, 113549, 2, 5)?)
 }
 
 fn identifier_text(alloc: Global, oid: OID) -> Result<String, AllocError> {
