@@ -2,7 +2,7 @@
 use Rattle.std.proofs.Common.{◌≡◌, ◌+◌, ◌*◌, ◌<◌, ◌++◌, ℕ, List, [], ◌∷◌, refl, ap, arith}
 use Rattle.std.specs.Prelude.{Result, Ok, Err, OnOk}
 use Rattle.std.specs.declared.alloc.AllocError.{AllocError}
-use Rattle.simple_asn1.specs.declared.block.ASN1Block.{ASN1Block}
+use Rattle.simple_asn1.specs.Types.{ASN1Block}
 use Rattle.simple_asn1.specs.Tree.{Tree, leaf, group, explicit, unknown}
 use Rattle.simple_asn1.specs.View.{view, views}
 use Rattle.asn1_text.specs.declared.blocks.OpenList.{OpenList}

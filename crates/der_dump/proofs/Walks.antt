@@ -1,7 +1,7 @@
 -- Steps of the walk over blocks.
 use Rattle.std.proofs.Common.{◌≡◌, ℕ, List, [], ◌∷◌, ◌++◌, map, refl, sym, ap, ◌∙◌, append_assoc, append-nil, Bor}
 use Rattle.std.proofs.lemmas.List.{map_push}
-use Rattle.simple_asn1.specs.declared.block.ASN1Block.{ASN1Block}
+use Rattle.simple_asn1.specs.Types.{ASN1Block}
 use Rattle.simple_asn1.specs.Tree.{Tree, leaf, group, explicit, unknown}
 use Rattle.simple_asn1.specs.View.{tree_offset, view, views}
 use Rattle.der_dump.specs.Dump.{all_offsets, offsets_in}

@@ -1,6 +1,6 @@
 -- What a walk over blocks has yet to go into. Private contracts alone name these.
 use Rattle.std.specs.Prelude.{ℕ, List, [], ◌∷◌, ◌++◌, map}
-use Rattle.simple_asn1.specs.declared.block.ASN1Block.{ASN1Block}
+use Rattle.simple_asn1.specs.Types.{ASN1Block}
 use Rattle.simple_asn1.specs.Tree.{Tree, Trees, leaf, group, explicit, unknown, no_trees, more_trees}
 use Rattle.simple_asn1.specs.View.{views}
 use Rattle.der_dump.specs.Dump.{all_offsets}

@@ -1,7 +1,7 @@
 // The run of the program: all input is read before anything is written.
 ghost use Rattle.std.specs.Prelude.{◌≡◌, ◌≢◌, ◌⊎◌, ℕ, List, Ok, Err, IfErr, IfOk, IfSome, IsOk, OnOk, codes};
 ghost use Rattle.std.specs.Io.KnownBytes.{Appends, IsAtEnd, Keeps};
-ghost use Rattle.simple_asn1.specs.declared.error.ASN1DecodeErr.TheVariants.{OutOfMemory};
+ghost use Rattle.simple_asn1.specs.Types.{OutOfMemory};
 ghost use Rattle.signed_content.specs.Content.{IsContent, IsNotSigned};
 ghost use Rattle.signed_content.specs.declared.run.RunFault.TheVariants.{Read as read_fault, Write as write_fault};
 ghost use Rattle.signed_content.specs.declared.run.RunFault.TheVariants.{Memory as memory_fault};

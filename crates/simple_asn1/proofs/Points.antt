@@ -1,11 +1,11 @@
 -- What has no two items is no point.
 use Rattle.std.proofs.Common.{◌≡◌, ◌≢◌, ℕ, List, [], ◌∷◌, length, refl, sym, ◌∙◌}
-use Rattle.simple_asn1.specs.declared.block.ASN1Block.{ASN1Block}
-use Rattle.simple_asn1.specs.declared.block.GroupKind.TheVariants.{Sequence}
+use Rattle.asn1_blocks.specs.declared.block.ASN1Block.{ASN1Block}
+use Rattle.asn1_blocks.specs.declared.block.GroupKind.TheVariants.{Sequence}
 use Rattle.simple_asn1.specs.declared.convert.point.Point.{Point}
 use Rattle.simple_asn1.specs.PointTrees.{point_tree}
-use Rattle.simple_asn1.specs.Tree.{Tree, group, shape, shapes}
-use Rattle.simple_asn1.specs.View.{views}
+use Rattle.asn1_blocks.specs.Tree.{Tree, group, shape, shapes}
+use Rattle.asn1_blocks.specs.View.{views}
 
 pub no_point : (t : Tree ℕ) (p : Point) (items : List ASN1Block) → length items ≢ 2 →
     shape t ≡ group tt Sequence (shapes (views items)) → shape t ≢ point_tree p

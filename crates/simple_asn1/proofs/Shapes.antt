@@ -1,9 +1,9 @@
 -- What is written of a tree does not hang on its offsets.
 use Rattle.std.proofs.Common.{◌≡◌, ℕ, ◌++◌, true, refl, sym, ap, ◌∙◌}
-use Rattle.simple_asn1.specs.declared.header.ASN1Class.TheVariants.{Universal}
+use Rattle.asn1_headers.specs.declared.header.ASN1Class.TheVariants.{Universal}
 use Rattle.simple_asn1.specs.Canonical.{all_canonical, canonical, first_of, first_write_fault, shortest_encoding, write_fault}
-use Rattle.simple_asn1.specs.Contents.{group_tag}
-use Rattle.simple_asn1.specs.Tree.{Tree, Trees, leaf, group, explicit, unknown, no_trees, more_trees, shape, shapes}
+use Rattle.asn1_blocks.specs.Contents.{group_tag}
+use Rattle.asn1_blocks.specs.Tree.{Tree, Trees, leaf, group, explicit, unknown, no_trees, more_trees, shape, shapes}
 
 mutual
   canonical_shape : (b : Tree ℕ) → canonical b ≡ canonical (shape b)

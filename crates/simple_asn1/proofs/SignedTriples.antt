@@ -2,22 +2,22 @@
 use Rattle.std.proofs.Common.{◌≡◌, ◌≢◌, ◌+◌, ◌-◌, ◌++◌, ℕ, List, [], ◌∷◌, length, get_or, drop, min, refl, sym, ap, subst, ◌∙◌, inl, inr, arith, length-append, Result, Ok, Err}
 use Rattle.std.specs.Prelude.{MatchResult, IfOk, IfErr, slice_range}
 use Rattle.std.proofs.lemmas.List.{length-take}
-use Rattle.simple_asn1.specs.declared.block.ASN1Block.{ASN1Block}
-use Rattle.simple_asn1.specs.declared.block.GroupKind.TheVariants.{Sequence}
+use Rattle.asn1_blocks.specs.declared.block.ASN1Block.{ASN1Block}
+use Rattle.asn1_blocks.specs.declared.block.GroupKind.TheVariants.{Sequence}
 use Rattle.simple_asn1.specs.declared.convert.signed.SignedTriple.{SignedTriple}
 use Rattle.simple_asn1.specs.declared.convert.signed.TripleErr.{TripleErr}
 use Rattle.simple_asn1.specs.declared.convert.signed.TripleErr.TheVariants.{Codec, Shape}
-use Rattle.simple_asn1.specs.declared.error.ASN1DecodeErr.TheVariants.{OutOfMemory}
+use Rattle.asn1_headers.specs.declared.error.ASN1DecodeErr.TheVariants.{OutOfMemory}
 use Rattle.simple_asn1.specs.Conversions.{Decodes, DecodeFails}
-use Rattle.simple_asn1.specs.Fault.{fault_of}
-use Rattle.simple_asn1.specs.Grammar.{Document}
+use Rattle.asn1_headers.specs.Fault.{fault_of}
+use Rattle.asn1_blocks.specs.Grammar.{Document}
 use Rattle.simple_asn1.specs.Laws.OneReading.{OneReading}
 use Rattle.simple_asn1.specs.Laws.Parts.{Slices}
-use Rattle.simple_asn1.specs.Octets.{FitInSlice}
-use Rattle.simple_asn1.specs.Places.{HasOctets, rebased, in_first, in_later, in_group, itself}
+use Rattle.asn1_numbers.specs.Octets.{FitInSlice}
+use Rattle.asn1_blocks.specs.Places.{HasOctets, rebased, in_first, in_later, in_group, itself}
 use Rattle.simple_asn1.specs.SignedTrees.{SignedParts, BeginWithSigned, HasFields, IsAlgorithm, IsOfAnotherShape, IsSigned, ReadsSigned, algorithm_tree, signed_tree, signed_trees}
-use Rattle.simple_asn1.specs.Tree.{Tree, Trees, leaf, group, bit_string, object_identifier, no_trees, more_trees}
-use Rattle.simple_asn1.specs.View.{tree_offset, view, views}
+use Rattle.asn1_blocks.specs.Tree.{Tree, Trees, leaf, group, bit_string, object_identifier, no_trees, more_trees}
+use Rattle.asn1_blocks.specs.View.{tree_offset, view, views}
 
 -- a SEQUENCE of any other number of items is none
 pub no_triple : (t : Tree ℕ) (p : SignedParts) (o : ℕ) (items : List ASN1Block) → length items ≢ 3 →

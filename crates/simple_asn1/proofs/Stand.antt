@@ -1,23 +1,23 @@
 -- Trees of a document stand in their canonical octets where the own octets of each do.
 use Rattle.std.proofs.Common.{◌≡◌, ℕ, ◌+◌, ◌<◌, ◌≤◌, ◌^◌, Bool, true, false, List, [], ◌∷◌, ◌++◌, length, refl, sym, ap, ◌∙◌, subst, arith, length-append, append_assoc, append-nil}
-use Rattle.simple_asn1.specs.declared.block.ASN1Block.{ASN1Block}
-use Rattle.simple_asn1.specs.declared.header.ASN1Class.{ASN1Class}
-use Rattle.simple_asn1.specs.declared.header.ASN1Class.TheVariants.{Universal}
-use Rattle.simple_asn1.specs.Header.{Encoding, shortest_identifier, shortest_length}
-use Rattle.simple_asn1.specs.Tree.{Tree, Trees, leaf, group, explicit, unknown, no_trees, more_trees}
-use Rattle.simple_asn1.specs.TreeOrder.{IsNext, inside}
-use Rattle.simple_asn1.specs.View.{view, views}
-use Rattle.simple_asn1.specs.Contents.{LeafContents, group_tag, leaf_contents, leaf_tag}
+use Rattle.asn1_blocks.specs.declared.block.ASN1Block.{ASN1Block}
+use Rattle.asn1_headers.specs.declared.header.ASN1Class.{ASN1Class}
+use Rattle.asn1_headers.specs.declared.header.ASN1Class.TheVariants.{Universal}
+use Rattle.asn1_headers.specs.Header.{Encoding, shortest_identifier, shortest_length}
+use Rattle.asn1_blocks.specs.Tree.{Tree, Trees, leaf, group, explicit, unknown, no_trees, more_trees}
+use Rattle.asn1_blocks.specs.TreeOrder.{IsNext, inside}
+use Rattle.asn1_blocks.specs.View.{view, views}
+use Rattle.asn1_blocks.specs.Contents.{LeafContents, group_tag, leaf_contents, leaf_tag}
 use Rattle.simple_asn1.specs.Canonical.{shortest_encoding, canonical, all_canonical}
-use Rattle.simple_asn1.specs.Grammar.{Document, EncodesAll}
-use Rattle.simple_asn1.specs.Places.{joined}
+use Rattle.asn1_blocks.specs.Grammar.{Document, EncodesAll}
+use Rattle.asn1_blocks.specs.Places.{joined}
 use Rattle.simple_asn1.specs.StandWalk.{BeginWithOwn}
 use Rattle.simple_asn1.specs.WriteWalk.{identifier_of}
-use Rattle.simple_asn1.proofs.Prefixes.{encoding_alone, identifier_alone, length_alone, same_split}
-use Rattle.simple_asn1.proofs.OneReading.{encodes_block}
-use Rattle.simple_asn1.proofs.Faults.{block_encoding}
-use Rattle.simple_asn1.proofs.Shortest.{shortest_identifier_is, shortest_length_is}
-use Rattle.simple_asn1.proofs.Slices.{encodes_joined}
+use Rattle.asn1_headers.proofs.Prefixes.{encoding_alone, identifier_alone, length_alone, same_split}
+use Rattle.asn1_blocks.proofs.OneReading.{encodes_block}
+use Rattle.asn1_blocks.proofs.Faults.{block_encoding}
+use Rattle.asn1_headers.proofs.Shortest.{shortest_identifier_is, shortest_length_is}
+use Rattle.asn1_blocks.proofs.Slices.{encodes_joined}
 use Rattle.simple_asn1.proofs.Strict.{canonical_encoding}
 
 regroup : (i s c x : List ℕ) → i ++ (s ++ (c ++ x)) ≡ (i ++ (s ++ c)) ++ x

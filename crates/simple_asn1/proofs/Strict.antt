@@ -2,31 +2,31 @@
 use Rattle.std.proofs.Common.{◌≡◌, ◌≢◌, ℕ, ◌+◌, ◌<◌, ◌≤◌, ◌^◌, Bool, true, false, List, [], ◌++◌, ◌⊎◌, ◌↔◌, inl, inr, length, refl, sym, ap, ◌∙◌, subst, arith, length-append, append_assoc, append-nil, take, drop, length-drop, get_or, None, Result, Ok, Err, Vec, Global, IfOk, IfErr, IsErrAnd, IsTrue, MatchResult}
 use Rattle.std.specs.List.{slice_range}
 use Rattle.std.proofs.lemmas.List.{take-append-drop, length-take-le, drop_at, drop_more}
-use Rattle.simple_asn1.specs.declared.block.ASN1Block.{ASN1Block}
-use Rattle.simple_asn1.specs.declared.error.ASN1DecodeErr.{ASN1DecodeErr}
-use Rattle.simple_asn1.specs.declared.error.ASN1DecodeErr.TheVariants.{OutOfMemory}
-use Rattle.simple_asn1.specs.declared.header.ASN1Class.{ASN1Class}
-use Rattle.simple_asn1.specs.declared.header.ASN1Class.TheVariants.{Universal}
-use Rattle.simple_asn1.specs.declared.sink.Comparison.{Comparison}
-use Rattle.simple_asn1.specs.Comparisons.{compared}
-use Rattle.simple_asn1.specs.Fault.{DecodeFault, OutOfMemoryOr, fault_of, not_canonical}
-use Rattle.simple_asn1.specs.Tree.{Tree, Trees, leaf, group, explicit, unknown, no_trees, more_trees, shapes}
-use Rattle.simple_asn1.specs.View.{tree_offset, view, views}
-use Rattle.simple_asn1.specs.Contents.{group_tag, leaf_contents, leaf_tag}
+use Rattle.asn1_blocks.specs.declared.block.ASN1Block.{ASN1Block}
+use Rattle.asn1_headers.specs.declared.error.ASN1DecodeErr.{ASN1DecodeErr}
+use Rattle.asn1_headers.specs.declared.error.ASN1DecodeErr.TheVariants.{OutOfMemory}
+use Rattle.asn1_headers.specs.declared.header.ASN1Class.{ASN1Class}
+use Rattle.asn1_headers.specs.declared.header.ASN1Class.TheVariants.{Universal}
+use Rattle.asn1_numbers.specs.declared.sink.Comparison.{Comparison}
+use Rattle.asn1_numbers.specs.Comparisons.{compared}
+use Rattle.asn1_headers.specs.Fault.{DecodeFault, OutOfMemoryOr, fault_of, not_canonical}
+use Rattle.asn1_blocks.specs.Tree.{Tree, Trees, leaf, group, explicit, unknown, no_trees, more_trees, shapes}
+use Rattle.asn1_blocks.specs.View.{tree_offset, view, views}
+use Rattle.asn1_blocks.specs.Contents.{group_tag, leaf_contents, leaf_tag}
 use Rattle.simple_asn1.specs.Canonical.{shortest_encoding, canonical, all_canonical, first_write_fault, write_fault}
-use Rattle.simple_asn1.specs.Grammar.{EncodesAll, Document}
-use Rattle.simple_asn1.specs.Places.{end_before}
+use Rattle.asn1_blocks.specs.Grammar.{EncodesAll, Document}
+use Rattle.asn1_blocks.specs.Places.{end_before}
 use Rattle.simple_asn1.specs.ReadBack.{CanonicalDocument}
 use Rattle.simple_asn1.specs.Strict.{EqualByOctets, FirstNotCanonical, StandCanonical, StrictFault, top_octets}
-use Rattle.simple_asn1.proofs.Leaves.Known.{octets_known}
-use Rattle.simple_asn1.proofs.Prefixes.{encoding_alone, same_split}
-use Rattle.simple_asn1.proofs.OneReading.{encodes_block, all_alone}
-use Rattle.simple_asn1.proofs.Faults.{BlockEncoding, block_encoding}
-use Rattle.simple_asn1.proofs.FaultsAlone.{first_fault_alone}
+use Rattle.asn1_leaves.proofs.Leaves.Known.{octets_known}
+use Rattle.asn1_headers.proofs.Prefixes.{encoding_alone, same_split}
+use Rattle.asn1_blocks.proofs.OneReading.{encodes_block, all_alone}
+use Rattle.asn1_blocks.proofs.Faults.{BlockEncoding, block_encoding}
+use Rattle.asn1_blocks.proofs.FaultsAlone.{first_fault_alone}
 use Rattle.simple_asn1.proofs.Totality.{document_or_fault}
-use Rattle.simple_asn1.proofs.Readings.{document_no_fault}
-use Rattle.simple_asn1.proofs.ReadSteps.{slice_split}
-use Rattle.simple_asn1.proofs.Slices.{encodes_offset, end_is, slice_here}
+use Rattle.asn1_blocks.proofs.Readings.{document_no_fault}
+use Rattle.asn1_leaves.proofs.SliceSplit.{slice_split}
+use Rattle.asn1_blocks.proofs.Slices.{encodes_offset, end_is, slice_here}
 use Rattle.simple_asn1.proofs.WriteSteps.{none_of_both}
 use Rattle.simple_asn1.proofs.Placed.{canonical_shapes, contents_le, header_size, shortest_encodes}
 

@@ -1,16 +1,16 @@
 -- What is written of a value, and read again.
 use Rattle.std.proofs.Common.{◌≡◌, ℕ, ◌<◌, ◌^◌, List, length, Some, None, Result, Ok, refl, sym, ap, ◌∙◌, subst, arith, inl, inr, length-append}
-use Rattle.simple_asn1.specs.declared.error.ASN1DecodeErr.{ASN1DecodeErr}
-use Rattle.simple_asn1.specs.declared.error.ASN1EncodeErr.{ASN1EncodeErr}
+use Rattle.asn1_headers.specs.declared.error.ASN1DecodeErr.{ASN1DecodeErr}
+use Rattle.asn1_headers.specs.declared.error.ASN1EncodeErr.{ASN1EncodeErr}
 use Rattle.simple_asn1.specs.Canonical.{canonical, all_canonical, first_write_fault}
 use Rattle.simple_asn1.specs.Conversions.{ComeBack, Decodes, DecodeFails, Encodes, EncodeFails, OwnDecodeFault, OwnEncodeFault}
-use Rattle.simple_asn1.specs.Faithful.{AreFaithful}
-use Rattle.simple_asn1.specs.Fault.{fault_of}
-use Rattle.simple_asn1.specs.Grammar.{Document}
-use Rattle.simple_asn1.specs.Tree.{Tree, Trees, leaf, group, explicit, unknown, no_trees, more_trees, shape, shapes}
-use Rattle.simple_asn1.proofs.OneReading.{all_alone}
+use Rattle.asn1_blocks.specs.Faithful.{AreFaithful}
+use Rattle.asn1_headers.specs.Fault.{fault_of}
+use Rattle.asn1_blocks.specs.Grammar.{Document}
+use Rattle.asn1_blocks.specs.Tree.{Tree, Trees, leaf, group, explicit, unknown, no_trees, more_trees, shape, shapes}
+use Rattle.asn1_blocks.proofs.OneReading.{all_alone}
 use Rattle.simple_asn1.proofs.Placed.{all_placed, all_canonical_encodes, canonical_some, canonical_shapes, write_fault_shapes, shapes_placed, all_faithful_writable}
-use Rattle.simple_asn1.proofs.Readings.{document_no_fault}
+use Rattle.asn1_blocks.proofs.Readings.{document_no_fault}
 
 mutual
   shape_of_shape : (t : Tree (Unit {0})) → shape t ≡ t

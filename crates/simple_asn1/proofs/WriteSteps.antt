@@ -6,18 +6,18 @@ use Rattle.std.proofs.lemmas.Grind.{common_steps}
 use Rattle.std.proofs.Math.Seq.{get_or-append_seam}
 use Rattle.std.proofs.lemmas.List.{take_at, take_more, drop_at, set_at, drop_more, map_more}
 use Rattle.std.proofs.lemmas.List.Sums.{sum_by-append}
-use Rattle.simple_asn1.specs.declared.block.ASN1Block.{ASN1Block}
-use Rattle.simple_asn1.specs.declared.error.ASN1EncodeErr.{ASN1EncodeErr}
+use Rattle.asn1_blocks.specs.declared.block.ASN1Block.{ASN1Block}
+use Rattle.asn1_headers.specs.declared.error.ASN1EncodeErr.{ASN1EncodeErr}
 use Rattle.simple_asn1.specs.Canonical.{all_canonical, canonical, first_of, first_write_fault, write_fault}
-use Rattle.simple_asn1.specs.Header.{shortest_length}
-use Rattle.simple_asn1.specs.Contents.{leaf_write_fault}
-use Rattle.simple_asn1.specs.Tree.{Tree, leaf, group, explicit, unknown}
-use Rattle.simple_asn1.specs.TreeOrder.{IsInTreeOrder, IsNext, inside}
-use Rattle.simple_asn1.specs.View.{view, views}
+use Rattle.asn1_headers.specs.Header.{shortest_length}
+use Rattle.asn1_blocks.specs.Contents.{leaf_write_fault}
+use Rattle.asn1_blocks.specs.Tree.{Tree, leaf, group, explicit, unknown}
+use Rattle.asn1_blocks.specs.TreeOrder.{IsInTreeOrder, IsNext, inside}
+use Rattle.asn1_blocks.specs.View.{view, views}
 use Rattle.simple_asn1.specs.WriteWalk.{all_own_octets, contents_of, contents_size_of, first_own_fault, identifier_of, measured_blocks, measured_sizes, own_contents, own_fault, own_octets}
 use Rattle.simple_asn1.specs.declared.write.measure.Measured.{Measured}
-use Rattle.simple_asn1.proofs.BlockLists.{count, count_views}
-use Rattle.simple_asn1.proofs.TreeOrders.{from_place}
+use Rattle.asn1_blocks.proofs.BlockLists.{count, count_views}
+use Rattle.asn1_blocks.proofs.TreeOrders.{from_place}
 
 pub canonical_parts : (b : Tree ℕ) → canonical b ≡ identifier_of b ++ (shortest_length (length (contents_of b)) ++ contents_of b)
 canonical_parts (leaf o l) = refl

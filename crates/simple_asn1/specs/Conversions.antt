@@ -2,17 +2,17 @@
 -- blocks, and a value with the trees after it, or a fault; `writes` relates trees, or a fault. `from` is the type's
 -- conversion of an error of this library into a fault of its own.
 use Rattle.std.specs.Prelude.{◌≡◌, ◌≢◌, ◌⊎◌, ℕ, List, Result, Ok, Err, Some, None}
-use Rattle.simple_asn1.specs.declared.error.ASN1DecodeErr.{ASN1DecodeErr}
+use Rattle.asn1_headers.specs.declared.error.ASN1DecodeErr.{ASN1DecodeErr}
 use Rattle.simple_asn1.specs.declared.convert.TripFault.{TripFault}
 use Rattle.simple_asn1.specs.declared.convert.TripFault.TheVariants.{Encode, Decode}
-use Rattle.simple_asn1.specs.declared.error.ASN1DecodeErr.TheVariants.{OutOfMemory as no_memory}
-use Rattle.simple_asn1.specs.declared.error.ASN1EncodeErr.{ASN1EncodeErr}
-use Rattle.simple_asn1.specs.declared.error.ASN1EncodeErr.TheVariants.{OutOfMemory}
+use Rattle.asn1_headers.specs.declared.error.ASN1DecodeErr.TheVariants.{OutOfMemory as no_memory}
+use Rattle.asn1_headers.specs.declared.error.ASN1EncodeErr.{ASN1EncodeErr}
+use Rattle.asn1_headers.specs.declared.error.ASN1EncodeErr.TheVariants.{OutOfMemory}
 use Rattle.simple_asn1.specs.Canonical.{all_canonical, first_write_fault}
-use Rattle.simple_asn1.specs.Fault.{OutOfMemoryOr}
-use Rattle.simple_asn1.specs.Grammar.{Document, FirstFault}
-use Rattle.simple_asn1.specs.Faithful.{AreFaithful}
-use Rattle.simple_asn1.specs.Tree.{Trees, no_trees, shapes}
+use Rattle.asn1_headers.specs.Fault.{OutOfMemoryOr}
+use Rattle.asn1_blocks.specs.Grammar.{Document, FirstFault}
+use Rattle.asn1_blocks.specs.Faithful.{AreFaithful}
+use Rattle.asn1_blocks.specs.Tree.{Trees, no_trees, shapes}
 
 -- the octets are a document, and the value is read of its trees; trees after it are ignored
 abbrev pub Decodes : {T E : Type 0} →

@@ -2,7 +2,7 @@
 use Rattle.std.specs.Prelude.{◌≡◌, ℕ, ℤ}
 use Rattle.std.proofs.Common.{sym, ap, ◌∙◌}
 use Rattle.simple_asn1.specs.declared.convert.point.Point.{Point}
-use Rattle.simple_asn1.specs.Tree.{Trees, no_trees, more_trees, shape, shapes}
+use Rattle.asn1_blocks.specs.Tree.{Trees, no_trees, more_trees, shape, shapes}
 use Rattle.simple_asn1.specs.PointTrees.{point_tree, point_trees, BeginsWithPoint}
 
 -- one tree, one point

@@ -1,9 +1,9 @@
 -- A point as blocks: one SEQUENCE of two INTEGERs.
 use Rattle.std.specs.Prelude.{◌≡◌, ℕ, FitsSigned}
 use Rattle.std.specs.Int.{w64}
-use Rattle.simple_asn1.specs.declared.block.GroupKind.TheVariants.{Sequence}
+use Rattle.asn1_blocks.specs.declared.block.GroupKind.TheVariants.{Sequence}
 use Rattle.simple_asn1.specs.declared.convert.point.Point.{Point}
-use Rattle.simple_asn1.specs.Tree.{Tree, Trees, leaf, group, integer, no_trees, more_trees, shape}
+use Rattle.asn1_blocks.specs.Tree.{Tree, Trees, leaf, group, integer, no_trees, more_trees, shape}
 
 abbrev pub point_tree : Point → Tree (Unit {0})
 point_tree p =

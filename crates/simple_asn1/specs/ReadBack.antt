@@ -1,10 +1,10 @@
 -- What octets that were written are read back as.
 use Rattle.std.specs.Prelude.{◌≡◌, ◌↔◌, ℕ, List}
-use Rattle.simple_asn1.specs.Octets.{AreOctets}
-use Rattle.simple_asn1.specs.Tree.{Tree, Trees, no_trees, more_trees, shape, shapes}
-use Rattle.simple_asn1.specs.Grammar.{Document}
+use Rattle.asn1_numbers.specs.Octets.{AreOctets}
+use Rattle.asn1_blocks.specs.Tree.{Tree, Trees, no_trees, more_trees, shape, shapes}
+use Rattle.asn1_blocks.specs.Grammar.{Document}
 use Rattle.simple_asn1.specs.Canonical.{all_canonical}
-use Rattle.simple_asn1.specs.Faithful.{all_normalized}
+use Rattle.asn1_blocks.specs.Faithful.{all_normalized}
 
 -- the octets are a document of one tree, which is equal to this one but for its offsets
 abbrev pub ReadsBackAs : List ℕ → Tree ℕ → Type 0

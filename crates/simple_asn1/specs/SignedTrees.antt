@@ -1,13 +1,13 @@
 -- A signed triple as blocks: what was signed, the algorithm, and the signature.
 use Rattle.std.specs.Prelude.{◌≡◌, ◌≢◌, ◌⊎◌, ℕ, ◌≤◌, List, Result, Ok, Err, length, slice_range}
-use Rattle.simple_asn1.specs.declared.block.GroupKind.TheVariants.{Sequence}
+use Rattle.asn1_blocks.specs.declared.block.GroupKind.TheVariants.{Sequence}
 use Rattle.simple_asn1.specs.declared.convert.signed.SignedTriple.{SignedTriple}
 use Rattle.simple_asn1.specs.declared.convert.signed.TripleErr.{TripleErr}
 use Rattle.simple_asn1.specs.declared.convert.signed.TripleErr.TheVariants.{Codec, Shape}
-use Rattle.simple_asn1.specs.declared.error.ASN1DecodeErr.TheVariants.{OutOfMemory}
-use Rattle.simple_asn1.specs.Tree.{Tree, Trees, leaf, group, bit_string, object_identifier, no_trees, more_trees}
-use Rattle.simple_asn1.specs.View.{tree_offset}
-use Rattle.simple_asn1.specs.Grammar.{Document}
+use Rattle.asn1_headers.specs.declared.error.ASN1DecodeErr.TheVariants.{OutOfMemory}
+use Rattle.asn1_blocks.specs.Tree.{Tree, Trees, leaf, group, bit_string, object_identifier, no_trees, more_trees}
+use Rattle.asn1_blocks.specs.View.{tree_offset}
+use Rattle.asn1_blocks.specs.Grammar.{Document}
 
 -- the parts of a signed triple, with the offsets of its blocks
 pub record SignedParts : Type 0 where

@@ -1,11 +1,11 @@
 -- Documents that stand in their canonical octets, and why octets are none.
 use Rattle.std.specs.Prelude.{◌≡◌, ◌≢◌, ◌↔◌, ◌⊎◌, ℕ, List, length, slice_range}
-use Rattle.simple_asn1.specs.Fault.{DecodeFault, not_canonical}
-use Rattle.simple_asn1.specs.Tree.{Tree, Trees, no_trees, more_trees, shapes}
-use Rattle.simple_asn1.specs.View.{tree_offset}
-use Rattle.simple_asn1.specs.Grammar.{Document, FirstFault}
+use Rattle.asn1_headers.specs.Fault.{DecodeFault, not_canonical}
+use Rattle.asn1_blocks.specs.Tree.{Tree, Trees, no_trees, more_trees, shapes}
+use Rattle.asn1_blocks.specs.View.{tree_offset}
+use Rattle.asn1_blocks.specs.Grammar.{Document, FirstFault}
 use Rattle.simple_asn1.specs.Canonical.{canonical}
-use Rattle.simple_asn1.specs.Places.{end_before}
+use Rattle.asn1_blocks.specs.Places.{end_before}
 use Rattle.simple_asn1.specs.ReadBack.{CanonicalDocument}
 
 -- the octets of a tree at the top level of a document: from its offset to that of the tree after it,

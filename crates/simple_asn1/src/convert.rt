@@ -6,22 +6,22 @@ ghost use Rattle.std.specs.Prelude.{◌≡◌, ◌≢◌, ℕ, List, Result, Ok,
 ghost use Rattle.std.specs.Prelude.{MatchOption, MatchResult};
 ghost use Rattle.simple_asn1.specs.Conversions.{ComeBack, Decodes, DecodeFails, Encodes, EncodeFails, OwnDecodeFault, OwnEncodeFault, TripFails};
 ghost use Rattle.simple_asn1.specs.Canonical.{all_canonical};
-ghost use Rattle.simple_asn1.specs.Faithful.{AreFaithful};
-ghost use Rattle.simple_asn1.specs.Tree.{Trees, group, no_trees, shape, shapes};
-ghost use Rattle.simple_asn1.specs.View.{tree_offset, view, views};
-ghost use Rattle.simple_asn1.specs.declared.block.GroupKind.TheVariants.{Sequence};
-ghost use Rattle.simple_asn1.specs.declared.header.ASN1Class.{ASN1Class};
-ghost use Rattle.simple_asn1.specs.declared.header.ASN1Class.TheVariants.{Universal};
+ghost use Rattle.asn1_blocks.specs.Faithful.{AreFaithful};
+ghost use Rattle.asn1_blocks.specs.Tree.{Trees, group, no_trees, shape, shapes};
+ghost use Rattle.asn1_blocks.specs.View.{tree_offset, view, views};
+ghost use Rattle.asn1_blocks.specs.declared.block.GroupKind.TheVariants.{Sequence};
+ghost use Rattle.asn1_headers.specs.declared.header.ASN1Class.{ASN1Class};
+ghost use Rattle.asn1_headers.specs.declared.header.ASN1Class.TheVariants.{Universal};
 
 pub mod point;
 pub mod signed;
 
-use crate::block::ASN1Block;
-use crate::block::discard::discard;
-use crate::document::Document;
-use crate::error::{ASN1DecodeErr, ASN1EncodeErr};
-use crate::header::ASN1Class;
 use crate::write::write_all;
+use asn1_blocks::block::ASN1Block;
+use asn1_blocks::block::discard::discard;
+use asn1_blocks::document::Document;
+use asn1_headers::error::{ASN1DecodeErr, ASN1EncodeErr};
+use asn1_headers::header::ASN1Class;
 use std::alloc::Global;
 
 /// A type that is read from the blocks of a document and from the document's own octets, as the place of a signature's

@@ -1,13 +1,13 @@
 -- The narrower grammar of the Rust crate, in which a SEQUENCE or SET has at least one item.
 use Rattle.std.specs.Prelude.{◌≡◌, ◌≢◌, ℕ, ◌<◌, ◌++◌, Bool, false, List, [], length}
-use Rattle.simple_asn1.specs.declared.header.ASN1Class.{ASN1Class}
-use Rattle.simple_asn1.specs.declared.header.ASN1Class.TheVariants.{Universal}
-use Rattle.simple_asn1.specs.declared.block.GroupKind.{GroupKind}
-use Rattle.simple_asn1.specs.Octets.{FitInSlice}
-use Rattle.simple_asn1.specs.Header.{Encoding}
-use Rattle.simple_asn1.specs.Tree.{Leaf, Trees}
-use Rattle.simple_asn1.specs.Contents.{leaf_tag, group_tag, is_known_tag, LeafContents}
-use Rattle.simple_asn1.specs.Grammar.{IsBlock, AreBlocks, Document}
+use Rattle.asn1_headers.specs.declared.header.ASN1Class.{ASN1Class}
+use Rattle.asn1_headers.specs.declared.header.ASN1Class.TheVariants.{Universal}
+use Rattle.asn1_blocks.specs.declared.block.GroupKind.{GroupKind}
+use Rattle.asn1_numbers.specs.Octets.{FitInSlice}
+use Rattle.asn1_headers.specs.Header.{Encoding}
+use Rattle.asn1_blocks.specs.Tree.{Leaf, Trees}
+use Rattle.asn1_blocks.specs.Contents.{leaf_tag, group_tag, is_known_tag, LeafContents}
+use Rattle.asn1_blocks.specs.Grammar.{IsBlock, AreBlocks, Document}
 
 mutual
   -- the octets are a block, and no SEQUENCE or SET that is read in it is empty

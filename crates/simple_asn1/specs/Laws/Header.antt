@@ -1,9 +1,9 @@
 -- Laws of identifier octets, length octets and encodings.
 use Rattle.std.specs.Prelude.{◌≡◌, ◌≢◌, ℕ, ◌<◌, ◌≤◌, ◌^◌, ◌++◌, Bool, List, [], ◌∷◌, length}
-use Rattle.simple_asn1.specs.declared.header.ASN1Class.{ASN1Class}
-use Rattle.simple_asn1.specs.Octets.{AreOctets}
-use Rattle.simple_asn1.specs.Base128.{IsBase128, shortest_base128}
-use Rattle.simple_asn1.specs.Header.{IsIdentifier, IsLength, Encoding, shortest_identifier, shortest_length}
+use Rattle.asn1_headers.specs.declared.header.ASN1Class.{ASN1Class}
+use Rattle.asn1_numbers.specs.Octets.{AreOctets}
+use Rattle.asn1_numbers.specs.Base128.{IsBase128, shortest_base128}
+use Rattle.asn1_headers.specs.Header.{IsIdentifier, IsLength, Encoding, shortest_identifier, shortest_length}
 
 -- the parts of a header, and encodings, end where they end: none begins another. Each shortest form
 -- is such a part, and the one shortest

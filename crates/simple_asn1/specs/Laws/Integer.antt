@@ -1,7 +1,7 @@
 -- Laws of two's complement octets.
 use Rattle.std.specs.Prelude.{◌≡◌, ◌≢◌, ℕ, ◌<◌, ◌≤◌, List, ◌∷◌, ℤ, length}
-use Rattle.simple_asn1.specs.Octets.{AreOctets}
-use Rattle.simple_asn1.specs.TwosComplement.{signed_number, shortest_octets}
+use Rattle.asn1_numbers.specs.Octets.{AreOctets}
+use Rattle.asn1_numbers.specs.TwosComplement.{signed_number, shortest_octets}
 
 -- the two's complement octets that are written of a whole number are its one shortest
 pub record IntegerLaws : Type 0 where

@@ -1,11 +1,11 @@
 -- Octets have one reading.
 use Rattle.std.specs.Prelude.{◌≡◌, ◌↔◌, ◌⊎◌, ℕ, ◌≤◌, ◌++◌, List, length}
-use Rattle.simple_asn1.specs.Octets.{FitInSlice}
-use Rattle.simple_asn1.specs.Fault.{DecodeFault, IsOfReading}
-use Rattle.simple_asn1.specs.FaultPlace.{FirstFaultAt}
-use Rattle.simple_asn1.specs.Tree.{Tree, Trees}
-use Rattle.simple_asn1.specs.Grammar.{IsBlock, Encodes, Document, FirstFault}
-use Rattle.simple_asn1.specs.HeadersBegun.{HeadersBegun, all_blocks_in}
+use Rattle.asn1_numbers.specs.Octets.{FitInSlice}
+use Rattle.asn1_headers.specs.Fault.{DecodeFault, IsOfReading}
+use Rattle.asn1_blocks.specs.FaultPlace.{FirstFaultAt}
+use Rattle.asn1_blocks.specs.Tree.{Tree, Trees}
+use Rattle.asn1_blocks.specs.Grammar.{IsBlock, Encodes, Document, FirstFault}
+use Rattle.asn1_blocks.specs.HeadersBegun.{HeadersBegun, all_blocks_in}
 
 -- all octets have one reading
 pub record OneReading : Type 0 where

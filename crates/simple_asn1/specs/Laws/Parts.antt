@@ -1,11 +1,11 @@
 -- Documents and their parts: one after another, cut short, and the octets of one block.
 use Rattle.std.specs.Prelude.{◌≡◌, ◌≢◌, ◌↔◌, ℕ, ◌<◌, ◌++◌, List, [], length}
-use Rattle.simple_asn1.specs.Octets.{FitInSlice}
-use Rattle.simple_asn1.specs.Fault.{empty_buffer, incomplete}
-use Rattle.simple_asn1.specs.Tree.{Tree, Trees, no_trees, more_trees}
-use Rattle.simple_asn1.specs.View.{tree_offset}
-use Rattle.simple_asn1.specs.Grammar.{Document, FirstFault}
-use Rattle.simple_asn1.specs.Places.{rebased, all_later, joined, BeginAt, HasOctets, EncodingAt}
+use Rattle.asn1_numbers.specs.Octets.{FitInSlice}
+use Rattle.asn1_headers.specs.Fault.{empty_buffer, incomplete}
+use Rattle.asn1_blocks.specs.Tree.{Tree, Trees, no_trees, more_trees}
+use Rattle.asn1_blocks.specs.View.{tree_offset}
+use Rattle.asn1_blocks.specs.Grammar.{Document, FirstFault}
+use Rattle.asn1_blocks.specs.Places.{rebased, all_later, joined, BeginAt, HasOctets, EncodingAt}
 
 -- two documents one after another
 pub record Joined : Type 0 where

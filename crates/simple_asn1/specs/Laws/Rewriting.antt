@@ -1,10 +1,10 @@
 -- What writing keeps.
 use Rattle.std.specs.Prelude.{◌≡◌, ◌↔◌, ℕ, List, None}
-use Rattle.simple_asn1.specs.Octets.{AreOctets, FitInSlice}
-use Rattle.simple_asn1.specs.Tree.{Tree, Trees}
-use Rattle.simple_asn1.specs.Grammar.{Document}
+use Rattle.asn1_numbers.specs.Octets.{AreOctets, FitInSlice}
+use Rattle.asn1_blocks.specs.Tree.{Tree, Trees}
+use Rattle.asn1_blocks.specs.Grammar.{Document}
 use Rattle.simple_asn1.specs.Canonical.{canonical, all_canonical, write_fault}
-use Rattle.simple_asn1.specs.Faithful.{all_normalized, IsFaithful, AreFaithful}
+use Rattle.asn1_blocks.specs.Faithful.{all_normalized, IsFaithful, AreFaithful}
 use Rattle.simple_asn1.specs.ReadBack.{ReadsBackAs, AllReadBackAs, AreEqualNormalized}
 
 -- what rewriting keeps

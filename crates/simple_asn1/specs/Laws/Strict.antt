@@ -1,9 +1,9 @@
 -- What canonical documents are.
 use Rattle.std.specs.Prelude.{◌≡◌, ◌↔◌, ◌⊎◌, ℕ, List}
-use Rattle.simple_asn1.specs.Octets.{FitInSlice}
-use Rattle.simple_asn1.specs.Fault.{DecodeFault}
-use Rattle.simple_asn1.specs.Tree.{Trees}
-use Rattle.simple_asn1.specs.Grammar.{Document}
+use Rattle.asn1_numbers.specs.Octets.{FitInSlice}
+use Rattle.asn1_headers.specs.Fault.{DecodeFault}
+use Rattle.asn1_blocks.specs.Tree.{Trees}
+use Rattle.asn1_blocks.specs.Grammar.{Document}
 use Rattle.simple_asn1.specs.Canonical.{all_canonical}
 use Rattle.simple_asn1.specs.ReadBack.{CanonicalDocument}
 use Rattle.simple_asn1.specs.Strict.{EqualByOctets, StandCanonical, StrictFault}

@@ -2,16 +2,16 @@
 ghost use Rattle.std.specs.Prelude.{◌≡◌, ◌≢◌, ℕ, ℤ, MatchOption, MatchResult, IfOk, IfErr, FitsSigned};
 ghost use Rattle.std.specs.Int.{w64};
 ghost use Rattle.simple_asn1.specs.PointTrees.{point_tree, point_trees, BeginsWithPoint};
-ghost use Rattle.simple_asn1.specs.Tree.{Trees, integer, leaf, shape, shapes};
-ghost use Rattle.simple_asn1.specs.View.{view, views};
-ghost use Rattle.simple_asn1.specs.declared.error.ASN1EncodeErr.TheVariants.{OutOfMemory};
+ghost use Rattle.asn1_blocks.specs.Tree.{Trees, integer, leaf, shape, shapes};
+ghost use Rattle.asn1_blocks.specs.View.{view, views};
+ghost use Rattle.asn1_headers.specs.declared.error.ASN1EncodeErr.TheVariants.{OutOfMemory};
 ghost use Rattle.simple_asn1.specs.declared.convert.point.Point.{Point};
 
-use crate::block::ASN1Block;
 use crate::convert::{FromASN1, RoundTrip, ToASN1, sequence_items};
-use crate::error::{ASN1DecodeErr, ASN1EncodeErr};
-use crate::header::ASN1Class;
-use crate::number::big_int::BigInt;
+use asn1_blocks::block::ASN1Block;
+use asn1_headers::error::{ASN1DecodeErr, ASN1EncodeErr};
+use asn1_headers::header::ASN1Class;
+use asn1_numbers::number::big_int::BigInt;
 use std::alloc::Global;
 
 /// A point, written as one SEQUENCE of two INTEGERs.
@@ -131,7 +131,7 @@ impl ToASN1 for Point {
     type Error = PointErr;
 
     ghost use Rattle.simple_asn1.specs.declared.convert.point.PointErr.TheVariants.{Encode};
-    ghost use Rattle.simple_asn1.specs.declared.error.ASN1EncodeErr.TheVariants.{OutOfMemory};
+    ghost use Rattle.asn1_headers.specs.declared.error.ASN1EncodeErr.TheVariants.{OutOfMemory};
 
     ghost writes = { λ p c r. MatchResult r
         (λ bs. shapes bs ≡ point_trees p)

@@ -1,23 +1,23 @@
 // A type that keeps octets of its document: what was signed, with the algorithm and the signature.
 ghost use Rattle.std.specs.Prelude.{◌≡◌, ◌≢◌, ◌⊎◌, ℕ, List, IfOk, IfErr, IsErrAnd};
 ghost use Rattle.std.specs.Prelude.{MatchOption, MatchResult};
-ghost use Rattle.simple_asn1.specs.Fault.{OutOfMemoryOr};
-ghost use Rattle.simple_asn1.specs.Grammar.{Document, FirstFault};
-ghost use Rattle.simple_asn1.specs.Places.{HasOctets, rebased};
+ghost use Rattle.asn1_headers.specs.Fault.{OutOfMemoryOr};
+ghost use Rattle.asn1_blocks.specs.Grammar.{Document, FirstFault};
+ghost use Rattle.asn1_blocks.specs.Places.{HasOctets, rebased};
 ghost use Rattle.simple_asn1.specs.SignedTrees.{HasFields, IsAlgorithm, IsOfAnotherShape, IsSigned, ReadsSigned};
 ghost use Rattle.simple_asn1.specs.SignedTrees.{SignedParts, algorithm_tree, signed_tree, signed_trees};
-ghost use Rattle.simple_asn1.specs.Tree.{Trees, bit_string, leaf, more_trees, no_trees, object_identifier};
-ghost use Rattle.simple_asn1.specs.View.{tree_offset, view};
+ghost use Rattle.asn1_blocks.specs.Tree.{Trees, bit_string, leaf, more_trees, no_trees, object_identifier};
+ghost use Rattle.asn1_blocks.specs.View.{tree_offset, view};
 ghost use Rattle.simple_asn1.specs.declared.convert.signed.TripleErr.TheVariants.{Codec, Shape};
-ghost use Rattle.simple_asn1.specs.declared.error.ASN1DecodeErr.{ASN1DecodeErr};
-ghost use Rattle.simple_asn1.specs.declared.error.ASN1DecodeErr.TheVariants.{OutOfMemory};
+ghost use Rattle.asn1_headers.specs.declared.error.ASN1DecodeErr.{ASN1DecodeErr};
+ghost use Rattle.asn1_headers.specs.declared.error.ASN1DecodeErr.TheVariants.{OutOfMemory};
 
-use crate::block::ASN1Block;
 use crate::convert::{FromASN1WithBody, der_decode, sequence_items};
-use crate::error::ASN1DecodeErr;
 use crate::laws::{law_one_reading, law_slices};
-use crate::octets::copy_of;
-use crate::oid::OID;
+use asn1_blocks::block::ASN1Block;
+use asn1_headers::error::ASN1DecodeErr;
+use asn1_leaves::oid::OID;
+use asn1_numbers::octets::copy_of;
 use std::alloc::{AllocError, Global};
 
 /// What was signed, with the algorithm and the signature, as a certificate (X.509) has them.

@@ -1,6 +1,6 @@
 // The second walk: it puts the octets of measured blocks, takes no memory and refuses nothing.
 ghost use Rattle.std.specs.Prelude.{◌≡◌, ◌≤◌, None, length, map};
-ghost use Rattle.simple_asn1.specs.View.{view};
+ghost use Rattle.asn1_blocks.specs.View.{view};
 ghost use Rattle.simple_asn1.specs.WriteWalk.{
   all_own_octets,
   contents_size_of,
@@ -13,11 +13,11 @@ ghost use Rattle.simple_asn1.specs.WriteWalk.{
   own_octets,
 };
 
-use crate::block::ASN1Block;
-use crate::body::put_own;
-use crate::header::{put_identifier, put_length};
-use crate::sink::Sink;
 use crate::write::measure::Measured;
+use crate::write::own::put_own;
+use asn1_blocks::block::ASN1Block;
+use asn1_headers::header::{put_identifier, put_length};
+use asn1_numbers::sink::Sink;
 
 // The identifier octet of a block whose tag has a rule.
 pub(crate) fn known_octet(b: &ASN1Block) -> u8

@@ -2,21 +2,22 @@
 // octets, only its own are looked at, with the length that they announce: no sizes are added up.
 ghost use Rattle.std.specs.Prelude.{◌≡◌, ℕ, ◌++◌, ◌∷◌, List, length, IfErr, IfOk, IfSome, IsTrue};
 ghost use Rattle.simple_asn1.specs.Canonical.{all_canonical};
-ghost use Rattle.simple_asn1.specs.Grammar.{Document as IsDocument};
-ghost use Rattle.simple_asn1.specs.Header.{shortest_length};
+ghost use Rattle.asn1_blocks.specs.Grammar.{Document as IsDocument};
+ghost use Rattle.asn1_headers.specs.Header.{shortest_length};
 ghost use Rattle.simple_asn1.specs.StandWalk.{AreOwnCanonical, BeginWithOwn};
-ghost use Rattle.simple_asn1.specs.View.{view, views};
+ghost use Rattle.asn1_blocks.specs.View.{view, views};
 ghost use Rattle.simple_asn1.specs.WriteWalk.{identifier_of, own_contents};
-ghost use Rattle.simple_asn1.specs.declared.error.ASN1DecodeErr.TheVariants.{OutOfMemory};
+ghost use Rattle.asn1_headers.specs.declared.error.ASN1DecodeErr.TheVariants.{OutOfMemory};
 
-use crate::block::ASN1Block;
-use crate::body::{object_identifier, own_size, put_own};
-use crate::error::ASN1DecodeErr;
-use crate::header::{length_at, length_size, put_length};
-use crate::sink::Comparison;
-use crate::walk::TreeWalk;
 use crate::write::measure::identifier_size_of;
+use crate::write::own::{own_size, put_own};
 use crate::write::put::{known_octet, put_identifier_of};
+use asn1_blocks::block::ASN1Block;
+use asn1_blocks::walk::TreeWalk;
+use asn1_headers::error::ASN1DecodeErr;
+use asn1_headers::header::{length_at, length_size, put_length};
+use asn1_leaves::body::object_identifier;
+use asn1_numbers::sink::Comparison;
 use std::alloc::Global;
 
 // What follows the octet, where it is at the front.

@@ -13,9 +13,9 @@ ghost use Rattle.std.specs.Prelude.{
   MatchResult,
 };
 ghost use Rattle.simple_asn1.specs.Canonical.{all_canonical, first_write_fault};
-ghost use Rattle.simple_asn1.specs.Fault.{DecodeFault, OutOfMemoryOr, not_canonical};
-ghost use Rattle.simple_asn1.specs.Grammar.{Document as IsDocument, FirstFault};
-ghost use Rattle.simple_asn1.specs.Places.{end_before};
+ghost use Rattle.asn1_headers.specs.Fault.{DecodeFault, OutOfMemoryOr, not_canonical};
+ghost use Rattle.asn1_blocks.specs.Grammar.{Document as IsDocument, FirstFault};
+ghost use Rattle.asn1_blocks.specs.Places.{end_before};
 ghost use Rattle.simple_asn1.specs.ReadBack.{CanonicalDocument};
 ghost use Rattle.simple_asn1.specs.Strict.{
   EqualByOctets,
@@ -23,17 +23,17 @@ ghost use Rattle.simple_asn1.specs.Strict.{
   IsNotCanonicalAt,
   StrictFault,
 };
-ghost use Rattle.simple_asn1.specs.Tree.{Trees};
-ghost use Rattle.simple_asn1.specs.View.{views};
-ghost use Rattle.simple_asn1.specs.declared.error.ASN1DecodeErr.TheVariants.{OutOfMemory};
+ghost use Rattle.asn1_blocks.specs.Tree.{Trees};
+ghost use Rattle.asn1_blocks.specs.View.{views};
+ghost use Rattle.asn1_headers.specs.declared.error.ASN1DecodeErr.TheVariants.{OutOfMemory};
 
-use crate::block::ASN1Block;
-use crate::document::Document;
-use crate::error::{ASN1DecodeErr, ASN1EncodeErr};
-use crate::sink::Comparison;
 use crate::write::measure::measure;
 use crate::write::put::put_all;
 use crate::write::stand::stand_canonical;
+use asn1_blocks::block::ASN1Block;
+use asn1_blocks::document::Document;
+use asn1_headers::error::{ASN1DecodeErr, ASN1EncodeErr};
+use asn1_numbers::sink::Comparison;
 use std::alloc::Global;
 use std::slice;
 

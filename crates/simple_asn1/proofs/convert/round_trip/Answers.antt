@@ -1,5 +1,5 @@
 use Rattle.std.proofs.Common.{◌<◌, ◌^◌, length, subst, ◌∙◌, arith}
-use Rattle.simple_asn1.specs.declared.header.ASN1Class.TheVariants.{Universal}
+use Rattle.asn1_headers.specs.declared.header.ASN1Class.TheVariants.{Universal}
 use Rattle.simple_asn1.specs.Conversions.{Decodes, DecodeFails}
 use Rattle.simple_asn1.proofs.Trips.{trip_octets, trip_encode, trip_same, trip_decode}
 use Rattle.simple_asn1.proofs.convert.round_trip.Goals as goal

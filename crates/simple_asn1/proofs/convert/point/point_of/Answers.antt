@@ -1,5 +1,5 @@
 use Rattle.simple_asn1.proofs.Points.{no_point}
-use Rattle.simple_asn1.specs.View.{view}
+use Rattle.asn1_blocks.specs.View.{view}
 use Rattle.simple_asn1.proofs.convert.point.point_of.Goals as goal
 
 pub returns-then-items-ne2 : goal.returns-then-items-ne2

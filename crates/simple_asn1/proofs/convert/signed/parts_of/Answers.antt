@@ -1,5 +1,5 @@
 use Rattle.std.proofs.Common.{◌≡◌, ◌≢◌, ◌∙◌, length, arith}
-use Rattle.simple_asn1.specs.View.{tree_offset, view}
+use Rattle.asn1_blocks.specs.View.{tree_offset, view}
 use Rattle.simple_asn1.proofs.SignedTriples.{no_triple, no_signature, parts_of_three}
 use Rattle.simple_asn1.proofs.convert.signed.parts_of.Goals as goal
 use Rattle.simple_asn1.proofs.convert.signed.parts_of.Goals.{in_default-via-then-branch-lt3, in_default-via-else-branch-lt3+else-this-lt4}

@@ -5,12 +5,12 @@ use Rattle.std.proofs.Math.Seq.{map-set_same}
 use Rattle.std.proofs.Math.ListN.{length-set}
 use Rattle.std.specs.List.{sum}
 use Rattle.simple_asn1.specs.Canonical.{canonical}
-use Rattle.simple_asn1.specs.Header.{shortest_length}
-use Rattle.simple_asn1.specs.TreeOrder.{IsInTreeOrder}
-use Rattle.simple_asn1.specs.View.{view}
+use Rattle.asn1_headers.specs.Header.{shortest_length}
+use Rattle.asn1_blocks.specs.TreeOrder.{IsInTreeOrder}
+use Rattle.asn1_blocks.specs.View.{view}
 use Rattle.simple_asn1.specs.WriteWalk.{contents_size_of, measured_blocks, measured_sizes, own_size_of}
 use Rattle.simple_asn1.specs.declared.write.measure.Measured.{Measured}
-use Rattle.simple_asn1.proofs.TreeOrders.{order_drop}
+use Rattle.asn1_blocks.proofs.TreeOrders.{order_drop}
 use Rattle.simple_asn1.proofs.WriteSteps.{length_canonical, length_contents, place_at, step_at, sum_back, total_of}
 use Rattle.simple_asn1.proofs.write.measure.add_sizes.Goals as goal
 

@@ -1,6 +1,6 @@
 use Rattle.std.proofs.Common.{◌≡◌, ◌++◌, ◌≤◌, List, length, map, take, drop}
-use Rattle.simple_asn1.specs.declared.block.ASN1Block.{ASN1Block}
-use Rattle.simple_asn1.specs.TreeOrder.{IsInTreeOrder}
+use Rattle.asn1_blocks.specs.declared.block.ASN1Block.{ASN1Block}
+use Rattle.asn1_blocks.specs.TreeOrder.{IsInTreeOrder}
 use Rattle.simple_asn1.specs.WriteWalk.{contents_size_of, measured_blocks, measured_sizes, own_size_of}
 use Rattle.simple_asn1.proofs.WriteSteps.{sizes_back}
 use Rattle.simple_asn1.proofs.write.measure.add_sizes.Given as goal

@@ -1,10 +1,10 @@
 use Rattle.std.proofs.Common.{◌≡◌, map}
 use Rattle.simple_asn1.specs.Canonical.{first_write_fault}
-use Rattle.simple_asn1.specs.HeadersBegun.{all_blocks_in}
-use Rattle.simple_asn1.specs.TreeOrder.{ahead}
-use Rattle.simple_asn1.specs.View.{views}
+use Rattle.asn1_blocks.specs.HeadersBegun.{all_blocks_in}
+use Rattle.asn1_blocks.specs.TreeOrder.{ahead}
+use Rattle.asn1_blocks.specs.View.{views}
 use Rattle.simple_asn1.specs.WriteWalk.{measured_blocks, measured_sizes, own_size_of}
-use Rattle.simple_asn1.proofs.TreeOrders.{IsFound}
+use Rattle.asn1_blocks.proofs.TreeOrders.{IsFound}
 use Rattle.simple_asn1.proofs.write.measure.list_blocks.Given as goal
 
 -- the blocks before those that are ahead, none of which has a fault

@@ -1,10 +1,10 @@
 use Rattle.std.proofs.Common.{◌∙◌, ap, arith, subst, sym}
-use Rattle.simple_asn1.specs.TreeOrder.{IsNext, ahead}
+use Rattle.asn1_blocks.specs.TreeOrder.{IsNext, ahead}
 use Rattle.simple_asn1.specs.Canonical.{all_canonical}
-use Rattle.simple_asn1.specs.Grammar.{EncodesAll}
-use Rattle.simple_asn1.specs.View.{view, views}
+use Rattle.asn1_blocks.specs.Grammar.{EncodesAll}
+use Rattle.asn1_blocks.specs.View.{view, views}
 use Rattle.simple_asn1.proofs.Stand.{Decides, begun, own_left, past_own}
-use Rattle.simple_asn1.proofs.TreeOrders.{fewer_ahead}
+use Rattle.asn1_blocks.proofs.TreeOrders.{fewer_ahead}
 use Rattle.simple_asn1.proofs.write.stand.stand_canonical.Goals as goal
 
 pub loop-walk-smaller : goal.loop-walk-smaller

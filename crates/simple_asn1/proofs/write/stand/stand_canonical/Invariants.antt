@@ -1,8 +1,8 @@
 use Rattle.std.proofs.Common.{◌<◌, ◌^◌, length}
 use Rattle.simple_asn1.specs.Canonical.{all_canonical}
-use Rattle.simple_asn1.specs.HeadersBegun.{all_blocks_in}
-use Rattle.simple_asn1.specs.TreeOrder.{ahead}
-use Rattle.simple_asn1.specs.View.{views}
+use Rattle.asn1_blocks.specs.HeadersBegun.{all_blocks_in}
+use Rattle.asn1_blocks.specs.TreeOrder.{ahead}
+use Rattle.asn1_blocks.specs.View.{views}
 use Rattle.simple_asn1.proofs.Stand.{Decides}
 use Rattle.simple_asn1.proofs.write.stand.stand_canonical.Given as goal
 

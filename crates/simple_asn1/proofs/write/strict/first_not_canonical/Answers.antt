@@ -4,9 +4,9 @@ use Rattle.std.proofs.lemmas.Bool.{false≢true}
 use Rattle.std.proofs.lemmas.Grind.{common_steps}
 use Rattle.std.proofs.lemmas.List.Elements.{All-from_get_or}
 use Rattle.simple_asn1.specs.Canonical.{all_canonical, canonical, first_of, first_write_fault}
-use Rattle.simple_asn1.specs.Grammar.{EncodesAll}
+use Rattle.asn1_blocks.specs.Grammar.{EncodesAll}
 use Rattle.simple_asn1.specs.Strict.{FirstNotCanonical}
-use Rattle.simple_asn1.specs.View.{view, views}
+use Rattle.asn1_blocks.specs.View.{view, views}
 use Rattle.simple_asn1.proofs.Strict.{step, views_from, writable_from}
 use Rattle.simple_asn1.proofs.Writable.{document_writable}
 use Rattle.simple_asn1.proofs.write.strict.first_not_canonical.Goals as goal

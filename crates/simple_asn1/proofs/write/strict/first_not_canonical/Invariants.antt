@@ -1,8 +1,8 @@
 use Rattle.std.proofs.Common.{◌≡◌, ◌≤◌, ℕ, None, drop, length}
 use Rattle.simple_asn1.specs.Canonical.{all_canonical, first_write_fault}
-use Rattle.simple_asn1.specs.Grammar.{EncodesAll}
+use Rattle.asn1_blocks.specs.Grammar.{EncodesAll}
 use Rattle.simple_asn1.specs.Strict.{FirstNotCanonical}
-use Rattle.simple_asn1.specs.View.{views}
+use Rattle.asn1_blocks.specs.View.{views}
 use Rattle.simple_asn1.proofs.write.strict.first_not_canonical.Given as goal
 
 -- the blocks that are left are in the octets from the start on, and decide of all

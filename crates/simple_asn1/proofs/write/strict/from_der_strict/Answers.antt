@@ -1,5 +1,5 @@
 use Rattle.std.proofs.Common.{arith, inl, inr, refl}
-use Rattle.simple_asn1.specs.Fault.{not_canonical}
+use Rattle.asn1_headers.specs.Fault.{not_canonical}
 use Rattle.simple_asn1.proofs.Strict.{strict_accepted, strict_refused, strict_shared}
 use Rattle.simple_asn1.proofs.write.strict.from_der_strict.Goals as goal
 

@@ -1,0 +1,165 @@
+-- What is at fault is no block.
+use Rattle.std.proofs.Common.{◌≡◌, ℕ, suc, ◌+◌, ◌<◌, ◌≤◌, ◌^◌, Bool, false, List, [], ◌∷◌, ◌++◌, length, refl, sym, ap, ◌∙◌, subst, arith, length-append, append_assoc, append-nil}
+use Rattle.std.proofs.lemmas.Bool.{false≢true}
+use Rattle.asn1_headers.specs.declared.header.ASN1Class.{ASN1Class}
+use Rattle.asn1_headers.specs.declared.header.ASN1Class.TheVariants.{Universal}
+use Rattle.asn1_blocks.specs.declared.block.GroupKind.{GroupKind}
+use Rattle.asn1_headers.specs.Fault.{DecodeFault}
+use Rattle.asn1_headers.specs.Header.{Encoding, IsLength}
+use Rattle.asn1_blocks.specs.Tree.{Leaf, Trees, no_trees, more_trees}
+use Rattle.asn1_blocks.specs.Contents.{leaf_tag, group_tag, LeafContents, is_known_tag}
+use Rattle.asn1_headers.specs.HeaderFault.{HeaderFault, no_identifier, no_length, too_far, too_long}
+use Rattle.asn1_blocks.specs.Grammar.{IsBlock, of_other_class, of_unknown_tag, of_leaf, of_group, AreBlocks, no_blocks, more_blocks, EncodesAll, BlockFault, in_header, in_contents, ContentsFault, of_leaf_contents, of_item, BlocksFault, after_blocks}
+use Rattle.asn1_blocks.proofs.Leaves.{leaf_no_group, leaf_no_fault, leaf_fault_tag, leaf_tag_known, leaf_tag_no_group, group_known}
+use Rattle.asn1_headers.proofs.Prefixes.{encoding_alone, identifier_alone, length_alone}
+use Rattle.asn1_blocks.proofs.OneReading.{block_some, encodes_block}
+
+-- the encoding that a block is
+pub record BlockEncoding (octets : List ℕ) : Type 0 where
+  pub class : ASN1Class
+  pub constructed : Bool
+  pub tag : ℕ
+  pub contents : List ℕ
+  pub header : ℕ
+  pub encoding : Encoding octets class constructed tag contents header
+
+-- a block is an encoding
+pub block_encoding : (octets : List ℕ) → IsBlock octets → BlockEncoding octets
+block_encoding octets (of_other_class f ne) = record { class = _; constructed = _; tag = _; contents = _; header = _; encoding = f }
+block_encoding octets (of_unknown_tag f ne) = record { class = _; constructed = _; tag = _; contents = _; header = _; encoding = f }
+block_encoding octets (of_leaf f l e p) = record { class = _; constructed = _; tag = _; contents = _; header = _; encoding = f }
+block_encoding octets (of_group f g e q) = record { class = _; constructed = _; tag = _; contents = _; header = _; encoding = f }
+
+-- a block begins no other
+pub block_alone : (xs ys r q : List ℕ) → IsBlock xs → IsBlock ys → xs ++ r ≡ ys ++ q → (xs ≡ ys) × (r ≡ q)
+block_alone xs ys r q a b e =
+    let F = block_encoding xs a in
+    let G = block_encoding ys b in
+    let f = encoding_alone _ _ _ _ _ _ _ _ _ _ _ _ r q F.encoding G.encoding e in
+    (f.octets, f.rest)
+
+-- the number of trees
+abbrev pub tree_count : {O : Type 0} → Trees O → ℕ
+tree_count no_trees = 0
+tree_count (more_trees b bs) = suc (tree_count bs)
+
+-- contents octets that are a block encode one tree
+pub one_block : (o : ℕ) (contents : List ℕ) (bs : Trees ℕ) → EncodesAll o contents bs → IsBlock contents → tree_count bs ≡ 1
+one_block o contents no_trees s b = absurd (omega (arith, block_some contents b, ap length s))
+one_block o contents (more_trees b no_trees) s a = refl
+one_block o contents (more_trees b (more_trees c bs)) s a =
+    let f = block_alone contents s.0 [] s.1 a (encodes_block o s.0 b s.3) (append-nil contents ∙ s.2) in
+    let t = s.4 in
+    let p = block_some t.0 (encodes_block _ t.0 c t.3) in
+    absurd (omega (arith, p, ap length (f.1 ∙ t.2), length-append t.0 t.1))
+
+-- what follows the first blocks
+pub blocks_after : (all front rest : List ℕ) → all ≡ front ++ rest → AreBlocks front → AreBlocks all → AreBlocks rest
+blocks_after all front rest e no_blocks bs = subst AreBlocks e bs
+blocks_after all front rest e (more_blocks {x = x} {rest = r} d b fs) no_blocks =
+    absurd (omega (arith, block_some x b, ap length e, ap length d, length-append front rest, length-append x r))
+blocks_after all front rest e (more_blocks {x = x} {rest = r} d b fs) (more_blocks {x = y} {rest = q} d' b' bs) =
+    let f = block_alone x y (r ++ rest) q b b' (sym (append_assoc x r rest) ∙ ap (λ z. z ++ rest) (sym d) ∙ sym e ∙ d') in
+    blocks_after q r rest (sym f.1) fs bs
+
+-- the first of some blocks
+pub first_block : (octets : List ℕ) → AreBlocks octets → 0 < length octets → (x : List ℕ) × (rest : List ℕ) × (octets ≡ x ++ rest) × IsBlock x
+first_block octets no_blocks h = absurd (omega (arith, h))
+first_block octets (more_blocks {x = x} {rest = r} d b bs) h = (x, r, d, b)
+
+-- what a block of class Universal holds
+pub data UniversalContents (n : ℕ) (contents : List ℕ) : Type 0 where
+  is_unknown : is_known_tag n ≡ false → UniversalContents n contents
+  is_leaf : (l : Leaf) → n ≡ leaf_tag l → LeafContents l contents → UniversalContents n contents
+  is_group : (g : GroupKind) → n ≡ group_tag g → AreBlocks contents → UniversalContents n contents
+
+-- so are the contents octets of a block of class Universal
+pub universal_contents : (x : List ℕ) (k : Bool) (n : ℕ) (contents : List ℕ) (h : ℕ) → Encoding x Universal k n contents h → IsBlock x → UniversalContents n contents
+universal_contents x k n contents h f (of_other_class g ne) =
+    let s = encoding_alone _ _ _ _ _ _ _ _ _ _ _ _ [] [] f g refl in
+    absurd (ne (sym s.class))
+universal_contents x k n contents h f (of_unknown_tag g u) =
+    let s = encoding_alone _ _ _ _ _ _ _ _ _ _ _ _ [] [] f g refl in
+    is_unknown (ap is_known_tag s.tag ∙ u)
+universal_contents x k n contents h f (of_leaf g l t p) =
+    let s = encoding_alone _ _ _ _ _ _ _ _ _ _ _ _ [] [] f g refl in
+    is_leaf l (s.tag ∙ t) (subst (LeafContents l) (sym s.contents) p)
+universal_contents x k n contents h f (of_group g j t bs) =
+    let s = encoding_alone _ _ _ _ _ _ _ _ _ _ _ _ [] [] f g refl in
+    is_group j (s.tag ∙ t) (subst AreBlocks (sym s.contents) bs)
+
+-- an encoding at the front, by its parts
+pub split_encoding : (octets x rest : List ℕ) (c : ASN1Class) (k : Bool) (n : ℕ) (contents : List ℕ) (h : ℕ) (f : Encoding x c k n contents h)
+    → octets ≡ x ++ rest → octets ≡ f.identifier ++ (f.len ++ (contents ++ rest))
+split_encoding octets x rest c k n contents h f e = e ∙ ap (λ z. z ++ rest) f.whole ∙ simp append_assoc
+
+-- the contents octets of an encoding at the front are among the octets
+pub encoding_within : (octets x rest : List ℕ) (c : ASN1Class) (k : Bool) (n : ℕ) (contents : List ℕ) (h : ℕ) → Encoding x c k n contents h → octets ≡ x ++ rest
+    → length contents ≤ length octets
+encoding_within octets x rest c k n contents h f e = omega (
+  arith,
+  ap length e,
+  length-append x rest,
+  ap length f.whole,
+  length-append f.identifier (f.len ++ contents),
+  length-append f.len contents,
+)
+
+-- length octets are some
+pub length_first : (l : List ℕ) (n : ℕ) → IsLength l n → (b : ℕ) × (r : List ℕ) × (l ≡ b ∷ r)
+length_first [] n p = absurd p
+length_first (b ∷ r) n p = (b, r, refl)
+
+-- no encoding stands where a header is at fault
+pub header_no_encoding : (place : ℕ) (octets x rest : List ℕ) (e : DecodeFault) (c' : ASN1Class) (k' : Bool) (n' : ℕ) (contents : List ℕ) (h' : ℕ)
+    → HeaderFault place octets e → place + length octets < 2 ^ 64 → octets ≡ x ++ rest → Encoding x c' k' n' contents h' → ⊥
+header_no_encoding place octets x rest e c' k' n' contents h' (no_identifier missing) small d f =
+    let (a, r, l) = length_first f.len (length contents) f.length_octets in
+    missing f.identifier (r ++ (contents ++ rest)) c' k' n' a f.identifier_octets (split_encoding octets x rest _ _ _ _ _ f d ∙ ap (λ z. f.identifier ++ (z ++ (contents ++ rest))) l)
+header_no_encoding place octets x rest e c' k' n' contents h' (no_length s a r c k n t g missing h) small d f =
+    let q = identifier_alone s f.identifier (a ∷ r) (f.len ++ (contents ++ rest)) c c' k k' n n' t f.identifier_octets (sym g ∙ split_encoding octets x rest _ _ _ _ _ f d) in
+    missing f.len (contents ++ rest) (length contents) f.length_octets q.1
+header_no_encoding place octets x rest e c' k' n' contents h' (too_far s l r c k n m t u g far h) small d f =
+    let q = identifier_alone s f.identifier (l ++ r) (f.len ++ (contents ++ rest)) c c' k k' n n' t f.identifier_octets (sym g ∙ split_encoding octets x rest _ _ _ _ _ f d) in
+    let v = length_alone l f.len r (contents ++ rest) m (length contents) u f.length_octets q.1 in
+    omega (arith, far, small, v.2, ap length v.1, ap length g, length-append s (l ++ r), length-append l r, length-append contents rest)
+header_no_encoding place octets x rest e c' k' n' contents h' (too_long s l r c k n m t u g near long) small d f =
+    let q = identifier_alone s f.identifier (l ++ r) (f.len ++ (contents ++ rest)) c c' k k' n n' t f.identifier_octets (sym g ∙ split_encoding octets x rest _ _ _ _ _ f d) in
+    let v = length_alone l f.len r (contents ++ rest) m (length contents) u f.length_octets q.1 in
+    omega (arith, long, v.2, ap length v.1, length-append contents rest)
+
+mutual
+  -- where the first block is at fault, no block stands
+  pub block_fault_no_block : (place : ℕ) (octets x rest : List ℕ) (e : DecodeFault) → BlockFault place octets e → place + length octets < 2 ^ 64
+      → octets ≡ x ++ rest → IsBlock x → ⊥
+  block_fault_no_block place octets x rest e (in_header w) small d b =
+      let F = block_encoding x b in
+      header_no_encoding place octets x rest e F.class F.constructed F.tag F.contents F.header w small d F.encoding
+  block_fault_no_block place octets x rest e (in_contents y r {k = k} {n = n} {contents = contents} {h = h} g f fault) small d b =
+      let F = block_encoding x b in
+      let q = encoding_alone _ _ _ _ _ _ _ _ _ _ _ _ r rest f F.encoding (sym g ∙ d) in
+      contents_fault_no_block n contents e fault (omega (
+        arith,
+        small,
+        encoding_within octets y r Universal k n contents h f g,
+      )) (universal_contents y k n contents h f (subst IsBlock (sym q.octets) b))
+
+  -- contents octets at fault are those of no block
+  pub contents_fault_no_block : (n : ℕ) (contents : List ℕ) (e : DecodeFault) → ContentsFault n contents e → length contents < 2 ^ 64 → UniversalContents n contents → ⊥
+  contents_fault_no_block n contents e (of_leaf_contents p) small (is_unknown u) = false≢true (sym u ∙ leaf_tag_known n (leaf_fault_tag n contents e p))
+  contents_fault_no_block n contents e (of_leaf_contents p) small (is_leaf l t q) = leaf_no_fault n contents e l t q p
+  contents_fault_no_block n contents e (of_leaf_contents p) small (is_group g t bs) = leaf_tag_no_group n g (leaf_fault_tag n contents e p) t
+  contents_fault_no_block n contents e (of_item j t r) small (is_unknown u) = false≢true (sym u ∙ ap is_known_tag t ∙ group_known j)
+  contents_fault_no_block n contents e (of_item j t r) small (is_leaf l u p) = leaf_no_group l j (sym u ∙ t)
+  contents_fault_no_block n contents e (of_item j t r) small (is_group g u bs) = blocks_fault_no_blocks contents e r small bs
+
+  -- octets at fault are no blocks
+  pub blocks_fault_no_blocks : (octets : List ℕ) (e : DecodeFault) → BlocksFault octets e → length octets < 2 ^ 64 → AreBlocks octets → ⊥
+  blocks_fault_no_blocks octets e (after_blocks front rest d fs some stop) small bs =
+      let left = blocks_after octets front rest d fs bs in
+      let (x, r, g, b) = first_block rest left some in
+      block_fault_no_block (length front) rest x r e stop (omega (arith, small, ap length d, length-append front rest)) g b
+
+-- one block is blocks one after another
+pub block_is_blocks : (octets : List ℕ) → IsBlock octets → AreBlocks octets
+block_is_blocks octets b = more_blocks (sym (append-nil octets)) b no_blocks

@@ -1,0 +1,173 @@
+-- A header in a frame, and what it leads: a frame inside, or a leaf.
+use Rattle.std.proofs.Common.{◌≡◌, ℕ, ◌+◌, ◌-◌, ◌<◌, ◌≤◌, ◌^◌, Bool, List, [], ◌∷◌, inl, inr, length, refl, sym, ap, ◌∙◌, subst, arith}
+use Rattle.std.specs.List.{slice_range}
+use Rattle.asn1_blocks.specs.declared.block.GroupKind.{GroupKind}
+use Rattle.asn1_headers.specs.declared.error.ASN1DecodeErr.{ASN1DecodeErr}
+use Rattle.asn1_headers.specs.declared.error.ASN1DecodeErr.TheVariants.{OutOfMemory}
+use Rattle.asn1_headers.specs.declared.header.ASN1Class.{ASN1Class}
+use Rattle.asn1_headers.specs.declared.header.ASN1Class.TheVariants.{Universal}
+use Rattle.asn1_blocks.specs.declared.parsed.Header.{Header}
+use Rattle.asn1_blocks.specs.declared.read.FrameKind.{FrameKind}
+use Rattle.asn1_blocks.specs.declared.read.FrameKind.TheVariants.{Whole, Group, Attempt}
+use Rattle.asn1_headers.specs.Fault.{DecodeFault, OutOfMemoryOr, fault_of}
+use Rattle.asn1_blocks.specs.Contents.{group_tag, is_group_tag, LeafFault}
+use Rattle.asn1_headers.specs.HeaderFault.{HeaderFault}
+use Rattle.asn1_blocks.specs.Grammar.{Encodes, EncodesAll, in_header, in_contents, ContentsFault, of_leaf_contents, of_item}
+use Rattle.asn1_blocks.specs.FaultPlace.{BlockFaultAt, at_header, at_leaf}
+use Rattle.asn1_headers.specs.Header.{Encoding}
+use Rattle.asn1_blocks.specs.HeadersBegun.{IsReadInside, begun_none, begun_some, nothing_inside, nothing_after}
+use Rattle.asn1_blocks.specs.OpenFrames.{Frame, Headed, Opened, Stopping}
+use Rattle.asn1_blocks.specs.HeaderPlaces.{EncodingBetween, HeaderFound}
+use Rattle.asn1_blocks.specs.ReaderSteps.{IsKindOf}
+use Rattle.asn1_blocks.specs.Tree.{Tree, trees_of}
+use Rattle.asn1_blocks.proofs.Faults.{block_fault_no_block, header_no_encoding}
+use Rattle.asn1_blocks.proofs.Frames.Advances.{Follows, opened_places}
+use Rattle.asn1_blocks.proofs.Frames.Slices.{slice_none, slice_slice}
+use Rattle.asn1_blocks.proofs.HeaderCounts.{begun_leaf}
+use Rattle.asn1_blocks.proofs.Leaves.{group_tag_is}
+use Rattle.asn1_blocks.proofs.OneReading.{encodes_block}
+use Rattle.asn1_headers.proofs.Prefixes.{encoding_alone}
+use Rattle.asn1_blocks.proofs.ReadSteps.{slice_length, slice_join}
+
+-- the header found in a slice of the document, in the document
+pub encoding_here : (octets : List ℕ) (s e i a z : ℕ) (c : ASN1Class) (k : Bool) (n : ℕ) → s ≤ e → e ≤ length octets → i < a → a ≤ z → s + z ≤ e
+    → EncodingBetween (slice_range octets s e) c k n i a z → EncodingBetween octets c k n (s + i) (s + a) (s + z)
+encoding_here octets s e i a z c k n h l lt le fits F =
+    let whole : slice_range (slice_range octets s e) i z ≡ slice_range octets (s + i) (s + z) = slice_slice octets s e i z h (omega (arith, lt, le)) fits in
+    let contents : slice_range (slice_range octets s e) a z ≡ slice_range octets (s + a) (s + z) = slice_slice octets s e a z h le fits in
+    let size : a - i ≡ (s + a) - (s + i) = omega arith in
+    subst (λ w. Encoding w c k n (slice_range octets (s + a) (s + z)) ((s + a) - (s + i))) whole
+    (subst (λ w. Encoding (slice_range (slice_range octets s e) i z) c k n w ((s + a) - (s + i))) contents
+    (subst (λ w. Encoding (slice_range (slice_range octets s e) i z) c k n (slice_range (slice_range octets s e) a z) w) size F))
+
+-- the same places in other words
+pub EncodingAt_moved : (octets : List ℕ) (i j a b y z : ℕ) (c : ASN1Class) (k : Bool) (n : ℕ) → i ≡ j → a ≡ b → y ≡ z → EncodingBetween octets c k n i a y
+    → EncodingBetween octets c k n j b z
+EncodingAt_moved octets i j a b y z c k n e f g F =
+    subst (λ w. EncodingBetween octets c k n j b w) g (subst (λ w. EncodingBetween octets c k n j w y) f (subst (λ w. EncodingBetween octets c k n w a y) e F))
+
+-- the frame of contents octets that are read as blocks
+pub headed_by : (octets : List ℕ) (kind : FrameKind) (place limit : ℕ) (h : Header) → IsKindOf kind h place → HeaderFound octets place limit h
+    → Headed octets kind place h.start h.end
+headed_by octets Whole place limit h k w = absurd k
+headed_by octets (Group g o) place limit h k w =
+    let tag = subst (λ z. EncodingBetween octets h.class h.constructed z place h.start h.end) k.1 w.encoding in
+    let own = subst (λ z. EncodingBetween octets z h.constructed (group_tag g) place h.start h.end) k.0 tag in
+    subst (λ z. Headed octets (Group g z) place h.start h.end) (sym k.2) (refl, record { constructed = h.constructed; encoding = own })
+headed_by octets (Attempt a) place limit h k w =
+    let bit = subst (λ z. EncodingBetween octets h.class z h.tag place h.start h.end) k.1 w.encoding in
+    subst (λ z. Headed octets (Attempt z) place h.start h.end) (sym k.2) (refl, record { other = k.0; encoding = bit })
+
+-- a frame is opened
+pub opened_open : (octets : List ℕ) (f h : Frame) (gs : List Frame) (p n : ℕ) → h.trees ≡ [] → Headed octets h.extent.kind p h.extent.start h.extent.end
+    → p < h.extent.start → h.extent.start ≤ h.extent.end → h.extent.end ≤ f.extent.end → Opened octets f gs p n
+    → Opened octets h (f ∷ gs) h.extent.start (n + 1)
+opened_open octets f h gs p n e H lt le fits o =
+    let w = opened_places octets f gs p n o in
+    let s = h.extent.start in
+    let none_yet = slice_none octets s in
+    record {
+      offset = p;
+      before = n;
+      own = 0;
+      headed = H;
+      after = lt;
+      fits = fits;
+      read = record {
+        from = omega arith;
+        to = le;
+        within = omega (arith, fits, w.within);
+        encoded = subst (λ z. EncodesAll s (slice_range octets s s) (trees_of z)) (sym e) none_yet;
+        begun = begun_none none_yet;
+      };
+      around = o;
+      total = omega arith;
+    }
+
+-- the header is at fault
+pub header_stopping : (octets : List ℕ) (f : Frame) (gs : List Frame) (p n : ℕ) (e : DecodeFault) → length octets < 2 ^ 64 → p < f.extent.end
+    → Opened octets f gs p n → HeaderFault (p - f.extent.start) (slice_range octets p f.extent.end) e → Stopping octets f gs e p (n + 1)
+header_stopping octets f gs p n e small here o u =
+    let v = opened_places octets f gs p n o in
+    let i = p - f.extent.start in
+    let rest = slice_range octets p f.extent.end in
+    let l = slice_length octets p f.extent.end v.to v.within in
+    let near : i + length rest < 2 ^ 64 = omega (arith, l, v.from, v.to, v.within, small) in
+    let no_header = nothing_inside (λ x r c k t contents h g F op. header_no_encoding i rest x r e c k t contents h u near g F) in
+    let no_block = nothing_after (λ x r g b. block_fault_no_block i rest x r e (in_header u) near g b) in
+    record {
+      place = p;
+      before = n;
+      own = 1;
+      opened = o;
+      stops = record {
+        here = here;
+        inside = 0;
+        stops = at_header u;
+        innermost = omega arith;
+        begun = begun_some (omega (arith, l, here)) 0 0 no_header no_block refl;
+      };
+      total = refl;
+    }
+
+-- contents octets at fault that are no group's are a leaf's
+leaf_at_fault : (n : ℕ) (contents : List ℕ) (e : DecodeFault) → ((g : GroupKind) → n ≡ group_tag g → ⊥) → ContentsFault n contents e → LeafFault n contents e
+leaf_at_fault n contents e other (of_leaf_contents p) = p
+leaf_at_fault n contents e other (of_item g t p) = absurd (other g t)
+
+-- the contents octets of a leaf are at fault
+pub leaf_stopping : (octets : List ℕ) (f : Frame) (gs : List Frame) (p n : ℕ) (h : Header) (e : DecodeFault) → length octets < 2 ^ 64
+    → HeaderFound octets p f.extent.end h → Opened octets f gs p n → (IsReadInside h.class h.constructed h.tag → ⊥) → h.class ≡ Universal
+    → ContentsFault h.tag (slice_range octets h.start h.end) e → Stopping octets f gs e p (n + 1)
+leaf_stopping octets f gs p n h e small found o shut u w =
+    let v = opened_places octets f gs p n o in
+    let i = p - f.extent.start in
+    let q = h.end in
+    let rest = slice_range octets p f.extent.end in
+    let first = slice_range octets p q in
+    let behind = slice_range octets q f.extent.end in
+    let d = slice_join octets p q f.extent.end (omega (arith, found.past, found.order)) found.fits in
+    let l = slice_length octets p f.extent.end v.to v.within in
+    let near : i + length rest < 2 ^ 64 = omega (arith, l, v.from, v.to, v.within, small) in
+    let F = subst (λ z. EncodingBetween octets z h.constructed h.tag p h.start h.end) u found.encoding in
+    let no_group = λ (g : GroupKind) (t : h.tag ≡ group_tag g). shut (inl (u, ap is_group_tag t ∙ group_tag_is g)) in
+    let stops : BlockFaultAt i rest e 0 = at_leaf first behind d F (leaf_at_fault h.tag (slice_range octets h.start h.end) e no_group w) in
+    let here : p < f.extent.end = omega (arith, found.past, found.order, found.fits) in
+    let no_header = nothing_inside (λ y r c k t contents m g G op.
+    let z = encoding_alone _ _ _ _ _ _ _ _ _ _ _ _ behind r found.encoding G (sym d ∙ g) in
+    let tag = subst (λ i. IsReadInside c k i) (sym z.tag) op in
+    let bit = subst (λ i. IsReadInside c i h.tag) (sym z.constructed) tag in
+    shut (subst (λ i. IsReadInside i h.constructed h.tag) (sym z.class) bit)) in
+    let no_block = nothing_after (λ x r g b. block_fault_no_block i rest x r e (in_contents first behind d F w) near g b) in
+    record {
+      place = p;
+      before = n;
+      own = 1;
+      opened = o;
+      stops = record {
+        here = here;
+        inside = 0;
+        stops = stops;
+        innermost = omega arith;
+        begun = begun_some (omega (arith, l, here)) 0 0 no_header no_block refl;
+      };
+      total = refl;
+    }
+
+-- a leaf is read
+pub leaf_follows : (octets : List ℕ) (f : Frame) (p : ℕ) (h : Header) (t : Tree ℕ) → HeaderFound octets p f.extent.end h
+    → (IsReadInside h.class h.constructed h.tag → ⊥) → Encodes p (slice_range octets p h.end) t → Follows octets f p h.end t 1
+leaf_follows octets f p h t found shut w =
+    let all = slice_range octets p h.end in
+    let contents = slice_range octets h.start h.end in
+    record {
+      from = omega (arith, found.past, found.order);
+      to = found.fits;
+      encoded = w;
+      begun = begun_leaf all h.class h.constructed h.tag contents (h.start - p) found.encoding shut (encodes_block p all t w);
+    }
+
+-- a fault that is not that memory ran out
+pub fault_here : (P : DecodeFault → Type 0) (e : ASN1DecodeErr) → OutOfMemoryOr P e → (e ≡ OutOfMemory → ⊥) → P (fault_of e)
+fault_here P e (inl m) other = absurd (other m)
+fault_here P e (inr p) other = p

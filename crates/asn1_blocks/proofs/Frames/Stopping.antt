@@ -1,0 +1,175 @@
+-- A fault goes outward through frames: out of groups, to the innermost attempt or to the document.
+use Rattle.std.proofs.Common.{◌≡◌, ℕ, ◌+◌, ◌-◌, ◌<◌, ◌≤◌, ◌^◌, true, List, [], ◌∷◌, ◌++◌, inl, inr, length, refl, sym, ap, ◌∙◌, subst, arith}
+use Rattle.std.specs.List.{slice_range}
+use Rattle.asn1_blocks.specs.declared.block.GroupKind.{GroupKind}
+use Rattle.asn1_blocks.specs.declared.owed.Attempt as owed
+use Rattle.asn1_blocks.specs.declared.read.FrameKind.{FrameKind}
+use Rattle.asn1_blocks.specs.declared.read.FrameKind.TheVariants.{Whole, Group, Attempt}
+use Rattle.asn1_headers.specs.Fault.{DecodeFault}
+use Rattle.asn1_blocks.specs.FaultPlace.{BlockFaultAt, at_item, BlocksFaultAt, at_block}
+use Rattle.asn1_blocks.specs.Grammar.{IsBlock, of_other_class}
+use Rattle.asn1_blocks.specs.HeadersBegun.{HeadersBegun, begun_some, inside_first, nothing_after}
+use Rattle.asn1_blocks.specs.OpenFrames.{Frame, ReadTo, GroupAt, Headed, Opened, StopsAt, Stopping}
+use Rattle.asn1_blocks.specs.Owed.{as_it_came}
+use Rattle.asn1_blocks.specs.ReaderSteps.{FaultyDocument}
+use Rattle.asn1_blocks.specs.Tree.{Tree, trees_of}
+use Rattle.asn1_blocks.proofs.Faults.{block_is_blocks, block_fault_no_block, blocks_fault_no_blocks}
+use Rattle.asn1_blocks.proofs.FaultPlaces.{block_placed, blocks_placed}
+use Rattle.asn1_blocks.proofs.Frames.Advances.{Follows, opened_places, opened_bound}
+use Rattle.asn1_blocks.proofs.Frames.Slices.{slice_all}
+use Rattle.asn1_blocks.proofs.HeaderCounts.{begun_le, begun_join, begun_opened}
+use Rattle.asn1_blocks.proofs.Leaves.{group_tag_is}
+use Rattle.asn1_blocks.proofs.OneReading.{encodes_blocks}
+use Rattle.asn1_blocks.proofs.ReadSteps.{slice_length, slice_join}
+
+-- contents octets that have a fault
+pub record FaultyContents (octets contents : List ℕ) (start : ℕ) (e : DecodeFault) (offset n : ℕ) : Type 0 where
+  pub after : ℕ
+  pub fault : BlocksFaultAt contents e after
+  pub innermost : offset ≡ start + after
+  pub begun : HeadersBegun contents n
+
+-- those of a frame where a block is at fault
+refused_read : (octets : List ℕ) (f : Frame) (p : ℕ) (e : DecodeFault) (offset a b : ℕ) → ReadTo octets f p a → StopsAt octets f p e offset b
+    → FaultyContents octets (slice_range octets f.extent.start f.extent.end) f.extent.start e offset (a + b)
+refused_read octets f p e offset a b r s =
+    let from = f.extent.start in
+    let to = f.extent.end in
+    let front = slice_range octets from p in
+    let rest = slice_range octets p to in
+    let whole : slice_range octets from to ≡ front ++ rest = slice_join octets from p to r.from r.to in
+    let k = encodes_blocks from front (trees_of f.trees) r.encoded in
+    let l : length front ≡ p - from = slice_length octets from p r.from (omega (arith, r.to, r.within)) in
+    let some : 0 < length rest = omega (arith, slice_length octets p to r.to r.within, s.here) in
+    record {
+      after = (p - from) + s.inside;
+      fault = at_block front rest whole k some s.inside (subst (λ z. BlockFaultAt z rest e s.inside) (sym l) s.stops) (omega (arith, l));
+      innermost = omega (arith, s.innermost, r.from);
+      begun = subst (λ z. HeadersBegun z (a + b)) (sym whole) (begun_join front rest a b k r.begun s.begun);
+    }
+
+-- a group whose contents octets are at fault
+pub group_stops : (octets : List ℕ) (g : Frame) (o s e : ℕ) (y : GroupKind) (fault : DecodeFault) (offset a : ℕ) → length octets < 2 ^ 64 → g.extent.start ≤ o
+    → o < s → s ≤ e → e ≤ g.extent.end → g.extent.end ≤ length octets → GroupAt octets y o s e
+    → FaultyContents octets (slice_range octets s e) s fault offset a → StopsAt octets g o fault offset (1 + a)
+group_stops octets g o s e y fault offset a small low lt le fits within G r =
+    let end = g.extent.end in
+    let i = o - g.extent.start in
+    let first = slice_range octets o e in
+    let behind = slice_range octets e end in
+    let rest = slice_range octets o end in
+    let d = slice_join octets o e end (omega arith) fits in
+    let len = slice_length octets o end (omega arith) within in
+    let stops : BlockFaultAt i rest fault ((s - o) + r.after) = at_item first behind d G.encoding y refl r.after r.fault refl in
+    let fault_here = block_placed i rest fault ((s - o) + r.after) stops in
+    let no_block = nothing_after (λ x z c b. block_fault_no_block i rest x z fault fault_here (omega (arith, len, small)) c b) in
+    let inside = inside_first first behind d G.encoding (inl (refl, group_tag_is y)) r.begun in
+    record {
+      here = omega arith;
+      inside = (s - o) + r.after;
+      stops = stops;
+      innermost = omega (arith, r.innermost, lt);
+      begun = begun_some (omega (arith, len)) a 0 inside no_block (omega arith);
+    }
+
+-- a fault leaves a group
+stop_group : (octets : List ℕ) (f g : Frame) (gs : List Frame) (e : DecodeFault) (offset n x : ℕ) (y : GroupKind) → length octets < 2 ^ 64
+    → f.extent.kind ≡ Group y x → Stopping octets f (g ∷ gs) e offset n → Stopping octets g gs e offset n
+stop_group octets f g gs e offset n x y small k w =
+    let o = w.opened in
+    let s = f.extent.start in
+    let H = subst (λ z. Headed octets z o.offset s f.extent.end) k o.headed in
+    let r = refused_read octets f w.place e offset o.own w.own o.read w.stops in
+    let v = opened_places octets g gs o.offset o.before o.around in
+    record {
+      place = x;
+      before = o.before;
+      own = 1 + (o.own + w.own);
+      opened = subst (λ z. Opened octets g gs z o.before) (sym H.0) o.around;
+      stops = group_stops octets g x s f.extent.end y e offset (o.own + w.own) small (omega (arith, H.0, v.from)) (omega (arith, H.0, o.after))
+          (omega (arith, o.read.from, o.read.to)) o.fits v.within H.1 r;
+      total = omega (arith, w.total, o.total);
+    }
+
+-- a fault goes on to the frame around it
+pub stop_pop : (octets : List ℕ) (f g : Frame) (gs : List Frame) (e : DecodeFault) (offset n : ℕ) → length octets < 2 ^ 64
+    → ((a : owed.Attempt) → f.extent.kind ≡ Attempt a → ⊥) → Stopping octets f (g ∷ gs) e offset n → Stopping octets g gs e offset n
+stop_pop octets f g gs e offset n small other w = go f.extent.kind refl
+  where
+    go : (k : FrameKind) → f.extent.kind ≡ k → Stopping octets g gs e offset n
+    go Whole d = absurd (subst (λ z. Headed octets z w.opened.offset f.extent.start f.extent.end) d w.opened.headed)
+    go (Group y x) d = stop_group octets f g gs e offset n x y small d w
+    go (Attempt a) d = absurd (other a d)
+
+-- what a closed frame is in the frame around it
+pub record Closed (octets : List ℕ) (g : Frame) (gs : List Frame) (end : ℕ) (t : Tree ℕ) (n : ℕ) : Type 0 where
+  pub place : ℕ
+  pub before : ℕ
+  pub own : ℕ
+  pub opened : Opened octets g gs place before
+  pub follows : Follows octets g place end t own
+  pub total : n ≡ before + own
+
+-- a fault closes an attempt
+pub stop_attempt : (octets : List ℕ) (f g : Frame) (gs : List Frame) (e : DecodeFault) (offset n : ℕ) (a : owed.Attempt) → length octets < 2 ^ 64
+    → f.extent.kind ≡ Attempt a → Stopping octets f (g ∷ gs) e offset n → Closed octets g gs f.extent.end (as_it_came octets a f.extent.start f.extent.end) n
+stop_attempt octets f g gs e offset n a small k w =
+    let o = w.opened in
+    let s = f.extent.start in
+    let z = f.extent.end in
+    let contents = slice_range octets s z in
+    let H = subst (λ i. Headed octets i o.offset s z) k o.headed in
+    let F = H.1.encoding in
+    let r = refused_read octets f w.place e offset o.own w.own o.read w.stops in
+    let l = slice_length octets s z (omega (arith, o.read.from, o.read.to)) o.read.within in
+    let short : length contents < 2 ^ 64 = omega (arith, l, small, o.read.within) in
+    let fault = blocks_placed contents e r.after r.fault in
+    let no_block = λ (i : (true ≡ true) × IsBlock contents). blocks_fault_no_blocks contents e fault short (block_is_blocks contents i.1) in
+    let m = o.own + w.own in
+    record {
+      place = a.offset;
+      before = o.before;
+      own = 1 + m;
+      opened = subst (λ i. Opened octets g gs i o.before) (sym H.0) o.around;
+      follows = record {
+        from = omega (arith, H.0, o.after, o.read.from, o.read.to);
+        to = o.fits;
+        encoded = (s - a.offset, F, refl, inr (H.1.other, no_block));
+        begun = begun_opened (slice_range octets a.offset z) a.class true a.tag contents (s - a.offset) m F (inr (H.1.other, refl)) (of_other_class F H.1.other)
+            r.begun;
+      };
+      total = omega (arith, w.total, o.total);
+    }
+
+-- the contents octets of the outermost frame are the document
+pub whole_document : (octets : List ℕ) (f : Frame) → f.extent.start ≡ 0 → f.extent.end ≡ length octets → slice_range octets f.extent.start f.extent.end ≡ octets
+whole_document octets f s e = ap (λ z. slice_range octets z f.extent.end) s ∙ (ap (slice_range octets 0) e ∙ slice_all octets)
+
+-- a fault in no attempt
+pub stop_document : (octets : List ℕ) (f : Frame) (e : DecodeFault) (offset n : ℕ) → Stopping octets f [] e offset n → FaultyDocument octets e offset n
+stop_document octets f e offset n w =
+    let r = refused_read octets f w.place e offset w.before w.own w.opened.read w.stops in
+    let d = whole_document octets f w.opened.whole.start w.opened.whole.end in
+    let begun = subst (λ z. HeadersBegun z (w.before + w.own)) d r.begun in
+    let whole : BlocksFaultAt octets e r.after = subst (λ z. BlocksFaultAt z e r.after) d r.fault in
+    let o : r.after ≡ offset = omega (arith, r.innermost, w.opened.whole.start) in
+    record { fault = subst (λ z. BlocksFaultAt octets e z) o whole; begun = subst (λ z. HeadersBegun octets z) (sym w.total) begun }
+
+-- where a fault is
+pub record StoppingPlaces (octets : List ℕ) (f : Frame) (n : ℕ) : Type 0 where
+  pub order : f.extent.start ≤ f.extent.end
+  pub within : f.extent.end ≤ length octets
+  pub bound : n ≤ length octets
+
+pub stopping_places : (octets : List ℕ) (f : Frame) (gs : List Frame) (e : DecodeFault) (offset n : ℕ) → Stopping octets f gs e offset n
+    → StoppingPlaces octets f n
+stopping_places octets f gs e offset n w =
+    let p = w.place in
+    let v = opened_places octets f gs p w.before w.opened in
+    let most = begun_le (slice_range octets p f.extent.end) w.own w.stops.begun in
+    let l = slice_length octets p f.extent.end v.to v.within in
+    record {
+      order = omega (arith, v.from, v.to);
+      within = v.within;
+      bound = omega (arith, w.total, opened_bound octets f gs p w.before w.opened, most, l, v.within, v.to);
+    }

@@ -1,0 +1,108 @@
+-- Slices of the document, and what a header in them says.
+use Rattle.asn1_leaves.proofs.SliceSplit.{slice_split}
+use Rattle.std.proofs.Common.{◌≡◌, ℕ, ◌+◌, ◌-◌, ◌<◌, ◌≤◌, ◌^◌, Bool, List, [], ◌∷◌, ◌++◌, inl, inr, length, take, drop, Vec, Global, drop-drop, length-drop, length-take, refl, sym, ap, ◌∙◌, subst, arith, rules, length-append, append_assoc, append-nil}
+use Rattle.std.specs.List.{slice_range}
+use Rattle.std.proofs.lemmas.List.{take-append-drop}
+use Rattle.std.proofs.Math.Seq.{take-add}
+use Rattle.asn1_headers.specs.declared.header.ASN1Class.{ASN1Class}
+use Rattle.asn1_headers.specs.declared.error.ASN1DecodeErr.{ASN1DecodeErr}
+use Rattle.asn1_headers.specs.Fault.{DecodeFault, OutOfMemoryOr, incomplete, length_too_large}
+use Rattle.asn1_headers.specs.Header.{IsIdentifier, IsLength, Encoding, IsSomeIdentifier, IsIncomplete, length_fault}
+use Rattle.asn1_blocks.specs.declared.block.ASN1Block.{ASN1Block, Unknown, the_lemmas}
+use Rattle.asn1_blocks.specs.View.{view, views}
+use Rattle.asn1_headers.proofs.Prefixes.{identifier_alone}
+use Rattle.asn1_blocks.specs.Tree.{Tree, Trees, unknown, no_trees, more_trees}
+use Rattle.asn1_headers.specs.HeaderFault.{HeaderFault, no_identifier, no_length, too_far, too_long}
+use Rattle.asn1_blocks.specs.Grammar.{Encodes, EncodesAll}
+
+abbrev pub with_last : {O : Type 0} → Trees O → Tree O → Trees O
+with_last no_trees b = more_trees b no_trees
+with_last (more_trees x xs) b = more_trees x (with_last xs b)
+
+-- one more block at the end
+pub encodes_more : (o : ℕ) (octets last : List ℕ) (bs : Trees ℕ) (b : Tree ℕ) → EncodesAll o octets bs → Encodes (o + length octets) last b
+    → EncodesAll o (octets ++ last) (with_last bs b)
+encodes_more o octets last no_trees b s t =
+    (last, [], ap (λ z. z ++ last) s ∙ sym (append-nil last), subst (λ z. Encodes z last b) (omega (arith, ap length s)) t, refl)
+encodes_more o octets last (more_trees x xs) b s t = (
+  s.0,
+  s.1 ++ last,
+  ap (λ z. z ++ last) s.2 ∙ append_assoc s.0 s.1 last,
+  s.3,
+  encodes_more (o + length s.0) s.1 last xs b s.4 (subst (λ z. Encodes z last b) (omega (arith, ap length s.2, length-append s.0 s.1)) t),
+)
+
+pub views_push : (bs : List ASN1Block) (b : ASN1Block) → views (bs ++ b ∷ []) ≡ with_last (views bs) (view b)
+views_push [] b = refl
+views_push (x ∷ bs) b = ap (more_trees (view x)) (views_push bs b)
+
+pub slice_length : (octets : List ℕ) (i j : ℕ) → i ≤ j → j ≤ length octets → length (slice_range octets i j) ≡ j - i
+slice_length octets i j h l = omega (arith, length-take (j - i) (drop i octets), length-drop i octets)
+
+pub slice_join : (octets : List ℕ) (i j k : ℕ) → i ≤ j → j ≤ k → slice_range octets i k ≡ slice_range octets i j ++ slice_range octets j k
+slice_join octets i j k h l =
+    let e : k - i ≡ (j - i) + (k - j) = omega arith in
+    ap (λ n. take n (drop i octets)) e ∙ (take-add (j - i) (k - j) (drop i octets)
+    ∙ ap (λ r. take (j - i) (drop i octets) ++ take (k - j) r) (drop-drop (j - i) i octets ∙ ap (λ n. drop n octets) (omega arith)))
+
+module _ (octets : List ℕ) (c : ASN1Class) (b : Bool) (n i j k m : ℕ) (h : i ≤ j) (l : j ≤ k) (t : IsIdentifier (slice_range octets i j) c b n) (u : IsLength (slice_range octets j k) m) where
+  -- the encoding that was read
+  pub encoding_read : (e : ℕ) → e ≡ k + m → e ≤ length octets → Encoding (slice_range octets i e) c b n (slice_range octets k e) (k - i)
+  encoding_read e q fits =
+      let s : length (slice_range octets k e) ≡ m = omega (arith, slice_length octets k e (omega arith) fits) in
+      record {
+        identifier = slice_range octets i j;
+        len = slice_range octets j k;
+        identifier_octets = t;
+        length_octets = subst (IsLength (slice_range octets j k)) (sym s) u;
+        whole = slice_join octets i j e h (omega arith) ∙ ap (λ r. slice_range octets i j ++ r) (slice_join octets j k e l (omega arith));
+        size = omega (arith, slice_length octets i j h (omega arith), slice_length octets j k l (omega arith));
+      }
+
+  split_here : drop i octets ≡ slice_range octets i j ++ (slice_range octets j k ++ drop k octets)
+  split_here = slice_split octets i j h ∙ ap (λ r. slice_range octets i j ++ r) (slice_split octets j k l)
+
+  pub far_here : k ≤ length octets → 2 ^ 64 ≤ k + m → HeaderFault i (drop i octets) (length_too_large m)
+  far_here fits far =
+      too_far (slice_range octets i j) (slice_range octets j k) (drop k octets) c b n m t u split_here (omega (
+        arith,
+        slice_length octets i j h (omega arith),
+        slice_length octets j k l fits,
+      )) refl
+
+  pub long_here : k ≤ length octets → k + m < 2 ^ 64 → length octets < k + m → HeaderFault i (drop i octets) incomplete
+  long_here fits near long =
+      too_long (slice_range octets i j) (slice_range octets j k) (drop k octets) c b n m t u split_here (omega (
+        arith,
+        slice_length octets i j h (omega arith),
+        slice_length octets j k l fits,
+      )) (omega (arith, length-drop k octets))
+
+front_taken : (s rest : List ℕ) → take (length s) (s ++ rest) ≡ s
+front_taken [] rest = refl
+front_taken (b ∷ s) rest = ap (λ l. b ∷ l) (front_taken s rest)
+
+-- identifier octets that are not there
+pub identifier_missed : (place : ℕ) (octets : List ℕ) (e : ASN1DecodeErr) → OutOfMemoryOr (IsIncomplete IsSomeIdentifier octets) e → OutOfMemoryOr (HeaderFault place octets) e
+identifier_missed place octets e (inl memory) = inl memory
+identifier_missed place octets e (inr (f, missing)) =
+    inr (subst (HeaderFault place octets) (sym f) (no_identifier (λ s rest c k n b t d. missing n (length s) (
+      c,
+      k,
+      subst (λ l. IsIdentifier l c k n) (sym (ap (take (length s)) d ∙ front_taken s (b ∷ rest))) t,
+    ))))
+
+-- length octets that are not there
+pub length_missed : (place : ℕ) (octets s rest : List ℕ) (c : ASN1Class) (k : Bool) (n : ℕ) (e : DecodeFault) → IsIdentifier s c k n → octets ≡ s ++ rest
+    → ((m j : ℕ) → IsLength (take j rest) m → ⊥) → e ≡ length_fault rest → HeaderFault place octets e
+length_missed place octets s [] c k n e t d missing h =
+    subst (HeaderFault place octets) (sym h) (no_identifier (λ s' r c' k' n' b t' d'. let q = identifier_alone s s' [] (b ∷ r) c c' k k' n n' t t' (sym d ∙ d') in let f : [] ≡ b ∷ r = q.1 in cc))
+length_missed place octets s (b ∷ rest) c k n e t d missing h =
+    no_length s b rest c k n t d (λ l r m u f. missing m (length l) (subst (λ z. IsLength z m) (sym (ap (take (length l)) f ∙ front_taken l r)) u)) h
+
+pub no_octets : (contents : List ℕ) → length contents ≡ 0 → contents ≡ []
+no_octets [] e = refl
+no_octets (b ∷ contents) e = absurd (omega (arith, e))
+
+pub view-Unknown : (c : ASN1Class) (k : Bool) (o t : ℕ) (v : Vec ℕ Global) → view (Unknown c k o t v) ≡ unknown c k o t v.items
+view-Unknown c k o t v = search (rules, the_lemmas)

@@ -1,0 +1,23 @@
+use Rattle.std.proofs.Common.{sym, ap, ◌∙◌}
+use Rattle.asn1_blocks.specs.TreeOrder.{inside}
+use Rattle.asn1_blocks.specs.View.{view, views}
+use Rattle.asn1_blocks.proofs.BlockLists.{count, count_views}
+use Rattle.asn1_blocks.proofs.CopySteps.{sequence_of_copies, set_of_copies, view_explicit}
+use Rattle.asn1_blocks.proofs.block.copy.copy_over.Goals as goal
+
+pub into_box-requires : goal.into_box-requires
+into_box-requires c =
+    let r = c.in-Explicit in
+    sym (count_views c.args.held.made.items) ∙ (ap count c.requires ∙ ap (λ z. count (inside z)) (ap view r.is ∙ view_explicit r.c r.o r.t r.field-3))
+
+pub returns-in-Sequence : goal.returns-in-Sequence
+returns-in-Sequence c =
+    let r = c.in-Sequence in
+    let e = ap (λ v. views v.items) c.into_blocks.ensures ∙ (c.requires ∙ ap (λ b. inside (view b)) r.is) in
+    sequence_of_copies r.o r.field-1 c.into_blocks.result e ∙ ap view (sym r.is)
+
+pub returns-in-Set : goal.returns-in-Set
+returns-in-Set c =
+    let r = c.in-Set in
+    let e = ap (λ v. views v.items) c.into_blocks-in-Set.ensures ∙ (c.requires ∙ ap (λ b. inside (view b)) r.is) in
+    set_of_copies r.o r.field-1 c.into_blocks-in-Set.result e ∙ ap view (sym r.is)

@@ -1,0 +1,20 @@
+use Rattle.std.proofs.Common.{◌≡◌, ◌++◌, ◌∷◌, [], map, sym, ap, arith}
+use Rattle.std.proofs.lemmas.Grind.{common_steps}
+use Rattle.asn1_blocks.specs.TreeOrder.{stacked}
+use Rattle.asn1_blocks.proofs.TreeOrders.{below_push, none_in}
+use Rattle.asn1_blocks.proofs.walk.TreeWalk.enter.Goals as goal
+
+pub returns-then-is_empty : goal.returns-then-is_empty
+returns-then-is_empty c =
+    let outer = stacked (map (λ x. x.now) c.args.self.now.outer.items) in
+    ap (λ z. z ++ (c.args.rest.now ++ outer)) (sym (none_in c.args.held.now (grind (arith, common_steps))))
+
+pub returns-then-is_empty-2 : goal.returns-then-is_empty-2
+returns-then-is_empty-2 c =
+    let outer = stacked (map (λ x. x.now) c.args.self.now.outer.items) in
+    ap (λ z. c.args.held.now ++ (z ++ outer)) (sym (none_in c.args.rest.now (grind (arith, common_steps))))
+
+pub returns : goal.returns
+returns c =
+    let o : c.push.new.self.items ≡ c.args.self.now.outer.items ++ c.args.rest ∷ [] = grind (arith, common_steps) in
+    ap (λ z. c.args.held.now ++ z) (below_push c.push.new.self.items c.args.self.now.outer.items c.args.rest o)

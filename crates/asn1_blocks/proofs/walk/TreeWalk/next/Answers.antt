@@ -1,0 +1,12 @@
+use Rattle.std.proofs.Common.{◌≡◌, ◌++◌, ◌∷◌, [], map, sym, ap, ◌∙◌, arith}
+use Rattle.std.proofs.lemmas.Grind.{common_steps}
+use Rattle.asn1_blocks.specs.TreeOrder.{stacked}
+use Rattle.asn1_blocks.proofs.TreeOrders.{below_push, none_in}
+use Rattle.asn1_blocks.proofs.walk.TreeWalk.next.Goals as goal
+
+pub loop-block-preserved : goal.loop-block-preserved
+loop-block-preserved c =
+    let outer = c.loop-block.self.outer.items in
+    let o : outer ≡ c.pop.new.self.items ++ c.in-Some-pop.rest ∷ [] = grind (arith, common_steps) in
+    let e = none_in c.loop-block.self.front.now (grind (arith, common_steps)) in
+    sym (ap (λ z. z ++ stacked (map (λ x. x.now) outer)) e ∙ below_push outer c.pop.new.self.items c.in-Some-pop.rest o) ∙ c.loop-block.invariant

@@ -1,0 +1,9 @@
+use Rattle.std.proofs.Common.{◌≡◌, length}
+use Rattle.asn1_blocks.specs.TreeOrder.{ahead}
+use Rattle.asn1_blocks.proofs.walk.TreeWalk.next.Given as goal
+
+abbrev pub invariant-loop-block : goal.invariant-loop-block
+invariant-loop-block l = ahead l.self ≡ ahead l.fn.self
+
+abbrev pub decreases-loop-block : goal.decreases-loop-block
+decreases-loop-block l = length l.self.outer.items

@@ -1,0 +1,104 @@
+-- What is taken out of a tree: its tag number, what it holds, its value, and its blocks in order.
+use Rattle.std.specs.Prelude.{ℕ, ℤ, List, [], ◌∷◌, ◌++◌, Option, Some, None}
+use Rattle.asn1_blocks.specs.Contents.{leaf_tag, group_tag}
+use Rattle.asn1_blocks.specs.Tree.{
+  Leaf,
+  Tree,
+  Trees,
+  bit_string,
+  boolean,
+  explicit,
+  generalized_time,
+  group,
+  integer,
+  leaf,
+  more_trees,
+  no_trees,
+  null,
+  object_identifier,
+  octet_string,
+  text,
+  unknown,
+  utc_time,
+}
+
+-- the tag number: that of its kind, or its own
+abbrev pub tree_tag : {O : Type 0} → Tree O → ℕ
+tree_tag (leaf o l) = leaf_tag l
+tree_tag (group o g bs) = group_tag g
+tree_tag (explicit c o n b) = n
+tree_tag (unknown c k o n v) = n
+
+-- the trees that a SEQUENCE, SET or explicit tagging holds
+abbrev pub tree_items : {O : Type 0} → Tree O → Option (Trees O)
+tree_items (leaf o l) = None
+tree_items (group o g bs) = Some bs
+tree_items (explicit c o n b) = Some (more_trees b no_trees)
+tree_items (unknown c k o n v) = None
+
+abbrev pub leaf_text : Leaf → Option (List ℕ)
+leaf_text (boolean b) = None
+leaf_text (integer n) = None
+leaf_text (bit_string n v) = None
+leaf_text (octet_string v) = None
+leaf_text null = None
+leaf_text (object_identifier ns) = None
+leaf_text (text kind cs) = Some cs
+leaf_text (utc_time m) = None
+leaf_text (generalized_time m) = None
+
+-- the characters of a string, of whatever kind
+abbrev pub tree_text : {O : Type 0} → Tree O → Option (List ℕ)
+tree_text (leaf o l) = leaf_text l
+tree_text (group o g bs) = None
+tree_text (explicit c o n b) = None
+tree_text (unknown c k o n v) = None
+
+abbrev pub leaf_integer : Leaf → Option ℤ
+leaf_integer (boolean b) = None
+leaf_integer (integer n) = Some n
+leaf_integer (bit_string n v) = None
+leaf_integer (octet_string v) = None
+leaf_integer null = None
+leaf_integer (object_identifier ns) = None
+leaf_integer (text kind cs) = None
+leaf_integer (utc_time m) = None
+leaf_integer (generalized_time m) = None
+
+-- the number of an INTEGER
+abbrev pub tree_integer : {O : Type 0} → Tree O → Option ℤ
+tree_integer (leaf o l) = leaf_integer l
+tree_integer (group o g bs) = None
+tree_integer (explicit c o n b) = None
+tree_integer (unknown c k o n v) = None
+
+abbrev pub leaf_octets : Leaf → Option (List ℕ)
+leaf_octets (boolean b) = None
+leaf_octets (integer n) = None
+leaf_octets (bit_string n v) = None
+leaf_octets (octet_string v) = Some v
+leaf_octets null = None
+leaf_octets (object_identifier ns) = None
+leaf_octets (text kind cs) = None
+leaf_octets (utc_time m) = None
+leaf_octets (generalized_time m) = None
+
+-- the octets of an OCTET STRING
+abbrev pub tree_octets : {O : Type 0} → Tree O → Option (List ℕ)
+tree_octets (leaf o l) = leaf_octets l
+tree_octets (group o g bs) = None
+tree_octets (explicit c o n b) = None
+tree_octets (unknown c k o n v) = None
+
+abbrev mutual
+  -- the tree, and then those that it holds, each followed by its own
+  pub in_order : {O : Type 0} → Tree O → List (Tree O)
+  in_order (leaf o l) = leaf o l ∷ []
+  in_order (group o g bs) = group o g bs ∷ all_in_order bs
+  in_order (explicit c o n b) = explicit c o n b ∷ in_order b
+  in_order (unknown c k o n v) = unknown c k o n v ∷ []
+
+  -- so the trees of a list, one after another
+  pub all_in_order : {O : Type 0} → Trees O → List (Tree O)
+  all_in_order no_trees = []
+  all_in_order (more_trees b bs) = in_order b ++ all_in_order bs

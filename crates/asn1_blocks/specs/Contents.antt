@@ -1,0 +1,168 @@
+-- Contents octets of class Universal: a module for each kind that has a rule says what the octets
+-- mean, how they are at fault, what is written and what can't be; here is which tag has which.
+use Rattle.std.specs.Prelude.{◌≡◌, ◌==◌, ◌||◌, ◌⊎◌, ℕ, Bool, List, [], Option, None}
+use Rattle.asn1_blocks.specs.declared.block.GroupKind.{GroupKind}
+use Rattle.asn1_blocks.specs.declared.block.GroupKind.TheVariants.{Sequence, Set}
+use Rattle.asn1_headers.specs.declared.error.ASN1EncodeErr.{ASN1EncodeErr}
+use Rattle.asn1_leaves.specs.StringKind.{StringKind, utf8, printable, teletex, ia5, universal, bmp}
+use Rattle.asn1_blocks.specs.Tree.{Leaf, boolean, integer, bit_string, octet_string, null, object_identifier, text, utc_time, generalized_time, Tree, leaf, group, explicit, unknown}
+use Rattle.asn1_headers.specs.Fault.{DecodeFault}
+use Rattle.asn1_leaves.specs.Contents.Boolean.{BooleanContents, BooleanFault, boolean_contents}
+use Rattle.asn1_leaves.specs.Contents.Integer.{IntegerContents, integer_contents}
+use Rattle.asn1_leaves.specs.Contents.BitString.{
+  BitStringContents,
+  BitStringFault,
+  IsFaithfulBitString,
+  bit_string_contents,
+  bit_string_write_fault,
+  written_bits,
+}
+use Rattle.asn1_leaves.specs.Contents.GeneralizedTime.{
+  GeneralizedTimeContents,
+  GeneralizedTimeFault,
+  IsFaithfulGeneralizedTime,
+  generalized_time_contents,
+}
+use Rattle.asn1_leaves.specs.Contents.Moment.{moment_write_fault}
+use Rattle.asn1_leaves.specs.Contents.ObjectIdentifier.{
+  IsFaithfulObjectIdentifier,
+  ObjectIdentifierContents,
+  ObjectIdentifierFault,
+  object_identifier_contents,
+  object_identifier_write_fault,
+}
+use Rattle.asn1_leaves.specs.Contents.UtcTime.{
+  IsFaithfulUtcTime,
+  UtcTimeContents,
+  UtcTimeFault,
+  utc_time_contents,
+}
+use Rattle.asn1_leaves.specs.Contents.Text.{
+  text_form,
+  HasCharacters,
+  TextContents,
+  TextFault,
+  text_contents,
+  text_write_fault,
+}
+
+-- the tag number of a string of characters (X.680 table 8)
+abbrev pub string_tag : StringKind → ℕ
+string_tag utf8 = 12
+string_tag printable = 19
+string_tag teletex = 20
+string_tag ia5 = 22
+string_tag universal = 28
+string_tag bmp = 30
+
+-- the tag number of a leaf (X.680 table 1)
+abbrev pub leaf_tag : Leaf → ℕ
+leaf_tag (boolean b) = 1
+leaf_tag (integer n) = 2
+leaf_tag (bit_string n v) = 3
+leaf_tag (octet_string v) = 4
+leaf_tag null = 5
+leaf_tag (object_identifier ns) = 6
+leaf_tag (text kind cs) = string_tag kind
+leaf_tag (utc_time m) = 23
+leaf_tag (generalized_time m) = 24
+
+-- the tag number of a SEQUENCE or SET
+abbrev pub group_tag : GroupKind → ℕ
+group_tag Sequence = 16
+group_tag Set = 17
+
+abbrev pub is_string_tag : ℕ → Bool
+is_string_tag n = (n == 12) || (n == 19) || (n == 20) || (n == 22) || (n == 28) || (n == 30)
+
+abbrev pub is_leaf_tag : ℕ → Bool
+is_leaf_tag n =
+    (n == 1) || (n == 2) || (n == 3) || (n == 4) || (n == 5) || (n == 6) || (n == 23) || (n == 24)
+    || is_string_tag n
+
+abbrev pub is_group_tag : ℕ → Bool
+is_group_tag n = (n == 16) || (n == 17)
+
+-- the tag numbers that are read as more than `Unknown`
+abbrev pub is_known_tag : ℕ → Bool
+is_known_tag n = is_leaf_tag n || is_group_tag n
+
+-- the contents octets mean the leaf; those of an OCTET STRING (X.690 8.7) are its octets, and those
+-- of a NULL (X.690 8.8) may be any
+abbrev pub LeafContents : Leaf → List ℕ → Type 0
+LeafContents (boolean b) contents = BooleanContents b contents
+LeafContents (integer n) contents = IntegerContents n contents
+LeafContents (bit_string n v) contents = BitStringContents n v contents
+LeafContents (octet_string v) contents = v ≡ contents
+LeafContents null contents = Unit {0}
+LeafContents (object_identifier ns) contents = ObjectIdentifierContents ns contents
+LeafContents (text kind cs) contents = TextContents (text_form kind) cs contents
+LeafContents (utc_time m) contents = UtcTimeContents m contents
+LeafContents (generalized_time m) contents = GeneralizedTimeContents m contents
+
+-- the contents octets of this tag mean no leaf, with this fault
+abbrev pub LeafFault : ℕ → List ℕ → DecodeFault → Type 0
+LeafFault tag contents fault =
+    ((tag ≡ 1) × BooleanFault contents fault)
+    ⊎ (((tag ≡ 3) × BitStringFault contents fault)
+    ⊎ (((tag ≡ 6) × ObjectIdentifierFault contents fault)
+    ⊎ (((tag ≡ 23) × UtcTimeFault contents fault)
+    ⊎ (((tag ≡ 24) × GeneralizedTimeFault contents fault)
+    ⊎ ((kind : StringKind) × (tag ≡ string_tag kind)
+    × TextFault (text_form kind) contents fault)))))
+
+-- the contents octets of a leaf that are written
+abbrev pub leaf_contents : Leaf → List ℕ
+leaf_contents (boolean b) = boolean_contents b
+leaf_contents (integer n) = integer_contents n
+leaf_contents (bit_string n v) = bit_string_contents n v
+leaf_contents (octet_string v) = v
+leaf_contents null = []
+leaf_contents (object_identifier ns) = object_identifier_contents ns
+leaf_contents (text kind cs) = text_contents (text_form kind) cs
+leaf_contents (utc_time m) = utc_time_contents m
+leaf_contents (generalized_time m) = generalized_time_contents m
+
+-- why a leaf can't be written
+abbrev pub leaf_write_fault : Leaf → Option ASN1EncodeErr
+leaf_write_fault (boolean b) = None
+leaf_write_fault (integer n) = None
+leaf_write_fault (bit_string n v) = bit_string_write_fault n v
+leaf_write_fault (octet_string v) = None
+leaf_write_fault null = None
+leaf_write_fault (object_identifier ns) = object_identifier_write_fault ns
+leaf_write_fault (text kind cs) = text_write_fault (text_form kind) cs
+leaf_write_fault (utc_time m) = moment_write_fault m
+leaf_write_fault (generalized_time m) = moment_write_fault m
+
+-- the leaf is read back as it is, once it is written
+abbrev pub IsFaithfulLeaf : Leaf → Type 0
+IsFaithfulLeaf (boolean b) = Unit {0}
+IsFaithfulLeaf (integer n) = Unit {0}
+IsFaithfulLeaf (bit_string n v) = IsFaithfulBitString n v
+IsFaithfulLeaf (octet_string v) = Unit {0}
+IsFaithfulLeaf null = Unit {0}
+IsFaithfulLeaf (object_identifier ns) = IsFaithfulObjectIdentifier ns
+IsFaithfulLeaf (text kind cs) = HasCharacters (text_form kind) cs
+IsFaithfulLeaf (utc_time m) = IsFaithfulUtcTime m
+IsFaithfulLeaf (generalized_time m) = IsFaithfulGeneralizedTime m
+
+-- what is left of a leaf when it is written and read: a bit string of no bits loses its octets
+abbrev pub normalized_leaf : Leaf → Leaf
+normalized_leaf (boolean b) = boolean b
+normalized_leaf (integer n) = integer n
+normalized_leaf (bit_string n v) = bit_string n (written_bits n v)
+normalized_leaf (octet_string v) = octet_string v
+normalized_leaf null = null
+normalized_leaf (object_identifier ns) = object_identifier ns
+normalized_leaf (text kind cs) = text kind cs
+normalized_leaf (utc_time m) = utc_time m
+normalized_leaf (generalized_time m) = generalized_time m
+
+-- the tree is a leaf at the offset, with this tag and these contents octets
+abbrev pub IsLeafOf : ℕ → ℕ → List ℕ → Tree ℕ → Type 0
+IsLeafOf offset tag contents (leaf o l) =
+    (o ≡ offset) × (tag ≡ leaf_tag l) × LeafContents l contents
+IsLeafOf offset tag contents (group o g bs) = ⊥
+IsLeafOf offset tag contents (explicit c o n b) = ⊥
+IsLeafOf offset tag contents (unknown c k o n v) = ⊥

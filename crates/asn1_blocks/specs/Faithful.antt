@@ -1,0 +1,40 @@
+-- Which trees are read back as they are once they are written, and what is not written of those
+-- that were read.
+use Rattle.std.specs.Prelude.{◌≢◌}
+use Rattle.asn1_headers.specs.declared.header.ASN1Class.TheVariants.{Universal}
+use Rattle.asn1_blocks.specs.Contents.{IsFaithfulLeaf, normalized_leaf}
+use Rattle.asn1_blocks.specs.Grammar.{StaysAsItCame}
+use Rattle.asn1_blocks.specs.Tree.{
+  Tree,
+  Trees,
+  leaf,
+  group,
+  explicit,
+  unknown,
+  no_trees,
+  more_trees,
+}
+
+abbrev mutual
+  -- the tree whose bit strings of no bits have no octets
+  pub normalized : {O : Type 0} → Tree O → Tree O
+  normalized (leaf o l) = leaf o (normalized_leaf l)
+  normalized (group o g bs) = group o g (all_normalized bs)
+  normalized (explicit c o n b) = explicit c o n (normalized b)
+  normalized (unknown c k o n v) = unknown c k o n v
+
+  pub all_normalized : {O : Type 0} → Trees O → Trees O
+  all_normalized no_trees = no_trees
+  all_normalized (more_trees b bs) = more_trees (normalized b) (all_normalized bs)
+
+abbrev mutual
+  -- the tree is read back as it is, once it is written
+  pub IsFaithful : {O : Type 0} → Tree O → Type 0
+  IsFaithful (leaf o l) = IsFaithfulLeaf l
+  IsFaithful (group o g bs) = AreFaithful bs
+  IsFaithful (explicit c o n b) = (c ≢ Universal) × IsFaithful b
+  IsFaithful (unknown c k o n v) = StaysAsItCame c k n v
+
+  pub AreFaithful : {O : Type 0} → Trees O → Type 0
+  AreFaithful no_trees = Unit {0}
+  AreFaithful (more_trees b bs) = IsFaithful b × AreFaithful bs

@@ -1,0 +1,96 @@
+-- The frames that are open while a document is read. Only private contracts of `read` name these.
+use Rattle.std.specs.Prelude.{◌≡◌, ◌≢◌, ℕ, ◌+◌, ◌-◌, ◌<◌, ◌≤◌, Bool, true, List, [], ◌∷◌, length, slice_range}
+use Rattle.asn1_blocks.specs.declared.block.GroupKind.{GroupKind}
+use Rattle.asn1_headers.specs.declared.header.ASN1Class.TheVariants.{Universal}
+use Rattle.asn1_blocks.specs.declared.owed.Attempt as owed
+use Rattle.asn1_blocks.specs.declared.read.Extent.{Extent}
+use Rattle.asn1_blocks.specs.declared.read.FrameKind.{FrameKind}
+use Rattle.asn1_blocks.specs.declared.read.FrameKind.TheVariants.{Whole, Group, Attempt}
+use Rattle.asn1_headers.specs.Fault.{DecodeFault}
+use Rattle.asn1_blocks.specs.Tree.{Tree, trees_of}
+use Rattle.asn1_blocks.specs.Contents.{group_tag}
+use Rattle.asn1_blocks.specs.Grammar.{EncodesAll}
+use Rattle.asn1_blocks.specs.FaultPlace.{BlockFaultAt}
+use Rattle.asn1_blocks.specs.HeadersBegun.{HeadersBegun}
+use Rattle.asn1_blocks.specs.HeaderPlaces.{EncodingBetween}
+
+-- contents octets that are being read, and the trees so far
+pub record Frame : Type 0 where
+  pub extent : Extent
+  pub trees : List (Tree ℕ)
+
+-- the contents octets up to a place are the trees, with n headers
+pub record ReadTo (octets : List ℕ) (f : Frame) (place n : ℕ) : Type 0 where
+  pub from : f.extent.start ≤ place
+  pub to : place ≤ f.extent.end
+  pub within : f.extent.end ≤ length octets
+  pub encoded : EncodesAll f.extent.start (slice_range octets f.extent.start place)
+      (trees_of f.trees)
+  pub begun : HeadersBegun (slice_range octets f.extent.start place) n
+
+-- a SEQUENCE or SET at the offset has these contents octets
+pub record GroupAt (octets : List ℕ) (g : GroupKind) (offset start end : ℕ) : Type 0 where
+  pub constructed : Bool
+  pub encoding : EncodingBetween octets Universal constructed (group_tag g) offset start end
+
+-- and so has a constructed encoding of another class
+pub record AttemptAt (octets : List ℕ) (a : owed.Attempt) (start end : ℕ) : Type 0 where
+  pub other : a.class ≢ Universal
+  pub encoding : EncodingBetween octets a.class true a.tag a.offset start end
+
+-- the header at the offset stands before these contents octets
+abbrev pub Headed : List ℕ → FrameKind → ℕ → ℕ → ℕ → Type 0
+Headed octets Whole offset start end = ⊥
+Headed octets (Group g o) offset start end = (o ≡ offset) × GroupAt octets g o start end
+Headed octets (Attempt a) offset start end = (a.offset ≡ offset) × AttemptAt octets a start end
+
+-- the frame of the document
+pub record IsDocumentFrame (octets : List ℕ) (f : Frame) : Type 0 where
+  pub kind : f.extent.kind ≡ Whole
+  pub start : f.extent.start ≡ 0
+  pub end : f.extent.end ≡ length octets
+
+-- a frame is read up to the place inside another one, which is read up to the offset of its header.
+-- So n headers were begun: those before it, its own, and those inside
+pub record Inside (octets : List ℕ) (f g : Frame) (Around : ℕ → ℕ → Type 0) (place n : ℕ) : Type 0
+  where
+    pub offset : ℕ
+    pub before : ℕ
+    pub own : ℕ
+    pub headed : Headed octets f.extent.kind offset f.extent.start f.extent.end
+    pub after : offset < f.extent.start
+    pub fits : f.extent.end ≤ g.extent.end
+    pub read : ReadTo octets f place own
+    pub around : Around offset before
+    pub total : n ≡ before + (1 + own)
+
+-- the outermost frame is read up to the place
+pub record OfDocument (octets : List ℕ) (f : Frame) (place n : ℕ) : Type 0 where
+  pub whole : IsDocumentFrame octets f
+  pub read : ReadTo octets f place n
+
+-- the frames lie in one another, the innermost first; all is read up to the place, with n headers
+abbrev pub Opened : List ℕ → Frame → List Frame → ℕ → ℕ → Type 0
+Opened octets f [] place n = OfDocument octets f place n
+Opened octets f (g ∷ gs) place n = Inside octets f g (λ o b. Opened octets g gs o b) place n
+
+-- the block at the place is at fault, and the innermost block at fault begins at the offset
+pub record StopsAt (octets : List ℕ) (f : Frame) (place : ℕ) (e : DecodeFault) (offset n : ℕ)
+    : Type 0 where
+  pub here : place < f.extent.end
+  pub inside : ℕ
+  pub stops :
+      BlockFaultAt (place - f.extent.start) (slice_range octets place f.extent.end) e inside
+  pub innermost : offset ≡ place + inside
+  pub begun : HeadersBegun (slice_range octets place f.extent.end) n
+
+-- the block at some place of the innermost frame is at fault, the innermost block at fault begins
+-- at the offset, and n headers were begun
+pub record Stopping (octets : List ℕ) (f : Frame) (gs : List Frame) (e : DecodeFault)
+    (offset n : ℕ) : Type 0 where
+  pub place : ℕ
+  pub before : ℕ
+  pub own : ℕ
+  pub opened : Opened octets f gs place before
+  pub stops : StopsAt octets f place e offset own
+  pub total : n ≡ before + own

@@ -1,0 +1,38 @@
+-- Orders to build blocks, and what they lead to. Only private contracts name these.
+use Rattle.std.specs.Prelude.{◌≡◌, ℕ, ◌-◌, true, List, [], ◌∷◌, ◌++◌, length, map, take, drop, slice_range}
+use Rattle.asn1_blocks.specs.declared.owed.Attempt.{Attempt}
+use Rattle.asn1_blocks.specs.declared.owed.Entry.{Entry}
+use Rattle.asn1_blocks.specs.declared.owed.Entry.TheVariants.{Ready, Group, Explicit, Kept}
+use Rattle.asn1_blocks.specs.Tree.{Tree, group, explicit, unknown, trees_of}
+use Rattle.asn1_blocks.specs.View.{view}
+
+-- an attempt that ended with one block, and one that stays as it came
+abbrev pub around : Attempt → Tree ℕ → Tree ℕ
+around a item = explicit a.class a.offset a.tag item
+
+abbrev pub as_it_came : List ℕ → Attempt → ℕ → ℕ → Tree ℕ
+as_it_came octets a start end = unknown a.class true a.offset a.tag (slice_range octets start end)
+
+-- the last tree goes inside an explicit one
+abbrev pub around_last : Attempt → List (Tree ℕ) → List (Tree ℕ)
+around_last a [] = []
+around_last a (x ∷ []) = around a x ∷ []
+around_last a (x ∷ y ∷ s) = x ∷ around_last a (y ∷ s)
+
+-- the trees after an order
+abbrev pub after : List ℕ → Entry → List (Tree ℕ) → List (Tree ℕ)
+after octets (Ready b) s = s ++ view b ∷ []
+after octets (Group g o first later) s =
+    let n = length s - later in
+    take n s ++ group o g (trees_of (map view first ++ drop n s)) ∷ []
+after octets (Explicit a) s = around_last a s
+after octets (Kept a start end) s = s ++ as_it_came octets a start end ∷ []
+
+-- the trees after all of them, from the first on
+abbrev pub after_all : List ℕ → List Entry → List (Tree ℕ) → List (Tree ℕ)
+after_all octets [] s = s
+after_all octets (e ∷ es) s = after_all octets es (after octets e s)
+
+-- the orders leave what stands there, and put these trees at its end
+abbrev pub Leads : List ℕ → List Entry → List (Tree ℕ) → Type 0
+Leads octets es ts = (s : List (Tree ℕ)) → after_all octets es s ≡ s ++ ts

@@ -1,0 +1,90 @@
+-- Where the blocks of a document stand, and which octets they have.
+use Rattle.std.specs.Prelude.{◌≡◌, ℕ, ◌+◌, ◌-◌, ◌++◌, Bool, List, length, drop, slice_range}
+use Rattle.asn1_headers.specs.declared.header.ASN1Class.{ASN1Class}
+use Rattle.asn1_blocks.specs.declared.block.GroupKind.{GroupKind}
+use Rattle.asn1_headers.specs.Header.{Encoding}
+use Rattle.asn1_blocks.specs.Tree.{Tree, Trees, leaf, group, explicit, unknown, no_trees, more_trees}
+use Rattle.asn1_blocks.specs.View.{tree_offset}
+use Rattle.asn1_blocks.specs.Grammar.{Document}
+
+abbrev mutual
+  -- the tree with each offset changed
+  pub with_offsets : (ℕ → ℕ) → Tree ℕ → Tree ℕ
+  with_offsets f (leaf o l) = leaf (f o) l
+  with_offsets f (group o g bs) = group (f o) g (all_with_offsets f bs)
+  with_offsets f (explicit c o n b) = explicit c (f o) n (with_offsets f b)
+  with_offsets f (unknown c k o n v) = unknown c k (f o) n v
+
+  pub all_with_offsets : (ℕ → ℕ) → Trees ℕ → Trees ℕ
+  all_with_offsets f no_trees = no_trees
+  all_with_offsets f (more_trees b bs) = more_trees (with_offsets f b) (all_with_offsets f bs)
+
+-- all offsets less by the tree's own
+abbrev pub rebased : Tree ℕ → Tree ℕ
+rebased b = with_offsets (λ o. o - tree_offset b) b
+
+-- all offsets greater by so much
+abbrev pub all_later : ℕ → Trees ℕ → Trees ℕ
+all_later n bs = all_with_offsets (λ o. o + n) bs
+
+-- trees, and then others
+abbrev pub joined : Trees ℕ → Trees ℕ → Trees ℕ
+joined no_trees ys = ys
+joined (more_trees x xs) ys = more_trees x (joined xs ys)
+
+-- there are trees, and the first has the offset
+abbrev pub BeginAt : Trees ℕ → ℕ → Type 0
+BeginAt no_trees offset = ⊥
+BeginAt (more_trees b bs) offset = tree_offset b ≡ offset
+
+-- where what stands before the trees ends: at the first of them, or with none at the end of all
+abbrev pub end_before : Trees ℕ → ℕ → ℕ
+end_before no_trees end = end
+end_before (more_trees b bs) end = tree_offset b
+
+mutual
+  -- in a tree that ends at an offset stands a tree, as itself or however deep, that ends at another
+  pub data StandsIn : Tree ℕ → ℕ → Tree ℕ → ℕ → Type 0 where
+    itself : {a : Tree ℕ} {end : ℕ} → StandsIn a end a end
+    in_group :
+        {o : ℕ} {g : GroupKind} {bs : Trees ℕ} {end : ℕ} {b : Tree ℕ} {stop : ℕ} →
+        StandsAmong bs end b stop → StandsIn (group o g bs) end b stop
+    in_explicit :
+        {c : ASN1Class} {o n : ℕ} {a : Tree ℕ} {end : ℕ} {b : Tree ℕ} {stop : ℕ} →
+        StandsIn a end b stop → StandsIn (explicit c o n a) end b stop
+
+  -- so in one of trees one after another, the last of which ends at an offset
+  pub data StandsAmong : Trees ℕ → ℕ → Tree ℕ → ℕ → Type 0 where
+    in_first :
+        {a : Tree ℕ} {bs : Trees ℕ} {end : ℕ} {b : Tree ℕ} {stop : ℕ} →
+        StandsIn a (end_before bs end) b stop → StandsAmong (more_trees a bs) end b stop
+    in_later :
+        {a : Tree ℕ} {bs : Trees ℕ} {end : ℕ} {b : Tree ℕ} {stop : ℕ} →
+        StandsAmong bs end b stop → StandsAmong (more_trees a bs) end b stop
+
+-- a tree of the document, at any depth, has these octets: from its offset to where it ends
+abbrev pub HasOctets : List ℕ → Trees ℕ → Tree ℕ → List ℕ → Type 0
+HasOctets document bs b octets =
+    (end : ℕ) × StandsAmong bs (length document) b end
+    × (octets ≡ slice_range document (tree_offset b) end)
+
+-- the octets are an encoding, of whatever fields
+abbrev pub IsEncoding : List ℕ → Type 0
+IsEncoding octets =
+    (c : ASN1Class) × (k : Bool) × (n : ℕ) × (contents : List ℕ) × (h : ℕ)
+    × Encoding octets c k n contents h
+
+-- the octets are an encoding, and stand at the offset
+abbrev pub EncodingAt : List ℕ → ℕ → List ℕ → Type 0
+EncodingAt document offset octets =
+    (rest : List ℕ) × (drop offset document ≡ octets ++ rest) × IsEncoding octets
+
+-- none stand there
+abbrev pub HasNoEncodingAt : List ℕ → ℕ → Type 0
+HasNoEncodingAt document offset = (octets : List ℕ) → EncodingAt document offset octets → ⊥
+
+-- the octets are those of a tree of the document, and stand at the offset
+abbrev pub TreeAt : List ℕ → ℕ → List ℕ → Type 0
+TreeAt document offset octets =
+    (bs : Trees ℕ) × (b : Tree ℕ)
+    × Document document bs × HasOctets document bs b octets × (tree_offset b ≡ offset)

@@ -1,0 +1,181 @@
+-- The reader, and what its steps do. Only private contracts of `read` name these.
+use Rattle.std.specs.Prelude.{◌≡◌, ◌≢◌, ℕ, ◌+◌, ◌*◌, ◌-◌, ◌<◌, ◌≤◌, ◌⊎◌, ◌++◌, true, List, [], ◌∷◌, length, reverse, map, take, drop, Result, Ok, Err, Option, Some, None}
+use Rattle.asn1_headers.specs.declared.header.ASN1Class.TheVariants.{Universal}
+use Rattle.asn1_blocks.specs.declared.parsed.Header.{Header}
+use Rattle.asn1_headers.specs.declared.error.ASN1DecodeErr.{ASN1DecodeErr}
+use Rattle.asn1_blocks.specs.declared.block.ASN1Block.{ASN1Block}
+use Rattle.asn1_blocks.specs.declared.owed.Attempt as owed
+use Rattle.asn1_blocks.specs.declared.owed.Entry.{Entry}
+use Rattle.asn1_blocks.specs.declared.owed.Entry.TheVariants.{Ready, Kept}
+use Rattle.asn1_blocks.specs.declared.read.Contents.{Contents}
+use Rattle.asn1_blocks.specs.declared.read.Contents.TheVariants.{Blocks, Leaf}
+use Rattle.asn1_blocks.specs.declared.read.FrameKind.{FrameKind}
+use Rattle.asn1_blocks.specs.declared.read.FrameKind.TheVariants.{Whole, Group, Attempt}
+use Rattle.asn1_blocks.specs.declared.read.OpenFrame.{OpenFrame}
+use Rattle.asn1_blocks.specs.declared.read.Reader.{Reader}
+use Rattle.asn1_blocks.specs.declared.read.Turn.{Turn}
+use Rattle.asn1_blocks.specs.declared.read.Turn.TheVariants.{More, End, Stop}
+use Rattle.asn1_blocks.specs.Contents.{group_tag}
+use Rattle.asn1_headers.specs.Fault.{DecodeFault, OutOfMemoryOr}
+use Rattle.asn1_blocks.specs.Grammar.{EncodesAll}
+use Rattle.asn1_blocks.specs.FaultPlace.{BlocksFaultAt}
+use Rattle.asn1_blocks.specs.HeadersBegun.{HeadersBegun, IsReadInside}
+use Rattle.asn1_blocks.specs.OpenFrames.{Frame, Opened, Stopping}
+use Rattle.asn1_blocks.specs.Owed.{Leads, after_all, as_it_came}
+use Rattle.asn1_blocks.specs.Tree.{Tree, trees_of}
+use Rattle.asn1_blocks.specs.View.{view}
+
+-- the frame is of an encoding with this header, whose first octet is at the offset
+abbrev pub IsKindOf : FrameKind → Header → ℕ → Type 0
+IsKindOf Whole h offset = ⊥
+IsKindOf (Group g o) h offset = (h.class ≡ Universal) × (h.tag ≡ group_tag g) × (o ≡ offset)
+IsKindOf (Attempt a) h offset =
+    (h.class ≢ Universal) × (h.constructed ≡ true) ×
+    (a ≡ record { class = h.class; offset = offset; tag = h.tag })
+
+-- what the contents octets of such an encoding are read as
+abbrev pub IsReadAs : Header → ℕ → Contents → Type 0
+IsReadAs h offset (Blocks kind) = IsKindOf kind h offset
+IsReadAs h offset (Leaf same) = (same ≡ h) × (IsReadInside h.class h.constructed h.tag → ⊥)
+
+-- which attempt the frame is
+abbrev pub attempt_of : FrameKind → Option owed.Attempt
+attempt_of Whole = None
+attempt_of (Group g o) = None
+attempt_of (Attempt a) = Some a
+
+-- the frame, whose entries are the last of these, has read these trees: its blocks, and those that
+-- its entries lead to
+pub record Holds (octets : List ℕ) (es : List Entry) (f : OpenFrame)
+    (ts : List (Tree ℕ)) : Type 0 where
+  pub begin : f.begin ≤ length es
+  pub owed : List (Tree ℕ)
+  pub leads : Leads octets (drop f.begin es) owed
+  pub later : f.later ≡ length owed
+  pub trees : ts ≡ map view f.blocks ++ owed
+
+-- and so do the frames around it, the innermost first, whose entries are those before
+abbrev pub AllHold : List ℕ → List Entry → OpenFrame → List OpenFrame → List (Tree ℕ)
+    → List (List (Tree ℕ)) → Type 0
+AllHold octets es f [] ts [] = Holds octets es f ts × (f.begin ≡ 0)
+AllHold octets es f [] ts (us ∷ rest) = ⊥
+AllHold octets es f (g ∷ gs) ts [] = ⊥
+AllHold octets es f (g ∷ gs) ts (us ∷ rest) =
+    Holds octets es f ts × AllHold octets (take f.begin es) g gs us rest
+
+abbrev pub frame : OpenFrame → List (Tree ℕ) → Frame
+frame f ts = record { extent = f.extent; trees = ts }
+
+abbrev pub frames : List OpenFrame → List (List (Tree ℕ)) → List Frame
+frames [] rest = []
+frames (f ∷ fs) [] = []
+frames (f ∷ fs) (ts ∷ rest) = frame f ts ∷ frames fs rest
+
+-- the frames are open and all is read up to the place; n headers were begun
+pub record Reads (octets : List ℕ) (es : List Entry) (f : OpenFrame) (gs : List OpenFrame)
+    (place n : ℕ) : Type 0 where
+  pub trees : List (Tree ℕ)
+  pub outer : List (List (Tree ℕ))
+  pub holds : AllHold octets es f gs trees outer
+  pub opened : Opened octets (frame f trees) (frames gs outer) place n
+
+abbrev pub Reading : List ℕ → Reader → ℕ → Type 0
+Reading octets r n = Reads octets r.entries.items r.inner (reverse r.outer.items) r.index n
+
+-- a fault is in the frame, of a block at the offset; of the entries of this frame and those around
+-- some at the end are left over
+pub record Refused (octets : List ℕ) (es : List Entry) (f : OpenFrame) (gs : List OpenFrame)
+    (e : DecodeFault) (offset n : ℕ) : Type 0 where
+  pub trees : List (Tree ℕ)
+  pub outer : List (List (Tree ℕ))
+  pub front : List Entry
+  pub more : List Entry
+  pub whole : es ≡ front ++ more
+  pub holds : AllHold octets front f gs trees outer
+  pub stopping : Stopping octets (frame f trees) (frames gs outer) e offset n
+
+-- how much is left to do: each turn goes on in the octets, or closes a frame
+abbrev pub left : ℕ → ℕ → List OpenFrame → ℕ
+left size index outer = 2 * (size - index) + length outer
+
+-- a fault in the innermost frame, of the block that the reader has come to, with less left to do
+-- behind it
+pub record Faulty (octets : List ℕ) (r : Reader) (e : DecodeFault) (n most : ℕ) : Type 0 where
+  pub refused : Refused octets r.entries.items r.inner (reverse r.outer.items) e r.index n
+  pub nearer : left (length octets) r.inner.extent.end r.outer.items ≤ most
+
+-- reading goes on, with less left to do
+pub record GoesOn (octets : List ℕ) (r : Reader) (n most : ℕ) : Type 0 where
+  pub reading : Reading octets r n
+  pub nearer : left (length octets) r.index r.outer.items < most
+
+-- where a step leads: reading goes on, memory ran out, or there is a fault in the innermost frame
+abbrev pub Stepped : {A : Type 0} → List ℕ → Result A ASN1DecodeErr → Reader → ℕ → ℕ → Type 0
+Stepped octets (Ok x) r n most = GoesOn octets r n most
+Stepped octets (Err e) r n most = OutOfMemoryOr (λ fault. Faulty octets r fault n most) e
+
+-- the fault is that of the document, of a block at the offset
+pub record FaultyDocument (octets : List ℕ) (e : DecodeFault) (offset n : ℕ) : Type 0 where
+  pub fault : BlocksFaultAt octets e offset
+  pub begun : HeadersBegun octets n
+
+-- where the end of the innermost attempt leads a fault: reading goes on, memory ran out, or it is
+-- that of the document
+abbrev pub Answered : {A : Type 0} → List ℕ → Result A ASN1DecodeErr → Reader → ℕ → ℕ → Type 0
+Answered octets (Ok x) r n most = GoesOn octets r n most
+Answered octets (Err e) r n most = OutOfMemoryOr (λ fault. FaultyDocument octets fault r.index n) e
+
+-- the whole document was read
+pub record Ended (octets : List ℕ) (r : Reader) (n : ℕ) : Type 0 where
+  pub trees : List (Tree ℕ)
+  pub are : map view r.inner.blocks ++ after_all octets r.entries.items [] ≡ trees
+  pub encoded : EncodesAll 0 octets (trees_of trees)
+  pub begun : HeadersBegun octets n
+
+-- where a turn leads
+abbrev pub Turned : List ℕ → Turn → Reader → ℕ → ℕ → Type 0
+Turned octets More r n most = GoesOn octets r n most
+Turned octets End r n most = Ended octets r n
+Turned octets Stop r n most = OutOfMemoryOr (λ fault. FaultyDocument octets fault r.index n) r.fault
+
+-- and how many headers were begun since the count was at the base
+pub record TurnTaken (octets : List ℕ) (t : Turn) (r : Reader) (count base most : ℕ) : Type 0 where
+  pub begun : ℕ
+  pub counted : count ≡ base + begun
+  pub bounded : begun ≤ length octets
+  pub turned : Turned octets t r begun most
+
+-- the innermost frame has one block more
+pub record IsPushed (a : Reader) (b : ASN1Block) (r : Reader) : Type 0 where
+  pub extent : r.inner.extent ≡ a.inner.extent
+  pub begin : r.inner.begin ≡ a.inner.begin
+  pub later : r.inner.later ≡ a.inner.later
+  pub none : a.inner.later ≡ 0
+  pub blocks : r.inner.blocks ≡ a.inner.blocks ++ b ∷ []
+  pub entries : r.entries.items ≡ a.entries.items
+  pub outer : r.outer.items ≡ a.outer.items
+
+-- the innermost frame has one tree more, which one entry more leads to
+pub record IsOwed (a : Reader) (e : Entry) (r : Reader) : Type 0 where
+  pub extent : r.inner.extent ≡ a.inner.extent
+  pub begin : r.inner.begin ≡ a.inner.begin
+  pub later : r.inner.later ≡ a.inner.later + 1
+  pub blocks : r.inner.blocks ≡ a.inner.blocks
+  pub entries : r.entries.items ≡ a.entries.items ++ e ∷ []
+  pub outer : r.outer.items ≡ a.outer.items
+
+-- a block was put there, in one way or the other
+abbrev pub IsPut : Reader → ASN1Block → Reader → Type 0
+IsPut a b r = IsPushed a b r ⊎ IsOwed a (Ready b) r
+
+-- an encoding that stays as it came was put there, as a block or owed
+abbrev pub IsKept : List ℕ → Reader → owed.Attempt → ℕ → ℕ → Reader → Type 0
+IsKept octets a k start end r =
+    ((b : ASN1Block) × (view b ≡ as_it_came octets k start end) × IsPut a b r) ⊎ IsOwed a
+    (Kept k start end) r
+
+-- reading goes on inside a new frame, the innermost from now on
+pub record IsOpened (a : Reader) (f : OpenFrame) (r : Reader) : Type 0 where
+  pub inner : r.inner ≡ f
+  pub outer : r.outer.items ≡ a.outer.items ++ a.inner ∷ []
+  pub entries : r.entries.items ≡ a.entries.items

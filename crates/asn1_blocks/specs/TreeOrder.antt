@@ -1,0 +1,44 @@
+-- The blocks of trees in a list. Private contracts alone name these.
+use Rattle.std.specs.Prelude.{◌≡◌, List, [], ◌∷◌, ◌++◌, map}
+use Rattle.asn1_blocks.specs.declared.block.ASN1Block.{ASN1Block}
+use Rattle.asn1_blocks.specs.declared.walk.TreeWalk.{TreeWalk}
+use Rattle.asn1_blocks.specs.Tree.{Tree, Trees, leaf, group, explicit, unknown, null}
+use Rattle.asn1_blocks.specs.Tree.{no_trees, more_trees}
+use Rattle.asn1_blocks.specs.View.{view, views}
+
+-- the trees that a tree holds
+abbrev pub inside : {O : Type 0} → Tree O → Trees O
+inside (leaf o l) = no_trees
+inside (group o g bs) = bs
+inside (explicit c o n b) = more_trees b no_trees
+inside (unknown c k o n v) = no_trees
+
+-- what a tree is beside the trees that it holds, without its offset
+abbrev pub own_shape : {O : Type 0} → Tree O → Tree (Unit {0})
+own_shape (leaf o l) = leaf tt l
+own_shape (group o g bs) = group tt g no_trees
+own_shape (explicit c o n b) = explicit c tt n (leaf tt null)
+own_shape (unknown c k o n v) = unknown c k tt n v
+
+-- the block is the first, and after it the blocks that it holds take its place
+pub record IsNext (b : ASN1Block) (before after : List ASN1Block) : Type 0 where
+  pub held : List ASN1Block
+  pub rest : List ASN1Block
+  pub first : before ≡ b ∷ rest
+  pub holds : views held ≡ inside (view b)
+  pub then : after ≡ held ++ rest
+
+-- these are the blocks at all depths, each before those that it holds
+abbrev pub IsInTreeOrder : List ASN1Block → List ASN1Block → Type 0
+IsInTreeOrder [] blocks = blocks ≡ []
+IsInTreeOrder (b ∷ order) blocks =
+    (after : List ASN1Block) × IsNext b blocks after × IsInTreeOrder order after
+
+-- lists inside one another, the innermost last, as they are walked over
+abbrev pub stacked : List (List ASN1Block) → List ASN1Block
+stacked [] = []
+stacked (blocks ∷ inner) = stacked inner ++ blocks
+
+-- what a walk has yet to go into
+abbrev pub ahead : TreeWalk → List ASN1Block
+ahead walk = walk.front.now ++ stacked (map (λ blocks. blocks.now) walk.outer.items)

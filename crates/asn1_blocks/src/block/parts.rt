@@ -1,0 +1,180 @@
+// What a block is made of, for whoever wants one thing of it and has no use for a `match`.
+ghost use Rattle.std.specs.Prelude.{◌≡◌, ◌<◌, ◌^◌, IfOk, MatchOption, None, Some, SomeIff, map};
+ghost use Rattle.std.specs.Str.{chars};
+ghost use Rattle.asn1_blocks.specs.BlockParts.{
+  all_in_order,
+  tree_integer,
+  tree_items,
+  tree_octets,
+  tree_tag,
+  tree_text,
+};
+ghost use Rattle.asn1_blocks.specs.View.{view, views};
+
+use crate::block::ASN1Block;
+use crate::walk::in_tree_order;
+use asn1_numbers::number::big_int::BigInt;
+use std::alloc::{AllocError, Global};
+use std::slice;
+
+impl ASN1Block {
+    /// The tag number (X.690 8.1.2.2): the one of X.680 table 1, or the field of an `Explicit` or
+    /// `Unknown` block. `None` only of a field of 2^64 or more.
+    ///
+    /// ```rust
+    /// use simple_asn1::{ASN1Block, ASN1Class};
+    ///
+    /// // Whether the block is tagged [0].
+    /// fn is_tagged_0(block: &ASN1Block) -> bool {
+    ///     block.class() == ASN1Class::ContextSpecific && block.tag() == Some(0)
+    /// }
+    /// ```
+    pub fn tag(&self) -> Option<u64>
+        ensures { SomeIff result (tree_tag (view self.now) < 2 ^ 64) (tree_tag (view self.now)) }
+    {
+        match self {
+            ASN1Block::Boolean(_, _) => Some(1),
+            ASN1Block::Integer(_, _) => Some(2),
+            ASN1Block::BitString(_, _, _) => Some(3),
+            ASN1Block::OctetString(_, _) => Some(4),
+            ASN1Block::Null(_) => Some(5),
+            ASN1Block::ObjectIdentifier(_, _) => Some(6),
+            ASN1Block::UTF8String(_, _) => Some(12),
+            ASN1Block::Sequence(_, _) => Some(16),
+            ASN1Block::Set(_, _) => Some(17),
+            ASN1Block::PrintableString(_, _) => Some(19),
+            ASN1Block::TeletexString(_, _) => Some(20),
+            ASN1Block::IA5String(_, _) => Some(22),
+            ASN1Block::UTCTime(_, _) => Some(23),
+            ASN1Block::GeneralizedTime(_, _) => Some(24),
+            ASN1Block::UniversalString(_, _) => Some(28),
+            ASN1Block::BMPString(_, _) => Some(30),
+            ASN1Block::Explicit(_, _, tag, _) | ASN1Block::Unknown(_, _, _, tag, _) => tag.to_u64(),
+        }
+    }
+
+    /// The items of a `Sequence` or `Set`, and the one block in an `Explicit`; `None` of any other
+    /// block.
+    ///
+    /// ```rust
+    /// use simple_asn1::ASN1Block;
+    ///
+    /// // The second item: in `30 05 02 01 05 05 00` the NULL.
+    /// fn second(block: &ASN1Block) -> Option<&ASN1Block> {
+    ///     block.items()?.get(1)
+    /// }
+    /// ```
+    pub fn items(&self) -> Option<&[ASN1Block]>
+        ensures { MatchOption result
+            (tree_items (view self.now) ≡ None)
+            (λ items. tree_items (view self.now) ≡ Some (views items.now)) }
+    {
+        match self {
+            ASN1Block::Sequence(_, items) | ASN1Block::Set(_, items) => Some(items),
+            ASN1Block::Explicit(_, _, _, item) => Some(slice::from_ref(item)),
+            _ => None,
+        }
+    }
+
+    /// The characters of a string of any of the six kinds; `None` of any other block.
+    ///
+    /// ```rust
+    /// use simple_asn1::ASN1Block;
+    ///
+    /// // Whether the block is the string `DE`, as of a country name, in whatever kind of string.
+    /// fn is_de(block: &ASN1Block) -> bool {
+    ///     block.text() == Some("DE")
+    /// }
+    /// ```
+    pub fn text(&self) -> Option<&str>
+        ensures { MatchOption result
+            (tree_text (view self.now) ≡ None)
+            (λ text. tree_text (view self.now) ≡ Some (chars text.now)) }
+    {
+        match self {
+            ASN1Block::UTF8String(_, text)
+            | ASN1Block::PrintableString(_, text)
+            | ASN1Block::TeletexString(_, text)
+            | ASN1Block::IA5String(_, text)
+            | ASN1Block::UniversalString(_, text)
+            | ASN1Block::BMPString(_, text) => Some(text),
+            _ => None,
+        }
+    }
+
+    /// The number of an `Integer`; `None` of any other block.
+    ///
+    /// ```rust
+    /// use simple_asn1::ASN1Block;
+    ///
+    /// // The number, where it fits: of `02 01 FF` -1.
+    /// fn small(block: &ASN1Block) -> Option<i64> {
+    ///     block.integer()?.to_i64()
+    /// }
+    /// ```
+    pub fn integer(&self) -> Option<&BigInt>
+        ensures { MatchOption result
+            (tree_integer (view self.now) ≡ None)
+            (λ n. tree_integer (view self.now) ≡ Some n.now) }
+    {
+        match self {
+            ASN1Block::Integer(_, n) => Some(n),
+            _ => None,
+        }
+    }
+
+    /// The octets of an `OctetString`; `None` of any other block, also of a `BitString` and an
+    /// `Unknown`, whose octets mean nothing without their other fields.
+    ///
+    /// ```rust
+    /// use simple_asn1::ASN1Block;
+    ///
+    /// // How many octets there are: in `04 02 00 FF` two.
+    /// fn size(block: &ASN1Block) -> Option<usize> {
+    ///     Some(block.octets()?.len())
+    /// }
+    /// ```
+    pub fn octets(&self) -> Option<&[u8]>
+        ensures { MatchOption result
+            (tree_octets (view self.now) ≡ None)
+            (λ octets. tree_octets (view self.now) ≡ Some octets.now) }
+    {
+        match self {
+            ASN1Block::OctetString(_, octets) => Some(octets),
+            _ => None,
+        }
+    }
+}
+
+/// The blocks at all depths, in the order in which their first octets stand in a document: each
+/// before those that it holds, and these before what follows it. What an `Unknown` holds are
+/// octets, and not looked into.
+///
+/// The list takes 8 octets for each block, and while it is made 16 for each level of nesting that
+/// is open. The stack that is taken does not grow with the nesting. The only error is that memory
+/// ran out.
+///
+/// ```rust
+/// use simple_asn1::{ASN1Block, Document, all_blocks};
+/// use std::alloc::{AllocError, Global};
+///
+/// // How many INTEGERs there are at any depth: in `30 03 02 01 05 02 01 06` two.
+/// fn integer_count(alloc: Global, document: &Document) -> Result<usize, AllocError> {
+///     let mut count = 0;
+///     for block in all_blocks(alloc, document.blocks())? {
+///         if block.integer().is_some() {
+///             count += 1;
+///         }
+///     }
+///     Ok(count)
+/// }
+/// ```
+pub fn all_blocks<'a>(
+    alloc: Global,
+    blocks: &'a [ASN1Block],
+) -> Result<Vec<&'a ASN1Block>, AllocError>
+    ensures { IfOk result
+        (λ order. map (λ b. view b.now) order.items ≡ all_in_order (views blocks.now)) }
+{
+    in_tree_order(alloc, blocks)
+}

@@ -1,0 +1,144 @@
+// The blocks of a document under an owner that drops them by a loop.
+ghost use Rattle.std.specs.Prelude.{◌≡◌, ℕ, IfErr, IfOk, IsErrAnd, MatchResult};
+ghost use Rattle.asn1_headers.specs.Fault.{DecodeFault, OutOfMemoryOr};
+ghost use Rattle.asn1_blocks.specs.FaultPlace.{FirstFaultAt};
+ghost use Rattle.asn1_blocks.specs.Grammar.{Document as IsDocument, FirstFault};
+ghost use Rattle.asn1_blocks.specs.Tree.{Trees};
+ghost use Rattle.asn1_blocks.specs.View.{document_trees, views};
+ghost use Rattle.asn1_headers.specs.declared.error.ASN1DecodeErr.TheVariants.{OutOfMemory};
+
+use crate::block::ASN1Block;
+use crate::block::discard::discard;
+use crate::read::{from_der, from_der_located};
+use asn1_headers::error::{ASN1DecodeErr, LocatedErr};
+use std::alloc::Global;
+
+/// The blocks of a document, for octets that nobody vouches for: however deeply they are nested,
+/// dropping a `Document` takes no memory and a few calls on the stack, where dropping the blocks
+/// themselves takes a call for each level of nesting.
+///
+/// ```rust
+/// use simple_asn1::{ASN1DecodeErr, Document};
+/// use std::alloc::Global;
+///
+/// // How many blocks the document has at its top: of `05 00 05 00` 2.
+/// fn count(alloc: Global, octets: &[u8]) -> Result<usize, ASN1DecodeErr> {
+///     let document = Document::from_der(alloc, octets)?;
+///     Ok(document.blocks().len())
+/// }
+/// ```
+#[derive(Debug)]
+pub struct Document {
+    blocks: Vec<ASN1Block>,
+}
+
+impl Drop for Document {
+    fn drop(self) {
+        discard(self.into_blocks());
+    }
+}
+
+impl Document {
+    /// Reads a document as the function [`from_der`] does, with its answers.
+    ///
+    /// # Errors
+    /// Those of [`from_der`].
+    ///
+    /// ```rust
+    /// use simple_asn1::{ASN1DecodeErr, Document};
+    /// use std::alloc::Global;
+    ///
+    /// // The offset of the last block at the top: of `05 00 05 00` 2.
+    /// fn last(alloc: Global, octets: &[u8]) -> Result<Option<usize>, ASN1DecodeErr> {
+    ///     let document = Document::from_der(alloc, octets)?;
+    ///     Ok(document.blocks().last().map(|block| block.offset()))
+    /// }
+    /// ```
+    pub fn from_der(alloc: Global, i: &[u8]) -> Result<Document, ASN1DecodeErr>
+        ensures document { IfOk result (λ document. IsDocument i.now (document_trees document)) }
+        ensures fault { IfErr result (OutOfMemoryOr (FirstFault i.now)) }
+        ensures accepts { (bs : Trees ℕ) → IsDocument i.now bs
+            → MatchResult result
+            (λ document. document_trees document ≡ bs)
+            (λ e. e ≡ OutOfMemory) }
+        ensures refuses { (fault : DecodeFault) → FirstFault i.now fault
+            → IsErrAnd result (OutOfMemoryOr (λ e. e ≡ fault)) }
+    {
+        let blocks = from_der(alloc, i)?;
+        Ok(Document { blocks })
+    }
+
+    /// Reads a document as the function [`from_der_located`] does, with its answers.
+    ///
+    /// # Errors
+    /// Those of [`from_der`], each with the offset of the innermost block at fault.
+    ///
+    /// ```rust
+    /// use simple_asn1::Document;
+    /// use std::alloc::Global;
+    ///
+    /// // Where the octets are at fault: `05 00 01 00` at 2.
+    /// fn fault_offset(alloc: Global, octets: &[u8]) -> Option<usize> {
+    ///     match Document::from_der_located(alloc, octets) {
+    ///         Ok(_) => None,
+    ///         Err(located) => Some(located.offset),
+    ///     }
+    /// }
+    /// ```
+    pub fn from_der_located(alloc: Global, i: &[u8]) -> Result<Document, LocatedErr>
+        ensures document { IfOk result (λ document. IsDocument i.now (document_trees document)) }
+        ensures fault { IfErr result
+            (λ e. OutOfMemoryOr (λ fault. FirstFaultAt i.now fault e.offset) e.error) }
+        ensures accepts { (bs : Trees ℕ) → IsDocument i.now bs
+            → MatchResult result
+            (λ document. document_trees document ≡ bs)
+            (λ e. e.error ≡ OutOfMemory) }
+        ensures refuses { (fault : DecodeFault) (offset : ℕ) → FirstFaultAt i.now fault offset
+            → IsErrAnd result
+            (λ e. OutOfMemoryOr (λ found. (found ≡ fault) × (e.offset ≡ offset)) e.error) }
+    {
+        match from_der_located(alloc, i) {
+            Ok(blocks) => Ok(Document { blocks }),
+            Err(located) => Err(located),
+        }
+    }
+
+    /// Lends the blocks at the top, in order.
+    ///
+    /// ```rust
+    /// use simple_asn1::{ASN1Block, Document};
+    ///
+    /// // The items of a document that is one SEQUENCE.
+    /// fn items(document: &Document) -> Option<&[ASN1Block]> {
+    ///     match document.blocks() {
+    ///         [ASN1Block::Sequence(_, items)] => Some(items),
+    ///         _ => None,
+    ///     }
+    /// }
+    /// ```
+    pub fn blocks(&self) -> &[ASN1Block]
+        ensures { views result.now ≡ document_trees self.now }
+    {
+        &self.blocks
+    }
+
+    /// Gives up the blocks at the top, in order. From then on dropping them takes a call on the
+    /// stack for each level of nesting, unless [`discard`] does it.
+    ///
+    /// ```rust
+    /// use simple_asn1::{ASN1Block, ASN1DecodeErr, Document};
+    /// use std::alloc::Global;
+    ///
+    /// // The blocks, to be kept by whoever calls.
+    /// fn kept(alloc: Global, octets: &[u8]) -> Result<Vec<ASN1Block>, ASN1DecodeErr> {
+    ///     let document = Document::from_der(alloc, octets)?;
+    ///     Ok(document.into_blocks())
+    /// }
+    /// ```
+    pub fn into_blocks(self) -> Vec<ASN1Block>
+        ensures { views result.items ≡ document_trees self }
+    {
+        let Document { blocks } = self;
+        blocks
+    }
+}

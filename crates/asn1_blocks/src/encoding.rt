@@ -1,0 +1,74 @@
+// Encodings by their headers.
+ghost use Rattle.std.specs.Prelude.{◌≡◌, ℕ, ◌*◌, ◌++◌, ◌<◌, ◌≤◌, List, length, take, IfSome, IfNone, IsSomeAnd};
+ghost use Rattle.asn1_blocks.specs.Places.{EncodingAt, HasNoEncodingAt, IsEncoding, TreeAt};
+
+use asn1_headers::header::{identifier_at, length_at};
+
+// The size of the encoding at the front, as its header tells it.
+fn encoding_size(octets: &[u8]) -> Option<usize>
+    ensures found { IfSome result (λ n.
+        (2 ≤ n) × (n ≤ length octets.now) × IsEncoding (take n octets.now)) }
+    ensures none { IfNone result ((x rest : List ℕ) → octets.now ≡ x ++ rest → IsEncoding x → ⊥) }
+{
+    let Some(identifier) = identifier_at(octets) else {
+        return None;
+    };
+    let (_, rest) = octets.split_at(identifier);
+    let (contents, length) = match length_at(rest) {
+        Ok(found) => found,
+        Err(_) => return None,
+    };
+    let Some(size) = (identifier + length).checked_add(contents) else {
+        return None;
+    };
+    if size <= octets.len() {
+        Some(size)
+    } else {
+        None
+    }
+}
+
+/// The octets of the encoding that stands at the offset (X.690 8.1.1), by its header alone: the
+/// contents octets are not looked into. Where the offset is that of a block that was read from the
+/// document, at any depth, they are the octets of that block.
+///
+/// `None` where no encoding stands at the offset, also past the end. It takes no memory.
+///
+/// ```rust
+/// use simple_asn1::{ASN1Block, encoding_at};
+///
+/// // The octets of a block: of the first item of `30 07 02 01 05 A0 02 05 00` they are `02 01 05`.
+/// fn octets_of<'a>(document: &'a [u8], block: &ASN1Block) -> Option<&'a [u8]> {
+///     encoding_at(document, block.offset())
+/// }
+/// ```
+pub fn encoding_at(document: &[u8], offset: usize) -> Option<&[u8]>
+    ensures found { IfSome result (λ octets. EncodingAt document.now offset octets.now) }
+    ensures none { IfNone result (HasNoEncodingAt document.now offset) }
+    ensures block { (octets : List ℕ) → TreeAt document.now offset octets →
+        IsSomeAnd result (λ found. found.now ≡ octets) }
+{
+    if offset > document.len() {
+        return None;
+    }
+    let (_, rest) = document.split_at(offset);
+    let Some(size) = encoding_size(rest) else {
+        return None;
+    };
+    let (octets, _) = rest.split_at(size);
+    Some(octets)
+}
+
+// How many encodings stand one after another, as their headers tell it. It is a hint for the room that their blocks
+// take, and no more than that.
+pub fn encoding_count(octets: &[u8]) -> usize
+    ensures { 2 * result ≤ length octets.now }
+{
+    let mut count = 0;
+    let mut rest = octets;
+    while let Some(size) = encoding_size(rest) {
+        count += 1;
+        rest = &rest[size..];
+    }
+    count
+}

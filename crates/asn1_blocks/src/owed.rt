@@ -1,0 +1,135 @@
+// What is owed: blocks whose octets are not copied yet, since a fault may still refuse what stands around them.
+ghost use Rattle.std.specs.Prelude.{◌≡◌, ◌≤◌, true, [], map, slice_range, IfOk, IfErr, OnOk};
+ghost use Rattle.asn1_headers.specs.declared.error.ASN1DecodeErr.TheVariants.{OutOfMemory};
+ghost use Rattle.asn1_blocks.specs.Tree.{group, unknown};
+ghost use Rattle.asn1_blocks.specs.View.{view, views};
+ghost use Rattle.asn1_blocks.specs.Owed.{after, after_all, around};
+
+use crate::block::discard::discard_one;
+use crate::block::{ASN1Block, GroupKind};
+use crate::held::HeldBlocks;
+use asn1_headers::error::ASN1DecodeErr;
+use asn1_headers::header::ASN1Class;
+use asn1_numbers::number::big_uint::BigUint;
+use asn1_numbers::octets::copy_of;
+use std::alloc::{AllocError, Global};
+
+// A constructed encoding of another class than Universal. Its contents octets are read as blocks; where that fails, or
+// gives any other number than one, it stays as it came.
+#[derive(Drop)]
+pub struct Attempt {
+    pub class: ASN1Class,
+    pub offset: usize,
+    pub tag: BigUint,
+}
+
+// An order to build a block, given where the encoding ends.
+pub enum Entry {
+    // A block as it is.
+    Ready(ASN1Block),
+    // A SEQUENCE or SET at the offset: its first items, and how many of the last blocks are its others.
+    Group(GroupKind, usize, HeldBlocks, usize),
+    // An encoding of another class around the last block.
+    Explicit(Attempt),
+    // One that stays as it came: where its contents octets begin and end in the document.
+    Kept(Attempt, usize, usize),
+}
+
+impl Drop for Entry {
+    fn drop(self) {
+        match self {
+            Entry::Ready(block) => discard_one(block),
+            Entry::Group(_, _, first, _) => drop(first),
+            Entry::Explicit(_) | Entry::Kept(_, _, _) => {}
+        }
+    }
+}
+
+#[inline(always)]
+pub fn group_block(kind: GroupKind, offset: usize, blocks: HeldBlocks) -> ASN1Block
+    ensures { view result ≡ group offset kind (views blocks) }
+{
+    match kind {
+        GroupKind::Sequence => ASN1Block::Sequence(offset, blocks.into_vec()),
+        GroupKind::Set => ASN1Block::Set(offset, blocks.into_vec()),
+    }
+}
+
+// An encoding of another class around one block.
+#[inline(always)]
+pub fn explicit_block(
+    alloc: Global,
+    attempt: Attempt,
+    item: ASN1Block,
+) -> Result<ASN1Block, AllocError>
+    ensures { IfOk result (λ b. view b ≡ around attempt (view item)) }
+{
+    match Box::new(alloc, item) {
+        Ok(item) => {
+            let Attempt { class, offset, tag } = attempt;
+            Ok(ASN1Block::Explicit(class, offset, tag, item))
+        }
+        Err(failed) => {
+            discard_one(failed.value);
+            Err(AllocError)
+        }
+    }
+}
+
+// A constructed encoding that stays as it came.
+pub fn kept_block(alloc: Global, attempt: Attempt, contents: &[u8]) -> Result<ASN1Block, AllocError>
+    ensures { IfOk result (λ b.
+        view b ≡ unknown attempt.class true attempt.offset attempt.tag contents.now) }
+{
+    let octets = copy_of(alloc, contents)?;
+    let Attempt { class, offset, tag } = attempt;
+    Ok(ASN1Block::Unknown(class, true, offset, tag, octets))
+}
+
+// The octets from `start` to `end`, as far as there are any.
+fn octets_between(octets: &[u8], start: usize, end: usize) -> &[u8]
+    ensures { result.now ≡ slice_range octets.now start end }
+{
+    let (_, rest) = octets.split_at(start.min(octets.len()));
+    let (between, _) = rest.split_at(end.saturating_sub(start).min(rest.len()));
+    between
+}
+
+impl Entry {
+    // Carries the order out on the blocks so far.
+    fn build(self, alloc: Global, octets: &[u8], blocks: &mut HeldBlocks) -> Result<(), AllocError>
+        ensures { OnOk result (map view blocks.new ≡ after octets.now self (map view blocks.old)) }
+    {
+        let block = match self {
+            Entry::Ready(block) => block,
+            Entry::Group(kind, offset, first, later) => {
+                let others = blocks.split_off(blocks.len().saturating_sub(later))?;
+                let mut items = first;
+                items.append(others)?;
+                group_block(kind, offset, items)
+            }
+            Entry::Explicit(attempt) => {
+                let Some(item) = blocks.pop() else {
+                    return Ok(());
+                };
+                explicit_block(alloc, attempt, item)?
+            }
+            Entry::Kept(attempt, start, end) => {
+                kept_block(alloc, attempt, octets_between(octets, start, end))?
+            }
+        };
+        blocks.push(block)?;
+        Ok(())
+    }
+}
+
+// Carries out the orders one after another.
+pub fn build(alloc: Global, octets: &[u8], entries: Vec<Entry>) -> Result<HeldBlocks, AllocError>
+    ensures { IfOk result (λ v. map view v ≡ after_all octets.now entries.items []) }
+{
+    let mut blocks = HeldBlocks::new(alloc);
+    for entry in entries {
+        entry.build(alloc, octets, &mut blocks)?;
+    }
+    Ok(blocks)
+}

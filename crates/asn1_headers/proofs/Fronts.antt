@@ -1,0 +1,209 @@
+-- Octets begin with a header, or their header is at fault.
+use Rattle.std.proofs.Common.{◌≡◌, ℕ, zero, suc, ◌+◌, ◌*◌, ◌/◌, ◌%◌, ◌^◌, ◌-◌, ◌<◌, ◌≤◌, Bool, true, false, List, [], ◌∷◌, ◌++◌, ◌⊎◌, inl, inr, length, take, drop, refl, sym, ap, ◌∙◌, subst, arith, length-append, append_assoc}
+use Rattle.std.specs.Int.Digits.{number_from_digits}
+use Rattle.std.proofs.lemmas.Bool.{cases_lt}
+use Rattle.std.proofs.lemmas.List.{take-append-drop, length-take-le}
+use Rattle.asn1_headers.specs.declared.header.ASN1Class.{ASN1Class}
+use Rattle.asn1_headers.specs.declared.header.ASN1Class.TheVariants.{Universal, Application, ContextSpecific, Private}
+use Rattle.asn1_headers.specs.Fault.{DecodeFault, incomplete, length_too_large}
+use Rattle.asn1_numbers.specs.Base128.{IsBase128, IsContinued, low_bits_number}
+use Rattle.asn1_headers.specs.Header.{Encoding, IsIdentifier, IsLength, class_number, constructed_bit, leading_octet, length_fault}
+use Rattle.asn1_headers.specs.HeaderFault.{HeaderFault, no_identifier, no_length, too_far, too_long}
+use Rattle.asn1_headers.proofs.Prefixes.{identifier_alone, bit_small, identifier_some}
+
+-- the octets begin with continued octets, or bit 8 is set in all
+data ContinuedFront (octets : List ℕ) : Type 0 where
+  ends : (s rest : List ℕ) → IsContinued s → octets ≡ s ++ rest → ContinuedFront octets
+  never_ends : ((s rest : List ℕ) → IsContinued s → octets ≡ s ++ rest → ⊥) → ContinuedFront octets
+
+-- continued octets are some
+continued_none : (s rest : List ℕ) → IsContinued s → [] ≡ s ++ rest → ⊥
+continued_none [] rest p e = p
+continued_none (a ∷ s) rest p e = omega (arith, ap length e)
+
+-- an octet with bit 8 set before continued octets
+pub continued_more : (b : ℕ) (s : List ℕ) → 128 ≤ b → IsContinued s → IsContinued (b ∷ s)
+continued_more b [] h p = absurd p
+continued_more b (c ∷ s) h p = (h, p)
+
+-- an octet with bit 8 set does not end them
+not_continued : (b : ℕ) (octets : List ℕ) → 128 ≤ b → ((s rest : List ℕ) → IsContinued s → octets ≡ s ++ rest → ⊥) → (s rest : List ℕ) → IsContinued s → b ∷ octets ≡ s ++ rest → ⊥
+not_continued b octets h none [] rest p e = p
+not_continued b octets h none (a ∷ []) rest p e =
+    let d : b ≡ a = cc in
+    omega (arith, h, p, d)
+not_continued b octets h none (a ∷ c ∷ s) rest p e =
+    let d : octets ≡ (c ∷ s) ++ rest = cc in
+    none (c ∷ s) rest p.1 d
+
+-- it is one or the other
+continued_front : (octets : List ℕ) → ContinuedFront octets
+continued_front [] = never_ends continued_none
+continued_front (b ∷ octets) = elim (cases_lt b 128) [
+  | inl lt ↦ ends (b ∷ []) octets lt refl
+  | inr ge ↦ elim (continued_front octets) [
+    | ends s rest p e ↦ ends (b ∷ s) rest (continued_more b s ge p) (ap (λ l. b ∷ l) e)
+    | never_ends none ↦ never_ends (not_continued b octets ge none)
+  ]
+]
+
+-- each two bits are those of a class
+class_numbered : (n : ℕ) → n < 4 → (c : ASN1Class) × (class_number c ≡ n)
+class_numbered zero h = (Universal, refl)
+class_numbered (suc zero) h = (Application, refl)
+class_numbered (suc (suc zero)) h = (ContextSpecific, refl)
+class_numbered (suc (suc (suc zero))) h = (Private, refl)
+class_numbered (suc (suc (suc (suc n)))) h = absurd (omega (arith, h))
+
+-- each bit is that of primitive or constructed
+bit_numbered : (n : ℕ) → n < 2 → (k : Bool) × (constructed_bit k ≡ n)
+bit_numbered zero h = (false, refl)
+bit_numbered (suc zero) h = (true, refl)
+bit_numbered (suc (suc n)) h = absurd (omega (arith, h))
+
+-- a class has two bits
+class_small : (c : ASN1Class) → class_number c < 4
+class_small Universal = omega arith
+class_small Application = omega arith
+class_small ContextSpecific = omega arith
+class_small Private = omega arith
+
+-- an octet is the leading one of some class and constructed bit
+pub leading_parts : (b : ℕ) → b < 256 → (c : ASN1Class) × (k : Bool) × (b ≡ leading_octet c k (b % 32))
+leading_parts b h =
+    let q = b / 32 in
+    let whole : b ≡ 32 * q + b % 32 = omega arith in
+    let (c, e) = class_numbered (q / 2) (omega (arith, h, whole)) in
+    let (k, d) = bit_numbered (q % 2) (omega arith) in
+    (c, k, omega (arith, e, d, whole))
+
+-- a leading octet is an octet
+leading_small : (b : ℕ) (s : List ℕ) (c : ASN1Class) (k : Bool) (n : ℕ) → IsIdentifier (b ∷ s) c k n → b < 256
+leading_small b [] c k n p = omega (arith, p.0, p.1, class_small c, bit_small k)
+leading_small b (d ∷ s) c k n p = omega (arith, p.0, class_small c, bit_small k)
+
+-- a leading octet that ends in 31, and a base-128 number
+pub long_identifier : (b : ℕ) (s : List ℕ) (c : ASN1Class) (k : Bool) (n : ℕ) → b ≡ leading_octet c k 31 → IsBase128 s n → IsIdentifier (b ∷ s) c k n
+long_identifier b [] c k n e p = absurd p.continued
+long_identifier b (d ∷ s) c k n e p = (e, p)
+
+-- the octets begin with identifier octets, or with none
+data IdentifierFront (octets : List ℕ) : Type 0 where
+  identified : (s rest : List ℕ) (c : ASN1Class) (k : Bool) (n : ℕ) → IsIdentifier s c k n → octets ≡ s ++ rest → IdentifierFront octets
+  not_identified : ((s rest : List ℕ) (c : ASN1Class) (k : Bool) (n : ℕ) → IsIdentifier s c k n → octets ≡ s ++ rest → ⊥) → IdentifierFront octets
+
+-- a number that is no octet leads no identifier octets
+no_octet : (b : ℕ) (octets : List ℕ) → 256 ≤ b → (s rest : List ℕ) (c : ASN1Class) (k : Bool) (n : ℕ) → IsIdentifier s c k n → b ∷ octets ≡ s ++ rest → ⊥
+no_octet b octets h [] rest c k n p e = p
+no_octet b octets h (a ∷ s) rest c k n p e =
+    let d : b ≡ a = cc in
+    omega (arith, h, d, leading_small a s c k n p)
+
+-- nor does an octet that ends in 31 before no base-128 number
+no_long_identifier : (b : ℕ) (octets : List ℕ) → 31 ≤ b % 32 → ((s rest : List ℕ) → IsContinued s → octets ≡ s ++ rest → ⊥)
+    → (s rest : List ℕ) (c : ASN1Class) (k : Bool) (n : ℕ) → IsIdentifier s c k n → b ∷ octets ≡ s ++ rest → ⊥
+no_long_identifier b octets h none [] rest c k n p e = p
+no_long_identifier b octets h none (a ∷ []) rest c k n p e =
+    let d : b ≡ a = cc in
+    let f : b ≡ leading_octet c k n = d ∙ p.1 in
+    omega (arith, h, f, p.0)
+no_long_identifier b octets h none (a ∷ d ∷ s) rest c k n p e =
+    let r : octets ≡ (d ∷ s) ++ rest = cc in
+    none (d ∷ s) rest p.1.continued r
+
+-- it is one or the other
+identifier_front : (octets : List ℕ) → IdentifierFront octets
+identifier_front [] = not_identified (λ s rest c k n p e. omega (arith, identifier_some s c k n p, ap length e, length-append s rest))
+identifier_front (b ∷ octets) = elim (cases_lt b 256) [
+  | inr ge ↦ not_identified (no_octet b octets ge)
+  | inl lt ↦
+      let (c, k, e) = leading_parts b lt in
+      elim (cases_lt (b % 32) 31) [
+        | inl low ↦ identified (b ∷ []) octets c k (b % 32) (low, e) refl
+        | inr high ↦ elim (continued_front octets) [
+          | never_ends none ↦ not_identified (no_long_identifier b octets high none)
+          | ends s rest p d ↦
+              let f : b % 32 ≡ 31 = omega (arith, high) in
+              identified (b ∷ s) rest c k (low_bits_number s) (long_identifier b s c k (low_bits_number s) (e
+              ∙ ap (leading_octet c k) f) (record { continued = p; value = refl })) (ap (λ l. b ∷ l) d)
+        ]
+      ]
+]
+
+-- the octets begin with length octets, or with none
+data LengthFront (octets : List ℕ) : Type 0 where
+  measured : (l rest : List ℕ) (m : ℕ) → IsLength l m → octets ≡ l ++ rest → LengthFront octets
+  not_measured : ((l rest : List ℕ) (m : ℕ) → IsLength l m → octets ≡ l ++ rest → ⊥) → LengthFront octets
+
+-- the octets that a leading length octet asks for are there
+length_shape : (b : ℕ) (octets l rest : List ℕ) (m : ℕ) → IsLength l m → b ∷ octets ≡ l ++ rest → (b < 128) ⊎ ((b ≤ 136) × (b ≤ 128 + length octets))
+length_shape b octets [] rest m p e = absurd p
+length_shape b octets (a ∷ l) rest m (inl p) e =
+    let d : b ≡ a = cc in
+    inl (omega (arith, d, p.0))
+length_shape b octets (a ∷ l) rest m (inr p) e =
+    let d : b ≡ a = cc in
+    let r : octets ≡ l ++ rest = cc in
+    inr (omega (arith, d, p.0, p.1), omega (arith, d, p.0, ap length r, length-append l rest))
+
+-- it is one or the other
+length_front : (octets : List ℕ) → LengthFront octets
+length_front [] = not_measured (λ l rest m p e. none l rest m p e)
+  where
+    none : (l rest : List ℕ) (m : ℕ) → IsLength l m → [] ≡ l ++ rest → ⊥
+    none [] rest m p e = p
+    none (a ∷ l) rest m p e = omega (arith, ap length e)
+length_front (b ∷ octets) = elim (cases_lt b 128) [
+  | inl lt ↦ measured (b ∷ []) octets b (inl (lt, refl, refl)) refl
+  | inr ge ↦ elim (cases_lt 136 b) [
+    | inl big ↦ not_measured (λ l rest m p e. elim (length_shape b octets l rest m p e) [ inl h ↦ omega (arith, h, ge) | inr h ↦ omega (arith, h.0, big) ])
+    | inr few ↦ elim (cases_lt (length octets) (b - 128)) [
+      | inl short ↦ not_measured (λ l rest m p e. elim (length_shape b octets l rest m p e) [ inl h ↦ omega (arith, h, ge) | inr h ↦ omega (arith, h.1, short) ])
+      | inr enough ↦
+          let h = length-take-le (b - 128) octets enough in
+          measured (b ∷ take (b - 128) octets) (drop (b - 128) octets) (number_from_digits 256 (take (b - 128) octets)) (inr (
+            omega (arith, h, ge),
+            omega (arith, h, few),
+            refl,
+          )) (ap (λ l. b ∷ l) (sym (take-append-drop (b - 128) octets)))
+    ]
+  ]
+]
+
+-- at the front stands an encoding, or the header is at fault
+pub data EncodingFront (place : ℕ) (octets : List ℕ) : Type 0 where
+  begins : (x rest : List ℕ) (c : ASN1Class) (k : Bool) (n : ℕ) (contents : List ℕ) (h : ℕ) → Encoding x c k n contents h → octets ≡ x ++ rest → EncodingFront place octets
+  begins_not : (e : DecodeFault) → HeaderFault place octets e → EncodingFront place octets
+
+-- what follows identifier and length octets
+contents_front : (place : ℕ) (octets s l rest : List ℕ) (c : ASN1Class) (k : Bool) (n m : ℕ) → IsIdentifier s c k n → IsLength l m → octets ≡ s ++ (l ++ rest)
+    → EncodingFront place octets
+contents_front place octets s l rest c k n m t u g = elim (cases_lt (place + (length s + length l) + m) (2 ^ 64)) [
+  | inr far ↦ begins_not (length_too_large m) (too_far s l rest c k n m t u g far refl)
+  | inl near ↦ elim (cases_lt (length rest) m) [
+    | inl long ↦ begins_not incomplete (too_long s l rest c k n m t u g near long)
+    | inr enough ↦ begins (s ++ (l ++ take m rest)) (drop m rest) c k n (take m rest) (length s + length l)
+        (record { identifier = s; len = l; identifier_octets = t; length_octets = subst (IsLength l) (sym (length-take-le m rest enough)) u; whole = refl; size = refl })
+        (g ∙ ap (λ z. s ++ (l ++ z)) (sym (take-append-drop m rest)) ∙ regroup s l (take m rest) (drop m rest))
+  ]
+]
+  where
+    regroup : (a b c d : List ℕ) → a ++ (b ++ (c ++ d)) ≡ (a ++ (b ++ c)) ++ d
+    regroup a b c d = simp append_assoc
+
+-- what follows identifier octets
+length_front_after : (place : ℕ) (octets s rest : List ℕ) (c : ASN1Class) (k : Bool) (n : ℕ) → IsIdentifier s c k n → octets ≡ s ++ rest → EncodingFront place octets
+length_front_after place octets s [] c k n t g = begins_not incomplete (no_identifier (λ s' rest c' k' n' b t' g'.
+    let q = identifier_alone s s' [] (b ∷ rest) c c' k k' n n' t t' (sym g ∙ g') in
+    omega (arith, ap length q.1)))
+length_front_after place octets s (b ∷ rest) c k n t g = elim (length_front (b ∷ rest)) [
+  | not_measured none ↦ begins_not (length_fault (b ∷ rest)) (no_length s b rest c k n t g none refl)
+  | measured l r m u e ↦ contents_front place octets s l r c k n m t u (g ∙ ap (λ z. s ++ z) e)
+]
+
+-- it is one or the other
+pub encoding_front : (place : ℕ) (octets : List ℕ) → EncodingFront place octets
+encoding_front place octets = elim (identifier_front octets) [
+  | not_identified none ↦ begins_not incomplete (no_identifier (λ s rest c k n b t g. none s (b ∷ rest) c k n t g))
+  | identified s rest c k n t g ↦ length_front_after place octets s rest c k n t g
+]

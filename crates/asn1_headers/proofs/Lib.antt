@@ -1,0 +1,5 @@
+pub mod HeaderOctets
+pub mod Prefixes
+pub mod Shortest
+pub mod Fronts
+pub mod Identifiers

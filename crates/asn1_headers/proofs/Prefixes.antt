@@ -1,0 +1,173 @@
+-- No identifier octets, length octets or encoding begin others.
+use Rattle.std.proofs.Common.{◌≡◌, ℕ, zero, suc, ◌+◌, ◌<◌, Bool, true, false, List, [], ◌∷◌, ◌++◌, inl, inr, length, refl, sym, ap, ◌∙◌, arith, append_assoc, length-append}
+use Rattle.std.specs.Int.Digits.{number_from_digits}
+use Rattle.asn1_headers.specs.declared.header.ASN1Class.{ASN1Class}
+use Rattle.asn1_headers.specs.declared.header.ASN1Class.TheVariants.{Universal, Application, ContextSpecific, Private}
+use Rattle.asn1_numbers.specs.Base128.{IsBase128, IsContinued, low_bits_number}
+use Rattle.asn1_headers.specs.Header.{IsIdentifier, IsLength, Encoding, class_number, constructed_bit, leading_octet}
+
+-- identifier octets are some
+pub identifier_some : (s : List ℕ) (c : ASN1Class) (k : Bool) (n : ℕ) → IsIdentifier s c k n → 0 < length s
+identifier_some [] c k n t = absurd t
+identifier_some (b ∷ s) c k n t = omega arith
+
+-- so an encoding has octets
+pub encoding_some : (octets : List ℕ) (c : ASN1Class) (k : Bool) (n : ℕ) (contents : List ℕ) (h : ℕ) → Encoding octets c k n contents h → 0 < length octets
+encoding_some octets c k n contents h f = omega (arith, identifier_some f.identifier c k n f.identifier_octets, ap length f.whole, length-append f.identifier (f.len ++ contents))
+
+-- two splits of one list at one place are one
+pub same_split : (s t x y : List ℕ) → length s ≡ length t → s ++ x ≡ t ++ y → (s ≡ t) × (x ≡ y)
+same_split [] [] x y l e = (refl, e)
+same_split [] (b ∷ t) x y l e = absurd (omega (arith, l))
+same_split (a ∷ s) [] x y l e = absurd (omega (arith, l))
+same_split (a ∷ s) (b ∷ t) x y l e =
+    let h : a ≡ b = cc in
+    let r : s ++ x ≡ t ++ y = cc in
+    let p = same_split s t x y (omega (arith, l)) r in
+    let q : s ≡ t = p.0 in
+    (cc, p.1)
+
+-- continued octets begin no others
+pub continued_alone : (s t x y : List ℕ) → IsContinued s → IsContinued t → s ++ x ≡ t ++ y → (s ≡ t) × (x ≡ y)
+continued_alone [] t x y p q e = absurd p
+continued_alone (a ∷ s) [] x y p q e = absurd q
+continued_alone (a ∷ []) (b ∷ []) x y p q e = (cc, cc)
+continued_alone (a ∷ []) (b ∷ d ∷ t) x y p q e =
+    let h : a ≡ b = cc in
+    absurd (omega (arith, p, q.0, h))
+continued_alone (a ∷ c ∷ s) (b ∷ []) x y p q e =
+    let h : a ≡ b = cc in
+    absurd (omega (arith, p.0, q, h))
+continued_alone (a ∷ c ∷ s) (b ∷ d ∷ t) x y p q e =
+    let h : a ≡ b = cc in
+    let r : (c ∷ s) ++ x ≡ (d ∷ t) ++ y = cc in
+    let i = continued_alone (c ∷ s) (d ∷ t) x y p.1 q.1 r in
+    let j : c ∷ s ≡ d ∷ t = i.0 in
+    (cc, i.1)
+
+-- the class of two bits
+class_with : ℕ → ASN1Class
+class_with zero = Universal
+class_with (suc zero) = Application
+class_with (suc (suc zero)) = ContextSpecific
+class_with (suc (suc (suc n))) = Private
+
+-- it is the one that they came from
+class_with_number : (c : ASN1Class) → class_with (class_number c) ≡ c
+unfolding class_with
+class_with_number Universal = refl
+class_with_number Application = refl
+class_with_number ContextSpecific = refl
+class_with_number Private = refl
+
+-- primitive or constructed, of one bit
+bit_with : ℕ → Bool
+bit_with zero = false
+bit_with (suc n) = true
+
+-- it is the one that the bit came from
+bit_with_number : (b : Bool) → bit_with (constructed_bit b) ≡ b
+unfolding bit_with
+bit_with_number true = refl
+bit_with_number false = refl
+
+-- the constructed bit is one bit
+pub bit_small : (b : Bool) → constructed_bit b < 2
+bit_small true = omega arith
+bit_small false = omega arith
+
+-- the class, the constructed bit and the low bits of a leading octet
+pub same_class : (c d : ASN1Class) (j k : Bool) (m n : ℕ) → m < 32 → n < 32 → leading_octet c j m ≡ leading_octet d k n → (c ≡ d) × (j ≡ k) × (m ≡ n)
+same_class c d j k m n lm ln e =
+    let p = bit_small j in
+    let q = bit_small k in
+    let f : class_number c ≡ class_number d = omega (arith, e, p, q, lm, ln) in
+    let g : constructed_bit j ≡ constructed_bit k = omega (arith, e, p, q, lm, ln, f) in
+    (sym (class_with_number c) ∙ ap class_with f ∙ class_with_number d, sym (bit_with_number j) ∙ ap bit_with g ∙ bit_with_number k, omega (arith, e, f, g))
+
+-- a base-128 number begins no other
+pub base128_alone : (s t x y : List ℕ) (m n : ℕ) → IsBase128 s m → IsBase128 t n → s ++ x ≡ t ++ y → (s ≡ t) × (x ≡ y) × (m ≡ n)
+base128_alone s t x y m n p q e =
+    let f = continued_alone s t x y p.continued q.continued e in
+    (f.0, f.1, p.value ∙ ap low_bits_number f.0 ∙ sym q.value)
+
+-- identifier octets begin no others
+pub identifier_alone : (s t x y : List ℕ) (c d : ASN1Class) (j k : Bool) (m n : ℕ) → IsIdentifier s c j m → IsIdentifier t d k n → s ++ x ≡ t ++ y → (s ≡ t)
+    × (x ≡ y) × (c ≡ d) × (j ≡ k) × (m ≡ n)
+identifier_alone [] t x y c d j k m n p q e = absurd p
+identifier_alone (a ∷ s) [] x y c d j k m n p q e = absurd q
+identifier_alone (a ∷ []) (b ∷ []) x y c d j k m n p q e =
+    let h : a ≡ b = cc in
+    let r : x ≡ y = cc in
+    let i = same_class c d j k m n (omega (arith, p.0)) (omega (arith, q.0)) (sym p.1 ∙ h ∙ q.1) in
+    (cc, r, i.0, i.1, i.2)
+identifier_alone (a ∷ []) (b ∷ v ∷ t) x y c d j k m n p q e =
+    let h : a ≡ b = cc in
+    let i = same_class c d j k m 31 (omega (arith, p.0)) (omega arith) (sym p.1 ∙ h ∙ q.0) in
+    absurd (omega (arith, i.2, p.0))
+identifier_alone (a ∷ u ∷ s) (b ∷ []) x y c d j k m n p q e =
+    let h : a ≡ b = cc in
+    let i = same_class c d j k 31 n (omega arith) (omega (arith, q.0)) (sym p.0 ∙ h ∙ q.1) in
+    absurd (omega (arith, i.2, q.0))
+identifier_alone (a ∷ u ∷ s) (b ∷ v ∷ t) x y c d j k m n p q e =
+    let h : a ≡ b = cc in
+    let r : (u ∷ s) ++ x ≡ (v ∷ t) ++ y = cc in
+    let i = same_class c d j k 31 31 (omega arith) (omega arith) (sym p.0 ∙ h ∙ q.0) in
+    let f = base128_alone (u ∷ s) (v ∷ t) x y m n p.1 q.1 r in
+    let g : u ∷ s ≡ v ∷ t = f.0 in
+    (cc, f.1, i.0, i.1, f.2)
+
+-- length octets begin no others
+pub length_alone : (s t x y : List ℕ) (m n : ℕ) → IsLength s m → IsLength t n → s ++ x ≡ t ++ y → (s ≡ t) × (x ≡ y) × (m ≡ n)
+length_alone [] t x y m n p q e = absurd p
+length_alone (a ∷ s) [] x y m n p q e = absurd q
+length_alone (a ∷ s) (b ∷ t) x y m n (inl p) (inl q) e =
+    let h : a ≡ b = cc in
+    let i = same_split (a ∷ s) (b ∷ t) x y (omega (arith, ap length p.1, ap length q.1)) e in
+    (i.0, i.1, p.2 ∙ h ∙ sym q.2)
+length_alone (a ∷ s) (b ∷ t) x y m n (inl p) (inr q) e =
+    let h : a ≡ b = cc in
+    absurd (omega (arith, h, p.0, q.0))
+length_alone (a ∷ s) (b ∷ t) x y m n (inr p) (inl q) e =
+    let h : a ≡ b = cc in
+    absurd (omega (arith, h, p.0, q.0))
+length_alone (a ∷ s) (b ∷ t) x y m n (inr p) (inr q) e =
+    let h : a ≡ b = cc in
+    let i = same_split (a ∷ s) (b ∷ t) x y (omega (arith, h, p.0, q.0)) e in
+    let g : a ∷ s ≡ b ∷ t = i.0 in
+    let r : s ≡ t = cc in
+    (g, i.1, p.2 ∙ ap (number_from_digits 256) r ∙ sym q.2)
+
+-- what two encodings at the front of one list share
+pub record SameEncoding (xs ys : List ℕ) (c d : ASN1Class) (j k : Bool) (m n : ℕ) (v w : List ℕ) (g h : ℕ) (r q : List ℕ) : Type 0 where
+  pub octets : xs ≡ ys
+  pub class : c ≡ d
+  pub constructed : j ≡ k
+  pub tag : m ≡ n
+  pub contents : v ≡ w
+  pub header : g ≡ h
+  pub rest : r ≡ q
+
+-- an encoding begins no other
+pub encoding_alone : (xs ys : List ℕ) (c d : ASN1Class) (j k : Bool) (m n : ℕ) (v w : List ℕ) (g h : ℕ) (r q : List ℕ) → Encoding xs c j m v g
+    → Encoding ys d k n w h → xs ++ r ≡ ys ++ q → SameEncoding xs ys c d j k m n v w g h r q
+encoding_alone xs ys c d j k m n v w g h r q F G e =
+    let e1 : F.identifier ++ (F.len ++ (v ++ r)) ≡ G.identifier ++ (G.len ++ (w ++ q)) = sym (regroup F.identifier F.len v r)
+    ∙ (ap (λ z. z ++ r) (sym F.whole) ∙ e ∙ ap (λ z. z ++ q) G.whole) ∙ regroup G.identifier G.len w q in
+    let t = identifier_alone F.identifier G.identifier (F.len ++ (v ++ r)) (G.len ++ (w ++ q)) c d j k m n F.identifier_octets G.identifier_octets e1 in
+    let l = length_alone F.len G.len (v ++ r) (w ++ q) (length v) (length w) F.length_octets G.length_octets t.1 in
+    let b = same_split v w r q l.2 l.1 in
+    record {
+      octets = F.whole ∙ ap (λ z. z ++ (F.len ++ v)) t.0 ∙ ap (λ z. G.identifier ++ (z ++ v)) l.0 ∙ ap (λ z. G.identifier ++ (G.len ++ z)) b.0
+          ∙ sym G.whole;
+      class = t.2;
+      constructed = t.3;
+      tag = t.4;
+      contents = b.0;
+      header = F.size ∙ ap (λ z. length z + length F.len) t.0
+          ∙ ap (λ z. length G.identifier + length z) l.0 ∙ sym G.size;
+      rest = b.1;
+    }
+  where
+    regroup : (a b c d : List ℕ) → (a ++ (b ++ c)) ++ d ≡ a ++ (b ++ (c ++ d))
+    regroup a b c d = simp append_assoc

@@ -1,0 +1,10 @@
+-- Leaves.
+pub mod Boolean
+pub mod Integer
+pub mod BitString
+pub mod Text
+pub mod ObjectIdentifier
+pub mod Known
+pub mod Digits
+pub mod UtcTime
+pub mod GeneralizedTime

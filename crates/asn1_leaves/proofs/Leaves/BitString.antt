@@ -1,0 +1,100 @@
+-- What is known of the contents octets of a BIT STRING.
+use Rattle.std.proofs.Common.{◌≡◌, ◌==◌, ℕ, zero, suc, ◌+◌, ◌-◌, ◌*◌, ◌<◌, ◌≤◌, ◌^◌, ◌⊎◌, false, List, [], ◌∷◌, None, length, inl, inr, refl, sym, ap, ◌∙◌, subst, arith}
+use Rattle.std.specs.Prelude.{pos, ◌-ℤ◌, All, if◌then◌else◌}
+use Rattle.std.proofs.lemmas.Bool.{cases_Bool, cases_lt, eqb-true}
+use Rattle.std.proofs.lemmas.Grind.{common_steps}
+use Rattle.std.proofs.lemmas.List.Elements.{All-head}
+use Rattle.asn1_headers.specs.Fault.{DecodeFault, IsOfReading, length_too_large, invalid_bit_string_length}
+use Rattle.asn1_leaves.specs.Contents.BitString.{BitStringContents, BitStringFault, IsFaithfulBitString, bit_string_contents, bit_string_write_fault, written_bits}
+
+-- they mean one number of bits, and one list of octets
+pub bit_string_alone : (m n : ℕ) (v w contents : List ℕ) → BitStringContents m v contents → BitStringContents n w contents → (m ≡ n) × (v ≡ w)
+bit_string_alone m n v w [] p q = (p.0 ∙ sym q.0, p.1 ∙ sym q.1)
+bit_string_alone m n v w (u ∷ contents) p q =
+    let f : v ≡ w = p.0 ∙ sym q.0 in
+    (omega (arith, p.1, q.1, ap length f), f)
+
+-- they have one fault
+pub bit_string_fault_alone : (contents : List ℕ) (e d : DecodeFault) → BitStringFault contents e → BitStringFault contents d → e ≡ d
+bit_string_fault_alone [] e d p q = absurd p
+bit_string_fault_alone (u ∷ v) e d (inl p) (inl q) = p.1 ∙ sym q.1
+bit_string_fault_alone (u ∷ v) e d (inl p) (inr q) = absurd (omega (arith, p.0, q.0))
+bit_string_fault_alone (u ∷ v) e d (inr p) (inl q) = absurd (omega (arith, p.0, q.0))
+bit_string_fault_alone (u ∷ v) e d (inr p) (inr q) = p.2 ∙ sym q.2
+
+-- those that mean bits have no fault
+pub bit_string_no_fault : (n : ℕ) (v contents : List ℕ) (e : DecodeFault) → BitStringContents n v contents → BitStringFault contents e → ⊥
+bit_string_no_fault n v [] e p f = f
+bit_string_no_fault n v (u ∷ contents) e p (inl f) = omega (arith, p.2, f.0, ap length p.0)
+bit_string_no_fault n v (u ∷ contents) e p (inr f) = omega (arith, p.1, f.1, ap length p.0)
+
+-- all others have one
+pub bit_string_meaning : (contents : List ℕ) → ((n : ℕ) × (v : List ℕ) × BitStringContents n v contents) ⊎ ((e : DecodeFault) × BitStringFault contents e)
+bit_string_meaning [] = inl (0, [], (refl, refl))
+bit_string_meaning (u ∷ v) = elim (cases_lt (8 * length v) (2 ^ 64)) [
+  | inr far ↦ inr (length_too_large (length (u ∷ v)), inl (far, refl))
+  | inl near ↦ elim (cases_lt (8 * length v) u) [
+    | inl more ↦ inr (invalid_bit_string_length (pos (8 * length v) -ℤ pos u), inr (near, more, refl))
+    | inr enough ↦ inl (8 * length v - u, v, (refl, omega arith, near))
+  ]
+]
+
+-- it is one of reading
+pub bit_string_fault_of_reading : (contents : List ℕ) (e : DecodeFault) → BitStringFault contents e → IsOfReading e
+bit_string_fault_of_reading [] e f = absurd f
+bit_string_fault_of_reading (u ∷ v) e (inl f) = subst IsOfReading (sym f.1) tt
+bit_string_fault_of_reading (u ∷ v) e (inr f) = subst IsOfReading (sym f.2) tt
+
+-- bits that octets mean can be written
+pub bit_string_writable : (n : ℕ) (v contents : List ℕ) → All (λ b. b < 256) contents → BitStringContents n v contents → bit_string_write_fault n v ≡ None
+bit_string_writable n v [] all p = ap (λ z. bit_string_write_fault z v) p.0
+bit_string_writable n v (u ∷ contents) all p =
+    let h : u < 256 = All-head (λ b. b < 256) u contents all in
+    grind (arith, common_steps, h, p.1)
+
+-- some bits are not none
+some_bits : (n : ℕ) → (suc n == 0) ≡ false
+some_bits n = elim (cases_Bool (suc n == 0)) [ inl e ↦ absurd (omega (arith, eqb-true (suc n) 0 e)) | inr e ↦ e ]
+
+-- what is written of a bit string that has some, and what is left of it
+some_written : (n : ℕ) (v : List ℕ) → bit_string_contents (suc n) v ≡ (8 * length v - suc n) ∷ v
+some_written n v = ap (λ z. if z then [] else ((8 * length v - suc n) ∷ v)) (some_bits n)
+
+some_left : (n : ℕ) (v : List ℕ) → written_bits (suc n) v ≡ v
+some_left n v = ap (λ z. if z then [] else v) (some_bits n)
+
+-- what is written of faithful bits means them
+pub bit_string_again : (n : ℕ) (v : List ℕ) → IsFaithfulBitString n v → BitStringContents n v (bit_string_contents n v)
+bit_string_again zero v (inl f) = (refl, f.1)
+bit_string_again zero v (inr f) = absurd (omega (arith, f.0))
+bit_string_again (suc n) v (inl f) = absurd (omega (arith, f.0))
+bit_string_again (suc n) v (inr f) = subst (BitStringContents (suc n) v) (sym (some_written n v)) (refl, omega (arith, f.1), f.3)
+
+-- they can be written
+pub bit_string_fits : (n : ℕ) (v : List ℕ) → IsFaithfulBitString n v → bit_string_write_fault n v ≡ None
+bit_string_fits zero v f = refl
+bit_string_fits (suc n) v (inl f) = absurd (omega (arith, f.0))
+bit_string_fits (suc n) v (inr f) = grind (arith, common_steps, f.1, f.2)
+
+-- bits that can be written are faithful where what is written means them
+pub bit_string_kept : (n : ℕ) (v : List ℕ) → bit_string_write_fault n v ≡ None → BitStringContents n v (bit_string_contents n v) → IsFaithfulBitString n v
+bit_string_kept zero v w p = inl (refl, p.1)
+bit_string_kept (suc n) v w p =
+    let q = subst (BitStringContents (suc n) v) (some_written n v) p in
+    let h : 8 * length v ≤ suc n + 255 = grind (arith, common_steps, w, q.1) in
+    inr (omega arith, omega (arith, q.1), h, q.2)
+
+-- what is left of bits that were read is faithful
+pub bit_string_read : (n : ℕ) (v contents : List ℕ) → All (λ b. b < 256) contents → BitStringContents n v contents → IsFaithfulBitString n (written_bits n v)
+bit_string_read zero v contents all p = inl (refl, refl)
+bit_string_read (suc n) v [] all p = absurd (omega (arith, p.0))
+bit_string_read (suc n) v (u ∷ contents) all p =
+    let h : u < 256 = All-head (λ b. b < 256) u contents all in
+    let few : 8 * length v ≤ suc n + 255 = omega (arith, h, p.1, ap length p.0) in
+    let fits : 8 * length v < 2 ^ 64 = omega (arith, p.2, ap length p.0) in
+    subst (IsFaithfulBitString (suc n)) (sym (some_left n v)) (inr (omega arith, omega (arith, p.1, ap length p.0), few, fits))
+
+-- what is not left is not written
+pub bit_string_same : (n : ℕ) (v : List ℕ) → bit_string_contents n (written_bits n v) ≡ bit_string_contents n v
+bit_string_same zero v = refl
+bit_string_same (suc n) v = ap (bit_string_contents (suc n)) (some_left n v)

@@ -1,0 +1,111 @@
+-- What is known of the contents octets of an OBJECT IDENTIFIER.
+use Rattle.std.proofs.Common.{◌≡◌, ℕ, ◌+◌, ◌*◌, ◌-◌, ◌<◌, ◌⊎◌, List, [], ◌∷◌, None, inl, inr, refl, sym, ◌∙◌, subst, arith}
+use Rattle.std.specs.Prelude.{All}
+use Rattle.std.specs.List.{flat_map}
+use Rattle.std.proofs.lemmas.Bool.{cases_lt}
+use Rattle.std.proofs.lemmas.List.Elements.{All-head}
+use Rattle.asn1_numbers.specs.Base128.{shortest_base128}
+use Rattle.asn1_leaves.specs.Contents.ObjectIdentifier.{AreFirstTwo, IsFaithfulObjectIdentifier, ObjectIdentifierContents, ObjectIdentifierFault, Subidentifiers, object_identifier_contents, object_identifier_write_fault}
+use Rattle.asn1_headers.specs.Fault.{DecodeFault, IsOfReading, incomplete}
+use Rattle.asn1_leaves.proofs.Subidentifiers.{subidentifiers_alone, subidentifiers_decided, subidentifiers_shortest}
+
+-- the first two components of a number
+first_alone : (v w x y n : ℕ) → AreFirstTwo v w n → AreFirstTwo x y n → (v ≡ x) × (w ≡ y)
+first_alone v w x y n (e, p, inl q) (f, r, inl s) = (omega (arith, e, f, q, s), omega (arith, e, f, q, s))
+first_alone v w x y n (e, p, inl q) (f, r, inr s) = (omega (arith, e, f, p, q, s), omega (arith, e, f, p, q, s))
+first_alone v w x y n (e, p, inr q) (f, r, inl s) = (omega (arith, e, f, r, q, s), omega (arith, e, f, r, q, s))
+first_alone v w x y n (e, p, inr q) (f, r, inr s) = (q ∙ sym s, omega (arith, e, f, q, s))
+
+-- they mean one list of components
+pub object_identifier_alone : (ms ns contents : List ℕ) → ObjectIdentifierContents ms contents → ObjectIdentifierContents ns contents → ms ≡ ns
+object_identifier_alone [] ns contents p q = absurd p
+object_identifier_alone (v ∷ []) ns contents p q = absurd p
+object_identifier_alone (v ∷ w ∷ ms) [] contents p q = absurd q
+object_identifier_alone (v ∷ w ∷ ms) (x ∷ []) contents p q = absurd q
+object_identifier_alone (v ∷ w ∷ ms) (x ∷ y ∷ ns) contents (b, octets, e, f, s) (c, rest, g, h, t) =
+    let whole : b ∷ octets ≡ c ∷ rest = sym e ∙ g in
+    let same : c ≡ b = cc in
+    let left : rest ≡ octets = cc in
+    let first = first_alone v w x y b f (subst (AreFirstTwo x y) same h) in
+    let others : ms ≡ ns = subidentifiers_alone ms ns octets s (subst (Subidentifiers ns) left t) in
+    let first_is : v ≡ x = first.0 in
+    let second_is : w ≡ y = first.1 in
+    cc
+
+-- they have one fault
+pub object_identifier_fault_alone : (contents : List ℕ) (e d : DecodeFault) → ObjectIdentifierFault contents e → ObjectIdentifierFault contents d → e ≡ d
+object_identifier_fault_alone contents e d p q = p.0 ∙ sym q.0
+
+-- those that mean components have no fault
+pub object_identifier_no_fault : (ns contents : List ℕ) (e : DecodeFault) → ObjectIdentifierContents ns contents → ObjectIdentifierFault contents e → ⊥
+object_identifier_no_fault ns contents e p f = f.1 ns p
+
+-- the first two components of any number
+first_two : (b : ℕ) → (x : ℕ) × (y : ℕ) × AreFirstTwo x y b
+first_two b = elim (cases_lt b 40) [
+  | inl low ↦ (0, b, (omega arith, omega arith, inl low))
+  | inr above ↦ elim (cases_lt b 80) [
+    | inl middle ↦ (1, b - 40, (omega (arith, above), omega arith, inl (omega (arith, above, middle))))
+    | inr high ↦ (2, b - 80, (omega (arith, high), omega arith, inr refl))
+  ]
+]
+
+no_subidentifiers : (b : ℕ) (octets : List ℕ) → ((ns : List ℕ) → Subidentifiers ns octets → ⊥) → (ns : List ℕ) → ObjectIdentifierContents ns (b ∷ octets) → ⊥
+no_subidentifiers b octets none [] p = p
+no_subidentifiers b octets none (x ∷ []) p = p
+no_subidentifiers b octets none (x ∷ y ∷ ns) (c, rest, e, f, s) =
+    let left : rest ≡ octets = cc in
+    none ns (subst (Subidentifiers ns) left s)
+
+no_octets : (ns : List ℕ) → ObjectIdentifierContents ns [] → ⊥
+no_octets [] p = p
+no_octets (x ∷ []) p = p
+no_octets (x ∷ y ∷ ns) (c, rest, e, f, s) = cc
+
+-- all others have one
+pub object_identifier_meaning : (contents : List ℕ)
+    → ((ns : List ℕ) × ObjectIdentifierContents ns contents) ⊎ ((e : DecodeFault) × ObjectIdentifierFault contents e)
+object_identifier_meaning [] = inr (incomplete, (refl, no_octets))
+object_identifier_meaning (b ∷ octets) = elim (subidentifiers_decided octets) [
+  | inl s ↦ let f = first_two b in inl (f.0 ∷ f.1 ∷ s.0, (b, octets, refl, f.2, s.1))
+  | inr none ↦ inr (incomplete, (refl, no_subidentifiers b octets none))
+]
+
+-- it is one of reading
+pub object_identifier_fault_of_reading : (contents : List ℕ) (e : DecodeFault) → ObjectIdentifierFault contents e → IsOfReading e
+object_identifier_fault_of_reading contents e f = subst IsOfReading (sym f.0) tt
+
+first_writable : (x y b : ℕ) (ns : List ℕ) → b < 256 → AreFirstTwo x y b → object_identifier_write_fault (x ∷ y ∷ ns) ≡ None
+first_writable x y b ns small (e, p, inl q) = grind (arith, e, p, q, small)
+first_writable x y b ns small (e, p, inr q) = grind (arith, e, p, q, small)
+
+-- components that octets mean can be written
+pub object_identifier_writable : (ns contents : List ℕ) → All (λ b. b < 256) contents → ObjectIdentifierContents ns contents
+    → object_identifier_write_fault ns ≡ None
+object_identifier_writable [] contents all p = absurd p
+object_identifier_writable (x ∷ []) contents all p = absurd p
+object_identifier_writable (x ∷ y ∷ ns) contents all (b, rest, e, f, s) =
+    first_writable x y b ns (All-head (λ b. b < 256) b rest (subst (All (λ b. b < 256)) e all)) f
+
+-- components that can be written are the first two of their octet
+written_first : (x y : ℕ) (ns : List ℕ) → object_identifier_write_fault (x ∷ y ∷ ns) ≡ None → AreFirstTwo x y (40 * x + y)
+written_first x y ns fits = (refl, grind (arith, fits), grind (arith, fits))
+
+-- contents octets that are written of faithful components mean them
+pub object_identifier_again : (ns : List ℕ) → IsFaithfulObjectIdentifier ns → ObjectIdentifierContents ns (object_identifier_contents ns)
+object_identifier_again [] f = cc
+object_identifier_again (x ∷ []) f = cc
+object_identifier_again (x ∷ y ∷ ns) f = (40 * x + y, flat_map shortest_base128 ns, refl, written_first x y ns f, subidentifiers_shortest ns)
+
+-- and faithful components can be written
+pub object_identifier_fits : (ns : List ℕ) → IsFaithfulObjectIdentifier ns → object_identifier_write_fault ns ≡ None
+object_identifier_fits ns f = f
+
+-- components that can be written are faithful where what is written means them
+pub object_identifier_kept : (ns : List ℕ) → object_identifier_write_fault ns ≡ None → ObjectIdentifierContents ns (object_identifier_contents ns)
+    → IsFaithfulObjectIdentifier ns
+object_identifier_kept ns fits p = fits
+
+-- components that octets mean are faithful
+pub object_identifier_read : (ns contents : List ℕ) → All (λ b. b < 256) contents → ObjectIdentifierContents ns contents → IsFaithfulObjectIdentifier ns
+object_identifier_read ns contents all p = object_identifier_writable ns contents all p

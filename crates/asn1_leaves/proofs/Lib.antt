@@ -1,0 +1,5 @@
+pub mod Leaves
+pub mod Characters
+pub mod Subidentifiers
+pub mod ShortSubidentifiers
+pub mod SliceSplit

@@ -1,0 +1,60 @@
+-- Subidentifiers none of which begins with 80 (hexadecimal) have their shortest forms.
+use Rattle.std.proofs.Common.{◌≡◌, ◌≢◌, ℕ, ◌<◌, Bool, true, List, [], ◌∷◌, ◌++◌, length, refl, sym, ap, ◌∙◌, subst, arith, nat_lt, IsTrue, ◌+◌, ◌*◌}
+use Rattle.std.specs.List.{flat_map}
+use Rattle.std.proofs.lemmas.List.{drop_at, take_at}
+use Rattle.std.proofs.lemmas.List.Elements.{All-drop, All-take}
+use Rattle.asn1_numbers.specs.Octets.{AreOctets}
+use Rattle.asn1_numbers.specs.Base128.{IsContinued, shortest_base128}
+use Rattle.asn1_leaves.specs.Contents.ObjectIdentifier.{ObjectIdentifierContents, Subidentifiers, object_identifier_contents}
+use Rattle.asn1_headers.proofs.Shortest.{shortest_base128_not_leading}
+
+-- no subidentifier begins with 80, where the first octet begins one, or goes on with one
+abbrev pub NoneLeads : Bool → List ℕ → Type 0
+NoneLeads begins [] = Unit {0}
+NoneLeads begins (b ∷ octets) = (IsTrue begins → b ≢ 128) × NoneLeads (nat_lt b 128) octets
+
+-- so it is after the first
+none_after : (first rest : List ℕ) (begins : Bool) → IsContinued first → NoneLeads begins (first ++ rest) → NoneLeads true rest
+none_after [] rest begins p h = absurd p
+none_after (b ∷ []) rest begins p h =
+    let ends : nat_lt b 128 ≡ true = grind (arith, p) in
+    subst (λ z. NoneLeads z rest) ends h.1
+none_after (b ∷ c ∷ first) rest begins p h = none_after (c ∷ first) rest (nat_lt b 128) p.1 h.1
+
+-- and the first itself does not begin so
+none_first : (first rest more : List ℕ) → IsContinued first → NoneLeads true (first ++ rest) → first ≢ 128 ∷ more
+none_first [] rest more p h e = p
+none_first (b ∷ first) rest more p h e =
+    let leading : b ≡ 128 = cc in
+    h.0 refl leading
+
+-- so all are the shortest
+short_subidentifiers : (ns octets : List ℕ) → AreOctets octets → NoneLeads true octets → Subidentifiers ns octets → octets ≡ flat_map shortest_base128 ns
+short_subidentifiers [] octets all h s = s
+short_subidentifiers (n ∷ ns) octets all h (first, rest, e, p, s) =
+    let whole = subst AreOctets e all in
+    let none = subst (NoneLeads true) e h in
+    let front : AreOctets first = subst AreOctets (take_at first rest (length first) refl) (All-take (λ b. b < 256) (length first) (first ++ rest) whole) in
+    let back : AreOctets rest = subst AreOctets (drop_at first rest (length first) refl) (All-drop (λ b. b < 256) (length first) (first ++ rest) whole) in
+    let here = shortest_base128_not_leading first n front p (λ more. none_first first rest more p.continued none) in
+    let others = short_subidentifiers ns rest back (none_after first rest true p.continued none) s in
+    e ∙ (ap (λ z. z ++ rest) here ∙ ap (λ z. shortest_base128 n ++ z) others)
+
+-- octets that mean components are those that are written of them
+pub short_object_identifier :
+    (ns : List ℕ) (b : ℕ) (octets : List ℕ) → AreOctets (b ∷ octets) → NoneLeads true octets →
+    ObjectIdentifierContents ns (b ∷ octets) → b ∷ octets ≡ object_identifier_contents ns
+short_object_identifier [] b octets all h p = absurd p
+short_object_identifier (x ∷ []) b octets all h p = absurd p
+short_object_identifier (x ∷ y ∷ ns) b octets all h (c, rest, e, f, s) =
+    let same : octets ≡ rest = cc in
+    let first : b ≡ c = cc in
+    let tail : AreOctets octets = All-drop (λ b. b < 256) 1 (b ∷ octets) all in
+    let others = short_subidentifiers ns octets tail h (subst (Subidentifiers ns) (sym same) s) in
+    let first_is : b ≡ 40 * x + y = first ∙ f.0 in
+    cc
+
+-- without octets none does
+pub none_left : (octets : List ℕ) (begins : Bool) → length octets ≡ 0 → NoneLeads begins octets
+none_left [] begins n = tt
+none_left (b ∷ octets) begins n = absurd (omega (arith, n))

@@ -1,0 +1,110 @@
+-- Subidentifiers, one after another.
+use Rattle.std.proofs.Common.{◌≡◌, ℕ, ◌<◌, ◌≤◌, ◌⊎◌, inl, inr, List, [], ◌∷◌, ◌++◌, length, take, refl, sym, ap, ◌∙◌, subst, arith, length-append, append_assoc, append-nil}
+use Rattle.std.specs.List.{flat_map}
+use Rattle.std.proofs.lemmas.Bool.{cases_lt}
+use Rattle.std.proofs.lemmas.List.{take_at}
+use Rattle.asn1_numbers.specs.Base128.{IsBase128, IsContinued, low_bits_number, shortest_base128}
+use Rattle.asn1_leaves.specs.Contents.ObjectIdentifier.{Subidentifiers}
+use Rattle.asn1_headers.specs.Fault.{DecodeFault, incomplete}
+use Rattle.asn1_headers.specs.Header.{BeginsWithNo, IsIncomplete}
+use Rattle.asn1_headers.proofs.Prefixes.{continued_alone}
+use Rattle.asn1_headers.proofs.Shortest.{shortest_base128_is}
+
+-- one more at the end
+pub subidentifiers_more : (ns octets last : List ℕ) (n : ℕ) → Subidentifiers ns octets → IsBase128 last n → Subidentifiers (ns ++ n ∷ []) (octets ++ last)
+subidentifiers_more [] octets last n s t = (last, [], ap (λ z. z ++ last) s ∙ sym (append-nil last), t, refl)
+subidentifiers_more (m ∷ ms) octets last n s t =
+    (s.0, s.1 ++ last, ap (λ z. z ++ last) s.2 ∙ append_assoc s.0 s.1 last, s.3, subidentifiers_more ms s.1 last n s.4 t)
+
+-- where octets after the first subidentifier are none, neither are all of them
+pub none_after : (first rest : List ℕ) (n : ℕ) → IsBase128 first n
+    → ((ns : List ℕ) → Subidentifiers ns rest → ⊥) → (octets : List ℕ) → octets ≡ first ++ rest → (ns : List ℕ) → Subidentifiers ns octets → ⊥
+none_after [] rest n t none octets e ns s = t.continued
+none_after (a ∷ first) rest n t none octets e [] s = absurd (omega (arith, ap length (sym s ∙ e)))
+none_after (a ∷ first) rest n t none octets e (m ∷ ms) s =
+    let p = continued_alone (a ∷ first) s.0 rest s.1 t.continued s.3.continued (sym e ∙ s.2) in
+    none ms (subst (Subidentifiers ms) (sym p.1) s.4)
+
+-- octets that begin with no base-128 number are no subidentifiers
+none_first : (octets : List ℕ) → 0 < length octets → BeginsWithNo IsBase128 octets → (ns : List ℕ) → Subidentifiers ns octets → ⊥
+none_first octets some missing [] s = absurd (omega (arith, some, ap length s))
+none_first octets some missing (m ∷ ms) s =
+    missing m (length s.0) (subst (λ z. IsBase128 z m) (sym (ap (λ z. take (length s.0) z) s.2 ∙ take_at s.0 s.1 (length s.0) refl)) s.3)
+
+-- a fault of the first is one of all
+pub first_fault : (octets : List ℕ) (e : DecodeFault) → 0 < length octets → IsIncomplete IsBase128 octets e
+    → (e ≡ incomplete) × ((ns : List ℕ) → Subidentifiers ns octets → ⊥)
+first_fault octets e some p = (p.0, none_first octets some p.1)
+
+-- a number has an octet
+begun : (first : List ℕ) → IsContinued first → length first ≤ 0 → ⊥
+begun [] p h = p
+begun (b ∷ first) p h = omega (arith, h)
+
+-- they have one list of numbers
+pub subidentifiers_alone : (ms ns octets : List ℕ) → Subidentifiers ms octets → Subidentifiers ns octets → ms ≡ ns
+subidentifiers_alone [] [] octets s t = refl
+subidentifiers_alone [] (n ∷ ns) octets s t = absurd (begun t.0 t.3.continued (omega (arith, ap length (sym s ∙ t.2), length-append t.0 t.1)))
+subidentifiers_alone (m ∷ ms) [] octets s t = absurd (begun s.0 s.3.continued (omega (arith, ap length (sym t ∙ s.2), length-append s.0 s.1)))
+subidentifiers_alone (m ∷ ms) (n ∷ ns) octets s t =
+    let p = continued_alone s.0 t.0 s.1 t.1 s.3.continued t.3.continued (sym s.2 ∙ t.2) in
+    let e : m ≡ n = s.3.value ∙ ap low_bits_number p.0 ∙ sym t.3.value in
+    let r : ms ≡ ns = subidentifiers_alone ms ns s.1 s.4 (subst (Subidentifiers ns) (sym p.1) t.4) in
+    cc
+
+-- an octet whose bit 8 is set, before others that begin with a number, is a part of it
+continued_more : (b : ℕ) (first : List ℕ) → 128 ≤ b → IsContinued first → IsContinued (b ∷ first)
+continued_more b [] high p = absurd p
+continued_more b (c ∷ first) high p = (high, p)
+
+continued_less : (b : ℕ) (first : List ℕ) → 128 ≤ b → IsContinued (b ∷ first) → IsContinued first
+continued_less b [] high p = absurd (omega (arith, high, p))
+continued_less b (c ∷ first) high p = p.1
+
+-- a lone octet whose bit 8 is set ends no number
+unfinished : (b : ℕ) (octets first rest : List ℕ) → 128 ≤ b → octets ≡ [] → b ∷ octets ≡ first ++ rest → IsContinued first → ⊥
+unfinished b octets [] rest high none whole p = p
+unfinished b octets (a ∷ []) rest high none whole p = let h : b ≡ a = cc in omega (arith, h, high, p)
+unfinished b octets (a ∷ c ∷ first) rest high none whole p = omega (arith, ap length whole, ap length none, length-append (a ∷ c ∷ first) rest)
+
+-- one before octets that are no subidentifiers makes none of them
+still_none : (b : ℕ) (octets first rest ms : List ℕ) → 128 ≤ b → ((ns : List ℕ) → Subidentifiers ns octets → ⊥)
+    → b ∷ octets ≡ first ++ rest → IsContinued first → Subidentifiers ms rest → ⊥
+still_none b octets [] rest ms high none whole p others = p
+still_none b octets (a ∷ first) rest ms high none whole p others =
+    let h : b ≡ a = cc in
+    let e : octets ≡ first ++ rest = cc in
+    let more : IsBase128 first (low_bits_number first) = record { continued = continued_less a first (omega (arith, h, high)) p; value = refl } in
+    none (low_bits_number first ∷ ms) (first, rest, e, more, others)
+
+first_unfinished : (b : ℕ) (octets : List ℕ) → octets ≡ [] → 128 ≤ b → (ns : List ℕ) → Subidentifiers ns (b ∷ octets) → ⊥
+first_unfinished b octets none high [] s = omega (arith, ap length s)
+first_unfinished b octets none high (m ∷ ms) s = unfinished b octets s.0 s.1 high none s.2 s.3.continued
+
+first_of_none : (b : ℕ) (octets : List ℕ) → ((ns : List ℕ) → Subidentifiers ns octets → ⊥) → 128 ≤ b → (ns : List ℕ) → Subidentifiers ns (b ∷ octets) → ⊥
+first_of_none b octets none high [] s = omega (arith, ap length s)
+first_of_none b octets none high (m ∷ ms) s = still_none b octets s.0 s.1 ms high none s.2 s.3.continued s.4
+
+-- octets are subidentifiers of some numbers, or of none
+pub subidentifiers_decided : (octets : List ℕ) → ((ns : List ℕ) × Subidentifiers ns octets) ⊎ ((ns : List ℕ) → Subidentifiers ns octets → ⊥)
+subidentifiers_decided [] = inl ([], refl)
+subidentifiers_decided (b ∷ octets) = by_rest (subidentifiers_decided octets) (cases_lt b 128)
+  where
+    by_rest : ((ns : List ℕ) × Subidentifiers ns octets) ⊎ ((ns : List ℕ) → Subidentifiers ns octets → ⊥) → (b < 128) ⊎ (128 ≤ b)
+        → ((ns : List ℕ) × Subidentifiers ns (b ∷ octets)) ⊎ ((ns : List ℕ) → Subidentifiers ns (b ∷ octets) → ⊥)
+    by_rest (inl (ns, s)) (inl low) =
+        inl (low_bits_number (b ∷ []) ∷ ns, (b ∷ [], octets, refl, record { continued = low; value = refl }, s))
+    by_rest (inr none) (inl low) =
+        inr (none_after (b ∷ []) octets (low_bits_number (b ∷ [])) (record { continued = low; value = refl }) none (b ∷ octets) refl)
+    by_rest (inl ([], s)) (inr high) = inr (first_unfinished b octets s high)
+    by_rest (inl (n ∷ ns, s)) (inr high) =
+        inl (
+          low_bits_number (b ∷ s.0) ∷ ns,
+          (b ∷ s.0, s.1, ap (λ z. b ∷ z) s.2, record { continued = continued_more b s.0 high s.3.continued; value = refl }, s.4),
+        )
+    by_rest (inr none) (inr high) = inr (first_of_none b octets none high)
+
+-- the shortest forms are subidentifiers
+pub subidentifiers_shortest : (ns : List ℕ) → Subidentifiers ns (flat_map shortest_base128 ns)
+subidentifiers_shortest [] = refl
+subidentifiers_shortest (n ∷ ns) = (shortest_base128 n, flat_map shortest_base128 ns, refl, shortest_base128_is n, subidentifiers_shortest ns)

@@ -1,0 +1,43 @@
+-- Contents octets of a BIT STRING (X.690 8.6): the number of its bits, and the octets that hold
+-- them.
+use Rattle.std.specs.Prelude.{◌≡◌, ◌==◌, ◌||◌, ◌⊎◌, ℕ, ◌+◌, ◌-◌, ◌*◌, ◌^◌, ◌<◌, ◌≤◌, ◌-ℤ◌, pos, List, [], ◌∷◌, length, nat_lt, if◌then◌else◌, Option, Some, None}
+use Rattle.asn1_headers.specs.declared.error.ASN1EncodeErr.{ASN1EncodeErr}
+use Rattle.asn1_headers.specs.declared.error.ASN1EncodeErr.TheVariants.{BitStringLength}
+use Rattle.asn1_headers.specs.Fault.{DecodeFault, length_too_large, invalid_bit_string_length}
+
+-- none, or the number of unused bits at the end and the octets of the bits, which a usize can
+-- count. X.690 has at least one octet (8.6.2.3), and at most 7 unused bits (8.6.2.2)
+abbrev pub BitStringContents : ℕ → List ℕ → List ℕ → Type 0
+BitStringContents n v [] = (n ≡ 0) × (v ≡ [])
+BitStringContents n v (u ∷ contents) =
+    (v ≡ contents) × (n + u ≡ 8 * length v) × (8 * length v < 2 ^ 64)
+
+-- the octets mean no BIT STRING, with this fault
+abbrev pub BitStringFault : List ℕ → DecodeFault → Type 0
+BitStringFault [] fault = ⊥
+BitStringFault (u ∷ v) fault =
+    ((2 ^ 64 ≤ 8 * length v) × (fault ≡ length_too_large (length (u ∷ v))))
+    ⊎ ((8 * length v < 2 ^ 64) × (8 * length v < u)
+    × (fault ≡ invalid_bit_string_length (pos (8 * length v) -ℤ pos u)))
+
+-- the octets that are written: none of no bits, where X.690 8.6.2.3 has the one octet 00
+abbrev pub bit_string_contents : ℕ → List ℕ → List ℕ
+bit_string_contents n v = if n == 0 then [] else (8 * length v - n) ∷ v
+
+-- why there are none: more bits than the octets have, or more unused bits than an octet can count
+abbrev pub bit_string_write_fault : ℕ → List ℕ → Option ASN1EncodeErr
+bit_string_write_fault n v =
+    if n == 0 then None
+    else (if nat_lt (8 * length v) n || nat_lt (n + 255) (8 * length v) then Some BitStringLength
+    else None)
+
+-- there are neither bits nor octets; or there are bits and octets enough for them, at most 255 bits
+-- of the octets are unused, and a usize can count all bits of the octets
+abbrev pub IsFaithfulBitString : ℕ → List ℕ → Type 0
+IsFaithfulBitString n v =
+    ((n ≡ 0) × (v ≡ []))
+    ⊎ ((0 < n) × (n ≤ 8 * length v) × (8 * length v ≤ n + 255) × (8 * length v < 2 ^ 64))
+
+-- the octets that are left of a bit string of so many bits: of no bits none
+abbrev pub written_bits : ℕ → List ℕ → List ℕ
+written_bits n v = if n == 0 then [] else v

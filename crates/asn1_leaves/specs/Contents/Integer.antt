@@ -1,0 +1,11 @@
+-- Contents octets of an INTEGER (X.690 8.3). All mean one, and all are written.
+use Rattle.std.specs.Prelude.{◌≡◌, ℕ, ℤ, List}
+use Rattle.asn1_numbers.specs.TwosComplement.{signed_number, shortest_octets}
+
+-- the number in two's complement (X.690 8.3.3), of any number of octets, also of none
+abbrev pub IntegerContents : ℤ → List ℕ → Type 0
+IntegerContents n contents = n ≡ signed_number contents
+
+-- the fewest octets (X.690 8.3.2)
+abbrev pub integer_contents : ℤ → List ℕ
+integer_contents n = shortest_octets n

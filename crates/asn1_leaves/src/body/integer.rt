@@ -1,0 +1,30 @@
+// Contents octets of an INTEGER (X.690 8.3).
+ghost use Rattle.std.specs.Prelude.{◌≡◌, ◌≤◌, length, IfOk, IfErr};
+ghost use Rattle.asn1_leaves.specs.Contents.Integer.{IntegerContents, integer_contents};
+ghost use Rattle.asn1_headers.specs.declared.error.ASN1DecodeErr.TheVariants.{OutOfMemory};
+
+use asn1_headers::error::ASN1DecodeErr;
+use asn1_numbers::number::big_int::BigInt;
+use asn1_numbers::sink::Sink;
+use std::alloc::Global;
+
+pub fn read(alloc: Global, contents: &[u8]) -> Result<BigInt, ASN1DecodeErr>
+    ensures found { IfOk result (λ n. IntegerContents n contents.now) }
+    ensures refused { IfErr result (λ e. e ≡ OutOfMemory) }
+{
+    Ok(BigInt::from_signed_bytes_be(alloc, contents)?)
+}
+
+// The number of octets that are written.
+pub fn size(n: &BigInt) -> usize
+    ensures { result ≡ length (integer_contents n.now) }
+{
+    n.octets().len()
+}
+
+pub fn put<S: Sink>(n: &BigInt, out: &mut S)
+    requires { length (integer_contents n.now) ≤ S.room out.old }
+    ensures { S.puts out.old (integer_contents n.now) out.new }
+{
+    out.put(n.octets());
+}

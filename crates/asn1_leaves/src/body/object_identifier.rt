@@ -1,0 +1,174 @@
+// Contents octets of an OBJECT IDENTIFIER (X.690 8.19).
+ghost use Rattle.std.specs.Prelude.{◌≡◌, ◌↔◌, ◌⊎◌, ◌++◌, ◌∷◌, ◌+◌, ◌≤◌, ℕ, List, drop, length};
+ghost use Rattle.std.specs.Prelude.{None, Some, IfOk, IfErr, IfSome, IsTrue, OnOk};
+ghost use Rattle.std.specs.List.{flat_map};
+ghost use Rattle.asn1_numbers.specs.Base128.{shortest_base128};
+ghost use Rattle.asn1_leaves.specs.Contents.ObjectIdentifier.{
+  AreFirstTwo,
+  IsFaithfulObjectIdentifier,
+  ObjectIdentifierContents,
+  ObjectIdentifierFault,
+  Subidentifiers,
+  object_identifier_contents,
+  object_identifier_write_fault,
+};
+ghost use Rattle.asn1_headers.specs.Fault.{OutOfMemoryOr, incomplete};
+ghost use Rattle.asn1_headers.specs.declared.error.ASN1EncodeErr.TheVariants.{OutOfMemory};
+
+use crate::oid::OID;
+use asn1_headers::error::{ASN1DecodeErr, ASN1EncodeErr};
+use asn1_headers::header::decode_base127;
+use asn1_numbers::number::big_uint::BigUint;
+use asn1_numbers::sink::Sink;
+use std::alloc::Global;
+
+// The first two components, of the first octet.
+fn first_two(octet: u8) -> (u8, u8)
+    ensures { AreFirstTwo result.0 result.1 octet }
+{
+    if octet < 40 {
+        (0, octet)
+    } else if octet < 80 {
+        (1, octet - 40)
+    } else {
+        (2, octet - 80)
+    }
+}
+
+// Puts the numbers of the subidentifiers at the end.
+fn push_subidentifiers(
+    alloc: Global,
+    octets: &[u8],
+    components: &mut Vec<BigUint>,
+) -> Result<(), ASN1DecodeErr>
+    ensures found { OnOk result
+        ((ns : List ℕ) × (components.new.items ≡ components.old.items ++ ns)
+        × Subidentifiers ns octets.now) }
+    ensures refused { IfErr result (OutOfMemoryOr
+        (λ e. (e ≡ incomplete) × ((ns : List ℕ) → Subidentifiers ns octets.now → ⊥))) }
+{
+    let mut index: usize = 0;
+    while index < octets.len() {
+        let n = decode_base127(alloc, octets, &mut index)?;
+        components.push(n)?;
+    }
+    Ok(())
+}
+
+// The components. Each subidentifier ends in an octet whose bit 8 is clear, so that room for all is
+// reserved before they are read.
+pub fn read(alloc: Global, contents: &[u8]) -> Result<OID, ASN1DecodeErr>
+    ensures found { IfOk result (λ oid. ObjectIdentifierContents oid contents.now) }
+    ensures refused { IfErr result (OutOfMemoryOr (ObjectIdentifierFault contents.now)) }
+{
+    let Some((octet, rest)) = contents.split_first() else {
+        return Err(ASN1DecodeErr::Incomplete);
+    };
+    let count = rest.iter().filter(|b| **b < 128).count();
+    let mut components = Vec::with_capacity(alloc, count.saturating_add(2))?;
+    let (first, second) = first_two(*octet);
+    components.push(BigUint::from_u64(alloc, first as u64)?)?;
+    components.push(BigUint::from_u64(alloc, second as u64)?)?;
+    push_subidentifiers(alloc, rest, &mut components)?;
+    Ok(OID::new(components))
+}
+
+// Whether no subidentifier begins with 80 (hexadecimal), so that each has its shortest form (X.690
+// 8.19.2).
+pub fn are_shortest(contents: &[u8]) -> bool
+    ensures { IsTrue result → (components : List ℕ)
+        → ObjectIdentifierContents components contents.now
+        → contents.now ≡ object_identifier_contents components }
+{
+    let Some((_, rest)) = contents.split_first() else {
+        return true;
+    };
+    let mut begins = true;
+    for octet in rest {
+        if begins && *octet == 128 {
+            return false;
+        }
+        begins = *octet < 128;
+    }
+    true
+}
+
+// The first octet that is written, of the first two components.
+fn first_octet(components: &[BigUint]) -> Result<u8, ASN1EncodeErr>
+    ensures some { OnOk result (2 ≤ length components.now) }
+    ensures octet { IfOk result (λ b. object_identifier_contents components.now
+        ≡ b ∷ flat_map shortest_base128 (drop 2 components.now)) }
+    ensures writable { OnOk result (object_identifier_write_fault components.now ≡ None) }
+    ensures refused { IfErr result (λ e. object_identifier_write_fault components.now ≡ Some e) }
+{
+    if components.len() < 2 {
+        return Err(ASN1EncodeErr::ObjectIdentHasTooFewFields);
+    }
+    let first = match components[0].to_u64() {
+        Some(first) if first <= 2 => first as u8,
+        _ => return Err(ASN1EncodeErr::ObjectIdentVal1TooLarge),
+    };
+    let greatest = if first == 2 { 175 } else { 39 };
+    match components[1].to_u64() {
+        Some(second) if second <= greatest => Ok(40 * first + second as u8),
+        _ => Err(ASN1EncodeErr::ObjectIdentVal2TooLarge),
+    }
+}
+
+// The number of octets of the subidentifiers, if a usize can count them and one more.
+fn subidentifiers_size(components: &[BigUint]) -> Option<usize>
+    ensures { IfSome result (λ n. n ≡ 1 + length (flat_map shortest_base128 components.now)) }
+{
+    let mut size: usize = 1;
+    for component in components {
+        size = size.checked_add(component.base128_size())?;
+    }
+    Some(size)
+}
+
+// The number of octets that are written.
+pub fn size(oid: &OID) -> Result<usize, ASN1EncodeErr>
+    ensures size { IfOk result (λ n. n ≡ length (object_identifier_contents oid.now)) }
+    ensures writable { OnOk result (object_identifier_write_fault oid.now ≡ None) }
+    ensures refused { IfErr result (λ e. (e ≡ OutOfMemory) ⊎ (object_identifier_write_fault oid.now ≡ Some e)) }
+{
+    let components = oid.components();
+    first_octet(components)?;
+    let (_, rest) = components.split_at(2);
+    match subidentifiers_size(rest) {
+        Some(size) => Ok(size),
+        None => Err(ASN1EncodeErr::OutOfMemory),
+    }
+}
+
+// Puts the subidentifiers.
+fn put_subidentifiers<S: Sink>(components: &[BigUint], out: &mut S)
+    requires { length (flat_map shortest_base128 components.now) ≤ S.room out.old }
+    ensures { S.puts out.old (flat_map shortest_base128 components.now) out.new }
+{
+    for component in components {
+        component.put_base128(out);
+    }
+}
+
+pub fn put<S: Sink>(oid: &OID, out: &mut S)
+    requires room { length (object_identifier_contents oid.now) ≤ S.room out.old }
+    requires writable { object_identifier_write_fault oid.now ≡ None }
+    ensures { S.puts out.old (object_identifier_contents oid.now) out.new }
+{
+    let components = oid.components();
+    let octet = match first_octet(components) {
+        Ok(octet) => octet,
+        Err(_) => unreachable!(),
+    };
+    out.put_one(octet);
+    let (_, rest) = components.split_at(2);
+    put_subidentifiers(rest, out);
+}
+
+// Whether the components are read back as they are, once they are written.
+pub fn is_faithful(oid: &OID) -> bool
+    ensures { IsTrue result ↔ IsFaithfulObjectIdentifier oid.now }
+{
+    first_octet(oid.components()).is_ok()
+}

@@ -1,0 +1,5 @@
+//! Leaves.
+#![tactic(auto)]
+
+pub mod body;
+pub mod oid;

@@ -1,0 +1,43 @@
+-- Octets that are compared with those that are put.
+use Rattle.std.specs.Prelude.{◌≡◌, ◌↔◌, ℕ, ◌+◌, ◌≤◌, ◌++◌, ◌∷◌, List, [], length, IsTrue}
+use Rattle.std.proofs.Common.{refl, sym, ap, ◌∙◌, arith, append_assoc, length-append}
+use Rattle.asn1_numbers.specs.declared.sink.Comparison.{Comparison}
+
+abbrev pub left : Comparison → ℕ
+left a = length a.rest.now
+
+abbrev pub compared : Comparison → List ℕ → Comparison → Type 0
+compared a xs b =
+    (front : List ℕ) × (a.rest.now ≡ front ++ b.rest.now) × (length front ≡ length xs)
+    × (IsTrue b.same ↔ (IsTrue a.same × (front ≡ xs)))
+
+-- two splits of one list at one place are one
+same_split : (s t x y : List ℕ) → length s ≡ length t → s ++ x ≡ t ++ y → (s ≡ t) × (x ≡ y)
+same_split [] [] x y l e = (refl, e)
+same_split [] (b ∷ t) x y l e = absurd (omega (arith, l))
+same_split (a ∷ s) [] x y l e = absurd (omega (arith, l))
+same_split (a ∷ s) (b ∷ t) x y l e =
+    let h : a ≡ b = cc in
+    let r : s ++ x ≡ t ++ y = cc in
+    let p = same_split s t x y (omega (arith, l)) r in
+    let q : s ≡ t = p.0 in
+    (cc, p.1)
+
+pub compared_none : (a : Comparison) → compared a [] a
+compared_none a = ([], refl, refl, (λ h. (h, refl), λ p. p.0))
+
+pub compared_more : (a b c : Comparison) (xs ys : List ℕ)
+    → compared a xs b → compared b ys c → compared a (xs ++ ys) c
+compared_more a b c xs ys p q = (
+  p.0 ++ q.0,
+  p.1 ∙ ap (λ z. p.0 ++ z) q.1 ∙ sym (append_assoc p.0 q.0 c.rest.now),
+  omega (arith, p.2, q.2, length-append p.0 q.0, length-append xs ys),
+  (
+    λ h. let s = q.3.0 h in
+        let r = p.3.0 s.0 in (r.0, ap (λ z. z ++ q.0) r.1 ∙ ap (λ z. xs ++ z) s.1),
+    λ h. let s = same_split p.0 xs q.0 ys p.2 h.1 in q.3.1 (p.3.1 (h.0, s.0), s.1),
+  ),
+)
+
+pub left_after : (a b : Comparison) (xs : List ℕ) → compared a xs b → left a ≤ left b + length xs
+left_after a b xs p = omega (arith, ap length p.1, p.2, length-append p.0 b.rest.now)

@@ -1,8 +1,0 @@
--- What is known of the contents octets of an INTEGER.
-use Rattle.std.proofs.Common.{◌≡◌, ℕ, List, sym, ◌∙◌}
-use Rattle.std.specs.Prelude.{ℤ}
-use Rattle.simple_asn1.specs.Contents.Integer.{IntegerContents}
-
--- they mean one number
-pub integer_alone : (m n : ℤ) (contents : List ℕ) → IntegerContents m contents → IntegerContents n contents → m ≡ n
-integer_alone m n contents p q = p ∙ sym q

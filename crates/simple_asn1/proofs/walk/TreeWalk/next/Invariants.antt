@@ -1,9 +1,0 @@
-use Rattle.std.proofs.Common.{◌≡◌, length}
-use Rattle.simple_asn1.specs.TreeOrder.{ahead}
-use Rattle.simple_asn1.proofs.walk.TreeWalk.next.Given as goal
-
-abbrev pub invariant-loop-block : goal.invariant-loop-block
-invariant-loop-block l = ahead l.self ≡ ahead l.fn.self
-
-abbrev pub decreases-loop-block : goal.decreases-loop-block
-decreases-loop-block l = length l.self.outer.items
