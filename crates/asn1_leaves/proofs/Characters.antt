@@ -1,8 +1,9 @@
 -- Characters of one octet.
-use Rattle.std.proofs.Common.{◌≡◌, ◌↔◌, ℕ, ◌+◌, ◌<◌, ◌≤◌, ◌==◌, ◌||◌, ◌&&◌, Bool, true, List, [], ◌∷◌, Some, None, length, get_or, drop, inl, inr, refl, sym, ap, ◌∙◌, arith}
+use Rattle.std.proofs.Common.{◌≡◌, ◌↔◌, ℕ, ◌+◌, ◌<◌, ◌≤◌, ◌==◌, ◌||◌, ◌&&◌, Bool, true, List, [], ◌∷◌, Option, Some, None, length, get_or, drop, inl, inr, refl, sym, ap, ◌∙◌, arith}
 use Rattle.std.specs.Prelude.{nat_lt, nat_le, All, IsAscii, IsUtf8, codes, encode_utf8_all, if◌then◌else◌}
 use Rattle.std.specs.List.{list_all, list_any}
 use Rattle.std.specs.Str.{all_scalars, chars}
+use Rattle.std.specs.Str.Lossy.{utf8_error_len, utf8_valid_len}
 use Rattle.std.proofs.Math.Utf8.{low_scalar}
 use Rattle.std.proofs.lemmas.Bool.{cases_Bool, cases_lt, and_parts, and_from, or_cases}
 use Rattle.std.proofs.lemmas.Bool.Decides.{nat_tests}
@@ -12,7 +13,15 @@ use Rattle.std.proofs.lemmas.List.Elements.{All-head, All-tail, All-weaker}
 use Rattle.std.proofs.lemmas.Str.{chars-IsAscii, IsUtf8-from_ascii, encodes-chars}
 use Rattle.std.proofs.lemmas.Str.Ascii.{IsAscii-nil, IsAscii-cons, All-from_ascii}
 use Rattle.asn1_headers.specs.declared.error.ASN1EncodeErr.TheVariants.{CharacterTooLarge}
+use Rattle.asn1_headers.specs.Fault.{utf8_failure, utf8_fault}
 use Rattle.asn1_leaves.specs.Contents.Text.{is_printable, octet_write_fault}
+
+-- what is said of octets that are no UTF-8 is their fault
+pub utf8_failure_is :
+    (octets : List ℕ) (n : ℕ) (size : Option ℕ) → n ≡ utf8_valid_len octets → size ≡ utf8_error_len (drop n octets)
+    → utf8_failure n size ≡ utf8_fault octets
+utf8_failure_is octets n size p q =
+    ap (utf8_failure n) q ∙ ap (λ k. utf8_failure k (utf8_error_len (drop k octets))) p
 
 -- the numbers of octets are characters
 pub octets_scalars : (cs : List ℕ) → All (λ b. b < 256) cs → all_scalars cs ≡ true

@@ -26,7 +26,7 @@ abbrev pub name_of : DecodeFault → List ℕ
 name_of empty_buffer = codes "EmptyBuffer"
 name_of (bad_boolean_length n) = codes "BadBooleanLength"
 name_of (length_too_large n) = codes "LengthTooLarge"
-name_of utf8_failure = codes "UTF8DecodeFailure"
+name_of (utf8_failure n size) = codes "UTF8DecodeFailure"
 name_of printable_string_failure = codes "PrintableStringDecodeFailure"
 name_of (invalid_date_value text) = codes "InvalidDateValue"
 name_of (invalid_bit_string_length n) = codes "InvalidBitStringLength"

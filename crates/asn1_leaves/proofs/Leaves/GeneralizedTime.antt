@@ -13,7 +13,7 @@ use Rattle.std.proofs.lemmas.Str.Ascii.{IsAscii-nil, IsAscii-cons}
 use Rattle.asn1_leaves.specs.Contents.DigitFields.{IsSpelled, PairAt}
 use Rattle.asn1_leaves.specs.Contents.Moment.{Moment, IsValid, moment_write_fault}
 use Rattle.asn1_leaves.specs.Contents.GeneralizedTime.{GeneralizedTimeContents, GeneralizedTimeFault, IsEnd, IsFaithfulGeneralizedTime, fraction_digits, fraction_number, generalized_time_contents, generalized_time_fault, tenth, to_second, with_point, with_zeros, written_fraction}
-use Rattle.asn1_headers.specs.Fault.{DecodeFault, IsOfReading, invalid_date_value, utf8_failure}
+use Rattle.asn1_headers.specs.Fault.{DecodeFault, IsOfReading, invalid_date_value, utf8_fault}
 use Rattle.asn1_leaves.proofs.Leaves.Known.{octets_known}
 use Rattle.asn1_leaves.proofs.Leaves.Digits.{days_few, end_alone, end_known, fraction_again, moment_same, number_at, number_two_digits, two_digits_pair, valid_known, valid_writable}
 
@@ -85,7 +85,7 @@ pub longer_form_utf8 : (text : List ℕ) → list_all is_ascii text ≡ true →
 longer_form_utf8 text e = IsUtf8-from_ascii (with_zeros (with_point text)) (zeros_put_ascii (with_point text) (point_ascii text (ascii_all text e)))
 
 -- the faults of at least 15 octets
-pub fault_not_utf8 : (contents : List ℕ) → 15 ≤ length contents → (IsUtf8 contents → ⊥) → utf8_failure ≡ generalized_time_fault contents
+pub fault_not_utf8 : (contents : List ℕ) → 15 ≤ length contents → (IsUtf8 contents → ⊥) → utf8_fault contents ≡ generalized_time_fault contents
 fault_not_utf8 contents h f = elim (cases_Bool (is_utf8 contents)) [
   | inl e ↦ absurd (f (IsUtf8-from_is_utf8 contents e))
   | inr e ↦ grind (arith, nat_tests, h, e)

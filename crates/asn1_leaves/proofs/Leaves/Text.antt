@@ -7,7 +7,7 @@ use Rattle.std.proofs.lemmas.Bool.{false≢true, cases_Bool}
 use Rattle.std.proofs.lemmas.Str.{encodes_same, IsUtf8-from_is_utf8, is_utf8-from_IsUtf8}
 use Rattle.asn1_leaves.specs.declared.body.text.TextForm.{TextForm}
 use Rattle.asn1_leaves.specs.declared.body.text.TextForm.TheVariants.{Utf8, Printable, Octets}
-use Rattle.asn1_headers.specs.Fault.{DecodeFault, IsOfReading, utf8_failure, printable_string_failure}
+use Rattle.asn1_headers.specs.Fault.{DecodeFault, IsOfReading, utf8_fault, printable_string_failure}
 use Rattle.asn1_leaves.specs.Contents.Text.{is_printable, HasCharacters, TextContents, TextFault, octet_write_fault, text_contents, text_write_fault}
 use Rattle.asn1_leaves.proofs.Characters.{octets_writable, octet_write_none, printable_write_none}
 
@@ -33,7 +33,7 @@ text_no_fault Octets cs contents e p f = f
 pub text_meaning : (form : TextForm) (contents : List ℕ) → ((cs : List ℕ) × TextContents form cs contents) ⊎ ((e : DecodeFault) × TextFault form contents e)
 text_meaning Utf8 contents = elim (cases_Bool (is_utf8 contents)) [
   | inl are ↦ let u = IsUtf8-from_is_utf8 contents are in inl (u.0, (u.1.0, u.1.1))
-  | inr fails ↦ inr (utf8_failure, ((λ u. false≢true (sym fails ∙ is_utf8-from_IsUtf8 contents u)), refl))
+  | inr fails ↦ inr (utf8_fault contents, ((λ u. false≢true (sym fails ∙ is_utf8-from_IsUtf8 contents u)), refl))
 ]
 text_meaning Printable contents = elim (cases_Bool (list_all is_printable contents)) [
   | inl are ↦ inl (contents, (are, refl))

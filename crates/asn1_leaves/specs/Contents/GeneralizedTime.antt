@@ -4,7 +4,7 @@ use Rattle.std.specs.Char.{is_ascii, is_ascii_digit}
 use Rattle.std.specs.List.{list_all, list_any}
 use Rattle.std.specs.Str.{is_utf8}
 use Rattle.asn1_leaves.specs.Contents.Moment.{Moment, IsValid, two_digits, from_month}
-use Rattle.asn1_headers.specs.Fault.{DecodeFault, invalid_date_value, utf8_failure}
+use Rattle.asn1_headers.specs.Fault.{DecodeFault, invalid_date_value, utf8_fault}
 
 -- the year in four digits, and the rest to the second: YYYYMMDDhhmmss
 abbrev pub to_second : Moment → List ℕ
@@ -72,7 +72,7 @@ with_zeros text =
 abbrev pub generalized_time_fault : List ℕ → DecodeFault
 generalized_time_fault contents =
     if nat_lt (length contents) 15 then invalid_date_value (decimal (length contents))
-    else (if not (is_utf8 contents) then utf8_failure
+    else (if not (is_utf8 contents) then utf8_fault contents
     else (if not (list_all is_ascii contents) then invalid_date_value contents
     else invalid_date_value (with_zeros (with_point contents))))
 

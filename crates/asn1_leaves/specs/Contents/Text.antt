@@ -6,7 +6,7 @@ use Rattle.asn1_leaves.specs.declared.body.text.TextForm.{TextForm}
 use Rattle.asn1_leaves.specs.declared.body.text.TextForm.TheVariants.{Utf8, Printable, Octets}
 use Rattle.asn1_headers.specs.declared.error.ASN1EncodeErr.{ASN1EncodeErr}
 use Rattle.asn1_headers.specs.declared.error.ASN1EncodeErr.TheVariants.{CharacterTooLarge}
-use Rattle.asn1_headers.specs.Fault.{DecodeFault, utf8_failure, printable_string_failure}
+use Rattle.asn1_headers.specs.Fault.{DecodeFault, utf8_fault, printable_string_failure}
 use Rattle.asn1_leaves.specs.StringKind.{StringKind, utf8, printable, teletex, ia5, universal, bmp}
 
 -- the form of a string. X.690 8.23 has UTF-8 for a UTF8String alone
@@ -32,7 +32,7 @@ TextContents Octets cs contents = cs ≡ contents
 
 -- the octets mean no characters in this form, with this fault
 abbrev pub TextFault : TextForm → List ℕ → DecodeFault → Type 0
-TextFault Utf8 contents fault = (IsUtf8 contents → ⊥) × (fault ≡ utf8_failure)
+TextFault Utf8 contents fault = (IsUtf8 contents → ⊥) × (fault ≡ utf8_fault contents)
 TextFault Printable contents fault =
     (list_all is_printable contents ≡ true → ⊥) × (fault ≡ printable_string_failure)
 TextFault Octets contents fault = ⊥
