@@ -7,13 +7,14 @@ ghost use Rattle.der_dump.specs.declared.document.Verdict.TheVariants.{AllRead};
 ghost use Rattle.der_dump.specs.declared.forms.Form.TheVariants.{Hex};
 
 use crate::document::{Verdict, push_document};
-use crate::forms::{Form, form_of, is_end, label_of, split_line};
+use crate::forms::{Form, form_of, is_end, label_of};
 use crate::lines::{Mark, push_note};
 use crate::names::Names;
 use base64::DecodeAllocError;
 use base64::engine::general_purpose::STANDARD;
 use hex::FromHexError;
 use std::alloc::{AllocError, Global};
+use streams::split_line;
 
 // Puts what is said of an input.
 pub fn push_answer(alloc: Global, input: &[u8], out: &mut Vec<u8>) -> Result<Verdict, AllocError>

@@ -1,5 +1,5 @@
 use Rattle.std.proofs.Common.{length, ◌-◌, ◌≢◌, ◌<◌, ◌≤◌, ℕ, slice_index}
-use Rattle.der_dump.proofs.forms.split_line.Given as goal
+use Rattle.streams.proofs.split_line.Given as goal
 
 -- no byte before the place ends the line
 abbrev pub invariant-loop-end : goal.invariant-loop-end

@@ -1,8 +1,8 @@
 use Rattle.std.proofs.Common.{◌≡◌, ◌≢◌, ◌+◌, ◌-◌, ◌<◌, ℕ, zero, suc, List, [], ◌∷◌, take, drop, length, slice_index, refl, sym, ap, ◌∙◌, arith}
 use Rattle.std.proofs.lemmas.Bool.{ne_eqb}
 use Rattle.std.proofs.lemmas.List.{take_all, length-drop}
-use Rattle.asn1_calls.specs.Answers.{lines_of, onto_first_line}
-use Rattle.asn1_calls.proofs.lines.split_line.Goals as goal
+use Rattle.streams.specs.Lines.{lines_of, onto_first_line}
+use Rattle.streams.proofs.split_line.Goals as goal
 
 -- the first line goes to the first byte 0A
 ended_line : (input : List ℕ) (n : ℕ) → n < length input → ((i : ℕ) → i < n → slice_index input i ≢ 10) → slice_index input n ≡ 10
