@@ -1,6 +1,5 @@
 use Rattle.std.proofs.Common.{◌≡◌, ◌≢◌, ℕ, List, inl, inr, refl, ap}
 use Rattle.simple_asn1.specs.Fault.{OutOfMemoryOr, fault_of}
-use Rattle.simple_asn1.specs.Types.{ASN1DecodeErr}
 use Rattle.simple_asn1.specs.Grammar.{FirstFault}
 use Rattle.simple_asn1.specs.SignedTrees.{IsOfAnotherShape}
 use Rattle.simple_asn1.specs.Types.{OutOfMemory}
@@ -11,7 +10,7 @@ use Rattle.signed_content.proofs.run.content_of.Goals as goal
 
 -- a refusal that is not of memory is one of the input
 of_input :
-    (fault : TripleErr) (input : List ℕ) → ((f : ASN1DecodeErr) → fault ≡ Codec f → OutOfMemoryOr (FirstFault input) f) →
+    (fault : TripleErr) (input : List ℕ) → ((f : _) → fault ≡ Codec f → OutOfMemoryOr (FirstFault input) f) →
     (fault ≡ Shape → IsOfAnotherShape input) → fault ≢ Codec OutOfMemory → IsNotSigned input
 of_input (Codec f) input codec shape no_memory = elim (codec f refl) [
   | inl memory ↦ absurd (no_memory (ap Codec memory))
