@@ -2,7 +2,6 @@
 use Rattle.std.proofs.Common.{◌≡◌, ◌⊎◌, ℕ, ◌+◌, List, [], ◌∷◌, ◌++◌, codes, replicate, Bool, true, false, refl, sym, ap, ◌∙◌, subst, map, append_assoc, append-nil, arith}
 use Rattle.std.proofs.lemmas.List.{map-append}
 use Rattle.std.specs.Fmt.{decimal}
-use Rattle.std.specs.Io.KnownBytes.{Appends, Keeps}
 use Rattle.std.specs.Prelude.{Option, Some, None, Result, Ok, Err, IfOk, IfSome}
 use Rattle.std.specs.declared.alloc.AllocError.{AllocError}
 use Rattle.der_dump.specs.Forms.{form_is}
@@ -180,10 +179,3 @@ pub input_answered : (o : Option (List ℕ)) (bytes start out : List ℕ) (v : V
 input_answered None bytes start out v P e n a p = tt
 input_answered (Some i) bytes start out v P e n a p =
     (out, subst (λ z. AddsAnswer i v z out) n (subst (λ z. AddsAnswer z v start out) e a), p)
-
--- what was written stays
-pub kept_after : (a b c : Option (List ℕ)) (bs : List ℕ) → Appends a b bs → Keeps b c → Appends a c bs
-kept_after None b c bs p k = tt
-kept_after (Some xs) None c bs p k = absurd p
-kept_after (Some xs) (Some ys) None bs p k = absurd k
-kept_after (Some xs) (Some ys) (Some zs) bs p k = k ∙ p

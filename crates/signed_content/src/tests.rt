@@ -38,13 +38,21 @@ fn a_fault_of_a_stream_is_told(rt: HostRuntime) -> Result<(), Fail> {
         };
         let mut writer = Vec::new(rt.alloc());
         let outcome = run(rt.alloc(), &mut reader, &mut writer);
-        assert_eq!(rt; outcome, Err(RunFault::Stream(StreamFault::Read)), "after {reads} reads");
+        assert_eq!(rt;
+            outcome,
+            Err(RunFault::Stream(StreamFault::Read)),
+            "after {reads} reads"
+        );
         assert!(rt; writer.is_empty(), "after {reads} reads");
     }
     for writes in 0..2 {
         let mut reader = TRIPLE;
         let outcome = run(rt.alloc(), &mut reader, &mut FailingWriter { writes });
-        assert_eq!(rt; outcome, Err(RunFault::Stream(StreamFault::Write)), "after {writes} writes");
+        assert_eq!(rt;
+            outcome,
+            Err(RunFault::Stream(StreamFault::Write)),
+            "after {writes} writes"
+        );
     }
     Ok(())
 }
