@@ -1,6 +1,7 @@
 -- Lines are answered one after another.
 use Rattle.std.proofs.Common.{◌≡◌, ◌++◌, ℕ, false, List, [], ◌∷◌, length, refl, sym, ap, ◌∙◌, arith, subst, append_assoc}
-use Rattle.asn1_calls.specs.Answers.{AreAnswers, AreCallAnswers, IsAnswer, calls_of, is_comment, lines_of}
+use Rattle.streams.specs.Lines.{lines_of}
+use Rattle.asn1_calls.specs.Answers.{AreAnswers, AreCallAnswers, IsAnswer, calls_of, is_comment}
 
 -- no output answers no input
 pub none_left : (input : List ℕ) → length input ≡ 0 → AreAnswers input []

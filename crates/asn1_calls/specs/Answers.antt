@@ -1,15 +1,6 @@
 -- Which lines are answered. What the answers are is tested.
 use Rattle.std.specs.Prelude.{◌≡◌, ◌==◌, ◌++◌, ℕ, Bool, false, List, [], ◌∷◌, if◌then◌else◌}
-
--- the byte at the front of the first line
-abbrev pub onto_first_line : ℕ → List (List ℕ) → List (List ℕ)
-onto_first_line b [] = (b ∷ []) ∷ []
-onto_first_line b (line ∷ lines) = (b ∷ line) ∷ lines
-
--- the lines of the input, each ended by byte 0A. What stands after the last such byte is a line if it isn't empty
-abbrev pub lines_of : List ℕ → List (List ℕ)
-lines_of [] = []
-lines_of (b ∷ input) = if b == 10 then [] ∷ lines_of input else onto_first_line b (lines_of input)
+use Rattle.streams.specs.Lines.{lines_of}
 
 -- a line that begins with byte 23, which is `#`, is a comment
 abbrev pub is_comment : List ℕ → Bool

@@ -26,9 +26,10 @@ ghost use Rattle.std.specs.Prelude.{◌≡◌, ◌++◌, ◌∷◌, ℕ, List, I
 ghost use Rattle.asn1_calls.specs.Answers.{AreAnswers, IsAnswer, is_comment};
 
 use crate::calls::Call;
-use crate::lines::{is_comment_line, split_line, split_name, without_comment};
+use crate::lines::{is_comment_line, split_name, without_comment};
 use asn1_text::octets_of;
 use std::alloc::{AllocError, Global};
+use streams::split_line;
 
 // The answers to the lines of the input.
 pub fn answers(alloc: Global, input: &[u8]) -> Result<Vec<u8>, AllocError>

@@ -9,8 +9,9 @@ mod calls;
 mod lines;
 mod run;
 
-use crate::run::{fault_text, run, status};
+use crate::run::run;
 use std::process::ExitCode;
+use streams::{fault_text, status};
 
 fn main(rt: HostRuntime) -> ExitCode {
     let outcome = run(rt.alloc(), &mut rt.stdin(), &mut rt.stdout());

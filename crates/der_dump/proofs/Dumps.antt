@@ -1,54 +1,82 @@
 -- Lines are put after lines.
-use Rattle.std.proofs.Common.{◌≡◌, ◌⊎◌, ℕ, ◌+◌, List, [], ◌∷◌, ◌++◌, codes, replicate, Bool, true, false, refl, sym, ap, ◌∙◌, subst, map, append_assoc, append-nil, arith}
-use Rattle.std.proofs.lemmas.List.{map-append}
+use Rattle.std.proofs.Common.{◌≡◌, ℕ, zero, suc, ◌+◌, List, [], ◌∷◌, ◌++◌, codes, drop, length, replicate, Bool, true, false, refl, sym, ap, ◌∙◌, subst, map, append_assoc, append-nil, arith}
+use Rattle.std.proofs.lemmas.List.{map-append, drop-drop}
 use Rattle.std.specs.Fmt.{decimal}
-use Rattle.std.specs.Io.KnownBytes.{Appends, Keeps}
-use Rattle.std.specs.Prelude.{Option, Some, None, Result, Ok, Err, IfOk, IfSome}
+use Rattle.std.specs.Prelude.{Option, Some, None, Result, Ok, Err, IfOk, IfSome, OnOk}
 use Rattle.std.specs.declared.alloc.AllocError.{AllocError}
+use Rattle.simple_asn1.specs.Grammar.{Document}
+use Rattle.simple_asn1.specs.Tree.{Trees}
 use Rattle.der_dump.specs.Forms.{form_is}
 use Rattle.der_dump.specs.declared.forms.Form.TheVariants.{Pem, Hex, Der}
 use Rattle.der_dump.specs.declared.document.Verdict.{Verdict}
 use Rattle.der_dump.specs.declared.document.Verdict.TheVariants.{AllRead, Refused}
-use Rattle.der_dump.specs.Dump.{Adds, AddsAnswer, AddsDumpOf, AddsDumpsOf, AreOffsetsOf, IsDump, IsOneLine, TellsFault, block_line, fault_line, no_lines, note, all_offsets, both_read, of_hex, of_objects, of_octets, shown_at, spelled}
+use Rattle.der_dump.specs.Dump.{Adds, AddsAnswer, AddsDumpOf, AddsLine, AddsObjects, IsBlockLine, IsDump, IsFaultLine, IsInsideLine, IsNote, IsOneLine}
+use Rattle.der_dump.specs.Dump.{StandAt, StandsInside, all_offsets, block_line, both_read, inside_line, no_lines, of_cut_objects, of_hex, of_objects, of_octets, spelled}
+use Rattle.der_dump.specs.Steps.{IsLineOf, PlacedInside, shown_at}
 
 -- a dump after a dump
-pub dump_join : (os ps a b : List ℕ) → IsDump os a → IsDump ps b → IsDump (os ++ ps) (a ++ b)
-dump_join os ps a b (no_lines p q) h = rw (p, q) h
-dump_join os ps a b (block_line o later line rest p q l d) h =
+pub dump_join : (P : ℕ → Type 0) (os ps a b : List ℕ) → IsDump P os a → IsDump P ps b → IsDump P (os ++ ps) (a ++ b)
+dump_join P os ps a b (no_lines p q) h = rw (p, q) h
+dump_join P os ps a b (block_line o later line rest p q l d) h =
     block_line o (later ++ ps) line (rest ++ b) (ap (λ z. z ++ ps) p)
-    (ap (λ z. z ++ b) q ∙ append_assoc line (10 ∷ rest) b) l (dump_join later ps rest b d h)
-dump_join os ps a b (note line rest q l d) h =
-    note line (rest ++ b) (ap (λ z. z ++ b) q ∙ append_assoc line (10 ∷ rest) b) l (dump_join os ps rest b d h)
-dump_join os ps a b (fault_line o line rest q l d) h =
-    fault_line o line (rest ++ b) (ap (λ z. z ++ b) q ∙ append_assoc line (10 ∷ rest) b) l (dump_join os ps rest b d h)
+    (ap (λ z. z ++ b) q ∙ append_assoc line (10 ∷ rest) b) l (dump_join P later ps rest b d h)
+dump_join P os ps a b (inside_line o line rest q l i d) h =
+    inside_line o line (rest ++ b) (ap (λ z. z ++ b) q ∙ append_assoc line (10 ∷ rest) b) l i (dump_join P os ps rest b d h)
 
-pub adds_nothing : (a : List ℕ) → Adds [] a a
-adds_nothing a = ([], sym (append-nil a), no_lines refl refl)
+-- what holds of the offsets inside may be weaker
+pub dump_map : (P Q : ℕ → Type 0) → ((o : ℕ) → P o → Q o) → (os a : List ℕ) → IsDump P os a → IsDump Q os a
+dump_map P Q f os a (no_lines p q) = no_lines p q
+dump_map P Q f os a (block_line o later line rest p q l d) = block_line o later line rest p q l (dump_map P Q f later rest d)
+dump_map P Q f os a (inside_line o line rest q l i d) = inside_line o line rest q l (f o i) (dump_map P Q f os rest d)
 
-pub adds_join : (os ps a b c : List ℕ) → Adds os a b → Adds ps b c → Adds (os ++ ps) a c
-adds_join os ps a b c (x, p, d) (y, q, e) =
-    (x ++ y, q ∙ (ap (λ z. z ++ y) p ∙ append_assoc a x y), dump_join os ps x y d e)
+pub adds_map : (P Q : ℕ → Type 0) → ((o : ℕ) → P o → Q o) → (os a b : List ℕ) → Adds P os a b → Adds Q os a b
+adds_map P Q f os a b (text, is, d) = (text, is, dump_map P Q f os text d)
+
+pub adds_nothing : (P : ℕ → Type 0) (a : List ℕ) → Adds P [] a a
+adds_nothing P a = ([], sym (append-nil a), no_lines refl refl)
+
+pub adds_join : (P : ℕ → Type 0) (os ps a b c : List ℕ) → Adds P os a b → Adds P ps b c → Adds P (os ++ ps) a c
+adds_join P os ps a b c (x, p, d) (y, q, e) =
+    (x ++ y, q ∙ (ap (λ z. z ++ y) p ∙ append_assoc a x y), dump_join P os ps x y d e)
+
+-- one line
+pub adds_block : (P : ℕ → Type 0) (o : ℕ) (a b : List ℕ) → AddsLine (IsBlockLine o) a b → Adds P (o ∷ []) a b
+adds_block P o a b (line, is, l) = (line ++ 10 ∷ [], is, block_line o [] line [] refl refl l (no_lines refl refl))
+
+pub adds_inside : (P : ℕ → Type 0) (o : ℕ) (a b : List ℕ) → AddsLine (IsInsideLine o) a b → P o → Adds P [] a b
+adds_inside P o a b (line, is, l) i = (line ++ 10 ∷ [], is, inside_line o line [] refl l i (no_lines refl refl))
 
 -- the parts of the line of a block
-pub line_added : (a b c d e f said : List ℕ) (n offset : ℕ) → b ≡ a ++ replicate n 32 → c ≡ b ++ decimal offset → d ≡ c ++ 32 ∷ []
-    → e ≡ d ++ said → f ≡ e ++ 10 ∷ [] → IsOneLine said → Adds (offset ∷ []) a f
-line_added a b c d e f said n offset p q r s t one =
+pub line_put : (a b c d e f said : List ℕ) (n offset : ℕ) → b ≡ a ++ replicate n 32 → c ≡ b ++ decimal offset → d ≡ c ++ 32 ∷ []
+    → e ≡ d ++ said → f ≡ e ++ 10 ∷ [] → IsOneLine said → AddsLine (IsBlockLine offset) a f
+line_put a b c d e f said n offset p q r s t one =
     let line : List ℕ = replicate n 32 ++ (decimal offset ++ 32 ∷ said) in
     let whole : f ≡ a ++ (line ++ 10 ∷ []) = rw (t, s, r, q, p) (simp append_assoc) in
-    (line ++ 10 ∷ [], whole, block_line offset [] line [] refl refl (record { spaces = n; said = said; is = refl; one = one }) (no_lines refl refl))
+    (line, whole, record { spaces = n; said = said; is = refl; one = one })
+
+-- the line of a block after its mark
+pub inside_put : (a b c : List ℕ) (offset : ℕ) → b ≡ a ++ 62 ∷ [] → AddsLine (IsBlockLine offset) b c → AddsLine (IsInsideLine offset) a c
+inside_put a b c offset p (line, is, l) =
+    (62 ∷ line, is ∙ (ap (λ z. z ++ (line ++ 10 ∷ [])) p ∙ append_assoc a (62 ∷ []) (line ++ 10 ∷ [])), record { shown = line; is = refl; block = l })
+
+pub line_inside :
+    (r : Result (Unit {0}) AllocError) (inside : Bool) (offset : ℕ) (a b c : List ℕ) → inside ≡ true → b ≡ a ++ 62 ∷ [] →
+    OnOk r (AddsLine (IsBlockLine offset) b c) → OnOk r (AddsLine (IsLineOf inside offset) a c)
+line_inside (Ok u) inside offset a b c e p line = subst (λ z. AddsLine (IsLineOf z offset) a c) (sym e) (inside_put a b c offset p line)
+line_inside (Err x) inside offset a b c e p line = tt
 
 -- the parts of a note
-pub note_added : (a b c d said : List ℕ) (mark : ℕ) → b ≡ a ++ mark ∷ [] → c ≡ b ++ said → d ≡ c ++ 10 ∷ []
-    → (mark ≡ 62) ⊎ (mark ≡ 33) ⊎ (mark ≡ 61) → IsOneLine said → Adds [] a d
-note_added a b c d said mark p q r m one =
+pub note_put : (a b c d said : List ℕ) (mark : ℕ) → b ≡ a ++ mark ∷ [] → c ≡ b ++ said → d ≡ c ++ 10 ∷ []
+    → IsOneLine said → AddsLine (IsNote mark) a d
+note_put a b c d said mark p q r one =
     let line : List ℕ = mark ∷ said in
     let whole : d ≡ a ++ (line ++ 10 ∷ []) = rw (r, q, p) (simp append_assoc) in
-    (line ++ 10 ∷ [], whole, note line [] refl (record { mark = mark; said = said; is = refl; marked = m; one = one }) (no_lines refl refl))
+    (line, whole, record { said = said; is = refl; one = one })
 
 -- the parts of the line of a fault
-pub fault_added : (a b c d e f g said : List ℕ) (offset : ℕ) → b ≡ a ++ codes "! refused at offset " → c ≡ b ++ decimal offset
-    → d ≡ c ++ 58 ∷ [] → e ≡ d ++ 32 ∷ [] → f ≡ e ++ said → g ≡ f ++ 10 ∷ [] → IsOneLine said → TellsFault offset a g
-fault_added a b c d e f g said offset p q r s t u one =
+pub fault_put : (a b c d e f g said : List ℕ) (offset : ℕ) → b ≡ a ++ codes "! refused at offset " → c ≡ b ++ decimal offset
+    → d ≡ c ++ 58 ∷ [] → e ≡ d ++ 32 ∷ [] → f ≡ e ++ said → g ≡ f ++ 10 ∷ [] → IsOneLine said → AddsLine (IsFaultLine offset) a g
+fault_put a b c d e f g said offset p q r s t u one =
     let line : List ℕ = codes "! refused at offset " ++ decimal offset ++ 58 ∷ 32 ∷ said in
     let whole : g ≡ a ++ (line ++ 10 ∷ []) = rw (u, t, s, r, q, p) (simp append_assoc) in
     (line, whole, record { said = said; is = refl; one = one })
@@ -57,111 +85,165 @@ pub shown_join : (inside : Bool) (base : ℕ) (xs ys : List ℕ) → shown_at in
 shown_join true base xs ys = refl
 shown_join false base xs ys = map-append (λ o. base + o) xs ys
 
+-- octets among octets among octets
+drop-append : (n : ℕ) (xs ys : List ℕ) → (zs : List ℕ) × (drop n (xs ++ ys) ≡ drop n xs ++ zs)
+drop-append zero xs ys = (ys, refl)
+drop-append (suc n) [] ys = (drop (suc n) ys, refl)
+drop-append (suc n) (x ∷ xs) ys = drop-append n xs ys
+
+pub stand_deeper : (octets part inner : List ℕ) (m n : ℕ) → StandAt octets m part → StandAt part n inner → StandAt octets (m + n) inner
+stand_deeper octets part inner m n (rest, p) (after, q) =
+    let (zs, r) = drop-append n part rest in
+    (after ++ zs, sym (drop-drop n m octets) ∙ (ap (drop n) p ∙ (r ∙ (ap (λ z. z ++ zs) q ∙ append_assoc inner after zs))))
+
+pub inside_deeper : (octets part : List ℕ) (m o : ℕ) → StandAt octets m part → StandsInside part o → StandsInside octets (m + o)
+inside_deeper octets part m o at s = record {
+  before = m + s.before;
+  part = s.part;
+  blocks = s.blocks;
+  place = s.place;
+  earlier = s.earlier;
+  later = s.later;
+  stand = stand_deeper octets part s.part m s.before at s.stand;
+  document = s.document;
+  one = s.one;
+  is = let e : o ≡ s.before + s.place = s.is in omega (arith, e);
+}
+
+-- offsets in octets that stand at a place are offsets in the whole
+pub placed_inside : (octets part : List ℕ) (m o : ℕ) → StandAt octets m part → PlacedInside m part o → StandsInside octets o
+placed_inside octets part m o at (place, s, e) = subst (StandsInside octets) (sym e) (inside_deeper octets part m place at s)
+
+pub placed_deeper :
+    (octets part : List ℕ) (base m further o : ℕ) → StandAt octets m part → further ≡ base + m →
+    PlacedInside further part o → PlacedInside base octets o
+placed_deeper octets part base m further o at f (place, s, e) = (m + place, inside_deeper octets part m place at s, omega (arith, e, f))
+
 -- lines of blocks were put, and these are left
-abbrev pub Progress : Bool → ℕ → List ℕ → List ℕ → List ℕ → List ℕ → Type 0
-Progress inside base all left a b = (done : List ℕ) × Adds (shown_at inside base done) a b × (all ≡ done ++ left)
+abbrev pub Progress : Bool → ℕ → List ℕ → List ℕ → List ℕ → List ℕ → List ℕ → Type 0
+Progress inside base octets all left a b = (done : List ℕ) × Adds (PlacedInside base octets) (shown_at inside base done) a b × (all ≡ done ++ left)
 
-pub progress_none : (inside : Bool) (base : ℕ) (all left a : List ℕ) → left ≡ all → Progress inside base all left a a
-progress_none true base all left a e = ([], adds_nothing a, sym e)
-progress_none false base all left a e = ([], adds_nothing a, sym e)
+pub progress_none : (inside : Bool) (base : ℕ) (octets all left a : List ℕ) → left ≡ all → Progress inside base octets all left a a
+progress_none true base octets all left a e = ([], adds_nothing (PlacedInside base octets) a, sym e)
+progress_none false base octets all left a e = ([], adds_nothing (PlacedInside base octets) a, sym e)
 
-pub progress_one : (inside : Bool) (base o : ℕ) (all left after a b c : List ℕ) → Progress inside base all left a b → left ≡ o ∷ after
-    → Adds (shown_at inside base (o ∷ [])) b c → Progress inside base all after a c
-progress_one inside base o all left after a b c (done, adds, e) f more = (
-  done ++ o ∷ [],
-  subst (λ z. Adds z a c) (sym (shown_join inside base done (o ∷ []))) (adds_join _ _ a b c adds more),
-  e ∙ (ap (λ z. done ++ z) f ∙ sym (append_assoc done (o ∷ []) after)),
-)
+one_line :
+    (inside : Bool) (base o : ℕ) (octets : List ℕ) (bs : Trees ℕ) (done after b c : List ℕ) → Document octets bs →
+    all_offsets bs ≡ done ++ o ∷ after → AddsLine (IsLineOf inside (base + o)) b c →
+    Adds (PlacedInside base octets) (shown_at inside base (o ∷ [])) b c
+one_line true base o octets bs done after b c d e line =
+    let s : StandsInside octets o = record {
+      before = 0;
+      part = octets;
+      blocks = bs;
+      place = o;
+      earlier = done;
+      later = after;
+      stand = ([], sym (append-nil octets));
+      document = d;
+      one = e;
+      is = omega arith;
+    } in
+    adds_inside (PlacedInside base octets) (base + o) b c line (o, s, refl)
+one_line false base o octets bs done after b c d e line = adds_block (PlacedInside base octets) (base + o) b c line
 
-pub progress_note : (inside : Bool) (base : ℕ) (all left a b c : List ℕ) → Progress inside base all left a b → Adds [] b c → Progress inside base all left a c
-progress_note inside base all left a b c (done, adds, e) more =
-    (done, subst (λ z. Adds z a c) (append-nil (shown_at inside base done)) (adds_join _ _ a b c adds more), e)
-
-pub progress_all : (inside : Bool) (base : ℕ) (all left a b : List ℕ) → Progress inside base all left a b → left ≡ [] → Adds (shown_at inside base all) a b
-progress_all inside base all left a b (done, adds, e) n =
-    subst (λ z. Adds (shown_at inside base z) a b) (sym (e ∙ (ap (λ z. done ++ z) n ∙ append-nil done))) adds
+pub progress_one :
+    (inside : Bool) (base o : ℕ) (octets : List ℕ) (bs : Trees ℕ) (left after a b c : List ℕ) → Document octets bs →
+    Progress inside base octets (all_offsets bs) left a b → left ≡ o ∷ after →
+    AddsLine (IsLineOf inside (base + o)) b c → Progress inside base octets (all_offsets bs) after a c
+progress_one inside base o octets bs left after a b c d (done, adds, e) f line =
+    let P = PlacedInside base octets in
+    let one = one_line inside base o octets bs done after b c d (e ∙ ap (λ z. done ++ z) f) line in (
+      done ++ o ∷ [],
+      subst (λ z. Adds P z a c) (sym (shown_join inside base done (o ∷ []))) (adds_join P _ _ a b c adds one),
+      e ∙ (ap (λ z. done ++ z) f ∙ sym (append_assoc done (o ∷ []) after)),
+    )
 
 -- what stands inside octets has no lines of blocks
-pub inside_adds : (inside : Bool) (base : ℕ) (os a b : List ℕ) → inside ≡ true → Adds (shown_at inside base os) a b → Adds [] a b
-inside_adds true base os a b e adds = adds
-inside_adds false base os a b e adds = absurd (cc e)
+inside_adds : (P : ℕ → Type 0) (inside : Bool) (base : ℕ) (os a b : List ℕ) → inside ≡ true → Adds P (shown_at inside base os) a b → Adds P [] a b
+inside_adds P true base os a b e adds = adds
+inside_adds P false base os a b e adds = absurd (cc e)
 
--- lines of some blocks
-abbrev pub AddsSome : List ℕ → List ℕ → Type 0
-AddsSome a b = (offsets : List ℕ) × Adds offsets a b
+pub progress_held :
+    (inside held : Bool) (base further m : ℕ) (octets part all left os a b c : List ℕ) →
+    Progress inside base octets all left a b → StandAt octets m part → further ≡ base + m → held ≡ true →
+    Adds (PlacedInside further part) (shown_at held further os) b c → Progress inside base octets all left a c
+progress_held inside held base further m octets part all left os a b c (done, adds, e) at f h more =
+    let P = PlacedInside base octets in
+    let deeper = adds_map (PlacedInside further part) P (λ o. placed_deeper octets part base m further o at f) [] b c
+    (inside_adds (PlacedInside further part) held further os b c h more) in
+    (done, subst (λ z. Adds P z a c) (append-nil (shown_at inside base done)) (adds_join P _ _ a b c adds deeper), e)
 
-pub some_nothing : (a : List ℕ) → AddsSome a a
-some_nothing a = ([], adds_nothing a)
-
-pub some_join : (a b c : List ℕ) → AddsSome a b → AddsSome b c → AddsSome a c
-some_join a b c (os, x) (ps, y) = (os ++ ps, adds_join os ps a b c x y)
+pub progress_all :
+    (inside : Bool) (base : ℕ) (octets all left a b : List ℕ) → Progress inside base octets all left a b → left ≡ [] →
+    Adds (PlacedInside base octets) (shown_at inside base all) a b
+progress_all inside base octets all left a b (done, adds, e) n =
+    subst (λ z. Adds (PlacedInside base octets) (shown_at inside base z) a b) (sym (e ∙ (ap (λ z. done ++ z) n ∙ append-nil done))) adds
 
 later_by_none : (os : List ℕ) → map (λ o. 0 + o) os ≡ os
 later_by_none [] = refl
 later_by_none (o ∷ os) = let h : 0 + o ≡ o = omega arith in ap (λ z. z ∷ map (λ o. 0 + o) os) h ∙ ap (λ z. o ∷ z) (later_by_none os)
 
 -- blocks of the document itself
-pub top_adds : (inside : Bool) (base : ℕ) (os a b : List ℕ) → inside ≡ false → base ≡ 0 → Adds (shown_at inside base os) a b → Adds os a b
-top_adds true base os a b e z adds = absurd (cc e)
-top_adds false base os a b e z adds = subst (λ l. Adds l a b) (ap (λ n. map (λ o. n + o) os) z ∙ later_by_none os) adds
-
--- the line of a fault is one more
-pub fault_adds : (offset : ℕ) (a b : List ℕ) → TellsFault offset a b → Adds [] a b
-fault_adds offset a b (line, is, l) = (line ++ 10 ∷ [], is, fault_line offset line [] refl l (no_lines refl refl))
-
--- whatever is said of octets, it is lines
-pub dump_some : (octets : List ℕ) (verdict : Verdict) (a b : List ℕ) → AddsDumpOf octets verdict a b → AddsSome a b
-dump_some octets AllRead a b (bs, d, adds) = (all_offsets bs, adds)
-dump_some octets Refused a b (fault, offset, f, offsets, shown, adds, tells) =
-    some_join a shown b (offsets, adds) ([], fault_adds offset shown b tells)
+pub top_adds :
+    (inside : Bool) (base : ℕ) (octets os a b : List ℕ) → inside ≡ false → base ≡ 0 →
+    Adds (PlacedInside base octets) (shown_at inside base os) a b → Adds (StandsInside octets) os a b
+top_adds true base octets os a b e z adds = absurd (cc e)
+top_adds false base octets os a b e z adds =
+    let P = PlacedInside base octets in
+    adds_map P (StandsInside octets) (λ o (place, s, p). let same : place ≡ o = omega (arith, p, z) in subst (StandsInside octets) same s) os a b
+    (subst (λ l. Adds P l a b) (ap (λ n. map (λ o. n + o) os) z ∙ later_by_none os) adds)
 
 -- objects after objects
-pub offsets_join : (xs ys : List (List ℕ)) (os ps : List ℕ) → AreOffsetsOf xs os → AreOffsetsOf ys ps → AreOffsetsOf (xs ++ ys) (os ++ ps)
-offsets_join [] ys os ps e h = rw e h
-offsets_join (x ∷ xs) ys os ps (bs, later, d, e, r) h =
-    (bs, later ++ ps, d, ap (λ z. z ++ ps) e ∙ append_assoc (all_offsets bs) later ps, offsets_join xs ys later ps r h)
+both_after : (u v w : Verdict) → both_read (both_read u v) w ≡ both_read u (both_read v w)
+both_after AllRead v w = refl
+both_after Refused v w = refl
 
-abbrev pub Dumps : Verdict → List ℕ → List ℕ → Type 0
-Dumps verdict a b = (objects : List (List ℕ)) × AddsDumpsOf objects verdict a b
+both_all : (v : Verdict) → v ≡ both_read v AllRead
+both_all AllRead = refl
+both_all Refused = refl
 
-pub dumps_some : (verdict : Verdict) (a b : List ℕ) → Dumps verdict a b → AddsSome a b
-dumps_some AllRead a b (objects, (os, r, adds)) = (os, adds)
-dumps_some Refused a b (objects, (os, adds)) = (os, adds)
+objects_join :
+    (xs ys : List (Option (List ℕ))) (v w : Verdict) (a b c : List ℕ) →
+    AddsObjects xs v a b → AddsObjects ys w b c → AddsObjects (xs ++ ys) (both_read v w) a c
+objects_join [] ys v w a b c (e, n) h =
+    subst (λ z. AddsObjects ys (both_read z w) a c) (sym e) (subst (λ z. AddsObjects ys w z c) n h)
+objects_join (x ∷ xs) ys v w a b c (first, later, between, e, o, r) h =
+    (first, both_read later w, between, ap (λ z. both_read z w) e ∙ both_after first later w, o, objects_join xs ys later w between b c r h)
 
-pub dumps_join : (v w : Verdict) (a b c : List ℕ) → Dumps v a b → Dumps w b c → Dumps (both_read v w) a c
-dumps_join AllRead AllRead a b c (xs, (os, r, x)) (ys, (ps, t, y)) = (xs ++ ys, (os ++ ps, offsets_join xs ys os ps r t, adds_join os ps a b c x y))
-dumps_join AllRead Refused a b c (xs, (os, r, x)) (ys, (ps, y)) = ([], (os ++ ps, adds_join os ps a b c x y))
-dumps_join Refused w a b c (xs, (os, x)) y = ([], some_join a b c (os, x) (dumps_some w b c y))
+abbrev pub Objects : Verdict → List ℕ → List ℕ → Type 0
+Objects verdict a b = (objects : List (Option (List ℕ))) × AddsObjects objects verdict a b
 
-pub dumps_none : (a : List ℕ) → Dumps AllRead a a
-dumps_none a = ([], ([], refl, adds_nothing a))
+pub objects_more : (v w : Verdict) (a b c : List ℕ) → Objects v a b → Objects w b c → Objects (both_read v w) a c
+objects_more v w a b c (xs, x) (ys, y) = (xs ++ ys, objects_join xs ys v w a b c x y)
 
--- an object under its label
-pub dumps_one : (octets : List ℕ) (v : Verdict) (a b c : List ℕ) → Adds [] a b → AddsDumpOf octets v b c → Dumps v a c
-dumps_one octets AllRead a b c x (bs, d, adds) =
-    (octets ∷ [], (all_offsets bs, (bs, [], d, sym (append-nil (all_offsets bs)), refl), adds_join [] _ a b c x adds))
-dumps_one octets Refused a b c x y = (octets ∷ [], some_join a b c ([], x) (dump_some octets Refused b c y))
+pub objects_none : (a : List ℕ) → Objects AllRead a a
+objects_none a = ([], (refl, refl))
 
-pub object_done : (r : Result Verdict AllocError) (octets a b c : List ℕ) → Adds [] a b → IfOk r (λ v. AddsDumpOf octets v b c)
-    → IfOk r (λ v. Dumps v a c)
-object_done (Ok v) octets a b c x y = dumps_one octets v a b c x y
+pub object_done :
+    (r : Result Verdict AllocError) (octets a b c : List ℕ) → AddsLine (IsNote 61) a b →
+    IfOk r (λ v. AddsDumpOf octets v b c) → IfOk r (λ v. Objects v a c)
+object_done (Ok v) octets a b c x y = (Some octets ∷ [], (v, AllRead, c, both_all v, (b, x, y), (refl, refl)))
 object_done (Err e) octets a b c x y = tt
 
-pub object_refused : (a b c : List ℕ) → Adds [] a b → Adds [] b c → Dumps Refused a c
-object_refused a b c x y = ([], ([], adds_join [] [] a b c x y))
+pub object_refused : (a b c : List ℕ) → AddsLine (IsNote 61) a b → AddsLine (IsNote 33) b c → Objects Refused a c
+object_refused a b c x y = (None ∷ [], (Refused, AllRead, c, refl, (b, x, y, refl), (refl, refl)))
 
 pub none_taken : {X : Type 0} (verdict : X → Verdict) (r : Result X AllocError) (a : List ℕ)
-    → IfOk r (λ x. verdict x ≡ AllRead) → IfOk r (λ x. Dumps (verdict x) a a)
-none_taken verdict (Ok x) a e = subst (λ v. Dumps v a a) (sym e) (dumps_none a)
+    → IfOk r (λ x. verdict x ≡ AllRead) → IfOk r (λ x. Objects (verdict x) a a)
+none_taken verdict (Ok x) a e = subst (λ v. Objects v a a) (sym e) (objects_none a)
 none_taken verdict (Err f) a e = tt
 
-pub lines_done : (v w : Verdict) (a b c d : List ℕ) → Dumps v a b → Dumps w b c → Adds [] c d → Dumps Refused a d
-lines_done v w a b c d x y z = ([], some_join a c d (some_join a b c (dumps_some v a b x) (dumps_some w b c y)) ([], z))
+-- the last object does not end
+pub answer_cut :
+    (input : List ℕ) (v w : Verdict) (a b c d : List ℕ) → form_is input ≡ Pem → Objects v a b → Objects w b c →
+    AddsLine (IsNote 33) c d → AddsAnswer input Refused a d
+answer_cut input v w a b c d f x y z =
+    let all = objects_more v w a b c x y in
+    of_cut_objects all.0 (both_read v w) c f all.1 z refl
 
-pub answer_octets : (r : Result Verdict AllocError) (input a b : List ℕ) → form_is input ≡ Der
-    → IfOk r (λ v. AddsDumpOf input v a b) → IfOk r (λ v. AddsAnswer input v a b)
-answer_octets (Ok v) input a b f h = of_octets f h
-answer_octets (Err e) input a b f h = tt
+pub answer_objects : (input : List ℕ) (v : Verdict) (a b : List ℕ) → form_is input ≡ Pem → Objects v a b → AddsAnswer input v a b
+answer_objects input v a b f (objects, h) = of_objects objects f h
 
 pub answer_hex : (r : Result Verdict AllocError) (input octets a b : List ℕ) → form_is input ≡ Hex
     → spelled input ≡ Some octets → IfOk r (λ v. AddsDumpOf octets v a b)
@@ -169,21 +251,9 @@ pub answer_hex : (r : Result Verdict AllocError) (input octets a b : List ℕ) �
 answer_hex (Ok v) input octets a b f e h = of_hex octets f e h
 answer_hex (Err x) input octets a b f e h = tt
 
-pub answer_objects : (r : Result Verdict AllocError) (input a b : List ℕ) → form_is input ≡ Pem
-    → IfOk r (λ v. Dumps v a b) → IfOk r (λ v. AddsAnswer input v a b)
-answer_objects (Ok v) input a b f (objects, h) = of_objects objects f h
-answer_objects (Err e) input a b f h = tt
-
 -- what was read is the input, and all that was put is the output
 pub input_answered : (o : Option (List ℕ)) (bytes start out : List ℕ) (v : Verdict) (P : List ℕ → Type 0) → IfSome o (λ i. bytes ≡ i) → start ≡ []
     → AddsAnswer bytes v start out → P out → IfSome o (λ i. (x : List ℕ) × AddsAnswer i v [] x × P x)
 input_answered None bytes start out v P e n a p = tt
 input_answered (Some i) bytes start out v P e n a p =
     (out, subst (λ z. AddsAnswer i v z out) n (subst (λ z. AddsAnswer z v start out) e a), p)
-
--- what was written stays
-pub kept_after : (a b c : Option (List ℕ)) (bs : List ℕ) → Appends a b bs → Keeps b c → Appends a c bs
-kept_after None b c bs p k = tt
-kept_after (Some xs) None c bs p k = absurd p
-kept_after (Some xs) (Some ys) None bs p k = absurd k
-kept_after (Some xs) (Some ys) (Some zs) bs p k = k ∙ p

@@ -1,2 +1,4 @@
 mod Dumps
+mod Headers
+mod Shown
 mod Walks

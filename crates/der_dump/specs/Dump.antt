@@ -1,5 +1,5 @@
 -- What is written of a document: lines, one for each block in tree order, with its offset.
-use Rattle.std.specs.Prelude.{◌≡◌, ◌≢◌, ◌⊎◌, ℕ, ◌+◌, Bool, true, false, List, [], ◌∷◌, ◌++◌, map, replicate, codes, decimal, if◌then◌else◌, Option, None, Some, Result, Ok, Err}
+use Rattle.std.specs.Prelude.{◌≡◌, ◌≢◌, ℕ, ◌+◌, List, [], ◌∷◌, ◌++◌, drop, length, map, replicate, codes, decimal, if◌then◌else◌, Option, None, Some, Result, Ok, Err}
 use Rattle.std.specs.Char.{is_ascii_whitespace}
 use Rattle.hex.specs.Hex.{decode_of}
 use Rattle.hex.specs.declared.error.FromHexError.{FromHexError}
@@ -11,6 +11,7 @@ use Rattle.der_dump.specs.declared.document.Verdict.TheVariants.{AllRead, Refuse
 use Rattle.simple_asn1.specs.Fault.{DecodeFault}
 use Rattle.simple_asn1.specs.FaultPlace.{FirstFaultAt}
 use Rattle.simple_asn1.specs.Grammar.{Document}
+use Rattle.simple_asn1.specs.Header.{IsLength, IsSomeIdentifier}
 use Rattle.simple_asn1.specs.Tree.{Tree, Trees, leaf, group, explicit, unknown, no_trees, more_trees}
 
 abbrev mutual
@@ -37,13 +38,16 @@ pub record IsBlockLine (offset : ℕ) (line : List ℕ) : Type 0 where
   pub is : line ≡ replicate spaces 32 ++ (decimal offset ++ 32 ∷ said)
   pub one : IsOneLine said
 
--- any other line, which no line of a block begins as: `>` before what stands inside octets, `!` before a fault, `=`
--- before an object
-pub record IsNote (line : List ℕ) : Type 0 where
-  pub mark : ℕ
+-- the line of a block that stands inside octets of another: `>`, and then as that of a block
+pub record IsInsideLine (offset : ℕ) (line : List ℕ) : Type 0 where
+  pub shown : List ℕ
+  pub is : line ≡ 62 ∷ shown
+  pub block : IsBlockLine offset shown
+
+-- any other line but that of a first fault: `=` and the label of an object, or `!` and what is wrong with one
+pub record IsNote (mark : ℕ) (line : List ℕ) : Type 0 where
   pub said : List ℕ
   pub is : line ≡ mark ∷ said
-  pub marked : (mark ≡ 62) ⊎ (mark ≡ 33) ⊎ (mark ≡ 61)
   pub one : IsOneLine said
 
 -- the line of a fault: `! refused at offset`, the offset in decimal, a colon, a space, and words
@@ -52,58 +56,99 @@ pub record IsFaultLine (offset : ℕ) (line : List ℕ) : Type 0 where
   pub is : line ≡ codes "! refused at offset " ++ decimal offset ++ 58 ∷ 32 ∷ said
   pub one : IsOneLine said
 
--- the text is lines, each ended by octet 0A. Those of blocks have these offsets, in order
-pub data IsDump : List ℕ → List ℕ → Type 0 where
-  no_lines : {offsets text : List ℕ} → offsets ≡ [] → text ≡ [] → IsDump offsets text
+-- octets stand in others, after so many of them
+abbrev pub StandAt : List ℕ → ℕ → List ℕ → Type 0
+StandAt octets before part = (rest : List ℕ) × (drop before octets ≡ part ++ rest)
+
+-- a document stands in the octets, and one of its blocks has the offset, counted from the first of the octets
+pub record StandsInside (octets : List ℕ) (offset : ℕ) : Type 0 where
+  pub before : ℕ
+  pub part : List ℕ
+  pub blocks : Trees ℕ
+  pub place : ℕ
+  pub earlier : List ℕ
+  pub later : List ℕ
+  pub stand : StandAt octets before part
+  pub document : Document part blocks
+  pub one : all_offsets blocks ≡ earlier ++ place ∷ later
+  pub is : offset ≡ before + place
+
+-- the text is lines, each ended by octet 0A: those of blocks, which have these offsets, in order, and those of blocks
+-- inside octets, at offsets of which something holds
+pub data IsDump (Inside : ℕ → Type 0) : List ℕ → List ℕ → Type 0 where
+  no_lines : {offsets text : List ℕ} → offsets ≡ [] → text ≡ [] → IsDump Inside offsets text
   block_line :
       {offsets text : List ℕ} (offset : ℕ) (later line rest : List ℕ) →
       offsets ≡ offset ∷ later → text ≡ line ++ 10 ∷ rest →
-      IsBlockLine offset line → IsDump later rest → IsDump offsets text
-  note :
-      {offsets text : List ℕ} (line rest : List ℕ) →
-      text ≡ line ++ 10 ∷ rest → IsNote line → IsDump offsets rest → IsDump offsets text
-  fault_line :
+      IsBlockLine offset line → IsDump Inside later rest → IsDump Inside offsets text
+  inside_line :
       {offsets text : List ℕ} (offset : ℕ) (line rest : List ℕ) →
-      text ≡ line ++ 10 ∷ rest → IsFaultLine offset line → IsDump offsets rest → IsDump offsets text
+      text ≡ line ++ 10 ∷ rest → IsInsideLine offset line → Inside offset →
+      IsDump Inside offsets rest → IsDump Inside offsets text
 
--- lines of blocks with these offsets were put after the text, and notes among them
-abbrev pub Adds : List ℕ → List ℕ → List ℕ → Type 0
-Adds offsets before after = (text : List ℕ) × (after ≡ before ++ text) × IsDump offsets text
+-- such lines were put after the text
+abbrev pub Adds : (ℕ → Type 0) → List ℕ → List ℕ → List ℕ → Type 0
+Adds Inside offsets before after =
+    (text : List ℕ) × (after ≡ before ++ text) × IsDump Inside offsets text
 
--- the offsets of the lines of blocks, where all stand so many octets later; inside octets all lines are notes
-abbrev pub shown_at : Bool → ℕ → List ℕ → List ℕ
-shown_at true base offsets = []
-shown_at false base offsets = map (λ o. base + o) offsets
+-- a line of some kind was put after the text
+abbrev pub AddsLine : (List ℕ → Type 0) → List ℕ → List ℕ → Type 0
+AddsLine Is before after = (line : List ℕ) × (after ≡ before ++ (line ++ 10 ∷ [])) × Is line
 
--- a last line was put after the text, that of a fault at the offset
-abbrev pub TellsFault : ℕ → List ℕ → List ℕ → Type 0
-TellsFault offset before after = (line : List ℕ) × (after ≡ before ++ (line ++ 10 ∷ [])) × IsFaultLine offset line
+-- the octets are a header: identifier and length octets
+abbrev pub IsHeader : List ℕ → Type 0
+IsHeader header =
+    (identifier : List ℕ) × (len : List ℕ) × (header ≡ identifier ++ len)
+    × ((tag : ℕ) × IsSomeIdentifier identifier tag) × ((announced : ℕ) × IsLength len announced)
 
--- what is put after the text of octets: a document's lines, one for each block in tree order; of other octets lines of
--- some blocks, and then their first fault, at the offset of the innermost block at fault
+-- the octets do not begin with a header
+abbrev pub HasNoHeader : List ℕ → Type 0
+HasNoHeader octets = (header : List ℕ) (rest : List ℕ) → IsHeader header → octets ≡ header ++ rest → ⊥
+
+-- lines of octets that are no document, which stand at the offset: one at each header, from the first on, whose
+-- contents octets are then gone into, and those of whole documents, as far as it goes. Each begins where the one before
+-- it ends
+pub data AreShown : ℕ → List ℕ → List ℕ → Type 0 where
+  no_more : {from : ℕ} {octets offsets : List ℕ} → offsets ≡ [] → AreShown from octets offsets
+  header_line :
+      {from : ℕ} {octets offsets : List ℕ} (header rest later : List ℕ) →
+      octets ≡ header ++ rest → IsHeader header → offsets ≡ from ∷ later →
+      AreShown (from + length header) rest later → AreShown from octets offsets
+  document_lines :
+      {from : ℕ} {octets offsets : List ℕ} (part rest later : List ℕ) (bs : Trees ℕ) →
+      octets ≡ part ++ rest → Document part bs → offsets ≡ map (λ o. from + o) (all_offsets bs) ++ later →
+      AreShown (from + length part) rest later → AreShown from octets offsets
+
+-- what is put after the text of octets: a document's lines, one for each block in tree order, and those of blocks inside
+-- octets; of other octets the lines of what can be read, at least of a header at the front, and then their first fault,
+-- at the offset of the innermost block at fault
 abbrev pub AddsDumpOf : List ℕ → Verdict → List ℕ → List ℕ → Type 0
 AddsDumpOf octets AllRead before after =
-    (bs : Trees ℕ) × Document octets bs × Adds (all_offsets bs) before after
+    (bs : Trees ℕ) × Document octets bs × Adds (StandsInside octets) (all_offsets bs) before after
 AddsDumpOf octets Refused before after =
     (fault : DecodeFault) × (offset : ℕ) × FirstFaultAt octets fault offset
-    × (offsets shown : List ℕ) × Adds offsets before shown × TellsFault offset shown after
+    × (offsets shown : List ℕ) × AreShown 0 octets offsets × (offsets ≡ [] → HasNoHeader octets)
+    × Adds (StandsInside octets) offsets before shown × AddsLine (IsFaultLine offset) shown after
 
--- the offsets of the blocks of documents one after another
-abbrev pub AreOffsetsOf : List (List ℕ) → List ℕ → Type 0
-AreOffsetsOf [] offsets = offsets ≡ []
-AreOffsetsOf (octets ∷ objects) offsets =
-    (bs : Trees ℕ) × (later : List ℕ) × Document octets bs × (offsets ≡ all_offsets bs ++ later)
-    × AreOffsetsOf objects later
-
--- what is put after the text of objects: where all were read, the lines of documents, one for each of their blocks
-abbrev pub AddsDumpsOf : List (List ℕ) → Verdict → List ℕ → List ℕ → Type 0
-AddsDumpsOf objects AllRead before after = (offsets : List ℕ) × AreOffsetsOf objects offsets × Adds offsets before after
-AddsDumpsOf objects Refused before after = (offsets : List ℕ) × Adds offsets before after
+-- what is put after the text of an object: a line `=`, and the dump of its octets, or a line `!` where there are none
+abbrev pub AddsObject : Option (List ℕ) → Verdict → List ℕ → List ℕ → Type 0
+AddsObject (Some octets) verdict before after =
+    (named : List ℕ) × AddsLine (IsNote 61) before named × AddsDumpOf octets verdict named after
+AddsObject None verdict before after =
+    (named : List ℕ) × AddsLine (IsNote 61) before named
+    × AddsLine (IsNote 33) named after × (verdict ≡ Refused)
 
 -- where one and then another were read, all was
 abbrev pub both_read : Verdict → Verdict → Verdict
 both_read AllRead verdict = verdict
 both_read Refused verdict = Refused
+
+-- so of objects one after another, all of which are read, or not
+abbrev pub AddsObjects : List (Option (List ℕ)) → Verdict → List ℕ → List ℕ → Type 0
+AddsObjects [] verdict before after = (verdict ≡ AllRead) × (after ≡ before)
+AddsObjects (object ∷ objects) verdict before after =
+    (first later : Verdict) × (between : List ℕ) × (verdict ≡ both_read first later)
+    × AddsObject object first before between × AddsObjects objects later between after
 
 -- the text without its white space
 abbrev pub but_spaces : List ℕ → List ℕ
@@ -127,8 +172,13 @@ pub data AddsAnswer (input : List ℕ) (verdict : Verdict) (before after : List 
       (octets : List ℕ) → form_is input ≡ Hex → spelled input ≡ Some octets →
       AddsDumpOf octets verdict before after → AddsAnswer input verdict before after
   of_no_hex :
-      form_is input ≡ Hex → spelled input ≡ None → verdict ≡ Refused → Adds [] before after →
+      form_is input ≡ Hex → spelled input ≡ None → verdict ≡ Refused → AddsLine (IsNote 33) before after →
       AddsAnswer input verdict before after
   of_objects :
-      (objects : List (List ℕ)) → form_is input ≡ Pem → AddsDumpsOf objects verdict before after →
-      AddsAnswer input verdict before after
+      (objects : List (Option (List ℕ))) → form_is input ≡ Pem →
+      AddsObjects objects verdict before after → AddsAnswer input verdict before after
+  -- the last object does not end, which is told after it
+  of_cut_objects :
+      (objects : List (Option (List ℕ))) (read : Verdict) (shown : List ℕ) →
+      form_is input ≡ Pem → AddsObjects objects read before shown →
+      AddsLine (IsNote 33) shown after → verdict ≡ Refused → AddsAnswer input verdict before after

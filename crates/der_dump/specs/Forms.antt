@@ -2,18 +2,9 @@
 use Rattle.std.specs.Prelude.{ℕ, Bool, true, false, ◌==◌, ◌||◌, nat_le, List, [], ◌∷◌, if◌then◌else◌, codes}
 use Rattle.std.specs.Char.{is_ascii_hexdigit, is_ascii_whitespace}
 use Rattle.std.specs.List.{list_all, starts_with}
+use Rattle.streams.specs.Lines.{lines_of}
 use Rattle.der_dump.specs.declared.forms.Form.{Form}
 use Rattle.der_dump.specs.declared.forms.Form.TheVariants.{Pem, Hex, Der}
-
--- the byte at the front of the first line
-abbrev pub onto_first_line : ℕ → List (List ℕ) → List (List ℕ)
-onto_first_line b [] = (b ∷ []) ∷ []
-onto_first_line b (line ∷ lines) = (b ∷ line) ∷ lines
-
--- the lines of the input, each ended by byte 0A. What stands after the last such byte is a line if it isn't empty
-abbrev pub lines_of : List ℕ → List (List ℕ)
-lines_of [] = []
-lines_of (b ∷ input) = if b == 10 then [] ∷ lines_of input else onto_first_line b (lines_of input)
 
 -- the line begins an object of PEM (RFC 7468)
 abbrev pub begins_object : List ℕ → Bool

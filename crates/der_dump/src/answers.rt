@@ -1,19 +1,21 @@
 // What is written of an input, in each of the forms.
-ghost use Rattle.std.specs.Prelude.{◌≡◌, List, ℕ, [], IfOk, OnOk};
+ghost use Rattle.std.specs.Prelude.{◌≡◌, List, ℕ, Option, IfOk, OnOk};
 ghost use Rattle.std.specs.Option.{option_map};
-ghost use Rattle.der_dump.specs.Dump.{Adds, AddsAnswer, AddsDumpsOf, both_read, but_spaces, spelled};
+ghost use Rattle.der_dump.specs.Dump.{AddsAnswer, AddsLine, AddsObjects, IsNote};
+ghost use Rattle.der_dump.specs.Dump.{both_read, but_spaces, spelled};
 ghost use Rattle.der_dump.specs.Forms.{form_is};
 ghost use Rattle.der_dump.specs.declared.document.Verdict.TheVariants.{AllRead};
-ghost use Rattle.der_dump.specs.declared.forms.Form.TheVariants.{Hex};
+ghost use Rattle.der_dump.specs.declared.forms.Form.TheVariants.{Hex, Pem};
 
 use crate::document::{Verdict, push_document};
-use crate::forms::{Form, form_of, is_end, label_of, split_line};
+use crate::forms::{Form, form_of, is_end, label_of};
 use crate::lines::{Mark, push_note};
 use crate::names::Names;
 use base64::DecodeAllocError;
 use base64::engine::general_purpose::STANDARD;
 use hex::FromHexError;
 use std::alloc::{AllocError, Global};
+use streams::split_line;
 
 // Puts what is said of an input.
 pub fn push_answer(alloc: Global, input: &[u8], out: &mut Vec<u8>) -> Result<Verdict, AllocError>
@@ -82,8 +84,8 @@ fn push_pem(
     input: &[u8],
     out: &mut Vec<u8>,
 ) -> Result<Verdict, AllocError>
-    ensures { IfOk result (λ verdict. (objects : List (List ℕ))
-        × AddsDumpsOf objects verdict out.old.items out.new.items) }
+    requires { form_is input.now ≡ Pem }
+    ensures { IfOk result (λ verdict. AddsAnswer input.now verdict out.old.items out.new.items) }
 {
     let mut verdict = Verdict::AllRead;
     let mut open = None;
@@ -119,8 +121,8 @@ fn take_line<'a>(
     open: Option<Open<'a>>,
     out: &mut Vec<u8>,
 ) -> Result<Turn<'a>, AllocError>
-    ensures { IfOk result (λ turn. (objects : List (List ℕ))
-        × AddsDumpsOf objects turn.verdict out.old.items out.new.items) }
+    ensures { IfOk result (λ turn. (objects : List (Option (List ℕ)))
+        × AddsObjects objects turn.verdict out.old.items out.new.items) }
 {
     let Some(object) = open else {
         return begin_object(alloc, line);
@@ -175,8 +177,8 @@ fn push_object(
     object: &Open<'_>,
     out: &mut Vec<u8>,
 ) -> Result<Verdict, AllocError>
-    ensures { IfOk result (λ verdict. (objects : List (List ℕ))
-        × AddsDumpsOf objects verdict out.old.items out.new.items) }
+    ensures { IfOk result (λ verdict. (objects : List (Option (List ℕ)))
+        × AddsObjects objects verdict out.old.items out.new.items) }
 {
     push_label(alloc, object.label, out)?;
     match STANDARD.decode(alloc, &object.symbols) {
@@ -190,7 +192,7 @@ fn push_object(
 }
 
 fn push_label(alloc: Global, label: &[u8], out: &mut Vec<u8>) -> Result<(), AllocError>
-    ensures { OnOk result (Adds [] out.old.items out.new.items) }
+    ensures { OnOk result (AddsLine (IsNote 61) out.old.items out.new.items) }
 {
     let mut text = Vec::from_slice(alloc, b" ")?;
     text.extend_from_slice(label)?;

@@ -1,5 +1,5 @@
 // The forms in which documents come, told apart by their octets.
-ghost use Rattle.std.specs.Prelude.{◌≡◌, ◌∷◌, ◌<◌, false, length};
+ghost use Rattle.std.specs.Prelude.{◌≡◌, false};
 ghost use Rattle.std.specs.List.{list_all};
 ghost use Rattle.der_dump.specs.Forms.{
   are_hex_digits,
@@ -7,8 +7,10 @@ ghost use Rattle.der_dump.specs.Forms.{
   form_is,
   has_object,
   is_text_octet,
-  lines_of,
 };
+ghost use Rattle.streams.specs.Lines.{lines_of};
+
+use streams::split_line;
 
 // How an input has its documents.
 #[derive(Clone, Copy, Drop)]
@@ -101,20 +103,4 @@ fn is_hex(input: &[u8]) -> bool
         }
     }
     has_digit
-}
-
-// The first line, and what stands after its end.
-pub fn split_line(input: &[u8]) -> (&[u8], &[u8])
-    requires { 0 < length input.now }
-    ensures first { lines_of input.now ≡ result.0.now ∷ lines_of result.1.now }
-    ensures shorter { length result.1.now < length input.now }
-{
-    let mut end = 0;
-    while end < input.len() {
-        if input[end] == b'\n' {
-            return (&input[..end], &input[end + 1..]);
-        }
-        end += 1;
-    }
-    (input, &[])
 }

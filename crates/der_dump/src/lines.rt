@@ -1,17 +1,16 @@
 // Lines, each put at the end of what is written.
-ghost use Rattle.std.specs.Prelude.{◌≡◌, ◌≢◌, ◌⊎◌, ◌++◌, ◌∷◌, [], List, ℕ, OnOk, if◌then◌else◌, replicate};
-ghost use Rattle.der_dump.specs.Dump.{Adds, IsOneLine, TellsFault};
+ghost use Rattle.std.specs.Prelude.{◌≡◌, ◌≢◌, ◌++◌, List, ℕ, OnOk, replicate};
+ghost use Rattle.der_dump.specs.Dump.{AddsLine, IsBlockLine, IsFaultLine, IsNote, IsOneLine};
+ghost use Rattle.der_dump.specs.Steps.{IsLineOf, mark_of};
 
 use std::alloc::{AllocError, Global};
 
 // How a line that is no line of a block begins.
 #[derive(Clone, Copy, Drop)]
 pub enum Mark {
-    // before what stands inside octets
-    Inside,
-    // before a fault
+    // before what is wrong with an object
     Fault,
-    // before an object
+    // before the label of an object
     Object,
 }
 
@@ -44,17 +43,18 @@ fn plain(b: u8) -> u8
     if b == b'\n' { b' ' } else { b }
 }
 
-// The line of a block: its offset, and what is said of it.
+// The line of a block: its offset, which takes so many characters with the spaces before it, and what is said of it.
 fn push_block_line(
     alloc: Global,
+    width: usize,
     offset: usize,
     said: &[u8],
     out: &mut Vec<u8>,
 ) -> Result<(), AllocError>
-    ensures { OnOk result (Adds (offset ∷ []) out.old.items out.new.items) }
+    ensures { OnOk result (AddsLine (IsBlockLine offset) out.old.items out.new.items) }
 {
     let number = format!(in alloc; "{offset}")?;
-    push_spaces(OFFSET_WIDTH.saturating_sub(number.len()), out)?;
+    push_spaces(width.saturating_sub(number.len()), out)?;
     out.extend_from_slice(number.as_bytes())?;
     out.push(b' ')?;
     push_plain(said, out)?;
@@ -64,7 +64,7 @@ fn push_block_line(
 
 // A line that is no line of a block.
 pub fn push_note(mark: Mark, said: &[u8], out: &mut Vec<u8>) -> Result<(), AllocError>
-    ensures { OnOk result (Adds [] out.old.items out.new.items) }
+    ensures { OnOk result (AddsLine (IsNote (mark_of mark)) out.old.items out.new.items) }
 {
     out.push(mark_octet(mark))?;
     push_plain(said, out)?;
@@ -79,7 +79,7 @@ pub fn push_fault(
     said: &[u8],
     out: &mut Vec<u8>,
 ) -> Result<(), AllocError>
-    ensures { OnOk result (TellsFault offset out.old.items out.new.items) }
+    ensures { OnOk result (AddsLine (IsFaultLine offset) out.old.items out.new.items) }
 {
     out.extend_from_slice(b"! refused at offset ")?;
     let number = format!(in alloc; "{offset}")?;
@@ -92,16 +92,15 @@ pub fn push_fault(
 }
 
 fn mark_octet(mark: Mark) -> u8
-    ensures { (result ≡ 62) ⊎ (result ≡ 33) ⊎ (result ≡ 61) }
+    ensures { result ≡ mark_of mark }
 {
     match mark {
-        Mark::Inside => b'>',
         Mark::Fault => b'!',
         Mark::Object => b'=',
     }
 }
 
-// The line of a block, which is a note where the block stands inside octets.
+// The line of a block, which begins with `>` where the block stands inside octets of another.
 pub fn push_line(
     alloc: Global,
     is_inside: bool,
@@ -109,12 +108,11 @@ pub fn push_line(
     said: &[u8],
     out: &mut Vec<u8>,
 ) -> Result<(), AllocError>
-    ensures { OnOk result (Adds (if is_inside then [] else offset ∷ []) out.old.items out.new.items) }
+    ensures { OnOk result (AddsLine (IsLineOf is_inside offset) out.old.items out.new.items) }
 {
     if !is_inside {
-        return push_block_line(alloc, offset, said, out);
+        return push_block_line(alloc, OFFSET_WIDTH, offset, said, out);
     }
-    let mut text = format!(in alloc; "{offset:>6} ")?.into_bytes();
-    text.extend_from_slice(said)?;
-    push_note(Mark::Inside, &text, out)
+    out.push(b'>')?;
+    push_block_line(alloc, OFFSET_WIDTH - 1, offset, said, out)
 }

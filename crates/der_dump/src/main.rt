@@ -15,8 +15,9 @@ mod tree;
 mod values;
 mod walk;
 
-use crate::tool::{fault_text, run, status};
+use crate::tool::{run, status};
 use std::process::ExitCode;
+use streams::fault_text;
 
 // Arguments are ignored.
 fn main(rt: HostRuntime) -> ExitCode {

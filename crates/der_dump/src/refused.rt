@@ -1,13 +1,16 @@
 // The lines of a refused document, as far as it can be read.
-ghost use Rattle.std.specs.Prelude.{◌≡◌, ◌<◌, ◌^◌, List, ℕ, false, IfOk, IsTrue, OnOk};
-ghost use Rattle.der_dump.specs.Dump.{Adds, TellsFault};
+ghost use Rattle.std.specs.Prelude.{◌≡◌, ◌≤◌, ◌<◌, ◌^◌, ◌++◌, ◌∷◌, [], List, ℕ, false, true};
+ghost use Rattle.std.specs.Prelude.{IfOk, IsTrue, OnOk, drop, length};
+ghost use Rattle.der_dump.specs.Dump.{Adds, AddsLine, AreShown, HasNoHeader, IsBlockLine, IsFaultLine};
+ghost use Rattle.der_dump.specs.Dump.{StandAt, StandsInside};
+ghost use Rattle.der_dump.specs.Steps.{GoesTo, PlacedInside, PutsStep};
 
 use crate::faults::fault_words;
 use crate::header::{Header, read_header};
 use crate::lines::{push_fault, push_line};
 use crate::names::Names;
 use crate::scalars::write_after_space;
-use crate::tree::{Place, push_blocks};
+use crate::tree::{Place, push_blocks, sum_of};
 use crate::values::{write_sizes, write_tag};
 use simple_asn1::{ASN1Class, ASN1DecodeErr, Document, encoding_at};
 use std::alloc::{AllocError, Global};
@@ -34,8 +37,10 @@ pub fn push_refused(
     offset: usize,
     out: &mut Vec<u8>,
 ) -> Result<(), AllocError>
-    ensures { OnOk result ((offsets shown : List ℕ)
-        × Adds offsets out.old.items shown × TellsFault offset shown out.new.items) }
+    ensures { OnOk result ((offsets shown : List ℕ) × AreShown 0 octets.now offsets
+        × (offsets ≡ [] → HasNoHeader octets.now)
+        × Adds (StandsInside octets.now) offsets out.old.items shown
+        × AddsLine (IsFaultLine offset) shown out.new.items) }
 {
     push_to_fault(alloc, names, octets, out)?;
     let words = fault_words(alloc, fault)?;
@@ -55,7 +60,9 @@ struct Cursor {
 impl Cursor {
     // Leaves the contents octets that have ended. Whether any are left.
     fn leave_ended(&mut self) -> bool
-        ensures { self.new.offset ≡ self.old.offset }
+        ensures offset { self.new.offset ≡ self.old.offset }
+        ensures open { self.old.offset < self.old.end → self.new.end ≡ self.old.end }
+        ensures ended { result ≡ false → self.old.end ≤ self.old.offset }
     {
         while self.offset >= self.end {
             match self.ends.pop() {
@@ -69,7 +76,8 @@ impl Cursor {
     // Goes on after a step. Whether there is more to show.
     fn take(&mut self, step: Step) -> Result<bool, AllocError>
         ensures { IfOk result (λ more. IsTrue more →
-            (self.old.offset < self.new.offset) × (self.new.offset < 2 ^ 64)) }
+            (self.old.offset < self.new.offset) × (self.new.offset < 2 ^ 64)
+            × GoesTo step self.new.offset) }
     {
         let next = match step {
             Step::Past(next) => next,
@@ -98,7 +106,9 @@ fn push_to_fault(
     octets: &[u8],
     out: &mut Vec<u8>,
 ) -> Result<(), AllocError>
-    ensures { OnOk result ((offsets : List ℕ) × Adds offsets out.old.items out.new.items) }
+    ensures { OnOk result ((offsets : List ℕ) × AreShown 0 octets.now offsets
+        × (offsets ≡ [] → HasNoHeader octets.now)
+        × Adds (StandsInside octets.now) offsets out.old.items out.new.items) }
 {
     let mut cursor = Cursor {
         offset: 0,
@@ -122,38 +132,42 @@ fn push_step(
     cursor: &Cursor,
     out: &mut Vec<u8>,
 ) -> Result<Step, AllocError>
-    ensures { OnOk result ((offsets : List ℕ) × Adds offsets out.old.items out.new.items) }
+    ensures { IfOk result (λ step. (left after : List ℕ) × (drop cursor.now.offset octets.now ≡ left ++ after)
+        × (length octets.now ≤ cursor.now.end → after ≡ [])
+        × PutsStep cursor.now.offset left step out.old.items out.new.items) }
 {
     let offset = cursor.offset;
     let depth = cursor.ends.len();
-    let (within, _) = octets.split_at(cursor.end.min(octets.len()));
-    match encoding_at(within, offset) {
-        Some(encoding) => push_encoding(alloc, names, encoding, offset, depth, out),
-        None => {
-            let (_, rest) = within.split_at(offset.min(within.len()));
-            push_cut(alloc, rest, offset, depth, out)
-        }
+    let (_, rest) = octets.split_at(offset.min(octets.len()));
+    let size = cursor.end.saturating_sub(offset);
+    let (left, _) = rest.split_at(size.min(rest.len()));
+    match encoding_at(left, 0) {
+        Some(encoding) => push_encoding(alloc, names, left, encoding, offset, depth, out),
+        None => push_cut(alloc, left, offset, depth, out),
     }
 }
 
-// Puts an encoding that is there whole: the header alone of a SEQUENCE or SET, or of one at fault.
+// Puts an encoding that is there whole, in front of others: the header alone of a SEQUENCE or SET, or of one at fault.
 fn push_encoding(
     alloc: Global,
     names: &Names,
+    left: &[u8],
     encoding: &[u8],
     offset: usize,
     depth: usize,
     out: &mut Vec<u8>,
 ) -> Result<Step, AllocError>
-    ensures { OnOk result ((offsets : List ℕ) × Adds offsets out.old.items out.new.items) }
+    requires { StandAt left.now 0 encoding.now }
+    ensures { IfOk result (λ step. PutsStep offset left.now step out.old.items out.new.items) }
 {
-    let Some(header) = read_header(alloc, encoding)? else {
+    let Some(header) = read_header(alloc, left)? else {
         return Ok(Step::Fault);
     };
-    let end = offset.saturating_add(encoding.len());
+    let end = sum_of(offset, encoding.len())?;
     if is_group(&header) {
+        let first = sum_of(offset, header.size)?;
         push_header(alloc, &header, offset, depth, "", out)?;
-        return Ok(Step::Inside(offset.saturating_add(header.size), end));
+        return Ok(Step::Inside(first, end));
     }
     match Document::from_der(alloc, encoding) {
         Ok(document) => {
@@ -189,24 +203,25 @@ pub fn place_at(base: usize, depth: usize) -> Place
 // Puts the header of an encoding that is cut short.
 fn push_cut(
     alloc: Global,
-    rest: &[u8],
+    left: &[u8],
     offset: usize,
     depth: usize,
     out: &mut Vec<u8>,
 ) -> Result<Step, AllocError>
-    ensures { OnOk result ((offsets : List ℕ) × Adds offsets out.old.items out.new.items) }
+    ensures { IfOk result (λ step. PutsStep offset left.now step out.old.items out.new.items) }
 {
-    let Some(header) = read_header(alloc, rest)? else {
+    let Some(header) = read_header(alloc, left)? else {
         return Ok(Step::Fault);
     };
-    let there = rest.len().saturating_sub(header.size);
+    let there = left.len().saturating_sub(header.size);
     let announced = header.announced;
     let cut = format!(in alloc; ", of whose {announced} octets {there} are there")?;
     if is_group(&header) || header.constructed {
+        let first = sum_of(offset, header.size)?;
         push_header(alloc, &header, offset, depth, &cut, out)?;
-        return Ok(Step::Cut(offset.saturating_add(header.size)));
+        return Ok(Step::Cut(first));
     }
-    let contents = contents_text(alloc, &header, rest)?;
+    let contents = contents_text(alloc, &header, left)?;
     let colon = if there == 0 { "" } else { ":" };
     let text = format!(in alloc; "{cut}{colon}{contents}")?;
     push_header(alloc, &header, offset, depth, &text, out)?;
@@ -235,7 +250,7 @@ fn push_header(
     after: &str,
     out: &mut Vec<u8>,
 ) -> Result<(), AllocError>
-    ensures { OnOk result ((offsets : List ℕ) × Adds offsets out.old.items out.new.items) }
+    ensures { OnOk result (AddsLine (IsBlockLine offset) out.old.items out.new.items) }
 {
     let mut text = String::new(alloc);
     write_sizes(&mut text, header.size, header.announced, depth)?;

@@ -1,7 +1,9 @@
 // The lines of blocks, and of the documents that stand inside their octets.
-ghost use Rattle.std.specs.Prelude.{◌≡◌, ◌+◌, ◌<◌, ◌∷◌, [], true, IfOk, IfSome, OnOk};
-ghost use Rattle.der_dump.specs.Dump.{Adds, all_offsets, shown_at};
-ghost use Rattle.simple_asn1.specs.View.{tree_offset, view, views};
+ghost use Rattle.std.specs.Prelude.{◌≡◌, ◌+◌, ◌<◌, IfOk, IfSome, OnOk};
+ghost use Rattle.der_dump.specs.Dump.{Adds, AddsLine, StandAt, all_offsets};
+ghost use Rattle.der_dump.specs.Steps.{IsHeldIn, IsLineOf, PlacedInside, shown_at};
+ghost use Rattle.simple_asn1.specs.Grammar.{Document as IsDocument};
+ghost use Rattle.simple_asn1.specs.View.{document_trees, tree_offset, view, views};
 
 use crate::header::{Header, read_header};
 use crate::lines::push_line;
@@ -41,7 +43,9 @@ pub fn push_blocks(
     place: Place,
     out: &mut Vec<u8>,
 ) -> Result<(), AllocError>
-    ensures { OnOk result (Adds (shown_at place.is_inside place.base (all_offsets (views blocks.now)))
+    requires { IsDocument octets.now (views blocks.now) }
+    ensures { OnOk result (Adds (PlacedInside place.base octets.now)
+        (shown_at place.is_inside place.base (all_offsets (views blocks.now)))
         out.old.items out.new.items) }
 {
     let mut walk = Walk::over(alloc, blocks)?;
@@ -64,30 +68,29 @@ pub fn push_blocks(
 fn push_block<'a>(
     alloc: Global,
     names: &Names,
-    octets: &[u8],
-    found: &Found<'a>,
+    octets: &'a [u8],
+    found: &Found<'_>,
     place: Place,
     out: &mut Vec<u8>,
 ) -> Result<Option<Held<'a>>, AllocError>
     ensures line { OnOk result
-        (Adds (shown_at place.is_inside place.base (tree_offset (view found.now.block.now) ∷ []))
+        (AddsLine (IsLineOf place.is_inside (place.base + tree_offset (view found.now.block.now)))
         out.old.items out.new.items) }
-    ensures inside { IfOk result (λ held. IfSome held (λ h. h.place.is_inside ≡ true)) }
+    ensures held { IfOk result (λ held. IfSome held (IsHeldIn octets.now place.base)) }
     ensures fewer { IfOk result (λ held. IfSome held (λ h. h.place.documents < place.documents)) }
 {
     let block = found.block;
     let offset = sum_of(place.base, block.offset())?;
     let depth = place.depth.saturating_add(found.depth);
     let header = header_of(alloc, octets, block.offset())?;
-    let first = offset.saturating_add(header_size(&header));
-    let held = held_document(alloc, block, first, depth, place.documents)?;
+    let held = held_document(alloc, octets, block, header_size(&header), place, depth)?;
     let text = block_text(alloc, names, &header, depth, block, held.is_some())?;
     push_line(alloc, place.is_inside, offset, text.as_bytes(), out)?;
     Ok(held)
 }
 
 // The sum. Octets of a size that passes a usize fit no memory.
-fn sum_of(a: usize, b: usize) -> Result<usize, AllocError>
+pub fn sum_of(a: usize, b: usize) -> Result<usize, AllocError>
     ensures { IfOk result (λ n. n ≡ a + b) }
 {
     a.checked_add(b).ok_or(AllocError)
@@ -107,24 +110,34 @@ fn header_size(header: &Option<Header>) -> usize {
     }
 }
 
-// The document that stands inside the octets of a block, whose contents octets begin at an offset, if one may be shown.
+// Octets among others.
+#[derive(Clone, Copy, Drop)]
+struct Part<'a> {
+    // how many octets stand before them
+    before: usize,
+    octets: &'a [u8],
+}
+
+// The document that stands inside octets of a block at a depth, if one may be shown. The header of the block has so many
+// octets.
 fn held_document<'a>(
     alloc: Global,
-    block: &'a ASN1Block,
-    first: usize,
+    octets: &'a [u8],
+    block: &ASN1Block,
+    header: usize,
+    place: Place,
     depth: usize,
-    documents: usize,
 ) -> Result<Option<Held<'a>>, AllocError>
-    ensures inside { IfOk result (λ held. IfSome held (λ h. h.place.is_inside ≡ true)) }
-    ensures fewer { IfOk result (λ held. IfSome held (λ h. h.place.documents < documents)) }
+    ensures held { IfOk result (λ held. IfSome held (IsHeldIn octets.now place.base)) }
+    ensures fewer { IfOk result (λ held. IfSome held (λ h. h.place.documents < place.documents)) }
 {
-    if documents == 0 {
+    if place.documents == 0 {
         return Ok(None);
     }
-    let Some((octets, before)) = octets_inside(block) else {
+    let Some(part) = octets_inside(octets, block, header) else {
         return Ok(None);
     };
-    let Some(document) = document_in(alloc, octets)? else {
+    let Some(document) = document_in(alloc, part.octets)? else {
         return Ok(None);
     };
     if !is_shown(block, document.blocks()) {
@@ -132,34 +145,52 @@ fn held_document<'a>(
     }
     let place = Place {
         is_inside: true,
-        base: first.saturating_add(before),
+        base: sum_of(place.base, part.before)?,
         depth: depth.saturating_add(1),
-        documents: documents - 1,
+        documents: place.documents - 1,
     };
     Ok(Some(Held {
-        octets,
+        octets: part.octets,
         document,
         place,
     }))
 }
 
-// The octets of a block in which a document may stand, and how many contents octets stand before them.
-fn octets_inside(block: &ASN1Block) -> Option<(&[u8], usize)> {
+// The octets inside a block in which a document may stand.
+fn octets_inside<'a>(octets: &'a [u8], block: &ASN1Block, header: usize) -> Option<Part<'a>>
+    ensures { IfSome result (λ p. StandAt octets.now p.before p.octets.now) }
+{
+    let skipped = header.saturating_add(octets_before(block)?);
+    let encoding = encoding_at(octets, block.offset())?;
+    let size = encoding.len().saturating_sub(skipped);
+    let before = block.offset().saturating_add(skipped).min(octets.len());
+    let (_, rest) = octets.split_at(before);
+    let (inside, _) = rest.split_at(size.min(rest.len()));
+    Some(Part {
+        before,
+        octets: inside,
+    })
+}
+
+// How many contents octets of a block stand before those in which a document may stand.
+fn octets_before(block: &ASN1Block) -> Option<usize> {
     match block {
-        ASN1Block::OctetString(_, octets) => Some((octets, 0)),
+        ASN1Block::OctetString(_, _) => Some(0),
         ASN1Block::BitString(_, bits, octets) => {
             if octets.len().checked_mul(8) == Some(*bits) {
-                Some((octets, 1))
+                Some(1)
             } else {
                 None
             }
         }
-        ASN1Block::Unknown(_, true, _, _, octets) => Some((octets, 0)),
+        ASN1Block::Unknown(_, true, _, _, _) => Some(0),
         _ => None,
     }
 }
 
-fn document_in(alloc: Global, octets: &[u8]) -> Result<Option<Document>, AllocError> {
+fn document_in(alloc: Global, octets: &[u8]) -> Result<Option<Document>, AllocError>
+    ensures { IfOk result (λ found. IfSome found (λ d. IsDocument octets.now (document_trees d))) }
+{
     match Document::from_der(alloc, octets) {
         Ok(document) => Ok(Some(document)),
         Err(ASN1DecodeErr::OutOfMemory) => Err(AllocError),

@@ -1,7 +1,8 @@
 -- What is answered to lines, each a document in hex digits.
-use Rattle.std.specs.Prelude.{◌≡◌, ◌⊎◌, ◌==◌, ◌++◌, ℕ, List, [], ◌∷◌, if◌then◌else◌, MatchResult, codes, decimal}
+use Rattle.std.specs.Prelude.{◌≡◌, ◌⊎◌, ◌++◌, ℕ, List, [], ◌∷◌, MatchResult, codes, decimal}
 use Rattle.std.specs.Fmt.{signed_decimal}
 use Rattle.hex.specs.Hex.{decode_of, encode_upper}
+use Rattle.streams.specs.Lines.{lines_of}
 use Rattle.simple_asn1.specs.Tree.{Trees}
 use Rattle.simple_asn1.specs.Grammar.{Document, FirstFault}
 use Rattle.simple_asn1.specs.Canonical.{all_canonical}
@@ -10,16 +11,6 @@ use Rattle.simple_asn1.specs.ReadBack.{IsCanonicalDocument}
 use Rattle.simple_asn1.specs.Strict.{StrictFault}
 use Rattle.der_tool.specs.declared.answers.Reading.{Reading}
 use Rattle.der_tool.specs.declared.answers.Reading.TheVariants.{Lenient, Strict}
-
--- the byte at the front of the first line
-abbrev pub onto_first_line : ℕ → List (List ℕ) → List (List ℕ)
-onto_first_line b [] = (b ∷ []) ∷ []
-onto_first_line b (line ∷ lines) = (b ∷ line) ∷ lines
-
--- the lines of the input, each ended by byte 0A. What stands after the last such byte is a line if it isn't empty
-abbrev pub lines_of : List ℕ → List (List ℕ)
-lines_of [] = []
-lines_of (b ∷ input) = if b == 10 then [] ∷ lines_of input else onto_first_line b (lines_of input)
 
 -- the name of a fault
 abbrev pub name_of : DecodeFault → List ℕ

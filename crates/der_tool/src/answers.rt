@@ -1,12 +1,11 @@
 // The answers to lines, each a document in hex digits.
-ghost use Rattle.std.specs.Prelude.{◌≡◌, ◌<◌, ◌++◌, ℕ, List, ◌∷◌, length, IfErr, IfOk, OnOk, string_bytes};
+ghost use Rattle.std.specs.Prelude.{◌≡◌, ◌++◌, ℕ, List, IfErr, IfOk, OnOk, string_bytes};
 ghost use Rattle.der_tool.specs.Answers.{
   AreAnswers,
   IsAccepted,
   IsAnswer,
   IsRefused,
   IsVerdict,
-  lines_of,
   name_of,
   number_after,
   refusal,
@@ -16,6 +15,7 @@ ghost use Rattle.simple_asn1.specs.Fault.{OutOfMemoryOr, fault_of};
 use hex::FromHexError;
 use simple_asn1::{ASN1DecodeErr, discard, from_der_strict, rewrite};
 use std::alloc::{AllocError, Global};
+use streams::split_line;
 
 // Which documents are accepted, and with which octets they are answered.
 #[derive(Clone, Copy)]
@@ -39,22 +39,6 @@ pub fn answers(alloc: Global, reading: Reading, input: &[u8]) -> Result<Vec<u8>,
         rest = after;
     }
     Ok(output)
-}
-
-// The first line, and what stands after its end.
-fn split_line(input: &[u8]) -> (&[u8], &[u8])
-    requires { 0 < length input.now }
-    ensures first { lines_of input.now ≡ result.0.now ∷ lines_of result.1.now }
-    ensures shorter { length result.1.now < length input.now }
-{
-    let mut end = 0;
-    while end < input.len() {
-        if input[end] == b'\n' {
-            return (&input[..end], &input[end + 1..]);
-        }
-        end += 1;
-    }
-    (input, &[])
 }
 
 // Appends the answer to a line.

@@ -1,24 +1,14 @@
 // The run of the program: all input is read before anything is written.
-ghost use Rattle.std.specs.Prelude.{◌≡◌, ◌⊎◌, List, ℕ, Ok, Err, IfOk, IfErr, IfSome, OnOk, IsOk, codes};
+ghost use Rattle.std.specs.Prelude.{◌≡◌, ◌⊎◌, List, ℕ, IfErr, IfSome, OnOk};
 ghost use Rattle.std.specs.Io.KnownBytes.{Appends, IsAtEnd, Keeps};
 ghost use Rattle.der_tool.specs.Answers.{AreAnswers};
 ghost use Rattle.der_tool.specs.declared.answers.Reading.TheVariants.{Lenient, Strict};
-ghost use Rattle.der_tool.specs.declared.tool.ToolFault.TheVariants.{Read as read_fault, Write as write_fault, Memory as memory_fault};
+ghost use Rattle.streams.specs.declared.StreamFault.TheVariants.{Write as write_fault};
 
 use crate::answers::{Reading, answers};
 use std::alloc::Global;
 use std::io::{Read, Write};
-
-/// Why a run did not answer its input.
-#[derive(Debug, Drop, PartialEq)]
-pub enum ToolFault {
-    /// A read failed, or the input had no end.
-    Read,
-    /// A write failed, or the flush after it.
-    Write,
-    /// Memory ran out.
-    Memory,
-}
+use streams::{StreamFault, read_all, write_all};
 
 /// Reads all of `r`, and writes the answer to each line to `w`.
 ///
@@ -29,7 +19,7 @@ pub enum ToolFault {
 ///
 /// # Errors
 /// `Read` and `Memory`, after which nothing was written; `Write`, after which nothing is known of what was.
-pub fn run<R: Read, W: Write>(alloc: Global, r: &mut R, w: &mut W) -> Result<(), ToolFault>
+pub fn run<R: Read, W: Write>(alloc: Global, r: &mut R, w: &mut W) -> Result<(), StreamFault>
     ensures answered { OnOk result (IfSome (R.remaining r.old) (λ input. (output : List ℕ)
         × AreAnswers Lenient input output × Appends (W.contents w.old) (W.contents w.new) output)) }
     ensures read { OnOk result (IsAtEnd (R.remaining r.new)) }
@@ -44,7 +34,7 @@ pub fn run<R: Read, W: Write>(alloc: Global, r: &mut R, w: &mut W) -> Result<(),
 ///
 /// # Errors
 /// Those of [`run`].
-pub fn run_strict<R: Read, W: Write>(alloc: Global, r: &mut R, w: &mut W) -> Result<(), ToolFault>
+pub fn run_strict<R: Read, W: Write>(alloc: Global, r: &mut R, w: &mut W) -> Result<(), StreamFault>
     ensures answered { OnOk result (IfSome (R.remaining r.old) (λ input. (output : List ℕ)
         × AreAnswers Strict input output × Appends (W.contents w.old) (W.contents w.new) output)) }
     ensures read { OnOk result (IsAtEnd (R.remaining r.new)) }
@@ -59,7 +49,7 @@ fn run_with<R: Read, W: Write>(
     reading: Reading,
     r: &mut R,
     w: &mut W,
-) -> Result<(), ToolFault>
+) -> Result<(), StreamFault>
     ensures answered { OnOk result (IfSome (R.remaining r.old) (λ input. (output : List ℕ)
         × AreAnswers reading input output × Appends (W.contents w.old) (W.contents w.new) output)) }
     ensures read { OnOk result (IsAtEnd (R.remaining r.new)) }
@@ -67,62 +57,7 @@ fn run_with<R: Read, W: Write>(
 {
     let input = read_all(alloc, r)?;
     let Ok(output) = answers(alloc, reading, &input) else {
-        return Err(ToolFault::Memory);
+        return Err(StreamFault::Memory);
     };
-    match w.write_all(&output) {
-        Ok(()) => {}
-        Err(_) => return Err(ToolFault::Write),
-    }
-    match w.flush() {
-        Ok(()) => Ok(()),
-        Err(_) => Err(ToolFault::Write),
-    }
-}
-
-// All that the reader has left.
-fn read_all<R: Read>(alloc: Global, r: &mut R) -> Result<Vec<u8>, ToolFault>
-    ensures bytes { IfOk result (λ input. IfSome (R.remaining r.old) (λ bytes. input.items ≡ bytes)) }
-    ensures read { OnOk result (IsAtEnd (R.remaining r.new)) }
-{
-    let mut input = Vec::new(alloc);
-    let mut buffer = [0u8; 8192];
-    for _ in 0..u64::MAX {
-        match r.read(&mut buffer) {
-            Ok(0) => return Ok(input),
-            Ok(n) => match input.extend_from_slice(&buffer[..n]) {
-                Ok(()) => {}
-                Err(_) => return Err(ToolFault::Memory),
-            },
-            Err(_) => return Err(ToolFault::Read),
-        }
-    }
-    Err(ToolFault::Read)
-}
-
-/// The exit status after a run: 0 where it answered its input, 1 after a fault of reading or writing, 2 where memory
-/// ran out.
-pub fn status(outcome: &Result<(), ToolFault>) -> u8
-    ensures answered { IsOk outcome.now → result ≡ 0 }
-    ensures stream { IfErr outcome.now (λ e. (e ≡ read_fault) ⊎ (e ≡ write_fault) → result ≡ 1) }
-    ensures memory { IfErr outcome.now (λ e. e ≡ memory_fault → result ≡ 2) }
-{
-    match outcome {
-        Ok(()) => 0,
-        Err(ToolFault::Read) => 1,
-        Err(ToolFault::Write) => 1,
-        Err(ToolFault::Memory) => 2,
-    }
-}
-
-/// What is said of a fault on standard error.
-pub fn fault_text(fault: &ToolFault) -> &'static str
-    ensures reading { fault.now ≡ read_fault → result.now ≡ codes "read fault" }
-    ensures writing { fault.now ≡ write_fault → result.now ≡ codes "write fault" }
-    ensures memory { fault.now ≡ memory_fault → result.now ≡ codes "out of memory" }
-{
-    match fault {
-        ToolFault::Read => "read fault",
-        ToolFault::Write => "write fault",
-        ToolFault::Memory => "out of memory",
-    }
+    write_all(w, &output)
 }

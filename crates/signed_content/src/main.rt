@@ -8,6 +8,8 @@
 #![tactic(auto)]
 
 mod run;
+#[cfg(test)]
+mod tests;
 
 use crate::run::{fault_text, run, status};
 use std::process::ExitCode;

@@ -1,5 +1,6 @@
 use Rattle.std.proofs.Common.{◌≡◌, length}
-use Rattle.der_dump.specs.Forms.{has_object, lines_of}
+use Rattle.streams.specs.Lines.{lines_of}
+use Rattle.der_dump.specs.Forms.{has_object}
 use Rattle.der_dump.proofs.forms.is_pem.Given as goal
 
 abbrev pub invariant-loop-rest : goal.invariant-loop-rest

@@ -1,7 +1,11 @@
-use Rattle.der_dump.proofs.Dumps.{note_added}
+use Rattle.std.proofs.Common.{◌≡◌, ◌++◌, ◌∷◌, [], ap, ◌∙◌}
+use Rattle.der_dump.specs.Steps.{mark_of}
+use Rattle.der_dump.proofs.Dumps.{note_put}
 use Rattle.der_dump.proofs.lines.push_note.Goals as goal
 
 pub returns : goal.returns
 returns c =
     let (said, is, one) = c.in_ok-push_plain.ensures in
-    note_added _ _ _ _ said _ c.in_ok-push.ensures.items is c.in_ok-push-2.ensures.items c.mark_octet.ensures one
+    let marked : c.push.new.self.items ≡ c.args.out.now.items ++ mark_of c.args.mark ∷ [] =
+    c.in_ok-push.ensures.items ∙ ap (λ z. c.args.out.now.items ++ z ∷ []) c.mark_octet.ensures in
+    note_put _ _ _ _ said _ marked is c.in_ok-push-2.ensures.items one

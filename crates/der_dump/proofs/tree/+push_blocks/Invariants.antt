@@ -9,7 +9,7 @@ abbrev pub decreases-push_blocks : goal.decreases-push_blocks
 decreases-push_blocks l = l.place.documents
 
 abbrev pub invariant-loop-walk : goal.invariant-loop-walk
-invariant-loop-walk l = Progress l.place.is_inside l.place.base (all_offsets (views l.blocks)) (ahead l.walk) l.fn.out.items l.out.items
+invariant-loop-walk l = Progress l.place.is_inside l.place.base l.octets (all_offsets (views l.blocks)) (ahead l.walk) l.fn.out.items l.out.items
 
 abbrev pub decreases-loop-walk : goal.decreases-loop-walk
 decreases-loop-walk l = length (ahead l.walk)

@@ -1,5 +1,6 @@
 use Rattle.std.proofs.Common.{◌++◌, ℕ, List, length}
-use Rattle.der_tool.specs.Answers.{AreLineAnswers, lines_of}
+use Rattle.streams.specs.Lines.{lines_of}
+use Rattle.der_tool.specs.Answers.{AreLineAnswers}
 use Rattle.der_tool.proofs.answers.answers.Given as goal
 
 -- what answers the rest of the lines, after the output so far, answers them all
