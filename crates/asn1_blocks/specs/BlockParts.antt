@@ -1,6 +1,7 @@
 -- What is taken out of a tree: its tag number, what it holds, its value, and its blocks in order.
-use Rattle.std.specs.Prelude.{ℕ, ℤ, List, [], ◌∷◌, ◌++◌, Option, Some, None}
+use Rattle.std.specs.Prelude.{ℕ, ℤ, Bool, List, [], ◌∷◌, ◌++◌, Option, Some, None}
 use Rattle.asn1_blocks.specs.Contents.{leaf_tag, group_tag}
+use Rattle.asn1_leaves.specs.Contents.Moment.{Moment}
 use Rattle.asn1_blocks.specs.Tree.{
   Leaf,
   Tree,
@@ -89,6 +90,43 @@ tree_octets (leaf o l) = leaf_octets l
 tree_octets (group o g bs) = None
 tree_octets (explicit c o n b) = None
 tree_octets (unknown c k o n v) = None
+
+abbrev pub leaf_boolean : Leaf → Option Bool
+leaf_boolean (boolean b) = Some b
+leaf_boolean _ = None
+
+-- the value of a BOOLEAN
+abbrev pub tree_boolean : {O : Type 0} → Tree O → Option Bool
+tree_boolean (leaf o l) = leaf_boolean l
+tree_boolean _ = None
+
+abbrev pub leaf_bits : Leaf → Option (ℕ × List ℕ)
+leaf_bits (bit_string n v) = Some (n, v)
+leaf_bits _ = None
+
+-- the number of bits of a BIT STRING, and the octets that hold them
+abbrev pub tree_bits : {O : Type 0} → Tree O → Option (ℕ × List ℕ)
+tree_bits (leaf o l) = leaf_bits l
+tree_bits _ = None
+
+abbrev pub leaf_oid : Leaf → Option (List ℕ)
+leaf_oid (object_identifier ns) = Some ns
+leaf_oid _ = None
+
+-- the components of an OBJECT IDENTIFIER
+abbrev pub tree_oid : {O : Type 0} → Tree O → Option (List ℕ)
+tree_oid (leaf o l) = leaf_oid l
+tree_oid _ = None
+
+abbrev pub leaf_moment : Leaf → Option Moment
+leaf_moment (utc_time m) = Some m
+leaf_moment (generalized_time m) = Some m
+leaf_moment _ = None
+
+-- the moment of a UTCTime or GeneralizedTime
+abbrev pub tree_moment : {O : Type 0} → Tree O → Option Moment
+tree_moment (leaf o l) = leaf_moment l
+tree_moment _ = None
 
 abbrev mutual
   -- the tree, and then those that it holds, each followed by its own

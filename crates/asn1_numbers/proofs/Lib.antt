@@ -4,3 +4,6 @@ pub mod DigitOrder
 pub mod FixedOctets
 pub mod SignedNumbers
 pub mod FittingNumbers
+pub mod Decimals
+pub mod Numerals
+pub mod SignedNumerals

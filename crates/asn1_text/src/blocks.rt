@@ -28,14 +28,14 @@ pub struct OpenList<'a> {
 /// Memory ran out.
 pub fn blocks_text(alloc: Global, blocks: &[ASN1Block]) -> Result<String, AllocError> {
     let mut text = String::new(alloc);
-    let mut open = Vec::new(alloc);
-    open.push(OpenList {
+    let mut lists = Vec::new(alloc);
+    lists.push(OpenList {
         left: blocks,
         separator: "",
         end: "",
     })?;
-    while let Some(list) = open.pop() {
-        write_next(alloc, &mut text, &mut open, list)?;
+    while let Some(list) = lists.pop() {
+        write_next(alloc, &mut text, &mut lists, list)?;
     }
     Ok(text)
 }
@@ -45,22 +45,22 @@ pub fn blocks_text(alloc: Global, blocks: &[ASN1Block]) -> Result<String, AllocE
 fn write_next<'a>(
     alloc: Global,
     text: &mut String,
-    open: &mut Vec<OpenList<'a>>,
+    lists: &mut Vec<OpenList<'a>>,
     list: OpenList<'a>,
 ) -> Result<(), AllocError>
-    ensures fewer { OnOk result (turns open.new.items < turns (open.old.items ++ list.entry ∷ [])) }
+    ensures fewer { OnOk result (turns lists.new.items < turns (lists.old.items ++ list.entry ∷ [])) }
 {
     let Some((block, left)) = list.left.split_first() else {
         return text.push_str(list.end);
     };
     text.push_str(list.separator)?;
     write_front(alloc, text, block)?;
-    open.push(OpenList {
+    lists.push(OpenList {
         left,
         separator: ", ",
         end: list.end,
     })?;
-    open.push(inside(block))?;
+    lists.push(inside(block))?;
     Ok(())
 }
 

@@ -226,8 +226,22 @@ pub fn round_trip<T: RoundTrip>(
     }
 }
 
-// The items of a SEQUENCE.
-pub(crate) fn sequence_items(b: &ASN1Block) -> Option<&[ASN1Block]>
+/// The items of a `Sequence`; `None` of any other block. For types of one's own that are a SEQUENCE:
+/// unlike [`ASN1Block::items`] it has none of a `Set` or an `Explicit`, and its contract says what the
+/// tree of the block is.
+///
+/// ```rust
+/// use simple_asn1::{ASN1Block, sequence_items};
+///
+/// // The two items of a pair: of `30 05 02 01 05 05 00` the INTEGER and the NULL.
+/// fn pair(block: &ASN1Block) -> Option<(&ASN1Block, &ASN1Block)> {
+///     match sequence_items(block)? {
+///         [first, second] => Some((first, second)),
+///         _ => None,
+///     }
+/// }
+/// ```
+pub fn sequence_items(b: &ASN1Block) -> Option<&[ASN1Block]>
     ensures items { MatchOption result
         ((o : ℕ) (bs : Trees ℕ) → view b.now ≢ group o Sequence bs)
         (λ items. view b.now ≡ group (tree_offset (view b.now)) Sequence (views items.now)) }

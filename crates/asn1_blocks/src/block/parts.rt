@@ -3,17 +3,24 @@ ghost use Rattle.std.specs.Prelude.{◌≡◌, ◌<◌, ◌^◌, IfOk, MatchOpti
 ghost use Rattle.std.specs.Str.{chars};
 ghost use Rattle.asn1_blocks.specs.BlockParts.{
   all_in_order,
+  tree_bits,
+  tree_boolean,
   tree_integer,
   tree_items,
+  tree_moment,
   tree_octets,
+  tree_oid,
   tree_tag,
   tree_text,
 };
 ghost use Rattle.asn1_blocks.specs.View.{view, views};
+ghost use Rattle.asn1_leaves.specs.Contents.Moment.{moment_of};
 
 use crate::block::ASN1Block;
 use crate::walk::in_tree_order;
+use asn1_leaves::oid::OID;
 use asn1_numbers::number::big_int::BigInt;
+use jiff::civil::DateTime;
 use std::alloc::{AllocError, Global};
 use std::slice;
 
@@ -141,6 +148,94 @@ impl ASN1Block {
     {
         match self {
             ASN1Block::OctetString(_, octets) => Some(octets),
+            _ => None,
+        }
+    }
+
+    /// The value of a `Boolean`; `None` of any other block.
+    ///
+    /// ```rust
+    /// use simple_asn1::ASN1Block;
+    ///
+    /// // Whether the block says true: of `01 01 FF` it does.
+    /// fn is_true(block: &ASN1Block) -> bool {
+    ///     block.boolean() == Some(true)
+    /// }
+    /// ```
+    pub fn boolean(&self) -> Option<bool>
+        ensures { result ≡ tree_boolean (view self.now) }
+    {
+        match self {
+            ASN1Block::Boolean(_, value) => Some(*value),
+            _ => None,
+        }
+    }
+
+    /// The number of bits of a `BitString`, and the octets that hold them, the first bit the most
+    /// significant of the first octet; `None` of any other block. The other bits of these octets
+    /// are unused.
+    ///
+    /// ```rust
+    /// use simple_asn1::ASN1Block;
+    ///
+    /// // The octets of a key or a signature, whose bits fill them: of `03 03 00 04 1F` these are `04 1F`.
+    /// fn whole_octets(block: &ASN1Block) -> Option<&[u8]> {
+    ///     let (bits, octets) = block.bits()?;
+    ///     if bits % 8 == 0 { Some(octets) } else { None }
+    /// }
+    /// ```
+    pub fn bits(&self) -> Option<(usize, &[u8])>
+        ensures { MatchOption result
+            (tree_bits (view self.now) ≡ None)
+            (λ bits. tree_bits (view self.now) ≡ Some (bits.0, bits.1.now)) }
+    {
+        match self {
+            ASN1Block::BitString(_, bits, octets) => Some((*bits, octets)),
+            _ => None,
+        }
+    }
+
+    /// The object identifier of an `ObjectIdentifier`; `None` of any other block.
+    ///
+    /// ```rust
+    /// use simple_asn1::{ASN1Block, OID, oid};
+    /// use std::alloc::{AllocError, Global};
+    ///
+    /// // Whether the block is 2.5.4.3, commonName of X.520: `06 03 55 04 03` is.
+    /// fn is_common_name(alloc: Global, block: &ASN1Block) -> Result<bool, AllocError> {
+    ///     let common_name = oid!(alloc; 2, 5, 4, 3)?;
+    ///     Ok(block.oid() == Some(&common_name))
+    /// }
+    /// ```
+    pub fn oid(&self) -> Option<&OID>
+        ensures { MatchOption result
+            (tree_oid (view self.now) ≡ None)
+            (λ oid. tree_oid (view self.now) ≡ Some oid.now) }
+    {
+        match self {
+            ASN1Block::ObjectIdentifier(_, oid) => Some(oid),
+            _ => None,
+        }
+    }
+
+    /// The moment of a `UTCTime` or a `GeneralizedTime`; `None` of any other block. It is one of
+    /// UTC.
+    ///
+    /// ```rust
+    /// use simple_asn1::ASN1Block;
+    ///
+    /// // The year: of `17 0D 39 32 30 35 32 31 30 30 30 30 30 30 5A`, 920521000000Z, 1992.
+    /// fn year(block: &ASN1Block) -> Option<i16> {
+    ///     Some(block.moment()?.year())
+    /// }
+    /// ```
+    pub fn moment(&self) -> Option<&DateTime>
+        ensures { MatchOption result
+            (tree_moment (view self.now) ≡ None)
+            (λ moment. tree_moment (view self.now) ≡ Some (moment_of moment.now)) }
+    {
+        match self {
+            ASN1Block::UTCTime(_, moment) | ASN1Block::GeneralizedTime(_, moment) => Some(moment),
             _ => None,
         }
     }
