@@ -5,3 +5,4 @@ pub mod FittingNumbers
 pub mod Sinks
 pub mod Comparisons
 pub mod TwosComplement
+pub mod Inner
