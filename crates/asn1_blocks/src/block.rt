@@ -76,6 +76,8 @@ pub enum ASN1Block {
     Unknown(ASN1Class, bool, usize, BigUint, Vec<u8>),
 }
 
+const _: () = prove!(size_of::<ASN1Block>() == 56);
+
 impl ASN1Block {
     /// The class: the field of an `Explicit` or `Unknown` block, and `Universal` for all others.
     ///
@@ -135,10 +137,11 @@ impl ASN1Block {
     /// The same block, offsets too. The only error is that memory ran out.
     ///
     /// Memory is taken for each box of the tree, each vector and text that is not empty, each
-    /// integer of more than 16 octets, and each tag number from 2^64 on: one allocation each. While
-    /// it is made, a list of references to all blocks is kept, 8 octets for each, and the copies
-    /// that wait for the block that holds them. The stack that is taken does not grow with the
-    /// nesting, also where memory runs out and what was copied is dropped.
+    /// integer and object identifier of more than 24 contents octets, and each tag number from 2^64
+    /// on: one allocation each. While it is made, a list of references to all blocks is kept, 8
+    /// octets for each, and the copies that wait for the block that holds them. The stack that is
+    /// taken does not grow with the nesting, also where memory runs out and what was copied is
+    /// dropped.
     ///
     /// ```rust
     /// use simple_asn1::ASN1Block;

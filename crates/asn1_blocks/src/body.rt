@@ -18,9 +18,8 @@ use crate::parsed::Header;
 use asn1_headers::error::{ASN1DecodeErr, ASN1EncodeErr};
 use asn1_headers::header::ASN1Class;
 use asn1_leaves::body::text::TextForm;
-use asn1_leaves::body::{
-    bit_string, boolean, generalized_time, integer, object_identifier, text, utc_time,
-};
+use asn1_leaves::body::{bit_string, boolean, generalized_time, integer, text, utc_time};
+use asn1_leaves::oid;
 use asn1_numbers::number::big_uint::BigUint;
 use asn1_numbers::octets::copy_of;
 use asn1_numbers::sink::Sink;
@@ -69,7 +68,7 @@ fn universal_leaf(
         }
         Some(4) => ASN1Block::OctetString(offset, copy_of(alloc, contents)?),
         Some(5) => ASN1Block::Null(offset),
-        Some(6) => ASN1Block::ObjectIdentifier(offset, object_identifier::read(alloc, contents)?),
+        Some(6) => ASN1Block::ObjectIdentifier(offset, oid::read(alloc, contents)?),
         Some(12) => ASN1Block::UTF8String(offset, text::read(alloc, TextForm::Utf8, contents)?),
         Some(19) => {
             ASN1Block::PrintableString(offset, text::read(alloc, TextForm::Printable, contents)?)
@@ -119,7 +118,7 @@ pub fn is_faithful_leaf(b: &ASN1Block) -> bool
         | ASN1Block::BMPString(_, s) => text::is_faithful(TextForm::Utf8, s),
         ASN1Block::PrintableString(_, s) => text::is_faithful(TextForm::Printable, s),
         ASN1Block::IA5String(_, s) => text::is_faithful(TextForm::Octets, s),
-        ASN1Block::ObjectIdentifier(_, oid) => object_identifier::is_faithful(oid),
+        ASN1Block::ObjectIdentifier(_, identifier) => oid::is_faithful(identifier),
         ASN1Block::UTCTime(_, d) => utc_time::is_faithful(d),
         ASN1Block::GeneralizedTime(_, d) => generalized_time::is_faithful(d),
         ASN1Block::Boolean(_, _)

@@ -87,6 +87,7 @@ fn last_octet_at(octets: &[u8]) -> Option<usize>
 }
 
 // The base-128 number at the front, and how many octets it has.
+#[inline(always)]
 fn base128_at(alloc: Global, octets: &[u8]) -> Result<(BigUint, usize), ASN1DecodeErr>
     ensures found { IfOk result (λ x. (x.1 ≤ length octets.now) × IsBase128 (take x.1 octets.now) x.0) }
     ensures refused { IfErr result (OutOfMemoryOr (IsIncomplete IsBase128 octets.now)) }

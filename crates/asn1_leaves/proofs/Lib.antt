@@ -3,3 +3,5 @@ pub mod Characters
 pub mod Subidentifiers
 pub mod ShortSubidentifiers
 pub mod SliceSplit
+pub mod IdentifierForms
+pub mod PushedNumbers

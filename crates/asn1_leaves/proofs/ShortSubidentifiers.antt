@@ -1,16 +1,20 @@
 -- Subidentifiers none of which begins with 80 (hexadecimal) have their shortest forms.
-use Rattle.std.proofs.Common.{◌≡◌, ◌≢◌, ℕ, ◌<◌, Bool, true, List, [], ◌∷◌, ◌++◌, length, refl, sym, ap, ◌∙◌, subst, arith, nat_lt, IsTrue, ◌+◌, ◌*◌}
+use Rattle.std.proofs.Common.{◌≡◌, ◌≢◌, ℕ, ◌<◌, Bool, true, List, [], ◌∷◌, ◌++◌, length, refl, sym, ap, ◌∙◌, subst, arith, nat_lt, IsTrue, ◌+◌, ◌*◌, ◌≤◌, ◌⊎◌, inl, inr}
 use Rattle.std.specs.List.{flat_map}
+use Rattle.std.proofs.lemmas.Bool.{cases_lt}
 use Rattle.std.proofs.lemmas.List.{drop_at, take_at}
 use Rattle.std.proofs.lemmas.List.Elements.{All-drop, All-take}
 use Rattle.asn1_numbers.specs.Octets.{AreOctets}
-use Rattle.asn1_numbers.specs.Base128.{IsContinued, shortest_base128}
+use Rattle.asn1_numbers.specs.Base128.{IsContinued, low_bits_number, shortest_base128}
 use Rattle.asn1_leaves.specs.Contents.ObjectIdentifier.{ObjectIdentifierContents, Subidentifiers, object_identifier_contents}
 use Rattle.asn1_headers.proofs.Shortest.{shortest_base128_not_leading}
+use Rattle.asn1_leaves.proofs.Leaves.ObjectIdentifier.{first_two}
+use Rattle.asn1_leaves.proofs.Subidentifiers.{continued_more}
 
--- no subidentifier begins with 80, where the first octet begins one, or goes on with one
+-- no subidentifier begins with 80, where the first octet begins one, or goes on with one; and the
+-- last one ends
 abbrev pub NoneLeads : Bool → List ℕ → Type 0
-NoneLeads begins [] = Unit {0}
+NoneLeads begins [] = IsTrue begins
 NoneLeads begins (b ∷ octets) = (IsTrue begins → b ≢ 128) × NoneLeads (nat_lt b 128) octets
 
 -- so it is after the first
@@ -55,6 +59,28 @@ short_object_identifier (x ∷ y ∷ ns) b octets all h (c, rest, e, f, s) =
     cc
 
 -- without octets none does
-pub none_left : (octets : List ℕ) (begins : Bool) → length octets ≡ 0 → NoneLeads begins octets
-none_left [] begins n = tt
-none_left (b ∷ octets) begins n = absurd (omega (arith, n))
+pub none_left : (octets : List ℕ) (begins : Bool) → length octets ≡ 0 → IsTrue begins → NoneLeads begins octets
+none_left [] begins n ended = ended
+none_left (b ∷ octets) begins n ended = absurd (omega (arith, n))
+
+-- and then they are subidentifiers
+pub numbers_stand : (octets : List ℕ) (begins : Bool) → NoneLeads begins octets → (ns : List ℕ) × Subidentifiers ns octets
+numbers_stand [] begins h = ([], refl)
+numbers_stand (b ∷ octets) begins h = by_rest (numbers_stand octets (nat_lt b 128) h.1) (cases_lt b 128)
+  where
+    by_rest : ((ns : List ℕ) × Subidentifiers ns octets) → (b < 128) ⊎ (128 ≤ b) → (ns : List ℕ) × Subidentifiers ns (b ∷ octets)
+    by_rest (ns, s) (inl low) = (low_bits_number (b ∷ []) ∷ ns, (b ∷ [], octets, refl, record { continued = low; value = refl }, s))
+    by_rest ([], s) (inr high) =
+        let ends : IsTrue (nat_lt b 128) = subst (NoneLeads (nat_lt b 128)) s h.1 in
+        absurd (grind (arith, ends, high))
+    by_rest (n ∷ ns, s) (inr high) = (
+      low_bits_number (b ∷ s.0) ∷ ns,
+      (b ∷ s.0, s.1, ap (λ z. b ∷ z) s.2, record { continued = continued_more b s.0 high s.3.continued; value = refl }, s.4),
+    )
+
+-- with one octet before them they mean components
+pub components_stand : (b : ℕ) (octets : List ℕ) → NoneLeads true octets → (ns : List ℕ) × ObjectIdentifierContents ns (b ∷ octets)
+components_stand b octets h =
+    let f = first_two b in
+    let s = numbers_stand octets true h in
+    (f.0 ∷ f.1 ∷ s.0, (b, octets, refl, f.2, s.1))

@@ -53,7 +53,7 @@ subidentifiers_alone (m ∷ ms) (n ∷ ns) octets s t =
     cc
 
 -- an octet whose bit 8 is set, before others that begin with a number, is a part of it
-continued_more : (b : ℕ) (first : List ℕ) → 128 ≤ b → IsContinued first → IsContinued (b ∷ first)
+pub continued_more : (b : ℕ) (first : List ℕ) → 128 ≤ b → IsContinued first → IsContinued (b ∷ first)
 continued_more b [] high p = absurd p
 continued_more b (c ∷ first) high p = (high, p)
 

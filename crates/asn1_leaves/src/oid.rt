@@ -1,8 +1,20 @@
 // Object identifiers.
-ghost use Rattle.std.specs.Prelude.{◌≡◌, ◌⊎◌, ℕ, List, None, Some, IfOk, IfErr, OnOk};
+ghost use Rattle.std.specs.Prelude.{◌≡◌, ◌↔◌, ◌⊎◌, ◌≤◌, ◌++◌, ◌∷◌, [], ℕ, List, None, Some, length};
+ghost use Rattle.std.specs.Prelude.{IfOk, IfErr, IfSome, IfNone, IsTrue, OnOk};
+ghost use Rattle.asn1_headers.specs.Fault.{OutOfMemoryOr};
 ghost use Rattle.asn1_leaves.specs.Contents.ObjectIdentifier.{
+  IsFaithfulObjectIdentifier,
+  ObjectIdentifierContents,
+  ObjectIdentifierFault,
+  Subidentifiers,
   object_identifier_contents,
   object_identifier_write_fault,
+};
+ghost use Rattle.asn1_leaves.specs.Inner.IdentifierForms.{
+  HaveShortContents,
+  IsShortForm,
+  components_of,
+  numbers_after,
 };
 ghost use Rattle.asn1_numbers.specs.FittingNumbers.{AreNumbers, HasNotAll};
 ghost use Rattle.asn1_headers.specs.declared.error.ASN1DecodeErr.TheVariants.{Overflow, OutOfMemory};
@@ -11,9 +23,13 @@ ghost use Rattle.asn1_headers.specs.declared.error.ASN1EncodeErr.TheVariants.{
 };
 
 use crate::body::object_identifier;
+use crate::body::object_identifier::{component_count, first_two};
+use arrayvec::ArrayVec;
 use asn1_headers::error::{ASN1DecodeErr, ASN1EncodeErr};
+use asn1_headers::header::decode_base127;
 use asn1_numbers::number::big_uint::BigUint;
 use asn1_numbers::number::from_big_uint::FromBigUint;
+use asn1_numbers::sink::Sink;
 use std::alloc::{AllocError, Global};
 use std::marker::Model;
 
@@ -22,15 +38,165 @@ use std::marker::Model;
 /// Any list of numbers makes one. Which of them have contents octets, [`OID::as_raw`] says.
 #[derive(Debug, Drop)]
 pub struct OID {
-    components: Vec<BigUint>,
+    kept: Kept,
 }
+
+// Nearly all have at most 24 contents octets, and these are kept in place, in their shortest form. The
+// others are kept as their components: those that have more contents octets, and those that have none.
+#[derive(Debug, Drop)]
+enum Kept {
+    Octets(ArrayVec<u8, 24>),
+    Components(Vec<BigUint>),
+}
+
+const _: () = prove!(size_of::<OID>() == 40);
 
 impl Model for OID {
     ghost use Rattle.std.specs.Prelude.{List, ℕ};
+    ghost use Rattle.asn1_leaves.specs.Inner.IdentifierForms.{kept_components, IsKeptOnce};
 
     ghost Value = { List ℕ };
 
-    ghost view = { λ oid. oid.components.items };
+    ghost view = { λ oid. kept_components oid.kept };
+
+    ghost invariant = { λ oid. IsKeptOnce oid.kept };
+}
+
+// The contents octets, where there are at most 24.
+fn short_contents(components: &[BigUint]) -> Option<ArrayVec<u8, 24>>
+    ensures short { IfSome result (λ octets. HaveShortContents components.now
+        × (octets.items ≡ object_identifier_contents components.now)) }
+    ensures others { IfNone result (HaveShortContents components.now → ⊥) }
+{
+    let size = object_identifier::size(components).ok()?;
+    if size > 24 {
+        return None;
+    }
+    let mut octets = ArrayVec::new();
+    object_identifier::put(components, &mut octets);
+    Some(octets)
+}
+
+// The same numbers.
+fn copy_of(alloc: Global, numbers: &[BigUint]) -> Result<Vec<BigUint>, AllocError>
+    ensures { IfOk result (λ copy. copy.items ≡ numbers.now) }
+{
+    let mut copy = Vec::with_capacity(alloc, numbers.len())?;
+    for number in numbers {
+        copy.push(number.clone(alloc)?)?;
+    }
+    Ok(copy)
+}
+
+// Puts the number as a value of the type at the end.
+fn push_number<T: FromBigUint>(number: &BigUint, numbers: &mut Vec<T>) -> Result<(), ASN1DecodeErr>
+    ensures pushed { OnOk result ((ns : List ℕ) → AreNumbers T.has T.is_number numbers.old.items ns
+        → AreNumbers T.has T.is_number numbers.new.items (ns ++ number.now ∷ [])) }
+    ensures refused { IfErr result (λ e. (e ≡ OutOfMemory) ⊎ ((e ≡ Overflow) × (T.has number.now → ⊥))) }
+{
+    match T::from_big(number) {
+        Some(x) => numbers.push(x)?,
+        None => return Err(ASN1DecodeErr::Overflow),
+    }
+    Ok(())
+}
+
+// The numbers as values of the type.
+fn numbers_of<T: FromBigUint>(
+    alloc: Global,
+    components: &[BigUint],
+) -> Result<Vec<T>, ASN1DecodeErr>
+    ensures all { IfOk result (λ v. AreNumbers T.has T.is_number v.items components.now) }
+    ensures refused { IfErr result (λ e. (e ≡ OutOfMemory)
+        ⊎ ((e ≡ Overflow) × HasNotAll T.has components.now)) }
+{
+    let mut numbers = Vec::with_capacity(alloc, components.len())?;
+    for component in components {
+        push_number(component, &mut numbers)?;
+    }
+    Ok(numbers)
+}
+
+// Puts the numbers of the subidentifiers as values of the type at the end.
+fn push_numbers<T: FromBigUint>(
+    alloc: Global,
+    octets: &[u8],
+    numbers: &mut Vec<T>,
+) -> Result<(), ASN1DecodeErr>
+    requires { (ns : List ℕ) × Subidentifiers ns octets.now }
+    ensures pushed { OnOk result ((ns : List ℕ) → AreNumbers T.has T.is_number numbers.old.items ns
+        → AreNumbers T.has T.is_number numbers.new.items (ns ++ numbers_after 0 octets.now)) }
+    ensures refused { IfErr result (λ e. (e ≡ OutOfMemory)
+        ⊎ ((e ≡ Overflow) × HasNotAll T.has (numbers_after 0 octets.now))) }
+{
+    let mut index: usize = 0;
+    while index < octets.len() {
+        let number = decode_base127(alloc, octets, &mut index)?;
+        push_number(&number, numbers)?;
+    }
+    Ok(())
+}
+
+// The components of short contents octets as values of the type.
+fn numbers_of_short<T: FromBigUint>(alloc: Global, contents: &[u8]) -> Result<Vec<T>, ASN1DecodeErr>
+    requires { IsShortForm contents.now }
+    ensures all { IfOk result (λ v. AreNumbers T.has T.is_number v.items (components_of contents.now)) }
+    ensures refused { IfErr result (λ e. (e ≡ OutOfMemory)
+        ⊎ ((e ≡ Overflow) × HasNotAll T.has (components_of contents.now))) }
+{
+    let Some((octet, rest)) = contents.split_first() else {
+        unreachable!();
+    };
+    let mut numbers = Vec::with_capacity(alloc, component_count(rest))?;
+    let (first, second) = first_two(*octet);
+    push_number(&BigUint::from_u64(alloc, first as u64)?, &mut numbers)?;
+    push_number(&BigUint::from_u64(alloc, second as u64)?, &mut numbers)?;
+    push_numbers(alloc, rest, &mut numbers)?;
+    Ok(numbers)
+}
+
+// The components of contents octets.
+pub fn read(alloc: Global, contents: &[u8]) -> Result<OID, ASN1DecodeErr>
+    ensures found { IfOk result (λ oid. ObjectIdentifierContents oid contents.now) }
+    ensures refused { IfErr result (OutOfMemoryOr (ObjectIdentifierFault contents.now)) }
+{
+    if contents.len() <= 24 && object_identifier::are_shortest(contents) {
+        return Ok(OID::from_short(contents));
+    }
+    Ok(OID::new(object_identifier::read(alloc, contents)?))
+}
+
+// The number of contents octets that are written.
+pub fn size(oid: &OID) -> Result<usize, ASN1EncodeErr>
+    ensures size { IfOk result (λ n. n ≡ length (object_identifier_contents oid.now)) }
+    ensures writable { OnOk result (object_identifier_write_fault oid.now ≡ None) }
+    ensures refused { IfErr result (λ e. (e ≡ no_memory) ⊎ (object_identifier_write_fault oid.now ≡ Some e)) }
+{
+    match &oid.kept {
+        Kept::Octets(octets) => Ok(octets.len()),
+        Kept::Components(components) => object_identifier::size(components.as_slice()),
+    }
+}
+
+pub fn put<S: Sink>(oid: &OID, out: &mut S)
+    requires room { length (object_identifier_contents oid.now) ≤ S.room out.old }
+    requires writable { object_identifier_write_fault oid.now ≡ None }
+    ensures { S.puts out.old (object_identifier_contents oid.now) out.new }
+{
+    match &oid.kept {
+        Kept::Octets(octets) => out.put(octets.as_slice()),
+        Kept::Components(components) => object_identifier::put(components.as_slice(), out),
+    }
+}
+
+// Whether the components are read back as they are, once they are written.
+pub fn is_faithful(oid: &OID) -> bool
+    ensures { IsTrue result ↔ IsFaithfulObjectIdentifier oid.now }
+{
+    match &oid.kept {
+        Kept::Octets(_) => true,
+        Kept::Components(components) => object_identifier::is_faithful(components.as_slice()),
+    }
 }
 
 impl OID {
@@ -47,11 +213,33 @@ impl OID {
     pub fn new(x: Vec<BigUint>) -> OID
         ensures { result ≡ x.items }
     {
-        OID { components: x }
+        if let Some(octets) = short_contents(x.as_slice()) {
+            return OID {
+                kept: Kept::Octets(octets),
+            };
+        }
+        OID {
+            kept: Kept::Components(x),
+        }
     }
 
-    /// The object identifier of these components, in one allocation. The only error is that memory
-    /// ran out.
+    // The object identifier of at most 24 contents octets, in their shortest form.
+    fn from_short(contents: &[u8]) -> OID
+        requires short { length contents.now ≤ 24 }
+        requires meant { (components : List ℕ) × ObjectIdentifierContents components contents.now }
+        requires shortest { (components : List ℕ) → ObjectIdentifierContents components contents.now
+            → contents.now ≡ object_identifier_contents components }
+        ensures { ObjectIdentifierContents result contents.now }
+    {
+        let mut octets = ArrayVec::new();
+        octets.try_extend_from_slice(contents).unwrap();
+        OID {
+            kept: Kept::Octets(octets),
+        }
+    }
+
+    /// The object identifier of these components, in one allocation, which is given back where there
+    /// are at most 24 contents octets. The only error is that memory ran out.
     ///
     /// `simple_asn1::oid!` is the same with the components written one by one.
     ///
@@ -72,13 +260,6 @@ impl OID {
             numbers.push(BigUint::from_u64(alloc, *component)?)?;
         }
         Ok(OID::new(numbers))
-    }
-
-    // The components.
-    pub fn components(&self) -> &[BigUint]
-        ensures { result.now ≡ self.now }
-    {
-        self.components.as_slice()
     }
 
     /// The contents octets (X.690 8.19), in one allocation of their size: the first two components
@@ -106,9 +287,9 @@ impl OID {
         ensures refused { IfErr result (λ e. (e ≡ no_memory)
             ⊎ (object_identifier_write_fault self.now ≡ Some e)) }
     {
-        let size = object_identifier::size(self)?;
+        let size = size(self)?;
         let mut octets = Vec::with_capacity(alloc, size)?;
-        object_identifier::put(self, &mut octets);
+        put(self, &mut octets);
         Ok(octets)
     }
 
@@ -132,18 +313,14 @@ impl OID {
         ensures refused { IfErr result (λ e. (e ≡ OutOfMemory)
             ⊎ ((e ≡ Overflow) × HasNotAll T.has self.now)) }
     {
-        let mut numbers = Vec::with_capacity(alloc, self.components.len())?;
-        for component in &self.components {
-            match T::from_big(component) {
-                Some(x) => numbers.push(x)?,
-                None => return Err(ASN1DecodeErr::Overflow),
-            }
+        match &self.kept {
+            Kept::Octets(octets) => numbers_of_short(alloc, octets.as_slice()),
+            Kept::Components(components) => numbers_of(alloc, components.as_slice()),
         }
-        Ok(numbers)
     }
 
-    /// The same object identifier, in one allocation where all components are below 2^64. The only
-    /// error is that memory ran out.
+    /// The same object identifier: of at most 24 contents octets without memory, and else in one
+    /// allocation where all components are below 2^64. The only error is that memory ran out.
     ///
     /// ```rust
     /// use simple_asn1::{ASN1Block, OID};
@@ -157,11 +334,14 @@ impl OID {
     pub fn clone(&self, alloc: Global) -> Result<OID, AllocError>
         ensures { IfOk result (λ oid. oid ≡ self.now) }
     {
-        let mut components = Vec::with_capacity(alloc, self.components.len())?;
-        for component in &self.components {
-            components.push(component.clone(alloc)?)?;
-        }
-        Ok(OID::new(components))
+        let kept = match &self.kept {
+            Kept::Octets(octets) => Kept::Octets(octets.clone()?),
+            Kept::Components(components) => Kept::Components(copy_of(
+                alloc,
+                components.as_slice(),
+            )?),
+        };
+        Ok(OID { kept })
     }
 }
 
@@ -175,7 +355,11 @@ impl PartialEq for OID {
     ghost laws = { partial_equiv_from_equiv nat_list_eq_equiv };
 
     fn eq(&self, other: &Self) -> bool {
-        self.components == other.components
+        match (&self.kept, &other.kept) {
+            (Kept::Octets(a), Kept::Octets(b)) => a.as_slice() == b.as_slice(),
+            (Kept::Components(a), Kept::Components(b)) => a == b,
+            _ => false,
+        }
     }
 }
 

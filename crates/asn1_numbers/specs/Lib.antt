@@ -6,3 +6,4 @@ pub mod Sinks
 pub mod Comparisons
 pub mod TwosComplement
 pub mod Decimal
+pub mod Inner

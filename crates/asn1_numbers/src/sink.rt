@@ -3,6 +3,7 @@
 ghost use Rattle.std.specs.Prelude.{◌≡◌, ◌↔◌, ℕ, ◌+◌, ◌++◌, ◌∷◌, ◌≤◌, [], List, length, IsTrue};
 
 use crate::octets::append;
+use arrayvec::ArrayVec;
 
 pub trait Sink {
     // How many octets there is room for.
@@ -53,6 +54,36 @@ impl Sink for Vec<u8> {
 
     fn put_one(&mut self, octet: u8) {
         self.push_reserved(octet);
+    }
+}
+
+// At its end, in the room that it has.
+impl<const N: usize> Sink for ArrayVec<u8, N> {
+    ghost use Rattle.asn1_numbers.specs.Inner.ArraySinks.{
+      array_puts,
+      array_room,
+      array_puts_none,
+      array_puts_more,
+      array_room_after,
+    };
+
+    ghost room = { array_room N };
+
+    ghost puts = { array_puts };
+
+    ghost none = { array_puts_none };
+
+    ghost more = { array_puts_more };
+
+    ghost room_after = { array_room_after N };
+
+    fn put(&mut self, octets: &[u8]) {
+        let _within_capacity = self.len();
+        self.try_extend_from_slice(octets).unwrap();
+    }
+
+    fn put_one(&mut self, octet: u8) {
+        self.push(octet);
     }
 }
 

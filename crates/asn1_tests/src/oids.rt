@@ -1,7 +1,7 @@
 // Object identifiers.
 use crate::helpers::octets;
 use asn1_text::octets_text;
-use simple_asn1::{ASN1DecodeErr, ASN1EncodeErr, BigUint, OID, oid};
+use simple_asn1::{ASN1Block, ASN1DecodeErr, ASN1EncodeErr, BigUint, OID, from_der, oid};
 use std::alloc::Global;
 use std::process::Abort;
 use std::test::Fail;
@@ -175,4 +175,41 @@ fn equal_identifiers_have_equal_components(rt: HostRuntime) -> Result<(), Fail> 
     assert!(&rt; oid!(alloc; 2, 25)? != oid!(alloc; 2, 26)?);
     assert!(&rt; oid!(alloc; 1, 2)? == oid!(alloc; 1, 2)?);
     Ok(())
+}
+
+// Whether the block of these octets is equal to that of the object identifier, both ways.
+fn check_equal(rt: &impl Abort, alloc: Global, input: &str, oid: OID) -> Result<(), Fail> {
+    let read = from_der(alloc, &octets(alloc, input)?)?;
+    let made = ASN1Block::ObjectIdentifier(0, oid);
+    assert!(rt; read[0] == made && made == read[0], "{input}");
+    Ok(())
+}
+
+#[test]
+fn identifiers_read_are_equal_to_those_made(rt: HostRuntime) -> Result<(), Fail> {
+    let alloc = rt.alloc();
+    check_equal(&rt, alloc, "06 03 2A 86 48", oid!(alloc; 1, 2, 840)?)?;
+    check_equal(
+        &rt,
+        alloc,
+        "06 05 2A 80 86 80 48",
+        oid!(alloc; 1, 2, 98376)?,
+    )?;
+    check_equal(&rt, alloc, "06 03 2A 80 01", oid!(alloc; 1, 2, 1)?)?;
+    let of_24 = "06 18 2A 01 02 03 04 05 06 07 08 09 0A 0B 0C 0D 0E 0F 10 11 12 13 14 15 16 17";
+    check_equal(&rt, alloc, of_24, counted(alloc, 23)?)?;
+    let of_25 = "06 19 2A 01 02 03 04 05 06 07 08 09 0A 0B 0C 0D 0E 0F 10 11 12 13 14 15 16 17 18";
+    check_equal(&rt, alloc, of_25, counted(alloc, 24)?)?;
+    Ok(())
+}
+
+// 1.2, and the numbers from 1 to the last.
+fn counted(alloc: Global, last: u64) -> Result<OID, Fail> {
+    let mut components = Vec::new(alloc);
+    components.push(1)?;
+    components.push(2)?;
+    for n in 1..=last {
+        components.push(n)?;
+    }
+    Ok(OID::from_u64s(alloc, components.as_slice())?)
 }

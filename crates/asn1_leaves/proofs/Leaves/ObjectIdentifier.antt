@@ -41,7 +41,7 @@ pub object_identifier_no_fault : (ns contents : List ℕ) (e : DecodeFault) → 
 object_identifier_no_fault ns contents e p f = f.1 ns p
 
 -- the first two components of any number
-first_two : (b : ℕ) → (x : ℕ) × (y : ℕ) × AreFirstTwo x y b
+pub first_two : (b : ℕ) → (x : ℕ) × (y : ℕ) × AreFirstTwo x y b
 first_two b = elim (cases_lt b 40) [
   | inl low ↦ (0, b, (omega arith, omega arith, inl low))
   | inr above ↦ elim (cases_lt b 80) [

@@ -1,6 +1,6 @@
 // Contents octets of an OBJECT IDENTIFIER (X.690 8.19).
-ghost use Rattle.std.specs.Prelude.{◌≡◌, ◌↔◌, ◌⊎◌, ◌++◌, ◌∷◌, ◌+◌, ◌≤◌, ℕ, List, drop, length};
-ghost use Rattle.std.specs.Prelude.{None, Some, IfOk, IfErr, IfSome, IsTrue, OnOk};
+ghost use Rattle.std.specs.Prelude.{◌≡◌, ◌↔◌, ◌⊎◌, ◌++◌, ◌∷◌, ◌+◌, ◌<◌, ◌≤◌, ◌^◌, ℕ, List, drop, length};
+ghost use Rattle.std.specs.Prelude.{None, Some, IfOk, IfErr, IsTrue, OnOk, SomeIff};
 ghost use Rattle.std.specs.List.{flat_map};
 ghost use Rattle.asn1_numbers.specs.Base128.{shortest_base128};
 ghost use Rattle.asn1_leaves.specs.Contents.ObjectIdentifier.{
@@ -15,7 +15,6 @@ ghost use Rattle.asn1_leaves.specs.Contents.ObjectIdentifier.{
 ghost use Rattle.asn1_headers.specs.Fault.{OutOfMemoryOr, incomplete};
 ghost use Rattle.asn1_headers.specs.declared.error.ASN1EncodeErr.TheVariants.{OutOfMemory};
 
-use crate::oid::OID;
 use asn1_headers::error::{ASN1DecodeErr, ASN1EncodeErr};
 use asn1_headers::header::decode_base127;
 use asn1_numbers::number::big_uint::BigUint;
@@ -23,7 +22,7 @@ use asn1_numbers::sink::Sink;
 use std::alloc::Global;
 
 // The first two components, of the first octet.
-fn first_two(octet: u8) -> (u8, u8)
+pub fn first_two(octet: u8) -> (u8, u8)
     ensures { AreFirstTwo result.0 result.1 octet }
 {
     if octet < 40 {
@@ -33,6 +32,13 @@ fn first_two(octet: u8) -> (u8, u8)
     } else {
         (2, octet - 80)
     }
+}
+
+// How many components there are, where these octets come after the first. Each subidentifier ends in an
+// octet whose bit 8 is clear.
+pub fn component_count(rest: &[u8]) -> usize {
+    let count = rest.iter().filter(|b| **b < 128).count();
+    count.saturating_add(2)
 }
 
 // Puts the numbers of the subidentifiers at the end.
@@ -55,33 +61,32 @@ fn push_subidentifiers(
     Ok(())
 }
 
-// The components. Each subidentifier ends in an octet whose bit 8 is clear, so that room for all is
-// reserved before they are read.
-pub fn read(alloc: Global, contents: &[u8]) -> Result<OID, ASN1DecodeErr>
-    ensures found { IfOk result (λ oid. ObjectIdentifierContents oid contents.now) }
+// The components. Room for all is reserved before they are read.
+pub fn read(alloc: Global, contents: &[u8]) -> Result<Vec<BigUint>, ASN1DecodeErr>
+    ensures found { IfOk result (λ components. ObjectIdentifierContents components.items contents.now) }
     ensures refused { IfErr result (OutOfMemoryOr (ObjectIdentifierFault contents.now)) }
 {
     let Some((octet, rest)) = contents.split_first() else {
         return Err(ASN1DecodeErr::Incomplete);
     };
-    let count = rest.iter().filter(|b| **b < 128).count();
-    let mut components = Vec::with_capacity(alloc, count.saturating_add(2))?;
+    let mut components = Vec::with_capacity(alloc, component_count(rest))?;
     let (first, second) = first_two(*octet);
     components.push(BigUint::from_u64(alloc, first as u64)?)?;
     components.push(BigUint::from_u64(alloc, second as u64)?)?;
     push_subidentifiers(alloc, rest, &mut components)?;
-    Ok(OID::new(components))
+    Ok(components)
 }
 
-// Whether no subidentifier begins with 80 (hexadecimal), so that each has its shortest form (X.690
-// 8.19.2).
+// Whether the octets mean components, and no subidentifier begins with 80 (hexadecimal), so that each
+// has its shortest form (X.690 8.19.2).
 pub fn are_shortest(contents: &[u8]) -> bool
-    ensures { IsTrue result → (components : List ℕ)
+    ensures meant { IsTrue result → (components : List ℕ) × ObjectIdentifierContents components contents.now }
+    ensures shortest { IsTrue result → (components : List ℕ)
         → ObjectIdentifierContents components contents.now
         → contents.now ≡ object_identifier_contents components }
 {
     let Some((_, rest)) = contents.split_first() else {
-        return true;
+        return false;
     };
     let mut begins = true;
     for octet in rest {
@@ -90,7 +95,7 @@ pub fn are_shortest(contents: &[u8]) -> bool
         }
         begins = *octet < 128;
     }
-    true
+    begins
 }
 
 // The first octet that is written, of the first two components.
@@ -117,7 +122,8 @@ fn first_octet(components: &[BigUint]) -> Result<u8, ASN1EncodeErr>
 
 // The number of octets of the subidentifiers, if a usize can count them and one more.
 fn subidentifiers_size(components: &[BigUint]) -> Option<usize>
-    ensures { IfSome result (λ n. n ≡ 1 + length (flat_map shortest_base128 components.now)) }
+    ensures { SomeIff result (1 + length (flat_map shortest_base128 components.now) < 2 ^ 64)
+        (1 + length (flat_map shortest_base128 components.now)) }
 {
     let mut size: usize = 1;
     for component in components {
@@ -127,12 +133,13 @@ fn subidentifiers_size(components: &[BigUint]) -> Option<usize>
 }
 
 // The number of octets that are written.
-pub fn size(oid: &OID) -> Result<usize, ASN1EncodeErr>
-    ensures size { IfOk result (λ n. n ≡ length (object_identifier_contents oid.now)) }
-    ensures writable { OnOk result (object_identifier_write_fault oid.now ≡ None) }
-    ensures refused { IfErr result (λ e. (e ≡ OutOfMemory) ⊎ (object_identifier_write_fault oid.now ≡ Some e)) }
+pub fn size(components: &[BigUint]) -> Result<usize, ASN1EncodeErr>
+    ensures size { IfOk result (λ n. n ≡ length (object_identifier_contents components.now)) }
+    ensures writable { OnOk result (object_identifier_write_fault components.now ≡ None) }
+    ensures refused { IfErr result (λ e.
+        ((e ≡ OutOfMemory) × (2 ^ 64 ≤ length (object_identifier_contents components.now)))
+        ⊎ (object_identifier_write_fault components.now ≡ Some e)) }
 {
-    let components = oid.components();
     first_octet(components)?;
     let (_, rest) = components.split_at(2);
     match subidentifiers_size(rest) {
@@ -151,12 +158,11 @@ fn put_subidentifiers<S: Sink>(components: &[BigUint], out: &mut S)
     }
 }
 
-pub fn put<S: Sink>(oid: &OID, out: &mut S)
-    requires room { length (object_identifier_contents oid.now) ≤ S.room out.old }
-    requires writable { object_identifier_write_fault oid.now ≡ None }
-    ensures { S.puts out.old (object_identifier_contents oid.now) out.new }
+pub fn put<S: Sink>(components: &[BigUint], out: &mut S)
+    requires room { length (object_identifier_contents components.now) ≤ S.room out.old }
+    requires writable { object_identifier_write_fault components.now ≡ None }
+    ensures { S.puts out.old (object_identifier_contents components.now) out.new }
 {
-    let components = oid.components();
     let octet = match first_octet(components) {
         Ok(octet) => octet,
         Err(_) => unreachable!(),
@@ -167,8 +173,8 @@ pub fn put<S: Sink>(oid: &OID, out: &mut S)
 }
 
 // Whether the components are read back as they are, once they are written.
-pub fn is_faithful(oid: &OID) -> bool
-    ensures { IsTrue result ↔ IsFaithfulObjectIdentifier oid.now }
+pub fn is_faithful(components: &[BigUint]) -> bool
+    ensures { IsTrue result ↔ IsFaithfulObjectIdentifier components.now }
 {
-    first_octet(oid.components()).is_ok()
+    first_octet(components).is_ok()
 }

@@ -100,15 +100,13 @@ fn read_octets(alloc: Global, contents: &[u8]) -> Result<String, AllocError>
     Ok(text)
 }
 
-// The same of ASCII, whose octets are the text.
+// The same of ASCII, whose octets are the text. It is proved that they are UTF-8, and so not tested again.
 fn read_ascii(alloc: Global, contents: &[u8]) -> Result<String, AllocError>
     requires { IsAscii contents.now }
     ensures { IfOk result (λ s. chars (string_bytes s) ≡ contents.now) }
 {
-    match str::from_utf8(contents) {
-        Ok(text) => String::from_str(alloc, text),
-        Err(_) => unreachable!(),
-    }
+    let text = unsafe { str::from_utf8_unchecked(contents) };
+    String::from_str(alloc, text)
 }
 
 // The number of octets that are written.

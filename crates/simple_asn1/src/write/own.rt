@@ -7,9 +7,8 @@ ghost use Rattle.simple_asn1.specs.WriteWalk.{own_contents, own_fault};
 use asn1_blocks::block::ASN1Block;
 use asn1_headers::error::ASN1EncodeErr;
 use asn1_leaves::body::text::TextForm;
-use asn1_leaves::body::{
-    bit_string, boolean, generalized_time, integer, object_identifier, text, utc_time,
-};
+use asn1_leaves::body::{bit_string, boolean, generalized_time, integer, text, utc_time};
+use asn1_leaves::oid;
 use asn1_numbers::sink::Sink;
 
 // The number of contents octets that are written of the block itself, without those of the blocks
@@ -31,7 +30,7 @@ pub(crate) fn own_size(b: &ASN1Block) -> Result<usize, ASN1EncodeErr>
         ASN1Block::PrintableString(_, s) => text::size(TextForm::Printable, s),
         ASN1Block::IA5String(_, s) => text::size(TextForm::Octets, s),
         ASN1Block::Null(_) => Ok(0),
-        ASN1Block::ObjectIdentifier(_, oid) => object_identifier::size(oid),
+        ASN1Block::ObjectIdentifier(_, identifier) => oid::size(identifier),
         ASN1Block::UTCTime(_, d) => utc_time::size(d),
         ASN1Block::GeneralizedTime(_, d) => generalized_time::size(d),
         ASN1Block::Sequence(_, _) | ASN1Block::Set(_, _) | ASN1Block::Explicit(_, _, _, _) => Ok(0),
@@ -56,7 +55,7 @@ pub(crate) fn put_own<S: Sink>(b: &ASN1Block, out: &mut S)
         ASN1Block::PrintableString(_, s) => text::put(TextForm::Printable, s, out),
         ASN1Block::IA5String(_, s) => text::put(TextForm::Octets, s, out),
         ASN1Block::Null(_) => {}
-        ASN1Block::ObjectIdentifier(_, oid) => object_identifier::put(oid, out),
+        ASN1Block::ObjectIdentifier(_, identifier) => oid::put(identifier, out),
         ASN1Block::UTCTime(_, d) => utc_time::put(d, out),
         ASN1Block::GeneralizedTime(_, d) => generalized_time::put(d, out),
         ASN1Block::Sequence(_, _) | ASN1Block::Set(_, _) | ASN1Block::Explicit(_, _, _, _) => {}

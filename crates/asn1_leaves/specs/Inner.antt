@@ -1,0 +1,2 @@
+-- Definitions that private contracts alone name.
+pub mod IdentifierForms
