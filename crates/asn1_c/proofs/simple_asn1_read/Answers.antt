@@ -1,0 +1,13 @@
+use Rattle.std.proofs.Common.{List, refl, sym, subst}
+use Rattle.asn1_blocks.specs.declared.block.ASN1Block.{ASN1Block}
+use Rattle.simple_asn1.specs.Grammar.{Document}
+use Rattle.simple_asn1.specs.View.{views}
+use Rattle.asn1_c.proofs.Outcomes.{read_answer}
+use Rattle.asn1_c.proofs.simple_asn1_read.Goals as goal
+
+pub returns-in-Ok : goal.returns-in-Ok
+returns-in-Ok c =
+    let octets = c.args.octets.now in
+    let d = subst (λ (z : List ASN1Block). Document octets (views z)) (sym c.deref.ensures.value) c.in-Ok.ensures.document in
+    read_answer octets (views c.deref.result.now) c.flatten.new.records c.put_outcome.result _ _ c.flatten.ensures.kept refl c.flatten.result d c.flatten.ensures.count c.flatten.ensures.put
+    c.flatten.ensures.linked c.put_outcome.ensures

@@ -1,0 +1,138 @@
+// The parts of a signed triple.
+ghost use Rattle.std.specs.Prelude.{◌≡◌, ◌⊎◌, ℕ, List, IfOk, IfSome, IsTrue};
+ghost use Rattle.simple_asn1.specs.Grammar.{Document as IsDocument};
+ghost use Rattle.simple_asn1.specs.SignedTrees.{SignedParts, signature_tree, signed_tree};
+ghost use Rattle.simple_asn1.specs.Tree.{Trees, bit_string, group, leaf, more_trees, object_identifier};
+ghost use Rattle.simple_asn1.specs.View.{tree_offset, view, views};
+ghost use Rattle.asn1_blocks.specs.declared.block.GroupKind.TheVariants.{Sequence};
+ghost use Rattle.asn1_c.specs.Answers.{AnswersSigned, AreRecordsOfParts, identifier_tree};
+
+use crate::reading::{Fault, read};
+use crate::record::{Block, Signed, record_of};
+use simple_asn1::ASN1Block;
+use std::alloc::{AllocError, Global};
+
+#[derive(Clone, Copy, Drop)]
+pub struct Parts<'a> {
+    pub content: &'a ASN1Block,
+    pub identifier: &'a ASN1Block,
+    pub signature: &'a ASN1Block,
+}
+
+// The items of a SEQUENCE.
+fn sequence_items(b: &ASN1Block) -> Option<&[ASN1Block]>
+    ensures { IfSome result (λ items. view b.now ≡ group (tree_offset (view b.now)) Sequence (views items.now)) }
+{
+    match b {
+        ASN1Block::Sequence(_, items) => Some(items),
+        _ => None,
+    }
+}
+
+// The object identifier that a SEQUENCE begins with.
+fn identifier_of(b: &ASN1Block) -> Option<&ASN1Block>
+    ensures { IfSome result (λ identifier. (place : ℕ) × (components : List ℕ) × (rest : Trees ℕ)
+        × (view identifier.now ≡ leaf place (object_identifier components))
+        × (view b.now ≡ group (tree_offset (view b.now)) Sequence (more_trees (view identifier.now) rest))) }
+{
+    let first = sequence_items(b)?.first()?;
+    if is_identifier(first) {
+        Some(first)
+    } else {
+        None
+    }
+}
+
+fn is_identifier(b: &ASN1Block) -> bool
+    ensures { IsTrue result → (place : ℕ) × (components : List ℕ)
+        × (view b.now ≡ leaf place (object_identifier components)) }
+{
+    match b {
+        ASN1Block::ObjectIdentifier(_, _) => true,
+        _ => false,
+    }
+}
+
+fn is_bit_string(b: &ASN1Block) -> bool
+    ensures { IsTrue result → (place : ℕ) × (n : ℕ) × (v : List ℕ) × (view b.now ≡ leaf place (bit_string n v)) }
+{
+    match b {
+        ASN1Block::BitString(_, _, _) => true,
+        _ => false,
+    }
+}
+
+fn parts_of(b: &ASN1Block) -> Option<Parts<'_>>
+    ensures { IfSome result (λ parts. (p : SignedParts) × (view b.now ≡ signed_tree p)
+        × (view parts.content.now ≡ p.content) × (view parts.identifier.now ≡ identifier_tree p)
+        × (view parts.signature.now ≡ signature_tree p)) }
+{
+    let [content, algorithm, signature] = sequence_items(b)? else {
+        return None;
+    };
+    let identifier = identifier_of(algorithm)?;
+    if !is_bit_string(signature) {
+        return None;
+    }
+    Some(Parts {
+        content,
+        identifier,
+        signature,
+    })
+}
+
+const NO_BLOCK: Block = Block {
+    tag: 0,
+    offset: 0,
+    header: 0,
+    contents: 0,
+    items: 0,
+    next: 0,
+    depth: 0,
+    tag_class: 0,
+    constructed: 0,
+};
+
+fn no_parts(status: u32, offset: usize) -> Signed
+    ensures { (result.status ≡ status) × (result.offset ≡ offset) }
+{
+    Signed {
+        status,
+        offset,
+        content: NO_BLOCK,
+        algorithm: NO_BLOCK,
+        signature: NO_BLOCK,
+    }
+}
+
+// The records of the parts of the triple that a document begins with.
+fn records_of(alloc: Global, octets: &[u8], blocks: &[ASN1Block]) -> Result<Signed, AllocError>
+    requires { IsDocument octets.now (views blocks.now) }
+    ensures { IfOk result (λ signed. (signed.status ≡ 14) ⊎ AreRecordsOfParts octets.now signed) }
+{
+    let Some(first) = blocks.first() else {
+        return Ok(no_parts(14, 0));
+    };
+    let Some(parts) = parts_of(first) else {
+        return Ok(no_parts(14, 0));
+    };
+    Ok(Signed {
+        status: 0,
+        offset: 0,
+        content: record_of(alloc, octets, parts.content, 0, 0)?,
+        algorithm: record_of(alloc, octets, parts.identifier, 0, 0)?,
+        signature: record_of(alloc, octets, parts.signature, 0, 0)?,
+    })
+}
+
+pub fn signed_in(alloc: Global, octets: &[u8]) -> Signed
+    ensures { AnswersSigned octets.now result }
+{
+    match read(alloc, octets) {
+        Ok(held) => match records_of(alloc, octets, &held.blocks) {
+            Ok(signed) => signed,
+            Err(AllocError) => no_parts(10, 0),
+        },
+        Err(Fault { status, offset }) => no_parts(status, offset),
+    }
+}
