@@ -8,7 +8,7 @@ ghost use Rattle.asn1_blocks.specs.declared.block.GroupKind.TheVariants.{Sequenc
 ghost use Rattle.asn1_c.specs.Answers.{AnswersSigned, AreRecordsOfParts, identifier_tree};
 
 use crate::reading::{Fault, read};
-use crate::record::{Block, Signed, record_of};
+use crate::record::{Block, SignedAnswer, record_of};
 use simple_asn1::ASN1Block;
 use std::alloc::{AllocError, Global};
 
@@ -93,10 +93,10 @@ const NO_BLOCK: Block = Block {
     constructed: 0,
 };
 
-fn no_parts(status: u32, offset: usize) -> Signed
+fn no_parts(status: u32, offset: usize) -> SignedAnswer
     ensures { (result.status ≡ status) × (result.offset ≡ offset) }
 {
-    Signed {
+    SignedAnswer {
         status,
         offset,
         content: NO_BLOCK,
@@ -106,7 +106,11 @@ fn no_parts(status: u32, offset: usize) -> Signed
 }
 
 // The records of the parts of the triple that a document begins with.
-fn records_of(alloc: Global, octets: &[u8], blocks: &[ASN1Block]) -> Result<Signed, AllocError>
+fn records_of(
+    alloc: Global,
+    octets: &[u8],
+    blocks: &[ASN1Block],
+) -> Result<SignedAnswer, AllocError>
     requires { IsDocument octets.now (views blocks.now) }
     ensures { IfOk result (λ signed. (signed.status ≡ 14) ⊎ AreRecordsOfParts octets.now signed) }
 {
@@ -116,7 +120,7 @@ fn records_of(alloc: Global, octets: &[u8], blocks: &[ASN1Block]) -> Result<Sign
     let Some(parts) = parts_of(first) else {
         return Ok(no_parts(14, 0));
     };
-    Ok(Signed {
+    Ok(SignedAnswer {
         status: 0,
         offset: 0,
         content: record_of(alloc, octets, parts.content, 0, 0)?,
@@ -125,7 +129,7 @@ fn records_of(alloc: Global, octets: &[u8], blocks: &[ASN1Block]) -> Result<Sign
     })
 }
 
-pub fn signed_in(alloc: Global, octets: &[u8]) -> Signed
+pub fn signed_in(alloc: Global, octets: &[u8]) -> SignedAnswer
     ensures { AnswersSigned octets.now result }
 {
     match read(alloc, octets) {
