@@ -1,6 +1,6 @@
 -- One record more is spelled.
-use Rattle.std.proofs.Common.{◌≡◌, ℕ, zero, suc, ◌+◌, ◌-◌, ◌<◌, ◌≤◌, true, List, [], ◌∷◌, ◌++◌, drop, get_or, length, take, refl, sym, ap, ◌∙◌, arith, length-append, append_assoc}
-use Rattle.std.specs.Prelude.{nat_lt, reverse}
+use Rattle.std.proofs.Common.{◌≡◌, ℕ, zero, suc, ◌+◌, ◌-◌, ◌<◌, ◌≤◌, true, List, [], ◌∷◌, ◌++◌, drop, get_or, length, take, refl, sym, ap, ◌∙◌, arith, length-append, append_assoc, Result, Ok, Err}
+use Rattle.std.specs.Prelude.{IfErr, nat_lt, reverse}
 use Rattle.std.specs.List.{concat}
 use Rattle.std.proofs.Math.Seq.{get_or-append_seam}
 use Rattle.std.proofs.lemmas.List.{get_or_append_left, reverse-append, reverse-reverse, take-append-drop, take-append-le}
@@ -10,7 +10,7 @@ use Rattle.simple_asn1.specs.Canonical.{shortest_encoding}
 use Rattle.simple_asn1.specs.Header.{class_number, shortest_identifier, shortest_length}
 use Rattle.asn1_headers.specs.declared.header.ASN1Class.{ASN1Class}
 use Rattle.asn1_c.specs.declared.record.Block.{Block}
-use Rattle.asn1_c.specs.Spelled.{IsState, contents_of, spells_contents, spells_items, starts_of}
+use Rattle.asn1_c.specs.Spelled.{IsState, IsUnspellable, contents_of, has_too_many, spells_contents, spells_items, starts_of}
 
 pub starts_count : (xs : List (List ℕ)) → length (starts_of xs) ≡ length xs
 starts_count [] = refl
@@ -41,6 +41,25 @@ start_of_last (suc k) (x ∷ xs) h =
 reverse_count : (xs : List ℕ) → length (reverse xs) ≡ length xs
 reverse_count [] = refl
 reverse_count (x ∷ xs) = ap length (reverse-append (x ∷ []) xs) ∙ length-append (reverse xs) (x ∷ []) ∙ omega (arith, reverse_count xs)
+
+-- there is an encoding for each place, and each begins among the octets
+module _ (octets : List ℕ) (rs : List Block) (back starts : List ℕ) (state : IsState octets rs back starts) where
+  pub encodings_count : length starts ≡ length state.xs
+  encodings_count = ap length state.places ∙ starts_count state.xs
+
+  total : length back ≡ length (concat state.xs)
+  total = sym (reverse_count back) ∙ ap length state.spelled
+
+  pub start_within : (k start : ℕ) → 0 < k → k ≤ length starts → start ≡ get_or starts (length starts - k) 0 → start ≤ length back
+  start_within zero start some few began = absurd (omega (arith, some))
+  start_within (suc k) start some few began =
+      let xs = state.xs in
+      let fits : suc k ≤ length xs = omega (arith, few, encodings_count) in
+      let at : start ≡ length (concat (drop (suc k) xs)) =
+      began ∙ ap (λ z. get_or z (length z - suc k) 0) state.places ∙ ap (λ z. get_or (starts_of xs) (z - suc k) 0) (starts_count xs) ∙ start_of_last k xs fits in
+      let whole : concat (take (suc k) xs) ++ concat (drop (suc k) xs) ≡ concat xs =
+      sym (concat-append (take (suc k) xs) (drop (suc k) xs)) ∙ ap concat (take-append-drop (suc k) xs) in
+      omega (arith, at, total, ap length whole, length-append (concat (take (suc k) xs)) (concat (drop (suc k) xs)))
 
 module _ (octets : List ℕ) (r : Block) (class : ASN1Class) (is : class_number class ≡ r.tag_class) (rs : List Block) (back starts new_back new_starts : List ℕ) (state : IsState octets rs back starts) where
   open state use {xs}
@@ -94,3 +113,12 @@ module _ (octets : List ℕ) (r : Block) (class : ASN1Class) (is : class_number 
       begins : (k : ℕ) → 0 < k → k ≤ length xs → get_or (starts_of xs) (length xs - k) 0 ≡ length (concat (drop k xs))
       begins zero some fits = absurd (omega (arith, some))
       begins (suc k) some fits = start_of_last k xs fits
+
+-- a record that holds more than there are can't be put
+pub too_many :
+    (octets : List ℕ) (r : Block) (back starts : List ℕ) (E : Type 0) (bad : E) (put : Result (Unit {0}) E) →
+    IfErr put (λ e. e ≡ bad → (rs : List Block) → IsState octets rs back starts → length starts < r.items) →
+    IfErr put (λ e. e ≡ bad → (rs : List Block) → (s : IsState octets rs back starts) → IsUnspellable octets s.xs r)
+too_many octets r back starts E bad (Ok x) h = h
+too_many octets r back starts E bad (Err e) h =
+    λ same rs s. let few = h same rs s in has_too_many (omega (arith, few, encodings_count octets rs back starts s))

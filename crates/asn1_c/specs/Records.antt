@@ -1,10 +1,10 @@
 -- What a record says of a block.
-use Rattle.std.specs.Prelude.{◌≡◌, ℕ, suc, ◌-◌, ◌<◌, ◌≤◌, ◌^◌, Bool, List, Option, Some, None, get_or, length}
-use Rattle.simple_asn1.specs.BlockParts.{tree_items}
+use Rattle.std.specs.Prelude.{◌≡◌, ℕ, suc, ◌+◌, ◌-◌, ◌<◌, ◌≤◌, ◌^◌, ◌++◌, Bool, List, [], ◌∷◌, Option, Some, None, get_or, length}
+use Rattle.simple_asn1.specs.BlockParts.{all_in_order, in_order, tree_items}
 use Rattle.simple_asn1.specs.Grammar.{Document}
 use Rattle.simple_asn1.specs.Header.{Encoding, class_number, constructed_bit}
 use Rattle.simple_asn1.specs.Places.{HasOctets}
-use Rattle.simple_asn1.specs.Tree.{Tree, Trees, leaf, more_trees, no_trees, null}
+use Rattle.simple_asn1.specs.Tree.{Tree, Trees, explicit, group, leaf, more_trees, no_trees, null, unknown}
 use Rattle.simple_asn1.specs.View.{tree_offset}
 use Rattle.asn1_headers.specs.declared.header.ASN1Class.{ASN1Class}
 use Rattle.asn1_c.specs.declared.header.Header.{Header}
@@ -63,16 +63,34 @@ no_tree = leaf 0 null
 abbrev pub no_record : Block
 no_record = record { tag = 0; offset = 0; header = 0; contents = 0; items = 0; next = 0; depth = 0; tag_class = 0; constructed = 0 }
 
--- the first records are of these trees, one each, in order
-abbrev pub AreRecords : List ℕ → List (Tree ℕ) → List Block → Type 0
-AreRecords whole trees records =
-    (k : ℕ) → k < length trees → IsRecord whole (get_or trees k no_tree) (get_or records k no_record)
+abbrev mutual
+  -- how many trees each stands in: a tree that stands in so many, and then those that it holds, in order
+  pub depths : ℕ → Tree ℕ → List ℕ
+  depths depth (leaf o l) = depth ∷ []
+  depths depth (group o g bs) = depth ∷ all_depths (suc depth) bs
+  depths depth (explicit c o n b) = depth ∷ depths (suc depth) b
+  depths depth (unknown c k o n v) = depth ∷ []
 
--- each of the first n records is linked to a later one of them, or to their end
-abbrev pub AreLinked : ℕ → List Block → Type 0
-AreLinked n records =
-    (k : ℕ) → k < n → (k < (get_or records k no_record).next) × ((get_or records k no_record).next ≤ n)
+  pub all_depths : ℕ → Trees ℕ → List ℕ
+  all_depths depth no_trees = []
+  all_depths depth (more_trees b bs) = depths depth b ++ all_depths depth bs
 
--- each of these is after its own place, and at most n
-abbrev pub AreAfter : ℕ → List ℕ → Type 0
-AreAfter n nexts = (k : ℕ) → k < n → (k < get_or nexts k 0) × (get_or nexts k 0 ≤ n)
+-- the record is that of the tree that stands at the index among those of a document, in order
+pub record IsRecordAt (whole : List ℕ) (bs : Trees ℕ) (k : ℕ) (r : Block) : Type 0 where
+  pub fields : IsRecord whole (get_or (all_in_order bs) k no_tree) r
+  -- the index after it and all that it holds
+  pub next : r.next ≡ k + length (in_order (get_or (all_in_order bs) k no_tree))
+  pub depth : r.depth ≡ get_or (all_depths 0 bs) k 0
+
+-- the first records are those of the trees of a document, one each, in order
+abbrev pub AreRecords : List ℕ → Trees ℕ → List Block → Type 0
+AreRecords whole bs records =
+    (k : ℕ) → k < length (all_in_order bs) → IsRecordAt whole bs k (get_or records k no_record)
+
+-- the indexes after each of the trees and all that it holds
+abbrev pub AreNexts : List (Tree ℕ) → List ℕ → Type 0
+AreNexts trees nexts = (k : ℕ) → k < length trees → get_or nexts k 0 ≡ k + length (in_order (get_or trees k no_tree))
+
+-- the trees are those of a document, in order
+abbrev pub IsInOrder : List (Tree ℕ) → Type 0
+IsInOrder trees = (bs : Trees ℕ) × (trees ≡ all_in_order bs)

@@ -1,9 +1,10 @@
 -- The octets that records spell.
-use Rattle.std.specs.Prelude.{◌≡◌, ℕ, ◌+◌, ◌<◌, ◌≤◌, ◌++◌, true, List, [], ◌∷◌, drop, length, nat_lt, reverse, slice_range, take}
+use Rattle.std.specs.Prelude.{◌≡◌, ℕ, ◌+◌, ◌<◌, ◌≤◌, ◌++◌, true, List, [], ◌∷◌, drop, get_or, length, nat_lt, reverse, slice_range, take}
 use Rattle.std.specs.List.{concat}
 use Rattle.simple_asn1.specs.Canonical.{shortest_encoding}
 use Rattle.simple_asn1.specs.Header.{class_number}
 use Rattle.asn1_headers.specs.declared.header.ASN1Class.{ASN1Class}
+use Rattle.asn1_c.specs.Records.{no_record}
 use Rattle.asn1_c.specs.declared.record.Block.{Block}
 
 -- the contents octets that a record has of these
@@ -24,6 +25,20 @@ pub data Spells (octets : List ℕ) : List Block → List (List ℕ) → Type 0 
       class_number class ≡ r.tag_class → 0 < r.items → r.items ≤ length xs →
       Spells octets rs xs →
       Spells octets (r ∷ rs) (shortest_encoding class true r.tag (concat (take r.items xs)) ∷ drop r.items xs)
+
+-- the record can't be put before these encodings
+pub data IsUnspellable (octets : List ℕ) (xs : List (List ℕ)) (r : Block) : Type 0 where
+  has_no_class : 3 < r.tag_class → IsUnspellable octets xs r
+  -- it holds more than there are
+  has_too_many : length xs < r.items → IsUnspellable octets xs r
+  -- its contents octets are not within these
+  has_no_contents : r.items ≡ 0 → length octets < r.offset + r.header + r.contents → IsUnspellable octets xs r
+
+-- the records after that place are spelled, and the one that stands there can't be
+abbrev pub IsBadAt : List ℕ → List Block → ℕ → Type 0
+IsBadAt octets records place =
+    (place < length records) × (xs : List (List ℕ)) × Spells octets (drop (place + 1) records) xs
+    × IsUnspellable octets xs (get_or records place no_record)
 
 -- the records spell these octets
 abbrev pub IsSpelled : List ℕ → List Block → List ℕ → Type 0

@@ -1,14 +1,16 @@
 // The parts of a signed triple.
-ghost use Rattle.std.specs.Prelude.{◌≡◌, ◌⊎◌, ℕ, List, IfOk, IfSome, IsTrue};
+ghost use Rattle.std.specs.Prelude.{◌≡◌, ◌≢◌, ◌⊎◌, ℕ, List, IfOk, MatchOption};
 ghost use Rattle.simple_asn1.specs.Grammar.{Document as IsDocument};
-ghost use Rattle.simple_asn1.specs.SignedTrees.{SignedParts, signature_tree, signed_tree};
+ghost use Rattle.simple_asn1.specs.SignedTrees.{IsOfAnotherShape, SignedParts, algorithm_tree, signature_tree, signed_tree};
 ghost use Rattle.simple_asn1.specs.Tree.{Trees, bit_string, group, leaf, more_trees, object_identifier};
 ghost use Rattle.simple_asn1.specs.View.{tree_offset, view, views};
 ghost use Rattle.asn1_blocks.specs.declared.block.GroupKind.TheVariants.{Sequence};
 ghost use Rattle.asn1_c.specs.Answers.{AnswersSigned, AreRecordsOfParts, identifier_tree};
 
+use crate::identifier::identifier_of;
 use crate::reading::{Fault, read};
 use crate::record::{Block, SignedAnswer, record_of};
+use crate::status::{DONE, NO_MEMORY, NOT_SIGNED};
 use simple_asn1::ASN1Block;
 use std::alloc::{AllocError, Global};
 
@@ -21,7 +23,9 @@ pub struct Parts<'a> {
 
 // The items of a SEQUENCE.
 fn sequence_items(b: &ASN1Block) -> Option<&[ASN1Block]>
-    ensures { IfSome result (λ items. view b.now ≡ group (tree_offset (view b.now)) Sequence (views items.now)) }
+    ensures { MatchOption result
+        ((o : ℕ) (bs : Trees ℕ) → view b.now ≢ group o Sequence bs)
+        (λ items. view b.now ≡ group (tree_offset (view b.now)) Sequence (views items.now)) }
 {
     match b {
         ASN1Block::Sequence(_, items) => Some(items),
@@ -29,51 +33,44 @@ fn sequence_items(b: &ASN1Block) -> Option<&[ASN1Block]>
     }
 }
 
-// The object identifier that a SEQUENCE begins with.
-fn identifier_of(b: &ASN1Block) -> Option<&ASN1Block>
-    ensures { IfSome result (λ identifier. (place : ℕ) × (components : List ℕ) × (rest : Trees ℕ)
-        × (view identifier.now ≡ leaf place (object_identifier components))
+// The block of the OBJECT IDENTIFIER of an algorithm, the first item of its SEQUENCE.
+fn algorithm_identifier(b: &ASN1Block) -> Option<&ASN1Block>
+    ensures { MatchOption result
+        ((p : SignedParts) → view b.now ≢ algorithm_tree p)
+        (λ identifier. (components : List ℕ) × (rest : Trees ℕ)
+        × (view identifier.now ≡ leaf (tree_offset (view identifier.now)) (object_identifier components))
         × (view b.now ≡ group (tree_offset (view b.now)) Sequence (more_trees (view identifier.now) rest))) }
 {
     let first = sequence_items(b)?.first()?;
-    if is_identifier(first) {
-        Some(first)
-    } else {
-        None
-    }
+    identifier_of(first)?;
+    Some(first)
 }
 
-fn is_identifier(b: &ASN1Block) -> bool
-    ensures { IsTrue result → (place : ℕ) × (components : List ℕ)
-        × (view b.now ≡ leaf place (object_identifier components)) }
+// The number of bits of a BIT STRING, and the octets that hold them.
+fn bit_string_of(b: &ASN1Block) -> Option<(usize, &[u8])>
+    ensures { MatchOption result
+        ((o n : ℕ) (v : List ℕ) → view b.now ≢ leaf o (bit_string n v))
+        (λ x. view b.now ≡ leaf (tree_offset (view b.now)) (bit_string x.0 x.1.now)) }
 {
     match b {
-        ASN1Block::ObjectIdentifier(_, _) => true,
-        _ => false,
+        ASN1Block::BitString(_, n, v) => Some((*n, v)),
+        _ => None,
     }
 }
 
-fn is_bit_string(b: &ASN1Block) -> bool
-    ensures { IsTrue result → (place : ℕ) × (n : ℕ) × (v : List ℕ) × (view b.now ≡ leaf place (bit_string n v)) }
-{
-    match b {
-        ASN1Block::BitString(_, _, _) => true,
-        _ => false,
-    }
-}
-
+// The parts of a block, where it is that of a triple.
 fn parts_of(b: &ASN1Block) -> Option<Parts<'_>>
-    ensures { IfSome result (λ parts. (p : SignedParts) × (view b.now ≡ signed_tree p)
+    ensures { MatchOption result
+        ((p : SignedParts) → view b.now ≢ signed_tree p)
+        (λ parts. (p : SignedParts) × (view b.now ≡ signed_tree p)
         × (view parts.content.now ≡ p.content) × (view parts.identifier.now ≡ identifier_tree p)
         × (view parts.signature.now ≡ signature_tree p)) }
 {
     let [content, algorithm, signature] = sequence_items(b)? else {
         return None;
     };
-    let identifier = identifier_of(algorithm)?;
-    if !is_bit_string(signature) {
-        return None;
-    }
+    let identifier = algorithm_identifier(algorithm)?;
+    bit_string_of(signature)?;
     Some(Parts {
         content,
         identifier,
@@ -112,16 +109,17 @@ fn records_of(
     blocks: &[ASN1Block],
 ) -> Result<SignedAnswer, AllocError>
     requires { IsDocument octets.now (views blocks.now) }
-    ensures { IfOk result (λ signed. (signed.status ≡ 14) ⊎ AreRecordsOfParts octets.now signed) }
+    ensures { IfOk result (λ signed. ((signed.status ≡ 14) × IsOfAnotherShape octets.now)
+        ⊎ AreRecordsOfParts octets.now signed) }
 {
     let Some(first) = blocks.first() else {
-        return Ok(no_parts(14, 0));
+        return Ok(no_parts(NOT_SIGNED, 0));
     };
     let Some(parts) = parts_of(first) else {
-        return Ok(no_parts(14, 0));
+        return Ok(no_parts(NOT_SIGNED, 0));
     };
     Ok(SignedAnswer {
-        status: 0,
+        status: DONE,
         offset: 0,
         content: record_of(alloc, octets, parts.content, 0, 0)?,
         algorithm: record_of(alloc, octets, parts.identifier, 0, 0)?,
@@ -135,7 +133,7 @@ pub fn signed_in(alloc: Global, octets: &[u8]) -> SignedAnswer
     match read(alloc, octets) {
         Ok(held) => match records_of(alloc, octets, &held.blocks) {
             Ok(signed) => signed,
-            Err(AllocError) => no_parts(10, 0),
+            Err(AllocError) => no_parts(NO_MEMORY, 0),
         },
         Err(Fault { status, offset }) => no_parts(status, offset),
     }
