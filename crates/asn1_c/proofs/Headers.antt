@@ -1,0 +1,62 @@
+-- The header of octets that are an encoding, and the number of trees.
+use Rattle.std.proofs.Common.{◌≡◌, ℕ, suc, ◌≤◌, Bool, List, [], ◌∷◌, ◌++◌, length, take, drop, refl, sym, ap, subst, ◌∙◌, arith, length-append}
+use Rattle.std.specs.List.{slice_range}
+use Rattle.std.proofs.Math.Seq.{take-append_seam}
+use Rattle.std.proofs.lemmas.List.{drop_at}
+use Rattle.asn1_headers.specs.declared.header.ASN1Class.{ASN1Class}
+use Rattle.asn1_blocks.specs.declared.block.ASN1Block.{ASN1Block}
+use Rattle.simple_asn1.specs.Header.{BeginsWithNo, Encoding, IsIdentifier, IsLength, IsSomeIdentifier}
+use Rattle.simple_asn1.specs.Laws.Header.{HeaderLaws}
+use Rattle.simple_asn1.specs.Places.{IsEncoding}
+use Rattle.simple_asn1.specs.View.{views}
+use Rattle.asn1_blocks.proofs.ReadSteps.{slice_length}
+use Rattle.asn1_leaves.proofs.SliceSplit.{slice_split}
+use Rattle.asn1_c.specs.Records.{count_of}
+
+-- an encoding begins with identifier octets
+pub some_identifier : (x : List ℕ) → IsEncoding x → BeginsWithNo IsSomeIdentifier x → ⊥
+some_identifier x (c, k, n, v, h, e) none =
+    let t = ap (take (length e.identifier)) e.whole ∙ take-append_seam e.identifier (e.len ++ v) in
+    none n (length e.identifier) (c, k, subst (λ z. IsIdentifier z c k n) (sym t) e.identifier_octets)
+
+module _ (L : HeaderLaws) (x : List ℕ) (i : ℕ) (c : ASN1Class) (k : Bool) (n : ℕ) (p : IsIdentifier (slice_range x 0 i) c k n) (l : i ≤ length x) where
+  -- what follows its identifier octets
+  follows : (d : ASN1Class) (b : Bool) (t : ℕ) (v : List ℕ) (h : ℕ) (e : Encoding x d b t v h) → drop i x ≡ e.len ++ v
+  follows d b t v h e =
+      let w : x ≡ slice_range x 0 i ++ drop i x = slice_split x 0 i (omega arith) in
+      let same = L.one_identifier e.identifier (slice_range x 0 i) (e.len ++ v) (drop i x) d c b k t n e.identifier_octets p (sym e.whole ∙ w) in
+      let at : length e.identifier ≡ i = omega (arith, ap length same.0, slice_length x 0 i (omega arith) l) in
+      ap (drop i) e.whole ∙ drop_at e.identifier (e.len ++ v) i at
+
+  -- length octets do
+  pub some_length : IsEncoding x → BeginsWithNo IsLength (drop i x) → ⊥
+  some_length (d, b, t, v, h, e) none =
+      let s = ap (take (length e.len)) (follows d b t v h e) ∙ take-append_seam e.len v in
+      none (length v) (length e.len) (subst (λ z. IsLength z (length v)) (sym s) e.length_octets)
+
+  -- and after them the contents octets
+  pub header_found : (j m : ℕ) → IsEncoding x → i ≤ j → j ≤ length x → IsLength (slice_range x i j) m
+      → Encoding x c k n (drop j x) j × (m ≡ length (drop j x))
+  header_found j m (d, b, t, v, h, e) le l2 q =
+      let w : x ≡ slice_range x 0 i ++ drop i x = slice_split x 0 i (omega arith) in
+      let r = follows d b t v h e in
+      let w2 : drop i x ≡ slice_range x i j ++ drop j x = slice_split x i j le in
+      let same = L.one_length e.len (slice_range x i j) v (drop j x) (length v) m e.length_octets q (sym r ∙ w2) in
+      let ends : length v ≡ length (drop j x) = omega
+      (arith, ap length (sym r ∙ w2), length-append e.len v, length-append (slice_range x i j) (drop j x), ap length same.0) in
+      let is : m ≡ length (drop j x) = sym same.1 ∙ ends in (
+        record {
+          identifier = slice_range x 0 i;
+          len = slice_range x i j;
+          identifier_octets = p;
+          length_octets = subst (IsLength (slice_range x i j)) is q;
+          whole = w ∙ ap (λ z. slice_range x 0 i ++ z) w2;
+          size = omega (arith, slice_length x 0 i (omega arith) l, slice_length x i j le l2);
+        },
+        is,
+      )
+
+-- the trees of blocks are as many
+pub views_count : (bs : List ASN1Block) → count_of (views bs) ≡ length bs
+views_count [] = refl
+views_count (b ∷ bs) = ap suc (views_count bs)

@@ -1,0 +1,15 @@
+-- Octets that are put into room that the caller has.
+use Rattle.std.specs.Prelude.{◌≡◌, ◌⊎◌, ℕ, ◌<◌, ◌++◌, List, drop, length}
+use Rattle.asn1_c.specs.Status.{done, no_room}
+use Rattle.asn1_c.specs.declared.record.Outcome.{Outcome}
+
+-- the octets are at the front, and those behind are as before
+abbrev pub AreFront : List ℕ → List ℕ → List ℕ → Type 0
+AreFront octets before after = after ≡ octets ++ drop (length octets) before
+
+-- the octets were put at the front; or there is no room for so many, and nothing was written
+abbrev pub ArePut : List ℕ → List ℕ → List ℕ → Outcome → Type 0
+ArePut octets before after o =
+    (o.count ≡ length octets)
+    × (((o.status ≡ done) × AreFront octets before after)
+    ⊎ ((o.status ≡ no_room) × (length before < length octets) × (after ≡ before)))

@@ -1,0 +1,124 @@
+-- The value of the block at an offset.
+use Rattle.std.specs.Prelude.{◌≡◌, ◌⊎◌, ℕ, ℤ, ◌<◌, ◌^◌, ◌++◌, List, [], ◌∷◌, FitsSigned, decimal}
+use Rattle.std.specs.Int.{w64}
+use Rattle.std.specs.Str.{chars}
+use Rattle.asn1_leaves.specs.Contents.Moment.{Moment}
+use Rattle.asn1_leaves.specs.StringKind.{StringKind}
+use Rattle.simple_asn1.specs.Fault.{DecodeFault}
+use Rattle.simple_asn1.specs.FittingNumbers.{HasNotAll}
+use Rattle.simple_asn1.specs.Grammar.{Document, FirstFault}
+use Rattle.simple_asn1.specs.Places.{EncodingAt, HasNoEncodingAt}
+use Rattle.simple_asn1.specs.Tree.{
+  Leaf,
+  Trees,
+  generalized_time,
+  integer,
+  leaf,
+  more_trees,
+  no_trees,
+  object_identifier,
+  text,
+  utc_time,
+}
+use Rattle.asn1_c.specs.Room.{ArePut}
+use Rattle.asn1_c.specs.Status.{done, no_memory, no_such_value, out_of_range, status_of}
+use Rattle.asn1_c.specs.declared.record.IntegerAnswer.{IntegerAnswer}
+use Rattle.asn1_c.specs.declared.record.MomentAnswer.{MomentAnswer}
+use Rattle.asn1_c.specs.declared.record.Outcome.{Outcome}
+
+-- at the offset stands an encoding, which read alone has these trees
+abbrev pub IsReadAlone : List ℕ → ℕ → Trees ℕ → Type 0
+IsReadAlone octets offset bs = (x : List ℕ) × EncodingAt octets offset x × Document x bs
+
+-- read alone, the encoding at the offset is this leaf
+abbrev pub IsLeafAt : List ℕ → ℕ → Leaf → Type 0
+IsLeafAt octets offset l = (o : ℕ) × IsReadAlone octets offset (more_trees (leaf o l) no_trees)
+
+abbrev pub IsIntegerAt : List ℕ → ℕ → ℤ → Type 0
+IsIntegerAt octets offset n = IsLeafAt octets offset (integer n)
+
+-- a UTCTime or GeneralizedTime of the moment
+abbrev pub IsMomentAt : List ℕ → ℕ → Moment → Type 0
+IsMomentAt octets offset m = IsLeafAt octets offset (utc_time m) ⊎ IsLeafAt octets offset (generalized_time m)
+
+-- a string of whatever kind, whose text these are in UTF-8
+abbrev pub IsTextAt : List ℕ → ℕ → List ℕ → Type 0
+IsTextAt octets offset utf8 = (kind : StringKind) × IsLeafAt octets offset (text kind (chars utf8))
+
+abbrev pub IsIdentifierAt : List ℕ → ℕ → List ℕ → Type 0
+IsIdentifierAt octets offset components = IsLeafAt octets offset (object_identifier components)
+
+-- what stands at the offset: no encoding; one that is at fault; or one that is read as these trees
+pub data IsReason (octets : List ℕ) (offset status : ℕ) : Type 0 where
+  stands_nowhere : status ≡ no_such_value → HasNoEncodingAt octets offset → IsReason octets offset status
+  is_at_fault :
+      (x : List ℕ) → EncodingAt octets offset x → (fault : DecodeFault) → FirstFault x fault →
+      status ≡ status_of fault → IsReason octets offset status
+  is_another : status ≡ no_such_value → (bs : Trees ℕ) → IsReadAlone octets offset bs → IsReason octets offset status
+
+-- no value of a kind is answered: memory ran out, or there is none at the offset
+abbrev pub IsMissing : Type 0 → List ℕ → ℕ → ℕ → Type 0
+IsMissing IsThere octets offset status =
+    (status ≡ no_memory) ⊎ ((IsThere → ⊥) × IsReason octets offset status)
+
+-- the number; that it does not fit; or that there is none
+pub data AnswersInteger (octets : List ℕ) (offset : ℕ) (answer : IntegerAnswer) : Type 0 where
+  integer_was_found :
+      answer.status ≡ done → IsIntegerAt octets offset answer.value → AnswersInteger octets offset answer
+  integer_is_too_large :
+      answer.status ≡ out_of_range → (n : ℤ) → IsIntegerAt octets offset n → (FitsSigned w64 n → ⊥) →
+      AnswersInteger octets offset answer
+  integer_is_missing :
+      IsMissing ((n : ℤ) × IsIntegerAt octets offset n) octets offset answer.status →
+      AnswersInteger octets offset answer
+
+-- the record has the fields of the moment
+pub record HasMoment (m : Moment) (answer : MomentAnswer) : Type 0 where
+  pub year : answer.year ≡ m.year
+  pub month : answer.month ≡ m.month
+  pub day : answer.day ≡ m.day
+  pub hour : answer.hour ≡ m.hour
+  pub minute : answer.minute ≡ m.minute
+  pub second : answer.second ≡ m.second
+  pub nanosecond : answer.nanosecond ≡ m.nanosecond
+
+-- the moment, or that there is none
+pub data AnswersMoment (octets : List ℕ) (offset : ℕ) (answer : MomentAnswer) : Type 0 where
+  moment_was_found :
+      answer.status ≡ done → (m : Moment) → IsMomentAt octets offset m → HasMoment m answer →
+      AnswersMoment octets offset answer
+  moment_is_missing :
+      IsMissing ((m : Moment) × IsMomentAt octets offset m) octets offset answer.status →
+      AnswersMoment octets offset answer
+
+-- the text, or how much room it needs; or that there is none
+pub data AnswersText (octets : List ℕ) (offset : ℕ) (before after : List ℕ) (o : Outcome) : Type 0 where
+  text_was_found :
+      (utf8 : List ℕ) → IsTextAt octets offset utf8 → ArePut utf8 before after o →
+      AnswersText octets offset before after o
+  text_is_missing :
+      IsMissing ((utf8 : List ℕ) × IsTextAt octets offset utf8) octets offset o.status → o.offset ≡ offset →
+      after ≡ before → AnswersText octets offset before after o
+
+-- each number in decimal, after a point
+abbrev pub pointed : List ℕ → List ℕ
+pointed [] = []
+pointed (n ∷ ns) = 46 ∷ (decimal n ++ pointed ns)
+
+-- numbers in decimal, with a point between two of them
+abbrev pub dotted : List ℕ → List ℕ
+dotted [] = []
+dotted (n ∷ ns) = decimal n ++ pointed ns
+
+-- the dotted components, or how much room they need; that one of them is too large; or that there is none
+pub data AnswersIdentifier (octets : List ℕ) (offset : ℕ) (before after : List ℕ) (o : Outcome) : Type 0 where
+  identifier_was_found :
+      (components : List ℕ) → IsIdentifierAt octets offset components → ArePut (dotted components) before after o →
+      AnswersIdentifier octets offset before after o
+  identifier_is_too_large :
+      o.status ≡ out_of_range → (components : List ℕ) → IsIdentifierAt octets offset components →
+      HasNotAll (λ n. n < 2 ^ 128) components → o.offset ≡ offset → after ≡ before →
+      AnswersIdentifier octets offset before after o
+  identifier_is_missing :
+      IsMissing ((components : List ℕ) × IsIdentifierAt octets offset components) octets offset o.status →
+      o.offset ≡ offset → after ≡ before → AnswersIdentifier octets offset before after o
