@@ -7,7 +7,7 @@ use Rattle.asn1_blocks.specs.declared.block.GroupKind.{GroupKind}
 use Rattle.asn1_blocks.specs.declared.block.GroupKind.TheVariants.{Sequence, Set}
 use Rattle.asn1_headers.specs.Fault.{DecodeFault, IsOfReading}
 use Rattle.asn1_numbers.specs.Octets.{AreOctets}
-use Rattle.asn1_blocks.specs.LeafEquality.{equal_string}
+use Rattle.asn1_blocks.specs.Inner.LeafEquality.{equal_string}
 use Rattle.asn1_numbers.specs.TwosComplement.{signed_number}
 use Rattle.asn1_leaves.specs.StringKind.{StringKind, utf8, printable, teletex, ia5, universal, bmp}
 use Rattle.asn1_blocks.specs.Tree.{Leaf, boolean, integer, bit_string, octet_string, null, object_identifier, text, utc_time, generalized_time}

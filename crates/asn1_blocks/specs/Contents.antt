@@ -158,11 +158,3 @@ normalized_leaf (object_identifier ns) = object_identifier ns
 normalized_leaf (text kind cs) = text kind cs
 normalized_leaf (utc_time m) = utc_time m
 normalized_leaf (generalized_time m) = generalized_time m
-
--- the tree is a leaf at the offset, with this tag and these contents octets
-abbrev pub IsLeafOf : ℕ → ℕ → List ℕ → Tree ℕ → Type 0
-IsLeafOf offset tag contents (leaf o l) =
-    (o ≡ offset) × (tag ≡ leaf_tag l) × LeafContents l contents
-IsLeafOf offset tag contents (group o g bs) = ⊥
-IsLeafOf offset tag contents (explicit c o n b) = ⊥
-IsLeafOf offset tag contents (unknown c k o n v) = ⊥

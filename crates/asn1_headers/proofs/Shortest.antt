@@ -10,7 +10,8 @@ use Rattle.std.proofs.lemmas.Int.Digits.{first_digits_of, number_digits_of, numb
 use Rattle.std.proofs.lemmas.Bool.{cases_lt, cond_below, cond_above}
 use Rattle.asn1_headers.specs.declared.header.ASN1Class.{ASN1Class}
 use Rattle.asn1_numbers.specs.Octets.{AreOctets}
-use Rattle.asn1_numbers.specs.Base128.{HasNoLeadingZeros, IsBase128, IsContinued, shortest_base128}
+use Rattle.asn1_numbers.specs.Base128.{IsBase128, IsContinued, shortest_base128}
+use Rattle.asn1_numbers.specs.Inner.Natural.{HasNoLeadingZeros}
 use Rattle.asn1_headers.specs.Header.{IsIdentifier, IsLength, leading_octet, shortest_identifier, shortest_length}
 use Rattle.asn1_numbers.proofs.Base128Digits.{short_push}
 use Rattle.asn1_numbers.proofs.Base128Forms.{length_shortest}

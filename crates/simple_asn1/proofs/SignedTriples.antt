@@ -15,7 +15,8 @@ use Rattle.simple_asn1.specs.Laws.OneReading.{OneReading}
 use Rattle.simple_asn1.specs.Laws.Parts.{Slices}
 use Rattle.asn1_numbers.specs.Octets.{FitInSlice}
 use Rattle.asn1_blocks.specs.Places.{HasOctets, rebased, in_first, in_later, in_group, itself}
-use Rattle.simple_asn1.specs.SignedTrees.{SignedParts, BeginWithSigned, HasFields, IsAlgorithm, IsOfAnotherShape, IsSigned, ReadsSigned, algorithm_tree, signed_tree, signed_trees}
+use Rattle.simple_asn1.specs.SignedTrees.{SignedParts, BeginWithSigned, HasFields, IsOfAnotherShape, IsSigned, ReadsSigned, algorithm_tree, signed_tree, signed_trees}
+use Rattle.simple_asn1.specs.Inner.Algorithm.{IsAlgorithm}
 use Rattle.asn1_blocks.specs.Tree.{Tree, Trees, leaf, group, bit_string, object_identifier, no_trees, more_trees}
 use Rattle.asn1_blocks.specs.View.{tree_offset, view, views}
 

@@ -5,14 +5,14 @@ use Rattle.asn1_headers.specs.declared.header.ASN1Class.{ASN1Class}
 use Rattle.asn1_headers.specs.declared.header.ASN1Class.TheVariants.{Universal}
 use Rattle.asn1_headers.specs.Header.{Encoding, shortest_identifier, shortest_length}
 use Rattle.asn1_blocks.specs.Tree.{Tree, Trees, leaf, group, explicit, unknown, no_trees, more_trees}
-use Rattle.asn1_blocks.specs.TreeOrder.{IsNext, inside}
+use Rattle.asn1_blocks.specs.Inner.TreeOrder.{IsNext, inside}
 use Rattle.asn1_blocks.specs.View.{view, views}
 use Rattle.asn1_blocks.specs.Contents.{LeafContents, group_tag, leaf_contents, leaf_tag}
 use Rattle.simple_asn1.specs.Canonical.{shortest_encoding, canonical, all_canonical}
 use Rattle.asn1_blocks.specs.Grammar.{Document, EncodesAll}
 use Rattle.asn1_blocks.specs.Places.{joined}
-use Rattle.simple_asn1.specs.StandWalk.{BeginWithOwn}
-use Rattle.simple_asn1.specs.WriteWalk.{identifier_of}
+use Rattle.simple_asn1.specs.Inner.StandWalk.{BeginWithOwn}
+use Rattle.simple_asn1.specs.Inner.WriteWalk.{identifier_of}
 use Rattle.asn1_headers.proofs.Prefixes.{encoding_alone, identifier_alone, length_alone, same_split}
 use Rattle.asn1_blocks.proofs.OneReading.{encodes_block}
 use Rattle.asn1_blocks.proofs.Faults.{block_encoding}

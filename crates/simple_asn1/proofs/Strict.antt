@@ -8,7 +8,7 @@ use Rattle.asn1_headers.specs.declared.error.ASN1DecodeErr.TheVariants.{OutOfMem
 use Rattle.asn1_headers.specs.declared.header.ASN1Class.{ASN1Class}
 use Rattle.asn1_headers.specs.declared.header.ASN1Class.TheVariants.{Universal}
 use Rattle.asn1_numbers.specs.declared.sink.Comparison.{Comparison}
-use Rattle.asn1_numbers.specs.Comparisons.{compared}
+use Rattle.asn1_numbers.specs.Inner.Comparisons.{compared}
 use Rattle.asn1_headers.specs.Fault.{DecodeFault, OutOfMemoryOr, fault_of, not_canonical}
 use Rattle.asn1_blocks.specs.Tree.{Tree, Trees, leaf, group, explicit, unknown, no_trees, more_trees, shapes}
 use Rattle.asn1_blocks.specs.View.{tree_offset, view, views}

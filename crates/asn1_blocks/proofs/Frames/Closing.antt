@@ -9,7 +9,7 @@ use Rattle.asn1_blocks.specs.Contents.{group_tag}
 use Rattle.asn1_blocks.specs.Grammar.{of_other_class, of_group, Encodes, EncodesAll}
 use Rattle.asn1_headers.specs.Header.{Encoding}
 use Rattle.asn1_blocks.specs.HeadersBegun.{HeadersBegun}
-use Rattle.asn1_blocks.specs.OpenFrames.{Frame, Headed, Opened}
+use Rattle.asn1_blocks.specs.Inner.OpenFrames.{Frame, Headed, Opened}
 use Rattle.asn1_blocks.specs.Tree.{Tree, group, trees_of}
 use Rattle.asn1_blocks.proofs.Frames.Stopping.{Closed, whole_document}
 use Rattle.asn1_blocks.proofs.HeaderCounts.{begun_opened}

@@ -16,9 +16,9 @@ use Rattle.asn1_blocks.specs.Grammar.{Encodes, EncodesAll, in_header, in_content
 use Rattle.asn1_blocks.specs.FaultPlace.{BlockFaultAt, at_header, at_leaf}
 use Rattle.asn1_headers.specs.Header.{Encoding}
 use Rattle.asn1_blocks.specs.HeadersBegun.{IsReadInside, begun_none, begun_some, nothing_inside, nothing_after}
-use Rattle.asn1_blocks.specs.OpenFrames.{Frame, Headed, Opened, Stopping}
-use Rattle.asn1_blocks.specs.HeaderPlaces.{EncodingBetween, HeaderFound}
-use Rattle.asn1_blocks.specs.ReaderSteps.{IsKindOf}
+use Rattle.asn1_blocks.specs.Inner.OpenFrames.{Frame, Headed, Opened, Stopping}
+use Rattle.asn1_blocks.specs.Inner.HeaderPlaces.{EncodingBetween, HeaderFound}
+use Rattle.asn1_blocks.specs.Inner.ReaderSteps.{IsKindOf}
 use Rattle.asn1_blocks.specs.Tree.{Tree, trees_of}
 use Rattle.asn1_blocks.proofs.Faults.{block_fault_no_block, header_no_encoding}
 use Rattle.asn1_blocks.proofs.Frames.Advances.{Follows, opened_places}

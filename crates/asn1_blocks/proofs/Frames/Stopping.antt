@@ -9,9 +9,9 @@ use Rattle.asn1_headers.specs.Fault.{DecodeFault}
 use Rattle.asn1_blocks.specs.FaultPlace.{BlockFaultAt, at_item, BlocksFaultAt, at_block}
 use Rattle.asn1_blocks.specs.Grammar.{IsBlock, of_other_class}
 use Rattle.asn1_blocks.specs.HeadersBegun.{HeadersBegun, begun_some, inside_first, nothing_after}
-use Rattle.asn1_blocks.specs.OpenFrames.{Frame, ReadTo, GroupAt, Headed, Opened, StopsAt, Stopping}
-use Rattle.asn1_blocks.specs.Owed.{as_it_came}
-use Rattle.asn1_blocks.specs.ReaderSteps.{FaultyDocument}
+use Rattle.asn1_blocks.specs.Inner.OpenFrames.{Frame, ReadTo, GroupAt, Headed, Opened, StopsAt, Stopping}
+use Rattle.asn1_blocks.specs.Inner.Owed.{as_it_came}
+use Rattle.asn1_blocks.specs.Inner.ReaderSteps.{FaultyDocument}
 use Rattle.asn1_blocks.specs.Tree.{Tree, trees_of}
 use Rattle.asn1_blocks.proofs.Faults.{block_is_blocks, block_fault_no_block, blocks_fault_no_blocks}
 use Rattle.asn1_blocks.proofs.FaultPlaces.{block_placed, blocks_placed}

@@ -9,9 +9,9 @@ use Rattle.asn1_blocks.specs.declared.owed.Entry.TheVariants as Orders
 use Rattle.asn1_blocks.specs.declared.read.Extent.{Extent}
 use Rattle.asn1_blocks.specs.declared.read.OpenFrame.{OpenFrame}
 use Rattle.asn1_blocks.specs.declared.read.Reader.{Reader}
-use Rattle.asn1_blocks.specs.OpenFrames.{Opened}
-use Rattle.asn1_blocks.specs.Owed.{Leads, around, as_it_came}
-use Rattle.asn1_blocks.specs.ReaderSteps.{AllHold, frame, frames, GoesOn, IsOwed, IsPut, IsKept, left}
+use Rattle.asn1_blocks.specs.Inner.OpenFrames.{Opened}
+use Rattle.asn1_blocks.specs.Inner.Owed.{Leads, around, as_it_came}
+use Rattle.asn1_blocks.specs.Inner.ReaderSteps.{AllHold, frame, frames, GoesOn, IsOwed, IsPut, IsKept, left}
 use Rattle.asn1_blocks.specs.Tree.{Tree, group, trees_of}
 use Rattle.asn1_blocks.specs.View.{view}
 use Rattle.asn1_blocks.proofs.Frames.Advances.{opened_more}

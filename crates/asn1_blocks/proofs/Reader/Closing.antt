@@ -10,9 +10,9 @@ use Rattle.asn1_blocks.specs.declared.read.FrameKind.TheVariants.{Group, Attempt
 use Rattle.asn1_blocks.specs.declared.read.OpenFrame.{OpenFrame}
 use Rattle.asn1_blocks.specs.declared.read.Reader.{Reader}
 use Rattle.asn1_blocks.specs.Grammar.{Encodes, EncodesAll}
-use Rattle.asn1_blocks.specs.OpenFrames.{Opened}
-use Rattle.asn1_blocks.specs.Owed.{Leads, after_all, around, as_it_came}
-use Rattle.asn1_blocks.specs.ReaderSteps.{frame, frames, Reads, Ended}
+use Rattle.asn1_blocks.specs.Inner.OpenFrames.{Opened}
+use Rattle.asn1_blocks.specs.Inner.Owed.{Leads, after_all, around, as_it_came}
+use Rattle.asn1_blocks.specs.Inner.ReaderSteps.{frame, frames, Reads, Ended}
 use Rattle.asn1_blocks.specs.Tree.{Tree, group, trees_of}
 use Rattle.asn1_blocks.specs.View.{view, views}
 use Rattle.asn1_blocks.proofs.Faults.{one_block, tree_count}

@@ -4,7 +4,7 @@ use Rattle.std.specs.Prelude.{if◌then◌else◌, nat_lt, pos, ◌≤ℤ◌, un
 use Rattle.std.specs.List.{slice_range}
 use Rattle.std.proofs.lemmas.Bool.Decides.{nat_tests}
 use Rattle.std.proofs.lemmas.Int.{ints}
-use Rattle.asn1_leaves.specs.Contents.DigitFields.{IsSpelled, PairAt}
+use Rattle.asn1_leaves.specs.Inner.DigitFields.{IsSpelled, PairAt}
 use Rattle.asn1_leaves.specs.Contents.Moment.{Moment, moment_write_fault}
 use Rattle.asn1_leaves.specs.Contents.UtcTime.{IsFaithfulUtcTime, UtcTimeContents, UtcTimeFault, utc_time_contents, utc_time_fault}
 use Rattle.asn1_headers.specs.Fault.{DecodeFault, IsOfReading}

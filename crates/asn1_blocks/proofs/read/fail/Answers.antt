@@ -2,7 +2,7 @@ use Rattle.std.proofs.Common.{◌≡◌}
 use Rattle.std.proofs.lemmas.Grind.{common_steps}
 use Rattle.std.proofs.Common.{arith}
 use Rattle.asn1_headers.specs.declared.error.ASN1DecodeErr.TheVariants.{OutOfMemory}
-use Rattle.asn1_blocks.specs.ReaderSteps.{Faulty}
+use Rattle.asn1_blocks.specs.Inner.ReaderSteps.{Faulty}
 use Rattle.asn1_blocks.proofs.Frames.Opening.{fault_here}
 use Rattle.asn1_blocks.proofs.read.fail.Goals as goal
 

@@ -2,8 +2,8 @@ use Rattle.std.proofs.Common.{◌≡◌, inr, length, reverse, sym, ap, ◌∙�
 use Rattle.std.proofs.lemmas.Grind.{common_steps}
 use Rattle.asn1_blocks.specs.declared.read.OpenFrame.{OpenFrame}
 use Rattle.asn1_blocks.specs.declared.read.Reader.{Reader}
-use Rattle.asn1_blocks.specs.Owed.{as_it_came}
-use Rattle.asn1_blocks.specs.ReaderSteps.{attempt_of}
+use Rattle.asn1_blocks.specs.Inner.Owed.{as_it_came}
+use Rattle.asn1_blocks.specs.Inner.ReaderSteps.{attempt_of}
 use Rattle.asn1_blocks.proofs.Reader.Adding.{Ready, kept_goes_on}
 use Rattle.asn1_blocks.proofs.Reader.Stopping.{fits, refused_pop, refused_attempt, refused_places, refused_taken, refused_outermost, taken_nearer, attempt_is}
 use Rattle.asn1_blocks.proofs.read.refuse.Goals as goal

@@ -1,5 +1,5 @@
 use Rattle.std.proofs.Common.{◌∙◌, ap, arith, subst, sym}
-use Rattle.asn1_blocks.specs.TreeOrder.{IsNext, ahead}
+use Rattle.asn1_blocks.specs.Inner.TreeOrder.{IsNext, ahead}
 use Rattle.simple_asn1.specs.Canonical.{all_canonical}
 use Rattle.asn1_blocks.specs.Grammar.{EncodesAll}
 use Rattle.asn1_blocks.specs.View.{view, views}

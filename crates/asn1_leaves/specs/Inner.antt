@@ -1,0 +1,2 @@
+-- What private contracts name, but no public one.
+pub mod DigitFields

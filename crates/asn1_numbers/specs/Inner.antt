@@ -1,0 +1,5 @@
+-- What private contracts and ghost members of types name, but no public contract.
+pub mod Natural
+pub mod Whole
+pub mod Sinks
+pub mod Comparisons
