@@ -14,6 +14,7 @@ use Rattle.asn1_headers.proofs.Prefixes.{identifier_alone}
 use Rattle.asn1_blocks.specs.Tree.{Tree, Trees, unknown, no_trees, more_trees}
 use Rattle.asn1_headers.specs.HeaderFault.{HeaderFault, no_identifier, no_length, too_far, too_long}
 use Rattle.asn1_blocks.specs.Grammar.{Encodes, EncodesAll}
+use Rattle.asn1_blocks.proofs.OneReading.{only}
 
 abbrev pub with_last : {O : Type 0} → Trees O → Tree O → Trees O
 with_last no_trees b = more_trees b no_trees
@@ -23,14 +24,15 @@ with_last (more_trees x xs) b = more_trees x (with_last xs b)
 pub encodes_more : (o : ℕ) (octets last : List ℕ) (bs : Trees ℕ) (b : Tree ℕ) → EncodesAll o octets bs → Encodes (o + length octets) last b
     → EncodesAll o (octets ++ last) (with_last bs b)
 encodes_more o octets last no_trees b s t =
-    (last, [], ap (λ z. z ++ last) s ∙ sym (append-nil last), subst (λ z. Encodes z last b) (omega (arith, ap length s)) t, refl)
-encodes_more o octets last (more_trees x xs) b s t = (
-  s.0,
-  s.1 ++ last,
-  ap (λ z. z ++ last) s.2 ∙ append_assoc s.0 s.1 last,
-  s.3,
-  encodes_more (o + length s.0) s.1 last xs b s.4 (subst (λ z. Encodes z last b) (omega (arith, ap length s.2, length-append s.0 s.1)) t),
-)
+    subst (λ z. EncodesAll o z (more_trees b no_trees)) (sym (ap (λ z. z ++ last) s))
+    (only o last b (subst (λ z. Encodes z last b) (omega (arith, ap length s)) t))
+encodes_more o octets last (more_trees x xs) b s t = record {
+  first = s.first;
+  rest = s.rest ++ last;
+  whole = ap (λ z. z ++ last) s.whole ∙ append_assoc s.first s.rest last;
+  item = s.item;
+  items = encodes_more (o + length s.first) s.rest last xs b s.items (subst (λ z. Encodes z last b) (omega (arith, ap length s.whole, length-append s.first s.rest)) t);
+}
 
 pub views_push : (bs : List ASN1Block) (b : ASN1Block) → views (bs ++ b ∷ []) ≡ with_last (views bs) (view b)
 views_push [] b = refl

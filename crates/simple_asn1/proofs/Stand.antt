@@ -14,7 +14,7 @@ use Rattle.asn1_blocks.specs.Places.{joined}
 use Rattle.simple_asn1.specs.Inner.StandWalk.{BeginWithOwn}
 use Rattle.simple_asn1.specs.Inner.WriteWalk.{identifier_of}
 use Rattle.asn1_headers.proofs.Prefixes.{encoding_alone, identifier_alone, length_alone, same_split}
-use Rattle.asn1_blocks.proofs.OneReading.{encodes_block}
+use Rattle.asn1_blocks.proofs.OneReading.{encodes_block, only}
 use Rattle.asn1_blocks.proofs.Faults.{block_encoding}
 use Rattle.asn1_headers.proofs.Shortest.{shortest_identifier_is, shortest_length_is}
 use Rattle.asn1_blocks.proofs.Slices.{encodes_joined}
@@ -69,16 +69,16 @@ all_front :
     y ++ z ≡ all_canonical bs ++ w → (y ≡ all_canonical bs) × (z ≡ w)
 all_front o y z w no_trees small s e = (s, ap (λ q. q ++ z) (sym s) ∙ e)
 all_front o y z w (more_trees b bs) small s e =
-    let d : s.0 ++ (s.1 ++ z) ≡ canonical b ++ (all_canonical bs ++ w) = sym (append_assoc s.0 s.1 z) ∙ (ap (λ q. q ++ z) (sym s.2) ∙
+    let d : s.first ++ (s.rest ++ z) ≡ canonical b ++ (all_canonical bs ++ w) = sym (append_assoc s.first s.rest z) ∙ (ap (λ q. q ++ z) (sym s.whole) ∙
     (e ∙ append_assoc (canonical b) (all_canonical bs) w)) in
-    let n : length (y ++ z) ≡ length s.0 + length (s.1 ++ z) = ap length (ap (λ q. q ++ z) s.2 ∙ append_assoc s.0 s.1 z) ∙ length-append s.0 (s.1 ++ z) in
-    let m : length s.0 + length (s.1 ++ z) ≡ length (canonical b) + length (all_canonical bs ++ w) =
-    sym (length-append s.0 (s.1 ++ z)) ∙ (ap length d ∙ length-append (canonical b) (all_canonical bs ++ w)) in
-    let F = block_encoding s.0 (encodes_block o s.0 b s.3) in
+    let n : length (y ++ z) ≡ length s.first + length (s.rest ++ z) = ap length (ap (λ q. q ++ z) s.whole ∙ append_assoc s.first s.rest z) ∙ length-append s.first (s.rest ++ z) in
+    let m : length s.first + length (s.rest ++ z) ≡ length (canonical b) + length (all_canonical bs ++ w) =
+    sym (length-append s.first (s.rest ++ z)) ∙ (ap length d ∙ length-append (canonical b) (all_canonical bs ++ w)) in
+    let F = block_encoding s.first (encodes_block o s.first b s.item) in
     let G = canonical_encoding b (omega (arith, small, n, m)) in
-    let h = encoding_alone _ _ _ _ _ _ _ _ _ _ _ _ (s.1 ++ z) (all_canonical bs ++ w) F.encoding G.encoding d in
-    let r = all_front (o + length s.0) s.1 z w bs (omega (arith, small, n)) s.4 h.rest in
-    (s.2 ∙ (ap (λ q. q ++ s.1) h.octets ∙ ap (λ q. canonical b ++ q) r.0), r.1)
+    let h = encoding_alone _ _ _ _ _ _ _ _ _ _ _ _ (s.rest ++ z) (all_canonical bs ++ w) F.encoding G.encoding d in
+    let r = all_front (o + length s.first) s.rest z w bs (omega (arith, small, n)) s.items h.rest in
+    (s.whole ∙ (ap (λ q. q ++ s.rest) h.octets ∙ ap (λ q. canonical b ++ q) r.0), r.1)
 
 -- trees are left in the rest, which decides of all
 abbrev pub Decides : List ℕ → List ℕ → Trees ℕ → List ℕ → Type 0
@@ -130,21 +130,25 @@ past :
     (o : ℕ) (x rest : List ℕ) (b : Tree ℕ) (bs : Trees ℕ) → length x < 2 ^ 64 → EncodesAll o x (more_trees b bs) → BeginWithOwn b x rest →
     Decides x rest (joined (inside b) bs) (canonical b ++ all_canonical bs)
 past o x rest (leaf p l) bs few s a =
-    closed o x s.0 s.1 s.3.1 a.own rest (leaf_contents l) Universal Universal s.3.0 false (leaf_tag l) (leaf_tag l) s.3.2 a.announced bs s.2 s.3.3
-    s.4 a.fits a.size a.whole (λ q. a.canonical (subst (LeafContents l) q s.3.5))
+    let one = s.item in
+    closed o x s.first s.rest one.contents a.own rest (leaf_contents l) Universal Universal one.constructed false (leaf_tag l) (leaf_tag l) one.header a.announced bs s.whole one.encoding
+    s.items a.fits a.size a.whole (λ q. a.canonical (subst (LeafContents l) q one.means))
 past o x rest (unknown c k p n v) bs few s a =
-    closed o x s.0 s.1 v a.own rest v c c k k n n s.3.0 a.announced bs s.2 s.3.1 s.4 a.fits a.size a.whole (λ q. sym q)
+    let one = s.item in
+    closed o x s.first s.rest v a.own rest v c c k k n n one.header a.announced bs s.whole one.encoding s.items a.fits a.size a.whole (λ q. sym q)
 past o x rest (group p g held) bs few s a =
+    let one = s.item in
     let i = shortest_identifier Universal true (group_tag g) in
     let whole : x ≡ i ++ (shortest_length a.announced ++ rest) = a.whole ∙ ap (λ z. i ++ (shortest_length a.announced ++ (z ++ rest))) a.canonical in
-    opened o x s.0 s.1 s.3.1 rest Universal Universal s.3.0 true (group_tag g) (group_tag g) s.3.2 a.announced held bs few s.2 s.3.3 s.3.5 s.4
+    opened o x s.first s.rest one.contents rest Universal Universal one.constructed true (group_tag g) (group_tag g) one.header a.announced held bs few s.whole one.encoding one.means s.items
     a.fits whole
 past o x rest (explicit c p n b) bs few s a =
+    let one = s.item in
     let i = shortest_identifier c true n in
     let whole : x ≡ i ++ (shortest_length a.announced ++ rest) = a.whole ∙ ap (λ z. i ++ (shortest_length a.announced ++ (z ++ rest))) a.canonical in
-    let contents = s.3.0 in
-    let one : EncodesAll (o + s.3.1) contents (more_trees b no_trees) = (contents, [], sym (append-nil contents), s.3.5, refl) in
-    let d = opened o x s.0 s.1 contents rest c c true true n n s.3.1 a.announced (more_trees b no_trees) bs few s.2 s.3.2 one s.4 a.fits whole in
+    let contents = one.contents in
+    let item : EncodesAll (o + one.header) contents (more_trees b no_trees) = only (o + one.header) contents b one.means in
+    let d = opened o x s.first s.rest contents rest c c true true n n one.header a.announced (more_trees b no_trees) bs few s.whole one.encoding item s.items a.fits whole in
     (d.0, d.1, λ g. d.2 g ∙ ap (λ z. shortest_encoding c true n z ++ all_canonical bs) (append-nil (canonical b)))
 
 -- past the own octets of the next block

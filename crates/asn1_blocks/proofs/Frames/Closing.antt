@@ -51,7 +51,14 @@ close_group octets f g gs n x y k o =
       follows = record {
         from = omega (arith, H.0, o.after, o.read.from, o.read.to);
         to = o.fits;
-        encoded = (bit, contents, s - x, F, refl, subst (λ i. EncodesAll i contents trees) at o.read.encoded);
+        encoded = record {
+          constructed = bit;
+          contents = contents;
+          header = s - x;
+          encoding = F;
+          place = refl;
+          means = subst (λ i. EncodesAll i contents trees) at o.read.encoded;
+        };
         begun = begun_opened (slice_range octets x z) Universal bit (group_tag y) contents (s - x) o.own F (inl (refl, group_tag_is y)) is_block o.read.begun;
       };
       total = o.total;
