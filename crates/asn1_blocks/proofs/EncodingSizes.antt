@@ -29,12 +29,12 @@ after_identifier :
     (octets : List ℕ) (i tag : ℕ) → IsSomeIdentifier (take i octets) tag → (x rest : List ℕ) →
     octets ≡ x ++ rest → (p : IsEncoding x) →
     (take i octets ≡ p.encoding.identifier) × (drop i octets ≡ p.encoding.len ++ (p.contents ++ rest))
-after_identifier octets i tag t x rest e p =
+after_identifier octets i tag (_, _, t) x rest e p =
     let f = p.encoding in
     let w = split_encoding octets x rest p.class p.constructed p.tag p.contents p.header f e in
-    let q = identifier_alone (take i octets) f.identifier (drop i octets) (f.len ++ (p.contents ++ rest)) _ _ _ _ _ _ t.2 f.identifier_octets
+    let q = identifier_alone (take i octets) f.identifier (drop i octets) (f.len ++ (p.contents ++ rest)) _ _ _ _ _ _ t f.identifier_octets
     (take-append-drop i octets ∙ w) in
-    (q.0, q.1)
+    (q.octets, q.rest)
 
 -- nor where there are no length octets
 pub no_length_here :
@@ -57,28 +57,28 @@ no_contents_here octets i l m tag t le u few short x rest e p =
     let f = p.encoding in
     let q = length_alone (take l (drop i octets)) f.len (drop l (drop i octets)) (p.contents ++ rest) m (length p.contents) u f.length_octets
     (take-append-drop l (drop i octets) ∙ a.1) in
-    omega (arith, short, few, le, q.2, ap length q.1, length-append p.contents rest, length-drop l (drop i octets), length-drop i octets)
+    omega (arith, short, few, le, q.number, ap length q.rest, length-append p.contents rest, length-drop l (drop i octets), length-drop i octets)
 
 -- the encoding that is there
 pub encoding_here :
     (octets : List ℕ) (i l m tag : ℕ) → IsSomeIdentifier (take i octets) tag → i ≤ length octets →
     IsLength (take l (drop i octets)) m → l ≤ length (drop i octets) → i + l + m ≤ length octets →
     IsEncoding (take (i + l + m) octets)
-encoding_here octets i l m tag t le u few fits =
+encoding_here octets i l m tag (c, k, t) le u few fits =
     let r = drop i octets in
     let v = take m (drop l r) in
     let n : length v ≡ m = length-take-le m (drop l r) (omega (arith, fits, few, le, length-drop l r, length-drop i octets)) in
     let e : i + l + m ≡ i + (l + m) = omega arith in
     record {
-      class = t.0;
-      constructed = t.1;
+      class = c;
+      constructed = k;
       tag = tag;
       contents = v;
       header = i + l;
       encoding = record {
         identifier = take i octets;
         len = take l r;
-        identifier_octets = t.2;
+        identifier_octets = t;
         length_octets = subst (IsLength (take l r)) (sym n) u;
         whole = ap (λ z. take z octets) e ∙ (take-add i (l + m) octets ∙ ap (λ z. take i octets ++ z) (take-add l m r));
         size = omega (arith, length-take-le i octets le, length-take-le l r few);

@@ -110,15 +110,15 @@ header_no_encoding place octets x rest e c' k' n' contents h' (no_identifier mis
     missing f.identifier (r ++ (contents ++ rest)) c' k' n' a f.identifier_octets (split_encoding octets x rest _ _ _ _ _ f d ∙ ap (λ z. f.identifier ++ (z ++ (contents ++ rest))) l)
 header_no_encoding place octets x rest e c' k' n' contents h' (no_length s a r c k n t g missing h) small d f =
     let q = identifier_alone s f.identifier (a ∷ r) (f.len ++ (contents ++ rest)) c c' k k' n n' t f.identifier_octets (sym g ∙ split_encoding octets x rest _ _ _ _ _ f d) in
-    missing f.len (contents ++ rest) (length contents) f.length_octets q.1
+    missing f.len (contents ++ rest) (length contents) f.length_octets q.rest
 header_no_encoding place octets x rest e c' k' n' contents h' (too_far s l r c k n m t u g far h) small d f =
     let q = identifier_alone s f.identifier (l ++ r) (f.len ++ (contents ++ rest)) c c' k k' n n' t f.identifier_octets (sym g ∙ split_encoding octets x rest _ _ _ _ _ f d) in
-    let v = length_alone l f.len r (contents ++ rest) m (length contents) u f.length_octets q.1 in
-    omega (arith, far, small, v.2, ap length v.1, ap length g, length-append s (l ++ r), length-append l r, length-append contents rest)
+    let v = length_alone l f.len r (contents ++ rest) m (length contents) u f.length_octets q.rest in
+    omega (arith, far, small, v.number, ap length v.rest, ap length g, length-append s (l ++ r), length-append l r, length-append contents rest)
 header_no_encoding place octets x rest e c' k' n' contents h' (too_long s l r c k n m t u g near long) small d f =
     let q = identifier_alone s f.identifier (l ++ r) (f.len ++ (contents ++ rest)) c c' k k' n n' t f.identifier_octets (sym g ∙ split_encoding octets x rest _ _ _ _ _ f d) in
-    let v = length_alone l f.len r (contents ++ rest) m (length contents) u f.length_octets q.1 in
-    omega (arith, long, v.2, ap length v.1, length-append contents rest)
+    let v = length_alone l f.len r (contents ++ rest) m (length contents) u f.length_octets q.rest in
+    omega (arith, long, v.number, ap length v.rest, length-append contents rest)
 
 mutual
   -- where the first block is at fault, no block stands

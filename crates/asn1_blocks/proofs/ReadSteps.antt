@@ -98,7 +98,7 @@ identifier_missed place octets e (inr (f, missing)) =
 pub length_missed : (place : ℕ) (octets s rest : List ℕ) (c : ASN1Class) (k : Bool) (n : ℕ) (e : DecodeFault) → IsIdentifier s c k n → octets ≡ s ++ rest
     → ((m j : ℕ) → IsLength (take j rest) m → ⊥) → e ≡ length_fault rest → HeaderFault place octets e
 length_missed place octets s [] c k n e t d missing h =
-    subst (HeaderFault place octets) (sym h) (no_identifier (λ s' r c' k' n' b t' d'. let q = identifier_alone s s' [] (b ∷ r) c c' k k' n n' t t' (sym d ∙ d') in let f : [] ≡ b ∷ r = q.1 in cc))
+    subst (HeaderFault place octets) (sym h) (no_identifier (λ s' r c' k' n' b t' d'. let q = identifier_alone s s' [] (b ∷ r) c c' k k' n n' t t' (sym d ∙ d') in let f : [] ≡ b ∷ r = q.rest in cc))
 length_missed place octets s (b ∷ rest) c k n e t d missing h =
     no_length s b rest c k n t d (λ l r m u f. missing m (length l) (subst (λ z. IsLength z m) (sym (ap (take (length l)) f ∙ front_taken l r)) u)) h
 

@@ -130,8 +130,9 @@ abbrev pub IsRefused : List ℕ → TripleErr → Type 0
 IsRefused octets e = DecodeFails (λ bs r. ReadsSigned bs octets r) (λ f e. e ≡ Codec f) octets e
 
 fields_of : OneReading → (octets : List ℕ) (t : SignedTriple) → IsRead octets t → (p : SignedParts) → IsSigned octets p → HasFields octets p t
-fields_of law octets t (bs, rest, d, (q, begin, fields)) p (xs, e) =
-    same_fields octets t p q xs rest (law.one_document octets (signed_trees p xs) bs e d ∙ begin.trees) fields
+fields_of law octets t is p (xs, e) =
+    let (q, begin, fields) = is.is_read in
+    same_fields octets t p q xs is.rest (law.one_document octets (signed_trees p xs) is.trees e is.document ∙ begin.trees) fields
 
 only_memory : OneReading → Slices → (octets : List ℕ) → FitInSlice octets → (e : TripleErr) → IsRefused octets e →
     (p : SignedParts) → IsSigned octets p →

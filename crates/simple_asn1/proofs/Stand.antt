@@ -45,23 +45,30 @@ joined_canonical no_trees ys = refl
 joined_canonical (more_trees b xs) ys =
     ap (λ z. canonical b ++ z) (joined_canonical xs ys) ∙ sym (append_assoc (canonical b) (all_canonical xs) (all_canonical ys))
 
+-- an encoding whose header is canonical, and what stands there in place of its contents octets
+record Front (s contents own r rest : List ℕ) (d : ASN1Class) (k : Bool) (p m : ℕ) : Type 0 where
+  pub encoding : s ≡ shortest_encoding d k p contents
+  pub whole : contents ++ r ≡ own ++ rest
+  pub size : length contents ≡ m
+
 -- the encoding at the front of octets that begin with a canonical header
 front :
     (x s r contents own rest : List ℕ) (c d : ASN1Class) (j k : Bool) (n p h m : ℕ) →
     x ≡ s ++ r → Encoding s c j n contents h → m < 2 ^ 64 →
     x ≡ shortest_identifier d k p ++ (shortest_length m ++ (own ++ rest)) →
-    (s ≡ shortest_encoding d k p contents) × (contents ++ r ≡ own ++ rest) × (length contents ≡ m)
+    Front s contents own r rest d k p m
 front x s r contents own rest c d j k n p h m w F small e =
     let e1 : F.identifier ++ (F.len ++ (contents ++ r)) ≡ shortest_identifier d k p ++ (shortest_length m ++ (own ++ rest)) =
     regroup F.identifier F.len contents r ∙ (ap (λ z. z ++ r) (sym F.whole) ∙ (sym w ∙ e)) in
     let t = identifier_alone F.identifier (shortest_identifier d k p) (F.len ++ (contents ++ r)) (shortest_length m ++ (own ++ rest)) c d j k n p
     F.identifier_octets (shortest_identifier_is d k p) e1 in
-    let l = length_alone F.len (shortest_length m) (contents ++ r) (own ++ rest) (length contents) m F.length_octets (shortest_length_is m small) t.1 in (
-      F.whole ∙ (ap (λ z. z ++ (F.len ++ contents)) t.0 ∙ (ap (λ z. shortest_identifier d k p ++ (z ++ contents)) l.0 ∙
-          ap (λ z. shortest_identifier d k p ++ (shortest_length z ++ contents)) (sym l.2))),
-      l.1,
-      l.2,
-    )
+    let l = length_alone F.len (shortest_length m) (contents ++ r) (own ++ rest) (length contents) m F.length_octets (shortest_length_is m small) t.rest in
+    record {
+      encoding = F.whole ∙ (ap (λ z. z ++ (F.len ++ contents)) t.octets ∙ (ap (λ z. shortest_identifier d k p ++ (z ++ contents)) l.octets ∙
+          ap (λ z. shortest_identifier d k p ++ (shortest_length z ++ contents)) (sym l.number)));
+      whole = l.rest;
+      size = l.number;
+    }
 
 -- octets of trees at the front of canonical octets of these are no others
 all_front :
@@ -96,8 +103,8 @@ closed :
     Decides x rest bs (shortest_encoding d k p written ++ all_canonical bs)
 closed o x s r contents own rest written c d j k n p h m bs w F t small l e keeps =
     let f = front x s r contents own rest c d j k n p h m w F small e in
-    let q = same_split contents own r rest (f.2 ∙ l) f.1 in
-    let here : s ≡ shortest_encoding d k p written = f.0 ∙ ap (shortest_encoding d k p) (q.0 ∙ keeps q.0) in (
+    let q = same_split contents own r rest (f.size ∙ l) f.whole in
+    let here : s ≡ shortest_encoding d k p written = f.encoding ∙ ap (shortest_encoding d k p) (q.0 ∙ keeps q.0) in (
       o + length s,
       subst (λ z. EncodesAll (o + length s) z bs) q.1 t,
       λ g. w ∙ (ap (λ z. z ++ r) here ∙ ap (λ z. shortest_encoding d k p written ++ z) (q.1 ∙ g)),
@@ -120,10 +127,10 @@ opened o x s r contents rest c d j k n p h m held bs few w F u t small e =
     ) in
     let fits : length (contents ++ r) < 2 ^ 64 = omega (arith, few, size, ap length w, length-append s r, length-append contents r) in (
       o + h,
-      subst (λ z. EncodesAll (o + h) z (joined held bs)) f.1 (encodes_joined (o + h) contents r held bs u (subst (λ z. EncodesAll z r bs) size t)),
+      subst (λ z. EncodesAll (o + h) z (joined held bs)) f.whole (encodes_joined (o + h) contents r held bs u (subst (λ z. EncodesAll z r bs) size t)),
       λ g.
-          let v = all_front (o + h) contents r (all_canonical bs) held fits u (f.1 ∙ (g ∙ joined_canonical held bs)) in
-          w ∙ (ap (λ z. z ++ r) (f.0 ∙ ap (shortest_encoding d k p) v.0) ∙ ap (λ z. shortest_encoding d k p (all_canonical held) ++ z) v.1),
+          let v = all_front (o + h) contents r (all_canonical bs) held fits u (f.whole ∙ (g ∙ joined_canonical held bs)) in
+          w ∙ (ap (λ z. z ++ r) (f.encoding ∙ ap (shortest_encoding d k p) v.0) ∙ ap (λ z. shortest_encoding d k p (all_canonical held) ++ z) v.1),
     )
 
 past :
@@ -148,8 +155,8 @@ past o x rest (explicit c p n b) bs few s a =
     let whole : x ≡ i ++ (shortest_length a.announced ++ rest) = a.whole ∙ ap (λ z. i ++ (shortest_length a.announced ++ (z ++ rest))) a.canonical in
     let contents = one.contents in
     let item : EncodesAll (o + one.header) contents (more_trees b no_trees) = only (o + one.header) contents b one.means in
-    let d = opened o x s.first s.rest contents rest c c true true n n one.header a.announced (more_trees b no_trees) bs few s.whole one.encoding item s.items a.fits whole in
-    (d.0, d.1, λ g. d.2 g ∙ ap (λ z. shortest_encoding c true n z ++ all_canonical bs) (append-nil (canonical b)))
+    let (p, left, whole) = opened o x s.first s.rest contents rest c c true true n n one.header a.announced (more_trees b no_trees) bs few s.whole one.encoding item s.items a.fits whole in
+    (p, left, λ g. whole g ∙ ap (λ z. shortest_encoding c true n z ++ all_canonical bs) (append-nil (canonical b)))
 
 -- past the own octets of the next block
 pub past_own :
@@ -157,7 +164,7 @@ pub past_own :
     IsNext b before after → BeginWithOwn (view b) x rest → Decides x rest (views after) (all_canonical (views before))
 past_own o x rest b before after few s n a =
     let first = ap views n.first in
-    let d = past o x rest (view b) (views n.rest) few (subst (EncodesAll o x) first s) a in
+    let (p, left, whole) = past o x rest (view b) (views n.rest) few (subst (EncodesAll o x) first s) a in
     let then : views after ≡ joined (inside (view b)) (views n.rest) = ap views n.then ∙ (views_join n.held n.rest ∙
     ap (λ z. joined z (views n.rest)) n.holds) in
-    (d.0, subst (EncodesAll d.0 rest) (sym then) d.1, λ g. d.2 (g ∙ ap all_canonical then) ∙ sym (ap all_canonical first))
+    (p, subst (EncodesAll p rest) (sym then) left, λ g. whole (g ∙ ap all_canonical then) ∙ sym (ap all_canonical first))

@@ -21,7 +21,7 @@ none_then None p f = f p
 none_then (Some x) p f = p
 
 pub two_digits_pair : (n : ℕ) → n < 100 → IsPair (48 + n / 10) (48 + n % 10) n
-two_digits_pair n h = (h, refl, refl)
+two_digits_pair n h = record { small = h; tens = refl; units = refl }
 
 -- a month has a number of days of two digits
 pub days_few : (y : ℤ) (m : ℕ) → days_in_month y m ≤ 31

@@ -19,11 +19,12 @@ returns-clause-block c octets t =
     let document = c.args.document.now in
     let o = c.args.offset in
     let n = c.in-Some.size in
+    let (_, _, found) = c.in-Some.ensures.found in
     let r = c.split_at.ensures.back in
     let f = c.split_at-2.ensures.front ∙ ap (take n) r in
     let q : EncodingAt document o (take n (drop o document)) = record {
       rest = drop n (drop o document);
       stands = sym (take-append-drop n (drop o document));
-      are = subst (λ z. IsEncoding (take n z)) r c.in-Some.ensures.found.2;
+      are = subst (λ z. IsEncoding (take n z)) r found;
     } in
     f ∙ encoding_at_alone document o (take n (drop o document)) octets q (encoding_of document o octets t)
