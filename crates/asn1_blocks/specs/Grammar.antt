@@ -37,9 +37,9 @@ StaysAsItCame c k n v =
     ((c ≡ Universal) × (is_known_tag n ≡ false))
     ⊎ ((c ≢ Universal) × (((k ≡ true) × IsBlock v) → ⊥))
 
--- an encoding of class Universal, which stands at the offset: its contents octets have the meaning, where they stand.
--- The constructed bit of a known tag may be any, where DER has it set for a SEQUENCE and a SET (X.690 8.9.1, 8.11.1)
--- and clear for the rest (10.2)
+-- the octets at the offset, which is o, are an encoding of class Universal with this tag, and its contents octets, at
+-- the place where they begin, have the meaning. The constructed bit of a known tag may be any, where DER has it set for
+-- a SEQUENCE and a SET (X.690 8.9.1, 8.11.1) and clear for the rest (10.2)
 pub record EncodedAs (offset : ℕ) (octets : List ℕ) (o tag : ℕ) (Means : ℕ → List ℕ → Type 0) : Type 0 where
   pub constructed : Bool
   pub contents : List ℕ
@@ -48,7 +48,7 @@ pub record EncodedAs (offset : ℕ) (octets : List ℕ) (o tag : ℕ) (Means : �
   pub place : o ≡ offset
   pub means : Means (offset + header) contents
 
--- a constructed encoding of another class, which stands at the offset, around contents octets that have the meaning
+-- they are a constructed encoding of another class, and its contents octets have the meaning (8.14)
 pub record EncodedAround (offset : ℕ) (octets : List ℕ) (class : ASN1Class) (o tag : ℕ)
     (Means : ℕ → List ℕ → Type 0) : Type 0 where
   pub contents : List ℕ
@@ -58,7 +58,7 @@ pub record EncodedAround (offset : ℕ) (octets : List ℕ) (class : ASN1Class) 
   pub other : class ≢ Universal
   pub means : Means (offset + header) contents
 
--- an encoding, which stands at the offset and stays as it came
+-- they are an encoding that stays as it came
 pub record EncodedAsItCame (offset : ℕ) (octets : List ℕ) (class : ASN1Class) (constructed : Bool) (o tag : ℕ)
     (contents : List ℕ) : Type 0 where
   pub header : ℕ
@@ -66,7 +66,7 @@ pub record EncodedAsItCame (offset : ℕ) (octets : List ℕ) (class : ASN1Class
   pub place : o ≡ offset
   pub stays : StaysAsItCame class constructed tag contents
 
--- the octets are these first ones, and then the rest, which stands so much later
+-- the octets are those of a first item, and then the rest, which begins after as many octets
 pub record EncodedFirst (octets : List ℕ) (First : List ℕ → Type 0) (Rest : ℕ → List ℕ → Type 0) : Type 0 where
   pub first : List ℕ
   pub rest : List ℕ
@@ -75,8 +75,8 @@ pub record EncodedFirst (octets : List ℕ) (First : List ℕ → Type 0) (Rest 
   pub items : Rest (length first) rest
 
 abbrev mutual
-  -- the octets at the offset encode the tree. What stands inside a constructed encoding of another class is one block
-  -- (8.14), or it stays as it came
+  -- the octets at the offset encode the tree. What stands inside a constructed encoding of another class is one block,
+  -- or it stays as it came
   pub Encodes : ℕ → List ℕ → Tree ℕ → Type 0
   Encodes offset octets (leaf o l) = EncodedAs offset octets o (leaf_tag l) (λ place contents. LeafContents l contents)
   Encodes offset octets (group o g bs) =

@@ -130,9 +130,9 @@ writable_from bs i b h e f =
 
 -- octets that are compared with as many are the same exactly if the comparison says so
 pub compared_whole : (a b : Comparison) (xs : List ℕ) → compared a xs b → length xs ≡ length a.rest.now → IsTrue a.same → IsTrue b.same ↔ (a.rest.now ≡ xs)
-compared_whole a b xs p n s =
-    let front : a.rest.now ≡ p.0 = (same_split a.rest.now p.0 [] b.rest.now (omega (arith, n, p.2)) (append-nil a.rest.now ∙ p.1)).0 in
-    (λ h. front ∙ (p.3.0 h).1, λ e. p.3.1 (s, sym front ∙ e))
+compared_whole a b xs (front, whole, size, same) n s =
+    let all : a.rest.now ≡ front = (same_split a.rest.now front [] b.rest.now (omega (arith, n, size)) (append-nil a.rest.now ∙ whole)).0 in
+    (λ h. all ∙ (same.0 h).1, λ e. same.1 (s, sym all ∙ e))
 
 -- what is written of trees is, of each, where it stands
 written_stand : (bs : Trees ℕ) (i u x : List ℕ) → i ≡ u ++ x → length x < 2 ^ 64 → EncodesAll (length u) x bs → x ≡ all_canonical bs → StandCanonical i bs

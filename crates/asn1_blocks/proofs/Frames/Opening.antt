@@ -50,13 +50,13 @@ EncodingAt_moved octets i j a b y z c k n e f g F =
 pub headed_by : (octets : List ℕ) (kind : FrameKind) (place limit : ℕ) (h : Header) → IsKindOf kind h place → HeaderFound octets place limit h
     → Headed octets kind place h.start h.end
 headed_by octets Whole place limit h k w = absurd k
-headed_by octets (Group g o) place limit h k w =
-    let tag = subst (λ z. EncodingBetween octets h.class h.constructed z place h.start h.end) k.1 w.encoding in
-    let own = subst (λ z. EncodingBetween octets z h.constructed (group_tag g) place h.start h.end) k.0 tag in
-    subst (λ z. Headed octets (Group g z) place h.start h.end) (sym k.2) (refl, record { constructed = h.constructed; encoding = own })
-headed_by octets (Attempt a) place limit h k w =
-    let bit = subst (λ z. EncodingBetween octets h.class z h.tag place h.start h.end) k.1 w.encoding in
-    subst (λ z. Headed octets (Attempt z) place h.start h.end) (sym k.2) (refl, record { other = k.0; encoding = bit })
+headed_by octets (Group g o) place limit h (universal, number, at) w =
+    let tag = subst (λ z. EncodingBetween octets h.class h.constructed z place h.start h.end) number w.encoding in
+    let own = subst (λ z. EncodingBetween octets z h.constructed (group_tag g) place h.start h.end) universal tag in
+    subst (λ z. Headed octets (Group g z) place h.start h.end) (sym at) (refl, record { constructed = h.constructed; encoding = own })
+headed_by octets (Attempt a) place limit h (other, constructed, is) w =
+    let bit = subst (λ z. EncodingBetween octets h.class z h.tag place h.start h.end) constructed w.encoding in
+    subst (λ z. Headed octets (Attempt z) place h.start h.end) (sym is) (refl, record { other = other; encoding = bit })
 
 -- a frame is opened
 pub opened_open : (octets : List ℕ) (f h : Frame) (gs : List Frame) (p n : ℕ) → h.trees ≡ [] → Headed octets h.extent.kind p h.extent.start h.extent.end

@@ -111,8 +111,8 @@ tree_goes_on octets a r b t end n most e u i l w =
 pub kept_goes_on : (octets : List ℕ) (a r : Reader) (k : Attempt) (start end n most : ℕ) → IsKept octets a k start end r → r.index ≡ end
     → left (length octets) end a.outer.items < most → Ready octets a.entries.items a.inner (reverse a.outer.items) end (as_it_came octets k start end) n
     → GoesOn octets r n most
-kept_goes_on octets a r k start end n most (inl u) i l w =
-    tree_goes_on octets a r u.0 (as_it_came octets k start end) end n most u.1 u.2 i l w
+kept_goes_on octets a r k start end n most (inl (b, is, put)) i l w =
+    tree_goes_on octets a r b (as_it_came octets k start end) end n most is put i l w
 kept_goes_on octets a r k start end n most (inr u) i l w =
     owed_goes_on octets a r a.entries.items (Orders.Kept k start end) end n most (as_it_came octets k start end) u i l
     (kept_grown octets a.entries.items k start end) w

@@ -39,8 +39,9 @@ loop-parent-preserved c =
 pub keep-requires-clause-order : goal.keep-requires-clause-order
 keep-requires-clause-order c =
     let r = c.loop-parent.reader in
-    let faulty = c.loop-parent.invariant.faulty c.requires.faulty.0 c.requires.faulty.1 c.requires.faulty.2 in
-    let p = refused_places c.args.octets.now r.entries.items r.inner (reverse r.outer.items) _ r.index c.requires.faulty.0 faulty.refused in
+    let (n, most, first) = c.requires.faulty in
+    let faulty = c.loop-parent.invariant.faulty n most first in
+    let p = refused_places c.args.octets.now r.entries.items r.inner (reverse r.outer.items) _ r.index n faulty.refused in
     let s = ap (λ (z : OpenFrame). z.extent.start) c.replace-kind.ensures.value in
     let e = ap (λ (z : OpenFrame). z.extent.end) c.replace-kind.ensures.value in
     omega (arith, p.order, s, e)
@@ -48,8 +49,9 @@ keep-requires-clause-order c =
 pub keep-requires-clause-within : goal.keep-requires-clause-within
 keep-requires-clause-within c =
     let r = c.loop-parent.reader in
-    let faulty = c.loop-parent.invariant.faulty c.requires.faulty.0 c.requires.faulty.1 c.requires.faulty.2 in
-    let p = refused_places c.args.octets.now r.entries.items r.inner (reverse r.outer.items) _ r.index c.requires.faulty.0 faulty.refused in
+    let (n, most, first) = c.requires.faulty in
+    let faulty = c.loop-parent.invariant.faulty n most first in
+    let p = refused_places c.args.octets.now r.entries.items r.inner (reverse r.outer.items) _ r.index n faulty.refused in
     let e = ap (λ (z : OpenFrame). z.extent.end) c.replace-kind.ensures.value in
     omega (arith, p.within, e)
 
