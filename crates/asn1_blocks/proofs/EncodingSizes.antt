@@ -1,14 +1,11 @@
 -- The size of an encoding, by its header.
-use Rattle.std.proofs.Common.{◌≡◌, ◌≢◌, ℕ, suc, ◌+◌, ◌%◌, ◌<◌, ◌≤◌, List, [], ◌∷◌, ◌++◌, length, get_or, take, drop, refl, sym, ap, ◌∙◌, subst, arith, length-append, length-drop}
+use Rattle.std.proofs.Common.{◌≡◌, ℕ, ◌+◌, ◌<◌, ◌≤◌, List, [], ◌++◌, length, take, drop, refl, sym, ap, ◌∙◌, subst, arith, length-append, length-drop}
 use Rattle.std.proofs.lemmas.List.{take-append-drop, take_at, length-take-le}
 use Rattle.std.proofs.Math.Seq.{take-add}
 use Rattle.std.proofs.Math.ListN.{drop_of_length-le}
-use Rattle.asn1_numbers.specs.Base128.{IsBase128, low_bits_number}
-use Rattle.asn1_headers.specs.Header.{BeginsWithNo, IsIdentifier, IsLength, IsSomeIdentifier, leading_octet}
+use Rattle.asn1_headers.specs.Header.{BeginsWithNo, IsIdentifier, IsLength, IsSomeIdentifier}
 use Rattle.asn1_blocks.specs.Places.{EncodingAt, IsEncoding, TreeAt}
 use Rattle.asn1_blocks.proofs.Slices.{octets_encoding}
-use Rattle.asn1_headers.proofs.HeaderOctets.{continued_at}
-use Rattle.asn1_headers.proofs.Fronts.{leading_parts, long_identifier}
 use Rattle.asn1_headers.proofs.Prefixes.{identifier_alone, length_alone, encoding_some, identifier_some}
 use Rattle.asn1_blocks.proofs.Faults.{length_first, split_encoding}
 

@@ -1,6 +1,6 @@
 -- What is known of leaves and groups by their tags: for each leaf a line that names the facts of its own module. The
 -- other lemmas of the grammar build on these alone.
-use Rattle.std.proofs.Common.{◌≡◌, ℕ, ◌<◌, ◌^◌, ◌==◌, ◌||◌, ◌⊎◌, true, false, List, [], None, length, inl, inr, refl, sym, ap, ◌∙◌, subst, arith}
+use Rattle.std.proofs.Common.{◌≡◌, ℕ, ◌<◌, ◌^◌, ◌==◌, ◌||◌, true, false, List, [], None, length, inl, inr, refl, sym, ap, ◌∙◌, subst, arith}
 use Rattle.std.specs.Prelude.{pos, All}
 use Rattle.std.proofs.lemmas.Bool.{false≢true, cases_Bool, or_cases, or_right, eqb-true}
 use Rattle.asn1_blocks.specs.declared.block.GroupKind.{GroupKind}

@@ -1,8 +1,7 @@
 -- Slices of the document, and what a header in them says.
 use Rattle.asn1_leaves.proofs.SliceSplit.{slice_split}
-use Rattle.std.proofs.Common.{◌≡◌, ℕ, ◌+◌, ◌-◌, ◌<◌, ◌≤◌, ◌^◌, Bool, List, [], ◌∷◌, ◌++◌, inl, inr, length, take, drop, Vec, Global, drop-drop, length-drop, length-take, refl, sym, ap, ◌∙◌, subst, arith, rules, length-append, append_assoc, append-nil}
+use Rattle.std.proofs.Common.{◌≡◌, ℕ, ◌+◌, ◌-◌, ◌<◌, ◌≤◌, ◌^◌, Bool, List, [], ◌∷◌, ◌++◌, inl, inr, length, take, drop, Vec, Global, drop-drop, length-drop, length-take, refl, sym, ap, ◌∙◌, subst, arith, rules, length-append, append_assoc}
 use Rattle.std.specs.List.{slice_range}
-use Rattle.std.proofs.lemmas.List.{take-append-drop}
 use Rattle.std.proofs.Math.Seq.{take-add}
 use Rattle.asn1_headers.specs.declared.header.ASN1Class.{ASN1Class}
 use Rattle.asn1_headers.specs.declared.error.ASN1DecodeErr.{ASN1DecodeErr}

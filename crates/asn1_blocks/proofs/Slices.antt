@@ -1,5 +1,5 @@
 -- The octets of a tree of a document, and documents one after another.
-use Rattle.std.proofs.Common.{◌≡◌, ℕ, ◌+◌, ◌-◌, List, [], ◌++◌, ◌↔◌, length, take, drop, refl, sym, ap, ◌∙◌, subst, arith, length-append, append_assoc, append-nil}
+use Rattle.std.proofs.Common.{◌≡◌, ℕ, ◌+◌, ◌-◌, List, [], ◌++◌, ◌↔◌, length, take, drop, sym, ap, ◌∙◌, subst, arith, length-append, append_assoc, append-nil}
 use Rattle.std.specs.List.{slice_range}
 use Rattle.std.proofs.lemmas.List.{take_at, drop_at}
 use Rattle.asn1_blocks.specs.Tree.{Tree, Trees, leaf, group, explicit, unknown, no_trees, more_trees}
@@ -56,7 +56,7 @@ mutual
     other = s.other;
     means = encodes_at f (o + s.header) (q + s.header) s.contents b (further f o q s.header h) s.means;
   }
-  encodes_at f o q x (unknown c k p n v) h s = 
+  encodes_at f o q x (unknown c k p n v) h s =
       record { header = s.header; encoding = s.encoding; place = ap f s.place ∙ first_at f o q h; stays = s.stays }
 
   pub encodes_all_at :

@@ -1,11 +1,11 @@
 -- The documents, their blocks, and the first fault of all other octets. A block is an encoding (X.690 8.1.1): a leaf, a
 -- SEQUENCE (8.9, 8.10), a SET (8.11, 8.12), one block in explicit tagging (8.14), or any other, which stays as it came.
-use Rattle.std.specs.Prelude.{◌≡◌, ◌≢◌, ℕ, ◌+◌, ◌^◌, ◌<◌, ◌≤◌, ◌⊎◌, ◌++◌, Bool, true, false, List, [], ◌∷◌, length}
+use Rattle.std.specs.Prelude.{◌≡◌, ◌≢◌, ℕ, ◌+◌, ◌<◌, ◌⊎◌, ◌++◌, Bool, true, false, List, [], length}
 use Rattle.asn1_headers.specs.declared.header.ASN1Class.{ASN1Class}
 use Rattle.asn1_headers.specs.declared.header.ASN1Class.TheVariants.{Universal}
 use Rattle.asn1_blocks.specs.declared.block.GroupKind.{GroupKind}
-use Rattle.asn1_headers.specs.Header.{IsIdentifier, IsLength, Encoding, length_fault}
-use Rattle.asn1_headers.specs.Fault.{DecodeFault, empty_buffer, length_too_large, incomplete}
+use Rattle.asn1_headers.specs.Header.{Encoding}
+use Rattle.asn1_headers.specs.Fault.{DecodeFault, empty_buffer}
 use Rattle.asn1_headers.specs.HeaderFault.{HeaderFault}
 use Rattle.asn1_blocks.specs.Tree.{Leaf, Tree, Trees, leaf, group, explicit, unknown, no_trees, more_trees}
 use Rattle.asn1_blocks.specs.Contents.{leaf_tag, group_tag, is_known_tag, LeafContents, LeafFault}

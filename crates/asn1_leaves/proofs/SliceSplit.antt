@@ -1,5 +1,5 @@
 -- Slices.
-use Rattle.std.proofs.Common.{◌≡◌, ℕ, ◌-◌, ◌≤◌, List, ◌++◌, length, take, drop, drop-drop, sym, ap, ◌∙◌, arith}
+use Rattle.std.proofs.Common.{◌≡◌, ℕ, ◌-◌, ◌≤◌, List, ◌++◌, take, drop, drop-drop, sym, ap, ◌∙◌, arith}
 use Rattle.std.specs.Prelude.{slice_range}
 use Rattle.std.proofs.lemmas.List.{take-append-drop}
 
