@@ -5,7 +5,7 @@ use Rattle.asn1_blocks.specs.declared.block.ASN1Block.{ASN1Block, Sequence, Set,
 use Rattle.asn1_blocks.specs.declared.block.GroupKind.{GroupKind}
 use Rattle.asn1_headers.specs.declared.header.ASN1Class.{ASN1Class}
 use Rattle.asn1_blocks.specs.Tree.{group, explicit, more_trees}
-use Rattle.asn1_blocks.specs.TreeOrder.{IsNext, inside}
+use Rattle.asn1_blocks.specs.Inner.TreeOrder.{IsNext, inside}
 use Rattle.asn1_blocks.specs.View.{view, views}
 use Rattle.asn1_blocks.proofs.BlockLists.{count, count_views}
 

@@ -1,38 +1,37 @@
 -- The size of an encoding, by its header.
-use Rattle.std.proofs.Common.{◌≡◌, ◌≢◌, ℕ, suc, ◌+◌, ◌%◌, ◌<◌, ◌≤◌, List, [], ◌∷◌, ◌++◌, length, get_or, take, drop, refl, sym, ap, ◌∙◌, subst, arith, length-append, length-drop}
+use Rattle.std.proofs.Common.{◌≡◌, ℕ, ◌+◌, ◌<◌, ◌≤◌, List, [], ◌++◌, length, take, drop, refl, sym, ap, ◌∙◌, subst, arith, length-append, length-drop}
 use Rattle.std.proofs.lemmas.List.{take-append-drop, take_at, length-take-le}
 use Rattle.std.proofs.Math.Seq.{take-add}
 use Rattle.std.proofs.Math.ListN.{drop_of_length-le}
-use Rattle.asn1_numbers.specs.Base128.{IsBase128, low_bits_number}
-use Rattle.asn1_headers.specs.Header.{BeginsWithNo, IsIdentifier, IsLength, IsSomeIdentifier, leading_octet}
+use Rattle.asn1_headers.specs.Header.{BeginsWithNo, IsIdentifier, IsLength, IsSomeIdentifier}
 use Rattle.asn1_blocks.specs.Places.{EncodingAt, IsEncoding, TreeAt}
 use Rattle.asn1_blocks.proofs.Slices.{octets_encoding}
-use Rattle.asn1_headers.proofs.HeaderOctets.{continued_at}
-use Rattle.asn1_headers.proofs.Fronts.{leading_parts, long_identifier}
 use Rattle.asn1_headers.proofs.Prefixes.{identifier_alone, length_alone, encoding_some, identifier_some}
 use Rattle.asn1_blocks.proofs.Faults.{length_first, split_encoding}
 
 -- no encoding stands where there are no identifier octets
 pub no_identifier_here : (octets : List ℕ) → BeginsWithNo IsSomeIdentifier octets → (x rest : List ℕ) → octets ≡ x ++ rest → IsEncoding x → ⊥
-no_identifier_here octets missing x rest e (c, k, n, v, h, f) =
-    let w = split_encoding octets x rest c k n v h f e in
-    missing n (length f.identifier) (
-      c,
-      k,
-      subst (λ z. IsIdentifier z c k n)
-          (sym (ap (take (length f.identifier)) w ∙ take_at f.identifier (f.len ++ (v ++ rest)) (length f.identifier) refl)) f.identifier_octets,
+no_identifier_here octets missing x rest e p =
+    let f = p.encoding in
+    let w = split_encoding octets x rest p.class p.constructed p.tag p.contents p.header f e in
+    missing p.tag (length f.identifier) (
+      p.class,
+      p.constructed,
+      subst (λ z. IsIdentifier z p.class p.constructed p.tag)
+          (sym (ap (take (length f.identifier)) w ∙ take_at f.identifier (f.len ++ (p.contents ++ rest)) (length f.identifier) refl)) f.identifier_octets,
     )
 
 -- what follows the identifier octets of an encoding
 after_identifier :
     (octets : List ℕ) (i tag : ℕ) → IsSomeIdentifier (take i octets) tag → (x rest : List ℕ) →
     octets ≡ x ++ rest → (p : IsEncoding x) →
-    (take i octets ≡ p.5.identifier) × (drop i octets ≡ p.5.len ++ (p.3 ++ rest))
-after_identifier octets i tag t x rest e (c, k, n, v, h, f) =
-    let w = split_encoding octets x rest c k n v h f e in
-    let q = identifier_alone (take i octets) f.identifier (drop i octets) (f.len ++ (v ++ rest)) t.0 c t.1 k tag n t.2 f.identifier_octets
+    (take i octets ≡ p.encoding.identifier) × (drop i octets ≡ p.encoding.len ++ (p.contents ++ rest))
+after_identifier octets i tag (_, _, t) x rest e p =
+    let f = p.encoding in
+    let w = split_encoding octets x rest p.class p.constructed p.tag p.contents p.header f e in
+    let q = identifier_alone (take i octets) f.identifier (drop i octets) (f.len ++ (p.contents ++ rest)) _ _ _ _ _ _ t f.identifier_octets
     (take-append-drop i octets ∙ w) in
-    (q.0, q.1)
+    (q.octets, q.rest)
 
 -- nor where there are no length octets
 pub no_length_here :
@@ -41,9 +40,9 @@ pub no_length_here :
     ⊥
 no_length_here octets i tag t missing x rest e p =
     let a = after_identifier octets i tag t x rest e p in
-    let f = p.5 in
-    missing (length p.3) (length f.len) (subst (λ z. IsLength z (length p.3))
-    (sym (ap (take (length f.len)) a.1 ∙ take_at f.len (p.3 ++ rest) (length f.len) refl)) f.length_octets)
+    let f = p.encoding in
+    missing (length p.contents) (length f.len) (subst (λ z. IsLength z (length p.contents))
+    (sym (ap (take (length f.len)) a.1 ∙ take_at f.len (p.contents ++ rest) (length f.len) refl)) f.length_octets)
 
 -- nor where the octets are too few
 pub no_contents_here :
@@ -52,56 +51,59 @@ pub no_contents_here :
     (x rest : List ℕ) → octets ≡ x ++ rest → IsEncoding x → ⊥
 no_contents_here octets i l m tag t le u few short x rest e p =
     let a = after_identifier octets i tag t x rest e p in
-    let f = p.5 in
-    let q = length_alone (take l (drop i octets)) f.len (drop l (drop i octets)) (p.3 ++ rest) m (length p.3) u f.length_octets
+    let f = p.encoding in
+    let q = length_alone (take l (drop i octets)) f.len (drop l (drop i octets)) (p.contents ++ rest) m (length p.contents) u f.length_octets
     (take-append-drop l (drop i octets) ∙ a.1) in
-    omega (arith, short, few, le, q.2, ap length q.1, length-append p.3 rest, length-drop l (drop i octets), length-drop i octets)
+    omega (arith, short, few, le, q.number, ap length q.rest, length-append p.contents rest, length-drop l (drop i octets), length-drop i octets)
 
 -- the encoding that is there
 pub encoding_here :
     (octets : List ℕ) (i l m tag : ℕ) → IsSomeIdentifier (take i octets) tag → i ≤ length octets →
     IsLength (take l (drop i octets)) m → l ≤ length (drop i octets) → i + l + m ≤ length octets →
     IsEncoding (take (i + l + m) octets)
-encoding_here octets i l m tag t le u few fits =
+encoding_here octets i l m tag (c, k, t) le u few fits =
     let r = drop i octets in
     let v = take m (drop l r) in
     let n : length v ≡ m = length-take-le m (drop l r) (omega (arith, fits, few, le, length-drop l r, length-drop i octets)) in
-    let e : i + l + m ≡ i + (l + m) = omega arith in (
-      t.0,
-      t.1,
-      tag,
-      v,
-      i + l,
-      record {
+    let e : i + l + m ≡ i + (l + m) = omega arith in
+    record {
+      class = c;
+      constructed = k;
+      tag = tag;
+      contents = v;
+      header = i + l;
+      encoding = record {
         identifier = take i octets;
         len = take l r;
-        identifier_octets = t.2;
+        identifier_octets = t;
         length_octets = subst (IsLength (take l r)) (sym n) u;
         whole = ap (λ z. take z octets) e ∙ (take-add i (l + m) octets ∙ ap (λ z. take i octets ++ z) (take-add l m r));
         size = omega (arith, length-take-le i octets le, length-take-le l r few);
-      },
-    )
+      };
+    }
 
 -- no encoding stands past the end
 pub none_past_end : (document : List ℕ) (offset : ℕ) → length document < offset → (octets : List ℕ) → EncodingAt document offset octets → ⊥
 none_past_end document offset h octets p =
-    let (c, k, n, v, s, f) = p.2 in
+    let x = p.are in
     let e : drop offset document ≡ [] = drop_of_length-le document (omega (arith, h)) in
-    omega (arith, encoding_some octets c k n v s f, ap length (sym e ∙ p.1), length-append octets p.0)
+    omega (arith, encoding_some octets _ _ _ _ _ x.encoding, ap length (sym e ∙ p.stands), length-append octets p.rest)
 
 -- an encoding has two octets or more
 pub encoding_two : (octets : List ℕ) → IsEncoding octets → 2 ≤ length octets
-encoding_two octets (c, k, n, v, h, f) =
-    let (b, r, e) = length_first f.len (length v) f.length_octets in
+encoding_two octets p =
+    let f = p.encoding in
+    let (b, r, e) = length_first f.len (length p.contents) f.length_octets in
     omega (
       arith,
-      identifier_some f.identifier c k n f.identifier_octets,
+      identifier_some f.identifier p.class p.constructed p.tag f.identifier_octets,
       ap length e,
       ap length f.whole,
-      length-append f.identifier (f.len ++ v),
-      length-append f.len v,
+      length-append f.identifier (f.len ++ p.contents),
+      length-append f.len p.contents,
     )
 
 -- what stands at the offset of a tree of a document
 pub encoding_of : (document : List ℕ) (offset : ℕ) (octets : List ℕ) → TreeAt document offset octets → EncodingAt document offset octets
-encoding_of document offset octets (bs, b, d, h, e) = subst (λ z. EncodingAt document z octets) e (octets_encoding document bs b octets d h)
+encoding_of document offset octets t =
+    subst (λ z. EncodingAt document z octets) t.stands (octets_encoding document t.all t.tree octets t.read t.has)

@@ -5,8 +5,8 @@ use Rattle.asn1_blocks.specs.declared.block.ASN1Block.{ASN1Block}
 use Rattle.asn1_blocks.specs.Tree.{Tree, leaf, group, explicit, unknown}
 use Rattle.asn1_blocks.specs.HeadersBegun.{blocks_in, all_blocks_in}
 use Rattle.asn1_blocks.specs.Faithful.{IsFaithful, AreFaithful}
-use Rattle.asn1_blocks.specs.FaithfulWalk.{IsFaithfulAlone}
-use Rattle.asn1_blocks.specs.TreeOrder.{inside, stacked}
+use Rattle.asn1_blocks.specs.Inner.FaithfulWalk.{IsFaithfulAlone}
+use Rattle.asn1_blocks.specs.Inner.TreeOrder.{inside, stacked}
 use Rattle.asn1_blocks.specs.View.{view, views}
 
 -- one more list inside

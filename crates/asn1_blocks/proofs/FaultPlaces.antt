@@ -87,7 +87,7 @@ first_place_alone octets e d o p small a b =
     (first_fault_alone octets e d ((first_fault_placed octets e).1 (o, a)) ((first_fault_placed octets d).1 (p, b)) small, go a b)
   where
     go : FirstFaultAt octets e o → FirstFaultAt octets d p → o ≡ p
-    go (inl a) (inl b) = a.2 ∙ sym b.2
+    go (inl (_, _, a)) (inl (_, _, b)) = a ∙ sym b
     go (inl a) (inr b) = absurd (blocks_fault_some octets d (blocks_placed octets d p b) a.0)
     go (inr a) (inl b) = absurd (blocks_fault_some octets e (blocks_placed octets e o a) b.0)
     go (inr a) (inr b) = blocks_place_alone octets e d o p a b small

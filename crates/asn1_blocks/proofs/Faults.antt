@@ -8,23 +8,15 @@ use Rattle.asn1_headers.specs.Fault.{DecodeFault}
 use Rattle.asn1_headers.specs.Header.{Encoding, IsLength}
 use Rattle.asn1_blocks.specs.Tree.{Leaf, Trees, no_trees, more_trees}
 use Rattle.asn1_blocks.specs.Contents.{leaf_tag, group_tag, LeafContents, is_known_tag}
+use Rattle.asn1_blocks.specs.Places.{IsEncoding}
 use Rattle.asn1_headers.specs.HeaderFault.{HeaderFault, no_identifier, no_length, too_far, too_long}
 use Rattle.asn1_blocks.specs.Grammar.{IsBlock, of_other_class, of_unknown_tag, of_leaf, of_group, AreBlocks, no_blocks, more_blocks, EncodesAll, BlockFault, in_header, in_contents, ContentsFault, of_leaf_contents, of_item, BlocksFault, after_blocks}
 use Rattle.asn1_blocks.proofs.Leaves.{leaf_no_group, leaf_no_fault, leaf_fault_tag, leaf_tag_known, leaf_tag_no_group, group_known}
 use Rattle.asn1_headers.proofs.Prefixes.{encoding_alone, identifier_alone, length_alone}
 use Rattle.asn1_blocks.proofs.OneReading.{block_some, encodes_block}
 
--- the encoding that a block is
-pub record BlockEncoding (octets : List ℕ) : Type 0 where
-  pub class : ASN1Class
-  pub constructed : Bool
-  pub tag : ℕ
-  pub contents : List ℕ
-  pub header : ℕ
-  pub encoding : Encoding octets class constructed tag contents header
-
 -- a block is an encoding
-pub block_encoding : (octets : List ℕ) → IsBlock octets → BlockEncoding octets
+pub block_encoding : (octets : List ℕ) → IsBlock octets → IsEncoding octets
 block_encoding octets (of_other_class f ne) = record { class = _; constructed = _; tag = _; contents = _; header = _; encoding = f }
 block_encoding octets (of_unknown_tag f ne) = record { class = _; constructed = _; tag = _; contents = _; header = _; encoding = f }
 block_encoding octets (of_leaf f l e p) = record { class = _; constructed = _; tag = _; contents = _; header = _; encoding = f }
@@ -48,10 +40,10 @@ pub one_block : (o : ℕ) (contents : List ℕ) (bs : Trees ℕ) → EncodesAll 
 one_block o contents no_trees s b = absurd (omega (arith, block_some contents b, ap length s))
 one_block o contents (more_trees b no_trees) s a = refl
 one_block o contents (more_trees b (more_trees c bs)) s a =
-    let f = block_alone contents s.0 [] s.1 a (encodes_block o s.0 b s.3) (append-nil contents ∙ s.2) in
-    let t = s.4 in
-    let p = block_some t.0 (encodes_block _ t.0 c t.3) in
-    absurd (omega (arith, p, ap length (f.1 ∙ t.2), length-append t.0 t.1))
+    let f = block_alone contents s.first [] s.rest a (encodes_block o s.first b s.item) (append-nil contents ∙ s.whole) in
+    let t = s.items in
+    let p = block_some t.first (encodes_block _ t.first c t.item) in
+    absurd (omega (arith, p, ap length (f.1 ∙ t.whole), length-append t.first t.rest))
 
 -- what follows the first blocks
 pub blocks_after : (all front rest : List ℕ) → all ≡ front ++ rest → AreBlocks front → AreBlocks all → AreBlocks rest
@@ -118,15 +110,15 @@ header_no_encoding place octets x rest e c' k' n' contents h' (no_identifier mis
     missing f.identifier (r ++ (contents ++ rest)) c' k' n' a f.identifier_octets (split_encoding octets x rest _ _ _ _ _ f d ∙ ap (λ z. f.identifier ++ (z ++ (contents ++ rest))) l)
 header_no_encoding place octets x rest e c' k' n' contents h' (no_length s a r c k n t g missing h) small d f =
     let q = identifier_alone s f.identifier (a ∷ r) (f.len ++ (contents ++ rest)) c c' k k' n n' t f.identifier_octets (sym g ∙ split_encoding octets x rest _ _ _ _ _ f d) in
-    missing f.len (contents ++ rest) (length contents) f.length_octets q.1
+    missing f.len (contents ++ rest) (length contents) f.length_octets q.rest
 header_no_encoding place octets x rest e c' k' n' contents h' (too_far s l r c k n m t u g far h) small d f =
     let q = identifier_alone s f.identifier (l ++ r) (f.len ++ (contents ++ rest)) c c' k k' n n' t f.identifier_octets (sym g ∙ split_encoding octets x rest _ _ _ _ _ f d) in
-    let v = length_alone l f.len r (contents ++ rest) m (length contents) u f.length_octets q.1 in
-    omega (arith, far, small, v.2, ap length v.1, ap length g, length-append s (l ++ r), length-append l r, length-append contents rest)
+    let v = length_alone l f.len r (contents ++ rest) m (length contents) u f.length_octets q.rest in
+    omega (arith, far, small, v.number, ap length v.rest, ap length g, length-append s (l ++ r), length-append l r, length-append contents rest)
 header_no_encoding place octets x rest e c' k' n' contents h' (too_long s l r c k n m t u g near long) small d f =
     let q = identifier_alone s f.identifier (l ++ r) (f.len ++ (contents ++ rest)) c c' k k' n n' t f.identifier_octets (sym g ∙ split_encoding octets x rest _ _ _ _ _ f d) in
-    let v = length_alone l f.len r (contents ++ rest) m (length contents) u f.length_octets q.1 in
-    omega (arith, long, v.2, ap length v.1, length-append contents rest)
+    let v = length_alone l f.len r (contents ++ rest) m (length contents) u f.length_octets q.rest in
+    omega (arith, long, v.number, ap length v.rest, length-append contents rest)
 
 mutual
   -- where the first block is at fault, no block stands

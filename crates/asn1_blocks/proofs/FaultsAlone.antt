@@ -22,7 +22,7 @@ header_missing octets s l rest c k n m missing t u g =
 length_missing : (octets s s' l rest rest' : List ℕ) (b : ℕ) (c c' : ASN1Class) (k k' : Bool) (n n' m : ℕ) → IsIdentifier s c k n → octets ≡ s ++ b ∷ rest
     → ((l r : List ℕ) (m : ℕ) → IsLength l m → b ∷ rest ≡ l ++ r → ⊥) → IsIdentifier s' c' k' n' → IsLength l m → octets ≡ s' ++ (l ++ rest') → ⊥
 length_missing octets s s' l rest rest' b c c' k k' n n' m t g missing t' u g' =
-    missing l rest' m u (identifier_alone s s' (b ∷ rest) (l ++ rest') c c' k k' n n' t t' (sym g ∙ g')).1
+    missing l rest' m u (identifier_alone s s' (b ∷ rest) (l ++ rest') c c' k k' n n' t t' (sym g ∙ g')).rest
 
 -- two headers at the front of one list are of one size and have one length
 same_header : (octets s s' l l' rest rest' : List ℕ) (c c' : ASN1Class) (k k' : Bool) (n n' m m' : ℕ) → IsIdentifier s c k n → IsLength l m
@@ -30,8 +30,8 @@ same_header : (octets s s' l l' rest rest' : List ℕ) (c c' : ASN1Class) (k k' 
     × (m ≡ m')
 same_header octets s s' l l' rest rest' c c' k k' n n' m m' t u g t' u' g' =
     let q = identifier_alone s s' (l ++ rest) (l' ++ rest') c c' k k' n n' t t' (sym g ∙ g') in
-    let v = length_alone l l' rest rest' m m' u u' q.1 in
-    (omega (arith, ap length q.0, ap length v.0), v.2)
+    let v = length_alone l l' rest rest' m m' u u' q.rest in
+    (omega (arith, ap length q.octets, ap length v.octets), v.number)
 
 -- a header has at most one fault
 pub header_fault_alone : (place : ℕ) (octets : List ℕ) (e d : DecodeFault) → HeaderFault place octets e → HeaderFault place octets d → e ≡ d
@@ -42,7 +42,7 @@ header_fault_alone place octets e d (no_identifier none) (too_long s l r c k n m
 header_fault_alone place octets e d (no_length s b r c k n t g shut h) (no_identifier none) = absurd (none s r c k n b t g)
 header_fault_alone place octets e d (no_length s b r c k n t g shut h) (no_length s' b' r' c' k' n' t' g' shut' h') =
     let q = identifier_alone s s' (b ∷ r) (b' ∷ r') c c' k k' n n' t t' (sym g ∙ g') in
-    h ∙ ap length_fault q.1 ∙ sym h'
+    h ∙ ap length_fault q.rest ∙ sym h'
 header_fault_alone place octets e d (no_length s b r c k n t g shut h) (too_far s' l r' c' k' n' m t' u g' far h') =
     absurd (length_missing octets s s' l r r' b c c' k k' n n' m t g shut t' u g')
 header_fault_alone place octets e d (no_length s b r c k n t g shut h) (too_long s' l r' c' k' n' m t' u g' near long) =

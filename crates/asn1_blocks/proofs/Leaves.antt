@@ -1,17 +1,17 @@
 -- What is known of leaves and groups by their tags: for each leaf a line that names the facts of its own module. The
 -- other lemmas of the grammar build on these alone.
-use Rattle.std.proofs.Common.{◌≡◌, ℕ, ◌<◌, ◌^◌, ◌==◌, ◌||◌, ◌⊎◌, true, false, List, [], None, length, inl, inr, refl, sym, ap, ◌∙◌, subst, arith}
+use Rattle.std.proofs.Common.{◌≡◌, ℕ, ◌<◌, ◌^◌, ◌==◌, ◌||◌, true, false, List, [], None, length, inl, inr, refl, sym, ap, ◌∙◌, subst, arith}
 use Rattle.std.specs.Prelude.{pos, All}
 use Rattle.std.proofs.lemmas.Bool.{false≢true, cases_Bool, or_cases, or_right, eqb-true}
 use Rattle.asn1_blocks.specs.declared.block.GroupKind.{GroupKind}
 use Rattle.asn1_blocks.specs.declared.block.GroupKind.TheVariants.{Sequence, Set}
 use Rattle.asn1_headers.specs.Fault.{DecodeFault, IsOfReading}
 use Rattle.asn1_numbers.specs.Octets.{AreOctets}
-use Rattle.asn1_blocks.specs.LeafEquality.{equal_string}
+use Rattle.asn1_blocks.specs.Inner.LeafEquality.{equal_string}
 use Rattle.asn1_numbers.specs.TwosComplement.{signed_number}
 use Rattle.asn1_leaves.specs.StringKind.{StringKind, utf8, printable, teletex, ia5, universal, bmp}
 use Rattle.asn1_blocks.specs.Tree.{Leaf, boolean, integer, bit_string, octet_string, null, object_identifier, text, utc_time, generalized_time}
-use Rattle.asn1_blocks.specs.Contents.{string_tag, leaf_tag, group_tag, is_string_tag, is_leaf_tag, is_group_tag, is_known_tag, IsFaithfulLeaf, LeafContents, LeafFault, leaf_contents, leaf_write_fault, normalized_leaf}
+use Rattle.asn1_blocks.specs.Contents.{string_tag, leaf_tag, group_tag, is_string_tag, is_leaf_tag, is_group_tag, is_known_tag, IsFaithfulLeaf, LeafContents, LeafFault, of_boolean, of_bit_string, of_object_identifier, of_utc_time, of_generalized_time, of_text, leaf_contents, leaf_write_fault, normalized_leaf}
 use Rattle.asn1_leaves.specs.Contents.Boolean.{BooleanFault}
 use Rattle.asn1_leaves.specs.Contents.BitString.{BitStringFault}
 use Rattle.asn1_leaves.specs.Contents.GeneralizedTime.{GeneralizedTimeFault}
@@ -150,18 +150,23 @@ FaultOf (text kind cs) contents e = TextFault (text_form kind) contents e
 some_moment : Moment
 some_moment = record { year = pos 0; month = 1; day = 1; hour = 0; minute = 0; second = 0; nanosecond = 0 }
 
--- each fault is one of these
-by_leaf : (n : ℕ) (contents : List ℕ) (e : DecodeFault) → LeafFault n contents e → (l : Leaf) × (n ≡ leaf_tag l) × FaultOf l contents e
-by_leaf n contents e (inl f) = (boolean true, f.0, f.1)
-by_leaf n contents e (inr (inl f)) = (bit_string 0 [], f.0, f.1)
-by_leaf n contents e (inr (inr (inl f))) = (object_identifier [], f.0, f.1)
-by_leaf n contents e (inr (inr (inr (inl f)))) = (utc_time some_moment, f.0, f.1)
-by_leaf n contents e (inr (inr (inr (inr (inl f))))) = (generalized_time some_moment, f.0, f.1)
-by_leaf n contents e (inr (inr (inr (inr (inr f))))) = (text f.0 [], f.1, f.2)
+-- a leaf of the tag, and the fault of contents octets of its kind
+record ByLeaf (n : ℕ) (contents : List ℕ) (e : DecodeFault) : Type 0 where
+  pub leaf : Leaf
+  pub tag : n ≡ leaf_tag leaf
+  pub fault : FaultOf leaf contents e
+
+by_leaf : (n : ℕ) (contents : List ℕ) (e : DecodeFault) → LeafFault n contents e → ByLeaf n contents e
+by_leaf n contents e (of_boolean t f) = record { leaf = boolean true; tag = t; fault = f }
+by_leaf n contents e (of_bit_string t f) = record { leaf = bit_string 0 []; tag = t; fault = f }
+by_leaf n contents e (of_object_identifier t f) = record { leaf = object_identifier []; tag = t; fault = f }
+by_leaf n contents e (of_utc_time t f) = record { leaf = utc_time some_moment; tag = t; fault = f }
+by_leaf n contents e (of_generalized_time t f) = record { leaf = generalized_time some_moment; tag = t; fault = f }
+by_leaf n contents e (of_text kind t f) = record { leaf = text kind []; tag = t; fault = f }
 
 -- only contents octets of a leaf have such a fault
 pub leaf_fault_tag : (n : ℕ) (contents : List ℕ) (e : DecodeFault) → LeafFault n contents e → is_leaf_tag n ≡ true
-leaf_fault_tag n contents e f = let l = by_leaf n contents e f in ap is_leaf_tag l.1 ∙ leaf_tag_is l.0
+leaf_fault_tag n contents e f = let l = by_leaf n contents e f in ap is_leaf_tag l.tag ∙ leaf_tag_is l.leaf
 
 no_fault : (l m : Leaf) (contents : List ℕ) (e : DecodeFault) → leaf_tag l ≡ leaf_tag m → LeafContents l contents → FaultOf m contents e → ⊥
 no_fault (boolean a) (boolean b) contents e t p f = boolean_no_fault a contents e p f
@@ -179,7 +184,7 @@ no_fault l m contents e t p f = alike l m t
 
 -- contents octets at fault mean no leaf
 pub leaf_no_fault : (n : ℕ) (contents : List ℕ) (e : DecodeFault) (l : Leaf) → n ≡ leaf_tag l → LeafContents l contents → LeafFault n contents e → ⊥
-leaf_no_fault n contents e l t p f = let m = by_leaf n contents e f in no_fault l m.0 contents e (sym t ∙ m.1) p m.2
+leaf_no_fault n contents e l t p f = let m = by_leaf n contents e f in no_fault l m.leaf contents e (sym t ∙ m.tag) p m.fault
 
 fault_alone : (l m : Leaf) (contents : List ℕ) (e d : DecodeFault) → leaf_tag l ≡ leaf_tag m → FaultOf l contents e → FaultOf m contents d → e ≡ d
 fault_alone (boolean a) (boolean b) contents e d t p q = boolean_fault_alone contents e d p q
@@ -200,7 +205,7 @@ pub leaf_fault_alone : (n : ℕ) (contents : List ℕ) (e d : DecodeFault) → L
 leaf_fault_alone n contents e d f g =
     let l = by_leaf n contents e f in
     let m = by_leaf n contents d g in
-    fault_alone l.0 m.0 contents e d (sym l.1 ∙ m.1) l.2 m.2
+    fault_alone l.leaf m.leaf contents e d (sym l.tag ∙ m.tag) l.fault m.fault
 
 fault_of_reading : (l : Leaf) (contents : List ℕ) (e : DecodeFault) → FaultOf l contents e → IsOfReading e
 fault_of_reading (boolean b) contents e f = boolean_fault_of_reading contents e f
@@ -215,7 +220,7 @@ fault_of_reading (text kind cs) contents e f = text_fault_of_reading (text_form 
 
 -- and one of reading
 pub leaf_of_reading : (n : ℕ) (contents : List ℕ) (e : DecodeFault) → LeafFault n contents e → IsOfReading e
-leaf_of_reading n contents e f = let l = by_leaf n contents e f in fault_of_reading l.0 contents e l.2
+leaf_of_reading n contents e f = let l = by_leaf n contents e f in fault_of_reading l.leaf contents e l.fault
 
 -- contents octets of a leaf's tag mean a leaf, or they are at fault
 pub data LeafMeaning (n : ℕ) (contents : List ℕ) : Type 0 where
@@ -225,20 +230,20 @@ pub data LeafMeaning (n : ℕ) (contents : List ℕ) : Type 0 where
 -- which, for the tag of a leaf
 meaning : (l : Leaf) (n : ℕ) (contents : List ℕ) → n ≡ leaf_tag l → LeafMeaning n contents
 meaning (boolean b) n contents t =
-    elim (boolean_meaning contents) [ inl m ↦ means_leaf (boolean m.0) t m.1 | inr f ↦ means_fault f.0 (inl (t, f.1)) ]
+    elim (boolean_meaning contents) [ inl m ↦ means_leaf (boolean m.0) t m.1 | inr f ↦ means_fault f.0 (of_boolean t f.1) ]
 meaning (integer z) n contents t = means_leaf (integer (signed_number contents)) t refl
 meaning (bit_string k v) n contents t =
-    elim (bit_string_meaning contents) [ inl m ↦ means_leaf (bit_string m.0 m.1) t m.2 | inr f ↦ means_fault f.0 (inr (inl (t, f.1))) ]
+    elim (bit_string_meaning contents) [ inl m ↦ means_leaf (bit_string m.0 m.1) t m.2 | inr f ↦ means_fault f.0 (of_bit_string t f.1) ]
 meaning (octet_string v) n contents t = means_leaf (octet_string contents) t refl
 meaning null n contents t = means_leaf null t tt
 meaning (object_identifier ns) n contents t =
-    elim (object_identifier_meaning contents) [ inl m ↦ means_leaf (object_identifier m.0) t m.1 | inr f ↦ means_fault f.0 (inr (inr (inl (t, f.1)))) ]
+    elim (object_identifier_meaning contents) [ inl m ↦ means_leaf (object_identifier m.0) t m.1 | inr f ↦ means_fault f.0 (of_object_identifier t f.1) ]
 meaning (utc_time m) n contents t =
-    elim (utc_time_meaning contents) [ inl m ↦ means_leaf (utc_time m.0) t m.1 | inr f ↦ means_fault f.0 (inr (inr (inr (inl (t, f.1))))) ]
+    elim (utc_time_meaning contents) [ inl m ↦ means_leaf (utc_time m.0) t m.1 | inr f ↦ means_fault f.0 (of_utc_time t f.1) ]
 meaning (generalized_time m) n contents t =
-    elim (generalized_time_meaning contents) [ inl m ↦ means_leaf (generalized_time m.0) t m.1 | inr f ↦ means_fault f.0 (inr (inr (inr (inr (inl (t, f.1)))))) ]
+    elim (generalized_time_meaning contents) [ inl m ↦ means_leaf (generalized_time m.0) t m.1 | inr f ↦ means_fault f.0 (of_generalized_time t f.1) ]
 meaning (text kind cs) n contents t =
-    elim (text_meaning (text_form kind) contents) [ inl m ↦ means_leaf (text kind m.0) t m.1 | inr f ↦ means_fault f.0 (inr (inr (inr (inr (inr (kind, t, f.1)))))) ]
+    elim (text_meaning (text_form kind) contents) [ inl m ↦ means_leaf (text kind m.0) t m.1 | inr f ↦ means_fault f.0 (of_text kind t f.1) ]
 
 -- a string of characters by its tag
 string_of_tag : (n : ℕ) → is_string_tag n ≡ true → (l : Leaf) × (n ≡ leaf_tag l)

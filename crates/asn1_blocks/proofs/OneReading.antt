@@ -1,5 +1,5 @@
 -- Octets encode at most one tree.
-use Rattle.std.proofs.Common.{◌≡◌, ℕ, ◌+◌, ◌<◌, List, [], ◌++◌, inl, inr, length, refl, sym, ap, ◌∙◌, subst, arith, length-append}
+use Rattle.std.proofs.Common.{◌≡◌, ℕ, ◌+◌, ◌<◌, List, [], ◌++◌, inl, inr, length, refl, sym, ap, ◌∙◌, subst, arith, append-nil, length-append}
 use Rattle.std.proofs.lemmas.Bool.{false≢true}
 use Rattle.asn1_headers.specs.Header.{Encoding}
 use Rattle.asn1_blocks.specs.Tree.{Tree, Trees, leaf, group, explicit, unknown, no_trees, more_trees}
@@ -11,16 +11,26 @@ use Rattle.asn1_headers.proofs.Prefixes.{encoding_alone, encoding_some}
 mutual
   -- octets that encode a tree are a block
   pub encodes_block : (o : ℕ) (octets : List ℕ) (b : Tree ℕ) → Encodes o octets b → IsBlock octets
-  encodes_block o octets (leaf p l) s = of_leaf s.3 l refl s.5
-  encodes_block o octets (group p g bs) s = of_group s.3 g refl (encodes_blocks (o + s.2) s.1 bs s.5)
-  encodes_block o octets (explicit c p n b) s = of_other_class s.2 s.4
+  encodes_block o octets (leaf p l) s = of_leaf s.encoding l refl s.means
+  encodes_block o octets (group p g bs) s = of_group s.encoding g refl (encodes_blocks (o + s.header) s.contents bs s.means)
+  encodes_block o octets (explicit c p n b) s = of_other_class s.encoding s.other
   encodes_block o octets (unknown c k p n v) s =
-      elim s.3 [ inl u ↦ of_unknown_tag (subst (λ d. Encoding octets d k n v s.0) u.0 s.1) u.1 | inr u ↦ of_other_class s.1 u.0 ]
+      elim s.stays [ inl u ↦ of_unknown_tag (subst (λ d. Encoding octets d k n v s.header) u.0 s.encoding) u.1 | inr u ↦ of_other_class s.encoding u.0 ]
 
   -- and those that encode trees are blocks
   pub encodes_blocks : (o : ℕ) (octets : List ℕ) (bs : Trees ℕ) → EncodesAll o octets bs → AreBlocks octets
   encodes_blocks o octets no_trees s = subst AreBlocks (sym s) no_blocks
-  encodes_blocks o octets (more_trees b bs) s = more_blocks s.2 (encodes_block o s.0 b s.3) (encodes_blocks (o + length s.0) s.1 bs s.4)
+  encodes_blocks o octets (more_trees b bs) s = more_blocks s.whole (encodes_block o s.first b s.item) (encodes_blocks (o + length s.first) s.rest bs s.items)
+
+-- octets that encode a tree encode it alone
+pub only : (o : ℕ) (octets : List ℕ) (b : Tree ℕ) → Encodes o octets b → EncodesAll o octets (more_trees b no_trees)
+only o octets b s = record { first = octets; rest = []; whole = sym (append-nil octets); item = s; items = refl }
+
+-- and so the other way round
+pub only_tree : (o : ℕ) (octets : List ℕ) (b : Tree ℕ) → EncodesAll o octets (more_trees b no_trees) → Encodes o octets b
+only_tree o octets b s =
+    let whole : octets ≡ s.first = s.whole ∙ (ap (λ z. s.first ++ z) s.items ∙ append-nil s.first) in
+    subst (λ z. Encodes o z b) (sym whole) s.item
 
 -- a block has octets
 pub block_some : (octets : List ℕ) → IsBlock octets → 0 < length octets
@@ -33,63 +43,63 @@ mutual
   -- octets of a tree begin those of no other
   pub encodes_alone : (o : ℕ) (xs ys r q : List ℕ) (a b : Tree ℕ) → Encodes o xs a → Encodes o ys b → xs ++ r ≡ ys ++ q → (xs ≡ ys) × (a ≡ b) × (r ≡ q)
   encodes_alone o xs ys r q (leaf p l) (leaf p' m) s t e =
-      let f = encoding_alone _ _ _ _ _ _ _ _ _ _ _ _ r q s.3 t.3 e in
-      let g = leaf_alone l m s.1 f.tag s.5 (subst (LeafContents m) (sym f.contents) t.5) in
-      let h : p ≡ p' = s.4 ∙ sym t.4 in
+      let f = encoding_alone _ _ _ _ _ _ _ _ _ _ _ _ r q s.encoding t.encoding e in
+      let g = leaf_alone l m s.contents f.tag s.means (subst (LeafContents m) (sym f.contents) t.means) in
+      let h : p ≡ p' = s.place ∙ sym t.place in
       (f.octets, cc, f.rest)
   encodes_alone o xs ys r q (leaf p l) (group p' g bs) s t e =
-      let f = encoding_alone _ _ _ _ _ _ _ _ _ _ _ _ r q s.3 t.3 e in
+      let f = encoding_alone _ _ _ _ _ _ _ _ _ _ _ _ r q s.encoding t.encoding e in
       absurd (leaf_no_group l g f.tag)
   encodes_alone o xs ys r q (leaf p l) (explicit c p' n b) s t e =
-      let f = encoding_alone _ _ _ _ _ _ _ _ _ _ _ _ r q s.3 t.2 e in
-      absurd (t.4 (sym f.class))
+      let f = encoding_alone _ _ _ _ _ _ _ _ _ _ _ _ r q s.encoding t.encoding e in
+      absurd (t.other (sym f.class))
   encodes_alone o xs ys r q (leaf p l) (unknown c k p' n v) s t e =
-      let f = encoding_alone _ _ _ _ _ _ _ _ _ _ _ _ r q s.3 t.1 e in
-      absurd (elim t.3 [ inl u ↦ false≢true (sym u.1 ∙ ap is_known_tag (sym f.tag) ∙ leaf_known l) | inr u ↦ u.0 (sym f.class) ])
+      let f = encoding_alone _ _ _ _ _ _ _ _ _ _ _ _ r q s.encoding t.encoding e in
+      absurd (elim t.stays [ inl u ↦ false≢true (sym u.1 ∙ ap is_known_tag (sym f.tag) ∙ leaf_known l) | inr u ↦ u.0 (sym f.class) ])
   encodes_alone o xs ys r q (group p g bs) (leaf p' m) s t e =
-      let f = encoding_alone _ _ _ _ _ _ _ _ _ _ _ _ r q s.3 t.3 e in
+      let f = encoding_alone _ _ _ _ _ _ _ _ _ _ _ _ r q s.encoding t.encoding e in
       absurd (leaf_no_group m g (sym f.tag))
   encodes_alone o xs ys r q (group p g bs) (group p' g' cs) s t e =
-      let f = encoding_alone _ _ _ _ _ _ _ _ _ _ _ _ r q s.3 t.3 e in
+      let f = encoding_alone _ _ _ _ _ _ _ _ _ _ _ _ r q s.encoding t.encoding e in
       let i : g ≡ g' = group_alone g g' f.tag in
-      let b = all_alone (o + s.2) s.1 bs cs s.5 (subst (λ z. EncodesAll (o + z) s.1 cs) (sym f.header) (subst (λ z. EncodesAll (o + t.2) z cs) (sym f.contents) t.5)) in
-      let h : p ≡ p' = s.4 ∙ sym t.4 in
+      let b = all_alone (o + s.header) s.contents bs cs s.means (subst (λ z. EncodesAll (o + z) s.contents cs) (sym f.header) (subst (λ z. EncodesAll (o + t.header) z cs) (sym f.contents) t.means)) in
+      let h : p ≡ p' = s.place ∙ sym t.place in
       (f.octets, cc, f.rest)
   encodes_alone o xs ys r q (group p g bs) (explicit c p' n b) s t e =
-      let f = encoding_alone _ _ _ _ _ _ _ _ _ _ _ _ r q s.3 t.2 e in
-      absurd (t.4 (sym f.class))
+      let f = encoding_alone _ _ _ _ _ _ _ _ _ _ _ _ r q s.encoding t.encoding e in
+      absurd (t.other (sym f.class))
   encodes_alone o xs ys r q (group p g bs) (unknown c k p' n v) s t e =
-      let f = encoding_alone _ _ _ _ _ _ _ _ _ _ _ _ r q s.3 t.1 e in
-      absurd (elim t.3 [ inl u ↦ false≢true (sym u.1 ∙ ap is_known_tag (sym f.tag) ∙ group_known g) | inr u ↦ u.0 (sym f.class) ])
+      let f = encoding_alone _ _ _ _ _ _ _ _ _ _ _ _ r q s.encoding t.encoding e in
+      absurd (elim t.stays [ inl u ↦ false≢true (sym u.1 ∙ ap is_known_tag (sym f.tag) ∙ group_known g) | inr u ↦ u.0 (sym f.class) ])
   encodes_alone o xs ys r q (explicit c p n a) (leaf p' m) s t e =
-      let f = encoding_alone _ _ _ _ _ _ _ _ _ _ _ _ r q s.2 t.3 e in
-      absurd (s.4 f.class)
+      let f = encoding_alone _ _ _ _ _ _ _ _ _ _ _ _ r q s.encoding t.encoding e in
+      absurd (s.other f.class)
   encodes_alone o xs ys r q (explicit c p n a) (group p' g bs) s t e =
-      let f = encoding_alone _ _ _ _ _ _ _ _ _ _ _ _ r q s.2 t.3 e in
-      absurd (s.4 f.class)
+      let f = encoding_alone _ _ _ _ _ _ _ _ _ _ _ _ r q s.encoding t.encoding e in
+      absurd (s.other f.class)
   encodes_alone o xs ys r q (explicit c p n a) (explicit d p' m b) s t e =
-      let f = encoding_alone _ _ _ _ _ _ _ _ _ _ _ _ r q s.2 t.2 e in
-      let g = encodes_alone (o + s.1) s.0 s.0 [] [] a b s.5 (subst (λ z. Encodes (o + z) s.0 b) (sym f.header) (subst (λ z. Encodes (o + t.1) z b) (sym f.contents) t.5)) refl in
-      let h : p ≡ p' = s.3 ∙ sym t.3 in
+      let f = encoding_alone _ _ _ _ _ _ _ _ _ _ _ _ r q s.encoding t.encoding e in
+      let g = encodes_alone (o + s.header) s.contents s.contents [] [] a b s.means (subst (λ z. Encodes (o + z) s.contents b) (sym f.header) (subst (λ z. Encodes (o + t.header) z b) (sym f.contents) t.means)) refl in
+      let h : p ≡ p' = s.place ∙ sym t.place in
       let i : a ≡ b = g.1 in
       let j = f.class in
       let k = f.tag in
       (f.octets, cc, f.rest)
   encodes_alone o xs ys r q (explicit c p n a) (unknown d k p' m v) s t e =
-      let f = encoding_alone _ _ _ _ _ _ _ _ _ _ _ _ r q s.2 t.1 e in
-      absurd (elim t.3 [ inl u ↦ s.4 (f.class ∙ u.0) | inr u ↦ u.1 (sym f.constructed, subst IsBlock f.contents (encodes_block (o + s.1) s.0 a s.5)) ])
+      let f = encoding_alone _ _ _ _ _ _ _ _ _ _ _ _ r q s.encoding t.encoding e in
+      absurd (elim t.stays [ inl u ↦ s.other (f.class ∙ u.0) | inr u ↦ u.1 (sym f.constructed, subst IsBlock f.contents (encodes_block (o + s.header) s.contents a s.means)) ])
   encodes_alone o xs ys r q (unknown c k p n v) (leaf p' m) s t e =
-      let f = encoding_alone _ _ _ _ _ _ _ _ _ _ _ _ r q s.1 t.3 e in
-      absurd (elim s.3 [ inl u ↦ false≢true (sym u.1 ∙ ap is_known_tag f.tag ∙ leaf_known m) | inr u ↦ u.0 f.class ])
+      let f = encoding_alone _ _ _ _ _ _ _ _ _ _ _ _ r q s.encoding t.encoding e in
+      absurd (elim s.stays [ inl u ↦ false≢true (sym u.1 ∙ ap is_known_tag f.tag ∙ leaf_known m) | inr u ↦ u.0 f.class ])
   encodes_alone o xs ys r q (unknown c k p n v) (group p' g bs) s t e =
-      let f = encoding_alone _ _ _ _ _ _ _ _ _ _ _ _ r q s.1 t.3 e in
-      absurd (elim s.3 [ inl u ↦ false≢true (sym u.1 ∙ ap is_known_tag f.tag ∙ group_known g) | inr u ↦ u.0 f.class ])
+      let f = encoding_alone _ _ _ _ _ _ _ _ _ _ _ _ r q s.encoding t.encoding e in
+      absurd (elim s.stays [ inl u ↦ false≢true (sym u.1 ∙ ap is_known_tag f.tag ∙ group_known g) | inr u ↦ u.0 f.class ])
   encodes_alone o xs ys r q (unknown c k p n v) (explicit d p' m b) s t e =
-      let f = encoding_alone _ _ _ _ _ _ _ _ _ _ _ _ r q s.1 t.2 e in
-      absurd (elim s.3 [ inl u ↦ t.4 (sym f.class ∙ u.0) | inr u ↦ u.1 (f.constructed, subst IsBlock (sym f.contents) (encodes_block (o + t.1) t.0 b t.5)) ])
+      let f = encoding_alone _ _ _ _ _ _ _ _ _ _ _ _ r q s.encoding t.encoding e in
+      absurd (elim s.stays [ inl u ↦ t.other (sym f.class ∙ u.0) | inr u ↦ u.1 (f.constructed, subst IsBlock (sym f.contents) (encodes_block (o + t.header) t.contents b t.means)) ])
   encodes_alone o xs ys r q (unknown c k p n v) (unknown d j p' m w) s t e =
-      let f = encoding_alone _ _ _ _ _ _ _ _ _ _ _ _ r q s.1 t.1 e in
-      let h : p ≡ p' = s.2 ∙ sym t.2 in
+      let f = encoding_alone _ _ _ _ _ _ _ _ _ _ _ _ r q s.encoding t.encoding e in
+      let h : p ≡ p' = s.place ∙ sym t.place in
       let i = f.class in
       let l = f.constructed in
       let g = f.tag in
@@ -100,13 +110,13 @@ mutual
   pub all_alone : (o : ℕ) (octets : List ℕ) (xs ys : Trees ℕ) → EncodesAll o octets xs → EncodesAll o octets ys → xs ≡ ys
   all_alone o octets no_trees no_trees s t = refl
   all_alone o octets no_trees (more_trees b bs) s t =
-      let p = block_some t.0 (encodes_block o t.0 b t.3) in
-      absurd (omega (arith, p, ap length (sym s ∙ t.2), length-append t.0 t.1))
+      let p = block_some t.first (encodes_block o t.first b t.item) in
+      absurd (omega (arith, p, ap length (sym s ∙ t.whole), length-append t.first t.rest))
   all_alone o octets (more_trees a xs) no_trees s t =
-      let p = block_some s.0 (encodes_block o s.0 a s.3) in
-      absurd (omega (arith, p, ap length (sym t ∙ s.2), length-append s.0 s.1))
+      let p = block_some s.first (encodes_block o s.first a s.item) in
+      absurd (omega (arith, p, ap length (sym t ∙ s.whole), length-append s.first s.rest))
   all_alone o octets (more_trees a xs) (more_trees b ys) s t =
-      let f = encodes_alone o s.0 t.0 s.1 t.1 a b s.3 t.3 (sym s.2 ∙ t.2) in
+      let f = encodes_alone o s.first t.first s.rest t.rest a b s.item t.item (sym s.whole ∙ t.whole) in
       let h : a ≡ b = f.1 in
-      let g = all_alone (o + length s.0) s.1 xs ys s.4 (subst (λ z. EncodesAll (o + length z) s.1 ys) (sym f.0) (subst (λ z. EncodesAll (o + length t.0) z ys) (sym f.2) t.4)) in
+      let g = all_alone (o + length s.first) s.rest xs ys s.items (subst (λ z. EncodesAll (o + length z) s.rest ys) (sym f.0) (subst (λ z. EncodesAll (o + length t.first) z ys) (sym f.2) t.items)) in
       cc

@@ -9,7 +9,7 @@ use Rattle.asn1_blocks.specs.declared.owed.Entry.{Entry}
 use Rattle.asn1_blocks.specs.declared.owed.Entry.TheVariants.{Ready, Group, Explicit, Kept}
 use Rattle.asn1_blocks.specs.Tree.{Tree, group, trees_of}
 use Rattle.asn1_blocks.specs.View.{view, views}
-use Rattle.asn1_blocks.specs.Owed.{around, as_it_came, around_last, after, after_all, Leads}
+use Rattle.asn1_blocks.specs.Inner.Owed.{around, as_it_came, around_last, after, after_all, Leads}
 
 -- orders after orders
 pub after_join : (octets : List ℕ) (es fs : List Entry) (s : List (Tree ℕ)) → after_all octets (es ++ fs) s ≡ after_all octets fs (after_all octets es s)

@@ -1,8 +1,7 @@
 -- Slices of the document, and what a header in them says.
 use Rattle.asn1_leaves.proofs.SliceSplit.{slice_split}
-use Rattle.std.proofs.Common.{◌≡◌, ℕ, ◌+◌, ◌-◌, ◌<◌, ◌≤◌, ◌^◌, Bool, List, [], ◌∷◌, ◌++◌, inl, inr, length, take, drop, Vec, Global, drop-drop, length-drop, length-take, refl, sym, ap, ◌∙◌, subst, arith, rules, length-append, append_assoc, append-nil}
+use Rattle.std.proofs.Common.{◌≡◌, ℕ, ◌+◌, ◌-◌, ◌<◌, ◌≤◌, ◌^◌, Bool, List, [], ◌∷◌, ◌++◌, inl, inr, length, take, drop, Vec, Global, drop-drop, length-drop, length-take, refl, sym, ap, ◌∙◌, subst, arith, rules, length-append, append_assoc}
 use Rattle.std.specs.List.{slice_range}
-use Rattle.std.proofs.lemmas.List.{take-append-drop}
 use Rattle.std.proofs.Math.Seq.{take-add}
 use Rattle.asn1_headers.specs.declared.header.ASN1Class.{ASN1Class}
 use Rattle.asn1_headers.specs.declared.error.ASN1DecodeErr.{ASN1DecodeErr}
@@ -14,6 +13,7 @@ use Rattle.asn1_headers.proofs.Prefixes.{identifier_alone}
 use Rattle.asn1_blocks.specs.Tree.{Tree, Trees, unknown, no_trees, more_trees}
 use Rattle.asn1_headers.specs.HeaderFault.{HeaderFault, no_identifier, no_length, too_far, too_long}
 use Rattle.asn1_blocks.specs.Grammar.{Encodes, EncodesAll}
+use Rattle.asn1_blocks.proofs.OneReading.{only}
 
 abbrev pub with_last : {O : Type 0} → Trees O → Tree O → Trees O
 with_last no_trees b = more_trees b no_trees
@@ -23,14 +23,15 @@ with_last (more_trees x xs) b = more_trees x (with_last xs b)
 pub encodes_more : (o : ℕ) (octets last : List ℕ) (bs : Trees ℕ) (b : Tree ℕ) → EncodesAll o octets bs → Encodes (o + length octets) last b
     → EncodesAll o (octets ++ last) (with_last bs b)
 encodes_more o octets last no_trees b s t =
-    (last, [], ap (λ z. z ++ last) s ∙ sym (append-nil last), subst (λ z. Encodes z last b) (omega (arith, ap length s)) t, refl)
-encodes_more o octets last (more_trees x xs) b s t = (
-  s.0,
-  s.1 ++ last,
-  ap (λ z. z ++ last) s.2 ∙ append_assoc s.0 s.1 last,
-  s.3,
-  encodes_more (o + length s.0) s.1 last xs b s.4 (subst (λ z. Encodes z last b) (omega (arith, ap length s.2, length-append s.0 s.1)) t),
-)
+    subst (λ z. EncodesAll o z (more_trees b no_trees)) (sym (ap (λ z. z ++ last) s))
+    (only o last b (subst (λ z. Encodes z last b) (omega (arith, ap length s)) t))
+encodes_more o octets last (more_trees x xs) b s t = record {
+  first = s.first;
+  rest = s.rest ++ last;
+  whole = ap (λ z. z ++ last) s.whole ∙ append_assoc s.first s.rest last;
+  item = s.item;
+  items = encodes_more (o + length s.first) s.rest last xs b s.items (subst (λ z. Encodes z last b) (omega (arith, ap length s.whole, length-append s.first s.rest)) t);
+}
 
 pub views_push : (bs : List ASN1Block) (b : ASN1Block) → views (bs ++ b ∷ []) ≡ with_last (views bs) (view b)
 views_push [] b = refl
@@ -96,7 +97,7 @@ identifier_missed place octets e (inr (f, missing)) =
 pub length_missed : (place : ℕ) (octets s rest : List ℕ) (c : ASN1Class) (k : Bool) (n : ℕ) (e : DecodeFault) → IsIdentifier s c k n → octets ≡ s ++ rest
     → ((m j : ℕ) → IsLength (take j rest) m → ⊥) → e ≡ length_fault rest → HeaderFault place octets e
 length_missed place octets s [] c k n e t d missing h =
-    subst (HeaderFault place octets) (sym h) (no_identifier (λ s' r c' k' n' b t' d'. let q = identifier_alone s s' [] (b ∷ r) c c' k k' n n' t t' (sym d ∙ d') in let f : [] ≡ b ∷ r = q.1 in cc))
+    subst (HeaderFault place octets) (sym h) (no_identifier (λ s' r c' k' n' b t' d'. let q = identifier_alone s s' [] (b ∷ r) c c' k k' n n' t t' (sym d ∙ d') in let f : [] ≡ b ∷ r = q.rest in cc))
 length_missed place octets s (b ∷ rest) c k n e t d missing h =
     no_length s b rest c k n t d (λ l r m u f. missing m (length l) (subst (λ z. IsLength z m) (sym (ap (take (length l)) f ∙ front_taken l r)) u)) h
 

@@ -3,7 +3,7 @@ use Rattle.std.proofs.Common.{◌≡◌, ℕ, ◌≤◌, ◌<◌, zero, suc, Lis
 use Rattle.asn1_blocks.specs.declared.block.ASN1Block.{ASN1Block}
 use Rattle.asn1_blocks.specs.HeadersBegun.{blocks_in, all_blocks_in}
 use Rattle.asn1_blocks.specs.Tree.{Tree, leaf, group, explicit, unknown, shape, shapes}
-use Rattle.asn1_blocks.specs.TreeOrder.{inside, own_shape}
+use Rattle.asn1_blocks.specs.Inner.TreeOrder.{inside, own_shape}
 use Rattle.asn1_blocks.specs.View.{view, views}
 use Rattle.asn1_blocks.proofs.BlockLists.{same_length}
 use Rattle.asn1_blocks.proofs.TreeOrders.{blocks_inside_of}

@@ -1,5 +1,5 @@
 -- The octets of a tree of a document, and documents one after another.
-use Rattle.std.proofs.Common.{◌≡◌, ℕ, ◌+◌, ◌-◌, List, [], ◌++◌, ◌↔◌, length, take, drop, refl, sym, ap, ◌∙◌, subst, arith, length-append, append_assoc, append-nil}
+use Rattle.std.proofs.Common.{◌≡◌, ℕ, ◌+◌, ◌-◌, List, [], ◌++◌, ◌↔◌, length, take, drop, sym, ap, ◌∙◌, subst, arith, length-append, append_assoc, append-nil}
 use Rattle.std.specs.List.{slice_range}
 use Rattle.std.proofs.lemmas.List.{take_at, drop_at}
 use Rattle.asn1_blocks.specs.Tree.{Tree, Trees, leaf, group, explicit, unknown, no_trees, more_trees}
@@ -7,15 +7,15 @@ use Rattle.asn1_blocks.specs.View.{tree_offset}
 use Rattle.asn1_blocks.specs.Grammar.{Encodes, EncodesAll, Document}
 use Rattle.asn1_blocks.specs.Places.{with_offsets, all_with_offsets, rebased, all_later, joined, end_before, StandsIn, itself, in_group, in_explicit, StandsAmong, in_first, in_later, HasOctets, EncodingAt}
 use Rattle.asn1_headers.proofs.Prefixes.{encoding_alone}
-use Rattle.asn1_blocks.proofs.OneReading.{block_some, encodes_block}
+use Rattle.asn1_blocks.proofs.OneReading.{block_some, encodes_block, only}
 use Rattle.asn1_blocks.proofs.Faults.{block_encoding}
 
 -- a tree has the offset that it was read at
 pub encodes_offset : (o : ℕ) (x : List ℕ) (b : Tree ℕ) → Encodes o x b → tree_offset b ≡ o
-encodes_offset o x (leaf p l) s = s.4
-encodes_offset o x (group p g bs) s = s.4
-encodes_offset o x (explicit c p n b) s = s.3
-encodes_offset o x (unknown c k p n v) s = s.2
+encodes_offset o x (leaf p l) s = s.place
+encodes_offset o x (group p g bs) s = s.place
+encodes_offset o x (explicit c p n b) s = s.place
+encodes_offset o x (unknown c k p n v) s = s.place
 
 first_at : (f : ℕ → ℕ) (o q : ℕ) → ((d : ℕ) → f (o + d) ≡ q + d) → f o ≡ q
 first_at f o q h =
@@ -32,19 +32,44 @@ further f o q n h d =
 mutual
   -- the same octets at another offset
   pub encodes_at : (f : ℕ → ℕ) (o q : ℕ) (x : List ℕ) (b : Tree ℕ) → ((d : ℕ) → f (o + d) ≡ q + d) → Encodes o x b → Encodes q x (with_offsets f b)
-  encodes_at f o q x (leaf p l) h s = (s.0, s.1, s.2, s.3, ap f s.4 ∙ first_at f o q h, s.5)
-  encodes_at f o q x (group p g bs) h s =
-      (s.0, s.1, s.2, s.3, ap f s.4 ∙ first_at f o q h, encodes_all_at f (o + s.2) (q + s.2) s.1 bs (further f o q s.2 h) s.5)
-  encodes_at f o q x (explicit c p n b) h s =
-      (s.0, s.1, s.2, ap f s.3 ∙ first_at f o q h, s.4, encodes_at f (o + s.1) (q + s.1) s.0 b (further f o q s.1 h) s.5)
-  encodes_at f o q x (unknown c k p n v) h s = (s.0, s.1, ap f s.2 ∙ first_at f o q h, s.3)
+  encodes_at f o q x (leaf p l) h s = record {
+    constructed = s.constructed;
+    contents = s.contents;
+    header = s.header;
+    encoding = s.encoding;
+    place = ap f s.place ∙ first_at f o q h;
+    means = s.means;
+  }
+  encodes_at f o q x (group p g bs) h s = record {
+    constructed = s.constructed;
+    contents = s.contents;
+    header = s.header;
+    encoding = s.encoding;
+    place = ap f s.place ∙ first_at f o q h;
+    means = encodes_all_at f (o + s.header) (q + s.header) s.contents bs (further f o q s.header h) s.means;
+  }
+  encodes_at f o q x (explicit c p n b) h s = record {
+    contents = s.contents;
+    header = s.header;
+    encoding = s.encoding;
+    place = ap f s.place ∙ first_at f o q h;
+    other = s.other;
+    means = encodes_at f (o + s.header) (q + s.header) s.contents b (further f o q s.header h) s.means;
+  }
+  encodes_at f o q x (unknown c k p n v) h s =
+      record { header = s.header; encoding = s.encoding; place = ap f s.place ∙ first_at f o q h; stays = s.stays }
 
   pub encodes_all_at :
       (f : ℕ → ℕ) (o q : ℕ) (x : List ℕ) (bs : Trees ℕ) → ((d : ℕ) → f (o + d) ≡ q + d) →
       EncodesAll o x bs → EncodesAll q x (all_with_offsets f bs)
   encodes_all_at f o q x no_trees h s = s
-  encodes_all_at f o q x (more_trees b bs) h s =
-      (s.0, s.1, s.2, encodes_at f o q s.0 b h s.3, encodes_all_at f (o + length s.0) (q + length s.0) s.1 bs (further f o q (length s.0) h) s.4)
+  encodes_all_at f o q x (more_trees b bs) h s = record {
+    first = s.first;
+    rest = s.rest;
+    whole = s.whole;
+    item = encodes_at f o q s.first b h s.item;
+    items = encodes_all_at f (o + length s.first) (q + length s.first) s.rest bs (further f o q (length s.first) h) s.items;
+  }
 
 -- b stands in the octets i, and ends at j
 pub record Found (i : List ℕ) (b : Tree ℕ) (j : ℕ) : Type 0 where
@@ -58,7 +83,7 @@ pub record Found (i : List ℕ) (b : Tree ℕ) (j : ℕ) : Type 0 where
 -- what stands before trees ends where they begin
 pub end_is : (o e : ℕ) (x : List ℕ) (bs : Trees ℕ) → EncodesAll o x bs → e ≡ o + length x → end_before bs e ≡ o
 end_is o e x no_trees s h = omega (arith, h, ap length s)
-end_is o e x (more_trees b bs) s h = encodes_offset o s.0 b s.3
+end_is o e x (more_trees b bs) s h = encodes_offset o s.first b s.item
 
 module _ (i u x v : List ℕ) (w : i ≡ u ++ (x ++ v)) where
   -- one step into octets that stand in others
@@ -78,31 +103,31 @@ mutual
       e ≡ length u + length x → Encodes (length u) x a → StandsIn a e b j → Found i b j
   found_in a e b j i u x v w n s itself = record { before = u; octets = x; behind = v; whole = w; ends = n; encoded = s }
   found_in a e b j i u x v w n s (in_group {bs = bs} t) =
-      let f = s.3 in
-      let h : length u + s.2 ≡ length (u ++ (f.identifier ++ f.len)) = omega
+      let f = s.encoding in
+      let h : length u + s.header ≡ length (u ++ (f.identifier ++ f.len)) = omega
       (arith, f.size, length-append u (f.identifier ++ f.len), length-append f.identifier f.len) in
-      found_among bs e b j i (u ++ (f.identifier ++ f.len)) s.1 v (open_contents i u x v w f.identifier f.len s.1 f.whole)
-      (omega (arith, n, h, f.size, ap length f.whole, length-append f.identifier (f.len ++ s.1), length-append f.len s.1))
-      (subst (λ z. EncodesAll z s.1 bs) h s.5) t
+      found_among bs e b j i (u ++ (f.identifier ++ f.len)) s.contents v (open_contents i u x v w f.identifier f.len s.contents f.whole)
+      (omega (arith, n, h, f.size, ap length f.whole, length-append f.identifier (f.len ++ s.contents), length-append f.len s.contents))
+      (subst (λ z. EncodesAll z s.contents bs) h s.means) t
   found_in a e b j i u x v w n s (in_explicit {a = y} t) =
-      let f = s.2 in
-      let h : length u + s.1 ≡ length (u ++ (f.identifier ++ f.len)) = omega
+      let f = s.encoding in
+      let h : length u + s.header ≡ length (u ++ (f.identifier ++ f.len)) = omega
       (arith, f.size, length-append u (f.identifier ++ f.len), length-append f.identifier f.len) in
-      found_in y e b j i (u ++ (f.identifier ++ f.len)) s.0 v (open_contents i u x v w f.identifier f.len s.0 f.whole)
-      (omega (arith, n, h, f.size, ap length f.whole, length-append f.identifier (f.len ++ s.0), length-append f.len s.0))
-      (subst (λ z. Encodes z s.0 y) h s.5) t
+      found_in y e b j i (u ++ (f.identifier ++ f.len)) s.contents v (open_contents i u x v w f.identifier f.len s.contents f.whole)
+      (omega (arith, n, h, f.size, ap length f.whole, length-append f.identifier (f.len ++ s.contents), length-append f.len s.contents))
+      (subst (λ z. Encodes z s.contents y) h s.means) t
 
   pub found_among :
       (bs : Trees ℕ) (e : ℕ) (b : Tree ℕ) (j : ℕ) (i u x v : List ℕ) → i ≡ u ++ (x ++ v) →
       e ≡ length u + length x → EncodesAll (length u) x bs → StandsAmong bs e b j → Found i b j
   found_among bs e b j i u x v w n s (in_first {a = a} {bs = cs} t) =
-      found_in a (end_before cs e) b j i u s.0 (s.1 ++ v) (open_first i u x v w s.0 s.1 s.2)
-      (end_is (length u + length s.0) e s.1 cs s.4 (omega (arith, n, ap length s.2, length-append s.0 s.1))) s.3 t
+      found_in a (end_before cs e) b j i u s.first (s.rest ++ v) (open_first i u x v w s.first s.rest s.whole)
+      (end_is (length u + length s.first) e s.rest cs s.items (omega (arith, n, ap length s.whole, length-append s.first s.rest))) s.item t
   found_among bs e b j i u x v w n s (in_later {bs = cs} t) =
-      let h : length u + length s.0 ≡ length (u ++ s.0) = omega (arith, length-append u s.0) in
-      found_among cs e b j i (u ++ s.0) s.1 v (open_rest i u x v w s.0 s.1 s.2)
-      (omega (arith, n, h, ap length s.2, length-append s.0 s.1))
-      (subst (λ z. EncodesAll z s.1 cs) h s.4) t
+      let h : length u + length s.first ≡ length (u ++ s.first) = omega (arith, length-append u s.first) in
+      found_among cs e b j i (u ++ s.first) s.rest v (open_rest i u x v w s.first s.rest s.whole)
+      (omega (arith, n, h, ap length s.whole, length-append s.first s.rest))
+      (subst (λ z. EncodesAll z s.rest cs) h s.items) t
 
 -- the slice where octets stand
 pub slice_here : (i u x v : List ℕ) (o j : ℕ) → i ≡ u ++ (x ++ v) → o ≡ length u → j ≡ length u + length x → slice_range i o j ≡ x
@@ -116,39 +141,47 @@ encodes_document o x b s =
     let p = encodes_offset o x b s in
     record {
       some = block_some x (encodes_block o x b s);
-      blocks = (x, [], sym (append-nil x), encodes_at (λ z. z - tree_offset b) o 0 x b (λ d. omega (arith, p)) s, refl);
+      blocks = only 0 x (rebased b) (encodes_at (λ z. z - tree_offset b) o 0 x b (λ d. omega (arith, p)) s);
     }
 
--- where the octets of a tree of a document stand
+-- where octets that encode a tree stand
+pub record Standing (i : List ℕ) (b : Tree ℕ) (octets : List ℕ) : Type 0 where
+  pub before : List ℕ
+  pub behind : List ℕ
+  pub whole : i ≡ before ++ (octets ++ behind)
+  pub at : length before ≡ tree_offset b
+  pub encoded : Encodes (tree_offset b) octets b
+
+-- where those of a tree of a document do
 pub found_octets :
     (i : List ℕ) (bs : Trees ℕ) (b : Tree ℕ) (octets : List ℕ) → Document i bs →
-    HasOctets i bs b octets →
-    (before : List ℕ) × (behind : List ℕ) × (i ≡ before ++ (octets ++ behind)) × (length before ≡ tree_offset b) × Encodes (tree_offset b) octets b
+    HasOctets i bs b octets → Standing i b octets
 found_octets i bs b octets d h =
-    let f = found_among bs (length i) b h.0 i [] i [] (sym (append-nil i)) (omega arith) d.blocks h.1 in
+    let f = found_among bs (length i) b h.end i [] i [] (sym (append-nil i)) (omega arith) d.blocks h.stands in
     let o = encodes_offset (length f.before) f.octets b f.encoded in
-    let e : octets ≡ f.octets = h.2 ∙ slice_here i f.before f.octets f.behind (tree_offset b) h.0 f.whole o f.ends in (
-      f.before,
-      f.behind,
-      f.whole ∙ ap (λ z. f.before ++ (z ++ f.behind)) (sym e),
-      sym o,
-      subst (λ z. Encodes (tree_offset b) z b) (sym e) (subst (λ z. Encodes z f.octets b) (sym o) f.encoded),
-    )
+    let e : octets ≡ f.octets = h.are ∙ slice_here i f.before f.octets f.behind (tree_offset b) h.end f.whole o f.ends in
+    record {
+      before = f.before;
+      behind = f.behind;
+      whole = f.whole ∙ ap (λ z. f.before ++ (z ++ f.behind)) (sym e);
+      at = sym o;
+      encoded = subst (λ z. Encodes (tree_offset b) z b) (sym e) (subst (λ z. Encodes z f.octets b) (sym o) f.encoded);
+    }
 
 -- they are an encoding at its offset
 pub octets_encoding : (i : List ℕ) (bs : Trees ℕ) (b : Tree ℕ) (octets : List ℕ) → Document i bs → HasOctets i bs b octets → EncodingAt i (tree_offset b) octets
 octets_encoding i bs b octets d h =
-    let (before, behind, whole, at, s) = found_octets i bs b octets d h in
-    let F = block_encoding octets (encodes_block (tree_offset b) octets b s) in (
-      behind,
-      ap (drop (tree_offset b)) whole ∙ drop_at before (octets ++ behind) (tree_offset b) at,
-      (F.class, F.constructed, F.tag, F.contents, F.header, F.encoding),
-    )
+    let f = found_octets i bs b octets d h in
+    record {
+      rest = f.behind;
+      stands = ap (drop (tree_offset b)) f.whole ∙ drop_at f.before (octets ++ f.behind) (tree_offset b) f.at;
+      are = block_encoding octets (encodes_block (tree_offset b) octets b f.encoded);
+    }
 
 -- one encoding stands at an offset
 pub encoding_at_alone : (i : List ℕ) (o : ℕ) (x y : List ℕ) → EncodingAt i o x → EncodingAt i o y → x ≡ y
 encoding_at_alone i o x y p q =
-    (encoding_alone _ _ _ _ _ _ _ _ _ _ _ _ p.0 q.0 p.2.5 q.2.5 (sym p.1 ∙ q.1)).octets
+    (encoding_alone _ _ _ _ _ _ _ _ _ _ _ _ p.rest q.rest p.are.encoding q.are.encoding (sym p.stands ∙ q.stands)).octets
 
 -- so it is that of the tree
 pub encoding_at_octets :
@@ -164,8 +197,14 @@ encodes_joined o x y no_trees ys s t =
     let e : o + length x ≡ o = omega (arith, ap length s) in
     subst (λ z. EncodesAll o z ys) (sym (ap (λ z. z ++ y) s)) (subst (λ z. EncodesAll z y ys) e t)
 encodes_joined o x y (more_trees b xs) ys s t =
-    let e : o + length x ≡ (o + length s.0) + length s.1 = omega (arith, ap length s.2, length-append s.0 s.1) in
-    (s.0, s.1 ++ y, ap (λ z. z ++ y) s.2 ∙ append_assoc s.0 s.1 y, s.3, encodes_joined (o + length s.0) s.1 y xs ys s.4 (subst (λ z. EncodesAll z y ys) e t))
+    let e : o + length x ≡ (o + length s.first) + length s.rest = omega (arith, ap length s.whole, length-append s.first s.rest) in
+    record {
+      first = s.first;
+      rest = s.rest ++ y;
+      whole = ap (λ z. z ++ y) s.whole ∙ append_assoc s.first s.rest y;
+      item = s.item;
+      items = encodes_joined (o + length s.first) s.rest y xs ys s.items (subst (λ z. EncodesAll z y ys) e t);
+    }
 
 -- two documents one after another are one
 pub documents_joined : (i k : List ℕ) (xs ys : Trees ℕ) → Document i xs → Document k ys → Document (i ++ k) (joined xs (all_later (length i) ys))

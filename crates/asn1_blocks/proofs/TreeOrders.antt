@@ -5,7 +5,7 @@ use Rattle.asn1_blocks.specs.declared.block.ASN1Block.{ASN1Block}
 use Rattle.asn1_blocks.specs.Tree.{Tree, Trees, leaf, group, explicit, unknown}
 use Rattle.asn1_blocks.specs.BlockParts.{in_order, all_in_order}
 use Rattle.asn1_blocks.specs.HeadersBegun.{blocks_in, all_blocks_in}
-use Rattle.asn1_blocks.specs.TreeOrder.{IsInTreeOrder, IsNext, inside, stacked}
+use Rattle.asn1_blocks.specs.Inner.TreeOrder.{IsInTreeOrder, IsNext, inside, stacked}
 use Rattle.asn1_blocks.specs.View.{view, views}
 
 -- one more list inside

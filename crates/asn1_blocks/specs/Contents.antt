@@ -1,11 +1,11 @@
 -- Contents octets of class Universal: a module for each kind that has a rule says what the octets
 -- mean, how they are at fault, what is written and what can't be; here is which tag has which.
-use Rattle.std.specs.Prelude.{◌≡◌, ◌==◌, ◌||◌, ◌⊎◌, ℕ, Bool, List, [], Option, None}
+use Rattle.std.specs.Prelude.{◌≡◌, ◌==◌, ◌||◌, ℕ, Bool, List, [], Option, None}
 use Rattle.asn1_blocks.specs.declared.block.GroupKind.{GroupKind}
 use Rattle.asn1_blocks.specs.declared.block.GroupKind.TheVariants.{Sequence, Set}
 use Rattle.asn1_headers.specs.declared.error.ASN1EncodeErr.{ASN1EncodeErr}
 use Rattle.asn1_leaves.specs.StringKind.{StringKind, utf8, printable, teletex, ia5, universal, bmp}
-use Rattle.asn1_blocks.specs.Tree.{Leaf, boolean, integer, bit_string, octet_string, null, object_identifier, text, utc_time, generalized_time, Tree, leaf, group, explicit, unknown}
+use Rattle.asn1_blocks.specs.Tree.{Leaf, boolean, integer, bit_string, octet_string, null, object_identifier, text, utc_time, generalized_time}
 use Rattle.asn1_headers.specs.Fault.{DecodeFault}
 use Rattle.asn1_leaves.specs.Contents.Boolean.{BooleanContents, BooleanFault, boolean_contents}
 use Rattle.asn1_leaves.specs.Contents.Integer.{IntegerContents, integer_contents}
@@ -101,15 +101,14 @@ LeafContents (utc_time m) contents = UtcTimeContents m contents
 LeafContents (generalized_time m) contents = GeneralizedTimeContents m contents
 
 -- the contents octets of this tag mean no leaf, with this fault
-abbrev pub LeafFault : ℕ → List ℕ → DecodeFault → Type 0
-LeafFault tag contents fault =
-    ((tag ≡ 1) × BooleanFault contents fault)
-    ⊎ (((tag ≡ 3) × BitStringFault contents fault)
-    ⊎ (((tag ≡ 6) × ObjectIdentifierFault contents fault)
-    ⊎ (((tag ≡ 23) × UtcTimeFault contents fault)
-    ⊎ (((tag ≡ 24) × GeneralizedTimeFault contents fault)
-    ⊎ ((kind : StringKind) × (tag ≡ string_tag kind)
-    × TextFault (text_form kind) contents fault)))))
+pub data LeafFault (tag : ℕ) (contents : List ℕ) (fault : DecodeFault) : Type 0 where
+  of_boolean : tag ≡ 1 → BooleanFault contents fault → LeafFault tag contents fault
+  of_bit_string : tag ≡ 3 → BitStringFault contents fault → LeafFault tag contents fault
+  of_object_identifier : tag ≡ 6 → ObjectIdentifierFault contents fault → LeafFault tag contents fault
+  of_utc_time : tag ≡ 23 → UtcTimeFault contents fault → LeafFault tag contents fault
+  of_generalized_time : tag ≡ 24 → GeneralizedTimeFault contents fault → LeafFault tag contents fault
+  of_text : (kind : StringKind) → tag ≡ string_tag kind → TextFault (text_form kind) contents fault
+      → LeafFault tag contents fault
 
 -- the contents octets of a leaf that are written
 abbrev pub leaf_contents : Leaf → List ℕ
@@ -158,11 +157,3 @@ normalized_leaf (object_identifier ns) = object_identifier ns
 normalized_leaf (text kind cs) = text kind cs
 normalized_leaf (utc_time m) = utc_time m
 normalized_leaf (generalized_time m) = generalized_time m
-
--- the tree is a leaf at the offset, with this tag and these contents octets
-abbrev pub IsLeafOf : ℕ → ℕ → List ℕ → Tree ℕ → Type 0
-IsLeafOf offset tag contents (leaf o l) =
-    (o ≡ offset) × (tag ≡ leaf_tag l) × LeafContents l contents
-IsLeafOf offset tag contents (group o g bs) = ⊥
-IsLeafOf offset tag contents (explicit c o n b) = ⊥
-IsLeafOf offset tag contents (unknown c k o n v) = ⊥

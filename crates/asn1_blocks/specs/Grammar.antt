@@ -1,11 +1,11 @@
 -- The documents, their blocks, and the first fault of all other octets. A block is an encoding (X.690 8.1.1): a leaf, a
 -- SEQUENCE (8.9, 8.10), a SET (8.11, 8.12), one block in explicit tagging (8.14), or any other, which stays as it came.
-use Rattle.std.specs.Prelude.{◌≡◌, ◌≢◌, ℕ, ◌+◌, ◌^◌, ◌<◌, ◌≤◌, ◌⊎◌, ◌++◌, Bool, true, false, List, [], ◌∷◌, length}
+use Rattle.std.specs.Prelude.{◌≡◌, ◌≢◌, ℕ, ◌+◌, ◌<◌, ◌⊎◌, ◌++◌, Bool, true, false, List, [], length}
 use Rattle.asn1_headers.specs.declared.header.ASN1Class.{ASN1Class}
 use Rattle.asn1_headers.specs.declared.header.ASN1Class.TheVariants.{Universal}
 use Rattle.asn1_blocks.specs.declared.block.GroupKind.{GroupKind}
-use Rattle.asn1_headers.specs.Header.{IsIdentifier, IsLength, Encoding, length_fault}
-use Rattle.asn1_headers.specs.Fault.{DecodeFault, empty_buffer, length_too_large, incomplete}
+use Rattle.asn1_headers.specs.Header.{Encoding}
+use Rattle.asn1_headers.specs.Fault.{DecodeFault, empty_buffer}
 use Rattle.asn1_headers.specs.HeaderFault.{HeaderFault}
 use Rattle.asn1_blocks.specs.Tree.{Leaf, Tree, Trees, leaf, group, explicit, unknown, no_trees, more_trees}
 use Rattle.asn1_blocks.specs.Contents.{leaf_tag, group_tag, is_known_tag, LeafContents, LeafFault}
@@ -37,30 +37,59 @@ StaysAsItCame c k n v =
     ((c ≡ Universal) × (is_known_tag n ≡ false))
     ⊎ ((c ≢ Universal) × (((k ≡ true) × IsBlock v) → ⊥))
 
+-- the octets at the offset, which is o, are an encoding of class Universal with this tag, and its contents octets, at
+-- the place where they begin, have the meaning. The constructed bit of a known tag may be any, where DER has it set for
+-- a SEQUENCE and a SET (X.690 8.9.1, 8.11.1) and clear for the rest (10.2)
+pub record EncodedAs (offset : ℕ) (octets : List ℕ) (o tag : ℕ) (Means : ℕ → List ℕ → Type 0) : Type 0 where
+  pub constructed : Bool
+  pub contents : List ℕ
+  pub header : ℕ
+  pub encoding : Encoding octets Universal constructed tag contents header
+  pub place : o ≡ offset
+  pub means : Means (offset + header) contents
+
+-- they are a constructed encoding of another class, and its contents octets have the meaning (8.14)
+pub record EncodedAround (offset : ℕ) (octets : List ℕ) (class : ASN1Class) (o tag : ℕ)
+    (Means : ℕ → List ℕ → Type 0) : Type 0 where
+  pub contents : List ℕ
+  pub header : ℕ
+  pub encoding : Encoding octets class true tag contents header
+  pub place : o ≡ offset
+  pub other : class ≢ Universal
+  pub means : Means (offset + header) contents
+
+-- they are an encoding that stays as it came
+pub record EncodedAsItCame (offset : ℕ) (octets : List ℕ) (class : ASN1Class) (constructed : Bool) (o tag : ℕ)
+    (contents : List ℕ) : Type 0 where
+  pub header : ℕ
+  pub encoding : Encoding octets class constructed tag contents header
+  pub place : o ≡ offset
+  pub stays : StaysAsItCame class constructed tag contents
+
+-- the octets are those of a first item, and then the rest, which begins after as many octets
+pub record EncodedFirst (octets : List ℕ) (First : List ℕ → Type 0) (Rest : ℕ → List ℕ → Type 0) : Type 0 where
+  pub first : List ℕ
+  pub rest : List ℕ
+  pub whole : octets ≡ first ++ rest
+  pub item : First first
+  pub items : Rest (length first) rest
+
 abbrev mutual
-  -- the octets at the offset encode the tree. The constructed bit of a known tag may be any, where DER has it set for a
-  -- SEQUENCE and a SET (X.690 8.9.1, 8.11.1) and clear for the rest (10.2). What stands inside a constructed encoding
-  -- of another class is one block (8.14), or it stays as it came
+  -- the octets at the offset encode the tree. What stands inside a constructed encoding of another class is one block,
+  -- or it stays as it came
   pub Encodes : ℕ → List ℕ → Tree ℕ → Type 0
-  Encodes offset octets (leaf o l) =
-      (k : Bool) × (contents : List ℕ) × (h : ℕ) × Encoding octets Universal k (leaf_tag l) contents h
-      × (o ≡ offset) × LeafContents l contents
+  Encodes offset octets (leaf o l) = EncodedAs offset octets o (leaf_tag l) (λ place contents. LeafContents l contents)
   Encodes offset octets (group o g bs) =
-      (k : Bool) × (contents : List ℕ) × (h : ℕ)
-      × Encoding octets Universal k (group_tag g) contents h
-      × (o ≡ offset) × EncodesAll (offset + h) contents bs
+      EncodedAs offset octets o (group_tag g) (λ place contents. EncodesAll place contents bs)
   Encodes offset octets (explicit c o n b) =
-      (contents : List ℕ) × (h : ℕ) × Encoding octets c true n contents h × (o ≡ offset) × (c ≢ Universal)
-      × Encodes (offset + h) contents b
-  Encodes offset octets (unknown c k o n v) =
-      (h : ℕ) × Encoding octets c k n v h × (o ≡ offset) × StaysAsItCame c k n v
+      EncodedAround offset octets c o n (λ place contents. Encodes place contents b)
+  Encodes offset octets (unknown c k o n v) = EncodedAsItCame offset octets c k o n v
 
   -- the octets from the offset on encode the trees, one after another
   pub EncodesAll : ℕ → List ℕ → Trees ℕ → Type 0
   EncodesAll offset octets no_trees = octets ≡ []
   EncodesAll offset octets (more_trees b bs) =
-      (x : List ℕ) × (rest : List ℕ) × (octets ≡ x ++ rest) × Encodes offset x b
-      × EncodesAll (offset + length x) rest bs
+      EncodedFirst octets (λ first. Encodes offset first b) (λ size rest. EncodesAll (offset + size) rest bs)
 
 -- the octets are a document: one block or more, with these trees
 pub record Document (octets : List ℕ) (bs : Trees ℕ) : Type 0 where

@@ -63,28 +63,34 @@ mutual
         StandsAmong bs end b stop → StandsAmong (more_trees a bs) end b stop
 
 -- a tree of the document, at any depth, has these octets: from its offset to where it ends
-abbrev pub HasOctets : List ℕ → Trees ℕ → Tree ℕ → List ℕ → Type 0
-HasOctets document bs b octets =
-    (end : ℕ) × StandsAmong bs (length document) b end
-    × (octets ≡ slice_range document (tree_offset b) end)
+pub record HasOctets (document : List ℕ) (bs : Trees ℕ) (b : Tree ℕ) (octets : List ℕ) : Type 0 where
+  pub end : ℕ
+  pub stands : StandsAmong bs (length document) b end
+  pub are : octets ≡ slice_range document (tree_offset b) end
 
 -- the octets are an encoding, of whatever fields
-abbrev pub IsEncoding : List ℕ → Type 0
-IsEncoding octets =
-    (c : ASN1Class) × (k : Bool) × (n : ℕ) × (contents : List ℕ) × (h : ℕ)
-    × Encoding octets c k n contents h
+pub record IsEncoding (octets : List ℕ) : Type 0 where
+  pub class : ASN1Class
+  pub constructed : Bool
+  pub tag : ℕ
+  pub contents : List ℕ
+  pub header : ℕ
+  pub encoding : Encoding octets class constructed tag contents header
 
 -- the octets are an encoding, and stand at the offset
-abbrev pub EncodingAt : List ℕ → ℕ → List ℕ → Type 0
-EncodingAt document offset octets =
-    (rest : List ℕ) × (drop offset document ≡ octets ++ rest) × IsEncoding octets
+pub record EncodingAt (document : List ℕ) (offset : ℕ) (octets : List ℕ) : Type 0 where
+  pub rest : List ℕ
+  pub stands : drop offset document ≡ octets ++ rest
+  pub are : IsEncoding octets
 
 -- none stand there
 abbrev pub HasNoEncodingAt : List ℕ → ℕ → Type 0
 HasNoEncodingAt document offset = (octets : List ℕ) → EncodingAt document offset octets → ⊥
 
 -- the octets are those of a tree of the document, and stand at the offset
-abbrev pub TreeAt : List ℕ → ℕ → List ℕ → Type 0
-TreeAt document offset octets =
-    (bs : Trees ℕ) × (b : Tree ℕ)
-    × Document document bs × HasOctets document bs b octets × (tree_offset b ≡ offset)
+pub record TreeAt (document : List ℕ) (offset : ℕ) (octets : List ℕ) : Type 0 where
+  pub all : Trees ℕ
+  pub tree : Tree ℕ
+  pub read : Document document all
+  pub has : HasOctets document all tree octets
+  pub stands : tree_offset tree ≡ offset

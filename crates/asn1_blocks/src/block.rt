@@ -164,8 +164,8 @@ impl ASN1Block {
 /// Comparing takes no memory. It takes a call on the stack for each level of nesting, but for
 /// blocks that are the last of their list, and those in an `Explicit`: chains of these take none.
 impl PartialEq for ASN1Block {
-    ghost use Rattle.asn1_blocks.specs.Equality.{same_block};
-    ghost use Rattle.asn1_blocks.specs.EqualityLaws.{same_block_laws};
+    ghost use Rattle.asn1_blocks.specs.Inner.Equality.{same_block};
+    ghost use Rattle.asn1_blocks.specs.Inner.EqualityLaws.{same_block_laws};
 
     ghost eq = { same_block };
 

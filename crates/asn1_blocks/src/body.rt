@@ -2,8 +2,9 @@
 // that has a rule.
 ghost use Rattle.std.specs.Prelude.{◌≡◌, ◌↔◌, ◌⊎◌, ◌≤◌, ℕ, List, length, false, None, Some, IfOk, IfErr, IsTrue, OnOk, MatchOption};
 ghost use Rattle.asn1_headers.specs.declared.header.ASN1Class.TheVariants.{Universal};
-ghost use Rattle.asn1_blocks.specs.Contents.{IsLeafOf, LeafFault, is_known_tag, is_leaf_tag};
-ghost use Rattle.asn1_blocks.specs.FaithfulWalk.{IsFaithfulIfLeaf};
+ghost use Rattle.asn1_blocks.specs.Contents.{LeafFault, is_known_tag, is_leaf_tag};
+ghost use Rattle.asn1_blocks.specs.Inner.LeafBlocks.{IsLeafOf};
+ghost use Rattle.asn1_blocks.specs.Inner.FaithfulWalk.{IsFaithfulIfLeaf};
 ghost use Rattle.asn1_headers.specs.Fault.{OutOfMemoryOr};
 ghost use Rattle.asn1_blocks.specs.Grammar.{ContentsFault, Encodes};
 ghost use Rattle.asn1_headers.specs.Header.{Encoding};

@@ -3,7 +3,7 @@ ghost use Rattle.std.specs.Prelude.{◌≡◌, ◌↔◌, IfOk, IsTrue};
 ghost use Rattle.asn1_headers.specs.declared.header.ASN1Class.TheVariants.{Universal};
 ghost use Rattle.asn1_blocks.specs.Faithful.{AreFaithful, IsFaithful};
 ghost use Rattle.asn1_blocks.specs.Grammar.{IsBlock, StaysAsItCame};
-ghost use Rattle.asn1_blocks.specs.FaithfulWalk.{IsFaithfulAlone};
+ghost use Rattle.asn1_blocks.specs.Inner.FaithfulWalk.{IsFaithfulAlone};
 ghost use Rattle.asn1_blocks.specs.View.{view, views};
 
 use crate::block::ASN1Block;

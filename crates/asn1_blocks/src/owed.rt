@@ -3,7 +3,7 @@ ghost use Rattle.std.specs.Prelude.{◌≡◌, ◌≤◌, true, [], map, slice_r
 ghost use Rattle.asn1_headers.specs.declared.error.ASN1DecodeErr.TheVariants.{OutOfMemory};
 ghost use Rattle.asn1_blocks.specs.Tree.{group, unknown};
 ghost use Rattle.asn1_blocks.specs.View.{view, views};
-ghost use Rattle.asn1_blocks.specs.Owed.{after, after_all, around};
+ghost use Rattle.asn1_blocks.specs.Inner.Owed.{after, after_all, around};
 
 use crate::block::discard::discard_one;
 use crate::block::{ASN1Block, GroupKind};

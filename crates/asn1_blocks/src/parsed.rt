@@ -2,7 +2,7 @@
 ghost use Rattle.std.specs.Prelude.{◌≡◌, ◌+◌, ◌-◌, ◌<◌, ◌≤◌, ◌^◌, length, drop, slice_range, IfOk, IfErr};
 ghost use Rattle.asn1_headers.specs.Fault.{OutOfMemoryOr};
 ghost use Rattle.asn1_headers.specs.HeaderFault.{HeaderFault};
-ghost use Rattle.asn1_blocks.specs.HeaderPlaces.{HeaderFound};
+ghost use Rattle.asn1_blocks.specs.Inner.HeaderPlaces.{HeaderFound};
 
 use asn1_headers::error::ASN1DecodeErr;
 use asn1_headers::header::{ASN1Class, HeaderCount, decode_length, decode_tag};

@@ -6,8 +6,8 @@ ghost use Rattle.asn1_headers.specs.Fault.{DecodeFault, OutOfMemoryOr, UnlessOut
 ghost use Rattle.asn1_blocks.specs.FaultPlace.{FirstFaultAt};
 ghost use Rattle.asn1_blocks.specs.Grammar.{Document, FirstFault};
 ghost use Rattle.asn1_blocks.specs.HeadersBegun.{HeadersBegun};
-ghost use Rattle.asn1_blocks.specs.Owed.{after_all, around};
-ghost use Rattle.asn1_blocks.specs.ReaderSteps.{Answered, Faulty, IsKept, IsOpened, IsOwed, IsPut, IsReadAs, Reading, Reads, Refused, Stepped, TurnTaken, Turned, attempt_of, left};
+ghost use Rattle.asn1_blocks.specs.Inner.Owed.{after_all, around};
+ghost use Rattle.asn1_blocks.specs.Inner.ReaderSteps.{Answered, Faulty, IsKept, IsOpened, IsOwed, IsPut, IsReadAs, Reading, Reads, Refused, Stepped, TurnTaken, Turned, attempt_of, left};
 ghost use Rattle.asn1_blocks.specs.Tree.{Trees};
 ghost use Rattle.asn1_blocks.specs.View.{view, views};
 

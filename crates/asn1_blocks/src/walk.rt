@@ -1,7 +1,7 @@
 // Trees as lists of their blocks, each before those that it holds, so that what goes over them is
 // a loop.
 ghost use Rattle.std.specs.Prelude.{◌≡◌, ◌++◌, [], IfOk, MatchOption, OnOk, map};
-ghost use Rattle.asn1_blocks.specs.TreeOrder.{IsInTreeOrder, IsNext, ahead, inside, stacked};
+ghost use Rattle.asn1_blocks.specs.Inner.TreeOrder.{IsInTreeOrder, IsNext, ahead, inside, stacked};
 ghost use Rattle.asn1_blocks.specs.View.{view, views};
 
 use crate::block::ASN1Block;

@@ -195,7 +195,7 @@ contents_front place octets s l rest c k n m t u g = elim (cases_lt (place + (le
 length_front_after : (place : ℕ) (octets s rest : List ℕ) (c : ASN1Class) (k : Bool) (n : ℕ) → IsIdentifier s c k n → octets ≡ s ++ rest → EncodingFront place octets
 length_front_after place octets s [] c k n t g = begins_not incomplete (no_identifier (λ s' rest c' k' n' b t' g'.
     let q = identifier_alone s s' [] (b ∷ rest) c c' k k' n n' t t' (sym g ∙ g') in
-    omega (arith, ap length q.1)))
+    omega (arith, ap length q.rest)))
 length_front_after place octets s (b ∷ rest) c k n t g = elim (length_front (b ∷ rest)) [
   | not_measured none ↦ begins_not (length_fault (b ∷ rest)) (no_length s b rest c k n t g none refl)
   | measured l r m u e ↦ contents_front place octets s l r c k n m t u (g ∙ ap (λ z. s ++ z) e)

@@ -29,11 +29,11 @@ pub no_long_identifier : (b : ℕ) (rest : List ℕ) → b % 32 ≡ 31 → Begin
 no_long_identifier b rest low missing n k = go rest k low missing
   where
     go : (rest : List ℕ) (k : ℕ) → b % 32 ≡ 31 → BeginsWithNo IsBase128 rest → IsSomeIdentifier (take k (b ∷ rest)) n → ⊥
-    go rest zero low missing t = t.2
-    go [] (suc zero) low missing t = omega (arith, t.2.0, t.2.1, low)
-    go [] (suc (suc k)) low missing t = omega (arith, t.2.0, t.2.1, low)
-    go (d ∷ rest) (suc zero) low missing t = omega (arith, t.2.0, t.2.1, low)
-    go (d ∷ rest) (suc (suc k)) low missing t = missing n (suc k) t.2.1
+    go rest zero low missing (c, k, t) = t
+    go [] (suc zero) low missing (c, k, t) = omega (arith, t.0, t.1, low)
+    go [] (suc (suc i)) low missing (c, k, t) = omega (arith, t.0, t.1, low)
+    go (d ∷ rest) (suc zero) low missing (c, k, t) = omega (arith, t.0, t.1, low)
+    go (d ∷ rest) (suc (suc i)) low missing (c, k, t) = missing n (suc i) t.1
 
 -- the octets of a length are few
 pub few_octets : (n : ℕ) → n < 2 ^ 64 → length (digits_of 256 n) ≤ 8

@@ -77,66 +77,94 @@ bit_small true = omega arith
 bit_small false = omega arith
 
 -- the class, the constructed bit and the low bits of a leading octet
-pub same_class : (c d : ASN1Class) (j k : Bool) (m n : ℕ) → m < 32 → n < 32 → leading_octet c j m ≡ leading_octet d k n → (c ≡ d) × (j ≡ k) × (m ≡ n)
+pub record SameLeading (c d : ASN1Class) (j k : Bool) (m n : ℕ) : Type 0 where
+  pub class : c ≡ d
+  pub constructed : j ≡ k
+  pub low : m ≡ n
+
+pub same_class :
+    (c d : ASN1Class) (j k : Bool) (m n : ℕ) → m < 32 → n < 32 → leading_octet c j m ≡ leading_octet d k n →
+    SameLeading c d j k m n
 same_class c d j k m n lm ln e =
     let p = bit_small j in
     let q = bit_small k in
     let f : class_number c ≡ class_number d = omega (arith, e, p, q, lm, ln) in
     let g : constructed_bit j ≡ constructed_bit k = omega (arith, e, p, q, lm, ln, f) in
-    (sym (class_with_number c) ∙ ap class_with f ∙ class_with_number d, sym (bit_with_number j) ∙ ap bit_with g ∙ bit_with_number k, omega (arith, e, f, g))
+    record {
+      class = sym (class_with_number c) ∙ ap class_with f ∙ class_with_number d;
+      constructed = sym (bit_with_number j) ∙ ap bit_with g ∙ bit_with_number k;
+      low = omega (arith, e, f, g);
+    }
+
+-- what two numbers at the front of one list share
+pub record SameNumber (s t x y : List ℕ) (m n : ℕ) : Type 0 where
+  pub octets : s ≡ t
+  pub rest : x ≡ y
+  pub number : m ≡ n
 
 -- a base-128 number begins no other
-pub base128_alone : (s t x y : List ℕ) (m n : ℕ) → IsBase128 s m → IsBase128 t n → s ++ x ≡ t ++ y → (s ≡ t) × (x ≡ y) × (m ≡ n)
+pub base128_alone :
+    (s t x y : List ℕ) (m n : ℕ) → IsBase128 s m → IsBase128 t n → s ++ x ≡ t ++ y → SameNumber s t x y m n
 base128_alone s t x y m n p q e =
     let f = continued_alone s t x y p.continued q.continued e in
-    (f.0, f.1, p.value ∙ ap low_bits_number f.0 ∙ sym q.value)
+    record { octets = f.0; rest = f.1; number = p.value ∙ ap low_bits_number f.0 ∙ sym q.value }
+
+-- what two identifiers at the front of one list share
+pub record SameIdentifier (s t x y : List ℕ) (c d : ASN1Class) (j k : Bool) (m n : ℕ) : Type 0 where
+  pub octets : s ≡ t
+  pub rest : x ≡ y
+  pub class : c ≡ d
+  pub constructed : j ≡ k
+  pub tag : m ≡ n
 
 -- identifier octets begin no others
-pub identifier_alone : (s t x y : List ℕ) (c d : ASN1Class) (j k : Bool) (m n : ℕ) → IsIdentifier s c j m → IsIdentifier t d k n → s ++ x ≡ t ++ y → (s ≡ t)
-    × (x ≡ y) × (c ≡ d) × (j ≡ k) × (m ≡ n)
+pub identifier_alone :
+    (s t x y : List ℕ) (c d : ASN1Class) (j k : Bool) (m n : ℕ) → IsIdentifier s c j m → IsIdentifier t d k n →
+    s ++ x ≡ t ++ y → SameIdentifier s t x y c d j k m n
 identifier_alone [] t x y c d j k m n p q e = absurd p
 identifier_alone (a ∷ s) [] x y c d j k m n p q e = absurd q
 identifier_alone (a ∷ []) (b ∷ []) x y c d j k m n p q e =
     let h : a ≡ b = cc in
     let r : x ≡ y = cc in
     let i = same_class c d j k m n (omega (arith, p.0)) (omega (arith, q.0)) (sym p.1 ∙ h ∙ q.1) in
-    (cc, r, i.0, i.1, i.2)
+    record { octets = cc; rest = r; class = i.class; constructed = i.constructed; tag = i.low }
 identifier_alone (a ∷ []) (b ∷ v ∷ t) x y c d j k m n p q e =
     let h : a ≡ b = cc in
     let i = same_class c d j k m 31 (omega (arith, p.0)) (omega arith) (sym p.1 ∙ h ∙ q.0) in
-    absurd (omega (arith, i.2, p.0))
+    absurd (omega (arith, i.low, p.0))
 identifier_alone (a ∷ u ∷ s) (b ∷ []) x y c d j k m n p q e =
     let h : a ≡ b = cc in
     let i = same_class c d j k 31 n (omega arith) (omega (arith, q.0)) (sym p.0 ∙ h ∙ q.1) in
-    absurd (omega (arith, i.2, q.0))
+    absurd (omega (arith, i.low, q.0))
 identifier_alone (a ∷ u ∷ s) (b ∷ v ∷ t) x y c d j k m n p q e =
     let h : a ≡ b = cc in
     let r : (u ∷ s) ++ x ≡ (v ∷ t) ++ y = cc in
     let i = same_class c d j k 31 31 (omega arith) (omega arith) (sym p.0 ∙ h ∙ q.0) in
     let f = base128_alone (u ∷ s) (v ∷ t) x y m n p.1 q.1 r in
-    let g : u ∷ s ≡ v ∷ t = f.0 in
-    (cc, f.1, i.0, i.1, f.2)
+    let g : u ∷ s ≡ v ∷ t = f.octets in
+    record { octets = cc; rest = f.rest; class = i.class; constructed = i.constructed; tag = f.number }
 
 -- length octets begin no others
-pub length_alone : (s t x y : List ℕ) (m n : ℕ) → IsLength s m → IsLength t n → s ++ x ≡ t ++ y → (s ≡ t) × (x ≡ y) × (m ≡ n)
+pub length_alone :
+    (s t x y : List ℕ) (m n : ℕ) → IsLength s m → IsLength t n → s ++ x ≡ t ++ y → SameNumber s t x y m n
 length_alone [] t x y m n p q e = absurd p
 length_alone (a ∷ s) [] x y m n p q e = absurd q
-length_alone (a ∷ s) (b ∷ t) x y m n (inl p) (inl q) e =
+length_alone (a ∷ s) (b ∷ t) x y m n (inl (_, p, f)) (inl (_, q, g)) e =
     let h : a ≡ b = cc in
-    let i = same_split (a ∷ s) (b ∷ t) x y (omega (arith, ap length p.1, ap length q.1)) e in
-    (i.0, i.1, p.2 ∙ h ∙ sym q.2)
+    let i = same_split (a ∷ s) (b ∷ t) x y (omega (arith, ap length p, ap length q)) e in
+    record { octets = i.0; rest = i.1; number = f ∙ h ∙ sym g }
 length_alone (a ∷ s) (b ∷ t) x y m n (inl p) (inr q) e =
     let h : a ≡ b = cc in
     absurd (omega (arith, h, p.0, q.0))
 length_alone (a ∷ s) (b ∷ t) x y m n (inr p) (inl q) e =
     let h : a ≡ b = cc in
     absurd (omega (arith, h, p.0, q.0))
-length_alone (a ∷ s) (b ∷ t) x y m n (inr p) (inr q) e =
+length_alone (a ∷ s) (b ∷ t) x y m n (inr (p, _, f)) (inr (q, _, g)) e =
     let h : a ≡ b = cc in
-    let i = same_split (a ∷ s) (b ∷ t) x y (omega (arith, h, p.0, q.0)) e in
-    let g : a ∷ s ≡ b ∷ t = i.0 in
+    let i = same_split (a ∷ s) (b ∷ t) x y (omega (arith, h, p, q)) e in
+    let o : a ∷ s ≡ b ∷ t = i.0 in
     let r : s ≡ t = cc in
-    (g, i.1, p.2 ∙ ap (number_from_digits 256) r ∙ sym q.2)
+    record { octets = o; rest = i.1; number = f ∙ ap (number_from_digits 256) r ∙ sym g }
 
 -- what two encodings at the front of one list share
 pub record SameEncoding (xs ys : List ℕ) (c d : ASN1Class) (j k : Bool) (m n : ℕ) (v w : List ℕ) (g h : ℕ) (r q : List ℕ) : Type 0 where
@@ -155,17 +183,17 @@ encoding_alone xs ys c d j k m n v w g h r q F G e =
     let e1 : F.identifier ++ (F.len ++ (v ++ r)) ≡ G.identifier ++ (G.len ++ (w ++ q)) = sym (regroup F.identifier F.len v r)
     ∙ (ap (λ z. z ++ r) (sym F.whole) ∙ e ∙ ap (λ z. z ++ q) G.whole) ∙ regroup G.identifier G.len w q in
     let t = identifier_alone F.identifier G.identifier (F.len ++ (v ++ r)) (G.len ++ (w ++ q)) c d j k m n F.identifier_octets G.identifier_octets e1 in
-    let l = length_alone F.len G.len (v ++ r) (w ++ q) (length v) (length w) F.length_octets G.length_octets t.1 in
-    let b = same_split v w r q l.2 l.1 in
+    let l = length_alone F.len G.len (v ++ r) (w ++ q) (length v) (length w) F.length_octets G.length_octets t.rest in
+    let b = same_split v w r q l.number l.rest in
     record {
-      octets = F.whole ∙ ap (λ z. z ++ (F.len ++ v)) t.0 ∙ ap (λ z. G.identifier ++ (z ++ v)) l.0 ∙ ap (λ z. G.identifier ++ (G.len ++ z)) b.0
+      octets = F.whole ∙ ap (λ z. z ++ (F.len ++ v)) t.octets ∙ ap (λ z. G.identifier ++ (z ++ v)) l.octets ∙ ap (λ z. G.identifier ++ (G.len ++ z)) b.0
           ∙ sym G.whole;
-      class = t.2;
-      constructed = t.3;
-      tag = t.4;
+      class = t.class;
+      constructed = t.constructed;
+      tag = t.tag;
       contents = b.0;
-      header = F.size ∙ ap (λ z. length z + length F.len) t.0
-          ∙ ap (λ z. length G.identifier + length z) l.0 ∙ sym G.size;
+      header = F.size ∙ ap (λ z. length z + length F.len) t.octets
+          ∙ ap (λ z. length G.identifier + length z) l.octets ∙ sym G.size;
       rest = b.1;
     }
   where

@@ -10,7 +10,8 @@ use Rattle.std.proofs.lemmas.Int.Digits.{first_digits_of, number_digits_of, numb
 use Rattle.std.proofs.lemmas.Bool.{cases_lt, cond_below, cond_above}
 use Rattle.asn1_headers.specs.declared.header.ASN1Class.{ASN1Class}
 use Rattle.asn1_numbers.specs.Octets.{AreOctets}
-use Rattle.asn1_numbers.specs.Base128.{HasNoLeadingZeros, IsBase128, IsContinued, shortest_base128}
+use Rattle.asn1_numbers.specs.Base128.{IsBase128, IsContinued, shortest_base128}
+use Rattle.asn1_numbers.specs.Inner.Natural.{HasNoLeadingZeros}
 use Rattle.asn1_headers.specs.Header.{IsIdentifier, IsLength, leading_octet, shortest_identifier, shortest_length}
 use Rattle.asn1_numbers.proofs.Base128Digits.{short_push}
 use Rattle.asn1_numbers.proofs.Base128Forms.{length_shortest}
@@ -115,9 +116,9 @@ shortest_length_le (b ∷ octets) n all p =
     below = (recursion_from_All (λ b. b < 256) (b ∷ octets) all).1
 
     long_le : IsLength (b ∷ octets) n → 128 ≤ n → suc (length (digits_of 256 n)) ≤ suc (length octets)
-    long_le (inl q) h = absurd (omega (arith, q.0, q.2, h))
-    long_le (inr q) h =
-        let small : n < 256 ^ length octets = subst (λ z. z < 256 ^ length octets) (sym q.2) (number_lt 256 octets below) in
+    long_le (inl (small, _, e)) h = absurd (omega (arith, small, e, h))
+    long_le (inr (_, _, e)) h =
+        let small : n < 256 ^ length octets = subst (λ z. z < 256 ^ length octets) (sym e) (number_lt 256 octets below) in
         omega (arith, length-digits_of-le 256 (length octets) n (omega arith) small)
 
 -- as many digits of the same number, after digits of some numbers, are the same, and so are those numbers
@@ -205,21 +206,21 @@ shortest_length_only (b ∷ octets) n all other p few =
     ]
   where
     short_only : (octets : List ℕ) → b ∷ octets ≢ 128 ∷ [] → IsLength (b ∷ octets) n → suc (length octets) ≤ 1 → b ∷ octets ≡ n ∷ []
-    short_only [] other (inl q) h = ap (λ b. b ∷ []) (sym q.2)
+    short_only [] other (inl (_, _, e)) h = ap (λ b. b ∷ []) (sym e)
     short_only [] other (inr q) h = absurd (other (ap (λ b. b ∷ []) q.0))
     short_only (c ∷ octets) other q h = absurd (omega (arith, h))
 
     long_only : IsLength (b ∷ octets) n → 128 ≤ n → suc (length (digits_of 256 n)) ≤ suc (length octets) → suc (length octets) ≤ suc (length (digits_of 256 n))
         → b ∷ octets ≡ (128 + length (digits_of 256 n)) ∷ digits_of 256 n
-    long_only (inl q) ge least few = absurd (omega (arith, q.0, q.2, ge))
-    long_only (inr q) ge least few =
+    long_only (inl (small, _, e)) ge least few = absurd (omega (arith, small, e, ge))
+    long_only (inr (size, _, e)) ge least few =
         let small = (recursion_from_All (λ b. b < 256) (b ∷ octets) all).1 in
         let same = (same_digits 256 0 0 octets (digits_of 256 n) small (all_below_base_digits_of 256 n (omega arith)) (omega (
           arith,
           least,
           few,
-        )) (sym q.2 ∙ sym (number_digits_of 256 n (omega arith)))).1 in
-        let first : b ≡ 128 + length octets = q.0 in
+        )) (sym e ∙ sym (number_digits_of 256 n (omega arith)))).1 in
+        let first : b ≡ 128 + length octets = size in
         cc
 
 -- with bit 8 set, a digit above 0 is not 80 (hexadecimal)

@@ -5,6 +5,5 @@ pub mod BitString
 pub mod Text
 pub mod ObjectIdentifier
 pub mod Moment
-pub mod DigitFields
 pub mod UtcTime
 pub mod GeneralizedTime

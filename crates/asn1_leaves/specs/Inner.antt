@@ -1,2 +1,3 @@
--- Definitions that private contracts alone name.
+-- What private contracts name, but no public one.
+pub mod DigitFields
 pub mod IdentifierForms

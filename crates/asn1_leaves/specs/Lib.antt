@@ -1,3 +1,3 @@
-pub mod Contents
 pub mod StringKind
+pub mod Contents
 pub mod Inner

@@ -9,7 +9,8 @@ numbers_more has is_number xs [] i x h p f g = absurd (omega (arith, h))
 numbers_more has is_number [] (n ∷ ns) zero x h p f g = (f, g, tt)
 numbers_more has is_number (y ∷ xs) (n ∷ ns) zero x h p f g = absurd p
 numbers_more has is_number [] (n ∷ ns) (suc i) x h p f g = absurd p
-numbers_more has is_number (y ∷ xs) (n ∷ ns) (suc i) x h p f g = (p.0, p.1, numbers_more has is_number xs ns i x (omega (arith, h)) p.2 f g)
+numbers_more has is_number (y ∷ xs) (n ∷ ns) (suc i) x h (p, q, rest) f g =
+    (p, q, numbers_more has is_number xs ns i x (omega (arith, h)) rest f g)
 
 -- the item at a place, whatever stands for a missing one
 item_at : (ns : List ℕ) (i n : ℕ) → i < length ns → n ≡ get_or ns i n → n ≡ get_or ns i 0

@@ -1,9 +1,6 @@
 pub mod Octets
 pub mod Base128
-pub mod Natural
-pub mod FittingNumbers
-pub mod Sinks
-pub mod Comparisons
 pub mod TwosComplement
 pub mod Decimal
+pub mod FittingNumbers
 pub mod Inner

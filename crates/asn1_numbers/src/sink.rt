@@ -30,7 +30,7 @@ pub trait Sink {
 
 // At its end, without growing.
 impl Sink for Vec<u8> {
-    ghost use Rattle.asn1_numbers.specs.Sinks.{
+    ghost use Rattle.asn1_numbers.specs.Inner.Sinks.{
       vec_puts,
       vec_room,
       vec_puts_none,
@@ -96,7 +96,7 @@ pub struct Comparison<'a> {
 }
 
 impl<'a> Sink for Comparison<'a> {
-    ghost use Rattle.asn1_numbers.specs.Comparisons.{
+    ghost use Rattle.asn1_numbers.specs.Inner.Comparisons.{
       compared,
       left,
       compared_none,

@@ -15,7 +15,8 @@ use Rattle.simple_asn1.specs.Laws.OneReading.{OneReading}
 use Rattle.simple_asn1.specs.Laws.Parts.{Slices}
 use Rattle.asn1_numbers.specs.Octets.{FitInSlice}
 use Rattle.asn1_blocks.specs.Places.{HasOctets, rebased, in_first, in_later, in_group, itself}
-use Rattle.simple_asn1.specs.SignedTrees.{SignedParts, BeginWithSigned, HasFields, IsAlgorithm, IsOfAnotherShape, IsSigned, ReadsSigned, algorithm_tree, signed_tree, signed_trees}
+use Rattle.simple_asn1.specs.SignedTrees.{SignedParts, BeginWithSigned, HasFields, IsOfAnotherShape, IsSigned, ReadsSigned, algorithm_tree, signed_tree, signed_trees}
+use Rattle.simple_asn1.specs.Inner.Algorithm.{IsAlgorithm}
 use Rattle.asn1_blocks.specs.Tree.{Tree, Trees, leaf, group, bit_string, object_identifier, no_trees, more_trees}
 use Rattle.asn1_blocks.specs.View.{tree_offset, view, views}
 
@@ -77,11 +78,13 @@ parts_of_three t o (l ∷ m ∷ s ∷ d ∷ items) x y z algorithm n v h i j k e
 
 has_content : (octets : List ℕ) (p : SignedParts) (rest : Trees ℕ) (content : List ℕ) →
     content ≡ slice_range octets (tree_offset p.content) p.algorithm_offset → HasOctets octets (signed_trees p rest) p.content content
-has_content octets p rest content e = (p.algorithm_offset, in_first (in_group (in_first itself)), e)
+has_content octets p rest content e =
+    record { end = p.algorithm_offset; stands = in_first (in_group (in_first itself)); are = e }
 
 has_algorithm : (octets : List ℕ) (p : SignedParts) (rest : Trees ℕ) →
     HasOctets octets (signed_trees p rest) (algorithm_tree p) (slice_range octets p.algorithm_offset p.signature_offset)
-has_algorithm octets p rest = (p.signature_offset, in_first (in_group (in_later (in_first itself))), refl)
+has_algorithm octets p rest =
+    record { end = p.signature_offset; stands = in_first (in_group (in_later (in_first itself))); are = refl }
 
 -- in a document the offsets of a triple stand in their order
 begins : Slices → (octets : List ℕ) (p : SignedParts) (rest : Trees ℕ) (bs : Trees ℕ) → Document octets bs →
@@ -127,8 +130,9 @@ abbrev pub IsRefused : List ℕ → TripleErr → Type 0
 IsRefused octets e = DecodeFails (λ bs r. ReadsSigned bs octets r) (λ f e. e ≡ Codec f) octets e
 
 fields_of : OneReading → (octets : List ℕ) (t : SignedTriple) → IsRead octets t → (p : SignedParts) → IsSigned octets p → HasFields octets p t
-fields_of law octets t (bs, rest, d, (q, begin, fields)) p (xs, e) =
-    same_fields octets t p q xs rest (law.one_document octets (signed_trees p xs) bs e d ∙ begin.trees) fields
+fields_of law octets t is p (xs, e) =
+    let (q, begin, fields) = is.is_read in
+    same_fields octets t p q xs is.rest (law.one_document octets (signed_trees p xs) is.trees e is.document ∙ begin.trees) fields
 
 only_memory : OneReading → Slices → (octets : List ℕ) → FitInSlice octets → (e : TripleErr) → IsRefused octets e →
     (p : SignedParts) → IsSigned octets p →

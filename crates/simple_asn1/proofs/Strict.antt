@@ -8,7 +8,7 @@ use Rattle.asn1_headers.specs.declared.error.ASN1DecodeErr.TheVariants.{OutOfMem
 use Rattle.asn1_headers.specs.declared.header.ASN1Class.{ASN1Class}
 use Rattle.asn1_headers.specs.declared.header.ASN1Class.TheVariants.{Universal}
 use Rattle.asn1_numbers.specs.declared.sink.Comparison.{Comparison}
-use Rattle.asn1_numbers.specs.Comparisons.{compared}
+use Rattle.asn1_numbers.specs.Inner.Comparisons.{compared}
 use Rattle.asn1_headers.specs.Fault.{DecodeFault, OutOfMemoryOr, fault_of, not_canonical}
 use Rattle.asn1_blocks.specs.Tree.{Tree, Trees, leaf, group, explicit, unknown, no_trees, more_trees, shapes}
 use Rattle.asn1_blocks.specs.View.{tree_offset, view, views}
@@ -21,7 +21,8 @@ use Rattle.simple_asn1.specs.Strict.{EqualByOctets, FirstNotCanonical, StandCano
 use Rattle.asn1_leaves.proofs.Leaves.Known.{octets_known}
 use Rattle.asn1_headers.proofs.Prefixes.{encoding_alone, same_split}
 use Rattle.asn1_blocks.proofs.OneReading.{encodes_block, all_alone}
-use Rattle.asn1_blocks.proofs.Faults.{BlockEncoding, block_encoding}
+use Rattle.asn1_blocks.specs.Places.{IsEncoding}
+use Rattle.asn1_blocks.proofs.Faults.{block_encoding}
 use Rattle.asn1_blocks.proofs.FaultsAlone.{first_fault_alone}
 use Rattle.simple_asn1.proofs.Totality.{document_or_fault}
 use Rattle.asn1_blocks.proofs.Readings.{document_no_fault}
@@ -33,7 +34,7 @@ use Rattle.simple_asn1.proofs.Placed.{canonical_shapes, contents_le, header_size
 -- what is written of a tree is an encoding
 written_encoding :
     (c : ASN1Class) (k : Bool) (n : ℕ) (contents : List ℕ) → length (shortest_encoding c k n contents) < 2 ^ 64 →
-    BlockEncoding (shortest_encoding c k n contents)
+    IsEncoding (shortest_encoding c k n contents)
 written_encoding c k n contents h = record {
   class = c;
   constructed = k;
@@ -43,25 +44,37 @@ written_encoding c k n contents h = record {
   encoding = shortest_encodes c k n contents (omega (arith, h, contents_le c k n contents));
 }
 
-pub canonical_encoding : (b : Tree ℕ) → length (canonical b) < 2 ^ 64 → BlockEncoding (canonical b)
+pub canonical_encoding : (b : Tree ℕ) → length (canonical b) < 2 ^ 64 → IsEncoding (canonical b)
 canonical_encoding (leaf o l) h = written_encoding Universal false (leaf_tag l) (leaf_contents l) h
 canonical_encoding (group o g bs) h = written_encoding Universal true (group_tag g) (all_canonical bs) h
 canonical_encoding (explicit c o n b) h = written_encoding c true n (canonical b) h
 canonical_encoding (unknown c k o n v) h = written_encoding c k n v h
 
--- the octets of the first of trees, which stand after u, and what comes after it
-pub octets_here :
+-- after u stand the octets of the first of trees, and then the rest
+record Here (i u : List ℕ) (b : Tree ℕ) (bs : Trees ℕ) (first rest : List ℕ) : Type 0 where
+  pub octets : top_octets i b bs ≡ first
+  pub at : tree_offset b ≡ length u
+  pub end : end_before bs (length i) ≡ length u + length first
+  pub whole : i ≡ (u ++ first) ++ rest
+  pub after : EncodesAll (length (u ++ first)) rest bs
+
+octets_here :
     (i u x : List ℕ) (b : Tree ℕ) (bs : Trees ℕ) → i ≡ u ++ x → (s : EncodesAll (length u) x (more_trees b bs)) →
-    (top_octets i b bs ≡ s.0) × (tree_offset b ≡ length u) × (end_before bs (length i) ≡ length u + length s.0)
-    × (i ≡ (u ++ s.0) ++ s.1) × EncodesAll (length (u ++ s.0)) s.1 bs
+    Here i u b bs s.first s.rest
 octets_here i u x b bs w s =
     let n = ap length w ∙ length-append u x in
-    let m = ap length s.2 ∙ length-append s.0 s.1 in
-    let o = encodes_offset (length u) s.0 b s.3 in
-    let e = end_is (length u + length s.0) (length i) s.1 bs s.4 (omega (arith, n, m)) in
-    let d : i ≡ u ++ (s.0 ++ s.1) = w ∙ ap (λ z. u ++ z) s.2 in
-    let k : length u + length s.0 ≡ length (u ++ s.0) = omega (arith, length-append u s.0) in
-    (slice_here i u s.0 s.1 (tree_offset b) (end_before bs (length i)) d o e, o, e, d ∙ sym (append_assoc u s.0 s.1), subst (λ z. EncodesAll z s.1 bs) k s.4)
+    let m = ap length s.whole ∙ length-append s.first s.rest in
+    let o = encodes_offset (length u) s.first b s.item in
+    let e = end_is (length u + length s.first) (length i) s.rest bs s.items (omega (arith, n, m)) in
+    let d : i ≡ u ++ (s.first ++ s.rest) = w ∙ ap (λ z. u ++ z) s.whole in
+    let k : length u + length s.first ≡ length (u ++ s.first) = omega (arith, length-append u s.first) in
+    record {
+      octets = slice_here i u s.first s.rest (tree_offset b) (end_before bs (length i)) d o e;
+      at = o;
+      end = e;
+      whole = d ∙ sym (append_assoc u s.first s.rest);
+      after = subst (λ z. EncodesAll z s.rest bs) k s.items;
+    }
 
 -- one step over the octets of a document, from a place on
 pub record Step (i : List ℕ) (o : ℕ) (b : Tree ℕ) (bs : Trees ℕ) (e : ℕ) : Type 0 where
@@ -83,14 +96,14 @@ step i o b bs e h d s =
     let w : i ≡ u ++ drop o i = sym (take-append-drop o i) in
     let t : EncodesAll (length u) (drop o i) (more_trees b bs) = subst (λ z. EncodesAll z (drop o i) (more_trees b bs)) (sym l) s in
     let p = octets_here i u (drop o i) b bs w t in
-    let n : e ≡ o + length t.0 = omega (arith, d, p.2, l) in
-    let k : length (u ++ t.0) ≡ e = omega (arith, n, l, length-append u t.0) in
-    let at : tree_offset b ≡ o = p.1 ∙ l in
-    let len : length (drop o i) ≡ length t.0 + length t.1 = ap length t.2 ∙ length-append t.0 t.1 in
+    let n : e ≡ o + length t.first = omega (arith, d, p.end, l) in
+    let k : length (u ++ t.first) ≡ e = omega (arith, n, l, length-append u t.first) in
+    let at : tree_offset b ≡ o = p.at ∙ l in
+    let len : length (drop o i) ≡ length t.first + length t.rest = ap length t.whole ∙ length-append t.first t.rest in
     let to : e ≤ length i = omega (arith, n, len, length-drop o i, h) in
-    let r : drop e i ≡ t.1 = ap (drop e) p.3 ∙ drop_at (u ++ t.0) t.1 e k in
+    let r : drop e i ≡ t.rest = ap (drop e) p.whole ∙ drop_at (u ++ t.first) t.rest e k in
     let same : top_octets i b bs ≡ slice_range i o e = ap (λ z. slice_range i z (end_before bs (length i))) at ∙ ap (slice_range i o) (sym d) in
-    let after : EncodesAll e t.1 bs = subst (λ z. EncodesAll z t.1 bs) k p.4 in
+    let after : EncodesAll e t.rest bs = subst (λ z. EncodesAll z t.rest bs) k p.after in
     let ordered : o ≤ e = omega (arith, n) in
     record {
       from = ordered;
@@ -117,9 +130,9 @@ writable_from bs i b h e f =
 
 -- octets that are compared with as many are the same exactly if the comparison says so
 pub compared_whole : (a b : Comparison) (xs : List ℕ) → compared a xs b → length xs ≡ length a.rest.now → IsTrue a.same → IsTrue b.same ↔ (a.rest.now ≡ xs)
-compared_whole a b xs p n s =
-    let front : a.rest.now ≡ p.0 = (same_split a.rest.now p.0 [] b.rest.now (omega (arith, n, p.2)) (append-nil a.rest.now ∙ p.1)).0 in
-    (λ h. front ∙ (p.3.0 h).1, λ e. p.3.1 (s, sym front ∙ e))
+compared_whole a b xs (front, whole, size, same) n s =
+    let all : a.rest.now ≡ front = (same_split a.rest.now front [] b.rest.now (omega (arith, n, size)) (append-nil a.rest.now ∙ whole)).0 in
+    (λ h. all ∙ (same.0 h).1, λ e. same.1 (s, sym all ∙ e))
 
 -- what is written of trees is, of each, where it stands
 written_stand : (bs : Trees ℕ) (i u x : List ℕ) → i ≡ u ++ x → length x < 2 ^ 64 → EncodesAll (length u) x bs → x ≡ all_canonical bs → StandCanonical i bs
@@ -127,17 +140,17 @@ written_stand no_trees i u x w small s e = tt
 written_stand (more_trees b bs) i u x w small s e =
     let p = octets_here i u x b bs w s in
     let l = ap length e ∙ length-append (canonical b) (all_canonical bs) in
-    let F = block_encoding s.0 (encodes_block (length u) s.0 b s.3) in
+    let F = block_encoding s.first (encodes_block (length u) s.first b s.item) in
     let G = canonical_encoding b (omega (arith, small, l)) in
-    let h = encoding_alone _ _ _ _ _ _ _ _ _ _ _ _ s.1 (all_canonical bs) F.encoding G.encoding (sym s.2 ∙ e) in
-    (p.0 ∙ h.octets, written_stand bs i (u ++ s.0) s.1 p.3 (omega (arith, small, ap length s.2, length-append s.0 s.1)) p.4 h.rest)
+    let h = encoding_alone _ _ _ _ _ _ _ _ _ _ _ _ s.rest (all_canonical bs) F.encoding G.encoding (sym s.whole ∙ e) in
+    (p.octets ∙ h.octets, written_stand bs i (u ++ s.first) s.rest p.whole (omega (arith, small, ap length s.whole, length-append s.first s.rest)) p.after h.rest)
 
 -- and the other way round
 stand_written : (bs : Trees ℕ) (i u x : List ℕ) → i ≡ u ++ x → EncodesAll (length u) x bs → StandCanonical i bs → x ≡ all_canonical bs
 stand_written no_trees i u x w s c = s
 stand_written (more_trees b bs) i u x w s c =
     let p = octets_here i u x b bs w s in
-    s.2 ∙ (ap (λ z. z ++ s.1) (sym p.0 ∙ c.0) ∙ ap (λ z. canonical b ++ z) (stand_written bs i (u ++ s.0) s.1 p.3 p.4 c.1))
+    s.whole ∙ (ap (λ z. z ++ s.rest) (sym p.octets ∙ c.0) ∙ ap (λ z. canonical b ++ z) (stand_written bs i (u ++ s.first) s.rest p.whole p.after c.1))
 
 -- each stands so, or one is the first that does not
 stand_or_first : (i : List ℕ) (bs : Trees ℕ) → StandCanonical i bs ⊎ ((n : ℕ) × FirstNotCanonical i bs n)

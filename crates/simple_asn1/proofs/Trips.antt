@@ -41,7 +41,7 @@ none_some x e = cc
 
 module _ {E : Type 0} (writes : Result (Trees ℕ) E → Type 0) (ss : Trees (Unit {0})) (written : (bs : Trees ℕ) → writes (Ok bs) → shapes bs ≡ ss) where
   pub trip_octets : (octets : List ℕ) → Encodes writes octets → octets ≡ all_canonical ss
-  trip_octets octets e = e.2 ∙ (sym (canonical_shapes e.0) ∙ ap all_canonical (written e.0 e.1))
+  trip_octets octets e = e.canonical ∙ (sym (canonical_shapes e.trees) ∙ ap all_canonical (written e.trees e.are_written))
 
   pub trip_encode : (from : ASN1EncodeErr → E → Type 0) (e : E) → ComeBack ss → EncodeFails writes from e → OwnEncodeFault writes from e
   trip_encode from e k (inl w) = inl w
@@ -52,9 +52,9 @@ module _ {E : Type 0} (writes : Result (Trees ℕ) E → Type 0) (ss : Trees (Un
 module _ {T D : Type 0} (reads : Trees ℕ → Result (T × Trees ℕ) D → Type 0) (x : T) (ss : Trees (Unit {0})) (small : length (all_canonical ss) < 2 ^ 64) where
   pub trip_same : ((y : T) (bs rest : Trees ℕ) → shapes bs ≡ ss → reads bs (Ok (y, rest)) → (y ≡ x) × (rest ≡ no_trees)) →
       (y : T) → AreFaithful ss → Decodes reads (all_canonical ss) y → y ≡ x
-  trip_same back y f d = (back y d.0 d.1 (read_shapes ss d.0 f small d.2) d.3).0
+  trip_same back y f d = (back y d.trees d.rest (read_shapes ss d.trees f small d.document) d.is_read).0
 
   pub trip_decode : (from : ASN1DecodeErr → D → Type 0) (e : D) → ComeBack ss → DecodeFails reads from (all_canonical ss) e → OwnDecodeFault reads from ss e
-  trip_decode from e k (inl d) = inl (d.0, read_shapes ss d.0 k.1 small d.1, d.2)
+  trip_decode from e k (inl (bs, d, r)) = inl (bs, read_shapes ss bs k.1 small d, r)
   trip_decode from e k (inr (f, inl m, g)) = inr (subst (λ z. from z e) m g)
   trip_decode from e k (inr (f, inr r, g)) = absurd (document_no_fault (all_canonical ss) (all_placed 0 ss) (fault_of f) small (document_of ss k small) r)

@@ -1,5 +1,5 @@
--- What reading and writing a type of one's own answers, by the relations that the type names. `reads` relates the trees of
--- blocks, and a value with the trees after it, or a fault; `writes` relates trees, or a fault. `from` is the type's
+-- What reading and writing a type of one's own answers, by the relations that the type names. `reads` relates the trees
+-- of blocks, and a value with the trees after it, or a fault; `writes` relates trees, or a fault. `from` is the type's
 -- conversion of an error of this library into a fault of its own.
 use Rattle.std.specs.Prelude.{◌≡◌, ◌≢◌, ◌⊎◌, ℕ, List, Result, Ok, Err, Some, None}
 use Rattle.asn1_headers.specs.declared.error.ASN1DecodeErr.{ASN1DecodeErr}
@@ -15,13 +15,15 @@ use Rattle.asn1_blocks.specs.Faithful.{AreFaithful}
 use Rattle.asn1_blocks.specs.Tree.{Trees, no_trees, shapes}
 
 -- the octets are a document, and the value is read of its trees; trees after it are ignored
-abbrev pub Decodes : {T E : Type 0} →
-    (Trees ℕ → Result (T × Trees ℕ) E → Type 0) → List ℕ → T → Type 0
-Decodes reads octets x =
-    (bs : Trees ℕ) × (rest : Trees ℕ) × Document octets bs × reads bs (Ok (x, rest))
+pub record Decodes {T E : Type 0} (reads : Trees ℕ → Result (T × Trees ℕ) E → Type 0) (octets : List ℕ) (x : T)
+    : Type 0 where
+  pub trees : Trees ℕ
+  pub rest : Trees ℕ
+  pub document : Document octets trees
+  pub is_read : reads trees (Ok (x, rest))
 
--- the octets are a document whose trees the type refuses with the fault; or the fault is what the type makes of the first
--- fault of the octets, or of memory that ran out
+-- the octets are a document whose trees the type refuses with the fault; or the fault is what the type makes of the
+-- first fault of the octets, or of memory that ran out
 abbrev pub DecodeFails : {T E : Type 0} →
     (Trees ℕ → Result (T × Trees ℕ) E → Type 0) → (ASN1DecodeErr → E → Type 0) → List ℕ → E → Type 0
 DecodeFails reads from octets e =
@@ -29,9 +31,11 @@ DecodeFails reads from octets e =
     ⊎ ((f : ASN1DecodeErr) × OutOfMemoryOr (FirstFault octets) f × from f e)
 
 -- the type writes some trees, and the octets are their canonical encodings, joined
-abbrev pub Encodes : {E : Type 0} → (Result (Trees ℕ) E → Type 0) → List ℕ → Type 0
-Encodes writes octets =
-    (bs : Trees ℕ) × writes (Ok bs) × (octets ≡ all_canonical bs) × (first_write_fault bs ≡ None)
+pub record Encodes {E : Type 0} (writes : Result (Trees ℕ) E → Type 0) (octets : List ℕ) : Type 0 where
+  pub trees : Trees ℕ
+  pub are_written : writes (Ok trees)
+  pub canonical : octets ≡ all_canonical trees
+  pub writable : first_write_fault trees ≡ None
 
 -- the type refuses to write with the fault; or it writes trees, and the fault is what it makes of their first fault of
 -- writing, or of memory that ran out

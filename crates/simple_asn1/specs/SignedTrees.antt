@@ -30,12 +30,6 @@ algorithm_tree p =
     group p.algorithm_offset Sequence
     (more_trees (leaf p.identifier_offset (object_identifier p.algorithm)) p.parameters)
 
--- the tree is such a SEQUENCE, of this algorithm
-abbrev pub IsAlgorithm : Tree ℕ → List ℕ → Type 0
-IsAlgorithm b algorithm =
-    (o : ℕ) × (i : ℕ) × (rest : Trees ℕ)
-    × (b ≡ group o Sequence (more_trees (leaf i (object_identifier algorithm)) rest))
-
 abbrev pub signature_tree : SignedParts → Tree ℕ
 signature_tree p = leaf p.signature_offset (bit_string p.bits p.signature)
 

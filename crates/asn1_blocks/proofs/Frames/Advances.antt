@@ -4,7 +4,7 @@ use Rattle.std.specs.List.{slice_range}
 use Rattle.asn1_blocks.specs.Tree.{Tree, trees_of, more_trees}
 use Rattle.asn1_blocks.specs.Grammar.{Encodes, EncodesAll}
 use Rattle.asn1_blocks.specs.HeadersBegun.{HeadersBegun}
-use Rattle.asn1_blocks.specs.OpenFrames.{Frame, ReadTo, Opened}
+use Rattle.asn1_blocks.specs.Inner.OpenFrames.{Frame, ReadTo, Opened}
 use Rattle.asn1_blocks.proofs.OneReading.{encodes_blocks}
 use Rattle.asn1_blocks.proofs.ReadSteps.{encodes_more, with_last, slice_length, slice_join}
 use Rattle.asn1_blocks.proofs.HeaderCounts.{begun_le, begun_join}

@@ -9,7 +9,7 @@ use Rattle.asn1_blocks.specs.Contents.{group_tag}
 use Rattle.asn1_blocks.specs.Grammar.{of_other_class, of_group, Encodes, EncodesAll}
 use Rattle.asn1_headers.specs.Header.{Encoding}
 use Rattle.asn1_blocks.specs.HeadersBegun.{HeadersBegun}
-use Rattle.asn1_blocks.specs.OpenFrames.{Frame, Headed, Opened}
+use Rattle.asn1_blocks.specs.Inner.OpenFrames.{Frame, Headed, Opened}
 use Rattle.asn1_blocks.specs.Tree.{Tree, group, trees_of}
 use Rattle.asn1_blocks.proofs.Frames.Stopping.{Closed, whole_document}
 use Rattle.asn1_blocks.proofs.HeaderCounts.{begun_opened}
@@ -51,7 +51,14 @@ close_group octets f g gs n x y k o =
       follows = record {
         from = omega (arith, H.0, o.after, o.read.from, o.read.to);
         to = o.fits;
-        encoded = (bit, contents, s - x, F, refl, subst (λ i. EncodesAll i contents trees) at o.read.encoded);
+        encoded = record {
+          constructed = bit;
+          contents = contents;
+          header = s - x;
+          encoding = F;
+          place = refl;
+          means = subst (λ i. EncodesAll i contents trees) at o.read.encoded;
+        };
         begun = begun_opened (slice_range octets x z) Universal bit (group_tag y) contents (s - x) o.own F (inl (refl, group_tag_is y)) is_block o.read.begun;
       };
       total = o.total;

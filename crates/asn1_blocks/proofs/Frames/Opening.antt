@@ -16,9 +16,9 @@ use Rattle.asn1_blocks.specs.Grammar.{Encodes, EncodesAll, in_header, in_content
 use Rattle.asn1_blocks.specs.FaultPlace.{BlockFaultAt, at_header, at_leaf}
 use Rattle.asn1_headers.specs.Header.{Encoding}
 use Rattle.asn1_blocks.specs.HeadersBegun.{IsReadInside, begun_none, begun_some, nothing_inside, nothing_after}
-use Rattle.asn1_blocks.specs.OpenFrames.{Frame, Headed, Opened, Stopping}
-use Rattle.asn1_blocks.specs.HeaderPlaces.{EncodingBetween, HeaderFound}
-use Rattle.asn1_blocks.specs.ReaderSteps.{IsKindOf}
+use Rattle.asn1_blocks.specs.Inner.OpenFrames.{Frame, Headed, Opened, Stopping}
+use Rattle.asn1_blocks.specs.Inner.HeaderPlaces.{EncodingBetween, HeaderFound}
+use Rattle.asn1_blocks.specs.Inner.ReaderSteps.{IsKindOf}
 use Rattle.asn1_blocks.specs.Tree.{Tree, trees_of}
 use Rattle.asn1_blocks.proofs.Faults.{block_fault_no_block, header_no_encoding}
 use Rattle.asn1_blocks.proofs.Frames.Advances.{Follows, opened_places}
@@ -50,13 +50,13 @@ EncodingAt_moved octets i j a b y z c k n e f g F =
 pub headed_by : (octets : List ℕ) (kind : FrameKind) (place limit : ℕ) (h : Header) → IsKindOf kind h place → HeaderFound octets place limit h
     → Headed octets kind place h.start h.end
 headed_by octets Whole place limit h k w = absurd k
-headed_by octets (Group g o) place limit h k w =
-    let tag = subst (λ z. EncodingBetween octets h.class h.constructed z place h.start h.end) k.1 w.encoding in
-    let own = subst (λ z. EncodingBetween octets z h.constructed (group_tag g) place h.start h.end) k.0 tag in
-    subst (λ z. Headed octets (Group g z) place h.start h.end) (sym k.2) (refl, record { constructed = h.constructed; encoding = own })
-headed_by octets (Attempt a) place limit h k w =
-    let bit = subst (λ z. EncodingBetween octets h.class z h.tag place h.start h.end) k.1 w.encoding in
-    subst (λ z. Headed octets (Attempt z) place h.start h.end) (sym k.2) (refl, record { other = k.0; encoding = bit })
+headed_by octets (Group g o) place limit h (universal, number, at) w =
+    let tag = subst (λ z. EncodingBetween octets h.class h.constructed z place h.start h.end) number w.encoding in
+    let own = subst (λ z. EncodingBetween octets z h.constructed (group_tag g) place h.start h.end) universal tag in
+    subst (λ z. Headed octets (Group g z) place h.start h.end) (sym at) (refl, record { constructed = h.constructed; encoding = own })
+headed_by octets (Attempt a) place limit h (other, constructed, is) w =
+    let bit = subst (λ z. EncodingBetween octets h.class z h.tag place h.start h.end) constructed w.encoding in
+    subst (λ z. Headed octets (Attempt z) place h.start h.end) (sym is) (refl, record { other = other; encoding = bit })
 
 -- a frame is opened
 pub opened_open : (octets : List ℕ) (f h : Frame) (gs : List Frame) (p n : ℕ) → h.trees ≡ [] → Headed octets h.extent.kind p h.extent.start h.extent.end

@@ -9,9 +9,9 @@ use Rattle.asn1_headers.specs.Fault.{DecodeFault}
 use Rattle.asn1_blocks.specs.FaultPlace.{BlockFaultAt, at_item, BlocksFaultAt, at_block}
 use Rattle.asn1_blocks.specs.Grammar.{IsBlock, of_other_class}
 use Rattle.asn1_blocks.specs.HeadersBegun.{HeadersBegun, begun_some, inside_first, nothing_after}
-use Rattle.asn1_blocks.specs.OpenFrames.{Frame, ReadTo, GroupAt, Headed, Opened, StopsAt, Stopping}
-use Rattle.asn1_blocks.specs.Owed.{as_it_came}
-use Rattle.asn1_blocks.specs.ReaderSteps.{FaultyDocument}
+use Rattle.asn1_blocks.specs.Inner.OpenFrames.{Frame, ReadTo, GroupAt, Headed, Opened, StopsAt, Stopping}
+use Rattle.asn1_blocks.specs.Inner.Owed.{as_it_came}
+use Rattle.asn1_blocks.specs.Inner.ReaderSteps.{FaultyDocument}
 use Rattle.asn1_blocks.specs.Tree.{Tree, trees_of}
 use Rattle.asn1_blocks.proofs.Faults.{block_is_blocks, block_fault_no_block, blocks_fault_no_blocks}
 use Rattle.asn1_blocks.proofs.FaultPlaces.{block_placed, blocks_placed}
@@ -134,7 +134,7 @@ stop_attempt octets f g gs e offset n a small k w =
       follows = record {
         from = omega (arith, H.0, o.after, o.read.from, o.read.to);
         to = o.fits;
-        encoded = (s - a.offset, F, refl, inr (H.1.other, no_block));
+        encoded = record { header = s - a.offset; encoding = F; place = refl; stays = inr (H.1.other, no_block) };
         begun = begun_opened (slice_range octets a.offset z) a.class true a.tag contents (s - a.offset) m F (inr (H.1.other, refl)) (of_other_class F H.1.other)
             r.begun;
       };

@@ -9,9 +9,9 @@ use Rattle.asn1_blocks.specs.declared.owed.Entry.TheVariants as Orders
 use Rattle.asn1_blocks.specs.declared.read.Extent.{Extent}
 use Rattle.asn1_blocks.specs.declared.read.OpenFrame.{OpenFrame}
 use Rattle.asn1_blocks.specs.declared.read.Reader.{Reader}
-use Rattle.asn1_blocks.specs.OpenFrames.{Opened}
-use Rattle.asn1_blocks.specs.Owed.{Leads, around, as_it_came}
-use Rattle.asn1_blocks.specs.ReaderSteps.{AllHold, frame, frames, GoesOn, IsOwed, IsPut, IsKept, left}
+use Rattle.asn1_blocks.specs.Inner.OpenFrames.{Opened}
+use Rattle.asn1_blocks.specs.Inner.Owed.{Leads, around, as_it_came}
+use Rattle.asn1_blocks.specs.Inner.ReaderSteps.{AllHold, frame, frames, GoesOn, IsOwed, IsPut, IsKept, left}
 use Rattle.asn1_blocks.specs.Tree.{Tree, group, trees_of}
 use Rattle.asn1_blocks.specs.View.{view}
 use Rattle.asn1_blocks.proofs.Frames.Advances.{opened_more}
@@ -111,8 +111,8 @@ tree_goes_on octets a r b t end n most e u i l w =
 pub kept_goes_on : (octets : List ℕ) (a r : Reader) (k : Attempt) (start end n most : ℕ) → IsKept octets a k start end r → r.index ≡ end
     → left (length octets) end a.outer.items < most → Ready octets a.entries.items a.inner (reverse a.outer.items) end (as_it_came octets k start end) n
     → GoesOn octets r n most
-kept_goes_on octets a r k start end n most (inl u) i l w =
-    tree_goes_on octets a r u.0 (as_it_came octets k start end) end n most u.1 u.2 i l w
+kept_goes_on octets a r k start end n most (inl (b, is, put)) i l w =
+    tree_goes_on octets a r b (as_it_came octets k start end) end n most is put i l w
 kept_goes_on octets a r k start end n most (inr u) i l w =
     owed_goes_on octets a r a.entries.items (Orders.Kept k start end) end n most (as_it_came octets k start end) u i l
     (kept_grown octets a.entries.items k start end) w

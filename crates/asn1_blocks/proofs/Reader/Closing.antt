@@ -1,5 +1,5 @@
 -- The innermost frame has ended.
-use Rattle.std.proofs.Common.{◌≡◌, ℕ, suc, ◌+◌, ◌≤◌, List, [], ◌∷◌, ◌++◌, inr, length, map, take, drop, refl, sym, ap, ◌∙◌, subst, arith, length-append, append-nil}
+use Rattle.std.proofs.Common.{◌≡◌, ℕ, suc, ◌+◌, ◌≤◌, List, [], ◌∷◌, ◌++◌, inr, length, map, take, drop, refl, sym, ap, ◌∙◌, subst, arith, length-append}
 use Rattle.std.specs.List.{slice_range}
 use Rattle.std.proofs.lemmas.List.{length-map}
 use Rattle.asn1_blocks.specs.declared.block.ASN1Block.{ASN1Block}
@@ -9,13 +9,14 @@ use Rattle.asn1_blocks.specs.declared.owed.Entry.{Entry}
 use Rattle.asn1_blocks.specs.declared.read.FrameKind.TheVariants.{Group, Attempt}
 use Rattle.asn1_blocks.specs.declared.read.OpenFrame.{OpenFrame}
 use Rattle.asn1_blocks.specs.declared.read.Reader.{Reader}
-use Rattle.asn1_blocks.specs.Grammar.{Encodes, EncodesAll}
-use Rattle.asn1_blocks.specs.OpenFrames.{Opened}
-use Rattle.asn1_blocks.specs.Owed.{Leads, after_all, around, as_it_came}
-use Rattle.asn1_blocks.specs.ReaderSteps.{frame, frames, Reads, Ended}
+use Rattle.asn1_blocks.specs.Grammar.{EncodesAll, IsBlock}
+use Rattle.asn1_blocks.specs.Inner.OpenFrames.{Opened}
+use Rattle.asn1_blocks.specs.Inner.Owed.{Leads, after_all, around, as_it_came}
+use Rattle.asn1_blocks.specs.Inner.ReaderSteps.{frame, frames, Reads, Ended}
 use Rattle.asn1_blocks.specs.Tree.{Tree, group, trees_of}
 use Rattle.asn1_blocks.specs.View.{view, views}
 use Rattle.asn1_blocks.proofs.Faults.{one_block, tree_count}
+use Rattle.asn1_blocks.proofs.OneReading.{only_tree}
 use Rattle.asn1_blocks.proofs.Frames.Advances.{opened_places}
 use Rattle.asn1_blocks.proofs.Frames.Closing.{Means, end_document, close_group, close_attempt}
 use Rattle.asn1_blocks.proofs.Frames.Stopping.{Closed}
@@ -43,12 +44,13 @@ count_trees (t ∷ ts) = ap suc (count_trees ts)
 one_means : (a : owed.Attempt) (contents : List ℕ) (ts : List (Tree ℕ)) (t : Tree ℕ) → ts ≡ t ∷ [] → Means a contents ts (around a t)
 one_means a contents ts t is all h ne F s =
     let w = subst (λ z. EncodesAll (a.offset + h) contents (trees_of z)) is s in
-    let whole : contents ≡ w.0 = w.2 ∙ (ap (λ z. w.0 ++ z) w.4 ∙ append-nil w.0) in
-    (contents, h, F, refl, ne, subst (λ z. Encodes (a.offset + h) z t) (sym whole) w.3)
+    record { contents = contents; header = h; encoding = F; place = refl; other = ne; means = only_tree (a.offset + h) contents t w }
 
 other_means : (octets : List ℕ) (a : owed.Attempt) (s e : ℕ) (ts : List (Tree ℕ)) → (length ts ≡ 1 → ⊥) → Means a (slice_range octets s e) ts (as_it_came octets a s e)
 other_means octets a s e ts many all h ne F r =
-    (h, F, refl, inr (ne, λ z. many (sym (count_trees ts) ∙ one_block (a.offset + h) (slice_range octets s e) (trees_of ts) r z.1)))
+    let no_block : IsBlock (slice_range octets s e) → ⊥ =
+    λ z. many (sym (count_trees ts) ∙ one_block (a.offset + h) (slice_range octets s e) (trees_of ts) r z) in
+    record { header = h; encoding = F; place = refl; stays = inr (ne, λ z. no_block z.1) }
 
 single : (ts : List (Tree ℕ)) → 1 ≡ length ts → (t : Tree ℕ) × (ts ≡ t ∷ [])
 single [] e = absurd (omega (arith, e))

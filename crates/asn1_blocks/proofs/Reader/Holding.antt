@@ -7,8 +7,8 @@ use Rattle.asn1_blocks.specs.declared.owed.Entry.{Entry}
 use Rattle.asn1_blocks.specs.declared.read.OpenFrame.{OpenFrame}
 use Rattle.asn1_blocks.specs.Tree.{Tree}
 use Rattle.asn1_blocks.specs.View.{view}
-use Rattle.asn1_blocks.specs.Owed.{after_all, Leads}
-use Rattle.asn1_blocks.specs.ReaderSteps.{Holds, AllHold}
+use Rattle.asn1_blocks.specs.Inner.Owed.{after_all, Leads}
+use Rattle.asn1_blocks.specs.Inner.ReaderSteps.{Holds, AllHold}
 use Rattle.asn1_blocks.proofs.Orders.{leads_nothing}
 
 nothing : (ts : List (Tree ℕ)) → 0 ≡ length ts → ts ≡ []

@@ -11,9 +11,9 @@ use Rattle.asn1_headers.specs.Fault.{DecodeFault}
 use Rattle.asn1_headers.specs.HeaderFault.{HeaderFault}
 use Rattle.asn1_blocks.specs.Grammar.{Encodes, ContentsFault}
 use Rattle.asn1_blocks.specs.HeadersBegun.{IsReadInside}
-use Rattle.asn1_blocks.specs.OpenFrames.{Headed, Opened, Stopping}
-use Rattle.asn1_blocks.specs.HeaderPlaces.{HeaderFound}
-use Rattle.asn1_blocks.specs.ReaderSteps.{AllHold, frame, frames, IsKindOf, IsOpened, Reading, GoesOn, Faulty, left}
+use Rattle.asn1_blocks.specs.Inner.OpenFrames.{Headed, Opened, Stopping}
+use Rattle.asn1_blocks.specs.Inner.HeaderPlaces.{HeaderFound}
+use Rattle.asn1_blocks.specs.Inner.ReaderSteps.{AllHold, frame, frames, IsKindOf, IsOpened, Reading, GoesOn, Faulty, left}
 use Rattle.asn1_blocks.specs.View.{view}
 use Rattle.asn1_blocks.proofs.Frames.Advances.{opened_places, opened_bound}
 use Rattle.asn1_blocks.proofs.Frames.Opening.{headed_by, opened_open, header_stopping, leaf_stopping, leaf_follows}

@@ -7,9 +7,9 @@ use Rattle.asn1_blocks.specs.declared.read.FrameKind.{FrameKind}
 use Rattle.asn1_blocks.specs.declared.read.FrameKind.TheVariants.{Whole, Group, Attempt}
 use Rattle.asn1_blocks.specs.declared.read.OpenFrame.{OpenFrame}
 use Rattle.asn1_headers.specs.Fault.{DecodeFault}
-use Rattle.asn1_blocks.specs.OpenFrames.{Stopping}
-use Rattle.asn1_blocks.specs.Owed.{as_it_came}
-use Rattle.asn1_blocks.specs.ReaderSteps.{AllHold, frame, frames, Refused, FaultyDocument, attempt_of, left}
+use Rattle.asn1_blocks.specs.Inner.OpenFrames.{Stopping}
+use Rattle.asn1_blocks.specs.Inner.Owed.{as_it_came}
+use Rattle.asn1_blocks.specs.Inner.ReaderSteps.{AllHold, frame, frames, Refused, FaultyDocument, attempt_of, left}
 use Rattle.asn1_blocks.proofs.Frames.Stopping.{StoppingPlaces, stop_attempt, stop_document, stop_pop, stopping_places}
 use Rattle.asn1_blocks.proofs.Reader.Adding.{Ready}
 use Rattle.asn1_blocks.proofs.Reader.Popping.{reverse_push, reverse_none}

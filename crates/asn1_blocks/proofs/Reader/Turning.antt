@@ -11,7 +11,7 @@ use Rattle.asn1_blocks.specs.declared.read.Turn.TheVariants.{More, End, Stop}
 use Rattle.asn1_headers.specs.Fault.{OutOfMemoryOr}
 use Rattle.asn1_blocks.specs.Grammar.{EncodesAll}
 use Rattle.asn1_blocks.specs.HeadersBegun.{begun_none}
-use Rattle.asn1_blocks.specs.ReaderSteps.{Reads, GoesOn, Ended, FaultyDocument, Turned}
+use Rattle.asn1_blocks.specs.Inner.ReaderSteps.{Reads, GoesOn, Ended, FaultyDocument, Turned}
 use Rattle.asn1_blocks.specs.Tree.{trees_of}
 use Rattle.asn1_blocks.specs.View.{view, views}
 use Rattle.asn1_blocks.proofs.Frames.Slices.{slice_none}

@@ -12,7 +12,7 @@ ghost use Rattle.std.specs.Prelude.{
   vec_len,
 };
 ghost use Rattle.asn1_blocks.specs.Tree.{more_trees, no_trees};
-ghost use Rattle.asn1_blocks.specs.TreeOrder.{inside};
+ghost use Rattle.asn1_blocks.specs.Inner.TreeOrder.{inside};
 ghost use Rattle.asn1_blocks.specs.View.{view, views};
 
 use crate::block::ASN1Block;

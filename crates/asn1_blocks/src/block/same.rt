@@ -4,7 +4,7 @@
 ghost use Rattle.std.specs.Prelude.{◌≡◌, ◌↔◌, IsTrue, length};
 ghost use Rattle.std.specs.Str.{chars};
 ghost use Rattle.asn1_blocks.specs.Tree.{shape, shapes};
-ghost use Rattle.asn1_blocks.specs.TreeOrder.{own_shape};
+ghost use Rattle.asn1_blocks.specs.Inner.TreeOrder.{own_shape};
 ghost use Rattle.asn1_blocks.specs.View.{view, views};
 
 use crate::block::ASN1Block;

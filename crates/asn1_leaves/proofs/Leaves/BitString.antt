@@ -20,12 +20,12 @@ bit_string_fault_alone [] e d p q = absurd p
 bit_string_fault_alone (u ∷ v) e d (inl p) (inl q) = p.1 ∙ sym q.1
 bit_string_fault_alone (u ∷ v) e d (inl p) (inr q) = absurd (omega (arith, p.0, q.0))
 bit_string_fault_alone (u ∷ v) e d (inr p) (inl q) = absurd (omega (arith, p.0, q.0))
-bit_string_fault_alone (u ∷ v) e d (inr p) (inr q) = p.2 ∙ sym q.2
+bit_string_fault_alone (u ∷ v) e d (inr (_, _, p)) (inr (_, _, q)) = p ∙ sym q
 
 -- those that mean bits have no fault
 pub bit_string_no_fault : (n : ℕ) (v contents : List ℕ) (e : DecodeFault) → BitStringContents n v contents → BitStringFault contents e → ⊥
 bit_string_no_fault n v [] e p f = f
-bit_string_no_fault n v (u ∷ contents) e p (inl f) = omega (arith, p.2, f.0, ap length p.0)
+bit_string_no_fault n v (u ∷ contents) e (same, _, fits) (inl f) = omega (arith, fits, f.0, ap length same)
 bit_string_no_fault n v (u ∷ contents) e p (inr f) = omega (arith, p.1, f.1, ap length p.0)
 
 -- all others have one
@@ -43,7 +43,7 @@ bit_string_meaning (u ∷ v) = elim (cases_lt (8 * length v) (2 ^ 64)) [
 pub bit_string_fault_of_reading : (contents : List ℕ) (e : DecodeFault) → BitStringFault contents e → IsOfReading e
 bit_string_fault_of_reading [] e f = absurd f
 bit_string_fault_of_reading (u ∷ v) e (inl f) = subst IsOfReading (sym f.1) tt
-bit_string_fault_of_reading (u ∷ v) e (inr f) = subst IsOfReading (sym f.2) tt
+bit_string_fault_of_reading (u ∷ v) e (inr (_, _, f)) = subst IsOfReading (sym f) tt
 
 -- bits that octets mean can be written
 pub bit_string_writable : (n : ℕ) (v contents : List ℕ) → All (λ b. b < 256) contents → BitStringContents n v contents → bit_string_write_fault n v ≡ None
@@ -68,31 +68,32 @@ pub bit_string_again : (n : ℕ) (v : List ℕ) → IsFaithfulBitString n v → 
 bit_string_again zero v (inl f) = (refl, f.1)
 bit_string_again zero v (inr f) = absurd (omega (arith, f.0))
 bit_string_again (suc n) v (inl f) = absurd (omega (arith, f.0))
-bit_string_again (suc n) v (inr f) = subst (BitStringContents (suc n) v) (sym (some_written n v)) (refl, omega (arith, f.1), f.3)
+bit_string_again (suc n) v (inr (_, enough, _, fits)) =
+    subst (BitStringContents (suc n) v) (sym (some_written n v)) (refl, omega (arith, enough), fits)
 
 -- they can be written
 pub bit_string_fits : (n : ℕ) (v : List ℕ) → IsFaithfulBitString n v → bit_string_write_fault n v ≡ None
 bit_string_fits zero v f = refl
 bit_string_fits (suc n) v (inl f) = absurd (omega (arith, f.0))
-bit_string_fits (suc n) v (inr f) = grind (arith, common_steps, f.1, f.2)
+bit_string_fits (suc n) v (inr (_, enough, few, _)) = grind (arith, common_steps, enough, few)
 
 -- bits that can be written are faithful where what is written means them
 pub bit_string_kept : (n : ℕ) (v : List ℕ) → bit_string_write_fault n v ≡ None → BitStringContents n v (bit_string_contents n v) → IsFaithfulBitString n v
 bit_string_kept zero v w p = inl (refl, p.1)
 bit_string_kept (suc n) v w p =
-    let q = subst (BitStringContents (suc n) v) (some_written n v) p in
-    let h : 8 * length v ≤ suc n + 255 = grind (arith, common_steps, w, q.1) in
-    inr (omega arith, omega (arith, q.1), h, q.2)
+    let (_, bits, fits) = subst (BitStringContents (suc n) v) (some_written n v) p in
+    let h : 8 * length v ≤ suc n + 255 = grind (arith, common_steps, w, bits) in
+    inr (omega arith, omega (arith, bits), h, fits)
 
 -- what is left of bits that were read is faithful
 pub bit_string_read : (n : ℕ) (v contents : List ℕ) → All (λ b. b < 256) contents → BitStringContents n v contents → IsFaithfulBitString n (written_bits n v)
 bit_string_read zero v contents all p = inl (refl, refl)
 bit_string_read (suc n) v [] all p = absurd (omega (arith, p.0))
-bit_string_read (suc n) v (u ∷ contents) all p =
+bit_string_read (suc n) v (u ∷ contents) all (same, bits, near) =
     let h : u < 256 = All-head (λ b. b < 256) u contents all in
-    let few : 8 * length v ≤ suc n + 255 = omega (arith, h, p.1, ap length p.0) in
-    let fits : 8 * length v < 2 ^ 64 = omega (arith, p.2, ap length p.0) in
-    subst (IsFaithfulBitString (suc n)) (sym (some_left n v)) (inr (omega arith, omega (arith, p.1, ap length p.0), few, fits))
+    let few : 8 * length v ≤ suc n + 255 = omega (arith, h, bits, ap length same) in
+    let fits : 8 * length v < 2 ^ 64 = omega (arith, near, ap length same) in
+    subst (IsFaithfulBitString (suc n)) (sym (some_left n v)) (inr (omega arith, omega (arith, bits, ap length same), few, fits))
 
 -- what is not left is not written
 pub bit_string_same : (n : ℕ) (v : List ℕ) → bit_string_contents n (written_bits n v) ≡ bit_string_contents n v

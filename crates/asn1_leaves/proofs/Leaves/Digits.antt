@@ -10,7 +10,7 @@ use Rattle.std.proofs.lemmas.Int.{ints}
 use Rattle.std.proofs.lemmas.List.{append_cancel_right}
 use Rattle.std.proofs.lemmas.Nat.{div-add-mod'}
 use Rattle.jiff_core.specs.Calendar.{days_in_month}
-use Rattle.asn1_leaves.specs.Contents.DigitFields.{FollowsPoint, IsPair}
+use Rattle.asn1_leaves.specs.Inner.DigitFields.{FollowsPoint, IsPair}
 use Rattle.asn1_leaves.specs.Contents.Moment.{Moment, IsValid, moment_write_fault, year_write_fault}
 use Rattle.asn1_leaves.specs.Contents.GeneralizedTime.{IsEnd, fraction_number, fraction_digits}
 use Rattle.asn1_leaves.proofs.Leaves.Known.{Known, known_within, below_known, range_known}
@@ -21,7 +21,7 @@ none_then None p f = f p
 none_then (Some x) p f = p
 
 pub two_digits_pair : (n : ℕ) → n < 100 → IsPair (48 + n / 10) (48 + n % 10) n
-two_digits_pair n h = (h, refl, refl)
+two_digits_pair n h = record { small = h; tens = refl; units = refl }
 
 -- a month has a number of days of two digits
 pub days_few : (y : ℤ) (m : ℕ) → days_in_month y m ≤ 31

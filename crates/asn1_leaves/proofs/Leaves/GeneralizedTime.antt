@@ -10,7 +10,7 @@ use Rattle.std.proofs.lemmas.Int.{ints}
 use Rattle.std.proofs.lemmas.List.{take-append-drop}
 use Rattle.std.proofs.lemmas.Str.{IsAscii-append, IsAscii-take, IsAscii-drop, IsUtf8-from_ascii, IsUtf8-from_is_utf8, is_utf8-from_IsUtf8}
 use Rattle.std.proofs.lemmas.Str.Ascii.{IsAscii-nil, IsAscii-cons}
-use Rattle.asn1_leaves.specs.Contents.DigitFields.{IsSpelled, PairAt}
+use Rattle.asn1_leaves.specs.Inner.DigitFields.{IsSpelled, PairAt}
 use Rattle.asn1_leaves.specs.Contents.Moment.{Moment, IsValid, moment_write_fault}
 use Rattle.asn1_leaves.specs.Contents.GeneralizedTime.{GeneralizedTimeContents, GeneralizedTimeFault, IsEnd, IsFaithfulGeneralizedTime, fraction_digits, fraction_number, generalized_time_contents, generalized_time_fault, tenth, to_second, with_point, with_zeros, written_fraction}
 use Rattle.asn1_headers.specs.Fault.{DecodeFault, IsOfReading, invalid_date_value, utf8_fault}
@@ -23,16 +23,16 @@ pub second_spelled :
     → IsSpelled (high * 100 + low) (slice_range second 4 14) n m → second ≡ to_second m
 second_spelled (a ∷ b ∷ c ∷ d ∷ e ∷ f ∷ g ∷ h ∷ i ∷ j ∷ k ∷ l ∷ x ∷ y ∷ []) high low n m size hi lo q =
     let y1 : unsigned_abs m.year ≡ high * 100 + low = ap unsigned_abs q.year_is in
-    let y2 : unsigned_abs m.year / 100 ≡ high = omega (arith, y1, lo.0) in
-    let y3 : unsigned_abs m.year % 100 ≡ low = omega (arith, y1, lo.0) in
+    let y2 : unsigned_abs m.year / 100 ≡ high = omega (arith, y1, lo.small) in
+    let y3 : unsigned_abs m.year % 100 ≡ low = omega (arith, y1, lo.small) in
     rw (y2, y3) (
-    let a' = hi.1 in let b' = hi.2 in
-    let c' = lo.1 in let d' = lo.2 in
-    let e' = q.month_at.1 in let f' = q.month_at.2 in
-    let g' = q.day_at.1 in let h' = q.day_at.2 in
-    let i' = q.hour_at.1 in let j' = q.hour_at.2 in
-    let k' = q.minute_at.1 in let l' = q.minute_at.2 in
-    let x' = q.second_at.1 in let y' = q.second_at.2 in
+    let a' = hi.tens in let b' = hi.units in
+    let c' = lo.tens in let d' = lo.units in
+    let e' = q.month_at.tens in let f' = q.month_at.units in
+    let g' = q.day_at.tens in let h' = q.day_at.units in
+    let i' = q.hour_at.tens in let j' = q.hour_at.units in
+    let k' = q.minute_at.tens in let l' = q.minute_at.units in
+    let x' = q.second_at.tens in let y' = q.second_at.units in
     cc)
 second_spelled second high low n m size hi lo q = absurd (omega (arith, size))
 
@@ -223,8 +223,8 @@ fraction_end (suc n) h =
 
 pub generalized_time_again : (m : Moment) → IsFaithfulGeneralizedTime m → GeneralizedTimeContents m (generalized_time_contents m)
 generalized_time_again m v =
-    let f = fraction_end m.nanosecond v.nanosecond in
-    record { valid = v; digits = f.0; end = written_fraction m.nanosecond ++ (90 ∷ []); octets = refl; is_end = f.1; nanosecond = f.2 }
+    let (digits, ends, is) = fraction_end m.nanosecond v.nanosecond in
+    record { valid = v; digits = digits; end = written_fraction m.nanosecond ++ (90 ∷ []); octets = refl; is_end = ends; nanosecond = is }
 
 -- a faithful moment can be written
 pub generalized_time_fits : (m : Moment) → IsFaithfulGeneralizedTime m → moment_write_fault m ≡ None

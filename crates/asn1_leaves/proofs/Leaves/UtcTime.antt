@@ -4,7 +4,7 @@ use Rattle.std.specs.Prelude.{if◌then◌else◌, nat_lt, pos, ◌≤ℤ◌, un
 use Rattle.std.specs.List.{slice_range}
 use Rattle.std.proofs.lemmas.Bool.Decides.{nat_tests}
 use Rattle.std.proofs.lemmas.Int.{ints}
-use Rattle.asn1_leaves.specs.Contents.DigitFields.{IsSpelled, PairAt}
+use Rattle.asn1_leaves.specs.Inner.DigitFields.{IsSpelled, PairAt}
 use Rattle.asn1_leaves.specs.Contents.Moment.{Moment, moment_write_fault}
 use Rattle.asn1_leaves.specs.Contents.UtcTime.{IsFaithfulUtcTime, UtcTimeContents, UtcTimeFault, utc_time_contents, utc_time_fault}
 use Rattle.asn1_headers.specs.Fault.{DecodeFault, IsOfReading}
@@ -18,12 +18,12 @@ pub utc_time_spelled :
 utc_time_spelled (a ∷ b ∷ c ∷ d ∷ e ∷ f ∷ g ∷ h ∷ i ∷ j ∷ k ∷ l ∷ z ∷ []) year short m size ends p s q =
     let y : unsigned_abs m.year % 100 ≡ short = ap (λ x. unsigned_abs x % 100) q.year_is ∙ s in
     rw y (
-    let a' = p.1 in let b' = p.2 in
-    let c' = q.month_at.1 in let d' = q.month_at.2 in
-    let e' = q.day_at.1 in let f' = q.day_at.2 in
-    let g' = q.hour_at.1 in let h' = q.hour_at.2 in
-    let i' = q.minute_at.1 in let j' = q.minute_at.2 in
-    let k' = q.second_at.1 in let l' = q.second_at.2 in
+    let a' = p.tens in let b' = p.units in
+    let c' = q.month_at.tens in let d' = q.month_at.units in
+    let e' = q.day_at.tens in let f' = q.day_at.units in
+    let g' = q.hour_at.tens in let h' = q.hour_at.units in
+    let i' = q.minute_at.tens in let j' = q.minute_at.units in
+    let k' = q.second_at.tens in let l' = q.second_at.units in
     cc)
 utc_time_spelled contents year short m size ends p s q = absurd (omega (arith, size))
 

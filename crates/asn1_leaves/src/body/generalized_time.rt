@@ -4,7 +4,7 @@ ghost use Rattle.std.specs.Prelude.{◌≡◌, ◌==◌, ◌↔◌, ℕ, ◌+◌
 ghost use Rattle.std.specs.Char.{is_ascii, is_ascii_digit};
 ghost use Rattle.std.specs.List.{list_all, list_any};
 ghost use Rattle.asn1_leaves.specs.Contents.GeneralizedTime.{GeneralizedTimeContents, GeneralizedTimeFault, IsEnd, IsFaithfulGeneralizedTime, fraction_digits, fraction_number, generalized_time_contents, generalized_time_fault, tenth, to_second, with_point, with_zeros, written_fraction};
-ghost use Rattle.asn1_leaves.specs.Contents.DigitFields.{FollowsPoint, IsFractionOf};
+ghost use Rattle.asn1_leaves.specs.Inner.DigitFields.{FollowsPoint, IsFractionOf};
 ghost use Rattle.asn1_leaves.specs.Contents.Moment.{Moment, moment_of, moment_write_fault};
 ghost use Rattle.asn1_headers.specs.Fault.{OutOfMemoryOr, fault_of};
 

@@ -1,6 +1,6 @@
 // What the two kinds of times share: digits, the fields from the month on, and texts of faults.
 ghost use Rattle.std.specs.Prelude.{◌≡◌, ◌↔◌, ℕ, ◌≤◌, ◌<◌, length, IfErr, IfSome, IfNone, IsTrue, OnOk, None, Some};
-ghost use Rattle.asn1_leaves.specs.Contents.DigitFields.{HasFields, IsPair, IsSpelled};
+ghost use Rattle.asn1_leaves.specs.Inner.DigitFields.{HasFields, IsPair, IsSpelled};
 ghost use Rattle.asn1_leaves.specs.Contents.Moment.{IsValid, Moment, moment_of, moment_write_fault};
 
 use asn1_headers::error::ASN1EncodeErr;

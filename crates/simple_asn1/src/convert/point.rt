@@ -146,7 +146,7 @@ impl ToASN1 for Point {
 }
 
 impl RoundTrip for Point {
-    ghost use Rattle.simple_asn1.specs.PointLaws.{point_read_back};
+    ghost use Rattle.simple_asn1.specs.Inner.PointLaws.{point_read_back};
 
     ghost trees_of = { point_trees };
 

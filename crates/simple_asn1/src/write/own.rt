@@ -2,7 +2,7 @@
 ghost use Rattle.std.specs.Prelude.{◌≡◌, ◌⊎◌, ◌≤◌, length, None, Some, IfOk, IfErr, OnOk};
 ghost use Rattle.asn1_headers.specs.declared.error.ASN1EncodeErr.TheVariants.{OutOfMemory as no_memory};
 ghost use Rattle.asn1_blocks.specs.View.{view};
-ghost use Rattle.simple_asn1.specs.WriteWalk.{own_contents, own_fault};
+ghost use Rattle.simple_asn1.specs.Inner.WriteWalk.{own_contents, own_fault};
 
 use asn1_blocks::block::ASN1Block;
 use asn1_headers::error::ASN1EncodeErr;

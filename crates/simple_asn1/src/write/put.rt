@@ -1,7 +1,7 @@
 // The second walk: it puts the octets of measured blocks, takes no memory and refuses nothing.
 ghost use Rattle.std.specs.Prelude.{◌≡◌, ◌≤◌, None, length, map};
 ghost use Rattle.asn1_blocks.specs.View.{view};
-ghost use Rattle.simple_asn1.specs.WriteWalk.{
+ghost use Rattle.simple_asn1.specs.Inner.WriteWalk.{
   all_own_octets,
   contents_size_of,
   first_own_fault,

@@ -4,9 +4,9 @@ ghost use Rattle.std.specs.Prelude.{◌≡◌, ℕ, ◌++◌, ◌∷◌, List, l
 ghost use Rattle.simple_asn1.specs.Canonical.{all_canonical};
 ghost use Rattle.asn1_blocks.specs.Grammar.{Document as IsDocument};
 ghost use Rattle.asn1_headers.specs.Header.{shortest_length};
-ghost use Rattle.simple_asn1.specs.StandWalk.{AreOwnCanonical, BeginWithOwn};
+ghost use Rattle.simple_asn1.specs.Inner.StandWalk.{AreOwnCanonical, BeginWithOwn};
 ghost use Rattle.asn1_blocks.specs.View.{view, views};
-ghost use Rattle.simple_asn1.specs.WriteWalk.{identifier_of, own_contents};
+ghost use Rattle.simple_asn1.specs.Inner.WriteWalk.{identifier_of, own_contents};
 ghost use Rattle.asn1_headers.specs.declared.error.ASN1DecodeErr.TheVariants.{OutOfMemory};
 
 use crate::write::measure::identifier_size_of;

@@ -15,7 +15,8 @@ use Rattle.asn1_blocks.proofs.body.leaf_block.Goals as goal
 stays : (c : ASN1Class) (k : Bool) (n : ℕ) (contents : List ℕ) (o : ℕ) (r : Result ASN1Block ASN1DecodeErr) → c ≢ Universal → (IsReadInside c k n → ⊥)
     → IfOk r (λ b. view b ≡ unknown c k o n contents) → IfOk r (λ b. (octets : List ℕ) (h : ℕ) → Encoding octets c k n contents h → Encodes o octets (view b))
 stays c k n contents o (Ok b) other shut kept =
-    λ octets h f. subst (Encodes o octets) (sym kept) (h, f, refl, inr (other, λ z. shut (inr (other, z.0))))
+    λ octets h f. subst (Encodes o octets) (sym kept)
+    (record { header = h; encoding = f; place = refl; stays = inr (other, λ z. shut (inr (other, z.0))) })
 stays c k n contents o (Err e) other shut kept = tt
 
 pub returns-in_default-clause-encoded : goal.returns-in_default-clause-encoded

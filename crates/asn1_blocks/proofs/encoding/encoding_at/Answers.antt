@@ -12,15 +12,19 @@ returns-then-offset-document-clause-block c octets t =
 pub returns-in_default-clause-block : goal.returns-in_default-clause-block
 returns-in_default-clause-block c octets t =
     let p = encoding_of c.args.document.now c.args.offset octets t in
-    c.in_default.ensures.none octets p.0 (c.split_at.ensures.back ∙ p.1) p.2
+    c.in_default.ensures.none octets p.rest (c.split_at.ensures.back ∙ p.stands) p.are
 
 pub returns-clause-block : goal.returns-clause-block
 returns-clause-block c octets t =
     let document = c.args.document.now in
     let o = c.args.offset in
     let n = c.in-Some.size in
+    let (_, _, found) = c.in-Some.ensures.found in
     let r = c.split_at.ensures.back in
     let f = c.split_at-2.ensures.front ∙ ap (take n) r in
-    let q : EncodingAt document o (take n (drop o document)) =
-    (drop n (drop o document), sym (take-append-drop n (drop o document)), subst (λ z. IsEncoding (take n z)) r c.in-Some.ensures.found.2) in
+    let q : EncodingAt document o (take n (drop o document)) = record {
+      rest = drop n (drop o document);
+      stands = sym (take-append-drop n (drop o document));
+      are = subst (λ z. IsEncoding (take n z)) r found;
+    } in
     f ∙ encoding_at_alone document o (take n (drop o document)) octets q (encoding_of document o octets t)

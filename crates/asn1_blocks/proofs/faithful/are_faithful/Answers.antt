@@ -1,8 +1,8 @@
 use Rattle.std.proofs.Common.{◌≡◌, ◌++◌, ◌∷◌, [], map, length, subst, ap, ◌∙◌, arith}
 use Rattle.std.proofs.lemmas.Grind.{common_steps}
 use Rattle.asn1_blocks.specs.HeadersBegun.{all_blocks_in}
-use Rattle.asn1_blocks.specs.FaithfulWalk.{IsFaithfulAlone}
-use Rattle.asn1_blocks.specs.TreeOrder.{stacked}
+use Rattle.asn1_blocks.specs.Inner.FaithfulWalk.{IsFaithfulAlone}
+use Rattle.asn1_blocks.specs.Inner.TreeOrder.{stacked}
 use Rattle.asn1_blocks.specs.View.{view, views}
 use Rattle.asn1_blocks.proofs.FaithfulWalk.{Rest, below_push, fewer, used_up, passes}
 use Rattle.asn1_blocks.proofs.faithful.are_faithful.Goals as goal

@@ -1,6 +1,6 @@
 use Rattle.std.proofs.Common.{◌+◌, ◌*◌, ◌++◌, map, length}
 use Rattle.asn1_blocks.specs.HeadersBegun.{all_blocks_in}
-use Rattle.asn1_blocks.specs.TreeOrder.{stacked}
+use Rattle.asn1_blocks.specs.Inner.TreeOrder.{stacked}
 use Rattle.asn1_blocks.specs.View.{views}
 use Rattle.asn1_blocks.proofs.FaithfulWalk.{Rest}
 use Rattle.asn1_blocks.proofs.faithful.are_faithful.Given as goal

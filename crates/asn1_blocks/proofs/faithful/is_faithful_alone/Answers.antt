@@ -3,7 +3,7 @@ use Rattle.std.specs.Prelude.{IfOk, IsTrue}
 use Rattle.asn1_blocks.specs.Tree.{unknown}
 use Rattle.asn1_blocks.specs.View.{view}
 use Rattle.asn1_blocks.specs.Grammar.{StaysAsItCame}
-use Rattle.asn1_blocks.specs.FaithfulWalk.{IsFaithfulAlone}
+use Rattle.asn1_blocks.specs.Inner.FaithfulWalk.{IsFaithfulAlone}
 use Rattle.asn1_blocks.proofs.ReadSteps.{view-Unknown}
 use Rattle.asn1_blocks.proofs.faithful.is_faithful_alone.Goals as goal
 

@@ -1,5 +1,5 @@
 use Rattle.std.proofs.Common.{[], ap, sym, ◌∙◌}
-use Rattle.asn1_blocks.specs.Owed.{after}
+use Rattle.asn1_blocks.specs.Inner.Owed.{after}
 use Rattle.asn1_blocks.proofs.Orders.{after_last}
 use Rattle.asn1_blocks.proofs.owed.build.Goals as goal
 

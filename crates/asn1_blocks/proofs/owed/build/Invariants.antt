@@ -1,6 +1,6 @@
 use Rattle.std.proofs.Common.{◌≡◌, [], map}
 use Rattle.asn1_blocks.specs.View.{view}
-use Rattle.asn1_blocks.specs.Owed.{after_all}
+use Rattle.asn1_blocks.specs.Inner.Owed.{after_all}
 use Rattle.asn1_blocks.proofs.owed.build.Given as goal
 
 abbrev pub invariant-loop-entry : goal.invariant-loop-entry

@@ -3,8 +3,8 @@ use Rattle.std.proofs.lemmas.Grind.{common_steps}
 use Rattle.asn1_blocks.specs.declared.owed.Entry.TheVariants as Orders
 use Rattle.asn1_blocks.specs.declared.read.OpenFrame.{OpenFrame}
 use Rattle.asn1_blocks.specs.declared.read.Reader.{Reader}
-use Rattle.asn1_blocks.specs.Owed.{around, as_it_came}
-use Rattle.asn1_blocks.specs.ReaderSteps.{Reads, left}
+use Rattle.asn1_blocks.specs.Inner.Owed.{around, as_it_came}
+use Rattle.asn1_blocks.specs.Inner.ReaderSteps.{Reads, left}
 use Rattle.asn1_blocks.proofs.Reader.Adding.{Ready, tree_goes_on, owed_goes_on, kept_goes_on, group_grown, around_grown}
 use Rattle.asn1_blocks.proofs.Reader.Closing.{N, within, order, clean_group, later_group, one_block_ended, one_owed_ended, other_ended}
 use Rattle.asn1_blocks.proofs.Reader.Memory.{stepped_memory}

@@ -2,18 +2,15 @@ use Rattle.std.proofs.Common.{◌≡◌}
 use Rattle.std.proofs.lemmas.Grind.{common_steps}
 use Rattle.std.proofs.Common.{arith}
 use Rattle.asn1_headers.specs.declared.error.ASN1DecodeErr.TheVariants.{OutOfMemory}
-use Rattle.asn1_blocks.specs.ReaderSteps.{Faulty}
+use Rattle.asn1_blocks.specs.Inner.ReaderSteps.{Faulty}
 use Rattle.asn1_blocks.proofs.Frames.Opening.{fault_here}
 use Rattle.asn1_blocks.proofs.read.fail.Goals as goal
 
 pub refuse-requires-clause-faulty : goal.refuse-requires-clause-faulty
 refuse-requires-clause-faulty c =
-    let other : c.args.e ≡ OutOfMemory → ⊥ = grind (arith, common_steps) in (
-      c.requires.failed.0,
-      c.requires.failed.1,
-      fault_here (λ z. Faulty c.args.octets.now c.args.reader.now z c.requires.failed.0 c.requires.failed.1) c.args.e
-          c.requires.failed.2 other,
-    )
+    let (n, most, failed) = c.requires.failed in
+    let other : c.args.e ≡ OutOfMemory → ⊥ = grind (arith, common_steps) in
+    (n, most, fault_here (λ z. Faulty c.args.octets.now c.args.reader.now z n most) c.args.e failed other)
 
 pub returns-in-Ok : goal.returns-in-Ok
 returns-in-Ok c =

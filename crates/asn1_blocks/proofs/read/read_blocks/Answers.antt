@@ -5,7 +5,7 @@ use Rattle.asn1_headers.specs.declared.error.ASN1DecodeErr.TheVariants.{OutOfMem
 use Rattle.asn1_headers.specs.declared.error.LocatedErr.{LocatedErr}
 use Rattle.asn1_blocks.specs.Grammar.{Document}
 use Rattle.asn1_blocks.specs.HeadersBegun.{begun_none}
-use Rattle.asn1_blocks.specs.Owed.{after_all}
+use Rattle.asn1_blocks.specs.Inner.Owed.{after_all}
 use Rattle.asn1_blocks.specs.View.{view, views}
 use Rattle.asn1_blocks.proofs.ReadSteps.{no_octets}
 use Rattle.asn1_blocks.proofs.Reader.Opening.{reader_places}

@@ -1,5 +1,5 @@
 use Rattle.std.proofs.Common.{◌≡◌, ℕ, ◌+◌, length}
-use Rattle.asn1_blocks.specs.ReaderSteps.{Reading, left}
+use Rattle.asn1_blocks.specs.Inner.ReaderSteps.{Reading, left}
 use Rattle.asn1_blocks.proofs.read.read_blocks.Given as goal
 
 abbrev pub invariant-turns : goal.invariant-turns

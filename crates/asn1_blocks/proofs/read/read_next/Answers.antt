@@ -8,7 +8,7 @@ use Rattle.asn1_blocks.specs.declared.read.OpenFrame.{OpenFrame}
 use Rattle.asn1_headers.specs.Fault.{DecodeFault, OutOfMemoryOr}
 use Rattle.asn1_blocks.specs.Grammar.{Encodes, ContentsFault}
 use Rattle.asn1_headers.specs.Header.{Encoding}
-use Rattle.asn1_blocks.specs.ReaderSteps.{IsReadAs}
+use Rattle.asn1_blocks.specs.Inner.ReaderSteps.{IsReadAs}
 use Rattle.asn1_blocks.specs.View.{view}
 use Rattle.asn1_blocks.proofs.Reader.Adding.{put_goes_on}
 use Rattle.asn1_blocks.proofs.Reader.Memory.{stepped_memory}

@@ -2,8 +2,8 @@ use Rattle.std.proofs.Common.{◌≡◌, inr, length, reverse, sym, ap, ◌∙�
 use Rattle.std.proofs.lemmas.Grind.{common_steps}
 use Rattle.asn1_blocks.specs.declared.read.OpenFrame.{OpenFrame}
 use Rattle.asn1_blocks.specs.declared.read.Reader.{Reader}
-use Rattle.asn1_blocks.specs.Owed.{as_it_came}
-use Rattle.asn1_blocks.specs.ReaderSteps.{attempt_of}
+use Rattle.asn1_blocks.specs.Inner.Owed.{as_it_came}
+use Rattle.asn1_blocks.specs.Inner.ReaderSteps.{attempt_of}
 use Rattle.asn1_blocks.proofs.Reader.Adding.{Ready, kept_goes_on}
 use Rattle.asn1_blocks.proofs.Reader.Stopping.{fits, refused_pop, refused_attempt, refused_places, refused_taken, refused_outermost, taken_nearer, attempt_is}
 use Rattle.asn1_blocks.proofs.read.refuse.Goals as goal
@@ -39,8 +39,9 @@ loop-parent-preserved c =
 pub keep-requires-clause-order : goal.keep-requires-clause-order
 keep-requires-clause-order c =
     let r = c.loop-parent.reader in
-    let faulty = c.loop-parent.invariant.faulty c.requires.faulty.0 c.requires.faulty.1 c.requires.faulty.2 in
-    let p = refused_places c.args.octets.now r.entries.items r.inner (reverse r.outer.items) _ r.index c.requires.faulty.0 faulty.refused in
+    let (n, most, first) = c.requires.faulty in
+    let faulty = c.loop-parent.invariant.faulty n most first in
+    let p = refused_places c.args.octets.now r.entries.items r.inner (reverse r.outer.items) _ r.index n faulty.refused in
     let s = ap (λ (z : OpenFrame). z.extent.start) c.replace-kind.ensures.value in
     let e = ap (λ (z : OpenFrame). z.extent.end) c.replace-kind.ensures.value in
     omega (arith, p.order, s, e)
@@ -48,8 +49,9 @@ keep-requires-clause-order c =
 pub keep-requires-clause-within : goal.keep-requires-clause-within
 keep-requires-clause-within c =
     let r = c.loop-parent.reader in
-    let faulty = c.loop-parent.invariant.faulty c.requires.faulty.0 c.requires.faulty.1 c.requires.faulty.2 in
-    let p = refused_places c.args.octets.now r.entries.items r.inner (reverse r.outer.items) _ r.index c.requires.faulty.0 faulty.refused in
+    let (n, most, first) = c.requires.faulty in
+    let faulty = c.loop-parent.invariant.faulty n most first in
+    let p = refused_places c.args.octets.now r.entries.items r.inner (reverse r.outer.items) _ r.index n faulty.refused in
     let e = ap (λ (z : OpenFrame). z.extent.end) c.replace-kind.ensures.value in
     omega (arith, p.within, e)
 

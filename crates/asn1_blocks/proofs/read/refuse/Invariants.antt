@@ -1,6 +1,6 @@
 use Rattle.std.proofs.Common.{ℕ, length}
 use Rattle.asn1_headers.specs.Fault.{fault_of}
-use Rattle.asn1_blocks.specs.ReaderSteps.{Faulty}
+use Rattle.asn1_blocks.specs.Inner.ReaderSteps.{Faulty}
 use Rattle.asn1_blocks.proofs.read.refuse.Given as goal
 
 -- the fault has gone out of the frames that were dropped

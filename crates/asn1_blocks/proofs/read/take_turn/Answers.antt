@@ -2,7 +2,7 @@ use Rattle.std.proofs.Common.{◌≡◌, ℕ, ◌+◌, List, [], ◌∷◌, ◌+
 use Rattle.std.proofs.lemmas.Grind.{common_steps}
 use Rattle.asn1_blocks.specs.declared.read.OpenFrame.{OpenFrame}
 use Rattle.asn1_blocks.specs.declared.read.Reader.{Reader}
-use Rattle.asn1_blocks.specs.ReaderSteps.{Reads, Reading, Turned, left}
+use Rattle.asn1_blocks.specs.Inner.ReaderSteps.{Reads, Reading, Turned, left}
 use Rattle.asn1_blocks.proofs.Reader.Closing.{document_ended}
 use Rattle.asn1_blocks.proofs.Reader.Opening.{reader_places}
 use Rattle.asn1_blocks.proofs.Reader.Popping.{reverse_push, reverse_none}

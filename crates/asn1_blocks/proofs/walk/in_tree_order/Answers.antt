@@ -1,7 +1,7 @@
 use Rattle.std.proofs.Common.{◌≡◌, ◌++◌, ◌∷◌, [], map, sym, ap, subst, ◌∙◌, arith, Bor}
 use Rattle.std.proofs.lemmas.Grind.{common_steps}
 use Rattle.std.proofs.lemmas.List.{map_push}
-use Rattle.asn1_blocks.specs.TreeOrder.{IsNext, ahead}
+use Rattle.asn1_blocks.specs.Inner.TreeOrder.{IsNext, ahead}
 use Rattle.asn1_blocks.specs.declared.block.ASN1Block.{ASN1Block}
 use Rattle.asn1_blocks.proofs.TreeOrders.{IsFound, fewer_ahead, found_all, found_next}
 use Rattle.asn1_blocks.proofs.walk.in_tree_order.Goals as goal

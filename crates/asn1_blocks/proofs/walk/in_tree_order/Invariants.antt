@@ -1,6 +1,6 @@
 use Rattle.std.proofs.Common.{map}
 use Rattle.asn1_blocks.specs.HeadersBegun.{all_blocks_in}
-use Rattle.asn1_blocks.specs.TreeOrder.{ahead}
+use Rattle.asn1_blocks.specs.Inner.TreeOrder.{ahead}
 use Rattle.asn1_blocks.specs.View.{views}
 use Rattle.asn1_blocks.proofs.TreeOrders.{IsFound}
 use Rattle.asn1_blocks.proofs.walk.in_tree_order.Given as goal

@@ -1,5 +1,5 @@
 use Rattle.std.proofs.Common.{◌++◌, length, ap, ◌∙◌, arith}
-use Rattle.simple_asn1.specs.WriteWalk.{all_own_octets, first_own_fault, measured_blocks}
+use Rattle.simple_asn1.specs.Inner.WriteWalk.{all_own_octets, first_own_fault, measured_blocks}
 use Rattle.simple_asn1.proofs.WriteSteps.{fault_order, own_order}
 use Rattle.simple_asn1.proofs.write.write_all.Goals as goal
 

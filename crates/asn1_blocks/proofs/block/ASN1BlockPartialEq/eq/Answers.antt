@@ -1,7 +1,7 @@
 use Rattle.std.specs.Bool.{one_answer}
 use Rattle.asn1_blocks.specs.View.{view}
-use Rattle.asn1_blocks.specs.Equality.{same_block}
-use Rattle.asn1_blocks.specs.EqualityLaws.{same_tree-decides}
+use Rattle.asn1_blocks.specs.Inner.Equality.{same_block}
+use Rattle.asn1_blocks.specs.Inner.EqualityLaws.{same_tree-decides}
 use Rattle.asn1_blocks.proofs.block.ASN1BlockPartialEq.eq.Goals as goal
 
 pub returns-clause-decided : goal.returns-clause-decided

@@ -1,6 +1,6 @@
 use Rattle.std.proofs.Common.{◌≡◌, ◌≤◌, List, length, map, drop, reverse}
 use Rattle.asn1_blocks.specs.declared.block.ASN1Block.{ASN1Block}
-use Rattle.asn1_blocks.specs.TreeOrder.{IsInTreeOrder}
+use Rattle.asn1_blocks.specs.Inner.TreeOrder.{IsInTreeOrder}
 use Rattle.asn1_blocks.specs.View.{views}
 use Rattle.asn1_blocks.proofs.block.copy.copy.Given as goal
 

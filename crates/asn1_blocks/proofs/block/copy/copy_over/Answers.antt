@@ -1,5 +1,5 @@
 use Rattle.std.proofs.Common.{sym, ap, ◌∙◌}
-use Rattle.asn1_blocks.specs.TreeOrder.{inside}
+use Rattle.asn1_blocks.specs.Inner.TreeOrder.{inside}
 use Rattle.asn1_blocks.specs.View.{view, views}
 use Rattle.asn1_blocks.proofs.BlockLists.{count, count_views}
 use Rattle.asn1_blocks.proofs.CopySteps.{sequence_of_copies, set_of_copies, view_explicit}

@@ -3,7 +3,7 @@ use Rattle.std.proofs.lemmas.Result.{IfOk-weaker}
 use Rattle.std.proofs.lemmas.Simd.{map-map}
 use Rattle.asn1_blocks.specs.declared.block.ASN1Block.{ASN1Block}
 use Rattle.asn1_blocks.specs.BlockParts.{all_in_order}
-use Rattle.asn1_blocks.specs.TreeOrder.{IsInTreeOrder}
+use Rattle.asn1_blocks.specs.Inner.TreeOrder.{IsInTreeOrder}
 use Rattle.asn1_blocks.specs.View.{view, views}
 use Rattle.asn1_blocks.proofs.TreeOrders.{trees_in_order}
 use Rattle.asn1_blocks.proofs.block.parts.all_blocks.Goals as goal

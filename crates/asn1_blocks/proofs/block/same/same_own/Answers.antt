@@ -3,7 +3,7 @@ use Rattle.std.proofs.lemmas.Bool.Decides.{Decides-eqb}
 use Rattle.std.proofs.lemmas.Slice.Eq.{slice_eq-Decides}
 use Rattle.asn1_blocks.specs.declared.block.ASN1Block.{ObjectIdentifier, the_lemmas}
 use Rattle.asn1_blocks.specs.Tree.{Tree, leaf, object_identifier}
-use Rattle.asn1_blocks.specs.TreeOrder.{own_shape}
+use Rattle.asn1_blocks.specs.Inner.TreeOrder.{own_shape}
 use Rattle.asn1_blocks.specs.View.{view}
 use Rattle.asn1_blocks.proofs.block.same.same_own.Goals as goal
 

@@ -1,6 +1,6 @@
 use Rattle.std.proofs.Common.{◌≡◌, ◌++◌, ◌∷◌, [], map, sym, ap, arith}
 use Rattle.std.proofs.lemmas.Grind.{common_steps}
-use Rattle.asn1_blocks.specs.TreeOrder.{stacked}
+use Rattle.asn1_blocks.specs.Inner.TreeOrder.{stacked}
 use Rattle.asn1_blocks.proofs.TreeOrders.{below_push, none_in}
 use Rattle.asn1_blocks.proofs.walk.TreeWalk.enter.Goals as goal
 

@@ -1,5 +1,5 @@
 use Rattle.std.proofs.Common.{◌≡◌, length}
-use Rattle.asn1_blocks.specs.TreeOrder.{ahead}
+use Rattle.asn1_blocks.specs.Inner.TreeOrder.{ahead}
 use Rattle.asn1_blocks.proofs.walk.TreeWalk.next.Given as goal
 
 abbrev pub invariant-loop-block : goal.invariant-loop-block

@@ -12,28 +12,28 @@ returns-clause-found c = IfSome_then c.moment_from.result c.moment_from.ensures.
     let contents = c.args.contents.now in
     let second = c.split_at.result.0.now in
     let end = c.split_at.result.1.now in
-    let f = c.in_ok-nanosecond.ensures.found in
+    let (digits, ends, is) = c.in_ok-nanosecond.ensures.found in
     let s : second ≡ to_second (moment_of d) = second_spelled second c.in_ok-high.field-0 c.in_ok-low.field-0 c.in_ok-nanosecond.nanosecond
     (moment_of d) c.split_at.ensures.front_len c.in_ok-high.ensures.found c.in_ok-low.ensures.found p in
     record {
       valid = p.valid;
-      digits = f.0;
+      digits = digits;
       end = end;
       octets = sym (take-append-drop 14 contents)
           ∙ (ap (λ z. z ++ drop 14 contents) (sym c.split_at.ensures.front ∙ s) ∙ ap (λ z. to_second (moment_of d) ++ z) (sym c.split_at.ensures.back));
-      is_end = f.1;
-      nanosecond = p.nanosecond_is ∙ f.2;
+      is_end = ends;
+      nanosecond = p.nanosecond_is ∙ is;
     })
 
 pub returns-clause-none : goal.returns-clause-none
 returns-clause-none c = none_then c.moment_from.result c.moment_from.ensures.none (λ no m u.
     let second = c.split_at.result.0.now in
     let end = c.split_at.result.1.now in
-    let f = c.in_ok-nanosecond.ensures.found in
+    let (digits, ends, is) = c.in_ok-nanosecond.ensures.found in
     let s : second ≡ to_second m = c.split_at.ensures.front ∙ ap (take 14) u.octets in
     let b : end ≡ u.end = c.split_at.ensures.back ∙ ap (drop 14) u.octets in
-    let d : u.digits ≡ f.0 = end_alone end u.digits f.0 (subst (λ z. IsEnd u.digits z) (sym b) u.is_end) f.1 in
-    let n : m.nanosecond ≡ c.in_ok-nanosecond.nanosecond = u.nanosecond ∙ (ap (fraction_number tenth) d ∙ sym f.2) in
+    let d : u.digits ≡ digits = end_alone end u.digits digits (subst (λ z. IsEnd u.digits z) (sym b) u.is_end) ends in
+    let n : m.nanosecond ≡ c.in_ok-nanosecond.nanosecond = u.nanosecond ∙ (ap (fraction_number tenth) d ∙ sym is) in
     no m (second_by_place
     second c.in_ok-high.field-0 c.in_ok-low.field-0 c.in_ok-nanosecond.nanosecond m u.valid n s
     c.in_ok-high.ensures.found c.in_ok-low.ensures.found))

@@ -6,9 +6,9 @@ use Rattle.std.proofs.Math.ListN.{length-set}
 use Rattle.std.specs.List.{sum}
 use Rattle.simple_asn1.specs.Canonical.{canonical}
 use Rattle.asn1_headers.specs.Header.{shortest_length}
-use Rattle.asn1_blocks.specs.TreeOrder.{IsInTreeOrder}
+use Rattle.asn1_blocks.specs.Inner.TreeOrder.{IsInTreeOrder}
 use Rattle.asn1_blocks.specs.View.{view}
-use Rattle.simple_asn1.specs.WriteWalk.{contents_size_of, measured_blocks, measured_sizes, own_size_of}
+use Rattle.simple_asn1.specs.Inner.WriteWalk.{contents_size_of, measured_blocks, measured_sizes, own_size_of}
 use Rattle.simple_asn1.specs.declared.write.measure.Measured.{Measured}
 use Rattle.asn1_blocks.proofs.TreeOrders.{order_drop}
 use Rattle.simple_asn1.proofs.WriteSteps.{length_canonical, length_contents, place_at, step_at, sum_back, total_of}

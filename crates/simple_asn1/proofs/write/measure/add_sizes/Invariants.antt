@@ -1,7 +1,7 @@
 use Rattle.std.proofs.Common.{◌≡◌, ◌++◌, ◌≤◌, List, length, map, take, drop}
 use Rattle.asn1_blocks.specs.declared.block.ASN1Block.{ASN1Block}
-use Rattle.asn1_blocks.specs.TreeOrder.{IsInTreeOrder}
-use Rattle.simple_asn1.specs.WriteWalk.{contents_size_of, measured_blocks, measured_sizes, own_size_of}
+use Rattle.asn1_blocks.specs.Inner.TreeOrder.{IsInTreeOrder}
+use Rattle.simple_asn1.specs.Inner.WriteWalk.{contents_size_of, measured_blocks, measured_sizes, own_size_of}
 use Rattle.simple_asn1.proofs.WriteSteps.{sizes_back}
 use Rattle.simple_asn1.proofs.write.measure.add_sizes.Given as goal
 

@@ -2,9 +2,9 @@ use Rattle.std.proofs.Common.{◌≡◌, ◌++◌, ◌∷◌, [], map, sym, ap, 
 use Rattle.std.proofs.lemmas.Grind.{common_steps}
 use Rattle.std.proofs.lemmas.List.{map_push}
 use Rattle.simple_asn1.specs.Canonical.{first_of, first_write_fault}
-use Rattle.asn1_blocks.specs.TreeOrder.{IsNext, ahead}
+use Rattle.asn1_blocks.specs.Inner.TreeOrder.{IsNext, ahead}
 use Rattle.asn1_blocks.specs.View.{views}
-use Rattle.simple_asn1.specs.WriteWalk.{measured_blocks, measured_sizes, own_size_of}
+use Rattle.simple_asn1.specs.Inner.WriteWalk.{measured_blocks, measured_sizes, own_size_of}
 use Rattle.simple_asn1.specs.declared.write.measure.Measured.{Measured}
 use Rattle.asn1_blocks.proofs.TreeOrders.{IsFound, fewer_ahead, found_all, found_next}
 use Rattle.simple_asn1.proofs.WriteSteps.{fault_next}

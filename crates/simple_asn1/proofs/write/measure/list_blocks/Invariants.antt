@@ -1,9 +1,9 @@
 use Rattle.std.proofs.Common.{◌≡◌, map}
 use Rattle.simple_asn1.specs.Canonical.{first_write_fault}
 use Rattle.asn1_blocks.specs.HeadersBegun.{all_blocks_in}
-use Rattle.asn1_blocks.specs.TreeOrder.{ahead}
+use Rattle.asn1_blocks.specs.Inner.TreeOrder.{ahead}
 use Rattle.asn1_blocks.specs.View.{views}
-use Rattle.simple_asn1.specs.WriteWalk.{measured_blocks, measured_sizes, own_size_of}
+use Rattle.simple_asn1.specs.Inner.WriteWalk.{measured_blocks, measured_sizes, own_size_of}
 use Rattle.asn1_blocks.proofs.TreeOrders.{IsFound}
 use Rattle.simple_asn1.proofs.write.measure.list_blocks.Given as goal
 

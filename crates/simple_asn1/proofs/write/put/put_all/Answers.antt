@@ -1,6 +1,6 @@
 use Rattle.std.proofs.Common.{take, subst, sym, arith}
 use Rattle.asn1_blocks.specs.View.{view}
-use Rattle.simple_asn1.specs.WriteWalk.{all_own_octets, measured_blocks, own_octets}
+use Rattle.simple_asn1.specs.Inner.WriteWalk.{all_own_octets, measured_blocks, own_octets}
 use Rattle.simple_asn1.proofs.WriteSteps.{own_at, own_fault_at, own_fits, size_at}
 use Rattle.simple_asn1.proofs.write.put.put_all.Goals as goal
 

@@ -1,5 +1,5 @@
 use Rattle.std.proofs.Common.{take}
-use Rattle.simple_asn1.specs.WriteWalk.{all_own_octets, measured_blocks}
+use Rattle.simple_asn1.specs.Inner.WriteWalk.{all_own_octets, measured_blocks}
 use Rattle.simple_asn1.proofs.write.put.put_all.Given as goal
 
 -- the octets of the blocks up to the place were put

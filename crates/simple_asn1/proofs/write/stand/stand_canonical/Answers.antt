@@ -1,5 +1,5 @@
 use Rattle.std.proofs.Common.{◌∙◌, ap, arith, subst, sym}
-use Rattle.asn1_blocks.specs.TreeOrder.{IsNext, ahead}
+use Rattle.asn1_blocks.specs.Inner.TreeOrder.{IsNext, ahead}
 use Rattle.simple_asn1.specs.Canonical.{all_canonical}
 use Rattle.asn1_blocks.specs.Grammar.{EncodesAll}
 use Rattle.asn1_blocks.specs.View.{view, views}
@@ -21,10 +21,10 @@ loop-walk-preserved c =
     let own = c.in-Some-after_own.ensures in
     let rest = c.in-Some-after_own.after.now in
     let few = c.loop-walk.invariant.few in
-    let d = past_own o c.loop-walk.rest.now rest c.in-Some.block.now before after few left n own in
+    let (p, next, goes) = past_own o c.loop-walk.rest.now rest c.in-Some.block.now before after few left n own in
     record {
       few = omega (arith, few, own_left (view c.in-Some.block.now) c.loop-walk.rest.now rest own);
-      decides = (d.0, d.1, λ g. whole (d.2 g));
+      decides = (p, next, λ g. whole (goes g));
     }
 
 pub loop-walk-init : goal.loop-walk-init

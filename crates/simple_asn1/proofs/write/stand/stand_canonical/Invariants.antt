@@ -1,7 +1,7 @@
 use Rattle.std.proofs.Common.{◌<◌, ◌^◌, length}
 use Rattle.simple_asn1.specs.Canonical.{all_canonical}
 use Rattle.asn1_blocks.specs.HeadersBegun.{all_blocks_in}
-use Rattle.asn1_blocks.specs.TreeOrder.{ahead}
+use Rattle.asn1_blocks.specs.Inner.TreeOrder.{ahead}
 use Rattle.asn1_blocks.specs.View.{views}
 use Rattle.simple_asn1.proofs.Stand.{Decides}
 use Rattle.simple_asn1.proofs.write.stand.stand_canonical.Given as goal

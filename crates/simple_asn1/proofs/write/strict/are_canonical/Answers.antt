@@ -2,7 +2,7 @@ use Rattle.std.proofs.Common.{◌≡◌, ◌∙◌, length, ap, refl, sym, true,
 use Rattle.simple_asn1.specs.Canonical.{all_canonical}
 use Rattle.asn1_numbers.specs.declared.sink.Comparison.{Comparison}
 use Rattle.asn1_blocks.specs.View.{views}
-use Rattle.simple_asn1.specs.WriteWalk.{all_own_octets, first_own_fault, measured_blocks}
+use Rattle.simple_asn1.specs.Inner.WriteWalk.{all_own_octets, first_own_fault, measured_blocks}
 use Rattle.simple_asn1.proofs.WriteSteps.{fault_order, own_order}
 use Rattle.simple_asn1.proofs.Strict.{compared_whole}
 use Rattle.simple_asn1.proofs.write.strict.are_canonical.Goals as goal

@@ -16,8 +16,8 @@ use Rattle.asn1_headers.specs.Header.{class_number, constructed_bit}
 use Rattle.asn1_blocks.specs.Contents.{group_tag}
 use Rattle.asn1_blocks.specs.Tree.{Tree, Trees, leaf, group, explicit, unknown, no_trees, more_trees, shape, shapes}
 use Rattle.asn1_blocks.specs.View.{view}
-use Rattle.asn1_blocks.specs.LeafEquality.{eqb_yes, yes_eqb, equal_bit, leaf_yes, leaf_same}
-use Rattle.asn1_blocks.specs.Equality.{same_tree, same_trees, same_block}
+use Rattle.asn1_blocks.specs.Inner.LeafEquality.{eqb_yes, yes_eqb, equal_bit, leaf_yes, leaf_same}
+use Rattle.asn1_blocks.specs.Inner.Equality.{same_tree, same_trees, same_block}
 
 equal_class : (c d : ASN1Class) → class_number c ≡ class_number d → c ≡ d
 equal_class Universal Universal e = refl

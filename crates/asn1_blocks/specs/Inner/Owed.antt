@@ -1,4 +1,4 @@
--- Orders to build blocks, and what they lead to. Only private contracts name these.
+-- Orders to build blocks, and what they lead to.
 use Rattle.std.specs.Prelude.{◌≡◌, ℕ, ◌-◌, true, List, [], ◌∷◌, ◌++◌, length, map, take, drop, slice_range}
 use Rattle.asn1_blocks.specs.declared.owed.Attempt.{Attempt}
 use Rattle.asn1_blocks.specs.declared.owed.Entry.{Entry}

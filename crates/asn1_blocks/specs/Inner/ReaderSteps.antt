@@ -1,4 +1,4 @@
--- The reader, and what its steps do. Only private contracts of `read` name these.
+-- The reader, and what its steps do.
 use Rattle.std.specs.Prelude.{◌≡◌, ◌≢◌, ℕ, ◌+◌, ◌*◌, ◌-◌, ◌<◌, ◌≤◌, ◌⊎◌, ◌++◌, true, List, [], ◌∷◌, length, reverse, map, take, drop, Result, Ok, Err, Option, Some, None}
 use Rattle.asn1_headers.specs.declared.header.ASN1Class.TheVariants.{Universal}
 use Rattle.asn1_blocks.specs.declared.parsed.Header.{Header}
@@ -20,8 +20,8 @@ use Rattle.asn1_headers.specs.Fault.{DecodeFault, OutOfMemoryOr}
 use Rattle.asn1_blocks.specs.Grammar.{EncodesAll}
 use Rattle.asn1_blocks.specs.FaultPlace.{BlocksFaultAt}
 use Rattle.asn1_blocks.specs.HeadersBegun.{HeadersBegun, IsReadInside}
-use Rattle.asn1_blocks.specs.OpenFrames.{Frame, Opened, Stopping}
-use Rattle.asn1_blocks.specs.Owed.{Leads, after_all, as_it_came}
+use Rattle.asn1_blocks.specs.Inner.OpenFrames.{Frame, Opened, Stopping}
+use Rattle.asn1_blocks.specs.Inner.Owed.{Leads, after_all, as_it_came}
 use Rattle.asn1_blocks.specs.Tree.{Tree, trees_of}
 use Rattle.asn1_blocks.specs.View.{view}
 

@@ -1,4 +1,4 @@
--- The blocks of trees in a list. Private contracts alone name these.
+-- The blocks of trees in a list.
 use Rattle.std.specs.Prelude.{◌≡◌, List, [], ◌∷◌, ◌++◌, map}
 use Rattle.asn1_blocks.specs.declared.block.ASN1Block.{ASN1Block}
 use Rattle.asn1_blocks.specs.declared.walk.TreeWalk.{TreeWalk}

@@ -1,4 +1,4 @@
--- Where encodings stand in octets. Only private contracts of the reader name these.
+-- Where encodings stand in octets.
 use Rattle.std.specs.Prelude.{ℕ, ◌-◌, ◌<◌, ◌≤◌, Bool, List, slice_range}
 use Rattle.asn1_headers.specs.declared.header.ASN1Class.{ASN1Class}
 use Rattle.asn1_blocks.specs.declared.parsed.Header.{Header}

@@ -1,4 +1,4 @@
--- Going over all blocks of a tree in a loop. Private contracts alone name these.
+-- Going over all blocks of a tree in a loop.
 use Rattle.std.specs.Prelude.{◌≢◌, ℕ}
 use Rattle.asn1_headers.specs.declared.header.ASN1Class.TheVariants.{Universal}
 use Rattle.asn1_blocks.specs.Tree.{Tree, leaf, group, explicit, unknown}

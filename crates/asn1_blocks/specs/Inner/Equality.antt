@@ -4,7 +4,7 @@ use Rattle.std.specs.Str.{bytes_eq}
 use Rattle.asn1_blocks.specs.declared.block.ASN1Block.{ASN1Block}
 use Rattle.asn1_headers.specs.Header.{class_number, constructed_bit}
 use Rattle.asn1_blocks.specs.Contents.{group_tag}
-use Rattle.asn1_blocks.specs.LeafEquality.{same_leaf}
+use Rattle.asn1_blocks.specs.Inner.LeafEquality.{same_leaf}
 use Rattle.asn1_blocks.specs.Tree.{Tree, Trees, leaf, group, explicit, unknown, no_trees, more_trees}
 use Rattle.asn1_blocks.specs.View.{view}
 

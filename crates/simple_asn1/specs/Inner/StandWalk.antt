@@ -1,10 +1,9 @@
--- Where a block's own octets stand in canonical form, whatever stands inside. Private contracts alone
--- name these.
+-- Where a block's own octets stand in canonical form, whatever stands inside.
 use Rattle.std.specs.Prelude.{◌≡◌, ℕ, ◌++◌, ◌<◌, ◌^◌, List, [], length}
 use Rattle.asn1_headers.specs.Header.{shortest_length}
 use Rattle.asn1_blocks.specs.Contents.{LeafContents, leaf_contents}
 use Rattle.asn1_blocks.specs.Tree.{Tree, leaf, group, explicit, unknown}
-use Rattle.simple_asn1.specs.WriteWalk.{identifier_of}
+use Rattle.simple_asn1.specs.Inner.WriteWalk.{identifier_of}
 
 -- the contents octets without those of the blocks inside: if they mean the leaf, they are those that
 -- are written of it

@@ -1,4 +1,4 @@
--- The frames that are open while a document is read. Only private contracts of `read` name these.
+-- The frames that are open while a document is read.
 use Rattle.std.specs.Prelude.{◌≡◌, ◌≢◌, ℕ, ◌+◌, ◌-◌, ◌<◌, ◌≤◌, Bool, true, List, [], ◌∷◌, length, slice_range}
 use Rattle.asn1_blocks.specs.declared.block.GroupKind.{GroupKind}
 use Rattle.asn1_headers.specs.declared.header.ASN1Class.TheVariants.{Universal}
@@ -12,7 +12,7 @@ use Rattle.asn1_blocks.specs.Contents.{group_tag}
 use Rattle.asn1_blocks.specs.Grammar.{EncodesAll}
 use Rattle.asn1_blocks.specs.FaultPlace.{BlockFaultAt}
 use Rattle.asn1_blocks.specs.HeadersBegun.{HeadersBegun}
-use Rattle.asn1_blocks.specs.HeaderPlaces.{EncodingBetween}
+use Rattle.asn1_blocks.specs.Inner.HeaderPlaces.{EncodingBetween}
 
 -- contents octets that are being read, and the trees so far
 pub record Frame : Type 0 where

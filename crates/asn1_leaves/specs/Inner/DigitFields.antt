@@ -1,12 +1,13 @@
--- The fields of a moment by the places of their digits. Private contracts of `body` alone name
--- these.
+-- The fields of a moment by the places of their digits.
 use Rattle.std.specs.Prelude.{◌≡◌, ◌⊎◌, ◌∷◌, ℕ, ◌+◌, ◌/◌, ◌%◌, ◌<◌, pos, List, slice_index}
 use Rattle.asn1_leaves.specs.Contents.GeneralizedTime.{IsEnd, fraction_number, tenth}
 use Rattle.asn1_leaves.specs.Contents.Moment.{Moment, IsValid}
 
 -- the octets are the two digits of the number
-abbrev pub IsPair : ℕ → ℕ → ℕ → Type 0
-IsPair a b n = (n < 100) × (a ≡ 48 + n / 10) × (b ≡ 48 + n % 10)
+pub record IsPair (a b n : ℕ) : Type 0 where
+  pub small : n < 100
+  pub tens : a ≡ 48 + n / 10
+  pub units : b ≡ 48 + n % 10
 
 -- and so are those at the place
 abbrev pub PairAt : List ℕ → ℕ → ℕ → Type 0
