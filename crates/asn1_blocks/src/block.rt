@@ -1,6 +1,5 @@
 // The tree of blocks.
-ghost use Rattle.std.specs.Prelude.{◌≡◌, ◌↔◌, IfOk, IsTrue};
-ghost use Rattle.asn1_blocks.specs.Tree.{shape};
+ghost use Rattle.std.specs.Prelude.{◌≡◌};
 ghost use Rattle.asn1_blocks.specs.View.{tree_class, tree_offset, view};
 
 mod copy;
@@ -8,14 +7,11 @@ pub mod discard;
 pub mod parts;
 mod same;
 
-use crate::block::copy::copy;
-use crate::block::same::same;
 use asn1_headers::header::ASN1Class;
 use asn1_leaves::oid::OID;
 use asn1_numbers::number::big_int::BigInt;
 use asn1_numbers::number::big_uint::BigUint;
 use jiff::civil::DateTime;
-use std::alloc::{AllocError, Global};
 
 // Which blocks hold blocks one after another.
 #[derive(Drop)]
@@ -130,48 +126,5 @@ impl ASN1Block {
             ASN1Block::Explicit(_, offset, _, _) => *offset,
             ASN1Block::Unknown(_, _, offset, _, _) => *offset,
         }
-    }
-
-    /// The same block, offsets too. The only error is that memory ran out.
-    ///
-    /// Memory is taken for each box of the tree, each vector and text that is not empty, each
-    /// integer of more than 16 octets, and each tag number from 2^64 on: one allocation each. While
-    /// it is made, a list of references to all blocks is kept, 8 octets for each, and the copies
-    /// that wait for the block that holds them. The stack that is taken does not grow with the
-    /// nesting, also where memory runs out and what was copied is dropped.
-    ///
-    /// ```rust
-    /// use simple_asn1::ASN1Block;
-    /// use std::alloc::{AllocError, Global};
-    ///
-    /// // The block twice, one after the other.
-    /// fn twice(alloc: Global, block: &ASN1Block) -> Result<[ASN1Block; 2], AllocError> {
-    ///     Ok([block.clone(alloc)?, block.clone(alloc)?])
-    /// }
-    /// ```
-    pub fn clone(&self, alloc: Global) -> Result<ASN1Block, AllocError>
-        ensures { IfOk result (λ b. view b ≡ view self.now) }
-    {
-        copy(alloc, self)
-    }
-}
-
-/// Two blocks are equal where their variants and fields are; offsets are ignored at every depth.
-///
-/// Comparing takes no memory. It takes a call on the stack for each level of nesting, but for
-/// blocks that are the last of their list, and those in an `Explicit`: chains of these take none.
-impl PartialEq for ASN1Block {
-    ghost use Rattle.asn1_blocks.specs.Equality.{same_block};
-    ghost use Rattle.asn1_blocks.specs.EqualityLaws.{same_block_laws};
-
-    ghost eq = { same_block };
-
-    ghost laws = { same_block_laws };
-
-    fn eq(&self, other: &Self) -> bool
-        ensures same_shape { IsTrue result ↔ (shape (view self.now) ≡ shape (view other.now)) }
-        ensures decided { result ≡ same_block self.now other.now }
-    {
-        same(self, other)
     }
 }

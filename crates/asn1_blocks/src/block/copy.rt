@@ -109,7 +109,7 @@ fn copy_over(alloc: Global, b: &ASN1Block, held: Copies) -> Result<ASN1Block, Al
     }
 }
 
-pub fn copy(alloc: Global, b: &ASN1Block) -> Result<ASN1Block, AllocError>
+fn copy(alloc: Global, b: &ASN1Block) -> Result<ASN1Block, AllocError>
     ensures { IfOk result (λ r. view r ≡ view b.now) }
 {
     let order = in_tree_order(alloc, slice::from_ref(b))?;
@@ -126,4 +126,29 @@ pub fn copy(alloc: Global, b: &ASN1Block) -> Result<ASN1Block, AllocError>
         copies.made.push_reserved(copy);
     }
     Ok(copies.made.take_last())
+}
+
+impl ASN1Block {
+    /// The same block, offsets too. The only error is that memory ran out.
+    ///
+    /// Memory is taken for each box of the tree, each vector and text that is not empty, each
+    /// integer of more than 16 octets, and each tag number from 2^64 on: one allocation each. While
+    /// it is made, a list of references to all blocks is kept, 8 octets for each, and the copies
+    /// that wait for the block that holds them. The stack that is taken does not grow with the
+    /// nesting, also where memory runs out and what was copied is dropped.
+    ///
+    /// ```rust
+    /// use simple_asn1::ASN1Block;
+    /// use std::alloc::{AllocError, Global};
+    ///
+    /// // The block twice, one after the other.
+    /// fn twice(alloc: Global, block: &ASN1Block) -> Result<[ASN1Block; 2], AllocError> {
+    ///     Ok([block.clone(alloc)?, block.clone(alloc)?])
+    /// }
+    /// ```
+    pub fn clone(&self, alloc: Global) -> Result<ASN1Block, AllocError>
+        ensures { IfOk result (λ b. view b ≡ view self.now) }
+    {
+        copy(alloc, self)
+    }
 }

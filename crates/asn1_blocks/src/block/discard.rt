@@ -50,21 +50,7 @@ fn unnest(mut block: ASN1Block, mut rest: Vec<ASN1Block>) -> Vec<ASN1Block>
                 block = mem::replace(&mut items[0], ASN1Block::Sequence(0, rest));
                 rest = items;
             }
-            ASN1Block::Boolean(_, _)
-            | ASN1Block::Null(_)
-            | ASN1Block::Integer(_, _)
-            | ASN1Block::BitString(_, _, _)
-            | ASN1Block::OctetString(_, _)
-            | ASN1Block::ObjectIdentifier(_, _)
-            | ASN1Block::UTCTime(_, _)
-            | ASN1Block::GeneralizedTime(_, _)
-            | ASN1Block::UTF8String(_, _)
-            | ASN1Block::PrintableString(_, _)
-            | ASN1Block::TeletexString(_, _)
-            | ASN1Block::IA5String(_, _)
-            | ASN1Block::UniversalString(_, _)
-            | ASN1Block::BMPString(_, _)
-            | ASN1Block::Unknown(_, _, _, _, _) => return rest,
+            _ => return rest,
         }
     }
 }
@@ -80,21 +66,7 @@ pub fn discard_one(mut block: ASN1Block) {
                 discard(items);
                 return;
             }
-            ASN1Block::Boolean(_, _)
-            | ASN1Block::Null(_)
-            | ASN1Block::Integer(_, _)
-            | ASN1Block::BitString(_, _, _)
-            | ASN1Block::OctetString(_, _)
-            | ASN1Block::ObjectIdentifier(_, _)
-            | ASN1Block::UTCTime(_, _)
-            | ASN1Block::GeneralizedTime(_, _)
-            | ASN1Block::UTF8String(_, _)
-            | ASN1Block::PrintableString(_, _)
-            | ASN1Block::TeletexString(_, _)
-            | ASN1Block::IA5String(_, _)
-            | ASN1Block::UniversalString(_, _)
-            | ASN1Block::BMPString(_, _)
-            | ASN1Block::Unknown(_, _, _, _, _) => return,
+            _ => return,
         }
     }
 }
