@@ -9,7 +9,7 @@ ghost use Rattle.asn1_blocks.specs.View.{view, views};
 use crate::block::ASN1Block;
 use crate::body::{is_faithful_leaf, is_known};
 use crate::document::Document;
-use crate::walk::blocks_inside;
+use crate::walk::TreeWalk;
 use asn1_headers::error::ASN1DecodeErr;
 use asn1_headers::header::ASN1Class;
 use asn1_numbers::number::big_uint::BigUint;
@@ -41,32 +41,16 @@ impl ASN1Block {
     }
 }
 
-// Keeps what is left of each list that is begun.
 fn are_faithful(alloc: Global, blocks: &[ASN1Block]) -> Result<bool, AllocError>
     ensures { IfOk result (λ b. IsTrue b ↔ AreFaithful (views blocks.now)) }
 {
-    let mut outer = Vec::new(alloc);
-    let mut front = blocks;
-    loop {
-        match front.split_first() {
-            Some((block, rest)) => {
-                if !is_faithful_alone(alloc, block)? {
-                    return Ok(false);
-                }
-                let held = blocks_inside(block);
-                if held.is_empty() {
-                    front = rest;
-                } else {
-                    outer.push(rest)?;
-                    front = held;
-                }
-            }
-            None => match outer.pop() {
-                Some(rest) => front = rest,
-                None => return Ok(true),
-            },
+    let mut walk = TreeWalk::over(alloc, blocks);
+    while let Some(block) = walk.next()? {
+        if !is_faithful_alone(alloc, block)? {
+            return Ok(false);
         }
     }
+    Ok(true)
 }
 
 // Whether the block is faithful as far as those inside it are.

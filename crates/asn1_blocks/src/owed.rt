@@ -7,7 +7,7 @@ ghost use Rattle.asn1_blocks.specs.Owed.{after, after_all, around};
 
 use crate::block::discard::discard_one;
 use crate::block::{ASN1Block, GroupKind};
-use crate::held::HeldBlocks;
+use crate::held::{HeldBlocks, boxed};
 use asn1_headers::error::ASN1DecodeErr;
 use asn1_headers::header::ASN1Class;
 use asn1_numbers::number::big_uint::BigUint;
@@ -64,16 +64,9 @@ pub fn explicit_block(
 ) -> Result<ASN1Block, AllocError>
     ensures { IfOk result (λ b. view b ≡ around attempt (view item)) }
 {
-    match Box::new(alloc, item) {
-        Ok(item) => {
-            let Attempt { class, offset, tag } = attempt;
-            Ok(ASN1Block::Explicit(class, offset, tag, item))
-        }
-        Err(failed) => {
-            discard_one(failed.value);
-            Err(AllocError)
-        }
-    }
+    let item = boxed(alloc, item)?;
+    let Attempt { class, offset, tag } = attempt;
+    Ok(ASN1Block::Explicit(class, offset, tag, item))
 }
 
 // A constructed encoding that stays as it came.

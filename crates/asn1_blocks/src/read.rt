@@ -519,16 +519,13 @@ fn close(
 fn around_block(
     alloc: Global,
     attempt: Attempt,
-    mut blocks: HeldBlocks,
+    blocks: HeldBlocks,
 ) -> Result<ASN1Block, AllocError>
     requires { length blocks ≡ 1 }
     ensures { IfOk result (λ b. (item : ASN1Block) × (blocks ≡ item ∷ [])
         × (view b ≡ around attempt (view item))) }
 {
-    match blocks.pop() {
-        Some(item) => explicit_block(alloc, attempt, item),
-        None => unreachable!(),
-    }
+    explicit_block(alloc, attempt, blocks.into_only())
 }
 
 // An attempt ended, around which so many frames stand: whether one of these is an attempt.
