@@ -119,12 +119,6 @@ pub record FaultyDocument (octets : List ℕ) (e : DecodeFault) (offset n : ℕ)
   pub fault : BlocksFaultAt octets e offset
   pub begun : HeadersBegun octets n
 
--- where the end of the innermost attempt leads a fault: reading goes on, memory ran out, or it is
--- that of the document
-abbrev pub Answered : {A : Type 0} → List ℕ → Result A ASN1DecodeErr → Reader → ℕ → ℕ → Type 0
-Answered octets (Ok x) r n most = GoesOn octets r n most
-Answered octets (Err e) r n most = OutOfMemoryOr (λ fault. FaultyDocument octets fault r.index n) e
-
 -- the whole document was read
 pub record Ended (octets : List ℕ) (r : Reader) (n : ℕ) : Type 0 where
   pub trees : List (Tree ℕ)

@@ -7,7 +7,7 @@ ghost use Rattle.asn1_blocks.specs.FaultPlace.{FirstFaultAt};
 ghost use Rattle.asn1_blocks.specs.Grammar.{Document, FirstFault};
 ghost use Rattle.asn1_blocks.specs.HeadersBegun.{HeadersBegun};
 ghost use Rattle.asn1_blocks.specs.Owed.{after_all, around};
-ghost use Rattle.asn1_blocks.specs.ReaderSteps.{Answered, Faulty, IsKept, IsOpened, IsOwed, IsPut, IsReadAs, Reading, Reads, Refused, Stepped, TurnTaken, Turned, attempt_of, left};
+ghost use Rattle.asn1_blocks.specs.ReaderSteps.{Faulty, IsKept, IsOpened, IsOwed, IsPut, IsReadAs, Reading, Reads, Refused, Stepped, TurnTaken, Turned, attempt_of, left};
 ghost use Rattle.asn1_blocks.specs.Tree.{Trees};
 ghost use Rattle.asn1_blocks.specs.View.{view, views};
 
@@ -346,13 +346,7 @@ fn fail(alloc: Global, octets: &[u8], reader: &mut Reader, e: ASN1DecodeErr) -> 
         reader.fault = e;
         return Turn::Stop;
     }
-    match refuse(alloc, octets, reader, e) {
-        Ok(()) => Turn::More,
-        Err(e) => {
-            reader.fault = e;
-            Turn::Stop
-        }
-    }
+    refuse(alloc, octets, reader, e)
 }
 
 fn is_out_of_memory(e: &ASN1DecodeErr) -> bool
@@ -566,16 +560,11 @@ fn keep(
 
 // A fault in the innermost frame drops the frames inside the innermost attempt, and that one stays as it came. Outside
 // all attempts it is the answer.
-fn refuse(
-    alloc: Global,
-    octets: &[u8],
-    reader: &mut Reader,
-    e: ASN1DecodeErr,
-) -> Result<(), ASN1DecodeErr>
+fn refuse(alloc: Global, octets: &[u8], reader: &mut Reader, e: ASN1DecodeErr) -> Turn
     requires small { length octets.now < 2 ^ 64 }
     requires faulty { (n most : ℕ) × Faulty octets.now reader.old (fault_of e) n most }
-    ensures answered { (n most : ℕ) → Faulty octets.now reader.old (fault_of e) n most
-        → Answered octets.now result reader.new n most }
+    ensures turned { (n most : ℕ) → Faulty octets.now reader.old (fault_of e) n most
+        → Turned octets.now result reader.new n most }
 {
     while let Some(parent) = reader.outer.pop() {
         let OpenFrame {
@@ -587,10 +576,15 @@ fn refuse(
             let depth = reader.outer.len();
             let inside = leave(&mut reader.outermost, depth);
             reader.entries.truncate(begin);
-            return Ok(keep(alloc, octets, reader, inside, attempt, start, end)?);
+            let Ok(()) = keep(alloc, octets, reader, inside, attempt, start, end) else {
+                reader.fault = ASN1DecodeErr::OutOfMemory;
+                return Turn::Stop;
+            };
+            return Turn::More;
         }
     }
-    Err(e)
+    reader.fault = e;
+    Turn::Stop
 }
 
 // The attempt that the frame is, where a fault inside ends.

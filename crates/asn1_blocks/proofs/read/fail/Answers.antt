@@ -15,12 +15,7 @@ refuse-requires-clause-faulty c =
           c.requires.failed.2 other,
     )
 
-pub returns-in-Ok : goal.returns-in-Ok
-returns-in-Ok c =
+pub returns : goal.returns
+returns c =
     let other : c.args.e ≡ OutOfMemory → ⊥ = grind (arith, common_steps) in
-    record { turned = λ n most w. c.in-Ok.ensures.answered n most (fault_here (λ z. Faulty c.args.octets.now c.args.reader.now z n most) c.args.e w other) }
-
-pub returns-in-Err : goal.returns-in-Err
-returns-in-Err c =
-    let other : c.args.e ≡ OutOfMemory → ⊥ = grind (arith, common_steps) in
-    record { turned = λ n most w. c.in-Err.ensures.answered n most (fault_here (λ z. Faulty c.args.octets.now c.args.reader.now z n most) c.args.e w other) }
+    record { turned = λ n most w. c.refuse.ensures.turned n most (fault_here (λ z. Faulty c.args.octets.now c.args.reader.now z n most) c.args.e w other) }

@@ -56,7 +56,7 @@ keep-requires-clause-within c =
 pub returns-in-Some-as_attempt : goal.returns-in-Some-as_attempt
 returns-in-Some-as_attempt c =
     record {
-      answered = λ n most w.
+      turned = λ n most w.
           let octets = c.args.octets.now in
           let r = c.loop-parent.reader in
           let k = c.replace-kind.result in
@@ -79,7 +79,7 @@ returns-in-Some-as_attempt c =
             fault = r.fault;
           } in
           let near = taken_nearer (length octets) r.inner k c.in-Some.parent r.outer.items after own is in
-          kept_goes_on octets a c.keep.new.reader x k.extent.start k.extent.end n most c.in_ok-keep.ensures.kept c.in_ok-keep.ensures.index
+          kept_goes_on octets a c.keep.new.reader x k.extent.start k.extent.end n most c.in-Ok.ensures.kept c.in-Ok.ensures.index
           (omega (arith, near, before.nearer)) (subst (λ z. Ready octets z h (reverse after) k.extent.end (as_it_came octets x k.extent.start k.extent.end)
           n) (sym c.truncate.ensures.items) E);
     }
@@ -87,7 +87,7 @@ returns-in-Some-as_attempt c =
 pub returns : goal.returns
 returns c =
     record {
-      answered = λ n most w.
+      turned = λ n most w.
           let r = c.loop-parent.reader in
           let before = c.loop-parent.invariant.faulty n most w in
           let none : length r.outer.items ≡ 0 = grind (arith, common_steps) in
