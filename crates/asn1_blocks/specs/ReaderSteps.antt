@@ -5,10 +5,10 @@ use Rattle.asn1_blocks.specs.declared.parsed.Header.{Header}
 use Rattle.asn1_headers.specs.declared.error.ASN1DecodeErr.{ASN1DecodeErr}
 use Rattle.asn1_blocks.specs.declared.block.ASN1Block.{ASN1Block}
 use Rattle.asn1_blocks.specs.declared.owed.Attempt as owed
-use Rattle.asn1_blocks.specs.declared.owed.Entry.{Entry}
-use Rattle.asn1_blocks.specs.declared.owed.Entry.TheVariants.{Ready, Kept}
-use Rattle.asn1_blocks.specs.declared.read.Contents.{Contents}
-use Rattle.asn1_blocks.specs.declared.read.Contents.TheVariants.{Blocks, Leaf}
+use Rattle.asn1_blocks.specs.declared.owed.Owed.{Owed}
+use Rattle.asn1_blocks.specs.declared.owed.Owed.TheVariants.{Ready, Kept}
+use Rattle.asn1_blocks.specs.declared.read.ReadAs.{ReadAs}
+use Rattle.asn1_blocks.specs.declared.read.ReadAs.TheVariants.{Blocks, Leaf}
 use Rattle.asn1_blocks.specs.declared.read.FrameKind.{FrameKind}
 use Rattle.asn1_blocks.specs.declared.read.FrameKind.TheVariants.{Whole, Group, Attempt}
 use Rattle.asn1_blocks.specs.declared.read.OpenFrame.{OpenFrame}
@@ -34,7 +34,7 @@ IsKindOf (Attempt a) h offset =
     (a ≡ record { class = h.class; offset = offset; tag = h.tag })
 
 -- what the contents octets of such an encoding are read as
-abbrev pub IsReadAs : Header → ℕ → Contents → Type 0
+abbrev pub IsReadAs : Header → ℕ → ReadAs → Type 0
 IsReadAs h offset (Blocks kind) = IsKindOf kind h offset
 IsReadAs h offset (Leaf same) = (same ≡ h) × (IsReadInside h.class h.constructed h.tag → ⊥)
 
@@ -44,18 +44,17 @@ attempt_of Whole = None
 attempt_of (Group g o) = None
 attempt_of (Attempt a) = Some a
 
--- the frame, whose entries are the last of these, has read these trees: its blocks, and those that
--- its entries lead to
-pub record Holds (octets : List ℕ) (es : List Entry) (f : OpenFrame)
+-- the frame, which owes the last of these, has read these trees: its blocks, and those that what it owes leads to
+pub record Holds (octets : List ℕ) (es : List Owed) (f : OpenFrame)
     (ts : List (Tree ℕ)) : Type 0 where
   pub begin : f.begin ≤ length es
   pub owed : List (Tree ℕ)
   pub leads : Leads octets (drop f.begin es) owed
-  pub later : f.later ≡ length owed
+  pub owes : f.owes ≡ length owed
   pub trees : ts ≡ map view f.blocks ++ owed
 
--- and so do the frames around it, the innermost first, whose entries are those before
-abbrev pub AllHold : List ℕ → List Entry → OpenFrame → List OpenFrame → List (Tree ℕ)
+-- and so do the frames around it, the innermost first, which owe those before
+abbrev pub AllHold : List ℕ → List Owed → OpenFrame → List OpenFrame → List (Tree ℕ)
     → List (List (Tree ℕ)) → Type 0
 AllHold octets es f [] ts [] = Holds octets es f ts × (f.begin ≡ 0)
 AllHold octets es f [] ts (us ∷ rest) = ⊥
@@ -72,7 +71,7 @@ frames (f ∷ fs) [] = []
 frames (f ∷ fs) (ts ∷ rest) = frame f ts ∷ frames fs rest
 
 -- the frames are open and all is read up to the place; n headers were begun
-pub record Reads (octets : List ℕ) (es : List Entry) (f : OpenFrame) (gs : List OpenFrame)
+pub record Reads (octets : List ℕ) (es : List Owed) (f : OpenFrame) (gs : List OpenFrame)
     (place n : ℕ) : Type 0 where
   pub trees : List (Tree ℕ)
   pub outer : List (List (Tree ℕ))
@@ -80,16 +79,16 @@ pub record Reads (octets : List ℕ) (es : List Entry) (f : OpenFrame) (gs : Lis
   pub opened : Opened octets (frame f trees) (frames gs outer) place n
 
 abbrev pub Reading : List ℕ → Reader → ℕ → Type 0
-Reading octets r n = Reads octets r.entries.items r.inner (reverse r.outer.items) r.index n
+Reading octets r n = Reads octets r.owed.items r.inner (reverse r.outer.items) r.index n
 
--- a fault is in the frame, of a block at the offset; of the entries of this frame and those around
--- some at the end are left over
-pub record Refused (octets : List ℕ) (es : List Entry) (f : OpenFrame) (gs : List OpenFrame)
+-- a fault is in the frame, of a block at the offset; of what this frame and those around owe,
+-- some at the end is left over
+pub record Refused (octets : List ℕ) (es : List Owed) (f : OpenFrame) (gs : List OpenFrame)
     (e : DecodeFault) (offset n : ℕ) : Type 0 where
   pub trees : List (Tree ℕ)
   pub outer : List (List (Tree ℕ))
-  pub front : List Entry
-  pub more : List Entry
+  pub front : List Owed
+  pub more : List Owed
   pub whole : es ≡ front ++ more
   pub holds : AllHold octets front f gs trees outer
   pub stopping : Stopping octets (frame f trees) (frames gs outer) e offset n
@@ -101,7 +100,7 @@ left size index outer = 2 * (size - index) + length outer
 -- a fault in the innermost frame, of the block that the reader has come to, with less left to do
 -- behind it
 pub record Faulty (octets : List ℕ) (r : Reader) (e : DecodeFault) (n most : ℕ) : Type 0 where
-  pub refused : Refused octets r.entries.items r.inner (reverse r.outer.items) e r.index n
+  pub refused : Refused octets r.owed.items r.inner (reverse r.outer.items) e r.index n
   pub nearer : left (length octets) r.inner.extent.end r.outer.items ≤ most
 
 -- reading goes on, with less left to do
@@ -122,7 +121,7 @@ pub record FaultyDocument (octets : List ℕ) (e : DecodeFault) (offset n : ℕ)
 -- the whole document was read
 pub record Ended (octets : List ℕ) (r : Reader) (n : ℕ) : Type 0 where
   pub trees : List (Tree ℕ)
-  pub are : map view r.inner.blocks ++ after_all octets r.entries.items [] ≡ trees
+  pub are : map view r.inner.blocks ++ after_all octets r.owed.items [] ≡ trees
   pub encoded : EncodesAll 0 octets (trees_of trees)
   pub begun : HeadersBegun octets n
 
@@ -143,19 +142,19 @@ pub record TurnTaken (octets : List ℕ) (t : Turn) (r : Reader) (count base mos
 pub record IsPushed (a : Reader) (b : ASN1Block) (r : Reader) : Type 0 where
   pub extent : r.inner.extent ≡ a.inner.extent
   pub begin : r.inner.begin ≡ a.inner.begin
-  pub later : r.inner.later ≡ a.inner.later
-  pub none : a.inner.later ≡ 0
+  pub owes : r.inner.owes ≡ a.inner.owes
+  pub none : a.inner.owes ≡ 0
   pub blocks : r.inner.blocks ≡ a.inner.blocks ++ b ∷ []
-  pub entries : r.entries.items ≡ a.entries.items
+  pub owed : r.owed.items ≡ a.owed.items
   pub outer : r.outer.items ≡ a.outer.items
 
--- the innermost frame has one tree more, which one entry more leads to
-pub record IsOwed (a : Reader) (e : Entry) (r : Reader) : Type 0 where
+-- the innermost frame has one tree more, which is owed
+pub record IsOwed (a : Reader) (e : Owed) (r : Reader) : Type 0 where
   pub extent : r.inner.extent ≡ a.inner.extent
   pub begin : r.inner.begin ≡ a.inner.begin
-  pub later : r.inner.later ≡ a.inner.later + 1
+  pub owes : r.inner.owes ≡ a.inner.owes + 1
   pub blocks : r.inner.blocks ≡ a.inner.blocks
-  pub entries : r.entries.items ≡ a.entries.items ++ e ∷ []
+  pub owed : r.owed.items ≡ a.owed.items ++ e ∷ []
   pub outer : r.outer.items ≡ a.outer.items
 
 -- a block was put there, in one way or the other
@@ -172,4 +171,4 @@ IsKept octets a k start end r =
 pub record IsOpened (a : Reader) (f : OpenFrame) (r : Reader) : Type 0 where
   pub inner : r.inner ≡ f
   pub outer : r.outer.items ≡ a.outer.items ++ a.inner ∷ []
-  pub entries : r.entries.items ≡ a.entries.items
+  pub owed : r.owed.items ≡ a.owed.items

@@ -15,7 +15,7 @@ use crate::block::{ASN1Block, GroupKind};
 use crate::body::leaf_block;
 use crate::encoding::encoding_count;
 use crate::held::HeldBlocks;
-use crate::owed::{Attempt, Entry, build, explicit_block, group_block, kept_block};
+use crate::owed::{Attempt, Owed, build, explicit_block, group_block, kept_block};
 use crate::parsed::{Header, header_within};
 use asn1_headers::error::{ASN1DecodeErr, LocatedErr};
 use asn1_headers::header::{ASN1Class, HeaderCount};
@@ -23,7 +23,7 @@ use std::alloc::{AllocError, Global};
 use std::mem;
 
 // Contents octets up to this length are copied at once, also inside an open attempt, where longer ones are owed: copies
-// that may be dropped again cost at most so many octets for each header, and an entry costs more than so small a copy.
+// that may be dropped again cost at most so many octets for each header, and to owe one costs more than so small a copy.
 const COPIED_AT_ONCE: usize = 256;
 
 // What the contents octets of a frame are.
@@ -44,14 +44,14 @@ struct Extent {
     end: usize,
 }
 
-// Contents octets that are being read, and their blocks: the first of them, and how many more its entries are to
-// build. These stand behind so many entries of the frames around.
+// Contents octets that are being read, and their blocks: the first of them, and how many more are owed. These stand
+// behind so many that the frames around it owe.
 #[derive(Drop)]
 struct OpenFrame {
     extent: Extent,
     blocks: HeldBlocks,
     begin: usize,
-    later: usize,
+    owes: usize,
 }
 
 // The innermost frame, those around it, the place reached, and what is owed.
@@ -60,7 +60,7 @@ struct Reader {
     inner: OpenFrame,
     outer: Vec<OpenFrame>,
     index: usize,
-    entries: Vec<Entry>,
+    owed: Vec<Owed>,
     // How many frames stand around the outermost open attempt. No answer depends on it: it says which contents octets
     // are copied at once, and which are owed.
     outermost: Option<usize>,
@@ -70,7 +70,7 @@ struct Reader {
 
 // What contents octets are read as: blocks in a frame, or a leaf with this header.
 #[derive(Drop)]
-enum Contents {
+enum ReadAs {
     Blocks(FrameKind),
     Leaf(Header),
 }
@@ -89,9 +89,8 @@ enum Turn {
 /// constructed encoding of another class than Universal gives `Explicit` where its contents are exactly one block, and
 /// `Unknown` otherwise (X.690 8.1.1, 8.14): a fault inside refuses nothing.
 ///
-/// Memory is taken for the blocks, for a frame for each level of nesting that is open, and for an entry for each block
-/// that waits until it is known whether an encoding around it stays `Unknown`. Room for the blocks of a frame is reserved
-/// before they are read: for as many as its headers announce, at most one for two octets.
+/// Memory is taken for the blocks, for a frame for each level of nesting that is open, and for each block that is owed
+/// until it is known whether an encoding around it stays `Unknown`. Room for the blocks of a frame is reserved before they are read: for as many as its headers announce, at most one for two octets.
 ///
 /// # Errors
 /// The first fault from the left: `EmptyBuffer`, `LengthTooLarge`, `Incomplete`, `BadBooleanLength`,
@@ -232,11 +231,11 @@ fn read_blocks(
             },
             blocks,
             begin: 0,
-            later: 0,
+            owes: 0,
         },
         outer: Vec::new(alloc),
         index: 0,
-        entries: Vec::new(alloc),
+        owed: Vec::new(alloc),
         outermost: None,
         fault: ASN1DecodeErr::OutOfMemory,
     };
@@ -269,7 +268,7 @@ fn whole_document(
     reader: Reader,
 ) -> Result<Vec<ASN1Block>, LocatedErr>
     ensures blocks { IfOk result (λ blocks. map view blocks.items
-        ≡ map view reader.inner.blocks ++ after_all octets.now reader.entries.items []) }
+        ≡ map view reader.inner.blocks ++ after_all octets.now reader.owed.items []) }
     ensures memory { IfErr result (λ e. e.error ≡ OutOfMemory) }
 {
     match all_blocks(alloc, octets, reader) {
@@ -281,11 +280,11 @@ fn whole_document(
 // The blocks of the document, which was read to its end.
 fn all_blocks(alloc: Global, octets: &[u8], reader: Reader) -> Result<Vec<ASN1Block>, AllocError>
     ensures { IfOk result (λ blocks. map view blocks.items
-        ≡ map view reader.inner.blocks ++ after_all octets.now reader.entries.items []) }
+        ≡ map view reader.inner.blocks ++ after_all octets.now reader.owed.items []) }
 {
-    let Reader { inner, entries, .. } = reader;
+    let Reader { inner, owed, .. } = reader;
     let OpenFrame { mut blocks, .. } = inner;
-    let others = build(alloc, octets, entries)?;
+    let others = build(alloc, octets, owed)?;
     blocks.append(others)?;
     Ok(blocks.into_vec())
 }
@@ -377,17 +376,17 @@ fn read_next(
     let header = header_within(alloc, octets, start, end, offset, count)?;
     let (start, end) = (header.start, header.end);
     let contents = &octets[start..end];
-    match contents_of(header, offset) {
-        Contents::Blocks(kind) => {
+    match read_as(header, offset) {
+        ReadAs::Blocks(kind) => {
             let frame = OpenFrame {
                 extent: Extent { kind, start, end },
                 blocks: HeldBlocks::with_capacity(alloc, encoding_count(contents))?,
-                begin: reader.entries.len(),
-                later: 0,
+                begin: reader.owed.len(),
+                owes: 0,
             };
             Ok(open(reader, frame)?)
         }
-        Contents::Leaf(header) => {
+        ReadAs::Leaf(header) => {
             let block = leaf_block(alloc, header, contents, offset)?;
             Ok(put(reader, end, block)?)
         }
@@ -396,21 +395,21 @@ fn read_next(
 
 // What the contents octets of an encoding at the offset are read as.
 #[inline(always)]
-fn contents_of(header: Header, offset: usize) -> Contents
+fn read_as(header: Header, offset: usize) -> ReadAs
     ensures { IsReadAs header offset result }
 {
     match header.class {
         ASN1Class::Universal => match header.tag.to_u64() {
-            Some(16) => Contents::Blocks(FrameKind::Group(GroupKind::Sequence, offset)),
-            Some(17) => Contents::Blocks(FrameKind::Group(GroupKind::Set, offset)),
-            _ => Contents::Leaf(header),
+            Some(16) => ReadAs::Blocks(FrameKind::Group(GroupKind::Sequence, offset)),
+            Some(17) => ReadAs::Blocks(FrameKind::Group(GroupKind::Set, offset)),
+            _ => ReadAs::Leaf(header),
         },
         _ => {
             if !header.constructed {
-                return Contents::Leaf(header);
+                return ReadAs::Leaf(header);
             }
             let Header { class, tag, .. } = header;
-            Contents::Blocks(FrameKind::Attempt(Attempt { class, offset, tag }))
+            ReadAs::Blocks(FrameKind::Attempt(Attempt { class, offset, tag }))
         }
     }
 }
@@ -437,27 +436,27 @@ fn put(reader: &mut Reader, end: usize, block: ASN1Block) -> Result<(), AllocErr
     ensures put { OnOk result (IsPut reader.old block reader.new) }
     ensures index { OnOk result (reader.new.index ≡ end) }
 {
-    if reader.inner.later != 0 {
-        return owe(reader, end, Entry::Ready(block));
+    if reader.inner.owes != 0 {
+        return owe(reader, end, Owed::Ready(block));
     }
     reader.inner.blocks.push(block)?;
     reader.index = end;
     Ok(())
 }
 
-// Puts an entry at the end of the innermost frame, and goes on after it.
+// Owes a block at the end of the innermost frame, and goes on after it.
 #[cold]
 #[inline(never)]
-fn owe(reader: &mut Reader, end: usize, entry: Entry) -> Result<(), AllocError>
-    ensures owed { OnOk result (IsOwed reader.old entry reader.new) }
+fn owe(reader: &mut Reader, end: usize, one: Owed) -> Result<(), AllocError>
+    ensures owed { OnOk result (IsOwed reader.old one reader.new) }
     ensures index { OnOk result (reader.new.index ≡ end) }
 {
-    let Some(later) = reader.inner.later.checked_add(1) else {
+    let Some(owes) = reader.inner.owes.checked_add(1) else {
         return Err(AllocError);
     };
-    reader.entries.reserve(1)?;
-    reader.entries.push_reserved(entry);
-    reader.inner.later = later;
+    reader.owed.reserve(1)?;
+    reader.owed.push_reserved(one);
+    reader.inner.owes = owes;
     reader.index = end;
     Ok(())
 }
@@ -471,9 +470,9 @@ fn close(
     parent: OpenFrame,
 ) -> Result<(), ASN1DecodeErr>
     requires small { length octets.now < 2 ^ 64 }
-    requires reading { (n : ℕ) × Reads octets.now reader.old.entries.items reader.old.inner
+    requires reading { (n : ℕ) × Reads octets.now reader.old.owed.items reader.old.inner
         (parent ∷ reverse reader.old.outer.items) reader.old.inner.extent.end n }
-    ensures stepped { (n : ℕ) → Reads octets.now reader.old.entries.items reader.old.inner
+    ensures stepped { (n : ℕ) → Reads octets.now reader.old.owed.items reader.old.inner
         (parent ∷ reverse reader.old.outer.items) reader.old.inner.extent.end n
         → Stepped octets.now result reader.new n
         (left (length octets.now) reader.old.inner.extent.end (parent ∷ reader.old.outer.items)) }
@@ -482,27 +481,27 @@ fn close(
         extent: Extent { kind, start, end },
         blocks,
         begin,
-        later,
+        owes,
     } = mem::replace(&mut reader.inner, parent);
     match kind {
         FrameKind::Whole => unreachable!(),
         FrameKind::Group(group, offset) => {
-            if later != 0 {
-                return Ok(owe(reader, end, Entry::Group(group, offset, blocks, later))?);
+            if owes != 0 {
+                return Ok(owe(reader, end, Owed::Group(group, offset, blocks, owes))?);
             }
             Ok(put(reader, end, group_block(group, offset, blocks))?)
         }
         FrameKind::Attempt(attempt) => {
             let depth = reader.outer.len();
             let inside = leave(&mut reader.outermost, depth);
-            if later == 1 && blocks.len() == 0 {
-                return Ok(owe(reader, end, Entry::Explicit(attempt))?);
+            if owes == 1 && blocks.len() == 0 {
+                return Ok(owe(reader, end, Owed::Explicit(attempt))?);
             }
-            if later == 0 && blocks.len() == 1 {
+            if owes == 0 && blocks.len() == 1 {
                 let block = around_block(alloc, attempt, blocks)?;
                 return Ok(put(reader, end, block)?);
             }
-            reader.entries.truncate(begin);
+            reader.owed.truncate(begin);
             Ok(keep(alloc, octets, reader, inside, attempt, start, end)?)
         }
     }
@@ -552,7 +551,7 @@ fn keep(
     ensures index { OnOk result (reader.new.index ≡ end) }
 {
     if inside && end - start > COPIED_AT_ONCE {
-        return owe(reader, end, Entry::Kept(attempt, start, end));
+        return owe(reader, end, Owed::Kept(attempt, start, end));
     }
     let block = kept_block(alloc, attempt, &octets[start..end])?;
     put(reader, end, block)
@@ -575,7 +574,7 @@ fn refuse(alloc: Global, octets: &[u8], reader: &mut Reader, e: ASN1DecodeErr) -
         if let Some(attempt) = as_attempt(kind) {
             let depth = reader.outer.len();
             let inside = leave(&mut reader.outermost, depth);
-            reader.entries.truncate(begin);
+            reader.owed.truncate(begin);
             let Ok(()) = keep(alloc, octets, reader, inside, attempt, start, end) else {
                 reader.fault = ASN1DecodeErr::OutOfMemory;
                 return Turn::Stop;

@@ -36,7 +36,7 @@ reader_places octets r n w =
 
 -- a frame was opened at the header
 pub open_goes_on : (octets : List ℕ) (a r : Reader) (f : OpenFrame) (h : Header) (n : ℕ) → IsOpened a f r → r.index ≡ f.extent.start
-    → IsKindOf f.extent.kind h a.index → f.extent.start ≡ h.start → f.extent.end ≡ h.end → f.begin ≡ length a.entries.items → f.later ≡ 0 → f.blocks ≡ []
+    → IsKindOf f.extent.kind h a.index → f.extent.start ≡ h.start → f.extent.end ≡ h.end → f.begin ≡ length a.owed.items → f.owes ≡ 0 → f.blocks ≡ []
     → HeaderFound octets a.index a.inner.extent.end h → Reading octets a n → GoesOn octets r (n + 1) (left (length octets) a.index a.outer.items)
 open_goes_on octets a r f h n u i kind s e b z none found w =
     let outer = a.outer.items in
@@ -47,7 +47,7 @@ open_goes_on octets a r f h n u i kind s e b z none found w =
     let gs = frames (reverse outer) w.outer in
     let o = opened_open octets g (frame f []) gs a.index n refl headed (omega (arith, s, found.past)) (omega (arith, s, e, found.order))
     (omega (arith, e, found.fits)) w.opened in
-    let k = all_open octets a.entries.items f a.inner (reverse outer) w.trees w.outer b z none w.holds in
+    let k = all_open octets a.owed.items f a.inner (reverse outer) w.trees w.outer b z none w.holds in
     let around : reverse r.outer.items ≡ a.inner ∷ reverse outer = ap reverse u.outer ∙ reverse-append outer (a.inner ∷ []) in
     let all = w.trees ∷ w.outer in
     let l : length r.outer.items ≡ length outer + 1 = omega (arith, ap length u.outer, length-append outer (a.inner ∷ [])) in
@@ -56,9 +56,9 @@ open_goes_on octets a r f h n u i kind s e b z none found w =
       reading = record {
         trees = [];
         outer = all;
-        holds = subst (λ x. AllHold octets r.entries.items r.inner x [] all) (sym around)
-            (subst (λ x. AllHold octets x r.inner (a.inner ∷ reverse outer) [] all) (sym u.entries)
-            (subst (λ x. AllHold octets a.entries.items x (a.inner ∷ reverse outer) [] all) (sym u.inner) k));
+        holds = subst (λ x. AllHold octets r.owed.items r.inner x [] all) (sym around)
+            (subst (λ x. AllHold octets x r.inner (a.inner ∷ reverse outer) [] all) (sym u.owed)
+            (subst (λ x. AllHold octets a.owed.items x (a.inner ∷ reverse outer) [] all) (sym u.inner) k));
         opened = subst (λ x. Opened octets (frame r.inner []) (frames x all) r.index (n + 1)) (sym around)
             (subst (λ x. Opened octets (frame x []) (frames (a.inner ∷ reverse outer) all) r.index (n + 1)) (sym u.inner)
             (subst (λ x. Opened octets (frame f []) (frames (a.inner ∷ reverse outer) all) x (n + 1)) (sym i) o));
@@ -69,7 +69,7 @@ open_goes_on octets a r f h n u i kind s e b z none found w =
 -- a leaf stands at the header
 pub leaf_ready : (octets : List ℕ) (a : Reader) (h : Header) (b : ASN1Block) (n : ℕ) → HeaderFound octets a.index a.inner.extent.end h
     → (IsReadInside h.class h.constructed h.tag → ⊥) → Encodes a.index (slice_range octets a.index h.end) (view b) → Reading octets a n
-    → Ready octets a.entries.items a.inner (reverse a.outer.items) h.end (view b) (n + 1)
+    → Ready octets a.owed.items a.inner (reverse a.outer.items) h.end (view b) (n + 1)
 leaf_ready octets a h b n found shut encoded w =
     record {
       trees = w.trees;
@@ -102,9 +102,9 @@ still_faulty octets a e n m w s =
       refused = record {
         trees = w.trees;
         outer = w.outer;
-        front = a.entries.items;
+        front = a.owed.items;
         more = [];
-        whole = sym (append-nil a.entries.items);
+        whole = sym (append-nil a.owed.items);
         holds = w.holds;
         stopping = s;
       };

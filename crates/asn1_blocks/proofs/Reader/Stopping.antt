@@ -2,7 +2,7 @@
 use Rattle.std.proofs.Common.{◌≡◌, ℕ, ◌<◌, ◌≤◌, ◌^◌, List, [], ◌∷◌, ◌++◌, length, take, drop, reverse, sym, ap, ◌∙◌, subst, arith, append_assoc, length-append, Some}
 use Rattle.std.proofs.lemmas.List.{take-append-drop, take-append-le}
 use Rattle.asn1_blocks.specs.declared.owed.Attempt as owed
-use Rattle.asn1_blocks.specs.declared.owed.Entry.{Entry}
+use Rattle.asn1_blocks.specs.declared.owed.Owed.{Owed}
 use Rattle.asn1_blocks.specs.declared.read.FrameKind.{FrameKind}
 use Rattle.asn1_blocks.specs.declared.read.FrameKind.TheVariants.{Whole, Group, Attempt}
 use Rattle.asn1_blocks.specs.declared.read.OpenFrame.{OpenFrame}
@@ -16,17 +16,17 @@ use Rattle.asn1_blocks.proofs.Reader.Popping.{reverse_push, reverse_none}
 use Rattle.asn1_blocks.proofs.Reader.Holding.{Nested, nested}
 
 -- where the frame is in which a fault is
-pub refused_places : (octets : List ℕ) (es : List Entry) (f : OpenFrame) (gs : List OpenFrame) (e : DecodeFault) (offset n : ℕ)
+pub refused_places : (octets : List ℕ) (es : List Owed) (f : OpenFrame) (gs : List OpenFrame) (e : DecodeFault) (offset n : ℕ)
     (r : Refused octets es f gs e offset n) → StoppingPlaces octets (frame f r.trees) n
 refused_places octets es f gs e offset n r = stopping_places octets (frame f r.trees) (frames gs r.outer) e offset n r.stopping
 
 -- a fault in no attempt
-pub refused_document : (octets : List ℕ) (es : List Entry) (f : OpenFrame) (e : DecodeFault) (offset n : ℕ)
+pub refused_document : (octets : List ℕ) (es : List Owed) (f : OpenFrame) (e : DecodeFault) (offset n : ℕ)
     → Refused octets es f [] e offset n → FaultyDocument octets e offset n
 refused_document octets es f e offset n r = stop_document octets (frame f r.trees) e offset n r.stopping
 
 -- a fault in the frame k inside the frame h
-module _ (octets : List ℕ) (es : List Entry) (k h : OpenFrame) (gs : List OpenFrame) (e : DecodeFault) (offset n : ℕ) (small : length octets < 2 ^ 64)
+module _ (octets : List ℕ) (es : List Owed) (k h : OpenFrame) (gs : List OpenFrame) (e : DecodeFault) (offset n : ℕ) (small : length octets < 2 ^ 64)
     (r : Refused octets es k (h ∷ gs) e offset n) where
   N : Nested octets r.front k h gs r.trees r.outer
   N = nested octets r.front k h gs r.trees r.outer r.holds
@@ -65,7 +65,7 @@ module _ (octets : List ℕ) (es : List Entry) (k h : OpenFrame) (gs : List Open
       }
 
 -- the frame around was taken out of the list
-pub refused_taken : (octets : List ℕ) (es : List Entry) (f k g h : OpenFrame) (before after : List OpenFrame) (e : DecodeFault) (offset n : ℕ) → k ≡ f → h ≡ g
+pub refused_taken : (octets : List ℕ) (es : List Owed) (f k g h : OpenFrame) (before after : List OpenFrame) (e : DecodeFault) (offset n : ℕ) → k ≡ f → h ≡ g
     → before ≡ after ++ g ∷ [] → Refused octets es f (reverse before) e offset n → Refused octets es k (h ∷ reverse after) e offset n
 refused_taken octets es f k g h before after e offset n own new is r =
     subst (λ z. Refused octets es k (z ∷ reverse after) e offset n) (sym new) (subst (λ z. Refused octets es z (g ∷ reverse after) e offset n) (sym own)
@@ -79,7 +79,7 @@ taken_nearer size f k g before after own is =
     omega (arith, e, ap length is, length-append after (g ∷ []))
 
 -- no others are left
-pub refused_outermost : (octets : List ℕ) (es : List Entry) (f : OpenFrame) (outer : List OpenFrame) (e : DecodeFault) (offset n : ℕ) → length outer ≡ 0
+pub refused_outermost : (octets : List ℕ) (es : List Owed) (f : OpenFrame) (outer : List OpenFrame) (e : DecodeFault) (offset n : ℕ) → length outer ≡ 0
     → Refused octets es f (reverse outer) e offset n → FaultyDocument octets e offset n
 refused_outermost octets es f outer e offset n none r =
     refused_document octets es f e offset n (subst (λ z. Refused octets es f z e offset n) (reverse_none outer none) r)

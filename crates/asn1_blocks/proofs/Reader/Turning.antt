@@ -2,7 +2,7 @@
 use Rattle.std.proofs.Common.{◌≡◌, ℕ, List, [], length, map, reverse, refl, sym, ap, ◌∙◌, subst, arith, append-nil}
 use Rattle.std.specs.List.{slice_range}
 use Rattle.asn1_blocks.specs.declared.block.ASN1Block.{ASN1Block}
-use Rattle.asn1_blocks.specs.declared.owed.Entry.{Entry}
+use Rattle.asn1_blocks.specs.declared.owed.Owed.{Owed}
 use Rattle.asn1_blocks.specs.declared.read.FrameKind.TheVariants.{Whole}
 use Rattle.asn1_blocks.specs.declared.read.OpenFrame.{OpenFrame}
 use Rattle.asn1_blocks.specs.declared.read.Reader.{Reader}
@@ -15,11 +15,11 @@ use Rattle.asn1_blocks.specs.ReaderSteps.{Reads, GoesOn, Ended, FaultyDocument, 
 use Rattle.asn1_blocks.specs.Tree.{trees_of}
 use Rattle.asn1_blocks.specs.View.{view, views}
 use Rattle.asn1_blocks.proofs.Frames.Slices.{slice_none}
-use Rattle.asn1_blocks.proofs.Orders.{leads_none}
+use Rattle.asn1_blocks.proofs.OwedBlocks.{leads_none}
 
 -- the outermost frame, of which nothing is read yet
 abbrev pub document_frame : List ℕ → List ASN1Block → OpenFrame
-document_frame octets blocks = record { extent = record { kind = Whole; start = 0; end = length octets }; blocks = blocks; begin = 0; later = 0 }
+document_frame octets blocks = record { extent = record { kind = Whole; start = 0; end = length octets }; blocks = blocks; begin = 0; owes = 0 }
 
 begin_reading : (octets : List ℕ) (blocks : List ASN1Block) → blocks ≡ [] → Reads octets [] (document_frame octets blocks) [] 0 0
 begin_reading octets blocks none =
@@ -32,7 +32,7 @@ begin_reading octets blocks none =
           begin = omega arith;
           owed = [];
           leads = leads_none octets;
-          later = refl;
+          owes = refl;
           trees = sym (append-nil (map view blocks) ∙ ap (map view) none);
         },
         refl,
@@ -43,7 +43,7 @@ begin_reading octets blocks none =
       };
     }
 
-pub first_reading : (octets : List ℕ) (es : List Entry) (blocks : List ASN1Block) (outer : List OpenFrame) → es ≡ [] → blocks ≡ [] → outer ≡ []
+pub first_reading : (octets : List ℕ) (es : List Owed) (blocks : List ASN1Block) (outer : List OpenFrame) → es ≡ [] → blocks ≡ [] → outer ≡ []
     → Reads octets es (document_frame octets blocks) (reverse outer) 0 0
 first_reading octets es blocks outer e b o =
     subst (λ z. Reads octets z (document_frame octets blocks) (reverse outer) 0 0) (sym e)
