@@ -5,9 +5,9 @@ use Rattle.std.specs.Prelude.{◌≡◌, ◌≢◌, ◌⊎◌, ℕ, List, Result
 use Rattle.asn1_headers.specs.declared.error.ASN1DecodeErr.{ASN1DecodeErr}
 use Rattle.simple_asn1.specs.declared.convert.TripFault.{TripFault}
 use Rattle.simple_asn1.specs.declared.convert.TripFault.TheVariants.{Encode, Decode}
-use Rattle.asn1_headers.specs.declared.error.ASN1DecodeErr.TheVariants.{OutOfMemory as no_memory}
+use Rattle.asn1_headers.specs.declared.error.ASN1DecodeErr.TheVariants.{OutOfMemory}
 use Rattle.asn1_headers.specs.declared.error.ASN1EncodeErr.{ASN1EncodeErr}
-use Rattle.asn1_headers.specs.declared.error.ASN1EncodeErr.TheVariants.{OutOfMemory}
+use Rattle.asn1_headers.specs.declared.error.ASN1EncodeErr.TheVariants.{OutOfMemory as no_memory}
 use Rattle.simple_asn1.specs.Canonical.{all_canonical, first_write_fault}
 use Rattle.asn1_headers.specs.Fault.{OutOfMemoryOr}
 use Rattle.asn1_blocks.specs.Grammar.{Document, FirstFault}
@@ -40,7 +40,7 @@ abbrev pub EncodeFails : {E : Type 0} →
 EncodeFails writes from e =
     writes (Err e)
     ⊎ ((bs : Trees ℕ) × (f : ASN1EncodeErr) × writes (Ok bs)
-    × ((f ≡ OutOfMemory) ⊎ (first_write_fault bs ≡ Some f)) × from f e)
+    × ((f ≡ no_memory) ⊎ (first_write_fault bs ≡ Some f)) × from f e)
 
 -- the fault of either half of writing and reading again
 abbrev pub TripFails : {E D : Type 0} → (E → Type 0) → (D → Type 0) → TripFault E D → Type 0
@@ -54,10 +54,10 @@ ComeBack bs = (bs ≢ no_trees) × AreFaithful bs
 -- writing trees that come back fails by the type alone, or by what it makes of memory that ran out
 abbrev pub OwnEncodeFault : {E : Type 0} →
     (Result (Trees ℕ) E → Type 0) → (ASN1EncodeErr → E → Type 0) → E → Type 0
-OwnEncodeFault writes from e = writes (Err e) ⊎ from OutOfMemory e
+OwnEncodeFault writes from e = writes (Err e) ⊎ from no_memory e
 
 -- and so does reading them
 abbrev pub OwnDecodeFault : {T E : Type 0} →
     (Trees ℕ → Result (T × Trees ℕ) E → Type 0) → (ASN1DecodeErr → E → Type 0) → Trees (Unit {0}) → E → Type 0
 OwnDecodeFault reads from ss e =
-    ((bs : Trees ℕ) × (shapes bs ≡ ss) × reads bs (Err e)) ⊎ from no_memory e
+    ((bs : Trees ℕ) × (shapes bs ≡ ss) × reads bs (Err e)) ⊎ from OutOfMemory e

@@ -29,7 +29,7 @@ ghost use Rattle.asn1_headers.specs.declared.error.ASN1DecodeErr.TheVariants.{Ou
 
 use crate::write::measure::measure;
 use crate::write::put::put_all;
-use crate::write::stand::stand_canonical;
+use crate::write::in_place::are_canonical_in_place;
 use asn1_blocks::block::ASN1Block;
 use asn1_blocks::document::Document;
 use asn1_headers::error::{ASN1DecodeErr, ASN1EncodeErr};
@@ -109,7 +109,7 @@ fn first_not_canonical(
     ensures refused { IfErr result (λ e. e ≡ OutOfMemory) }
 {
     // nearly always found so, and then no block is measured
-    if stand_canonical(alloc, i, blocks)? {
+    if are_canonical_in_place(alloc, i, blocks)? {
         return Ok(None);
     }
     if are_canonical(alloc, blocks, i)? {

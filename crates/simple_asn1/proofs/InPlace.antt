@@ -11,7 +11,7 @@ use Rattle.asn1_blocks.specs.Contents.{LeafContents, group_tag, leaf_contents, l
 use Rattle.simple_asn1.specs.Canonical.{shortest_encoding, canonical, all_canonical}
 use Rattle.asn1_blocks.specs.Grammar.{Document, EncodesAll}
 use Rattle.asn1_blocks.specs.Places.{joined}
-use Rattle.simple_asn1.specs.StandWalk.{BeginWithOwn}
+use Rattle.simple_asn1.specs.InPlaceWalk.{BeginWithOwn}
 use Rattle.simple_asn1.specs.WriteWalk.{identifier_of}
 use Rattle.asn1_headers.proofs.Prefixes.{encoding_alone, identifier_alone, length_alone, same_split}
 use Rattle.asn1_blocks.proofs.OneReading.{encodes_block}

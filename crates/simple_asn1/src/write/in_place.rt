@@ -4,7 +4,7 @@ ghost use Rattle.std.specs.Prelude.{◌≡◌, ℕ, ◌++◌, ◌∷◌, List, l
 ghost use Rattle.simple_asn1.specs.Canonical.{all_canonical};
 ghost use Rattle.asn1_blocks.specs.Grammar.{Document as IsDocument};
 ghost use Rattle.asn1_headers.specs.Header.{shortest_length};
-ghost use Rattle.simple_asn1.specs.StandWalk.{AreOwnCanonical, BeginWithOwn};
+ghost use Rattle.simple_asn1.specs.InPlaceWalk.{AreOwnCanonical, BeginWithOwn};
 ghost use Rattle.asn1_blocks.specs.View.{view, views};
 ghost use Rattle.simple_asn1.specs.WriteWalk.{identifier_of, own_contents};
 ghost use Rattle.asn1_headers.specs.declared.error.ASN1DecodeErr.TheVariants.{OutOfMemory};
@@ -171,13 +171,13 @@ fn after_own<'a>(b: &ASN1Block, octets: &'a [u8]) -> Option<&'a [u8]>
 
 // Whether the blocks of a document are found to stand in their canonical octets: `false` says
 // nothing.
-pub(crate) fn stand_canonical(
+pub(crate) fn are_canonical_in_place(
     alloc: Global,
     i: &[u8],
     blocks: &[ASN1Block],
 ) -> Result<bool, ASN1DecodeErr>
     requires { IsDocument i.now (views blocks.now) }
-    ensures stand { IfOk result (λ yes. IsTrue yes → i.now ≡ all_canonical (views blocks.now)) }
+    ensures canonical { IfOk result (λ yes. IsTrue yes → i.now ≡ all_canonical (views blocks.now)) }
     ensures refused { IfErr result (λ e. e ≡ OutOfMemory) }
 {
     let mut rest = i;
