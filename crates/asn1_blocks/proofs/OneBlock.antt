@@ -2,20 +2,20 @@
 use Rattle.std.proofs.Common.{◌≡◌, ℕ, ◌<◌, ◌^◌, List, [], ◌∷◌, ◌++◌, length, inl, inr, sym, ap, ◌∙◌, subst, arith, append-nil}
 use Rattle.asn1_blocks.specs.declared.block.ASN1Block.{ASN1Block}
 use Rattle.asn1_headers.specs.Fault.{DecodeFault}
-use Rattle.asn1_blocks.specs.Grammar.{IsBlock, Document, FirstFault}
+use Rattle.asn1_blocks.specs.Grammar.{IsBlock, IsDocument, FirstFault}
 use Rattle.asn1_blocks.specs.View.{view, views}
 use Rattle.asn1_blocks.proofs.BlockLists.{count_views}
 use Rattle.asn1_blocks.proofs.Faults.{one_block, block_is_blocks, blocks_fault_no_blocks}
 use Rattle.asn1_blocks.proofs.OneReading.{block_some, encodes_block}
 
-pub block_if_one : (octets : List ℕ) (blocks : List ASN1Block) → Document octets (views blocks) → length blocks ≡ 1 → IsBlock octets
+pub block_if_one : (octets : List ℕ) (blocks : List ASN1Block) → IsDocument octets (views blocks) → length blocks ≡ 1 → IsBlock octets
 block_if_one octets [] d n = absurd (omega (arith, n))
 block_if_one octets (b ∷ []) d n =
     let s = d.blocks in
     subst IsBlock (sym (s.2 ∙ (ap (λ z. s.0 ++ z) s.4 ∙ append-nil s.0))) (encodes_block 0 s.0 (view b) s.3)
 block_if_one octets (b ∷ e ∷ blocks) d n = absurd (omega (arith, n))
 
-pub one_if_block : (octets : List ℕ) (blocks : List ASN1Block) → Document octets (views blocks) → IsBlock octets → length blocks ≡ 1
+pub one_if_block : (octets : List ℕ) (blocks : List ASN1Block) → IsDocument octets (views blocks) → IsBlock octets → length blocks ≡ 1
 one_if_block octets blocks d b = sym (count_views blocks) ∙ one_block 0 octets (views blocks) d.blocks b
 
 pub fault_no_block : (octets : List ℕ) (e : DecodeFault) → length octets < 2 ^ 64 → FirstFault octets e → IsBlock octets → ⊥

@@ -4,7 +4,7 @@ use Rattle.std.specs.List.{slice_range}
 use Rattle.std.proofs.lemmas.List.{take_at, drop_at}
 use Rattle.asn1_blocks.specs.Tree.{Tree, Trees, leaf, group, explicit, unknown, no_trees, more_trees}
 use Rattle.asn1_blocks.specs.View.{tree_offset}
-use Rattle.asn1_blocks.specs.Grammar.{Encodes, EncodesAll, Document}
+use Rattle.asn1_blocks.specs.Grammar.{Encodes, EncodesAll, IsDocument}
 use Rattle.asn1_blocks.specs.Places.{with_offsets, all_with_offsets, rebased, all_later, joined, end_before, StandsIn, itself, in_group, in_explicit, StandsAmong, in_first, in_later, HasOctets, EncodingAt}
 use Rattle.asn1_headers.proofs.Prefixes.{encoding_alone}
 use Rattle.asn1_blocks.proofs.OneReading.{block_some, encodes_block}
@@ -111,7 +111,7 @@ slice_here i u x v o j w p q =
     ap (λ z. take (j - o) (drop o z)) w ∙ ap (take (j - o)) (drop_at u (x ++ v) o (sym p)) ∙ take_at x v (j - o) (sym e)
 
 -- octets that encode a tree are a document of it
-pub encodes_document : (o : ℕ) (x : List ℕ) (b : Tree ℕ) → Encodes o x b → Document x (more_trees (rebased b) no_trees)
+pub encodes_document : (o : ℕ) (x : List ℕ) (b : Tree ℕ) → Encodes o x b → IsDocument x (more_trees (rebased b) no_trees)
 encodes_document o x b s =
     let p = encodes_offset o x b s in
     record {
@@ -121,7 +121,7 @@ encodes_document o x b s =
 
 -- where the octets of a tree of a document stand
 pub found_octets :
-    (i : List ℕ) (bs : Trees ℕ) (b : Tree ℕ) (octets : List ℕ) → Document i bs →
+    (i : List ℕ) (bs : Trees ℕ) (b : Tree ℕ) (octets : List ℕ) → IsDocument i bs →
     HasOctets i bs b octets →
     (before : List ℕ) × (behind : List ℕ) × (i ≡ before ++ (octets ++ behind)) × (length before ≡ tree_offset b) × Encodes (tree_offset b) octets b
 found_octets i bs b octets d h =
@@ -136,7 +136,7 @@ found_octets i bs b octets d h =
     )
 
 -- they are an encoding at its offset
-pub octets_encoding : (i : List ℕ) (bs : Trees ℕ) (b : Tree ℕ) (octets : List ℕ) → Document i bs → HasOctets i bs b octets → EncodingAt i (tree_offset b) octets
+pub octets_encoding : (i : List ℕ) (bs : Trees ℕ) (b : Tree ℕ) (octets : List ℕ) → IsDocument i bs → HasOctets i bs b octets → EncodingAt i (tree_offset b) octets
 octets_encoding i bs b octets d h =
     let (before, behind, whole, at, s) = found_octets i bs b octets d h in
     let F = block_encoding octets (encodes_block (tree_offset b) octets b s) in (
@@ -152,7 +152,7 @@ encoding_at_alone i o x y p q =
 
 -- so it is that of the tree
 pub encoding_at_octets :
-    (i : List ℕ) (bs : Trees ℕ) (b : Tree ℕ) (octets other : List ℕ) → Document i bs →
+    (i : List ℕ) (bs : Trees ℕ) (b : Tree ℕ) (octets other : List ℕ) → IsDocument i bs →
     HasOctets i bs b octets → EncodingAt i (tree_offset b) other ↔ (other ≡ octets)
 encoding_at_octets i bs b octets other d h =
     let e = octets_encoding i bs b octets d h in
@@ -168,7 +168,7 @@ encodes_joined o x y (more_trees b xs) ys s t =
     (s.0, s.1 ++ y, ap (λ z. z ++ y) s.2 ∙ append_assoc s.0 s.1 y, s.3, encodes_joined (o + length s.0) s.1 y xs ys s.4 (subst (λ z. EncodesAll z y ys) e t))
 
 -- two documents one after another are one
-pub documents_joined : (i k : List ℕ) (xs ys : Trees ℕ) → Document i xs → Document k ys → Document (i ++ k) (joined xs (all_later (length i) ys))
+pub documents_joined : (i k : List ℕ) (xs ys : Trees ℕ) → IsDocument i xs → IsDocument k ys → IsDocument (i ++ k) (joined xs (all_later (length i) ys))
 documents_joined i k xs ys d e = record {
   some = omega (arith, d.some, length-append i k);
   blocks = encodes_joined 0 i k xs (all_later (length i) ys) d.blocks (encodes_all_at (λ z. z + length i) 0 (0 + length i) k ys (λ n. omega arith) e.blocks);

@@ -63,7 +63,7 @@ abbrev mutual
       × EncodesAll (offset + length x) rest bs
 
 -- the octets are a document: one block or more, with these trees
-pub record Document (octets : List ℕ) (bs : Trees ℕ) : Type 0 where
+pub record IsDocument (octets : List ℕ) (bs : Trees ℕ) : Type 0 where
   pub some : 0 < length octets
   pub blocks : EncodesAll 0 octets bs
 

@@ -5,7 +5,7 @@ use Rattle.asn1_blocks.specs.declared.block.GroupKind.{GroupKind}
 use Rattle.asn1_headers.specs.Header.{Encoding}
 use Rattle.asn1_blocks.specs.Tree.{Tree, Trees, leaf, group, explicit, unknown, no_trees, more_trees}
 use Rattle.asn1_blocks.specs.View.{tree_offset}
-use Rattle.asn1_blocks.specs.Grammar.{Document}
+use Rattle.asn1_blocks.specs.Grammar.{IsDocument}
 
 abbrev mutual
   -- the tree with each offset changed
@@ -87,4 +87,4 @@ HasNoEncodingAt document offset = (octets : List ℕ) → EncodingAt document of
 abbrev pub TreeAt : List ℕ → ℕ → List ℕ → Type 0
 TreeAt document offset octets =
     (bs : Trees ℕ) × (b : Tree ℕ)
-    × Document document bs × HasOctets document bs b octets × (tree_offset b ≡ offset)
+    × IsDocument document bs × HasOctets document bs b octets × (tree_offset b ≡ offset)

@@ -4,7 +4,7 @@ ghost use Rattle.asn1_blocks.specs.declared.block.ASN1Block.{ASN1Block};
 ghost use Rattle.asn1_headers.specs.declared.error.ASN1DecodeErr.TheVariants.{OutOfMemory};
 ghost use Rattle.asn1_headers.specs.Fault.{DecodeFault, OutOfMemoryOr, UnlessOutOfMemory, fault_of};
 ghost use Rattle.asn1_blocks.specs.FaultPlace.{FirstFaultAt};
-ghost use Rattle.asn1_blocks.specs.Grammar.{Document, FirstFault};
+ghost use Rattle.asn1_blocks.specs.Grammar.{IsDocument, FirstFault};
 ghost use Rattle.asn1_blocks.specs.HeadersBegun.{HeadersBegun};
 ghost use Rattle.asn1_blocks.specs.Owed.{after_all, around};
 ghost use Rattle.asn1_blocks.specs.ReaderSteps.{Faulty, IsKept, IsOpened, IsOwed, IsPut, IsReadAs, Reading, Reads, Refused, Stepped, TurnTaken, Turned, attempt_of, left};
@@ -108,11 +108,11 @@ enum Turn {
 /// }
 /// ```
 pub fn from_der(alloc: Global, i: &[u8]) -> Result<Vec<ASN1Block>, ASN1DecodeErr>
-    ensures document { IfOk result (λ blocks. Document i.now (views blocks.items)) }
+    ensures document { IfOk result (λ blocks. IsDocument i.now (views blocks.items)) }
     ensures fault { IfErr result (OutOfMemoryOr (FirstFault i.now)) }
 
     // Memory aside, each document is read as its trees, and other octets are refused with their first fault.
-    ensures accepts { (bs : Trees ℕ) → Document i.now bs
+    ensures accepts { (bs : Trees ℕ) → IsDocument i.now bs
         → MatchResult result (λ blocks. views blocks.items ≡ bs) (λ e. e ≡ OutOfMemory) }
     ensures refuses { (fault : DecodeFault) → FirstFault i.now fault
         → IsErrAnd result (OutOfMemoryOr (λ e. e ≡ fault)) }
@@ -147,9 +147,9 @@ pub fn from_der_counted(
     count: &mut HeaderCount,
 ) -> Result<Vec<ASN1Block>, ASN1DecodeErr>
     requires room { count.old + length i.now < 2 ^ 64 }
-    ensures document { IfOk result (λ blocks. Document i.now (views blocks.items)) }
+    ensures document { IfOk result (λ blocks. IsDocument i.now (views blocks.items)) }
     ensures fault { IfErr result (OutOfMemoryOr (FirstFault i.now)) }
-    ensures accepts { (bs : Trees ℕ) → Document i.now bs
+    ensures accepts { (bs : Trees ℕ) → IsDocument i.now bs
         → MatchResult result (λ blocks. views blocks.items ≡ bs) (λ e. e ≡ OutOfMemory) }
     ensures refuses { (fault : DecodeFault) → FirstFault i.now fault
         → IsErrAnd result (OutOfMemoryOr (λ e. e ≡ fault)) }
@@ -184,10 +184,10 @@ pub fn from_der_counted(
 /// }
 /// ```
 pub fn from_der_located(alloc: Global, i: &[u8]) -> Result<Vec<ASN1Block>, LocatedErr>
-    ensures document { IfOk result (λ blocks. Document i.now (views blocks.items)) }
+    ensures document { IfOk result (λ blocks. IsDocument i.now (views blocks.items)) }
     ensures fault { IfErr result
         (λ e. OutOfMemoryOr (λ fault. FirstFaultAt i.now fault e.offset) e.error) }
-    ensures accepts { (bs : Trees ℕ) → Document i.now bs
+    ensures accepts { (bs : Trees ℕ) → IsDocument i.now bs
         → MatchResult result (λ blocks. views blocks.items ≡ bs) (λ e. e.error ≡ OutOfMemory) }
     ensures refuses { (fault : DecodeFault) (offset : ℕ) → FirstFaultAt i.now fault offset
         → IsErrAnd result
@@ -203,7 +203,7 @@ fn read_blocks(
     count: &mut HeaderCount,
 ) -> Result<Vec<ASN1Block>, LocatedErr>
     requires room { count.old + length i.now < 2 ^ 64 }
-    ensures document { IfOk result (λ blocks. Document i.now (views blocks.items)) }
+    ensures document { IfOk result (λ blocks. IsDocument i.now (views blocks.items)) }
     ensures refused { IfErr result
         (λ e. OutOfMemoryOr (λ fault. FirstFaultAt i.now fault e.offset) e.error) }
     ensures counted { MatchResult result

@@ -10,7 +10,7 @@ use Rattle.der_dump.specs.declared.document.Verdict.{Verdict}
 use Rattle.der_dump.specs.declared.document.Verdict.TheVariants.{AllRead, Refused}
 use Rattle.simple_asn1.specs.Fault.{DecodeFault}
 use Rattle.simple_asn1.specs.FaultPlace.{FirstFaultAt}
-use Rattle.simple_asn1.specs.Grammar.{Document}
+use Rattle.simple_asn1.specs.Grammar.{IsDocument}
 use Rattle.simple_asn1.specs.Tree.{Tree, Trees, leaf, group, explicit, unknown, no_trees, more_trees}
 
 abbrev mutual
@@ -83,7 +83,7 @@ TellsFault offset before after = (line : List ℕ) × (after ≡ before ++ (line
 -- some blocks, and then their first fault, at the offset of the innermost block at fault
 abbrev pub AddsDumpOf : List ℕ → Verdict → List ℕ → List ℕ → Type 0
 AddsDumpOf octets AllRead before after =
-    (bs : Trees ℕ) × Document octets bs × Adds (all_offsets bs) before after
+    (bs : Trees ℕ) × IsDocument octets bs × Adds (all_offsets bs) before after
 AddsDumpOf octets Refused before after =
     (fault : DecodeFault) × (offset : ℕ) × FirstFaultAt octets fault offset
     × (offsets shown : List ℕ) × Adds offsets before shown × TellsFault offset shown after
@@ -92,7 +92,7 @@ AddsDumpOf octets Refused before after =
 abbrev pub AreOffsetsOf : List (List ℕ) → List ℕ → Type 0
 AreOffsetsOf [] offsets = offsets ≡ []
 AreOffsetsOf (octets ∷ objects) offsets =
-    (bs : Trees ℕ) × (later : List ℕ) × Document octets bs × (offsets ≡ all_offsets bs ++ later)
+    (bs : Trees ℕ) × (later : List ℕ) × IsDocument octets bs × (offsets ≡ all_offsets bs ++ later)
     × AreOffsetsOf objects later
 
 -- what is put after the text of objects: where all were read, the lines of documents, one for each of their blocks

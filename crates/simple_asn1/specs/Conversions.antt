@@ -10,7 +10,7 @@ use Rattle.asn1_headers.specs.declared.error.ASN1EncodeErr.{ASN1EncodeErr}
 use Rattle.asn1_headers.specs.declared.error.ASN1EncodeErr.TheVariants.{OutOfMemory as no_memory}
 use Rattle.simple_asn1.specs.Canonical.{all_canonical, first_write_fault}
 use Rattle.asn1_headers.specs.Fault.{OutOfMemoryOr}
-use Rattle.asn1_blocks.specs.Grammar.{Document, FirstFault}
+use Rattle.asn1_blocks.specs.Grammar.{IsDocument, FirstFault}
 use Rattle.asn1_blocks.specs.Faithful.{AreFaithful}
 use Rattle.asn1_blocks.specs.Tree.{Trees, no_trees, shapes}
 
@@ -18,14 +18,14 @@ use Rattle.asn1_blocks.specs.Tree.{Trees, no_trees, shapes}
 abbrev pub Decodes : {T E : Type 0} →
     (Trees ℕ → Result (T × Trees ℕ) E → Type 0) → List ℕ → T → Type 0
 Decodes reads octets x =
-    (bs : Trees ℕ) × (rest : Trees ℕ) × Document octets bs × reads bs (Ok (x, rest))
+    (bs : Trees ℕ) × (rest : Trees ℕ) × IsDocument octets bs × reads bs (Ok (x, rest))
 
 -- the octets are a document whose trees the type refuses with the fault; or the fault is what the type makes of the first
 -- fault of the octets, or of memory that ran out
 abbrev pub DecodeFails : {T E : Type 0} →
     (Trees ℕ → Result (T × Trees ℕ) E → Type 0) → (ASN1DecodeErr → E → Type 0) → List ℕ → E → Type 0
 DecodeFails reads from octets e =
-    ((bs : Trees ℕ) × Document octets bs × reads bs (Err e))
+    ((bs : Trees ℕ) × IsDocument octets bs × reads bs (Err e))
     ⊎ ((f : ASN1DecodeErr) × OutOfMemoryOr (FirstFault octets) f × from f e)
 
 -- the type writes some trees, and the octets are their canonical encodings, joined

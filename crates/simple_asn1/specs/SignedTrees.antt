@@ -7,7 +7,7 @@ use Rattle.simple_asn1.specs.declared.convert.signed.TripleErr.TheVariants.{Code
 use Rattle.asn1_headers.specs.declared.error.ASN1DecodeErr.TheVariants.{OutOfMemory}
 use Rattle.asn1_blocks.specs.Tree.{Tree, Trees, leaf, group, bit_string, object_identifier, no_trees, more_trees}
 use Rattle.asn1_blocks.specs.View.{tree_offset}
-use Rattle.asn1_blocks.specs.Grammar.{Document}
+use Rattle.asn1_blocks.specs.Grammar.{IsDocument}
 
 -- the parts of a signed triple, with the offsets of its blocks
 pub record SignedParts : Type 0 where
@@ -75,9 +75,9 @@ ReadsSigned bs octets (Err e) =
 
 -- the octets are a document whose first tree is a signed triple of these parts
 abbrev pub IsSigned : List ℕ → SignedParts → Type 0
-IsSigned octets p = (rest : Trees ℕ) × Document octets (signed_trees p rest)
+IsSigned octets p = (rest : Trees ℕ) × IsDocument octets (signed_trees p rest)
 
 -- the octets are a document whose first tree is none
 abbrev pub IsOfAnotherShape : List ℕ → Type 0
 IsOfAnotherShape octets =
-    (bs : Trees ℕ) × Document octets bs × ((p : SignedParts) (rest : Trees ℕ) → bs ≢ signed_trees p rest)
+    (bs : Trees ℕ) × IsDocument octets bs × ((p : SignedParts) (rest : Trees ℕ) → bs ≢ signed_trees p rest)

@@ -3,7 +3,7 @@ use Rattle.std.specs.Prelude.{◌≡◌, ◌≢◌, ◌↔◌, ◌⊎◌, ℕ, L
 use Rattle.asn1_headers.specs.Fault.{DecodeFault, not_canonical}
 use Rattle.asn1_blocks.specs.Tree.{Tree, Trees, no_trees, more_trees, shapes}
 use Rattle.asn1_blocks.specs.View.{tree_offset}
-use Rattle.asn1_blocks.specs.Grammar.{Document, FirstFault}
+use Rattle.asn1_blocks.specs.Grammar.{IsDocument, FirstFault}
 use Rattle.simple_asn1.specs.Canonical.{canonical}
 use Rattle.asn1_blocks.specs.Places.{end_before}
 use Rattle.simple_asn1.specs.ReadBack.{CanonicalDocument}
@@ -30,7 +30,7 @@ FirstNotCanonical document (more_trees b bs) offset =
 -- has this offset
 abbrev pub IsNotCanonicalAt : List ℕ → ℕ → Type 0
 IsNotCanonicalAt octets offset =
-    (bs : Trees ℕ) × Document octets bs × FirstNotCanonical octets bs offset
+    (bs : Trees ℕ) × IsDocument octets bs × FirstNotCanonical octets bs offset
 
 -- why the octets are no canonical document: their first fault; with none, the offset of the first
 -- tree that is not canonical

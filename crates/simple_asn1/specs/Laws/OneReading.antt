@@ -4,7 +4,7 @@ use Rattle.asn1_numbers.specs.Octets.{FitInSlice}
 use Rattle.asn1_headers.specs.Fault.{DecodeFault, IsOfReading}
 use Rattle.asn1_blocks.specs.FaultPlace.{FirstFaultAt}
 use Rattle.asn1_blocks.specs.Tree.{Tree, Trees}
-use Rattle.asn1_blocks.specs.Grammar.{IsBlock, Encodes, Document, FirstFault}
+use Rattle.asn1_blocks.specs.Grammar.{IsBlock, Encodes, IsDocument, FirstFault}
 use Rattle.asn1_blocks.specs.HeadersBegun.{HeadersBegun, all_blocks_in}
 
 -- all octets have one reading
@@ -26,14 +26,14 @@ pub record OneReading : Type 0 where
   pub either :
       (octets : List ℕ) →
       FitInSlice octets →
-      ((bs : Trees ℕ) × Document octets bs) ⊎ ((e : DecodeFault) × FirstFault octets e)
+      ((bs : Trees ℕ) × IsDocument octets bs) ⊎ ((e : DecodeFault) × FirstFault octets e)
   -- and never both
   pub not_both :
       (octets : List ℕ) (bs : Trees ℕ) (e : DecodeFault) →
-      FitInSlice octets → Document octets bs → FirstFault octets e → ⊥
+      FitInSlice octets → IsDocument octets bs → FirstFault octets e → ⊥
   -- they are at most one document
   pub one_document :
-      (octets : List ℕ) (xs ys : Trees ℕ) → Document octets xs → Document octets ys → xs ≡ ys
+      (octets : List ℕ) (xs ys : Trees ℕ) → IsDocument octets xs → IsDocument octets ys → xs ≡ ys
   -- and have at most one first fault
   pub one_fault :
       (octets : List ℕ) (e d : DecodeFault) →
@@ -51,7 +51,7 @@ pub record OneReading : Type 0 where
   -- and at least one for each block of a document, at all depths
   pub at_least :
       (octets : List ℕ) (bs : Trees ℕ) (n : ℕ) →
-      Document octets bs → HeadersBegun octets n → all_blocks_in bs ≤ n
+      IsDocument octets bs → HeadersBegun octets n → all_blocks_in bs ≤ n
 
 -- the first fault has one place
 pub record OnePlace : Type 0 where

@@ -2,7 +2,7 @@
 // octets, only its own are looked at, with the length that they announce: no sizes are added up.
 ghost use Rattle.std.specs.Prelude.{◌≡◌, ℕ, ◌++◌, ◌∷◌, List, length, IfErr, IfOk, IfSome, IsTrue};
 ghost use Rattle.simple_asn1.specs.Canonical.{all_canonical};
-ghost use Rattle.asn1_blocks.specs.Grammar.{Document as IsDocument};
+ghost use Rattle.asn1_blocks.specs.Grammar.{IsDocument};
 ghost use Rattle.asn1_headers.specs.Header.{shortest_length};
 ghost use Rattle.simple_asn1.specs.InPlaceWalk.{AreOwnCanonical, BeginWithOwn};
 ghost use Rattle.asn1_blocks.specs.View.{view, views};
