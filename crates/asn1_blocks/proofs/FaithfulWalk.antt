@@ -30,13 +30,13 @@ faithful_split [] ys f = (tt, f)
 faithful_split (x ∷ xs) ys f = let s = faithful_split xs ys f.1 in ((f.0, s.0), s.1)
 
 -- the whole is faithful exactly if what is left is: so far all was
-abbrev pub Rest : List ASN1Block → List ASN1Block → Type 0
-Rest whole rest = AreFaithful (views whole) ↔ AreFaithful (views rest)
+abbrev pub IsDecidedBy : List ASN1Block → List ASN1Block → Type 0
+IsDecidedBy whole rest = AreFaithful (views whole) ↔ AreFaithful (views rest)
 
 -- a block that is faithful alone leaves it to those after it
 pub passes :
-    (whole before after : List ASN1Block) (b : ASN1Block) → Rest whole before → IsNext b before after →
-    IsFaithfulAlone (view b) → Rest whole after
+    (whole before after : List ASN1Block) (b : ASN1Block) → IsDecidedBy whole before → IsNext b before after →
+    IsFaithfulAlone (view b) → IsDecidedBy whole after
 passes whole before after b rest n alone =
     let down : AreFaithful (views before) → AreFaithful (views after) = λ h.
     let p : AreFaithful (views (b ∷ n.rest)) = subst (λ z. AreFaithful (views z)) n.first h in
@@ -50,12 +50,12 @@ passes whole before after b rest n alone =
 
 -- one that is not settles it
 pub settles :
-    (whole before after : List ASN1Block) (b : ASN1Block) → Rest whole before → IsNext b before after →
+    (whole before after : List ASN1Block) (b : ASN1Block) → IsDecidedBy whole before → IsNext b before after →
     (IsFaithfulAlone (view b) → ⊥) → AreFaithful (views whole) → ⊥
 settles whole before after b rest n alone h =
     let p : AreFaithful (views (b ∷ n.rest)) = subst (λ z. AreFaithful (views z)) n.first (rest.0 h) in
     alone (faithful_parts (view b) p.0).0
 
 -- nothing is ahead
-pub all_pass : (whole ahead : List ASN1Block) → Rest whole ahead → ahead ≡ [] → AreFaithful (views whole)
+pub all_pass : (whole ahead : List ASN1Block) → IsDecidedBy whole ahead → ahead ≡ [] → AreFaithful (views whole)
 all_pass whole ahead rest e = rest.1 (subst (λ z. AreFaithful (views z)) (sym e) tt)

@@ -47,7 +47,7 @@ mutual
       (s.0, s.1, s.2, encodes_at f o q s.0 b h s.3, encodes_all_at f (o + length s.0) (q + length s.0) s.1 bs (further f o q (length s.0) h) s.4)
 
 -- b stands in the octets i, and ends at j
-pub record Found (i : List ℕ) (b : Tree ℕ) (j : ℕ) : Type 0 where
+pub record IsFoundIn (i : List ℕ) (b : Tree ℕ) (j : ℕ) : Type 0 where
   pub before : List ℕ
   pub octets : List ℕ
   pub behind : List ℕ
@@ -75,7 +75,7 @@ mutual
   -- a tree that stands in one that was read
   pub found_in :
       (a : Tree ℕ) (e : ℕ) (b : Tree ℕ) (j : ℕ) (i u x v : List ℕ) → i ≡ u ++ (x ++ v) →
-      e ≡ length u + length x → Encodes (length u) x a → StandsIn a e b j → Found i b j
+      e ≡ length u + length x → Encodes (length u) x a → StandsIn a e b j → IsFoundIn i b j
   found_in a e b j i u x v w n s itself = record { before = u; octets = x; behind = v; whole = w; ends = n; encoded = s }
   found_in a e b j i u x v w n s (in_group {bs = bs} t) =
       let f = s.3 in
@@ -94,7 +94,7 @@ mutual
 
   pub found_among :
       (bs : Trees ℕ) (e : ℕ) (b : Tree ℕ) (j : ℕ) (i u x v : List ℕ) → i ≡ u ++ (x ++ v) →
-      e ≡ length u + length x → EncodesAll (length u) x bs → StandsAmong bs e b j → Found i b j
+      e ≡ length u + length x → EncodesAll (length u) x bs → StandsAmong bs e b j → IsFoundIn i b j
   found_among bs e b j i u x v w n s (in_first {a = a} {bs = cs} t) =
       found_in a (end_before cs e) b j i u s.0 (s.1 ++ v) (open_first i u x v w s.0 s.1 s.2)
       (end_is (length u + length s.0) e s.1 cs s.4 (omega (arith, n, ap length s.2, length-append s.0 s.1))) s.3 t

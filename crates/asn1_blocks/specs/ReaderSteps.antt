@@ -20,7 +20,7 @@ use Rattle.asn1_headers.specs.Fault.{DecodeFault, OutOfMemoryOr}
 use Rattle.asn1_blocks.specs.Grammar.{EncodesAll}
 use Rattle.asn1_blocks.specs.FaultPlace.{BlocksFaultAt}
 use Rattle.asn1_blocks.specs.HeadersBegun.{HeadersBegun, IsReadInside}
-use Rattle.asn1_blocks.specs.OpenFrames.{Frame, Opened, Stopping}
+use Rattle.asn1_blocks.specs.OpenFrames.{Frame, AreOpen, IsStopping}
 use Rattle.asn1_blocks.specs.Owed.{Leads, after_all, as_it_came}
 use Rattle.asn1_blocks.specs.Tree.{Tree, trees_of}
 use Rattle.asn1_blocks.specs.View.{view}
@@ -76,14 +76,14 @@ pub record Reads (octets : List ℕ) (es : List Owed) (f : OpenFrame) (gs : List
   pub trees : List (Tree ℕ)
   pub outer : List (List (Tree ℕ))
   pub holds : AllHold octets es f gs trees outer
-  pub opened : Opened octets (frame f trees) (frames gs outer) place n
+  pub opened : AreOpen octets (frame f trees) (frames gs outer) place n
 
-abbrev pub Reading : List ℕ → Reader → ℕ → Type 0
-Reading octets r n = Reads octets r.owed.items r.inner (reverse r.outer.items) r.index n
+abbrev pub IsReading : List ℕ → Reader → ℕ → Type 0
+IsReading octets r n = Reads octets r.owed.items r.inner (reverse r.outer.items) r.index n
 
 -- a fault is in the frame, of a block at the offset; of what this frame and those around owe,
 -- some at the end is left over
-pub record Refused (octets : List ℕ) (es : List Owed) (f : OpenFrame) (gs : List OpenFrame)
+pub record IsRefused (octets : List ℕ) (es : List Owed) (f : OpenFrame) (gs : List OpenFrame)
     (e : DecodeFault) (offset n : ℕ) : Type 0 where
   pub trees : List (Tree ℕ)
   pub outer : List (List (Tree ℕ))
@@ -91,7 +91,7 @@ pub record Refused (octets : List ℕ) (es : List Owed) (f : OpenFrame) (gs : Li
   pub more : List Owed
   pub whole : es ≡ front ++ more
   pub holds : AllHold octets front f gs trees outer
-  pub stopping : Stopping octets (frame f trees) (frames gs outer) e offset n
+  pub stopping : IsStopping octets (frame f trees) (frames gs outer) e offset n
 
 -- how much is left to do: each turn goes on in the octets, or closes a frame
 abbrev pub left : ℕ → ℕ → List OpenFrame → ℕ
@@ -99,44 +99,44 @@ left size index outer = 2 * (size - index) + length outer
 
 -- a fault in the innermost frame, of the block that the reader has come to, with less left to do
 -- behind it
-pub record Faulty (octets : List ℕ) (r : Reader) (e : DecodeFault) (n most : ℕ) : Type 0 where
-  pub refused : Refused octets r.owed.items r.inner (reverse r.outer.items) e r.index n
+pub record IsFaulty (octets : List ℕ) (r : Reader) (e : DecodeFault) (n most : ℕ) : Type 0 where
+  pub refused : IsRefused octets r.owed.items r.inner (reverse r.outer.items) e r.index n
   pub nearer : left (length octets) r.inner.extent.end r.outer.items ≤ most
 
 -- reading goes on, with less left to do
 pub record GoesOn (octets : List ℕ) (r : Reader) (n most : ℕ) : Type 0 where
-  pub reading : Reading octets r n
+  pub reading : IsReading octets r n
   pub nearer : left (length octets) r.index r.outer.items < most
 
 -- where a step leads: reading goes on, memory ran out, or there is a fault in the innermost frame
-abbrev pub Stepped : {A : Type 0} → List ℕ → Result A ASN1DecodeErr → Reader → ℕ → ℕ → Type 0
-Stepped octets (Ok x) r n most = GoesOn octets r n most
-Stepped octets (Err e) r n most = OutOfMemoryOr (λ fault. Faulty octets r fault n most) e
+abbrev pub HasStepped : {A : Type 0} → List ℕ → Result A ASN1DecodeErr → Reader → ℕ → ℕ → Type 0
+HasStepped octets (Ok x) r n most = GoesOn octets r n most
+HasStepped octets (Err e) r n most = OutOfMemoryOr (λ fault. IsFaulty octets r fault n most) e
 
 -- the fault is that of the document, of a block at the offset
-pub record FaultyDocument (octets : List ℕ) (e : DecodeFault) (offset n : ℕ) : Type 0 where
+pub record IsFaultyDocument (octets : List ℕ) (e : DecodeFault) (offset n : ℕ) : Type 0 where
   pub fault : BlocksFaultAt octets e offset
   pub begun : HeadersBegun octets n
 
 -- the whole document was read
-pub record Ended (octets : List ℕ) (r : Reader) (n : ℕ) : Type 0 where
+pub record HasEnded (octets : List ℕ) (r : Reader) (n : ℕ) : Type 0 where
   pub trees : List (Tree ℕ)
   pub are : map view r.inner.blocks ++ after_all octets r.owed.items [] ≡ trees
   pub encoded : EncodesAll 0 octets (trees_of trees)
   pub begun : HeadersBegun octets n
 
 -- where a turn leads
-abbrev pub Turned : List ℕ → Turn → Reader → ℕ → ℕ → Type 0
-Turned octets More r n most = GoesOn octets r n most
-Turned octets End r n most = Ended octets r n
-Turned octets Stop r n most = OutOfMemoryOr (λ fault. FaultyDocument octets fault r.index n) r.fault
+abbrev pub HasTurned : List ℕ → Turn → Reader → ℕ → ℕ → Type 0
+HasTurned octets More r n most = GoesOn octets r n most
+HasTurned octets End r n most = HasEnded octets r n
+HasTurned octets Stop r n most = OutOfMemoryOr (λ fault. IsFaultyDocument octets fault r.index n) r.fault
 
 -- and how many headers were begun since the count was at the base
-pub record TurnTaken (octets : List ℕ) (t : Turn) (r : Reader) (count base most : ℕ) : Type 0 where
+pub record HasTakenTurn (octets : List ℕ) (t : Turn) (r : Reader) (count base most : ℕ) : Type 0 where
   pub begun : ℕ
   pub counted : count ≡ base + begun
   pub bounded : begun ≤ length octets
-  pub turned : Turned octets t r begun most
+  pub turned : HasTurned octets t r begun most
 
 -- the innermost frame has one block more
 pub record IsPushed (a : Reader) (b : ASN1Block) (r : Reader) : Type 0 where

@@ -7,7 +7,7 @@ ghost use Rattle.asn1_blocks.specs.FaultPlace.{FirstFaultAt};
 ghost use Rattle.asn1_blocks.specs.Grammar.{IsDocument, FirstFault};
 ghost use Rattle.asn1_blocks.specs.HeadersBegun.{HeadersBegun};
 ghost use Rattle.asn1_blocks.specs.Owed.{after_all, around};
-ghost use Rattle.asn1_blocks.specs.ReaderSteps.{Faulty, IsKept, IsOpened, IsOwed, IsPut, IsReadAs, Reading, Reads, Refused, Stepped, TurnTaken, Turned, attempt_of, left};
+ghost use Rattle.asn1_blocks.specs.ReaderSteps.{IsFaulty, IsKept, IsOpened, IsOwed, IsPut, IsReadAs, IsReading, Reads, IsRefused, HasStepped, HasTakenTurn, HasTurned, attempt_of, left};
 ghost use Rattle.asn1_blocks.specs.Tree.{Trees};
 ghost use Rattle.asn1_blocks.specs.View.{view, views};
 
@@ -293,10 +293,10 @@ fn all_blocks(alloc: Global, octets: &[u8], reader: Reader) -> Result<Vec<ASN1Bl
 #[inline(always)]
 fn take_turn(alloc: Global, octets: &[u8], reader: &mut Reader, count: &mut HeaderCount) -> Turn
     requires small { length octets.now < 2 ^ 64 }
-    requires reading { (n : ℕ) × Reading octets.now reader.old n
+    requires reading { (n : ℕ) × IsReading octets.now reader.old n
         × (count.old + (length octets.now - n) < 2 ^ 64) }
-    ensures turned { (n base : ℕ) → Reading octets.now reader.old n → count.old ≡ base + n
-        → TurnTaken octets.now result reader.new count.new base
+    ensures turned { (n base : ℕ) → IsReading octets.now reader.old n → count.old ≡ base + n
+        → HasTakenTurn octets.now result reader.new count.new base
         (left (length octets.now) reader.old.index reader.old.outer.items) }
 {
     if reader.index != reader.inner.extent.end {
@@ -321,9 +321,9 @@ fn turn_of(
     step: Result<(), ASN1DecodeErr>,
 ) -> Turn
     requires small { length octets.now < 2 ^ 64 }
-    requires stepped { (n most : ℕ) × Stepped octets.now step reader.old n most }
-    ensures turned { (n most : ℕ) → Stepped octets.now step reader.old n most
-        → Turned octets.now result reader.new n most }
+    requires stepped { (n most : ℕ) × HasStepped octets.now step reader.old n most }
+    ensures turned { (n most : ℕ) → HasStepped octets.now step reader.old n most
+        → HasTurned octets.now result reader.new n most }
 {
     match step {
         Ok(()) => Turn::More,
@@ -336,10 +336,10 @@ fn turn_of(
 fn fail(alloc: Global, octets: &[u8], reader: &mut Reader, e: ASN1DecodeErr) -> Turn
     requires small { length octets.now < 2 ^ 64 }
     requires failed { (n most : ℕ)
-        × OutOfMemoryOr (λ fault. Faulty octets.now reader.old fault n most) e }
+        × OutOfMemoryOr (λ fault. IsFaulty octets.now reader.old fault n most) e }
     ensures turned { (n most : ℕ)
-        → OutOfMemoryOr (λ fault. Faulty octets.now reader.old fault n most) e
-        → Turned octets.now result reader.new n most }
+        → OutOfMemoryOr (λ fault. IsFaulty octets.now reader.old fault n most) e
+        → HasTurned octets.now result reader.new n most }
 {
     if is_out_of_memory(&e) {
         reader.fault = e;
@@ -365,10 +365,10 @@ fn read_next(
     requires room { count.old + 1 < 2 ^ 64 }
     requires small { length octets.now < 2 ^ 64 }
     requires more { reader.old.index ≢ reader.old.inner.extent.end }
-    requires reading { (n : ℕ) × Reading octets.now reader.old n }
+    requires reading { (n : ℕ) × IsReading octets.now reader.old n }
     ensures counted { count.new ≡ count.old + 1 }
-    ensures stepped { (n : ℕ) → Reading octets.now reader.old n
-        → Stepped octets.now result reader.new (n + 1)
+    ensures stepped { (n : ℕ) → IsReading octets.now reader.old n
+        → HasStepped octets.now result reader.new (n + 1)
         (left (length octets.now) reader.old.index reader.old.outer.items) }
 {
     let offset = reader.index;
@@ -474,7 +474,7 @@ fn close(
         (parent ∷ reverse reader.old.outer.items) reader.old.inner.extent.end n }
     ensures stepped { (n : ℕ) → Reads octets.now reader.old.owed.items reader.old.inner
         (parent ∷ reverse reader.old.outer.items) reader.old.inner.extent.end n
-        → Stepped octets.now result reader.new n
+        → HasStepped octets.now result reader.new n
         (left (length octets.now) reader.old.inner.extent.end (parent ∷ reader.old.outer.items)) }
 {
     let OpenFrame {
@@ -561,9 +561,9 @@ fn keep(
 // all attempts it is the answer.
 fn refuse(alloc: Global, octets: &[u8], reader: &mut Reader, e: ASN1DecodeErr) -> Turn
     requires small { length octets.now < 2 ^ 64 }
-    requires faulty { (n most : ℕ) × Faulty octets.now reader.old (fault_of e) n most }
-    ensures turned { (n most : ℕ) → Faulty octets.now reader.old (fault_of e) n most
-        → Turned octets.now result reader.new n most }
+    requires faulty { (n most : ℕ) × IsFaulty octets.now reader.old (fault_of e) n most }
+    ensures turned { (n most : ℕ) → IsFaulty octets.now reader.old (fault_of e) n most
+        → HasTurned octets.now result reader.new n most }
 {
     while let Some(parent) = reader.outer.pop() {
         let OpenFrame {

@@ -16,26 +16,26 @@ nothing [] h = refl
 nothing (t ∷ ts) h = absurd (omega (arith, h))
 
 -- more is owed, which leads to one tree more
-pub record Grown (octets : List ℕ) (es fs : List Owed) (t : Tree ℕ) : Type 0 where
+pub record IsGrown (octets : List ℕ) (es fs : List Owed) (t : Tree ℕ) : Type 0 where
   pub more : List Owed
   pub whole : fs ≡ es ++ more
   pub leads : (ds : List Owed) (us : List (Tree ℕ)) → Leads octets ds us → Leads octets (ds ++ more) (us ++ t ∷ [])
 
 -- one tree more that is owed
-pub record Owing (octets : List ℕ) (es fs : List Owed) (f g : OpenFrame) (t : Tree ℕ) : Type 0 where
+pub record IsOwing (octets : List ℕ) (es fs : List Owed) (f g : OpenFrame) (t : Tree ℕ) : Type 0 where
   pub begin : g.begin ≡ f.begin
   pub blocks : g.blocks ≡ f.blocks
   pub owes : g.owes ≡ f.owes + 1
-  pub grown : Grown octets es fs t
+  pub grown : IsGrown octets es fs t
 
 -- one block more, where nothing is owed
-pub record Pushing (f g : OpenFrame) (b : ASN1Block) : Type 0 where
+pub record IsPushing (f g : OpenFrame) (b : ASN1Block) : Type 0 where
   pub begin : g.begin ≡ f.begin
   pub blocks : g.blocks ≡ f.blocks ++ b ∷ []
   pub owes : g.owes ≡ f.owes
   pub none : f.owes ≡ 0
 
-holds_owed : (octets : List ℕ) (es fs : List Owed) (f g : OpenFrame) (ts : List (Tree ℕ)) (t : Tree ℕ) → Owing octets es fs f g t → Holds octets es f ts
+holds_owed : (octets : List ℕ) (es fs : List Owed) (f g : OpenFrame) (ts : List (Tree ℕ)) (t : Tree ℕ) → IsOwing octets es fs f g t → Holds octets es f ts
     → Holds octets fs g (ts ++ t ∷ [])
 holds_owed octets es fs f g ts t w h =
     let more = w.grown.more in
@@ -51,7 +51,7 @@ holds_owed octets es fs f g ts t w h =
       trees = ap (λ z. z ++ t ∷ []) h.trees ∙ (seen ∙ ap (λ z. map view z ++ (h.owed ++ t ∷ [])) (sym w.blocks));
     }
 
-holds_pushed : (octets : List ℕ) (es : List Owed) (f g : OpenFrame) (ts : List (Tree ℕ)) (b : ASN1Block) → Pushing f g b → Holds octets es f ts
+holds_pushed : (octets : List ℕ) (es : List Owed) (f g : OpenFrame) (ts : List (Tree ℕ)) (b : ASN1Block) → IsPushing f g b → Holds octets es f ts
     → Holds octets es g (ts ++ view b ∷ [])
 holds_pushed octets es f g ts b w h =
     let none : h.owed ≡ [] = nothing h.owed (sym w.none ∙ h.owes) in
@@ -73,7 +73,7 @@ around_grown octets es more n g gs us rest h a = subst (λ z. AllHold octets z g
 
 -- one tree more in the innermost frame, which is owed
 pub all_owed : (octets : List ℕ) (es fs : List Owed) (f g : OpenFrame) (hs : List OpenFrame) (ts : List (Tree ℕ)) (rest : List (List (Tree ℕ))) (t : Tree ℕ)
-    → Owing octets es fs f g t → AllHold octets es f hs ts rest → AllHold octets fs g hs (ts ++ t ∷ []) rest
+    → IsOwing octets es fs f g t → AllHold octets es f hs ts rest → AllHold octets fs g hs (ts ++ t ∷ []) rest
 all_owed octets es fs f g [] ts [] t w a = (holds_owed octets es fs f g ts t w a.0, w.begin ∙ a.1)
 all_owed octets es fs f g [] ts (us ∷ rest) t w a = absurd a
 all_owed octets es fs f g (h ∷ hs) ts [] t w a = absurd a
@@ -84,7 +84,7 @@ all_owed octets es fs f g (h ∷ hs) ts (us ∷ rest) t w a =
 
 -- and as a block
 pub all_pushed : (octets : List ℕ) (es : List Owed) (f g : OpenFrame) (hs : List OpenFrame) (ts : List (Tree ℕ)) (rest : List (List (Tree ℕ))) (b : ASN1Block)
-    → Pushing f g b → AllHold octets es f hs ts rest → AllHold octets es g hs (ts ++ view b ∷ []) rest
+    → IsPushing f g b → AllHold octets es f hs ts rest → AllHold octets es g hs (ts ++ view b ∷ []) rest
 all_pushed octets es f g [] ts [] b w a = (holds_pushed octets es f g ts b w a.0, w.begin ∙ a.1)
 all_pushed octets es f g [] ts (us ∷ rest) b w a = absurd a
 all_pushed octets es f g (h ∷ hs) ts [] b w a = absurd a
@@ -113,13 +113,13 @@ all_more octets es fs f (h ∷ hs) ts (us ∷ rest) k a =
     (holds_more octets es fs f ts k a.0, around_grown octets es fs f.begin h hs us rest a.0.begin a.1)
 
 -- a frame that owes nothing is left: those around it are as they were
-pub record Clean (octets : List ℕ) (es : List Owed) (f g : OpenFrame) (hs : List OpenFrame) (ts us : List (Tree ℕ)) (rest : List (List (Tree ℕ))) : Type 0
+pub record IsClean (octets : List ℕ) (es : List Owed) (f g : OpenFrame) (hs : List OpenFrame) (ts us : List (Tree ℕ)) (rest : List (List (Tree ℕ))) : Type 0
   where
     pub outer : AllHold octets es g hs us rest
     pub trees : ts ≡ map view f.blocks
 
 pub left_clean : (octets : List ℕ) (es : List Owed) (f g : OpenFrame) (hs : List OpenFrame) (ts us : List (Tree ℕ)) (rest : List (List (Tree ℕ))) → f.owes ≡ 0
-    → Holds octets es f ts → AllHold octets (take f.begin es) g hs us rest → Clean octets es f g hs ts us rest
+    → Holds octets es f ts → AllHold octets (take f.begin es) g hs us rest → IsClean octets es f g hs ts us rest
 left_clean octets es f g hs ts us rest z own around =
     let none : own.owed ≡ [] = nothing own.owed (sym z ∙ own.owes) in
     let l : Leads octets (drop f.begin es) [] = subst (λ w. Leads octets (drop f.begin es) w) none own.leads in
@@ -154,7 +154,7 @@ hold_first octets es f (g ∷ gs) ts [] a = absurd a
 hold_first octets es f (g ∷ gs) ts (us ∷ rest) a = a.0
 
 -- the frame that has others around it
-pub record Nested (octets : List ℕ) (es : List Owed) (f g : OpenFrame) (gs : List OpenFrame) (ts : List (Tree ℕ)) (outer : List (List (Tree ℕ))) : Type 0 where
+pub record IsNested (octets : List ℕ) (es : List Owed) (f g : OpenFrame) (gs : List OpenFrame) (ts : List (Tree ℕ)) (outer : List (List (Tree ℕ))) : Type 0 where
   pub next : List (Tree ℕ)
   pub others : List (List (Tree ℕ))
   pub are : outer ≡ next ∷ others
@@ -162,17 +162,17 @@ pub record Nested (octets : List ℕ) (es : List Owed) (f g : OpenFrame) (gs : L
   pub around : AllHold octets (take f.begin es) g gs next others
 
 pub nested : (octets : List ℕ) (es : List Owed) (f g : OpenFrame) (gs : List OpenFrame) (ts : List (Tree ℕ)) (outer : List (List (Tree ℕ)))
-    → AllHold octets es f (g ∷ gs) ts outer → Nested octets es f g gs ts outer
+    → AllHold octets es f (g ∷ gs) ts outer → IsNested octets es f g gs ts outer
 nested octets es f g gs ts [] a = absurd a
 nested octets es f g gs ts (us ∷ rest) a = record { next = us; others = rest; are = refl; own = a.0; around = a.1 }
 
 -- and the one that has none
-pub record Alone (octets : List ℕ) (es : List Owed) (f : OpenFrame) (ts : List (Tree ℕ)) (outer : List (List (Tree ℕ))) : Type 0 where
+pub record IsAlone (octets : List ℕ) (es : List Owed) (f : OpenFrame) (ts : List (Tree ℕ)) (outer : List (List (Tree ℕ))) : Type 0 where
   pub are : outer ≡ []
   pub own : Holds octets es f ts
   pub begin : f.begin ≡ 0
 
 pub alone : (octets : List ℕ) (es : List Owed) (f : OpenFrame) (ts : List (Tree ℕ)) (outer : List (List (Tree ℕ))) → AllHold octets es f [] ts outer
-    → Alone octets es f ts outer
+    → IsAlone octets es f ts outer
 alone octets es f ts [] a = record { are = refl; own = a.0; begin = a.1 }
 alone octets es f ts (us ∷ rest) a = absurd a

@@ -1,12 +1,12 @@
 use Rattle.asn1_blocks.specs.HeadersBegun.{all_blocks_in}
 use Rattle.asn1_blocks.specs.TreeOrder.{ahead}
 use Rattle.asn1_blocks.specs.View.{views}
-use Rattle.asn1_blocks.proofs.FaithfulWalk.{Rest}
+use Rattle.asn1_blocks.proofs.FaithfulWalk.{IsDecidedBy}
 use Rattle.asn1_blocks.proofs.faithful.are_faithful.Given as goal
 
 -- what is ahead decides of all
 abbrev pub invariant-loop-walk : goal.invariant-loop-walk
-invariant-loop-walk l = Rest l.fn.blocks (ahead l.walk)
+invariant-loop-walk l = IsDecidedBy l.fn.blocks (ahead l.walk)
 
 abbrev pub decreases-loop-walk : goal.decreases-loop-walk
 decreases-loop-walk l = all_blocks_in (views (ahead l.walk))

@@ -5,7 +5,7 @@ use Rattle.asn1_blocks.specs.declared.read.OpenFrame.{OpenFrame}
 use Rattle.asn1_blocks.specs.declared.read.Reader.{Reader}
 use Rattle.asn1_blocks.specs.Owed.{around, as_it_came}
 use Rattle.asn1_blocks.specs.ReaderSteps.{Reads, left}
-use Rattle.asn1_blocks.proofs.Reader.Adding.{Ready, tree_goes_on, owed_goes_on, kept_goes_on, group_grown, around_grown}
+use Rattle.asn1_blocks.proofs.Reader.Adding.{IsReady, tree_goes_on, owed_goes_on, kept_goes_on, group_grown, around_grown}
 use Rattle.asn1_blocks.proofs.Reader.Closing.{N, within, order, clean_group, later_group, one_block_ended, one_owed_ended, other_ended}
 use Rattle.asn1_blocks.proofs.Reader.Memory.{stepped_memory}
 use Rattle.asn1_blocks.proofs.read.close.Goals as goal
@@ -152,5 +152,5 @@ returns-in_ok-keep-in-Attempt c =
           let e0 : k.owes ≡ 0 → length k.blocks ≡ 1 → ⊥ = elim c.else-owes-eq0.branch [ else-owes-eq0-via-then-owes-eq0+else-len-eq1 u ↦ grind (arith, common_steps) | else-owes-eq0-via-else-owes-eq0 u ↦ grind (arith, common_steps) ] in
           let E = other_ended octets es k h gs n w x c.in-Attempt.is (two_ways (length k.blocks) k.owes e1 e0) in
           let a : Reader = record { inner = h; outer = r.outer; index = r.index; owed = c.truncate.new.self; outermost = c.leave-inside.new.outermost; fault = r.fault } in
-          kept_goes_on octets a c.keep.new.reader x k.extent.start k.extent.end n _ c.in_ok-keep-in-Attempt.ensures.kept c.in_ok-keep-in-Attempt.ensures.index (left_at octets r k c.args.parent own) (subst (λ z. Ready octets z h gs k.extent.end (as_it_came octets x k.extent.start k.extent.end) n) (sym c.truncate.ensures.items) E);
+          kept_goes_on octets a c.keep.new.reader x k.extent.start k.extent.end n _ c.in_ok-keep-in-Attempt.ensures.kept c.in_ok-keep-in-Attempt.ensures.index (left_at octets r k c.args.parent own) (subst (λ z. IsReady octets z h gs k.extent.end (as_it_came octets x k.extent.start k.extent.end) n) (sym c.truncate.ensures.items) E);
     }

@@ -2,7 +2,7 @@ use Rattle.std.proofs.Common.{◌≡◌}
 use Rattle.std.proofs.lemmas.Grind.{common_steps}
 use Rattle.std.proofs.Common.{arith}
 use Rattle.asn1_headers.specs.declared.error.ASN1DecodeErr.TheVariants.{OutOfMemory}
-use Rattle.asn1_blocks.specs.ReaderSteps.{Faulty}
+use Rattle.asn1_blocks.specs.ReaderSteps.{IsFaulty}
 use Rattle.asn1_blocks.proofs.Frames.Opening.{fault_here}
 use Rattle.asn1_blocks.proofs.read.fail.Goals as goal
 
@@ -11,11 +11,11 @@ refuse-requires-clause-faulty c =
     let other : c.args.e ≡ OutOfMemory → ⊥ = grind (arith, common_steps) in (
       c.requires.failed.0,
       c.requires.failed.1,
-      fault_here (λ z. Faulty c.args.octets.now c.args.reader.now z c.requires.failed.0 c.requires.failed.1) c.args.e
+      fault_here (λ z. IsFaulty c.args.octets.now c.args.reader.now z c.requires.failed.0 c.requires.failed.1) c.args.e
           c.requires.failed.2 other,
     )
 
 pub returns : goal.returns
 returns c =
     let other : c.args.e ≡ OutOfMemory → ⊥ = grind (arith, common_steps) in
-    record { turned = λ n most w. c.refuse.ensures.turned n most (fault_here (λ z. Faulty c.args.octets.now c.args.reader.now z n most) c.args.e w other) }
+    record { turned = λ n most w. c.refuse.ensures.turned n most (fault_here (λ z. IsFaulty c.args.octets.now c.args.reader.now z n most) c.args.e w other) }

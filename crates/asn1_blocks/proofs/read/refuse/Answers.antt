@@ -4,7 +4,7 @@ use Rattle.asn1_blocks.specs.declared.read.OpenFrame.{OpenFrame}
 use Rattle.asn1_blocks.specs.declared.read.Reader.{Reader}
 use Rattle.asn1_blocks.specs.Owed.{as_it_came}
 use Rattle.asn1_blocks.specs.ReaderSteps.{attempt_of}
-use Rattle.asn1_blocks.proofs.Reader.Adding.{Ready, kept_goes_on}
+use Rattle.asn1_blocks.proofs.Reader.Adding.{IsReady, kept_goes_on}
 use Rattle.asn1_blocks.proofs.Reader.Stopping.{fits, refused_pop, refused_attempt, refused_places, refused_taken, refused_outermost, taken_nearer, attempt_is}
 use Rattle.asn1_blocks.proofs.read.refuse.Goals as goal
 
@@ -80,7 +80,7 @@ returns-in-Some-as_attempt c =
           } in
           let near = taken_nearer (length octets) r.inner k c.in-Some.parent r.outer.items after own is in
           kept_goes_on octets a c.keep.new.reader x k.extent.start k.extent.end n most c.in-Ok.ensures.kept c.in-Ok.ensures.index
-          (omega (arith, near, before.nearer)) (subst (λ z. Ready octets z h (reverse after) k.extent.end (as_it_came octets x k.extent.start k.extent.end)
+          (omega (arith, near, before.nearer)) (subst (λ z. IsReady octets z h (reverse after) k.extent.end (as_it_came octets x k.extent.start k.extent.end)
           n) (sym c.truncate.ensures.items) E);
     }
 

@@ -2,7 +2,7 @@ use Rattle.std.proofs.Common.{◌≡◌, ℕ, ◌+◌, List, [], ◌∷◌, ◌+
 use Rattle.std.proofs.lemmas.Grind.{common_steps}
 use Rattle.asn1_blocks.specs.declared.read.OpenFrame.{OpenFrame}
 use Rattle.asn1_blocks.specs.declared.read.Reader.{Reader}
-use Rattle.asn1_blocks.specs.ReaderSteps.{Reads, Reading, Turned, left}
+use Rattle.asn1_blocks.specs.ReaderSteps.{Reads, IsReading, HasTurned, left}
 use Rattle.asn1_blocks.proofs.Reader.Closing.{document_ended}
 use Rattle.asn1_blocks.proofs.Reader.Opening.{reader_places}
 use Rattle.asn1_blocks.proofs.Reader.Popping.{reverse_push, reverse_none}
@@ -10,7 +10,7 @@ use Rattle.asn1_blocks.proofs.read.take_turn.Goals as goal
 
 -- the innermost frame has ended inside another, which was taken out of the list
 closing : (octets : List ℕ) (r : Reader) (g : OpenFrame) (after : List OpenFrame) (n : ℕ) → r.index ≡ r.inner.extent.end → r.outer.items ≡ after ++ g ∷ []
-    → Reading octets r n → Reads octets r.owed.items r.inner (g ∷ reverse after) r.inner.extent.end n
+    → IsReading octets r n → Reads octets r.owed.items r.inner (g ∷ reverse after) r.inner.extent.end n
 closing octets r g after n i is w =
     subst (λ z. Reads octets r.owed.items r.inner z r.inner.extent.end n) (reverse_push r.outer.items after g is)
     (subst (λ z. Reads octets r.owed.items r.inner (reverse r.outer.items) z n) i w)
@@ -69,7 +69,7 @@ returns-in-Some c =
             begun = n;
             counted = e;
             bounded = omega (arith, v.bound, v.to, v.within);
-            turned = subst (λ z. Turned octets c.turn_of-in-Some.result c.turn_of-in-Some.new.reader n z)
+            turned = subst (λ z. HasTurned octets c.turn_of-in-Some.result c.turn_of-in-Some.new.reader n z)
                 (as_much (length octets) r g after c.if-reader.false is) t;
           };
     }
