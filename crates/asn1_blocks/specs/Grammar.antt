@@ -30,8 +30,8 @@ mutual
     no_blocks : AreBlocks []
     more_blocks : {octets x rest : List ℕ} → octets ≡ x ++ rest → IsBlock x → AreBlocks rest → AreBlocks octets
 
--- contents octets with these fields are not read as more: their tag has no rule, or they are of
--- another class and are not one block in a constructed encoding
+-- contents octets with these fields are not read as more: their tag has no rule, or they are of another class and are
+-- not one block in a constructed encoding
 abbrev pub StaysAsItCame : ASN1Class → Bool → ℕ → List ℕ → Type 0
 StaysAsItCame c k n v =
     ((c ≡ Universal) × (is_known_tag n ≡ false))

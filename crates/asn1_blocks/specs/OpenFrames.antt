@@ -50,8 +50,8 @@ pub record IsDocumentFrame (octets : List ℕ) (f : Frame) : Type 0 where
   pub start : f.extent.start ≡ 0
   pub end : f.extent.end ≡ length octets
 
--- a frame is read up to the place inside another one, which is read up to the offset of its header.
--- So n headers were begun: those before it, its own, and those inside
+-- a frame is read up to the place inside another one, which is read up to the offset of its header. So n headers were
+-- begun: those before it, its own, and those inside
 pub record IsInside (octets : List ℕ) (f g : Frame) (Around : ℕ → ℕ → Type 0) (place n : ℕ) : Type 0
   where
     pub offset : ℕ
@@ -84,8 +84,8 @@ pub record StopsAt (octets : List ℕ) (f : Frame) (place : ℕ) (e : DecodeFaul
   pub innermost : offset ≡ place + inside
   pub begun : HeadersBegun (slice_range octets place f.extent.end) n
 
--- the block at some place of the innermost frame is at fault, the innermost block at fault begins
--- at the offset, and n headers were begun
+-- the block at some place of the innermost frame is at fault, the innermost block at fault begins at the offset, and n
+-- headers were begun
 pub record IsStopping (octets : List ℕ) (f : Frame) (gs : List Frame) (e : DecodeFault)
     (offset n : ℕ) : Type 0 where
   pub place : ℕ

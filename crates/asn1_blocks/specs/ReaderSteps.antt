@@ -81,8 +81,8 @@ pub record Reads (octets : List ℕ) (es : List Owed) (f : OpenFrame) (gs : List
 abbrev pub IsReading : List ℕ → Reader → ℕ → Type 0
 IsReading octets r n = Reads octets r.owed.items r.inner (reverse r.outer.items) r.index n
 
--- a fault is in the frame, of a block at the offset; of what this frame and those around owe,
--- some at the end is left over
+-- a fault is in the frame, of a block at the offset; of what this frame and those around owe, some at the end is left
+-- over
 pub record IsRefused (octets : List ℕ) (es : List Owed) (f : OpenFrame) (gs : List OpenFrame)
     (e : DecodeFault) (offset n : ℕ) : Type 0 where
   pub trees : List (Tree ℕ)
@@ -97,8 +97,7 @@ pub record IsRefused (octets : List ℕ) (es : List Owed) (f : OpenFrame) (gs : 
 abbrev pub left : ℕ → ℕ → List OpenFrame → ℕ
 left size index outer = 2 * (size - index) + length outer
 
--- a fault in the innermost frame, of the block that the reader has come to, with less left to do
--- behind it
+-- a fault in the innermost frame, of the block that the reader has come to, with less left to do behind it
 pub record IsFaulty (octets : List ℕ) (r : Reader) (e : DecodeFault) (n most : ℕ) : Type 0 where
   pub refused : IsRefused octets r.owed.items r.inner (reverse r.outer.items) e r.index n
   pub nearer : left (length octets) r.inner.extent.end r.outer.items ≤ most

@@ -20,20 +20,20 @@ pub enum GroupKind {
     Set,
 }
 
-/// A block. The first `usize` of each variant is its offset, in octets: where its first octet
-/// stands from the start of the document. It plays no part in equality or in writing.
+/// A block. The first `usize` of each variant is its offset, in octets: where its first octet stands from the start of
+/// the document. It plays no part in equality or in writing.
 ///
-/// A block that goes out of scope is dropped by recursion, with a call on the stack for each level
-/// of nesting, and so is its `Debug` text made. [`discard`](crate::discard) drops blocks with no
-/// call for a level, and [`Document`](crate::Document) does so with those of a document.
+/// A block that goes out of scope is dropped by recursion, with a call on the stack for each level of nesting, and so
+/// is its `Debug` text made. [`discard`](crate::discard) drops blocks with no call for a level, and
+/// [`Document`](crate::Document) does so with those of a document.
 #[derive(Debug, Drop)]
 pub enum ASN1Block {
     /// BOOLEAN (X.690 8.2): its value.
     Boolean(usize, bool),
     /// INTEGER (X.690 8.3): the number, of any size.
     Integer(usize, BigInt),
-    /// BIT STRING (X.690 8.6): the number of bits, and the octets that hold them, the first bit the
-    /// most significant of the first octet. The other bits of these octets are unused.
+    /// BIT STRING (X.690 8.6): the number of bits, and the octets that hold them, the first bit the most significant of
+    /// the first octet. The other bits of these octets are unused.
     BitString(usize, usize, Vec<u8>),
     /// OCTET STRING (X.690 8.7): its octets.
     OctetString(usize, Vec<u8>),
@@ -61,14 +61,13 @@ pub enum ASN1Block {
     Sequence(usize, Vec<ASN1Block>),
     /// SET or SET OF (X.690 8.11, 8.12): its items in the order of their octets.
     Set(usize, Vec<ASN1Block>),
-    /// A constructed encoding of another class around one block, as explicit tagging makes it
-    /// (X.690 8.14): class, offset, tag number, the block.
+    /// A constructed encoding of another class around one block, as explicit tagging makes it (X.690 8.14): class,
+    /// offset, tag number, the block.
     Explicit(ASN1Class, usize, BigUint, Box<ASN1Block>),
-    /// Any other encoding (X.690 8.1.1): class, whether it is constructed, offset, tag number, and
-    /// its contents octets as they came. These are the primitive ones of other classes than
-    /// Universal, the constructed ones whose contents are not exactly one block, and those of class
-    /// Universal with a tag number other than 1 to 6, 12, 16, 17, 19, 20, 22 to 24, 28 and 30: 10,
-    /// ENUMERATED, is one, and so are 18, NumericString, and 26, VisibleString.
+    /// Any other encoding (X.690 8.1.1): class, whether it is constructed, offset, tag number, and its contents octets
+    /// as they came. These are the primitive ones of other classes than Universal, the constructed ones whose contents
+    /// are not exactly one block, and those of class Universal with a tag number other than 1 to 6, 12, 16, 17, 19, 20,
+    /// 22 to 24, 28 and 30: 10, ENUMERATED, is one, and so are 18, NumericString, and 26, VisibleString.
     Unknown(ASN1Class, bool, usize, BigUint, Vec<u8>),
 }
 
@@ -92,8 +91,7 @@ impl ASN1Block {
         }
     }
 
-    /// The offset of the block's first octet from the start of the document that it was read from,
-    /// in octets.
+    /// The offset of the block's first octet from the start of the document that it was read from, in octets.
     ///
     /// ```rust
     /// use simple_asn1::{ASN1Block, encoding_at};

@@ -13,9 +13,9 @@ use crate::read::{from_der, from_der_located};
 use asn1_headers::error::{ASN1DecodeErr, LocatedErr};
 use std::alloc::Global;
 
-/// The blocks of a document, for octets that nobody vouches for: however deeply they are nested,
-/// dropping a `Document` takes no memory and a few calls on the stack, where dropping the blocks
-/// themselves takes a call for each level of nesting.
+/// The blocks of a document, for octets that nobody vouches for: however deeply they are nested, dropping a `Document`
+/// takes no memory and a few calls on the stack, where dropping the blocks themselves takes a call for each level of
+/// nesting.
 ///
 /// ```rust
 /// use simple_asn1::{ASN1DecodeErr, Document};
@@ -120,8 +120,8 @@ impl Document {
         self.blocks.as_slice()
     }
 
-    /// Gives up the blocks at the top, in order. From then on dropping them takes a call on the
-    /// stack for each level of nesting, unless [`discard`](crate::discard) does it.
+    /// Gives up the blocks at the top, in order. From then on dropping them takes a call on the stack for each level of
+    /// nesting, unless [`discard`](crate::discard) does it.
     ///
     /// ```rust
     /// use simple_asn1::{ASN1Block, ASN1DecodeErr, Document};

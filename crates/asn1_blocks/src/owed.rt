@@ -1,6 +1,5 @@
 // What is owed: blocks whose octets are not copied yet, since a fault may still refuse what stands around them.
-ghost use Rattle.std.specs.Prelude.{◌≡◌, ◌≤◌, true, [], map, slice_range, IfOk, IfErr, OnOk};
-ghost use Rattle.asn1_headers.specs.declared.error.ASN1DecodeErr.TheVariants.{OutOfMemory};
+ghost use Rattle.std.specs.Prelude.{◌≡◌, true, [], map, slice_range, IfOk, OnOk};
 ghost use Rattle.asn1_blocks.specs.Tree.{group, unknown};
 ghost use Rattle.asn1_blocks.specs.View.{view, views};
 ghost use Rattle.asn1_blocks.specs.Owed.{after, after_all, around};
@@ -8,7 +7,6 @@ ghost use Rattle.asn1_blocks.specs.Owed.{after, after_all, around};
 use crate::block::discard::discard_one;
 use crate::block::{ASN1Block, GroupKind};
 use crate::held::{HeldBlocks, boxed};
-use asn1_headers::error::ASN1DecodeErr;
 use asn1_headers::header::ASN1Class;
 use asn1_numbers::number::big_uint::BigUint;
 use asn1_numbers::octets::copy_of;

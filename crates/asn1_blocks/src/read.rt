@@ -1,5 +1,5 @@
 // Reading documents: one loop over the frames that are open, so that no function calls itself.
-ghost use Rattle.std.specs.Prelude.{◌≡◌, ◌≢◌, ◌↔◌, ℕ, ◌+◌, ◌-◌, ◌<◌, ◌≤◌, ◌^◌, ◌⊎◌, ◌++◌, ◌∷◌, [], true, List, length, map, reverse, IfOk, IfErr, IsErrAnd, IsTrue, MatchResult, OnOk};
+ghost use Rattle.std.specs.Prelude.{◌≡◌, ◌≢◌, ◌↔◌, ℕ, ◌+◌, ◌-◌, ◌<◌, ◌≤◌, ◌^◌, ◌⊎◌, ◌++◌, ◌∷◌, [], true, length, map, reverse, IfOk, IfErr, IsErrAnd, IsTrue, MatchResult, OnOk};
 ghost use Rattle.asn1_blocks.specs.declared.block.ASN1Block.{ASN1Block};
 ghost use Rattle.asn1_headers.specs.declared.error.ASN1DecodeErr.TheVariants.{OutOfMemory};
 ghost use Rattle.asn1_headers.specs.Fault.{DecodeFault, OutOfMemoryOr, UnlessOutOfMemory, fault_of};
@@ -7,7 +7,7 @@ ghost use Rattle.asn1_blocks.specs.FaultPlace.{FirstFaultAt};
 ghost use Rattle.asn1_blocks.specs.Grammar.{IsDocument, FirstFault};
 ghost use Rattle.asn1_blocks.specs.HeadersBegun.{HeadersBegun};
 ghost use Rattle.asn1_blocks.specs.Owed.{after_all, around};
-ghost use Rattle.asn1_blocks.specs.ReaderSteps.{IsFaulty, IsKept, IsOpened, IsOwed, IsPut, IsReadAs, IsReading, Reads, IsRefused, HasStepped, HasTakenTurn, HasTurned, attempt_of, left};
+ghost use Rattle.asn1_blocks.specs.ReaderSteps.{IsFaulty, IsKept, IsOpened, IsOwed, IsPut, IsReadAs, IsReading, Reads, HasStepped, HasTakenTurn, HasTurned, attempt_of, left};
 ghost use Rattle.asn1_blocks.specs.Tree.{Trees};
 ghost use Rattle.asn1_blocks.specs.View.{view, views};
 
@@ -23,7 +23,8 @@ use std::alloc::{AllocError, Global};
 use std::mem;
 
 // Contents octets up to this length are copied at once, also inside an open attempt, where longer ones are owed: copies
-// that may be dropped again cost at most so many octets for each header, and to owe one costs more than so small a copy.
+// that may be dropped again cost at most so many octets for each header, and to owe one costs more than so small a
+// copy.
 const COPIED_AT_ONCE: usize = 256;
 
 // What the contents octets of a frame are.
@@ -90,12 +91,13 @@ enum Turn {
 /// `Unknown` otherwise (X.690 8.1.1, 8.14): a fault inside refuses nothing.
 ///
 /// Memory is taken for the blocks, for a frame for each level of nesting that is open, and for each block that is owed
-/// until it is known whether an encoding around it stays `Unknown`. Room for the blocks of a frame is reserved before they are read: for as many as its headers announce, at most one for two octets.
+/// until it is known whether an encoding around it stays `Unknown`. Room for the blocks of a frame is reserved before
+/// they are read: for as many as its headers announce, at most one for two octets.
 ///
 /// # Errors
 /// The first fault from the left: `EmptyBuffer`, `LengthTooLarge`, `Incomplete`, `BadBooleanLength`,
-/// `InvalidBitStringLength`, `UTF8DecodeFailure`, `PrintableStringDecodeFailure`,
-/// `InvalidDateValue`; or `OutOfMemory`, which says nothing of the octets.
+/// `InvalidBitStringLength`, `UTF8DecodeFailure`, `PrintableStringDecodeFailure`, `InvalidDateValue`; or `OutOfMemory`,
+/// which says nothing of the octets.
 ///
 /// ```rust
 /// use simple_asn1::{ASN1DecodeErr, from_der};

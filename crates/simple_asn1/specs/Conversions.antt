@@ -1,5 +1,5 @@
--- What reading and writing a type of one's own answers, by the relations that the type names. `reads` relates the trees of
--- blocks, and a value with the trees after it, or a fault; `writes` relates trees, or a fault. `from` is the type's
+-- What reading and writing a type of one's own answers, by the relations that the type names. `reads` relates the trees
+-- of blocks, and a value with the trees after it, or a fault; `writes` relates trees, or a fault. `from` is the type's
 -- conversion of an error of this library into a fault of its own.
 use Rattle.std.specs.Prelude.{◌≡◌, ◌≢◌, ◌⊎◌, ℕ, List, Result, Ok, Err, Some, None}
 use Rattle.asn1_headers.specs.declared.error.ASN1DecodeErr.{ASN1DecodeErr}
@@ -20,8 +20,8 @@ abbrev pub Decodes : {T E : Type 0} →
 Decodes reads octets x =
     (bs : Trees ℕ) × (rest : Trees ℕ) × IsDocument octets bs × reads bs (Ok (x, rest))
 
--- the octets are a document whose trees the type refuses with the fault; or the fault is what the type makes of the first
--- fault of the octets, or of memory that ran out
+-- the octets are a document whose trees the type refuses with the fault; or the fault is what the type makes of the
+-- first fault of the octets, or of memory that ran out
 abbrev pub DecodeFails : {T E : Type 0} →
     (Trees ℕ → Result (T × Trees ℕ) E → Type 0) → (ASN1DecodeErr → E → Type 0) → List ℕ → E → Type 0
 DecodeFails reads from octets e =

@@ -1,5 +1,5 @@
-// Copies of blocks by a loop, from the last block in tree order to the first: the copies of what a
-// block holds are made before its own.
+// Copies of blocks by a loop, from the last block in tree order to the first: the copies of what a block holds are made
+// before its own.
 ghost use Rattle.std.specs.Prelude.{◌≡◌, ◌++◌, ◌≤◌, IfOk, length, reverse};
 ghost use Rattle.asn1_blocks.specs.TreeOrder.{inside};
 ghost use Rattle.asn1_blocks.specs.View.{view, views};
@@ -77,11 +77,10 @@ fn copy(alloc: Global, b: &ASN1Block) -> Result<ASN1Block, AllocError>
 impl ASN1Block {
     /// The same block, offsets too. The only error is that memory ran out.
     ///
-    /// Memory is taken for each box of the tree, each vector and text that is not empty, each
-    /// integer of more than 16 octets, and each tag number from 2^64 on: one allocation each. While
-    /// it is made, a list of references to all blocks is kept, 8 octets for each, and the copies
-    /// that wait for the block that holds them. The stack that is taken does not grow with the
-    /// nesting, also where memory runs out and what was copied is dropped.
+    /// Memory is taken for each box of the tree, each vector and text that is not empty, each integer of more than 16
+    /// octets, and each tag number from 2^64 on: one allocation each. While it is made, a list of references to all
+    /// blocks is kept, 8 octets for each, and the copies that wait for the block that holds them. The stack that is
+    /// taken does not grow with the nesting, also where memory runs out and what was copied is dropped.
     ///
     /// ```rust
     /// use simple_asn1::ASN1Block;

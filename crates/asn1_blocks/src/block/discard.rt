@@ -1,13 +1,13 @@
 // Dropping blocks at all depths by a loop, without memory.
-ghost use Rattle.std.specs.Prelude.{◌≡◌, ◌+◌, ◌<◌};
+ghost use Rattle.std.specs.Prelude.{◌+◌, ◌<◌};
 ghost use Rattle.asn1_blocks.specs.HeadersBegun.{all_blocks_in, blocks_in};
 ghost use Rattle.asn1_blocks.specs.View.{view, views};
 
 use crate::block::ASN1Block;
 use std::mem;
 
-/// Drops blocks that may be nested deeply: in time linear in their number, with no memory, and
-/// with no call on the stack for a level of nesting, as dropping an [`ASN1Block`] has it.
+/// Drops blocks that may be nested deeply: in time linear in their number, with no memory, and with no call on the
+/// stack for a level of nesting, as dropping an [`ASN1Block`] has it.
 ///
 /// ```rust
 /// use simple_asn1::{ASN1DecodeErr, discard, from_der};
@@ -29,8 +29,8 @@ pub fn discard(mut blocks: Vec<ASN1Block>) {
     blocks.destroy_empty();
 }
 
-// Drops a part of a block, and gives what is left beside the others. Where the block holds blocks,
-// they become the list, and the others wait in a SEQUENCE in the place of the first of them.
+// Drops a part of a block, and gives what is left beside the others. Where the block holds blocks, they become the
+// list, and the others wait in a SEQUENCE in the place of the first of them.
 fn unnest(mut block: ASN1Block, mut rest: Vec<ASN1Block>) -> Vec<ASN1Block>
     ensures { all_blocks_in (views result.items)
         < blocks_in (view block) + all_blocks_in (views rest.items) }

@@ -1,7 +1,7 @@
-// Whether blocks are the same but for their offsets. It takes no memory, and a call for each level
-// of nesting in a block that others of its list follow: the last block of a list, and the one of an
-// explicit tagging, are gone into by a loop.
-ghost use Rattle.std.specs.Prelude.{◌≡◌, ◌↔◌, IsTrue, length};
+// Whether blocks are the same but for their offsets. It takes no memory, and a call for each level of nesting in a
+// block that others of its list follow: the last block of a list, and the one of an explicit tagging, are gone into by
+// a loop.
+ghost use Rattle.std.specs.Prelude.{◌≡◌, ◌↔◌, IsTrue};
 ghost use Rattle.std.specs.Str.{chars};
 ghost use Rattle.asn1_leaves.specs.Contents.Moment.{moment_of};
 ghost use Rattle.asn1_blocks.specs.Tree.{shape, shapes};
@@ -109,8 +109,8 @@ fn same(a: &ASN1Block, b: &ASN1Block) -> bool
 
 /// Two blocks are equal where their variants and fields are; offsets are ignored at every depth.
 ///
-/// Comparing takes no memory. It takes a call on the stack for each level of nesting, but for
-/// blocks that are the last of their list, and those in an `Explicit`: chains of these take none.
+/// Comparing takes no memory. It takes a call on the stack for each level of nesting, but for blocks that are the last
+/// of their list, and those in an `Explicit`: chains of these take none.
 impl PartialEq for ASN1Block {
     ghost use Rattle.asn1_blocks.specs.Equality.{same_block};
     ghost use Rattle.asn1_blocks.specs.EqualityLaws.{same_block_laws};

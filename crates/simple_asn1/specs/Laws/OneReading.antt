@@ -13,8 +13,7 @@ pub record OneReading : Type 0 where
   pub one_tree :
       (offset : ℕ) (octets : List ℕ) (a b : Tree ℕ) →
       Encodes offset octets a → Encodes offset octets b → a ≡ b
-  -- of two trees encoded at the front of the same octets, at one offset, the octets and the trees
-  -- are equal
+  -- of two trees encoded at the front of the same octets, at one offset, the octets and the trees are equal
   pub one_front :
       (offset : ℕ) (s t x y : List ℕ) (a b : Tree ℕ) →
       Encodes offset s a → Encodes offset t b → s ++ x ≡ t ++ y → (s ≡ t) × (a ≡ b)
@@ -38,8 +37,8 @@ pub record OneReading : Type 0 where
   pub one_fault :
       (octets : List ℕ) (e d : DecodeFault) →
       FitInSlice octets → FirstFault octets e → FirstFault octets d → e ≡ d
-  -- the first fault is of octets: a class always exists, nothing overflows, and neither memory nor a
-  -- block that is not canonical is one of them
+  -- the first fault is of octets: a class always exists, nothing overflows, and neither memory nor a block that is not
+  -- canonical is one of them
   pub of_reading : (octets : List ℕ) (e : DecodeFault) → FirstFault octets e → IsOfReading e
   -- a reader begins some number of headers
   pub headers_begun : (octets : List ℕ) → FitInSlice octets → (n : ℕ) × HeadersBegun octets n

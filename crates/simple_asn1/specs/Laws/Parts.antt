@@ -9,8 +9,7 @@ use Rattle.asn1_blocks.specs.Places.{rebased, all_later, joined, BeginAt, HasOct
 
 -- two documents one after another
 pub record Joined : Type 0 where
-  -- are one, with the trees of the first, and then those of the second with offsets greater by the
-  -- first's length
+  -- are one, with the trees of the first, and then those of the second with offsets greater by the first's length
   pub both :
       (first second : List ℕ) (xs ys : Trees ℕ) →
       IsDocument first xs → IsDocument second ys →
@@ -18,8 +17,8 @@ pub record Joined : Type 0 where
 
 -- the proper fronts of a document
 pub record Fronts : Type 0 where
-  -- a proper front is a document of the trees xs exactly where xs are the document's first trees,
-  -- one or more, and the tree after them begins where the front ends
+  -- a proper front is a document of the trees xs exactly where xs are the document's first trees, one or more, and the
+  -- tree after them begins where the front ends
   pub accepted :
       (document front rest : List ℕ) (bs xs : Trees ℕ) →
       IsDocument document bs → document ≡ front ++ rest → 0 < length rest →

@@ -9,8 +9,7 @@ use Rattle.simple_asn1.specs.ReadBack.{CanonicalDocument}
 use Rattle.simple_asn1.specs.Strict.{EqualByOctets, StandCanonical, StrictFault}
 
 pub record StrictReading : Type 0 where
-  -- a document is the canonical octets of its trees exactly if each tree of the top level stands in
-  -- its own
+  -- a document is the canonical octets of its trees exactly if each tree of the top level stands in its own
   pub canonical :
       (document : List ℕ) (bs : Trees ℕ) →
       FitInSlice document → IsDocument document bs →
