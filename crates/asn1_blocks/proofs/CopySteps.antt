@@ -25,12 +25,12 @@ reverse_twice [] = refl
 reverse_twice (x ∷ xs) = ap reverse (reverse-append (x ∷ []) xs) ∙ (reverse-append (reverse xs) (x ∷ []) ∙ ap (λ z. x ∷ z) (reverse_twice xs))
 
 -- the copies that are taken are those of what the block holds, and its own takes their place
-pub record Taken (b : ASN1Block) (left taken kept : List ASN1Block) : Type 0 where
+pub record IsTaken (b : ASN1Block) (left taken kept : List ASN1Block) : Type 0 where
   pub held : views taken ≡ inside (view b)
   pub copied : (r : ASN1Block) → view r ≡ view b → views (reverse (kept ++ r ∷ [])) ≡ views left
 
 pub taken_for : (b : ASN1Block) (left after done taken kept : List ASN1Block) → IsNext b left after → views (reverse done) ≡ views after
-    → length taken ≡ count (inside (view b)) → done ≡ kept ++ reverse taken → Taken b left taken kept
+    → length taken ≡ count (inside (view b)) → done ≡ kept ++ reverse taken → IsTaken b left taken kept
 taken_for b left after done taken kept n s k t =
     let v : reverse done ≡ taken ++ reverse kept = ap reverse t ∙ (reverse-append kept (reverse taken) ∙ ap (λ z. z ++ reverse kept) (reverse_twice taken)) in
     let m : length taken ≡ length n.held = k ∙ (sym (ap count n.holds) ∙ count_views n.held) in

@@ -15,6 +15,6 @@ pub mod OneBlock
 pub mod Slices
 pub mod FaultPlaces
 pub mod EncodingSizes
-pub mod Orders
+pub mod OwedBlocks
 pub mod Frames
 pub mod Reader

@@ -1,4 +1,4 @@
--- The reader: what its frames hold as blocks and entries, and its steps.
+-- The reader: what its frames hold as blocks and owe, and its steps.
 pub mod Memory
 pub mod Turning
 pub mod Popping

@@ -64,43 +64,43 @@ whole_of (unknown c k o m v) (group p h cs) e i = cc
 whole_of (unknown c k o m v) (explicit d p n f) e i = cc
 
 -- the same lists of blocks but for offsets
-abbrev pub Same : List ASN1Block → List ASN1Block → Type 0
-Same xs ys = shapes (views xs) ≡ shapes (views ys)
+abbrev pub AreSame : List ASN1Block → List ASN1Block → Type 0
+AreSame xs ys = shapes (views xs) ≡ shapes (views ys)
 
-split : (xs ys : List ASN1Block) (x y : ASN1Block) → length xs ≡ length ys → Same (xs ++ x ∷ []) (ys ++ y ∷ []) → Same xs ys × (shape (view x) ≡ shape (view y))
+split : (xs ys : List ASN1Block) (x y : ASN1Block) → length xs ≡ length ys → AreSame (xs ++ x ∷ []) (ys ++ y ∷ []) → AreSame xs ys × (shape (view x) ≡ shape (view y))
 split [] [] x y n e = (refl, cc)
 split [] (b ∷ ys) x y n e = absurd (omega (arith, n))
 split (a ∷ xs) [] x y n e = absurd (omega (arith, n))
 split (a ∷ xs) (b ∷ ys) x y n e =
-    let f : Same (xs ++ x ∷ []) (ys ++ y ∷ []) = cc in
+    let f : AreSame (xs ++ x ∷ []) (ys ++ y ∷ []) = cc in
     let g : shape (view a) ≡ shape (view b) = cc in
     let h = split xs ys x y (omega (arith, n)) f in
     let k = h.0 in
     (cc, h.1)
 
-join : (xs ys : List ASN1Block) (x y : ASN1Block) → Same xs ys → shape (view x) ≡ shape (view y) → Same (xs ++ x ∷ []) (ys ++ y ∷ [])
+join : (xs ys : List ASN1Block) (x y : ASN1Block) → AreSame xs ys → shape (view x) ≡ shape (view y) → AreSame (xs ++ x ∷ []) (ys ++ y ∷ [])
 join [] [] x y e f = cc
 join [] (b ∷ ys) x y e f = absurd (omega (arith, same_length [] (b ∷ ys) e))
 join (a ∷ xs) [] x y e f = absurd (omega (arith, same_length (a ∷ xs) [] e))
 join (a ∷ xs) (b ∷ ys) x y e f =
     let g : shape (view a) ≡ shape (view b) = cc in
-    let r : Same xs ys = cc in
+    let r : AreSame xs ys = cc in
     let s = join xs ys x y r f in
     cc
 
 -- two lists with a last block are the same where those before are, and the last ones beside and by what they hold
-pub record Lasts (v w xs ys : List ASN1Block) (x y : ASN1Block) : Type 0 where
-  pub fronts : Same v w → Same xs ys
-  pub own : Same v w → own_shape (view x) ≡ own_shape (view y)
-  pub held : Same v w → shapes (inside (view x)) ≡ shapes (inside (view y))
-  pub whole : Same xs ys → own_shape (view x) ≡ own_shape (view y) → shapes (inside (view x)) ≡ shapes (inside (view y)) → Same v w
+pub record HaveLasts (v w xs ys : List ASN1Block) (x y : ASN1Block) : Type 0 where
+  pub fronts : AreSame v w → AreSame xs ys
+  pub own : AreSame v w → own_shape (view x) ≡ own_shape (view y)
+  pub held : AreSame v w → shapes (inside (view x)) ≡ shapes (inside (view y))
+  pub whole : AreSame xs ys → own_shape (view x) ≡ own_shape (view y) → shapes (inside (view x)) ≡ shapes (inside (view y)) → AreSame v w
 
-pub lasts : (v w xs ys : List ASN1Block) (x y : ASN1Block) → v ≡ xs ++ x ∷ [] → w ≡ ys ++ y ∷ [] → Lasts v w xs ys x y
+pub lasts : (v w xs ys : List ASN1Block) (x y : ASN1Block) → v ≡ xs ++ x ∷ [] → w ≡ ys ++ y ∷ [] → HaveLasts v w xs ys x y
 lasts v w xs ys x y e f =
     let p = ap (λ z. shapes (views z)) e in
     let q = ap (λ z. shapes (views z)) f in
-    let n : Same v w → length xs ≡ length ys = λ s. omega (arith, same_length (xs ++ x ∷ []) (ys ++ y ∷ []) (sym p ∙ (s ∙ q)), length-append xs (x ∷ []), length-append ys (y ∷ [])) in
-    let t : Same v w → Same xs ys × (shape (view x) ≡ shape (view y)) = λ s. split xs ys x y (n s) (sym p ∙ (s ∙ q)) in
+    let n : AreSame v w → length xs ≡ length ys = λ s. omega (arith, same_length (xs ++ x ∷ []) (ys ++ y ∷ []) (sym p ∙ (s ∙ q)), length-append xs (x ∷ []), length-append ys (y ∷ [])) in
+    let t : AreSame v w → AreSame xs ys × (shape (view x) ≡ shape (view y)) = λ s. split xs ys x y (n s) (sym p ∙ (s ∙ q)) in
     record {
       fronts = λ s. (t s).0;
       own = λ s. own_of (view x) (view y) (t s).1;

@@ -4,7 +4,7 @@ use Rattle.std.specs.List.{slice_range}
 use Rattle.std.proofs.lemmas.List.{take_at, drop_at}
 use Rattle.asn1_blocks.specs.Tree.{Tree, Trees, leaf, group, explicit, unknown, no_trees, more_trees}
 use Rattle.asn1_blocks.specs.View.{tree_offset}
-use Rattle.asn1_blocks.specs.Grammar.{Encodes, EncodesAll, Document}
+use Rattle.asn1_blocks.specs.Grammar.{Encodes, EncodesAll, IsDocument}
 use Rattle.asn1_blocks.specs.Places.{with_offsets, all_with_offsets, rebased, all_later, joined, end_before, StandsIn, itself, in_group, in_explicit, StandsAmong, in_first, in_later, HasOctets, EncodingAt}
 use Rattle.asn1_headers.proofs.Prefixes.{encoding_alone}
 use Rattle.asn1_blocks.proofs.OneReading.{block_some, encodes_block, only}
@@ -72,7 +72,7 @@ mutual
   }
 
 -- b stands in the octets i, and ends at j
-pub record Found (i : List ℕ) (b : Tree ℕ) (j : ℕ) : Type 0 where
+pub record IsFoundIn (i : List ℕ) (b : Tree ℕ) (j : ℕ) : Type 0 where
   pub before : List ℕ
   pub octets : List ℕ
   pub behind : List ℕ
@@ -100,7 +100,7 @@ mutual
   -- a tree that stands in one that was read
   pub found_in :
       (a : Tree ℕ) (e : ℕ) (b : Tree ℕ) (j : ℕ) (i u x v : List ℕ) → i ≡ u ++ (x ++ v) →
-      e ≡ length u + length x → Encodes (length u) x a → StandsIn a e b j → Found i b j
+      e ≡ length u + length x → Encodes (length u) x a → StandsIn a e b j → IsFoundIn i b j
   found_in a e b j i u x v w n s itself = record { before = u; octets = x; behind = v; whole = w; ends = n; encoded = s }
   found_in a e b j i u x v w n s (in_group {bs = bs} t) =
       let f = s.encoding in
@@ -119,7 +119,7 @@ mutual
 
   pub found_among :
       (bs : Trees ℕ) (e : ℕ) (b : Tree ℕ) (j : ℕ) (i u x v : List ℕ) → i ≡ u ++ (x ++ v) →
-      e ≡ length u + length x → EncodesAll (length u) x bs → StandsAmong bs e b j → Found i b j
+      e ≡ length u + length x → EncodesAll (length u) x bs → StandsAmong bs e b j → IsFoundIn i b j
   found_among bs e b j i u x v w n s (in_first {a = a} {bs = cs} t) =
       found_in a (end_before cs e) b j i u s.first (s.rest ++ v) (open_first i u x v w s.first s.rest s.whole)
       (end_is (length u + length s.first) e s.rest cs s.items (omega (arith, n, ap length s.whole, length-append s.first s.rest))) s.item t
@@ -136,7 +136,7 @@ slice_here i u x v o j w p q =
     ap (λ z. take (j - o) (drop o z)) w ∙ ap (take (j - o)) (drop_at u (x ++ v) o (sym p)) ∙ take_at x v (j - o) (sym e)
 
 -- octets that encode a tree are a document of it
-pub encodes_document : (o : ℕ) (x : List ℕ) (b : Tree ℕ) → Encodes o x b → Document x (more_trees (rebased b) no_trees)
+pub encodes_document : (o : ℕ) (x : List ℕ) (b : Tree ℕ) → Encodes o x b → IsDocument x (more_trees (rebased b) no_trees)
 encodes_document o x b s =
     let p = encodes_offset o x b s in
     record {
@@ -154,8 +154,9 @@ pub record Standing (i : List ℕ) (b : Tree ℕ) (octets : List ℕ) : Type 0 w
 
 -- where those of a tree of a document do
 pub found_octets :
-    (i : List ℕ) (bs : Trees ℕ) (b : Tree ℕ) (octets : List ℕ) → Document i bs →
-    HasOctets i bs b octets → Standing i b octets
+    (i : List ℕ) (bs : Trees ℕ) (b : Tree ℕ) (octets : List ℕ) → IsDocument i bs →
+    HasOctets i bs b octets →
+    (before : List ℕ) × (behind : List ℕ) × (i ≡ before ++ (octets ++ behind)) × (length before ≡ tree_offset b) × Encodes (tree_offset b) octets b
 found_octets i bs b octets d h =
     let f = found_among bs (length i) b h.end i [] i [] (sym (append-nil i)) (omega arith) d.blocks h.stands in
     let o = encodes_offset (length f.before) f.octets b f.encoded in
@@ -169,7 +170,7 @@ found_octets i bs b octets d h =
     }
 
 -- they are an encoding at its offset
-pub octets_encoding : (i : List ℕ) (bs : Trees ℕ) (b : Tree ℕ) (octets : List ℕ) → Document i bs → HasOctets i bs b octets → EncodingAt i (tree_offset b) octets
+pub octets_encoding : (i : List ℕ) (bs : Trees ℕ) (b : Tree ℕ) (octets : List ℕ) → IsDocument i bs → HasOctets i bs b octets → EncodingAt i (tree_offset b) octets
 octets_encoding i bs b octets d h =
     let f = found_octets i bs b octets d h in
     record {
@@ -185,7 +186,7 @@ encoding_at_alone i o x y p q =
 
 -- so it is that of the tree
 pub encoding_at_octets :
-    (i : List ℕ) (bs : Trees ℕ) (b : Tree ℕ) (octets other : List ℕ) → Document i bs →
+    (i : List ℕ) (bs : Trees ℕ) (b : Tree ℕ) (octets other : List ℕ) → IsDocument i bs →
     HasOctets i bs b octets → EncodingAt i (tree_offset b) other ↔ (other ≡ octets)
 encoding_at_octets i bs b octets other d h =
     let e = octets_encoding i bs b octets d h in
@@ -207,7 +208,7 @@ encodes_joined o x y (more_trees b xs) ys s t =
     }
 
 -- two documents one after another are one
-pub documents_joined : (i k : List ℕ) (xs ys : Trees ℕ) → Document i xs → Document k ys → Document (i ++ k) (joined xs (all_later (length i) ys))
+pub documents_joined : (i k : List ℕ) (xs ys : Trees ℕ) → IsDocument i xs → IsDocument k ys → IsDocument (i ++ k) (joined xs (all_later (length i) ys))
 documents_joined i k xs ys d e = record {
   some = omega (arith, d.some, length-append i k);
   blocks = encodes_joined 0 i k xs (all_later (length i) ys) d.blocks (encodes_all_at (λ z. z + length i) 0 (0 + length i) k ys (λ n. omega arith) e.blocks);

@@ -62,13 +62,13 @@ order_drop [] blocks (suc i) h l = absurd (omega (arith, l))
 order_drop (b ∷ order) blocks (suc i) (after, n, h) l = order_drop order after i h (omega (arith, l))
 
 -- an order of some blocks from j on begins with the block at j
-pub record FromPlace (b : ASN1Block) (order left : List ASN1Block) (i : ℕ) : Type 0 where
+pub record BeginsAtPlace (b : ASN1Block) (order left : List ASN1Block) (i : ℕ) : Type 0 where
   pub after : List ASN1Block
   pub next : IsNext b left after
   pub ordered : IsInTreeOrder (drop i order) after
 
 pub from_place : (order left : List ASN1Block) (i j : ℕ) (b : ASN1Block) → j + 1 ≡ i → i ≤ length order → b ≡ get_or order j b
-    → IsInTreeOrder (drop j order) left → FromPlace b order left i
+    → IsInTreeOrder (drop j order) left → BeginsAtPlace b order left i
 from_place order left i j b e l g h =
     let d : drop j order ≡ b ∷ drop i order = drop_more order j b (omega (arith, e, l)) ∙ (ap (λ z. z ∷ drop (j + 1) order) (sym g) ∙ ap (λ z. b ∷ drop z order) e) in
     let (after, next, ordered) = subst (λ z. IsInTreeOrder z left) d h in

@@ -6,21 +6,15 @@ use Rattle.asn1_blocks.specs.Tree.{
   Leaf,
   Tree,
   Trees,
-  bit_string,
-  boolean,
   explicit,
-  generalized_time,
   group,
   integer,
   leaf,
   more_trees,
   no_trees,
-  null,
-  object_identifier,
   octet_string,
   text,
   unknown,
-  utc_time,
 }
 
 -- the tag number: that of its kind, or its own
@@ -38,15 +32,8 @@ tree_items (explicit c o n b) = Some (more_trees b no_trees)
 tree_items (unknown c k o n v) = None
 
 abbrev pub leaf_text : Leaf → Option (List ℕ)
-leaf_text (boolean b) = None
-leaf_text (integer n) = None
-leaf_text (bit_string n v) = None
-leaf_text (octet_string v) = None
-leaf_text null = None
-leaf_text (object_identifier ns) = None
 leaf_text (text kind cs) = Some cs
-leaf_text (utc_time m) = None
-leaf_text (generalized_time m) = None
+leaf_text l = None
 
 -- the characters of a string, of whatever kind
 abbrev pub tree_text : {O : Type 0} → Tree O → Option (List ℕ)
@@ -56,15 +43,8 @@ tree_text (explicit c o n b) = None
 tree_text (unknown c k o n v) = None
 
 abbrev pub leaf_integer : Leaf → Option ℤ
-leaf_integer (boolean b) = None
 leaf_integer (integer n) = Some n
-leaf_integer (bit_string n v) = None
-leaf_integer (octet_string v) = None
-leaf_integer null = None
-leaf_integer (object_identifier ns) = None
-leaf_integer (text kind cs) = None
-leaf_integer (utc_time m) = None
-leaf_integer (generalized_time m) = None
+leaf_integer l = None
 
 -- the number of an INTEGER
 abbrev pub tree_integer : {O : Type 0} → Tree O → Option ℤ
@@ -74,15 +54,8 @@ tree_integer (explicit c o n b) = None
 tree_integer (unknown c k o n v) = None
 
 abbrev pub leaf_octets : Leaf → Option (List ℕ)
-leaf_octets (boolean b) = None
-leaf_octets (integer n) = None
-leaf_octets (bit_string n v) = None
 leaf_octets (octet_string v) = Some v
-leaf_octets null = None
-leaf_octets (object_identifier ns) = None
-leaf_octets (text kind cs) = None
-leaf_octets (utc_time m) = None
-leaf_octets (generalized_time m) = None
+leaf_octets l = None
 
 -- the octets of an OCTET STRING
 abbrev pub tree_octets : {O : Type 0} → Tree O → Option (List ℕ)

@@ -1,6 +1,6 @@
--- Contents octets of class Universal: a module for each kind that has a rule says what the octets
--- mean, how they are at fault, what is written and what can't be; here is which tag has which.
-use Rattle.std.specs.Prelude.{◌≡◌, ◌==◌, ◌||◌, ℕ, Bool, List, [], Option, None}
+-- Contents octets of class Universal: a module for each kind that has a rule says what the octets mean, how they are at
+-- fault, what is written and what can't be; here is which tag has which.
+use Rattle.std.specs.Prelude.{◌≡◌, ◌==◌, ◌||◌, ◌⊎◌, ℕ, Bool, List, [], Option, None}
 use Rattle.asn1_blocks.specs.declared.block.GroupKind.{GroupKind}
 use Rattle.asn1_blocks.specs.declared.block.GroupKind.TheVariants.{Sequence, Set}
 use Rattle.asn1_headers.specs.declared.error.ASN1EncodeErr.{ASN1EncodeErr}
@@ -87,8 +87,8 @@ is_group_tag n = (n == 16) || (n == 17)
 abbrev pub is_known_tag : ℕ → Bool
 is_known_tag n = is_leaf_tag n || is_group_tag n
 
--- the contents octets mean the leaf; those of an OCTET STRING (X.690 8.7) are its octets, and those
--- of a NULL (X.690 8.8) may be any
+-- the contents octets mean the leaf; those of an OCTET STRING (X.690 8.7) are its octets, and those of a NULL (X.690
+-- 8.8) may be any
 abbrev pub LeafContents : Leaf → List ℕ → Type 0
 LeafContents (boolean b) contents = BooleanContents b contents
 LeafContents (integer n) contents = IntegerContents n contents

@@ -1,5 +1,4 @@
--- Which trees are read back as they are once they are written, and what is not written of those
--- that were read.
+-- Which trees are read back as they are once they are written, and what is not written of those that were read.
 use Rattle.std.specs.Prelude.{◌≢◌}
 use Rattle.asn1_headers.specs.declared.header.ASN1Class.TheVariants.{Universal}
 use Rattle.asn1_blocks.specs.Contents.{IsFaithfulLeaf, normalized_leaf}

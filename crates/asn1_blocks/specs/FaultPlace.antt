@@ -1,5 +1,5 @@
--- Where the first fault is: the offset of the innermost block at fault. What stands in a
--- constructed encoding of another class is read as an attempt, and a fault there is none.
+-- Where the first fault is: the offset of the innermost block at fault. What stands in a constructed encoding of
+-- another class is read as an attempt, and a fault there is none.
 use Rattle.std.specs.Prelude.{◌≡◌, ℕ, ◌+◌, ◌<◌, ◌⊎◌, ◌++◌, Bool, List, [], length}
 use Rattle.asn1_headers.specs.declared.header.ASN1Class.TheVariants.{Universal}
 use Rattle.asn1_blocks.specs.declared.block.GroupKind.{GroupKind}
@@ -10,8 +10,8 @@ use Rattle.asn1_headers.specs.HeaderFault.{HeaderFault}
 use Rattle.asn1_blocks.specs.Grammar.{AreBlocks}
 
 mutual
-  -- the first block of the octets is at fault, and the innermost block at fault begins so many
-  -- octets after it: it is that block itself, or an item of it
+  -- the first block of the octets is at fault, and the innermost block at fault begins so many octets after it: it is
+  -- that block itself, or an item of it
   pub data BlockFaultAt : ℕ → List ℕ → DecodeFault → ℕ → Type 0 where
     at_header :
         {place : ℕ} {octets : List ℕ} {e : DecodeFault} →
@@ -29,8 +29,8 @@ mutual
         (inside : ℕ) → BlocksFaultAt contents e inside → after ≡ h + inside →
         BlockFaultAt place octets e after
 
-  -- the octets are blocks one after another, and then one at fault; the innermost block at fault
-  -- begins so many octets after the first
+  -- the octets are blocks one after another, and then one at fault; the innermost block at fault begins so many octets
+  -- after the first
   pub data BlocksFaultAt : List ℕ → DecodeFault → ℕ → Type 0 where
     at_block :
         {octets : List ℕ} {e : DecodeFault} {after : ℕ} (front rest : List ℕ) →
@@ -39,8 +39,7 @@ mutual
         after ≡ length front + inside →
         BlocksFaultAt octets e after
 
--- the first fault of octets that are no document, and the offset of the innermost block at fault;
--- 0 for no octets
+-- the first fault of octets that are no document, and the offset of the innermost block at fault; 0 for no octets
 abbrev pub FirstFaultAt : List ℕ → DecodeFault → ℕ → Type 0
 FirstFaultAt octets e offset =
     ((octets ≡ []) × (e ≡ empty_buffer) × (offset ≡ 0)) ⊎ BlocksFaultAt octets e offset

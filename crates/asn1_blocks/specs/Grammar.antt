@@ -30,8 +30,8 @@ mutual
     no_blocks : AreBlocks []
     more_blocks : {octets x rest : List ℕ} → octets ≡ x ++ rest → IsBlock x → AreBlocks rest → AreBlocks octets
 
--- contents octets with these fields are not read as more: their tag has no rule, or they are of
--- another class and are not one block in a constructed encoding
+-- contents octets with these fields are not read as more: their tag has no rule, or they are of another class and are
+-- not one block in a constructed encoding
 abbrev pub StaysAsItCame : ASN1Class → Bool → ℕ → List ℕ → Type 0
 StaysAsItCame c k n v =
     ((c ≡ Universal) × (is_known_tag n ≡ false))
@@ -92,7 +92,7 @@ abbrev mutual
       EncodedFirst octets (λ first. Encodes offset first b) (λ size rest. EncodesAll (offset + size) rest bs)
 
 -- the octets are a document: one block or more, with these trees
-pub record Document (octets : List ℕ) (bs : Trees ℕ) : Type 0 where
+pub record IsDocument (octets : List ℕ) (bs : Trees ℕ) : Type 0 where
   pub some : 0 < length octets
   pub blocks : EncodesAll 0 octets bs
 

@@ -7,8 +7,8 @@ use Rattle.asn1_blocks.specs.Tree.{Tree, Trees, leaf, group, explicit, unknown, 
 use Rattle.asn1_blocks.specs.Contents.{is_group_tag}
 use Rattle.asn1_blocks.specs.Grammar.{IsBlock}
 
--- contents octets with these fields are read as blocks: those of a SEQUENCE or SET, and those of a constructed
--- encoding of another class
+-- contents octets with these fields are read as blocks: those of a SEQUENCE or SET, and those of a constructed encoding
+-- of another class
 abbrev pub IsReadInside : ASN1Class → Bool → ℕ → Type 0
 IsReadInside c k n = ((c ≡ Universal) × (is_group_tag n ≡ true)) ⊎ ((c ≢ Universal) × (k ≡ true))
 

@@ -5,7 +5,7 @@ use Rattle.asn1_blocks.specs.declared.block.GroupKind.{GroupKind}
 use Rattle.asn1_headers.specs.Header.{Encoding}
 use Rattle.asn1_blocks.specs.Tree.{Tree, Trees, leaf, group, explicit, unknown, no_trees, more_trees}
 use Rattle.asn1_blocks.specs.View.{tree_offset}
-use Rattle.asn1_blocks.specs.Grammar.{Document}
+use Rattle.asn1_blocks.specs.Grammar.{IsDocument}
 
 abbrev mutual
   -- the tree with each offset changed
@@ -88,9 +88,7 @@ abbrev pub HasNoEncodingAt : List ℕ → ℕ → Type 0
 HasNoEncodingAt document offset = (octets : List ℕ) → EncodingAt document offset octets → ⊥
 
 -- the octets are those of a tree of the document, and stand at the offset
-pub record TreeAt (document : List ℕ) (offset : ℕ) (octets : List ℕ) : Type 0 where
-  pub all : Trees ℕ
-  pub tree : Tree ℕ
-  pub read : Document document all
-  pub has : HasOctets document all tree octets
-  pub stands : tree_offset tree ≡ offset
+abbrev pub TreeAt : List ℕ → ℕ → List ℕ → Type 0
+TreeAt document offset octets =
+    (bs : Trees ℕ) × (b : Tree ℕ)
+    × IsDocument document bs × HasOctets document bs b octets × (tree_offset b ≡ offset)

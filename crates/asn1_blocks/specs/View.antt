@@ -40,7 +40,7 @@ views bs = trees_of (map view bs)
 
 -- the trees of what a `Document` owns
 abbrev pub document_trees : Document → Trees ℕ
-document_trees document = views document.blocks.items
+document_trees document = views document.blocks
 
 -- the class of a block
 abbrev pub tree_class : {O : Type 0} → Tree O → ASN1Class

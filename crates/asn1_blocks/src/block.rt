@@ -1,6 +1,5 @@
 // The tree of blocks.
-ghost use Rattle.std.specs.Prelude.{◌≡◌, ◌↔◌, IfOk, IsTrue};
-ghost use Rattle.asn1_blocks.specs.Tree.{shape};
+ghost use Rattle.std.specs.Prelude.{◌≡◌};
 ghost use Rattle.asn1_blocks.specs.View.{tree_class, tree_offset, view};
 
 mod copy;
@@ -8,14 +7,11 @@ pub mod discard;
 pub mod parts;
 mod same;
 
-use crate::block::copy::copy;
-use crate::block::same::same;
 use asn1_headers::header::ASN1Class;
 use asn1_leaves::oid::OID;
 use asn1_numbers::number::big_int::BigInt;
 use asn1_numbers::number::big_uint::BigUint;
 use jiff::civil::DateTime;
-use std::alloc::{AllocError, Global};
 
 // Which blocks hold blocks one after another.
 #[derive(Drop)]
@@ -24,20 +20,20 @@ pub enum GroupKind {
     Set,
 }
 
-/// A block. The first `usize` of each variant is its offset, in octets: where its first octet
-/// stands from the start of the document. It plays no part in equality or in writing.
+/// A block. The first `usize` of each variant is its offset, in octets: where its first octet stands from the start of
+/// the document. It plays no part in equality or in writing.
 ///
-/// A block that goes out of scope is dropped by recursion, with a call on the stack for each level
-/// of nesting, and so is its `Debug` text made. [`discard`](crate::discard) drops blocks with no
-/// call for a level, and [`Document`](crate::Document) does so with those of a document.
+/// A block that goes out of scope is dropped by recursion, with a call on the stack for each level of nesting, and so
+/// is its `Debug` text made. [`discard`](crate::discard) drops blocks with no call for a level, and
+/// [`Document`](crate::Document) does so with those of a document.
 #[derive(Debug, Drop)]
 pub enum ASN1Block {
     /// BOOLEAN (X.690 8.2): its value.
     Boolean(usize, bool),
     /// INTEGER (X.690 8.3): the number, of any size.
     Integer(usize, BigInt),
-    /// BIT STRING (X.690 8.6): the number of bits, and the octets that hold them, the first bit the
-    /// most significant of the first octet. The other bits of these octets are unused.
+    /// BIT STRING (X.690 8.6): the number of bits, and the octets that hold them, the first bit the most significant of
+    /// the first octet. The other bits of these octets are unused.
     BitString(usize, usize, Vec<u8>),
     /// OCTET STRING (X.690 8.7): its octets.
     OctetString(usize, Vec<u8>),
@@ -65,14 +61,13 @@ pub enum ASN1Block {
     Sequence(usize, Vec<ASN1Block>),
     /// SET or SET OF (X.690 8.11, 8.12): its items in the order of their octets.
     Set(usize, Vec<ASN1Block>),
-    /// A constructed encoding of another class around one block, as explicit tagging makes it
-    /// (X.690 8.14): class, offset, tag number, the block.
+    /// A constructed encoding of another class around one block, as explicit tagging makes it (X.690 8.14): class,
+    /// offset, tag number, the block.
     Explicit(ASN1Class, usize, BigUint, Box<ASN1Block>),
-    /// Any other encoding (X.690 8.1.1): class, whether it is constructed, offset, tag number, and
-    /// its contents octets as they came. These are the primitive ones of other classes than
-    /// Universal, the constructed ones whose contents are not exactly one block, and those of class
-    /// Universal with a tag number other than 1 to 6, 12, 16, 17, 19, 20, 22 to 24, 28 and 30: 10,
-    /// ENUMERATED, is one, and so are 18, NumericString, and 26, VisibleString.
+    /// Any other encoding (X.690 8.1.1): class, whether it is constructed, offset, tag number, and its contents octets
+    /// as they came. These are the primitive ones of other classes than Universal, the constructed ones whose contents
+    /// are not exactly one block, and those of class Universal with a tag number other than 1 to 6, 12, 16, 17, 19, 20,
+    /// 22 to 24, 28 and 30: 10, ENUMERATED, is one, and so are 18, NumericString, and 26, VisibleString.
     Unknown(ASN1Class, bool, usize, BigUint, Vec<u8>),
 }
 
@@ -98,8 +93,7 @@ impl ASN1Block {
         }
     }
 
-    /// The offset of the block's first octet from the start of the document that it was read from,
-    /// in octets.
+    /// The offset of the block's first octet from the start of the document that it was read from, in octets.
     ///
     /// ```rust
     /// use simple_asn1::{ASN1Block, encoding_at};
@@ -132,49 +126,5 @@ impl ASN1Block {
             ASN1Block::Explicit(_, offset, _, _) => *offset,
             ASN1Block::Unknown(_, _, offset, _, _) => *offset,
         }
-    }
-
-    /// The same block, offsets too. The only error is that memory ran out.
-    ///
-    /// Memory is taken for each box of the tree, each vector and text that is not empty, each
-    /// integer and object identifier of more than 24 contents octets, and each tag number from 2^64
-    /// on: one allocation each. While it is made, a list of references to all blocks is kept, 8
-    /// octets for each, and the copies that wait for the block that holds them. The stack that is
-    /// taken does not grow with the nesting, also where memory runs out and what was copied is
-    /// dropped.
-    ///
-    /// ```rust
-    /// use simple_asn1::ASN1Block;
-    /// use std::alloc::{AllocError, Global};
-    ///
-    /// // The block twice, one after the other.
-    /// fn twice(alloc: Global, block: &ASN1Block) -> Result<[ASN1Block; 2], AllocError> {
-    ///     Ok([block.clone(alloc)?, block.clone(alloc)?])
-    /// }
-    /// ```
-    pub fn clone(&self, alloc: Global) -> Result<ASN1Block, AllocError>
-        ensures { IfOk result (λ b. view b ≡ view self.now) }
-    {
-        copy(alloc, self)
-    }
-}
-
-/// Two blocks are equal where their variants and fields are; offsets are ignored at every depth.
-///
-/// Comparing takes no memory. It takes a call on the stack for each level of nesting, but for
-/// blocks that are the last of their list, and those in an `Explicit`: chains of these take none.
-impl PartialEq for ASN1Block {
-    ghost use Rattle.asn1_blocks.specs.Inner.Equality.{same_block};
-    ghost use Rattle.asn1_blocks.specs.Inner.EqualityLaws.{same_block_laws};
-
-    ghost eq = { same_block };
-
-    ghost laws = { same_block_laws };
-
-    fn eq(&self, other: &Self) -> bool
-        ensures same_shape { IsTrue result ↔ (shape (view self.now) ≡ shape (view other.now)) }
-        ensures decided { result ≡ same_block self.now other.now }
-    {
-        same(self, other)
     }
 }

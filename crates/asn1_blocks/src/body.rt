@@ -1,6 +1,5 @@
-// Contents octets of blocks: which module reads and puts those of a tag. There is one for each kind
-// that has a rule.
-ghost use Rattle.std.specs.Prelude.{◌≡◌, ◌↔◌, ◌⊎◌, ◌≤◌, ℕ, List, length, false, None, Some, IfOk, IfErr, IsTrue, OnOk, MatchOption};
+// Contents octets of blocks: which module reads and puts those of a tag. There is one for each kind that has a rule.
+ghost use Rattle.std.specs.Prelude.{◌≡◌, ◌↔◌, ℕ, List, false, None, Some, IfOk, IfErr, IsTrue, MatchOption};
 ghost use Rattle.asn1_headers.specs.declared.header.ASN1Class.TheVariants.{Universal};
 ghost use Rattle.asn1_blocks.specs.Contents.{LeafFault, is_known_tag, is_leaf_tag};
 ghost use Rattle.asn1_blocks.specs.Inner.LeafBlocks.{IsLeafOf};
@@ -12,18 +11,16 @@ ghost use Rattle.asn1_blocks.specs.HeadersBegun.{IsReadInside};
 ghost use Rattle.asn1_blocks.specs.Tree.{unknown};
 ghost use Rattle.asn1_blocks.specs.View.{view};
 ghost use Rattle.asn1_headers.specs.declared.error.ASN1DecodeErr.TheVariants.{OutOfMemory};
-ghost use Rattle.asn1_headers.specs.declared.error.ASN1EncodeErr.TheVariants.{OutOfMemory as no_memory};
 
 use crate::block::ASN1Block;
 use crate::parsed::Header;
-use asn1_headers::error::{ASN1DecodeErr, ASN1EncodeErr};
+use asn1_headers::error::ASN1DecodeErr;
 use asn1_headers::header::ASN1Class;
 use asn1_leaves::body::text::TextForm;
 use asn1_leaves::body::{bit_string, boolean, generalized_time, integer, text, utc_time};
 use asn1_leaves::oid;
 use asn1_numbers::number::big_uint::BigUint;
 use asn1_numbers::octets::copy_of;
-use asn1_numbers::sink::Sink;
 use std::alloc::Global;
 
 // The block of an encoding whose contents are not read as blocks.

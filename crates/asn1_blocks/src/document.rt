@@ -2,20 +2,20 @@
 ghost use Rattle.std.specs.Prelude.{◌≡◌, ℕ, IfErr, IfOk, IsErrAnd, MatchResult};
 ghost use Rattle.asn1_headers.specs.Fault.{DecodeFault, OutOfMemoryOr};
 ghost use Rattle.asn1_blocks.specs.FaultPlace.{FirstFaultAt};
-ghost use Rattle.asn1_blocks.specs.Grammar.{Document as IsDocument, FirstFault};
+ghost use Rattle.asn1_blocks.specs.Grammar.{IsDocument, FirstFault};
 ghost use Rattle.asn1_blocks.specs.Tree.{Trees};
 ghost use Rattle.asn1_blocks.specs.View.{document_trees, views};
 ghost use Rattle.asn1_headers.specs.declared.error.ASN1DecodeErr.TheVariants.{OutOfMemory};
 
 use crate::block::ASN1Block;
-use crate::block::discard::discard;
+use crate::held::HeldBlocks;
 use crate::read::{from_der, from_der_located};
 use asn1_headers::error::{ASN1DecodeErr, LocatedErr};
 use std::alloc::Global;
 
-/// The blocks of a document, for octets that nobody vouches for: however deeply they are nested,
-/// dropping a `Document` takes no memory and a few calls on the stack, where dropping the blocks
-/// themselves takes a call for each level of nesting.
+/// The blocks of a document, for octets that nobody vouches for: however deeply they are nested, dropping a `Document`
+/// takes no memory and a few calls on the stack, where dropping the blocks themselves takes a call for each level of
+/// nesting.
 ///
 /// ```rust
 /// use simple_asn1::{ASN1DecodeErr, Document};
@@ -27,15 +27,9 @@ use std::alloc::Global;
 ///     Ok(document.blocks().len())
 /// }
 /// ```
-#[derive(Debug)]
+#[derive(Debug, Drop)]
 pub struct Document {
-    blocks: Vec<ASN1Block>,
-}
-
-impl Drop for Document {
-    fn drop(self) {
-        discard(self.into_blocks());
-    }
+    blocks: HeldBlocks,
 }
 
 impl Document {
@@ -65,7 +59,9 @@ impl Document {
             → IsErrAnd result (OutOfMemoryOr (λ e. e ≡ fault)) }
     {
         let blocks = from_der(alloc, i)?;
-        Ok(Document { blocks })
+        Ok(Document {
+            blocks: HeldBlocks::of(blocks),
+        })
     }
 
     /// Reads a document as the function [`from_der_located`] does, with its answers.
@@ -98,7 +94,9 @@ impl Document {
             (λ e. OutOfMemoryOr (λ found. (found ≡ fault) × (e.offset ≡ offset)) e.error) }
     {
         match from_der_located(alloc, i) {
-            Ok(blocks) => Ok(Document { blocks }),
+            Ok(blocks) => Ok(Document {
+                blocks: HeldBlocks::of(blocks),
+            }),
             Err(located) => Err(located),
         }
     }
@@ -119,11 +117,11 @@ impl Document {
     pub fn blocks(&self) -> &[ASN1Block]
         ensures { views result.now ≡ document_trees self.now }
     {
-        &self.blocks
+        self.blocks.as_slice()
     }
 
-    /// Gives up the blocks at the top, in order. From then on dropping them takes a call on the
-    /// stack for each level of nesting, unless [`discard`] does it.
+    /// Gives up the blocks at the top, in order. From then on dropping them takes a call on the stack for each level of
+    /// nesting, unless [`discard`](crate::discard) does it.
     ///
     /// ```rust
     /// use simple_asn1::{ASN1Block, ASN1DecodeErr, Document};
@@ -139,6 +137,6 @@ impl Document {
         ensures { views result.items ≡ document_trees self }
     {
         let Document { blocks } = self;
-        blocks
+        blocks.into_vec()
     }
 }

@@ -9,7 +9,7 @@ ghost use Rattle.asn1_blocks.specs.View.{view, views};
 use crate::block::ASN1Block;
 use crate::body::{is_faithful_leaf, is_known};
 use crate::document::Document;
-use crate::walk::blocks_inside;
+use crate::walk::TreeWalk;
 use asn1_headers::error::ASN1DecodeErr;
 use asn1_headers::header::ASN1Class;
 use asn1_numbers::number::big_uint::BigUint;
@@ -17,13 +17,12 @@ use std::alloc::{AllocError, Global};
 use std::slice;
 
 impl ASN1Block {
-    /// Whether the block can be written and is then read back as it is, but for its offsets. Each
-    /// block that was read is, unless it holds a bit string of no bits that has octets. Of blocks
-    /// made by hand an `Unknown` of class `ContextSpecific` is not, if it is constructed and its
-    /// octets are `02 01 05`: it is read back as `Explicit`.
+    /// Whether the block can be written and is then read back as it is, but for its offsets. Each block that was read
+    /// is, unless it holds a bit string of no bits that has octets. Of blocks made by hand an `Unknown` of class
+    /// `ContextSpecific` is not, if it is constructed and its octets are `02 01 05`: it is read back as `Explicit`.
     ///
-    /// Memory is taken for the lists of blocks that are begun, and to look into the octets of a
-    /// constructed `Unknown`. The only error is that it ran out.
+    /// Memory is taken for the lists of blocks that are begun, and to look into the octets of a constructed `Unknown`.
+    /// The only error is that it ran out.
     ///
     /// ```rust
     /// use simple_asn1::ASN1Block;
@@ -41,32 +40,16 @@ impl ASN1Block {
     }
 }
 
-// Keeps what is left of each list that is begun.
 fn are_faithful(alloc: Global, blocks: &[ASN1Block]) -> Result<bool, AllocError>
     ensures { IfOk result (λ b. IsTrue b ↔ AreFaithful (views blocks.now)) }
 {
-    let mut outer = Vec::new(alloc);
-    let mut front = blocks;
-    loop {
-        match front.split_first() {
-            Some((block, rest)) => {
-                if !is_faithful_alone(alloc, block)? {
-                    return Ok(false);
-                }
-                let held = blocks_inside(block);
-                if held.is_empty() {
-                    front = rest;
-                } else {
-                    outer.push(rest)?;
-                    front = held;
-                }
-            }
-            None => match outer.pop() {
-                Some(rest) => front = rest,
-                None => return Ok(true),
-            },
+    let mut walk = TreeWalk::over(alloc, blocks);
+    while let Some(block) = walk.next()? {
+        if !is_faithful_alone(alloc, block)? {
+            return Ok(false);
         }
     }
+    Ok(true)
 }
 
 // Whether the block is faithful as far as those inside it are.

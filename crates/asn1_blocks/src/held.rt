@@ -1,10 +1,11 @@
-// Blocks that the reader holds until it gives them away. Where they are dropped, that takes neither memory nor stack,
-// however deep they nest.
-ghost use Rattle.std.specs.Prelude.{◌≡◌, ◌+◌, ◌≤◌, ◌++◌, ◌∷◌, [], length, take, drop, IfOk, OnOk, MatchOption};
+// Blocks that are held until they are given away. Where they are dropped, that takes neither memory nor stack, however
+// deep they nest.
+ghost use Rattle.std.specs.Prelude.{◌≡◌, ◌<◌, ◌≤◌, ◌++◌, ◌∷◌, [], length, take, drop, IfOk, OnOk, MatchOption};
 
 use crate::block::ASN1Block;
 use crate::block::discard::{discard, discard_one};
 use std::alloc::{AllocError, Global};
+use std::fmt;
 use std::marker::Model;
 
 pub struct HeldBlocks {
@@ -24,11 +25,16 @@ impl Model for HeldBlocks {
     ghost view = { λ held. held.blocks.items };
 }
 
+impl fmt::Debug for HeldBlocks {
+    fn fmt<W: fmt::Write>(&self, f: &mut fmt::Formatter<W>) -> fmt::Result {
+        self.blocks.fmt(f)
+    }
+}
+
 impl Drop for HeldBlocks {
     #[inline(always)]
     fn drop(self) {
-        let HeldBlocks { blocks } = self;
-        discard(blocks);
+        discard(self.into_vec());
     }
 }
 
@@ -50,6 +56,21 @@ impl HeldBlocks {
     {
         let blocks = Vec::with_capacity(alloc, count)?;
         Ok(HeldBlocks { blocks })
+    }
+
+    // These, held from now on.
+    #[inline(always)]
+    pub fn of(blocks: Vec<ASN1Block>) -> HeldBlocks
+        ensures { result ≡ blocks.items }
+    {
+        HeldBlocks { blocks }
+    }
+
+    #[inline(always)]
+    pub fn as_slice(&self) -> &[ASN1Block]
+        ensures { result.now ≡ self.now }
+    {
+        self.blocks.as_slice()
     }
 
     #[inline(always)]
@@ -79,6 +100,24 @@ impl HeldBlocks {
         self.blocks.pop()
     }
 
+    // Gives away the last one.
+    #[inline(always)]
+    pub fn take_last(&mut self) -> ASN1Block
+        requires { 0 < length self.old }
+        ensures { self.old ≡ self.new ++ result ∷ [] }
+    {
+        self.blocks.take_last()
+    }
+
+    // Gives away the only one.
+    #[inline(always)]
+    pub fn into_only(mut self) -> ASN1Block
+        requires { length self ≡ 1 }
+        ensures { self ≡ result ∷ [] }
+    {
+        self.take_last()
+    }
+
     // Parts with the blocks from a place on.
     pub fn split_off(&mut self, at: usize) -> Result<HeldBlocks, AllocError>
         requires { at ≤ length self.old }
@@ -103,5 +142,19 @@ impl HeldBlocks {
     {
         let HeldBlocks { blocks } = self;
         blocks
+    }
+}
+
+// A box of the block.
+#[inline(always)]
+pub fn boxed(alloc: Global, block: ASN1Block) -> Result<Box<ASN1Block>, AllocError>
+    ensures { IfOk result (λ item. item.value ≡ block) }
+{
+    match Box::new(alloc, block) {
+        Ok(item) => Ok(item),
+        Err(failed) => {
+            discard_one(failed.value);
+            Err(AllocError)
+        }
     }
 }

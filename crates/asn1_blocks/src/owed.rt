@@ -1,14 +1,12 @@
 // What is owed: blocks whose octets are not copied yet, since a fault may still refuse what stands around them.
-ghost use Rattle.std.specs.Prelude.{◌≡◌, ◌≤◌, true, [], map, slice_range, IfOk, IfErr, OnOk};
-ghost use Rattle.asn1_headers.specs.declared.error.ASN1DecodeErr.TheVariants.{OutOfMemory};
+ghost use Rattle.std.specs.Prelude.{◌≡◌, true, [], map, slice_range, IfOk, OnOk};
 ghost use Rattle.asn1_blocks.specs.Tree.{group, unknown};
 ghost use Rattle.asn1_blocks.specs.View.{view, views};
 ghost use Rattle.asn1_blocks.specs.Inner.Owed.{after, after_all, around};
 
 use crate::block::discard::discard_one;
 use crate::block::{ASN1Block, GroupKind};
-use crate::held::HeldBlocks;
-use asn1_headers::error::ASN1DecodeErr;
+use crate::held::{HeldBlocks, boxed};
 use asn1_headers::header::ASN1Class;
 use asn1_numbers::number::big_uint::BigUint;
 use asn1_numbers::octets::copy_of;
@@ -23,8 +21,8 @@ pub struct Attempt {
     pub tag: BigUint,
 }
 
-// An order to build a block, given where the encoding ends.
-pub enum Entry {
+// A block that is owed: how it is built of those before it, once the encoding has ended.
+pub enum Owed {
     // A block as it is.
     Ready(ASN1Block),
     // A SEQUENCE or SET at the offset: its first items, and how many of the last blocks are its others.
@@ -35,12 +33,12 @@ pub enum Entry {
     Kept(Attempt, usize, usize),
 }
 
-impl Drop for Entry {
+impl Drop for Owed {
     fn drop(self) {
         match self {
-            Entry::Ready(block) => discard_one(block),
-            Entry::Group(_, _, first, _) => drop(first),
-            Entry::Explicit(_) | Entry::Kept(_, _, _) => {}
+            Owed::Ready(block) => discard_one(block),
+            Owed::Group(_, _, first, _) => drop(first),
+            Owed::Explicit(_) | Owed::Kept(_, _, _) => {}
         }
     }
 }
@@ -64,16 +62,9 @@ pub fn explicit_block(
 ) -> Result<ASN1Block, AllocError>
     ensures { IfOk result (λ b. view b ≡ around attempt (view item)) }
 {
-    match Box::new(alloc, item) {
-        Ok(item) => {
-            let Attempt { class, offset, tag } = attempt;
-            Ok(ASN1Block::Explicit(class, offset, tag, item))
-        }
-        Err(failed) => {
-            discard_one(failed.value);
-            Err(AllocError)
-        }
-    }
+    let item = boxed(alloc, item)?;
+    let Attempt { class, offset, tag } = attempt;
+    Ok(ASN1Block::Explicit(class, offset, tag, item))
 }
 
 // A constructed encoding that stays as it came.
@@ -95,26 +86,26 @@ fn octets_between(octets: &[u8], start: usize, end: usize) -> &[u8]
     between
 }
 
-impl Entry {
-    // Carries the order out on the blocks so far.
+impl Owed {
+    // Builds the block, of those so far.
     fn build(self, alloc: Global, octets: &[u8], blocks: &mut HeldBlocks) -> Result<(), AllocError>
         ensures { OnOk result (map view blocks.new ≡ after octets.now self (map view blocks.old)) }
     {
         let block = match self {
-            Entry::Ready(block) => block,
-            Entry::Group(kind, offset, first, later) => {
-                let others = blocks.split_off(blocks.len().saturating_sub(later))?;
+            Owed::Ready(block) => block,
+            Owed::Group(kind, offset, first, owes) => {
+                let others = blocks.split_off(blocks.len().saturating_sub(owes))?;
                 let mut items = first;
                 items.append(others)?;
                 group_block(kind, offset, items)
             }
-            Entry::Explicit(attempt) => {
+            Owed::Explicit(attempt) => {
                 let Some(item) = blocks.pop() else {
                     return Ok(());
                 };
                 explicit_block(alloc, attempt, item)?
             }
-            Entry::Kept(attempt, start, end) => {
+            Owed::Kept(attempt, start, end) => {
                 kept_block(alloc, attempt, octets_between(octets, start, end))?
             }
         };
@@ -123,13 +114,13 @@ impl Entry {
     }
 }
 
-// Carries out the orders one after another.
-pub fn build(alloc: Global, octets: &[u8], entries: Vec<Entry>) -> Result<HeldBlocks, AllocError>
-    ensures { IfOk result (λ v. map view v ≡ after_all octets.now entries.items []) }
+// Builds what is owed, one block after another.
+pub fn build(alloc: Global, octets: &[u8], owed: Vec<Owed>) -> Result<HeldBlocks, AllocError>
+    ensures { IfOk result (λ v. map view v ≡ after_all octets.now owed.items []) }
 {
     let mut blocks = HeldBlocks::new(alloc);
-    for entry in entries {
-        entry.build(alloc, octets, &mut blocks)?;
+    for one in owed {
+        one.build(alloc, octets, &mut blocks)?;
     }
     Ok(blocks)
 }

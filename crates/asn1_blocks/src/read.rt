@@ -1,13 +1,13 @@
 // Reading documents: one loop over the frames that are open, so that no function calls itself.
-ghost use Rattle.std.specs.Prelude.{◌≡◌, ◌≢◌, ◌↔◌, ℕ, ◌+◌, ◌-◌, ◌<◌, ◌≤◌, ◌^◌, ◌⊎◌, ◌++◌, ◌∷◌, [], true, List, length, map, reverse, IfOk, IfErr, IsErrAnd, IsTrue, MatchResult, OnOk};
+ghost use Rattle.std.specs.Prelude.{◌≡◌, ◌≢◌, ◌↔◌, ℕ, ◌+◌, ◌-◌, ◌<◌, ◌≤◌, ◌^◌, ◌⊎◌, ◌++◌, ◌∷◌, [], true, length, map, reverse, IfOk, IfErr, IsErrAnd, IsTrue, MatchResult, OnOk};
 ghost use Rattle.asn1_blocks.specs.declared.block.ASN1Block.{ASN1Block};
 ghost use Rattle.asn1_headers.specs.declared.error.ASN1DecodeErr.TheVariants.{OutOfMemory};
 ghost use Rattle.asn1_headers.specs.Fault.{DecodeFault, OutOfMemoryOr, UnlessOutOfMemory, fault_of};
 ghost use Rattle.asn1_blocks.specs.FaultPlace.{FirstFaultAt};
-ghost use Rattle.asn1_blocks.specs.Grammar.{Document, FirstFault};
+ghost use Rattle.asn1_blocks.specs.Grammar.{IsDocument, FirstFault};
 ghost use Rattle.asn1_blocks.specs.HeadersBegun.{HeadersBegun};
 ghost use Rattle.asn1_blocks.specs.Inner.Owed.{after_all, around};
-ghost use Rattle.asn1_blocks.specs.Inner.ReaderSteps.{Answered, Faulty, IsKept, IsOpened, IsOwed, IsPut, IsReadAs, Reading, Reads, Refused, Stepped, TurnTaken, Turned, attempt_of, left};
+ghost use Rattle.asn1_blocks.specs.Inner.ReaderSteps.{IsFaulty, IsKept, IsOpened, IsOwed, IsPut, IsReadAs, IsReading, Reads, HasStepped, HasTakenTurn, HasTurned, attempt_of, left};
 ghost use Rattle.asn1_blocks.specs.Tree.{Trees};
 ghost use Rattle.asn1_blocks.specs.View.{view, views};
 
@@ -15,7 +15,7 @@ use crate::block::{ASN1Block, GroupKind};
 use crate::body::leaf_block;
 use crate::encoding::encoding_count;
 use crate::held::HeldBlocks;
-use crate::owed::{Attempt, Entry, build, explicit_block, group_block, kept_block};
+use crate::owed::{Attempt, Owed, build, explicit_block, group_block, kept_block};
 use crate::parsed::{Header, header_within};
 use asn1_headers::error::{ASN1DecodeErr, LocatedErr};
 use asn1_headers::header::{ASN1Class, HeaderCount};
@@ -23,7 +23,8 @@ use std::alloc::{AllocError, Global};
 use std::mem;
 
 // Contents octets up to this length are copied at once, also inside an open attempt, where longer ones are owed: copies
-// that may be dropped again cost at most so many octets for each header, and an entry costs more than so small a copy.
+// that may be dropped again cost at most so many octets for each header, and to owe one costs more than so small a
+// copy.
 const COPIED_AT_ONCE: usize = 256;
 
 // What the contents octets of a frame are.
@@ -44,14 +45,14 @@ struct Extent {
     end: usize,
 }
 
-// Contents octets that are being read, and their blocks: the first of them, and how many more its entries are to
-// build. These stand behind so many entries of the frames around.
+// Contents octets that are being read, and their blocks: the first of them, and how many more are owed. These stand
+// behind so many that the frames around it owe.
 #[derive(Drop)]
 struct OpenFrame {
     extent: Extent,
     blocks: HeldBlocks,
     begin: usize,
-    later: usize,
+    owes: usize,
 }
 
 // The innermost frame, those around it, the place reached, and what is owed.
@@ -60,7 +61,7 @@ struct Reader {
     inner: OpenFrame,
     outer: Vec<OpenFrame>,
     index: usize,
-    entries: Vec<Entry>,
+    owed: Vec<Owed>,
     // How many frames stand around the outermost open attempt. No answer depends on it: it says which contents octets
     // are copied at once, and which are owed.
     outermost: Option<usize>,
@@ -70,7 +71,7 @@ struct Reader {
 
 // What contents octets are read as: blocks in a frame, or a leaf with this header.
 #[derive(Drop)]
-enum Contents {
+enum ReadAs {
     Blocks(FrameKind),
     Leaf(Header),
 }
@@ -89,14 +90,14 @@ enum Turn {
 /// constructed encoding of another class than Universal gives `Explicit` where its contents are exactly one block, and
 /// `Unknown` otherwise (X.690 8.1.1, 8.14): a fault inside refuses nothing.
 ///
-/// Memory is taken for the blocks, for a frame for each level of nesting that is open, and for an entry for each block
-/// that waits until it is known whether an encoding around it stays `Unknown`. Room for the blocks of a frame is reserved
-/// before they are read: for as many as its headers announce, at most one for two octets.
+/// Memory is taken for the blocks, for a frame for each level of nesting that is open, and for each block that is owed
+/// until it is known whether an encoding around it stays `Unknown`. Room for the blocks of a frame is reserved before
+/// they are read: for as many as its headers announce, at most one for two octets.
 ///
 /// # Errors
 /// The first fault from the left: `EmptyBuffer`, `LengthTooLarge`, `Incomplete`, `BadBooleanLength`,
-/// `InvalidBitStringLength`, `UTF8DecodeFailure`, `PrintableStringDecodeFailure`,
-/// `InvalidDateValue`; or `OutOfMemory`, which says nothing of the octets.
+/// `InvalidBitStringLength`, `UTF8DecodeFailure`, `PrintableStringDecodeFailure`, `InvalidDateValue`; or `OutOfMemory`,
+/// which says nothing of the octets.
 ///
 /// ```rust
 /// use simple_asn1::{ASN1DecodeErr, from_der};
@@ -109,11 +110,11 @@ enum Turn {
 /// }
 /// ```
 pub fn from_der(alloc: Global, i: &[u8]) -> Result<Vec<ASN1Block>, ASN1DecodeErr>
-    ensures document { IfOk result (λ blocks. Document i.now (views blocks.items)) }
+    ensures document { IfOk result (λ blocks. IsDocument i.now (views blocks.items)) }
     ensures fault { IfErr result (OutOfMemoryOr (FirstFault i.now)) }
 
     // Memory aside, each document is read as its trees, and other octets are refused with their first fault.
-    ensures accepts { (bs : Trees ℕ) → Document i.now bs
+    ensures accepts { (bs : Trees ℕ) → IsDocument i.now bs
         → MatchResult result (λ blocks. views blocks.items ≡ bs) (λ e. e ≡ OutOfMemory) }
     ensures refuses { (fault : DecodeFault) → FirstFault i.now fault
         → IsErrAnd result (OutOfMemoryOr (λ e. e ≡ fault)) }
@@ -148,9 +149,9 @@ pub fn from_der_counted(
     count: &mut HeaderCount,
 ) -> Result<Vec<ASN1Block>, ASN1DecodeErr>
     requires room { count.old + length i.now < 2 ^ 64 }
-    ensures document { IfOk result (λ blocks. Document i.now (views blocks.items)) }
+    ensures document { IfOk result (λ blocks. IsDocument i.now (views blocks.items)) }
     ensures fault { IfErr result (OutOfMemoryOr (FirstFault i.now)) }
-    ensures accepts { (bs : Trees ℕ) → Document i.now bs
+    ensures accepts { (bs : Trees ℕ) → IsDocument i.now bs
         → MatchResult result (λ blocks. views blocks.items ≡ bs) (λ e. e ≡ OutOfMemory) }
     ensures refuses { (fault : DecodeFault) → FirstFault i.now fault
         → IsErrAnd result (OutOfMemoryOr (λ e. e ≡ fault)) }
@@ -185,10 +186,10 @@ pub fn from_der_counted(
 /// }
 /// ```
 pub fn from_der_located(alloc: Global, i: &[u8]) -> Result<Vec<ASN1Block>, LocatedErr>
-    ensures document { IfOk result (λ blocks. Document i.now (views blocks.items)) }
+    ensures document { IfOk result (λ blocks. IsDocument i.now (views blocks.items)) }
     ensures fault { IfErr result
         (λ e. OutOfMemoryOr (λ fault. FirstFaultAt i.now fault e.offset) e.error) }
-    ensures accepts { (bs : Trees ℕ) → Document i.now bs
+    ensures accepts { (bs : Trees ℕ) → IsDocument i.now bs
         → MatchResult result (λ blocks. views blocks.items ≡ bs) (λ e. e.error ≡ OutOfMemory) }
     ensures refuses { (fault : DecodeFault) (offset : ℕ) → FirstFaultAt i.now fault offset
         → IsErrAnd result
@@ -204,7 +205,7 @@ fn read_blocks(
     count: &mut HeaderCount,
 ) -> Result<Vec<ASN1Block>, LocatedErr>
     requires room { count.old + length i.now < 2 ^ 64 }
-    ensures document { IfOk result (λ blocks. Document i.now (views blocks.items)) }
+    ensures document { IfOk result (λ blocks. IsDocument i.now (views blocks.items)) }
     ensures refused { IfErr result
         (λ e. OutOfMemoryOr (λ fault. FirstFaultAt i.now fault e.offset) e.error) }
     ensures counted { MatchResult result
@@ -232,11 +233,11 @@ fn read_blocks(
             },
             blocks,
             begin: 0,
-            later: 0,
+            owes: 0,
         },
         outer: Vec::new(alloc),
         index: 0,
-        entries: Vec::new(alloc),
+        owed: Vec::new(alloc),
         outermost: None,
         fault: ASN1DecodeErr::OutOfMemory,
     };
@@ -269,7 +270,7 @@ fn whole_document(
     reader: Reader,
 ) -> Result<Vec<ASN1Block>, LocatedErr>
     ensures blocks { IfOk result (λ blocks. map view blocks.items
-        ≡ map view reader.inner.blocks ++ after_all octets.now reader.entries.items []) }
+        ≡ map view reader.inner.blocks ++ after_all octets.now reader.owed.items []) }
     ensures memory { IfErr result (λ e. e.error ≡ OutOfMemory) }
 {
     match all_blocks(alloc, octets, reader) {
@@ -281,11 +282,11 @@ fn whole_document(
 // The blocks of the document, which was read to its end.
 fn all_blocks(alloc: Global, octets: &[u8], reader: Reader) -> Result<Vec<ASN1Block>, AllocError>
     ensures { IfOk result (λ blocks. map view blocks.items
-        ≡ map view reader.inner.blocks ++ after_all octets.now reader.entries.items []) }
+        ≡ map view reader.inner.blocks ++ after_all octets.now reader.owed.items []) }
 {
-    let Reader { inner, entries, .. } = reader;
+    let Reader { inner, owed, .. } = reader;
     let OpenFrame { mut blocks, .. } = inner;
-    let others = build(alloc, octets, entries)?;
+    let others = build(alloc, octets, owed)?;
     blocks.append(others)?;
     Ok(blocks.into_vec())
 }
@@ -294,10 +295,10 @@ fn all_blocks(alloc: Global, octets: &[u8], reader: Reader) -> Result<Vec<ASN1Bl
 #[inline(always)]
 fn take_turn(alloc: Global, octets: &[u8], reader: &mut Reader, count: &mut HeaderCount) -> Turn
     requires small { length octets.now < 2 ^ 64 }
-    requires reading { (n : ℕ) × Reading octets.now reader.old n
+    requires reading { (n : ℕ) × IsReading octets.now reader.old n
         × (count.old + (length octets.now - n) < 2 ^ 64) }
-    ensures turned { (n base : ℕ) → Reading octets.now reader.old n → count.old ≡ base + n
-        → TurnTaken octets.now result reader.new count.new base
+    ensures turned { (n base : ℕ) → IsReading octets.now reader.old n → count.old ≡ base + n
+        → HasTakenTurn octets.now result reader.new count.new base
         (left (length octets.now) reader.old.index reader.old.outer.items) }
 {
     if reader.index != reader.inner.extent.end {
@@ -322,9 +323,9 @@ fn turn_of(
     step: Result<(), ASN1DecodeErr>,
 ) -> Turn
     requires small { length octets.now < 2 ^ 64 }
-    requires stepped { (n most : ℕ) × Stepped octets.now step reader.old n most }
-    ensures turned { (n most : ℕ) → Stepped octets.now step reader.old n most
-        → Turned octets.now result reader.new n most }
+    requires stepped { (n most : ℕ) × HasStepped octets.now step reader.old n most }
+    ensures turned { (n most : ℕ) → HasStepped octets.now step reader.old n most
+        → HasTurned octets.now result reader.new n most }
 {
     match step {
         Ok(()) => Turn::More,
@@ -337,22 +338,16 @@ fn turn_of(
 fn fail(alloc: Global, octets: &[u8], reader: &mut Reader, e: ASN1DecodeErr) -> Turn
     requires small { length octets.now < 2 ^ 64 }
     requires failed { (n most : ℕ)
-        × OutOfMemoryOr (λ fault. Faulty octets.now reader.old fault n most) e }
+        × OutOfMemoryOr (λ fault. IsFaulty octets.now reader.old fault n most) e }
     ensures turned { (n most : ℕ)
-        → OutOfMemoryOr (λ fault. Faulty octets.now reader.old fault n most) e
-        → Turned octets.now result reader.new n most }
+        → OutOfMemoryOr (λ fault. IsFaulty octets.now reader.old fault n most) e
+        → HasTurned octets.now result reader.new n most }
 {
     if is_out_of_memory(&e) {
         reader.fault = e;
         return Turn::Stop;
     }
-    match refuse(alloc, octets, reader, e) {
-        Ok(()) => Turn::More,
-        Err(e) => {
-            reader.fault = e;
-            Turn::Stop
-        }
-    }
+    refuse(alloc, octets, reader, e)
 }
 
 fn is_out_of_memory(e: &ASN1DecodeErr) -> bool
@@ -372,10 +367,10 @@ fn read_next(
     requires room { count.old + 1 < 2 ^ 64 }
     requires small { length octets.now < 2 ^ 64 }
     requires more { reader.old.index ≢ reader.old.inner.extent.end }
-    requires reading { (n : ℕ) × Reading octets.now reader.old n }
+    requires reading { (n : ℕ) × IsReading octets.now reader.old n }
     ensures counted { count.new ≡ count.old + 1 }
-    ensures stepped { (n : ℕ) → Reading octets.now reader.old n
-        → Stepped octets.now result reader.new (n + 1)
+    ensures stepped { (n : ℕ) → IsReading octets.now reader.old n
+        → HasStepped octets.now result reader.new (n + 1)
         (left (length octets.now) reader.old.index reader.old.outer.items) }
 {
     let offset = reader.index;
@@ -383,17 +378,17 @@ fn read_next(
     let header = header_within(alloc, octets, start, end, offset, count)?;
     let (start, end) = (header.start, header.end);
     let contents = &octets[start..end];
-    match contents_of(header, offset) {
-        Contents::Blocks(kind) => {
+    match read_as(header, offset) {
+        ReadAs::Blocks(kind) => {
             let frame = OpenFrame {
                 extent: Extent { kind, start, end },
                 blocks: HeldBlocks::with_capacity(alloc, encoding_count(contents))?,
-                begin: reader.entries.len(),
-                later: 0,
+                begin: reader.owed.len(),
+                owes: 0,
             };
             Ok(open(reader, frame)?)
         }
-        Contents::Leaf(header) => {
+        ReadAs::Leaf(header) => {
             let block = leaf_block(alloc, header, contents, offset)?;
             Ok(put(reader, end, block)?)
         }
@@ -402,21 +397,21 @@ fn read_next(
 
 // What the contents octets of an encoding at the offset are read as.
 #[inline(always)]
-fn contents_of(header: Header, offset: usize) -> Contents
+fn read_as(header: Header, offset: usize) -> ReadAs
     ensures { IsReadAs header offset result }
 {
     match header.class {
         ASN1Class::Universal => match header.tag.to_u64() {
-            Some(16) => Contents::Blocks(FrameKind::Group(GroupKind::Sequence, offset)),
-            Some(17) => Contents::Blocks(FrameKind::Group(GroupKind::Set, offset)),
-            _ => Contents::Leaf(header),
+            Some(16) => ReadAs::Blocks(FrameKind::Group(GroupKind::Sequence, offset)),
+            Some(17) => ReadAs::Blocks(FrameKind::Group(GroupKind::Set, offset)),
+            _ => ReadAs::Leaf(header),
         },
         _ => {
             if !header.constructed {
-                return Contents::Leaf(header);
+                return ReadAs::Leaf(header);
             }
             let Header { class, tag, .. } = header;
-            Contents::Blocks(FrameKind::Attempt(Attempt { class, offset, tag }))
+            ReadAs::Blocks(FrameKind::Attempt(Attempt { class, offset, tag }))
         }
     }
 }
@@ -443,27 +438,27 @@ fn put(reader: &mut Reader, end: usize, block: ASN1Block) -> Result<(), AllocErr
     ensures put { OnOk result (IsPut reader.old block reader.new) }
     ensures index { OnOk result (reader.new.index ≡ end) }
 {
-    if reader.inner.later != 0 {
-        return owe(reader, end, Entry::Ready(block));
+    if reader.inner.owes != 0 {
+        return owe(reader, end, Owed::Ready(block));
     }
     reader.inner.blocks.push(block)?;
     reader.index = end;
     Ok(())
 }
 
-// Puts an entry at the end of the innermost frame, and goes on after it.
+// Owes a block at the end of the innermost frame, and goes on after it.
 #[cold]
 #[inline(never)]
-fn owe(reader: &mut Reader, end: usize, entry: Entry) -> Result<(), AllocError>
-    ensures owed { OnOk result (IsOwed reader.old entry reader.new) }
+fn owe(reader: &mut Reader, end: usize, one: Owed) -> Result<(), AllocError>
+    ensures owed { OnOk result (IsOwed reader.old one reader.new) }
     ensures index { OnOk result (reader.new.index ≡ end) }
 {
-    let Some(later) = reader.inner.later.checked_add(1) else {
+    let Some(owes) = reader.inner.owes.checked_add(1) else {
         return Err(AllocError);
     };
-    reader.entries.reserve(1)?;
-    reader.entries.push_reserved(entry);
-    reader.inner.later = later;
+    reader.owed.reserve(1)?;
+    reader.owed.push_reserved(one);
+    reader.inner.owes = owes;
     reader.index = end;
     Ok(())
 }
@@ -477,38 +472,38 @@ fn close(
     parent: OpenFrame,
 ) -> Result<(), ASN1DecodeErr>
     requires small { length octets.now < 2 ^ 64 }
-    requires reading { (n : ℕ) × Reads octets.now reader.old.entries.items reader.old.inner
+    requires reading { (n : ℕ) × Reads octets.now reader.old.owed.items reader.old.inner
         (parent ∷ reverse reader.old.outer.items) reader.old.inner.extent.end n }
-    ensures stepped { (n : ℕ) → Reads octets.now reader.old.entries.items reader.old.inner
+    ensures stepped { (n : ℕ) → Reads octets.now reader.old.owed.items reader.old.inner
         (parent ∷ reverse reader.old.outer.items) reader.old.inner.extent.end n
-        → Stepped octets.now result reader.new n
+        → HasStepped octets.now result reader.new n
         (left (length octets.now) reader.old.inner.extent.end (parent ∷ reader.old.outer.items)) }
 {
     let OpenFrame {
         extent: Extent { kind, start, end },
         blocks,
         begin,
-        later,
+        owes,
     } = mem::replace(&mut reader.inner, parent);
     match kind {
         FrameKind::Whole => unreachable!(),
         FrameKind::Group(group, offset) => {
-            if later != 0 {
-                return Ok(owe(reader, end, Entry::Group(group, offset, blocks, later))?);
+            if owes != 0 {
+                return Ok(owe(reader, end, Owed::Group(group, offset, blocks, owes))?);
             }
             Ok(put(reader, end, group_block(group, offset, blocks))?)
         }
         FrameKind::Attempt(attempt) => {
             let depth = reader.outer.len();
             let inside = leave(&mut reader.outermost, depth);
-            if later == 1 && blocks.len() == 0 {
-                return Ok(owe(reader, end, Entry::Explicit(attempt))?);
+            if owes == 1 && blocks.len() == 0 {
+                return Ok(owe(reader, end, Owed::Explicit(attempt))?);
             }
-            if later == 0 && blocks.len() == 1 {
+            if owes == 0 && blocks.len() == 1 {
                 let block = around_block(alloc, attempt, blocks)?;
                 return Ok(put(reader, end, block)?);
             }
-            reader.entries.truncate(begin);
+            reader.owed.truncate(begin);
             Ok(keep(alloc, octets, reader, inside, attempt, start, end)?)
         }
     }
@@ -519,16 +514,13 @@ fn close(
 fn around_block(
     alloc: Global,
     attempt: Attempt,
-    mut blocks: HeldBlocks,
+    blocks: HeldBlocks,
 ) -> Result<ASN1Block, AllocError>
     requires { length blocks ≡ 1 }
     ensures { IfOk result (λ b. (item : ASN1Block) × (blocks ≡ item ∷ [])
         × (view b ≡ around attempt (view item))) }
 {
-    match blocks.pop() {
-        Some(item) => explicit_block(alloc, attempt, item),
-        None => unreachable!(),
-    }
+    explicit_block(alloc, attempt, blocks.into_only())
 }
 
 // An attempt ended, around which so many frames stand: whether one of these is an attempt.
@@ -561,7 +553,7 @@ fn keep(
     ensures index { OnOk result (reader.new.index ≡ end) }
 {
     if inside && end - start > COPIED_AT_ONCE {
-        return owe(reader, end, Entry::Kept(attempt, start, end));
+        return owe(reader, end, Owed::Kept(attempt, start, end));
     }
     let block = kept_block(alloc, attempt, &octets[start..end])?;
     put(reader, end, block)
@@ -569,16 +561,11 @@ fn keep(
 
 // A fault in the innermost frame drops the frames inside the innermost attempt, and that one stays as it came. Outside
 // all attempts it is the answer.
-fn refuse(
-    alloc: Global,
-    octets: &[u8],
-    reader: &mut Reader,
-    e: ASN1DecodeErr,
-) -> Result<(), ASN1DecodeErr>
+fn refuse(alloc: Global, octets: &[u8], reader: &mut Reader, e: ASN1DecodeErr) -> Turn
     requires small { length octets.now < 2 ^ 64 }
-    requires faulty { (n most : ℕ) × Faulty octets.now reader.old (fault_of e) n most }
-    ensures answered { (n most : ℕ) → Faulty octets.now reader.old (fault_of e) n most
-        → Answered octets.now result reader.new n most }
+    requires faulty { (n most : ℕ) × IsFaulty octets.now reader.old (fault_of e) n most }
+    ensures turned { (n most : ℕ) → IsFaulty octets.now reader.old (fault_of e) n most
+        → HasTurned octets.now result reader.new n most }
 {
     while let Some(parent) = reader.outer.pop() {
         let OpenFrame {
@@ -589,11 +576,16 @@ fn refuse(
         if let Some(attempt) = as_attempt(kind) {
             let depth = reader.outer.len();
             let inside = leave(&mut reader.outermost, depth);
-            reader.entries.truncate(begin);
-            return Ok(keep(alloc, octets, reader, inside, attempt, start, end)?);
+            reader.owed.truncate(begin);
+            let Ok(()) = keep(alloc, octets, reader, inside, attempt, start, end) else {
+                reader.fault = ASN1DecodeErr::OutOfMemory;
+                return Turn::Stop;
+            };
+            return Turn::More;
         }
     }
-    Err(e)
+    reader.fault = e;
+    Turn::Stop
 }
 
 // The attempt that the frame is, where a fault inside ends.

@@ -1,5 +1,4 @@
-// Trees as lists of their blocks, each before those that it holds, so that what goes over them is
-// a loop.
+// Trees as lists of their blocks, each before those that it holds, so that what goes over them is a loop.
 ghost use Rattle.std.specs.Prelude.{◌≡◌, ◌++◌, [], IfOk, MatchOption, OnOk, map};
 ghost use Rattle.asn1_blocks.specs.Inner.TreeOrder.{IsInTreeOrder, IsNext, ahead, inside, stacked};
 ghost use Rattle.asn1_blocks.specs.View.{view, views};
@@ -57,8 +56,7 @@ impl<'a> TreeWalk<'a> {
         }
     }
 
-    // Goes on with what a block holds, and then with the rest. Where either is empty, that takes no
-    // memory.
+    // Goes on with what a block holds, and then with the rest. Where either is empty, that takes no memory.
     fn enter(&mut self, held: &'a [ASN1Block], rest: &'a [ASN1Block]) -> Result<(), AllocError>
         ensures { OnOk result (ahead self.new
             ≡ held.now ++ (rest.now ++ stacked (map (λ x. x.now) self.old.outer.items))) }

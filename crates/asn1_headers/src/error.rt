@@ -186,9 +186,9 @@ pub enum ASN1EncodeErr {
 
 /// Makes `OutOfMemory` of what a copy, a text or a reserved size answers where memory runs out.
 impl From<AllocError> for ASN1EncodeErr {
-    ghost use Rattle.asn1_headers.specs.declared.error.ASN1EncodeErr.TheVariants.{OutOfMemory};
+    ghost use Rattle.asn1_headers.specs.declared.error.ASN1EncodeErr.TheVariants.{OutOfMemory as no_memory};
 
-    ghost from_gives = { λ _ e. e ≡ OutOfMemory };
+    ghost from_gives = { λ _ e. e ≡ no_memory };
 
     fn from(_: AllocError) -> ASN1EncodeErr {
         ASN1EncodeErr::OutOfMemory
@@ -197,9 +197,9 @@ impl From<AllocError> for ASN1EncodeErr {
 
 /// Makes `OutOfMemory` of what a `push` and a `Box` answer there, which hand back what they could not keep.
 impl<T: Drop> From<AllocFailed<T>> for ASN1EncodeErr {
-    ghost use Rattle.asn1_headers.specs.declared.error.ASN1EncodeErr.TheVariants.{OutOfMemory};
+    ghost use Rattle.asn1_headers.specs.declared.error.ASN1EncodeErr.TheVariants.{OutOfMemory as no_memory};
 
-    ghost from_gives = { λ _ e. e ≡ OutOfMemory };
+    ghost from_gives = { λ _ e. e ≡ no_memory };
 
     fn from(_: AllocFailed<T>) -> ASN1EncodeErr {
         ASN1EncodeErr::OutOfMemory

@@ -1,4 +1,2 @@
 pub mod Dump
-pub mod Steps
-pub mod Walk
 pub mod Forms

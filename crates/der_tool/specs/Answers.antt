@@ -4,7 +4,7 @@ use Rattle.std.specs.Fmt.{signed_decimal}
 use Rattle.hex.specs.Hex.{decode_of, encode_upper}
 use Rattle.streams.specs.Lines.{lines_of}
 use Rattle.simple_asn1.specs.Tree.{Trees}
-use Rattle.simple_asn1.specs.Grammar.{Document, FirstFault}
+use Rattle.simple_asn1.specs.Grammar.{IsDocument, FirstFault}
 use Rattle.simple_asn1.specs.Canonical.{all_canonical}
 use Rattle.simple_asn1.specs.Fault.{DecodeFault, empty_buffer, bad_boolean_length, length_too_large, utf8_failure, printable_string_failure, invalid_date_value, invalid_bit_string_length, invalid_class, incomplete, overflow, out_of_memory, not_canonical}
 use Rattle.simple_asn1.specs.ReadBack.{IsCanonicalDocument}
@@ -43,7 +43,7 @@ refusal fault = codes "refused " ++ (name_of fault ++ number_after fault)
 -- is its canonical octets
 abbrev pub IsAccepted : Reading → List ℕ → List ℕ → Type 0
 IsAccepted Lenient octets canonical =
-    (bs : Trees ℕ) × Document octets bs × (canonical ≡ all_canonical bs)
+    (bs : Trees ℕ) × IsDocument octets bs × (canonical ≡ all_canonical bs)
 IsAccepted Strict octets canonical = IsCanonicalDocument octets × (canonical ≡ octets)
 
 -- the octets are refused, with this fault

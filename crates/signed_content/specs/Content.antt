@@ -1,7 +1,7 @@
 -- What is answered to a document.
 use Rattle.std.specs.Prelude.{◌⊎◌, ℕ, List}
 use Rattle.simple_asn1.specs.Fault.{DecodeFault}
-use Rattle.simple_asn1.specs.Grammar.{Document, FirstFault}
+use Rattle.simple_asn1.specs.Grammar.{IsDocument, FirstFault}
 use Rattle.simple_asn1.specs.Places.{HasOctets}
 use Rattle.simple_asn1.specs.SignedTrees.{SignedParts, IsOfAnotherShape, signed_trees}
 use Rattle.simple_asn1.specs.Tree.{Trees}
@@ -10,7 +10,7 @@ use Rattle.simple_asn1.specs.Tree.{Trees}
 pub record IsContent (input : List ℕ) (content : List ℕ) : Type 0 where
   pub parts : SignedParts
   pub rest : Trees ℕ
-  pub document : Document input (signed_trees parts rest)
+  pub document : IsDocument input (signed_trees parts rest)
   pub octets : HasOctets input (signed_trees parts rest) parts.content content
 
 -- the input is no document, or it begins with another block

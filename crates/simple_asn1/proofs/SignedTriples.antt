@@ -10,7 +10,7 @@ use Rattle.simple_asn1.specs.declared.convert.signed.TripleErr.TheVariants.{Code
 use Rattle.asn1_headers.specs.declared.error.ASN1DecodeErr.TheVariants.{OutOfMemory}
 use Rattle.simple_asn1.specs.Conversions.{Decodes, DecodeFails}
 use Rattle.asn1_headers.specs.Fault.{fault_of}
-use Rattle.asn1_blocks.specs.Grammar.{Document}
+use Rattle.asn1_blocks.specs.Grammar.{IsDocument}
 use Rattle.simple_asn1.specs.Laws.OneReading.{OneReading}
 use Rattle.simple_asn1.specs.Laws.Parts.{Slices}
 use Rattle.asn1_numbers.specs.Octets.{FitInSlice}
@@ -87,10 +87,10 @@ has_algorithm octets p rest =
     record { end = p.signature_offset; stands = in_first (in_group (in_later (in_first itself))); are = refl }
 
 -- in a document the offsets of a triple stand in their order
-begins : Slices → (octets : List ℕ) (p : SignedParts) (rest : Trees ℕ) (bs : Trees ℕ) → Document octets bs →
+begins : Slices → (octets : List ℕ) (p : SignedParts) (rest : Trees ℕ) (bs : Trees ℕ) → IsDocument octets bs →
     bs ≡ signed_trees p rest → BeginWithSigned bs octets p rest
 begins law octets p rest bs d e =
-    let t = subst (Document octets) e d in
+    let t = subst (IsDocument octets) e d in
     let o = tree_offset p.content in
     let alone = law.alone octets (signed_trees p rest) p.content (slice_range octets o p.algorithm_offset) t (has_content octets p rest _ refl) in
     let cut : length (slice_range octets o p.algorithm_offset) ≡ min (p.algorithm_offset - o) (length (drop o octets)) =
@@ -150,13 +150,13 @@ another_shape law octets (inl (bs, d, inr (e, other))) = (bs, d, λ p rest e. ot
 another_shape law octets (inr (f, _, e)) = cc
 
 pub kept_content : OneReading → (octets : List ℕ) (r : Result SignedTriple TripleErr) → IfOk r (IsRead octets) →
-    IfOk r (λ t. (p : SignedParts) (rest : Trees ℕ) → Document octets (signed_trees p rest) →
+    IfOk r (λ t. (p : SignedParts) (rest : Trees ℕ) → IsDocument octets (signed_trees p rest) →
     HasOctets octets (signed_trees p rest) p.content t.content.items)
 kept_content law octets (Ok t) is = λ p rest d. has_content octets p rest t.content.items (fields_of law octets t is p (rest, d)).content
 kept_content law octets (Err e) is = tt
 
 pub content_alone : OneReading → Slices → (octets : List ℕ) (r : Result SignedTriple TripleErr) → IfOk r (IsRead octets) →
-    IfOk r (λ t. (p : SignedParts) → IsSigned octets p → Document t.content.items (more_trees (rebased p.content) no_trees))
+    IfOk r (λ t. (p : SignedParts) → IsSigned octets p → IsDocument t.content.items (more_trees (rebased p.content) no_trees))
 content_alone law parts octets (Ok t) is = λ p s.
     parts.alone octets (signed_trees p s.0) p.content t.content.items s.1
     (has_content octets p s.0 t.content.items (fields_of law octets t is p s).content)

@@ -14,7 +14,7 @@ use Rattle.asn1_blocks.specs.Tree.{Tree, Trees, leaf, group, explicit, unknown, 
 use Rattle.asn1_blocks.specs.View.{tree_offset, view, views}
 use Rattle.asn1_blocks.specs.Contents.{group_tag, leaf_contents, leaf_tag}
 use Rattle.simple_asn1.specs.Canonical.{shortest_encoding, canonical, all_canonical, first_write_fault, write_fault}
-use Rattle.asn1_blocks.specs.Grammar.{EncodesAll, Document}
+use Rattle.asn1_blocks.specs.Grammar.{EncodesAll, IsDocument}
 use Rattle.asn1_blocks.specs.Places.{end_before}
 use Rattle.simple_asn1.specs.ReadBack.{CanonicalDocument}
 use Rattle.simple_asn1.specs.Strict.{EqualByOctets, FirstNotCanonical, StandCanonical, StrictFault, top_octets}
@@ -174,11 +174,11 @@ first_alone i (more_trees b bs) m n (inl p) (inr q) = absurd (p.0 q.0)
 first_alone i (more_trees b bs) m n (inr p) (inl q) = absurd (q.0 p.0)
 first_alone i (more_trees b bs) m n (inr p) (inr q) = first_alone i bs m n p.1 q.1
 
-pub stand_exactly : (i : List ℕ) (bs : Trees ℕ) → length i < 2 ^ 64 → Document i bs → (i ≡ all_canonical bs) ↔ StandCanonical i bs
+pub stand_exactly : (i : List ℕ) (bs : Trees ℕ) → length i < 2 ^ 64 → IsDocument i bs → (i ≡ all_canonical bs) ↔ StandCanonical i bs
 stand_exactly i bs small d = (λ e. written_stand bs i [] i refl small d.blocks e, λ s. stand_written bs i [] i refl d.blocks s)
 
 -- a canonical document has no tree that is not canonical
-canonical_no_first : (i : List ℕ) (bs cs : Trees ℕ) (n : ℕ) → length i < 2 ^ 64 → CanonicalDocument i bs → Document i cs → FirstNotCanonical i cs n → ⊥
+canonical_no_first : (i : List ℕ) (bs cs : Trees ℕ) (n : ℕ) → length i < 2 ^ 64 → CanonicalDocument i bs → IsDocument i cs → FirstNotCanonical i cs n → ⊥
 canonical_no_first i bs cs n small d a f =
     let same : cs ≡ bs = all_alone 0 i cs bs a.blocks d.0.blocks in
     stand_no_first i bs n ((stand_exactly i bs small d.0).0 d.1) (subst (λ z. FirstNotCanonical i z n) same f)

@@ -6,7 +6,7 @@ use Rattle.simple_asn1.specs.Canonical.{canonical, all_canonical, first_write_fa
 use Rattle.simple_asn1.specs.Conversions.{ComeBack, Decodes, DecodeFails, Encodes, EncodeFails, OwnDecodeFault, OwnEncodeFault}
 use Rattle.asn1_blocks.specs.Faithful.{AreFaithful}
 use Rattle.asn1_headers.specs.Fault.{fault_of}
-use Rattle.asn1_blocks.specs.Grammar.{Document}
+use Rattle.asn1_blocks.specs.Grammar.{IsDocument}
 use Rattle.asn1_blocks.specs.Tree.{Tree, Trees, leaf, group, explicit, unknown, no_trees, more_trees, shape, shapes}
 use Rattle.asn1_blocks.proofs.OneReading.{all_alone}
 use Rattle.simple_asn1.proofs.Placed.{all_placed, all_canonical_encodes, canonical_some, canonical_shapes, write_fault_shapes, shapes_placed, all_faithful_writable}
@@ -24,7 +24,7 @@ mutual
   shapes_of_shapes (more_trees b bs) = ap (λ z. more_trees z (shapes bs)) (shape_of_shape b) ∙ ap (more_trees b) (shapes_of_shapes bs)
 
 -- the canonical octets of faithful trees are a document of these trees, placed where they stand
-document_of : (ss : Trees (Unit {0})) → ComeBack ss → length (all_canonical ss) < 2 ^ 64 → Document (all_canonical ss) (all_placed 0 ss)
+document_of : (ss : Trees (Unit {0})) → ComeBack ss → length (all_canonical ss) < 2 ^ 64 → IsDocument (all_canonical ss) (all_placed 0 ss)
 document_of no_trees k small = absurd (k.0 refl)
 document_of (more_trees b bs) k small = record {
   some = omega (arith, canonical_some b, length-append (canonical b) (all_canonical bs));
@@ -32,7 +32,7 @@ document_of (more_trees b bs) k small = record {
 }
 
 -- and of no others
-read_shapes : (ss : Trees (Unit {0})) (bs : Trees ℕ) → AreFaithful ss → length (all_canonical ss) < 2 ^ 64 → Document (all_canonical ss) bs → shapes bs ≡ ss
+read_shapes : (ss : Trees (Unit {0})) (bs : Trees ℕ) → AreFaithful ss → length (all_canonical ss) < 2 ^ 64 → IsDocument (all_canonical ss) bs → shapes bs ≡ ss
 read_shapes ss bs f small d =
     ap shapes (all_alone 0 (all_canonical ss) bs (all_placed 0 ss) d.blocks (all_canonical_encodes 0 ss small f)) ∙ (shapes_placed 0 ss ∙ shapes_of_shapes ss)
 

@@ -1,5 +1,5 @@
 -- What private contracts and ghost members of types name, but no public contract.
 pub mod WriteWalk
-pub mod StandWalk
+pub mod InPlaceWalk
 pub mod PointLaws
 pub mod Algorithm

@@ -7,7 +7,7 @@ use Rattle.simple_asn1.specs.declared.convert.signed.TripleErr.TheVariants.{Code
 use Rattle.asn1_headers.specs.declared.error.ASN1DecodeErr.TheVariants.{OutOfMemory}
 use Rattle.asn1_blocks.specs.Tree.{Tree, Trees, leaf, group, bit_string, object_identifier, no_trees, more_trees}
 use Rattle.asn1_blocks.specs.View.{tree_offset}
-use Rattle.asn1_blocks.specs.Grammar.{Document}
+use Rattle.asn1_blocks.specs.Grammar.{IsDocument}
 
 -- the parts of a signed triple, with the offsets of its blocks
 pub record SignedParts : Type 0 where
@@ -43,23 +43,21 @@ signed_tree p =
 abbrev pub signed_trees : SignedParts → Trees ℕ → Trees ℕ
 signed_trees p rest = more_trees (signed_tree p) rest
 
--- the value has what the parts have; its content is the octets from the offset of the content to
--- that of the algorithm
+-- the value has what the parts have; its content is the octets from the offset of the content to that of the algorithm
 pub record HasFields (octets : List ℕ) (p : SignedParts) (t : SignedTriple) : Type 0 where
   pub content : t.content.items ≡ slice_range octets (tree_offset p.content) p.algorithm_offset
   pub algorithm : t.algorithm ≡ p.algorithm
   pub bits : t.bits ≡ p.bits
   pub signature : t.signature.items ≡ p.signature
 
--- the first tree is a signed triple of these parts, whose content stands in the octets; these are
--- the trees after it
+-- the first tree is a signed triple of these parts, whose content stands in the octets; these are the trees after it
 pub record BeginWithSigned (bs : Trees ℕ) (octets : List ℕ) (p : SignedParts) (rest : Trees ℕ) : Type 0 where
   pub trees : bs ≡ signed_trees p rest
   pub ordered : tree_offset p.content ≤ p.algorithm_offset
   pub within : p.algorithm_offset ≤ length octets
 
--- what is read of trees and of the octets of their document: a value and the trees after it; that
--- memory ran out; or, exactly where they begin with none, that the shape is another
+-- what is read of trees and of the octets of their document: a value and the trees after it; that memory ran out; or,
+-- exactly where they begin with none, that the shape is another
 abbrev pub ReadsSigned : Trees ℕ → List ℕ → Result (SignedTriple × Trees ℕ) TripleErr → Type 0
 ReadsSigned bs octets (Ok x) =
     (p : SignedParts) × BeginWithSigned bs octets p x.1 × HasFields octets p x.0
@@ -69,9 +67,9 @@ ReadsSigned bs octets (Err e) =
 
 -- the octets are a document whose first tree is a signed triple of these parts
 abbrev pub IsSigned : List ℕ → SignedParts → Type 0
-IsSigned octets p = (rest : Trees ℕ) × Document octets (signed_trees p rest)
+IsSigned octets p = (rest : Trees ℕ) × IsDocument octets (signed_trees p rest)
 
 -- the octets are a document whose first tree is none
 abbrev pub IsOfAnotherShape : List ℕ → Type 0
 IsOfAnotherShape octets =
-    (bs : Trees ℕ) × Document octets bs × ((p : SignedParts) (rest : Trees ℕ) → bs ≢ signed_trees p rest)
+    (bs : Trees ℕ) × IsDocument octets bs × ((p : SignedParts) (rest : Trees ℕ) → bs ≢ signed_trees p rest)

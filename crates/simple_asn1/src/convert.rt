@@ -1,7 +1,7 @@
 // Types of one's own, read from blocks and written as blocks.
 //
-// A type names what it reads and writes by ghost members, relations over the trees of blocks. The
-// calls here are proved once, for all types, by these relations alone.
+// A type names what it reads and writes by ghost members, relations over the trees of blocks. The calls here are proved
+// once, for all types, by these relations alone.
 ghost use Rattle.std.specs.Prelude.{◌≡◌, ◌≢◌, ℕ, List, Result, Ok, Err, IfOk, IfErr};
 ghost use Rattle.std.specs.Prelude.{MatchOption, MatchResult};
 ghost use Rattle.simple_asn1.specs.Conversions.{ComeBack, Decodes, DecodeFails, Encodes, EncodeFails, OwnDecodeFault, OwnEncodeFault, TripFails};
@@ -33,8 +33,8 @@ pub trait FromASN1WithBody: Sized {
     /// What is read of trees and octets: a value with the trees after it, or an error.
     ghost reads_with: { Trees ℕ → List ℕ → Result (Self × Trees ℕ) Self.Error → Type 0 };
 
-    /// Reads a value from the first of the blocks `v`, whose document is `b`, and gives it with the
-    /// blocks after those that it has taken.
+    /// Reads a value from the first of the blocks `v`, whose document is `b`, and gives it with the blocks after those
+    /// that it has taken.
     fn from_asn1_with_body<'a>(
         alloc: Global,
         v: &'a [ASN1Block],
@@ -115,8 +115,8 @@ pub trait RoundTrip: FromASN1 + ToASN1 {
         shapes bs ≡ trees_of x → Self.reads bs (Ok (y, rest)) → (y ≡ x) × (rest ≡ no_trees) };
 }
 
-/// Reads a document as [`from_der`](crate::from_der) does, and a value from its blocks. Blocks that
-/// the type leaves over are ignored.
+/// Reads a document as [`from_der`](crate::from_der) does, and a value from its blocks. Blocks that the type leaves
+/// over are ignored.
 ///
 /// # Errors
 /// Those of [`from_der`](crate::from_der), by `From`; those of the type.
@@ -183,8 +183,8 @@ pub enum TripFault<E, D> {
     Decode(D),
 }
 
-/// Writes the value as [`der_encode`] does, and reads the octets as [`der_decode`] does. Where the
-/// value has trees and each is faithful, what is read is the value.
+/// Writes the value as [`der_encode`] does, and reads the octets as [`der_decode`] does. Where the value has trees and
+/// each is faithful, what is read is the value.
 ///
 /// # Errors
 /// `Encode` with an error of [`der_encode`], `Decode` with one of [`der_decode`]. Where the value has trees and each is

@@ -4,7 +4,7 @@ use Rattle.std.specs.List.{slice_range}
 use Rattle.asn1_blocks.specs.Tree.{Tree, trees_of, more_trees}
 use Rattle.asn1_blocks.specs.Grammar.{Encodes, EncodesAll}
 use Rattle.asn1_blocks.specs.HeadersBegun.{HeadersBegun}
-use Rattle.asn1_blocks.specs.Inner.OpenFrames.{Frame, ReadTo, Opened}
+use Rattle.asn1_blocks.specs.Inner.OpenFrames.{Frame, IsReadTo, AreOpen}
 use Rattle.asn1_blocks.proofs.OneReading.{encodes_blocks}
 use Rattle.asn1_blocks.proofs.ReadSteps.{encodes_more, with_last, slice_length, slice_join}
 use Rattle.asn1_blocks.proofs.HeaderCounts.{begun_le, begun_join}
@@ -24,7 +24,7 @@ trees_push : (ts : List (Tree ℕ)) (t : Tree ℕ) → trees_of (ts ++ t ∷ [])
 trees_push [] t = refl
 trees_push (x ∷ ts) t = ap (more_trees x) (trees_push ts t)
 
-follows_read : (octets : List ℕ) (f : Frame) (p q n m : ℕ) (t : Tree ℕ) → ReadTo octets f p n → Follows octets f p q t m → ReadTo octets (grown f t) q (n + m)
+follows_read : (octets : List ℕ) (f : Frame) (p q n m : ℕ) (t : Tree ℕ) → IsReadTo octets f p n → Follows octets f p q t m → IsReadTo octets (grown f t) q (n + m)
 follows_read octets f p q n m t r w =
     let s = f.extent.start in
     let front = slice_range octets s p in
@@ -44,8 +44,8 @@ follows_read octets f p q n m t r w =
     }
 
 -- one tree more in the innermost frame
-pub opened_more : (octets : List ℕ) (f : Frame) (gs : List Frame) (p q n m : ℕ) (t : Tree ℕ) → Opened octets f gs p n → Follows octets f p q t m
-    → Opened octets (grown f t) gs q (n + m)
+pub opened_more : (octets : List ℕ) (f : Frame) (gs : List Frame) (p q n m : ℕ) (t : Tree ℕ) → AreOpen octets f gs p n → Follows octets f p q t m
+    → AreOpen octets (grown f t) gs q (n + m)
 opened_more octets f [] p q n m t o w =
     record { whole = record { kind = o.whole.kind; start = o.whole.start; end = o.whole.end }; read = follows_read octets f p q n m t o.read w }
 opened_more octets f (g ∷ gs) p q n m t o w =
@@ -67,23 +67,23 @@ pub record Places (octets : List ℕ) (f : Frame) (p : ℕ) : Type 0 where
   pub to : p ≤ f.extent.end
   pub within : f.extent.end ≤ length octets
 
-pub opened_places : (octets : List ℕ) (f : Frame) (gs : List Frame) (p n : ℕ) → Opened octets f gs p n → Places octets f p
+pub opened_places : (octets : List ℕ) (f : Frame) (gs : List Frame) (p n : ℕ) → AreOpen octets f gs p n → Places octets f p
 opened_places octets f [] p n o = record { from = o.read.from; to = o.read.to; within = o.read.within }
 opened_places octets f (g ∷ gs) p n o = record { from = o.read.from; to = o.read.to; within = o.read.within }
 
 -- at most one header an octet
-read_bound : (octets : List ℕ) (f : Frame) (p n : ℕ) → ReadTo octets f p n → n + f.extent.start ≤ p
+read_bound : (octets : List ℕ) (f : Frame) (p n : ℕ) → IsReadTo octets f p n → n + f.extent.start ≤ p
 read_bound octets f p n r =
     let l = slice_length octets f.extent.start p r.from (omega (arith, r.to, r.within)) in
     omega (arith, begun_le (slice_range octets f.extent.start p) n r.begun, l, r.from)
 
-pub opened_bound : (octets : List ℕ) (f : Frame) (gs : List Frame) (p n : ℕ) → Opened octets f gs p n → n ≤ p
+pub opened_bound : (octets : List ℕ) (f : Frame) (gs : List Frame) (p n : ℕ) → AreOpen octets f gs p n → n ≤ p
 opened_bound octets f [] p n o = omega (arith, read_bound octets f p n o.read)
 opened_bound octets f (g ∷ gs) p n o =
     omega (arith, read_bound octets f p o.own o.read, opened_bound octets g gs o.offset o.before o.around, o.after, o.total)
 
 -- also with the block that follows
-pub follows_bound : (octets : List ℕ) (f : Frame) (gs : List Frame) (p q n m : ℕ) (t : Tree ℕ) → Opened octets f gs p n → Follows octets f p q t m
+pub follows_bound : (octets : List ℕ) (f : Frame) (gs : List Frame) (p q n m : ℕ) (t : Tree ℕ) → AreOpen octets f gs p n → Follows octets f p q t m
     → n + m ≤ length octets
 follows_bound octets f gs p q n m t o w =
     let v = opened_places octets f gs p n o in

@@ -9,19 +9,19 @@ use Rattle.asn1_blocks.specs.Contents.{group_tag}
 use Rattle.asn1_blocks.specs.Grammar.{of_other_class, of_group, Encodes, EncodesAll}
 use Rattle.asn1_headers.specs.Header.{Encoding}
 use Rattle.asn1_blocks.specs.HeadersBegun.{HeadersBegun}
-use Rattle.asn1_blocks.specs.Inner.OpenFrames.{Frame, Headed, Opened}
+use Rattle.asn1_blocks.specs.Inner.OpenFrames.{Frame, IsHeaded, AreOpen}
 use Rattle.asn1_blocks.specs.Tree.{Tree, group, trees_of}
-use Rattle.asn1_blocks.proofs.Frames.Stopping.{Closed, whole_document}
+use Rattle.asn1_blocks.proofs.Frames.Stopping.{IsClosed, whole_document}
 use Rattle.asn1_blocks.proofs.HeaderCounts.{begun_opened}
 use Rattle.asn1_blocks.proofs.Leaves.{group_tag_is}
 use Rattle.asn1_blocks.proofs.OneReading.{encodes_blocks}
 
 -- the document has ended
-pub record DocumentRead (octets : List ℕ) (f : Frame) (n : ℕ) : Type 0 where
+pub record IsDocumentRead (octets : List ℕ) (f : Frame) (n : ℕ) : Type 0 where
   pub encoded : EncodesAll 0 octets (trees_of f.trees)
   pub begun : HeadersBegun octets n
 
-pub end_document : (octets : List ℕ) (f : Frame) (n : ℕ) → Opened octets f [] f.extent.end n → DocumentRead octets f n
+pub end_document : (octets : List ℕ) (f : Frame) (n : ℕ) → AreOpen octets f [] f.extent.end n → IsDocumentRead octets f n
 end_document octets f n o =
     let d = whole_document octets f o.whole.start o.whole.end in
     let all = subst (λ z. EncodesAll f.extent.start z (trees_of f.trees)) d o.read.encoded in
@@ -32,13 +32,13 @@ end_document octets f n o =
 
 -- a group
 pub close_group : (octets : List ℕ) (f g : Frame) (gs : List Frame) (n x : ℕ) (y : GroupKind) → f.extent.kind ≡ Group y x
-    → Opened octets f (g ∷ gs) f.extent.end n → Closed octets g gs f.extent.end (group x y (trees_of f.trees)) n
+    → AreOpen octets f (g ∷ gs) f.extent.end n → IsClosed octets g gs f.extent.end (group x y (trees_of f.trees)) n
 close_group octets f g gs n x y k o =
     let s = f.extent.start in
     let z = f.extent.end in
     let contents = slice_range octets s z in
     let trees = trees_of f.trees in
-    let H = subst (λ i. Headed octets i o.offset s z) k o.headed in
+    let H = subst (λ i. IsHeaded octets i o.offset s z) k o.headed in
     let bit = H.1.constructed in
     let F = H.1.encoding in
     let at : s ≡ x + (s - x) = omega (arith, H.0, o.after) in
@@ -47,7 +47,7 @@ close_group octets f g gs n x y k o =
       place = x;
       before = o.before;
       own = 1 + o.own;
-      opened = subst (λ i. Opened octets g gs i o.before) (sym H.0) o.around;
+      opened = subst (λ i. AreOpen octets g gs i o.before) (sym H.0) o.around;
       follows = record {
         from = omega (arith, H.0, o.after, o.read.from, o.read.to);
         to = o.fits;
@@ -71,20 +71,20 @@ Means a contents ts t =
 
 -- an attempt
 pub close_attempt : (octets : List ℕ) (f g : Frame) (gs : List Frame) (n : ℕ) (a : owed.Attempt) (t : Tree ℕ) → f.extent.kind ≡ Attempt a
-    → Means a (slice_range octets f.extent.start f.extent.end) f.trees t → Opened octets f (g ∷ gs) f.extent.end n → Closed octets g gs f.extent.end t n
+    → Means a (slice_range octets f.extent.start f.extent.end) f.trees t → AreOpen octets f (g ∷ gs) f.extent.end n → IsClosed octets g gs f.extent.end t n
 close_attempt octets f g gs n a t k means o =
     let s = f.extent.start in
     let z = f.extent.end in
     let contents = slice_range octets s z in
     let all = slice_range octets a.offset z in
-    let H = subst (λ i. Headed octets i o.offset s z) k o.headed in
+    let H = subst (λ i. IsHeaded octets i o.offset s z) k o.headed in
     let F = H.1.encoding in
     let at : s ≡ a.offset + (s - a.offset) = omega (arith, H.0, o.after) in
     record {
       place = a.offset;
       before = o.before;
       own = 1 + o.own;
-      opened = subst (λ i. Opened octets g gs i o.before) (sym H.0) o.around;
+      opened = subst (λ i. AreOpen octets g gs i o.before) (sym H.0) o.around;
       follows = record {
         from = omega (arith, H.0, o.after, o.read.from, o.read.to);
         to = o.fits;

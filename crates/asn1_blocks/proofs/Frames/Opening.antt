@@ -16,8 +16,8 @@ use Rattle.asn1_blocks.specs.Grammar.{Encodes, EncodesAll, in_header, in_content
 use Rattle.asn1_blocks.specs.FaultPlace.{BlockFaultAt, at_header, at_leaf}
 use Rattle.asn1_headers.specs.Header.{Encoding}
 use Rattle.asn1_blocks.specs.HeadersBegun.{IsReadInside, begun_none, begun_some, nothing_inside, nothing_after}
-use Rattle.asn1_blocks.specs.Inner.OpenFrames.{Frame, Headed, Opened, Stopping}
-use Rattle.asn1_blocks.specs.Inner.HeaderPlaces.{EncodingBetween, HeaderFound}
+use Rattle.asn1_blocks.specs.Inner.OpenFrames.{Frame, IsHeaded, AreOpen, IsStopping}
+use Rattle.asn1_blocks.specs.Inner.HeaderPlaces.{IsEncodingBetween, HeaderFound}
 use Rattle.asn1_blocks.specs.Inner.ReaderSteps.{IsKindOf}
 use Rattle.asn1_blocks.specs.Tree.{Tree, trees_of}
 use Rattle.asn1_blocks.proofs.Faults.{block_fault_no_block, header_no_encoding}
@@ -31,7 +31,7 @@ use Rattle.asn1_blocks.proofs.ReadSteps.{slice_length, slice_join}
 
 -- the header found in a slice of the document, in the document
 pub encoding_here : (octets : List ℕ) (s e i a z : ℕ) (c : ASN1Class) (k : Bool) (n : ℕ) → s ≤ e → e ≤ length octets → i < a → a ≤ z → s + z ≤ e
-    → EncodingBetween (slice_range octets s e) c k n i a z → EncodingBetween octets c k n (s + i) (s + a) (s + z)
+    → IsEncodingBetween (slice_range octets s e) c k n i a z → IsEncodingBetween octets c k n (s + i) (s + a) (s + z)
 encoding_here octets s e i a z c k n h l lt le fits F =
     let whole : slice_range (slice_range octets s e) i z ≡ slice_range octets (s + i) (s + z) = slice_slice octets s e i z h (omega (arith, lt, le)) fits in
     let contents : slice_range (slice_range octets s e) a z ≡ slice_range octets (s + a) (s + z) = slice_slice octets s e a z h le fits in
@@ -41,27 +41,27 @@ encoding_here octets s e i a z c k n h l lt le fits F =
     (subst (λ w. Encoding (slice_range (slice_range octets s e) i z) c k n (slice_range (slice_range octets s e) a z) w) size F))
 
 -- the same places in other words
-pub EncodingAt_moved : (octets : List ℕ) (i j a b y z : ℕ) (c : ASN1Class) (k : Bool) (n : ℕ) → i ≡ j → a ≡ b → y ≡ z → EncodingBetween octets c k n i a y
-    → EncodingBetween octets c k n j b z
+pub EncodingAt_moved : (octets : List ℕ) (i j a b y z : ℕ) (c : ASN1Class) (k : Bool) (n : ℕ) → i ≡ j → a ≡ b → y ≡ z → IsEncodingBetween octets c k n i a y
+    → IsEncodingBetween octets c k n j b z
 EncodingAt_moved octets i j a b y z c k n e f g F =
-    subst (λ w. EncodingBetween octets c k n j b w) g (subst (λ w. EncodingBetween octets c k n j w y) f (subst (λ w. EncodingBetween octets c k n w a y) e F))
+    subst (λ w. IsEncodingBetween octets c k n j b w) g (subst (λ w. IsEncodingBetween octets c k n j w y) f (subst (λ w. IsEncodingBetween octets c k n w a y) e F))
 
 -- the frame of contents octets that are read as blocks
 pub headed_by : (octets : List ℕ) (kind : FrameKind) (place limit : ℕ) (h : Header) → IsKindOf kind h place → HeaderFound octets place limit h
-    → Headed octets kind place h.start h.end
+    → IsHeaded octets kind place h.start h.end
 headed_by octets Whole place limit h k w = absurd k
-headed_by octets (Group g o) place limit h (universal, number, at) w =
-    let tag = subst (λ z. EncodingBetween octets h.class h.constructed z place h.start h.end) number w.encoding in
-    let own = subst (λ z. EncodingBetween octets z h.constructed (group_tag g) place h.start h.end) universal tag in
-    subst (λ z. Headed octets (Group g z) place h.start h.end) (sym at) (refl, record { constructed = h.constructed; encoding = own })
-headed_by octets (Attempt a) place limit h (other, constructed, is) w =
-    let bit = subst (λ z. EncodingBetween octets h.class z h.tag place h.start h.end) constructed w.encoding in
-    subst (λ z. Headed octets (Attempt z) place h.start h.end) (sym is) (refl, record { other = other; encoding = bit })
+headed_by octets (Group g o) place limit h k w =
+    let tag = subst (λ z. IsEncodingBetween octets h.class h.constructed z place h.start h.end) k.1 w.encoding in
+    let own = subst (λ z. IsEncodingBetween octets z h.constructed (group_tag g) place h.start h.end) k.0 tag in
+    subst (λ z. IsHeaded octets (Group g z) place h.start h.end) (sym k.2) (refl, record { constructed = h.constructed; encoding = own })
+headed_by octets (Attempt a) place limit h k w =
+    let bit = subst (λ z. IsEncodingBetween octets h.class z h.tag place h.start h.end) k.1 w.encoding in
+    subst (λ z. IsHeaded octets (Attempt z) place h.start h.end) (sym k.2) (refl, record { other = k.0; encoding = bit })
 
 -- a frame is opened
-pub opened_open : (octets : List ℕ) (f h : Frame) (gs : List Frame) (p n : ℕ) → h.trees ≡ [] → Headed octets h.extent.kind p h.extent.start h.extent.end
-    → p < h.extent.start → h.extent.start ≤ h.extent.end → h.extent.end ≤ f.extent.end → Opened octets f gs p n
-    → Opened octets h (f ∷ gs) h.extent.start (n + 1)
+pub opened_open : (octets : List ℕ) (f h : Frame) (gs : List Frame) (p n : ℕ) → h.trees ≡ [] → IsHeaded octets h.extent.kind p h.extent.start h.extent.end
+    → p < h.extent.start → h.extent.start ≤ h.extent.end → h.extent.end ≤ f.extent.end → AreOpen octets f gs p n
+    → AreOpen octets h (f ∷ gs) h.extent.start (n + 1)
 opened_open octets f h gs p n e H lt le fits o =
     let w = opened_places octets f gs p n o in
     let s = h.extent.start in
@@ -86,7 +86,7 @@ opened_open octets f h gs p n e H lt le fits o =
 
 -- the header is at fault
 pub header_stopping : (octets : List ℕ) (f : Frame) (gs : List Frame) (p n : ℕ) (e : DecodeFault) → length octets < 2 ^ 64 → p < f.extent.end
-    → Opened octets f gs p n → HeaderFault (p - f.extent.start) (slice_range octets p f.extent.end) e → Stopping octets f gs e p (n + 1)
+    → AreOpen octets f gs p n → HeaderFault (p - f.extent.start) (slice_range octets p f.extent.end) e → IsStopping octets f gs e p (n + 1)
 header_stopping octets f gs p n e small here o u =
     let v = opened_places octets f gs p n o in
     let i = p - f.extent.start in
@@ -117,8 +117,8 @@ leaf_at_fault n contents e other (of_item g t p) = absurd (other g t)
 
 -- the contents octets of a leaf are at fault
 pub leaf_stopping : (octets : List ℕ) (f : Frame) (gs : List Frame) (p n : ℕ) (h : Header) (e : DecodeFault) → length octets < 2 ^ 64
-    → HeaderFound octets p f.extent.end h → Opened octets f gs p n → (IsReadInside h.class h.constructed h.tag → ⊥) → h.class ≡ Universal
-    → ContentsFault h.tag (slice_range octets h.start h.end) e → Stopping octets f gs e p (n + 1)
+    → HeaderFound octets p f.extent.end h → AreOpen octets f gs p n → (IsReadInside h.class h.constructed h.tag → ⊥) → h.class ≡ Universal
+    → ContentsFault h.tag (slice_range octets h.start h.end) e → IsStopping octets f gs e p (n + 1)
 leaf_stopping octets f gs p n h e small found o shut u w =
     let v = opened_places octets f gs p n o in
     let i = p - f.extent.start in
@@ -129,7 +129,7 @@ leaf_stopping octets f gs p n h e small found o shut u w =
     let d = slice_join octets p q f.extent.end (omega (arith, found.past, found.order)) found.fits in
     let l = slice_length octets p f.extent.end v.to v.within in
     let near : i + length rest < 2 ^ 64 = omega (arith, l, v.from, v.to, v.within, small) in
-    let F = subst (λ z. EncodingBetween octets z h.constructed h.tag p h.start h.end) u found.encoding in
+    let F = subst (λ z. IsEncodingBetween octets z h.constructed h.tag p h.start h.end) u found.encoding in
     let no_group = λ (g : GroupKind) (t : h.tag ≡ group_tag g). shut (inl (u, ap is_group_tag t ∙ group_tag_is g)) in
     let stops : BlockFaultAt i rest e 0 = at_leaf first behind d F (leaf_at_fault h.tag (slice_range octets h.start h.end) e no_group w) in
     let here : p < f.extent.end = omega (arith, found.past, found.order, found.fits) in

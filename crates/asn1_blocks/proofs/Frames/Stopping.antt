@@ -9,9 +9,9 @@ use Rattle.asn1_headers.specs.Fault.{DecodeFault}
 use Rattle.asn1_blocks.specs.FaultPlace.{BlockFaultAt, at_item, BlocksFaultAt, at_block}
 use Rattle.asn1_blocks.specs.Grammar.{IsBlock, of_other_class}
 use Rattle.asn1_blocks.specs.HeadersBegun.{HeadersBegun, begun_some, inside_first, nothing_after}
-use Rattle.asn1_blocks.specs.Inner.OpenFrames.{Frame, ReadTo, GroupAt, Headed, Opened, StopsAt, Stopping}
+use Rattle.asn1_blocks.specs.Inner.OpenFrames.{Frame, IsReadTo, IsGroupAt, IsHeaded, AreOpen, StopsAt, IsStopping}
 use Rattle.asn1_blocks.specs.Inner.Owed.{as_it_came}
-use Rattle.asn1_blocks.specs.Inner.ReaderSteps.{FaultyDocument}
+use Rattle.asn1_blocks.specs.Inner.ReaderSteps.{IsFaultyDocument}
 use Rattle.asn1_blocks.specs.Tree.{Tree, trees_of}
 use Rattle.asn1_blocks.proofs.Faults.{block_is_blocks, block_fault_no_block, blocks_fault_no_blocks}
 use Rattle.asn1_blocks.proofs.FaultPlaces.{block_placed, blocks_placed}
@@ -23,15 +23,15 @@ use Rattle.asn1_blocks.proofs.OneReading.{encodes_blocks}
 use Rattle.asn1_blocks.proofs.ReadSteps.{slice_length, slice_join}
 
 -- contents octets that have a fault
-pub record FaultyContents (octets contents : List ℕ) (start : ℕ) (e : DecodeFault) (offset n : ℕ) : Type 0 where
+pub record HasFaultyContents (octets contents : List ℕ) (start : ℕ) (e : DecodeFault) (offset n : ℕ) : Type 0 where
   pub after : ℕ
   pub fault : BlocksFaultAt contents e after
   pub innermost : offset ≡ start + after
   pub begun : HeadersBegun contents n
 
 -- those of a frame where a block is at fault
-refused_read : (octets : List ℕ) (f : Frame) (p : ℕ) (e : DecodeFault) (offset a b : ℕ) → ReadTo octets f p a → StopsAt octets f p e offset b
-    → FaultyContents octets (slice_range octets f.extent.start f.extent.end) f.extent.start e offset (a + b)
+refused_read : (octets : List ℕ) (f : Frame) (p : ℕ) (e : DecodeFault) (offset a b : ℕ) → IsReadTo octets f p a → StopsAt octets f p e offset b
+    → HasFaultyContents octets (slice_range octets f.extent.start f.extent.end) f.extent.start e offset (a + b)
 refused_read octets f p e offset a b r s =
     let from = f.extent.start in
     let to = f.extent.end in
@@ -50,8 +50,8 @@ refused_read octets f p e offset a b r s =
 
 -- a group whose contents octets are at fault
 pub group_stops : (octets : List ℕ) (g : Frame) (o s e : ℕ) (y : GroupKind) (fault : DecodeFault) (offset a : ℕ) → length octets < 2 ^ 64 → g.extent.start ≤ o
-    → o < s → s ≤ e → e ≤ g.extent.end → g.extent.end ≤ length octets → GroupAt octets y o s e
-    → FaultyContents octets (slice_range octets s e) s fault offset a → StopsAt octets g o fault offset (1 + a)
+    → o < s → s ≤ e → e ≤ g.extent.end → g.extent.end ≤ length octets → IsGroupAt octets y o s e
+    → HasFaultyContents octets (slice_range octets s e) s fault offset a → StopsAt octets g o fault offset (1 + a)
 group_stops octets g o s e y fault offset a small low lt le fits within G r =
     let end = g.extent.end in
     let i = o - g.extent.start in
@@ -74,18 +74,18 @@ group_stops octets g o s e y fault offset a small low lt le fits within G r =
 
 -- a fault leaves a group
 stop_group : (octets : List ℕ) (f g : Frame) (gs : List Frame) (e : DecodeFault) (offset n x : ℕ) (y : GroupKind) → length octets < 2 ^ 64
-    → f.extent.kind ≡ Group y x → Stopping octets f (g ∷ gs) e offset n → Stopping octets g gs e offset n
+    → f.extent.kind ≡ Group y x → IsStopping octets f (g ∷ gs) e offset n → IsStopping octets g gs e offset n
 stop_group octets f g gs e offset n x y small k w =
     let o = w.opened in
     let s = f.extent.start in
-    let H = subst (λ z. Headed octets z o.offset s f.extent.end) k o.headed in
+    let H = subst (λ z. IsHeaded octets z o.offset s f.extent.end) k o.headed in
     let r = refused_read octets f w.place e offset o.own w.own o.read w.stops in
     let v = opened_places octets g gs o.offset o.before o.around in
     record {
       place = x;
       before = o.before;
       own = 1 + (o.own + w.own);
-      opened = subst (λ z. Opened octets g gs z o.before) (sym H.0) o.around;
+      opened = subst (λ z. AreOpen octets g gs z o.before) (sym H.0) o.around;
       stops = group_stops octets g x s f.extent.end y e offset (o.own + w.own) small (omega (arith, H.0, v.from)) (omega (arith, H.0, o.after))
           (omega (arith, o.read.from, o.read.to)) o.fits v.within H.1 r;
       total = omega (arith, w.total, o.total);
@@ -93,32 +93,32 @@ stop_group octets f g gs e offset n x y small k w =
 
 -- a fault goes on to the frame around it
 pub stop_pop : (octets : List ℕ) (f g : Frame) (gs : List Frame) (e : DecodeFault) (offset n : ℕ) → length octets < 2 ^ 64
-    → ((a : owed.Attempt) → f.extent.kind ≡ Attempt a → ⊥) → Stopping octets f (g ∷ gs) e offset n → Stopping octets g gs e offset n
+    → ((a : owed.Attempt) → f.extent.kind ≡ Attempt a → ⊥) → IsStopping octets f (g ∷ gs) e offset n → IsStopping octets g gs e offset n
 stop_pop octets f g gs e offset n small other w = go f.extent.kind refl
   where
-    go : (k : FrameKind) → f.extent.kind ≡ k → Stopping octets g gs e offset n
-    go Whole d = absurd (subst (λ z. Headed octets z w.opened.offset f.extent.start f.extent.end) d w.opened.headed)
+    go : (k : FrameKind) → f.extent.kind ≡ k → IsStopping octets g gs e offset n
+    go Whole d = absurd (subst (λ z. IsHeaded octets z w.opened.offset f.extent.start f.extent.end) d w.opened.headed)
     go (Group y x) d = stop_group octets f g gs e offset n x y small d w
     go (Attempt a) d = absurd (other a d)
 
 -- what a closed frame is in the frame around it
-pub record Closed (octets : List ℕ) (g : Frame) (gs : List Frame) (end : ℕ) (t : Tree ℕ) (n : ℕ) : Type 0 where
+pub record IsClosed (octets : List ℕ) (g : Frame) (gs : List Frame) (end : ℕ) (t : Tree ℕ) (n : ℕ) : Type 0 where
   pub place : ℕ
   pub before : ℕ
   pub own : ℕ
-  pub opened : Opened octets g gs place before
+  pub opened : AreOpen octets g gs place before
   pub follows : Follows octets g place end t own
   pub total : n ≡ before + own
 
 -- a fault closes an attempt
 pub stop_attempt : (octets : List ℕ) (f g : Frame) (gs : List Frame) (e : DecodeFault) (offset n : ℕ) (a : owed.Attempt) → length octets < 2 ^ 64
-    → f.extent.kind ≡ Attempt a → Stopping octets f (g ∷ gs) e offset n → Closed octets g gs f.extent.end (as_it_came octets a f.extent.start f.extent.end) n
+    → f.extent.kind ≡ Attempt a → IsStopping octets f (g ∷ gs) e offset n → IsClosed octets g gs f.extent.end (as_it_came octets a f.extent.start f.extent.end) n
 stop_attempt octets f g gs e offset n a small k w =
     let o = w.opened in
     let s = f.extent.start in
     let z = f.extent.end in
     let contents = slice_range octets s z in
-    let H = subst (λ i. Headed octets i o.offset s z) k o.headed in
+    let H = subst (λ i. IsHeaded octets i o.offset s z) k o.headed in
     let F = H.1.encoding in
     let r = refused_read octets f w.place e offset o.own w.own o.read w.stops in
     let l = slice_length octets s z (omega (arith, o.read.from, o.read.to)) o.read.within in
@@ -130,7 +130,7 @@ stop_attempt octets f g gs e offset n a small k w =
       place = a.offset;
       before = o.before;
       own = 1 + m;
-      opened = subst (λ i. Opened octets g gs i o.before) (sym H.0) o.around;
+      opened = subst (λ i. AreOpen octets g gs i o.before) (sym H.0) o.around;
       follows = record {
         from = omega (arith, H.0, o.after, o.read.from, o.read.to);
         to = o.fits;
@@ -146,7 +146,7 @@ pub whole_document : (octets : List ℕ) (f : Frame) → f.extent.start ≡ 0 �
 whole_document octets f s e = ap (λ z. slice_range octets z f.extent.end) s ∙ (ap (slice_range octets 0) e ∙ slice_all octets)
 
 -- a fault in no attempt
-pub stop_document : (octets : List ℕ) (f : Frame) (e : DecodeFault) (offset n : ℕ) → Stopping octets f [] e offset n → FaultyDocument octets e offset n
+pub stop_document : (octets : List ℕ) (f : Frame) (e : DecodeFault) (offset n : ℕ) → IsStopping octets f [] e offset n → IsFaultyDocument octets e offset n
 stop_document octets f e offset n w =
     let r = refused_read octets f w.place e offset w.before w.own w.opened.read w.stops in
     let d = whole_document octets f w.opened.whole.start w.opened.whole.end in
@@ -161,7 +161,7 @@ pub record StoppingPlaces (octets : List ℕ) (f : Frame) (n : ℕ) : Type 0 whe
   pub within : f.extent.end ≤ length octets
   pub bound : n ≤ length octets
 
-pub stopping_places : (octets : List ℕ) (f : Frame) (gs : List Frame) (e : DecodeFault) (offset n : ℕ) → Stopping octets f gs e offset n
+pub stopping_places : (octets : List ℕ) (f : Frame) (gs : List Frame) (e : DecodeFault) (offset n : ℕ) → IsStopping octets f gs e offset n
     → StoppingPlaces octets f n
 stopping_places octets f gs e offset n w =
     let p = w.place in

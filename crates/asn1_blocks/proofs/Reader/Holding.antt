@@ -1,41 +1,41 @@
--- How frames hold what they read, as blocks and as entries.
+-- How frames hold what they read, as blocks and as owed.
 use Rattle.std.proofs.Common.{◌≡◌, ℕ, ◌+◌, ◌≤◌, List, [], ◌∷◌, ◌++◌, length, map, take, drop, refl, sym, ap, ◌∙◌, subst, arith, length-append, append_assoc, append-nil}
 use Rattle.std.proofs.Math.Seq.{take-length, drop-length}
 use Rattle.std.proofs.lemmas.List.{map-append, take-append-drop, take-append-le, drop-append-le}
 use Rattle.asn1_blocks.specs.declared.block.ASN1Block.{ASN1Block}
-use Rattle.asn1_blocks.specs.declared.owed.Entry.{Entry}
+use Rattle.asn1_blocks.specs.declared.owed.Owed.{Owed}
 use Rattle.asn1_blocks.specs.declared.read.OpenFrame.{OpenFrame}
 use Rattle.asn1_blocks.specs.Tree.{Tree}
 use Rattle.asn1_blocks.specs.View.{view}
 use Rattle.asn1_blocks.specs.Inner.Owed.{after_all, Leads}
 use Rattle.asn1_blocks.specs.Inner.ReaderSteps.{Holds, AllHold}
-use Rattle.asn1_blocks.proofs.Orders.{leads_nothing}
+use Rattle.asn1_blocks.proofs.OwedBlocks.{leads_nothing}
 
 nothing : (ts : List (Tree ℕ)) → 0 ≡ length ts → ts ≡ []
 nothing [] h = refl
 nothing (t ∷ ts) h = absurd (omega (arith, h))
 
--- entries that lead to one tree more
-pub record Grown (octets : List ℕ) (es fs : List Entry) (t : Tree ℕ) : Type 0 where
-  pub more : List Entry
+-- more is owed, which leads to one tree more
+pub record IsGrown (octets : List ℕ) (es fs : List Owed) (t : Tree ℕ) : Type 0 where
+  pub more : List Owed
   pub whole : fs ≡ es ++ more
-  pub leads : (ds : List Entry) (us : List (Tree ℕ)) → Leads octets ds us → Leads octets (ds ++ more) (us ++ t ∷ [])
+  pub leads : (ds : List Owed) (us : List (Tree ℕ)) → Leads octets ds us → Leads octets (ds ++ more) (us ++ t ∷ [])
 
--- one tree more by entries
-pub record Owing (octets : List ℕ) (es fs : List Entry) (f g : OpenFrame) (t : Tree ℕ) : Type 0 where
+-- one tree more that is owed
+pub record IsOwing (octets : List ℕ) (es fs : List Owed) (f g : OpenFrame) (t : Tree ℕ) : Type 0 where
   pub begin : g.begin ≡ f.begin
   pub blocks : g.blocks ≡ f.blocks
-  pub later : g.later ≡ f.later + 1
-  pub grown : Grown octets es fs t
+  pub owes : g.owes ≡ f.owes + 1
+  pub grown : IsGrown octets es fs t
 
 -- one block more, where nothing is owed
-pub record Pushing (f g : OpenFrame) (b : ASN1Block) : Type 0 where
+pub record IsPushing (f g : OpenFrame) (b : ASN1Block) : Type 0 where
   pub begin : g.begin ≡ f.begin
   pub blocks : g.blocks ≡ f.blocks ++ b ∷ []
-  pub later : g.later ≡ f.later
-  pub none : f.later ≡ 0
+  pub owes : g.owes ≡ f.owes
+  pub none : f.owes ≡ 0
 
-holds_owed : (octets : List ℕ) (es fs : List Entry) (f g : OpenFrame) (ts : List (Tree ℕ)) (t : Tree ℕ) → Owing octets es fs f g t → Holds octets es f ts
+holds_owed : (octets : List ℕ) (es fs : List Owed) (f g : OpenFrame) (ts : List (Tree ℕ)) (t : Tree ℕ) → IsOwing octets es fs f g t → Holds octets es f ts
     → Holds octets fs g (ts ++ t ∷ [])
 holds_owed octets es fs f g ts t w h =
     let more = w.grown.more in
@@ -47,14 +47,14 @@ holds_owed octets es fs f g ts t w h =
       begin = omega (arith, w.begin, h.begin, longer);
       owed = h.owed ++ t ∷ [];
       leads = subst (λ z. Leads octets z (h.owed ++ t ∷ [])) (sym own) (w.grown.leads (drop f.begin es) h.owed h.leads);
-      later = omega (arith, w.later, h.later, length-append h.owed (t ∷ []));
+      owes = omega (arith, w.owes, h.owes, length-append h.owed (t ∷ []));
       trees = ap (λ z. z ++ t ∷ []) h.trees ∙ (seen ∙ ap (λ z. map view z ++ (h.owed ++ t ∷ [])) (sym w.blocks));
     }
 
-holds_pushed : (octets : List ℕ) (es : List Entry) (f g : OpenFrame) (ts : List (Tree ℕ)) (b : ASN1Block) → Pushing f g b → Holds octets es f ts
+holds_pushed : (octets : List ℕ) (es : List Owed) (f g : OpenFrame) (ts : List (Tree ℕ)) (b : ASN1Block) → IsPushing f g b → Holds octets es f ts
     → Holds octets es g (ts ++ view b ∷ [])
 holds_pushed octets es f g ts b w h =
-    let none : h.owed ≡ [] = nothing h.owed (sym w.none ∙ h.later) in
+    let none : h.owed ≡ [] = nothing h.owed (sym w.none ∙ h.owes) in
     let before : ts ≡ map view f.blocks = h.trees ∙ (ap (λ z. map view f.blocks ++ z) none ∙ append-nil (map view f.blocks)) in
     let seen : map view g.blocks ≡ map view f.blocks ++ view b ∷ [] = ap (map view) w.blocks ∙ map-append view f.blocks (b ∷ []) in
     let own : map view g.blocks ++ h.owed ≡ map view g.blocks = ap (λ z. map view g.blocks ++ z) none ∙ append-nil (map view g.blocks) in
@@ -62,18 +62,18 @@ holds_pushed octets es f g ts b w h =
       begin = omega (arith, w.begin, h.begin);
       owed = h.owed;
       leads = subst (λ n. Leads octets (drop n es) h.owed) (sym w.begin) h.leads;
-      later = w.later ∙ h.later;
+      owes = w.owes ∙ h.owes;
       trees = ap (λ z. z ++ view b ∷ []) before ∙ (sym seen ∙ sym own);
     }
 
--- the frames around are not touched by what comes after their entries
-around_grown : (octets : List ℕ) (es more : List Entry) (n : ℕ) (g : OpenFrame) (gs : List OpenFrame) (us : List (Tree ℕ)) (rest : List (List (Tree ℕ)))
+-- the frames around are not touched by what comes after what they owe
+around_grown : (octets : List ℕ) (es more : List Owed) (n : ℕ) (g : OpenFrame) (gs : List OpenFrame) (us : List (Tree ℕ)) (rest : List (List (Tree ℕ)))
     → n ≤ length es → AllHold octets (take n es) g gs us rest → AllHold octets (take n (es ++ more)) g gs us rest
 around_grown octets es more n g gs us rest h a = subst (λ z. AllHold octets z g gs us rest) (sym (take-append-le n es more h)) a
 
--- one tree more in the innermost frame, by entries
-pub all_owed : (octets : List ℕ) (es fs : List Entry) (f g : OpenFrame) (hs : List OpenFrame) (ts : List (Tree ℕ)) (rest : List (List (Tree ℕ))) (t : Tree ℕ)
-    → Owing octets es fs f g t → AllHold octets es f hs ts rest → AllHold octets fs g hs (ts ++ t ∷ []) rest
+-- one tree more in the innermost frame, which is owed
+pub all_owed : (octets : List ℕ) (es fs : List Owed) (f g : OpenFrame) (hs : List OpenFrame) (ts : List (Tree ℕ)) (rest : List (List (Tree ℕ))) (t : Tree ℕ)
+    → IsOwing octets es fs f g t → AllHold octets es f hs ts rest → AllHold octets fs g hs (ts ++ t ∷ []) rest
 all_owed octets es fs f g [] ts [] t w a = (holds_owed octets es fs f g ts t w a.0, w.begin ∙ a.1)
 all_owed octets es fs f g [] ts (us ∷ rest) t w a = absurd a
 all_owed octets es fs f g (h ∷ hs) ts [] t w a = absurd a
@@ -83,16 +83,16 @@ all_owed octets es fs f g (h ∷ hs) ts (us ∷ rest) t w a =
     (holds_owed octets es fs f g ts t w a.0, subst (λ z. AllHold octets (take z fs) h hs us rest) (sym w.begin) v)
 
 -- and as a block
-pub all_pushed : (octets : List ℕ) (es : List Entry) (f g : OpenFrame) (hs : List OpenFrame) (ts : List (Tree ℕ)) (rest : List (List (Tree ℕ))) (b : ASN1Block)
-    → Pushing f g b → AllHold octets es f hs ts rest → AllHold octets es g hs (ts ++ view b ∷ []) rest
+pub all_pushed : (octets : List ℕ) (es : List Owed) (f g : OpenFrame) (hs : List OpenFrame) (ts : List (Tree ℕ)) (rest : List (List (Tree ℕ))) (b : ASN1Block)
+    → IsPushing f g b → AllHold octets es f hs ts rest → AllHold octets es g hs (ts ++ view b ∷ []) rest
 all_pushed octets es f g [] ts [] b w a = (holds_pushed octets es f g ts b w a.0, w.begin ∙ a.1)
 all_pushed octets es f g [] ts (us ∷ rest) b w a = absurd a
 all_pushed octets es f g (h ∷ hs) ts [] b w a = absurd a
 all_pushed octets es f g (h ∷ hs) ts (us ∷ rest) b w a =
     (holds_pushed octets es f g ts b w a.0, subst (λ n. AllHold octets (take n es) h hs us rest) (sym w.begin) a.1)
 
--- more entries, which lead to nothing
-holds_more : (octets : List ℕ) (es fs : List Entry) (f : OpenFrame) (ts : List (Tree ℕ)) → Leads octets fs [] → Holds octets es f ts
+-- more is owed, which leads to nothing
+holds_more : (octets : List ℕ) (es fs : List Owed) (f : OpenFrame) (ts : List (Tree ℕ)) → Leads octets fs [] → Holds octets es f ts
     → Holds octets (es ++ fs) f ts
 holds_more octets es fs f ts k h =
     let own = drop-append-le f.begin es fs h.begin in
@@ -100,11 +100,11 @@ holds_more octets es fs f ts k h =
       begin = omega (arith, h.begin, length-append es fs);
       owed = h.owed;
       leads = subst (λ z. Leads octets z h.owed) (sym own) (leads_nothing octets (drop f.begin es) fs h.owed h.leads k);
-      later = h.later;
+      owes = h.owes;
       trees = h.trees;
     }
 
-all_more : (octets : List ℕ) (es fs : List Entry) (f : OpenFrame) (hs : List OpenFrame) (ts : List (Tree ℕ)) (rest : List (List (Tree ℕ))) → Leads octets fs []
+all_more : (octets : List ℕ) (es fs : List Owed) (f : OpenFrame) (hs : List OpenFrame) (ts : List (Tree ℕ)) (rest : List (List (Tree ℕ))) → Leads octets fs []
     → AllHold octets es f hs ts rest → AllHold octets (es ++ fs) f hs ts rest
 all_more octets es fs f [] ts [] k a = (holds_more octets es fs f ts k a.0, a.1)
 all_more octets es fs f [] ts (us ∷ rest) k a = absurd a
@@ -112,16 +112,16 @@ all_more octets es fs f (h ∷ hs) ts [] k a = absurd a
 all_more octets es fs f (h ∷ hs) ts (us ∷ rest) k a =
     (holds_more octets es fs f ts k a.0, around_grown octets es fs f.begin h hs us rest a.0.begin a.1)
 
--- a frame without entries is left: those around it are as they were
-pub record Clean (octets : List ℕ) (es : List Entry) (f g : OpenFrame) (hs : List OpenFrame) (ts us : List (Tree ℕ)) (rest : List (List (Tree ℕ))) : Type 0
+-- a frame that owes nothing is left: those around it are as they were
+pub record IsClean (octets : List ℕ) (es : List Owed) (f g : OpenFrame) (hs : List OpenFrame) (ts us : List (Tree ℕ)) (rest : List (List (Tree ℕ))) : Type 0
   where
     pub outer : AllHold octets es g hs us rest
     pub trees : ts ≡ map view f.blocks
 
-pub left_clean : (octets : List ℕ) (es : List Entry) (f g : OpenFrame) (hs : List OpenFrame) (ts us : List (Tree ℕ)) (rest : List (List (Tree ℕ))) → f.later ≡ 0
-    → Holds octets es f ts → AllHold octets (take f.begin es) g hs us rest → Clean octets es f g hs ts us rest
+pub left_clean : (octets : List ℕ) (es : List Owed) (f g : OpenFrame) (hs : List OpenFrame) (ts us : List (Tree ℕ)) (rest : List (List (Tree ℕ))) → f.owes ≡ 0
+    → Holds octets es f ts → AllHold octets (take f.begin es) g hs us rest → IsClean octets es f g hs ts us rest
 left_clean octets es f g hs ts us rest z own around =
-    let none : own.owed ≡ [] = nothing own.owed (sym z ∙ own.later) in
+    let none : own.owed ≡ [] = nothing own.owed (sym z ∙ own.owes) in
     let l : Leads octets (drop f.begin es) [] = subst (λ w. Leads octets (drop f.begin es) w) none own.leads in
     let all = all_more octets (take f.begin es) (drop f.begin es) g hs us rest l around in
     record {
@@ -130,8 +130,8 @@ left_clean octets es f g hs ts us rest z own around =
     }
 
 -- a new frame inside
-pub all_open : (octets : List ℕ) (es : List Entry) (f g : OpenFrame) (hs : List OpenFrame) (us : List (Tree ℕ)) (rest : List (List (Tree ℕ)))
-    → f.begin ≡ length es → f.later ≡ 0 → f.blocks ≡ [] → AllHold octets es g hs us rest → AllHold octets es f (g ∷ hs) [] (us ∷ rest)
+pub all_open : (octets : List ℕ) (es : List Owed) (f g : OpenFrame) (hs : List OpenFrame) (us : List (Tree ℕ)) (rest : List (List (Tree ℕ)))
+    → f.begin ≡ length es → f.owes ≡ 0 → f.blocks ≡ [] → AllHold octets es g hs us rest → AllHold octets es f (g ∷ hs) [] (us ∷ rest)
 all_open octets es f g hs us rest b z i a =
     let all : take f.begin es ≡ es = ap (λ n. take n es) b ∙ take-length es in
     let none : drop f.begin es ≡ [] = ap (λ n. drop n es) b ∙ drop-length es in (
@@ -139,14 +139,14 @@ all_open octets es f g hs us rest b z i a =
         begin = omega (arith, b);
         owed = [];
         leads = λ s. ap (λ v. after_all octets v s) none ∙ sym (append-nil s);
-        later = z;
+        owes = z;
         trees = sym (ap (λ v. map view v ++ []) i);
       },
       subst (λ v. AllHold octets v g hs us rest) (sym all) a,
     )
 
 -- the innermost of the frames
-pub hold_first : (octets : List ℕ) (es : List Entry) (f : OpenFrame) (gs : List OpenFrame) (ts : List (Tree ℕ)) (rest : List (List (Tree ℕ)))
+pub hold_first : (octets : List ℕ) (es : List Owed) (f : OpenFrame) (gs : List OpenFrame) (ts : List (Tree ℕ)) (rest : List (List (Tree ℕ)))
     → AllHold octets es f gs ts rest → Holds octets es f ts
 hold_first octets es f [] ts [] a = a.0
 hold_first octets es f [] ts (us ∷ rest) a = absurd a
@@ -154,25 +154,25 @@ hold_first octets es f (g ∷ gs) ts [] a = absurd a
 hold_first octets es f (g ∷ gs) ts (us ∷ rest) a = a.0
 
 -- the frame that has others around it
-pub record Nested (octets : List ℕ) (es : List Entry) (f g : OpenFrame) (gs : List OpenFrame) (ts : List (Tree ℕ)) (outer : List (List (Tree ℕ))) : Type 0 where
+pub record IsNested (octets : List ℕ) (es : List Owed) (f g : OpenFrame) (gs : List OpenFrame) (ts : List (Tree ℕ)) (outer : List (List (Tree ℕ))) : Type 0 where
   pub next : List (Tree ℕ)
   pub others : List (List (Tree ℕ))
   pub are : outer ≡ next ∷ others
   pub own : Holds octets es f ts
   pub around : AllHold octets (take f.begin es) g gs next others
 
-pub nested : (octets : List ℕ) (es : List Entry) (f g : OpenFrame) (gs : List OpenFrame) (ts : List (Tree ℕ)) (outer : List (List (Tree ℕ)))
-    → AllHold octets es f (g ∷ gs) ts outer → Nested octets es f g gs ts outer
+pub nested : (octets : List ℕ) (es : List Owed) (f g : OpenFrame) (gs : List OpenFrame) (ts : List (Tree ℕ)) (outer : List (List (Tree ℕ)))
+    → AllHold octets es f (g ∷ gs) ts outer → IsNested octets es f g gs ts outer
 nested octets es f g gs ts [] a = absurd a
 nested octets es f g gs ts (us ∷ rest) a = record { next = us; others = rest; are = refl; own = a.0; around = a.1 }
 
 -- and the one that has none
-pub record Alone (octets : List ℕ) (es : List Entry) (f : OpenFrame) (ts : List (Tree ℕ)) (outer : List (List (Tree ℕ))) : Type 0 where
+pub record IsAlone (octets : List ℕ) (es : List Owed) (f : OpenFrame) (ts : List (Tree ℕ)) (outer : List (List (Tree ℕ))) : Type 0 where
   pub are : outer ≡ []
   pub own : Holds octets es f ts
   pub begin : f.begin ≡ 0
 
-pub alone : (octets : List ℕ) (es : List Entry) (f : OpenFrame) (ts : List (Tree ℕ)) (outer : List (List (Tree ℕ))) → AllHold octets es f [] ts outer
-    → Alone octets es f ts outer
+pub alone : (octets : List ℕ) (es : List Owed) (f : OpenFrame) (ts : List (Tree ℕ)) (outer : List (List (Tree ℕ))) → AllHold octets es f [] ts outer
+    → IsAlone octets es f ts outer
 alone octets es f ts [] a = record { are = refl; own = a.0; begin = a.1 }
 alone octets es f ts (us ∷ rest) a = absurd a

@@ -11,13 +11,13 @@ use Rattle.asn1_headers.specs.Fault.{DecodeFault}
 use Rattle.asn1_headers.specs.HeaderFault.{HeaderFault}
 use Rattle.asn1_blocks.specs.Grammar.{Encodes, ContentsFault}
 use Rattle.asn1_blocks.specs.HeadersBegun.{IsReadInside}
-use Rattle.asn1_blocks.specs.Inner.OpenFrames.{Headed, Opened, Stopping}
+use Rattle.asn1_blocks.specs.Inner.OpenFrames.{IsHeaded, AreOpen, IsStopping}
 use Rattle.asn1_blocks.specs.Inner.HeaderPlaces.{HeaderFound}
-use Rattle.asn1_blocks.specs.Inner.ReaderSteps.{AllHold, frame, frames, IsKindOf, IsOpened, Reading, GoesOn, Faulty, left}
+use Rattle.asn1_blocks.specs.Inner.ReaderSteps.{AllHold, frame, frames, IsKindOf, IsOpened, IsReading, GoesOn, IsFaulty, left}
 use Rattle.asn1_blocks.specs.View.{view}
 use Rattle.asn1_blocks.proofs.Frames.Advances.{opened_places, opened_bound}
 use Rattle.asn1_blocks.proofs.Frames.Opening.{headed_by, opened_open, header_stopping, leaf_stopping, leaf_follows}
-use Rattle.asn1_blocks.proofs.Reader.Adding.{Ready}
+use Rattle.asn1_blocks.proofs.Reader.Adding.{IsReady}
 use Rattle.asn1_blocks.proofs.Reader.Holding.{all_open}
 
 -- where the reader is
@@ -27,7 +27,7 @@ pub record ReaderPlaces (octets : List ℕ) (r : Reader) (n : ℕ) : Type 0 wher
   pub within : r.inner.extent.end ≤ length octets
   pub bound : n ≤ r.index
 
-pub reader_places : (octets : List ℕ) (r : Reader) (n : ℕ) → Reading octets r n → ReaderPlaces octets r n
+pub reader_places : (octets : List ℕ) (r : Reader) (n : ℕ) → IsReading octets r n → ReaderPlaces octets r n
 reader_places octets r n w =
     let f = frame r.inner w.trees in
     let gs = frames (reverse r.outer.items) w.outer in
@@ -36,18 +36,18 @@ reader_places octets r n w =
 
 -- a frame was opened at the header
 pub open_goes_on : (octets : List ℕ) (a r : Reader) (f : OpenFrame) (h : Header) (n : ℕ) → IsOpened a f r → r.index ≡ f.extent.start
-    → IsKindOf f.extent.kind h a.index → f.extent.start ≡ h.start → f.extent.end ≡ h.end → f.begin ≡ length a.entries.items → f.later ≡ 0 → f.blocks ≡ []
-    → HeaderFound octets a.index a.inner.extent.end h → Reading octets a n → GoesOn octets r (n + 1) (left (length octets) a.index a.outer.items)
+    → IsKindOf f.extent.kind h a.index → f.extent.start ≡ h.start → f.extent.end ≡ h.end → f.begin ≡ length a.owed.items → f.owes ≡ 0 → f.blocks ≡ []
+    → HeaderFound octets a.index a.inner.extent.end h → IsReading octets a n → GoesOn octets r (n + 1) (left (length octets) a.index a.outer.items)
 open_goes_on octets a r f h n u i kind s e b z none found w =
     let outer = a.outer.items in
     let H = headed_by octets f.extent.kind a.index a.inner.extent.end h kind found in
-    let headed = subst (λ x. Headed octets f.extent.kind a.index x f.extent.end) (sym s) (subst (λ x. Headed octets f.extent.kind a.index h.start x) (sym e) H)
+    let headed = subst (λ x. IsHeaded octets f.extent.kind a.index x f.extent.end) (sym s) (subst (λ x. IsHeaded octets f.extent.kind a.index h.start x) (sym e) H)
     in
     let g = frame a.inner w.trees in
     let gs = frames (reverse outer) w.outer in
     let o = opened_open octets g (frame f []) gs a.index n refl headed (omega (arith, s, found.past)) (omega (arith, s, e, found.order))
     (omega (arith, e, found.fits)) w.opened in
-    let k = all_open octets a.entries.items f a.inner (reverse outer) w.trees w.outer b z none w.holds in
+    let k = all_open octets a.owed.items f a.inner (reverse outer) w.trees w.outer b z none w.holds in
     let around : reverse r.outer.items ≡ a.inner ∷ reverse outer = ap reverse u.outer ∙ reverse-append outer (a.inner ∷ []) in
     let all = w.trees ∷ w.outer in
     let l : length r.outer.items ≡ length outer + 1 = omega (arith, ap length u.outer, length-append outer (a.inner ∷ [])) in
@@ -56,20 +56,20 @@ open_goes_on octets a r f h n u i kind s e b z none found w =
       reading = record {
         trees = [];
         outer = all;
-        holds = subst (λ x. AllHold octets r.entries.items r.inner x [] all) (sym around)
-            (subst (λ x. AllHold octets x r.inner (a.inner ∷ reverse outer) [] all) (sym u.entries)
-            (subst (λ x. AllHold octets a.entries.items x (a.inner ∷ reverse outer) [] all) (sym u.inner) k));
-        opened = subst (λ x. Opened octets (frame r.inner []) (frames x all) r.index (n + 1)) (sym around)
-            (subst (λ x. Opened octets (frame x []) (frames (a.inner ∷ reverse outer) all) r.index (n + 1)) (sym u.inner)
-            (subst (λ x. Opened octets (frame f []) (frames (a.inner ∷ reverse outer) all) x (n + 1)) (sym i) o));
+        holds = subst (λ x. AllHold octets r.owed.items r.inner x [] all) (sym around)
+            (subst (λ x. AllHold octets x r.inner (a.inner ∷ reverse outer) [] all) (sym u.owed)
+            (subst (λ x. AllHold octets a.owed.items x (a.inner ∷ reverse outer) [] all) (sym u.inner) k));
+        opened = subst (λ x. AreOpen octets (frame r.inner []) (frames x all) r.index (n + 1)) (sym around)
+            (subst (λ x. AreOpen octets (frame x []) (frames (a.inner ∷ reverse outer) all) r.index (n + 1)) (sym u.inner)
+            (subst (λ x. AreOpen octets (frame f []) (frames (a.inner ∷ reverse outer) all) x (n + 1)) (sym i) o));
       };
       nearer = omega (arith, i, s, l, found.past, found.order, found.fits, v.within);
     }
 
 -- a leaf stands at the header
 pub leaf_ready : (octets : List ℕ) (a : Reader) (h : Header) (b : ASN1Block) (n : ℕ) → HeaderFound octets a.index a.inner.extent.end h
-    → (IsReadInside h.class h.constructed h.tag → ⊥) → Encodes a.index (slice_range octets a.index h.end) (view b) → Reading octets a n
-    → Ready octets a.entries.items a.inner (reverse a.outer.items) h.end (view b) (n + 1)
+    → (IsReadInside h.class h.constructed h.tag → ⊥) → Encodes a.index (slice_range octets a.index h.end) (view b) → IsReading octets a n
+    → IsReady octets a.owed.items a.inner (reverse a.outer.items) h.end (view b) (n + 1)
 leaf_ready octets a h b n found shut encoded w =
     record {
       trees = w.trees;
@@ -86,25 +86,25 @@ leaf_ready octets a h b n found shut encoded w =
     }
 
 -- it leaves less to do
-pub leaf_nearer : (octets : List ℕ) (a : Reader) (h : Header) (n : ℕ) → HeaderFound octets a.index a.inner.extent.end h → Reading octets a n
+pub leaf_nearer : (octets : List ℕ) (a : Reader) (h : Header) (n : ℕ) → HeaderFound octets a.index a.inner.extent.end h → IsReading octets a n
     → left (length octets) h.end a.outer.items < left (length octets) a.index a.outer.items
 leaf_nearer octets a h n found w =
     let v = reader_places octets a n w in
     omega (arith, found.past, found.order, found.fits, v.within)
 
 -- the reader as it was, where a fault is
-still_faulty : (octets : List ℕ) (a : Reader) (e : DecodeFault) (n m : ℕ) (w : Reading octets a n)
-    → Stopping octets (frame a.inner w.trees) (frames (reverse a.outer.items) w.outer) e a.index m
-    → Faulty octets a e m (left (length octets) a.index a.outer.items)
+still_faulty : (octets : List ℕ) (a : Reader) (e : DecodeFault) (n m : ℕ) (w : IsReading octets a n)
+    → IsStopping octets (frame a.inner w.trees) (frames (reverse a.outer.items) w.outer) e a.index m
+    → IsFaulty octets a e m (left (length octets) a.index a.outer.items)
 still_faulty octets a e n m w s =
     let v = reader_places octets a n w in
     record {
       refused = record {
         trees = w.trees;
         outer = w.outer;
-        front = a.entries.items;
+        front = a.owed.items;
         more = [];
-        whole = sym (append-nil a.entries.items);
+        whole = sym (append-nil a.owed.items);
         holds = w.holds;
         stopping = s;
       };
@@ -112,9 +112,9 @@ still_faulty octets a e n m w s =
     }
 
 -- the header is at fault
-pub header_faulty : (octets : List ℕ) (a : Reader) (e : DecodeFault) (n : ℕ) → length octets < 2 ^ 64 → a.index ≢ a.inner.extent.end → Reading octets a n
+pub header_faulty : (octets : List ℕ) (a : Reader) (e : DecodeFault) (n : ℕ) → length octets < 2 ^ 64 → a.index ≢ a.inner.extent.end → IsReading octets a n
     → HeaderFault (a.index - a.inner.extent.start) (slice_range octets a.index a.inner.extent.end) e
-    → Faulty octets a e (n + 1) (left (length octets) a.index a.outer.items)
+    → IsFaulty octets a e (n + 1) (left (length octets) a.index a.outer.items)
 header_faulty octets a e n small ne w u =
     let v = reader_places octets a n w in
     let here : a.index < a.inner.extent.end = omega (arith, v.to, ne) in
@@ -124,7 +124,7 @@ header_faulty octets a e n small ne w u =
 -- the contents octets of a leaf are
 pub leaf_faulty : (octets : List ℕ) (a : Reader) (h : Header) (e : DecodeFault) (n : ℕ) → length octets < 2 ^ 64
     → HeaderFound octets a.index a.inner.extent.end h → (IsReadInside h.class h.constructed h.tag → ⊥) → h.class ≡ Universal
-    → ContentsFault h.tag (slice_range octets h.start h.end) e → Reading octets a n → Faulty octets a e (n + 1) (left (length octets) a.index a.outer.items)
+    → ContentsFault h.tag (slice_range octets h.start h.end) e → IsReading octets a n → IsFaulty octets a e (n + 1) (left (length octets) a.index a.outer.items)
 leaf_faulty octets a h e n small found shut u fault w =
     still_faulty octets a e n (n + 1) w (leaf_stopping octets (frame a.inner w.trees) (frames (reverse a.outer.items) w.outer) a.index n h e small found
     w.opened shut u fault)

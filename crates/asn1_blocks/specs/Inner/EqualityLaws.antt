@@ -1,5 +1,4 @@
--- `==` of blocks is an equivalence, which holds exactly where the trees are equal but for their
--- offsets.
+-- `==` of blocks is an equivalence, which holds exactly where the trees are equal but for their offsets.
 use Rattle.std.specs.Prelude.{◌≡◌, ◌==◌, ◌&&◌, true}
 use Rattle.std.specs.Bool.{Decides, one_answer}
 use Rattle.std.specs.Cmp.{IsEquivalence, IsPartialEquivalence, partial_equiv_from_equiv}

@@ -5,14 +5,14 @@ use Rattle.asn1_blocks.specs.declared.parsed.Header.{Header}
 use Rattle.asn1_headers.specs.Header.{Encoding}
 
 -- an encoding stands from the offset to the end, and its contents octets begin at the start
-abbrev pub EncodingBetween : List ℕ → ASN1Class → Bool → ℕ → ℕ → ℕ → ℕ → Type 0
-EncodingBetween octets class constructed tag offset start end =
+abbrev pub IsEncodingBetween : List ℕ → ASN1Class → Bool → ℕ → ℕ → ℕ → ℕ → Type 0
+IsEncodingBetween octets class constructed tag offset start end =
     Encoding (slice_range octets offset end) class constructed tag (slice_range octets start end)
     (start - offset)
 
 -- the encoding at the place has this header, and ends before the limit
 pub record HeaderFound (octets : List ℕ) (place limit : ℕ) (h : Header) : Type 0 where
-  pub encoding : EncodingBetween octets h.class h.constructed h.tag place h.start h.end
+  pub encoding : IsEncodingBetween octets h.class h.constructed h.tag place h.start h.end
   pub past : place < h.start
   pub order : h.start ≤ h.end
   pub fits : h.end ≤ limit

@@ -12,7 +12,7 @@ use Rattle.asn1_blocks.specs.Contents.{group_tag}
 use Rattle.asn1_blocks.specs.Grammar.{EncodesAll}
 use Rattle.asn1_blocks.specs.FaultPlace.{BlockFaultAt}
 use Rattle.asn1_blocks.specs.HeadersBegun.{HeadersBegun}
-use Rattle.asn1_blocks.specs.Inner.HeaderPlaces.{EncodingBetween}
+use Rattle.asn1_blocks.specs.Inner.HeaderPlaces.{IsEncodingBetween}
 
 -- contents octets that are being read, and the trees so far
 pub record Frame : Type 0 where
@@ -20,7 +20,7 @@ pub record Frame : Type 0 where
   pub trees : List (Tree ℕ)
 
 -- the contents octets up to a place are the trees, with n headers
-pub record ReadTo (octets : List ℕ) (f : Frame) (place n : ℕ) : Type 0 where
+pub record IsReadTo (octets : List ℕ) (f : Frame) (place n : ℕ) : Type 0 where
   pub from : f.extent.start ≤ place
   pub to : place ≤ f.extent.end
   pub within : f.extent.end ≤ length octets
@@ -29,20 +29,20 @@ pub record ReadTo (octets : List ℕ) (f : Frame) (place n : ℕ) : Type 0 where
   pub begun : HeadersBegun (slice_range octets f.extent.start place) n
 
 -- a SEQUENCE or SET at the offset has these contents octets
-pub record GroupAt (octets : List ℕ) (g : GroupKind) (offset start end : ℕ) : Type 0 where
+pub record IsGroupAt (octets : List ℕ) (g : GroupKind) (offset start end : ℕ) : Type 0 where
   pub constructed : Bool
-  pub encoding : EncodingBetween octets Universal constructed (group_tag g) offset start end
+  pub encoding : IsEncodingBetween octets Universal constructed (group_tag g) offset start end
 
 -- and so has a constructed encoding of another class
-pub record AttemptAt (octets : List ℕ) (a : owed.Attempt) (start end : ℕ) : Type 0 where
+pub record IsAttemptAt (octets : List ℕ) (a : owed.Attempt) (start end : ℕ) : Type 0 where
   pub other : a.class ≢ Universal
-  pub encoding : EncodingBetween octets a.class true a.tag a.offset start end
+  pub encoding : IsEncodingBetween octets a.class true a.tag a.offset start end
 
 -- the header at the offset stands before these contents octets
-abbrev pub Headed : List ℕ → FrameKind → ℕ → ℕ → ℕ → Type 0
-Headed octets Whole offset start end = ⊥
-Headed octets (Group g o) offset start end = (o ≡ offset) × GroupAt octets g o start end
-Headed octets (Attempt a) offset start end = (a.offset ≡ offset) × AttemptAt octets a start end
+abbrev pub IsHeaded : List ℕ → FrameKind → ℕ → ℕ → ℕ → Type 0
+IsHeaded octets Whole offset start end = ⊥
+IsHeaded octets (Group g o) offset start end = (o ≡ offset) × IsGroupAt octets g o start end
+IsHeaded octets (Attempt a) offset start end = (a.offset ≡ offset) × IsAttemptAt octets a start end
 
 -- the frame of the document
 pub record IsDocumentFrame (octets : List ℕ) (f : Frame) : Type 0 where
@@ -50,29 +50,29 @@ pub record IsDocumentFrame (octets : List ℕ) (f : Frame) : Type 0 where
   pub start : f.extent.start ≡ 0
   pub end : f.extent.end ≡ length octets
 
--- a frame is read up to the place inside another one, which is read up to the offset of its header.
--- So n headers were begun: those before it, its own, and those inside
-pub record Inside (octets : List ℕ) (f g : Frame) (Around : ℕ → ℕ → Type 0) (place n : ℕ) : Type 0
+-- a frame is read up to the place inside another one, which is read up to the offset of its header. So n headers were
+-- begun: those before it, its own, and those inside
+pub record IsInside (octets : List ℕ) (f g : Frame) (Around : ℕ → ℕ → Type 0) (place n : ℕ) : Type 0
   where
     pub offset : ℕ
     pub before : ℕ
     pub own : ℕ
-    pub headed : Headed octets f.extent.kind offset f.extent.start f.extent.end
+    pub headed : IsHeaded octets f.extent.kind offset f.extent.start f.extent.end
     pub after : offset < f.extent.start
     pub fits : f.extent.end ≤ g.extent.end
-    pub read : ReadTo octets f place own
+    pub read : IsReadTo octets f place own
     pub around : Around offset before
     pub total : n ≡ before + (1 + own)
 
 -- the outermost frame is read up to the place
-pub record OfDocument (octets : List ℕ) (f : Frame) (place n : ℕ) : Type 0 where
+pub record IsOfDocument (octets : List ℕ) (f : Frame) (place n : ℕ) : Type 0 where
   pub whole : IsDocumentFrame octets f
-  pub read : ReadTo octets f place n
+  pub read : IsReadTo octets f place n
 
 -- the frames lie in one another, the innermost first; all is read up to the place, with n headers
-abbrev pub Opened : List ℕ → Frame → List Frame → ℕ → ℕ → Type 0
-Opened octets f [] place n = OfDocument octets f place n
-Opened octets f (g ∷ gs) place n = Inside octets f g (λ o b. Opened octets g gs o b) place n
+abbrev pub AreOpen : List ℕ → Frame → List Frame → ℕ → ℕ → Type 0
+AreOpen octets f [] place n = IsOfDocument octets f place n
+AreOpen octets f (g ∷ gs) place n = IsInside octets f g (λ o b. AreOpen octets g gs o b) place n
 
 -- the block at the place is at fault, and the innermost block at fault begins at the offset
 pub record StopsAt (octets : List ℕ) (f : Frame) (place : ℕ) (e : DecodeFault) (offset n : ℕ)
@@ -84,13 +84,13 @@ pub record StopsAt (octets : List ℕ) (f : Frame) (place : ℕ) (e : DecodeFaul
   pub innermost : offset ≡ place + inside
   pub begun : HeadersBegun (slice_range octets place f.extent.end) n
 
--- the block at some place of the innermost frame is at fault, the innermost block at fault begins
--- at the offset, and n headers were begun
-pub record Stopping (octets : List ℕ) (f : Frame) (gs : List Frame) (e : DecodeFault)
+-- the block at some place of the innermost frame is at fault, the innermost block at fault begins at the offset, and n
+-- headers were begun
+pub record IsStopping (octets : List ℕ) (f : Frame) (gs : List Frame) (e : DecodeFault)
     (offset n : ℕ) : Type 0 where
   pub place : ℕ
   pub before : ℕ
   pub own : ℕ
-  pub opened : Opened octets f gs place before
+  pub opened : AreOpen octets f gs place before
   pub stops : StopsAt octets f place e offset own
   pub total : n ≡ before + own

@@ -1,8 +1,8 @@
--- Orders to build blocks, and what they lead to.
+-- What is owed, and what it leads to. Only private contracts name these.
 use Rattle.std.specs.Prelude.{◌≡◌, ℕ, ◌-◌, true, List, [], ◌∷◌, ◌++◌, length, map, take, drop, slice_range}
 use Rattle.asn1_blocks.specs.declared.owed.Attempt.{Attempt}
-use Rattle.asn1_blocks.specs.declared.owed.Entry.{Entry}
-use Rattle.asn1_blocks.specs.declared.owed.Entry.TheVariants.{Ready, Group, Explicit, Kept}
+use Rattle.asn1_blocks.specs.declared.owed.Owed.{Owed}
+use Rattle.asn1_blocks.specs.declared.owed.Owed.TheVariants.{Ready, Group, Explicit, Kept}
 use Rattle.asn1_blocks.specs.Tree.{Tree, group, explicit, unknown, trees_of}
 use Rattle.asn1_blocks.specs.View.{view}
 
@@ -19,20 +19,20 @@ around_last a [] = []
 around_last a (x ∷ []) = around a x ∷ []
 around_last a (x ∷ y ∷ s) = x ∷ around_last a (y ∷ s)
 
--- the trees after an order
-abbrev pub after : List ℕ → Entry → List (Tree ℕ) → List (Tree ℕ)
+-- the trees after one that was owed
+abbrev pub after : List ℕ → Owed → List (Tree ℕ) → List (Tree ℕ)
 after octets (Ready b) s = s ++ view b ∷ []
-after octets (Group g o first later) s =
-    let n = length s - later in
+after octets (Group g o first owes) s =
+    let n = length s - owes in
     take n s ++ group o g (trees_of (map view first ++ drop n s)) ∷ []
 after octets (Explicit a) s = around_last a s
 after octets (Kept a start end) s = s ++ as_it_came octets a start end ∷ []
 
 -- the trees after all of them, from the first on
-abbrev pub after_all : List ℕ → List Entry → List (Tree ℕ) → List (Tree ℕ)
+abbrev pub after_all : List ℕ → List Owed → List (Tree ℕ) → List (Tree ℕ)
 after_all octets [] s = s
 after_all octets (e ∷ es) s = after_all octets es (after octets e s)
 
--- the orders leave what stands there, and put these trees at its end
-abbrev pub Leads : List ℕ → List Entry → List (Tree ℕ) → Type 0
+-- what is owed leaves what stands there, and puts these trees at its end
+abbrev pub Leads : List ℕ → List Owed → List (Tree ℕ) → Type 0
 Leads octets es ts = (s : List (Tree ℕ)) → after_all octets es s ≡ s ++ ts

@@ -1,13 +1,13 @@
 // Dropping blocks at all depths by a loop, without memory.
-ghost use Rattle.std.specs.Prelude.{◌≡◌, ◌+◌, ◌<◌};
+ghost use Rattle.std.specs.Prelude.{◌+◌, ◌<◌};
 ghost use Rattle.asn1_blocks.specs.HeadersBegun.{all_blocks_in, blocks_in};
 ghost use Rattle.asn1_blocks.specs.View.{view, views};
 
 use crate::block::ASN1Block;
 use std::mem;
 
-/// Drops blocks that may be nested deeply: in time linear in their number, with no memory, and
-/// with no call on the stack for a level of nesting, as dropping an [`ASN1Block`] has it.
+/// Drops blocks that may be nested deeply: in time linear in their number, with no memory, and with no call on the
+/// stack for a level of nesting, as dropping an [`ASN1Block`] has it.
 ///
 /// ```rust
 /// use simple_asn1::{ASN1DecodeErr, discard, from_der};
@@ -29,8 +29,8 @@ pub fn discard(mut blocks: Vec<ASN1Block>) {
     blocks.destroy_empty();
 }
 
-// Drops a part of a block, and gives what is left beside the others. Where the block holds blocks,
-// they become the list, and the others wait in a SEQUENCE in the place of the first of them.
+// Drops a part of a block, and gives what is left beside the others. Where the block holds blocks, they become the
+// list, and the others wait in a SEQUENCE in the place of the first of them.
 fn unnest(mut block: ASN1Block, mut rest: Vec<ASN1Block>) -> Vec<ASN1Block>
     ensures { all_blocks_in (views result.items)
         < blocks_in (view block) + all_blocks_in (views rest.items) }
@@ -50,21 +50,7 @@ fn unnest(mut block: ASN1Block, mut rest: Vec<ASN1Block>) -> Vec<ASN1Block>
                 block = mem::replace(&mut items[0], ASN1Block::Sequence(0, rest));
                 rest = items;
             }
-            ASN1Block::Boolean(_, _)
-            | ASN1Block::Null(_)
-            | ASN1Block::Integer(_, _)
-            | ASN1Block::BitString(_, _, _)
-            | ASN1Block::OctetString(_, _)
-            | ASN1Block::ObjectIdentifier(_, _)
-            | ASN1Block::UTCTime(_, _)
-            | ASN1Block::GeneralizedTime(_, _)
-            | ASN1Block::UTF8String(_, _)
-            | ASN1Block::PrintableString(_, _)
-            | ASN1Block::TeletexString(_, _)
-            | ASN1Block::IA5String(_, _)
-            | ASN1Block::UniversalString(_, _)
-            | ASN1Block::BMPString(_, _)
-            | ASN1Block::Unknown(_, _, _, _, _) => return rest,
+            _ => return rest,
         }
     }
 }
@@ -80,21 +66,7 @@ pub fn discard_one(mut block: ASN1Block) {
                 discard(items);
                 return;
             }
-            ASN1Block::Boolean(_, _)
-            | ASN1Block::Null(_)
-            | ASN1Block::Integer(_, _)
-            | ASN1Block::BitString(_, _, _)
-            | ASN1Block::OctetString(_, _)
-            | ASN1Block::ObjectIdentifier(_, _)
-            | ASN1Block::UTCTime(_, _)
-            | ASN1Block::GeneralizedTime(_, _)
-            | ASN1Block::UTF8String(_, _)
-            | ASN1Block::PrintableString(_, _)
-            | ASN1Block::TeletexString(_, _)
-            | ASN1Block::IA5String(_, _)
-            | ASN1Block::UniversalString(_, _)
-            | ASN1Block::BMPString(_, _)
-            | ASN1Block::Unknown(_, _, _, _, _) => return,
+            _ => return,
         }
     }
 }

@@ -25,8 +25,8 @@ use std::alloc::{AllocError, Global};
 use std::slice;
 
 impl ASN1Block {
-    /// The tag number (X.690 8.1.2.2): the one of X.680 table 1, or the field of an `Explicit` or
-    /// `Unknown` block. `None` only of a field of 2^64 or more.
+    /// The tag number (X.690 8.1.2.2): the one of X.680 table 1, or the field of an `Explicit` or `Unknown` block.
+    /// `None` only of a field of 2^64 or more.
     ///
     /// ```rust
     /// use simple_asn1::{ASN1Block, ASN1Class};
@@ -60,8 +60,7 @@ impl ASN1Block {
         }
     }
 
-    /// The items of a `Sequence` or `Set`, and the one block in an `Explicit`; `None` of any other
-    /// block.
+    /// The items of a `Sequence` or `Set`, and the one block in an `Explicit`; `None` of any other block.
     ///
     /// ```rust
     /// use simple_asn1::ASN1Block;
@@ -130,8 +129,8 @@ impl ASN1Block {
         }
     }
 
-    /// The octets of an `OctetString`; `None` of any other block, also of a `BitString` and an
-    /// `Unknown`, whose octets mean nothing without their other fields.
+    /// The octets of an `OctetString`; `None` of any other block, also of a `BitString` and an `Unknown`, whose octets
+    /// mean nothing without their other fields.
     ///
     /// ```rust
     /// use simple_asn1::ASN1Block;
@@ -241,13 +240,11 @@ impl ASN1Block {
     }
 }
 
-/// The blocks at all depths, in the order in which their first octets stand in a document: each
-/// before those that it holds, and these before what follows it. What an `Unknown` holds are
-/// octets, and not looked into.
+/// The blocks at all depths, in the order in which their first octets stand in a document: each before those that it
+/// holds, and these before what follows it. What an `Unknown` holds are octets, and not looked into.
 ///
-/// The list takes 8 octets for each block, and while it is made 16 for each level of nesting that
-/// is open. The stack that is taken does not grow with the nesting. The only error is that memory
-/// ran out.
+/// The list takes 8 octets for each block, and while it is made 16 for each level of nesting that is open. The stack
+/// that is taken does not grow with the nesting. The only error is that memory ran out.
 ///
 /// ```rust
 /// use simple_asn1::{ASN1Block, Document, all_blocks};

@@ -1,15 +1,16 @@
-// Whether blocks are the same but for their offsets. It takes no memory, and a call for each level
-// of nesting in a block that others of its list follow: the last block of a list, and the one of an
-// explicit tagging, are gone into by a loop.
-ghost use Rattle.std.specs.Prelude.{◌≡◌, ◌↔◌, IsTrue, length};
+// Whether blocks are the same but for their offsets. It takes no memory, and a call for each level of nesting in a
+// block that others of its list follow: the last block of a list, and the one of an explicit tagging, are gone into by
+// a loop.
+ghost use Rattle.std.specs.Prelude.{◌≡◌, ◌↔◌, IsTrue};
 ghost use Rattle.std.specs.Str.{chars};
+ghost use Rattle.asn1_leaves.specs.Contents.Moment.{moment_of};
 ghost use Rattle.asn1_blocks.specs.Tree.{shape, shapes};
 ghost use Rattle.asn1_blocks.specs.Inner.TreeOrder.{own_shape};
 ghost use Rattle.asn1_blocks.specs.View.{view, views};
 
 use crate::block::ASN1Block;
 use crate::walk::blocks_inside;
-use asn1_leaves::body::moment::same_moment;
+use jiff::civil::DateTime;
 use std::slice;
 
 // Whether two texts have the same characters.
@@ -17,6 +18,19 @@ fn same_text(s: &str, t: &str) -> bool
     ensures { IsTrue result ↔ (chars s.now ≡ chars t.now) }
 {
     s == t
+}
+
+// Whether two moments are the same, field by field.
+fn same_moment(a: &DateTime, b: &DateTime) -> bool
+    ensures { IsTrue result ↔ (moment_of a.now ≡ moment_of b.now) }
+{
+    if a.year() != b.year() || a.month() != b.month() || a.day() != b.day() {
+        return false;
+    }
+    if a.hour() != b.hour() || a.minute() != b.minute() || a.second() != b.second() {
+        return false;
+    }
+    a.subsec_nanosecond() == b.subsec_nanosecond()
 }
 
 // Whether two blocks are the same beside the blocks that they hold.
@@ -87,8 +101,28 @@ fn same_each(a: &[ASN1Block], b: &[ASN1Block]) -> bool
     true
 }
 
-pub fn same(a: &ASN1Block, b: &ASN1Block) -> bool
+fn same(a: &ASN1Block, b: &ASN1Block) -> bool
     ensures { IsTrue result ↔ (shape (view a.now) ≡ shape (view b.now)) }
 {
     same_all(slice::from_ref(a), slice::from_ref(b))
+}
+
+/// Two blocks are equal where their variants and fields are; offsets are ignored at every depth.
+///
+/// Comparing takes no memory. It takes a call on the stack for each level of nesting, but for blocks that are the last
+/// of their list, and those in an `Explicit`: chains of these take none.
+impl PartialEq for ASN1Block {
+    ghost use Rattle.asn1_blocks.specs.Inner.Equality.{same_block};
+    ghost use Rattle.asn1_blocks.specs.Inner.EqualityLaws.{same_block_laws};
+
+    ghost eq = { same_block };
+
+    ghost laws = { same_block_laws };
+
+    fn eq(&self, other: &Self) -> bool
+        ensures same_shape { IsTrue result ↔ (shape (view self.now) ≡ shape (view other.now)) }
+        ensures decided { result ≡ same_block self.now other.now }
+    {
+        same(self, other)
+    }
 }

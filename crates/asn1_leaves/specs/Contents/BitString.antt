@@ -1,12 +1,11 @@
--- Contents octets of a BIT STRING (X.690 8.6): the number of its bits, and the octets that hold
--- them.
+-- Contents octets of a BIT STRING (X.690 8.6): the number of its bits, and the octets that hold them.
 use Rattle.std.specs.Prelude.{◌≡◌, ◌==◌, ◌||◌, ◌⊎◌, ℕ, ◌+◌, ◌-◌, ◌*◌, ◌^◌, ◌<◌, ◌≤◌, ◌-ℤ◌, pos, List, [], ◌∷◌, length, nat_lt, if◌then◌else◌, Option, Some, None}
 use Rattle.asn1_headers.specs.declared.error.ASN1EncodeErr.{ASN1EncodeErr}
 use Rattle.asn1_headers.specs.declared.error.ASN1EncodeErr.TheVariants.{BitStringLength}
 use Rattle.asn1_headers.specs.Fault.{DecodeFault, length_too_large, invalid_bit_string_length}
 
--- none, or the number of unused bits at the end and the octets of the bits, which a usize can
--- count. X.690 has at least one octet (8.6.2.3), and at most 7 unused bits (8.6.2.2)
+-- none, or the number of unused bits at the end and the octets of the bits, which a usize can count. X.690 has at least
+-- one octet (8.6.2.3), and at most 7 unused bits (8.6.2.2)
 abbrev pub BitStringContents : ℕ → List ℕ → List ℕ → Type 0
 BitStringContents n v [] = (n ≡ 0) × (v ≡ [])
 BitStringContents n v (u ∷ contents) =
@@ -31,8 +30,8 @@ bit_string_write_fault n v =
     else (if nat_lt (8 * length v) n || nat_lt (n + 255) (8 * length v) then Some BitStringLength
     else None)
 
--- there are neither bits nor octets; or there are bits and octets enough for them, at most 255 bits
--- of the octets are unused, and a usize can count all bits of the octets
+-- there are neither bits nor octets; or there are bits and octets enough for them, at most 255 bits of the octets are
+-- unused, and a usize can count all bits of the octets
 abbrev pub IsFaithfulBitString : ℕ → List ℕ → Type 0
 IsFaithfulBitString n v =
     ((n ≡ 0) × (v ≡ []))

@@ -18,8 +18,8 @@ IsEnd digits end =
     (list_all is_ascii_digit digits ≡ true)
     × ((end ≡ digits ++ (90 ∷ [])) ⊎ (end ≡ 46 ∷ (digits ++ (90 ∷ []))))
 
--- the number that digits mean where the first counts `unit`: each further one counts a tenth of the
--- one before it, and from where that is below 1 nothing
+-- the number that digits mean where the first counts `unit`: each further one counts a tenth of the one before it, and
+-- from where that is below 1 nothing
 abbrev pub fraction_number : ℕ → List ℕ → ℕ
 fraction_number unit [] = 0
 fraction_number unit (d ∷ ds) = (d - 48) * unit + fraction_number (unit / 10) ds
@@ -37,8 +37,7 @@ pub record GeneralizedTimeContents (m : Moment) (contents : List ℕ) : Type 0 w
   pub is_end : IsEnd digits end
   pub nanosecond : m.nanosecond ≡ fraction_number tenth digits
 
--- the digits of a number where the first counts `unit`, in at most so many places, up to the last
--- that is not 0
+-- the digits of a number where the first counts `unit`, in at most so many places, up to the last that is not 0
 abbrev pub fraction_digits : ℕ → ℕ → ℕ → List ℕ
 fraction_digits zero unit n = []
 fraction_digits (suc places) unit zero = []

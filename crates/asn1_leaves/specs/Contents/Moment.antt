@@ -1,5 +1,5 @@
--- Moments, of which UTCTime and GeneralizedTime are two notations (X.680 46, 47), and what both
--- share. In texts 43 is +, 46 a point, 48 to 57 are the digits, and 90 is Z.
+-- Moments, of which UTCTime and GeneralizedTime are two notations (X.680 46, 47), and what both share. In texts 43 is
+-- +, 46 a point, 48 to 57 are the digits, and 90 is Z.
 use Rattle.std.specs.Prelude.{ℕ, ◌+◌, ◌/◌, ◌%◌, ◌<◌, ◌≤ℤ◌, ◌++◌, ℤ, pos, negsuc, List, [], ◌∷◌, Option, Some, None}
 use Rattle.std.specs.Int.{IsInRange}
 use Rattle.jiff_core.specs.Calendar.{days_in_month}
@@ -29,8 +29,8 @@ moment_of d = record {
   nanosecond = d.time.subsec_nanosecond;
 }
 
--- a year of at most four digits, a day that it has by the Gregorian rule, by which year 0 is a
--- leap year, and a time of that day
+-- a year of at most four digits, a day that it has by the Gregorian rule, by which year 0 is a leap year, and a time of
+-- that day
 pub record IsValid (m : Moment) : Type 0 where
   pub from_zero : pos 0 ≤ℤ m.year
   pub four_digits : m.year ≤ℤ pos 9999

@@ -4,16 +4,15 @@ use Rattle.std.specs.Char.{is_ascii_digit}
 use Rattle.asn1_leaves.specs.Contents.Moment.{Moment, IsValid, two_digits, from_month}
 use Rattle.asn1_headers.specs.Fault.{DecodeFault, invalid_date_value}
 
--- a moment that a UTCTime keeps: its two digits of the year, where they are from 50 on, stand for
--- 1950 to 1999, and below for 2000 to 2049
+-- a moment that a UTCTime keeps: its two digits of the year, where they are from 50 on, stand for 1950 to 1999, and
+-- below for 2000 to 2049
 pub record IsFaithfulUtcTime (m : Moment) : Type 0 where
   pub valid : IsValid m
   pub from_1950 : pos 1950 ≤ℤ m.year
   pub to_2049 : m.year ≤ℤ pos 2049
   pub whole_second : m.nanosecond ≡ 0
 
--- the contents octets that are written: YYMMDDhhmmssZ (11.8.1, 11.8.2), without the century and
--- the fraction
+-- the contents octets that are written: YYMMDDhhmmssZ (11.8.1, 11.8.2), without the century and the fraction
 abbrev pub utc_time_contents : Moment → List ℕ
 utc_time_contents m = two_digits (unsigned_abs m.year % 100) ++ (from_month m ++ (90 ∷ []))
 
@@ -21,8 +20,7 @@ utc_time_contents m = two_digits (unsigned_abs m.year % 100) ++ (from_month m ++
 abbrev pub UtcTimeContents : Moment → List ℕ → Type 0
 UtcTimeContents m contents = IsFaithfulUtcTime m × (contents ≡ utc_time_contents m)
 
--- the century that a text which begins with a and b is shown with, where they are two digits, or
--- + and a digit
+-- the century that a text which begins with a and b is shown with, where they are two digits, or + and a digit
 abbrev pub century_shown : ℕ → ℕ → List ℕ
 century_shown a b =
     if (is_ascii_digit a || (a == 43)) && is_ascii_digit b

@@ -1,5 +1,4 @@
-// Contents octets of a GeneralizedTime: YYYYMMDDhhmmss, perhaps a fraction of a second, and Z
-// (X.690 8.25, 11.7).
+// Contents octets of a GeneralizedTime: YYYYMMDDhhmmss, perhaps a fraction of a second, and Z (X.690 8.25, 11.7).
 ghost use Rattle.std.specs.Prelude.{◌≡◌, ◌==◌, ◌↔◌, ℕ, ◌+◌, ◌<◌, ◌≤◌, true, false, List, length, take, string_bytes, None, Some, IfErr, IfNone, IfOk, IfSome, IsTrue, OnOk};
 ghost use Rattle.std.specs.Char.{is_ascii, is_ascii_digit};
 ghost use Rattle.std.specs.List.{list_all, list_any};

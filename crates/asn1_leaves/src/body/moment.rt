@@ -1,5 +1,5 @@
 // What the two kinds of times share: digits, the fields from the month on, and texts of faults.
-ghost use Rattle.std.specs.Prelude.{◌≡◌, ◌↔◌, ℕ, ◌≤◌, ◌<◌, length, IfErr, IfSome, IfNone, IsTrue, OnOk, None, Some};
+ghost use Rattle.std.specs.Prelude.{◌≡◌, ℕ, ◌≤◌, ◌<◌, length, IfErr, IfSome, IfNone, OnOk, None, Some};
 ghost use Rattle.asn1_leaves.specs.Inner.DigitFields.{HasFields, IsPair, IsSpelled};
 ghost use Rattle.asn1_leaves.specs.Contents.Moment.{IsValid, Moment, moment_of, moment_write_fault};
 
@@ -80,17 +80,4 @@ pub fn nanosecond(d: &DateTime) -> u32
     ensures { result ≡ d.now.time.subsec_nanosecond }
 {
     d.subsec_nanosecond().unsigned_abs()
-}
-
-// Whether two moments are the same, field by field.
-pub fn same_moment(a: &DateTime, b: &DateTime) -> bool
-    ensures { IsTrue result ↔ (moment_of a.now ≡ moment_of b.now) }
-{
-    if a.year() != b.year() || a.month() != b.month() || a.day() != b.day() {
-        return false;
-    }
-    if a.hour() != b.hour() || a.minute() != b.minute() || a.second() != b.second() {
-        return false;
-    }
-    a.subsec_nanosecond() == b.subsec_nanosecond()
 }

@@ -7,7 +7,7 @@ use Rattle.asn1_numbers.specs.Octets.{FitInSlice}
 use Rattle.asn1_headers.specs.Header.{Encoding}
 use Rattle.asn1_blocks.specs.Tree.{Leaf, Trees}
 use Rattle.asn1_blocks.specs.Contents.{leaf_tag, group_tag, is_known_tag, LeafContents}
-use Rattle.asn1_blocks.specs.Grammar.{IsBlock, AreBlocks, Document}
+use Rattle.asn1_blocks.specs.Grammar.{IsBlock, AreBlocks, IsDocument}
 
 mutual
   -- the octets are a block, and no SEQUENCE or SET that is read in it is empty
@@ -43,4 +43,4 @@ pub record Wider : Type 0 where
   pub document :
       (octets : List ℕ) →
       FitInSlice octets → 0 < length octets → AreFullBlocks octets →
-      (bs : Trees ℕ) × Document octets bs
+      (bs : Trees ℕ) × IsDocument octets bs

@@ -5,8 +5,8 @@ use Rattle.asn1_numbers.specs.Octets.{AreOctets}
 use Rattle.asn1_numbers.specs.Base128.{IsBase128, shortest_base128}
 use Rattle.asn1_headers.specs.Header.{IsIdentifier, IsLength, Encoding, shortest_identifier, shortest_length}
 
--- the parts of a header, and encodings, end where they end: none begins another. Each shortest form
--- is such a part, and the one shortest
+-- the parts of a header, and encodings, end where they end: none begins another. Each shortest form is such a part, and
+-- the one shortest
 pub record HeaderLaws : Type 0 where
   -- of two base-128 numbers at the front of the same octets, the octets and the numbers are equal
   pub one_base128 :
@@ -21,8 +21,7 @@ pub record HeaderLaws : Type 0 where
   pub one_length :
       (s t x y : List ℕ) (m n : ℕ) →
       IsLength s m → IsLength t n → s ++ x ≡ t ++ y → (s ≡ t) × (m ≡ n)
-  -- so with encodings, and their class, constructed bit, tag number, contents octets and size of
-  -- the header
+  -- so with encodings, and their class, constructed bit, tag number, contents octets and size of the header
   pub one_encoding :
       (s t x y : List ℕ) (c d : ASN1Class) (j k : Bool) (m n : ℕ) (v w : List ℕ) (g h : ℕ) →
       Encoding s c j m v g → Encoding t d k n w h → s ++ x ≡ t ++ y →
@@ -57,15 +56,13 @@ pub record HeaderLaws : Type 0 where
       AreOctets octets → IsIdentifier octets c k n →
       length octets ≤ length (shortest_identifier c k n) →
       octets ≡ shortest_identifier c k n
-  -- so with length octets of the same length, but that 80 (hexadecimal) is as short as 00 for the
-  -- length 0
+  -- so with length octets of the same length, but that 80 (hexadecimal) is as short as 00 for the length 0
   pub length_only :
       (octets : List ℕ) (n : ℕ) →
       AreOctets octets → octets ≢ 128 ∷ [] → IsLength octets n →
       length octets ≤ length (shortest_length n) →
       octets ≡ shortest_length n
-  -- the shortest octets of a base-128 number do not begin with 80 (hexadecimal; X.690 8.1.2.4.2,
-  -- 8.19.2)
+  -- the shortest octets of a base-128 number do not begin with 80 (hexadecimal; X.690 8.1.2.4.2, 8.19.2)
   pub base128_leading : (n : ℕ) (rest : List ℕ) → shortest_base128 n ≢ 128 ∷ rest
   -- and octets of it that do not begin so, as 00 does not, are the shortest
   pub base128_not_leading :

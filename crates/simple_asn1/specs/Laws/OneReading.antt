@@ -4,7 +4,7 @@ use Rattle.asn1_numbers.specs.Octets.{FitInSlice}
 use Rattle.asn1_headers.specs.Fault.{DecodeFault, IsOfReading}
 use Rattle.asn1_blocks.specs.FaultPlace.{FirstFaultAt}
 use Rattle.asn1_blocks.specs.Tree.{Tree, Trees}
-use Rattle.asn1_blocks.specs.Grammar.{IsBlock, Encodes, Document, FirstFault}
+use Rattle.asn1_blocks.specs.Grammar.{IsBlock, Encodes, IsDocument, FirstFault}
 use Rattle.asn1_blocks.specs.HeadersBegun.{HeadersBegun, all_blocks_in}
 
 -- all octets have one reading
@@ -13,8 +13,7 @@ pub record OneReading : Type 0 where
   pub one_tree :
       (offset : ℕ) (octets : List ℕ) (a b : Tree ℕ) →
       Encodes offset octets a → Encodes offset octets b → a ≡ b
-  -- of two trees encoded at the front of the same octets, at one offset, the octets and the trees
-  -- are equal
+  -- of two trees encoded at the front of the same octets, at one offset, the octets and the trees are equal
   pub one_front :
       (offset : ℕ) (s t x y : List ℕ) (a b : Tree ℕ) →
       Encodes offset s a → Encodes offset t b → s ++ x ≡ t ++ y → (s ≡ t) × (a ≡ b)
@@ -26,20 +25,20 @@ pub record OneReading : Type 0 where
   pub either :
       (octets : List ℕ) →
       FitInSlice octets →
-      ((bs : Trees ℕ) × Document octets bs) ⊎ ((e : DecodeFault) × FirstFault octets e)
+      ((bs : Trees ℕ) × IsDocument octets bs) ⊎ ((e : DecodeFault) × FirstFault octets e)
   -- and never both
   pub not_both :
       (octets : List ℕ) (bs : Trees ℕ) (e : DecodeFault) →
-      FitInSlice octets → Document octets bs → FirstFault octets e → ⊥
+      FitInSlice octets → IsDocument octets bs → FirstFault octets e → ⊥
   -- they are at most one document
   pub one_document :
-      (octets : List ℕ) (xs ys : Trees ℕ) → Document octets xs → Document octets ys → xs ≡ ys
+      (octets : List ℕ) (xs ys : Trees ℕ) → IsDocument octets xs → IsDocument octets ys → xs ≡ ys
   -- and have at most one first fault
   pub one_fault :
       (octets : List ℕ) (e d : DecodeFault) →
       FitInSlice octets → FirstFault octets e → FirstFault octets d → e ≡ d
-  -- the first fault is of octets: a class always exists, nothing overflows, and neither memory nor a
-  -- block that is not canonical is one of them
+  -- the first fault is of octets: a class always exists, nothing overflows, and neither memory nor a block that is not
+  -- canonical is one of them
   pub of_reading : (octets : List ℕ) (e : DecodeFault) → FirstFault octets e → IsOfReading e
   -- a reader begins some number of headers
   pub headers_begun : (octets : List ℕ) → FitInSlice octets → (n : ℕ) × HeadersBegun octets n
@@ -51,7 +50,7 @@ pub record OneReading : Type 0 where
   -- and at least one for each block of a document, at all depths
   pub at_least :
       (octets : List ℕ) (bs : Trees ℕ) (n : ℕ) →
-      Document octets bs → HeadersBegun octets n → all_blocks_in bs ≤ n
+      IsDocument octets bs → HeadersBegun octets n → all_blocks_in bs ≤ n
 
 -- the first fault has one place
 pub record OnePlace : Type 0 where

@@ -2,7 +2,7 @@
 use Rattle.std.specs.Prelude.{◌≡◌, ◌↔◌, ℕ, List, None}
 use Rattle.asn1_numbers.specs.Octets.{AreOctets, FitInSlice}
 use Rattle.asn1_blocks.specs.Tree.{Tree, Trees}
-use Rattle.asn1_blocks.specs.Grammar.{Document}
+use Rattle.asn1_blocks.specs.Grammar.{IsDocument}
 use Rattle.simple_asn1.specs.Canonical.{canonical, all_canonical, write_fault}
 use Rattle.asn1_blocks.specs.Faithful.{all_normalized, IsFaithful, AreFaithful}
 use Rattle.simple_asn1.specs.ReadBack.{ReadsBackAs, AllReadBackAs, AreEqualNormalized}
@@ -12,24 +12,24 @@ pub record Rewriting : Type 0 where
   -- trees that were read are faithful when normalized
   pub faithful :
       (document : List ℕ) (bs : Trees ℕ) →
-      AreOctets document → Document document bs → AreFaithful (all_normalized bs)
+      AreOctets document → IsDocument document bs → AreFaithful (all_normalized bs)
   -- normalized or not, the same octets are written
   pub same : (bs : Trees ℕ) → all_canonical (all_normalized bs) ≡ all_canonical bs
   -- the canonical octets of a document are read back as its trees, normalized
   pub reads_back :
       (document : List ℕ) (bs : Trees ℕ) →
-      AreOctets document → FitInSlice (all_canonical bs) → Document document bs →
+      AreOctets document → FitInSlice (all_canonical bs) → IsDocument document bs →
       AllReadBackAs (all_canonical bs) (all_normalized bs)
   -- and are their own canonical octets
   pub again :
       (document : List ℕ) (bs cs : Trees ℕ) →
-      AreOctets document → FitInSlice (all_canonical bs) → Document document bs →
-      Document (all_canonical bs) cs → all_canonical cs ≡ all_canonical bs
+      AreOctets document → FitInSlice (all_canonical bs) → IsDocument document bs →
+      IsDocument (all_canonical bs) cs → all_canonical cs ≡ all_canonical bs
   -- two documents have the same canonical octets exactly if their trees are equal when normalized
   pub equal :
       (first second : List ℕ) (bs cs : Trees ℕ) →
       AreOctets first → AreOctets second → FitInSlice (all_canonical bs) →
-      Document first bs → Document second cs →
+      IsDocument first bs → IsDocument second cs →
       (all_canonical bs ≡ all_canonical cs) ↔ AreEqualNormalized bs cs
 
 -- a tree is faithful exactly if it can be written and is read back as it is

@@ -4,7 +4,7 @@ ghost use Rattle.std.specs.Int.{w64};
 ghost use Rattle.simple_asn1.specs.PointTrees.{point_tree, point_trees, BeginsWithPoint};
 ghost use Rattle.asn1_blocks.specs.Tree.{Trees, integer, leaf, shape, shapes};
 ghost use Rattle.asn1_blocks.specs.View.{view, views};
-ghost use Rattle.asn1_headers.specs.declared.error.ASN1EncodeErr.TheVariants.{OutOfMemory};
+ghost use Rattle.asn1_headers.specs.declared.error.ASN1EncodeErr.TheVariants.{OutOfMemory as no_memory};
 ghost use Rattle.simple_asn1.specs.declared.convert.point.Point.{Point};
 
 use crate::convert::{FromASN1, RoundTrip, ToASN1, sequence_items};
@@ -109,7 +109,7 @@ impl FromASN1 for Point {
 // The block of a point, at offset 0.
 fn point_block(alloc: Global, p: &Point) -> Result<ASN1Block, ASN1EncodeErr>
     ensures made { IfOk result (λ b. shape (view b) ≡ point_tree p.now) }
-    ensures refused { IfErr result (λ e. e ≡ OutOfMemory) }
+    ensures refused { IfErr result (λ e. e ≡ no_memory) }
 {
     let mut items = Vec::with_capacity(alloc, 2)?;
     items.push(ASN1Block::Integer(0, BigInt::from_i64(alloc, p.x)?))?;
@@ -120,7 +120,7 @@ fn point_block(alloc: Global, p: &Point) -> Result<ASN1Block, ASN1EncodeErr>
 // The blocks of a point: one.
 fn point_blocks(alloc: Global, p: &Point) -> Result<Vec<ASN1Block>, ASN1EncodeErr>
     ensures made { IfOk result (λ bs. shapes (views bs.items) ≡ point_trees p.now) }
-    ensures refused { IfErr result (λ e. e ≡ OutOfMemory) }
+    ensures refused { IfErr result (λ e. e ≡ no_memory) }
 {
     let mut blocks = Vec::with_capacity(alloc, 1)?;
     blocks.push(point_block(alloc, p)?)?;
@@ -131,11 +131,11 @@ impl ToASN1 for Point {
     type Error = PointErr;
 
     ghost use Rattle.simple_asn1.specs.declared.convert.point.PointErr.TheVariants.{Encode};
-    ghost use Rattle.asn1_headers.specs.declared.error.ASN1EncodeErr.TheVariants.{OutOfMemory};
+    ghost use Rattle.asn1_headers.specs.declared.error.ASN1EncodeErr.TheVariants.{OutOfMemory as no_memory};
 
     ghost writes = { λ p c r. MatchResult r
         (λ bs. shapes bs ≡ point_trees p)
-        (λ e. e ≡ Encode OutOfMemory) };
+        (λ e. e ≡ Encode no_memory) };
 
     fn to_asn1_class(&self, alloc: Global, _c: ASN1Class) -> Result<Vec<ASN1Block>, PointErr> {
         match point_blocks(alloc, self) {

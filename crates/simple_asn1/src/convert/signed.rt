@@ -2,7 +2,7 @@
 ghost use Rattle.std.specs.Prelude.{◌≡◌, ◌≢◌, ◌⊎◌, ℕ, List, IfOk, IfErr, IsErrAnd};
 ghost use Rattle.std.specs.Prelude.{MatchOption, MatchResult};
 ghost use Rattle.asn1_headers.specs.Fault.{OutOfMemoryOr};
-ghost use Rattle.asn1_blocks.specs.Grammar.{Document, FirstFault};
+ghost use Rattle.asn1_blocks.specs.Grammar.{IsDocument, FirstFault};
 ghost use Rattle.asn1_blocks.specs.Places.{HasOctets, rebased};
 ghost use Rattle.simple_asn1.specs.SignedTrees.{HasFields, IsOfAnotherShape, IsSigned, ReadsSigned};
 ghost use Rattle.simple_asn1.specs.Inner.Algorithm.{IsAlgorithm};
@@ -189,10 +189,10 @@ impl FromASN1WithBody for SignedTriple {
 /// a document is no signed triple.
 pub fn read_signed(alloc: Global, v: &[u8]) -> Result<SignedTriple, TripleErr>
     ensures fields { IfOk result (λ t. (p : SignedParts) × IsSigned v.now p × HasFields v.now p t) }
-    ensures content { IfOk result (λ t. (p : SignedParts) (rest : Trees ℕ) → Document v.now (signed_trees p rest)
+    ensures content { IfOk result (λ t. (p : SignedParts) (rest : Trees ℕ) → IsDocument v.now (signed_trees p rest)
         → HasOctets v.now (signed_trees p rest) p.content t.content.items) }
     ensures content_alone { IfOk result (λ t. (p : SignedParts) → IsSigned v.now p
-        → Document t.content.items (more_trees (rebased p.content) no_trees)) }
+        → IsDocument t.content.items (more_trees (rebased p.content) no_trees)) }
     ensures codec { IfErr result (λ e. (f : ASN1DecodeErr) → e ≡ Codec f → OutOfMemoryOr (FirstFault v.now) f) }
     ensures shape { IfErr result (λ e. e ≡ Shape → IsOfAnotherShape v.now) }
     ensures accepts { (p : SignedParts) → IsSigned v.now p

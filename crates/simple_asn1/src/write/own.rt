@@ -11,8 +11,7 @@ use asn1_leaves::body::{bit_string, boolean, generalized_time, integer, text, ut
 use asn1_leaves::oid;
 use asn1_numbers::sink::Sink;
 
-// The number of contents octets that are written of the block itself, without those of the blocks
-// that it holds.
+// The number of contents octets that are written of the block itself, without those of the blocks that it holds.
 pub(crate) fn own_size(b: &ASN1Block) -> Result<usize, ASN1EncodeErr>
     ensures size { IfOk result (λ n. n ≡ length (own_contents (view b.now))) }
     ensures writable { OnOk result (own_fault (view b.now) ≡ None) }

@@ -14,7 +14,7 @@ ghost use Rattle.std.specs.Prelude.{
 };
 ghost use Rattle.simple_asn1.specs.Canonical.{all_canonical, first_write_fault};
 ghost use Rattle.asn1_headers.specs.Fault.{DecodeFault, OutOfMemoryOr, not_canonical};
-ghost use Rattle.asn1_blocks.specs.Grammar.{Document as IsDocument, FirstFault};
+ghost use Rattle.asn1_blocks.specs.Grammar.{IsDocument, FirstFault};
 ghost use Rattle.asn1_blocks.specs.Places.{end_before};
 ghost use Rattle.simple_asn1.specs.ReadBack.{CanonicalDocument};
 ghost use Rattle.simple_asn1.specs.Strict.{
@@ -29,7 +29,7 @@ ghost use Rattle.asn1_headers.specs.declared.error.ASN1DecodeErr.TheVariants.{Ou
 
 use crate::write::measure::measure;
 use crate::write::put::put_all;
-use crate::write::stand::stand_canonical;
+use crate::write::in_place::are_canonical_in_place;
 use asn1_blocks::block::ASN1Block;
 use asn1_blocks::document::Document;
 use asn1_headers::error::{ASN1DecodeErr, ASN1EncodeErr};
@@ -37,16 +37,14 @@ use asn1_numbers::sink::Comparison;
 use std::alloc::Global;
 use std::slice;
 
-/// Reads a document as [`from_der`](crate::from_der) does, where its octets are the canonical ones
-/// of its blocks, which [`to_der`](crate::to_der) writes. Whoever demands one form of each document
-/// reads with it: two documents that it accepts have equal blocks exactly if their octets are the
-/// same.
+/// Reads a document as [`from_der`](crate::from_der) does, where its octets are the canonical ones of its blocks, which
+/// [`to_der`](crate::to_der) writes. Whoever demands one form of each document reads with it: two documents that it
+/// accepts have equal blocks exactly if their octets are the same.
 ///
-/// Memory is taken as reading takes it, and then for the lists of blocks that are begun; where the
-/// octets are not canonical, also for a list of all blocks, as [`to_der`](crate::to_der) has it. The
-/// octets are compared in place, and none are written. What was read of a document that is refused
-/// is dropped by a loop; the blocks that are answered are dropped as those of
-/// [`from_der`](crate::from_der) are, by a loop where [`discard`](crate::discard) is called.
+/// Memory is taken as reading takes it, and then for the lists of blocks that are begun; where the octets are not
+/// canonical, also for a list of all blocks, as [`to_der`](crate::to_der) has it. The octets are compared in place, and
+/// none are written. What was read of a document that is refused is dropped by a loop; the blocks that are answered are
+/// dropped as those of [`from_der`](crate::from_der) are, by a loop where [`discard`](crate::discard) is called.
 ///
 /// ```rust
 /// use simple_asn1::{ASN1DecodeErr, discard, from_der_strict};
@@ -66,8 +64,8 @@ use std::slice;
 /// ```
 ///
 /// # Errors
-/// Those of [`from_der`](crate::from_der). With none, `NotCanonical` with the offset of the first
-/// block at the top level whose octets are not its canonical ones.
+/// Those of [`from_der`](crate::from_der). With none, `NotCanonical` with the offset of the first block at the top
+/// level whose octets are not its canonical ones.
 pub fn from_der_strict(alloc: Global, i: &[u8]) -> Result<Vec<ASN1Block>, ASN1DecodeErr>
     ensures document { IfOk result (λ blocks. CanonicalDocument i.now (views blocks.items)) }
     ensures fault { IfErr result (OutOfMemoryOr (StrictFault i.now)) }
@@ -109,7 +107,7 @@ fn first_not_canonical(
     ensures refused { IfErr result (λ e. e ≡ OutOfMemory) }
 {
     // nearly always found so, and then no block is measured
-    if stand_canonical(alloc, i, blocks)? {
+    if are_canonical_in_place(alloc, i, blocks)? {
         return Ok(None);
     }
     if are_canonical(alloc, blocks, i)? {

@@ -1,12 +1,12 @@
-use Rattle.std.proofs.Common.{◌+◌, ◌*◌, ◌++◌, map, length}
 use Rattle.asn1_blocks.specs.HeadersBegun.{all_blocks_in}
-use Rattle.asn1_blocks.specs.Inner.TreeOrder.{stacked}
+use Rattle.asn1_blocks.specs.Inner.TreeOrder.{ahead}
 use Rattle.asn1_blocks.specs.View.{views}
-use Rattle.asn1_blocks.proofs.FaithfulWalk.{Rest}
+use Rattle.asn1_blocks.proofs.FaithfulWalk.{IsDecidedBy}
 use Rattle.asn1_blocks.proofs.faithful.are_faithful.Given as goal
 
-abbrev pub invariant-loop-block : goal.invariant-loop-block
-invariant-loop-block l = Rest l.fn.blocks (l.front ++ stacked (map (λ x. x.now) l.outer.items))
+-- what is ahead decides of all
+abbrev pub invariant-loop-walk : goal.invariant-loop-walk
+invariant-loop-walk l = IsDecidedBy l.fn.blocks (ahead l.walk)
 
-abbrev pub decreases-loop-block : goal.decreases-loop-block
-decreases-loop-block l = 2 * all_blocks_in (views (l.front ++ stacked (map (λ x. x.now) l.outer.items))) + length l.outer.items
+abbrev pub decreases-loop-walk : goal.decreases-loop-walk
+decreases-loop-walk l = all_blocks_in (views (ahead l.walk))

@@ -2,7 +2,7 @@ use Rattle.std.proofs.Common.{◌≡◌, ◌<◌, ◌^◌, true, false, length, 
 use Rattle.std.proofs.lemmas.Bool.{false≢true}
 use Rattle.std.proofs.lemmas.Grind.{common_steps}
 use Rattle.asn1_headers.specs.Fault.{fault_of}
-use Rattle.asn1_blocks.specs.Grammar.{Document, FirstFault}
+use Rattle.asn1_blocks.specs.Grammar.{IsDocument, FirstFault}
 use Rattle.asn1_blocks.proofs.Frames.Opening.{fault_here}
 use Rattle.asn1_blocks.proofs.OneBlock.{block_if_one, one_if_block, fault_no_block}
 use Rattle.asn1_blocks.proofs.faithful.is_block.Goals as goal
@@ -11,7 +11,7 @@ use Rattle.asn1_blocks.proofs.faithful.is_block.Goals.{in-OutOfMemory, in_defaul
 pub returns-in-Ok : goal.returns-in-Ok
 returns-in-Ok c =
     let blocks = c.blocks-in-Ok.result.now in
-    let read = subst (Document c.args.octets.now) (sym c.blocks-in-Ok.ensures) c.in-Ok.ensures.document in
+    let read = subst (IsDocument c.args.octets.now) (sym c.blocks-in-Ok.ensures) c.in-Ok.ensures.document in
     let there = block_if_one c.args.octets.now blocks read in
     let only = one_if_block c.args.octets.now blocks read in
     grind (arith, common_steps, there, only)

@@ -3,5 +3,5 @@ use Rattle.asn1_blocks.specs.View.{view}
 use Rattle.asn1_blocks.specs.Inner.Owed.{after_all}
 use Rattle.asn1_blocks.proofs.owed.build.Given as goal
 
-abbrev pub invariant-loop-entry : goal.invariant-loop-entry
-invariant-loop-entry l = map view l.blocks ≡ after_all l.octets l.yielded []
+abbrev pub invariant-loop-one : goal.invariant-loop-one
+invariant-loop-one l = map view l.blocks ≡ after_all l.octets l.yielded []

@@ -3,7 +3,7 @@ use Rattle.std.proofs.lemmas.Result.{IfOk-weaker}
 use Rattle.std.proofs.lemmas.Grind.{common_steps}
 use Rattle.asn1_headers.specs.declared.error.ASN1DecodeErr.TheVariants.{OutOfMemory}
 use Rattle.asn1_headers.specs.declared.error.LocatedErr.{LocatedErr}
-use Rattle.asn1_blocks.specs.Grammar.{Document}
+use Rattle.asn1_blocks.specs.Grammar.{IsDocument}
 use Rattle.asn1_blocks.specs.HeadersBegun.{begun_none}
 use Rattle.asn1_blocks.specs.Inner.Owed.{after_all}
 use Rattle.asn1_blocks.specs.View.{view, views}
@@ -56,8 +56,8 @@ returns-in-End-clause-document c =
     let d = turned_end c.args.i.now c.take_turn.result r t.begun _ c.in-End.is t.turned in
     let some : 0 < length c.args.i.now = grind (arith, common_steps) in
     IfOk-weaker c.whole_document.result
-    (λ blocks. map view blocks.items ≡ map view r.inner.blocks ++ after_all c.args.i.now r.entries.items [])
-    (λ blocks. Document c.args.i.now (views blocks.items))
+    (λ blocks. map view blocks.items ≡ map view r.inner.blocks ++ after_all c.args.i.now r.owed.items [])
+    (λ blocks. IsDocument c.args.i.now (views blocks.items))
     (λ blocks h. record { some = some; blocks = ended_views c.args.i.now r t.begun blocks.items d (h ∙ d.are) })
     c.whole_document.ensures.blocks
 

@@ -51,7 +51,7 @@ returns-in_err-open-in-Blocks-clause-stepped c n w =
 pub returns-in_err-block-in-Leaf-clause-stepped : goal.returns-in_err-block-in-Leaf-clause-stepped
 returns-in_err-block-in-Leaf-clause-stepped c n w =
     let h = c.in_ok-header.header in
-    let leaf = subst (λ z. IsReadAs h c.args.reader.now.index z) c.in-Leaf.is c.contents_of.ensures in
+    let leaf = subst (λ z. IsReadAs h c.args.reader.now.index z) c.in-Leaf.is c.read_as.ensures in
     let p = err_from_is_err_and c.from_residual-in_err-block-in-Leaf.result c.from_residual-in_err-block-in-Leaf.ensures.1 in
     let Fault = λ (g : Header) (e : DecodeFault). (g.class ≡ Universal) × ContentsFault g.tag (slice_range c.args.octets.now h.start h.end) e in
     let refused = subst (λ g. OutOfMemoryOr (Fault g) c.in_err-block-in-Leaf.field-0.0) leaf.0 c.in_err-block-in-Leaf.ensures.refused in
@@ -68,14 +68,14 @@ pub returns-in_ok-open-in-Blocks-clause-stepped : goal.returns-in_ok-open-in-Blo
 returns-in_ok-open-in-Blocks-clause-stepped c n w =
     let h = c.in_ok-header.header in
     let a = c.args.reader.now in
-    let kind = subst (λ z. IsReadAs h a.index z) c.in-Blocks.is c.contents_of.ensures in
+    let kind = subst (λ z. IsReadAs h a.index z) c.in-Blocks.is c.read_as.ensures in
     let f : OpenFrame = record {
       extent = record { kind = c.in-Blocks.kind; start = h.start; end = h.end };
       blocks = c.in_ok-with_capacity-in-Blocks.field-0;
       begin = c.len.result;
-      later = 0;
+      owes = 0;
     } in
-    let b : c.len.result ≡ length a.entries.items = grind (arith, common_steps) in
+    let b : c.len.result ≡ length a.owed.items = grind (arith, common_steps) in
     open_goes_on c.args.octets.now a c.open.new.reader f h n c.in_ok-open-in-Blocks.ensures.opened c.in_ok-open-in-Blocks.ensures.index kind refl refl b refl
     c.in_ok-with_capacity-in-Blocks.ensures c.in_ok-header.ensures.found w
 
@@ -86,7 +86,7 @@ returns-in_ok-put-in-Leaf-clause-stepped c n w =
     let a = c.args.reader.now in
     let block = c.in_ok-block-in-Leaf.block in
     let found = c.in_ok-header.ensures.found in
-    let leaf = subst (λ z. IsReadAs h a.index z) c.in-Leaf.is c.contents_of.ensures in
+    let leaf = subst (λ z. IsReadAs h a.index z) c.in-Leaf.is c.read_as.ensures in
     let Encoded = λ (g : Header). (all : List ℕ) (i : ℕ) → Encoding all g.class g.constructed g.tag (slice_range octets h.start h.end) i → Encodes a.index all
     (view block) in
     let encoded = subst Encoded leaf.0 c.in_ok-block-in-Leaf.ensures.encoded (slice_range octets a.index h.end) (h.start - a.index) found.encoding in

@@ -1,12 +1,12 @@
 use Rattle.std.proofs.Common.{ℕ, length}
 use Rattle.asn1_headers.specs.Fault.{fault_of}
-use Rattle.asn1_blocks.specs.Inner.ReaderSteps.{Faulty}
+use Rattle.asn1_blocks.specs.Inner.ReaderSteps.{IsFaulty}
 use Rattle.asn1_blocks.proofs.read.refuse.Given as goal
 
 -- the fault has gone out of the frames that were dropped
 abbrev pub invariant-loop-parent : goal.invariant-loop-parent
 invariant-loop-parent l = record {
-  faulty : (n most : ℕ) → Faulty l.octets l.fn.reader (fault_of l.fn.e) n most → Faulty l.octets l.reader (fault_of l.e) n most;
+  faulty : (n most : ℕ) → IsFaulty l.octets l.fn.reader (fault_of l.fn.e) n most → IsFaulty l.octets l.reader (fault_of l.e) n most;
 }
 
 abbrev pub decreases-loop-parent : goal.decreases-loop-parent

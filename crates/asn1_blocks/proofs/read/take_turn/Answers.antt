@@ -2,7 +2,7 @@ use Rattle.std.proofs.Common.{◌≡◌, ℕ, ◌+◌, List, [], ◌∷◌, ◌+
 use Rattle.std.proofs.lemmas.Grind.{common_steps}
 use Rattle.asn1_blocks.specs.declared.read.OpenFrame.{OpenFrame}
 use Rattle.asn1_blocks.specs.declared.read.Reader.{Reader}
-use Rattle.asn1_blocks.specs.Inner.ReaderSteps.{Reads, Reading, Turned, left}
+use Rattle.asn1_blocks.specs.Inner.ReaderSteps.{Reads, IsReading, HasTurned, left}
 use Rattle.asn1_blocks.proofs.Reader.Closing.{document_ended}
 use Rattle.asn1_blocks.proofs.Reader.Opening.{reader_places}
 use Rattle.asn1_blocks.proofs.Reader.Popping.{reverse_push, reverse_none}
@@ -10,10 +10,10 @@ use Rattle.asn1_blocks.proofs.read.take_turn.Goals as goal
 
 -- the innermost frame has ended inside another, which was taken out of the list
 closing : (octets : List ℕ) (r : Reader) (g : OpenFrame) (after : List OpenFrame) (n : ℕ) → r.index ≡ r.inner.extent.end → r.outer.items ≡ after ++ g ∷ []
-    → Reading octets r n → Reads octets r.entries.items r.inner (g ∷ reverse after) r.inner.extent.end n
+    → IsReading octets r n → Reads octets r.owed.items r.inner (g ∷ reverse after) r.inner.extent.end n
 closing octets r g after n i is w =
-    subst (λ z. Reads octets r.entries.items r.inner z r.inner.extent.end n) (reverse_push r.outer.items after g is)
-    (subst (λ z. Reads octets r.entries.items r.inner (reverse r.outer.items) z n) i w)
+    subst (λ z. Reads octets r.owed.items r.inner z r.inner.extent.end n) (reverse_push r.outer.items after g is)
+    (subst (λ z. Reads octets r.owed.items r.inner (reverse r.outer.items) z n) i w)
 
 -- so there is as much left to do as before
 as_much : (size : ℕ) (r : Reader) (g : OpenFrame) (after : List OpenFrame) → r.index ≡ r.inner.extent.end → r.outer.items ≡ after ++ g ∷ []
@@ -69,7 +69,7 @@ returns-in-Some c =
             begun = n;
             counted = e;
             bounded = omega (arith, v.bound, v.to, v.within);
-            turned = subst (λ z. Turned octets c.turn_of-in-Some.result c.turn_of-in-Some.new.reader n z)
+            turned = subst (λ z. HasTurned octets c.turn_of-in-Some.result c.turn_of-in-Some.new.reader n z)
                 (as_much (length octets) r g after c.if-reader.false is) t;
           };
     }
@@ -82,9 +82,9 @@ returns-in-None c =
           let r = c.args.reader.now in
           let v = reader_places octets r n w in
           let none : length r.outer.items ≡ 0 = grind (arith, common_steps) in
-          let whole = subst (λ z. Reads octets r.entries.items r.inner z r.index n) (reverse_none r.outer.items none) w in
-          let end = subst (λ z. Reads octets r.entries.items r.inner [] z n) c.if-reader.false whole in
-          let a : Reader = record { inner = r.inner; outer = c.pop.new.self; index = r.index; entries = r.entries; outermost = r.outermost; fault = r.fault } in
+          let whole = subst (λ z. Reads octets r.owed.items r.inner z r.index n) (reverse_none r.outer.items none) w in
+          let end = subst (λ z. Reads octets r.owed.items r.inner [] z n) c.if-reader.false whole in
+          let a : Reader = record { inner = r.inner; outer = c.pop.new.self; index = r.index; owed = r.owed; outermost = r.outermost; fault = r.fault } in
           record {
             begun = n;
             counted = e;

@@ -20,8 +20,8 @@ take_back-requires c =
     let g = block_at items (i - 1) c.index-block.result.now (omega arith) c.index-block.ensures in
     let some = order_drop order c.from_ref.result.now (i - 1) c.in_ok-order.ensures (omega (arith, l)) in
     let p = from_place order some.0 i (i - 1) c.index-block.result.now.now (omega arith) l g some.1 in
-    let e = enough_made c.index-block.result.now.now some.0 p.after c.loop-i.copies.made.items p.next (c.loop-i.invariant.copied p.after p.ordered) in
-    omega (arith, e, sym (count_views c.blocks_inside.result.now) ∙ ap count c.blocks_inside.ensures, c.in_ok-reserve.ensures.len, c.loop-i.copies.made.ok.0)
+    let e = enough_made c.index-block.result.now.now some.0 p.after c.loop-i.copies p.next (c.loop-i.invariant.copied p.after p.ordered) in
+    omega (arith, e, sym (count_views c.blocks_inside.result.now) ∙ ap count c.blocks_inside.ensures)
 
 pub copy_over-requires : goal.copy_over-requires
 copy_over-requires c =
@@ -33,8 +33,8 @@ copy_over-requires c =
     let some = order_drop order c.from_ref.result.now (i - 1) c.in_ok-order.ensures (omega (arith, l)) in
     let p = from_place order some.0 i (i - 1) c.index-block.result.now.now (omega arith) l g some.1 in
     let n = c.in_ok-held.ensures.count ∙ (sym (count_views c.blocks_inside.result.now) ∙ ap count c.blocks_inside.ensures) in
-    let t = sym c.in_ok-reserve.ensures.items ∙ c.in_ok-held.ensures.taken in
-    (taken_for c.index-block.result.now.now some.0 p.after c.loop-i.copies.made.items c.in_ok-held.held.made.items c.take_back.new.self.made.items p.next (c.loop-i.invariant.copied p.after p.ordered) n t).held
+    let t = c.in_ok-held.ensures.taken in
+    (taken_for c.index-block.result.now.now some.0 p.after c.loop-i.copies c.in_ok-held.held c.take_back.new.copies p.next (c.loop-i.invariant.copied p.after p.ordered) n t).held
 
 pub loop-i-preserved : goal.loop-i-preserved
 loop-i-preserved c =
@@ -44,11 +44,11 @@ loop-i-preserved c =
     let l : i ≤ length order = omega (arith, length-map items (λ (b : Bor ASN1Block). b.now)) in
     let g = block_at items (i - 1) c.index-block.result.now (omega arith) c.index-block.ensures in
     let n = c.in_ok-held.ensures.count ∙ (sym (count_views c.blocks_inside.result.now) ∙ ap count c.blocks_inside.ensures) in
-    let t = sym c.in_ok-reserve.ensures.items ∙ c.in_ok-held.ensures.taken in
+    let t = c.in_ok-held.ensures.taken in
     record {
       within = omega arith;
       copied = λ left h.
           let p = from_place order left i (i - 1) c.index-block.result.now.now (omega arith) l g h in
-          let k = taken_for c.index-block.result.now.now left p.after c.loop-i.copies.made.items c.in_ok-held.held.made.items c.take_back.new.self.made.items p.next (c.loop-i.invariant.copied p.after p.ordered) n t in
-          ap (λ z. views (reverse z)) c.push_reserved.ensures.items ∙ k.copied c.in_ok-copy.copy c.in_ok-copy.ensures;
+          let k = taken_for c.index-block.result.now.now left p.after c.loop-i.copies c.in_ok-held.held c.take_back.new.copies p.next (c.loop-i.invariant.copied p.after p.ordered) n t in
+          ap (λ z. views (reverse z)) c.in_ok-push.ensures ∙ k.copied c.in_ok-copy.copy c.in_ok-copy.ensures;
     }

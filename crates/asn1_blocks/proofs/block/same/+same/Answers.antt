@@ -7,7 +7,7 @@ use Rattle.asn1_blocks.specs.HeadersBegun.{all_blocks_in}
 use Rattle.asn1_blocks.specs.View.{view, views}
 use Rattle.asn1_blocks.specs.Tree.{more_trees, no_trees, shape, shapes}
 use Rattle.asn1_blocks.proofs.BlockLists.{same_length, shape_at, shapes_push}
-use Rattle.asn1_blocks.proofs.SameSteps.{Same, blocks_at, fewer_blocks, lasts}
+use Rattle.asn1_blocks.proofs.SameSteps.{AreSame, blocks_at, fewer_blocks, lasts}
 use Rattle.asn1_blocks.proofs.TreeOrders.{none_in}
 use Rattle.asn1_blocks.proofs.block.same.+same.Goals as goal
 
@@ -74,11 +74,11 @@ same_each-same_all-requires t c =
     (grind (arith, common_steps, n, ap (λ z. all_blocks_in (views z)) c.from_ref.ensures.value), tt)
 
 -- a list of one block
-alone : (xs ys : List ASN1Block) (x y : ASN1Block) → xs ≡ x ∷ [] → ys ≡ y ∷ [] → Same xs ys ↔ (shape (view x) ≡ shape (view y))
+alone : (xs ys : List ASN1Block) (x y : ASN1Block) → xs ≡ x ∷ [] → ys ≡ y ∷ [] → AreSame xs ys ↔ (shape (view x) ≡ shape (view y))
 alone xs ys x y e f =
     let p = ap (λ z. shapes (views z)) e in
     let q = ap (λ z. shapes (views z)) f in
-    (λ s. let t : Same (x ∷ []) (y ∷ []) = sym p ∙ (s ∙ q) in cc, λ s. p ∙ (ap (λ z. more_trees z no_trees) s ∙ sym q))
+    (λ s. let t : AreSame (x ∷ []) (y ∷ []) = sym p ∙ (s ∙ q) in cc, λ s. p ∙ (ap (λ z. more_trees z no_trees) s ∙ sym q))
 
 pub same_each-returns-then-not-same_all : goal.same_each-returns-then-not-same_all
 same_each-returns-then-not-same_all t c =

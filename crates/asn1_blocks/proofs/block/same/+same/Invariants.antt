@@ -1,7 +1,7 @@
 use Rattle.std.proofs.Common.{◌↔◌, ◌+◌, ◌*◌, ◌≤◌, take}
 use Rattle.asn1_blocks.specs.HeadersBegun.{all_blocks_in}
 use Rattle.asn1_blocks.specs.View.{views}
-use Rattle.asn1_blocks.proofs.SameSteps.{Same}
+use Rattle.asn1_blocks.proofs.SameSteps.{AreSame}
 use Rattle.asn1_blocks.proofs.block.same.+same.Given as goal
 
 abbrev pub decreases-same_all : goal.decreases-same_all
@@ -13,7 +13,7 @@ decreases-same_each l = 2 * all_blocks_in (views l.a.now) + 1
 -- the lists are the same as the whole ones, and hold no more blocks
 abbrev pub invariant-same_all-loop-x : goal.invariant-same_all-loop-x
 invariant-same_all-loop-x l = record {
-  same : Same l.v l.w ↔ Same l.fn.a l.fn.b;
+  same : AreSame l.v l.w ↔ AreSame l.fn.a l.fn.b;
   fewer : all_blocks_in (views l.v) ≤ all_blocks_in (views l.fn.a);
 }
 
@@ -21,4 +21,4 @@ abbrev pub decreases-same_all-loop-x : goal.decreases-same_all-loop-x
 decreases-same_all-loop-x l = all_blocks_in (views l.v)
 
 abbrev pub invariant-same_each-loop-i : goal.invariant-same_each-loop-i
-invariant-same_each-loop-i l = Same (take l.i l.a) (take l.i l.b)
+invariant-same_each-loop-i l = AreSame (take l.i l.a) (take l.i l.b)

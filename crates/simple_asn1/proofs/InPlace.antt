@@ -9,9 +9,9 @@ use Rattle.asn1_blocks.specs.Inner.TreeOrder.{IsNext, inside}
 use Rattle.asn1_blocks.specs.View.{view, views}
 use Rattle.asn1_blocks.specs.Contents.{LeafContents, group_tag, leaf_contents, leaf_tag}
 use Rattle.simple_asn1.specs.Canonical.{shortest_encoding, canonical, all_canonical}
-use Rattle.asn1_blocks.specs.Grammar.{Document, EncodesAll}
+use Rattle.asn1_blocks.specs.Grammar.{IsDocument, EncodesAll}
 use Rattle.asn1_blocks.specs.Places.{joined}
-use Rattle.simple_asn1.specs.Inner.StandWalk.{BeginWithOwn}
+use Rattle.simple_asn1.specs.Inner.InPlaceWalk.{BeginWithOwn}
 use Rattle.simple_asn1.specs.Inner.WriteWalk.{identifier_of}
 use Rattle.asn1_headers.proofs.Prefixes.{encoding_alone, identifier_alone, length_alone, same_split}
 use Rattle.asn1_blocks.proofs.OneReading.{encodes_block, only}
@@ -92,7 +92,7 @@ abbrev pub Decides : List ℕ → List ℕ → Trees ℕ → List ℕ → Type 0
 Decides x rest left whole = (o : ℕ) × EncodesAll o rest left × (rest ≡ all_canonical left → x ≡ whole)
 
 -- a document decides of itself
-pub begun : (i : List ℕ) (bs : Trees ℕ) → Document i bs → Decides i i bs (all_canonical bs)
+pub begun : (i : List ℕ) (bs : Trees ℕ) → IsDocument i bs → Decides i i bs (all_canonical bs)
 begun i bs d = (0, d.blocks, λ g. g)
 
 -- past a tree that holds none

@@ -3,8 +3,8 @@ use Rattle.simple_asn1.specs.Canonical.{all_canonical}
 use Rattle.asn1_blocks.specs.HeadersBegun.{all_blocks_in}
 use Rattle.asn1_blocks.specs.Inner.TreeOrder.{ahead}
 use Rattle.asn1_blocks.specs.View.{views}
-use Rattle.simple_asn1.proofs.Stand.{Decides}
-use Rattle.simple_asn1.proofs.write.stand.stand_canonical.Given as goal
+use Rattle.simple_asn1.proofs.InPlace.{Decides}
+use Rattle.simple_asn1.proofs.write.in_place.are_canonical_in_place.Given as goal
 
 -- the blocks ahead are in the rest, which decides of all
 abbrev pub invariant-loop-walk : goal.invariant-loop-walk

@@ -1,10 +1,10 @@
-// A quick look at whether blocks stand in their canonical octets. Of each block, in the order of the
-// octets, only its own are looked at, with the length that they announce: no sizes are added up.
+// A quick look at whether blocks stand in their canonical octets. Of each block, in the order of the octets, only its
+// own are looked at, with the length that they announce: no sizes are added up.
 ghost use Rattle.std.specs.Prelude.{◌≡◌, ℕ, ◌++◌, ◌∷◌, List, length, IfErr, IfOk, IfSome, IsTrue};
 ghost use Rattle.simple_asn1.specs.Canonical.{all_canonical};
-ghost use Rattle.asn1_blocks.specs.Grammar.{Document as IsDocument};
+ghost use Rattle.asn1_blocks.specs.Grammar.{IsDocument};
 ghost use Rattle.asn1_headers.specs.Header.{shortest_length};
-ghost use Rattle.simple_asn1.specs.Inner.StandWalk.{AreOwnCanonical, BeginWithOwn};
+ghost use Rattle.simple_asn1.specs.Inner.InPlaceWalk.{AreOwnCanonical, BeginWithOwn};
 ghost use Rattle.asn1_blocks.specs.View.{view, views};
 ghost use Rattle.simple_asn1.specs.Inner.WriteWalk.{identifier_of, own_contents};
 ghost use Rattle.asn1_headers.specs.declared.error.ASN1DecodeErr.TheVariants.{OutOfMemory};
@@ -113,8 +113,7 @@ fn are_written(b: &ASN1Block, own: &[u8]) -> bool
     comparison.same
 }
 
-// Whether the contents octets that are the block's own are found to be canonical. Those of strings
-// have no other form.
+// Whether the contents octets that are the block's own are found to be canonical. Those of strings have no other form.
 #[inline(always)]
 fn are_own_canonical(b: &ASN1Block, own: &[u8]) -> bool
     ensures { IsTrue result → AreOwnCanonical (view b.now) own.now }
@@ -169,15 +168,14 @@ fn after_own<'a>(b: &ASN1Block, octets: &'a [u8]) -> Option<&'a [u8]>
     }
 }
 
-// Whether the blocks of a document are found to stand in their canonical octets: `false` says
-// nothing.
-pub(crate) fn stand_canonical(
+// Whether the blocks of a document are found to stand in their canonical octets: `false` says nothing.
+pub(crate) fn are_canonical_in_place(
     alloc: Global,
     i: &[u8],
     blocks: &[ASN1Block],
 ) -> Result<bool, ASN1DecodeErr>
     requires { IsDocument i.now (views blocks.now) }
-    ensures stand { IfOk result (λ yes. IsTrue yes → i.now ≡ all_canonical (views blocks.now)) }
+    ensures canonical { IfOk result (λ yes. IsTrue yes → i.now ≡ all_canonical (views blocks.now)) }
     ensures refused { IfErr result (λ e. e ≡ OutOfMemory) }
 {
     let mut rest = i;

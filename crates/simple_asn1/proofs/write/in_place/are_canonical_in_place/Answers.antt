@@ -3,9 +3,9 @@ use Rattle.asn1_blocks.specs.Inner.TreeOrder.{IsNext, ahead}
 use Rattle.simple_asn1.specs.Canonical.{all_canonical}
 use Rattle.asn1_blocks.specs.Grammar.{EncodesAll}
 use Rattle.asn1_blocks.specs.View.{view, views}
-use Rattle.simple_asn1.proofs.Stand.{Decides, begun, own_left, past_own}
+use Rattle.simple_asn1.proofs.InPlace.{Decides, begun, own_left, past_own}
 use Rattle.asn1_blocks.proofs.TreeOrders.{fewer_ahead}
-use Rattle.simple_asn1.proofs.write.stand.stand_canonical.Goals as goal
+use Rattle.simple_asn1.proofs.write.in_place.are_canonical_in_place.Goals as goal
 
 pub loop-walk-smaller : goal.loop-walk-smaller
 loop-walk-smaller c =
@@ -36,8 +36,8 @@ loop-walk-init c =
       decides = subst (λ z. Decides i i (views z) (all_canonical all)) (sym c.over-walk.ensures) (begun i all c.requires);
     }
 
-pub returns-clause-stand : goal.returns-clause-stand
-returns-clause-stand c said =
+pub returns-clause-canonical : goal.returns-clause-canonical
+returns-clause-canonical c said =
     let (o, left, whole) = c.loop-walk.invariant.decides in
     let e = ap views (rw c.in_default.is at c.in_ok-block.ensures) in
     whole (subst (EncodesAll o c.loop-walk.rest.now) e left ∙ sym (ap all_canonical e))

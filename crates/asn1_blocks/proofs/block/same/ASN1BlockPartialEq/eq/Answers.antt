@@ -2,7 +2,7 @@ use Rattle.std.specs.Bool.{one_answer}
 use Rattle.asn1_blocks.specs.View.{view}
 use Rattle.asn1_blocks.specs.Inner.Equality.{same_block}
 use Rattle.asn1_blocks.specs.Inner.EqualityLaws.{same_tree-decides}
-use Rattle.asn1_blocks.proofs.block.ASN1BlockPartialEq.eq.Goals as goal
+use Rattle.asn1_blocks.proofs.block.same.ASN1BlockPartialEq.eq.Goals as goal
 
 pub returns-clause-decided : goal.returns-clause-decided
 returns-clause-decided c =

@@ -4,9 +4,9 @@ use Rattle.std.proofs.lemmas.Grind.{common_steps}
 use Rattle.asn1_blocks.specs.Inner.Owed.{after, as_it_came, around_last}
 use Rattle.asn1_blocks.specs.Tree.{unknown}
 use Rattle.asn1_blocks.specs.View.{view}
-use Rattle.asn1_blocks.proofs.Orders.{pushed, group_built, around_built}
-use Rattle.asn1_blocks.proofs.owed.Entry.build.Goals as goal
-use Rattle.asn1_blocks.proofs.owed.Entry.build.Goals.{in-Ready, in-Group+in_ok-others-in-Group+in_ok-append-in-Group, in-Explicit+in-Some+in_ok-block-in-Explicit, in-Kept+in_ok-block-in-Kept}
+use Rattle.asn1_blocks.proofs.OwedBlocks.{pushed, group_built, around_built}
+use Rattle.asn1_blocks.proofs.owed.Owed.build.Goals as goal
+use Rattle.asn1_blocks.proofs.owed.Owed.build.Goals.{in-Ready, in-Group+in_ok-others-in-Group+in_ok-append-in-Group, in-Explicit+in-Some+in_ok-block-in-Explicit, in-Kept+in_ok-block-in-Kept}
 
 pub returns-in_default : goal.returns-in_default
 returns-in_default c =
@@ -28,10 +28,10 @@ returns c =
           ap (λ v. map view v ++ view block ∷ []) w.blocks-is ∙ (ap (λ z. s ++ view z ∷ []) w.block-is ∙ sym order)
       | in-Group+in_ok-others-in-Group+in_ok-append-in-Group w ↦
           let order = ap (λ z. after octets z s) w.in-Group.is in
-          let n : w.saturating_sub.result ≡ length old - w.in-Group.later = grind (arith, common_steps) in
+          let n : w.saturating_sub.result ≡ length old - w.in-Group.owes = grind (arith, common_steps) in
           let split = w.in_ok-others-in-Group.ensures in
           let own = ap view w.block-is ∙ w.group_block-block.ensures in
-          group_built octets old kept w.in_ok-others-in-Group.others w.append.new.self w.in-Group.kind w.in-Group.offset w.in-Group.later
+          group_built octets old kept w.in_ok-others-in-Group.others w.append.new.self w.in-Group.kind w.in-Group.offset w.in-Group.owes
           w.saturating_sub.result w.in-Group.first block n (w.blocks-is ∙ split.kept) split.parted w.in_ok-append-in-Group.ensures own ∙ sym order
       | in-Explicit+in-Some+in_ok-block-in-Explicit w ↦
           let order = ap (λ z. after octets z s) w.in-Explicit.is in
