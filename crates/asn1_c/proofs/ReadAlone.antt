@@ -2,7 +2,7 @@
 use Rattle.std.proofs.Common.{◌≡◌, ◌++◌, ◌<◌, ◌^◌, ℕ, List, length, ap, sym, subst, ◌∙◌, arith, length-append}
 use Rattle.std.proofs.lemmas.List.{length-drop}
 use Rattle.simple_asn1.specs.Fault.{DecodeFault}
-use Rattle.simple_asn1.specs.Grammar.{Document, FirstFault}
+use Rattle.simple_asn1.specs.Grammar.{IsDocument, FirstFault}
 use Rattle.simple_asn1.specs.Laws.Header.{HeaderLaws}
 use Rattle.simple_asn1.specs.Laws.OneReading.{OneReading}
 use Rattle.simple_asn1.specs.Places.{EncodingAt, HasNoEncodingAt}
@@ -14,14 +14,14 @@ one_encoding H octets offset x y (r, e, (c, j, m, v, g, p)) (s, f, (d, k, n, w, 
     (H.one_encoding x y r s c d j k m n v w g h p q (sym e ∙ f)).0
 
 module _ (H : HeaderLaws) (L : OneReading) (octets : List ℕ) (offset : ℕ) where
-  pub one_reading : (x : List ℕ) (xs bs : Trees ℕ) → EncodingAt octets offset x → Document x xs → IsReadAlone octets offset bs → bs ≡ xs
+  pub one_reading : (x : List ℕ) (xs bs : Trees ℕ) → EncodingAt octets offset x → IsDocument x xs → IsReadAlone octets offset bs → bs ≡ xs
   one_reading x xs bs at d (y, there, e) =
-      L.one_document x bs xs (subst (λ z. Document z bs) (sym (one_encoding H octets offset x y at there)) e) d
+      L.one_document x bs xs (subst (λ z. IsDocument z bs) (sym (one_encoding H octets offset x y at there)) e) d
 
   pub not_at_fault :
       (x : List ℕ) (fault : DecodeFault) (bs : Trees ℕ) → length x < 2 ^ 64 → EncodingAt octets offset x → FirstFault x fault → IsReadAlone octets offset bs → ⊥
   not_at_fault x fault bs small at f (y, there, d) =
-      L.not_both x bs fault small (subst (λ z. Document z bs) (sym (one_encoding H octets offset x y at there)) d) f
+      L.not_both x bs fault small (subst (λ z. IsDocument z bs) (sym (one_encoding H octets offset x y at there)) d) f
 
   pub stands_somewhere : (bs : Trees ℕ) → HasNoEncodingAt octets offset → IsReadAlone octets offset bs → ⊥
   stands_somewhere bs none (x, at, d) = none x at

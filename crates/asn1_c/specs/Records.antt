@@ -1,7 +1,7 @@
 -- What a record says of a block.
 use Rattle.std.specs.Prelude.{◌≡◌, ℕ, suc, ◌+◌, ◌-◌, ◌<◌, ◌≤◌, ◌^◌, ◌++◌, Bool, List, [], ◌∷◌, Option, Some, None, get_or, length}
 use Rattle.simple_asn1.specs.BlockParts.{all_in_order, in_order, tree_items}
-use Rattle.simple_asn1.specs.Grammar.{Document}
+use Rattle.simple_asn1.specs.Grammar.{IsDocument}
 use Rattle.simple_asn1.specs.Header.{Encoding, class_number, constructed_bit}
 use Rattle.simple_asn1.specs.Places.{HasOctets}
 use Rattle.simple_asn1.specs.Tree.{Tree, Trees, explicit, group, leaf, more_trees, no_trees, null, unknown}
@@ -41,7 +41,7 @@ pub record HasHeader (octets : List ℕ) (h : Header) : Type 0 where
 
 -- the tree stands in a document of these octets
 abbrev pub Stands : List ℕ → Tree ℕ → Type 0
-Stands document b = (bs : Trees ℕ) × (octets : List ℕ) × Document document bs × HasOctets document bs b octets
+Stands document b = (bs : Trees ℕ) × (octets : List ℕ) × IsDocument document bs × HasOctets document bs b octets
 
 abbrev pub header_of : Block → Header
 header_of r = record { tag = r.tag; tag_class = r.tag_class; constructed = r.constructed; size = r.header; contents = r.contents }
@@ -50,7 +50,7 @@ header_of r = record { tag = r.tag; tag_class = r.tag_class; constructed = r.con
 pub record IsRecord (whole : List ℕ) (b : Tree ℕ) (r : Block) : Type 0 where
   pub bs : Trees ℕ
   pub octets : List ℕ
-  pub document : Document whole bs
+  pub document : IsDocument whole bs
   pub stands : HasOctets whole bs b octets
   pub header : HasHeader octets (header_of r)
   pub offset : r.offset ≡ tree_offset b

@@ -6,7 +6,7 @@ use Rattle.asn1_leaves.specs.Contents.Moment.{Moment}
 use Rattle.asn1_leaves.specs.StringKind.{StringKind}
 use Rattle.simple_asn1.specs.Fault.{DecodeFault}
 use Rattle.simple_asn1.specs.FittingNumbers.{HasNotAll}
-use Rattle.simple_asn1.specs.Grammar.{Document, FirstFault}
+use Rattle.simple_asn1.specs.Grammar.{IsDocument, FirstFault}
 use Rattle.simple_asn1.specs.Places.{EncodingAt, HasNoEncodingAt}
 use Rattle.simple_asn1.specs.Tree.{
   Leaf,
@@ -28,7 +28,7 @@ use Rattle.asn1_c.specs.declared.record.Outcome.{Outcome}
 
 -- at the offset stands an encoding, which read alone has these trees
 abbrev pub IsReadAlone : List ℕ → ℕ → Trees ℕ → Type 0
-IsReadAlone octets offset bs = (x : List ℕ) × EncodingAt octets offset x × Document x bs
+IsReadAlone octets offset bs = (x : List ℕ) × EncodingAt octets offset x × IsDocument x bs
 
 -- read alone, the encoding at the offset is this leaf
 abbrev pub IsLeafAt : List ℕ → ℕ → Leaf → Type 0

@@ -4,7 +4,7 @@ use Rattle.std.proofs.lemmas.List.{map-append, drop-drop}
 use Rattle.std.specs.Fmt.{decimal}
 use Rattle.std.specs.Prelude.{Option, Some, None, Result, Ok, Err, IfOk, IfSome, OnOk}
 use Rattle.std.specs.declared.alloc.AllocError.{AllocError}
-use Rattle.simple_asn1.specs.Grammar.{Document}
+use Rattle.simple_asn1.specs.Grammar.{IsDocument}
 use Rattle.simple_asn1.specs.Tree.{Trees}
 use Rattle.der_dump.specs.Forms.{form_is}
 use Rattle.der_dump.specs.declared.forms.Form.TheVariants.{Pem, Hex, Der}
@@ -128,7 +128,7 @@ progress_none true base octets all left a e = ([], adds_nothing (PlacedInside ba
 progress_none false base octets all left a e = ([], adds_nothing (PlacedInside base octets) a, sym e)
 
 one_line :
-    (inside : Bool) (base o : ℕ) (octets : List ℕ) (bs : Trees ℕ) (done after b c : List ℕ) → Document octets bs →
+    (inside : Bool) (base o : ℕ) (octets : List ℕ) (bs : Trees ℕ) (done after b c : List ℕ) → IsDocument octets bs →
     all_offsets bs ≡ done ++ o ∷ after → AddsLine (IsLineOf inside (base + o)) b c →
     Adds (PlacedInside base octets) (shown_at inside base (o ∷ [])) b c
 one_line true base o octets bs done after b c d e line =
@@ -148,7 +148,7 @@ one_line true base o octets bs done after b c d e line =
 one_line false base o octets bs done after b c d e line = adds_block (PlacedInside base octets) (base + o) b c line
 
 pub progress_one :
-    (inside : Bool) (base o : ℕ) (octets : List ℕ) (bs : Trees ℕ) (left after a b c : List ℕ) → Document octets bs →
+    (inside : Bool) (base o : ℕ) (octets : List ℕ) (bs : Trees ℕ) (left after a b c : List ℕ) → IsDocument octets bs →
     Progress inside base octets (all_offsets bs) left a b → left ≡ o ∷ after →
     AddsLine (IsLineOf inside (base + o)) b c → Progress inside base octets (all_offsets bs) after a c
 progress_one inside base o octets bs left after a b c d (done, adds, e) f line =

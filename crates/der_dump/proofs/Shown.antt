@@ -3,7 +3,7 @@ use Rattle.std.proofs.Common.{◌≡◌, ◌⊎◌, inl, inr, ℕ, zero, suc, �
 use Rattle.std.proofs.lemmas.List.{drop-drop, drop_at, drop_min, length-drop, length-take-le, nil_from_length, take-append-drop}
 use Rattle.std.specs.Prelude.{Result, Ok, Err, IfOk}
 use Rattle.std.specs.declared.alloc.AllocError.{AllocError}
-use Rattle.simple_asn1.specs.Grammar.{Document}
+use Rattle.simple_asn1.specs.Grammar.{IsDocument}
 use Rattle.simple_asn1.specs.Tree.{Tree, Trees, leaf, group, explicit, unknown, no_trees, more_trees}
 use Rattle.der_dump.specs.Dump.{Adds, AddsLine, AreShown, HasNoHeader, IsBlockLine, IsHeader, StandAt, StandsInside, all_offsets, offsets_in, document_lines, header_line, no_more}
 use Rattle.der_dump.specs.Steps.{GoesTo, PlacedInside, PutsStep, Shows, ShowsDocument, ShowsHeader, shown_at}
@@ -91,7 +91,7 @@ first_offset (explicit c o n b) = (o, offsets_in b, refl)
 first_offset (unknown c k o n v) = (o, [], refl)
 
 -- a document has a block, and so a line
-document_has_some : (from : ℕ) (octets : List ℕ) (bs : Trees ℕ) → Document octets bs → map (λ o. from + o) (all_offsets bs) ≡ [] → ⊥
+document_has_some : (from : ℕ) (octets : List ℕ) (bs : Trees ℕ) → IsDocument octets bs → map (λ o. from + o) (all_offsets bs) ≡ [] → ⊥
 document_has_some from octets no_trees d e =
     let none : octets ≡ [] = d.blocks in
     let few : length octets ≡ 0 = ap length none in
@@ -216,7 +216,7 @@ put_header step left from next size a b n (fits, header) shows line =
 
 -- the lines of a document
 pub put_document :
-    (left part : List ℕ) (bs : Trees ℕ) (inside : Bool) (from base next : ℕ) (a b : List ℕ) → StandAt left 0 part → Document part bs →
+    (left part : List ℕ) (bs : Trees ℕ) (inside : Bool) (from base next : ℕ) (a b : List ℕ) → StandAt left 0 part → IsDocument part bs →
     next ≡ from + length part → inside ≡ false → base ≡ from →
     Adds (PlacedInside base part) (shown_at inside base (all_offsets bs)) a b → PutsStep from left (Past next) a b
 put_document left part bs true from base next a b at d n out e adds = absurd (cc out)

@@ -1,6 +1,6 @@
 -- What is put step by step. Private contracts alone name these.
 use Rattle.std.specs.Prelude.{◌≡◌, ◌⊎◌, ℕ, ◌+◌, ◌≤◌, Bool, true, false, List, [], ◌∷◌, ◌++◌, length, map, take}
-use Rattle.simple_asn1.specs.Grammar.{Document}
+use Rattle.simple_asn1.specs.Grammar.{IsDocument}
 use Rattle.simple_asn1.specs.Tree.{Trees}
 use Rattle.der_dump.specs.Dump.{Adds, HasNoHeader, IsBlockLine, IsHeader, IsInsideLine, StandAt, StandsInside, all_offsets}
 use Rattle.simple_asn1.specs.View.{document_trees}
@@ -38,12 +38,12 @@ PlacedInside base octets offset = (place : ℕ) × StandsInside octets place × 
 abbrev pub IsHeldIn : List ℕ → ℕ → Held → Type 0
 IsHeldIn octets base held =
     (before : ℕ) × StandAt octets before held.octets.now × (held.place.base ≡ base + before)
-    × Document held.octets.now (document_trees held.document) × (held.place.is_inside ≡ true)
+    × IsDocument held.octets.now (document_trees held.document) × (held.place.is_inside ≡ true)
 
 -- the lines of a document at the front, and where it ends
 abbrev pub ShowsDocument : ℕ → List ℕ → List ℕ → ℕ → Type 0
 ShowsDocument from octets offsets next =
-    (part rest : List ℕ) × (bs : Trees ℕ) × (octets ≡ part ++ rest) × Document part bs
+    (part rest : List ℕ) × (bs : Trees ℕ) × (octets ≡ part ++ rest) × IsDocument part bs
     × (offsets ≡ map (λ o. from + o) (all_offsets bs)) × (next ≡ from + length part)
 
 -- the line of a header at the front, and where it ends

@@ -2,7 +2,7 @@
 ghost use Rattle.std.specs.Prelude.{◌≡◌, ◌+◌, ◌<◌, IfOk, IfSome, OnOk};
 ghost use Rattle.der_dump.specs.Dump.{Adds, AddsLine, StandAt, all_offsets};
 ghost use Rattle.der_dump.specs.Steps.{IsHeldIn, IsLineOf, PlacedInside, shown_at};
-ghost use Rattle.simple_asn1.specs.Grammar.{Document as IsDocument};
+ghost use Rattle.simple_asn1.specs.Grammar.{IsDocument};
 ghost use Rattle.simple_asn1.specs.View.{document_trees, tree_offset, view, views};
 
 use crate::header::{Header, read_header};

@@ -1,5 +1,5 @@
 use Rattle.std.proofs.Common.{◌≡◌, List, length, sym, subst}
-use Rattle.simple_asn1.specs.Grammar.{Document}
+use Rattle.simple_asn1.specs.Grammar.{IsDocument}
 use Rattle.simple_asn1.specs.View.{views}
 use Rattle.asn1_blocks.specs.declared.block.ASN1Block.{ASN1Block}
 use Rattle.asn1_c.specs.Answers.{IsPut}
@@ -10,7 +10,7 @@ use Rattle.asn1_c.proofs.simple_asn1_read.Goals as goal
 pub returns-in-Ok-clause-answer : goal.returns-in-Ok-clause-answer
 returns-in-Ok-clause-answer c =
     let octets = c.args.octets.now in
-    let d = subst (λ (z : List ASN1Block). Document octets (views z)) (sym c.deref.ensures.value) c.in-Ok.ensures.document in
+    let d = subst (λ (z : List ASN1Block). IsDocument octets (views z)) (sym c.deref.ensures.value) c.in-Ok.ensures.document in
     let put = subst (λ z. IsPut c.flatten.result z c.put_outcome.result) c.flatten.ensures.kept c.put_outcome.ensures in
     read_answer octets (views c.deref.result.now) c.args.blocks.now c.flatten.new.records c.put_outcome.result c.flatten.result d c.flatten.ensures.count
     c.flatten.ensures.put c.flatten.ensures.unwritten put
