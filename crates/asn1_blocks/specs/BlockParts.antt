@@ -6,15 +6,21 @@ use Rattle.asn1_blocks.specs.Tree.{
   Leaf,
   Tree,
   Trees,
+  bit_string,
+  boolean,
   explicit,
+  generalized_time,
   group,
   integer,
   leaf,
   more_trees,
   no_trees,
+  null,
+  object_identifier,
   octet_string,
   text,
   unknown,
+  utc_time,
 }
 
 -- the tag number: that of its kind, or its own
