@@ -1,10 +1,10 @@
-use Rattle.std.proofs.Common.{◌≡◌, ◌∷◌, true, arith}
+use Rattle.std.proofs.Common.{◌≡◌, ◌∷◌, arith}
 use Rattle.std.proofs.lemmas.Grind.{common_steps}
 use Rattle.simple_asn1.specs.View.{tree_offset, view, views}
 use Rattle.der_dump.specs.Dump.{all_offsets}
 use Rattle.der_dump.specs.Steps.{IsHeldIn}
 use Rattle.der_dump.specs.Walk.{ahead}
-use Rattle.der_dump.proofs.Dumps.{progress_all, progress_held, progress_none, progress_one}
+use Rattle.der_dump.proofs.Dumps.{progress_held, progress_none, progress_one}
 use Rattle.der_dump.proofs.tree.+push_blocks.Goals as goal
 
 pub loop-walk-init : goal.loop-walk-init
