@@ -1,5 +1,5 @@
 -- Lines are put after lines.
-use Rattle.std.proofs.Common.{◌≡◌, ℕ, zero, suc, ◌+◌, List, [], ◌∷◌, ◌++◌, codes, drop, length, replicate, Bool, true, false, refl, sym, ap, ◌∙◌, subst, map, append_assoc, append-nil, arith}
+use Rattle.std.proofs.Common.{◌≡◌, ℕ, zero, suc, ◌+◌, List, [], ◌∷◌, ◌++◌, codes, drop, replicate, Bool, true, false, refl, sym, ap, ◌∙◌, subst, map, append_assoc, append-nil, arith}
 use Rattle.std.proofs.lemmas.List.{map-append, drop-drop}
 use Rattle.std.specs.Fmt.{decimal}
 use Rattle.std.specs.Prelude.{Option, Some, None, Result, Ok, Err, IfOk, IfSome, OnOk}
@@ -7,11 +7,11 @@ use Rattle.std.specs.declared.alloc.AllocError.{AllocError}
 use Rattle.simple_asn1.specs.Grammar.{IsDocument}
 use Rattle.simple_asn1.specs.Tree.{Trees}
 use Rattle.der_dump.specs.Forms.{form_is}
-use Rattle.der_dump.specs.declared.forms.Form.TheVariants.{Pem, Hex, Der}
+use Rattle.der_dump.specs.declared.forms.Form.TheVariants.{Pem, Hex}
 use Rattle.der_dump.specs.declared.document.Verdict.{Verdict}
 use Rattle.der_dump.specs.declared.document.Verdict.TheVariants.{AllRead, Refused}
 use Rattle.der_dump.specs.Dump.{Adds, AddsAnswer, AddsDumpOf, AddsLine, AddsObjects, IsBlockLine, IsDump, IsFaultLine, IsInsideLine, IsNote, IsOneLine}
-use Rattle.der_dump.specs.Dump.{StandAt, StandsInside, all_offsets, block_line, both_read, inside_line, no_lines, of_cut_objects, of_hex, of_objects, of_octets, spelled}
+use Rattle.der_dump.specs.Dump.{StandAt, StandsInside, all_offsets, block_line, both_read, inside_line, no_lines, of_cut_objects, of_hex, of_objects, spelled}
 use Rattle.der_dump.specs.Steps.{IsLineOf, PlacedInside, shown_at}
 
 -- a dump after a dump

@@ -11,6 +11,7 @@ use Rattle.der_dump.specs.declared.document.Verdict.TheVariants.{AllRead, Refuse
 use Rattle.simple_asn1.specs.Fault.{DecodeFault}
 use Rattle.simple_asn1.specs.FaultPlace.{FirstFaultAt}
 use Rattle.simple_asn1.specs.Grammar.{IsDocument}
+use Rattle.simple_asn1.specs.Header.{IsLength, IsSomeIdentifier}
 use Rattle.simple_asn1.specs.Tree.{Tree, Trees, leaf, group, explicit, unknown, no_trees, more_trees}
 
 abbrev mutual
@@ -68,7 +69,7 @@ pub record StandsInside (octets : List ℕ) (offset : ℕ) : Type 0 where
   pub earlier : List ℕ
   pub later : List ℕ
   pub stand : StandAt octets before part
-  pub document : Document part blocks
+  pub document : IsDocument part blocks
   pub one : all_offsets blocks ≡ earlier ++ place ∷ later
   pub is : offset ≡ before + place
 
@@ -115,7 +116,7 @@ pub data AreShown : ℕ → List ℕ → List ℕ → Type 0 where
       AreShown (from + length header) rest later → AreShown from octets offsets
   document_lines :
       {from : ℕ} {octets offsets : List ℕ} (part rest later : List ℕ) (bs : Trees ℕ) →
-      octets ≡ part ++ rest → Document part bs → offsets ≡ map (λ o. from + o) (all_offsets bs) ++ later →
+      octets ≡ part ++ rest → IsDocument part bs → offsets ≡ map (λ o. from + o) (all_offsets bs) ++ later →
       AreShown (from + length part) rest later → AreShown from octets offsets
 
 -- what is put after the text of octets: a document's lines, one for each block in tree order, and those of blocks inside
@@ -123,23 +124,19 @@ pub data AreShown : ℕ → List ℕ → List ℕ → Type 0 where
 -- at the offset of the innermost block at fault
 abbrev pub AddsDumpOf : List ℕ → Verdict → List ℕ → List ℕ → Type 0
 AddsDumpOf octets AllRead before after =
-    (bs : Trees ℕ) × IsDocument octets bs × Adds (all_offsets bs) before after
+    (bs : Trees ℕ) × IsDocument octets bs × Adds (StandsInside octets) (all_offsets bs) before after
 AddsDumpOf octets Refused before after =
     (fault : DecodeFault) × (offset : ℕ) × FirstFaultAt octets fault offset
     × (offsets shown : List ℕ) × AreShown 0 octets offsets × (offsets ≡ [] → HasNoHeader octets)
     × Adds (StandsInside octets) offsets before shown × AddsLine (IsFaultLine offset) shown after
 
--- the offsets of the blocks of documents one after another
-abbrev pub AreOffsetsOf : List (List ℕ) → List ℕ → Type 0
-AreOffsetsOf [] offsets = offsets ≡ []
-AreOffsetsOf (octets ∷ objects) offsets =
-    (bs : Trees ℕ) × (later : List ℕ) × IsDocument octets bs × (offsets ≡ all_offsets bs ++ later)
-    × AreOffsetsOf objects later
-
--- what is put after the text of objects: where all were read, the lines of documents, one for each of their blocks
-abbrev pub AddsDumpsOf : List (List ℕ) → Verdict → List ℕ → List ℕ → Type 0
-AddsDumpsOf objects AllRead before after = (offsets : List ℕ) × AreOffsetsOf objects offsets × Adds offsets before after
-AddsDumpsOf objects Refused before after = (offsets : List ℕ) × Adds offsets before after
+-- what is put after the text of an object: a line `=`, and the dump of its octets, or a line `!` where there are none
+abbrev pub AddsObject : Option (List ℕ) → Verdict → List ℕ → List ℕ → Type 0
+AddsObject (Some octets) verdict before after =
+    (named : List ℕ) × AddsLine (IsNote 61) before named × AddsDumpOf octets verdict named after
+AddsObject None verdict before after =
+    (named : List ℕ) × AddsLine (IsNote 61) before named
+    × AddsLine (IsNote 33) named after × (verdict ≡ Refused)
 
 -- where one and then another were read, all was
 abbrev pub both_read : Verdict → Verdict → Verdict

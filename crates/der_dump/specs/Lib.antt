@@ -1,2 +1,4 @@
 pub mod Dump
+pub mod Steps
+pub mod Walk
 pub mod Forms

@@ -10,6 +10,8 @@ mod lines;
 mod names;
 mod refused;
 mod scalars;
+#[cfg(test)]
+mod tests;
 mod tool;
 mod tree;
 mod values;
