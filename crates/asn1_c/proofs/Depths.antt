@@ -1,5 +1,27 @@
 -- How many trees each tree stands in, by how many are ahead at each level that is open.
-use Rattle.std.proofs.Common.{◌≡◌, ℕ, zero, suc, ◌+◌, ◌-◌, ◌<◌, ◌++◌, List, [], ◌∷◌, length, refl, sym, ap, subst, ◌∙◌, arith, length-append, append_assoc, append-nil}
+use Rattle.std.proofs.Common.{
+  ◌≡◌,
+  ℕ,
+  zero,
+  suc,
+  ◌+◌,
+  ◌-◌,
+  ◌<◌,
+  ◌++◌,
+  List,
+  [],
+  ◌∷◌,
+  length,
+  refl,
+  sym,
+  ap,
+  subst,
+  ◌∙◌,
+  arith,
+  length-append,
+  append_assoc,
+  append-nil,
+}
 use Rattle.simple_asn1.specs.BlockParts.{all_in_order, in_order}
 use Rattle.simple_asn1.specs.Tree.{Tree, Trees, more_trees, no_trees}
 use Rattle.asn1_c.specs.Levels.{IsTaken, IsWalked, ahead, counts_of, depths_ahead, from_level, from_top}
@@ -51,7 +73,8 @@ module _ (levels : List (Trees ℕ)) (top : Trees ℕ) (rest : List ℕ) (count 
           absurd (omega (arith, some, none))
 
   -- one is taken of a level that is not
-  pub left_taken : (left after : List ℕ) → left ≡ rest ++ count ∷ [] → 0 < count → after ≡ rest ++ (count - 1) ∷ [] → IsLeft levels top left → IsTaken levels top after
+  pub left_taken : (left after : List ℕ) → left ≡ rest ++ count ∷ [] → 0 < count →
+      after ≡ rest ++ (count - 1) ∷ [] → IsLeft levels top left → IsTaken levels top after
   left_taken left after e some f s = go s.inner s.counts s.same_trees s.same_depths
     where
       go :
@@ -82,7 +105,8 @@ pub left_first : (levels : List (Trees ℕ)) (top : Trees ℕ) (left : List ℕ)
 left_first levels top left e = record { inner = levels; counts = e; same_trees = refl; same_depths = refl }
 
 -- the block that is come to is the first of those ahead, and what it holds is a level
-module _ (trees : List (Tree ℕ)) (b : Tree ℕ) (rest : List (Tree ℕ)) (bs : Trees ℕ) (known taken after : List ℕ) (is : trees ≡ b ∷ rest) (more : after ≡ taken ++ items_in b ∷ []) where
+module _ (trees : List (Tree ℕ)) (b : Tree ℕ) (rest : List (Tree ℕ)) (bs : Trees ℕ) (known taken after : List ℕ)
+    (is : trees ≡ b ∷ rest) (more : after ≡ taken ++ items_in b ∷ []) where
   from_inner :
       (levels : List (Trees ℕ)) (top : Trees ℕ) (x : Tree ℕ) (xs : Trees ℕ) (outer : List (Trees ℕ)) → trees ≡ ahead levels top →
       known ++ depths_ahead levels top ≡ all_depths 0 bs → taken ≡ counts_of (xs ∷ outer) →
@@ -148,7 +172,8 @@ walked_all bs known left w = sym (append-nil known) ∙ ap (λ z. known ++ z) (s
     none [] (more_trees b bs) e = let f : [] ≡ b ∷ (all_in_order (held b) ++ all_in_order bs) = e ∙ ap (λ z. z ++ all_in_order bs) (head_first b) in absurd (cc)
     none (no_trees ∷ outer) top e = none outer top e
     none (more_trees b bs ∷ outer) top e =
-        let f : [] ≡ b ∷ ((all_in_order (held b) ++ all_in_order bs) ++ ahead outer top) = e ∙ ap (λ z. (z ++ all_in_order bs) ++ ahead outer top) (head_first b) in
+        let f : [] ≡ b ∷ ((all_in_order (held b) ++ all_in_order bs) ++ ahead outer top) =
+        e ∙ ap (λ z. (z ++ all_in_order bs) ++ ahead outer top) (head_first b) in
         absurd (cc)
 
 pub walked_first : (bs : Trees ℕ) → IsWalked (all_in_order bs) bs [] []

@@ -22,7 +22,8 @@ module _ (octets : List ℕ) (offset : ℕ) where
   nothing_there B status s f (inl m) e = inl (e ∙ m)
   nothing_there B status s f (inr (none, r)) e = subst (λ z. IsMissing B octets offset z) (sym e) (inr ((λ b. none (f b)), r))
 
-module _ (octets : List ℕ) (offset : ℕ) (xs : Trees ℕ) (found : IsReadAlone octets offset xs) (only : (bs : Trees ℕ) → IsReadAlone octets offset bs → bs ≡ xs) where
+module _ (octets : List ℕ) (offset : ℕ) (xs : Trees ℕ) (found : IsReadAlone octets offset xs)
+    (only : (bs : Trees ℕ) → IsReadAlone octets offset bs → bs ≡ xs) where
   -- what is read is something else
   pub another_there : (B : Type 0) (s : ℕ) → (B → ⊥) → s ≡ no_such_value → IsMissing B octets offset s
   another_there B s none e = inr (none, is_another e xs found)

@@ -1,5 +1,35 @@
 -- The index after a tree and all that it holds, found by the indexes after those that it holds.
-use Rattle.std.proofs.Common.{◌≡◌, ◌≢◌, ℕ, zero, suc, ◌+◌, ◌-◌, ◌<◌, ◌≤◌, ◌++◌, List, [], ◌∷◌, drop, drop-drop, get_or, length, length-drop, set, refl, sym, ap, subst, ◌∙◌, inl, inr, arith, length-append, append_assoc}
+use Rattle.std.proofs.Common.{
+  ◌≡◌,
+  ◌≢◌,
+  ℕ,
+  zero,
+  suc,
+  ◌+◌,
+  ◌-◌,
+  ◌<◌,
+  ◌≤◌,
+  ◌++◌,
+  List,
+  [],
+  ◌∷◌,
+  drop,
+  drop-drop,
+  get_or,
+  length,
+  length-drop,
+  set,
+  refl,
+  sym,
+  ap,
+  subst,
+  ◌∙◌,
+  inl,
+  inr,
+  arith,
+  length-append,
+  append_assoc,
+}
 use Rattle.std.proofs.Math.Seq.{drop-cons}
 use Rattle.std.proofs.lemmas.Bool.{cases_lt}
 use Rattle.std.proofs.lemmas.List.{drop_at, get_or-set_same, get_or-set_other}
@@ -9,7 +39,8 @@ use Rattle.asn1_c.specs.Records.{IsInOrder, count_of, items_in, no_tree}
 use Rattle.asn1_c.proofs.Orders.{begins_among, head_first, held, held_count}
 
 -- what stands at a place, and after it
-pub after_head : (trees : List (Tree ℕ)) (k : ℕ) (b : Tree ℕ) (xs : List (Tree ℕ)) → k < length trees → drop k trees ≡ b ∷ xs → (get_or trees k no_tree ≡ b) × (drop (k + 1) trees ≡ xs)
+pub after_head : (trees : List (Tree ℕ)) (k : ℕ) (b : Tree ℕ) (xs : List (Tree ℕ)) →
+    k < length trees → drop k trees ≡ b ∷ xs → (get_or trees k no_tree ≡ b) × (drop (k + 1) trees ≡ xs)
 after_head trees k b xs h e =
     let f : drop k trees ≡ get_or trees k no_tree ∷ drop (suc k) trees = drop-cons trees k no_tree h in
     let at : k + 1 ≡ suc k = omega arith in
@@ -71,7 +102,8 @@ module _ (trees : List (Tree ℕ)) (place : ℕ) where
   pub reached_within : (index left : ℕ) → 0 < left → IsReached trees place index left → index < length trees
   reached_within index left some r = (step index left r.inside r.rest some r.count r.there r.total).0
 
-  pub reached_next : (index left : ℕ) → 0 < left → IsReached trees place index left → IsReached trees place (index + length (in_order (get_or trees index no_tree))) (left - 1)
+  pub reached_next : (index left : ℕ) → 0 < left → IsReached trees place index left →
+      IsReached trees place (index + length (in_order (get_or trees index no_tree))) (left - 1)
   reached_next index left some r = (step index left r.inside r.rest some r.count r.there r.total).1
 
   last : (index : ℕ) (inside : Trees ℕ) → count_of inside ≡ 0 → index + length (all_in_order inside) ≡ place + length (in_order (get_or trees place no_tree)) →

@@ -1,5 +1,34 @@
 -- Trees in order: each is followed by those that it holds.
-use Rattle.std.proofs.Common.{◌≡◌, ◌≢◌, ℕ, zero, suc, ◌+◌, ◌-◌, ◌<◌, ◌≤◌, ◌++◌, List, [], ◌∷◌, drop, get_or, length, map, refl, sym, ap, ◌∙◌, inl, inr, arith, length-append, append_assoc, append-nil, Bor}
+use Rattle.std.proofs.Common.{
+  ◌≡◌,
+  ◌≢◌,
+  ℕ,
+  zero,
+  suc,
+  ◌+◌,
+  ◌-◌,
+  ◌<◌,
+  ◌≤◌,
+  ◌++◌,
+  List,
+  [],
+  ◌∷◌,
+  drop,
+  get_or,
+  length,
+  map,
+  refl,
+  sym,
+  ap,
+  ◌∙◌,
+  inl,
+  inr,
+  arith,
+  length-append,
+  append_assoc,
+  append-nil,
+  Bor,
+}
 use Rattle.std.proofs.lemmas.Bool.{cases_lt}
 use Rattle.std.proofs.lemmas.List.{drop-append-le, get_or_append_left, get_or-append_right, get_or-map}
 use Rattle.std.proofs.Math.Seq.{drop-append-add}
@@ -47,7 +76,8 @@ mutual
   begins_in (unknown c k o n v) (suc j) h = absurd (omega (arith, h))
 
   pub begins_among :
-      (bs : Trees ℕ) (k : ℕ) → k < length (all_in_order bs) → (rest : List (Tree ℕ)) × (drop k (all_in_order bs) ≡ in_order (get_or (all_in_order bs) k no_tree) ++ rest)
+      (bs : Trees ℕ) (k : ℕ) → k < length (all_in_order bs) →
+      (rest : List (Tree ℕ)) × (drop k (all_in_order bs) ≡ in_order (get_or (all_in_order bs) k no_tree) ++ rest)
   begins_among no_trees k h = absurd (omega (arith, h))
   begins_among (more_trees b bs) k h = elim (cases_lt k (length (in_order b))) [
     | inl lt ↦

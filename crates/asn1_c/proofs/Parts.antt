@@ -1,9 +1,41 @@
 -- Trees of blocks, by what was found of them.
 use Rattle.std.proofs.Common.{◌≡◌, ◌≢◌, ℕ, ℤ, ◌<◌, List, [], ◌∷◌, Some, length, get_or, sym, ap, arith}
 use Rattle.simple_asn1.specs.BlockParts.{tree_integer, tree_text}
-use Rattle.simple_asn1.specs.Fault.{DecodeFault, bad_boolean_length, empty_buffer, incomplete, invalid_bit_string_length, invalid_class, invalid_date_value, length_too_large, not_canonical, out_of_memory, overflow, printable_string_failure, utf8_failure}
+use Rattle.simple_asn1.specs.Fault.{
+  DecodeFault,
+  bad_boolean_length,
+  empty_buffer,
+  incomplete,
+  invalid_bit_string_length,
+  invalid_class,
+  invalid_date_value,
+  length_too_large,
+  not_canonical,
+  out_of_memory,
+  overflow,
+  printable_string_failure,
+  utf8_failure,
+}
 use Rattle.asn1_leaves.specs.StringKind.{StringKind}
-use Rattle.simple_asn1.specs.Tree.{Tree, Trees, bit_string, boolean, explicit, generalized_time, group, integer, leaf, more_trees, no_trees, null, object_identifier, octet_string, text, unknown, utc_time}
+use Rattle.simple_asn1.specs.Tree.{
+  Tree,
+  Trees,
+  bit_string,
+  boolean,
+  explicit,
+  generalized_time,
+  group,
+  integer,
+  leaf,
+  more_trees,
+  no_trees,
+  null,
+  object_identifier,
+  octet_string,
+  text,
+  unknown,
+  utc_time,
+}
 use Rattle.simple_asn1.specs.View.{tree_offset, view, views}
 use Rattle.asn1_blocks.specs.declared.block.ASN1Block.{ASN1Block}
 use Rattle.asn1_c.specs.Status.{status_of}

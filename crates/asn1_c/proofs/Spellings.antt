@@ -1,5 +1,33 @@
 -- One record more is spelled.
-use Rattle.std.proofs.Common.{◌≡◌, ℕ, zero, suc, ◌+◌, ◌-◌, ◌<◌, ◌≤◌, true, List, [], ◌∷◌, ◌++◌, drop, get_or, length, take, refl, sym, ap, ◌∙◌, arith, length-append, append_assoc, Result, Ok, Err}
+use Rattle.std.proofs.Common.{
+  ◌≡◌,
+  ℕ,
+  zero,
+  suc,
+  ◌+◌,
+  ◌-◌,
+  ◌<◌,
+  ◌≤◌,
+  true,
+  List,
+  [],
+  ◌∷◌,
+  ◌++◌,
+  drop,
+  get_or,
+  length,
+  take,
+  refl,
+  sym,
+  ap,
+  ◌∙◌,
+  arith,
+  length-append,
+  append_assoc,
+  Result,
+  Ok,
+  Err,
+}
 use Rattle.std.specs.Prelude.{IfErr, nat_lt, reverse}
 use Rattle.std.specs.List.{concat}
 use Rattle.std.proofs.Math.Seq.{get_or-append_seam}
@@ -36,7 +64,8 @@ start_of_last zero (x ∷ xs) h =
 start_of_last (suc k) (x ∷ xs) h =
     let n : length (x ∷ xs) - suc (suc k) ≡ length xs - suc k = omega arith in
     let l : length xs - suc k < length (starts_of xs) = omega (arith, h, starts_count xs) in
-    ap (λ z. get_or (starts_of (x ∷ xs)) z 0) n ∙ get_or_append_left (starts_of xs) (length (concat xs) ∷ []) 0 (length xs - suc k) l ∙ start_of_last k xs (omega (arith, h))
+    ap (λ z. get_or (starts_of (x ∷ xs)) z 0) n ∙ get_or_append_left (starts_of xs) (length (concat xs) ∷ []) 0 (length xs - suc k) l
+    ∙ start_of_last k xs (omega (arith, h))
 
 reverse_count : (xs : List ℕ) → length (reverse xs) ≡ length xs
 reverse_count [] = refl
@@ -56,19 +85,22 @@ module _ (octets : List ℕ) (rs : List Block) (back starts : List ℕ) (state :
       let xs = state.xs in
       let fits : suc k ≤ length xs = omega (arith, few, encodings_count) in
       let at : start ≡ length (concat (drop (suc k) xs)) =
-      began ∙ ap (λ z. get_or z (length z - suc k) 0) state.places ∙ ap (λ z. get_or (starts_of xs) (z - suc k) 0) (starts_count xs) ∙ start_of_last k xs fits in
+      began ∙ ap (λ z. get_or z (length z - suc k) 0) state.places
+      ∙ ap (λ z. get_or (starts_of xs) (z - suc k) 0) (starts_count xs) ∙ start_of_last k xs fits in
       let whole : concat (take (suc k) xs) ++ concat (drop (suc k) xs) ≡ concat xs =
       sym (concat-append (take (suc k) xs) (drop (suc k) xs)) ∙ ap concat (take-append-drop (suc k) xs) in
       omega (arith, at, total, ap length whole, length-append (concat (take (suc k) xs)) (concat (drop (suc k) xs)))
 
-module _ (octets : List ℕ) (r : Block) (class : ASN1Class) (is : class_number class ≡ r.tag_class) (rs : List Block) (back starts new_back new_starts : List ℕ) (state : IsState octets rs back starts) where
+module _ (octets : List ℕ) (r : Block) (class : ASN1Class) (is : class_number class ≡ r.tag_class)
+    (rs : List Block) (back starts new_back new_starts : List ℕ) (state : IsState octets rs back starts) where
   open state use {xs}
 
   -- with contents octets of its own
   pub contents_more :
       r.items ≡ 0 → r.offset + r.header + r.contents ≤ length octets → (with_contents : List ℕ) →
       with_contents ≡ back ++ reverse (contents_of octets r) →
-      reverse new_back ≡ shortest_identifier class (nat_lt 0 r.constructed) r.tag ++ (shortest_length (length (contents_of octets r)) ++ reverse with_contents) →
+      reverse new_back ≡ shortest_identifier class (nat_lt 0 r.constructed) r.tag ++
+      (shortest_length (length (contents_of octets r)) ++ reverse with_contents) →
       new_starts ≡ starts ++ length back ∷ [] → IsState octets (r ∷ rs) new_back new_starts
   contents_more none within with_contents put headed started =
       let v = contents_of octets r in
@@ -95,13 +127,18 @@ module _ (octets : List ℕ) (r : Block) (class : ASN1Class) (is : class_number 
       let count : length starts ≡ length xs = ap length state.places ∙ starts_count xs in
       let fits : k ≤ length xs = omega (arith, few, count) in
       let whole : concat (take k xs) ++ concat (drop k xs) ≡ concat xs = sym (concat-append (take k xs) (drop k xs)) ∙ ap concat (take-append-drop k xs) in
-      let at : start ≡ length (concat (drop k xs)) = began ∙ ap (λ z. get_or z (length z - k) 0) state.places ∙ ap (λ z. get_or (starts_of xs) (z - k) 0) (starts_count xs) ∙ begins k some fits in
+      let at : start ≡ length (concat (drop k xs)) =
+      began ∙ ap (λ z. get_or z (length z - k) 0) state.places ∙ ap (λ z. get_or (starts_of xs) (z - k) 0) (starts_count xs)
+      ∙ begins k some fits in
       let i = shortest_identifier class true r.tag in
       let total : length back ≡ length (concat xs) = sym (reverse_count back) ∙ ap length state.spelled in
-      let inside : size ≡ length (concat (take k xs)) = omega (arith, sized, at, total, ap length whole, length-append (concat (take k xs)) (concat (drop k xs))) in
+      let inside : size ≡ length (concat (take k xs)) =
+      omega (arith, sized, at, total, ap length whole, length-append (concat (take k xs)) (concat (drop k xs))) in
       let v = concat (take k xs) in
       let l = shortest_length (length v) in
-      let rest : left ≡ starts_of (drop k xs) = taken ∙ ap (λ z. take (length z - k) z) state.places ∙ ap (λ z. take (z - k) (starts_of xs)) (starts_count xs) ∙ take_starts_of k xs fits in
+      let rest : left ≡ starts_of (drop k xs) =
+      taken ∙ ap (λ z. take (length z - k) z) state.places ∙ ap (λ z. take (z - k) (starts_of xs)) (starts_count xs)
+      ∙ take_starts_of k xs fits in
       record {
         xs = shortest_encoding class true r.tag v ∷ drop k xs;
         spells = spells_items r class is some fits state.spells;

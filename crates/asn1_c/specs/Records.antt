@@ -1,5 +1,24 @@
 -- What a record says of a block.
-use Rattle.std.specs.Prelude.{◌≡◌, ℕ, suc, ◌+◌, ◌-◌, ◌<◌, ◌≤◌, ◌^◌, ◌++◌, Bool, List, [], ◌∷◌, Option, Some, None, get_or, length}
+use Rattle.std.specs.Prelude.{
+  ◌≡◌,
+  ℕ,
+  suc,
+  ◌+◌,
+  ◌-◌,
+  ◌<◌,
+  ◌≤◌,
+  ◌^◌,
+  ◌++◌,
+  Bool,
+  List,
+  [],
+  ◌∷◌,
+  Option,
+  Some,
+  None,
+  get_or,
+  length,
+}
 use Rattle.simple_asn1.specs.BlockParts.{all_in_order, in_order, tree_items}
 use Rattle.simple_asn1.specs.Grammar.{IsDocument}
 use Rattle.simple_asn1.specs.Header.{Encoding, class_number, constructed_bit}
@@ -44,7 +63,13 @@ abbrev pub Stands : List ℕ → Tree ℕ → Type 0
 Stands document b = (bs : Trees ℕ) × (octets : List ℕ) × IsDocument document bs × HasOctets document bs b octets
 
 abbrev pub header_of : Block → Header
-header_of r = record { tag = r.tag; tag_class = r.tag_class; constructed = r.constructed; size = r.header; contents = r.contents }
+header_of r = record {
+  tag = r.tag;
+  tag_class = r.tag_class;
+  constructed = r.constructed;
+  size = r.header;
+  contents = r.contents;
+}
 
 -- the record is of the tree, which stands in a document of these octets
 pub record IsRecord (whole : List ℕ) (b : Tree ℕ) (r : Block) : Type 0 where
@@ -61,7 +86,17 @@ abbrev pub no_tree : Tree ℕ
 no_tree = leaf 0 null
 
 abbrev pub no_record : Block
-no_record = record { tag = 0; offset = 0; header = 0; contents = 0; items = 0; next = 0; depth = 0; tag_class = 0; constructed = 0 }
+no_record = record {
+  tag = 0;
+  offset = 0;
+  header = 0;
+  contents = 0;
+  items = 0;
+  next = 0;
+  depth = 0;
+  tag_class = 0;
+  constructed = 0;
+}
 
 abbrev mutual
   -- how many trees each stands in: a tree that stands in so many, and then those that it holds, in order

@@ -1,5 +1,23 @@
 -- The octets that records spell.
-use Rattle.std.specs.Prelude.{◌≡◌, ℕ, ◌+◌, ◌<◌, ◌≤◌, ◌++◌, true, List, [], ◌∷◌, drop, get_or, length, nat_lt, reverse, slice_range, take}
+use Rattle.std.specs.Prelude.{
+  ◌≡◌,
+  ℕ,
+  ◌+◌,
+  ◌<◌,
+  ◌≤◌,
+  ◌++◌,
+  true,
+  List,
+  [],
+  ◌∷◌,
+  drop,
+  get_or,
+  length,
+  nat_lt,
+  reverse,
+  slice_range,
+  take,
+}
 use Rattle.std.specs.List.{concat}
 use Rattle.simple_asn1.specs.Canonical.{shortest_encoding}
 use Rattle.simple_asn1.specs.Header.{class_number}

@@ -1,5 +1,21 @@
 // The components of an OBJECT IDENTIFIER at an offset, in decimal with points.
-ghost use Rattle.std.specs.Prelude.{◌≡◌, ◌≢◌, ◌⊎◌, ◌<◌, ◌^◌, ◌++◌, ◌∷◌, ℕ, List, IfErr, IfOk, MatchOption, OnOk, decimal, string_bytes};
+ghost use Rattle.std.specs.Prelude.{
+  ◌≡◌,
+  ◌≢◌,
+  ◌⊎◌,
+  ◌<◌,
+  ◌^◌,
+  ◌++◌,
+  ◌∷◌,
+  ℕ,
+  List,
+  IfErr,
+  IfOk,
+  MatchOption,
+  OnOk,
+  decimal,
+  string_bytes,
+};
 ghost use Rattle.simple_asn1.specs.FittingNumbers.{HasNotAll};
 ghost use Rattle.simple_asn1.specs.Tree.{leaf, object_identifier};
 ghost use Rattle.simple_asn1.specs.View.{tree_offset, view};

@@ -1,7 +1,13 @@
 // The parts of a signed triple.
 ghost use Rattle.std.specs.Prelude.{◌≡◌, ◌≢◌, ◌⊎◌, ℕ, List, IfOk, MatchOption};
 ghost use Rattle.simple_asn1.specs.Grammar.{IsDocument};
-ghost use Rattle.simple_asn1.specs.SignedTrees.{IsOfAnotherShape, SignedParts, algorithm_tree, signature_tree, signed_tree};
+ghost use Rattle.simple_asn1.specs.SignedTrees.{
+  IsOfAnotherShape,
+  SignedParts,
+  algorithm_tree,
+  signature_tree,
+  signed_tree,
+};
 ghost use Rattle.simple_asn1.specs.Tree.{Trees, bit_string, group, leaf, more_trees, object_identifier};
 ghost use Rattle.simple_asn1.specs.View.{tree_offset, view, views};
 ghost use Rattle.asn1_blocks.specs.declared.block.GroupKind.TheVariants.{Sequence};

@@ -15,7 +15,8 @@ returns-in_default-clause-missing c =
 
 pub returns-in-Ok-clause-only : goal.returns-in-Ok-clause-only
 returns-in-Ok-clause-only c bs r =
-    one_reading c.law_header.ensures c.law_one_reading.ensures c.args.octets.now c.args.offset c.in-Some.encoding.now _ bs c.in-Some.ensures.found c.in-Ok.ensures.document r
+    one_reading c.law_header.ensures c.law_one_reading.ensures c.args.octets.now c.args.offset c.in-Some.encoding.now _ bs
+    c.in-Some.ensures.found c.in-Ok.ensures.document r
 
 pub returns-in-Err-clause-missing : goal.returns-in-Err-clause-missing
 returns-in-Err-clause-missing c =

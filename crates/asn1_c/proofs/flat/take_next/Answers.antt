@@ -6,7 +6,8 @@ use Rattle.asn1_c.proofs.flat.take_next.Goals as goal
 pub returns-then-count-gt0 : goal.returns-then-count-gt0
 returns-then-count-gt0 c levels top e =
     let some : 0 < c.in-Some.count = omega arith in
-    left_taken levels top c.pop.new.self.items c.in-Some.count c.loop-count.left.items c.push.new.self.items c.in-Some.ensures.items some c.in_ok-push.ensures.items
+    left_taken levels top c.pop.new.self.items c.in-Some.count c.loop-count.left.items c.push.new.self.items
+    c.in-Some.ensures.items some c.in_ok-push.ensures.items
     (c.loop-count.invariant levels top e)
 
 pub loop-count-preserved : goal.loop-count-preserved

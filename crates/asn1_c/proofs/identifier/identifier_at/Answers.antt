@@ -48,7 +48,8 @@ returns-in-Ok-text_of c =
     let is = leaf_at octets offset (views c.in-Ok.held.blocks.items) c.in-Ok.ensures.found c.in-Ok.ensures.only (object_identifier ns)
     (view c.in-Some.block.now) c.in-Some.ensures c.in-Some-identifier_of.ensures in
     identifier_was_found ns is
-    (subst (λ z. ArePut z c.args.room.now c.put_octets.new.room c.put_octets.result) (c.as_bytes.ensures.value ∙ c.in-Ok-text_of.ensures.text) c.put_octets.ensures)
+    (subst (λ z. ArePut z c.args.room.now c.put_octets.new.room c.put_octets.result)
+    (c.as_bytes.ensures.value ∙ c.in-Ok-text_of.ensures.text) c.put_octets.ensures)
 
 pub returns : goal.returns
 returns c =

@@ -24,7 +24,8 @@ returns-in_default c =
     let xs = views c.in-Ok.held.blocks.items in
     integer_is_missing (
     another_there octets offset xs c.in-Ok.ensures.found c.in-Ok.ensures.only ((n : ℤ) × IsIntegerAt octets offset n) c.no_integer-in_default.result.status
-    (λ z. let (n, is) = z in not_alone octets offset xs c.in-Ok.ensures.found c.in-Ok.ensures.only (integer n) is c.in_default.ensures) c.no_integer-in_default.ensures
+    (λ z. let (n, is) = z in not_alone octets offset xs c.in-Ok.ensures.found c.in-Ok.ensures.only (integer n) is c.in_default.ensures)
+    c.no_integer-in_default.ensures
     )
 
 pub returns-in_default-integer_of : goal.returns-in_default-integer_of

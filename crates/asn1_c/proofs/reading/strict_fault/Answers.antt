@@ -7,7 +7,8 @@ use Rattle.asn1_c.proofs.reading.strict_fault.Goals as goal
 
 pub returns-in-NotCanonical : goal.returns-in-NotCanonical
 returns-in-NotCanonical c =
-    let h : OutOfMemoryOr (StrictFault c.args.octets.now) (NotCanonical c.in-NotCanonical.offset) = subst (OutOfMemoryOr (StrictFault c.args.octets.now)) c.in-NotCanonical.is c.requires in
+    let h : OutOfMemoryOr (StrictFault c.args.octets.now) (NotCanonical c.in-NotCanonical.offset) =
+    subst (OutOfMemoryOr (StrictFault c.args.octets.now)) c.in-NotCanonical.is c.requires in
     elim h [
       | inl e ↦ absurd (cc)
       | inr f ↦ inr (inr (refl, not_canonical_at c.law_one_reading.ensures c.args.octets.now c.in-NotCanonical.offset f))

@@ -15,7 +15,8 @@ returns-in-Err c =
     let octets = c.args.octets.now in
     let offset = c.args.offset in
     let missing = nothing_there octets offset ((utf8 : List ℕ) × IsTextAt octets offset utf8) c.in-Err.status c.nothing_put.result.status
-    (λ z. let (utf8, string) = z in let (kind, is) = string in reading_of octets offset (text kind (chars utf8)) is) c.in-Err.ensures.missing c.nothing_put.ensures.status in
+    (λ z. let (utf8, string) = z in let (kind, is) = string in reading_of octets offset (text kind (chars utf8)) is)
+    c.in-Err.ensures.missing c.nothing_put.ensures.status in
     text_is_missing missing c.nothing_put.ensures.offset refl
 
 pub returns-in_default : goal.returns-in_default
@@ -26,7 +27,8 @@ returns-in_default c =
     let found = c.in-Ok.ensures.found in
     let only = c.in-Ok.ensures.only in
     let missing = another_there octets offset xs found only ((utf8 : List ℕ) × IsTextAt octets offset utf8) c.nothing_put-in_default.result.status
-    (λ z. let (utf8, string) = z in let (kind, is) = string in not_alone octets offset xs found only (text kind (chars utf8)) is c.in_default.ensures) c.nothing_put-in_default.ensures.status in
+    (λ z. let (utf8, string) = z in let (kind, is) = string in not_alone octets offset xs found only (text kind (chars utf8)) is c.in_default.ensures)
+    c.nothing_put-in_default.ensures.status in
     text_is_missing missing c.nothing_put-in_default.ensures.offset refl
 
 pub returns-in-Some-text : goal.returns-in-Some-text

@@ -1,0 +1,143 @@
+/* simple_asn1.h: reads and writes DER (ITU-T X.690) as flat records.
+ *
+ * Link libsimple_asn1, which calls the program's malloc, realloc and free. No call keeps memory or gives memory away,
+ * and calls may run in several threads at once. Each answers whatever the octets, offsets and records are. A caller
+ * owes this alone: each pointer has as many octets or records behind it as the number after it says (it may be null
+ * where that number is 0), and what is written to overlaps nothing that is read. */
+#ifndef SIMPLE_ASN1_H
+#define SIMPLE_ASN1_H
+#include <stddef.h>
+#include <stdint.h>
+#ifdef __cplusplus
+extern "C" {
+#endif
+
+#define SIMPLE_ASN1_VERSION 1 /* of the calls and records; libsimple_asn1.so.1 */
+
+enum { /* what calls answer */
+    SIMPLE_ASN1_OK = 0,
+    SIMPLE_ASN1_EMPTY = 1,             /* faults of octets that are no document: there are none */
+    SIMPLE_ASN1_BOOLEAN_LENGTH = 2,    /* a BOOLEAN of other than one contents octet */
+    SIMPLE_ASN1_LENGTH = 3,            /* a length beyond size_t */
+    SIMPLE_ASN1_UTF8 = 4,              /* a string or time that is no UTF-8 */
+    SIMPLE_ASN1_PRINTABLE = 5,         /* a PrintableString with another character */
+    SIMPLE_ASN1_DATE = 6,              /* a UTCTime or GeneralizedTime that is no moment */
+    SIMPLE_ASN1_BIT_STRING_LENGTH = 7, /* a BIT STRING with more unused bits than bits */
+    SIMPLE_ASN1_INCOMPLETE = 8,        /* the octets run out */
+    SIMPLE_ASN1_NOT_CANONICAL = 9,     /* read_strict: a block that rewrite would change */
+    SIMPLE_ASN1_NO_MEMORY = 10,
+    SIMPLE_ASN1_NO_ROOM = 11,          /* count says how much is needed; nothing was written */
+    SIMPLE_ASN1_NO_SUCH_VALUE = 12,    /* no block stands at the offset, or one of another kind */
+    SIMPLE_ASN1_RANGE = 13,            /* the value does not fit */
+    SIMPLE_ASN1_NOT_SIGNED = 14,       /* the first block is no signed triple */
+    SIMPLE_ASN1_BAD_RECORD = 15        /* write: the record at the index `offset` can't be written */
+};
+
+/* A block. The blocks that it holds come right after it. */
+typedef struct simple_asn1_block {
+    uint64_t tag;       /* tag number; UINT64_MAX for greater ones */
+    size_t offset;      /* of its first octet, in the document */
+    size_t header;      /* how many identifier and length octets it has */
+    size_t contents;    /* how many contents octets follow them */
+    size_t items;       /* how many blocks it holds, without those inside them */
+    size_t next;        /* index of the record after it and all that it holds */
+    size_t depth;       /* how many blocks it stands in */
+    uint8_t tag_class;  /* 0 universal, 1 application, 2 context-specific, 3 private */
+    uint8_t constructed;
+} simple_asn1_block;
+
+typedef struct simple_asn1_outcome {
+    uint32_t status;
+    size_t offset; /* of the block at fault */
+    size_t count;  /* records or octets: how many were written, or are needed */
+} simple_asn1_outcome;
+
+typedef struct simple_asn1_integer {
+    uint32_t status;
+    int64_t value;
+} simple_asn1_integer;
+
+typedef struct simple_asn1_moment { /* in UTC */
+    uint32_t status;
+    int32_t year;
+    uint32_t month; /* 1 to 12 */
+    uint32_t day;   /* 1 to 31 */
+    uint32_t hour;
+    uint32_t minute;
+    uint32_t second;
+    uint32_t nanosecond; /* of the second */
+} simple_asn1_moment;
+
+typedef struct simple_asn1_signed_parts { /* next and depth of the records are 0 */
+    uint32_t status;
+    size_t offset;               /* of the block at fault */
+    simple_asn1_block content;   /* what was signed: octets + offset, header + contents of them */
+    simple_asn1_block algorithm; /* its OBJECT IDENTIFIER */
+    simple_asn1_block signature; /* BIT STRING */
+} simple_asn1_signed_parts;
+
+/* The records of all blocks of a document, each before those that it holds. At most size / 2 are needed. */
+simple_asn1_outcome simple_asn1_read(const uint8_t *octets, size_t size, simple_asn1_block *blocks, size_t room);
+
+/* So of a document in canonical form (DER) alone. */
+simple_asn1_outcome simple_asn1_read_strict(const uint8_t *octets, size_t size, simple_asn1_block *blocks, size_t room);
+
+/* The canonical octets (DER) of a document. */
+simple_asn1_outcome simple_asn1_rewrite(const uint8_t *octets, size_t size, uint8_t *out, size_t room);
+
+/* The canonical octets of what records spell: one with items holds the next of them; any other has the contents octets
+ * from offset + header on of these. Records that were read can be passed as they are; next and depth play no part. */
+simple_asn1_outcome simple_asn1_write(const uint8_t *octets, size_t size, const simple_asn1_block *blocks, size_t count,
+                                      uint8_t *out, size_t room);
+
+/* The value of the block at an offset: an INTEGER's number, where it fits; a UTCTime's or GeneralizedTime's moment; a
+ * string's text, of whatever kind, in UTF-8; an OBJECT IDENTIFIER's components, as in 1.2.840. No 0 is added. */
+simple_asn1_integer simple_asn1_int64(const uint8_t *octets, size_t size, size_t offset);
+simple_asn1_moment simple_asn1_time(const uint8_t *octets, size_t size, size_t offset);
+simple_asn1_outcome simple_asn1_text(const uint8_t *octets, size_t size, size_t offset, uint8_t *out, size_t room);
+simple_asn1_outcome simple_asn1_oid(const uint8_t *octets, size_t size, size_t offset, uint8_t *out, size_t room);
+
+/* The parts of a certificate, request or revocation list that a signature is checked by (RFC 5280, section 4.1). */
+simple_asn1_signed_parts simple_asn1_signed(const uint8_t *octets, size_t size);
+
+/* The contents octets of a block that was read of these octets. They are the value of an OCTET STRING. Those of an
+ * INTEGER are its number, of whatever size, in two's complement, the most significant octet first. Those of a BIT STRING
+ * are the number of unused bits in the last octet, and then the bits, the first the most significant of its octet:
+ *
+ *     const uint8_t *contents = simple_asn1_contents(octets, &block);
+ *     size_t bits = block.contents == 0 ? 0 : 8 * (block.contents - 1) - contents[0];
+ *     int sixth = bits > 5 && (contents[1 + 5 / 8] >> (7 - 5 % 8) & 1);
+ */
+static inline const uint8_t *simple_asn1_contents(const uint8_t *octets, const simple_asn1_block *block)
+{
+    return octets + block->offset + block->header;
+}
+
+/* What a status says, in words. */
+static inline const char *simple_asn1_status_text(uint32_t status)
+{
+    switch (status) {
+    case SIMPLE_ASN1_OK: return "done";
+    case SIMPLE_ASN1_EMPTY: return "there are no octets";
+    case SIMPLE_ASN1_BOOLEAN_LENGTH: return "a BOOLEAN has other than one contents octet";
+    case SIMPLE_ASN1_LENGTH: return "a length is too large";
+    case SIMPLE_ASN1_UTF8: return "a string or time is no UTF-8";
+    case SIMPLE_ASN1_PRINTABLE: return "a PrintableString has a character that it can't have";
+    case SIMPLE_ASN1_DATE: return "a time is no moment";
+    case SIMPLE_ASN1_BIT_STRING_LENGTH: return "a BIT STRING has more unused bits than bits";
+    case SIMPLE_ASN1_INCOMPLETE: return "the octets run out";
+    case SIMPLE_ASN1_NOT_CANONICAL: return "a block is not in canonical form";
+    case SIMPLE_ASN1_NO_MEMORY: return "out of memory";
+    case SIMPLE_ASN1_NO_ROOM: return "there is too little room";
+    case SIMPLE_ASN1_NO_SUCH_VALUE: return "no block of this kind stands there";
+    case SIMPLE_ASN1_RANGE: return "the value does not fit";
+    case SIMPLE_ASN1_NOT_SIGNED: return "the first block is no signed triple";
+    case SIMPLE_ASN1_BAD_RECORD: return "a record can't be written";
+    default: return "no status";
+    }
+}
+
+#ifdef __cplusplus
+}
+#endif
+#endif

@@ -1,0 +1,164 @@
+//! The calls of simple_asn1.h. All that is unsafe stands here.
+
+use crate::Fault;
+
+/// A block as the library has it. `simple_asn1.h` says what the fields are.
+#[repr(C)]
+#[derive(Clone, Copy, Debug, Default, PartialEq, Eq)]
+pub struct Record {
+    pub tag: u64,
+    pub offset: usize,
+    pub header: usize,
+    pub contents: usize,
+    pub items: usize,
+    pub next: usize,
+    pub depth: usize,
+    pub tag_class: u8,
+    pub constructed: u8,
+}
+
+#[repr(C)]
+struct Outcome {
+    status: u32,
+    offset: usize,
+    count: usize,
+}
+
+#[repr(C)]
+struct Integer {
+    status: u32,
+    value: i64,
+}
+
+#[repr(C)]
+struct MomentAnswer {
+    status: u32,
+    moment: Moment,
+}
+
+/// A moment in UTC, to the nanosecond.
+#[repr(C)]
+#[derive(Clone, Copy, Debug, PartialEq, Eq, PartialOrd, Ord, Hash)]
+pub struct Moment {
+    pub year: i32,
+    pub month: u32,
+    pub day: u32,
+    pub hour: u32,
+    pub minute: u32,
+    pub second: u32,
+    pub nanosecond: u32,
+}
+
+#[repr(C)]
+struct SignedAnswer {
+    status: u32,
+    offset: usize,
+    parts: SignedRecords,
+}
+
+#[repr(C)]
+pub struct SignedRecords {
+    pub content: Record,
+    pub algorithm: Record,
+    pub signature: Record,
+}
+
+extern "C" {
+    fn simple_asn1_read(octets: *const u8, size: usize, blocks: *mut Record, room: usize) -> Outcome;
+    fn simple_asn1_read_strict(octets: *const u8, size: usize, blocks: *mut Record, room: usize) -> Outcome;
+    fn simple_asn1_rewrite(octets: *const u8, size: usize, out: *mut u8, room: usize) -> Outcome;
+    fn simple_asn1_write(
+        octets: *const u8,
+        size: usize,
+        blocks: *const Record,
+        count: usize,
+        out: *mut u8,
+        room: usize,
+    ) -> Outcome;
+    fn simple_asn1_int64(octets: *const u8, size: usize, offset: usize) -> Integer;
+    fn simple_asn1_time(octets: *const u8, size: usize, offset: usize) -> MomentAnswer;
+    fn simple_asn1_text(octets: *const u8, size: usize, offset: usize, out: *mut u8, room: usize) -> Outcome;
+    fn simple_asn1_oid(octets: *const u8, size: usize, offset: usize, out: *mut u8, room: usize) -> Outcome;
+    fn simple_asn1_signed(octets: *const u8, size: usize) -> SignedAnswer;
+}
+
+const OK: u32 = 0;
+const NO_ROOM: u32 = 11;
+
+/// Asks how much is needed, and then for that.
+fn sized<T: Clone + Default>(call: impl Fn(*mut T, usize) -> Outcome) -> Result<Vec<T>, Fault> {
+    let asked = call(std::ptr::NonNull::dangling().as_ptr(), 0);
+    if asked.status != OK && asked.status != NO_ROOM {
+        return Err(Fault::of_status(asked.status, asked.offset));
+    }
+    let mut out = vec![T::default(); asked.count];
+    let done = call(out.as_mut_ptr(), out.len());
+    if done.status != OK {
+        return Err(Fault::of_status(done.status, done.offset));
+    }
+    Ok(out)
+}
+
+// SAFETY, of each call below: the declarations are those of simple_asn1.h, which checks/bindings compares; each pointer
+// comes with the length of what is behind it; `out` is of its own, so that it overlaps nothing; no call keeps a pointer.
+
+/// As many records as any document of so many octets needs are made room for, so that one call is enough.
+fn records(octets: &[u8], call: impl Fn(*mut Record, usize) -> Outcome) -> Result<Vec<Record>, Fault> {
+    let mut records = vec![Record::default(); octets.len() / 2];
+    let answer = call(records.as_mut_ptr(), records.len());
+    if answer.status != OK {
+        return Err(Fault::of_status(answer.status, answer.offset));
+    }
+    records.truncate(answer.count);
+    Ok(records)
+}
+
+pub fn read(octets: &[u8]) -> Result<Vec<Record>, Fault> {
+    records(octets, |out, room| unsafe { simple_asn1_read(octets.as_ptr(), octets.len(), out, room) })
+}
+
+pub fn read_strict(octets: &[u8]) -> Result<Vec<Record>, Fault> {
+    records(octets, |out, room| unsafe { simple_asn1_read_strict(octets.as_ptr(), octets.len(), out, room) })
+}
+
+pub fn rewrite(octets: &[u8]) -> Result<Vec<u8>, Fault> {
+    sized(|out, room| unsafe { simple_asn1_rewrite(octets.as_ptr(), octets.len(), out, room) })
+}
+
+pub fn write(octets: &[u8], records: &[Record]) -> Result<Vec<u8>, Fault> {
+    sized(|out, room| unsafe {
+        simple_asn1_write(octets.as_ptr(), octets.len(), records.as_ptr(), records.len(), out, room)
+    })
+}
+
+pub fn int64(octets: &[u8], offset: usize) -> Result<i64, Fault> {
+    let answer = unsafe { simple_asn1_int64(octets.as_ptr(), octets.len(), offset) };
+    match answer.status {
+        OK => Ok(answer.value),
+        status => Err(Fault::of_status(status, offset)),
+    }
+}
+
+pub fn time(octets: &[u8], offset: usize) -> Result<Moment, Fault> {
+    let answer = unsafe { simple_asn1_time(octets.as_ptr(), octets.len(), offset) };
+    match answer.status {
+        OK => Ok(answer.moment),
+        status => Err(Fault::of_status(status, offset)),
+    }
+}
+
+pub fn text(octets: &[u8], offset: usize) -> Result<Vec<u8>, Fault> {
+    sized(|out, room| unsafe { simple_asn1_text(octets.as_ptr(), octets.len(), offset, out, room) })
+}
+
+pub fn oid(octets: &[u8], offset: usize) -> Result<Vec<u8>, Fault> {
+    sized(|out, room| unsafe { simple_asn1_oid(octets.as_ptr(), octets.len(), offset, out, room) })
+}
+
+pub fn signed(octets: &[u8]) -> Result<SignedRecords, Fault> {
+    let answer = unsafe { simple_asn1_signed(octets.as_ptr(), octets.len()) };
+    match answer.status {
+        OK => Ok(answer.parts),
+        status => Err(Fault::of_status(status, answer.offset)),
+    }
+}

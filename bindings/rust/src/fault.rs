@@ -1,0 +1,103 @@
+//! Why octets are not read, why a block has no value of a kind, and why records are not written.
+
+use std::error::Error;
+use std::fmt;
+
+/// What is wrong, and where.
+#[derive(Clone, Copy, Debug, PartialEq, Eq, Hash)]
+pub struct Fault {
+    pub kind: FaultKind,
+    /// The offset of the block at fault, in octets from the start; of [`FaultKind::BadRecord`] the index of the record.
+    pub offset: usize,
+}
+
+/// What is wrong: a variant for each status of `simple_asn1.h`.
+#[derive(Clone, Copy, Debug, PartialEq, Eq, Hash)]
+#[non_exhaustive]
+pub enum FaultKind {
+    /// There are no octets.
+    Empty,
+    /// A BOOLEAN has other than one contents octet.
+    BooleanLength,
+    /// A length is beyond `usize`.
+    Length,
+    /// A string or time is no UTF-8.
+    Utf8,
+    /// A PrintableString has a character that it can't have.
+    Printable,
+    /// A UTCTime or GeneralizedTime is no moment.
+    Date,
+    /// A BIT STRING has more unused bits than bits.
+    BitStringLength,
+    /// The octets run out.
+    Incomplete,
+    /// A block is not in canonical form: of [`Document::read_strict`](crate::Document::read_strict) alone.
+    NotCanonical,
+    NoMemory,
+    /// The block is of another kind.
+    NoSuchValue,
+    /// The value does not fit.
+    Range,
+    /// The first block is no signed triple.
+    NotSigned,
+    /// A record can't be written.
+    BadRecord,
+}
+
+impl Fault {
+    pub(crate) fn of_status(status: u32, offset: usize) -> Fault {
+        let kind = match status {
+            1 => FaultKind::Empty,
+            2 => FaultKind::BooleanLength,
+            3 => FaultKind::Length,
+            4 => FaultKind::Utf8,
+            5 => FaultKind::Printable,
+            6 => FaultKind::Date,
+            7 => FaultKind::BitStringLength,
+            8 => FaultKind::Incomplete,
+            9 => FaultKind::NotCanonical,
+            10 => FaultKind::NoMemory,
+            12 => FaultKind::NoSuchValue,
+            13 => FaultKind::Range,
+            14 => FaultKind::NotSigned,
+            15 => FaultKind::BadRecord,
+            _ => unreachable!("the library has no status {status} here"),
+        };
+        Fault { kind, offset }
+    }
+}
+
+impl fmt::Display for FaultKind {
+    fn fmt(&self, f: &mut fmt::Formatter<'_>) -> fmt::Result {
+        f.write_str(match self {
+            FaultKind::Empty => "there are no octets",
+            FaultKind::BooleanLength => "a BOOLEAN has other than one contents octet",
+            FaultKind::Length => "a length is too large",
+            FaultKind::Utf8 => "a string or time is no UTF-8",
+            FaultKind::Printable => "a PrintableString has a character that it can't have",
+            FaultKind::Date => "a time is no moment",
+            FaultKind::BitStringLength => "a BIT STRING has more unused bits than bits",
+            FaultKind::Incomplete => "the octets run out",
+            FaultKind::NotCanonical => "a block is not in canonical form",
+            FaultKind::NoMemory => "out of memory",
+            FaultKind::NoSuchValue => "no block of this kind stands there",
+            FaultKind::Range => "the value does not fit",
+            FaultKind::NotSigned => "the first block is no signed triple",
+            FaultKind::BadRecord => "a record can't be written",
+        })
+    }
+}
+
+impl Error for FaultKind {}
+
+impl fmt::Display for Fault {
+    fn fmt(&self, f: &mut fmt::Formatter<'_>) -> fmt::Result {
+        write!(f, "{}, at {}", self.kind, self.offset)
+    }
+}
+
+impl Error for Fault {
+    fn source(&self) -> Option<&(dyn Error + 'static)> {
+        Some(&self.kind)
+    }
+}

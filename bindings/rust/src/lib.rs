@@ -1,0 +1,236 @@
+//! Reads and writes DER (ITU-T X.690) by the proved library `simple_asn1`.
+//!
+//! ```
+//! use simple_asn1_records::{Document, Fault};
+//!
+//! fn main() -> Result<(), Fault> {
+//!     let document = Document::read(&[0x30, 0x06, 0x02, 0x01, 0x05, 0x02, 0x01, 0xFF])?;
+//!     let sequence = document.blocks().next().unwrap();
+//!     let numbers: Result<Vec<i64>, Fault> = sequence.items().map(|item| item.int64()).collect();
+//!     assert_eq!(numbers?, [5, -1]);
+//!     Ok(())
+//! }
+//! ```
+
+mod calls;
+mod fault;
+
+pub use calls::{Moment, Record};
+pub use fault::{Fault, FaultKind};
+
+use std::fmt;
+use std::iter::FusedIterator;
+
+/// Octets that were read, with the record of each of their blocks.
+#[derive(Clone, Debug)]
+pub struct Document<'a> {
+    octets: &'a [u8],
+    records: Vec<Record>,
+}
+
+impl<'a> Document<'a> {
+    /// Reads a document: blocks one after another to the end of the octets, at least one.
+    pub fn read(octets: &'a [u8]) -> Result<Document<'a>, Fault> {
+        Ok(Document { octets, records: calls::read(octets)? })
+    }
+
+    /// Reads a document in canonical form (DER), and no other.
+    pub fn read_strict(octets: &'a [u8]) -> Result<Document<'a>, Fault> {
+        Ok(Document { octets, records: calls::read_strict(octets)? })
+    }
+
+    /// The blocks at the top level.
+    pub fn blocks(&self) -> Blocks<'_, 'a> {
+        Blocks { document: self, index: 0, end: self.records.len() }
+    }
+
+    /// The blocks at all depths, each before those that it holds.
+    pub fn all_blocks(&self) -> impl ExactSizeIterator<Item = Block<'_, 'a>> + DoubleEndedIterator {
+        (0..self.records.len()).map(|index| Block { document: self, index })
+    }
+
+    pub fn octets(&self) -> &'a [u8] {
+        self.octets
+    }
+
+    /// The records of all blocks, as [`write`] takes them.
+    pub fn records(&self) -> &[Record] {
+        &self.records
+    }
+}
+
+impl<'d, 'a> IntoIterator for &'d Document<'a> {
+    type Item = Block<'d, 'a>;
+    type IntoIter = Blocks<'d, 'a>;
+
+    fn into_iter(self) -> Blocks<'d, 'a> {
+        self.blocks()
+    }
+}
+
+/// Blocks one after another, without those inside them.
+#[derive(Clone)]
+pub struct Blocks<'d, 'a> {
+    document: &'d Document<'a>,
+    index: usize,
+    end: usize,
+}
+
+impl<'d, 'a> Iterator for Blocks<'d, 'a> {
+    type Item = Block<'d, 'a>;
+
+    fn next(&mut self) -> Option<Block<'d, 'a>> {
+        if self.index >= self.end {
+            return None;
+        }
+        let block = Block { document: self.document, index: self.index };
+        self.index = block.record().next;
+        Some(block)
+    }
+
+    fn size_hint(&self) -> (usize, Option<usize>) {
+        (usize::from(self.index < self.end), Some(self.end - self.index))
+    }
+}
+
+impl FusedIterator for Blocks<'_, '_> {}
+
+/// The class of a tag (X.690, table 1).
+#[derive(Clone, Copy, Debug, PartialEq, Eq, Hash)]
+pub enum Class {
+    Universal,
+    Application,
+    ContextSpecific,
+    Private,
+}
+
+/// A block of a document.
+#[derive(Clone, Copy)]
+pub struct Block<'d, 'a> {
+    document: &'d Document<'a>,
+    index: usize,
+}
+
+impl<'d, 'a> Block<'d, 'a> {
+    pub fn record(&self) -> &'d Record {
+        &self.document.records[self.index]
+    }
+
+    pub fn class(&self) -> Class {
+        match self.record().tag_class {
+            0 => Class::Universal,
+            1 => Class::Application,
+            2 => Class::ContextSpecific,
+            _ => Class::Private,
+        }
+    }
+
+    /// The tag number; `u64::MAX` for greater ones.
+    pub fn tag(&self) -> u64 {
+        self.record().tag
+    }
+
+    pub fn is_constructed(&self) -> bool {
+        self.record().constructed != 0
+    }
+
+    /// The offset of its first octet in the document.
+    pub fn offset(&self) -> usize {
+        self.record().offset
+    }
+
+    /// How many blocks it stands in.
+    pub fn depth(&self) -> usize {
+        self.record().depth
+    }
+
+    /// The blocks that it holds, without those inside them.
+    pub fn items(&self) -> Blocks<'d, 'a> {
+        Blocks { document: self.document, index: self.index + 1, end: self.record().next }
+    }
+
+    /// The octets of the whole block.
+    pub fn octets(&self) -> &'a [u8] {
+        let record = self.record();
+        &self.document.octets[record.offset..][..record.header + record.contents]
+    }
+
+    /// Its contents octets. They are the value of an OCTET STRING, and the number of an INTEGER in two's complement.
+    pub fn contents(&self) -> &'a [u8] {
+        &self.octets()[self.record().header..]
+    }
+
+    /// The number of an INTEGER, where it fits.
+    pub fn int64(&self) -> Result<i64, Fault> {
+        calls::int64(self.document.octets, self.offset())
+    }
+
+    /// The moment of a UTCTime or GeneralizedTime.
+    pub fn moment(&self) -> Result<Moment, Fault> {
+        calls::time(self.document.octets, self.offset())
+    }
+
+    /// The text of a string, of whatever kind.
+    pub fn text(&self) -> Result<String, Fault> {
+        text_of(calls::text(self.document.octets, self.offset())?, self.offset())
+    }
+
+    /// The components of an OBJECT IDENTIFIER, as in `1.2.840`.
+    pub fn oid(&self) -> Result<String, Fault> {
+        text_of(calls::oid(self.document.octets, self.offset())?, self.offset())
+    }
+
+    /// The octets that hold the bits of a BIT STRING, and how many bits there are, the first of them the most
+    /// significant of the first octet.
+    pub fn bits(&self) -> Result<(&'a [u8], usize), Fault> {
+        if self.class() != Class::Universal || self.tag() != 3 {
+            return Err(Fault { kind: FaultKind::NoSuchValue, offset: self.offset() });
+        }
+        Ok(match self.contents() {
+            [] => (&[], 0),
+            [unused, octets @ ..] => (octets, 8 * octets.len() - usize::from(*unused)),
+        })
+    }
+}
+
+impl fmt::Debug for Block<'_, '_> {
+    fn fmt(&self, f: &mut fmt::Formatter<'_>) -> fmt::Result {
+        self.record().fmt(f)
+    }
+}
+
+fn text_of(octets: Vec<u8>, offset: usize) -> Result<String, Fault> {
+    String::from_utf8(octets).map_err(|_| Fault { kind: FaultKind::Utf8, offset })
+}
+
+/// The canonical octets (DER) of a document.
+pub fn rewrite(octets: &[u8]) -> Result<Vec<u8>, Fault> {
+    calls::rewrite(octets)
+}
+
+/// The canonical octets of what records spell: one with items holds the next of them, any other has contents octets of
+/// these. `next` and `depth` play no part.
+pub fn write(octets: &[u8], records: &[Record]) -> Result<Vec<u8>, Fault> {
+    calls::write(octets, records)
+}
+
+/// The parts of a certificate, request or revocation list that a signature is checked by (RFC 5280, section 4.1).
+#[derive(Clone, Debug, PartialEq, Eq)]
+pub struct Signed<'a> {
+    /// The octets that were signed.
+    pub content: &'a [u8],
+    /// The OBJECT IDENTIFIER of the algorithm.
+    pub algorithm: String,
+    /// The octets that hold the bits of the signature.
+    pub signature: &'a [u8],
+}
+
+impl<'a> Signed<'a> {
+    pub fn read(octets: &'a [u8]) -> Result<Signed<'a>, Fault> {
+        let parts = calls::signed(octets)?;
+        let document = Document { octets, records: vec![parts.content, parts.algorithm, parts.signature] };
+        let block = |index| Block { document: &document, index };
+        let signature = block(2).bits()?.0;
+        Ok(Signed { content: block(0).octets(), algorithm: block(1).oid()?, signature })
+    }
+}

@@ -1,0 +1,90 @@
+//! What the bindings add to the library's calls, on documents that were made by hand.
+
+use simple_asn1_records::{rewrite, write, Class, Document, Fault, FaultKind, Moment, Signed};
+use std::error::Error;
+
+const DOCUMENT: [u8; 13] = [0x30, 0x09, 0x02, 0x01, 0x05, 0xA0, 0x04, 0x0C, 0x02, 0xC3, 0xA4, 0x05, 0x00];
+
+#[test]
+fn blocks_are_walked_over_in_order() -> Result<(), Fault> {
+    let document = Document::read(&DOCUMENT)?;
+    let top: Vec<u64> = document.blocks().map(|block| block.tag()).collect();
+    assert_eq!(top, [16, 5]);
+    let sequence = (&document).into_iter().next().unwrap();
+    let items: Vec<_> = sequence.items().collect();
+    assert_eq!(items.len(), 2);
+    assert_eq!(items[0].int64()?, 5);
+    assert_eq!((items[1].class(), items[1].tag(), items[1].depth()), (Class::ContextSpecific, 0, 1));
+    assert_eq!(items[1].items().next().unwrap().text()?, "ä");
+    assert_eq!(items[1].octets(), &DOCUMENT[5..11]);
+    assert_eq!(document.all_blocks().len(), 5);
+    assert!(document.all_blocks().rev().map(|block| block.offset()).eq([11, 7, 5, 2, 0]));
+    Ok(())
+}
+
+#[test]
+fn faults_say_what_and_where() {
+    let fault = Document::read(&[0x30, 0x04, 0x02, 0x01, 0x05, 0x01]).unwrap_err();
+    assert_eq!(fault, Fault { kind: FaultKind::Incomplete, offset: 5 });
+    assert_eq!(fault.to_string(), "the octets run out, at 5");
+    assert_eq!(fault.source().unwrap().to_string(), "the octets run out");
+    assert_eq!(Document::read(&[]).unwrap_err().kind, FaultKind::Empty);
+    assert_eq!(Document::read_strict(&[1, 1, 42]).unwrap_err().kind, FaultKind::NotCanonical);
+    let document = Document::read(&DOCUMENT).unwrap();
+    let sequence = document.blocks().next().unwrap();
+    assert_eq!(sequence.int64().unwrap_err(), Fault { kind: FaultKind::NoSuchValue, offset: 0 });
+    assert_eq!(Signed::read(&DOCUMENT).unwrap_err().kind, FaultKind::NotSigned);
+}
+
+#[test]
+fn values_are_those_of_their_blocks() -> Result<(), Fault> {
+    let bits = [0x03, 0x02, 0x04, 0xB0];
+    assert_eq!(Document::read(&bits)?.blocks().next().unwrap().bits()?, (&[0xB0][..], 4));
+    let empty = [0x03, 0x00];
+    assert_eq!(Document::read(&empty)?.blocks().next().unwrap().bits()?, (&[][..], 0));
+    let wide = [0x02, 0x09, 0x01, 0, 0, 0, 0, 0, 0, 0, 0];
+    let document = Document::read(&wide)?;
+    let number = document.blocks().next().unwrap();
+    assert_eq!(number.int64().unwrap_err().kind, FaultKind::Range);
+    assert_eq!(number.contents(), &wide[2..]);
+    let oid = [0x06, 0x06, 0x2A, 0x86, 0x48, 0x86, 0xF7, 0x0D];
+    assert_eq!(Document::read(&oid)?.blocks().next().unwrap().oid()?, "1.2.840.113549");
+    let time = b"\x17\x0D261123070322Z";
+    let wanted = Moment { year: 2026, month: 11, day: 23, hour: 7, minute: 3, second: 22, nanosecond: 0 };
+    assert_eq!(Document::read(time)?.blocks().next().unwrap().moment()?, wanted);
+    Ok(())
+}
+
+#[test]
+fn what_is_read_is_written() -> Result<(), Fault> {
+    let loose = [0x30, 0x81, 0x03, 0x01, 0x01, 0x2A];
+    let canonical = [0x30, 0x03, 0x01, 0x01, 0xFF];
+    assert_eq!(rewrite(&loose)?, canonical);
+    let document = Document::read(&loose)?;
+    assert_eq!(write(document.octets(), document.records())?, canonical);
+    let mut records = document.records().to_vec();
+    records[0].items = 2;
+    assert_eq!(write(&loose, &records).unwrap_err(), Fault { kind: FaultKind::BadRecord, offset: 0 });
+    Ok(())
+}
+
+#[test]
+fn signed_parts_are_slices_of_the_document() -> Result<(), Fault> {
+    let triple = [
+        0x30, 0x0E, 0x30, 0x03, 0x02, 0x01, 0x01, 0x30, 0x03, 0x06, 0x01, 0x2A, 0x03, 0x02, 0x00, 0x99,
+    ];
+    let signed = Signed::read(&triple)?;
+    assert_eq!(signed.content, &triple[2..7]);
+    assert_eq!(signed.algorithm, "1.2");
+    assert_eq!(signed.signature, &[0x99]);
+    Ok(())
+}
+
+#[test]
+fn several_threads_read_at_once() {
+    std::thread::scope(|scope| {
+        let reads: Vec<_> =
+            (0..8).map(|_| scope.spawn(|| (0..1000).all(|_| Document::read(&DOCUMENT).is_ok()))).collect();
+        assert!(reads.into_iter().all(|read| read.join().unwrap()));
+    });
+}

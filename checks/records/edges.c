@@ -1,0 +1,133 @@
+/* No octets, no room, records that are no tree; and each octet of documents cut off, and changed: edges FILE.der .. */
+#include "documents.h"
+
+static void check_nothing(void)
+{
+    simple_asn1_outcome o = simple_asn1_read(NULL, 0, NULL, 0);
+    CHECK(o.status == SIMPLE_ASN1_EMPTY && o.offset == 0);
+    CHECK(simple_asn1_read_strict(NULL, 0, NULL, 0).status == SIMPLE_ASN1_EMPTY);
+    CHECK(simple_asn1_rewrite(NULL, 0, NULL, 0).status == SIMPLE_ASN1_EMPTY);
+    CHECK(simple_asn1_write(NULL, 0, NULL, 0, NULL, 0).status == SIMPLE_ASN1_EMPTY);
+    CHECK(simple_asn1_int64(NULL, 0, 0).status == SIMPLE_ASN1_NO_SUCH_VALUE);
+    CHECK(simple_asn1_int64(NULL, 0, SIZE_MAX).status == SIMPLE_ASN1_NO_SUCH_VALUE);
+    CHECK(simple_asn1_time(NULL, 0, 0).status == SIMPLE_ASN1_NO_SUCH_VALUE);
+    CHECK(simple_asn1_text(NULL, 0, 0, NULL, 0).status == SIMPLE_ASN1_NO_SUCH_VALUE);
+    CHECK(simple_asn1_oid(NULL, 0, 0, NULL, 0).status == SIMPLE_ASN1_NO_SUCH_VALUE);
+    CHECK(simple_asn1_signed(NULL, 0).status == SIMPLE_ASN1_EMPTY);
+}
+
+static void check_answers(void)
+{
+    const uint8_t five[] = {0x30, 3, 2, 1, 5};
+    uint8_t out[16];
+    simple_asn1_outcome o = simple_asn1_read(five, 5, NULL, 0);
+    CHECK(o.status == SIMPLE_ASN1_NO_ROOM && o.count == 2);
+    CHECK(simple_asn1_int64(five, 5, 2).value == 5);
+    CHECK(simple_asn1_int64(five, 5, 0).status == SIMPLE_ASN1_NO_SUCH_VALUE);
+    CHECK(simple_asn1_int64(five, 5, 4).status == SIMPLE_ASN1_NO_SUCH_VALUE);
+    o = simple_asn1_rewrite(five, 5, out, 4);
+    CHECK(o.status == SIMPLE_ASN1_NO_ROOM && o.count == 5);
+    CHECK(simple_asn1_signed(five, 5).status == SIMPLE_ASN1_NOT_SIGNED);
+
+    const uint8_t cut[] = {0x30, 4, 2, 1, 5, 1};
+    o = simple_asn1_read(cut, 6, NULL, 0);
+    CHECK(o.status == SIMPLE_ASN1_INCOMPLETE && o.offset == 5);
+    const uint8_t loose[] = {5, 0, 1, 1, 42};
+    o = simple_asn1_read_strict(loose, 5, NULL, 0);
+    CHECK(o.status == SIMPLE_ASN1_NOT_CANONICAL && o.offset == 2);
+    CHECK(simple_asn1_read(loose, 5, NULL, 0).count == 2);
+    const uint8_t wide[] = {2, 9, 1, 0, 0, 0, 0, 0, 0, 0, 0};
+    CHECK(simple_asn1_int64(wide, 11, 0).status == SIMPLE_ASN1_RANGE);
+    const uint8_t bad[] = {1, 2, 0, 0};
+    CHECK(simple_asn1_int64(bad, 4, 0).status == SIMPLE_ASN1_BOOLEAN_LENGTH);
+    const uint8_t fraction[] = "\x18\x13" "20261123070322.125Z";
+    simple_asn1_moment m = simple_asn1_time(fraction, 21, 0);
+    CHECK(m.status == SIMPLE_ASN1_OK && m.year == 2026 && m.month == 11 && m.day == 23 && m.hour == 7);
+    CHECK(m.minute == 3 && m.second == 22 && m.nanosecond == 125000000);
+}
+
+/* A tree that was made by hand: SEQUENCE { INTEGER 42, [0] { NULL } }. */
+static void check_made(void)
+{
+    const uint8_t values[] = {42};
+    const uint8_t wanted[] = {0x30, 7, 2, 1, 42, 0xA0, 2, 5, 0};
+    uint8_t out[16];
+    simple_asn1_block made[4];
+    memset(made, 0, sizeof made);
+    made[0].tag = 16, made[0].items = 2;
+    made[1].tag = 2, made[1].contents = 1;
+    made[2].tag_class = 2, made[2].items = 1;
+    made[3].tag = 5;
+    simple_asn1_outcome o = simple_asn1_write(values, 1, made, 4, out, sizeof out);
+    CHECK(o.status == SIMPLE_ASN1_OK && o.count == sizeof wanted && memcmp(out, wanted, sizeof wanted) == 0);
+    made[0].items = 9;
+    o = simple_asn1_write(values, 1, made, 4, out, sizeof out);
+    CHECK(o.status == SIMPLE_ASN1_BAD_RECORD && o.offset == 0);
+    made[0].items = SIZE_MAX;
+    CHECK(simple_asn1_write(values, 1, made, 4, out, sizeof out).status == SIMPLE_ASN1_BAD_RECORD);
+    made[0].items = 2, made[1].contents = 2;
+    o = simple_asn1_write(values, 1, made, 4, out, sizeof out);
+    CHECK(o.status == SIMPLE_ASN1_BAD_RECORD && o.offset == 1);
+    made[1].offset = SIZE_MAX, made[1].header = SIZE_MAX;
+    CHECK(simple_asn1_write(values, 1, made, 4, out, sizeof out).status == SIMPLE_ASN1_BAD_RECORD);
+    made[1].offset = 0, made[1].header = 0, made[1].contents = 1, made[3].tag_class = 4;
+    o = simple_asn1_write(values, 1, made, 4, out, sizeof out);
+    CHECK(o.status == SIMPLE_ASN1_BAD_RECORD && o.offset == 3);
+    made[3].tag_class = 0, made[1].tag = 1, made[1].contents = 0;
+    o = simple_asn1_write(values, 1, made, 4, out, sizeof out);
+    CHECK(o.status == SIMPLE_ASN1_BOOLEAN_LENGTH);
+}
+
+/* Whether the octets are a document; all calls must agree on it. */
+static int check_changed(const uint8_t *octets, size_t size)
+{
+    simple_asn1_signed(octets, size);
+    simple_asn1_outcome o = simple_asn1_read(octets, size, NULL, 0);
+    if (o.status != SIMPLE_ASN1_NO_ROOM) {
+        CHECK(o.status >= SIMPLE_ASN1_EMPTY && o.status < SIMPLE_ASN1_NOT_CANONICAL && o.offset <= size);
+        CHECK(simple_asn1_rewrite(octets, size, NULL, 0).status == o.status);
+        return 0;
+    }
+    size_t count = o.count;
+    CHECK(count <= size / 2);
+    simple_asn1_block *blocks = malloc(count * sizeof *blocks);
+    o = simple_asn1_read(octets, size, blocks, count);
+    CHECK(o.status == SIMPLE_ASN1_OK && o.count == count);
+    simple_asn1_outcome r = simple_asn1_rewrite(octets, size, NULL, 0);
+    CHECK(r.status == SIMPLE_ASN1_NO_ROOM);
+    uint8_t *canonical = malloc(r.count), *written = malloc(r.count);
+    CHECK(simple_asn1_rewrite(octets, size, canonical, r.count).status == SIMPLE_ASN1_OK);
+    simple_asn1_outcome w = simple_asn1_write(octets, size, blocks, count, written, r.count);
+    CHECK(w.status == SIMPLE_ASN1_OK && w.count == r.count && memcmp(canonical, written, r.count) == 0);
+    CHECK(simple_asn1_read_strict(canonical, r.count, NULL, 0).status == SIMPLE_ASN1_NO_ROOM);
+    free(blocks), free(canonical), free(written);
+    return 1;
+}
+
+int main(int argc, char **argv)
+{
+    check_nothing();
+    check_answers();
+    check_made();
+    size_t read = 0, refused = 0;
+    for (int f = 1; f < argc; f++) {
+        size_t size;
+        uint8_t *whole = read_file(argv[f], &size);
+        for (size_t k = 0; k < 2 * size; k++) {
+            /* of exactly its size, so that a sanitizer sees what is read past it */
+            size_t n = k < size ? k : size;
+            uint8_t *octets = malloc(n ? n : 1);
+            memcpy(octets, whole, n);
+            if (k >= size)
+                octets[k - size] ^= (uint8_t)(1 << k % 8);
+            if (check_changed(octets, n))
+                read++;
+            else
+                refused++;
+            free(octets);
+        }
+        free(whole);
+    }
+    printf("edges are as they have to be; of changed documents %zu are read and %zu refused\n", read, refused);
+    return 0;
+}

@@ -1,0 +1,77 @@
+"""Whether simple_asn1.h, the library's exports, the bindings for Rust and Python and the statuses of the proof agree.
+
+header.py TOP COMPILER
+"""
+import ctypes
+import pathlib
+import re
+import subprocess
+import sys
+
+top, compiler = pathlib.Path(sys.argv[1]), sys.argv[2]
+header = (top / "bindings/c/simple_asn1.h").read_text()
+sys.path.insert(0, str(top / "bindings/python"))
+sys.dont_write_bytecode = True
+import simple_asn1
+
+
+def same(what, first, second):
+    if first != second:
+        sys.exit(f"header: {what} differ:\n{first}\n{second}")
+
+
+code = header[header.index('extern "C"') :]
+declared = set(re.findall(r"^simple_asn1_\w+ (simple_asn1_\w+)\(", code, re.M))
+listed = subprocess.run(
+    ["nm", "-D", "--defined-only", str(top / "bindings/c/out/lib/libsimple_asn1.so")],
+    capture_output=True, text=True, check=True,
+).stdout
+same("the header and the library's names", declared, {line.split()[-1] for line in listed.splitlines()})
+calls = (top / "bindings/rust/src/calls.rs").read_text()
+same("the header and Rust's names", declared, set(re.findall(r"^    fn (simple_asn1_\w+)", calls, re.M)))
+
+statuses = {name: int(number) for name, number in re.findall(r"SIMPLE_ASN1_(\w+) = (\d+)", header)}
+same("the header's and Python's statuses", statuses, {s.name: s.value for s in simple_asn1.Status})
+texts = dict(re.findall(r'case SIMPLE_ASN1_(\w+): return "([^"]*)"', header))
+same("the header's and Python's texts", texts, {s.name: t for s, t in simple_asn1.TEXTS.items()})
+fault = (top / "bindings/rust/src/fault.rs").read_text()
+kinds = dict(re.findall(r"FaultKind::(\w+) => \"([^\"]*)\"", fault))
+numbers = {int(n): kinds[k] for n, k in re.findall(r"(\d+) => FaultKind::(\w+)", fault)}
+never = {statuses["OK"], statuses["NO_ROOM"]}
+same("the header's and Rust's texts", {n: texts[s] for s, n in statuses.items() if n not in never}, numbers)
+
+records = {
+    "block": simple_asn1.Record,
+    "outcome": simple_asn1._Outcome,
+    "integer": simple_asn1._Integer,
+    "moment": simple_asn1.Moment,
+    "signed_parts": simple_asn1._SignedParts,
+}
+lines = []
+for name, record in records.items():
+    lines.append(f'printf("{name} %zu\\n", sizeof(simple_asn1_{name}));')
+    for field in record._fields_:
+        lines.append(
+            f'printf("{name}.{field[0]} %zu %zu\\n", offsetof(simple_asn1_{name}, {field[0]}), '
+            f"sizeof(((simple_asn1_{name} *)0)->{field[0]}));"
+        )
+program = '#include "simple_asn1.h"\n#include <stdio.h>\nint main(void) {\n' + "\n".join(lines) + "\nreturn 0;\n}\n"
+built = pathlib.Path(sys.argv[3]) / "layout"
+subprocess.run(
+    [compiler, f"-I{top}/bindings/c", "-x", "c", "-", "-o", str(built)], input=program, text=True, check=True
+)
+found = subprocess.run([str(built)], capture_output=True, text=True, check=True).stdout.splitlines()
+wanted = []
+for name, record in records.items():
+    wanted.append(f"{name} {ctypes.sizeof(record)}")
+    for field in record._fields_:
+        place = getattr(record, field[0])
+        wanted.append(f"{name}.{field[0]} {place.offset} {place.size}")
+same("the header's and Python's records", found, wanted)
+
+source = (top / "crates/asn1_c/src/record.rt").read_text()
+answers = {"IntegerAnswer": "integer", "MomentAnswer": "moment", "SignedAnswer": "signed_parts"}
+for kind, size in re.findall(r"size_of::<(\w+)>\(\) == (\d+)", source):
+    name = answers.get(kind, kind.lower())
+    same(f"the sizes of {name}", int(size), ctypes.sizeof(records[name]))
+print(f"header: {len(declared)} calls, {len(statuses)} statuses and {len(records)} records agree in C, Rust and Python")
