@@ -1,10 +1,12 @@
 //! The notation of blocks and of octets, in which the rows of tests and the answers of `asn1_calls` are written.
 //!
-//! It says each field of a block whole, offsets too: two lists of blocks are written the same exactly if they are the
-//! same blocks at the same offsets.
+//! It says each field of a block whole, offsets too: two lists of blocks that can be written as octets are the same
+//! text exactly if they are the same blocks at the same offsets. Of blocks made by hand that have no octets two may be:
+//! the object identifiers of 3 and 2^128, and of 4 and 2^128, are both `[]`.
 //!
 //! **Octets** are pairs of hex digits in capitals, with a space between two pairs: `02 01 FF`. Of none nothing is
-//! written. In a block they stand in brackets: `[02 01 FF]`, `[]`.
+//! written: an answer of `asn1_calls` that ends with none of them, as that of `signed` may, ends in a blank, which some
+//! editors strip. In a block they stand in brackets: `[02 01 FF]`, `[]`.
 //!
 //! **Characters** are `U+` and their number in hex, in capitals and with at least four digits, with a space between two
 //! of them, and in brackets: `[U+00E9 U+1F600]`, `[]`.
@@ -18,7 +20,7 @@
 //! more, the contents octets that are written of the identifier stand in their place, in brackets.
 //!
 //! **Moments** are `YYYY-MM-DD hh:mm:ss`, and a point and nine digits of nanoseconds where they are not 0:
-//! `1992-05-21 00:00:00.300000000`.
+//! `1992-05-21 00:00:00.300000000`. A year below 0, which no octets have, is `-` and three digits or more: `-005`.
 //!
 //! **Blocks** are the name of their variant and its fields, with `, ` between two fields, in parentheses:
 //!
