@@ -155,8 +155,7 @@ pub record Standing (i : List ℕ) (b : Tree ℕ) (octets : List ℕ) : Type 0 w
 -- where those of a tree of a document do
 pub found_octets :
     (i : List ℕ) (bs : Trees ℕ) (b : Tree ℕ) (octets : List ℕ) → IsDocument i bs →
-    HasOctets i bs b octets →
-    (before : List ℕ) × (behind : List ℕ) × (i ≡ before ++ (octets ++ behind)) × (length before ≡ tree_offset b) × Encodes (tree_offset b) octets b
+    HasOctets i bs b octets → Standing i b octets
 found_octets i bs b octets d h =
     let f = found_among bs (length i) b h.end i [] i [] (sym (append-nil i)) (omega arith) d.blocks h.stands in
     let o = encodes_offset (length f.before) f.octets b f.encoded in

@@ -88,7 +88,9 @@ abbrev pub HasNoEncodingAt : List ℕ → ℕ → Type 0
 HasNoEncodingAt document offset = (octets : List ℕ) → EncodingAt document offset octets → ⊥
 
 -- the octets are those of a tree of the document, and stand at the offset
-abbrev pub TreeAt : List ℕ → ℕ → List ℕ → Type 0
-TreeAt document offset octets =
-    (bs : Trees ℕ) × (b : Tree ℕ)
-    × IsDocument document bs × HasOctets document bs b octets × (tree_offset b ≡ offset)
+pub record TreeAt (document : List ℕ) (offset : ℕ) (octets : List ℕ) : Type 0 where
+  pub all : Trees ℕ
+  pub tree : Tree ℕ
+  pub read : IsDocument document all
+  pub has : HasOctets document all tree octets
+  pub stands : tree_offset tree ≡ offset

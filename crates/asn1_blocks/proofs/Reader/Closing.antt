@@ -9,7 +9,7 @@ use Rattle.asn1_blocks.specs.declared.owed.Owed.{Owed}
 use Rattle.asn1_blocks.specs.declared.read.FrameKind.TheVariants.{Group, Attempt}
 use Rattle.asn1_blocks.specs.declared.read.OpenFrame.{OpenFrame}
 use Rattle.asn1_blocks.specs.declared.read.Reader.{Reader}
-use Rattle.asn1_blocks.specs.Grammar.{Encodes, EncodesAll}
+use Rattle.asn1_blocks.specs.Grammar.{EncodesAll, IsBlock}
 use Rattle.asn1_blocks.specs.Inner.OpenFrames.{AreOpen}
 use Rattle.asn1_blocks.specs.Inner.Owed.{Leads, after_all, around, as_it_came}
 use Rattle.asn1_blocks.specs.Inner.ReaderSteps.{frame, frames, Reads, HasEnded}
