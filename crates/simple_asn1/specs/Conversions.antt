@@ -15,10 +15,12 @@ use Rattle.asn1_blocks.specs.Faithful.{AreFaithful}
 use Rattle.asn1_blocks.specs.Tree.{Trees, no_trees, shapes}
 
 -- the octets are a document, and the value is read of its trees; trees after it are ignored
-abbrev pub Decodes : {T E : Type 0} →
-    (Trees ℕ → Result (T × Trees ℕ) E → Type 0) → List ℕ → T → Type 0
-Decodes reads octets x =
-    (bs : Trees ℕ) × (rest : Trees ℕ) × IsDocument octets bs × reads bs (Ok (x, rest))
+pub record Decodes {T E : Type 0} (reads : Trees ℕ → Result (T × Trees ℕ) E → Type 0) (octets : List ℕ) (x : T)
+    : Type 0 where
+  pub trees : Trees ℕ
+  pub rest : Trees ℕ
+  pub document : IsDocument octets trees
+  pub is_read : reads trees (Ok (x, rest))
 
 -- the octets are a document whose trees the type refuses with the fault; or the fault is what the type makes of the
 -- first fault of the octets, or of memory that ran out
