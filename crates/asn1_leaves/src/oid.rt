@@ -293,7 +293,8 @@ impl OID {
         Ok(octets)
     }
 
-    /// All components as numbers of the type, in one allocation.
+    /// All components as numbers of the type, in one allocation. A component of 2^64 or more may take
+    /// two others for a while.
     ///
     /// # Errors
     /// `Overflow` exactly where the type does not have one of them; `OutOfMemory`.
