@@ -29,7 +29,8 @@ impl OpenLists {
             if left != 0 {
                 let depth = self.left.len();
                 self.left.push(left - 1)?;
-                self.left.push(block.items().map_or(0, |items| items.len()))?;
+                self.left
+                    .push(block.items().map_or(0, |items| items.len()))?;
                 return Ok(depth);
             }
         }

@@ -27,9 +27,9 @@ ghost use Rattle.asn1_blocks.specs.Tree.{Trees};
 ghost use Rattle.asn1_blocks.specs.View.{views};
 ghost use Rattle.asn1_headers.specs.declared.error.ASN1DecodeErr.TheVariants.{OutOfMemory};
 
+use crate::write::in_place::are_canonical_in_place;
 use crate::write::measure::measure;
 use crate::write::put::put_all;
-use crate::write::in_place::are_canonical_in_place;
 use asn1_blocks::block::ASN1Block;
 use asn1_blocks::document::Document;
 use asn1_headers::error::{ASN1DecodeErr, ASN1EncodeErr};
