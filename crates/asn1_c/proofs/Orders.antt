@@ -1,5 +1,32 @@
 -- Trees in order: each is followed by those that it holds.
-use Rattle.std.proofs.Common.{◌≡◌, ℕ, zero, suc, ◌+◌, ◌-◌, ◌<◌, ◌++◌, List, [], ◌∷◌, drop, get_or, length, map, refl, sym, ap, ◌∙◌, inl, inr, arith, length-append, append_assoc, append-nil, Bor}
+use Rattle.std.proofs.Common.{
+  ◌≡◌,
+  ℕ,
+  zero,
+  suc,
+  ◌+◌,
+  ◌-◌,
+  ◌<◌,
+  ◌++◌,
+  List,
+  [],
+  ◌∷◌,
+  drop,
+  get_or,
+  length,
+  map,
+  refl,
+  sym,
+  ap,
+  ◌∙◌,
+  inl,
+  inr,
+  arith,
+  length-append,
+  append_assoc,
+  append-nil,
+  Bor,
+}
 use Rattle.std.proofs.lemmas.Bool.{cases_lt}
 use Rattle.std.proofs.lemmas.List.{drop-append-le, get_or_append_left, get_or-append_right, get_or-map}
 use Rattle.std.proofs.Math.Seq.{drop-append-add}
