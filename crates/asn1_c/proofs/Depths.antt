@@ -1,32 +1,18 @@
 -- How many trees each tree stands in, by how many are ahead at each level that is open.
-use Rattle.std.proofs.Common.{
-  ◌≡◌,
-  ℕ,
-  zero,
-  suc,
-  ◌+◌,
-  ◌-◌,
-  ◌<◌,
-  ◌++◌,
-  List,
-  [],
-  ◌∷◌,
-  length,
-  refl,
-  sym,
-  ap,
-  subst,
-  ◌∙◌,
-  arith,
-  length-append,
-  append_assoc,
-  append-nil,
-}
+use Rattle.std.proofs.Common.{◌≡◌, ℕ, suc, ◌-◌, ◌<◌, ◌++◌, List, [], ◌∷◌, length, refl, sym, ap, ◌∙◌, arith, length-append, append_assoc, append-nil}
 use Rattle.simple_asn1.specs.BlockParts.{all_in_order, in_order}
 use Rattle.simple_asn1.specs.Tree.{Tree, Trees, more_trees, no_trees}
-use Rattle.asn1_c.specs.Levels.{IsTaken, IsWalked, ahead, counts_of, depths_ahead, from_level, from_top}
+use Rattle.asn1_c.specs.Levels.{IsTaken, ahead, counts_of, depths_ahead, from_level, from_top}
 use Rattle.asn1_c.specs.Records.{all_depths, count_of, depths, items_in}
 use Rattle.asn1_c.proofs.Orders.{depth_first, head_first, held, held_count}
+
+-- the depths of the first trees of these are known, and the others are ahead
+pub record IsWalked (trees : List (Tree ℕ)) (bs : Trees ℕ) (known left : List ℕ) : Type 0 where
+  pub levels : List (Trees ℕ)
+  pub top : Trees ℕ
+  pub counts : left ≡ counts_of levels
+  pub trees_ahead : trees ≡ ahead levels top
+  pub all_known : known ++ depths_ahead levels top ≡ all_depths 0 bs
 
 -- the same is ahead in levels of these counts
 pub record IsLeft (levels : List (Trees ℕ)) (top : Trees ℕ) (left : List ℕ) : Type 0 where
@@ -100,9 +86,6 @@ left_top levels top left e s = go s.inner s.counts s.same_trees s.same_depths
         depths_ahead levels top ≡ depths_ahead inner top → IsTaken levels top left
     go [] c t d = from_top e t d
     go (bs ∷ inner) c t d = absurd (no_last (counts_of inner) (count_of bs) (sym c ∙ e))
-
-pub left_first : (levels : List (Trees ℕ)) (top : Trees ℕ) (left : List ℕ) → left ≡ counts_of levels → IsLeft levels top left
-left_first levels top left e = record { inner = levels; counts = e; same_trees = refl; same_depths = refl }
 
 -- the block that is come to is the first of those ahead, and what it holds is a level
 module _ (trees : List (Tree ℕ)) (b : Tree ℕ) (rest : List (Tree ℕ)) (bs : Trees ℕ) (known taken after : List ℕ)

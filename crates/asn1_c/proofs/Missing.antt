@@ -1,7 +1,7 @@
 -- What is read at an offset, and why a value of a kind is missing there.
 use Rattle.std.proofs.Common.{◌≡◌, ◌≢◌, ℕ, List, [], ◌∷◌, inl, inr, length, refl, sym, ap, subst, ◌∙◌}
 use Rattle.simple_asn1.specs.Tree.{Leaf, Tree, Trees, leaf, more_trees, no_trees}
-use Rattle.simple_asn1.specs.View.{tree_offset, view, views}
+use Rattle.simple_asn1.specs.View.{tree_offset, views}
 use Rattle.asn1_blocks.specs.declared.block.ASN1Block.{ASN1Block}
 use Rattle.asn1_c.specs.Status.{no_such_value}
 use Rattle.asn1_c.specs.Values.{IsLeafAt, IsMissing, IsReadAlone, is_another}

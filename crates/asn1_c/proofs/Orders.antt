@@ -1,14 +1,12 @@
 -- Trees in order: each is followed by those that it holds.
 use Rattle.std.proofs.Common.{
   ◌≡◌,
-  ◌≢◌,
   ℕ,
   zero,
   suc,
   ◌+◌,
   ◌-◌,
   ◌<◌,
-  ◌≤◌,
   ◌++◌,
   List,
   [],

@@ -1,21 +1,6 @@
 -- Trees of blocks, by what was found of them.
-use Rattle.std.proofs.Common.{◌≡◌, ◌≢◌, ℕ, ℤ, ◌<◌, List, [], ◌∷◌, Some, length, get_or, sym, ap, arith}
-use Rattle.simple_asn1.specs.BlockParts.{tree_integer, tree_text}
-use Rattle.simple_asn1.specs.Fault.{
-  DecodeFault,
-  bad_boolean_length,
-  empty_buffer,
-  incomplete,
-  invalid_bit_string_length,
-  invalid_class,
-  invalid_date_value,
-  length_too_large,
-  not_canonical,
-  out_of_memory,
-  overflow,
-  printable_string_failure,
-  utf8_failure,
-}
+use Rattle.std.proofs.Common.{◌≡◌, ℕ, ◌<◌, List, [], ◌∷◌, Some, length, get_or, sym, ap, arith}
+use Rattle.simple_asn1.specs.BlockParts.{tree_text}
 use Rattle.asn1_leaves.specs.StringKind.{StringKind}
 use Rattle.simple_asn1.specs.Tree.{
   Tree,
@@ -38,42 +23,6 @@ use Rattle.simple_asn1.specs.Tree.{
 }
 use Rattle.simple_asn1.specs.View.{tree_offset, view, views}
 use Rattle.asn1_blocks.specs.declared.block.ASN1Block.{ASN1Block}
-use Rattle.asn1_c.specs.Status.{status_of}
-
--- no fault has the number of another answer
-pub record IsOfFault (status : ℕ) : Type 0 where
-  pub some : 0 < status
-  pub few : status < 13
-  pub other : status ≢ 11
-
-pub fault_status : (f : DecodeFault) → IsOfFault (status_of f)
-fault_status empty_buffer = record { some = omega arith; few = omega arith; other = omega arith }
-fault_status (bad_boolean_length n) = record { some = omega arith; few = omega arith; other = omega arith }
-fault_status (length_too_large n) = record { some = omega arith; few = omega arith; other = omega arith }
-fault_status utf8_failure = record { some = omega arith; few = omega arith; other = omega arith }
-fault_status printable_string_failure = record { some = omega arith; few = omega arith; other = omega arith }
-fault_status (invalid_date_value s) = record { some = omega arith; few = omega arith; other = omega arith }
-fault_status (invalid_bit_string_length n) = record { some = omega arith; few = omega arith; other = omega arith }
-fault_status (invalid_class n) = record { some = omega arith; few = omega arith; other = omega arith }
-fault_status incomplete = record { some = omega arith; few = omega arith; other = omega arith }
-fault_status overflow = record { some = omega arith; few = omega arith; other = omega arith }
-fault_status out_of_memory = record { some = omega arith; few = omega arith; other = omega arith }
-fault_status (not_canonical n) = record { some = omega arith; few = omega arith; other = omega arith }
-
--- a tree with a number is that INTEGER
-pub integer_leaf : (t : Tree ℕ) (n : ℤ) → tree_integer t ≡ Some n → t ≡ leaf (tree_offset t) (integer n)
-integer_leaf (leaf o (boolean b)) n e = absurd (cc)
-integer_leaf (leaf o (integer m)) n e = let same : m ≡ n = cc in ap (λ z. leaf o (integer z)) same
-integer_leaf (leaf o (bit_string m v)) n e = absurd (cc)
-integer_leaf (leaf o (octet_string v)) n e = absurd (cc)
-integer_leaf (leaf o null) n e = absurd (cc)
-integer_leaf (leaf o (object_identifier v)) n e = absurd (cc)
-integer_leaf (leaf o (text k v)) n e = absurd (cc)
-integer_leaf (leaf o (utc_time m)) n e = absurd (cc)
-integer_leaf (leaf o (generalized_time m)) n e = absurd (cc)
-integer_leaf (group o g bs) n e = absurd (cc)
-integer_leaf (explicit c o m b) n e = absurd (cc)
-integer_leaf (unknown c k o m v) n e = absurd (cc)
 
 -- a tree with characters is a string of them
 pub text_leaf : (t : Tree ℕ) (cs : List ℕ) → tree_text t ≡ Some cs → (kind : StringKind) × (t ≡ leaf (tree_offset t) (text kind cs))
@@ -90,13 +39,7 @@ text_leaf (group o g bs) cs e = absurd (cc)
 text_leaf (explicit c o m b) cs e = absurd (cc)
 text_leaf (unknown c k o m v) cs e = absurd (cc)
 
--- one block
-pub one_view : (bs : List ASN1Block) (b : ASN1Block) → length bs ≡ 1 → b ≡ get_or bs 0 b → views bs ≡ more_trees (view b) no_trees
-one_view [] b n e = absurd (omega (arith, n))
-one_view (x ∷ []) b n e = ap (λ z. more_trees (view z) no_trees) (sym e)
-one_view (x ∷ y ∷ bs) b n e = absurd (omega (arith, n))
-
--- three
+-- three blocks
 pub three_views :
     (bs : List ASN1Block) (a b c : ASN1Block) → length bs ≡ 3 → a ≡ get_or bs 0 a → b ≡ get_or bs 1 b → c ≡ get_or bs 2 c →
     views bs ≡ more_trees (view a) (more_trees (view b) (more_trees (view c) no_trees))
@@ -106,7 +49,7 @@ three_views (x ∷ y ∷ []) a b c n e f g = absurd (omega (arith, n))
 three_views (x ∷ y ∷ z ∷ []) a b c n e f g = cc
 three_views (x ∷ y ∷ z ∷ w ∷ bs) a b c n e f g = absurd (omega (arith, n))
 
--- the first of some
+-- the first of some blocks
 pub first_view : (bs : List ASN1Block) (b : ASN1Block) → 0 < length bs → b ≡ get_or bs 0 b → (rest : Trees ℕ) × (views bs ≡ more_trees (view b) rest)
 first_view [] b n e = absurd (omega (arith, n))
 first_view (x ∷ bs) b n e = (views bs, ap (λ z. more_trees (view z) (views bs)) (sym e))

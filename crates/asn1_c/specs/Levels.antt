@@ -29,11 +29,3 @@ pub data IsTaken (levels : List (Trees ℕ)) (top : Trees ℕ) (left : List ℕ)
   from_top :
       left ≡ [] → ahead levels top ≡ all_in_order top → depths_ahead levels top ≡ all_depths 0 top →
       IsTaken levels top left
-
--- the depths of the first trees of these are known, and the others are ahead
-pub record IsWalked (trees : List (Tree ℕ)) (bs : Trees ℕ) (known left : List ℕ) : Type 0 where
-  pub levels : List (Trees ℕ)
-  pub top : Trees ℕ
-  pub counts : left ≡ counts_of levels
-  pub trees_ahead : trees ≡ ahead levels top
-  pub all_known : known ++ depths_ahead levels top ≡ all_depths 0 bs

@@ -1,4 +1,4 @@
-use Rattle.std.proofs.Common.{◌≡◌, ◌≢◌, ◌∙◌, ap, length, arith}
+use Rattle.std.proofs.Common.{◌≢◌, ◌∙◌, ap, length, arith}
 use Rattle.simple_asn1.specs.View.{views}
 use Rattle.asn1_c.proofs.Missing.{not_one}
 use Rattle.asn1_c.proofs.alone.only_block.Goals as goal

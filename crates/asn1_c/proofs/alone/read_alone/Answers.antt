@@ -1,4 +1,4 @@
-use Rattle.std.proofs.Common.{◌≡◌, ◌<◌, ◌^◌, inl, inr, length, refl, arith}
+use Rattle.std.proofs.Common.{◌<◌, ◌^◌, inl, inr, length, refl, arith}
 use Rattle.std.proofs.lemmas.Grind.{common_steps}
 use Rattle.asn1_c.specs.Values.{is_at_fault, stands_nowhere}
 use Rattle.asn1_c.proofs.ReadAlone.{fits, not_at_fault, one_reading, stands_somewhere}

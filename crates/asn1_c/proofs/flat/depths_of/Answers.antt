@@ -1,10 +1,9 @@
-use Rattle.std.proofs.Common.{◌≡◌, ◌<◌, ◌≤◌, ◌+◌, ◌++◌, ◌∷◌, [], ℕ, suc, List, drop, get_or, length, map, sym, ap, subst, ◌∙◌, arith}
+use Rattle.std.proofs.Common.{◌≡◌, ◌<◌, ◌≤◌, ◌+◌, ◌++◌, ◌∷◌, [], ℕ, suc, List, drop, length, map, sym, ap, subst, ◌∙◌, arith}
 use Rattle.std.proofs.Math.Seq.{drop-cons}
 use Rattle.std.proofs.lemmas.List.{drop_all, length-map}
 use Rattle.simple_asn1.specs.Tree.{Tree}
-use Rattle.asn1_c.specs.Levels.{IsWalked}
 use Rattle.asn1_c.specs.Records.{items_in, no_tree}
-use Rattle.asn1_c.proofs.Depths.{walked_all, walked_first, walked_more}
+use Rattle.asn1_c.proofs.Depths.{IsWalked, walked_all, walked_first, walked_more}
 use Rattle.asn1_c.proofs.Orders.{seen, tree_at}
 use Rattle.asn1_c.proofs.flat.depths_of.Goals as goal
 

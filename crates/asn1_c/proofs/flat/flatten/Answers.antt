@@ -1,9 +1,9 @@
-use Rattle.std.proofs.Common.{◌≡◌, ◌+◌, ◌<◌, ◌≤◌, ℕ, List, length, get_or, map, sym, ap, subst, ◌∙◌, arith}
+use Rattle.std.proofs.Common.{◌≡◌, ◌+◌, ◌<◌, ◌≤◌, length, get_or, map, sym, ap, subst, ◌∙◌, arith}
 use Rattle.std.proofs.lemmas.List.{get_or_read, length-map}
 use Rattle.std.proofs.Math.ListN.{length-set}
 use Rattle.simple_asn1.specs.BlockParts.{all_in_order, in_order}
 use Rattle.simple_asn1.specs.View.{views}
-use Rattle.asn1_c.specs.Records.{IsRecord, IsRecordAt, Stands, all_depths, no_tree}
+use Rattle.asn1_c.specs.Records.{IsRecord, IsRecordAt, Stands, no_tree}
 use Rattle.asn1_c.proofs.Orders.{depths_count, seen, tree_at}
 use Rattle.asn1_c.proofs.Standing.{stands_at}
 use Rattle.asn1_c.proofs.Steps.{put_more}

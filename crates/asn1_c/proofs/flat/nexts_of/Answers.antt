@@ -1,9 +1,9 @@
-use Rattle.std.proofs.Common.{◌≡◌, ◌+◌, ◌-◌, ◌<◌, ◌≤◌, ℕ, get_or, length, map, refl, sym, ap, subst, ◌∙◌, arith}
+use Rattle.std.proofs.Common.{◌≡◌, ◌+◌, ◌-◌, ◌<◌, get_or, length, map, refl, sym, ap, subst, ◌∙◌, arith}
 use Rattle.std.proofs.lemmas.List.{get_or_read, length-map}
 use Rattle.std.proofs.Math.ListN.{length-set}
 use Rattle.simple_asn1.specs.BlockParts.{in_order}
 use Rattle.asn1_c.specs.Records.{items_in, no_tree}
-use Rattle.asn1_c.proofs.Nexts.{IsReached, known_more, reached_first, reached_last, reached_next, reached_within, some_in_order}
+use Rattle.asn1_c.proofs.Nexts.{IsReached, known_more, reached_first, reached_last, reached_next, reached_within}
 use Rattle.asn1_c.proofs.Orders.{seen, tree_at}
 use Rattle.asn1_c.proofs.flat.nexts_of.Goals as goal
 

@@ -1,4 +1,4 @@
-use Rattle.std.proofs.Common.{◌≡◌, ◌<◌, [], length, append-nil, sym, ap, subst, ◌∙◌, arith}
+use Rattle.std.proofs.Common.{◌≡◌, ◌<◌, [], length, append-nil, subst, ◌∙◌, arith}
 use Rattle.asn1_c.specs.Levels.{IsTaken}
 use Rattle.asn1_c.proofs.Depths.{left_ended, left_taken, left_top, no_items}
 use Rattle.asn1_c.proofs.flat.take_next.Goals as goal

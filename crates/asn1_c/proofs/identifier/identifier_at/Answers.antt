@@ -1,4 +1,4 @@
-use Rattle.std.proofs.Common.{◌≡◌, ℕ, List, inl, inr, refl, sym, subst, ◌∙◌}
+use Rattle.std.proofs.Common.{ℕ, List, inl, inr, refl, subst, ◌∙◌}
 use Rattle.simple_asn1.specs.Tree.{object_identifier}
 use Rattle.simple_asn1.specs.View.{view, views}
 use Rattle.asn1_c.specs.Room.{ArePut}

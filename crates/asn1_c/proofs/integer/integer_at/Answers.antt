@@ -1,10 +1,7 @@
-use Rattle.std.proofs.Common.{◌≡◌, ℤ, sym, subst, ◌∙◌}
-use Rattle.std.proofs.Math.Facts.{to_z-of_z}
-use mir.Syntax.{w64}
-use mir.Val.{SFits}
+use Rattle.std.proofs.Common.{ℤ}
 use Rattle.simple_asn1.specs.Tree.{integer}
 use Rattle.simple_asn1.specs.View.{view, views}
-use Rattle.asn1_c.specs.Values.{IsIntegerAt, integer_is_missing, integer_is_too_large, integer_was_found}
+use Rattle.asn1_c.specs.Values.{IsIntegerAt, integer_is_missing, integer_is_too_large}
 use Rattle.asn1_c.proofs.Missing.{another_there, leaf_at, leaf_there, not_alone, nothing_there, reading_of}
 use Rattle.asn1_c.proofs.integer.integer_at.Goals as goal
 

@@ -1,4 +1,4 @@
-use Rattle.std.proofs.Common.{◌≡◌, ◌⊎◌, inl, inr, sym, ◌∙◌}
+use Rattle.std.proofs.Common.{inl, inr}
 use Rattle.asn1_leaves.specs.Contents.Moment.{Moment, moment_of}
 use Rattle.simple_asn1.specs.Tree.{generalized_time, utc_time}
 use Rattle.simple_asn1.specs.View.{view, views}

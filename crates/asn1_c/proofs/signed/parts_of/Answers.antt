@@ -2,7 +2,7 @@ use Rattle.std.proofs.Common.{◌≡◌, ◌≢◌, length, refl, ap, ◌∙◌,
 use Rattle.simple_asn1.specs.SignedTrees.{SignedParts, algorithm_tree, signature_tree}
 use Rattle.simple_asn1.specs.Tree.{group, more_trees, no_trees}
 use Rattle.simple_asn1.specs.View.{tree_offset, view, views}
-use Rattle.simple_asn1.proofs.SignedTriples.{no_signature, no_triple}
+use Rattle.simple_asn1.proofs.SignedTriples.{no_triple}
 use Rattle.asn1_blocks.specs.declared.block.GroupKind.TheVariants.{Sequence}
 use Rattle.asn1_c.proofs.Parts.{three_views}
 use Rattle.asn1_c.proofs.signed.parts_of.Goals as goal
