@@ -8,14 +8,21 @@ use Rattle.simple_asn1.specs.declared.convert.signed.TripleErr.TheVariants.{Code
 use Rattle.signed_content.specs.Content.{IsNotSigned}
 use Rattle.signed_content.proofs.run.content_of.Goals as goal
 
-pub returns-in-Err-Codec-clause-refused : goal.returns-in-Err-Codec-clause-refused
-returns-in-Err-Codec-clause-refused c =
-    let fault = c.in-Err-Codec.fault in
-    let first = c.in-Err-Codec.ensures.codec fault c.in-Err-Codec.field-0-is in
-    elim c.codec_fault.ensures [
-      | inl memory ↦ inl memory.0
-      | inr octets ↦ elim first [ inl memory ↦ absurd (octets.1 memory) | inr first ↦ inr (octets.0, inl (fault_of fault, first)) ]
-    ]
+-- a refusal that is not of memory is one of the input
+of_input :
+    (fault : TripleErr) (input : List ℕ) → ((f : _) → fault ≡ Codec f → OutOfMemoryOr (FirstFault input) f) →
+    (fault ≡ Shape → IsOfAnotherShape input) → fault ≢ Codec OutOfMemory → IsNotSigned input
+of_input (Codec f) input codec shape no_memory = elim (codec f refl) [
+  | inl memory ↦ absurd (no_memory (ap Codec memory))
+  | inr first ↦ inl (fault_of f, first)
+]
+of_input Shape input codec shape no_memory = inr (shape refl)
+
+pub returns-in-Err-clause-refused : goal.returns-in-Err-clause-refused
+returns-in-Err-clause-refused c = elim c.refusal_of.ensures [
+  | inl memory ↦ inl memory.1
+  | inr input ↦ inr (input.1, of_input c.in-Err.fault _ c.in-Err.ensures.codec c.in-Err.ensures.shape input.0)
+]
 
 pub returns-in-Ok-clause-content : goal.returns-in-Ok-clause-content
 returns-in-Ok-clause-content c =
