@@ -15,17 +15,22 @@
 //     read 04 89              refused LengthTooLarge 9
 //     signed 05 00            refused Shape
 //
-// `read` is answered by the blocks in the notation of `asn1_text`, `count` by the number of headers that were begun, and
-// whether the octets were read, `place` by whether they were read, and at which offset they are at fault, `rewrite` by
-// the canonical octets, `strict` as `read`, of canonical documents alone, and `signed` by the content, the algorithm, the
-// number of bits and the octets of the signature: `content 30 00, algorithm 1.2, 8 bits, AB`. A call that refuses its
-// octets is answered by `refused`, the name of the fault, and after a space what the fault holds: its number in decimal,
-// or its characters as in the notation. The other calls are named as in the library. A line that is anything else is
-// answered by `badline`.
+// `read` is answered by the blocks in the notation of `asn1_text`, `count` by the number of headers that were begun,
+// and whether the octets were read, `place` by whether they were read, and at which offset they are at fault,
+// `rewrite` by the canonical octets, `strict` as `read`, of canonical documents alone, and `signed` by the content,
+// the algorithm, the number of bits and the octets of the signature: `content 30 00, algorithm 1.2, 8 bits, AB`. A
+// call that refuses its octets is answered by `refused`, the name of the fault, and after a space what the fault
+// holds: its number in decimal, or its characters as in the notation. The other calls are named as in the library.
+// Those of `OID::new`, `OID::from_u64s`, `BigUint::to` and `BigUint::cmp` are given base-128 forms, `encoding_at` the
+// offset and then the document. `parts` is answered by class, tag number and offset of each block, and what else it
+// has, `==` by the places of blocks that are equal, `all_blocks` by the offsets of all, `Utf8Error` by where contents
+// octets stop being UTF-8, and `made` by what becomes of a block made by hand (`calls::made`). A line that is
+// anything else is answered by `badline`.
 ghost use Rattle.std.specs.Prelude.{◌≡◌, ◌++◌, ◌∷◌, ℕ, List, IfOk, OnOk, string_bytes, if◌then◌else◌};
 ghost use Rattle.asn1_calls.specs.Answers.{AreAnswers, IsAnswer, is_comment};
 
 use crate::calls::Call;
+use crate::calls::refusals::ran_out;
 use crate::lines::{is_comment_line, split_name, without_comment};
 use asn1_text::octets_of;
 use std::alloc::{AllocError, Global};
@@ -61,7 +66,17 @@ fn answer(alloc: Global, line: &[u8]) -> Result<String, AllocError>
     }
     let (name, digits) = split_name(text);
     match (Call::named(name), octets_of(alloc, digits)?) {
-        (Some(call), Some(octets)) => call.answer(alloc, &octets),
+        (Some(call), Some(octets)) => called(alloc, &call, &octets),
         _ => String::from_str(alloc, "badline"),
+    }
+}
+
+// The answer of the call. Where memory ran out, the octets have to be as they were.
+fn called(alloc: Global, call: &Call, octets: &[u8]) -> Result<String, AllocError> {
+    let mut before = Vec::with_capacity(alloc, octets.len())?;
+    before.extend_from_slice(octets)?;
+    match call.answer(alloc, octets) {
+        Ok(text) => Ok(text),
+        Err(AllocError) => ran_out(alloc, octets == before.as_slice()),
     }
 }

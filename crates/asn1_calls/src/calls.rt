@@ -1,18 +1,24 @@
 // The calls that a line can name, and their answers.
 mod blocks;
+mod errors;
 mod headers;
 mod identifiers;
+mod made;
 mod numbers;
 mod own;
-mod refusals;
+mod parts;
+pub mod refusals;
 mod signed;
 
 use crate::calls::blocks::BlockCall;
+use crate::calls::errors::ErrorCall;
 use crate::calls::headers::HeaderCall;
 use crate::calls::identifiers::{IdentifierCall, made};
-use crate::calls::numbers::{ErrorCall, NaturalCall, WholeCall};
+use crate::calls::made::made_answer;
+use crate::calls::numbers::{NaturalCall, WholeCall};
 use crate::calls::own::PointCall;
-use crate::calls::refusals::{ran_out, refusal};
+use crate::calls::parts::encoding_answer;
+use crate::calls::refusals::{located_refusal, ran_out, refusal};
 use crate::calls::signed::signed_answer;
 use asn1_text::{blocks_text, octets_text};
 use simple_asn1::{
@@ -31,6 +37,9 @@ pub enum Call {
     Strict,
     Signed,
     MakeIdentifier,
+    ReadLocated,
+    EncodingAt,
+    Made,
     OfBlock(BlockCall),
     OfIdentifier(IdentifierCall),
     OfNatural(NaturalCall),
@@ -51,6 +60,9 @@ impl Call {
             b"strict" => Some(Call::Strict),
             b"signed" => Some(Call::Signed),
             b"oid!" => Some(Call::MakeIdentifier),
+            b"Document::from_der_located" => Some(Call::ReadLocated),
+            b"encoding_at" => Some(Call::EncodingAt),
+            b"made" => Some(Call::Made),
             _ => named_otherwise(name),
         }
     }
@@ -65,6 +77,9 @@ impl Call {
             Call::Strict => strict_answer(alloc, octets),
             Call::Signed => signed_answer(alloc, octets),
             Call::MakeIdentifier => made(alloc),
+            Call::ReadLocated => located_answer(alloc, octets),
+            Call::EncodingAt => encoding_answer(alloc, octets),
+            Call::Made => made_answer(alloc, octets),
             Call::OfBlock(call) => call.answer(alloc, octets),
             Call::OfIdentifier(call) => call.answer(alloc, octets),
             Call::OfNatural(call) => call.answer(alloc, octets),
@@ -128,10 +143,14 @@ fn place_answer(alloc: Global, octets: &[u8]) -> Result<String, AllocError> {
             discard(blocks);
             String::from_str(alloc, "read")
         }
-        Err(located) => {
-            let refusal = refusal(alloc, &located.error)?;
-            format!(in alloc; "{refusal} at {}", located.offset)
-        }
+        Err(located) => located_refusal(alloc, &located),
+    }
+}
+
+fn located_answer(alloc: Global, octets: &[u8]) -> Result<String, AllocError> {
+    match Document::from_der_located(alloc, octets) {
+        Ok(document) => blocks_text(alloc, document.blocks()),
+        Err(located) => located_refusal(alloc, &located),
     }
 }
 

@@ -1,5 +1,5 @@
 // The errors: their texts, their equality and their clones.
-use simple_asn1::{ASN1DecodeErr, ASN1EncodeErr};
+use simple_asn1::{ASN1DecodeErr, ASN1EncodeErr, LocatedErr};
 use std::alloc::{AllocError, Global};
 use std::fmt::Write;
 use std::process::Abort;
@@ -151,4 +151,37 @@ fn payloads_are_compared(rt: HostRuntime) -> Result<(), Fail> {
 fn refused_memory_is_out_of_memory(rt: HostRuntime) {
     assert_eq!(rt; ASN1DecodeErr::from(AllocError), ASN1DecodeErr::OutOfMemory);
     assert_eq!(rt; ASN1EncodeErr::from(AllocError), ASN1EncodeErr::OutOfMemory);
+}
+
+#[test]
+fn a_located_error_has_a_text(rt: HostRuntime) -> Result<(), Fail> {
+    let alloc = rt.alloc();
+    let located = LocatedErr {
+        error: ASN1DecodeErr::LengthTooLarge(9),
+        offset: 4,
+    };
+    let mut printed = String::new(alloc);
+    write!(printed, "{located}")?;
+    assert_eq!(rt;
+        printed.as_str(),
+        "Length field too large for object type: 9 at offset 4"
+    );
+    Ok(())
+}
+
+#[test]
+fn a_located_error_is_compared_with_its_place(rt: HostRuntime) -> Result<(), Fail> {
+    let alloc = rt.alloc();
+    let located = LocatedErr {
+        error: ASN1DecodeErr::Incomplete,
+        offset: 4,
+    };
+    let start = LocatedErr {
+        error: ASN1DecodeErr::Incomplete,
+        offset: 0,
+    };
+    assert!(rt; located.clone(alloc)? == located);
+    assert!(rt; located != start);
+    assert_eq!(rt; ASN1DecodeErr::from(located), ASN1DecodeErr::Incomplete);
+    Ok(())
 }

@@ -1,9 +1,10 @@
 // Types of one's own, which the tests of conversions read and write.
 ghost use Rattle.std.specs.Prelude.{◌≡◌, ◌⊎◌, ℕ, Ok, Err, MatchResult};
+ghost use Rattle.simple_asn1.specs.Grammar.{Document};
 ghost use Rattle.simple_asn1.specs.Tree.{Trees, no_trees, shapes};
 
 use simple_asn1::{
-    ASN1Block, ASN1Class, ASN1DecodeErr, ASN1EncodeErr, FromASN1, RoundTrip, ToASN1,
+    ASN1Block, ASN1Class, ASN1DecodeErr, ASN1EncodeErr, FromASN1, RoundTrip, ToASN1, from_der,
 };
 use std::alloc::Global;
 
@@ -68,6 +69,25 @@ impl RoundTrip for Nothing {
     ghost written = { λ x bs h. h };
 
     ghost read_back = { nothing_read_back };
+}
+
+// The blocks of a document.
+#[derive(Debug, Drop)]
+pub struct Encoded {
+    pub octets: Vec<u8>,
+}
+
+impl ToASN1 for Encoded {
+    type Error = NothingErr;
+
+    ghost writes = { λ x c r. MatchResult r (λ bs. Document x.octets.items bs) (λ e. Unit {0}) };
+
+    fn to_asn1_class(&self, alloc: Global, _c: ASN1Class) -> Result<Vec<ASN1Block>, NothingErr> {
+        match from_der(alloc, &self.octets) {
+            Ok(blocks) => Ok(blocks),
+            Err(e) => Err(NothingErr::Decode(e)),
+        }
+    }
 }
 
 // Two values of a type, one after the other.

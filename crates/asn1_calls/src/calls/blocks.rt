@@ -1,8 +1,10 @@
 // Calls of blocks. They are given the blocks of a document.
+use crate::calls::parts::{offsets, parts, same};
 use crate::calls::refusals::{ran_out, refusal, write_refusal};
 use asn1_text::{blocks_text, octets_text};
 use simple_asn1::{ASN1Block, Document, discard, to_der};
 use std::alloc::{AllocError, Global};
+use std::slice;
 
 // A call of each of the blocks.
 #[derive(Drop)]
@@ -10,6 +12,9 @@ pub enum BlockCall {
     Write,
     Clone,
     IsFaithful,
+    Parts,
+    Same,
+    All,
 }
 
 impl BlockCall {
@@ -19,6 +24,9 @@ impl BlockCall {
             b"to_der" => Some(BlockCall::Write),
             b"clone" => Some(BlockCall::Clone),
             b"is_faithful" => Some(BlockCall::IsFaithful),
+            b"parts" => Some(BlockCall::Parts),
+            b"==" => Some(BlockCall::Same),
+            b"all_blocks" => Some(BlockCall::All),
             _ => None,
         }
     }
@@ -37,6 +45,9 @@ impl BlockCall {
             BlockCall::Write => written(alloc, document.blocks()),
             BlockCall::Clone => cloned(alloc, document.blocks()),
             BlockCall::IsFaithful => faithful(alloc, document.blocks()),
+            BlockCall::Parts => parts(alloc, document.blocks()),
+            BlockCall::Same => same(alloc, document.blocks()),
+            BlockCall::All => offsets(alloc, document.blocks()),
         };
         match answers {
             Ok(text) => Ok(text),
@@ -70,7 +81,11 @@ fn cloned(alloc: Global, blocks: &[ASN1Block]) -> Result<String, AllocError> {
 fn clone_text(alloc: Global, block: &ASN1Block) -> Result<String, AllocError> {
     let mut clones = Vec::with_capacity(alloc, 1)?;
     clones.push_reserved(block.clone(alloc)?);
-    let text = blocks_text(alloc, &clones);
+    let text = if clones.as_slice() == slice::from_ref(block) {
+        blocks_text(alloc, &clones)
+    } else {
+        String::from_str(alloc, "another block")
+    };
     discard(clones);
     text
 }

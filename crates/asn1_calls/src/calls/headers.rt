@@ -1,9 +1,10 @@
 // Calls of the parts of headers. They are given octets with such a part at their front.
+use crate::calls::parts::class_name;
 use crate::calls::refusals::{ran_out, refusal};
 use asn1_text::octets_text;
 use simple_asn1::{
-    ASN1Class, ASN1DecodeErr, BigUint, HeaderCount, decode_base127, decode_length, decode_tag,
-    encode_base127, encode_len, encode_tag,
+    ASN1Class, ASN1DecodeErr, BigUint, HeaderCount, decode_base127, decode_class, decode_length,
+    decode_tag, encode_base127, encode_class, encode_len, encode_tag,
 };
 use std::alloc::{AllocError, Global};
 
@@ -16,6 +17,8 @@ pub enum HeaderCall {
     EncodeTag,
     EncodeLength,
     EncodeBase128,
+    DecodeClass,
+    EncodeClass,
 }
 
 impl HeaderCall {
@@ -28,6 +31,8 @@ impl HeaderCall {
             b"encode_tag" => Some(HeaderCall::EncodeTag),
             b"encode_len" => Some(HeaderCall::EncodeLength),
             b"encode_base127" => Some(HeaderCall::EncodeBase128),
+            b"decode_class" => Some(HeaderCall::DecodeClass),
+            b"encode_class" => Some(HeaderCall::EncodeClass),
             _ => None,
         }
     }
@@ -41,6 +46,8 @@ impl HeaderCall {
             HeaderCall::EncodeTag => tag_octets(alloc, octets),
             HeaderCall::EncodeLength => length_octets(alloc, octets),
             HeaderCall::EncodeBase128 => base128_octets(alloc, octets),
+            HeaderCall::DecodeClass => class_answer(alloc, octets, false),
+            HeaderCall::EncodeClass => class_answer(alloc, octets, true),
         }
     }
 }
@@ -85,10 +92,21 @@ fn tag_octets(alloc: Global, octets: &[u8]) -> Result<String, AllocError> {
     let mut index = 0;
     let mut count = HeaderCount::new();
     match decode_tag(alloc, octets, &mut index, &mut count) {
-        Ok((tag, constructed, class)) => {
-            octets_text(alloc, &encode_tag(alloc, class, constructed, &tag)?)
-        }
+        Ok((tag, constructed, class)) => { tag_written(alloc, class, constructed, &tag) }
         Err(fault) => refused_at(alloc, &fault, index),
+    }
+}
+
+fn tag_written(
+    alloc: Global,
+    class: ASN1Class,
+    constructed: bool,
+    tag: &BigUint,
+) -> Result<String, AllocError> {
+    let before = tag.clone(alloc)?;
+    match encode_tag(alloc, class, constructed, tag) {
+        Ok(identifier) => octets_text(alloc, &identifier),
+        Err(AllocError) => ran_out(alloc, *tag == before),
     }
 }
 
@@ -103,23 +121,34 @@ fn length_octets(alloc: Global, octets: &[u8]) -> Result<String, AllocError> {
 fn base128_octets(alloc: Global, octets: &[u8]) -> Result<String, AllocError> {
     let mut index = 0;
     match decode_base127(alloc, octets, &mut index) {
-        Ok(n) => octets_text(alloc, &encode_base127(alloc, &n)?),
+        Ok(n) => base128_written(alloc, &n),
         Err(fault) => refused_at(alloc, &fault, index),
+    }
+}
+
+fn base128_written(alloc: Global, n: &BigUint) -> Result<String, AllocError> {
+    let before = n.clone(alloc)?;
+    match encode_base127(alloc, n) {
+        Ok(digits) => octets_text(alloc, &digits),
+        Err(AllocError) => ran_out(alloc, *n == before),
+    }
+}
+
+// The class of the first octet, or its octet again.
+fn class_answer(alloc: Global, octets: &[u8], is_written: bool) -> Result<String, AllocError> {
+    let Some(octet) = octets.first() else {
+        return String::from_str(alloc, "no octet");
+    };
+    match decode_class(*octet) {
+        Ok(class) if is_written => octets_text(alloc, &[encode_class(class)]),
+        Ok(class) => String::from_str(alloc, class_name(class)),
+        Err(fault) => refusal(alloc, &fault),
     }
 }
 
 fn refused_at(alloc: Global, fault: &ASN1DecodeErr, index: usize) -> Result<String, AllocError> {
     let refusal = refusal(alloc, fault)?;
     format!(in alloc; "{refusal}, index {index}")
-}
-
-fn class_name(class: ASN1Class) -> &'static str {
-    match class {
-        ASN1Class::Universal => "Universal",
-        ASN1Class::Application => "Application",
-        ASN1Class::ContextSpecific => "CS",
-        ASN1Class::Private => "Private",
-    }
 }
 
 fn number_text(alloc: Global, number: &BigUint) -> Result<String, AllocError> {

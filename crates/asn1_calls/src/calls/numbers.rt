@@ -1,8 +1,10 @@
-// Calls of numbers, given by their two's complement octets (X.690 8.3), and clones of errors.
-use crate::calls::refusals::{ran_out, refusal, write_refusal};
+// Calls of numbers, given by their two's complement octets (X.690 8.3), or by their base-128 forms (8.1.2.4.2).
+use crate::calls::refusals::{ran_out, refusal};
 use asn1_text::{blocks_text, octets_text};
-use simple_asn1::{ASN1Block, ASN1EncodeErr, BigInt, BigUint, from_der};
+use simple_asn1::{ASN1Block, BigInt, BigUint, decode_base127};
 use std::alloc::{AllocError, Global};
+use std::cmp::Ordering;
+use std::fmt::Display;
 
 // A call of a natural number.
 #[derive(Drop)]
@@ -10,6 +12,8 @@ pub enum NaturalCall {
     FromU64,
     FromU128,
     Clone,
+    Types,
+    Order,
 }
 
 impl NaturalCall {
@@ -19,13 +23,24 @@ impl NaturalCall {
             b"BigUint::from_u64" => Some(NaturalCall::FromU64),
             b"BigUint::from_u128" => Some(NaturalCall::FromU128),
             b"BigUint::clone" => Some(NaturalCall::Clone),
+            b"BigUint::to" => Some(NaturalCall::Types),
+            b"BigUint::cmp" => Some(NaturalCall::Order),
             _ => None,
         }
     }
 
-    // The number in decimal, made of that of the two's complement octets.
+    // The number in decimal, made of that of the two's complement octets; or what is said of those of base-128 forms.
     pub fn answer(&self, alloc: Global, octets: &[u8]) -> Result<String, AllocError> {
-        let given = BigInt::from_signed_bytes_be(alloc, octets)?;
+        match self {
+            NaturalCall::Types => natural_types(alloc, octets),
+            NaturalCall::Order => natural_order(alloc, octets),
+            NaturalCall::FromU64 | NaturalCall::FromU128 | NaturalCall::Clone => {
+                self.made(alloc, &BigInt::from_signed_bytes_be(alloc, octets)?)
+            }
+        }
+    }
+
+    fn made(&self, alloc: Global, given: &BigInt) -> Result<String, AllocError> {
         match self {
             NaturalCall::FromU64 => match given.to_u64() {
                 Some(n) => natural_text(alloc, &BigUint::from_u64(alloc, n)?),
@@ -35,7 +50,7 @@ impl NaturalCall {
                 Some(n) => natural_text(alloc, &BigUint::from_u128(alloc, n)?),
                 None => no_such_number(alloc),
             },
-            NaturalCall::Clone => match given.to_u128() {
+            _ => match given.to_u128() {
                 Some(n) => natural_clone(alloc, n),
                 None => no_such_number(alloc),
             },
@@ -50,9 +65,61 @@ fn no_such_number(alloc: Global) -> Result<String, AllocError> {
 fn natural_clone(alloc: Global, n: u128) -> Result<String, AllocError> {
     let number = BigUint::from_u128(alloc, n)?;
     match number.clone(alloc) {
-        Ok(clone) => natural_text(alloc, &clone),
+        Ok(clone) if clone == number => natural_text(alloc, &clone),
+        Ok(_) => String::from_str(alloc, "another number"),
         Err(AllocError) => ran_out(alloc, number.to_u128() == Some(n)),
     }
+}
+
+// A number as one of a type, or a minus where it does not fit.
+fn fitting<T: Display + Drop>(alloc: Global, number: Option<T>) -> Result<String, AllocError> {
+    match number {
+        Some(n) => format!(in alloc; "{n}"),
+        None => String::from_str(alloc, "-"),
+    }
+}
+
+// The number of a base-128 form as one of each type.
+fn natural_types(alloc: Global, octets: &[u8]) -> Result<String, AllocError> {
+    let number = match decode_base127(alloc, octets, &mut 0) {
+        Ok(number) => number,
+        Err(fault) => return refusal(alloc, &fault),
+    };
+    let of_u8 = fitting(alloc, number.to_u8())?;
+    let of_u16 = fitting(alloc, number.to_u16())?;
+    let of_u32 = fitting(alloc, number.to_u32())?;
+    let of_u64 = fitting(alloc, number.to_u64())?;
+    let of_u128 = fitting(alloc, number.to_u128())?;
+    let of_usize = fitting(alloc, number.to_usize())?;
+    format!(in alloc;
+        "u8 {of_u8}, u16 {of_u16}, u32 {of_u32}, u64 {of_u64}, u128 {of_u128}, usize {of_usize}"
+    )
+}
+
+// How the numbers of two base-128 forms are ordered, the first of them cloned.
+fn natural_order(alloc: Global, octets: &[u8]) -> Result<String, AllocError> {
+    let mut index = 0;
+    let first = match decode_base127(alloc, octets, &mut index) {
+        Ok(first) => first.clone(alloc)?,
+        Err(fault) => return refusal(alloc, &fault),
+    };
+    match decode_base127(alloc, octets, &mut index) {
+        Ok(second) => order_text(alloc, &first, &second),
+        Err(fault) => refusal(alloc, &fault),
+    }
+}
+
+fn order_text(alloc: Global, first: &BigUint, second: &BigUint) -> Result<String, AllocError> {
+    let (sign, is_less, is_more) = match first.cmp(second) {
+        Ordering::Less => ("<", true, false),
+        Ordering::Equal => ("==", false, false),
+        Ordering::Greater => (">", false, true),
+    };
+    let is_equal = !is_less && !is_more;
+    if (first < second) != is_less || (second < first) != is_more || (first == second) != is_equal {
+        return String::from_str(alloc, "ordered in two ways");
+    }
+    String::from_str(alloc, sign)
 }
 
 fn natural_text(alloc: Global, number: &BigUint) -> Result<String, AllocError> {
@@ -72,6 +139,7 @@ pub enum WholeCall {
     FromOctets,
     ToOctets,
     Clone,
+    Types,
 }
 
 impl WholeCall {
@@ -85,6 +153,7 @@ impl WholeCall {
             b"BigInt::from_signed_bytes_be" => Some(WholeCall::FromOctets),
             b"BigInt::to_signed_bytes_be" => Some(WholeCall::ToOctets),
             b"BigInt::clone" => Some(WholeCall::Clone),
+            b"BigInt::to" => Some(WholeCall::Types),
             _ => None,
         }
     }
@@ -94,26 +163,44 @@ impl WholeCall {
         let given = BigInt::from_signed_bytes_be(alloc, octets)?;
         match self {
             WholeCall::FromI64 => match given.to_i64() {
-                Some(n) => integer_text(alloc, BigInt::from_i64(alloc, n)?),
+                Some(n) => made_integer(alloc, &given, BigInt::from_i64(alloc, n)?),
                 None => no_such_number(alloc),
             },
             WholeCall::FromU64 => match given.to_u64() {
-                Some(n) => integer_text(alloc, BigInt::from_u64(alloc, n)?),
+                Some(n) => made_integer(alloc, &given, BigInt::from_u64(alloc, n)?),
                 None => no_such_number(alloc),
             },
             WholeCall::FromI128 => match given.to_i128() {
-                Some(n) => integer_text(alloc, BigInt::from_i128(alloc, n)?),
+                Some(n) => made_integer(alloc, &given, BigInt::from_i128(alloc, n)?),
                 None => no_such_number(alloc),
             },
             WholeCall::FromU128 => match given.to_u128() {
-                Some(n) => integer_text(alloc, BigInt::from_u128(alloc, n)?),
+                Some(n) => made_integer(alloc, &given, BigInt::from_u128(alloc, n)?),
                 None => no_such_number(alloc),
             },
             WholeCall::FromOctets => integer_text(alloc, given),
             WholeCall::ToOctets => whole_octets(alloc, octets),
             WholeCall::Clone => whole_clone(alloc, octets),
+            WholeCall::Types => whole_types(alloc, &given),
         }
     }
+}
+
+// An INTEGER of the number, which is to be the one that was given.
+fn made_integer(alloc: Global, given: &BigInt, number: BigInt) -> Result<String, AllocError> {
+    if number != *given {
+        return String::from_str(alloc, "another number");
+    }
+    integer_text(alloc, number)
+}
+
+// The number as one of each type.
+fn whole_types(alloc: Global, number: &BigInt) -> Result<String, AllocError> {
+    let of_i64 = fitting(alloc, number.to_i64())?;
+    let of_u64 = fitting(alloc, number.to_u64())?;
+    let of_i128 = fitting(alloc, number.to_i128())?;
+    let of_u128 = fitting(alloc, number.to_u128())?;
+    format!(in alloc; "i64 {of_i64}, u64 {of_u64}, i128 {of_i128}, u128 {of_u128}")
 }
 
 fn whole_octets(alloc: Global, octets: &[u8]) -> Result<String, AllocError> {
@@ -129,7 +216,7 @@ fn whole_clone(alloc: Global, octets: &[u8]) -> Result<String, AllocError> {
     let number = BigInt::from_signed_bytes_be(alloc, octets)?;
     let before = BigInt::from_signed_bytes_be(alloc, octets)?;
     match number.clone(alloc) {
-        Ok(clone) => integer_text(alloc, clone),
+        Ok(clone) => made_integer(alloc, &before, clone),
         Err(AllocError) => ran_out(alloc, number == before),
     }
 }
@@ -138,35 +225,4 @@ fn integer_text(alloc: Global, number: BigInt) -> Result<String, AllocError> {
     let mut blocks = Vec::new(alloc);
     blocks.push(ASN1Block::Integer(0, number))?;
     blocks_text(alloc, &blocks)
-}
-
-// A call of an error: the first fault of octets, or one of writing.
-#[derive(Drop)]
-pub enum ErrorCall {
-    CloneOfReading,
-    CloneOfWriting,
-}
-
-impl ErrorCall {
-    // The call of this name.
-    pub fn named(name: &[u8]) -> Option<ErrorCall> {
-        match name {
-            b"ASN1DecodeErr::clone" => Some(ErrorCall::CloneOfReading),
-            b"ASN1EncodeErr::clone" => Some(ErrorCall::CloneOfWriting),
-            _ => None,
-        }
-    }
-
-    // The clone: of the first fault of the octets, or of `CharacterTooLarge`.
-    pub fn answer(&self, alloc: Global, octets: &[u8]) -> Result<String, AllocError> {
-        match self {
-            ErrorCall::CloneOfReading => match from_der(alloc, octets) {
-                Ok(_) => String::from_str(alloc, "no fault"),
-                Err(fault) => refusal(alloc, &fault.clone(alloc)?),
-            },
-            ErrorCall::CloneOfWriting => {
-                write_refusal(alloc, &ASN1EncodeErr::CharacterTooLarge.clone(alloc)?)
-            }
-        }
-    }
 }

@@ -1,5 +1,5 @@
 // Calls of a type of one's own, the example `Point`.
-use crate::calls::refusals::{point_refusal, ran_out};
+use crate::calls::refusals::{no_octets, no_point, ran_out};
 use asn1_text::octets_text;
 use simple_asn1::{Point, TripFault, der_decode, der_encode, round_trip};
 use std::alloc::{AllocError, Global};
@@ -27,7 +27,7 @@ impl PointCall {
     pub fn answer(&self, alloc: Global, octets: &[u8]) -> Result<String, AllocError> {
         let point = match der_decode::<Point>(alloc, octets) {
             Ok(point) => point,
-            Err(fault) => return point_refusal(alloc, &fault),
+            Err(fault) => return no_point(alloc, &fault),
         };
         let before = point;
         let answer = match self {
@@ -45,15 +45,15 @@ impl PointCall {
 fn encoded(alloc: Global, point: &Point) -> Result<String, AllocError> {
     match der_encode(alloc, point) {
         Ok(octets) => octets_text(alloc, &octets),
-        Err(fault) => point_refusal(alloc, &fault),
+        Err(fault) => no_octets(alloc, &fault),
     }
 }
 
 fn tripped(alloc: Global, point: &Point) -> Result<String, AllocError> {
     match round_trip(alloc, point) {
         Ok(point) => point_text(alloc, &point),
-        Err(TripFault::Encode(fault)) => point_refusal(alloc, &fault),
-        Err(TripFault::Decode(fault)) => point_refusal(alloc, &fault),
+        Err(TripFault::Encode(fault)) => no_octets(alloc, &fault),
+        Err(TripFault::Decode(fault)) => no_point(alloc, &fault),
     }
 }
 

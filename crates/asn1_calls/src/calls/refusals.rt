@@ -1,6 +1,6 @@
 // What is said of calls that refuse.
 use asn1_text::characters_text;
-use simple_asn1::{ASN1DecodeErr, ASN1EncodeErr, PointErr};
+use simple_asn1::{ASN1DecodeErr, ASN1EncodeErr, LocatedErr, PointErr};
 use std::alloc::{AllocError, Global};
 
 // What is said where memory ran out: that alone, if all that the call was given is as it was.
@@ -50,10 +50,25 @@ pub fn write_refusal(alloc: Global, fault: &ASN1EncodeErr) -> Result<String, All
     String::from_str(alloc, text)
 }
 
-// What is said where octets are no point, or a point has no octets.
-pub fn point_refusal(alloc: Global, fault: &PointErr) -> Result<String, AllocError> {
+// What is said of a fault and its place.
+pub fn located_refusal(alloc: Global, located: &LocatedErr) -> Result<String, AllocError> {
+    let refusal = refusal(alloc, &located.error)?;
+    format!(in alloc; "{refusal} at {}", located.offset)
+}
+
+// What is said where octets are no point. Memory that ran out in writing is an answer here: it is the wrong one.
+pub fn no_point(alloc: Global, fault: &PointErr) -> Result<String, AllocError> {
     match fault {
         PointErr::Decode(fault) => refusal(alloc, fault),
+        PointErr::Encode(_) => String::from_str(alloc, "a fault of writing in reading"),
+        PointErr::Shape => String::from_str(alloc, "refused Shape"),
+    }
+}
+
+// What is said where a point has no octets. Memory that ran out in reading is an answer here: it is the wrong one.
+pub fn no_octets(alloc: Global, fault: &PointErr) -> Result<String, AllocError> {
+    match fault {
+        PointErr::Decode(_) => String::from_str(alloc, "a fault of reading in writing"),
         PointErr::Encode(fault) => write_refusal(alloc, fault),
         PointErr::Shape => String::from_str(alloc, "refused Shape"),
     }
