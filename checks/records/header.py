@@ -1,6 +1,6 @@
-"""Whether simple_asn1.h, the library's exports, the bindings for Rust and Python and the statuses of the proof agree.
+"""Whether simple_asn1.h, the library and its source, and the bindings for Rust and Python agree.
 
-header.py TOP COMPILER
+header.py TOP COMPILER WORK: the top of the repository, a C compiler, and a folder to build in.
 """
 import ctypes
 import pathlib
@@ -39,6 +39,15 @@ kinds = dict(re.findall(r"FaultKind::(\w+) => \"([^\"]*)\"", fault))
 numbers = {int(n): kinds[k] for n, k in re.findall(r"(\d+) => FaultKind::(\w+)", fault)}
 never = {statuses["OK"], statuses["NO_ROOM"]}
 same("the header's and Rust's texts", {n: texts[s] for s, n in statuses.items() if n not in never}, numbers)
+
+proved = (top / "crates/asn1_c/src/status.rt").read_text()
+other_names = {
+    "DONE": "OK", "OUT_OF_RANGE": "RANGE", "EmptyBuffer": "EMPTY", "BadBooleanLength": "BOOLEAN_LENGTH",
+    "LengthTooLarge": "LENGTH", "UTF8DecodeFailure": "UTF8", "PrintableStringDecodeFailure": "PRINTABLE",
+    "InvalidDateValue": "DATE", "InvalidBitStringLength": "BIT_STRING_LENGTH", "Incomplete": "INCOMPLETE",
+}
+found = re.findall(r"pub const (\w+): u32 = (\d+)", proved) + re.findall(r"ASN1DecodeErr::(\w+)\S* => (\d+)", proved)
+same("the header's and the library's statuses", statuses, {other_names.get(k, k): int(n) for k, n in found})
 
 records = {
     "block": simple_asn1.Record,
