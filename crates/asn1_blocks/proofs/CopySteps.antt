@@ -1,5 +1,25 @@
 -- Steps of copying trees from the last block to the first.
-use Rattle.std.proofs.Common.{◌≡◌, ◌≤◌, List, [], ◌∷◌, ◌++◌, length, length-append, reverse, refl, sym, ap, ◌∙◌, arith, rules, ℕ, Box, Vec, Global}
+use Rattle.std.proofs.Common.{
+  ◌≡◌,
+  ◌≤◌,
+  List,
+  [],
+  ◌∷◌,
+  ◌++◌,
+  length,
+  length-append,
+  reverse,
+  refl,
+  sym,
+  ap,
+  ◌∙◌,
+  arith,
+  rules,
+  ℕ,
+  Box,
+  Vec,
+  Global,
+}
 use Rattle.std.proofs.lemmas.List.{length-reverse, reverse-append}
 use Rattle.asn1_blocks.specs.declared.block.ASN1Block.{ASN1Block, Sequence, Set, Explicit, the_lemmas}
 use Rattle.asn1_blocks.specs.declared.block.GroupKind.{GroupKind}
@@ -9,7 +29,8 @@ use Rattle.asn1_blocks.specs.Inner.TreeOrder.{IsNext, inside}
 use Rattle.asn1_blocks.specs.View.{view, views}
 use Rattle.asn1_blocks.proofs.BlockLists.{count, count_views}
 
-split_views : (xs ys r s : List ASN1Block) → length xs ≡ length ys → views (xs ++ r) ≡ views (ys ++ s) → (views xs ≡ views ys) × (views r ≡ views s)
+split_views : (xs ys r s : List ASN1Block) → length xs ≡ length ys → views (xs ++ r) ≡ views (ys ++ s)
+    → (views xs ≡ views ys) × (views r ≡ views s)
 split_views [] [] r s n e = (refl, e)
 split_views [] (y ∷ ys) r s n e = absurd (omega (arith, n))
 split_views (x ∷ xs) [] r s n e = absurd (omega (arith, n))
@@ -32,16 +53,19 @@ pub record IsTaken (b : ASN1Block) (left taken kept : List ASN1Block) : Type 0 w
 pub taken_for : (b : ASN1Block) (left after done taken kept : List ASN1Block) → IsNext b left after → views (reverse done) ≡ views after
     → length taken ≡ count (inside (view b)) → done ≡ kept ++ reverse taken → IsTaken b left taken kept
 taken_for b left after done taken kept n s k t =
-    let v : reverse done ≡ taken ++ reverse kept = ap reverse t ∙ (reverse-append kept (reverse taken) ∙ ap (λ z. z ++ reverse kept) (reverse_twice taken)) in
+    let v : reverse done ≡ taken ++ reverse kept = ap reverse t
+    ∙ (reverse-append kept (reverse taken) ∙ ap (λ z. z ++ reverse kept) (reverse_twice taken)) in
     let m : length taken ≡ length n.held = k ∙ (sym (ap count n.holds) ∙ count_views n.held) in
     let z = split_views taken n.held (reverse kept) n.rest m (sym (ap views v) ∙ (s ∙ ap views n.then)) in
     record {
       held = z.0 ∙ n.holds;
-      copied = λ r e. ap views (reverse-append kept (r ∷ [])) ∙ (ap (λ a. more_trees a (views (reverse kept))) e ∙ (ap (λ a. more_trees (view b) a) z.1 ∙ sym (ap views n.first)));
+      copied = λ r e. ap views (reverse-append kept (r ∷ []))
+          ∙ (ap (λ a. more_trees a (views (reverse kept))) e ∙ (ap (λ a. more_trees (view b) a) z.1 ∙ sym (ap views n.first)));
     }
 
 -- enough copies are made
-pub enough_made : (b : ASN1Block) (left after done : List ASN1Block) → IsNext b left after → views (reverse done) ≡ views after → count (inside (view b)) ≤ length done
+pub enough_made : (b : ASN1Block) (left after done : List ASN1Block) → IsNext b left after → views (reverse done) ≡ views after
+    → count (inside (view b)) ≤ length done
 enough_made b left after done n s =
     omega (
       arith,
@@ -64,7 +88,8 @@ view_set : (o : ℕ) (v : Vec ASN1Block Global) → view (Set o v) ≡ group o G
 view_set o v = search (rules, the_lemmas)
 
 -- copies of what a group holds make its copy
-pub sequence_of_copies : (o : ℕ) (held made : Vec ASN1Block Global) → views made.items ≡ inside (view (Sequence o held)) → view (Sequence o made) ≡ view (Sequence o held)
+pub sequence_of_copies : (o : ℕ) (held made : Vec ASN1Block Global) → views made.items ≡ inside (view (Sequence o held))
+    → view (Sequence o made) ≡ view (Sequence o held)
 sequence_of_copies o held made e =
     view_sequence o made ∙ (ap (group o GroupKind.Sequence) (e ∙ ap inside (view_sequence o held)) ∙ sym (view_sequence o held))
 

@@ -1,5 +1,25 @@
 -- The size of an encoding, by its header.
-use Rattle.std.proofs.Common.{◌≡◌, ℕ, ◌+◌, ◌<◌, ◌≤◌, List, [], ◌++◌, length, take, drop, refl, sym, ap, ◌∙◌, subst, arith, length-append, length-drop}
+use Rattle.std.proofs.Common.{
+  ◌≡◌,
+  ℕ,
+  ◌+◌,
+  ◌<◌,
+  ◌≤◌,
+  List,
+  [],
+  ◌++◌,
+  length,
+  take,
+  drop,
+  refl,
+  sym,
+  ap,
+  ◌∙◌,
+  subst,
+  arith,
+  length-append,
+  length-drop,
+}
 use Rattle.std.proofs.lemmas.List.{take-append-drop, take_at, length-take-le}
 use Rattle.std.proofs.Math.Seq.{take-add}
 use Rattle.std.proofs.Math.ListN.{drop_of_length-le}

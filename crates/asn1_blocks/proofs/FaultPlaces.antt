@@ -1,5 +1,23 @@
 -- The first fault has one place.
-use Rattle.std.proofs.Common.{◌≡◌, ℕ, ◌+◌, ◌<◌, ◌^◌, List, ◌↔◌, inl, inr, length, refl, sym, ap, ◌∙◌, subst, arith, length-append}
+use Rattle.std.proofs.Common.{
+  ◌≡◌,
+  ℕ,
+  ◌+◌,
+  ◌<◌,
+  ◌^◌,
+  List,
+  ◌↔◌,
+  inl,
+  inr,
+  length,
+  refl,
+  sym,
+  ap,
+  ◌∙◌,
+  subst,
+  arith,
+  length-append,
+}
 use Rattle.asn1_headers.specs.declared.header.ASN1Class.TheVariants.{Universal}
 use Rattle.asn1_headers.specs.Fault.{DecodeFault}
 use Rattle.asn1_blocks.specs.Grammar.{BlockFault, in_header, in_contents, of_leaf_contents, of_item, BlocksFault, after_blocks, FirstFault}
@@ -69,7 +87,8 @@ mutual
   block_place_alone place octets e d o p (at_leaf x rest g f l) (at_header w') small = refl
   block_place_alone place octets e d o p (at_leaf x rest g f l) (at_leaf x' rest' g' f' l') small = refl
 
-  blocks_place_alone : (octets : List ℕ) (e d : DecodeFault) (o p : ℕ) → BlocksFaultAt octets e o → BlocksFaultAt octets d p → length octets < 2 ^ 64 → o ≡ p
+  blocks_place_alone : (octets : List ℕ) (e d : DecodeFault) (o p : ℕ) → BlocksFaultAt octets e o → BlocksFaultAt octets d p
+      → length octets < 2 ^ 64 → o ≡ p
   blocks_place_alone octets e d o p (at_block front rest g bs some i r q) (at_block front' rest' g' bs' some' i' r' q') small =
       let fits : length front + length rest < 2 ^ 64 = omega (arith, small, ap length g, length-append front rest) in
       let fits' : length front' + length rest' < 2 ^ 64 = omega (arith, small, ap length g', length-append front' rest') in

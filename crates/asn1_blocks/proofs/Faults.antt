@@ -1,5 +1,29 @@
 -- What is at fault is no block.
-use Rattle.std.proofs.Common.{◌≡◌, ℕ, suc, ◌+◌, ◌<◌, ◌≤◌, ◌^◌, Bool, false, List, [], ◌∷◌, ◌++◌, length, refl, sym, ap, ◌∙◌, subst, arith, length-append, append_assoc, append-nil}
+use Rattle.std.proofs.Common.{
+  ◌≡◌,
+  ℕ,
+  suc,
+  ◌+◌,
+  ◌<◌,
+  ◌≤◌,
+  ◌^◌,
+  Bool,
+  false,
+  List,
+  [],
+  ◌∷◌,
+  ◌++◌,
+  length,
+  refl,
+  sym,
+  ap,
+  ◌∙◌,
+  subst,
+  arith,
+  length-append,
+  append_assoc,
+  append-nil,
+}
 use Rattle.std.proofs.lemmas.Bool.{false≢true}
 use Rattle.asn1_headers.specs.declared.header.ASN1Class.{ASN1Class}
 use Rattle.asn1_headers.specs.declared.header.ASN1Class.TheVariants.{Universal}
@@ -10,7 +34,25 @@ use Rattle.asn1_blocks.specs.Tree.{Leaf, Trees, no_trees, more_trees}
 use Rattle.asn1_blocks.specs.Contents.{leaf_tag, group_tag, LeafContents, is_known_tag}
 use Rattle.asn1_blocks.specs.Places.{IsEncoding}
 use Rattle.asn1_headers.specs.HeaderFault.{HeaderFault, no_identifier, no_length, too_far, too_long}
-use Rattle.asn1_blocks.specs.Grammar.{IsBlock, of_other_class, of_unknown_tag, of_leaf, of_group, AreBlocks, no_blocks, more_blocks, EncodesAll, BlockFault, in_header, in_contents, ContentsFault, of_leaf_contents, of_item, BlocksFault, after_blocks}
+use Rattle.asn1_blocks.specs.Grammar.{
+  IsBlock,
+  of_other_class,
+  of_unknown_tag,
+  of_leaf,
+  of_group,
+  AreBlocks,
+  no_blocks,
+  more_blocks,
+  EncodesAll,
+  BlockFault,
+  in_header,
+  in_contents,
+  ContentsFault,
+  of_leaf_contents,
+  of_item,
+  BlocksFault,
+  after_blocks,
+}
 use Rattle.asn1_blocks.proofs.Leaves.{leaf_no_group, leaf_no_fault, leaf_fault_tag, leaf_tag_known, leaf_tag_no_group, group_known}
 use Rattle.asn1_headers.proofs.Prefixes.{encoding_alone, identifier_alone, length_alone}
 use Rattle.asn1_blocks.proofs.OneReading.{block_some, encodes_block}
@@ -66,7 +108,8 @@ pub data UniversalContents (n : ℕ) (contents : List ℕ) : Type 0 where
   is_group : (g : GroupKind) → n ≡ group_tag g → AreBlocks contents → UniversalContents n contents
 
 -- so are the contents octets of a block of class Universal
-pub universal_contents : (x : List ℕ) (k : Bool) (n : ℕ) (contents : List ℕ) (h : ℕ) → Encoding x Universal k n contents h → IsBlock x → UniversalContents n contents
+pub universal_contents : (x : List ℕ) (k : Bool) (n : ℕ) (contents : List ℕ) (h : ℕ) → Encoding x Universal k n contents h → IsBlock x
+    → UniversalContents n contents
 universal_contents x k n contents h f (of_other_class g ne) =
     let s = encoding_alone _ _ _ _ _ _ _ _ _ _ _ _ [] [] f g refl in
     absurd (ne (sym s.class))
@@ -86,7 +129,8 @@ pub split_encoding : (octets x rest : List ℕ) (c : ASN1Class) (k : Bool) (n : 
 split_encoding octets x rest c k n contents h f e = e ∙ ap (λ z. z ++ rest) f.whole ∙ simp append_assoc
 
 -- the contents octets of an encoding at the front are among the octets
-pub encoding_within : (octets x rest : List ℕ) (c : ASN1Class) (k : Bool) (n : ℕ) (contents : List ℕ) (h : ℕ) → Encoding x c k n contents h → octets ≡ x ++ rest
+pub encoding_within : (octets x rest : List ℕ) (c : ASN1Class) (k : Bool) (n : ℕ) (contents : List ℕ) (h : ℕ)
+    → Encoding x c k n contents h → octets ≡ x ++ rest
     → length contents ≤ length octets
 encoding_within octets x rest c k n contents h f e = omega (
   arith,
@@ -107,16 +151,20 @@ pub header_no_encoding : (place : ℕ) (octets x rest : List ℕ) (e : DecodeFau
     → HeaderFault place octets e → place + length octets < 2 ^ 64 → octets ≡ x ++ rest → Encoding x c' k' n' contents h' → ⊥
 header_no_encoding place octets x rest e c' k' n' contents h' (no_identifier missing) small d f =
     let (a, r, l) = length_first f.len (length contents) f.length_octets in
-    missing f.identifier (r ++ (contents ++ rest)) c' k' n' a f.identifier_octets (split_encoding octets x rest _ _ _ _ _ f d ∙ ap (λ z. f.identifier ++ (z ++ (contents ++ rest))) l)
+    missing f.identifier (r ++ (contents ++ rest)) c' k' n' a f.identifier_octets
+    (split_encoding octets x rest _ _ _ _ _ f d ∙ ap (λ z. f.identifier ++ (z ++ (contents ++ rest))) l)
 header_no_encoding place octets x rest e c' k' n' contents h' (no_length s a r c k n t g missing h) small d f =
-    let q = identifier_alone s f.identifier (a ∷ r) (f.len ++ (contents ++ rest)) c c' k k' n n' t f.identifier_octets (sym g ∙ split_encoding octets x rest _ _ _ _ _ f d) in
+    let q = identifier_alone s f.identifier (a ∷ r) (f.len ++ (contents ++ rest)) c c' k k' n n' t f.identifier_octets
+    (sym g ∙ split_encoding octets x rest _ _ _ _ _ f d) in
     missing f.len (contents ++ rest) (length contents) f.length_octets q.rest
 header_no_encoding place octets x rest e c' k' n' contents h' (too_far s l r c k n m t u g far h) small d f =
-    let q = identifier_alone s f.identifier (l ++ r) (f.len ++ (contents ++ rest)) c c' k k' n n' t f.identifier_octets (sym g ∙ split_encoding octets x rest _ _ _ _ _ f d) in
+    let q = identifier_alone s f.identifier (l ++ r) (f.len ++ (contents ++ rest)) c c' k k' n n' t f.identifier_octets
+    (sym g ∙ split_encoding octets x rest _ _ _ _ _ f d) in
     let v = length_alone l f.len r (contents ++ rest) m (length contents) u f.length_octets q.rest in
     omega (arith, far, small, v.number, ap length v.rest, ap length g, length-append s (l ++ r), length-append l r, length-append contents rest)
 header_no_encoding place octets x rest e c' k' n' contents h' (too_long s l r c k n m t u g near long) small d f =
-    let q = identifier_alone s f.identifier (l ++ r) (f.len ++ (contents ++ rest)) c c' k k' n n' t f.identifier_octets (sym g ∙ split_encoding octets x rest _ _ _ _ _ f d) in
+    let q = identifier_alone s f.identifier (l ++ r) (f.len ++ (contents ++ rest)) c c' k k' n n' t f.identifier_octets
+    (sym g ∙ split_encoding octets x rest _ _ _ _ _ f d) in
     let v = length_alone l f.len r (contents ++ rest) m (length contents) u f.length_octets q.rest in
     omega (arith, long, v.number, ap length v.rest, length-append contents rest)
 
@@ -137,7 +185,8 @@ mutual
       )) (universal_contents y k n contents h f (subst IsBlock (sym q.octets) b))
 
   -- contents octets at fault are those of no block
-  pub contents_fault_no_block : (n : ℕ) (contents : List ℕ) (e : DecodeFault) → ContentsFault n contents e → length contents < 2 ^ 64 → UniversalContents n contents → ⊥
+  pub contents_fault_no_block : (n : ℕ) (contents : List ℕ) (e : DecodeFault) → ContentsFault n contents e → length contents < 2 ^ 64
+      → UniversalContents n contents → ⊥
   contents_fault_no_block n contents e (of_leaf_contents p) small (is_unknown u) = false≢true (sym u ∙ leaf_tag_known n (leaf_fault_tag n contents e p))
   contents_fault_no_block n contents e (of_leaf_contents p) small (is_leaf l t q) = leaf_no_fault n contents e l t q p
   contents_fault_no_block n contents e (of_leaf_contents p) small (is_group g t bs) = leaf_tag_no_group n g (leaf_fault_tag n contents e p) t

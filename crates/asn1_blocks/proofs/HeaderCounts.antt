@@ -1,9 +1,40 @@
 -- The number of headers that a reader begins.
-use Rattle.std.proofs.Common.{◌≡◌, ℕ, ◌+◌, ◌<◌, ◌≤◌, Bool, List, [], ◌++◌, length, refl, sym, ap, ◌∙◌, subst, arith, length-append, append_assoc, append-nil}
+use Rattle.std.proofs.Common.{
+  ◌≡◌,
+  ℕ,
+  ◌+◌,
+  ◌<◌,
+  ◌≤◌,
+  Bool,
+  List,
+  [],
+  ◌++◌,
+  length,
+  refl,
+  sym,
+  ap,
+  ◌∙◌,
+  subst,
+  arith,
+  length-append,
+  append_assoc,
+  append-nil,
+}
 use Rattle.asn1_headers.specs.declared.header.ASN1Class.{ASN1Class}
 use Rattle.asn1_headers.specs.Header.{Encoding}
 use Rattle.asn1_blocks.specs.Grammar.{IsBlock, AreBlocks, no_blocks, more_blocks}
-use Rattle.asn1_blocks.specs.HeadersBegun.{IsReadInside, HeadersBegun, begun_none, begun_some, BegunInside, inside_first, nothing_inside, BegunAfter, after_first, nothing_after}
+use Rattle.asn1_blocks.specs.HeadersBegun.{
+  IsReadInside,
+  HeadersBegun,
+  begun_none,
+  begun_some,
+  BegunInside,
+  inside_first,
+  nothing_inside,
+  BegunAfter,
+  after_first,
+  nothing_after,
+}
 use Rattle.asn1_headers.proofs.Prefixes.{encoding_alone, identifier_some, encoding_some}
 use Rattle.asn1_blocks.proofs.OneReading.{block_some}
 use Rattle.asn1_blocks.proofs.Faults.{block_encoding, block_alone}
@@ -38,7 +69,8 @@ mutual
   after_alone octets m n (nothing_after shut) (nothing_after shut') = refl
 
 -- an encoding is a header and its contents octets
-pub encoding_length : (x : List ℕ) (c : ASN1Class) (k : Bool) (n : ℕ) (contents : List ℕ) (h : ℕ) → Encoding x c k n contents h → (length x ≡ h + length contents) × (0 < h)
+pub encoding_length : (x : List ℕ) (c : ASN1Class) (k : Bool) (n : ℕ) (contents : List ℕ) (h : ℕ) → Encoding x c k n contents h
+    → (length x ≡ h + length contents) × (0 < h)
 encoding_length x c k n contents h f = (
   omega (arith, f.size, ap length f.whole, length-append f.identifier (f.len ++ contents), length-append f.len contents),
   omega (arith, f.size, identifier_some f.identifier c k n f.identifier_octets),
@@ -69,7 +101,8 @@ inside_more octets rest x r a e b (nothing_inside shut) =
     shut y r c k n contents h (e ∙ ap (λ z. z ++ r) (sym s.octets)) F o)
 
 -- blocks, and what follows them
-pub begun_join : (front rest : List ℕ) (a b : ℕ) → AreBlocks front → HeadersBegun front a → HeadersBegun rest b → HeadersBegun (front ++ rest) (a + b)
+pub begun_join : (front rest : List ℕ) (a b : ℕ) → AreBlocks front → HeadersBegun front a → HeadersBegun rest b
+    → HeadersBegun (front ++ rest) (a + b)
 begun_join front rest a b no_blocks (begun_none e) B =
     let z : b ≡ 0 + b = omega arith in
     subst (λ n. HeadersBegun rest n) z B
@@ -80,22 +113,28 @@ begun_join front rest a b (more_blocks {x = x} {rest = r} e k ks) (begun_some so
 begun_join front rest a b (more_blocks {x = x} {rest = r} e k ks) (begun_some some c d i (after_first y q e' k' C) g) B =
     let s = block_alone x y r q k k' (sym e ∙ e') in
     let t = begun_join r rest d b ks (subst (λ z. HeadersBegun z d) (sym s.1) C) B in
-    begun_some (omega (arith, some, length-append front rest)) c (d + b) (inside_more front rest x r c e k i) (after_first x (r ++ rest) (ap (λ z. z ++ rest) e ∙ append_assoc x r rest) k t) (omega (arith, g))
+    begun_some (omega (arith, some, length-append front rest)) c (d + b) (inside_more front rest x r c e k i)
+    (after_first x (r ++ rest) (ap (λ z. z ++ rest) e ∙ append_assoc x r rest) k t) (omega (arith, g))
 
 -- a block that is read inside
-pub begun_opened : (x : List ℕ) (c : ASN1Class) (k : Bool) (n : ℕ) (contents : List ℕ) (h a : ℕ) → Encoding x c k n contents h → IsReadInside c k n → IsBlock x
+pub begun_opened : (x : List ℕ) (c : ASN1Class) (k : Bool) (n : ℕ) (contents : List ℕ) (h a : ℕ) → Encoding x c k n contents h
+    → IsReadInside c k n → IsBlock x
     → HeadersBegun contents a → HeadersBegun x (1 + a)
 begun_opened x c k n contents h a F o b B =
-    begun_some (encoding_some x c k n contents h F) a 0 (inside_first x [] (sym (append-nil x)) F o B) (after_first x [] (sym (append-nil x)) b (begun_none refl)) (omega arith)
+    begun_some (encoding_some x c k n contents h F) a 0 (inside_first x [] (sym (append-nil x)) F o B)
+    (after_first x [] (sym (append-nil x)) b (begun_none refl)) (omega arith)
 
 -- nothing is begun inside an encoding that is not read inside
 pub nothing_inside_first : (octets x rest : List ℕ) (c : ASN1Class) (k : Bool) (n : ℕ) (contents : List ℕ) (h : ℕ) → Encoding x c k n contents h
     → octets ≡ x ++ rest → (IsReadInside c k n → ⊥) → BegunInside octets 0
 nothing_inside_first octets x rest c k n contents h f d shut = nothing_inside (λ y q c' j m v g e G p.
     let s = encoding_alone _ _ _ _ _ _ _ _ _ _ _ _ rest q f G (sym d ∙ e) in
-    shut (subst (λ z. IsReadInside z k n) (sym s.class) (subst (λ z. IsReadInside c' z n) (sym s.constructed) (subst (λ z. IsReadInside c' j z) (sym s.tag) p))))
+    shut (subst (λ z. IsReadInside z k n) (sym s.class) (subst (λ z. IsReadInside c' z n) (sym s.constructed)
+    (subst (λ z. IsReadInside c' j z) (sym s.tag) p))))
 
 -- a block that is not read inside
-pub begun_leaf : (x : List ℕ) (c : ASN1Class) (k : Bool) (n : ℕ) (contents : List ℕ) (h : ℕ) → Encoding x c k n contents h → (IsReadInside c k n → ⊥) → IsBlock x → HeadersBegun x 1
+pub begun_leaf : (x : List ℕ) (c : ASN1Class) (k : Bool) (n : ℕ) (contents : List ℕ) (h : ℕ) → Encoding x c k n contents h
+    → (IsReadInside c k n → ⊥) → IsBlock x → HeadersBegun x 1
 begun_leaf x c k n contents h F o b =
-    begun_some (encoding_some x c k n contents h F) 0 0 (nothing_inside_first x x [] c k n contents h F (sym (append-nil x)) o) (after_first x [] (sym (append-nil x)) b (begun_none refl)) refl
+    begun_some (encoding_some x c k n contents h F) 0 0 (nothing_inside_first x x [] c k n contents h F (sym (append-nil x)) o)
+    (after_first x [] (sym (append-nil x)) b (begun_none refl)) refl

@@ -1,6 +1,27 @@
 -- What is known of leaves and groups by their tags: for each leaf a line that names the facts of its own module. The
 -- other lemmas of the grammar build on these alone.
-use Rattle.std.proofs.Common.{◌≡◌, ℕ, ◌<◌, ◌^◌, ◌==◌, ◌||◌, true, false, List, [], None, length, inl, inr, refl, sym, ap, ◌∙◌, subst, arith}
+use Rattle.std.proofs.Common.{
+  ◌≡◌,
+  ℕ,
+  ◌<◌,
+  ◌^◌,
+  ◌==◌,
+  ◌||◌,
+  true,
+  false,
+  List,
+  [],
+  None,
+  length,
+  inl,
+  inr,
+  refl,
+  sym,
+  ap,
+  ◌∙◌,
+  subst,
+  arith,
+}
 use Rattle.std.specs.Prelude.{pos, All}
 use Rattle.std.proofs.lemmas.Bool.{false≢true, cases_Bool, or_cases, or_right, eqb-true}
 use Rattle.asn1_blocks.specs.declared.block.GroupKind.{GroupKind}
@@ -11,7 +32,27 @@ use Rattle.asn1_blocks.specs.Inner.LeafEquality.{equal_string}
 use Rattle.asn1_numbers.specs.TwosComplement.{signed_number}
 use Rattle.asn1_leaves.specs.StringKind.{StringKind, utf8, printable, teletex, ia5, universal, bmp}
 use Rattle.asn1_blocks.specs.Tree.{Leaf, boolean, integer, bit_string, octet_string, null, object_identifier, text, utc_time, generalized_time}
-use Rattle.asn1_blocks.specs.Contents.{string_tag, leaf_tag, group_tag, is_string_tag, is_leaf_tag, is_group_tag, is_known_tag, IsFaithfulLeaf, LeafContents, LeafFault, of_boolean, of_bit_string, of_object_identifier, of_utc_time, of_generalized_time, of_text, leaf_contents, leaf_write_fault, normalized_leaf}
+use Rattle.asn1_blocks.specs.Contents.{
+  string_tag,
+  leaf_tag,
+  group_tag,
+  is_string_tag,
+  is_leaf_tag,
+  is_group_tag,
+  is_known_tag,
+  IsFaithfulLeaf,
+  LeafContents,
+  LeafFault,
+  of_boolean,
+  of_bit_string,
+  of_object_identifier,
+  of_utc_time,
+  of_generalized_time,
+  of_text,
+  leaf_contents,
+  leaf_write_fault,
+  normalized_leaf,
+}
 use Rattle.asn1_leaves.specs.Contents.Boolean.{BooleanFault}
 use Rattle.asn1_leaves.specs.Contents.BitString.{BitStringFault}
 use Rattle.asn1_leaves.specs.Contents.GeneralizedTime.{GeneralizedTimeFault}
@@ -22,11 +63,67 @@ use Rattle.asn1_leaves.specs.Contents.Text.{text_form, TextContents, TextFault}
 use Rattle.asn1_numbers.proofs.SignedNumbers.{signed_number_of_shortest}
 use Rattle.asn1_leaves.proofs.Leaves.Boolean.{boolean_alone, boolean_fault_alone, boolean_no_fault, boolean_meaning, boolean_fault_of_reading, boolean_again}
 use Rattle.asn1_leaves.proofs.Leaves.Integer.{integer_alone}
-use Rattle.asn1_leaves.proofs.Leaves.BitString.{bit_string_alone, bit_string_fault_alone, bit_string_no_fault, bit_string_meaning, bit_string_fault_of_reading, bit_string_writable, bit_string_again, bit_string_fits, bit_string_kept, bit_string_read, bit_string_same}
-use Rattle.asn1_leaves.proofs.Leaves.GeneralizedTime.{generalized_time_alone, generalized_time_fault_alone, generalized_time_no_fault, generalized_time_meaning, generalized_time_of_reading, generalized_time_writable, generalized_time_again, generalized_time_fits, generalized_time_kept, generalized_time_read}
-use Rattle.asn1_leaves.proofs.Leaves.ObjectIdentifier.{object_identifier_alone, object_identifier_fault_alone, object_identifier_no_fault, object_identifier_meaning, object_identifier_fault_of_reading, object_identifier_writable, object_identifier_again, object_identifier_fits, object_identifier_kept, object_identifier_read}
-use Rattle.asn1_leaves.proofs.Leaves.UtcTime.{utc_time_alone, utc_time_fault_alone, utc_time_no_fault, utc_time_meaning, utc_time_of_reading, utc_time_writable, utc_time_again, utc_time_fits, utc_time_kept, utc_time_read}
-use Rattle.asn1_leaves.proofs.Leaves.Text.{text_alone, text_fault_alone, text_no_fault, text_meaning, text_fault_of_reading, text_writable, text_again, text_fits, text_kept, text_read}
+use Rattle.asn1_leaves.proofs.Leaves.BitString.{
+  bit_string_alone,
+  bit_string_fault_alone,
+  bit_string_no_fault,
+  bit_string_meaning,
+  bit_string_fault_of_reading,
+  bit_string_writable,
+  bit_string_again,
+  bit_string_fits,
+  bit_string_kept,
+  bit_string_read,
+  bit_string_same,
+}
+use Rattle.asn1_leaves.proofs.Leaves.GeneralizedTime.{
+  generalized_time_alone,
+  generalized_time_fault_alone,
+  generalized_time_no_fault,
+  generalized_time_meaning,
+  generalized_time_of_reading,
+  generalized_time_writable,
+  generalized_time_again,
+  generalized_time_fits,
+  generalized_time_kept,
+  generalized_time_read,
+}
+use Rattle.asn1_leaves.proofs.Leaves.ObjectIdentifier.{
+  object_identifier_alone,
+  object_identifier_fault_alone,
+  object_identifier_no_fault,
+  object_identifier_meaning,
+  object_identifier_fault_of_reading,
+  object_identifier_writable,
+  object_identifier_again,
+  object_identifier_fits,
+  object_identifier_kept,
+  object_identifier_read,
+}
+use Rattle.asn1_leaves.proofs.Leaves.UtcTime.{
+  utc_time_alone,
+  utc_time_fault_alone,
+  utc_time_no_fault,
+  utc_time_meaning,
+  utc_time_of_reading,
+  utc_time_writable,
+  utc_time_again,
+  utc_time_fits,
+  utc_time_kept,
+  utc_time_read,
+}
+use Rattle.asn1_leaves.proofs.Leaves.Text.{
+  text_alone,
+  text_fault_alone,
+  text_no_fault,
+  text_meaning,
+  text_fault_of_reading,
+  text_writable,
+  text_again,
+  text_fits,
+  text_kept,
+  text_read,
+}
 
 -- the tag of a string of characters is that of one
 string_tag_is : (kind : StringKind) → is_string_tag (string_tag kind) ≡ true
@@ -183,7 +280,8 @@ no_fault (text j cs) (text k ds) contents e t p f =
 no_fault l m contents e t p f = alike l m t
 
 -- contents octets at fault mean no leaf
-pub leaf_no_fault : (n : ℕ) (contents : List ℕ) (e : DecodeFault) (l : Leaf) → n ≡ leaf_tag l → LeafContents l contents → LeafFault n contents e → ⊥
+pub leaf_no_fault : (n : ℕ) (contents : List ℕ) (e : DecodeFault) (l : Leaf) → n ≡ leaf_tag l → LeafContents l contents
+    → LeafFault n contents e → ⊥
 leaf_no_fault n contents e l t p f = let m = by_leaf n contents e f in no_fault l m.leaf contents e (sym t ∙ m.tag) p m.fault
 
 fault_alone : (l m : Leaf) (contents : List ℕ) (e d : DecodeFault) → leaf_tag l ≡ leaf_tag m → FaultOf l contents e → FaultOf m contents d → e ≡ d

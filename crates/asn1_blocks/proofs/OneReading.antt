@@ -1,5 +1,24 @@
 -- Octets encode at most one tree.
-use Rattle.std.proofs.Common.{◌≡◌, ℕ, ◌+◌, ◌<◌, List, [], ◌++◌, inl, inr, length, refl, sym, ap, ◌∙◌, subst, arith, append-nil, length-append}
+use Rattle.std.proofs.Common.{
+  ◌≡◌,
+  ℕ,
+  ◌+◌,
+  ◌<◌,
+  List,
+  [],
+  ◌++◌,
+  inl,
+  inr,
+  length,
+  refl,
+  sym,
+  ap,
+  ◌∙◌,
+  subst,
+  arith,
+  append-nil,
+  length-append,
+}
 use Rattle.std.proofs.lemmas.Bool.{false≢true}
 use Rattle.asn1_headers.specs.Header.{Encoding}
 use Rattle.asn1_blocks.specs.Tree.{Tree, Trees, leaf, group, explicit, unknown, no_trees, more_trees}
@@ -41,7 +60,8 @@ block_some octets (of_group f g e q) = encoding_some _ _ _ _ _ _ f
 
 mutual
   -- octets of a tree begin those of no other
-  pub encodes_alone : (o : ℕ) (xs ys r q : List ℕ) (a b : Tree ℕ) → Encodes o xs a → Encodes o ys b → xs ++ r ≡ ys ++ q → (xs ≡ ys) × (a ≡ b) × (r ≡ q)
+  pub encodes_alone : (o : ℕ) (xs ys r q : List ℕ) (a b : Tree ℕ) → Encodes o xs a → Encodes o ys b → xs ++ r ≡ ys ++ q
+      → (xs ≡ ys) × (a ≡ b) × (r ≡ q)
   encodes_alone o xs ys r q (leaf p l) (leaf p' m) s t e =
       let f = encoding_alone _ _ _ _ _ _ _ _ _ _ _ _ r q s.encoding t.encoding e in
       let g = leaf_alone l m s.contents f.tag s.means (subst (LeafContents m) (sym f.contents) t.means) in
@@ -62,7 +82,8 @@ mutual
   encodes_alone o xs ys r q (group p g bs) (group p' g' cs) s t e =
       let f = encoding_alone _ _ _ _ _ _ _ _ _ _ _ _ r q s.encoding t.encoding e in
       let i : g ≡ g' = group_alone g g' f.tag in
-      let b = all_alone (o + s.header) s.contents bs cs s.means (subst (λ z. EncodesAll (o + z) s.contents cs) (sym f.header) (subst (λ z. EncodesAll (o + t.header) z cs) (sym f.contents) t.means)) in
+      let b = all_alone (o + s.header) s.contents bs cs s.means
+      (subst (λ z. EncodesAll (o + z) s.contents cs) (sym f.header) (subst (λ z. EncodesAll (o + t.header) z cs) (sym f.contents) t.means)) in
       let h : p ≡ p' = s.place ∙ sym t.place in
       (f.octets, cc, f.rest)
   encodes_alone o xs ys r q (group p g bs) (explicit c p' n b) s t e =
@@ -79,7 +100,8 @@ mutual
       absurd (s.other f.class)
   encodes_alone o xs ys r q (explicit c p n a) (explicit d p' m b) s t e =
       let f = encoding_alone _ _ _ _ _ _ _ _ _ _ _ _ r q s.encoding t.encoding e in
-      let g = encodes_alone (o + s.header) s.contents s.contents [] [] a b s.means (subst (λ z. Encodes (o + z) s.contents b) (sym f.header) (subst (λ z. Encodes (o + t.header) z b) (sym f.contents) t.means)) refl in
+      let g = encodes_alone (o + s.header) s.contents s.contents [] [] a b s.means
+      (subst (λ z. Encodes (o + z) s.contents b) (sym f.header) (subst (λ z. Encodes (o + t.header) z b) (sym f.contents) t.means)) refl in
       let h : p ≡ p' = s.place ∙ sym t.place in
       let i : a ≡ b = g.1 in
       let j = f.class in
@@ -87,7 +109,11 @@ mutual
       (f.octets, cc, f.rest)
   encodes_alone o xs ys r q (explicit c p n a) (unknown d k p' m v) s t e =
       let f = encoding_alone _ _ _ _ _ _ _ _ _ _ _ _ r q s.encoding t.encoding e in
-      absurd (elim t.stays [ inl u ↦ s.other (f.class ∙ u.0) | inr u ↦ u.1 (sym f.constructed, subst IsBlock f.contents (encodes_block (o + s.header) s.contents a s.means)) ])
+      absurd (elim t.stays [
+        | inl u ↦ s.other (f.class ∙ u.0)
+        | inr u ↦ u.1
+            (sym f.constructed, subst IsBlock f.contents (encodes_block (o + s.header) s.contents a s.means))
+      ])
   encodes_alone o xs ys r q (unknown c k p n v) (leaf p' m) s t e =
       let f = encoding_alone _ _ _ _ _ _ _ _ _ _ _ _ r q s.encoding t.encoding e in
       absurd (elim s.stays [ inl u ↦ false≢true (sym u.1 ∙ ap is_known_tag f.tag ∙ leaf_known m) | inr u ↦ u.0 f.class ])
@@ -96,7 +122,11 @@ mutual
       absurd (elim s.stays [ inl u ↦ false≢true (sym u.1 ∙ ap is_known_tag f.tag ∙ group_known g) | inr u ↦ u.0 f.class ])
   encodes_alone o xs ys r q (unknown c k p n v) (explicit d p' m b) s t e =
       let f = encoding_alone _ _ _ _ _ _ _ _ _ _ _ _ r q s.encoding t.encoding e in
-      absurd (elim s.stays [ inl u ↦ t.other (sym f.class ∙ u.0) | inr u ↦ u.1 (f.constructed, subst IsBlock (sym f.contents) (encodes_block (o + t.header) t.contents b t.means)) ])
+      absurd (elim s.stays [
+        | inl u ↦ t.other (sym f.class ∙ u.0)
+        | inr u ↦ u.1
+            (f.constructed, subst IsBlock (sym f.contents) (encodes_block (o + t.header) t.contents b t.means))
+      ])
   encodes_alone o xs ys r q (unknown c k p n v) (unknown d j p' m w) s t e =
       let f = encoding_alone _ _ _ _ _ _ _ _ _ _ _ _ r q s.encoding t.encoding e in
       let h : p ≡ p' = s.place ∙ sym t.place in
@@ -118,5 +148,6 @@ mutual
   all_alone o octets (more_trees a xs) (more_trees b ys) s t =
       let f = encodes_alone o s.first t.first s.rest t.rest a b s.item t.item (sym s.whole ∙ t.whole) in
       let h : a ≡ b = f.1 in
-      let g = all_alone (o + length s.first) s.rest xs ys s.items (subst (λ z. EncodesAll (o + length z) s.rest ys) (sym f.0) (subst (λ z. EncodesAll (o + length t.first) z ys) (sym f.2) t.items)) in
+      let g = all_alone (o + length s.first) s.rest xs ys s.items
+      (subst (λ z. EncodesAll (o + length z) s.rest ys) (sym f.0) (subst (λ z. EncodesAll (o + length t.first) z ys) (sym f.2) t.items)) in
       cc

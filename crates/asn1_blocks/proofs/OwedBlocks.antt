@@ -1,5 +1,25 @@
 -- What is owed, one after another.
-use Rattle.std.proofs.Common.{◌≡◌, ℕ, ◌-◌, List, [], ◌∷◌, ◌++◌, length, map, take, drop, refl, sym, ap, ◌∙◌, arith, length-append, append_assoc, append-nil}
+use Rattle.std.proofs.Common.{
+  ◌≡◌,
+  ℕ,
+  ◌-◌,
+  List,
+  [],
+  ◌∷◌,
+  ◌++◌,
+  length,
+  map,
+  take,
+  drop,
+  refl,
+  sym,
+  ap,
+  ◌∙◌,
+  arith,
+  length-append,
+  append_assoc,
+  append-nil,
+}
 use Rattle.std.proofs.Math.Seq.{take-append_seam, drop-append_seam}
 use Rattle.std.proofs.lemmas.List.{take-map, drop-map, map-append, length-map}
 use Rattle.asn1_blocks.specs.declared.block.GroupKind.{GroupKind}
@@ -70,8 +90,10 @@ around_built old kept a item b e eb =
     ap (λ z. map view kept ++ z ∷ []) eb ∙ (sym (around_end a (map view kept) (view item)) ∙ ap (around_last a) (sym (pushed kept old item e)))
 
 -- a group more, whose other items were led to
-pub leads_group : (octets : List ℕ) (es fs : List Owed) (us ts : List (Tree ℕ)) (g : GroupKind) (o owes : ℕ) (first : List ASN1Block) → owes ≡ length ts
-    → Leads octets es us → Leads octets fs ts → Leads octets (es ++ (fs ++ Group g o first owes ∷ [])) (us ++ group o g (trees_of (map view first ++ ts)) ∷ [])
+pub leads_group : (octets : List ℕ) (es fs : List Owed) (us ts : List (Tree ℕ)) (g : GroupKind) (o owes : ℕ) (first : List ASN1Block)
+    → owes ≡ length ts
+    → Leads octets es us → Leads octets fs ts
+    → Leads octets (es ++ (fs ++ Group g o first owes ∷ [])) (us ++ group o g (trees_of (map view first ++ ts)) ∷ [])
 leads_group octets es fs us ts g o owes first n h k s =
     let last = Group g o first owes in
     let all = (s ++ us) ++ ts in
@@ -87,7 +109,8 @@ leads_group octets es fs us ts g o owes first n h k s =
     ∙ (ap (λ z. (s ++ us) ++ own z ∷ []) (drop-append_seam (s ++ us) ts) ∙ append_assoc s us _)))
 
 -- an explicit block more around the one tree that was led to
-pub leads_around : (octets : List ℕ) (es fs : List Owed) (us : List (Tree ℕ)) (x : Tree ℕ) (a : Attempt) → Leads octets es us → Leads octets fs (x ∷ [])
+pub leads_around : (octets : List ℕ) (es fs : List Owed) (us : List (Tree ℕ)) (x : Tree ℕ) (a : Attempt) → Leads octets es us
+    → Leads octets fs (x ∷ [])
     → Leads octets (es ++ (fs ++ Explicit a ∷ [])) (us ++ around a x ∷ [])
 leads_around octets es fs us x a h k s =
     after_join octets es (fs ++ Explicit a ∷ []) s

@@ -1,6 +1,38 @@
 -- Slices of the document, and what a header in them says.
 use Rattle.asn1_leaves.proofs.SliceSplit.{slice_split}
-use Rattle.std.proofs.Common.{◌≡◌, ℕ, ◌+◌, ◌-◌, ◌<◌, ◌≤◌, ◌^◌, Bool, List, [], ◌∷◌, ◌++◌, inl, inr, length, take, drop, Vec, Global, drop-drop, length-drop, length-take, refl, sym, ap, ◌∙◌, subst, arith, rules, length-append, append_assoc}
+use Rattle.std.proofs.Common.{
+  ◌≡◌,
+  ℕ,
+  ◌+◌,
+  ◌-◌,
+  ◌<◌,
+  ◌≤◌,
+  ◌^◌,
+  Bool,
+  List,
+  [],
+  ◌∷◌,
+  ◌++◌,
+  inl,
+  inr,
+  length,
+  take,
+  drop,
+  Vec,
+  Global,
+  drop-drop,
+  length-drop,
+  length-take,
+  refl,
+  sym,
+  ap,
+  ◌∙◌,
+  subst,
+  arith,
+  rules,
+  length-append,
+  append_assoc,
+}
 use Rattle.std.specs.List.{slice_range}
 use Rattle.std.proofs.Math.Seq.{take-add}
 use Rattle.asn1_headers.specs.declared.header.ASN1Class.{ASN1Class}
@@ -30,7 +62,8 @@ encodes_more o octets last (more_trees x xs) b s t = record {
   rest = s.rest ++ last;
   whole = ap (λ z. z ++ last) s.whole ∙ append_assoc s.first s.rest last;
   item = s.item;
-  items = encodes_more (o + length s.first) s.rest last xs b s.items (subst (λ z. Encodes z last b) (omega (arith, ap length s.whole, length-append s.first s.rest)) t);
+  items = encodes_more (o + length s.first) s.rest last xs b s.items
+      (subst (λ z. Encodes z last b) (omega (arith, ap length s.whole, length-append s.first s.rest)) t);
 }
 
 pub views_push : (bs : List ASN1Block) (b : ASN1Block) → views (bs ++ b ∷ []) ≡ with_last (views bs) (view b)
@@ -46,7 +79,8 @@ slice_join octets i j k h l =
     ap (λ n. take n (drop i octets)) e ∙ (take-add (j - i) (k - j) (drop i octets)
     ∙ ap (λ r. take (j - i) (drop i octets) ++ take (k - j) r) (drop-drop (j - i) i octets ∙ ap (λ n. drop n octets) (omega arith)))
 
-module _ (octets : List ℕ) (c : ASN1Class) (b : Bool) (n i j k m : ℕ) (h : i ≤ j) (l : j ≤ k) (t : IsIdentifier (slice_range octets i j) c b n) (u : IsLength (slice_range octets j k) m) where
+module _ (octets : List ℕ) (c : ASN1Class) (b : Bool) (n i j k m : ℕ) (h : i ≤ j) (l : j ≤ k) (t : IsIdentifier (slice_range octets i j) c b n)
+    (u : IsLength (slice_range octets j k) m) where
   -- the encoding that was read
   pub encoding_read : (e : ℕ) → e ≡ k + m → e ≤ length octets → Encoding (slice_range octets i e) c b n (slice_range octets k e) (k - i)
   encoding_read e q fits =
@@ -84,7 +118,8 @@ front_taken [] rest = refl
 front_taken (b ∷ s) rest = ap (λ l. b ∷ l) (front_taken s rest)
 
 -- identifier octets that are not there
-pub identifier_missed : (place : ℕ) (octets : List ℕ) (e : ASN1DecodeErr) → OutOfMemoryOr (IsIncomplete IsSomeIdentifier octets) e → OutOfMemoryOr (HeaderFault place octets) e
+pub identifier_missed : (place : ℕ) (octets : List ℕ) (e : ASN1DecodeErr) → OutOfMemoryOr (IsIncomplete IsSomeIdentifier octets) e
+    → OutOfMemoryOr (HeaderFault place octets) e
 identifier_missed place octets e (inl memory) = inl memory
 identifier_missed place octets e (inr (f, missing)) =
     inr (subst (HeaderFault place octets) (sym f) (no_identifier (λ s rest c k n b t d. missing n (length s) (
@@ -94,10 +129,12 @@ identifier_missed place octets e (inr (f, missing)) =
     ))))
 
 -- length octets that are not there
-pub length_missed : (place : ℕ) (octets s rest : List ℕ) (c : ASN1Class) (k : Bool) (n : ℕ) (e : DecodeFault) → IsIdentifier s c k n → octets ≡ s ++ rest
+pub length_missed : (place : ℕ) (octets s rest : List ℕ) (c : ASN1Class) (k : Bool) (n : ℕ) (e : DecodeFault)
+    → IsIdentifier s c k n → octets ≡ s ++ rest
     → ((m j : ℕ) → IsLength (take j rest) m → ⊥) → e ≡ length_fault rest → HeaderFault place octets e
 length_missed place octets s [] c k n e t d missing h =
-    subst (HeaderFault place octets) (sym h) (no_identifier (λ s' r c' k' n' b t' d'. let q = identifier_alone s s' [] (b ∷ r) c c' k k' n n' t t' (sym d ∙ d') in let f : [] ≡ b ∷ r = q.rest in cc))
+    subst (HeaderFault place octets) (sym h) (no_identifier (λ s' r c' k' n' b t' d'. let q = identifier_alone s s' [] (b ∷ r) c c' k k' n n' t t'
+    (sym d ∙ d') in let f : [] ≡ b ∷ r = q.rest in cc))
 length_missed place octets s (b ∷ rest) c k n e t d missing h =
     no_length s b rest c k n t d (λ l r m u f. missing m (length l) (subst (λ z. IsLength z m) (sym (ap (take (length l)) f ∙ front_taken l r)) u)) h
 

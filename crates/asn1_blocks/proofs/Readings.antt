@@ -1,5 +1,25 @@
 -- An answer that is a document or a first fault is the only one.
-use Rattle.std.proofs.Common.{◌≡◌, ℕ, ◌<◌, ◌^◌, List, length, inl, inr, Result, Ok, Err, Vec, Global, IfOk, IfErr, IsErrAnd, MatchResult, ap, arith}
+use Rattle.std.proofs.Common.{
+  ◌≡◌,
+  ℕ,
+  ◌<◌,
+  ◌^◌,
+  List,
+  length,
+  inl,
+  inr,
+  Result,
+  Ok,
+  Err,
+  Vec,
+  Global,
+  IfOk,
+  IfErr,
+  IsErrAnd,
+  MatchResult,
+  ap,
+  arith,
+}
 use Rattle.asn1_blocks.specs.declared.block.ASN1Block.{ASN1Block}
 use Rattle.asn1_headers.specs.declared.error.ASN1DecodeErr.{ASN1DecodeErr}
 use Rattle.asn1_headers.specs.declared.error.ASN1DecodeErr.TheVariants.{OutOfMemory}
@@ -15,7 +35,8 @@ use Rattle.asn1_blocks.proofs.FaultsAlone.{first_fault_alone}
 use Rattle.asn1_blocks.proofs.FaultPlaces.{first_fault_placed, first_place_alone}
 
 -- no document has a first fault
-pub document_no_fault : (octets : List ℕ) (bs : Trees ℕ) (e : DecodeFault) → length octets < 2 ^ 64 → IsDocument octets bs → FirstFault octets e → ⊥
+pub document_no_fault : (octets : List ℕ) (bs : Trees ℕ) (e : DecodeFault) → length octets < 2 ^ 64 → IsDocument octets bs
+    → FirstFault octets e → ⊥
 document_no_fault octets bs e small d (inl empty) = omega (arith, d.some, ap length empty.0)
 document_no_fault octets bs e small d (inr fault) = blocks_fault_no_blocks octets e fault small (encodes_blocks 0 octets bs d.blocks)
 
@@ -28,14 +49,16 @@ document_accepted octets (Err e) small ok (inl memory) bs d = memory
 document_accepted octets (Err e) small ok (inr fault) bs d = absurd (document_no_fault octets bs (fault_of e) small d fault)
 
 -- octets with a first fault are refused, with that fault
-pub fault_refused : {A : Type 0} (octets : List ℕ) (r : Result A ASN1DecodeErr) → length octets < 2 ^ 64 → IfOk r (λ v. (bs : Trees ℕ) × IsDocument octets bs)
+pub fault_refused : {A : Type 0} (octets : List ℕ) (r : Result A ASN1DecodeErr) → length octets < 2 ^ 64
+    → IfOk r (λ v. (bs : Trees ℕ) × IsDocument octets bs)
     → IfErr r (OutOfMemoryOr (FirstFault octets)) → (fault : DecodeFault) → FirstFault octets fault → IsErrAnd r (OutOfMemoryOr (λ e. e ≡ fault))
 fault_refused octets (Ok v) small ok err fault f = document_no_fault octets ok.0 fault small ok.1 f
 fault_refused octets (Err e) small ok (inl memory) fault f = inl memory
 fault_refused octets (Err e) small ok (inr first) fault f = inr (first_fault_alone octets (fault_of e) fault first f small)
 
 -- a first fault that has a place, without it
-pub without_place : (octets : List ℕ) (e : ASN1DecodeErr) (o : ℕ) → OutOfMemoryOr (λ f. FirstFaultAt octets f o) e → OutOfMemoryOr (FirstFault octets) e
+pub without_place : (octets : List ℕ) (e : ASN1DecodeErr) (o : ℕ) → OutOfMemoryOr (λ f. FirstFaultAt octets f o) e
+    → OutOfMemoryOr (FirstFault octets) e
 without_place octets e o (inl memory) = inl memory
 without_place octets e o (inr p) = inr ((first_fault_placed octets (fault_of e)).1 (o, p))
 
@@ -43,7 +66,8 @@ without_place octets e o (inr p) = inr ((first_fault_placed octets (fault_of e))
 abbrev pub IsPlaced : List ℕ → LocatedErr → Type 0
 IsPlaced octets e = OutOfMemoryOr (λ f. FirstFaultAt octets f e.offset) e.error
 
-memory_or_place : (octets : List ℕ) (bs : Trees ℕ) (e : LocatedErr) → length octets < 2 ^ 64 → IsDocument octets bs → IsPlaced octets e → e.error ≡ OutOfMemory
+memory_or_place : (octets : List ℕ) (bs : Trees ℕ) (e : LocatedErr) → length octets < 2 ^ 64 → IsDocument octets bs → IsPlaced octets e
+    → e.error ≡ OutOfMemory
 memory_or_place octets bs e small d (inl memory) = memory
 memory_or_place octets bs e small d (inr p) =
     absurd (document_no_fault octets bs (fault_of e.error) small d ((first_fault_placed octets (fault_of e.error)).1 (e.offset, p)))
@@ -54,7 +78,8 @@ pub document_accepted_here : (octets : List ℕ) (r : Result (Vec ASN1Block Glob
 document_accepted_here octets (Ok v) small ok err bs d = all_alone 0 octets (views v.items) bs ok.blocks d.blocks
 document_accepted_here octets (Err e) small ok err bs d = memory_or_place octets bs e small d err
 
-same_place : (octets : List ℕ) (e : LocatedErr) (fault : DecodeFault) (o : ℕ) → length octets < 2 ^ 64 → IsPlaced octets e → FirstFaultAt octets fault o
+same_place : (octets : List ℕ) (e : LocatedErr) (fault : DecodeFault) (o : ℕ) → length octets < 2 ^ 64 → IsPlaced octets e
+    → FirstFaultAt octets fault o
     → OutOfMemoryOr (λ f. (f ≡ fault) × (e.offset ≡ o)) e.error
 same_place octets e fault o small (inl memory) p = inl memory
 same_place octets e fault o small (inr q) p = inr (first_place_alone octets (fault_of e.error) fault e.offset o small q p)

@@ -1,5 +1,24 @@
 -- Steps of the comparison of two lists of blocks.
-use Rattle.std.proofs.Common.{◌≡◌, ℕ, ◌≤◌, ◌<◌, zero, suc, List, [], ◌∷◌, ◌++◌, length, length-append, get_or, refl, sym, ap, ◌∙◌, arith}
+use Rattle.std.proofs.Common.{
+  ◌≡◌,
+  ℕ,
+  ◌≤◌,
+  ◌<◌,
+  zero,
+  suc,
+  List,
+  [],
+  ◌∷◌,
+  ◌++◌,
+  length,
+  length-append,
+  get_or,
+  refl,
+  sym,
+  ap,
+  ◌∙◌,
+  arith,
+}
 use Rattle.asn1_blocks.specs.declared.block.ASN1Block.{ASN1Block}
 use Rattle.asn1_blocks.specs.HeadersBegun.{blocks_in, all_blocks_in}
 use Rattle.asn1_blocks.specs.Tree.{Tree, leaf, group, explicit, unknown, shape, shapes}
@@ -67,7 +86,8 @@ whole_of (unknown c k o m v) (explicit d p n f) e i = cc
 abbrev pub AreSame : List ASN1Block → List ASN1Block → Type 0
 AreSame xs ys = shapes (views xs) ≡ shapes (views ys)
 
-split : (xs ys : List ASN1Block) (x y : ASN1Block) → length xs ≡ length ys → AreSame (xs ++ x ∷ []) (ys ++ y ∷ []) → AreSame xs ys × (shape (view x) ≡ shape (view y))
+split : (xs ys : List ASN1Block) (x y : ASN1Block) → length xs ≡ length ys → AreSame (xs ++ x ∷ []) (ys ++ y ∷ [])
+    → AreSame xs ys × (shape (view x) ≡ shape (view y))
 split [] [] x y n e = (refl, cc)
 split [] (b ∷ ys) x y n e = absurd (omega (arith, n))
 split (a ∷ xs) [] x y n e = absurd (omega (arith, n))
@@ -99,7 +119,8 @@ pub lasts : (v w xs ys : List ASN1Block) (x y : ASN1Block) → v ≡ xs ++ x ∷
 lasts v w xs ys x y e f =
     let p = ap (λ z. shapes (views z)) e in
     let q = ap (λ z. shapes (views z)) f in
-    let n : AreSame v w → length xs ≡ length ys = λ s. omega (arith, same_length (xs ++ x ∷ []) (ys ++ y ∷ []) (sym p ∙ (s ∙ q)), length-append xs (x ∷ []), length-append ys (y ∷ [])) in
+    let n : AreSame v w → length xs ≡ length ys = λ s. omega
+    (arith, same_length (xs ++ x ∷ []) (ys ++ y ∷ []) (sym p ∙ (s ∙ q)), length-append xs (x ∷ []), length-append ys (y ∷ [])) in
     let t : AreSame v w → AreSame xs ys × (shape (view x) ≡ shape (view y)) = λ s. split xs ys x y (n s) (sym p ∙ (s ∙ q)) in
     record {
       fronts = λ s. (t s).0;

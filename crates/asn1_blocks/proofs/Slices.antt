@@ -1,11 +1,47 @@
 -- The octets of a tree of a document, and documents one after another.
-use Rattle.std.proofs.Common.{◌≡◌, ℕ, ◌+◌, ◌-◌, List, [], ◌++◌, ◌↔◌, length, take, drop, sym, ap, ◌∙◌, subst, arith, length-append, append_assoc, append-nil}
+use Rattle.std.proofs.Common.{
+  ◌≡◌,
+  ℕ,
+  ◌+◌,
+  ◌-◌,
+  List,
+  [],
+  ◌++◌,
+  ◌↔◌,
+  length,
+  take,
+  drop,
+  sym,
+  ap,
+  ◌∙◌,
+  subst,
+  arith,
+  length-append,
+  append_assoc,
+  append-nil,
+}
 use Rattle.std.specs.List.{slice_range}
 use Rattle.std.proofs.lemmas.List.{take_at, drop_at}
 use Rattle.asn1_blocks.specs.Tree.{Tree, Trees, leaf, group, explicit, unknown, no_trees, more_trees}
 use Rattle.asn1_blocks.specs.View.{tree_offset}
 use Rattle.asn1_blocks.specs.Grammar.{Encodes, EncodesAll, IsDocument}
-use Rattle.asn1_blocks.specs.Places.{with_offsets, all_with_offsets, rebased, all_later, joined, end_before, StandsIn, itself, in_group, in_explicit, StandsAmong, in_first, in_later, HasOctets, EncodingAt}
+use Rattle.asn1_blocks.specs.Places.{
+  with_offsets,
+  all_with_offsets,
+  rebased,
+  all_later,
+  joined,
+  end_before,
+  StandsIn,
+  itself,
+  in_group,
+  in_explicit,
+  StandsAmong,
+  in_first,
+  in_later,
+  HasOctets,
+  EncodingAt,
+}
 use Rattle.asn1_headers.proofs.Prefixes.{encoding_alone}
 use Rattle.asn1_blocks.proofs.OneReading.{block_some, encodes_block, only}
 use Rattle.asn1_blocks.proofs.Faults.{block_encoding}
@@ -31,7 +67,8 @@ further f o q n h d =
 
 mutual
   -- the same octets at another offset
-  pub encodes_at : (f : ℕ → ℕ) (o q : ℕ) (x : List ℕ) (b : Tree ℕ) → ((d : ℕ) → f (o + d) ≡ q + d) → Encodes o x b → Encodes q x (with_offsets f b)
+  pub encodes_at : (f : ℕ → ℕ) (o q : ℕ) (x : List ℕ) (b : Tree ℕ) → ((d : ℕ) → f (o + d) ≡ q + d) → Encodes o x b
+      → Encodes q x (with_offsets f b)
   encodes_at f o q x (leaf p l) h s = record {
     constructed = s.constructed;
     contents = s.contents;
@@ -169,7 +206,8 @@ found_octets i bs b octets d h =
     }
 
 -- they are an encoding at its offset
-pub octets_encoding : (i : List ℕ) (bs : Trees ℕ) (b : Tree ℕ) (octets : List ℕ) → IsDocument i bs → HasOctets i bs b octets → EncodingAt i (tree_offset b) octets
+pub octets_encoding : (i : List ℕ) (bs : Trees ℕ) (b : Tree ℕ) (octets : List ℕ) → IsDocument i bs → HasOctets i bs b octets
+    → EncodingAt i (tree_offset b) octets
 octets_encoding i bs b octets d h =
     let f = found_octets i bs b octets d h in
     record {
@@ -192,7 +230,8 @@ encoding_at_octets i bs b octets other d h =
     (λ p. encoding_at_alone i (tree_offset b) other octets p e, λ q. subst (EncodingAt i (tree_offset b)) (sym q) e)
 
 -- trees, and then others
-pub encodes_joined : (o : ℕ) (x y : List ℕ) (xs ys : Trees ℕ) → EncodesAll o x xs → EncodesAll (o + length x) y ys → EncodesAll o (x ++ y) (joined xs ys)
+pub encodes_joined : (o : ℕ) (x y : List ℕ) (xs ys : Trees ℕ) → EncodesAll o x xs → EncodesAll (o + length x) y ys
+    → EncodesAll o (x ++ y) (joined xs ys)
 encodes_joined o x y no_trees ys s t =
     let e : o + length x ≡ o = omega (arith, ap length s) in
     subst (λ z. EncodesAll o z ys) (sym (ap (λ z. z ++ y) s)) (subst (λ z. EncodesAll z y ys) e t)
@@ -207,7 +246,8 @@ encodes_joined o x y (more_trees b xs) ys s t =
     }
 
 -- two documents one after another are one
-pub documents_joined : (i k : List ℕ) (xs ys : Trees ℕ) → IsDocument i xs → IsDocument k ys → IsDocument (i ++ k) (joined xs (all_later (length i) ys))
+pub documents_joined : (i k : List ℕ) (xs ys : Trees ℕ) → IsDocument i xs → IsDocument k ys
+    → IsDocument (i ++ k) (joined xs (all_later (length i) ys))
 documents_joined i k xs ys d e = record {
   some = omega (arith, d.some, length-append i k);
   blocks = encodes_joined 0 i k xs (all_later (length i) ys) d.blocks (encodes_all_at (λ z. z + length i) 0 (0 + length i) k ys (λ n. omega arith) e.blocks);

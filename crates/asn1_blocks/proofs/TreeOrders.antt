@@ -1,5 +1,29 @@
 -- Steps of the walk that finds the blocks of trees in tree order.
-use Rattle.std.proofs.Common.{◌≡◌, ℕ, zero, suc, ◌+◌, ◌≤◌, List, [], ◌∷◌, ◌++◌, length, map, drop, get_or, refl, sym, ap, subst, ◌∙◌, arith, append_assoc, append-nil, Bor}
+use Rattle.std.proofs.Common.{
+  ◌≡◌,
+  ℕ,
+  zero,
+  suc,
+  ◌+◌,
+  ◌≤◌,
+  List,
+  [],
+  ◌∷◌,
+  ◌++◌,
+  length,
+  map,
+  drop,
+  get_or,
+  refl,
+  sym,
+  ap,
+  subst,
+  ◌∙◌,
+  arith,
+  append_assoc,
+  append-nil,
+  Bor,
+}
 use Rattle.std.proofs.lemmas.List.{drop_more, map_push}
 use Rattle.asn1_blocks.specs.declared.block.ASN1Block.{ASN1Block}
 use Rattle.asn1_blocks.specs.Tree.{Tree, Trees, leaf, group, explicit, unknown}
@@ -15,7 +39,9 @@ stacked_push (a ∷ outer) blocks = ap (λ z. z ++ a) (stacked_push outer blocks
 
 pub below_push : (more outer : List (Bor (List ASN1Block))) (x : Bor (List ASN1Block)) → more ≡ outer ++ x ∷ []
     → stacked (map (λ b. b.now) more) ≡ x.now ++ stacked (map (λ b. b.now) outer)
-below_push more outer x e = ap (λ z. stacked (map (λ b. b.now) z)) e ∙ (ap stacked (map_push (λ (b : Bor (List ASN1Block)). b.now) outer x) ∙ stacked_push (map (λ b. b.now) outer) x.now)
+below_push more outer x e =
+    ap (λ z. stacked (map (λ b. b.now) z)) e
+    ∙ (ap stacked (map_push (λ (b : Bor (List ASN1Block)). b.now) outer x) ∙ stacked_push (map (λ b. b.now) outer) x.now)
 
 -- a list without items
 pub none_in : {A : Type 0} (xs : List A) → length xs ≡ 0 → xs ≡ []
@@ -48,7 +74,8 @@ fewer_ahead b before after n =
 abbrev pub IsFound : List ASN1Block → List ASN1Block → List ASN1Block → Type 0
 IsFound found ahead whole = (order : List ASN1Block) → IsInTreeOrder order ahead → IsInTreeOrder (found ++ order) whole
 
-pub found_next : (found before after whole : List ASN1Block) (b : ASN1Block) → IsFound found before whole → IsNext b before after → IsFound (found ++ b ∷ []) after whole
+pub found_next : (found before after whole : List ASN1Block) (b : ASN1Block) → IsFound found before whole → IsNext b before after
+    → IsFound (found ++ b ∷ []) after whole
 found_next found before after whole b f n order h =
     subst (λ z. IsInTreeOrder z whole) (sym (append_assoc found (b ∷ []) order)) (f (b ∷ order) (after, n, h))
 
@@ -56,7 +83,8 @@ pub found_all : (found ahead whole : List ASN1Block) → IsFound found ahead who
 found_all found ahead whole f e = subst (λ z. IsInTreeOrder z whole) (append-nil found) (f [] e)
 
 -- what is left of an order is one of some blocks
-pub order_drop : (order blocks : List ASN1Block) (i : ℕ) → IsInTreeOrder order blocks → i ≤ length order → (left : List ASN1Block) × IsInTreeOrder (drop i order) left
+pub order_drop : (order blocks : List ASN1Block) (i : ℕ) → IsInTreeOrder order blocks → i ≤ length order
+    → (left : List ASN1Block) × IsInTreeOrder (drop i order) left
 order_drop order blocks zero h l = (blocks, h)
 order_drop [] blocks (suc i) h l = absurd (omega (arith, l))
 order_drop (b ∷ order) blocks (suc i) (after, n, h) l = order_drop order after i h (omega (arith, l))
@@ -70,7 +98,8 @@ pub record BeginsAtPlace (b : ASN1Block) (order left : List ASN1Block) (i : ℕ)
 pub from_place : (order left : List ASN1Block) (i j : ℕ) (b : ASN1Block) → j + 1 ≡ i → i ≤ length order → b ≡ get_or order j b
     → IsInTreeOrder (drop j order) left → BeginsAtPlace b order left i
 from_place order left i j b e l g h =
-    let d : drop j order ≡ b ∷ drop i order = drop_more order j b (omega (arith, e, l)) ∙ (ap (λ z. z ∷ drop (j + 1) order) (sym g) ∙ ap (λ z. b ∷ drop z order) e) in
+    let d : drop j order ≡ b ∷ drop i order = drop_more order j b (omega (arith, e, l))
+    ∙ (ap (λ z. z ∷ drop (j + 1) order) (sym g) ∙ ap (λ z. b ∷ drop z order) e) in
     let (after, next, ordered) = subst (λ z. IsInTreeOrder z left) d h in
     record { after = after; next = next; ordered = ordered }
 

@@ -1,5 +1,24 @@
 -- How many trees each tree stands in, by how many are ahead at each level that is open.
-use Rattle.std.proofs.Common.{◌≡◌, ℕ, suc, ◌-◌, ◌<◌, ◌++◌, List, [], ◌∷◌, length, refl, sym, ap, ◌∙◌, arith, length-append, append_assoc, append-nil}
+use Rattle.std.proofs.Common.{
+  ◌≡◌,
+  ℕ,
+  suc,
+  ◌-◌,
+  ◌<◌,
+  ◌++◌,
+  List,
+  [],
+  ◌∷◌,
+  length,
+  refl,
+  sym,
+  ap,
+  ◌∙◌,
+  arith,
+  length-append,
+  append_assoc,
+  append-nil,
+}
 use Rattle.simple_asn1.specs.BlockParts.{all_in_order, in_order}
 use Rattle.simple_asn1.specs.Tree.{Tree, Trees, more_trees, no_trees}
 use Rattle.asn1_c.specs.Levels.{IsTaken, ahead, counts_of, depths_ahead, from_level, from_top}
@@ -96,7 +115,8 @@ module _ (trees : List (Tree ℕ)) (b : Tree ℕ) (rest : List (Tree ℕ)) (bs :
       ahead levels top ≡ in_order x ++ ahead (xs ∷ outer) top →
       depths_ahead levels top ≡ depths (suc (length outer)) x ++ depths_ahead (xs ∷ outer) top → IsWalked rest bs (known ++ length taken ∷ []) after
   from_inner levels top x xs outer w k c t d =
-      let whole : b ∷ rest ≡ x ∷ (all_in_order (held x) ++ ahead (xs ∷ outer) top) = sym is ∙ w ∙ t ∙ ap (λ z. z ++ ahead (xs ∷ outer) top) (head_first x) in
+      let whole : b ∷ rest ≡ x ∷ (all_in_order (held x) ++ ahead (xs ∷ outer) top) =
+      sym is ∙ w ∙ t ∙ ap (λ z. z ++ ahead (xs ∷ outer) top) (head_first x) in
       let same : b ≡ x = cc in
       let tail : rest ≡ all_in_order (held x) ++ ahead (xs ∷ outer) top = cc in
       let deep : length taken ≡ suc (length outer) = ap length c ∙ counts_length (xs ∷ outer) in
@@ -138,7 +158,8 @@ module _ (trees : List (Tree ℕ)) (b : Tree ℕ) (rest : List (Tree ℕ)) (bs :
       }
 
   pub walked_more :
-      (left : List ℕ) → IsWalked trees bs known left → ((levels : List (Trees ℕ)) (top : Trees ℕ) → left ≡ counts_of levels → IsTaken levels top taken) →
+      (left : List ℕ) → IsWalked trees bs known left
+      → ((levels : List (Trees ℕ)) (top : Trees ℕ) → left ≡ counts_of levels → IsTaken levels top taken) →
       IsWalked rest bs (known ++ length taken ∷ []) after
   walked_more left w take = go (take w.levels w.top w.counts)
     where
@@ -152,7 +173,8 @@ walked_all bs known left w = sym (append-nil known) ∙ ap (λ z. known ++ z) (s
   where
     none : (levels : List (Trees ℕ)) (top : Trees ℕ) → [] ≡ ahead levels top → depths_ahead levels top ≡ []
     none [] no_trees e = refl
-    none [] (more_trees b bs) e = let f : [] ≡ b ∷ (all_in_order (held b) ++ all_in_order bs) = e ∙ ap (λ z. z ++ all_in_order bs) (head_first b) in absurd (cc)
+    none [] (more_trees b bs) e =
+        let f : [] ≡ b ∷ (all_in_order (held b) ++ all_in_order bs) = e ∙ ap (λ z. z ++ all_in_order bs) (head_first b) in absurd (cc)
     none (no_trees ∷ outer) top e = none outer top e
     none (more_trees b bs ∷ outer) top e =
         let f : [] ≡ b ∷ ((all_in_order (held b) ++ all_in_order bs) ++ ahead outer top) =

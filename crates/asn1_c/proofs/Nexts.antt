@@ -103,7 +103,8 @@ module _ (trees : List (Tree ℕ)) (place : ℕ) where
       IsReached trees place (index + length (in_order (get_or trees index no_tree))) (left - 1)
   reached_next index left some r = (step index left r.inside r.rest some r.count r.there r.total).1
 
-  last : (index : ℕ) (inside : Trees ℕ) → count_of inside ≡ 0 → index + length (all_in_order inside) ≡ place + length (in_order (get_or trees place no_tree)) →
+  last : (index : ℕ) (inside : Trees ℕ) → count_of inside ≡ 0
+      → index + length (all_in_order inside) ≡ place + length (in_order (get_or trees place no_tree)) →
       index ≡ place + length (in_order (get_or trees place no_tree))
   last index no_trees none total = omega (arith, total)
   last index (more_trees b bs) none total = absurd (omega (arith, none))
@@ -112,7 +113,8 @@ module _ (trees : List (Tree ℕ)) (place : ℕ) where
   reached_last index left none r = last index r.inside (r.count ∙ none) r.total
 
 -- one more number is known
-pub known_more : (f : ℕ → ℕ) (xs : List ℕ) (i n v : ℕ) → i < length xs → v ≡ f i → ((k : ℕ) → i < k → k < n → get_or xs k 0 ≡ f k) →
+pub known_more : (f : ℕ → ℕ) (xs : List ℕ) (i n v : ℕ) → i < length xs → v ≡ f i
+    → ((k : ℕ) → i < k → k < n → get_or xs k 0 ≡ f k) →
     (k : ℕ) → i ≤ k → k < n → get_or (set xs i v) k 0 ≡ f k
 known_more f xs i n v l e known k from h = elim (cases_lt i k) [
   | inl lt ↦

@@ -63,7 +63,8 @@ depth_first d (unknown c k o n v) = refl
 
 -- from a place on, trees in order begin with the tree that stands there and those that it holds
 mutual
-  begins_in : (b : Tree ℕ) (k : ℕ) → k < length (in_order b) → (rest : List (Tree ℕ)) × (drop k (in_order b) ≡ in_order (get_or (in_order b) k no_tree) ++ rest)
+  begins_in : (b : Tree ℕ) (k : ℕ) → k < length (in_order b)
+      → (rest : List (Tree ℕ)) × (drop k (in_order b) ≡ in_order (get_or (in_order b) k no_tree) ++ rest)
   begins_in (leaf o l) zero h = ([], refl)
   begins_in (leaf o l) (suc k) h = absurd (omega (arith, h))
   begins_in (group o g bs) zero h = ([], sym (append-nil (in_order (group o g bs))))
@@ -93,7 +94,8 @@ mutual
         let (rest, e) = begins_among bs j (omega (arith, h, ge, length-append (in_order b) (all_in_order bs))) in
         let same = get_or-append_right (in_order b) (all_in_order bs) (length (in_order b)) k no_tree refl ge in (
           rest,
-          ap (λ z. drop z (in_order b ++ all_in_order bs)) at ∙ drop-append-add (in_order b) (all_in_order bs) j ∙ e ∙ ap (λ z. in_order z ++ rest) (sym same),
+          ap (λ z. drop z (in_order b ++ all_in_order bs)) at ∙ drop-append-add (in_order b) (all_in_order bs) j ∙ e
+              ∙ ap (λ z. in_order z ++ rest) (sym same),
         )
   ]
 
@@ -101,7 +103,8 @@ abbrev pub seen : Bor ASN1Block → Tree ℕ
 seen b = view b.now
 
 -- the tree of the block at a place
-pub tree_at : (order : List (Bor ASN1Block)) (i : ℕ) (b : Bor ASN1Block) → i < length order → b ≡ get_or order i b → get_or (map seen order) i no_tree ≡ seen b
+pub tree_at : (order : List (Bor ASN1Block)) (i : ℕ) (b : Bor ASN1Block) → i < length order → b ≡ get_or order i b
+    → get_or (map seen order) i no_tree ≡ seen b
 tree_at order i b h e = get_or-map seen order i b no_tree h ∙ ap seen (sym e)
 
 mutual

@@ -50,6 +50,7 @@ three_views (x ∷ y ∷ z ∷ []) a b c n e f g = cc
 three_views (x ∷ y ∷ z ∷ w ∷ bs) a b c n e f g = absurd (omega (arith, n))
 
 -- the first of some blocks
-pub first_view : (bs : List ASN1Block) (b : ASN1Block) → 0 < length bs → b ≡ get_or bs 0 b → (rest : Trees ℕ) × (views bs ≡ more_trees (view b) rest)
+pub first_view : (bs : List ASN1Block) (b : ASN1Block) → 0 < length bs → b ≡ get_or bs 0 b
+    → (rest : Trees ℕ) × (views bs ≡ more_trees (view b) rest)
 first_view [] b n e = absurd (omega (arith, n))
 first_view (x ∷ bs) b n e = (views bs, ap (λ z. more_trees (view z) (views bs)) (sym e))

@@ -19,7 +19,8 @@ module _ (H : HeaderLaws) (L : OneReading) (octets : List ℕ) (offset : ℕ) wh
       L.one_document x bs xs (subst (λ z. IsDocument z bs) (sym (one_encoding H octets offset x y at there)) e) d
 
   pub not_at_fault :
-      (x : List ℕ) (fault : DecodeFault) (bs : Trees ℕ) → length x < 2 ^ 64 → EncodingAt octets offset x → FirstFault x fault → IsReadAlone octets offset bs → ⊥
+      (x : List ℕ) (fault : DecodeFault) (bs : Trees ℕ) → length x < 2 ^ 64 → EncodingAt octets offset x → FirstFault x fault
+      → IsReadAlone octets offset bs → ⊥
   not_at_fault x fault bs small at f (y, there, d) =
       L.not_both x bs fault small (subst (λ z. IsDocument z bs) (sym (one_encoding H octets offset x y at there)) d) f
 

@@ -53,7 +53,8 @@ take_starts_of (suc k) [] h = absurd (omega (arith, h))
 take_starts_of (suc k) (x ∷ xs) h =
     let n : length (x ∷ xs) - suc k ≡ length xs - k = omega arith in
     let l : length xs - k ≤ length (starts_of xs) = omega (arith, starts_count xs) in
-    ap (λ z. take z (starts_of (x ∷ xs))) n ∙ take-append-le (length xs - k) (starts_of xs) (length (concat xs) ∷ []) l ∙ take_starts_of k xs (omega (arith, h))
+    ap (λ z. take z (starts_of (x ∷ xs))) n ∙ take-append-le (length xs - k) (starts_of xs) (length (concat xs) ∷ []) l
+    ∙ take_starts_of k xs (omega (arith, h))
 
 -- where the last of the first encodings begins
 start_of_last : (k : ℕ) (xs : List (List ℕ)) → suc k ≤ length xs → get_or (starts_of xs) (length xs - suc k) 0 ≡ length (concat (drop (suc k) xs))

@@ -18,4 +18,5 @@ one_more input after line answer later first call is rest =
 -- an answer and its end go after the output so far
 pub joined : (out mid new answer later : List ℕ) → mid ≡ out ++ answer → new ≡ mid ++ 10 ∷ [] → out ++ (answer ++ 10 ∷ later) ≡ new ++ later
 joined out mid new answer later p q =
-    sym (ap (λ l. l ++ later) (q ∙ ap (λ l. l ++ 10 ∷ []) p) ∙ append_assoc (out ++ answer) (10 ∷ []) later ∙ append_assoc out answer (10 ∷ later))
+    sym (ap (λ l. l ++ later) (q ∙ ap (λ l. l ++ 10 ∷ []) p) ∙ append_assoc (out ++ answer) (10 ∷ []) later
+    ∙ append_assoc out answer (10 ∷ later))

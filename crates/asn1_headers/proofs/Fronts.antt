@@ -1,5 +1,39 @@
 -- Octets begin with a header, or their header is at fault.
-use Rattle.std.proofs.Common.{◌≡◌, ℕ, zero, suc, ◌+◌, ◌*◌, ◌/◌, ◌%◌, ◌^◌, ◌-◌, ◌<◌, ◌≤◌, Bool, true, false, List, [], ◌∷◌, ◌++◌, ◌⊎◌, inl, inr, length, take, drop, refl, sym, ap, ◌∙◌, subst, arith, length-append, append_assoc}
+use Rattle.std.proofs.Common.{
+  ◌≡◌,
+  ℕ,
+  zero,
+  suc,
+  ◌+◌,
+  ◌*◌,
+  ◌/◌,
+  ◌%◌,
+  ◌^◌,
+  ◌-◌,
+  ◌<◌,
+  ◌≤◌,
+  Bool,
+  true,
+  false,
+  List,
+  [],
+  ◌∷◌,
+  ◌++◌,
+  ◌⊎◌,
+  inl,
+  inr,
+  length,
+  take,
+  drop,
+  refl,
+  sym,
+  ap,
+  ◌∙◌,
+  subst,
+  arith,
+  length-append,
+  append_assoc,
+}
 use Rattle.std.specs.Int.Digits.{number_from_digits}
 use Rattle.std.proofs.lemmas.Bool.{cases_lt}
 use Rattle.std.proofs.lemmas.List.{take-append-drop, length-take-le}
@@ -27,7 +61,8 @@ continued_more b [] h p = absurd p
 continued_more b (c ∷ s) h p = (h, p)
 
 -- an octet with bit 8 set does not end them
-not_continued : (b : ℕ) (octets : List ℕ) → 128 ≤ b → ((s rest : List ℕ) → IsContinued s → octets ≡ s ++ rest → ⊥) → (s rest : List ℕ) → IsContinued s → b ∷ octets ≡ s ++ rest → ⊥
+not_continued : (b : ℕ) (octets : List ℕ) → 128 ≤ b → ((s rest : List ℕ) → IsContinued s → octets ≡ s ++ rest → ⊥) → (s rest : List ℕ)
+    → IsContinued s → b ∷ octets ≡ s ++ rest → ⊥
 not_continued b octets h none [] rest p e = p
 not_continued b octets h none (a ∷ []) rest p e =
     let d : b ≡ a = cc in
@@ -83,17 +118,20 @@ leading_small b [] c k n p = omega (arith, p.0, p.1, class_small c, bit_small k)
 leading_small b (d ∷ s) c k n p = omega (arith, p.0, class_small c, bit_small k)
 
 -- a leading octet that ends in 31, and a base-128 number
-pub long_identifier : (b : ℕ) (s : List ℕ) (c : ASN1Class) (k : Bool) (n : ℕ) → b ≡ leading_octet c k 31 → IsBase128 s n → IsIdentifier (b ∷ s) c k n
+pub long_identifier : (b : ℕ) (s : List ℕ) (c : ASN1Class) (k : Bool) (n : ℕ) → b ≡ leading_octet c k 31 → IsBase128 s n
+    → IsIdentifier (b ∷ s) c k n
 long_identifier b [] c k n e p = absurd p.continued
 long_identifier b (d ∷ s) c k n e p = (e, p)
 
 -- the octets begin with identifier octets, or with none
 data IdentifierFront (octets : List ℕ) : Type 0 where
   identified : (s rest : List ℕ) (c : ASN1Class) (k : Bool) (n : ℕ) → IsIdentifier s c k n → octets ≡ s ++ rest → IdentifierFront octets
-  not_identified : ((s rest : List ℕ) (c : ASN1Class) (k : Bool) (n : ℕ) → IsIdentifier s c k n → octets ≡ s ++ rest → ⊥) → IdentifierFront octets
+  not_identified : ((s rest : List ℕ) (c : ASN1Class) (k : Bool) (n : ℕ) → IsIdentifier s c k n → octets ≡ s ++ rest → ⊥)
+      → IdentifierFront octets
 
 -- a number that is no octet leads no identifier octets
-no_octet : (b : ℕ) (octets : List ℕ) → 256 ≤ b → (s rest : List ℕ) (c : ASN1Class) (k : Bool) (n : ℕ) → IsIdentifier s c k n → b ∷ octets ≡ s ++ rest → ⊥
+no_octet : (b : ℕ) (octets : List ℕ) → 256 ≤ b → (s rest : List ℕ) (c : ASN1Class) (k : Bool) (n : ℕ) → IsIdentifier s c k n
+    → b ∷ octets ≡ s ++ rest → ⊥
 no_octet b octets h [] rest c k n p e = p
 no_octet b octets h (a ∷ s) rest c k n p e =
     let d : b ≡ a = cc in
@@ -136,7 +174,8 @@ data LengthFront (octets : List ℕ) : Type 0 where
   not_measured : ((l rest : List ℕ) (m : ℕ) → IsLength l m → octets ≡ l ++ rest → ⊥) → LengthFront octets
 
 -- the octets that a leading length octet asks for are there
-length_shape : (b : ℕ) (octets l rest : List ℕ) (m : ℕ) → IsLength l m → b ∷ octets ≡ l ++ rest → (b < 128) ⊎ ((b ≤ 136) × (b ≤ 128 + length octets))
+length_shape : (b : ℕ) (octets l rest : List ℕ) (m : ℕ) → IsLength l m → b ∷ octets ≡ l ++ rest
+    → (b < 128) ⊎ ((b ≤ 136) × (b ≤ 128 + length octets))
 length_shape b octets [] rest m p e = absurd p
 length_shape b octets (a ∷ l) rest m (inl p) e =
     let d : b ≡ a = cc in
@@ -156,9 +195,11 @@ length_front [] = not_measured (λ l rest m p e. none l rest m p e)
 length_front (b ∷ octets) = elim (cases_lt b 128) [
   | inl lt ↦ measured (b ∷ []) octets b (inl (lt, refl, refl)) refl
   | inr ge ↦ elim (cases_lt 136 b) [
-    | inl big ↦ not_measured (λ l rest m p e. elim (length_shape b octets l rest m p e) [ inl h ↦ omega (arith, h, ge) | inr h ↦ omega (arith, h.0, big) ])
+    | inl big ↦ not_measured (λ l rest m p e. elim (length_shape b octets l rest m p e)
+        [ inl h ↦ omega (arith, h, ge) | inr h ↦ omega (arith, h.0, big) ])
     | inr few ↦ elim (cases_lt (length octets) (b - 128)) [
-      | inl short ↦ not_measured (λ l rest m p e. elim (length_shape b octets l rest m p e) [ inl h ↦ omega (arith, h, ge) | inr h ↦ omega (arith, h.1, short) ])
+      | inl short ↦ not_measured (λ l rest m p e. elim (length_shape b octets l rest m p e)
+          [ inl h ↦ omega (arith, h, ge) | inr h ↦ omega (arith, h.1, short) ])
       | inr enough ↦
           let h = length-take-le (b - 128) octets enough in
           measured (b ∷ take (b - 128) octets) (drop (b - 128) octets) (number_from_digits 256 (take (b - 128) octets)) (inr (
@@ -172,18 +213,27 @@ length_front (b ∷ octets) = elim (cases_lt b 128) [
 
 -- at the front stands an encoding, or the header is at fault
 pub data EncodingFront (place : ℕ) (octets : List ℕ) : Type 0 where
-  begins : (x rest : List ℕ) (c : ASN1Class) (k : Bool) (n : ℕ) (contents : List ℕ) (h : ℕ) → Encoding x c k n contents h → octets ≡ x ++ rest → EncodingFront place octets
+  begins : (x rest : List ℕ) (c : ASN1Class) (k : Bool) (n : ℕ) (contents : List ℕ) (h : ℕ) → Encoding x c k n contents h → octets ≡ x ++ rest
+      → EncodingFront place octets
   begins_not : (e : DecodeFault) → HeaderFault place octets e → EncodingFront place octets
 
 -- what follows identifier and length octets
-contents_front : (place : ℕ) (octets s l rest : List ℕ) (c : ASN1Class) (k : Bool) (n m : ℕ) → IsIdentifier s c k n → IsLength l m → octets ≡ s ++ (l ++ rest)
+contents_front : (place : ℕ) (octets s l rest : List ℕ) (c : ASN1Class) (k : Bool) (n m : ℕ) → IsIdentifier s c k n → IsLength l m
+    → octets ≡ s ++ (l ++ rest)
     → EncodingFront place octets
 contents_front place octets s l rest c k n m t u g = elim (cases_lt (place + (length s + length l) + m) (2 ^ 64)) [
   | inr far ↦ begins_not (length_too_large m) (too_far s l rest c k n m t u g far refl)
   | inl near ↦ elim (cases_lt (length rest) m) [
     | inl long ↦ begins_not incomplete (too_long s l rest c k n m t u g near long)
     | inr enough ↦ begins (s ++ (l ++ take m rest)) (drop m rest) c k n (take m rest) (length s + length l)
-        (record { identifier = s; len = l; identifier_octets = t; length_octets = subst (IsLength l) (sym (length-take-le m rest enough)) u; whole = refl; size = refl })
+        (record {
+          identifier = s;
+          len = l;
+          identifier_octets = t;
+          length_octets = subst (IsLength l) (sym (length-take-le m rest enough)) u;
+          whole = refl;
+          size = refl;
+        })
         (g ∙ ap (λ z. s ++ (l ++ z)) (sym (take-append-drop m rest)) ∙ regroup s l (take m rest) (drop m rest))
   ]
 ]
@@ -192,7 +242,8 @@ contents_front place octets s l rest c k n m t u g = elim (cases_lt (place + (le
     regroup a b c d = simp append_assoc
 
 -- what follows identifier octets
-length_front_after : (place : ℕ) (octets s rest : List ℕ) (c : ASN1Class) (k : Bool) (n : ℕ) → IsIdentifier s c k n → octets ≡ s ++ rest → EncodingFront place octets
+length_front_after : (place : ℕ) (octets s rest : List ℕ) (c : ASN1Class) (k : Bool) (n : ℕ) → IsIdentifier s c k n → octets ≡ s ++ rest
+    → EncodingFront place octets
 length_front_after place octets s [] c k n t g = begins_not incomplete (no_identifier (λ s' rest c' k' n' b t' g'.
     let q = identifier_alone s s' [] (b ∷ rest) c c' k k' n n' t t' (sym g ∙ g') in
     omega (arith, ap length q.rest)))

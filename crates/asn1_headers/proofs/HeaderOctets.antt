@@ -1,5 +1,23 @@
 -- Octets at the front of a slice that are, or are not, identifier and length octets.
-use Rattle.std.proofs.Common.{◌≡◌, ℕ, zero, suc, ◌+◌, ◌*◌, ◌%◌, ◌^◌, ◌<◌, ◌≤◌, List, [], ◌∷◌, length, get_or, take, arith}
+use Rattle.std.proofs.Common.{
+  ◌≡◌,
+  ℕ,
+  zero,
+  suc,
+  ◌+◌,
+  ◌*◌,
+  ◌%◌,
+  ◌^◌,
+  ◌<◌,
+  ◌≤◌,
+  List,
+  [],
+  ◌∷◌,
+  length,
+  get_or,
+  take,
+  arith,
+}
 use Rattle.std.specs.Int.Digits.{digits_of}
 use Rattle.std.proofs.lemmas.Int.Digits.{length-digits_of-le}
 use Rattle.std.proofs.Math.Nat.{pow-le-pow_right}
@@ -7,12 +25,14 @@ use Rattle.asn1_numbers.specs.Base128.{IsContinued, IsBase128}
 use Rattle.asn1_headers.specs.Header.{BeginsWithNo, IsSomeIdentifier}
 
 -- octets up to the first whose bit 8 is clear
-pub continued_at : (octets : List ℕ) (i : ℕ) → i < length octets → get_or octets i 0 < 128 → ((j : ℕ) → j < i → 128 ≤ get_or octets j 0) → IsContinued (take (suc i) octets)
+pub continued_at : (octets : List ℕ) (i : ℕ) → i < length octets → get_or octets i 0 < 128 → ((j : ℕ) → j < i → 128 ≤ get_or octets j 0)
+    → IsContinued (take (suc i) octets)
 continued_at [] i h lt high = absurd (omega (arith, h))
 continued_at (b ∷ []) zero h lt high = lt
 continued_at (b ∷ c ∷ octets) zero h lt high = lt
 continued_at (b ∷ []) (suc i) h lt high = absurd (omega (arith, h))
-continued_at (b ∷ c ∷ octets) (suc i) h lt high = (high 0 (omega arith), continued_at (c ∷ octets) i (omega (arith, h)) lt (λ j l. high (suc j) (omega (arith, l))))
+continued_at (b ∷ c ∷ octets) (suc i) h lt high =
+    (high 0 (omega arith), continued_at (c ∷ octets) i (omega (arith, h)) lt (λ j l. high (suc j) (omega (arith, l))))
 
 -- octets whose bit 8 is always set end no number
 pub not_continued : (octets : List ℕ) (k : ℕ) → ((j : ℕ) → j < length octets → 128 ≤ get_or octets j 0) → IsContinued (take k octets) → ⊥

@@ -1,5 +1,26 @@
 -- Identifier octets at the front.
-use Rattle.std.proofs.Common.{◌≡◌, ◌≢◌, ℕ, suc, ◌+◌, ◌%◌, ◌<◌, ◌≤◌, List, [], ◌∷◌, get_or, take, refl, sym, ap, ◌∙◌, subst, arith, length}
+use Rattle.std.proofs.Common.{
+  ◌≡◌,
+  ◌≢◌,
+  ℕ,
+  suc,
+  ◌+◌,
+  ◌%◌,
+  ◌<◌,
+  ◌≤◌,
+  List,
+  [],
+  ◌∷◌,
+  get_or,
+  take,
+  refl,
+  sym,
+  ap,
+  ◌∙◌,
+  subst,
+  arith,
+  length,
+}
 use Rattle.std.proofs.lemmas.List.{take_at}
 use Rattle.asn1_numbers.specs.Base128.{IsBase128, low_bits_number}
 use Rattle.asn1_headers.specs.Header.{IsIdentifier, IsSomeIdentifier, leading_octet}
@@ -7,7 +28,8 @@ use Rattle.asn1_headers.proofs.HeaderOctets.{continued_at}
 use Rattle.asn1_headers.proofs.Fronts.{leading_parts, long_identifier}
 
 -- one identifier octet
-pub short_identifier_at : (octets rest : List ℕ) (b : ℕ) → octets ≡ b ∷ rest → b < 256 → b % 32 ≢ 31 → (tag : ℕ) × IsSomeIdentifier (take 1 octets) tag
+pub short_identifier_at : (octets rest : List ℕ) (b : ℕ) → octets ≡ b ∷ rest → b < 256 → b % 32 ≢ 31
+    → (tag : ℕ) × IsSomeIdentifier (take 1 octets) tag
 short_identifier_at octets rest b e h ne =
     let (c, k, p) = leading_parts b h in
     let lt : b % 32 < 31 = omega (arith, ne) in

@@ -1,5 +1,29 @@
 -- No identifier octets, length octets or encoding begin others.
-use Rattle.std.proofs.Common.{◌≡◌, ℕ, zero, suc, ◌+◌, ◌<◌, Bool, true, false, List, [], ◌∷◌, ◌++◌, inl, inr, length, refl, sym, ap, ◌∙◌, arith, append_assoc, length-append}
+use Rattle.std.proofs.Common.{
+  ◌≡◌,
+  ℕ,
+  zero,
+  suc,
+  ◌+◌,
+  ◌<◌,
+  Bool,
+  true,
+  false,
+  List,
+  [],
+  ◌∷◌,
+  ◌++◌,
+  inl,
+  inr,
+  length,
+  refl,
+  sym,
+  ap,
+  ◌∙◌,
+  arith,
+  append_assoc,
+  length-append,
+}
 use Rattle.std.specs.Int.Digits.{number_from_digits}
 use Rattle.asn1_headers.specs.declared.header.ASN1Class.{ASN1Class}
 use Rattle.asn1_headers.specs.declared.header.ASN1Class.TheVariants.{Universal, Application, ContextSpecific, Private}
@@ -12,8 +36,10 @@ identifier_some [] c k n t = absurd t
 identifier_some (b ∷ s) c k n t = omega arith
 
 -- so an encoding has octets
-pub encoding_some : (octets : List ℕ) (c : ASN1Class) (k : Bool) (n : ℕ) (contents : List ℕ) (h : ℕ) → Encoding octets c k n contents h → 0 < length octets
-encoding_some octets c k n contents h f = omega (arith, identifier_some f.identifier c k n f.identifier_octets, ap length f.whole, length-append f.identifier (f.len ++ contents))
+pub encoding_some : (octets : List ℕ) (c : ASN1Class) (k : Bool) (n : ℕ) (contents : List ℕ) (h : ℕ)
+    → Encoding octets c k n contents h → 0 < length octets
+encoding_some octets c k n contents h f =
+    omega (arith, identifier_some f.identifier c k n f.identifier_octets, ap length f.whole, length-append f.identifier (f.len ++ contents))
 
 -- two splits of one list at one place are one
 pub same_split : (s t x y : List ℕ) → length s ≡ length t → s ++ x ≡ t ++ y → (s ≡ t) × (x ≡ y)
@@ -186,7 +212,8 @@ encoding_alone xs ys c d j k m n v w g h r q F G e =
     let l = length_alone F.len G.len (v ++ r) (w ++ q) (length v) (length w) F.length_octets G.length_octets t.rest in
     let b = same_split v w r q l.number l.rest in
     record {
-      octets = F.whole ∙ ap (λ z. z ++ (F.len ++ v)) t.octets ∙ ap (λ z. G.identifier ++ (z ++ v)) l.octets ∙ ap (λ z. G.identifier ++ (G.len ++ z)) b.0
+      octets = F.whole ∙ ap (λ z. z ++ (F.len ++ v)) t.octets ∙ ap (λ z. G.identifier ++ (z ++ v)) l.octets
+          ∙ ap (λ z. G.identifier ++ (G.len ++ z)) b.0
           ∙ sym G.whole;
       class = t.class;
       constructed = t.constructed;

@@ -1,5 +1,37 @@
 -- The shortest forms of headers are such forms, and no others are shorter or as short.
-use Rattle.std.proofs.Common.{◌≡◌, ◌≢◌, ℕ, zero, suc, ◌+◌, ◌*◌, ◌/◌, ◌%◌, ◌^◌, ◌<◌, ◌≤◌, Bool, List, [], ◌∷◌, ◌++◌, inl, inr, length, get_or, map, refl, sym, ap, ◌∙◌, subst, arith, length-append, append_assoc, append-nil}
+use Rattle.std.proofs.Common.{
+  ◌≡◌,
+  ◌≢◌,
+  ℕ,
+  zero,
+  suc,
+  ◌+◌,
+  ◌*◌,
+  ◌/◌,
+  ◌%◌,
+  ◌^◌,
+  ◌<◌,
+  ◌≤◌,
+  Bool,
+  List,
+  [],
+  ◌∷◌,
+  ◌++◌,
+  inl,
+  inr,
+  length,
+  get_or,
+  map,
+  refl,
+  sym,
+  ap,
+  ◌∙◌,
+  subst,
+  arith,
+  length-append,
+  append_assoc,
+  append-nil,
+}
 use Rattle.std.specs.Int.Digits.{digits_of, AllBelowBase, number_from_digits, number_from_digits_after}
 use Rattle.std.specs.List.{All}
 use Rattle.std.proofs.Math.Nat.{pow-suc}
@@ -51,7 +83,8 @@ shortest_length_is n h =
     let long = (128 + length ds) ∷ ds in
     elim (cases_lt n 128) [
       | inl lt ↦ subst (λ s. IsLength s n) (cond_below n 128 (n ∷ []) long lt) (inl (lt, refl, refl))
-      | inr ge ↦ subst (λ s. IsLength s n) (cond_above n 128 (n ∷ []) long long ge refl) (inr (refl, length-digits_of-le 256 8 n (omega arith) h, sym (number_digits_of 256 n (omega arith))))
+      | inr ge ↦ subst (λ s. IsLength s n) (cond_above n 128 (n ∷ []) long long ge refl)
+          (inr (refl, length-digits_of-le 256 8 n (omega arith) h, sym (number_digits_of 256 n (omega arith))))
     ]
 
 -- the shortest identifier octets are such
@@ -61,7 +94,8 @@ shortest_identifier_is c k n =
     let long = leading_octet c k 31 ∷ shortest_base128 n in
     elim (cases_lt n 31) [
       | inl lt ↦ subst (λ s. IsIdentifier s c k n) (cond_below n 31 short long lt) (lt, refl)
-      | inr ge ↦ subst (λ s. IsIdentifier s c k n) (cond_above n 31 short long long ge refl) (long_identifier (leading_octet c k 31) (shortest_base128 n) c k n refl (shortest_base128_is n))
+      | inr ge ↦ subst (λ s. IsIdentifier s c k n) (cond_above n 31 short long long ge refl)
+          (long_identifier (leading_octet c k 31) (shortest_base128 n) c k n refl (shortest_base128_is n))
     ]
 
 -- low bits are base-128 digits
@@ -87,7 +121,8 @@ shortest_base128_le (b ∷ octets) n p =
     omega (arith, length-shortest_base128 n, length-digits_of-le 128 (length octets) (n / 128) (omega arith) few)
 
 -- no identifier octets of the same fields are fewer
-pub shortest_identifier_le : (octets : List ℕ) (c : ASN1Class) (k : Bool) (n : ℕ) → IsIdentifier octets c k n → length (shortest_identifier c k n) ≤ length octets
+pub shortest_identifier_le : (octets : List ℕ) (c : ASN1Class) (k : Bool) (n : ℕ) → IsIdentifier octets c k n
+    → length (shortest_identifier c k n) ≤ length octets
 shortest_identifier_le octets c k n p =
     let short = leading_octet c k n ∷ [] in
     let long = leading_octet c k 31 ∷ shortest_base128 n in
@@ -158,14 +193,17 @@ marked_small [] d all h = (omega (arith, h), tt)
 marked_small (a ∷ ds) d all h = (omega (arith, all.0), marked_small ds d all.1 h)
 
 -- no others of the same base-128 number are as short
-pub shortest_base128_only : (octets : List ℕ) (n : ℕ) → All (λ b. b < 256) octets → IsBase128 octets n → length octets ≤ length (shortest_base128 n) → octets ≡ shortest_base128 n
+pub shortest_base128_only : (octets : List ℕ) (n : ℕ) → All (λ b. b < 256) octets → IsBase128 octets n
+    → length octets ≤ length (shortest_base128 n) → octets ≡ shortest_base128 n
 shortest_base128_only octets n all p few =
     let short = shortest_base128 n in
     let q = shortest_base128_is n in
     let size : length octets ≡ length short = omega (arith, few, shortest_base128_le octets n p) in
     let small = marked_small (digits_of 128 (n / 128)) (n % 128) (all_below_base_digits_of 128 (n / 128) (omega arith)) (omega arith) in
-    let digits : length (map (λ b. b % 128) octets) ≡ length (map (λ b. b % 128) short) = length-map octets (λ b. b % 128) ∙ size ∙ sym (length-map short (λ b. b % 128)) in
-    let low = same_digits 128 0 0 (map (λ b. b % 128) octets) (map (λ b. b % 128) short) (low_below octets) (low_below short) digits (sym p.value ∙ q.value) in
+    let digits : length (map (λ b. b % 128) octets) ≡ length (map (λ b. b % 128) short) =
+    length-map octets (λ b. b % 128) ∙ size ∙ sym (length-map short (λ b. b % 128)) in
+    let low = same_digits 128 0 0 (map (λ b. b % 128) octets) (map (λ b. b % 128) short) (low_below octets) (low_below short) digits
+    (sym p.value ∙ q.value) in
     same_continued octets short p.continued q.continued (recursion_from_All _ _ all) small size low.1
 
 -- no other identifier octets of the same fields are as short
@@ -184,7 +222,8 @@ shortest_identifier_only octets c k n all p few =
     short_only (b ∷ []) q h = ap (λ b. b ∷ []) q.1
     short_only (b ∷ d ∷ octets) q h = absurd (omega (arith, h))
 
-    long_only : (octets : List ℕ) → All (λ b. b < 256) octets → IsIdentifier octets c k n → 31 ≤ n → length octets ≤ suc (length (shortest_base128 n))
+    long_only : (octets : List ℕ) → All (λ b. b < 256) octets → IsIdentifier octets c k n → 31 ≤ n
+        → length octets ≤ suc (length (shortest_base128 n))
         → octets ≡ leading_octet c k 31 ∷ shortest_base128 n
     long_only [] small q ge h = absurd q
     long_only (b ∷ []) small q ge h = absurd (omega (arith, q.0, ge))
@@ -202,7 +241,8 @@ shortest_length_only (b ∷ octets) n all other p few =
     let long = (128 + length ds) ∷ ds in
     elim (cases_lt n 128) [
       | inl lt ↦ subst (λ s. length (b ∷ octets) ≤ length s → b ∷ octets ≡ s) (cond_below n 128 (n ∷ []) long lt) (short_only octets other p) few
-      | inr ge ↦ subst (λ s. length s ≤ length (b ∷ octets) → length (b ∷ octets) ≤ length s → b ∷ octets ≡ s) (cond_above n 128 (n ∷ []) long long ge refl) (long_only p ge) (shortest_length_le (b ∷ octets) n all p) few
+      | inr ge ↦ subst (λ s. length s ≤ length (b ∷ octets) → length (b ∷ octets) ≤ length s → b ∷ octets ≡ s)
+          (cond_above n 128 (n ∷ []) long long ge refl) (long_only p ge) (shortest_length_le (b ∷ octets) n all p) few
     ]
   where
     short_only : (octets : List ℕ) → b ∷ octets ≢ 128 ∷ [] → IsLength (b ∷ octets) n → suc (length octets) ≤ 1 → b ∷ octets ≡ n ∷ []
@@ -210,7 +250,8 @@ shortest_length_only (b ∷ octets) n all other p few =
     short_only [] other (inr q) h = absurd (other (ap (λ b. b ∷ []) q.0))
     short_only (c ∷ octets) other q h = absurd (omega (arith, h))
 
-    long_only : IsLength (b ∷ octets) n → 128 ≤ n → suc (length (digits_of 256 n)) ≤ suc (length octets) → suc (length octets) ≤ suc (length (digits_of 256 n))
+    long_only : IsLength (b ∷ octets) n → 128 ≤ n → suc (length (digits_of 256 n)) ≤ suc (length octets)
+        → suc (length octets) ≤ suc (length (digits_of 256 n))
         → b ∷ octets ≡ (128 + length (digits_of 256 n)) ∷ digits_of 256 n
     long_only (inl (small, _, e)) ge least few = absurd (omega (arith, small, e, ge))
     long_only (inr (size, _, e)) ge least few =
@@ -260,7 +301,8 @@ shortest_base128_not_leading (b ∷ c ∷ octets) n all p other =
     let some : 0 < b % 128 = omega (arith, below, not, p.continued.0) in
     let low = map (λ b. b % 128) (b ∷ c ∷ octets) in
     let first : HasNoLeadingZeros (b % 128 ∷ []) = short_push [] (b % 128) refl (omega arith) (inl some) in
-    let short : low ≡ digits_of 128 n = no_zeros_after (b % 128 ∷ []) (map (λ b. b % 128) (c ∷ octets)) first (omega arith) (low_below (c ∷ octets)) ∙
+    let short : low ≡ digits_of 128 n = no_zeros_after (b % 128 ∷ []) (map (λ b. b % 128) (c ∷ octets)) first (omega arith) (low_below (c ∷ octets))
+    ∙
     ap (digits_of 128) (sym p.value) in
     let size : length low ≡ length (b ∷ c ∷ octets) = length-map (b ∷ c ∷ octets) (λ b. b % 128) in
     let many : length (shortest_base128 n) ≡ length (digits_of 128 n) = length_shortest n (omega (arith, ap length short, size)) in

@@ -1,5 +1,33 @@
 -- Characters of one octet.
-use Rattle.std.proofs.Common.{◌≡◌, ◌↔◌, ℕ, ◌+◌, ◌<◌, ◌≤◌, ◌==◌, ◌||◌, ◌&&◌, Bool, true, List, [], ◌∷◌, Option, Some, None, length, get_or, drop, inl, inr, refl, sym, ap, ◌∙◌, arith}
+use Rattle.std.proofs.Common.{
+  ◌≡◌,
+  ◌↔◌,
+  ℕ,
+  ◌+◌,
+  ◌<◌,
+  ◌≤◌,
+  ◌==◌,
+  ◌||◌,
+  ◌&&◌,
+  Bool,
+  true,
+  List,
+  [],
+  ◌∷◌,
+  Option,
+  Some,
+  None,
+  length,
+  get_or,
+  drop,
+  inl,
+  inr,
+  refl,
+  sym,
+  ap,
+  ◌∙◌,
+  arith,
+}
 use Rattle.std.specs.Prelude.{nat_lt, nat_le, All, IsAscii, IsUtf8, codes, encode_utf8_all, if◌then◌else◌}
 use Rattle.std.specs.List.{list_all, list_any}
 use Rattle.std.specs.Str.{all_scalars, chars}
@@ -76,7 +104,8 @@ fits_first c cs e = elim (cases_lt c 256) [
 ]
 
 -- the character at a place, and those after it
-pub fault_at : (cs : List ℕ) (n c : ℕ) → (n < length cs) × (c ≡ get_or cs n c) → octet_write_fault (drop n cs) ≡ octet_write_fault (c ∷ drop (n + 1) cs)
+pub fault_at : (cs : List ℕ) (n c : ℕ) → (n < length cs) × (c ≡ get_or cs n c)
+    → octet_write_fault (drop n cs) ≡ octet_write_fault (c ∷ drop (n + 1) cs)
 fault_at cs n c h = at_drop_more octet_write_fault cs n c h.0 ∙ ap (λ x. octet_write_fault (x ∷ drop (n + 1) cs)) (sym h.1)
 
 -- characters that are octets fit an octet

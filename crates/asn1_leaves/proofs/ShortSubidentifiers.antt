@@ -1,5 +1,31 @@
 -- Subidentifiers none of which begins with 80 (hexadecimal) have their shortest forms.
-use Rattle.std.proofs.Common.{◌≡◌, ◌≢◌, ℕ, ◌<◌, Bool, true, List, [], ◌∷◌, ◌++◌, length, refl, sym, ap, ◌∙◌, subst, arith, nat_lt, IsTrue, ◌+◌, ◌*◌, ◌≤◌, ◌⊎◌, inl, inr}
+use Rattle.std.proofs.Common.{
+  ◌≡◌,
+  ◌≢◌,
+  ℕ,
+  ◌<◌,
+  Bool,
+  true,
+  List,
+  [],
+  ◌∷◌,
+  ◌++◌,
+  length,
+  refl,
+  sym,
+  ap,
+  ◌∙◌,
+  subst,
+  arith,
+  nat_lt,
+  IsTrue,
+  ◌+◌,
+  ◌*◌,
+  ◌≤◌,
+  ◌⊎◌,
+  inl,
+  inr,
+}
 use Rattle.std.specs.List.{flat_map}
 use Rattle.std.proofs.lemmas.Bool.{cases_lt}
 use Rattle.std.proofs.lemmas.List.{drop_at, take_at}
@@ -33,7 +59,8 @@ none_first (b ∷ first) rest more p h e =
     h.0 refl leading
 
 -- so all are the shortest
-short_subidentifiers : (ns octets : List ℕ) → AreOctets octets → NoneLeads true octets → Subidentifiers ns octets → octets ≡ flat_map shortest_base128 ns
+short_subidentifiers : (ns octets : List ℕ) → AreOctets octets → NoneLeads true octets → Subidentifiers ns octets
+    → octets ≡ flat_map shortest_base128 ns
 short_subidentifiers [] octets all h s = s
 short_subidentifiers (n ∷ ns) octets all h (first, rest, e, p, s) =
     let whole = subst AreOctets e all in

@@ -1,5 +1,28 @@
 -- Subidentifiers, one after another.
-use Rattle.std.proofs.Common.{◌≡◌, ℕ, ◌<◌, ◌≤◌, ◌⊎◌, inl, inr, List, [], ◌∷◌, ◌++◌, length, take, refl, sym, ap, ◌∙◌, subst, arith, length-append, append_assoc, append-nil}
+use Rattle.std.proofs.Common.{
+  ◌≡◌,
+  ℕ,
+  ◌<◌,
+  ◌≤◌,
+  ◌⊎◌,
+  inl,
+  inr,
+  List,
+  [],
+  ◌∷◌,
+  ◌++◌,
+  length,
+  take,
+  refl,
+  sym,
+  ap,
+  ◌∙◌,
+  subst,
+  arith,
+  length-append,
+  append_assoc,
+  append-nil,
+}
 use Rattle.std.specs.List.{flat_map}
 use Rattle.std.proofs.lemmas.Bool.{cases_lt}
 use Rattle.std.proofs.lemmas.List.{take_at}
@@ -11,14 +34,16 @@ use Rattle.asn1_headers.proofs.Prefixes.{continued_alone}
 use Rattle.asn1_headers.proofs.Shortest.{shortest_base128_is}
 
 -- one more at the end
-pub subidentifiers_more : (ns octets last : List ℕ) (n : ℕ) → Subidentifiers ns octets → IsBase128 last n → Subidentifiers (ns ++ n ∷ []) (octets ++ last)
+pub subidentifiers_more : (ns octets last : List ℕ) (n : ℕ) → Subidentifiers ns octets → IsBase128 last n
+    → Subidentifiers (ns ++ n ∷ []) (octets ++ last)
 subidentifiers_more [] octets last n s t = (last, [], ap (λ z. z ++ last) s ∙ sym (append-nil last), t, refl)
 subidentifiers_more (m ∷ ms) octets last n s t =
     (s.0, s.1 ++ last, ap (λ z. z ++ last) s.2 ∙ append_assoc s.0 s.1 last, s.3, subidentifiers_more ms s.1 last n s.4 t)
 
 -- where octets after the first subidentifier are none, neither are all of them
 pub none_after : (first rest : List ℕ) (n : ℕ) → IsBase128 first n
-    → ((ns : List ℕ) → Subidentifiers ns rest → ⊥) → (octets : List ℕ) → octets ≡ first ++ rest → (ns : List ℕ) → Subidentifiers ns octets → ⊥
+    → ((ns : List ℕ) → Subidentifiers ns rest → ⊥) → (octets : List ℕ) → octets ≡ first ++ rest → (ns : List ℕ)
+    → Subidentifiers ns octets → ⊥
 none_after [] rest n t none octets e ns s = t.continued
 none_after (a ∷ first) rest n t none octets e [] s = absurd (omega (arith, ap length (sym s ∙ e)))
 none_after (a ∷ first) rest n t none octets e (m ∷ ms) s =
@@ -81,7 +106,8 @@ first_unfinished : (b : ℕ) (octets : List ℕ) → octets ≡ [] → 128 ≤ b
 first_unfinished b octets none high [] s = omega (arith, ap length s)
 first_unfinished b octets none high (m ∷ ms) s = unfinished b octets s.0 s.1 high none s.2 s.3.continued
 
-first_of_none : (b : ℕ) (octets : List ℕ) → ((ns : List ℕ) → Subidentifiers ns octets → ⊥) → 128 ≤ b → (ns : List ℕ) → Subidentifiers ns (b ∷ octets) → ⊥
+first_of_none : (b : ℕ) (octets : List ℕ) → ((ns : List ℕ) → Subidentifiers ns octets → ⊥) → 128 ≤ b → (ns : List ℕ)
+    → Subidentifiers ns (b ∷ octets) → ⊥
 first_of_none b octets none high [] s = omega (arith, ap length s)
 first_of_none b octets none high (m ∷ ms) s = still_none b octets s.0 s.1 ms high none s.2 s.3.continued s.4
 

@@ -4,7 +4,8 @@ use Rattle.asn1_numbers.specs.FittingNumbers.{AreNumbers, HasNotAll}
 
 -- one more value
 numbers_more : {T : Type 0} (has : ℕ → Type 0) (is_number : T → ℕ → Type 0) (xs : List T) (ns : List ℕ) (i : ℕ) (x : T) → i < length ns
-    → AreNumbers has is_number xs (take i ns) → has (get_or ns i 0) → is_number x (get_or ns i 0) → AreNumbers has is_number (xs ++ x ∷ []) (take (suc i) ns)
+    → AreNumbers has is_number xs (take i ns) → has (get_or ns i 0) → is_number x (get_or ns i 0)
+    → AreNumbers has is_number (xs ++ x ∷ []) (take (suc i) ns)
 numbers_more has is_number xs [] i x h p f g = absurd (omega (arith, h))
 numbers_more has is_number [] (n ∷ ns) zero x h p f g = (f, g, tt)
 numbers_more has is_number (y ∷ xs) (n ∷ ns) zero x h p f g = absurd p
@@ -26,7 +27,8 @@ missing_at has (n ∷ ns) (suc i) h p = inr (missing_at has ns i (omega (arith, 
 
 -- the values with that of the item at a place
 pub numbers_pushed : {T : Type 0} (has : ℕ → Type 0) (is_number : T → ℕ → Type 0) (xs ys : List T) (ns : List ℕ) (i n : ℕ) (x : T)
-    → i < length ns → n ≡ get_or ns i n → AreNumbers has is_number xs (take i ns) → has n → is_number x n → ys ≡ xs ++ x ∷ [] → AreNumbers has is_number ys (take (i + 1) ns)
+    → i < length ns → n ≡ get_or ns i n → AreNumbers has is_number xs (take i ns) → has n → is_number x n → ys ≡ xs ++ x ∷ []
+    → AreNumbers has is_number ys (take (i + 1) ns)
 numbers_pushed {T} has is_number xs ys ns i n x h at p f g e =
     let there : n ≡ get_or ns i 0 = item_at ns i n h at in
     let next : suc i ≡ i + 1 = omega arith in

@@ -1,6 +1,6 @@
 // Types of one's own, which the tests of conversions read and write.
 ghost use Rattle.std.specs.Prelude.{◌≡◌, ◌⊎◌, ℕ, Ok, Err, MatchResult};
-ghost use Rattle.simple_asn1.specs.Grammar.{Document};
+ghost use Rattle.simple_asn1.specs.Grammar.{IsDocument};
 ghost use Rattle.simple_asn1.specs.Tree.{Trees, no_trees, shapes};
 
 use simple_asn1::{

@@ -1,5 +1,27 @@
 -- Octets are written one after another.
-use Rattle.std.proofs.Common.{◌≡◌, ◌+◌, ◌-◌, ◌^◌, ◌<◌, ◌≤◌, ◌++◌, ℕ, true, false, List, [], ◌∷◌, length, drop, get_or, sym, ap, ◌∙◌, append_assoc, append-nil}
+use Rattle.std.proofs.Common.{
+  ◌≡◌,
+  ◌+◌,
+  ◌-◌,
+  ◌^◌,
+  ◌<◌,
+  ◌≤◌,
+  ◌++◌,
+  ℕ,
+  true,
+  false,
+  List,
+  [],
+  ◌∷◌,
+  length,
+  drop,
+  get_or,
+  sym,
+  ap,
+  ◌∙◌,
+  append_assoc,
+  append-nil,
+}
 use Rattle.std.specs.Fmt.{padded_integral, format_spec, digits}
 use Rattle.std.proofs.lemmas.Fmt.{hex_byte}
 use Rattle.std.proofs.lemmas.List.{drop_more, drop_all}
@@ -16,7 +38,8 @@ pub one_more : (out new octets : List ℕ) (i n : ℕ) → i < length octets →
     → new ++ pairs_after_spaces (drop (i + 1) octets) ≡ out ++ pairs_after_spaces (drop i octets)
 one_more out new octets i n h x e =
     let d : drop i octets ≡ n ∷ drop (i + 1) octets = drop_more octets i 0 h ∙ ap (λ z. z ∷ drop (i + 1) octets) (sym x) in
-    ap (λ z. z ++ pairs_after_spaces (drop (i + 1) octets)) e ∙ (append_assoc out (32 ∷ pair n) (pairs_after_spaces (drop (i + 1) octets)) ∙ ap (λ z. out ++ pairs_after_spaces z) (sym d))
+    ap (λ z. z ++ pairs_after_spaces (drop (i + 1) octets)) e
+    ∙ (append_assoc out (32 ∷ pair n) (pairs_after_spaces (drop (i + 1) octets)) ∙ ap (λ z. out ++ pairs_after_spaces z) (sym d))
 
 -- at the end all are written
 pub no_more : (out octets : List ℕ) (i : ℕ) → length octets ≤ i → out ++ pairs_after_spaces (drop i octets) ≡ out

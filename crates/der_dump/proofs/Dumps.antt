@@ -1,5 +1,30 @@
 -- Lines are put after lines.
-use Rattle.std.proofs.Common.{◌≡◌, ℕ, zero, suc, ◌+◌, List, [], ◌∷◌, ◌++◌, codes, drop, replicate, Bool, true, false, refl, sym, ap, ◌∙◌, subst, map, append_assoc, append-nil, arith}
+use Rattle.std.proofs.Common.{
+  ◌≡◌,
+  ℕ,
+  zero,
+  suc,
+  ◌+◌,
+  List,
+  [],
+  ◌∷◌,
+  ◌++◌,
+  codes,
+  drop,
+  replicate,
+  Bool,
+  true,
+  false,
+  refl,
+  sym,
+  ap,
+  ◌∙◌,
+  subst,
+  map,
+  append_assoc,
+  append-nil,
+  arith,
+}
 use Rattle.std.proofs.lemmas.List.{map-append, drop-drop}
 use Rattle.std.specs.Fmt.{decimal}
 use Rattle.std.specs.Prelude.{Option, Some, None, Result, Ok, Err, IfOk, IfSome, OnOk}
@@ -56,8 +81,11 @@ line_put a b c d e f said n offset p q r s t one =
 
 -- the line of a block after its mark
 pub inside_put : (a b c : List ℕ) (offset : ℕ) → b ≡ a ++ 62 ∷ [] → AddsLine (IsBlockLine offset) b c → AddsLine (IsInsideLine offset) a c
-inside_put a b c offset p (line, is, l) =
-    (62 ∷ line, is ∙ (ap (λ z. z ++ (line ++ 10 ∷ [])) p ∙ append_assoc a (62 ∷ []) (line ++ 10 ∷ [])), record { shown = line; is = refl; block = l })
+inside_put a b c offset p (line, is, l) = (
+  62 ∷ line,
+  is ∙ (ap (λ z. z ++ (line ++ 10 ∷ [])) p ∙ append_assoc a (62 ∷ []) (line ++ 10 ∷ [])),
+  record { shown = line; is = refl; block = l },
+)
 
 pub line_inside :
     (r : Result (Unit {0}) AllocError) (inside : Bool) (offset : ℕ) (a b c : List ℕ) → inside ≡ true → b ≡ a ++ 62 ∷ [] →
@@ -160,7 +188,8 @@ progress_one inside base o octets bs left after a b c d (done, adds, e) f line =
     )
 
 -- what stands inside octets has no lines of blocks
-inside_adds : (P : ℕ → Type 0) (inside : Bool) (base : ℕ) (os a b : List ℕ) → inside ≡ true → Adds P (shown_at inside base os) a b → Adds P [] a b
+inside_adds : (P : ℕ → Type 0) (inside : Bool) (base : ℕ) (os a b : List ℕ) → inside ≡ true
+    → Adds P (shown_at inside base os) a b → Adds P [] a b
 inside_adds P true base os a b e adds = adds
 inside_adds P false base os a b e adds = absurd (cc e)
 
@@ -252,7 +281,8 @@ answer_hex (Ok v) input octets a b f e h = of_hex octets f e h
 answer_hex (Err x) input octets a b f e h = tt
 
 -- what was read is the input, and all that was put is the output
-pub input_answered : (o : Option (List ℕ)) (bytes start out : List ℕ) (v : Verdict) (P : List ℕ → Type 0) → IfSome o (λ i. bytes ≡ i) → start ≡ []
+pub input_answered : (o : Option (List ℕ)) (bytes start out : List ℕ) (v : Verdict) (P : List ℕ → Type 0)
+    → IfSome o (λ i. bytes ≡ i) → start ≡ []
     → AddsAnswer bytes v start out → P out → IfSome o (λ i. (x : List ℕ) × AddsAnswer i v [] x × P x)
 input_answered None bytes start out v P e n a p = tt
 input_answered (Some i) bytes start out v P e n a p =

@@ -1,5 +1,27 @@
 -- Headers at the front of octets.
-use Rattle.std.proofs.Common.{◌≡◌, ◌⊎◌, inl, inr, ℕ, ◌+◌, ◌-◌, ◌≤◌, List, ◌++◌, drop, length, take, slice_range, refl, sym, ap, ◌∙◌, subst, append_assoc, arith}
+use Rattle.std.proofs.Common.{
+  ◌≡◌,
+  ◌⊎◌,
+  inl,
+  inr,
+  ℕ,
+  ◌+◌,
+  ◌-◌,
+  ◌≤◌,
+  List,
+  ◌++◌,
+  drop,
+  length,
+  take,
+  slice_range,
+  refl,
+  sym,
+  ap,
+  ◌∙◌,
+  subst,
+  append_assoc,
+  arith,
+}
 use Rattle.std.proofs.Math.Seq.{take-add}
 use Rattle.std.specs.Prelude.{Option, None, Result, Ok, Err, IfOk, MatchOption}
 use Rattle.std.specs.declared.alloc.AllocError.{AllocError}
@@ -28,7 +50,8 @@ header_found octets s t le i l =
 pub no_identifier : (octets : List ℕ) → BeginsWithNo IsSomeIdentifier octets → HasNoHeader octets
 no_identifier octets none header rest (identifier, len, is, (tag, i), l) q =
     let whole : octets ≡ identifier ++ (len ++ rest) = q ∙ (ap (λ z. z ++ rest) is ∙ append_assoc identifier len rest) in
-    let e : take (length identifier) octets ≡ identifier = ap (take (length identifier)) whole ∙ take_at identifier (len ++ rest) (length identifier) refl in
+    let e : take (length identifier) octets ≡ identifier =
+    ap (take (length identifier)) whole ∙ take_at identifier (len ++ rest) (length identifier) refl in
     none tag (length identifier) (subst (λ z. IsSomeIdentifier z tag) (sym e) i)
 
 -- so does what has no length octets after its identifier octets, which are the only ones
@@ -38,7 +61,8 @@ pub no_length :
 no_length law octets s m fits (c, j, found) none header rest (identifier, len, is, (tag, (d, k, i)), (n, l)) q =
     let whole : octets ≡ identifier ++ (len ++ rest) = q ∙ (ap (λ z. z ++ rest) is ∙ append_assoc identifier len rest) in
     let parts : take s octets ++ drop s octets ≡ identifier ++ (len ++ rest) = take-append-drop s octets ∙ whole in
-    let same = law.one_identifier (take s octets) identifier (drop s octets) (len ++ rest) c d j k m tag (subst (λ z. IsIdentifier z c j m) (front octets s) found) i parts in
+    let same = law.one_identifier (take s octets) identifier (drop s octets) (len ++ rest) c d j k m tag
+    (subst (λ z. IsIdentifier z c j m) (front octets s) found) i parts in
     let size : length identifier ≡ s = sym (ap length same.0) ∙ length-take-le s octets fits in
     let behind : drop s octets ≡ len ++ rest = ap (drop s) whole ∙ drop_at identifier (len ++ rest) s size in
     let e : take (length len) (drop s octets) ≡ len = ap (take (length len)) behind ∙ take_at len rest (length len) refl in

@@ -14,7 +14,8 @@ offsets_of (explicit c o n b) = ap (λ z. o ∷ z) (sym (append-nil (offsets_in 
 offsets_of (unknown c k o n v) = refl
 
 -- one more list inside
-pub stacked_push : (outer : List (List ASN1Block)) (blocks : List ASN1Block) → stacked (outer ++ blocks ∷ []) ≡ all_offsets (views blocks) ++ stacked outer
+pub stacked_push : (outer : List (List ASN1Block)) (blocks : List ASN1Block)
+    → stacked (outer ++ blocks ∷ []) ≡ all_offsets (views blocks) ++ stacked outer
 stacked_push [] blocks = sym (append-nil (all_offsets (views blocks)))
 stacked_push (a ∷ outer) blocks =
     ap (λ z. z ++ all_offsets (views a)) (stacked_push outer blocks) ∙ append_assoc (all_offsets (views blocks)) (stacked outer) (all_offsets (views a))

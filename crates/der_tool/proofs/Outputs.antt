@@ -1,5 +1,30 @@
 -- Each input has one output that answers it.
-use Rattle.std.proofs.Common.{◌≡◌, ◌==◌, ◌<◌, ◌≤◌, ◌^◌, ◌++◌, ◌⊎◌, ℕ, zero, suc, List, [], ◌∷◌, length, Result, Ok, Err, inl, inr, refl, sym, ap, ◌∙◌, arith}
+use Rattle.std.proofs.Common.{
+  ◌≡◌,
+  ◌==◌,
+  ◌<◌,
+  ◌≤◌,
+  ◌^◌,
+  ◌++◌,
+  ◌⊎◌,
+  ℕ,
+  zero,
+  suc,
+  List,
+  [],
+  ◌∷◌,
+  length,
+  Result,
+  Ok,
+  Err,
+  inl,
+  inr,
+  refl,
+  sym,
+  ap,
+  ◌∙◌,
+  arith,
+}
 use Rattle.std.specs.Prelude.{MatchResult, codes}
 use Rattle.std.proofs.lemmas.Bool.{cond_both}
 use Rattle.hex.specs.declared.error.FromHexError.{FromHexError}
@@ -74,7 +99,8 @@ one_verdict reading law octets a b small (inr f) (inl d) = absurd (law.not_both 
 one_verdict reading law octets a b small (inr f) (inr g) =
     f.2 ∙ (ap refusal (law.one_fault octets f.0 g.0 small f.1 g.1) ∙ sym g.2)
 
-some_verdict : (reading : Reading) → Settled reading → (octets : List ℕ) → length octets < 2 ^ 64 → (answer : List ℕ) × IsVerdict reading octets answer
+some_verdict : (reading : Reading) → Settled reading → (octets : List ℕ) → length octets < 2 ^ 64
+    → (answer : List ℕ) × IsVerdict reading octets answer
 some_verdict reading law octets small =
     elim (law.either octets small) [ inl d ↦ (codes "ok " ++ encode_upper d.0, inl (d.0, d.1, refl)) | inr f ↦ (refusal f.0, inr (f.0, f.1, refl)) ]
 
@@ -88,7 +114,8 @@ one_answer reading law line a b n within small u v = go (decode_of line) refl u 
     go (Ok octets) is u v = one_verdict reading law octets a b (few_octets line octets n within small is) u v
     go (Err e) is u v = u ∙ sym v
 
-some_answer : (reading : Reading) → Settled reading → (line : List ℕ) (n : ℕ) → length line ≤ n → n < 2 ^ 64 → (answer : List ℕ) × IsAnswer reading line answer
+some_answer : (reading : Reading) → Settled reading → (line : List ℕ) (n : ℕ) → length line ≤ n → n < 2 ^ 64
+    → (answer : List ℕ) × IsAnswer reading line answer
 some_answer reading law line n within small = go (decode_of line) refl
   where
     go :

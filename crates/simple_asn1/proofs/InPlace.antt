@@ -1,5 +1,29 @@
 -- Trees of a document stand in their canonical octets where the own octets of each do.
-use Rattle.std.proofs.Common.{◌≡◌, ℕ, ◌+◌, ◌<◌, ◌≤◌, ◌^◌, Bool, true, false, List, [], ◌∷◌, ◌++◌, length, refl, sym, ap, ◌∙◌, subst, arith, length-append, append_assoc, append-nil}
+use Rattle.std.proofs.Common.{
+  ◌≡◌,
+  ℕ,
+  ◌+◌,
+  ◌<◌,
+  ◌≤◌,
+  ◌^◌,
+  Bool,
+  true,
+  false,
+  List,
+  [],
+  ◌∷◌,
+  ◌++◌,
+  length,
+  refl,
+  sym,
+  ap,
+  ◌∙◌,
+  subst,
+  arith,
+  length-append,
+  append_assoc,
+  append-nil,
+}
 use Rattle.asn1_blocks.specs.declared.block.ASN1Block.{ASN1Block}
 use Rattle.asn1_headers.specs.declared.header.ASN1Class.{ASN1Class}
 use Rattle.asn1_headers.specs.declared.header.ASN1Class.TheVariants.{Universal}
@@ -78,7 +102,8 @@ all_front o y z w no_trees small s e = (s, ap (λ q. q ++ z) (sym s) ∙ e)
 all_front o y z w (more_trees b bs) small s e =
     let d : s.first ++ (s.rest ++ z) ≡ canonical b ++ (all_canonical bs ++ w) = sym (append_assoc s.first s.rest z) ∙ (ap (λ q. q ++ z) (sym s.whole) ∙
     (e ∙ append_assoc (canonical b) (all_canonical bs) w)) in
-    let n : length (y ++ z) ≡ length s.first + length (s.rest ++ z) = ap length (ap (λ q. q ++ z) s.whole ∙ append_assoc s.first s.rest z) ∙ length-append s.first (s.rest ++ z) in
+    let n : length (y ++ z) ≡ length s.first + length (s.rest ++ z) =
+    ap length (ap (λ q. q ++ z) s.whole ∙ append_assoc s.first s.rest z) ∙ length-append s.first (s.rest ++ z) in
     let m : length s.first + length (s.rest ++ z) ≡ length (canonical b) + length (all_canonical bs ++ w) =
     sym (length-append s.first (s.rest ++ z)) ∙ (ap length d ∙ length-append (canonical b) (all_canonical bs ++ w)) in
     let F = block_encoding s.first (encodes_block o s.first b s.item) in
@@ -138,7 +163,8 @@ past :
     Decides x rest (joined (inside b) bs) (canonical b ++ all_canonical bs)
 past o x rest (leaf p l) bs few s a =
     let one = s.item in
-    closed o x s.first s.rest one.contents a.own rest (leaf_contents l) Universal Universal one.constructed false (leaf_tag l) (leaf_tag l) one.header a.announced bs s.whole one.encoding
+    closed o x s.first s.rest one.contents a.own rest (leaf_contents l) Universal Universal one.constructed false (leaf_tag l) (leaf_tag l) one.header
+    a.announced bs s.whole one.encoding
     s.items a.fits a.size a.whole (λ q. a.canonical (subst (LeafContents l) q one.means))
 past o x rest (unknown c k p n v) bs few s a =
     let one = s.item in
@@ -147,7 +173,8 @@ past o x rest (group p g held) bs few s a =
     let one = s.item in
     let i = shortest_identifier Universal true (group_tag g) in
     let whole : x ≡ i ++ (shortest_length a.announced ++ rest) = a.whole ∙ ap (λ z. i ++ (shortest_length a.announced ++ (z ++ rest))) a.canonical in
-    opened o x s.first s.rest one.contents rest Universal Universal one.constructed true (group_tag g) (group_tag g) one.header a.announced held bs few s.whole one.encoding one.means s.items
+    opened o x s.first s.rest one.contents rest Universal Universal one.constructed true (group_tag g) (group_tag g) one.header a.announced held bs few s.whole
+    one.encoding one.means s.items
     a.fits whole
 past o x rest (explicit c p n b) bs few s a =
     let one = s.item in
@@ -155,7 +182,8 @@ past o x rest (explicit c p n b) bs few s a =
     let whole : x ≡ i ++ (shortest_length a.announced ++ rest) = a.whole ∙ ap (λ z. i ++ (shortest_length a.announced ++ (z ++ rest))) a.canonical in
     let contents = one.contents in
     let item : EncodesAll (o + one.header) contents (more_trees b no_trees) = only (o + one.header) contents b one.means in
-    let (p, left, whole) = opened o x s.first s.rest contents rest c c true true n n one.header a.announced (more_trees b no_trees) bs few s.whole one.encoding item s.items a.fits whole in
+    let (p, left, whole) = opened o x s.first s.rest contents rest c c true true n n one.header a.announced (more_trees b no_trees) bs few s.whole one.encoding
+    item s.items a.fits whole in
     (p, left, λ g. whole g ∙ ap (λ z. shortest_encoding c true n z ++ all_canonical bs) (append-nil (canonical b)))
 
 -- past the own octets of the next block

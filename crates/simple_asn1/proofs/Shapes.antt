@@ -14,7 +14,8 @@ mutual
 
   all_canonical_shapes : (bs : Trees ℕ) → all_canonical bs ≡ all_canonical (shapes bs)
   all_canonical_shapes no_trees = refl
-  all_canonical_shapes (more_trees b bs) = ap (λ z. z ++ all_canonical bs) (canonical_shape b) ∙ ap (λ z. canonical (shape b) ++ z) (all_canonical_shapes bs)
+  all_canonical_shapes (more_trees b bs) =
+      ap (λ z. z ++ all_canonical bs) (canonical_shape b) ∙ ap (λ z. canonical (shape b) ++ z) (all_canonical_shapes bs)
 
 mutual
   fault_shape : (b : Tree ℕ) → write_fault b ≡ write_fault (shape b)
@@ -25,7 +26,8 @@ mutual
 
   first_fault_shapes : (bs : Trees ℕ) → first_write_fault bs ≡ first_write_fault (shapes bs)
   first_fault_shapes no_trees = refl
-  first_fault_shapes (more_trees b bs) = ap (λ z. first_of z (first_write_fault bs)) (fault_shape b) ∙ ap (λ z. first_of (write_fault (shape b)) z) (first_fault_shapes bs)
+  first_fault_shapes (more_trees b bs) =
+      ap (λ z. first_of z (first_write_fault bs)) (fault_shape b) ∙ ap (λ z. first_of (write_fault (shape b)) z) (first_fault_shapes bs)
 
 pub written_alike : (a b : Tree ℕ) → shape a ≡ shape b → (canonical a ≡ canonical b) × (write_fault a ≡ write_fault b)
 written_alike a b e =

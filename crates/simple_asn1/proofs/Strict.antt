@@ -1,5 +1,48 @@
 -- Canonical documents.
-use Rattle.std.proofs.Common.{◌≡◌, ◌≢◌, ℕ, ◌+◌, ◌<◌, ◌≤◌, ◌^◌, Bool, true, false, List, [], ◌++◌, ◌⊎◌, ◌↔◌, inl, inr, length, refl, sym, ap, ◌∙◌, subst, arith, length-append, append_assoc, append-nil, take, drop, length-drop, get_or, None, Result, Ok, Err, Vec, Global, IfOk, IfErr, IsErrAnd, IsTrue, MatchResult}
+use Rattle.std.proofs.Common.{
+  ◌≡◌,
+  ◌≢◌,
+  ℕ,
+  ◌+◌,
+  ◌<◌,
+  ◌≤◌,
+  ◌^◌,
+  Bool,
+  true,
+  false,
+  List,
+  [],
+  ◌++◌,
+  ◌⊎◌,
+  ◌↔◌,
+  inl,
+  inr,
+  length,
+  refl,
+  sym,
+  ap,
+  ◌∙◌,
+  subst,
+  arith,
+  length-append,
+  append_assoc,
+  append-nil,
+  take,
+  drop,
+  length-drop,
+  get_or,
+  None,
+  Result,
+  Ok,
+  Err,
+  Vec,
+  Global,
+  IfOk,
+  IfErr,
+  IsErrAnd,
+  IsTrue,
+  MatchResult,
+}
 use Rattle.std.specs.List.{slice_range}
 use Rattle.std.proofs.lemmas.List.{take-append-drop, length-take-le, drop_at, drop_more}
 use Rattle.asn1_blocks.specs.declared.block.ASN1Block.{ASN1Block}
@@ -129,21 +172,26 @@ writable_from bs i b h e f =
     none_of_both (write_fault (view b)) (first_write_fault (views (drop (i + 1) bs))) (sym (ap first_write_fault (views_from bs i b h e)) ∙ f)
 
 -- octets that are compared with as many are the same exactly if the comparison says so
-pub compared_whole : (a b : Comparison) (xs : List ℕ) → compared a xs b → length xs ≡ length a.rest.now → IsTrue a.same → IsTrue b.same ↔ (a.rest.now ≡ xs)
+pub compared_whole : (a b : Comparison) (xs : List ℕ) → compared a xs b → length xs ≡ length a.rest.now → IsTrue a.same
+    → IsTrue b.same ↔ (a.rest.now ≡ xs)
 compared_whole a b xs (front, whole, size, same) n s =
     let all : a.rest.now ≡ front = (same_split a.rest.now front [] b.rest.now (omega (arith, n, size)) (append-nil a.rest.now ∙ whole)).0 in
     (λ h. all ∙ (same.0 h).1, λ e. same.1 (s, sym all ∙ e))
 
 -- what is written of trees is, of each, where it stands
-written_stand : (bs : Trees ℕ) (i u x : List ℕ) → i ≡ u ++ x → length x < 2 ^ 64 → EncodesAll (length u) x bs → x ≡ all_canonical bs → StandCanonical i bs
+written_stand : (bs : Trees ℕ) (i u x : List ℕ) → i ≡ u ++ x → length x < 2 ^ 64 → EncodesAll (length u) x bs
+    → x ≡ all_canonical bs → StandCanonical i bs
 written_stand no_trees i u x w small s e = tt
 written_stand (more_trees b bs) i u x w small s e =
     let p = octets_here i u x b bs w s in
     let l = ap length e ∙ length-append (canonical b) (all_canonical bs) in
     let F = block_encoding s.first (encodes_block (length u) s.first b s.item) in
     let G = canonical_encoding b (omega (arith, small, l)) in
-    let h = encoding_alone _ _ _ _ _ _ _ _ _ _ _ _ s.rest (all_canonical bs) F.encoding G.encoding (sym s.whole ∙ e) in
-    (p.octets ∙ h.octets, written_stand bs i (u ++ s.first) s.rest p.whole (omega (arith, small, ap length s.whole, length-append s.first s.rest)) p.after h.rest)
+    let h = encoding_alone _ _ _ _ _ _ _ _ _ _ _ _ s.rest (all_canonical bs) F.encoding G.encoding (sym s.whole ∙ e) in (
+      p.octets ∙ h.octets,
+      written_stand bs i (u ++ s.first) s.rest p.whole (omega (arith, small, ap length s.whole, length-append s.first s.rest))
+          p.after h.rest,
+    )
 
 -- and the other way round
 stand_written : (bs : Trees ℕ) (i u x : List ℕ) → i ≡ u ++ x → EncodesAll (length u) x bs → StandCanonical i bs → x ≡ all_canonical bs
@@ -178,7 +226,8 @@ pub stand_exactly : (i : List ℕ) (bs : Trees ℕ) → length i < 2 ^ 64 → Is
 stand_exactly i bs small d = (λ e. written_stand bs i [] i refl small d.blocks e, λ s. stand_written bs i [] i refl d.blocks s)
 
 -- a canonical document has no tree that is not canonical
-canonical_no_first : (i : List ℕ) (bs cs : Trees ℕ) (n : ℕ) → length i < 2 ^ 64 → CanonicalDocument i bs → IsDocument i cs → FirstNotCanonical i cs n → ⊥
+canonical_no_first : (i : List ℕ) (bs cs : Trees ℕ) (n : ℕ) → length i < 2 ^ 64 → CanonicalDocument i bs → IsDocument i cs
+    → FirstNotCanonical i cs n → ⊥
 canonical_no_first i bs cs n small d a f =
     let same : cs ≡ bs = all_alone 0 i cs bs a.blocks d.0.blocks in
     stand_no_first i bs n ((stand_exactly i bs small d.0).0 d.1) (subst (λ z. FirstNotCanonical i z n) same f)

@@ -1,5 +1,36 @@
 -- What blocks write, by the list of all blocks in tree order.
-use Rattle.std.proofs.Common.{◌≡◌, ℕ, zero, suc, ◌+◌, ◌-◌, ◌≤◌, ◌<◌, Option, Some, None, List, [], ◌∷◌, ◌++◌, length, take, drop, refl, sym, ap, subst, ◌∙◌, arith, append_assoc, append-nil, length-append, get_or, set, map}
+use Rattle.std.proofs.Common.{
+  ◌≡◌,
+  ℕ,
+  zero,
+  suc,
+  ◌+◌,
+  ◌-◌,
+  ◌≤◌,
+  ◌<◌,
+  Option,
+  Some,
+  None,
+  List,
+  [],
+  ◌∷◌,
+  ◌++◌,
+  length,
+  take,
+  drop,
+  refl,
+  sym,
+  ap,
+  subst,
+  ◌∙◌,
+  arith,
+  append_assoc,
+  append-nil,
+  length-append,
+  get_or,
+  set,
+  map,
+}
 use Rattle.std.specs.List.{sum}
 use Rattle.std.specs.Prelude.{Result, Ok, Err, IfOk}
 use Rattle.std.proofs.lemmas.Grind.{common_steps}
@@ -14,7 +45,18 @@ use Rattle.asn1_blocks.specs.Contents.{leaf_write_fault}
 use Rattle.asn1_blocks.specs.Tree.{Tree, leaf, group, explicit, unknown}
 use Rattle.asn1_blocks.specs.Inner.TreeOrder.{IsInTreeOrder, IsNext, inside}
 use Rattle.asn1_blocks.specs.View.{view, views}
-use Rattle.simple_asn1.specs.Inner.WriteWalk.{all_own_octets, contents_of, contents_size_of, first_own_fault, identifier_of, measured_blocks, measured_sizes, own_contents, own_fault, own_octets}
+use Rattle.simple_asn1.specs.Inner.WriteWalk.{
+  all_own_octets,
+  contents_of,
+  contents_size_of,
+  first_own_fault,
+  identifier_of,
+  measured_blocks,
+  measured_sizes,
+  own_contents,
+  own_fault,
+  own_octets,
+}
 use Rattle.simple_asn1.specs.declared.write.measure.Measured.{Measured}
 use Rattle.asn1_blocks.proofs.BlockLists.{count, count_views}
 use Rattle.asn1_blocks.proofs.TreeOrders.{from_place}
@@ -41,14 +83,16 @@ own_parts b =
 
 canonical_join : (xs ys : List ASN1Block) → all_canonical (views (xs ++ ys)) ≡ all_canonical (views xs) ++ all_canonical (views ys)
 canonical_join [] ys = refl
-canonical_join (x ∷ xs) ys = ap (λ z. canonical (view x) ++ z) (canonical_join xs ys) ∙ sym (append_assoc (canonical (view x)) (all_canonical (views xs)) (all_canonical (views ys)))
+canonical_join (x ∷ xs) ys =
+    ap (λ z. canonical (view x) ++ z) (canonical_join xs ys) ∙ sym (append_assoc (canonical (view x)) (all_canonical (views xs)) (all_canonical (views ys)))
 
 -- the octets of trees are those that the blocks write themselves
 pub own_order : (order blocks : List ASN1Block) → IsInTreeOrder order blocks → all_own_octets order ≡ all_canonical (views blocks)
 own_order [] blocks h = ap (λ z. all_canonical (views z)) (sym h)
 own_order (b ∷ order) blocks (after, n, h) =
     let r : all_own_octets order ≡ all_canonical (inside (view b)) ++ all_canonical (views n.rest) =
-    own_order order after h ∙ (ap (λ z. all_canonical (views z)) n.then ∙ (canonical_join n.held n.rest ∙ ap (λ z. all_canonical z ++ all_canonical (views n.rest)) n.holds)) in
+    own_order order after h ∙ (ap (λ z. all_canonical (views z)) n.then
+    ∙ (canonical_join n.held n.rest ∙ ap (λ z. all_canonical z ++ all_canonical (views n.rest)) n.holds)) in
     ap (λ z. own_octets (view b) ++ z) r ∙ (sym (append_assoc (own_octets (view b)) (all_canonical (inside (view b))) (all_canonical (views n.rest)))
     ∙ (ap (λ z. z ++ all_canonical (views n.rest)) (sym (own_parts (view b))) ∙ ap (λ z. all_canonical (views z)) (sym n.first)))
 
@@ -76,8 +120,10 @@ pub fault_next : (b : ASN1Block) (before after : List ASN1Block) → IsNext b be
     → first_write_fault (views before) ≡ first_of (own_fault (view b)) (first_write_fault (views after))
 fault_next b before after n =
     let rest = first_write_fault (views n.rest) in
-    ap (λ z. first_write_fault (views z)) n.first ∙ (ap (λ z. first_of z rest) (fault_parts (view b)) ∙ (sym (first_of_assoc (own_fault (view b)) (first_write_fault (inside (view b))) rest)
-    ∙ ap (λ z. first_of (own_fault (view b)) z) (sym (ap (λ z. first_write_fault (views z)) n.then ∙ (faults_join n.held n.rest ∙ ap (λ z. first_of (first_write_fault z) rest) n.holds)))))
+    ap (λ z. first_write_fault (views z)) n.first
+    ∙ (ap (λ z. first_of z rest) (fault_parts (view b)) ∙ (sym (first_of_assoc (own_fault (view b)) (first_write_fault (inside (view b))) rest)
+    ∙ ap (λ z. first_of (own_fault (view b)) z)
+    (sym (ap (λ z. first_write_fault (views z)) n.then ∙ (faults_join n.held n.rest ∙ ap (λ z. first_of (first_write_fault z) rest) n.holds)))))
 
 -- and the first fault is the first of the blocks' own
 pub fault_order : (order blocks : List ASN1Block) → IsInTreeOrder order blocks → first_own_fault order ≡ first_write_fault (views blocks)
@@ -91,7 +137,8 @@ sizes_back (b ∷ bs) = sizes_back bs ++ length (canonical (view b)) ∷ []
 
 back_join : (xs ys : List ASN1Block) → sizes_back (xs ++ ys) ≡ sizes_back ys ++ sizes_back xs
 back_join [] ys = sym (append-nil (sizes_back ys))
-back_join (x ∷ xs) ys = ap (λ z. z ++ length (canonical (view x)) ∷ []) (back_join xs ys) ∙ append_assoc (sizes_back ys) (sizes_back xs) (length (canonical (view x)) ∷ [])
+back_join (x ∷ xs) ys =
+    ap (λ z. z ++ length (canonical (view x)) ∷ []) (back_join xs ys) ∙ append_assoc (sizes_back ys) (sizes_back xs) (length (canonical (view x)) ∷ [])
 
 length_back : (bs : List ASN1Block) → length (sizes_back bs) ≡ length bs
 length_back [] = refl
@@ -99,7 +146,14 @@ length_back (b ∷ bs) = omega (arith, length-append (sizes_back bs) (length (ca
 
 pub sum_back : (bs : List ASN1Block) → sum (sizes_back bs) ≡ length (all_canonical (views bs))
 sum_back [] = refl
-sum_back (b ∷ bs) = omega (arith, sum_by-append (λ (x : ℕ). x) (sizes_back bs) (length (canonical (view b)) ∷ []), sum_back bs, length-append (canonical (view b)) (all_canonical (views bs)))
+sum_back (b ∷ bs) =
+    omega (
+      arith,
+      sum_by-append (λ (x : ℕ). x) (sizes_back bs) (length (canonical (view b)) ∷ []),
+      sum_back bs,
+      length-append (canonical (view b))
+          (all_canonical (views bs)),
+    )
 
 -- what is taken from the sizes of what comes after a block, and what then stands for the block itself
 pub record Step (b : ASN1Block) (left : List ASN1Block) (sizes : List ℕ) (m n : ℕ) : Type 0 where
@@ -108,7 +162,8 @@ pub record Step (b : ASN1Block) (left : List ASN1Block) (sizes : List ℕ) (m n 
   pub after : take (m - n) sizes ++ length (canonical (view b)) ∷ [] ≡ sizes_back left
 
 -- n blocks are held
-pub step : (b : ASN1Block) (left after : List ASN1Block) (sizes : List ℕ) (m n : ℕ) → IsNext b left after → m ≡ length sizes → sizes ≡ sizes_back after
+pub step : (b : ASN1Block) (left after : List ASN1Block) (sizes : List ℕ) (m n : ℕ) → IsNext b left after → m ≡ length sizes
+    → sizes ≡ sizes_back after
     → n ≡ count (inside (view b)) → Step b left sizes m n
 step b left after sizes m n x w s k =
     let j : sizes ≡ sizes_back x.rest ++ sizes_back x.held = s ∙ (ap sizes_back x.then ∙ back_join x.held x.rest) in
@@ -117,8 +172,10 @@ step b left after sizes m n x w s k =
     let q : length (sizes_back x.rest) ≡ m - n = omega (arith, t, length_back x.held, u, w) in
     record {
       enough = omega (arith, t, length_back x.held, u, w);
-      sum_inside = ap (λ z. sum (drop (m - n) z)) j ∙ (ap sum (drop_at (sizes_back x.rest) (sizes_back x.held) (m - n) q) ∙ (sum_back x.held ∙ ap (λ z. length (all_canonical z)) x.holds));
-      after = ap (λ z. z ++ length (canonical (view b)) ∷ []) (ap (λ z. take (m - n) z) j ∙ take_at (sizes_back x.rest) (sizes_back x.held) (m - n) q) ∙ ap sizes_back (sym x.first);
+      sum_inside = ap (λ z. sum (drop (m - n) z)) j
+          ∙ (ap sum (drop_at (sizes_back x.rest) (sizes_back x.held) (m - n) q) ∙ (sum_back x.held ∙ ap (λ z. length (all_canonical z)) x.holds));
+      after = ap (λ z. z ++ length (canonical (view b)) ∷ []) (ap (λ z. take (m - n) z) j ∙ take_at (sizes_back x.rest) (sizes_back x.held) (m - n) q)
+          ∙ ap sizes_back (sym x.first);
     }
 
 -- the same at a place of the list
@@ -130,14 +187,18 @@ step_at order i j b sizes m held e l g w s k left h =
     step b left p.after sizes m (length held) p.next w (s p.after p.ordered) (sym (count_views held) ∙ ap count k)
 
 -- the number at a place of a list of numbers, of which those before it are by f and the others by g
-pub place_at : (f g : ASN1Block → ℕ) (order : List ASN1Block) (i j : ℕ) (x : ASN1Block) (sizes : List ℕ) → j + 1 ≡ i → i ≤ length order → x ≡ get_or order j x
-    → sizes ≡ map f (take i order) ++ map g (drop i order) → (get_or sizes j 0 ≡ f x) × (set sizes j (g x) ≡ map f (take j order) ++ map g (drop j order))
+pub place_at : (f g : ASN1Block → ℕ) (order : List ASN1Block) (i j : ℕ) (x : ASN1Block) (sizes : List ℕ) → j + 1 ≡ i → i ≤ length order
+    → x ≡ get_or order j x
+    → sizes ≡ map f (take i order) ++ map g (drop i order)
+    → (get_or sizes j 0 ≡ f x) × (set sizes j (g x) ≡ map f (take j order) ++ map g (drop j order))
 place_at f g order i j x sizes e l k p =
     let h : j < length order = omega (arith, e, l) in
     let a = map f (take j order) in
     let c = map g (drop i order) in
-    let t : map f (take i order) ≡ a ++ f x ∷ [] = ap (λ z. map f (take z order)) (sym e) ∙ (map_more f order j x h ∙ ap (λ z. a ++ f z ∷ []) (sym k)) in
-    let d : map g (drop j order) ≡ g x ∷ c = ap (map g) (drop_more order j x h ∙ (ap (λ z. z ∷ drop (j + 1) order) (sym k) ∙ ap (λ z. x ∷ drop z order) e)) in
+    let t : map f (take i order) ≡ a ++ f x ∷ [] = ap (λ z. map f (take z order)) (sym e)
+    ∙ (map_more f order j x h ∙ ap (λ z. a ++ f z ∷ []) (sym k)) in
+    let d : map g (drop j order) ≡ g x ∷ c = ap (map g)
+    (drop_more order j x h ∙ (ap (λ z. z ∷ drop (j + 1) order) (sym k) ∙ ap (λ z. x ∷ drop z order) e)) in
     let q : sizes ≡ a ++ f x ∷ c = p ∙ (ap (λ z. z ++ c) t ∙ append_assoc a (f x ∷ []) c) in
     let n : length a ≡ j = grind (arith, common_steps) in (
       ap (λ z. get_or z j 0) q ∙ (ap (λ z. get_or (a ++ f x ∷ c) z 0) (sym n) ∙ get_or-append_seam a (f x) c 0),
@@ -145,7 +206,8 @@ place_at f g order i j x sizes e l k p =
           ∙ (set_at a (f x) c (g x) j n ∙ ap (λ z. a ++ z) (sym d)),
     )
 
-pub length_canonical : (b : Tree ℕ) → length (canonical b) ≡ length (identifier_of b) + (length (shortest_length (length (contents_of b))) + length (contents_of b))
+pub length_canonical : (b : Tree ℕ) → length (canonical b) ≡ length
+    (identifier_of b) + (length (shortest_length (length (contents_of b))) + length (contents_of b))
 length_canonical b =
     omega (
       arith,
@@ -181,7 +243,8 @@ none_of_both None b e = (refl, e)
 none_of_both (Some x) b e = cc
 
 -- it has no fault
-pub own_fault_at : (list : List Measured) (i : ℕ) (m : Measured) → i < length list → m ≡ get_or list i m → first_own_fault (measured_blocks list) ≡ None
+pub own_fault_at : (list : List Measured) (i : ℕ) (m : Measured) → i < length list → m ≡ get_or list i m
+    → first_own_fault (measured_blocks list) ≡ None
     → own_fault (view m.block.now) ≡ None
 own_fault_at [] i m h e f = absurd (omega (arith, h))
 own_fault_at (x ∷ list) zero m h e f =
@@ -190,10 +253,12 @@ own_fault_at (x ∷ list) zero m h e f =
 own_fault_at (x ∷ list) (suc i) m h e f =
     own_fault_at list i m (omega (arith, h)) e (none_of_both (own_fault (view x.block.now)) (first_own_fault (measured_blocks list)) f).1
 
-own_join : (xs : List Measured) (m : Measured) → all_own_octets (measured_blocks (xs ++ m ∷ [])) ≡ all_own_octets (measured_blocks xs) ++ own_octets (view m.block.now)
+own_join : (xs : List Measured) (m : Measured)
+    → all_own_octets (measured_blocks (xs ++ m ∷ [])) ≡ all_own_octets (measured_blocks xs) ++ own_octets (view m.block.now)
 own_join [] m = append-nil (own_octets (view m.block.now))
 own_join (x ∷ xs) m =
-    ap (λ z. own_octets (view x.block.now) ++ z) (own_join xs m) ∙ sym (append_assoc (own_octets (view x.block.now)) (all_own_octets (measured_blocks xs)) (own_octets (view m.block.now)))
+    ap (λ z. own_octets (view x.block.now) ++ z) (own_join xs m)
+    ∙ sym (append_assoc (own_octets (view x.block.now)) (all_own_octets (measured_blocks xs)) (own_octets (view m.block.now)))
 
 -- its octets come after those of the blocks before
 pub own_at : (list : List Measured) (i : ℕ) (m : Measured) → i < length list → m ≡ get_or list i m
@@ -206,7 +271,12 @@ pub own_fits : (list : List Measured) (i : ℕ) (m : Measured) → i < length li
     → length (all_own_octets (measured_blocks (take i list))) + length (own_octets (view m.block.now)) ≤ length (all_own_octets (measured_blocks list))
 own_fits [] i m h e = absurd (omega (arith, h))
 own_fits (x ∷ list) zero m h e =
-    omega (arith, ap (λ (y : Measured). length (own_octets (view y.block.now))) e, length-append (own_octets (view x.block.now)) (all_own_octets (measured_blocks list)))
+    omega (
+      arith,
+      ap (λ (y : Measured). length (own_octets (view y.block.now))) e,
+      length-append (own_octets (view x.block.now))
+          (all_own_octets (measured_blocks list)),
+    )
 own_fits (x ∷ list) (suc i) m h e =
     omega (
       arith,

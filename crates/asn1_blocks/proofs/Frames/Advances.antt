@@ -24,7 +24,8 @@ trees_push : (ts : List (Tree ℕ)) (t : Tree ℕ) → trees_of (ts ++ t ∷ [])
 trees_push [] t = refl
 trees_push (x ∷ ts) t = ap (more_trees x) (trees_push ts t)
 
-follows_read : (octets : List ℕ) (f : Frame) (p q n m : ℕ) (t : Tree ℕ) → IsReadTo octets f p n → Follows octets f p q t m → IsReadTo octets (grown f t) q (n + m)
+follows_read : (octets : List ℕ) (f : Frame) (p q n m : ℕ) (t : Tree ℕ) → IsReadTo octets f p n → Follows octets f p q t m
+    → IsReadTo octets (grown f t) q (n + m)
 follows_read octets f p q n m t r w =
     let s = f.extent.start in
     let front = slice_range octets s p in

@@ -67,11 +67,13 @@ close_group octets f g gs n x y k o =
 -- around contents octets that are these trees, the encoding of an attempt encodes the tree
 abbrev pub Means : owed.Attempt → List ℕ → List (Tree ℕ) → Tree ℕ → Type 0
 Means a contents ts t =
-    (all : List ℕ) (h : ℕ) → a.class ≢ Universal → Encoding all a.class true a.tag contents h → EncodesAll (a.offset + h) contents (trees_of ts) → Encodes a.offset all t
+    (all : List ℕ) (h : ℕ) → a.class ≢ Universal → Encoding all a.class true a.tag contents h → EncodesAll (a.offset + h) contents (trees_of ts)
+    → Encodes a.offset all t
 
 -- an attempt
 pub close_attempt : (octets : List ℕ) (f g : Frame) (gs : List Frame) (n : ℕ) (a : owed.Attempt) (t : Tree ℕ) → f.extent.kind ≡ Attempt a
-    → Means a (slice_range octets f.extent.start f.extent.end) f.trees t → AreOpen octets f (g ∷ gs) f.extent.end n → IsClosed octets g gs f.extent.end t n
+    → Means a (slice_range octets f.extent.start f.extent.end) f.trees t → AreOpen octets f (g ∷ gs) f.extent.end n
+    → IsClosed octets g gs f.extent.end t n
 close_attempt octets f g gs n a t k means o =
     let s = f.extent.start in
     let z = f.extent.end in

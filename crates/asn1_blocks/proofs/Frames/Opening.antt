@@ -1,5 +1,26 @@
 -- A header in a frame, and what it leads: a frame inside, or a leaf.
-use Rattle.std.proofs.Common.{◌≡◌, ℕ, ◌+◌, ◌-◌, ◌<◌, ◌≤◌, ◌^◌, Bool, List, [], ◌∷◌, inl, inr, length, refl, sym, ap, ◌∙◌, subst, arith}
+use Rattle.std.proofs.Common.{
+  ◌≡◌,
+  ℕ,
+  ◌+◌,
+  ◌-◌,
+  ◌<◌,
+  ◌≤◌,
+  ◌^◌,
+  Bool,
+  List,
+  [],
+  ◌∷◌,
+  inl,
+  inr,
+  length,
+  refl,
+  sym,
+  ap,
+  ◌∙◌,
+  subst,
+  arith,
+}
 use Rattle.std.specs.List.{slice_range}
 use Rattle.asn1_blocks.specs.declared.block.GroupKind.{GroupKind}
 use Rattle.asn1_headers.specs.declared.error.ASN1DecodeErr.{ASN1DecodeErr}
@@ -30,7 +51,8 @@ use Rattle.asn1_headers.proofs.Prefixes.{encoding_alone}
 use Rattle.asn1_blocks.proofs.ReadSteps.{slice_length, slice_join}
 
 -- the header found in a slice of the document, in the document
-pub encoding_here : (octets : List ℕ) (s e i a z : ℕ) (c : ASN1Class) (k : Bool) (n : ℕ) → s ≤ e → e ≤ length octets → i < a → a ≤ z → s + z ≤ e
+pub encoding_here : (octets : List ℕ) (s e i a z : ℕ) (c : ASN1Class) (k : Bool) (n : ℕ) → s ≤ e → e ≤ length octets → i < a
+    → a ≤ z → s + z ≤ e
     → IsEncodingBetween (slice_range octets s e) c k n i a z → IsEncodingBetween octets c k n (s + i) (s + a) (s + z)
 encoding_here octets s e i a z c k n h l lt le fits F =
     let whole : slice_range (slice_range octets s e) i z ≡ slice_range octets (s + i) (s + z) = slice_slice octets s e i z h (omega (arith, lt, le)) fits in
@@ -41,10 +63,12 @@ encoding_here octets s e i a z c k n h l lt le fits F =
     (subst (λ w. Encoding (slice_range (slice_range octets s e) i z) c k n (slice_range (slice_range octets s e) a z) w) size F))
 
 -- the same places in other words
-pub EncodingAt_moved : (octets : List ℕ) (i j a b y z : ℕ) (c : ASN1Class) (k : Bool) (n : ℕ) → i ≡ j → a ≡ b → y ≡ z → IsEncodingBetween octets c k n i a y
+pub EncodingAt_moved : (octets : List ℕ) (i j a b y z : ℕ) (c : ASN1Class) (k : Bool) (n : ℕ) → i ≡ j → a ≡ b → y ≡ z
+    → IsEncodingBetween octets c k n i a y
     → IsEncodingBetween octets c k n j b z
 EncodingAt_moved octets i j a b y z c k n e f g F =
-    subst (λ w. IsEncodingBetween octets c k n j b w) g (subst (λ w. IsEncodingBetween octets c k n j w y) f (subst (λ w. IsEncodingBetween octets c k n w a y) e F))
+    subst (λ w. IsEncodingBetween octets c k n j b w) g
+    (subst (λ w. IsEncodingBetween octets c k n j w y) f (subst (λ w. IsEncodingBetween octets c k n w a y) e F))
 
 -- the frame of contents octets that are read as blocks
 pub headed_by : (octets : List ℕ) (kind : FrameKind) (place limit : ℕ) (h : Header) → IsKindOf kind h place → HeaderFound octets place limit h
@@ -59,7 +83,8 @@ headed_by octets (Attempt a) place limit h k w =
     subst (λ z. IsHeaded octets (Attempt z) place h.start h.end) (sym k.2) (refl, record { other = k.0; encoding = bit })
 
 -- a frame is opened
-pub opened_open : (octets : List ℕ) (f h : Frame) (gs : List Frame) (p n : ℕ) → h.trees ≡ [] → IsHeaded octets h.extent.kind p h.extent.start h.extent.end
+pub opened_open : (octets : List ℕ) (f h : Frame) (gs : List Frame) (p n : ℕ) → h.trees ≡ []
+    → IsHeaded octets h.extent.kind p h.extent.start h.extent.end
     → p < h.extent.start → h.extent.start ≤ h.extent.end → h.extent.end ≤ f.extent.end → AreOpen octets f gs p n
     → AreOpen octets h (f ∷ gs) h.extent.start (n + 1)
 opened_open octets f h gs p n e H lt le fits o =
@@ -111,7 +136,8 @@ header_stopping octets f gs p n e small here o u =
     }
 
 -- contents octets at fault that are no group's are a leaf's
-leaf_at_fault : (n : ℕ) (contents : List ℕ) (e : DecodeFault) → ((g : GroupKind) → n ≡ group_tag g → ⊥) → ContentsFault n contents e → LeafFault n contents e
+leaf_at_fault : (n : ℕ) (contents : List ℕ) (e : DecodeFault) → ((g : GroupKind) → n ≡ group_tag g → ⊥) → ContentsFault n contents e
+    → LeafFault n contents e
 leaf_at_fault n contents e other (of_leaf_contents p) = p
 leaf_at_fault n contents e other (of_item g t p) = absurd (other g t)
 

@@ -1,5 +1,24 @@
 -- Slices of slices of the document.
-use Rattle.std.proofs.Common.{◌≡◌, ℕ, zero, suc, ◌+◌, ◌-◌, ◌≤◌, List, [], ◌∷◌, length, take, drop, refl, ap, ◌∙◌, arith, drop-drop}
+use Rattle.std.proofs.Common.{
+  ◌≡◌,
+  ℕ,
+  zero,
+  suc,
+  ◌+◌,
+  ◌-◌,
+  ◌≤◌,
+  List,
+  [],
+  ◌∷◌,
+  length,
+  take,
+  drop,
+  refl,
+  ap,
+  ◌∙◌,
+  arith,
+  drop-drop,
+}
 use Rattle.std.specs.List.{slice_range}
 use Rattle.std.proofs.lemmas.List.{drop-take, take_all}
 
@@ -18,7 +37,8 @@ take_take (suc n) zero xs h = absurd (omega (arith, h))
 take_take (suc n) (suc m) [] h = refl
 take_take (suc n) (suc m) (x ∷ xs) h = ap (λ z. x ∷ z) (take_take n m xs (omega (arith, h)))
 
-pub slice_slice : (octets : List ℕ) (s e a b : ℕ) → s ≤ e → a ≤ b → s + b ≤ e → slice_range (slice_range octets s e) a b ≡ slice_range octets (s + a) (s + b)
+pub slice_slice : (octets : List ℕ) (s e a b : ℕ) → s ≤ e → a ≤ b → s + b ≤ e
+    → slice_range (slice_range octets s e) a b ≡ slice_range octets (s + a) (s + b)
 slice_slice octets s e a b h l w =
     let short = take_take (b - a) (e - (s + a)) (drop (s + a) octets) (omega arith) in
     ap (take (b - a)) (drop_slice octets s e a (omega arith)) ∙ (short ∙ ap (λ n. take n (drop (s + a) octets)) (omega arith))

@@ -1,5 +1,27 @@
 -- A fault goes outward through frames: out of groups, to the innermost attempt or to the document.
-use Rattle.std.proofs.Common.{◌≡◌, ℕ, ◌+◌, ◌-◌, ◌<◌, ◌≤◌, ◌^◌, true, List, [], ◌∷◌, ◌++◌, inl, inr, length, refl, sym, ap, ◌∙◌, subst, arith}
+use Rattle.std.proofs.Common.{
+  ◌≡◌,
+  ℕ,
+  ◌+◌,
+  ◌-◌,
+  ◌<◌,
+  ◌≤◌,
+  ◌^◌,
+  true,
+  List,
+  [],
+  ◌∷◌,
+  ◌++◌,
+  inl,
+  inr,
+  length,
+  refl,
+  sym,
+  ap,
+  ◌∙◌,
+  subst,
+  arith,
+}
 use Rattle.std.specs.List.{slice_range}
 use Rattle.asn1_blocks.specs.declared.block.GroupKind.{GroupKind}
 use Rattle.asn1_blocks.specs.declared.owed.Attempt as owed
@@ -49,7 +71,8 @@ refused_read octets f p e offset a b r s =
     }
 
 -- a group whose contents octets are at fault
-pub group_stops : (octets : List ℕ) (g : Frame) (o s e : ℕ) (y : GroupKind) (fault : DecodeFault) (offset a : ℕ) → length octets < 2 ^ 64 → g.extent.start ≤ o
+pub group_stops : (octets : List ℕ) (g : Frame) (o s e : ℕ) (y : GroupKind) (fault : DecodeFault) (offset a : ℕ)
+    → length octets < 2 ^ 64 → g.extent.start ≤ o
     → o < s → s ≤ e → e ≤ g.extent.end → g.extent.end ≤ length octets → IsGroupAt octets y o s e
     → HasFaultyContents octets (slice_range octets s e) s fault offset a → StopsAt octets g o fault offset (1 + a)
 group_stops octets g o s e y fault offset a small low lt le fits within G r =
@@ -112,7 +135,8 @@ pub record IsClosed (octets : List ℕ) (g : Frame) (gs : List Frame) (end : ℕ
 
 -- a fault closes an attempt
 pub stop_attempt : (octets : List ℕ) (f g : Frame) (gs : List Frame) (e : DecodeFault) (offset n : ℕ) (a : owed.Attempt) → length octets < 2 ^ 64
-    → f.extent.kind ≡ Attempt a → IsStopping octets f (g ∷ gs) e offset n → IsClosed octets g gs f.extent.end (as_it_came octets a f.extent.start f.extent.end) n
+    → f.extent.kind ≡ Attempt a → IsStopping octets f (g ∷ gs) e offset n
+    → IsClosed octets g gs f.extent.end (as_it_came octets a f.extent.start f.extent.end) n
 stop_attempt octets f g gs e offset n a small k w =
     let o = w.opened in
     let s = f.extent.start in
@@ -142,11 +166,13 @@ stop_attempt octets f g gs e offset n a small k w =
     }
 
 -- the contents octets of the outermost frame are the document
-pub whole_document : (octets : List ℕ) (f : Frame) → f.extent.start ≡ 0 → f.extent.end ≡ length octets → slice_range octets f.extent.start f.extent.end ≡ octets
+pub whole_document : (octets : List ℕ) (f : Frame) → f.extent.start ≡ 0 → f.extent.end ≡ length octets
+    → slice_range octets f.extent.start f.extent.end ≡ octets
 whole_document octets f s e = ap (λ z. slice_range octets z f.extent.end) s ∙ (ap (slice_range octets 0) e ∙ slice_all octets)
 
 -- a fault in no attempt
-pub stop_document : (octets : List ℕ) (f : Frame) (e : DecodeFault) (offset n : ℕ) → IsStopping octets f [] e offset n → IsFaultyDocument octets e offset n
+pub stop_document : (octets : List ℕ) (f : Frame) (e : DecodeFault) (offset n : ℕ) → IsStopping octets f [] e offset n
+    → IsFaultyDocument octets e offset n
 stop_document octets f e offset n w =
     let r = refused_read octets f w.place e offset w.before w.own w.opened.read w.stops in
     let d = whole_document octets f w.opened.whole.start w.opened.whole.end in

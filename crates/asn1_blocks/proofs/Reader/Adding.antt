@@ -1,5 +1,27 @@
 -- One tree more in the innermost frame, as a block or owed.
-use Rattle.std.proofs.Common.{◌≡◌, ℕ, ◌+◌, ◌<◌, List, [], ◌∷◌, ◌++◌, inl, inr, length, map, take, drop, reverse, refl, sym, ap, ◌∙◌, subst, append_assoc}
+use Rattle.std.proofs.Common.{
+  ◌≡◌,
+  ℕ,
+  ◌+◌,
+  ◌<◌,
+  List,
+  [],
+  ◌∷◌,
+  ◌++◌,
+  inl,
+  inr,
+  length,
+  map,
+  take,
+  drop,
+  reverse,
+  refl,
+  sym,
+  ap,
+  ◌∙◌,
+  subst,
+  append_assoc,
+}
 use Rattle.std.proofs.lemmas.List.{take-append-drop}
 use Rattle.asn1_blocks.specs.declared.block.ASN1Block.{ASN1Block}
 use Rattle.asn1_blocks.specs.declared.block.GroupKind.{GroupKind}
@@ -23,7 +45,8 @@ use Rattle.asn1_blocks.proofs.Reader.Holding.{IsGrown, IsOwing, IsPushing, all_o
 ready_grown : (octets : List ℕ) (es : List Owed) (b : ASN1Block) → IsGrown octets es (es ++ OwedAs.Ready b ∷ []) (view b)
 ready_grown octets es b = record { more = OwedAs.Ready b ∷ []; whole = refl; leads = λ ds us h. leads_ready octets ds us b h }
 
-kept_grown : (octets : List ℕ) (es : List Owed) (a : Attempt) (from to : ℕ) → IsGrown octets es (es ++ OwedAs.Kept a from to ∷ []) (as_it_came octets a from to)
+kept_grown : (octets : List ℕ) (es : List Owed) (a : Attempt) (from to : ℕ)
+    → IsGrown octets es (es ++ OwedAs.Kept a from to ∷ []) (as_it_came octets a from to)
 kept_grown octets es a from to =
     record { more = OwedAs.Kept a from to ∷ []; whole = refl; leads = λ ds us h. leads_kept octets ds us a from to h }
 
@@ -31,7 +54,8 @@ kept_grown octets es a from to =
 ended_whole : (es : List Owed) (n : ℕ) (e : Owed) → es ++ e ∷ [] ≡ take n es ++ (drop n es ++ e ∷ [])
 ended_whole es n e = ap (λ z. z ++ e ∷ []) (sym (take-append-drop n es)) ∙ append_assoc (take n es) (drop n es) (e ∷ [])
 
-pub group_grown : (octets : List ℕ) (es : List Owed) (n : ℕ) (ts : List (Tree ℕ)) (g : GroupKind) (o owes : ℕ) (first : List ASN1Block) → owes ≡ length ts
+pub group_grown : (octets : List ℕ) (es : List Owed) (n : ℕ) (ts : List (Tree ℕ)) (g : GroupKind) (o owes : ℕ) (first : List ASN1Block)
+    → owes ≡ length ts
     → Leads octets (drop n es) ts → IsGrown octets (take n es) (es ++ OwedAs.Group g o first owes ∷ []) (group o g (trees_of (map view first ++ ts)))
 group_grown octets es n ts g o owes first l k =
     let e = OwedAs.Group g o first owes in
@@ -57,7 +81,8 @@ pub record IsAt (octets : List ℕ) (r : Reader) (end : ℕ) (outer : List OpenF
   pub nearer : left (length octets) end outer < most
 
 goes_on : (octets : List ℕ) (f : OpenFrame) (r : Reader) (outer : List OpenFrame) (ts : List (Tree ℕ)) (rest : List (List (Tree ℕ))) (end n most : ℕ)
-    (t : Tree ℕ) → IsAt octets r end outer most → r.inner.extent ≡ f.extent → AllHold octets r.owed.items r.inner (reverse outer) (ts ++ t ∷ []) rest
+    (t : Tree ℕ) → IsAt octets r end outer most → r.inner.extent ≡ f.extent
+    → AllHold octets r.owed.items r.inner (reverse outer) (ts ++ t ∷ []) rest
     → IsClosed octets (frame f ts) (frames (reverse outer) rest) end t n → GoesOn octets r n most
 goes_on octets f r outer ts rest end n most t at same h c =
     let more = opened_more octets (frame f ts) (frames (reverse outer) rest) c.place end c.before c.own t c.opened c.follows in
@@ -76,13 +101,15 @@ goes_on octets f r outer ts rest end n most t at same h c =
           (subst (λ z. left (length octets) end z < most) (sym at.outer_is) at.nearer);
     }
 
-at_end : (octets : List ℕ) (a r : Reader) (end most : ℕ) → r.index ≡ end → r.outer.items ≡ a.outer.items → left (length octets) end a.outer.items < most
+at_end : (octets : List ℕ) (a r : Reader) (end most : ℕ) → r.index ≡ end → r.outer.items ≡ a.outer.items
+    → left (length octets) end a.outer.items < most
     → IsAt octets r end a.outer.items most
 at_end octets a r end most i o l = record { index = i; outer_is = o; nearer = l }
 
 -- one more is owed, which gathers what the frame that ended owes
 pub owed_goes_on : (octets : List ℕ) (a r : Reader) (es : List Owed) (e : Owed) (end n most : ℕ) (t : Tree ℕ) → IsOwed a e r → r.index ≡ end
-    → left (length octets) end a.outer.items < most → IsGrown octets es (a.owed.items ++ e ∷ []) t → IsReady octets es a.inner (reverse a.outer.items) end t n
+    → left (length octets) end a.outer.items < most → IsGrown octets es (a.owed.items ++ e ∷ []) t
+    → IsReady octets es a.inner (reverse a.outer.items) end t n
     → GoesOn octets r n most
 owed_goes_on octets a r es e end n most t u i l grown w =
     let owing : IsOwing octets es (a.owed.items ++ e ∷ []) a.inner r.inner t = record { begin = u.begin; blocks = u.blocks; owes = u.owes; grown = grown } in

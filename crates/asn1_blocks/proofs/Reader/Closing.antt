@@ -1,5 +1,27 @@
 -- The innermost frame has ended.
-use Rattle.std.proofs.Common.{◌≡◌, ℕ, suc, ◌+◌, ◌≤◌, List, [], ◌∷◌, ◌++◌, inr, length, map, take, drop, refl, sym, ap, ◌∙◌, subst, arith, length-append}
+use Rattle.std.proofs.Common.{
+  ◌≡◌,
+  ℕ,
+  suc,
+  ◌+◌,
+  ◌≤◌,
+  List,
+  [],
+  ◌∷◌,
+  ◌++◌,
+  inr,
+  length,
+  map,
+  take,
+  drop,
+  refl,
+  sym,
+  ap,
+  ◌∙◌,
+  subst,
+  arith,
+  length-append,
+}
 use Rattle.std.specs.List.{slice_range}
 use Rattle.std.proofs.lemmas.List.{length-map}
 use Rattle.asn1_blocks.specs.declared.block.ASN1Block.{ASN1Block}
@@ -46,7 +68,8 @@ one_means a contents ts t is all h ne F s =
     let w = subst (λ z. EncodesAll (a.offset + h) contents (trees_of z)) is s in
     record { contents = contents; header = h; encoding = F; place = refl; other = ne; means = only_tree (a.offset + h) contents t w }
 
-other_means : (octets : List ℕ) (a : owed.Attempt) (s e : ℕ) (ts : List (Tree ℕ)) → (length ts ≡ 1 → ⊥) → Means a (slice_range octets s e) ts (as_it_came octets a s e)
+other_means : (octets : List ℕ) (a : owed.Attempt) (s e : ℕ) (ts : List (Tree ℕ)) → (length ts ≡ 1 → ⊥)
+    → Means a (slice_range octets s e) ts (as_it_came octets a s e)
 other_means octets a s e ts many all h ne F r =
     let no_block : IsBlock (slice_range octets s e) → ⊥ =
     λ z. many (sym (count_trees ts) ∙ one_block (a.offset + h) (slice_range octets s e) (trees_of ts) r z) in
@@ -82,30 +105,36 @@ module _ (octets : List ℕ) (es : List Owed) (k h : OpenFrame) (gs : List OpenF
   clean : k.owes ≡ 0 → IsClean octets es k h gs w.trees N.next N.others
   clean z = left_clean octets es k h gs w.trees N.next N.others z N.own N.around
 
-  clean_ready : (t : Tree ℕ) → k.owes ≡ 0 → IsClosed octets (frame h N.next) (frames gs N.others) k.extent.end t n → IsReady octets es h gs k.extent.end t n
+  clean_ready : (t : Tree ℕ) → k.owes ≡ 0 → IsClosed octets (frame h N.next) (frames gs N.others) k.extent.end t n
+      → IsReady octets es h gs k.extent.end t n
   clean_ready t z d = record { trees = N.next; outer = N.others; holds = (clean z).outer; closed = d }
 
   -- what it owes goes
-  later_ready : (t : Tree ℕ) → IsClosed octets (frame h N.next) (frames gs N.others) k.extent.end t n → IsReady octets (take k.begin es) h gs k.extent.end t n
+  later_ready : (t : Tree ℕ) → IsClosed octets (frame h N.next) (frames gs N.others) k.extent.end t n
+      → IsReady octets (take k.begin es) h gs k.extent.end t n
   later_ready t d = record { trees = N.next; outer = N.others; holds = N.around; closed = d }
 
-  pub clean_group : (y : GroupKind) (p : ℕ) → k.extent.kind ≡ Group y p → k.owes ≡ 0 → IsReady octets es h gs k.extent.end (group p y (views k.blocks)) n
+  pub clean_group : (y : GroupKind) (p : ℕ) → k.extent.kind ≡ Group y p → k.owes ≡ 0
+      → IsReady octets es h gs k.extent.end (group p y (views k.blocks)) n
   clean_group y p is z =
       let t = (clean z).trees in
       let d = close_group octets (frame k w.trees) (frame h N.next) (frames gs N.others) n p y is ending in
-      clean_ready (group p y (views k.blocks)) z (subst (λ v. IsClosed octets (frame h N.next) (frames gs N.others) k.extent.end (group p y (trees_of v)) n) t d)
+      clean_ready (group p y (views k.blocks)) z
+      (subst (λ v. IsClosed octets (frame h N.next) (frames gs N.others) k.extent.end (group p y (trees_of v)) n) t d)
 
   pub later_group : (y : GroupKind) (p : ℕ) → k.extent.kind ≡ Group y p
       → IsReady octets (take k.begin es) h gs k.extent.end (group p y (trees_of (map view k.blocks ++ N.own.owed))) n
   later_group y p is =
       let d = close_group octets (frame k w.trees) (frame h N.next) (frames gs N.others) n p y is ending in
-      later_ready (group p y (trees_of (map view k.blocks ++ N.own.owed))) (subst (λ v. IsClosed octets (frame h N.next) (frames gs N.others) k.extent.end (group p y (trees_of v)) n) N.own.trees d)
+      later_ready (group p y (trees_of (map view k.blocks ++ N.own.owed)))
+      (subst (λ v. IsClosed octets (frame h N.next) (frames gs N.others) k.extent.end (group p y (trees_of v)) n) N.own.trees d)
 
   attempt : (a : owed.Attempt) (t : Tree ℕ) → k.extent.kind ≡ Attempt a → Means a (slice_range octets k.extent.start k.extent.end) w.trees t
       → IsClosed octets (frame h N.next) (frames gs N.others) k.extent.end t n
   attempt a t is means = close_attempt octets (frame k w.trees) (frame h N.next) (frames gs N.others) n a t is means ending
 
-  pub one_block_ended : (a : owed.Attempt) (b : ASN1Block) → k.extent.kind ≡ Attempt a → k.owes ≡ 0 → k.blocks ≡ b ∷ [] → IsReady octets es h gs k.extent.end (around a (view b)) n
+  pub one_block_ended : (a : owed.Attempt) (b : ASN1Block) → k.extent.kind ≡ Attempt a → k.owes ≡ 0 → k.blocks ≡ b ∷ []
+      → IsReady octets es h gs k.extent.end (around a (view b)) n
   one_block_ended a b is z one =
       let contents = slice_range octets k.extent.start k.extent.end in
       clean_ready (around a (view b)) z (attempt a (around a (view b)) is (one_means a contents w.trees (view b) ((clean z).trees ∙ ap (map view) one)))
@@ -117,8 +146,12 @@ module _ (octets : List ℕ) (es : List Owed) (k h : OpenFrame) (gs : List OpenF
       let s = single N.own.owed (sym z ∙ N.own.owes) in
       let seen = ap (λ bs. map view bs ++ N.own.owed) (no_items k.blocks none) in
       let one : w.trees ≡ s.0 ∷ [] = N.own.trees ∙ (seen ∙ s.1) in
-      let contents = slice_range octets k.extent.start k.extent.end in
-      (s.0, subst (λ v. Leads octets (drop k.begin es) v) s.1 N.own.leads, later_ready (around a s.0) (attempt a (around a s.0) is (one_means a contents w.trees s.0 one)))
+      let contents = slice_range octets k.extent.start k.extent.end in (
+        s.0,
+        subst (λ v. Leads octets (drop k.begin es) v) s.1 N.own.leads,
+        later_ready (around a s.0)
+            (attempt a (around a s.0) is (one_means a contents w.trees s.0 one)),
+      )
 
   pub other_ended : (a : owed.Attempt) → k.extent.kind ≡ Attempt a → (length k.blocks + k.owes ≡ 1 → ⊥)
       → IsReady octets (take k.begin es) h gs k.extent.end (as_it_came octets a k.extent.start k.extent.end) n

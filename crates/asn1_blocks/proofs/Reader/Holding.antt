@@ -1,5 +1,27 @@
 -- How frames hold what they read, as blocks and as owed.
-use Rattle.std.proofs.Common.{◌≡◌, ℕ, ◌+◌, ◌≤◌, List, [], ◌∷◌, ◌++◌, length, map, take, drop, refl, sym, ap, ◌∙◌, subst, arith, length-append, append_assoc, append-nil}
+use Rattle.std.proofs.Common.{
+  ◌≡◌,
+  ℕ,
+  ◌+◌,
+  ◌≤◌,
+  List,
+  [],
+  ◌∷◌,
+  ◌++◌,
+  length,
+  map,
+  take,
+  drop,
+  refl,
+  sym,
+  ap,
+  ◌∙◌,
+  subst,
+  arith,
+  length-append,
+  append_assoc,
+  append-nil,
+}
 use Rattle.std.proofs.Math.Seq.{take-length, drop-length}
 use Rattle.std.proofs.lemmas.List.{map-append, take-append-drop, take-append-le, drop-append-le}
 use Rattle.asn1_blocks.specs.declared.block.ASN1Block.{ASN1Block}
@@ -35,7 +57,8 @@ pub record IsPushing (f g : OpenFrame) (b : ASN1Block) : Type 0 where
   pub owes : g.owes ≡ f.owes
   pub none : f.owes ≡ 0
 
-holds_owed : (octets : List ℕ) (es fs : List Owed) (f g : OpenFrame) (ts : List (Tree ℕ)) (t : Tree ℕ) → IsOwing octets es fs f g t → Holds octets es f ts
+holds_owed : (octets : List ℕ) (es fs : List Owed) (f g : OpenFrame) (ts : List (Tree ℕ)) (t : Tree ℕ)
+    → IsOwing octets es fs f g t → Holds octets es f ts
     → Holds octets fs g (ts ++ t ∷ [])
 holds_owed octets es fs f g ts t w h =
     let more = w.grown.more in
@@ -72,7 +95,8 @@ around_grown : (octets : List ℕ) (es more : List Owed) (n : ℕ) (g : OpenFram
 around_grown octets es more n g gs us rest h a = subst (λ z. AllHold octets z g gs us rest) (sym (take-append-le n es more h)) a
 
 -- one tree more in the innermost frame, which is owed
-pub all_owed : (octets : List ℕ) (es fs : List Owed) (f g : OpenFrame) (hs : List OpenFrame) (ts : List (Tree ℕ)) (rest : List (List (Tree ℕ))) (t : Tree ℕ)
+pub all_owed : (octets : List ℕ) (es fs : List Owed) (f g : OpenFrame) (hs : List OpenFrame) (ts : List (Tree ℕ))
+    (rest : List (List (Tree ℕ))) (t : Tree ℕ)
     → IsOwing octets es fs f g t → AllHold octets es f hs ts rest → AllHold octets fs g hs (ts ++ t ∷ []) rest
 all_owed octets es fs f g [] ts [] t w a = (holds_owed octets es fs f g ts t w a.0, w.begin ∙ a.1)
 all_owed octets es fs f g [] ts (us ∷ rest) t w a = absurd a
@@ -83,7 +107,8 @@ all_owed octets es fs f g (h ∷ hs) ts (us ∷ rest) t w a =
     (holds_owed octets es fs f g ts t w a.0, subst (λ z. AllHold octets (take z fs) h hs us rest) (sym w.begin) v)
 
 -- and as a block
-pub all_pushed : (octets : List ℕ) (es : List Owed) (f g : OpenFrame) (hs : List OpenFrame) (ts : List (Tree ℕ)) (rest : List (List (Tree ℕ))) (b : ASN1Block)
+pub all_pushed : (octets : List ℕ) (es : List Owed) (f g : OpenFrame) (hs : List OpenFrame) (ts : List (Tree ℕ))
+    (rest : List (List (Tree ℕ))) (b : ASN1Block)
     → IsPushing f g b → AllHold octets es f hs ts rest → AllHold octets es g hs (ts ++ view b ∷ []) rest
 all_pushed octets es f g [] ts [] b w a = (holds_pushed octets es f g ts b w a.0, w.begin ∙ a.1)
 all_pushed octets es f g [] ts (us ∷ rest) b w a = absurd a
@@ -104,7 +129,8 @@ holds_more octets es fs f ts k h =
       trees = h.trees;
     }
 
-all_more : (octets : List ℕ) (es fs : List Owed) (f : OpenFrame) (hs : List OpenFrame) (ts : List (Tree ℕ)) (rest : List (List (Tree ℕ))) → Leads octets fs []
+all_more : (octets : List ℕ) (es fs : List Owed) (f : OpenFrame) (hs : List OpenFrame) (ts : List (Tree ℕ)) (rest : List (List (Tree ℕ)))
+    → Leads octets fs []
     → AllHold octets es f hs ts rest → AllHold octets (es ++ fs) f hs ts rest
 all_more octets es fs f [] ts [] k a = (holds_more octets es fs f ts k a.0, a.1)
 all_more octets es fs f [] ts (us ∷ rest) k a = absurd a
@@ -113,12 +139,14 @@ all_more octets es fs f (h ∷ hs) ts (us ∷ rest) k a =
     (holds_more octets es fs f ts k a.0, around_grown octets es fs f.begin h hs us rest a.0.begin a.1)
 
 -- a frame that owes nothing is left: those around it are as they were
-pub record IsClean (octets : List ℕ) (es : List Owed) (f g : OpenFrame) (hs : List OpenFrame) (ts us : List (Tree ℕ)) (rest : List (List (Tree ℕ))) : Type 0
+pub record IsClean (octets : List ℕ) (es : List Owed) (f g : OpenFrame) (hs : List OpenFrame) (ts us : List (Tree ℕ))
+    (rest : List (List (Tree ℕ))) : Type 0
   where
     pub outer : AllHold octets es g hs us rest
     pub trees : ts ≡ map view f.blocks
 
-pub left_clean : (octets : List ℕ) (es : List Owed) (f g : OpenFrame) (hs : List OpenFrame) (ts us : List (Tree ℕ)) (rest : List (List (Tree ℕ))) → f.owes ≡ 0
+pub left_clean : (octets : List ℕ) (es : List Owed) (f g : OpenFrame) (hs : List OpenFrame) (ts us : List (Tree ℕ)) (rest : List (List (Tree ℕ)))
+    → f.owes ≡ 0
     → Holds octets es f ts → AllHold octets (take f.begin es) g hs us rest → IsClean octets es f g hs ts us rest
 left_clean octets es f g hs ts us rest z own around =
     let none : own.owed ≡ [] = nothing own.owed (sym z ∙ own.owes) in
@@ -154,7 +182,8 @@ hold_first octets es f (g ∷ gs) ts [] a = absurd a
 hold_first octets es f (g ∷ gs) ts (us ∷ rest) a = a.0
 
 -- the frame that has others around it
-pub record IsNested (octets : List ℕ) (es : List Owed) (f g : OpenFrame) (gs : List OpenFrame) (ts : List (Tree ℕ)) (outer : List (List (Tree ℕ))) : Type 0 where
+pub record IsNested (octets : List ℕ) (es : List Owed) (f g : OpenFrame) (gs : List OpenFrame) (ts : List (Tree ℕ))
+    (outer : List (List (Tree ℕ))) : Type 0 where
   pub next : List (Tree ℕ)
   pub others : List (List (Tree ℕ))
   pub are : outer ≡ next ∷ others

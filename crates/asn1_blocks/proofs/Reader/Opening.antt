@@ -1,5 +1,27 @@
 -- The reader at a header: where it is, and what a frame inside, a leaf or a fault there leads to.
-use Rattle.std.proofs.Common.{◌≡◌, ◌≢◌, ℕ, ◌+◌, ◌-◌, ◌<◌, ◌≤◌, ◌^◌, List, [], ◌∷◌, length, reverse, refl, sym, ap, ◌∙◌, subst, arith, append-nil, length-append}
+use Rattle.std.proofs.Common.{
+  ◌≡◌,
+  ◌≢◌,
+  ℕ,
+  ◌+◌,
+  ◌-◌,
+  ◌<◌,
+  ◌≤◌,
+  ◌^◌,
+  List,
+  [],
+  ◌∷◌,
+  length,
+  reverse,
+  refl,
+  sym,
+  ap,
+  ◌∙◌,
+  subst,
+  arith,
+  append-nil,
+  length-append,
+}
 use Rattle.std.specs.List.{slice_range}
 use Rattle.std.proofs.lemmas.List.{reverse-append}
 use Rattle.asn1_blocks.specs.declared.block.ASN1Block.{ASN1Block}
@@ -36,12 +58,14 @@ reader_places octets r n w =
 
 -- a frame was opened at the header
 pub open_goes_on : (octets : List ℕ) (a r : Reader) (f : OpenFrame) (h : Header) (n : ℕ) → IsOpened a f r → r.index ≡ f.extent.start
-    → IsKindOf f.extent.kind h a.index → f.extent.start ≡ h.start → f.extent.end ≡ h.end → f.begin ≡ length a.owed.items → f.owes ≡ 0 → f.blocks ≡ []
+    → IsKindOf f.extent.kind h a.index → f.extent.start ≡ h.start → f.extent.end ≡ h.end → f.begin ≡ length a.owed.items
+    → f.owes ≡ 0 → f.blocks ≡ []
     → HeaderFound octets a.index a.inner.extent.end h → IsReading octets a n → GoesOn octets r (n + 1) (left (length octets) a.index a.outer.items)
 open_goes_on octets a r f h n u i kind s e b z none found w =
     let outer = a.outer.items in
     let H = headed_by octets f.extent.kind a.index a.inner.extent.end h kind found in
-    let headed = subst (λ x. IsHeaded octets f.extent.kind a.index x f.extent.end) (sym s) (subst (λ x. IsHeaded octets f.extent.kind a.index h.start x) (sym e) H)
+    let headed = subst (λ x. IsHeaded octets f.extent.kind a.index x f.extent.end) (sym s)
+    (subst (λ x. IsHeaded octets f.extent.kind a.index h.start x) (sym e) H)
     in
     let g = frame a.inner w.trees in
     let gs = frames (reverse outer) w.outer in
@@ -112,7 +136,8 @@ still_faulty octets a e n m w s =
     }
 
 -- the header is at fault
-pub header_faulty : (octets : List ℕ) (a : Reader) (e : DecodeFault) (n : ℕ) → length octets < 2 ^ 64 → a.index ≢ a.inner.extent.end → IsReading octets a n
+pub header_faulty : (octets : List ℕ) (a : Reader) (e : DecodeFault) (n : ℕ) → length octets < 2 ^ 64
+    → a.index ≢ a.inner.extent.end → IsReading octets a n
     → HeaderFault (a.index - a.inner.extent.start) (slice_range octets a.index a.inner.extent.end) e
     → IsFaulty octets a e (n + 1) (left (length octets) a.index a.outer.items)
 header_faulty octets a e n small ne w u =
@@ -124,7 +149,8 @@ header_faulty octets a e n small ne w u =
 -- the contents octets of a leaf are
 pub leaf_faulty : (octets : List ℕ) (a : Reader) (h : Header) (e : DecodeFault) (n : ℕ) → length octets < 2 ^ 64
     → HeaderFound octets a.index a.inner.extent.end h → (IsReadInside h.class h.constructed h.tag → ⊥) → h.class ≡ Universal
-    → ContentsFault h.tag (slice_range octets h.start h.end) e → IsReading octets a n → IsFaulty octets a e (n + 1) (left (length octets) a.index a.outer.items)
+    → ContentsFault h.tag (slice_range octets h.start h.end) e → IsReading octets a n
+    → IsFaulty octets a e (n + 1) (left (length octets) a.index a.outer.items)
 leaf_faulty octets a h e n small found shut u fault w =
     still_faulty octets a e n (n + 1) w (leaf_stopping octets (frame a.inner w.trees) (frames (reverse a.outer.items) w.outer) a.index n h e small found
     w.opened shut u fault)

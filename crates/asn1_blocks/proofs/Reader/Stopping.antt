@@ -1,5 +1,27 @@
 -- A fault goes outward through the frames of the reader.
-use Rattle.std.proofs.Common.{◌≡◌, ℕ, ◌<◌, ◌≤◌, ◌^◌, List, [], ◌∷◌, ◌++◌, length, take, drop, reverse, sym, ap, ◌∙◌, subst, arith, append_assoc, length-append, Some}
+use Rattle.std.proofs.Common.{
+  ◌≡◌,
+  ℕ,
+  ◌<◌,
+  ◌≤◌,
+  ◌^◌,
+  List,
+  [],
+  ◌∷◌,
+  ◌++◌,
+  length,
+  take,
+  drop,
+  reverse,
+  sym,
+  ap,
+  ◌∙◌,
+  subst,
+  arith,
+  append_assoc,
+  length-append,
+  Some,
+}
 use Rattle.std.proofs.lemmas.List.{take-append-drop, take-append-le}
 use Rattle.asn1_blocks.specs.declared.owed.Attempt as owed
 use Rattle.asn1_blocks.specs.declared.owed.Owed.{Owed}
@@ -65,10 +87,12 @@ module _ (octets : List ℕ) (es : List Owed) (k h : OpenFrame) (gs : List OpenF
       }
 
 -- the frame around was taken out of the list
-pub refused_taken : (octets : List ℕ) (es : List Owed) (f k g h : OpenFrame) (before after : List OpenFrame) (e : DecodeFault) (offset n : ℕ) → k ≡ f → h ≡ g
+pub refused_taken : (octets : List ℕ) (es : List Owed) (f k g h : OpenFrame) (before after : List OpenFrame) (e : DecodeFault) (offset n : ℕ)
+    → k ≡ f → h ≡ g
     → before ≡ after ++ g ∷ [] → IsRefused octets es f (reverse before) e offset n → IsRefused octets es k (h ∷ reverse after) e offset n
 refused_taken octets es f k g h before after e offset n own new is r =
-    subst (λ z. IsRefused octets es k (z ∷ reverse after) e offset n) (sym new) (subst (λ z. IsRefused octets es z (g ∷ reverse after) e offset n) (sym own)
+    subst (λ z. IsRefused octets es k (z ∷ reverse after) e offset n) (sym new)
+    (subst (λ z. IsRefused octets es z (g ∷ reverse after) e offset n) (sym own)
     (subst (λ z. IsRefused octets es f z e offset n) (reverse_push before after g is) r))
 
 -- so there is less left to do

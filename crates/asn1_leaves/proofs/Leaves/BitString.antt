@@ -1,11 +1,45 @@
 -- What is known of the contents octets of a BIT STRING.
-use Rattle.std.proofs.Common.{◌≡◌, ◌==◌, ℕ, zero, suc, ◌+◌, ◌-◌, ◌*◌, ◌<◌, ◌≤◌, ◌^◌, ◌⊎◌, false, List, [], ◌∷◌, None, length, inl, inr, refl, sym, ap, ◌∙◌, subst, arith}
+use Rattle.std.proofs.Common.{
+  ◌≡◌,
+  ◌==◌,
+  ℕ,
+  zero,
+  suc,
+  ◌+◌,
+  ◌-◌,
+  ◌*◌,
+  ◌<◌,
+  ◌≤◌,
+  ◌^◌,
+  ◌⊎◌,
+  false,
+  List,
+  [],
+  ◌∷◌,
+  None,
+  length,
+  inl,
+  inr,
+  refl,
+  sym,
+  ap,
+  ◌∙◌,
+  subst,
+  arith,
+}
 use Rattle.std.specs.Prelude.{pos, ◌-ℤ◌, All, if◌then◌else◌}
 use Rattle.std.proofs.lemmas.Bool.{cases_Bool, cases_lt, eqb-true}
 use Rattle.std.proofs.lemmas.Grind.{common_steps}
 use Rattle.std.proofs.lemmas.List.Elements.{All-head}
 use Rattle.asn1_headers.specs.Fault.{DecodeFault, IsOfReading, length_too_large, invalid_bit_string_length}
-use Rattle.asn1_leaves.specs.Contents.BitString.{BitStringContents, BitStringFault, IsFaithfulBitString, bit_string_contents, bit_string_write_fault, written_bits}
+use Rattle.asn1_leaves.specs.Contents.BitString.{
+  BitStringContents,
+  BitStringFault,
+  IsFaithfulBitString,
+  bit_string_contents,
+  bit_string_write_fault,
+  written_bits,
+}
 
 -- they mean one number of bits, and one list of octets
 pub bit_string_alone : (m n : ℕ) (v w contents : List ℕ) → BitStringContents m v contents → BitStringContents n w contents → (m ≡ n) × (v ≡ w)
@@ -29,7 +63,8 @@ bit_string_no_fault n v (u ∷ contents) e (same, _, fits) (inl f) = omega (arit
 bit_string_no_fault n v (u ∷ contents) e p (inr f) = omega (arith, p.1, f.1, ap length p.0)
 
 -- all others have one
-pub bit_string_meaning : (contents : List ℕ) → ((n : ℕ) × (v : List ℕ) × BitStringContents n v contents) ⊎ ((e : DecodeFault) × BitStringFault contents e)
+pub bit_string_meaning : (contents : List ℕ)
+    → ((n : ℕ) × (v : List ℕ) × BitStringContents n v contents) ⊎ ((e : DecodeFault) × BitStringFault contents e)
 bit_string_meaning [] = inl (0, [], (refl, refl))
 bit_string_meaning (u ∷ v) = elim (cases_lt (8 * length v) (2 ^ 64)) [
   | inr far ↦ inr (length_too_large (length (u ∷ v)), inl (far, refl))
@@ -46,7 +81,8 @@ bit_string_fault_of_reading (u ∷ v) e (inl f) = subst IsOfReading (sym f.1) tt
 bit_string_fault_of_reading (u ∷ v) e (inr (_, _, f)) = subst IsOfReading (sym f) tt
 
 -- bits that octets mean can be written
-pub bit_string_writable : (n : ℕ) (v contents : List ℕ) → All (λ b. b < 256) contents → BitStringContents n v contents → bit_string_write_fault n v ≡ None
+pub bit_string_writable : (n : ℕ) (v contents : List ℕ) → All (λ b. b < 256) contents → BitStringContents n v contents
+    → bit_string_write_fault n v ≡ None
 bit_string_writable n v [] all p = ap (λ z. bit_string_write_fault z v) p.0
 bit_string_writable n v (u ∷ contents) all p =
     let h : u < 256 = All-head (λ b. b < 256) u contents all in
@@ -78,7 +114,8 @@ bit_string_fits (suc n) v (inl f) = absurd (omega (arith, f.0))
 bit_string_fits (suc n) v (inr (_, enough, few, _)) = grind (arith, common_steps, enough, few)
 
 -- bits that can be written are faithful where what is written means them
-pub bit_string_kept : (n : ℕ) (v : List ℕ) → bit_string_write_fault n v ≡ None → BitStringContents n v (bit_string_contents n v) → IsFaithfulBitString n v
+pub bit_string_kept : (n : ℕ) (v : List ℕ) → bit_string_write_fault n v ≡ None → BitStringContents n v (bit_string_contents n v)
+    → IsFaithfulBitString n v
 bit_string_kept zero v w p = inl (refl, p.1)
 bit_string_kept (suc n) v w p =
     let (_, bits, fits) = subst (BitStringContents (suc n) v) (some_written n v) p in
@@ -86,7 +123,8 @@ bit_string_kept (suc n) v w p =
     inr (omega arith, omega (arith, bits), h, fits)
 
 -- what is left of bits that were read is faithful
-pub bit_string_read : (n : ℕ) (v contents : List ℕ) → All (λ b. b < 256) contents → BitStringContents n v contents → IsFaithfulBitString n (written_bits n v)
+pub bit_string_read : (n : ℕ) (v contents : List ℕ) → All (λ b. b < 256) contents → BitStringContents n v contents
+    → IsFaithfulBitString n (written_bits n v)
 bit_string_read zero v contents all p = inl (refl, refl)
 bit_string_read (suc n) v [] all p = absurd (omega (arith, p.0))
 bit_string_read (suc n) v (u ∷ contents) all (same, bits, near) =

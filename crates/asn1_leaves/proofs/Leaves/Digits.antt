@@ -1,5 +1,34 @@
 -- Two digits, fields of two digits, and the digits of a fraction.
-use Rattle.std.proofs.Common.{◌≡◌, ℕ, zero, suc, ◌+◌, ◌-◌, ◌*◌, ◌/◌, ◌%◌, ◌^◌, ◌<◌, ◌≤◌, ◌==◌, ◌++◌, true, inl, inr, List, [], ◌∷◌, length, refl, sym, ap, ◌∙◌, subst, arith, length-append}
+use Rattle.std.proofs.Common.{
+  ◌≡◌,
+  ℕ,
+  zero,
+  suc,
+  ◌+◌,
+  ◌-◌,
+  ◌*◌,
+  ◌/◌,
+  ◌%◌,
+  ◌^◌,
+  ◌<◌,
+  ◌≤◌,
+  ◌==◌,
+  ◌++◌,
+  true,
+  inl,
+  inr,
+  List,
+  [],
+  ◌∷◌,
+  length,
+  refl,
+  sym,
+  ap,
+  ◌∙◌,
+  subst,
+  arith,
+  length-append,
+}
 use Rattle.std.specs.Prelude.{ℤ, pos, negsuc, ◌≤ℤ◌, unsigned_abs, slice_index, Option, Some, None, IfNone}
 use Rattle.std.specs.Char.{is_ascii_digit}
 use Rattle.std.specs.List.{list_all}
@@ -123,8 +152,12 @@ unit_step (suc zero) unit h e =
 unit_step (suc (suc j)) unit h e =
     let t : unit ≡ 10 ^ suc j = omega (arith, e, pow-succ' 10 (suc j)) in
     let u : 10 ^ suc j ≡ 10 * 10 ^ j = pow-succ' 10 j in
-    let v : suc j ≡ suc (suc j) - 1 = omega arith in
-    (t ∙ ap (λ z. 10 ^ z) v, omega (arith, t, pow_positive (suc j)), λ l. let w : unit / 10 * 10 ≡ unit = omega (arith, t, u) in w ∙ (t ∙ ap (λ z. 10 ^ z) v))
+    let v : suc j ≡ suc (suc j) - 1 = omega arith in (
+      t ∙ ap (λ z. 10 ^ z) v,
+      omega (arith, t, pow_positive (suc j)),
+      λ l. let w : unit / 10 * 10 ≡ unit = omega (arith, t, u) in w
+          ∙ (t ∙ ap (λ z. 10 ^ z) v),
+    )
 
 -- the number of the two digits at a place
 abbrev pub number_at : List ℕ → ℕ → ℕ
@@ -198,7 +231,8 @@ not_ended : (front f : List ℕ) (z : ℕ) → (z ≡ 90 → ⊥) → IsEnd f (f
 not_ended front f z n (a, inl q) = n (last_alone front f z 90 q)
 not_ended front f z n (a, inr q) = n (last_alone front (46 ∷ f) z 90 q)
 
-ended : (end front digits : List ℕ) → list_all is_ascii_digit digits ≡ true → end ≡ front ++ 90 ∷ [] → FollowsPoint front digits → IsEnd digits end
+ended : (end front digits : List ℕ) → list_all is_ascii_digit digits ≡ true → end ≡ front ++ 90 ∷ []
+    → FollowsPoint front digits → IsEnd digits end
 ended end front digits a e (inl p) = (a, inr (e ∙ ap (λ z. z ++ 90 ∷ []) p))
 ended end front digits a e (inr p) = (a, inl (e ∙ ap (λ z. z ++ 90 ∷ []) (sym p.0)))
 

@@ -1,5 +1,38 @@
 -- Contents octets of a GeneralizedTime.
-use Rattle.std.proofs.Common.{◌≡◌, ℕ, zero, suc, ◌+◌, ◌-◌, ◌*◌, ◌/◌, ◌%◌, ◌<◌, ◌≤◌, ◌==◌, ◌++◌, ◌⊎◌, true, false, inl, inr, None, List, [], ◌∷◌, length, take, drop, replicate, refl, sym, ap, ◌∙◌, subst, arith}
+use Rattle.std.proofs.Common.{
+  ◌≡◌,
+  ℕ,
+  zero,
+  suc,
+  ◌+◌,
+  ◌-◌,
+  ◌*◌,
+  ◌/◌,
+  ◌%◌,
+  ◌<◌,
+  ◌≤◌,
+  ◌==◌,
+  ◌++◌,
+  ◌⊎◌,
+  true,
+  false,
+  inl,
+  inr,
+  None,
+  List,
+  [],
+  ◌∷◌,
+  length,
+  take,
+  drop,
+  replicate,
+  refl,
+  sym,
+  ap,
+  ◌∙◌,
+  subst,
+  arith,
+}
 use Rattle.std.specs.Prelude.{if◌then◌else◌, pos, decimal, unsigned_abs, IsAscii, IsUtf8}
 use Rattle.std.specs.Char.{is_ascii}
 use Rattle.std.specs.List.{list_all, list_any, slice_range}
@@ -12,10 +45,35 @@ use Rattle.std.proofs.lemmas.Str.{IsAscii-append, IsAscii-take, IsAscii-drop, Is
 use Rattle.std.proofs.lemmas.Str.Ascii.{IsAscii-nil, IsAscii-cons}
 use Rattle.asn1_leaves.specs.Inner.DigitFields.{IsSpelled, PairAt}
 use Rattle.asn1_leaves.specs.Contents.Moment.{Moment, IsValid, moment_write_fault}
-use Rattle.asn1_leaves.specs.Contents.GeneralizedTime.{GeneralizedTimeContents, GeneralizedTimeFault, IsEnd, IsFaithfulGeneralizedTime, fraction_digits, fraction_number, generalized_time_contents, generalized_time_fault, tenth, to_second, with_point, with_zeros, written_fraction}
+use Rattle.asn1_leaves.specs.Contents.GeneralizedTime.{
+  GeneralizedTimeContents,
+  GeneralizedTimeFault,
+  IsEnd,
+  IsFaithfulGeneralizedTime,
+  fraction_digits,
+  fraction_number,
+  generalized_time_contents,
+  generalized_time_fault,
+  tenth,
+  to_second,
+  with_point,
+  with_zeros,
+  written_fraction,
+}
 use Rattle.asn1_headers.specs.Fault.{DecodeFault, IsOfReading, invalid_date_value, utf8_fault}
 use Rattle.asn1_leaves.proofs.Leaves.Known.{octets_known}
-use Rattle.asn1_leaves.proofs.Leaves.Digits.{days_few, end_alone, end_known, fraction_again, moment_same, number_at, number_two_digits, two_digits_pair, valid_known, valid_writable}
+use Rattle.asn1_leaves.proofs.Leaves.Digits.{
+  days_few,
+  end_alone,
+  end_known,
+  fraction_again,
+  moment_same,
+  number_at,
+  number_two_digits,
+  two_digits_pair,
+  valid_known,
+  valid_writable,
+}
 
 -- fourteen octets by place are those of the moment
 pub second_spelled :
@@ -72,7 +130,8 @@ zeros_ascii (suc n) = IsAscii-cons 48 (replicate n 48) (omega arith) (zeros_asci
 point_ascii : (text : List ℕ) → IsAscii text → IsAscii (with_point text)
 point_ascii text a = elim (list_any (λ c. c == 46) text) as (λ b. IsAscii (if b then text else take 14 text ++ (46 ∷ drop 14 text))) [
   | true ↦ a
-  | false ↦ IsAscii-append (take 14 text) (46 ∷ drop 14 text) (IsAscii-take text 14 a) (IsAscii-cons 46 (drop 14 text) (omega arith) (IsAscii-drop text 14 a))
+  | false ↦ IsAscii-append (take 14 text) (46 ∷ drop 14 text) (IsAscii-take text 14 a)
+      (IsAscii-cons 46 (drop 14 text) (omega arith) (IsAscii-drop text 14 a))
 ]
 
 zeros_put_ascii : (text : List ℕ) → IsAscii text → IsAscii (with_zeros text)
@@ -157,7 +216,8 @@ pub generalized_time_fault_alone : (contents : List ℕ) (e d : DecodeFault) →
 generalized_time_fault_alone contents e d p q = p.1 ∙ sym q.1
 
 -- contents octets at fault mean no moment
-pub generalized_time_no_fault : (m : Moment) (contents : List ℕ) (e : DecodeFault) → GeneralizedTimeContents m contents → GeneralizedTimeFault contents e → ⊥
+pub generalized_time_no_fault : (m : Moment) (contents : List ℕ) (e : DecodeFault) → GeneralizedTimeContents m contents
+    → GeneralizedTimeFault contents e → ⊥
 generalized_time_no_fault m contents e p f = f.0 m p
 
 -- the fault is one that octets can have
@@ -182,7 +242,8 @@ generalized_time_of_reading contents e f = subst IsOfReading (sym f.1) (fault_of
 at_fault : (contents : List ℕ) → ((m : Moment) → GeneralizedTimeContents m contents → ⊥) → (e : DecodeFault) × GeneralizedTimeFault contents e
 at_fault contents none = (generalized_time_fault contents, (none, refl))
 
-pub generalized_time_meaning : (contents : List ℕ) → ((m : Moment) × GeneralizedTimeContents m contents) ⊎ ((e : DecodeFault) × GeneralizedTimeFault contents e)
+pub generalized_time_meaning : (contents : List ℕ)
+    → ((m : Moment) × GeneralizedTimeContents m contents) ⊎ ((e : DecodeFault) × GeneralizedTimeFault contents e)
 generalized_time_meaning contents = elim (end_known (drop 14 contents)) [
   | inr no_end ↦ inr (at_fault contents (λ n p. no_end (p.digits, end_of n contents p)))
   | inl d ↦
@@ -231,7 +292,8 @@ pub generalized_time_fits : (m : Moment) → IsFaithfulGeneralizedTime m → mom
 generalized_time_fits m v = valid_writable m v
 
 -- a moment is faithful where what is written means it
-pub generalized_time_kept : (m : Moment) → moment_write_fault m ≡ None → GeneralizedTimeContents m (generalized_time_contents m) → IsFaithfulGeneralizedTime m
+pub generalized_time_kept : (m : Moment) → moment_write_fault m ≡ None → GeneralizedTimeContents m (generalized_time_contents m)
+    → IsFaithfulGeneralizedTime m
 generalized_time_kept m w p = p.valid
 
 -- what was read is faithful

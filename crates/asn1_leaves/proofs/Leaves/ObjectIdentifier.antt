@@ -1,11 +1,38 @@
 -- What is known of the contents octets of an OBJECT IDENTIFIER.
-use Rattle.std.proofs.Common.{◌≡◌, ℕ, ◌+◌, ◌*◌, ◌-◌, ◌<◌, ◌⊎◌, List, [], ◌∷◌, None, inl, inr, refl, sym, ◌∙◌, subst, arith}
+use Rattle.std.proofs.Common.{
+  ◌≡◌,
+  ℕ,
+  ◌+◌,
+  ◌*◌,
+  ◌-◌,
+  ◌<◌,
+  ◌⊎◌,
+  List,
+  [],
+  ◌∷◌,
+  None,
+  inl,
+  inr,
+  refl,
+  sym,
+  ◌∙◌,
+  subst,
+  arith,
+}
 use Rattle.std.specs.Prelude.{All}
 use Rattle.std.specs.List.{flat_map}
 use Rattle.std.proofs.lemmas.Bool.{cases_lt}
 use Rattle.std.proofs.lemmas.List.Elements.{All-head}
 use Rattle.asn1_numbers.specs.Base128.{shortest_base128}
-use Rattle.asn1_leaves.specs.Contents.ObjectIdentifier.{AreFirstTwo, IsFaithfulObjectIdentifier, ObjectIdentifierContents, ObjectIdentifierFault, Subidentifiers, object_identifier_contents, object_identifier_write_fault}
+use Rattle.asn1_leaves.specs.Contents.ObjectIdentifier.{
+  AreFirstTwo,
+  IsFaithfulObjectIdentifier,
+  ObjectIdentifierContents,
+  ObjectIdentifierFault,
+  Subidentifiers,
+  object_identifier_contents,
+  object_identifier_write_fault,
+}
 use Rattle.asn1_headers.specs.Fault.{DecodeFault, IsOfReading, incomplete}
 use Rattle.asn1_leaves.proofs.Subidentifiers.{subidentifiers_alone, subidentifiers_decided, subidentifiers_shortest}
 
@@ -33,11 +60,13 @@ object_identifier_alone (v ∷ w ∷ ms) (x ∷ y ∷ ns) contents (b, octets, e
     cc
 
 -- they have one fault
-pub object_identifier_fault_alone : (contents : List ℕ) (e d : DecodeFault) → ObjectIdentifierFault contents e → ObjectIdentifierFault contents d → e ≡ d
+pub object_identifier_fault_alone : (contents : List ℕ) (e d : DecodeFault) → ObjectIdentifierFault contents e
+    → ObjectIdentifierFault contents d → e ≡ d
 object_identifier_fault_alone contents e d p q = p.0 ∙ sym q.0
 
 -- those that mean components have no fault
-pub object_identifier_no_fault : (ns contents : List ℕ) (e : DecodeFault) → ObjectIdentifierContents ns contents → ObjectIdentifierFault contents e → ⊥
+pub object_identifier_no_fault : (ns contents : List ℕ) (e : DecodeFault) → ObjectIdentifierContents ns contents
+    → ObjectIdentifierFault contents e → ⊥
 object_identifier_no_fault ns contents e p f = f.1 ns p
 
 -- the first two components of any number
@@ -50,7 +79,8 @@ first_two b = elim (cases_lt b 40) [
   ]
 ]
 
-no_subidentifiers : (b : ℕ) (octets : List ℕ) → ((ns : List ℕ) → Subidentifiers ns octets → ⊥) → (ns : List ℕ) → ObjectIdentifierContents ns (b ∷ octets) → ⊥
+no_subidentifiers : (b : ℕ) (octets : List ℕ) → ((ns : List ℕ) → Subidentifiers ns octets → ⊥) → (ns : List ℕ)
+    → ObjectIdentifierContents ns (b ∷ octets) → ⊥
 no_subidentifiers b octets none [] p = p
 no_subidentifiers b octets none (x ∷ []) p = p
 no_subidentifiers b octets none (x ∷ y ∷ ns) (c, rest, e, f, s) =
@@ -107,5 +137,6 @@ pub object_identifier_kept : (ns : List ℕ) → object_identifier_write_fault n
 object_identifier_kept ns fits p = fits
 
 -- components that octets mean are faithful
-pub object_identifier_read : (ns contents : List ℕ) → All (λ b. b < 256) contents → ObjectIdentifierContents ns contents → IsFaithfulObjectIdentifier ns
+pub object_identifier_read : (ns contents : List ℕ) → All (λ b. b < 256) contents → ObjectIdentifierContents ns contents
+    → IsFaithfulObjectIdentifier ns
 object_identifier_read ns contents all p = object_identifier_writable ns contents all p

@@ -30,7 +30,8 @@ text_no_fault Printable cs contents e p f = f.0 p.0
 text_no_fault Octets cs contents e p f = f
 
 -- all others have one
-pub text_meaning : (form : TextForm) (contents : List ℕ) → ((cs : List ℕ) × TextContents form cs contents) ⊎ ((e : DecodeFault) × TextFault form contents e)
+pub text_meaning : (form : TextForm) (contents : List ℕ)
+    → ((cs : List ℕ) × TextContents form cs contents) ⊎ ((e : DecodeFault) × TextFault form contents e)
 text_meaning Utf8 contents = elim (cases_Bool (is_utf8 contents)) [
   | inl are ↦ let u = IsUtf8-from_is_utf8 contents are in inl (u.0, (u.1.0, u.1.1))
   | inr fails ↦ inr (utf8_fault contents, ((λ u. false≢true (sym fails ∙ is_utf8-from_IsUtf8 contents u)), refl))
@@ -48,7 +49,8 @@ text_fault_of_reading Printable contents e f = subst IsOfReading (sym f.1) tt
 text_fault_of_reading Octets contents e f = absurd f
 
 -- characters that octets mean can be written
-pub text_writable : (form : TextForm) (cs contents : List ℕ) → All (λ b. b < 256) contents → TextContents form cs contents → text_write_fault form cs ≡ None
+pub text_writable : (form : TextForm) (cs contents : List ℕ) → All (λ b. b < 256) contents → TextContents form cs contents
+    → text_write_fault form cs ≡ None
 text_writable Utf8 cs contents all p = refl
 text_writable Printable cs contents all p = ap octet_write_fault p.1 ∙ octets_writable contents all
 text_writable Octets cs contents all p = ap octet_write_fault p ∙ octets_writable contents all
@@ -66,7 +68,8 @@ text_fits Printable cs f = printable_write_none cs f
 text_fits Octets cs f = rw f refl
 
 -- characters that can be written are such where what is written means them
-pub text_kept : (form : TextForm) (cs : List ℕ) → text_write_fault form cs ≡ None → TextContents form cs (text_contents form cs) → HasCharacters form cs
+pub text_kept : (form : TextForm) (cs : List ℕ) → text_write_fault form cs ≡ None → TextContents form cs (text_contents form cs)
+    → HasCharacters form cs
 text_kept Utf8 cs w p = p.0
 text_kept Printable cs w p = p.0
 text_kept Octets cs w p = octet_write_none cs w

@@ -1,5 +1,29 @@
 -- Contents octets of a UTCTime.
-use Rattle.std.proofs.Common.{◌≡◌, ℕ, ◌+◌, ◌-◌, ◌*◌, ◌/◌, ◌%◌, ◌<◌, ◌≤◌, ◌⊎◌, inl, inr, List, [], ◌∷◌, None, length, refl, sym, ap, ◌∙◌, subst, arith}
+use Rattle.std.proofs.Common.{
+  ◌≡◌,
+  ℕ,
+  ◌+◌,
+  ◌-◌,
+  ◌*◌,
+  ◌/◌,
+  ◌%◌,
+  ◌<◌,
+  ◌≤◌,
+  ◌⊎◌,
+  inl,
+  inr,
+  List,
+  [],
+  ◌∷◌,
+  None,
+  length,
+  refl,
+  sym,
+  ap,
+  ◌∙◌,
+  subst,
+  arith,
+}
 use Rattle.std.specs.Prelude.{if◌then◌else◌, nat_lt, pos, ◌≤ℤ◌, unsigned_abs, slice_index}
 use Rattle.std.specs.List.{slice_range}
 use Rattle.std.proofs.lemmas.Bool.Decides.{nat_tests}

@@ -9,7 +9,8 @@ use Rattle.asn1_leaves.specs.Contents.Text.{text_form, TextFault}
 use Rattle.asn1_blocks.proofs.body.universal_leaf.Goals as goal
 
 -- the fault of a string of characters goes on
-passed : (kind : StringKind) (tag : ℕ) (contents : List ℕ) (d : ASN1DecodeErr) (r : Result (Option ASN1Block) ASN1DecodeErr) → IsErr r × IsErrAnd r (λ e. e ≡ d)
+passed : (kind : StringKind) (tag : ℕ) (contents : List ℕ) (d : ASN1DecodeErr) (r : Result (Option ASN1Block) ASN1DecodeErr)
+    → IsErr r × IsErrAnd r (λ e. e ≡ d)
     → tag ≡ string_tag kind → OutOfMemoryOr (TextFault (text_form kind) contents) d → IfErr r (OutOfMemoryOr (LeafFault tag contents))
 passed kind tag contents d (Ok x) h t f = tt
 passed kind tag contents d (Err e) h t (inl memory) = inl (h.1 ∙ memory)

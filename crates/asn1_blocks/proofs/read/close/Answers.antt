@@ -9,14 +9,20 @@ use Rattle.asn1_blocks.proofs.Reader.Adding.{IsReady, tree_goes_on, owed_goes_on
 use Rattle.asn1_blocks.proofs.Reader.Closing.{N, within, order, clean_group, later_group, one_block_ended, one_owed_ended, other_ended}
 use Rattle.asn1_blocks.proofs.Reader.Memory.{stepped_memory}
 use Rattle.asn1_blocks.proofs.read.close.Goals as goal
-use Rattle.asn1_blocks.proofs.read.close.Goals.{else-owes-eq1-via-then-owes-eq1+else-len-eq0, else-owes-eq1-via-else-owes-eq1, else-owes-eq0-via-then-owes-eq0+else-len-eq1, else-owes-eq0-via-else-owes-eq0}
+use Rattle.asn1_blocks.proofs.read.close.Goals.{
+  else-owes-eq1-via-then-owes-eq1+else-len-eq0,
+  else-owes-eq1-via-else-owes-eq1,
+  else-owes-eq0-via-then-owes-eq0+else-len-eq1,
+  else-owes-eq0-via-else-owes-eq0,
+}
 
 -- the frame that ended, as it was taken out of the reader
 ended : (octets : List ℕ) (r : Reader) (k g h : OpenFrame) (n : ℕ) → k ≡ r.inner → h ≡ g
     → Reads octets r.owed.items r.inner (g ∷ reverse r.outer.items) r.inner.extent.end n
     → Reads octets r.owed.items k (h ∷ reverse r.outer.items) k.extent.end n
 ended octets r k g h n own new w =
-    subst (λ z. Reads octets r.owed.items k (z ∷ reverse r.outer.items) k.extent.end n) (sym new) (subst (λ z. Reads octets r.owed.items z (g ∷ reverse r.outer.items) z.extent.end n) (sym own) w)
+    subst (λ z. Reads octets r.owed.items k (z ∷ reverse r.outer.items) k.extent.end n) (sym new)
+    (subst (λ z. Reads octets r.owed.items z (g ∷ reverse r.outer.items) z.extent.end n) (sym own) w)
 
 -- the reader whose innermost frame is the one around
 left_at : (octets : List ℕ) (r : Reader) (k g : OpenFrame) → k ≡ r.inner
@@ -43,7 +49,9 @@ returns-then-owes-ne0 c =
           let E = later_group octets es k h gs n w c.in-Group.group c.in-Group.offset c.in-Group.is in
           let held = N octets es k h gs n w in
           let a : Reader = record { inner = h; outer = r.outer; index = r.index; owed = r.owed; outermost = r.outermost; fault = r.fault } in
-          owed_goes_on octets a c.owe.new.reader (take k.begin es) (OwedAs.Group c.in-Group.group c.in-Group.offset k.blocks k.owes) k.extent.end n _ _ c.in_ok-owe-in-Group.ensures.owed c.in_ok-owe-in-Group.ensures.index (left_at octets r k c.args.parent own) (group_grown octets es k.begin held.own.owed c.in-Group.group c.in-Group.offset k.owes k.blocks held.own.owes held.own.leads) E;
+          owed_goes_on octets a c.owe.new.reader (take k.begin es) (OwedAs.Group c.in-Group.group c.in-Group.offset k.blocks k.owes) k.extent.end n _ _
+          c.in_ok-owe-in-Group.ensures.owed c.in_ok-owe-in-Group.ensures.index (left_at octets r k c.args.parent own)
+          (group_grown octets es k.begin held.own.owed c.in-Group.group c.in-Group.offset k.owes k.blocks held.own.owes held.own.leads) E;
     }
 
 pub returns-in_err-put-in-Group : goal.returns-in_err-put-in-Group
@@ -63,7 +71,8 @@ returns-in_ok-put-in-Group c =
           let w = ended octets r k c.args.parent h n own c.replace-kind.ensures.after w0 in
           let E = clean_group octets es k h gs n w c.in-Group.group c.in-Group.offset c.in-Group.is c.if-owes-ne0.false in
           let a : Reader = record { inner = h; outer = r.outer; index = r.index; owed = r.owed; outermost = r.outermost; fault = r.fault } in
-          tree_goes_on octets a c.put.new.reader c.group_block.result _ k.extent.end n _ c.group_block.ensures c.in_ok-put-in-Group.ensures.put c.in_ok-put-in-Group.ensures.index (left_at octets r k c.args.parent own) E;
+          tree_goes_on octets a c.put.new.reader c.group_block.result _ k.extent.end n _ c.group_block.ensures c.in_ok-put-in-Group.ensures.put
+          c.in_ok-put-in-Group.ensures.index (left_at octets r k c.args.parent own) E;
     }
 
 pub returns-in_err-owe-in-Attempt : goal.returns-in_err-owe-in-Attempt
@@ -85,7 +94,9 @@ returns-then-len-eq0 c =
           let x = c.in-Attempt.attempt in
           let (t, leads, E) = one_owed_ended octets es k h gs n w x c.in-Attempt.is c.if-owes-eq1.true none in
           let a : Reader = record { inner = h; outer = r.outer; index = r.index; owed = r.owed; outermost = c.leave-inside.new.outermost; fault = r.fault } in
-          owed_goes_on octets a c.owe-then-len-eq0.new.reader (take k.begin es) (OwedAs.Explicit x) k.extent.end n _ (around x t) c.in_ok-owe-in-Attempt.ensures.owed c.in_ok-owe-in-Attempt.ensures.index (left_at octets r k c.args.parent own) (around_grown octets es k.begin t x leads) E;
+          owed_goes_on octets a c.owe-then-len-eq0.new.reader (take k.begin es) (OwedAs.Explicit x) k.extent.end n _ (around x t)
+          c.in_ok-owe-in-Attempt.ensures.owed c.in_ok-owe-in-Attempt.ensures.index (left_at octets r k c.args.parent own)
+          (around_grown octets es k.begin t x leads) E;
     }
 
 pub returns-in_err-block-in-Attempt : goal.returns-in_err-block-in-Attempt
@@ -110,7 +121,8 @@ returns-then-len-eq1 c =
           let (item, one, means) = c.in_ok-block-in-Attempt.ensures in
           let E = one_block_ended octets es k h gs n w x item c.in-Attempt.is c.if-owes-eq0.true one in
           let a : Reader = record { inner = h; outer = r.outer; index = r.index; owed = r.owed; outermost = c.leave-inside.new.outermost; fault = r.fault } in
-          tree_goes_on octets a c.put-then-len-eq1.new.reader c.in_ok-block-in-Attempt.block _ k.extent.end n _ means c.in_ok-put-in-Attempt.ensures.put c.in_ok-put-in-Attempt.ensures.index (left_at octets r k c.args.parent own) E;
+          tree_goes_on octets a c.put-then-len-eq1.new.reader c.in_ok-block-in-Attempt.block _ k.extent.end n _ means c.in_ok-put-in-Attempt.ensures.put
+          c.in_ok-put-in-Attempt.ensures.index (left_at octets r k c.args.parent own) E;
     }
 
 pub keep-requires : goal.keep-requires
@@ -148,9 +160,26 @@ returns-in_ok-keep-in-Attempt c =
           let own = c.replace-kind.ensures.value in
           let w = ended octets r k c.args.parent h n own c.replace-kind.ensures.after w0 in
           let x = c.in-Attempt.attempt in
-          let e1 : k.owes ≡ 1 → length k.blocks ≡ 0 → ⊥ = elim c.else-owes-eq1.branch [ else-owes-eq1-via-then-owes-eq1+else-len-eq0 u ↦ grind (arith, common_steps) | else-owes-eq1-via-else-owes-eq1 u ↦ grind (arith, common_steps) ] in
-          let e0 : k.owes ≡ 0 → length k.blocks ≡ 1 → ⊥ = elim c.else-owes-eq0.branch [ else-owes-eq0-via-then-owes-eq0+else-len-eq1 u ↦ grind (arith, common_steps) | else-owes-eq0-via-else-owes-eq0 u ↦ grind (arith, common_steps) ] in
+          let e1 : k.owes ≡ 1 → length k.blocks ≡ 0 → ⊥ =
+          elim c.else-owes-eq1.branch [
+            | else-owes-eq1-via-then-owes-eq1+else-len-eq0 u ↦ grind (arith, common_steps)
+            | else-owes-eq1-via-else-owes-eq1 u ↦ grind (arith, common_steps)
+          ] in
+          let e0 : k.owes ≡ 0 → length k.blocks ≡ 1 → ⊥ =
+          elim c.else-owes-eq0.branch [
+            | else-owes-eq0-via-then-owes-eq0+else-len-eq1 u ↦ grind (arith, common_steps)
+            | else-owes-eq0-via-else-owes-eq0 u ↦ grind (arith, common_steps)
+          ] in
           let E = other_ended octets es k h gs n w x c.in-Attempt.is (two_ways (length k.blocks) k.owes e1 e0) in
-          let a : Reader = record { inner = h; outer = r.outer; index = r.index; owed = c.truncate.new.self; outermost = c.leave-inside.new.outermost; fault = r.fault } in
-          kept_goes_on octets a c.keep.new.reader x k.extent.start k.extent.end n _ c.in_ok-keep-in-Attempt.ensures.kept c.in_ok-keep-in-Attempt.ensures.index (left_at octets r k c.args.parent own) (subst (λ z. IsReady octets z h gs k.extent.end (as_it_came octets x k.extent.start k.extent.end) n) (sym c.truncate.ensures.items) E);
+          let a : Reader = record {
+            inner = h;
+            outer = r.outer;
+            index = r.index;
+            owed = c.truncate.new.self;
+            outermost = c.leave-inside.new.outermost;
+            fault = r.fault;
+          } in
+          kept_goes_on octets a c.keep.new.reader x k.extent.start k.extent.end n _ c.in_ok-keep-in-Attempt.ensures.kept c.in_ok-keep-in-Attempt.ensures.index
+          (left_at octets r k c.args.parent own)
+          (subst (λ z. IsReady octets z h gs k.extent.end (as_it_came octets x k.extent.start k.extent.end) n) (sym c.truncate.ensures.items) E);
     }

@@ -87,7 +87,8 @@ returns-in_ok-put-in-Leaf-clause-stepped c n w =
     let block = c.in_ok-block-in-Leaf.block in
     let found = c.in_ok-header.ensures.found in
     let leaf = subst (λ z. IsReadAs h a.index z) c.in-Leaf.is c.read_as.ensures in
-    let Encoded = λ (g : Header). (all : List ℕ) (i : ℕ) → Encoding all g.class g.constructed g.tag (slice_range octets h.start h.end) i → Encodes a.index all
+    let Encoded = λ (g : Header). (all : List ℕ) (i : ℕ)
+    → Encoding all g.class g.constructed g.tag (slice_range octets h.start h.end) i → Encodes a.index all
     (view block) in
     let encoded = subst Encoded leaf.0 c.in_ok-block-in-Leaf.ensures.encoded (slice_range octets a.index h.end) (h.start - a.index) found.encoding in
     put_goes_on octets a c.put.new.reader block h.end (n + 1) _ c.in_ok-put-in-Leaf.ensures.put c.in_ok-put-in-Leaf.ensures.index

@@ -9,7 +9,8 @@ use Rattle.asn1_blocks.proofs.Reader.Popping.{reverse_push, reverse_none}
 use Rattle.asn1_blocks.proofs.read.take_turn.Goals as goal
 
 -- the innermost frame has ended inside another, which was taken out of the list
-closing : (octets : List ℕ) (r : Reader) (g : OpenFrame) (after : List OpenFrame) (n : ℕ) → r.index ≡ r.inner.extent.end → r.outer.items ≡ after ++ g ∷ []
+closing : (octets : List ℕ) (r : Reader) (g : OpenFrame) (after : List OpenFrame) (n : ℕ) → r.index ≡ r.inner.extent.end
+    → r.outer.items ≡ after ++ g ∷ []
     → IsReading octets r n → Reads octets r.owed.items r.inner (g ∷ reverse after) r.inner.extent.end n
 closing octets r g after n i is w =
     subst (λ z. Reads octets r.owed.items r.inner z r.inner.extent.end n) (reverse_push r.outer.items after g is)

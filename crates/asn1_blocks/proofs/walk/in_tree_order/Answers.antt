@@ -18,8 +18,10 @@ loop-walk-preserved c =
     let n : IsNext b (ahead c.loop-walk.walk) (ahead c.next.new.self) = rw c.in-Some.is at c.in_ok-block.ensures in
     let p : c.push.new.self.items ≡ c.loop-walk.order.items ++ c.in-Some.block ∷ [] = grind (arith, common_steps) in
     let e = ap (map (λ (x : Bor ASN1Block). x.now)) p ∙ map_push (λ (x : Bor ASN1Block). x.now) c.loop-walk.order.items c.in-Some.block in
-    subst (λ z. IsFound z (ahead c.next.new.self) c.args.blocks.now) (sym e) (found_next done (ahead c.loop-walk.walk) (ahead c.next.new.self) c.args.blocks.now b c.loop-walk.invariant n)
+    subst (λ z. IsFound z (ahead c.next.new.self) c.args.blocks.now) (sym e)
+    (found_next done (ahead c.loop-walk.walk) (ahead c.next.new.self) c.args.blocks.now b c.loop-walk.invariant n)
 
 pub returns : goal.returns
 returns c =
-    found_all (map (λ x. x.now) c.loop-walk.order.items) (ahead c.loop-walk.walk) c.args.blocks.now c.loop-walk.invariant (rw c.in_default.is at c.in_ok-block.ensures)
+    found_all (map (λ x. x.now) c.loop-walk.order.items) (ahead c.loop-walk.walk) c.args.blocks.now c.loop-walk.invariant
+    (rw c.in_default.is at c.in_ok-block.ensures)

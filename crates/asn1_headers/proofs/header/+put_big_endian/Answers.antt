@@ -19,4 +19,5 @@ pub returns : goal.returns
 returns g t c =
     let e = digits_of_step 256 c.args.n (omega arith) (omega arith) in
     subst (λ z. g.S.Sink.puts c.args.out.now z c.put_one.new.self) (sym e)
-    (g.S.Sink.more c.args.out.now c.put_big_endian.new.out c.put_one.new.self (digits_of 256 (c.args.n / 256)) (c.args.n % 256 ∷ []) c.put_big_endian.ensures c.put_one.ensures)
+    (g.S.Sink.more c.args.out.now c.put_big_endian.new.out c.put_one.new.self (digits_of 256 (c.args.n / 256)) (c.args.n % 256 ∷ [])
+    c.put_big_endian.ensures c.put_one.ensures)

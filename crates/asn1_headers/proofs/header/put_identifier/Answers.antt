@@ -6,6 +6,8 @@ use Rattle.asn1_headers.proofs.header.put_identifier.Goals as goal
 
 pub returns-in_default : goal.returns-in_default
 returns-in_default g c =
-    let e : shortest_identifier c.args.class c.args.constructed c.args.tag.now ≡ leading_octet c.args.class c.args.constructed 31 ∷ shortest_base128 c.args.tag.now = grind (arith, common_steps) in
+    let e : shortest_identifier c.args.class c.args.constructed c.args.tag.now ≡ leading_octet c.args.class c.args.constructed 31 ∷ shortest_base128
+    c.args.tag.now = grind (arith, common_steps) in
     subst (λ z. g.S.Sink.puts c.args.out.now z c.put_base128.new.out) (ap (λ z. z ∷ shortest_base128 c.args.tag.now) c.leading-in_default.ensures ∙ sym e)
-    (g.S.Sink.more c.args.out.now c.put_one-in_default.new.self c.put_base128.new.out (c.leading-in_default.result ∷ []) (shortest_base128 c.args.tag.now) c.put_one-in_default.ensures c.put_base128.ensures)
+    (g.S.Sink.more c.args.out.now c.put_one-in_default.new.self c.put_base128.new.out (c.leading-in_default.result ∷ []) (shortest_base128 c.args.tag.now)
+    c.put_one-in_default.ensures c.put_base128.ensures)

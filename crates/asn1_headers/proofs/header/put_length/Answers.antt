@@ -13,6 +13,7 @@ overflow_add-octet_count g c = grind (arith, common_steps, few_octets c.args.n (
 
 pub returns : goal.returns
 returns g c =
-    let m = g.S.Sink.more c.args.out.now c.put_one-2.new.self c.put_big_endian.new.out ((128 + c.octet_count.result) ∷ []) (digits_of 256 c.args.n) c.put_one-2.ensures c.put_big_endian.ensures in
+    let m = g.S.Sink.more c.args.out.now c.put_one-2.new.self c.put_big_endian.new.out ((128 + c.octet_count.result) ∷ []) (digits_of 256 c.args.n)
+    c.put_one-2.ensures c.put_big_endian.ensures in
     let e : shortest_length c.args.n ≡ (128 + c.octet_count.result) ∷ digits_of 256 c.args.n = grind (arith, common_steps) in
     subst (λ z. g.S.Sink.puts c.args.out.now z c.put_big_endian.new.out) (sym e) m

@@ -11,5 +11,9 @@ returns-in_err-n-2-clause-refused c =
     let e : c.args.octets.now ≡ c.in-Some.first.now ∷ c.in-Some.rest.now = grind (arith, common_steps) in
     rw (p.1, p.2) (elim c.in_err-n-2.ensures.refused [
       | inl memory ↦ inl memory
-      | inr missing ↦ inr (missing.0, subst (BeginsWithNo IsSomeIdentifier) (sym e) (no_long_identifier c.in-Some.first.now c.in-Some.rest.now c.if-low-ne31.false missing.1))
+      | inr missing ↦ inr (
+        missing.0,
+        subst (BeginsWithNo IsSomeIdentifier) (sym e)
+            (no_long_identifier c.in-Some.first.now c.in-Some.rest.now c.if-low-ne31.false missing.1),
+      )
     ])

@@ -5,7 +5,8 @@ use Rattle.der_dump.specs.Dump.{Adds, AddsLine, AreShown, HasNoHeader, IsFaultLi
 use Rattle.der_dump.proofs.Shown.{AllShown}
 use Rattle.der_dump.proofs.refused.push_refused.Goals as goal
 
-told : (r : Result (Unit {0}) AllocError) (octets : List ℕ) (offset : ℕ) (a b c : List ℕ) → AllShown octets a b → OnOk r (AddsLine (IsFaultLine offset) b c)
+told : (r : Result (Unit {0}) AllocError) (octets : List ℕ) (offset : ℕ) (a b c : List ℕ) → AllShown octets a b
+    → OnOk r (AddsLine (IsFaultLine offset) b c)
     → OnOk r ((offsets shown : List ℕ) × AreShown 0 octets offsets × (offsets ≡ [] → HasNoHeader octets)
     × Adds (StandsInside octets) offsets a shown × AddsLine (IsFaultLine offset) shown c)
 told (Ok u) octets offset a b c (offsets, shown, begins, adds) t = (offsets, b, shown, begins, adds, t)

@@ -12,7 +12,8 @@ none_left reading (b ∷ input) e = absurd (omega (arith, e))
 -- an answer and its end go after the output so far
 one_more : (out mid new answer later : List ℕ) → mid ≡ out ++ answer → new ≡ mid ++ 10 ∷ [] → out ++ (answer ++ 10 ∷ later) ≡ new ++ later
 one_more out mid new answer later p q =
-    sym (ap (λ l. l ++ later) (q ∙ ap (λ l. l ++ 10 ∷ []) p) ∙ append_assoc (out ++ answer) (10 ∷ []) later ∙ append_assoc out answer (10 ∷ later))
+    sym (ap (λ l. l ++ later) (q ∙ ap (λ l. l ++ 10 ∷ []) p) ∙ append_assoc (out ++ answer) (10 ∷ []) later
+    ∙ append_assoc out answer (10 ∷ later))
 
 pub loop-rest-preserved : goal.loop-rest-preserved
 loop-rest-preserved c = λ later h.

@@ -30,7 +30,8 @@ same_all-returns-in_default-split_last t c =
 
 pub same_all-returns-then-not-same_own : goal.same_all-returns-then-not-same_own
 same_all-returns-then-not-same_own t c =
-    let l = lasts c.loop-x.v.now c.loop-x.w.now c.in-Some.v_front.now c.in-Some-split_last.w_front.now c.in-Some.x.now c.in-Some-split_last.y.now c.in-Some.ensures.cases.0 c.in-Some-split_last.ensures.cases.0 in
+    let l = lasts c.loop-x.v.now c.loop-x.w.now c.in-Some.v_front.now c.in-Some-split_last.w_front.now c.in-Some.x.now c.in-Some-split_last.y.now
+    c.in-Some.ensures.cases.0 c.in-Some-split_last.ensures.cases.0 in
     (λ h. absurd (false≢true h), λ s. absurd (false≢true (c.if-not-same_own.ensures.1 (l.own (c.loop-x.invariant.same.1 s)))))
 
 pub same_all-same_each-requires : goal.same_all-same_each-requires
@@ -40,7 +41,8 @@ same_all-same_each-requires t c =
 
 pub same_all-returns-then-not-same_each : goal.same_all-returns-then-not-same_each
 same_all-returns-then-not-same_each t c =
-    let l = lasts c.loop-x.v.now c.loop-x.w.now c.in-Some.v_front.now c.in-Some-split_last.w_front.now c.in-Some.x.now c.in-Some-split_last.y.now c.in-Some.ensures.cases.0 c.in-Some-split_last.ensures.cases.0 in
+    let l = lasts c.loop-x.v.now c.loop-x.w.now c.in-Some.v_front.now c.in-Some-split_last.w_front.now c.in-Some.x.now c.in-Some-split_last.y.now
+    c.in-Some.ensures.cases.0 c.in-Some-split_last.ensures.cases.0 in
     (λ h. absurd (false≢true h), λ s. absurd (false≢true (c.if-not-same_each.ensures.1 (l.fronts (c.loop-x.invariant.same.1 s)))))
 
 pub same_all-loop-x-smaller : goal.same_all-loop-x-smaller
@@ -52,7 +54,8 @@ pub same_all-loop-x-preserved : goal.same_all-loop-x-preserved
 same_all-loop-x-preserved t c =
     let x = c.in-Some.x.now in
     let y = c.in-Some-split_last.y.now in
-    let l = lasts c.loop-x.v.now c.loop-x.w.now c.in-Some.v_front.now c.in-Some-split_last.w_front.now x y c.in-Some.ensures.cases.0 c.in-Some-split_last.ensures.cases.0 in
+    let l = lasts c.loop-x.v.now c.loop-x.w.now c.in-Some.v_front.now c.in-Some-split_last.w_front.now x y c.in-Some.ensures.cases.0
+    c.in-Some-split_last.ensures.cases.0 in
     let f = fewer_blocks c.loop-x.v.now c.in-Some.v_front.now x c.in-Some.ensures.cases.0 in
     let a = ap shapes c.blocks_inside-v.ensures in
     let b = ap shapes c.blocks_inside-w.ensures in
@@ -86,10 +89,12 @@ same_each-returns-then-not-same_all t c =
     let ys = c.args.b.now in
     let i = c.loop-i.i in
     let l : i < length xs = grind (arith, common_steps) in
-    let o = alone c.from_ref.result.now c.from_ref-in-loop-i.result.now c.index-a-i.result c.index-b-i.result c.from_ref.ensures.value c.from_ref-in-loop-i.ensures.value in (
+    let o = alone c.from_ref.result.now c.from_ref-in-loop-i.result.now c.index-a-i.result c.index-b-i.result c.from_ref.ensures.value
+    c.from_ref-in-loop-i.ensures.value in (
       λ h. absurd (false≢true h),
       λ e. absurd (false≢true (c.if-not-same_all.ensures.1 (o.1
-          (ap (λ z. shape (view z)) c.index-a-i.is ∙ (shape_at xs ys c.index-a-i.result c.index-b-i.result i e l ∙ ap (λ z. shape (view z)) (sym c.index-b-i.is)))))),
+          (ap (λ z. shape (view z)) c.index-a-i.is ∙ (shape_at xs ys c.index-a-i.result c.index-b-i.result i e l
+          ∙ ap (λ z. shape (view z)) (sym c.index-b-i.is)))))),
     )
 
 pub same_each-loop-i-preserved : goal.same_each-loop-i-preserved

@@ -6,7 +6,12 @@ use Rattle.asn1_blocks.specs.Tree.{unknown}
 use Rattle.asn1_blocks.specs.View.{view}
 use Rattle.asn1_blocks.proofs.OwedBlocks.{pushed, group_built, around_built}
 use Rattle.asn1_blocks.proofs.owed.Owed.build.Goals as goal
-use Rattle.asn1_blocks.proofs.owed.Owed.build.Goals.{in-Ready, in-Group+in_ok-others-in-Group+in_ok-append-in-Group, in-Explicit+in-Some+in_ok-block-in-Explicit, in-Kept+in_ok-block-in-Kept}
+use Rattle.asn1_blocks.proofs.owed.Owed.build.Goals.{
+  in-Ready,
+  in-Group+in_ok-others-in-Group+in_ok-append-in-Group,
+  in-Explicit+in-Some+in_ok-block-in-Explicit,
+  in-Kept+in_ok-block-in-Kept,
+}
 
 pub returns-in_default : goal.returns-in_default
 returns-in_default c =

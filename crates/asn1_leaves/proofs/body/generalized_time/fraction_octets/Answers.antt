@@ -1,4 +1,22 @@
-use Rattle.std.proofs.Common.{◌≡◌, ◌+◌, ◌-◌, ◌/◌, ◌%◌, ◌++◌, ◌<◌, [], ◌∷◌, length, take, arith, sym, ap, ◌∙◌, append_assoc, add-one}
+use Rattle.std.proofs.Common.{
+  ◌≡◌,
+  ◌+◌,
+  ◌-◌,
+  ◌/◌,
+  ◌%◌,
+  ◌++◌,
+  ◌<◌,
+  [],
+  ◌∷◌,
+  length,
+  take,
+  arith,
+  sym,
+  ap,
+  ◌∙◌,
+  append_assoc,
+  add-one,
+}
 use Rattle.std.specs.Prelude.{slice_set}
 use Rattle.std.proofs.Math.Seq.{take-suc-set}
 use Rattle.std.proofs.lemmas.Grind.{common_steps}
@@ -27,7 +45,8 @@ loop-count-preserved c =
     let t : take (i + 1) (slice_set digits i x) ≡ take i digits ++ (x ∷ []) = rw (add-one, take-suc-set digits i x h) in
     record {
       size = grind (arith, common_steps);
-      all = ap (λ z. z ++ rest) t ∙ (append_assoc (take i digits) (x ∷ []) rest ∙ (ap (λ z. take i digits ++ z) (sym s') ∙ c.loop-count.invariant.all));
+      all = ap (λ z. z ++ rest) t ∙ (append_assoc (take i digits) (x ∷ []) rest
+          ∙ (ap (λ z. take i digits ++ z) (sym s') ∙ c.loop-count.invariant.all));
       unit = λ l. rw (← p) (k.2 (omega arith));
       small = rw (← p) (omega (arith, k.0, k.1));
     }

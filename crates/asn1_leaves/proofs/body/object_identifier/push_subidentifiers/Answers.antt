@@ -1,4 +1,22 @@
-use Rattle.std.proofs.Common.{arith, ◌≡◌, ◌++◌, ◌+◌, ◌-◌, [], ◌∷◌, inl, inr, take, drop, ap, sym, subst, ◌∙◌, append_assoc, length-drop}
+use Rattle.std.proofs.Common.{
+  arith,
+  ◌≡◌,
+  ◌++◌,
+  ◌+◌,
+  ◌-◌,
+  [],
+  ◌∷◌,
+  inl,
+  inr,
+  take,
+  drop,
+  ap,
+  sym,
+  subst,
+  ◌∙◌,
+  append_assoc,
+  length-drop,
+}
 use Rattle.std.specs.List.{slice_range}
 use Rattle.std.proofs.Math.Seq.{take-add}
 use Rattle.std.proofs.lemmas.Result.{err_from_is_err_and}

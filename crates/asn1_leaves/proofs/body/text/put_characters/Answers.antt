@@ -23,7 +23,8 @@ pub overflow_cast-c : goal.overflow_cast-c
 overflow_cast-c g c =
     let cs = chars c.args.text.now in
     let n = length c.loop-c.yielded in
-    let t = YieldsList-turn (YieldsList-from_chars c.args.text.now c.utf8.text cc) c.loop-c.yielded _ c.loop-c.yielded_by _ _ c.in-Some.c c.in-Some.is c.next.ensures.steps in
+    let t = YieldsList-turn (YieldsList-from_chars c.args.text.now c.utf8.text cc) c.loop-c.yielded _ c.loop-c.yielded_by _ _ c.in-Some.c
+    c.in-Some.is c.next.ensures.steps in
     let f = fits_first c.in-Some.c (drop (n + 1) cs) (sym (fault_at cs n c.in-Some.c t) ∙ c.loop-c.invariant.writable) in
     omega (arith, f.0)
 
@@ -31,26 +32,38 @@ pub put_one-requires : goal.put_one-requires
 put_one-requires g c =
     let cs = chars c.args.text.now in
     let n = length c.loop-c.yielded in
-    let t = YieldsList-turn (YieldsList-from_chars c.args.text.now c.utf8.text cc) c.loop-c.yielded _ c.loop-c.yielded_by _ _ c.in-Some.c c.in-Some.is c.next.ensures.steps in
-    omega (arith, t.0, c.requires.room, g.S.Sink.room_after c.args.out.now c.loop-c.out (take n cs) c.loop-c.invariant.put, length-take-le n cs (omega (arith, t.0)))
+    let t = YieldsList-turn (YieldsList-from_chars c.args.text.now c.utf8.text cc) c.loop-c.yielded _ c.loop-c.yielded_by _ _ c.in-Some.c
+    c.in-Some.is c.next.ensures.steps in
+    omega (
+      arith,
+      t.0,
+      c.requires.room,
+      g.S.Sink.room_after c.args.out.now c.loop-c.out (take n cs) c.loop-c.invariant.put,
+      length-take-le n
+          cs (omega (arith, t.0)),
+    )
 
 pub loop-c-preserved : goal.loop-c-preserved
 loop-c-preserved g c =
     let cs = chars c.args.text.now in
     let n = length c.loop-c.yielded in
     let x = c.in-Some.c in
-    let t = YieldsList-turn (YieldsList-from_chars c.args.text.now c.utf8.text cc) c.loop-c.yielded _ c.loop-c.yielded_by _ _ c.in-Some.c c.in-Some.is c.next.ensures.steps in
+    let t = YieldsList-turn (YieldsList-from_chars c.args.text.now c.utf8.text cc) c.loop-c.yielded _ c.loop-c.yielded_by _ _ c.in-Some.c
+    c.in-Some.is c.next.ensures.steps in
     let f = fits_first x (drop (n + 1) cs) (sym (fault_at cs n x t) ∙ c.loop-c.invariant.writable) in
     let l : length (c.loop-c.yielded ++ x ∷ []) ≡ n + 1 = length_push c.loop-c.yielded x in
-    let e : take (length (c.loop-c.yielded ++ x ∷ [])) cs ≡ take n cs ++ x ∷ [] = ap (λ z. take z cs) l ∙ (take_more cs n x t.0 ∙ ap (λ z. take n cs ++ z ∷ []) (sym t.1)) in
+    let e : take (length (c.loop-c.yielded ++ x ∷ [])) cs ≡ take n cs ++ x ∷ [] =
+    ap (λ z. take z cs) l ∙ (take_more cs n x t.0 ∙ ap (λ z. take n cs ++ z ∷ []) (sym t.1)) in
     record {
       put =
-          subst (λ z. g.S.Sink.puts c.args.out.now z c.put_one.new.self) (sym e) (g.S.Sink.more c.args.out.now c.loop-c.out c.put_one.new.self (take n cs) (x ∷ []) c.loop-c.invariant.put c.put_one.ensures);
+          subst (λ z. g.S.Sink.puts c.args.out.now z c.put_one.new.self) (sym e)
+          (g.S.Sink.more c.args.out.now c.loop-c.out c.put_one.new.self (take n cs) (x ∷ []) c.loop-c.invariant.put c.put_one.ensures);
       writable = ap octet_write_fault (ap (λ z. drop z cs) l) ∙ f.1;
     }
 
 pub returns : goal.returns
 returns g c =
     let cs = chars c.args.text.now in
-    let t = YieldsList-end (YieldsList-from_chars c.args.text.now c.utf8.text cc) c.loop-c.yielded _ c.loop-c.yielded_by _ _ c.in-None.is c.next.ensures.steps in
+    let t = YieldsList-end (YieldsList-from_chars c.args.text.now c.utf8.text cc) c.loop-c.yielded _ c.loop-c.yielded_by _ _
+    c.in-None.is c.next.ensures.steps in
     subst (λ z. g.S.Sink.puts c.args.out.now z c.loop-c.out) (take_all (length c.loop-c.yielded) cs (omega (arith, t.1))) c.loop-c.invariant.put

@@ -26,7 +26,9 @@ loop-walk-preserved c =
     let own = c.loop-walk.invariant.own in
     record {
       found =
-          subst (λ z. IsFound z (ahead c.next.new.self) c.args.blocks.now) (sym e) (found_next (measured_blocks c.loop-walk.list.items) (ahead c.loop-walk.walk) (ahead c.next.new.self) c.args.blocks.now b c.loop-walk.invariant.found n);
+          subst (λ z. IsFound z (ahead c.next.new.self) c.args.blocks.now) (sym e)
+          (found_next (measured_blocks c.loop-walk.list.items) (ahead c.loop-walk.walk) (ahead c.next.new.self) c.args.blocks.now b
+          c.loop-walk.invariant.found n);
       own =
           ap measured_sizes p ∙ (map_push (λ (x : Measured). x.contents) c.loop-walk.list.items m
           ∙ (ap (λ z. z ++ m.contents ∷ []) own
@@ -39,4 +41,5 @@ loop-walk-preserved c =
 
 pub returns-clause-ordered : goal.returns-clause-ordered
 returns-clause-ordered c =
-    found_all (measured_blocks c.loop-walk.list.items) (ahead c.loop-walk.walk) c.args.blocks.now c.loop-walk.invariant.found (rw c.in_default.is at c.in_ok-block.ensures)
+    found_all (measured_blocks c.loop-walk.list.items) (ahead c.loop-walk.walk) c.args.blocks.now c.loop-walk.invariant.found
+    (rw c.in_default.is at c.in_ok-block.ensures)

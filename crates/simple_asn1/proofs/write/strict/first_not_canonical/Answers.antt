@@ -79,6 +79,7 @@ loop-k-preserved c =
       within = s.to;
       left = s.left;
       writable = (writable_from xs k x c.loop-k-test.true c.index-blocks-k.is c.loop-k.invariant.writable).1;
-      same = λ q. c.loop-k.invariant.same (s.whole ∙ (ap (λ z. z ++ drop e i) here ∙ (ap (λ z. canonical (view x) ++ z) q ∙ sym (ap all_canonical v))));
+      same = λ q. c.loop-k.invariant.same (s.whole ∙ (ap (λ z. z ++ drop e i) here
+          ∙ (ap (λ z. canonical (view x) ++ z) q ∙ sym (ap all_canonical v))));
       first = λ n f. c.loop-k.invariant.first n (subst (λ z. FirstNotCanonical i z n) (sym v) (s.first_is n here f));
     }
