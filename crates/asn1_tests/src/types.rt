@@ -80,7 +80,7 @@ pub struct Encoded {
 impl ToASN1 for Encoded {
     type Error = NothingErr;
 
-    ghost writes = { λ x c r. MatchResult r (λ bs. Document x.octets.items bs) (λ e. Unit {0}) };
+    ghost writes = { λ x c r. MatchResult r (λ bs. IsDocument x.octets.items bs) (λ e. Unit {0}) };
 
     fn to_asn1_class(&self, alloc: Global, _c: ASN1Class) -> Result<Vec<ASN1Block>, NothingErr> {
         match from_der(alloc, &self.octets) {
