@@ -1,55 +1,13 @@
 -- How far a refused document is shown.
-use Rattle.std.proofs.Common.{
-  ◌≡◌,
-  inl,
-  inr,
-  ℕ,
-  suc,
-  ◌+◌,
-  ◌-◌,
-  min,
-  ◌<◌,
-  ◌≤◌,
-  Bool,
-  true,
-  false,
-  List,
-  [],
-  ◌∷◌,
-  ◌++◌,
-  drop,
-  length,
-  map,
-  take,
-  refl,
-  sym,
-  ap,
-  ◌∙◌,
-  subst,
-  append_assoc,
-  append-nil,
-  arith,
-}
+use Rattle.std.proofs.Common.{◌≡◌, inl, inr, ℕ, suc, ◌+◌, ◌-◌, min, ◌<◌, ◌≤◌, Bool, true, false, List}
+use Rattle.std.proofs.Common.{[], ◌∷◌, ◌++◌, drop, length, map, take, refl, sym, ap, ◌∙◌, subst, append_assoc, append-nil, arith}
 use Rattle.std.proofs.lemmas.List.{drop-drop, drop_at, drop_min, length-drop, length-take-le, nil_from_length, take-append-drop}
 use Rattle.std.specs.Prelude.{Result, Ok, Err, IfOk}
 use Rattle.std.specs.declared.alloc.AllocError.{AllocError}
 use Rattle.simple_asn1.specs.Grammar.{IsDocument}
 use Rattle.simple_asn1.specs.Tree.{Tree, Trees, leaf, group, explicit, unknown, no_trees, more_trees}
-use Rattle.der_dump.specs.Dump.{
-  Adds,
-  AddsLine,
-  AreShown,
-  HasNoHeader,
-  IsBlockLine,
-  IsHeader,
-  StandAt,
-  StandsInside,
-  all_offsets,
-  offsets_in,
-  document_lines,
-  header_line,
-  no_more,
-}
+use Rattle.der_dump.specs.Dump.{Adds, AddsLine, AreShown, HasNoHeader, IsBlockLine, IsHeader}
+use Rattle.der_dump.specs.Dump.{StandAt, StandsInside, all_offsets, offsets_in, document_lines, header_line, no_more}
 use Rattle.der_dump.specs.Steps.{GoesTo, PlacedInside, PutsStep, Shows, ShowsDocument, ShowsHeader, shown_at}
 use Rattle.der_dump.specs.declared.refused.Step.{Step}
 use Rattle.der_dump.specs.declared.refused.Step.TheVariants.{Past, Inside, Cut, Fault}

@@ -42,15 +42,18 @@ impl<'a> Walk<'a> {
         Ok(Walk { open })
     }
 
-    // How many lists are open around the next block, which is this one.
-    pub fn depth_of(&mut self, block: &ASN1Block) -> Result<usize, AllocError> {
-        while let Some(left) = self.left.pop() {
-            if left != 0 {
-                let depth = self.left.len();
-                self.left.push(left - 1)?;
-                self.left
-                    .push(block.items().map_or(0, |items| items.len()))?;
-                return Ok(depth);
+    // The next block.
+    pub fn next(&mut self) -> Result<Option<Found<'a>>, AllocError>
+        ensures { IfOk result (λ found. MatchOption found
+            (ahead self.old ≡ [])
+            (λ x. ahead self.old ≡ tree_offset (view x.block.now) ∷ ahead self.new)) }
+    {
+        while let Some(list) = self.open.pop() {
+            if let Some((block, rest)) = list.split_first() {
+                let depth = self.open.len();
+                self.open.push(rest)?;
+                self.open.push(held_blocks(block))?;
+                return Ok(Some(Found { block, depth }));
             }
         }
         Ok(None)
