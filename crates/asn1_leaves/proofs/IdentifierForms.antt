@@ -6,7 +6,13 @@ use Rattle.std.proofs.lemmas.Bool.Decides.{Decides-eqb, Decides-like, same_from_
 use Rattle.std.proofs.lemmas.Slice.Eq.{slice_eq-Decides}
 use Rattle.asn1_numbers.specs.Octets.{AreOctets}
 use Rattle.asn1_numbers.specs.Base128.{IsContinued, low_bits_number}
-use Rattle.asn1_leaves.specs.Contents.ObjectIdentifier.{AreFirstTwo, ObjectIdentifierContents, Subidentifiers, object_identifier_contents, object_identifier_write_fault}
+use Rattle.asn1_leaves.specs.Contents.ObjectIdentifier.{
+  AreFirstTwo,
+  ObjectIdentifierContents,
+  Subidentifiers,
+  object_identifier_contents,
+  object_identifier_write_fault,
+}
 use Rattle.asn1_leaves.specs.Inner.IdentifierForms.{HaveShortContents, IsShortForm, components_of, first_component, numbers_after, second_component}
 use Rattle.asn1_leaves.proofs.Leaves.ObjectIdentifier.{object_identifier_again, object_identifier_writable}
 
