@@ -38,7 +38,8 @@ pub no_length :
 no_length law octets s m fits (c, j, found) none header rest (identifier, len, is, (tag, (d, k, i)), (n, l)) q =
     let whole : octets ≡ identifier ++ (len ++ rest) = q ∙ (ap (λ z. z ++ rest) is ∙ append_assoc identifier len rest) in
     let parts : take s octets ++ drop s octets ≡ identifier ++ (len ++ rest) = take-append-drop s octets ∙ whole in
-    let same = law.one_identifier (take s octets) identifier (drop s octets) (len ++ rest) c d j k m tag (subst (λ z. IsIdentifier z c j m) (front octets s) found) i parts in
+    let same = law.one_identifier (take s octets) identifier (drop s octets) (len ++ rest) c d j k m tag
+    (subst (λ z. IsIdentifier z c j m) (front octets s) found) i parts in
     let size : length identifier ≡ s = sym (ap length same.0) ∙ length-take-le s octets fits in
     let behind : drop s octets ≡ len ++ rest = ap (drop s) whole ∙ drop_at identifier (len ++ rest) s size in
     let e : take (length len) (drop s octets) ≡ len = ap (take (length len)) behind ∙ take_at len rest (length len) refl in

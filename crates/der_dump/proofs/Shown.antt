@@ -1,11 +1,13 @@
 -- How far a refused document is shown.
-use Rattle.std.proofs.Common.{◌≡◌, inl, inr, ℕ, suc, ◌+◌, ◌-◌, min, ◌<◌, ◌≤◌, Bool, true, false, List, [], ◌∷◌, ◌++◌, drop, length, map, take, refl, sym, ap, ◌∙◌, subst, append_assoc, append-nil, arith}
+use Rattle.std.proofs.Common.{◌≡◌, inl, inr, ℕ, suc, ◌+◌, ◌-◌, min, ◌<◌, ◌≤◌, Bool, true, false, List}
+use Rattle.std.proofs.Common.{[], ◌∷◌, ◌++◌, drop, length, map, take, refl, sym, ap, ◌∙◌, subst, append_assoc, append-nil, arith}
 use Rattle.std.proofs.lemmas.List.{drop-drop, drop_at, drop_min, length-drop, length-take-le, nil_from_length, take-append-drop}
 use Rattle.std.specs.Prelude.{Result, Ok, Err, IfOk}
 use Rattle.std.specs.declared.alloc.AllocError.{AllocError}
 use Rattle.simple_asn1.specs.Grammar.{Document}
 use Rattle.simple_asn1.specs.Tree.{Tree, Trees, leaf, group, explicit, unknown, no_trees, more_trees}
-use Rattle.der_dump.specs.Dump.{Adds, AddsLine, AreShown, HasNoHeader, IsBlockLine, IsHeader, StandAt, StandsInside, all_offsets, offsets_in, document_lines, header_line, no_more}
+use Rattle.der_dump.specs.Dump.{Adds, AddsLine, AreShown, HasNoHeader, IsBlockLine, IsHeader}
+use Rattle.der_dump.specs.Dump.{StandAt, StandsInside, all_offsets, offsets_in, document_lines, header_line, no_more}
 use Rattle.der_dump.specs.Steps.{GoesTo, PlacedInside, PutsStep, Shows, ShowsDocument, ShowsHeader, shown_at}
 use Rattle.der_dump.specs.declared.refused.Step.{Step}
 use Rattle.der_dump.specs.declared.refused.Step.TheVariants.{Past, Inside, Cut, Fault}
@@ -51,7 +53,8 @@ one_header :
 one_header octets left after from next offsets later at (header, rest, is, h, o, n) more =
     let whole : drop from octets ≡ header ++ (rest ++ after) = at ∙ (ap (λ z. z ++ after) is ∙ append_assoc header rest after) in
     let behind : drop next octets ≡ rest ++ after =
-    ap (λ z. drop z octets) n ∙ (sym (drop-drop (length header) from octets) ∙ (ap (drop (length header)) whole ∙ drop_at header (rest ++ after) (length header) refl)) in
+    ap (λ z. drop z octets) n ∙ (sym (drop-drop (length header) from octets)
+    ∙ (ap (drop (length header)) whole ∙ drop_at header (rest ++ after) (length header) refl)) in
     header_line header (rest ++ after) later whole h (ap (λ z. z ++ later) o)
     (subst (λ z. AreShown z (rest ++ after) later) n (subst (λ z. AreShown next z later) behind more))
 
@@ -61,16 +64,20 @@ one_document :
 one_document octets left after from next offsets later at (part, rest, bs, is, d, o, n) more =
     let whole : drop from octets ≡ part ++ (rest ++ after) = at ∙ (ap (λ z. z ++ after) is ∙ append_assoc part rest after) in
     let behind : drop next octets ≡ rest ++ after =
-    ap (λ z. drop z octets) n ∙ (sym (drop-drop (length part) from octets) ∙ (ap (drop (length part)) whole ∙ drop_at part (rest ++ after) (length part) refl)) in
+    ap (λ z. drop z octets) n ∙ (sym (drop-drop (length part) from octets)
+    ∙ (ap (drop (length part)) whole ∙ drop_at part (rest ++ after) (length part) refl)) in
     document_lines part (rest ++ after) later bs whole d (ap (λ z. z ++ later) o)
     (subst (λ z. AreShown z (rest ++ after) later) n (subst (λ z. AreShown next z later) behind more))
 
 pub step_goes :
     (octets left after : List ℕ) (from next : ℕ) (step : Step) (offsets later : List ℕ) → drop from octets ≡ left ++ after → Shows from left offsets step →
     GoesTo step next → AreShown next (drop next octets) later → AreShown from (drop from octets) (offsets ++ later)
-step_goes octets left after from next (Past n) offsets later at s g more = one_document octets left after from next offsets later at (subst (ShowsDocument from left offsets) (sym g) s) more
-step_goes octets left after from next (Inside n last) offsets later at s g more = one_header octets left after from next offsets later at (subst (ShowsHeader from left offsets) (sym g) s) more
-step_goes octets left after from next (Cut n) offsets later at s g more = one_header octets left after from next offsets later at (subst (ShowsHeader from left offsets) (sym g) s) more
+step_goes octets left after from next (Past n) offsets later at s g more =
+    one_document octets left after from next offsets later at (subst (ShowsDocument from left offsets) (sym g) s) more
+step_goes octets left after from next (Inside n last) offsets later at s g more =
+    one_header octets left after from next offsets later at (subst (ShowsHeader from left offsets) (sym g) s) more
+step_goes octets left after from next (Cut n) offsets later at s g more =
+    one_header octets left after from next offsets later at (subst (ShowsHeader from left offsets) (sym g) s) more
 step_goes octets left after from next Fault offsets later at s g more = absurd g
 
 no_cons : (x : ℕ) (xs : List ℕ) → x ∷ xs ≡ [] → ⊥
@@ -165,7 +172,8 @@ last_header :
     Adds (PlacedInside offset left) os b c → ShowsHeader offset left os next → AllShown octets a c
 last_header octets left after offset end next a b c os s at adds header = (
   s.offsets ++ os,
-  subst (AreShown 0 octets) (ap (λ t. s.offsets ++ t) (append-nil os)) (s.goes_on (os ++ []) (one_header octets left after offset next os [] at header (no_more refl))),
+  subst (AreShown 0 octets) (ap (λ t. s.offsets ++ t) (append-nil os))
+      (s.goes_on (os ++ []) (one_header octets left after offset next os [] at header (no_more refl))),
   λ e. absurd (header_line_some left offset next os header (nil_right s.offsets os e)),
   put_after octets left after offset s.offsets os a b c at s.adds adds,
 )
@@ -184,7 +192,8 @@ last_step octets left after offset end inner Fault a b c os s stays at z adds (i
     last_header octets left after offset end next a b c os s at adds header
 last_step octets left after offset end inner (Past n) a b c os s stays at z adds shows = (
   s.offsets ++ os,
-  subst (AreShown 0 octets) (ap (λ t. s.offsets ++ t) (append-nil os)) (s.goes_on (os ++ []) (one_document octets left after offset n os [] at shows (no_more refl))),
+  subst (AreShown 0 octets) (ap (λ t. s.offsets ++ t) (append-nil os))
+      (s.goes_on (os ++ []) (one_document octets left after offset n os [] at shows (no_more refl))),
   λ e. absurd (document_lines_some left offset n os shows (nil_right s.offsets os e)),
   put_after octets left after offset s.offsets os a b c at s.adds adds,
 )

@@ -1,5 +1,6 @@
 -- What is written of a document: lines, one for each block in tree order, with its offset.
-use Rattle.std.specs.Prelude.{◌≡◌, ◌≢◌, ℕ, ◌+◌, List, [], ◌∷◌, ◌++◌, drop, length, map, replicate, codes, decimal, if◌then◌else◌, Option, None, Some, Result, Ok, Err}
+use Rattle.std.specs.Prelude.{◌≡◌, ◌≢◌, ℕ, ◌+◌, List, [], ◌∷◌, ◌++◌, drop, length, map, replicate, codes, decimal}
+use Rattle.std.specs.Prelude.{if◌then◌else◌, Option, None, Some, Result, Ok, Err}
 use Rattle.std.specs.Char.{is_ascii_whitespace}
 use Rattle.hex.specs.Hex.{decode_of}
 use Rattle.hex.specs.declared.error.FromHexError.{FromHexError}
@@ -119,8 +120,8 @@ pub data AreShown : ℕ → List ℕ → List ℕ → Type 0 where
       octets ≡ part ++ rest → Document part bs → offsets ≡ map (λ o. from + o) (all_offsets bs) ++ later →
       AreShown (from + length part) rest later → AreShown from octets offsets
 
--- what is put after the text of octets: a document's lines, one for each block in tree order, and those of blocks inside
--- octets; of other octets the lines of what can be read, at least of a header at the front, and then their first fault,
+-- what is put after the text of octets: a document's lines, one for each block in tree order, and those of blocks
+-- inside octets; of other octets the lines of what can be read, at least of a header at the front, and then their first fault,
 -- at the offset of the innermost block at fault
 abbrev pub AddsDumpOf : List ℕ → Verdict → List ℕ → List ℕ → Type 0
 AddsDumpOf octets AllRead before after =

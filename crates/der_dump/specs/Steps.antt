@@ -2,7 +2,8 @@
 use Rattle.std.specs.Prelude.{◌≡◌, ◌⊎◌, ℕ, ◌+◌, ◌≤◌, Bool, true, false, List, [], ◌∷◌, ◌++◌, length, map, take}
 use Rattle.simple_asn1.specs.Grammar.{Document}
 use Rattle.simple_asn1.specs.Tree.{Trees}
-use Rattle.der_dump.specs.Dump.{Adds, HasNoHeader, IsBlockLine, IsHeader, IsInsideLine, StandAt, StandsInside, all_offsets}
+use Rattle.der_dump.specs.Dump.{Adds, HasNoHeader, IsBlockLine, IsHeader, IsInsideLine, StandAt, StandsInside}
+use Rattle.der_dump.specs.Dump.{all_offsets}
 use Rattle.simple_asn1.specs.View.{document_trees}
 use Rattle.der_dump.specs.declared.tree.Held.{Held}
 use Rattle.der_dump.specs.declared.header.Header.{Header}

@@ -118,8 +118,8 @@ struct Part<'a> {
     octets: &'a [u8],
 }
 
-// The document that stands inside octets of a block at a depth, if one may be shown. The header of the block has so many
-// octets.
+// The document that stands inside octets of a block at a depth, if one may be shown. The header of the block has so
+// many octets.
 fn held_document<'a>(
     alloc: Global,
     octets: &'a [u8],

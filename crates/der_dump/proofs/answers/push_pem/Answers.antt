@@ -11,7 +11,8 @@ loop-rest-preserved c =
     (objects_more _ _ _ _ _ c.loop-rest.invariant c.in_ok-turn.ensures)
 
 pub returns-in_ok-push_note-in-Some : goal.returns-in_ok-push_note-in-Some
-returns-in_ok-push_note-in-Some c = answer_cut _ _ _ _ _ _ _ c.requires c.loop-rest.invariant c.in_ok-push_object-in-Some.ensures c.in_ok-push_note-in-Some.ensures
+returns-in_ok-push_note-in-Some c =
+    answer_cut _ _ _ _ _ _ _ c.requires c.loop-rest.invariant c.in_ok-push_object-in-Some.ensures c.in_ok-push_note-in-Some.ensures
 
 pub returns-in-None : goal.returns-in-None
 returns-in-None c = answer_objects _ _ _ _ c.requires c.loop-rest.invariant

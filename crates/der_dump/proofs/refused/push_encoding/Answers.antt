@@ -18,7 +18,8 @@ pub returns-in-Ok : goal.returns-in-Ok
 returns-in-Ok c =
     let place = c.place_at-place.result in
     let octets = c.args.encoding.now in
-    let adds = subst (λ bs. Adds (PlacedInside place.base octets) (shown_at place.is_inside place.base (all_offsets bs)) c.args.out.now.items c.push_blocks.new.out.items)
+    let adds = subst (λ bs. Adds (PlacedInside place.base octets) (shown_at place.is_inside place.base (all_offsets bs))
+    c.args.out.now.items c.push_blocks.new.out.items)
     c.blocks-in-Ok.ensures c.in_ok-push_blocks-in-Ok.ensures in
     put_document c.args.left.now octets (document_trees c.in-Ok.document) place.is_inside c.args.offset place.base c.in_ok-end.end _ _ c.requires
     c.in-Ok.ensures.document c.in_ok-end.ensures c.place_at-place.ensures.outside c.place_at-place.ensures.base adds
