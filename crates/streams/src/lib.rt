@@ -2,8 +2,8 @@
 //! status.
 //!
 //! A program reads its input by [`read_all`], takes it apart by [`split_line`] where it comes in lines, answers it in
-//! memory, and writes the answer by [`write_all`]. What ends a run early is a [`StreamFault`]: its [`fault_text`] goes to
-//! standard error, and [`status`] is the exit status of the program.
+//! memory, and writes the answer by [`write_all`]. What ends a run early is a [`StreamFault`]: its [`fault_text`] goes
+//! to standard error, and [`status`] is the exit status of the program.
 #![tactic(auto)]
 
 ghost use Rattle.std.specs.Prelude.{◌≡◌, ◌⊎◌, ◌<◌, ◌∷◌, length, IfOk, IfErr, IfSome, OnOk, IsOk, codes};
