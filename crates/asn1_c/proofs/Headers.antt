@@ -35,9 +35,11 @@ use Rattle.asn1_c.specs.Records.{count_of}
 
 -- an encoding begins with identifier octets
 pub some_identifier : (x : List ℕ) → IsEncoding x → BeginsWithNo IsSomeIdentifier x → ⊥
-some_identifier x (c, k, n, v, h, e) none =
-    let t = ap (take (length e.identifier)) e.whole ∙ take-append_seam e.identifier (e.len ++ v) in
-    none n (length e.identifier) (c, k, subst (λ z. IsIdentifier z c k n) (sym t) e.identifier_octets)
+some_identifier x is none =
+    let e = is.encoding in
+    let t = ap (take (length e.identifier)) e.whole ∙ take-append_seam e.identifier (e.len ++ is.contents) in
+    none is.tag (length e.identifier)
+        (is.class, is.constructed, subst (λ z. IsIdentifier z is.class is.constructed is.tag) (sym t) e.identifier_octets)
 
 module _ (L : HeaderLaws) (x : List ℕ) (i : ℕ) (c : ASN1Class) (k : Bool) (n : ℕ) (p : IsIdentifier (slice_range x 0 i) c k n) (l : i ≤ length x) where
   -- what follows its identifier octets
@@ -50,16 +52,20 @@ module _ (L : HeaderLaws) (x : List ℕ) (i : ℕ) (c : ASN1Class) (k : Bool) (n
 
   -- length octets do
   pub some_length : IsEncoding x → BeginsWithNo IsLength (drop i x) → ⊥
-  some_length (d, b, t, v, h, e) none =
-      let s = ap (take (length e.len)) (follows d b t v h e) ∙ take-append_seam e.len v in
+  some_length is none =
+      let e = is.encoding in
+      let v = is.contents in
+      let s = ap (take (length e.len)) (follows is.class is.constructed is.tag v is.header e) ∙ take-append_seam e.len v in
       none (length v) (length e.len) (subst (λ z. IsLength z (length v)) (sym s) e.length_octets)
 
   -- and after them the contents octets
   pub header_found : (j m : ℕ) → IsEncoding x → i ≤ j → j ≤ length x → IsLength (slice_range x i j) m
       → Encoding x c k n (drop j x) j × (m ≡ length (drop j x))
-  header_found j m (d, b, t, v, h, e) le l2 q =
+  header_found j m is le l2 q =
+      let e = is.encoding in
+      let v = is.contents in
       let w : x ≡ slice_range x 0 i ++ drop i x = slice_split x 0 i (omega arith) in
-      let r = follows d b t v h e in
+      let r = follows is.class is.constructed is.tag v is.header e in
       let w2 : drop i x ≡ slice_range x i j ++ drop j x = slice_split x i j le in
       let same = L.one_length e.len (slice_range x i j) v (drop j x) (length v) m e.length_octets q (sym r ∙ w2) in
       let ends : length v ≡ length (drop j x) = omega

@@ -10,8 +10,9 @@ use Rattle.simple_asn1.specs.Tree.{Trees}
 use Rattle.asn1_c.specs.Values.{IsReadAlone}
 
 pub one_encoding : HeaderLaws → (octets : List ℕ) (offset : ℕ) (x y : List ℕ) → EncodingAt octets offset x → EncodingAt octets offset y → x ≡ y
-one_encoding H octets offset x y (r, e, (c, j, m, v, g, p)) (s, f, (d, k, n, w, h, q)) =
-    (H.one_encoding x y r s c d j k m n v w g h p q (sym e ∙ f)).0
+one_encoding H octets offset x y a b =
+    (H.one_encoding x y a.rest b.rest a.are.class b.are.class a.are.constructed b.are.constructed a.are.tag b.are.tag
+        a.are.contents b.are.contents a.are.header b.are.header a.are.encoding b.are.encoding (sym a.stands ∙ b.stands)).0
 
 module _ (H : HeaderLaws) (L : OneReading) (octets : List ℕ) (offset : ℕ) where
   pub one_reading : (x : List ℕ) (xs bs : Trees ℕ) → EncodingAt octets offset x → IsDocument x xs → IsReadAlone octets offset bs → bs ≡ xs
@@ -29,4 +30,5 @@ module _ (H : HeaderLaws) (L : OneReading) (octets : List ℕ) (offset : ℕ) wh
 
 -- an encoding in a slice fits one
 pub fits : (octets : List ℕ) (offset : ℕ) (x : List ℕ) → length octets < 2 ^ 64 → EncodingAt octets offset x → length x < 2 ^ 64
-fits octets offset x small (r, e, is) = omega (arith, small, ap length e, length-append x r, length-drop offset octets)
+fits octets offset x small at =
+    omega (arith, small, ap length at.stands, length-append x at.rest, length-drop offset octets)

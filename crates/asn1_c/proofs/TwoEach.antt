@@ -22,20 +22,21 @@ two_more x c k n v h e =
 
 mutual
   two_in : (b : Tree ℕ) (place : ℕ) (x : List ℕ) → Encodes place x b → 2 * length (in_order b) ≤ length x
-  two_in (leaf o l) place x (k, v, h, e, at, is) = let two = two_more x _ k _ v h e in omega (arith, two)
-  two_in (group o g bs) place x (k, v, h, e, at, inside) =
-      let two = two_more x _ k _ v h e in
-      let more = two_among bs (place + h) v inside in
+  two_in (leaf o l) place x s = let two = two_more x _ s.constructed _ s.contents s.header s.encoding in omega (arith, two)
+  two_in (group o g bs) place x s =
+      let two = two_more x _ s.constructed _ s.contents s.header s.encoding in
+      let more = two_among bs (place + s.header) s.contents s.means in
       omega (arith, two, more)
-  two_in (explicit c o n b) place x (v, h, e, at, other, inside) =
-      let two = two_more x c _ n v h e in
-      let more = two_in b (place + h) v inside in
+  two_in (explicit c o n b) place x s =
+      let two = two_more x c _ n s.contents s.header s.encoding in
+      let more = two_in b (place + s.header) s.contents s.means in
       omega (arith, two, more)
-  two_in (unknown c k o n v) place x (h, e, at, stays) = let two = two_more x c k n v h e in omega (arith, two)
+  two_in (unknown c k o n v) place x s = let two = two_more x c k n v s.header s.encoding in omega (arith, two)
 
   pub two_among : (bs : Trees ℕ) (place : ℕ) (x : List ℕ) → EncodesAll place x bs → 2 * length (all_in_order bs) ≤ length x
   two_among no_trees place x e = omega arith
-  two_among (more_trees b bs) place x (y, rest, e, first, others) =
-      let here = two_in b place y first in
-      let after = two_among bs (place + length y) rest others in
-      omega (arith, here, after, ap length e, length-append y rest, length-append (in_order b) (all_in_order bs))
+  two_among (more_trees b bs) place x s =
+      let here = two_in b place s.first s.item in
+      let after = two_among bs (place + length s.first) s.rest s.items in
+      let joined = length-append (in_order b) (all_in_order bs) in
+      omega (arith, here, after, ap length s.whole, length-append s.first s.rest, joined)
