@@ -2,26 +2,7 @@
 use Rattle.std.specs.Prelude.{ℕ, ℤ, Bool, List, [], ◌∷◌, ◌++◌, Option, Some, None}
 use Rattle.asn1_blocks.specs.Contents.{leaf_tag, group_tag}
 use Rattle.asn1_leaves.specs.Contents.Moment.{Moment}
-use Rattle.asn1_blocks.specs.Tree.{
-  Leaf,
-  Tree,
-  Trees,
-  bit_string,
-  boolean,
-  explicit,
-  generalized_time,
-  group,
-  integer,
-  leaf,
-  more_trees,
-  no_trees,
-  null,
-  object_identifier,
-  octet_string,
-  text,
-  unknown,
-  utc_time,
-}
+use Rattle.asn1_blocks.specs.Tree.{Leaf, Tree, Trees, bit_string, boolean, explicit, generalized_time, group, integer, leaf, more_trees, no_trees, object_identifier, octet_string, text, unknown, utc_time}
 
 -- the tag number: that of its kind, or its own
 abbrev pub tree_tag : {O : Type 0} → Tree O → ℕ

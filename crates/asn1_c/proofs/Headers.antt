@@ -39,7 +39,7 @@ some_identifier x is none =
     let e = is.encoding in
     let t = ap (take (length e.identifier)) e.whole ∙ take-append_seam e.identifier (e.len ++ is.contents) in
     none is.tag (length e.identifier)
-        (is.class, is.constructed, subst (λ z. IsIdentifier z is.class is.constructed is.tag) (sym t) e.identifier_octets)
+    (is.class, is.constructed, subst (λ z. IsIdentifier z is.class is.constructed is.tag) (sym t) e.identifier_octets)
 
 module _ (L : HeaderLaws) (x : List ℕ) (i : ℕ) (c : ASN1Class) (k : Bool) (n : ℕ) (p : IsIdentifier (slice_range x 0 i) c k n) (l : i ≤ length x) where
   -- what follows its identifier octets

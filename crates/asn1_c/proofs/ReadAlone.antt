@@ -12,7 +12,7 @@ use Rattle.asn1_c.specs.Values.{IsReadAlone}
 pub one_encoding : HeaderLaws → (octets : List ℕ) (offset : ℕ) (x y : List ℕ) → EncodingAt octets offset x → EncodingAt octets offset y → x ≡ y
 one_encoding H octets offset x y a b =
     (H.one_encoding x y a.rest b.rest a.are.class b.are.class a.are.constructed b.are.constructed a.are.tag b.are.tag
-        a.are.contents b.are.contents a.are.header b.are.header a.are.encoding b.are.encoding (sym a.stands ∙ b.stands)).0
+    a.are.contents b.are.contents a.are.header b.are.header a.are.encoding b.are.encoding (sym a.stands ∙ b.stands)).0
 
 module _ (H : HeaderLaws) (L : OneReading) (octets : List ℕ) (offset : ℕ) where
   pub one_reading : (x : List ℕ) (xs bs : Trees ℕ) → EncodingAt octets offset x → IsDocument x xs → IsReadAlone octets offset bs → bs ≡ xs
