@@ -1,47 +1,42 @@
--- Steps of the walk over blocks.
-use Rattle.std.proofs.Common.{◌≡◌, ℕ, List, [], ◌∷◌, ◌++◌, map, refl, sym, ap, ◌∙◌, append_assoc, append-nil, Bor}
-use Rattle.std.proofs.lemmas.List.{map_push}
+-- The offsets of blocks in tree order.
+use Rattle.std.proofs.Common.{◌≡◌, ℕ, ◌+◌, ◌<◌, ◌≤◌, List, [], ◌∷◌, ◌++◌, length, map, drop, get_or, refl, sym, ap, ◌∙◌, Bor}
+use Rattle.std.proofs.lemmas.List.{drop_all, drop_more, map-append}
 use Rattle.simple_asn1.specs.Types.{ASN1Block}
-use Rattle.simple_asn1.specs.Tree.{Tree, leaf, group, explicit, unknown}
-use Rattle.simple_asn1.specs.View.{tree_offset, view, views}
+use Rattle.simple_asn1.specs.BlockParts.{in_order, all_in_order}
+use Rattle.simple_asn1.specs.Tree.{Tree, Trees, leaf, group, explicit, unknown, no_trees, more_trees}
+use Rattle.simple_asn1.specs.View.{tree_offset, view}
 use Rattle.der_dump.specs.Dump.{all_offsets, offsets_in}
-use Rattle.der_dump.specs.Walk.{held_in, stacked}
 
-pub offsets_of : (b : Tree ℕ) → offsets_in b ≡ tree_offset b ∷ all_offsets (held_in b)
-offsets_of (leaf o l) = refl
-offsets_of (group o g bs) = refl
-offsets_of (explicit c o n b) = ap (λ z. o ∷ z) (sym (append-nil (offsets_in b)))
-offsets_of (unknown c k o n v) = refl
+mutual
+  offsets_of : (b : Tree ℕ) → map tree_offset (in_order b) ≡ offsets_in b
+  offsets_of (leaf o l) = refl
+  offsets_of (group o g bs) = ap (λ z. o ∷ z) (all_offsets_of bs)
+  offsets_of (explicit c o n b) = ap (λ z. o ∷ z) (offsets_of b)
+  offsets_of (unknown c k o n v) = refl
 
--- one more list inside
-pub stacked_push : (outer : List (List ASN1Block)) (blocks : List ASN1Block)
-    → stacked (outer ++ blocks ∷ []) ≡ all_offsets (views blocks) ++ stacked outer
-stacked_push [] blocks = sym (append-nil (all_offsets (views blocks)))
-stacked_push (a ∷ outer) blocks =
-    ap (λ z. z ++ all_offsets (views a)) (stacked_push outer blocks) ∙ append_assoc (all_offsets (views blocks)) (stacked outer) (all_offsets (views a))
+  all_offsets_of : (bs : Trees ℕ) → map tree_offset (all_in_order bs) ≡ all_offsets bs
+  all_offsets_of no_trees = refl
+  all_offsets_of (more_trees b bs) =
+      map-append tree_offset (in_order b) (all_in_order bs)
+      ∙ (ap (λ z. z ++ map tree_offset (all_in_order bs)) (offsets_of b) ∙ ap (λ z. offsets_in b ++ z) (all_offsets_of bs))
 
-pub open_push : (more outer : List (Bor (List ASN1Block))) (x : Bor (List ASN1Block)) → more ≡ outer ++ x ∷ []
-    → stacked (map (λ b. b.now) more) ≡ all_offsets (views x.now) ++ stacked (map (λ b. b.now) outer)
-open_push more outer x e =
-    ap (λ z. stacked (map (λ b. b.now) z)) e
-    ∙ (ap stacked (map_push (λ (b : Bor (List ASN1Block)). b.now) outer x) ∙ stacked_push (map (λ b. b.now) outer) x.now)
+-- the offsets of blocks
+abbrev pub offsets_at : List (Bor ASN1Block) → List ℕ
+offsets_at bs = map (λ b. tree_offset (view b.now)) bs
 
--- a list without blocks
-pub list_ended : (more outer : List (Bor (List ASN1Block))) (x : Bor (List ASN1Block)) → more ≡ outer ++ x ∷ [] → x.now ≡ []
-    → stacked (map (λ b. b.now) more) ≡ stacked (map (λ b. b.now) outer)
-list_ended more outer x e n = open_push more outer x e ∙ ap (λ z. all_offsets (views z) ++ stacked (map (λ b. b.now) outer)) n
+offsets_seen : (bs : List (Bor ASN1Block)) → offsets_at bs ≡ map tree_offset (map (λ b. view b.now) bs)
+offsets_seen [] = refl
+offsets_seen (b ∷ bs) = ap (λ z. tree_offset (view b.now) ∷ z) (offsets_seen bs)
 
--- the first block of a list is found, and what it holds is ahead before the rest
-pub found_next : (more outer mid new : List (Bor (List ASN1Block))) (x rest held : Bor (List ASN1Block)) (b : ASN1Block)
-    → more ≡ outer ++ x ∷ [] → mid ≡ outer ++ rest ∷ [] → new ≡ mid ++ held ∷ [] → x.now ≡ b ∷ rest.now
-    → views held.now ≡ held_in (view b)
-    → stacked (map (λ b. b.now) more) ≡ tree_offset (view b) ∷ stacked (map (λ b. b.now) new)
-found_next more outer mid new x rest held b p q r f h =
-    let below = stacked (map (λ b. b.now) outer) in
-    let inside : all_offsets (views held.now) ++ (all_offsets (views rest.now) ++ below) ≡ stacked (map (λ b. b.now) new) =
-    ap (λ z. all_offsets (views held.now) ++ z) (sym (open_push mid outer rest q)) ∙ sym (open_push new mid held r) in
-    open_push more outer x p
-    ∙ (ap (λ z. all_offsets (views z) ++ below) f
-    ∙ (append_assoc (offsets_in (view b)) (all_offsets (views rest.now)) below
-    ∙ (ap (λ z. z ++ (all_offsets (views rest.now) ++ below)) (offsets_of (view b) ∙ ap (λ z. tree_offset (view b) ∷ all_offsets z) (sym h))
-    ∙ ap (λ z. tree_offset (view b) ∷ z) inside)))
+-- those of all blocks in tree order
+pub offsets_ordered : (order : List (Bor ASN1Block)) (bs : Trees ℕ) → map (λ b. view b.now) order ≡ all_in_order bs → offsets_at order ≡ all_offsets bs
+offsets_ordered order bs e = offsets_seen order ∙ (ap (map tree_offset) e ∙ all_offsets_of bs)
+
+-- the next of them
+pub offsets_next : (order : List (Bor ASN1Block)) (i : ℕ) (x : Bor ASN1Block) → i < length order → x ≡ get_or order i x
+    → offsets_at (drop i order) ≡ tree_offset (view x.now) ∷ offsets_at (drop (i + 1) order)
+offsets_next order i x l e = ap offsets_at (drop_more order i x l ∙ ap (λ z. z ∷ drop (i + 1) order) (sym e))
+
+-- and none
+pub offsets_none : (order : List (Bor ASN1Block)) (i : ℕ) → length order ≤ i → offsets_at (drop i order) ≡ []
+offsets_none order i l = ap offsets_at (drop_all i order l)

@@ -1,4 +1,3 @@
 pub mod Dump
 pub mod Steps
-pub mod Walk
 pub mod Forms

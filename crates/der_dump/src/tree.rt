@@ -9,8 +9,8 @@ use crate::header::{Header, read_header};
 use crate::lines::push_line;
 use crate::names::Names;
 use crate::values::block_text;
-use crate::walk::{Found, Walk};
-use simple_asn1::{ASN1Block, ASN1DecodeErr, Document, encoding_at};
+use crate::walk::{Found, OpenLists};
+use simple_asn1::{ASN1Block, ASN1DecodeErr, Document, all_blocks, encoding_at};
 use std::alloc::{AllocError, Global};
 
 // Where blocks are shown that were read from octets.
@@ -48,8 +48,11 @@ pub fn push_blocks(
         (shown_at place.is_inside place.base (all_offsets (views blocks.now)))
         out.old.items out.new.items) }
 {
-    let mut walk = Walk::over(alloc, blocks)?;
-    while let Some(found) = walk.next()? {
+    let order = all_blocks(alloc, blocks)?;
+    let mut open = OpenLists::over(alloc, blocks.len())?;
+    for block in &order {
+        let depth = open.depth_of(block)?;
+        let found = Found { block, depth };
         if let Some(held) = push_block(alloc, names, octets, &found, place, out)? {
             push_blocks(
                 alloc,

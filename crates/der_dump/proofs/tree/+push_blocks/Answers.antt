@@ -1,30 +1,35 @@
-use Rattle.std.proofs.Common.{◌≡◌, ◌∷◌, arith}
-use Rattle.std.proofs.lemmas.Grind.{common_steps}
-use Rattle.simple_asn1.specs.View.{tree_offset, view, views}
+use Rattle.std.proofs.Common.{ap, ◌∙◌, arith}
+use Rattle.simple_asn1.specs.View.{views}
 use Rattle.der_dump.specs.Dump.{all_offsets}
 use Rattle.der_dump.specs.Steps.{IsHeldIn}
-use Rattle.der_dump.specs.Walk.{ahead}
-use Rattle.der_dump.proofs.Dumps.{progress_held, progress_none, progress_one}
+use Rattle.der_dump.proofs.Dumps.{progress_all, progress_held, progress_none, progress_one}
+use Rattle.der_dump.proofs.Walks.{offsets_at, offsets_next, offsets_none, offsets_ordered}
 use Rattle.der_dump.proofs.tree.+push_blocks.Goals as goal
+use Rattle.der_dump.proofs.tree.+push_blocks.Goals.{in-Some+in_ok-push_blocks, in_default}
 
-pub loop-walk-init : goal.loop-walk-init
-loop-walk-init t c = progress_none _ _ _ _ _ _ c.in_ok-walk.ensures
+pub loop-block-init : goal.loop-block-init
+loop-block-init t c =
+    progress_none _ _ _ _ _ _
+    (ap offsets_at c.deref-block-items.ensures.value ∙ offsets_ordered c.in_ok-order.order.items (views c.args.blocks.now) c.in_ok-order.ensures)
 
-pub loop-walk-preserved : goal.loop-walk-preserved
-loop-walk-preserved t c =
-    let one : ahead c.loop-walk.walk ≡ tree_offset (view c.in-Some.found.block.now) ∷ ahead c.next.new.self =
-    grind (arith, common_steps, c.in_ok-found.ensures) in
-    progress_one c.args.place.is_inside c.args.place.base _ c.args.octets.now (views c.args.blocks.now) _ _ _ _ _
-    c.requires c.loop-walk.invariant one c.in_ok-held.ensures.line
+pub loop-block-preserved : goal.loop-block-preserved
+loop-block-preserved t c =
+    let inside = c.args.place.is_inside in
+    let base = c.args.place.base in
+    let items = c.deref-block-items.result.now in
+    let next = offsets_next items c.loop-block.block-index c.block-item.result c.loop-block-test.true c.block-item.is in
+    let line = progress_one inside base _ c.args.octets.now (views c.args.blocks.now) _ _ _ _ _
+    c.requires c.loop-block.invariant next c.in_ok-held.ensures.line in
+    elim c.match-branch-5.branch [
+      | in-Some+in_ok-push_blocks w ↦
+          let held : IsHeldIn c.args.octets.now base w.in-Some.held = rw w.in-Some.is at c.in_ok-held.ensures.held in
+          let (before, stand, further, document, is) = held in
+          rw w.out-is (progress_held inside w.in-Some.held.place.is_inside base w.in-Some.held.place.base before c.args.octets.now
+          w.in-Some.held.octets.now (all_offsets (views c.args.blocks.now)) _ _ _ _ _ line stand further is w.in_ok-push_blocks.ensures)
+      | in_default w ↦ rw w.out-is line
+    ]
 
-pub loop-walk-preserved-in-Some-2 : goal.loop-walk-preserved-in-Some-2
-loop-walk-preserved-in-Some-2 t c =
-    let one : ahead c.loop-walk.walk ≡ tree_offset (view c.in-Some.found.block.now) ∷ ahead c.next.new.self =
-    grind (arith, common_steps, c.in_ok-found.ensures) in
-    let inside : IsHeldIn c.args.octets.now c.args.place.base c.in-Some-2.held = rw c.in-Some-2.is at c.in_ok-held.ensures.held in
-    let (before, stand, base, document, is) = inside in
-    progress_held c.args.place.is_inside c.in-Some-2.held.place.is_inside c.args.place.base c.in-Some-2.held.place.base before c.args.octets.now
-    c.in-Some-2.held.octets.now (all_offsets (views c.args.blocks.now)) _ _ _ _ _
-    (progress_one c.args.place.is_inside c.args.place.base _ c.args.octets.now (views c.args.blocks.now) _ _ _ _ _
-    c.requires c.loop-walk.invariant one c.in_ok-held.ensures.line)
-    stand base is c.in_ok-push_blocks.ensures
+pub returns : goal.returns
+returns t c =
+    let items = c.deref-block-items.result.now in
+    progress_all c.args.place.is_inside c.args.place.base _ _ _ _ _ c.loop-block.invariant (offsets_none items c.loop-block.block-index (omega arith))
