@@ -66,9 +66,10 @@ def growth_cell(item, peer, operation):
     return ", ".join(f"{GROWTH[key]:.2f}" for key in keys)
 
 
-print((RESULTS / "machine").read_text())
-print(f"Runs: {len(RUNS)}. Load over 1, 5 and 15 minutes before each, and after the last:",
-      "; ".join((RESULTS / "load").read_text().splitlines()) + ".", (RESULTS / "same").read_text())
+print((RESULTS / "machine").read_text().rstrip(", ") + ".\n")
+loads = "; ".join((RESULTS / "load").read_text().splitlines())
+print(f"Runs: {len(RUNS)}. Load over 1, 5 and 15 minutes before each, and after the last: {loads}.\n")
+print((RESULTS / "same").read_text())
 operation_table("Read: nanoseconds an octet (how many times as fast as the Rust crate)", "Read")
 operation_table("Read strictly: nanoseconds an octet (how many times as long as its own reading otherwise)", "Strict")
 operation_table("Write: nanoseconds an octet (how many times as fast as the Rust crate)", "Write")

@@ -47,8 +47,9 @@ enum Operation {
 }
 use Operation::{Read, Strict, Write};
 
-/// How often a tree is written in a row: what that takes longer than no writing is the time of so many.
+/// How often a tree is written in a row at least: what that takes longer than no writing is the time of so many.
 const WRITES: u64 = 8;
+const MOST_WRITES: f64 = 256.0;
 
 /// Seconds of this thread on a processor, so that other work on the machine does not count.
 fn now() -> f64 {
@@ -74,6 +75,8 @@ struct Job<'a> {
     documents: &'a [Document],
     /// How often a turn does it, so that it takes some milliseconds.
     times: u32,
+    /// How often a turn writes.
+    writes: u64,
     /// Seconds, of each turn.
     turns: Vec<f64>,
 }
@@ -81,7 +84,7 @@ struct Job<'a> {
 impl<'a> Job<'a> {
     /// None where the peer has no such operation, refuses a document, or takes longer than can be waited for.
     fn new(peer: &'a Peer, operation: Operation, size: u32, documents: &'a [Document]) -> Option<Job<'a>> {
-        let job = Job { peer, operation, size, documents, times: 1, turns: Vec::new() };
+        let job = Job { peer, operation, size, documents, times: 1, writes: WRITES, turns: Vec::new() };
         let from = now();
         (job.all(1) && now() - from < 1.0).then_some(job)
     }
@@ -107,7 +110,7 @@ impl<'a> Job<'a> {
     fn turn(&self) -> f64 {
         self.all(0);
         match self.operation {
-            Write => (self.seconds(WRITES) - self.seconds(0)) / WRITES as f64,
+            Write => (self.seconds(self.writes) - self.seconds(0)) / self.writes as f64,
             _ => self.seconds(0),
         }
     }
@@ -138,7 +141,10 @@ const ROUNDS: usize = 11;
 /// fewer.
 fn take_turns(jobs: &mut [Job]) {
     for job in jobs.iter_mut() {
-        job.times = (0.003 / job.seconds(WRITES)).ceil().clamp(1.0, 10_000.0) as u32;
+        // as many writes as take as long as the reading before them, which is taken off
+        let (reading, writing) = (job.seconds(0), job.seconds(WRITES) - job.seconds(0));
+        job.writes = (WRITES as f64 * reading / writing).clamp(WRITES as f64, MOST_WRITES) as u64;
+        job.times = (0.003 / job.seconds(job.writes)).ceil().clamp(1.0, 10_000.0) as u32;
     }
     for _ in 0..ROUNDS {
         for job in jobs.iter_mut() {
@@ -179,7 +185,7 @@ fn repeat(corpus: &str, item: &str, name: &str, operation: &str, times: u64) {
     let peer = peers().into_iter().find(|it| it.name == name).expect("a peer");
     let documents = documents(corpus, item, LARGEST);
     let operation = *[Read, Strict, Write].iter().find(|it| format!("{it:?}") == operation).expect("an operation");
-    let job = Job { peer: &peer, operation, size: LARGEST, documents: &documents, times: 1, turns: Vec::new() };
+    let job = Job { peer: &peer, operation, size: LARGEST, documents: &documents, times: 1, writes: 0, turns: vec![] };
     let (repeats, writes) = if operation == Write { (1, times) } else { (times, 0) };
     for _ in 0..repeats {
         job.all(writes);
