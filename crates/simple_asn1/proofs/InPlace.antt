@@ -1,6 +1,7 @@
--- Trees of a document stand in their canonical octets where the own octets of each do.
+-- Octets are canonical where each header in them is, and the contents octets of each leaf.
 use Rattle.std.proofs.Common.{
   ◌≡◌,
+  ◌≢◌,
   ℕ,
   ◌+◌,
   ◌<◌,
@@ -13,6 +14,8 @@ use Rattle.std.proofs.Common.{
   [],
   ◌∷◌,
   ◌++◌,
+  inl,
+  inr,
   length,
   refl,
   sym,
@@ -24,22 +27,23 @@ use Rattle.std.proofs.Common.{
   append_assoc,
   append-nil,
 }
-use Rattle.asn1_blocks.specs.declared.block.ASN1Block.{ASN1Block}
+use Rattle.std.proofs.lemmas.Bool.{false≢true, cases_lt, cond_below, cond_above}
+use Rattle.std.specs.Int.Digits.{digits_of}
+use Rattle.asn1_blocks.specs.declared.block.GroupKind.{GroupKind}
 use Rattle.asn1_headers.specs.declared.header.ASN1Class.{ASN1Class}
 use Rattle.asn1_headers.specs.declared.header.ASN1Class.TheVariants.{Universal}
-use Rattle.asn1_headers.specs.Header.{Encoding, shortest_identifier, shortest_length}
+use Rattle.asn1_headers.specs.Header.{Encoding, leading_octet, shortest_identifier, shortest_length}
+use Rattle.asn1_numbers.specs.Base128.{shortest_base128}
 use Rattle.asn1_blocks.specs.Tree.{Tree, Trees, leaf, group, explicit, unknown, no_trees, more_trees}
-use Rattle.asn1_blocks.specs.Inner.TreeOrder.{IsNext, inside}
-use Rattle.asn1_blocks.specs.View.{view, views}
-use Rattle.asn1_blocks.specs.Contents.{LeafContents, group_tag, leaf_contents, leaf_tag}
+use Rattle.asn1_blocks.specs.Contents.{LeafContents, group_tag, is_known_tag, leaf_contents, leaf_tag}
 use Rattle.simple_asn1.specs.Canonical.{shortest_encoding, canonical, all_canonical}
-use Rattle.asn1_blocks.specs.Grammar.{IsDocument, EncodesAll}
+use Rattle.asn1_blocks.specs.Grammar.{Encodes, EncodesAll}
 use Rattle.asn1_blocks.specs.Places.{joined}
-use Rattle.simple_asn1.specs.Inner.InPlaceWalk.{BeginWithOwn}
-use Rattle.simple_asn1.specs.Inner.WriteWalk.{identifier_of}
-use Rattle.asn1_headers.proofs.Prefixes.{encoding_alone, identifier_alone, length_alone, same_split}
-use Rattle.asn1_blocks.proofs.OneReading.{encodes_block, only}
+use Rattle.simple_asn1.specs.Inner.InPlace.{AreCanonical, AreCanonicalContents, LeavesBoth}
+use Rattle.asn1_headers.proofs.Prefixes.{encoding_alone, identifier_alone, identifier_some, length_alone, same_split}
+use Rattle.asn1_blocks.proofs.OneReading.{block_some, encodes_block, only}
 use Rattle.asn1_blocks.proofs.Faults.{block_encoding}
+use Rattle.asn1_blocks.proofs.Leaves.{group_known, leaf_known, leaf_no_group}
 use Rattle.asn1_headers.proofs.Shortest.{shortest_identifier_is, shortest_length_is}
 use Rattle.asn1_blocks.proofs.Slices.{encodes_joined}
 use Rattle.simple_asn1.proofs.Strict.{canonical_encoding}
@@ -47,40 +51,26 @@ use Rattle.simple_asn1.proofs.Strict.{canonical_encoding}
 regroup : (i s c x : List ℕ) → i ++ (s ++ (c ++ x)) ≡ (i ++ (s ++ c)) ++ x
 regroup i s c x = sym (append_assoc i (s ++ c) x ∙ ap (λ z. i ++ z) (append_assoc s c x))
 
--- what is left is not more
-pub own_left : (b : Tree ℕ) (x rest : List ℕ) → BeginWithOwn b x rest → length rest ≤ length x
-own_left b x rest a =
-    let i = identifier_of b in
-    let l = shortest_length a.announced in
-    omega (
-      arith,
-      ap length a.whole,
-      length-append i (l ++ (a.own ++ rest)),
-      length-append l (a.own ++ rest),
-      length-append a.own rest,
-    )
-
-views_join : (xs ys : List ASN1Block) → views (xs ++ ys) ≡ joined (views xs) (views ys)
-views_join [] ys = refl
-views_join (x ∷ xs) ys = ap (more_trees (view x)) (views_join xs ys)
-
 joined_canonical : (xs ys : Trees ℕ) → all_canonical (joined xs ys) ≡ all_canonical xs ++ all_canonical ys
 joined_canonical no_trees ys = refl
 joined_canonical (more_trees b xs) ys =
     ap (λ z. canonical b ++ z) (joined_canonical xs ys) ∙ sym (append_assoc (canonical b) (all_canonical xs) (all_canonical ys))
 
 -- an encoding whose header is canonical, and what stands there in place of its contents octets
-record Front (s contents own r rest : List ℕ) (d : ASN1Class) (k : Bool) (p m : ℕ) : Type 0 where
+record Front (s contents own r rest : List ℕ) (c d : ASN1Class) (j k : Bool) (n p m : ℕ) : Type 0 where
   pub encoding : s ≡ shortest_encoding d k p contents
   pub whole : contents ++ r ≡ own ++ rest
   pub size : length contents ≡ m
+  pub class : c ≡ d
+  pub constructed : j ≡ k
+  pub tag : n ≡ p
 
 -- the encoding at the front of octets that begin with a canonical header
 front :
     (x s r contents own rest : List ℕ) (c d : ASN1Class) (j k : Bool) (n p h m : ℕ) →
     x ≡ s ++ r → Encoding s c j n contents h → m < 2 ^ 64 →
     x ≡ shortest_identifier d k p ++ (shortest_length m ++ (own ++ rest)) →
-    Front s contents own r rest d k p m
+    Front s contents own r rest c d j k n p m
 front x s r contents own rest c d j k n p h m w F small e =
     let e1 : F.identifier ++ (F.len ++ (contents ++ r)) ≡ shortest_identifier d k p ++ (shortest_length m ++ (own ++ rest)) =
     regroup F.identifier F.len contents r ∙ (ap (λ z. z ++ r) (sym F.whole) ∙ (sym w ∙ e)) in
@@ -92,6 +82,9 @@ front x s r contents own rest c d j k n p h m w F small e =
           ap (λ z. shortest_identifier d k p ++ (shortest_length z ++ contents)) (sym l.number)));
       whole = l.rest;
       size = l.number;
+      class = t.class;
+      constructed = t.constructed;
+      tag = t.tag;
     }
 
 -- octets of trees at the front of canonical octets of these are no others
@@ -112,87 +105,174 @@ all_front o y z w (more_trees b bs) small s e =
     let r = all_front (o + length s.first) s.rest z w bs (omega (arith, small, n)) s.items h.rest in
     (s.whole ∙ (ap (λ q. q ++ s.rest) h.octets ∙ ap (λ q. canonical b ++ q) r.0), r.1)
 
--- trees are left in the rest, which decides of all
-abbrev pub Decides : List ℕ → List ℕ → Trees ℕ → List ℕ → Type 0
-Decides x rest left whole = (o : ℕ) × EncodesAll o rest left × (rest ≡ all_canonical left → x ≡ whole)
+-- no octets are no trees
+pub none_canonical : (x : List ℕ) → length x ≡ 0 → AreCanonical x
+none_canonical x none o no_trees s = s
+none_canonical x none o (more_trees b bs) s =
+    absurd (omega (arith, none, block_some s.first (encodes_block o s.first b s.item), ap length s.whole, length-append s.first s.rest))
 
--- a document decides of itself
-pub begun : (i : List ℕ) (bs : Trees ℕ) → IsDocument i bs → Decides i i bs (all_canonical bs)
-begun i bs d = (0, d.blocks, λ g. g)
+-- encodings of the same fields and contents octets are the same
+same_encoding : (c d : ASN1Class) (j k : Bool) (m n : ℕ) (v w : List ℕ) → c ≡ d → j ≡ k → m ≡ n → v ≡ w
+    → shortest_encoding c j m v ≡ shortest_encoding d k n w
+same_encoding c d j k m n v w p q r s = ap (λ z. shortest_encoding z j m v) p ∙ (ap (λ z. shortest_encoding d z m v) q
+    ∙ (ap (λ z. shortest_encoding d k z v) r ∙ ap (λ z. shortest_encoding d k n z) s))
 
--- past a tree that holds none
-closed :
-    (o : ℕ) (x s r contents own rest written : List ℕ) (c d : ASN1Class) (j k : Bool) (n p h m : ℕ) (bs : Trees ℕ) →
-    x ≡ s ++ r → Encoding s c j n contents h → EncodesAll (o + length s) r bs → m < 2 ^ 64 → m ≡ length own →
-    x ≡ shortest_identifier d k p ++ (shortest_length m ++ (own ++ rest)) → (contents ≡ own → own ≡ written) →
-    Decides x rest bs (shortest_encoding d k p written ++ all_canonical bs)
-closed o x s r contents own rest written c d j k n p h m bs w F t small l e keeps =
-    let f = front x s r contents own rest c d j k n p h m w F small e in
-    let q = same_split contents own r rest (f.size ∙ l) f.whole in
-    let here : s ≡ shortest_encoding d k p written = f.encoding ∙ ap (shortest_encoding d k p) (q.0 ∙ keeps q.0) in (
-      o + length s,
-      subst (λ z. EncodesAll (o + length s) z bs) q.1 t,
-      λ g. w ∙ (ap (λ z. z ++ r) here ∙ ap (λ z. shortest_encoding d k p written ++ z) (q.1 ∙ g)),
-    )
+-- a canonical encoding, and canonical octets after it
+both : (o : ℕ) (x s r rest written : List ℕ) (bs : Trees ℕ) → x ≡ s ++ r → EncodesAll o r bs → s ≡ written → r ≡ rest → AreCanonical rest
+    → x ≡ written ++ all_canonical bs
+both o x s r rest written bs w t here then after =
+    w ∙ (ap (λ z. z ++ r) here ∙ ap (λ z. written ++ z) (then ∙ after o bs (subst (λ z. EncodesAll o z bs) then t)))
 
--- into one that holds trees
-opened :
-    (o : ℕ) (x s r contents rest : List ℕ) (c d : ASN1Class) (j k : Bool) (n p h m : ℕ) (held bs : Trees ℕ) →
-    length x < 2 ^ 64 → x ≡ s ++ r → Encoding s c j n contents h → EncodesAll (o + h) contents held → EncodesAll (o + length s) r bs →
-    m < 2 ^ 64 → x ≡ shortest_identifier d k p ++ (shortest_length m ++ rest) →
-    Decides x rest (joined held bs) (shortest_encoding d k p (all_canonical held) ++ all_canonical bs)
-opened o x s r contents rest c d j k n p h m held bs few w F u t small e =
-    let f = front x s r contents [] rest c d j k n p h m w F small e in
-    let size : o + length s ≡ (o + h) + length contents = omega (
+own_small : (x own rest : List ℕ) (c : ASN1Class) (k : Bool) (n : ℕ) → length x < 2 ^ 64
+    → x ≡ shortest_identifier c k n ++ (shortest_length (length own) ++ (own ++ rest)) → length own < 2 ^ 64
+own_small x own rest c k n few e =
+    let i = shortest_identifier c k n in
+    let l = shortest_length (length own) in
+    omega (arith, few, ap length e, length-append i (l ++ (own ++ rest)), length-append l (own ++ rest), length-append own rest)
+
+-- past an encoding that is no SEQUENCE or SET
+pub past : (x own rest : List ℕ) (c : ASN1Class) (k : Bool) (n : ℕ) → length x < 2 ^ 64 → AreCanonicalContents c k n own
+    → x ≡ shortest_identifier c k n ++ (shortest_length (length own) ++ (own ++ rest)) → AreCanonical rest → AreCanonical x
+past x own rest c k n few keeps e after o no_trees s = s
+past x own rest c k n few keeps e after o (more_trees (leaf p l) bs) s =
+    let one = s.item in
+    let f = front x s.first s.rest one.contents own rest Universal c one.constructed k (leaf_tag l) n one.header (length own) s.whole one.encoding
+    (own_small x own rest c k n few e) e in
+    let q = same_split one.contents own s.rest rest f.size f.whole in
+    let written = keeps.leaf (sym f.class) l (sym f.tag) (subst (LeafContents l) q.0 one.means) in
+    let here = f.encoding ∙ same_encoding c Universal k false n (leaf_tag l) one.contents (leaf_contents l) (sym f.class)
+    (keeps.primitive (sym f.class) l (sym f.tag)) (sym f.tag) (q.0 ∙ written) in
+    both (o + length s.first) x s.first s.rest rest (canonical (leaf p l)) bs s.whole s.items here q.1 after
+past x own rest c k n few keeps e after o (more_trees (group p g held) bs) s =
+    let one = s.item in
+    let f = front x s.first s.rest one.contents own rest Universal c one.constructed k (group_tag g) n one.header (length own) s.whole one.encoding
+    (own_small x own rest c k n few e) e in
+    absurd (keeps.no_group (sym f.class) g (sym f.tag))
+past x own rest c k n few keeps e after o (more_trees (explicit d p m b) bs) s =
+    let one = s.item in
+    let f = front x s.first s.rest one.contents own rest d c true k m n one.header (length own) s.whole one.encoding
+    (own_small x own rest c k n few e) e in
+    let q = same_split one.contents own s.rest rest f.size f.whole in
+    let within = keeps.within (λ u. one.other (f.class ∙ u)) (sym f.constructed) in
+    let item : EncodesAll (o + one.header) own (more_trees b no_trees) = only (o + one.header) own b (subst (λ z. Encodes (o + one.header) z b) q.0 one.means) in
+    let written : own ≡ canonical b = within (o + one.header) (more_trees b no_trees) item ∙ append-nil (canonical b) in
+    let here = f.encoding ∙ same_encoding c d k true n m one.contents (canonical b) (sym f.class) (sym f.constructed) (sym f.tag) (q.0 ∙ written) in
+    both (o + length s.first) x s.first s.rest rest (canonical (explicit d p m b)) bs s.whole s.items here q.1 after
+past x own rest c k n few keeps e after o (more_trees (unknown d j p m v) bs) s =
+    let one = s.item in
+    let f = front x s.first s.rest v own rest d c j k m n one.header (length own) s.whole one.encoding
+    (own_small x own rest c k n few e) e in
+    let q = same_split v own s.rest rest f.size f.whole in
+    let here = f.encoding ∙ same_encoding c d k j n m v v (sym f.class) (sym f.constructed) (sym f.tag) refl in
+    both (o + length s.first) x s.first s.rest rest (canonical (unknown d j p m v)) bs s.whole s.items here q.1 after
+
+-- into a SEQUENCE or SET
+pub into : (x rest : List ℕ) (g : GroupKind) (m : ℕ) → length x < 2 ^ 64 → m < 2 ^ 64
+    → x ≡ shortest_identifier Universal true (group_tag g) ++ (shortest_length m ++ rest) → AreCanonical rest → AreCanonical x
+into x rest g m few small e after o no_trees s = s
+into x rest g m few small e after o (more_trees (leaf p l) bs) s =
+    let one = s.item in
+    let f = front x s.first s.rest one.contents [] rest Universal Universal one.constructed true (leaf_tag l) (group_tag g) one.header m s.whole one.encoding
+    small e in
+    absurd (leaf_no_group l g f.tag)
+into x rest g m few small e after o (more_trees (explicit d p n b) bs) s =
+    let one = s.item in
+    let f = front x s.first s.rest one.contents [] rest d Universal true true n (group_tag g) one.header m s.whole one.encoding small e in
+    absurd (one.other f.class)
+into x rest g m few small e after o (more_trees (unknown d j p n v) bs) s =
+    let one = s.item in
+    let f = front x s.first s.rest v [] rest d Universal j true n (group_tag g) one.header m s.whole one.encoding small e in
+    absurd (elim one.stays [ inl u ↦ false≢true (sym u.1 ∙ ap is_known_tag f.tag ∙ group_known g) | inr u ↦ u.0 f.class ])
+into x rest g m few small e after o (more_trees (group p h held) bs) s =
+    let one = s.item in
+    let contents = one.contents in
+    let r = s.rest in
+    let place = o + one.header in
+    let f = front x s.first r contents [] rest Universal Universal one.constructed true (group_tag h) (group_tag g) one.header m s.whole one.encoding
+    small e in
+    let F = one.encoding in
+    let size : o + length s.first ≡ place + length contents = omega (
       arith,
       F.size,
       ap length F.whole,
       length-append F.identifier (F.len ++ contents),
       length-append F.len contents,
     ) in
-    let fits : length (contents ++ r) < 2 ^ 64 = omega (arith, few, size, ap length w, length-append s r, length-append contents r) in (
-      o + h,
-      subst (λ z. EncodesAll (o + h) z (joined held bs)) f.whole (encodes_joined (o + h) contents r held bs u (subst (λ z. EncodesAll z r bs) size t)),
-      λ g.
-          let v = all_front (o + h) contents r (all_canonical bs) held fits u (f.whole ∙ (g ∙ joined_canonical held bs)) in
-          w ∙ (ap (λ z. z ++ r) (f.encoding ∙ ap (shortest_encoding d k p) v.0) ∙ ap (λ z. shortest_encoding d k p (all_canonical held) ++ z) v.1),
+    let fits : length (contents ++ r) < 2 ^ 64 = omega (arith, few, size, ap length s.whole, length-append s.first r, length-append contents r) in
+    let all : EncodesAll place (contents ++ r) (joined held bs) =
+    encodes_joined place contents r held bs one.means (subst (λ z. EncodesAll z r bs) size s.items) in
+    let written = f.whole ∙ (after place (joined held bs) (subst (λ z. EncodesAll place z (joined held bs)) f.whole all) ∙ joined_canonical held bs) in
+    let v = all_front place contents r (all_canonical bs) held fits one.means written in
+    let here = f.encoding ∙ same_encoding Universal Universal true true (group_tag g) (group_tag h) contents (all_canonical held) refl refl (sym f.tag) v.0 in
+    s.whole ∙ (ap (λ z. z ++ r) here ∙ ap (λ z. canonical (group p h held) ++ z) v.1)
+
+-- length octets are some
+length_some : (n : ℕ) → 0 < length (shortest_length n)
+length_some n =
+    let ds = digits_of 256 n in
+    let long = (128 + length ds) ∷ ds in
+    elim (cases_lt n 128) [
+      | inl lt ↦ subst (λ s. 0 < length s) (cond_below n 128 (n ∷ []) long lt) (omega arith)
+      | inr ge ↦ subst (λ s. 0 < length s) (cond_above n 128 (n ∷ []) long long ge refl) (omega arith)
+    ]
+
+-- a header takes two octets or more
+fewer : (x own rest : List ℕ) (c : ASN1Class) (k : Bool) (n m : ℕ) → x ≡ shortest_identifier c k n ++ (shortest_length m ++ (own ++ rest))
+    → length own + length rest + 2 ≤ length x
+fewer x own rest c k n m e =
+    let i = shortest_identifier c k n in
+    let l = shortest_length m in
+    omega (
+      arith,
+      identifier_some i c k n (shortest_identifier_is c k n),
+      length_some m,
+      ap length e,
+      length-append i (l ++ (own ++ rest)),
+      length-append l (own ++ rest),
+      length-append own rest,
     )
 
-past :
-    (o : ℕ) (x rest : List ℕ) (b : Tree ℕ) (bs : Trees ℕ) → length x < 2 ^ 64 → EncodesAll o x (more_trees b bs) → BeginWithOwn b x rest →
-    Decides x rest (joined (inside b) bs) (canonical b ++ all_canonical bs)
-past o x rest (leaf p l) bs few s a =
-    let one = s.item in
-    closed o x s.first s.rest one.contents a.own rest (leaf_contents l) Universal Universal one.constructed false (leaf_tag l) (leaf_tag l) one.header
-    a.announced bs s.whole one.encoding
-    s.items a.fits a.size a.whole (λ q. a.canonical (subst (LeafContents l) q one.means))
-past o x rest (unknown c k p n v) bs few s a =
-    let one = s.item in
-    closed o x s.first s.rest v a.own rest v c c k k n n one.header a.announced bs s.whole one.encoding s.items a.fits a.size a.whole (λ q. sym q)
-past o x rest (group p g held) bs few s a =
-    let one = s.item in
-    let i = shortest_identifier Universal true (group_tag g) in
-    let whole : x ≡ i ++ (shortest_length a.announced ++ rest) = a.whole ∙ ap (λ z. i ++ (shortest_length a.announced ++ (z ++ rest))) a.canonical in
-    opened o x s.first s.rest one.contents rest Universal Universal one.constructed true (group_tag g) (group_tag g) one.header a.announced held bs few s.whole
-    one.encoding one.means s.items
-    a.fits whole
-past o x rest (explicit c p n b) bs few s a =
-    let one = s.item in
-    let i = shortest_identifier c true n in
-    let whole : x ≡ i ++ (shortest_length a.announced ++ rest) = a.whole ∙ ap (λ z. i ++ (shortest_length a.announced ++ (z ++ rest))) a.canonical in
-    let contents = one.contents in
-    let item : EncodesAll (o + one.header) contents (more_trees b no_trees) = only (o + one.header) contents b one.means in
-    let (p, left, whole) = opened o x s.first s.rest contents rest c c true true n n one.header a.announced (more_trees b no_trees) bs few s.whole one.encoding
-    item s.items a.fits whole in
-    (p, left, λ g. whole g ∙ ap (λ z. shortest_encoding c true n z ++ all_canonical bs) (append-nil (canonical b)))
+-- a tag number below 31 in one octet
+pub low_identifier : (n : ℕ) → n < 31 → shortest_identifier Universal false n ≡ n ∷ []
+low_identifier n low =
+    let same : leading_octet Universal false n ≡ n = omega arith in
+    sym (cond_below n 31 (leading_octet Universal false n ∷ []) (leading_octet Universal false 31 ∷ shortest_base128 n) low) ∙ ap (λ z. z ∷ []) same
 
--- past the own octets of the next block
-pub past_own :
-    (o : ℕ) (x rest : List ℕ) (b : ASN1Block) (before after : List ASN1Block) → length x < 2 ^ 64 → EncodesAll o x (views before) →
-    IsNext b before after → BeginWithOwn (view b) x rest → Decides x rest (views after) (all_canonical (views before))
-past_own o x rest b before after few s n a =
-    let first = ap views n.first in
-    let (p, left, whole) = past o x rest (view b) (views n.rest) few (subst (EncodesAll o x) first s) a in
-    let then : views after ≡ joined (inside (view b)) (views n.rest) = ap views n.then ∙ (views_join n.held n.rest ∙
-    ap (λ z. joined z (views n.rest)) n.holds) in
-    (p, subst (EncodesAll p rest) (sym then) left, λ g. whole (g ∙ ap all_canonical then) ∙ sym (ap all_canonical first))
+-- contents octets of a tag without a rule
+pub unruled : (c : ASN1Class) (k : Bool) (n : ℕ) (own : List ℕ) → (c ≡ Universal → is_known_tag n ≡ false) → (c ≢ Universal → k ≡ true → ⊥)
+    → AreCanonicalContents c k n own
+unruled c k n own plain closed = record {
+  no_group = λ u g e. false≢true (sym (plain u) ∙ ap is_known_tag e ∙ group_known g);
+  primitive = λ u l e. absurd (false≢true (sym (plain u) ∙ ap is_known_tag e ∙ leaf_known l));
+  leaf = λ u l e p. absurd (false≢true (sym (plain u) ∙ ap is_known_tag e ∙ leaf_known l));
+  within = λ other e. absurd (closed other e);
+}
+
+-- what an encoding leaves that holds no octets to be gone over
+pub leaves : (x own rest : List ℕ) (c : ASN1Class) (k : Bool) (n : ℕ) → length x < 2 ^ 64
+    → x ≡ shortest_identifier c k n ++ (shortest_length (length own) ++ (own ++ rest)) → AreCanonicalContents c k n own → LeavesBoth x [] rest
+leaves x own rest c k n few e keeps = record {
+  canonical = λ none after. past x own rest c k n few keeps e after;
+  fewer = omega (arith, fewer x own rest c k n (length own) e);
+}
+
+-- one of another class leaves its contents octets
+pub leaves_within : (x own rest : List ℕ) (c : ASN1Class) (k : Bool) (n : ℕ) → length x < 2 ^ 64
+    → x ≡ shortest_identifier c k n ++ (shortest_length (length own) ++ (own ++ rest)) → c ≢ Universal → LeavesBoth x own rest
+leaves_within x own rest c k n few e other = record {
+  canonical = λ inside after. past x own rest c k n few (record {
+    no_group = λ u. absurd (other u);
+    primitive = λ u. absurd (other u);
+    leaf = λ u. absurd (other u);
+    within = λ not k. inside;
+  }) e after;
+  fewer = fewer x own rest c k n (length own) e;
+}
+
+-- a SEQUENCE or SET leaves all octets after its header
+pub leaves_group : (x rest : List ℕ) (g : GroupKind) (m : ℕ) → length x < 2 ^ 64 → m < 2 ^ 64
+    → x ≡ shortest_identifier Universal true (group_tag g) ++ (shortest_length m ++ rest) → LeavesBoth x [] rest
+leaves_group x rest g m few small e = record {
+  canonical = λ none after. into x rest g m few small e after;
+  fewer = fewer x [] rest Universal true (group_tag g) m e;
+}

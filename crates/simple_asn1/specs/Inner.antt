@@ -1,5 +1,5 @@
 -- What private contracts and ghost members of types name, but no public contract.
 pub mod WriteWalk
-pub mod InPlaceWalk
+pub mod InPlace
 pub mod PointLaws
 pub mod Algorithm

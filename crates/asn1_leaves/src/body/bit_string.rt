@@ -1,5 +1,5 @@
 // Contents octets of a BIT STRING (X.690 8.6).
-ghost use Rattle.std.specs.Prelude.{◌≡◌, ◌↔◌, ◌≤◌, length, None, Some, IfOk, IfErr, IsTrue, OnOk};
+ghost use Rattle.std.specs.Prelude.{◌≡◌, ◌↔◌, ◌≤◌, ℕ, List, length, None, Some, IfOk, IfErr, IsTrue, OnOk};
 ghost use Rattle.asn1_leaves.specs.Contents.BitString.{BitStringContents, BitStringFault, IsFaithfulBitString, bit_string_contents, bit_string_write_fault};
 ghost use Rattle.asn1_headers.specs.Fault.{OutOfMemoryOr};
 
@@ -66,4 +66,15 @@ pub fn is_faithful(bits: usize, octets: &[u8]) -> bool
     let room = 8 * octets.len() as u128;
     let bits = bits as u128;
     bits <= room && room <= bits + 255 && room <= usize::MAX as u128
+}
+
+// Whether contents octets are found to be those that are written of what they mean: of no bits none are written.
+pub fn are_canonical(contents: &[u8]) -> bool
+    ensures { IsTrue result → (n : ℕ) (v : List ℕ) → BitStringContents n v contents.now
+        → contents.now ≡ bit_string_contents n v }
+{
+    match contents.split_first() {
+        Some((unused, octets)) => 8 * octets.len() as u128 != *unused as u128,
+        None => true,
+    }
 }

@@ -1,5 +1,5 @@
 // Contents octets of a BOOLEAN (X.690 8.2).
-ghost use Rattle.std.specs.Prelude.{◌≡◌, ◌≤◌, length, IfOk, IfErr};
+ghost use Rattle.std.specs.Prelude.{◌≡◌, ◌≤◌, Bool, length, IfOk, IfErr, IsTrue};
 ghost use Rattle.asn1_leaves.specs.Contents.Boolean.{BooleanContents, BooleanFault, boolean_contents};
 ghost use Rattle.asn1_headers.specs.Fault.{fault_of};
 
@@ -28,4 +28,15 @@ pub fn put<S: Sink>(value: bool, out: &mut S)
     ensures { S.puts out.old (boolean_contents value) out.new }
 {
     out.put_one(if value { 0xFF } else { 0 });
+}
+
+// Whether contents octets are found to be those that are written of what they mean.
+pub fn are_canonical(contents: &[u8]) -> bool
+    ensures { IsTrue result → (b : Bool) → BooleanContents b contents.now
+        → contents.now ≡ boolean_contents b }
+{
+    match contents {
+        [octet] => *octet == 0 || *octet == 0xFF,
+        _ => false,
+    }
 }

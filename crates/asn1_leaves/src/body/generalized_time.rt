@@ -9,7 +9,7 @@ ghost use Rattle.asn1_headers.specs.Fault.{OutOfMemoryOr, fault_of};
 
 use crate::body::moment::{check_year, moment_from, nanosecond, pair};
 use asn1_headers::error::{ASN1DecodeErr, ASN1EncodeErr};
-use asn1_numbers::sink::Sink;
+use asn1_numbers::sink::{Comparison, Sink};
 use jiff::civil::DateTime;
 use std::alloc::{AllocError, Global};
 
@@ -261,4 +261,35 @@ pub fn is_faithful(d: &DateTime) -> bool
     ensures { IsTrue result ↔ IsFaithfulGeneralizedTime (moment_of d.now) }
 {
     d.year() >= 0
+}
+
+// Whether contents octets are found to be those that are written of what they mean. Without a fraction there is no
+// other form.
+pub fn are_canonical(contents: &[u8]) -> bool
+    ensures { IsTrue result → (m : Moment) → GeneralizedTimeContents m contents.now
+        → contents.now ≡ generalized_time_contents m }
+{
+    if contents.len() == 15 {
+        return true;
+    }
+    match moment(contents) {
+        Some(d) => are_written(&d, contents),
+        None => false,
+    }
+}
+
+// Whether the octets are those that are written of the moment.
+fn are_written(d: &DateTime, octets: &[u8]) -> bool
+    ensures { IsTrue result → octets.now ≡ generalized_time_contents (moment_of d.now) }
+{
+    match size(d) {
+        Ok(size) if size == octets.len() => {}
+        _ => return false,
+    }
+    let mut comparison = Comparison {
+        rest: octets,
+        same: true,
+    };
+    put(d, &mut comparison);
+    comparison.same
 }

@@ -1,10 +1,10 @@
 // Contents octets of an INTEGER (X.690 8.3).
-ghost use Rattle.std.specs.Prelude.{◌≡◌, ◌≤◌, length, IfOk, IfErr};
+ghost use Rattle.std.specs.Prelude.{◌≡◌, ◌≤◌, ℤ, length, IfOk, IfErr, IsTrue};
 ghost use Rattle.asn1_leaves.specs.Contents.Integer.{IntegerContents, integer_contents};
 ghost use Rattle.asn1_headers.specs.declared.error.ASN1DecodeErr.TheVariants.{OutOfMemory};
 
 use asn1_headers::error::ASN1DecodeErr;
-use asn1_numbers::number::big_int::BigInt;
+use asn1_numbers::number::big_int::{BigInt, needless_octets};
 use asn1_numbers::sink::Sink;
 use std::alloc::Global;
 
@@ -27,4 +27,12 @@ pub fn put<S: Sink>(n: &BigInt, out: &mut S)
     ensures { S.puts out.old (integer_contents n.now) out.new }
 {
     out.put(n.octets());
+}
+
+// Whether contents octets are found to be those that are written of what they mean.
+pub fn are_canonical(contents: &[u8]) -> bool
+    ensures { IsTrue result → (n : ℤ) → IntegerContents n contents.now
+        → contents.now ≡ integer_contents n }
+{
+    !contents.is_empty() && needless_octets(contents) == 0
 }

@@ -1,70 +1,47 @@
-// A quick look at whether blocks stand in their canonical octets. Of each block, in the order of the octets, only its
-// own are looked at, with the length that they announce: no sizes are added up.
-ghost use Rattle.std.specs.Prelude.{◌≡◌, ℕ, ◌++◌, ◌∷◌, List, length, IfErr, IfOk, IfSome, IsTrue};
-ghost use Rattle.simple_asn1.specs.Canonical.{all_canonical};
-ghost use Rattle.asn1_blocks.specs.Grammar.{IsDocument};
-ghost use Rattle.asn1_headers.specs.Header.{shortest_length};
-ghost use Rattle.simple_asn1.specs.Inner.InPlaceWalk.{AreOwnCanonical, BeginWithOwn};
-ghost use Rattle.asn1_blocks.specs.View.{view, views};
-ghost use Rattle.simple_asn1.specs.Inner.WriteWalk.{identifier_of, own_contents};
+// A quick look at whether octets that were read are canonical. It goes over the octets, header after header, and not
+// over the blocks: in a SEQUENCE or SET without a look at where it ends, since what was read has each block end where
+// the length before it says.
+ghost use Rattle.std.specs.Prelude.{◌≡◌, ◌++◌, ◌∷◌, ◌<◌, ◌^◌, false, length, IfErr, IfOk, IfSome, IsTrue};
+ghost use Rattle.asn1_headers.specs.Header.{shortest_identifier, shortest_length};
+ghost use Rattle.simple_asn1.specs.Inner.InPlace.{AreCanonical, AreCanonicalContents, LeavesBoth};
+ghost use Rattle.asn1_headers.specs.declared.header.ASN1Class.TheVariants.{Universal};
 ghost use Rattle.asn1_headers.specs.declared.error.ASN1DecodeErr.TheVariants.{OutOfMemory};
 
-use crate::write::measure::identifier_size_of;
-use crate::write::own::{own_size, put_own};
-use crate::write::put::{known_octet, put_identifier_of};
-use asn1_blocks::block::ASN1Block;
-use asn1_blocks::walk::TreeWalk;
+use asn1_blocks::body::is_known;
 use asn1_headers::error::ASN1DecodeErr;
-use asn1_headers::header::{length_at, length_size, put_length};
-use asn1_leaves::body::object_identifier;
-use asn1_numbers::sink::Comparison;
+use asn1_headers::header::{
+    ASN1Class, HeaderCount, decode_tag, identifier_size, length_at, length_size,
+};
+use asn1_leaves::body::{bit_string, boolean, generalized_time, integer, object_identifier};
+use asn1_numbers::number::big_uint::BigUint;
 use std::alloc::Global;
 
-// What follows the octet, where it is at the front.
-#[inline(always)]
-fn after_octet(octet: u8, octets: &[u8]) -> Option<&[u8]>
-    ensures { IfSome result (λ rest. octets.now ≡ octet ∷ rest.now) }
+// The tag, where its identifier octets are the shortest, and what follows them.
+fn after_identifier(alloc: Global, octets: &[u8]) -> Option<((BigUint, bool, ASN1Class), &[u8])>
+    ensures { IfSome result (λ x. octets.now
+        ≡ shortest_identifier x.0.2 x.0.1 x.0.0 ++ x.1.now) }
 {
-    match octets.split_first() {
-        Some((first, rest)) if *first == octet => Some(rest),
-        _ => None,
-    }
-}
-
-// What follows the identifier octets of a block whose tag may have more than one.
-fn after_tag<'a>(b: &ASN1Block, octets: &'a [u8]) -> Option<&'a [u8]>
-    ensures { IfSome result (λ rest. octets.now ≡ identifier_of (view b.now) ++ rest.now) }
-{
-    if identifier_size_of(b) > octets.len() {
+    let mut size = 0;
+    let (tag, constructed, class) = match decode_tag(
+        alloc,
+        octets,
+        &mut size,
+        &mut HeaderCount::new(),
+    ) {
+        Ok(tag) => tag,
+        Err(_) => return None,
+    };
+    if identifier_size(class, constructed, &tag) != size {
         return None;
     }
-    let mut comparison = Comparison {
-        rest: octets,
-        same: true,
-    };
-    put_identifier_of(b, &mut comparison);
-    if comparison.same {
-        Some(comparison.rest)
-    } else {
-        None
-    }
-}
-
-// What follows the identifier octets of the block.
-#[inline(always)]
-fn after_identifier<'a>(b: &ASN1Block, octets: &'a [u8]) -> Option<&'a [u8]>
-    ensures { IfSome result (λ rest. octets.now ≡ identifier_of (view b.now) ++ rest.now) }
-{
-    match b {
-        ASN1Block::Explicit(_, _, _, _) | ASN1Block::Unknown(_, _, _, _, _) => after_tag(b, octets),
-        _ => after_octet(known_octet(b), octets),
-    }
+    let (_, rest) = octets.split_at(size);
+    Some(((tag, constructed, class), rest))
 }
 
 // The length, where its octets are the shortest, and what follows them.
 #[inline(always)]
 fn after_length(octets: &[u8]) -> Option<(usize, &[u8])>
-    ensures { IfSome result (λ x. octets.now ≡ shortest_length x.0 ++ x.1.now) }
+    ensures { IfSome result (λ x. (x.0 < 2 ^ 64) × (octets.now ≡ shortest_length x.0 ++ x.1.now)) }
 {
     let Some((first, rest)) = octets.split_first() else {
         return None;
@@ -76,115 +53,144 @@ fn after_length(octets: &[u8]) -> Option<(usize, &[u8])>
 }
 
 fn after_long_length(octets: &[u8]) -> Option<(usize, &[u8])>
-    ensures { IfSome result (λ x. octets.now ≡ shortest_length x.0 ++ x.1.now) }
+    ensures { IfSome result (λ x. (x.0 < 2 ^ 64) × (octets.now ≡ shortest_length x.0 ++ x.1.now)) }
 {
-    let length = match length_at(octets) {
-        Ok((length, _)) => length,
+    let (length, size) = match length_at(octets) {
+        Ok(found) => found,
         Err(_) => return None,
     };
-    if length_size(length) > octets.len() {
+    // 80 is as short as 00
+    if length < 128 || length_size(length) != size {
         return None;
     }
-    let mut comparison = Comparison {
-        rest: octets,
-        same: true,
-    };
-    put_length(length, &mut comparison);
-    if comparison.same {
-        Some((length, comparison.rest))
-    } else {
-        None
-    }
+    let (_, rest) = octets.split_at(size);
+    Some((length, rest))
 }
 
-// Whether the octets are the contents octets that are written of the block itself.
-fn are_written(b: &ASN1Block, own: &[u8]) -> bool
-    ensures { IsTrue result → own.now ≡ own_contents (view b.now) }
-{
-    match own_size(b) {
-        Ok(size) if size == own.len() => {}
-        _ => return false,
-    }
-    let mut comparison = Comparison {
-        rest: own,
-        same: true,
-    };
-    put_own(b, &mut comparison);
-    comparison.same
-}
-
-// Whether the contents octets that are the block's own are found to be canonical. Those of strings have no other form.
+// The contents octets, where the length octets before them are the shortest, and what follows them.
 #[inline(always)]
-fn are_own_canonical(b: &ASN1Block, own: &[u8]) -> bool
-    ensures { IsTrue result → AreOwnCanonical (view b.now) own.now }
+fn contents_at(octets: &[u8]) -> Option<(&[u8], &[u8])>
+    ensures { IfSome result (λ x. octets.now
+        ≡ shortest_length (length x.0.now) ++ (x.0.now ++ x.1.now)) }
 {
-    match b {
-        ASN1Block::ObjectIdentifier(_, _) => object_identifier::are_shortest(own),
-        ASN1Block::OctetString(_, _)
-        | ASN1Block::Unknown(_, _, _, _, _)
-        | ASN1Block::UTF8String(_, _)
-        | ASN1Block::PrintableString(_, _)
-        | ASN1Block::TeletexString(_, _)
-        | ASN1Block::IA5String(_, _)
-        | ASN1Block::UniversalString(_, _)
-        | ASN1Block::BMPString(_, _) => true,
-        _ => are_written(b, own),
-    }
-}
-
-// What follows the contents octets that are the block's own, where they are so many.
-#[inline(always)]
-fn after_contents<'a>(b: &ASN1Block, announced: usize, octets: &'a [u8]) -> Option<&'a [u8]>
-    ensures { IfSome result (λ rest. (own : List ℕ) × (announced ≡ length own)
-        × (octets.now ≡ own ++ rest.now) × AreOwnCanonical (view b.now) own) }
-{
-    if announced > octets.len() {
-        return None;
-    }
-    let (own, rest) = octets.split_at(announced);
-    if are_own_canonical(b, own) {
-        Some(rest)
-    } else {
-        None
-    }
-}
-
-// What follows the block's own octets.
-#[inline(always)]
-fn after_own<'a>(b: &ASN1Block, octets: &'a [u8]) -> Option<&'a [u8]>
-    ensures { IfSome result (λ rest. BeginWithOwn (view b.now) octets.now rest.now) }
-{
-    let Some(after_identifier) = after_identifier(b, octets) else {
+    let Some((announced, rest)) = after_length(octets) else {
         return None;
     };
-    let Some((announced, contents)) = after_length(after_identifier) else {
+    if announced > rest.len() {
         return None;
-    };
-    match b {
-        ASN1Block::Sequence(_, _) | ASN1Block::Set(_, _) | ASN1Block::Explicit(_, _, _, _) => {
-            Some(contents)
-        }
-        _ => after_contents(b, announced, contents),
+    }
+    Some(rest.split_at(announced))
+}
+
+// Whether contents octets behind this identifier octet are found to be canonical. Those of strings of characters, of an
+// OCTET STRING and of a UTCTime have no other form, and those of other tags stay as they came.
+#[inline(always)]
+fn are_contents_canonical(identifier: u8, contents: &[u8]) -> bool
+    ensures { IsTrue result → AreCanonicalContents Universal false identifier contents.now }
+{
+    match identifier {
+        0x01 => boolean::are_canonical(contents),
+        0x02 => integer::are_canonical(contents),
+        0x03 => bit_string::are_canonical(contents),
+        0x05 => contents.is_empty(),
+        0x06 => object_identifier::are_shortest(contents),
+        0x10 | 0x11 => false,
+        0x18 => generalized_time::are_canonical(contents),
+        _ => true,
     }
 }
 
-// Whether the blocks of a document are found to stand in their canonical octets: `false` says nothing.
-pub(crate) fn are_canonical_in_place(
-    alloc: Global,
-    i: &[u8],
-    blocks: &[ASN1Block],
-) -> Result<bool, ASN1DecodeErr>
-    requires { IsDocument i.now (views blocks.now) }
-    ensures canonical { IfOk result (λ yes. IsTrue yes → i.now ≡ all_canonical (views blocks.now)) }
+// Where octets begin with a header in its shortest form: octets, maybe none, that stand inside, and those that come
+// after. Those before are canonical if both are.
+#[inline(always)]
+fn past_header<'a>(alloc: Global, octets: &'a [u8]) -> Option<(&'a [u8], &'a [u8])>
+    ensures { IfSome result (λ x. LeavesBoth octets.now x.0.now x.1.now) }
+{
+    let Some((identifier, rest)) = octets.split_first() else {
+        return None;
+    };
+    match *identifier {
+        // a SEQUENCE, a SET
+        0x30 | 0x31 => match after_length(rest) {
+            Some((_, contents)) => Some((&[], contents)),
+            None => None,
+        },
+        0x01..=0x1E => past_leaf(octets, *identifier, rest),
+        _ => past_other(alloc, octets),
+    }
+}
+
+// Past an encoding whose identifier octet, which stands before the rest, is of class Universal and primitive.
+#[inline(always)]
+fn past_leaf<'a>(octets: &'a [u8], identifier: u8, rest: &'a [u8]) -> Option<(&'a [u8], &'a [u8])>
+    requires first { octets.now ≡ identifier ∷ rest.now }
+    requires low { identifier < 31 }
+    ensures { IfSome result (λ x. LeavesBoth octets.now x.0.now x.1.now) }
+{
+    match contents_at(rest) {
+        Some((own, after)) if are_contents_canonical(identifier, own) => Some((&[], after)),
+        _ => None,
+    }
+}
+
+// Past an encoding of another class, or with a longer tag. A constructed one of another class may hold a block.
+fn past_other<'a>(alloc: Global, octets: &'a [u8]) -> Option<(&'a [u8], &'a [u8])>
+    ensures { IfSome result (λ x. LeavesBoth octets.now x.0.now x.1.now) }
+{
+    let Some(((tag, constructed, class), rest)) = after_identifier(alloc, octets) else {
+        return None;
+    };
+    past_tag(octets, class, constructed, &tag, rest)
+}
+
+// After these identifier octets.
+#[inline(always)]
+fn past_tag<'a>(
+    octets: &'a [u8],
+    class: ASN1Class,
+    constructed: bool,
+    tag: &BigUint,
+    rest: &'a [u8],
+) -> Option<(&'a [u8], &'a [u8])>
+    requires { octets.now ≡ shortest_identifier class constructed tag.now ++ rest.now }
+    ensures { IfSome result (λ x. LeavesBoth octets.now x.0.now x.1.now) }
+{
+    let Some((own, after)) = contents_at(rest) else {
+        return None;
+    };
+    match class {
+        ASN1Class::Universal if is_known(tag) => None,
+        ASN1Class::Universal => Some((&[], after)),
+        _ if constructed => Some((own, after)),
+        _ => Some((&[], after)),
+    }
+}
+
+// Whether the octets of a document are found to be canonical: `false` says nothing. What stands inside an encoding of
+// another class may be no blocks, and so is gone over by itself.
+pub(crate) fn are_canonical_in_place(alloc: Global, i: &[u8]) -> Result<bool, ASN1DecodeErr>
+    ensures canonical { IfOk result (λ yes. IsTrue yes → AreCanonical i.now) }
     ensures refused { IfErr result (λ e. e ≡ OutOfMemory) }
 {
     let mut rest = i;
-    let mut walk = TreeWalk::over(alloc, blocks);
-    while let Some(block) = walk.next()? {
-        let Some(after) = after_own(block, rest) else {
-            return Ok(false);
-        };
-        rest = after;
+    // what comes after the rest, the next of it last
+    let mut outer = Vec::new(alloc);
+    'headers: loop {
+        if rest.is_empty() {
+            match outer.pop() {
+                Some(next) => rest = next,
+                None => return Ok(true),
+            }
+        } else {
+            let Some((inside, after)) = past_header(alloc, rest) else {
+                return Ok(false);
+            };
+            if inside.is_empty() {
+                rest = after;
+            } else {
+                outer.push(after)?;
+                rest = inside;
+            }
+        }
     }
-    Ok(true)
 }

@@ -107,7 +107,7 @@ fn first_not_canonical(
     ensures refused { IfErr result (λ e. e ≡ OutOfMemory) }
 {
     // nearly always found so, and then no block is measured
-    if are_canonical_in_place(alloc, i, blocks)? {
+    if are_canonical_in_place(alloc, i)? {
         return Ok(None);
     }
     if are_canonical(alloc, blocks, i)? {

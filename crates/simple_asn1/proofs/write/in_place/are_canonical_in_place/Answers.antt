@@ -1,43 +1,38 @@
-use Rattle.std.proofs.Common.{◌∙◌, ap, arith, subst, sym}
-use Rattle.asn1_blocks.specs.Inner.TreeOrder.{IsNext, ahead}
-use Rattle.simple_asn1.specs.Canonical.{all_canonical}
-use Rattle.asn1_blocks.specs.Grammar.{EncodesAll}
-use Rattle.asn1_blocks.specs.View.{view, views}
-use Rattle.simple_asn1.proofs.InPlace.{Decides, begun, own_left, past_own}
-use Rattle.asn1_blocks.proofs.TreeOrders.{fewer_ahead}
+use Rattle.std.proofs.Common.{◌≡◌, ◌++◌, ◌∷◌, [], ℕ, List, Bor, Some, sym, subst, arith}
+use Rattle.std.specs.Prelude.{All}
+use Rattle.std.proofs.lemmas.Grind.{common_steps}
+use Rattle.std.proofs.lemmas.List.Elements.{All-nil, All-pop, All-push}
+use Rattle.simple_asn1.specs.Inner.InPlace.{AreCanonical, LeavesBoth}
+use Rattle.simple_asn1.proofs.InPlace.{none_canonical}
 use Rattle.simple_asn1.proofs.write.in_place.are_canonical_in_place.Goals as goal
 
-pub loop-walk-smaller : goal.loop-walk-smaller
-loop-walk-smaller c =
-    let n : IsNext c.in-Some.block.now (ahead c.loop-walk.walk) (ahead c.next.new.self) = rw c.in-Some.is at c.in_ok-block.ensures in
-    omega (arith, fewer_ahead c.in-Some.block.now (ahead c.loop-walk.walk) (ahead c.next.new.self) n)
+abbrev Waits : Bor (List ℕ) → Type 0
+Waits x = AreCanonical x.now
 
-pub loop-walk-preserved : goal.loop-walk-preserved
-loop-walk-preserved c =
-    let before = ahead c.loop-walk.walk in
-    let after = ahead c.next.new.self in
-    let n : IsNext c.in-Some.block.now before after = rw c.in-Some.is at c.in_ok-block.ensures in
-    let (o, left, whole) = c.loop-walk.invariant.decides in
-    let own = c.in-Some-after_own.ensures in
-    let rest = c.in-Some-after_own.after.now in
-    let few = c.loop-walk.invariant.few in
-    let (p, next, goes) = past_own o c.loop-walk.rest.now rest c.in-Some.block.now before after few left n own in
-    record {
-      few = omega (arith, few, own_left (view c.in-Some.block.now) c.loop-walk.rest.now rest own);
-      decides = (p, next, λ g. whole (goes g));
-    }
+-- what all that wait are, those before the last and the last are
+pushed_all : (xs ys : List (Bor (List ℕ))) (x : Bor (List ℕ)) → ys ≡ xs ++ x ∷ [] → All Waits ys → All Waits xs × Waits x
+pushed_all xs ys x e all = All-pop Waits ys xs (Some x) e all
 
-pub loop-walk-init : goal.loop-walk-init
-loop-walk-init c =
-    let i = c.args.i.now in
-    let all = views c.args.blocks.now in
-    record {
-      few = omega arith;
-      decides = subst (λ z. Decides i i (views z) (all_canonical all)) (sym c.over-walk.ensures) (begun i all c.requires);
-    }
+pub headers-preserved-in-Some : goal.headers-preserved-in-Some
+headers-preserved-in-Some c next outer =
+    let left = c.pop.new.self.items in
+    let items : c.headers.outer.items ≡ left ++ c.in-Some.next ∷ [] = grind (arith, common_steps) in
+    c.headers.invariant (none_canonical c.headers.rest.now (grind (arith, common_steps)))
+    (subst (All Waits) (sym items) (All-push Waits left c.in-Some.next outer next))
 
-pub returns-clause-canonical : goal.returns-clause-canonical
-returns-clause-canonical c said =
-    let (o, left, whole) = c.loop-walk.invariant.decides in
-    let e = ap views (rw c.in_default.is at c.in_ok-block.ensures) in
-    whole (subst (EncodesAll o c.loop-walk.rest.now) e left ∙ sym (ap all_canonical e))
+pub returns-in-None-clause-canonical : goal.returns-in-None-clause-canonical
+returns-in-None-clause-canonical c said =
+    let items : c.headers.outer.items ≡ [] = grind (arith, common_steps) in
+    c.headers.invariant (none_canonical c.headers.rest.now (grind (arith, common_steps))) (subst (All Waits) (sym items) (All-nil Waits))
+
+pub headers-preserved-then-is_empty-2 : goal.headers-preserved-then-is_empty-2
+headers-preserved-then-is_empty-2 c after outer =
+    let leaves : LeavesBoth c.headers.rest.now c.in-Some-past_header.inside.now c.in-Some-past_header.after.now = c.in-Some-past_header.ensures in
+    c.headers.invariant (leaves.canonical (none_canonical c.in-Some-past_header.inside.now (grind (arith, common_steps))) after) outer
+
+pub headers-preserved : goal.headers-preserved
+headers-preserved c inside outer =
+    let waits = c.in-Some-past_header.after in
+    let leaves : LeavesBoth c.headers.rest.now c.in-Some-past_header.inside.now waits.now = c.in-Some-past_header.ensures in
+    let pushed = pushed_all c.headers.outer.items c.push.new.self.items waits c.in_ok-push.ensures.items outer in
+    c.headers.invariant (leaves.canonical inside pushed.1) pushed.0

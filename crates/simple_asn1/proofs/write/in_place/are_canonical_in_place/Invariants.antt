@@ -1,17 +1,13 @@
-use Rattle.std.proofs.Common.{◌<◌, ◌^◌, length}
-use Rattle.simple_asn1.specs.Canonical.{all_canonical}
-use Rattle.asn1_blocks.specs.HeadersBegun.{all_blocks_in}
-use Rattle.asn1_blocks.specs.Inner.TreeOrder.{ahead}
-use Rattle.asn1_blocks.specs.View.{views}
-use Rattle.simple_asn1.proofs.InPlace.{Decides}
+use Rattle.std.proofs.Common.{ℕ, ◌+◌, List, Bor, length}
+use Rattle.std.specs.Prelude.{All}
+use Rattle.std.specs.List.{sum_by}
+use Rattle.simple_asn1.specs.Inner.InPlace.{AreCanonical}
 use Rattle.simple_asn1.proofs.write.in_place.are_canonical_in_place.Given as goal
 
--- the blocks ahead are in the rest, which decides of all
-abbrev pub invariant-loop-walk : goal.invariant-loop-walk
-invariant-loop-walk l = record {
-  few : length l.rest < 2 ^ 64;
-  decides : Decides l.fn.i l.rest (views (ahead l.walk)) (all_canonical (views l.fn.blocks));
-}
+-- what is left decides of all
+abbrev pub invariant-headers : goal.invariant-headers
+invariant-headers l = AreCanonical l.rest → All (λ (x : Bor (List ℕ)). AreCanonical x.now) l.outer.items → AreCanonical l.i
 
-abbrev pub decreases-loop-walk : goal.decreases-loop-walk
-decreases-loop-walk l = all_blocks_in (views (ahead l.walk))
+-- octets that wait count one more than they are, for the turn that takes them up
+abbrev pub decreases-headers : goal.decreases-headers
+decreases-headers l = length l.rest + sum_by (λ (x : Bor (List ℕ)). 1 + length x.now) l.outer.items
