@@ -1,8 +1,8 @@
 // Contents octets of blocks: which module reads and puts those of a tag. There is one for each kind that has a rule.
-ghost use Rattle.std.specs.Prelude.{◌≡◌, ◌↔◌, ℕ, List, false, None, Some, IfOk, IfErr, IsTrue, MatchOption};
+ghost use Rattle.std.specs.Prelude.{◌≡◌, ◌↔◌, ℕ, List, false, None, Some, IfOk, IfErr, IsTrue, MatchOption, OnOk};
 ghost use Rattle.asn1_headers.specs.declared.header.ASN1Class.TheVariants.{Universal};
 ghost use Rattle.asn1_blocks.specs.Contents.{LeafFault, is_known_tag, is_leaf_tag};
-ghost use Rattle.asn1_blocks.specs.Inner.LeafBlocks.{IsLeafOf};
+ghost use Rattle.asn1_blocks.specs.Inner.LeafBlocks.{IsLeafOf, IsNoLeafOrMeant, IsSingleAt};
 ghost use Rattle.asn1_blocks.specs.Inner.FaithfulWalk.{IsFaithfulIfLeaf};
 ghost use Rattle.asn1_headers.specs.Fault.{OutOfMemoryOr};
 ghost use Rattle.asn1_blocks.specs.Grammar.{ContentsFault, Encodes};
@@ -82,6 +82,58 @@ fn universal_leaf(
         _ => return Ok(None),
     };
     Ok(Some(block))
+}
+
+// Whether the contents octets of an encoding that are not read as blocks are those of a block, of which none is made.
+pub fn check_contents(
+    alloc: Global,
+    header: &Header,
+    contents: &[u8],
+) -> Result<(), ASN1DecodeErr>
+    requires closed { IsReadInside header.now.class header.now.constructed header.now.tag → ⊥ }
+    ensures encoded { OnOk result ((offset : ℕ) (octets : List ℕ) (h : ℕ)
+        → Encoding octets header.now.class header.now.constructed header.now.tag contents.now h
+        → IsSingleAt offset octets) }
+    ensures refused { IfErr result (OutOfMemoryOr (λ e.
+        (header.now.class ≡ Universal) × ContentsFault header.now.tag contents.now e)) }
+{
+    match header.class {
+        ASN1Class::Universal => check_leaf(alloc, &header.tag, contents),
+        _ => Ok(()),
+    }
+}
+
+// Whether contents octets of class Universal mean a leaf, where their tag is that of one.
+fn check_leaf(alloc: Global, tag: &BigUint, contents: &[u8]) -> Result<(), ASN1DecodeErr>
+    ensures found { OnOk result (IsNoLeafOrMeant tag.now contents.now) }
+    ensures refused { IfErr result (OutOfMemoryOr (LeafFault tag.now contents.now)) }
+{
+    match tag.to_u64() {
+        Some(1) => {
+            boolean::read(contents)?;
+            Ok(())
+        }
+        Some(2) => Ok(()),
+        Some(3) => bit_string::check(contents),
+        Some(4) => Ok(()),
+        Some(5) => Ok(()),
+        Some(6) => oid::check(alloc, contents),
+        Some(12) => text::check(TextForm::Utf8, contents),
+        Some(19) => text::check(TextForm::Printable, contents),
+        Some(20) => text::check(TextForm::Utf8, contents),
+        Some(22) => Ok(()),
+        Some(23) => {
+            utc_time::read(alloc, contents)?;
+            Ok(())
+        }
+        Some(24) => {
+            generalized_time::read(alloc, contents)?;
+            Ok(())
+        }
+        Some(28) => text::check(TextForm::Utf8, contents),
+        Some(30) => text::check(TextForm::Utf8, contents),
+        _ => Ok(()),
+    }
 }
 
 fn unknown_block(

@@ -29,7 +29,7 @@ const COPIED_AT_ONCE: usize = 256;
 
 // What the contents octets of a frame are.
 #[derive(Drop)]
-enum FrameKind {
+pub enum FrameKind {
     // The whole document.
     Whole,
     // Those of a SEQUENCE or SET at the offset.
@@ -39,10 +39,10 @@ enum FrameKind {
 
 // Contents octets, and where they begin and end in the document.
 #[derive(Drop)]
-struct Extent {
-    kind: FrameKind,
-    start: usize,
-    end: usize,
+pub struct Extent {
+    pub kind: FrameKind,
+    pub start: usize,
+    pub end: usize,
 }
 
 // Contents octets that are being read, and their blocks: the first of them, and how many more are owed. These stand
@@ -71,7 +71,7 @@ struct Reader {
 
 // What contents octets are read as: blocks in a frame, or a leaf with this header.
 #[derive(Drop)]
-enum ReadAs {
+pub enum ReadAs {
     Blocks(FrameKind),
     Leaf(Header),
 }
@@ -397,7 +397,7 @@ fn read_next(
 
 // What the contents octets of an encoding at the offset are read as.
 #[inline(always)]
-fn read_as(header: Header, offset: usize) -> ReadAs
+pub fn read_as(header: Header, offset: usize) -> ReadAs
     ensures { IsReadAs header offset result }
 {
     match header.class {

@@ -4,11 +4,11 @@ use Rattle.asn1_c.specs.Status.{done, no_room}
 use Rattle.asn1_c.specs.declared.record.Outcome.{Outcome}
 
 -- the octets are at the front, and those behind are as before
-abbrev pub AreFront : List ℕ → List ℕ → List ℕ → Type 0
+abbrev pub AreFront : {A : Type 0} → List A → List A → List A → Type 0
 AreFront octets before after = after ≡ octets ++ drop (length octets) before
 
 -- the octets were put at the front; or there is no room for so many, and nothing was written
-abbrev pub ArePut : List ℕ → List ℕ → List ℕ → Outcome → Type 0
+abbrev pub ArePut : {A : Type 0} → List A → List A → List A → Outcome → Type 0
 ArePut octets before after o =
     (o.count ≡ length octets)
     × (((o.status ≡ done) × AreFront octets before after)

@@ -58,24 +58,24 @@ document_ended octets r n w =
       begun = d.begun;
     }
 
-count_trees : (ts : List (Tree ℕ)) → tree_count (trees_of ts) ≡ length ts
+pub count_trees : (ts : List (Tree ℕ)) → tree_count (trees_of ts) ≡ length ts
 count_trees [] = refl
 count_trees (t ∷ ts) = ap suc (count_trees ts)
 
 -- the encoding around one tree, and around any other number
-one_means : (a : owed.Attempt) (contents : List ℕ) (ts : List (Tree ℕ)) (t : Tree ℕ) → ts ≡ t ∷ [] → Means a contents ts (around a t)
+pub one_means : (a : owed.Attempt) (contents : List ℕ) (ts : List (Tree ℕ)) (t : Tree ℕ) → ts ≡ t ∷ [] → Means a contents ts (around a t)
 one_means a contents ts t is all h ne F s =
     let w = subst (λ z. EncodesAll (a.offset + h) contents (trees_of z)) is s in
     record { contents = contents; header = h; encoding = F; place = refl; other = ne; means = only_tree (a.offset + h) contents t w }
 
-other_means : (octets : List ℕ) (a : owed.Attempt) (s e : ℕ) (ts : List (Tree ℕ)) → (length ts ≡ 1 → ⊥)
+pub other_means : (octets : List ℕ) (a : owed.Attempt) (s e : ℕ) (ts : List (Tree ℕ)) → (length ts ≡ 1 → ⊥)
     → Means a (slice_range octets s e) ts (as_it_came octets a s e)
 other_means octets a s e ts many all h ne F r =
     let no_block : IsBlock (slice_range octets s e) → ⊥ =
     λ z. many (sym (count_trees ts) ∙ one_block (a.offset + h) (slice_range octets s e) (trees_of ts) r z) in
     record { header = h; encoding = F; place = refl; stays = inr (ne, λ z. no_block z.1) }
 
-single : (ts : List (Tree ℕ)) → 1 ≡ length ts → (t : Tree ℕ) × (ts ≡ t ∷ [])
+pub single : (ts : List (Tree ℕ)) → 1 ≡ length ts → (t : Tree ℕ) × (ts ≡ t ∷ [])
 single [] e = absurd (omega (arith, e))
 single (t ∷ []) e = (t, refl)
 single (t ∷ u ∷ ts) e = absurd (omega (arith, e))

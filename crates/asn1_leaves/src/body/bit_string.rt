@@ -1,7 +1,7 @@
 // Contents octets of a BIT STRING (X.690 8.6).
 ghost use Rattle.std.specs.Prelude.{◌≡◌, ◌↔◌, ◌≤◌, ℕ, List, length, None, Some, IfOk, IfErr, IsTrue, OnOk};
 ghost use Rattle.asn1_leaves.specs.Contents.BitString.{BitStringContents, BitStringFault, IsFaithfulBitString, bit_string_contents, bit_string_write_fault};
-ghost use Rattle.asn1_headers.specs.Fault.{OutOfMemoryOr};
+ghost use Rattle.asn1_headers.specs.Fault.{OutOfMemoryOr, fault_of};
 
 use asn1_headers::error::{ASN1DecodeErr, ASN1EncodeErr};
 use asn1_numbers::octets::copy_of;
@@ -24,6 +24,24 @@ pub fn read(alloc: Global, contents: &[u8]) -> Result<(usize, Vec<u8>), ASN1Deco
         return Err(ASN1DecodeErr::InvalidBitStringLength(room as isize - unused as isize));
     }
     Ok((room - unused, copy_of(alloc, octets)?))
+}
+
+// Whether the contents octets mean bits, without a copy of them.
+pub fn check(contents: &[u8]) -> Result<(), ASN1DecodeErr>
+    ensures found { OnOk result ((n : ℕ) × (v : List ℕ) × BitStringContents n v contents.now) }
+    ensures refused { IfErr result (λ e. BitStringFault contents.now (fault_of e)) }
+{
+    let Some((unused, octets)) = contents.split_first() else {
+        return Ok(());
+    };
+    let Some(room) = octets.len().checked_mul(8) else {
+        return Err(ASN1DecodeErr::LengthTooLarge(contents.len()));
+    };
+    let unused = *unused as usize;
+    if room < unused {
+        return Err(ASN1DecodeErr::InvalidBitStringLength(room as isize - unused as isize));
+    }
+    Ok(())
 }
 
 // The number of octets that are written.

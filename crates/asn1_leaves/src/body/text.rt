@@ -3,7 +3,7 @@ ghost use Rattle.std.specs.Prelude.{◌≡◌, ◌↔◌, ◌+◌, ◌≤◌, �
 ghost use Rattle.std.specs.List.{list_all};
 ghost use Rattle.std.specs.Str.{IsAscii, all_scalars, chars};
 ghost use Rattle.asn1_leaves.specs.Contents.Text.{HasCharacters, TextContents, TextFault, is_printable, octet_write_fault, text_contents, text_write_fault};
-ghost use Rattle.asn1_headers.specs.Fault.{OutOfMemoryOr};
+ghost use Rattle.asn1_headers.specs.Fault.{OutOfMemoryOr, fault_of};
 ghost use Rattle.asn1_leaves.specs.declared.body.text.TextForm.TheVariants.{Printable, Utf8};
 ghost use Rattle.asn1_headers.specs.declared.error.ASN1DecodeErr.TheVariants.{OutOfMemory};
 
@@ -27,6 +27,39 @@ pub fn read(alloc: Global, form: TextForm, contents: &[u8]) -> Result<String, AS
         TextForm::Utf8 => read_utf8(alloc, contents),
         TextForm::Printable => read_printable(alloc, contents),
         TextForm::Octets => Ok(read_octets(alloc, contents)?),
+    }
+}
+
+// Whether the contents octets are characters, without making the text.
+pub fn check(form: TextForm, contents: &[u8]) -> Result<(), ASN1DecodeErr>
+    ensures found { OnOk result ((cs : List ℕ) × TextContents form cs contents.now) }
+    ensures refused { IfErr result (λ e. TextFault form contents.now (fault_of e)) }
+{
+    match form {
+        TextForm::Utf8 => check_utf8(contents),
+        TextForm::Printable => check_printable(contents),
+        TextForm::Octets => Ok(()),
+    }
+}
+
+fn check_utf8(contents: &[u8]) -> Result<(), ASN1DecodeErr>
+    ensures found { OnOk result ((cs : List ℕ) × TextContents Utf8 cs contents.now) }
+    ensures refused { IfErr result (λ e. TextFault Utf8 contents.now (fault_of e)) }
+{
+    match str::from_utf8(contents) {
+        Ok(_) => Ok(()),
+        Err(e) => Err(ASN1DecodeErr::UTF8DecodeFailure(e)),
+    }
+}
+
+fn check_printable(contents: &[u8]) -> Result<(), ASN1DecodeErr>
+    ensures found { OnOk result ((cs : List ℕ) × TextContents Printable cs contents.now) }
+    ensures refused { IfErr result (λ e. TextFault Printable contents.now (fault_of e)) }
+{
+    if are_printable(contents) {
+        Ok(())
+    } else {
+        Err(ASN1DecodeErr::PrintableStringDecodeFailure)
     }
 }
 

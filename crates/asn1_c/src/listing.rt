@@ -1,0 +1,329 @@
+// Documents into records, straight from their octets: one loop over the frames that are open, as `asn1_blocks` reads
+// blocks, of which none is made.
+ghost use Rattle.std.specs.Prelude.{◌≡◌, ◌≢◌, ◌++◌, ◌^◌, ◌<◌, ◌≤◌, ◌∷◌, [], ℕ, IfErr, IfOk, OnOk, is_some, length, reverse, take, suc};
+ghost use Rattle.asn1_blocks.specs.Inner.ReaderSteps.{attempt_of};
+ghost use Rattle.simple_asn1.specs.BlockParts.{all_in_order};
+ghost use Rattle.simple_asn1.specs.Fault.{OutOfMemoryOr, fault_of};
+ghost use Rattle.simple_asn1.specs.FaultPlace.{FirstFaultAt};
+ghost use Rattle.simple_asn1.specs.Grammar.{IsDocument};
+ghost use Rattle.simple_asn1.specs.Tree.{Trees};
+ghost use Rattle.asn1_headers.specs.declared.error.ASN1DecodeErr.TheVariants.{OutOfMemory};
+ghost use Rattle.asn1_blocks.specs.Inner.HeaderPlaces.{HeaderFound};
+ghost use Rattle.asn1_c.specs.Listing.{
+  AreEntries,
+  HasStepped,
+  HasTurned,
+  IsAdded,
+  IsBegun,
+  IsFaulty,
+  IsListing,
+  IsOpened,
+  Reads,
+  left,
+  sealed,
+};
+ghost use Rattle.asn1_c.specs.Records.{all_depths, no_record};
+
+use crate::header::{capped, class_number_of};
+use crate::record::Block;
+use asn1_blocks::body::check_contents;
+use asn1_blocks::parsed::{Header, header_within};
+use asn1_blocks::read::{Extent, FrameKind, ReadAs, read_as};
+use simple_asn1::{ASN1DecodeErr, HeaderCount, LocatedErr};
+use std::alloc::{AllocError, Global};
+use std::mem;
+
+// Contents octets that are being read: the index of the record of their encoding, and how many blocks they have so far.
+#[derive(Drop)]
+struct OpenFrame {
+    extent: Extent,
+    entry: usize,
+    items: usize,
+}
+
+// The innermost frame, those around it, the place reached, and the records so far.
+#[derive(Drop)]
+struct Listing {
+    inner: OpenFrame,
+    outer: Vec<OpenFrame>,
+    index: usize,
+    records: Vec<Block>,
+    // Why reading stopped.
+    fault: ASN1DecodeErr,
+}
+
+// Where a turn leads: there is more to read, the document has ended, or the listing has a fault.
+#[derive(Clone, Copy)]
+enum Turn {
+    More,
+    End,
+    Stop,
+}
+
+// The records of a document.
+pub fn list(alloc: Global, octets: &[u8]) -> Result<Vec<Block>, LocatedErr>
+    ensures document { IfOk result (λ records. (bs : Trees ℕ) × IsDocument octets.now bs
+        × AreEntries octets.now 0 (all_in_order bs) (all_depths 0 bs) records.items) }
+    ensures refused { IfErr result
+        (λ e. OutOfMemoryOr (λ fault. FirstFaultAt octets.now fault e.offset) e.error) }
+{
+    if octets.is_empty() {
+        return Err(LocatedErr {
+            error: ASN1DecodeErr::EmptyBuffer,
+            offset: 0,
+        });
+    }
+    let mut listing = Listing {
+        inner: OpenFrame {
+            extent: Extent {
+                kind: FrameKind::Whole,
+                start: 0,
+                end: octets.len(),
+            },
+            entry: 0,
+            items: 0,
+        },
+        outer: Vec::new(alloc),
+        index: 0,
+        records: Vec::new(alloc),
+        fault: ASN1DecodeErr::OutOfMemory,
+    };
+    'turns: loop {
+        match take_turn(alloc, octets, &mut listing) {
+            Turn::More => {}
+            Turn::End => {
+                let Listing { records, .. } = listing;
+                return Ok(records);
+            }
+            Turn::Stop => {
+                return Err(LocatedErr {
+                    error: listing.fault,
+                    offset: listing.index,
+                });
+            }
+        }
+    }
+}
+
+// Reads one header and what it leads, or closes a frame at its end.
+#[inline(always)]
+fn take_turn(alloc: Global, octets: &[u8], listing: &mut Listing) -> Turn
+    requires small { length octets.now < 2 ^ 64 }
+    requires reading { IsListing octets.now listing.old }
+    ensures turned { HasTurned octets.now result listing.new
+        (left (length octets.now) listing.old.index listing.old.outer.items) }
+{
+    if listing.index != listing.inner.extent.end {
+        let step = read_next(alloc, octets, listing);
+        return turn_of(octets, listing, step);
+    }
+    match listing.outer.pop() {
+        Some(parent) => {
+            let step = close(octets, listing, parent);
+            turn_of(octets, listing, step)
+        }
+        None => Turn::End,
+    }
+}
+
+// Where a step leads. Memory that ran out ends reading; a fault goes to the innermost attempt.
+#[inline(always)]
+fn turn_of(octets: &[u8], listing: &mut Listing, step: Result<(), ASN1DecodeErr>) -> Turn
+    requires small { length octets.now < 2 ^ 64 }
+    requires stepped { (most : ℕ) × HasStepped octets.now step listing.old most }
+    ensures turned { (most : ℕ) → HasStepped octets.now step listing.old most
+        → HasTurned octets.now result listing.new most }
+{
+    match step {
+        Ok(()) => Turn::More,
+        Err(e) => fail(octets, listing, e),
+    }
+}
+
+#[cold]
+#[inline(never)]
+fn fail(octets: &[u8], listing: &mut Listing, e: ASN1DecodeErr) -> Turn
+    requires small { length octets.now < 2 ^ 64 }
+    requires failed { (most : ℕ)
+        × OutOfMemoryOr (λ fault. IsFaulty octets.now listing.old fault most) e }
+    ensures turned { (most : ℕ) → OutOfMemoryOr (λ fault. IsFaulty octets.now listing.old fault most) e
+        → HasTurned octets.now result listing.new most }
+{
+    if matches!(e, ASN1DecodeErr::OutOfMemory) {
+        listing.fault = e;
+        return Turn::Stop;
+    }
+    refuse(octets, listing, e)
+}
+
+// Reads one header of the innermost frame, and what it leads.
+#[inline(always)]
+fn read_next(alloc: Global, octets: &[u8], listing: &mut Listing) -> Result<(), ASN1DecodeErr>
+    requires small { length octets.now < 2 ^ 64 }
+    requires more { listing.old.index ≢ listing.old.inner.extent.end }
+    requires reading { IsListing octets.now listing.old }
+    ensures stepped { HasStepped octets.now result listing.new
+        (left (length octets.now) listing.old.index listing.old.outer.items) }
+{
+    let offset = listing.index;
+    let Extent { start, end, .. } = listing.inner.extent;
+    let mut count = HeaderCount::new();
+    let header = header_within(alloc, octets, start, end, offset, &mut count)?;
+    let (start, end) = (header.start, header.end);
+    let entry = listing.records.len();
+    let block = begun_record(octets, &header, offset, entry, listing.outer.len());
+    match read_as(header, offset) {
+        ReadAs::Blocks(kind) => {
+            let frame = OpenFrame {
+                extent: Extent { kind, start, end },
+                entry,
+                items: 0,
+            };
+            Ok(open(listing, frame, block)?)
+        }
+        ReadAs::Leaf(header) => {
+            check_contents(alloc, &header, &octets[start..end])?;
+            Ok(put(listing, end, block)?)
+        }
+    }
+}
+
+// The record of an encoding, which holds no blocks so far.
+#[inline(always)]
+fn begun_record(_octets: &[u8], header: &Header, offset: usize, entry: usize, depth: usize) -> Block
+    requires found { (limit : ℕ) × (HeaderFound _octets.now offset limit header.now)
+        × (limit ≤ length _octets.now) }
+    requires next { suc entry < 2 ^ 64 }
+    ensures { IsBegun _octets.now offset entry depth result }
+{
+    Block {
+        tag: capped(&header.tag),
+        offset,
+        header: header.start - offset,
+        contents: header.end - header.start,
+        items: 0,
+        next: entry + 1,
+        depth,
+        tag_class: class_number_of(header.class),
+        constructed: if header.constructed { 1 } else { 0 },
+    }
+}
+
+// Goes on inside a new frame, the innermost from now on.
+#[inline(always)]
+fn open(listing: &mut Listing, frame: OpenFrame, block: Block) -> Result<(), AllocError>
+    ensures { OnOk result (IsOpened listing.old frame block listing.new) }
+{
+    listing.outer.reserve(1)?;
+    listing.records.push(block)?;
+    listing.index = frame.extent.start;
+    let parent = mem::replace(&mut listing.inner, frame);
+    listing.outer.push_reserved(parent);
+    Ok(())
+}
+
+// Puts the record of a block that holds none, and goes on after it.
+#[inline(always)]
+fn put(listing: &mut Listing, end: usize, block: Block) -> Result<(), AllocError>
+    ensures { OnOk result (IsAdded listing.old end (listing.old.records.items ++ block ∷ []) listing.new) }
+{
+    listing.records.push(block)?;
+    add(listing, end)
+}
+
+// The innermost frame has one block more, and reading goes on after it.
+#[inline(always)]
+fn add(listing: &mut Listing, end: usize) -> Result<(), AllocError>
+    ensures { OnOk result (IsAdded listing.old end listing.old.records.items listing.new) }
+{
+    let Some(items) = listing.inner.items.checked_add(1) else {
+        return Err(AllocError);
+    };
+    listing.inner.items = items;
+    listing.index = end;
+    Ok(())
+}
+
+// The innermost frame has ended: it becomes a block of the frame around it.
+#[inline(always)]
+fn close(octets: &[u8], listing: &mut Listing, parent: OpenFrame) -> Result<(), ASN1DecodeErr>
+    requires small { length octets.now < 2 ^ 64 }
+    requires reading { Reads octets.now listing.old.records.items listing.old.inner
+        (parent ∷ reverse listing.old.outer.items) listing.old.inner.extent.end }
+    ensures stepped { HasStepped octets.now result listing.new
+        (left (length octets.now) listing.old.inner.extent.end (parent ∷ listing.old.outer.items)) }
+{
+    let OpenFrame {
+        extent: Extent { kind, end, .. },
+        entry,
+        items,
+    } = mem::replace(&mut listing.inner, parent);
+    if !is_attempt(kind) {
+        return Ok(seal(listing, entry, items, end)?);
+    }
+    if items != 1 {
+        return Ok(keep(listing, entry, end)?);
+    }
+    Ok(seal(listing, entry, items, end)?)
+}
+
+// The record holds so many blocks, whose records are all those after it.
+#[inline(always)]
+fn seal(listing: &mut Listing, entry: usize, items: usize, end: usize) -> Result<(), AllocError>
+    requires { entry < length listing.old.records.items }
+    ensures { OnOk result (IsAdded listing.old end
+        (sealed listing.old.records.items entry items) listing.new) }
+{
+    let next = listing.records.len();
+    let block = listing.records[entry];
+    listing.records[entry] = Block {
+        items,
+        next,
+        ..block
+    };
+    add(listing, end)
+}
+
+// The encoding of the record stays as it came: there are no records after it.
+#[cold]
+#[inline(never)]
+fn keep(listing: &mut Listing, entry: usize, end: usize) -> Result<(), AllocError>
+    ensures { OnOk result (IsAdded listing.old end (take (suc entry) listing.old.records.items) listing.new) }
+{
+    listing.records.truncate(entry.saturating_add(1));
+    add(listing, end)
+}
+
+// A fault in the innermost frame drops the records inside the innermost attempt, and that one stays as it came. Outside
+// all attempts it is the answer.
+fn refuse(octets: &[u8], listing: &mut Listing, e: ASN1DecodeErr) -> Turn
+    requires small { length octets.now < 2 ^ 64 }
+    requires faulty { (most : ℕ) × IsFaulty octets.now listing.old (fault_of e) most }
+    ensures turned { (most : ℕ) → IsFaulty octets.now listing.old (fault_of e) most
+        → HasTurned octets.now result listing.new most }
+{
+    while let Some(parent) = listing.outer.pop() {
+        let OpenFrame {
+            extent: Extent { kind, end, .. },
+            entry,
+            ..
+        } = mem::replace(&mut listing.inner, parent);
+        if is_attempt(kind) {
+            let Ok(()) = keep(listing, entry, end) else {
+                listing.fault = ASN1DecodeErr::OutOfMemory;
+                return Turn::Stop;
+            };
+            return Turn::More;
+        }
+    }
+    listing.fault = e;
+    Turn::Stop
+}
+
+// Whether a fault inside the frame ends there.
+#[inline(always)]
+fn is_attempt(kind: FrameKind) -> bool
+    ensures { result ≡ is_some (attempt_of kind) }
+{
+    matches!(kind, FrameKind::Attempt(_))
+}
