@@ -9,6 +9,7 @@ mod own;
 mod parts;
 pub mod refusals;
 mod signed;
+mod values;
 
 use crate::calls::blocks::BlockCall;
 use crate::calls::errors::ErrorCall;
