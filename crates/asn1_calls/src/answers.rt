@@ -2,8 +2,8 @@
 //
 // A line is ended by octet 0A, and the last one perhaps by the end of the input. A line that begins with `#` is a
 // comment, and is not answered. Any other line has one line as its answer. What stands on it from a `#` on is a comment
-// too, and white space at either end is left out. If nothing is left, the answer is an empty line, so that groups of rows
-// stand apart in the answers too. Else the line is the name of a call, and after a space its octets in hex digits of
+// too, and white space at either end is left out. If nothing is left, the answer is an empty line, so that groups of
+// rows stand apart in the answers too. Else the line is the name of a call, and after a space its octets in hex digits of
 // either case, with spaces or without; for no octets the name stands alone.
 //
 //     read 30 03 02 01 05     Sequence(0, [Integer(2, 5)])
@@ -24,15 +24,14 @@
 // Those of `OID::new`, `OID::from_u64s`, `BigUint::to` and `BigUint::cmp` are given base-128 forms, `encoding_at` the
 // offset and then the document. `parts` is answered by class, tag number and offset of each block, and what else it
 // has, `==` by the places of blocks that are equal, `all_blocks` by the offsets of all, `Utf8Error` by where contents
-// octets stop being UTF-8, and `made` by what becomes of a block made by hand (`calls::made`). A line that is
-// anything else is answered by `badline`.
+// octets stop being UTF-8, and `made` by what becomes of a block made by hand (`made` of `call_answers`). A line that
+// is anything else is answered by `badline`.
 ghost use Rattle.std.specs.Prelude.{◌≡◌, ◌++◌, ◌∷◌, ℕ, List, IfOk, OnOk, string_bytes, if◌then◌else◌};
 ghost use Rattle.asn1_calls.specs.Answers.{AreAnswers, IsAnswer, is_comment};
 
-use crate::calls::Call;
-use crate::calls::refusals::ran_out;
 use crate::lines::{is_comment_line, split_name, without_comment};
 use asn1_text::octets_of;
+use call_answers::{Call, ran_out};
 use std::alloc::{AllocError, Global};
 use streams::split_line;
 

@@ -17,6 +17,7 @@ pub mod failing;
 #[cfg(test)]
 mod tests;
 
+use memchr::memchr;
 use std::alloc::Global;
 use std::io::{ErrorKind, Read, Write};
 
@@ -112,12 +113,8 @@ pub fn split_line(input: &[u8]) -> (&[u8], &[u8])
     ensures first { lines_of input.now ≡ result.0.now ∷ lines_of result.1.now }
     ensures shorter { length result.1.now < length input.now }
 {
-    let mut end = 0;
-    while end < input.len() {
-        if input[end] == b'\n' {
-            return (&input[..end], &input[end + 1..]);
-        }
-        end += 1;
+    match memchr(b'\n', input) {
+        Some(end) => (&input[..end], &input[end + 1..]),
+        None => (input, &[]),
     }
-    (input, &[])
 }

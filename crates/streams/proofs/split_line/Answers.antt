@@ -4,12 +4,14 @@ use Rattle.std.proofs.Common.{
   ◌+◌,
   ◌-◌,
   ◌<◌,
+  ◌==◌,
   ℕ,
   zero,
   suc,
   List,
   [],
   ◌∷◌,
+  true,
   take,
   drop,
   length,
@@ -20,8 +22,9 @@ use Rattle.std.proofs.Common.{
   ◌∙◌,
   arith,
 }
-use Rattle.std.proofs.lemmas.Bool.{ne_eqb}
+use Rattle.std.proofs.lemmas.Bool.{eq-eqb, eqb-true, ne_eqb}
 use Rattle.std.proofs.lemmas.List.{take_all, length-drop}
+use Rattle.memchr.specs.Find.{Nowhere, Passes, is_byte}
 use Rattle.streams.specs.Lines.{lines_of, onto_first_line}
 use Rattle.streams.proofs.split_line.Goals as goal
 
@@ -47,13 +50,17 @@ take_rest n xs =
     let e : n + 1 ≡ suc n = omega arith in
     take_all (length xs - (n + 1)) (drop (n + 1) xs) (omega (arith, length-drop (n + 1) xs)) ∙ ap (λ m. drop m xs) e
 
-pub returns-then-input-end-eq10-clause-first : goal.returns-then-input-end-eq10-clause-first
-returns-then-input-end-eq10-clause-first c =
+-- where a byte is not found, it does not stand
+no_end : (input : List ℕ) (n : ℕ) → Nowhere (Passes (is_byte 10) input) 0 n → (i : ℕ) → i < n → slice_index input i ≢ 10
+no_end input n nowhere i lt e = nowhere i (omega arith) lt (eq-eqb (slice_index input i) 10 e)
+
+pub returns-in-Some-clause-first : goal.returns-in-Some-clause-first
+returns-in-Some-clause-first c =
     let input = c.args.input.now in
-    let n = c.loop-end.end in
-    ended_line input n c.loop-end-test.true c.loop-end.invariant.1 c.if-input-end-eq10.true
+    let n = c.in-Some.end in
+    let found = c.in-Some.ensures in
+    ended_line input n found.0.high (no_end input n found.0.before) (eqb-true (slice_index input n) 10 found.1)
     ∙ ap (λ rest. take n input ∷ lines_of rest) (sym (take_rest n input))
 
-pub returns-clause-first : goal.returns-clause-first
-returns-clause-first c =
-    last_line c.args.input.now c.requires (λ i lt. c.loop-end.invariant.1 i (omega (arith, lt, c.loop-end-test.false)))
+pub returns-in-None-clause-first : goal.returns-in-None-clause-first
+returns-in-None-clause-first c = last_line c.args.input.now c.requires (no_end c.args.input.now (length c.args.input.now) c.in-None.ensures)

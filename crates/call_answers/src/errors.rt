@@ -1,5 +1,5 @@
 // Calls of errors: the first fault of octets, or one of writing.
-use crate::calls::refusals::{located_refusal, ran_out, refusal, write_refusal};
+use crate::refusals::{located_refusal, ran_out, refusal, write_refusal};
 use simple_asn1::{ASN1DecodeErr, ASN1EncodeErr, Document, LocatedErr};
 use std::alloc::{AllocError, Global};
 

@@ -1,6 +1,6 @@
 // Calls of the parts of headers. They are given octets with such a part at their front.
-use crate::calls::parts::class_name;
-use crate::calls::refusals::{ran_out, refusal};
+use crate::parts::class_name;
+use crate::refusals::{ran_out, refusal};
 use asn1_text::octets_text;
 use simple_asn1::{
     ASN1Class, ASN1DecodeErr, BigUint, HeaderCount, decode_base127, decode_class, decode_length,

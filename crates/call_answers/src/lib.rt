@@ -1,4 +1,9 @@
-// The calls that a line can name, and their answers.
+//! What calls of `simple_asn1` answer, as lines of text: for tests that are written as data.
+//!
+//! [`Call::named`] finds a call by its name, and [`Call::answer`] makes it with octets. `asn1_calls` is the program
+//! that reads such calls from lines; the top of its `answers` says how each answer is written.
+#![tactic(auto)]
+
 mod blocks;
 mod errors;
 mod headers;
@@ -7,20 +12,21 @@ mod made;
 mod numbers;
 mod own;
 mod parts;
-pub mod refusals;
+mod refusals;
 mod signed;
 mod values;
 
-use crate::calls::blocks::BlockCall;
-use crate::calls::errors::ErrorCall;
-use crate::calls::headers::HeaderCall;
-use crate::calls::identifiers::{IdentifierCall, made};
-use crate::calls::made::made_answer;
-use crate::calls::numbers::{NaturalCall, WholeCall};
-use crate::calls::own::PointCall;
-use crate::calls::parts::encoding_answer;
-use crate::calls::refusals::{located_refusal, ran_out, refusal};
-use crate::calls::signed::signed_answer;
+use crate::blocks::BlockCall;
+use crate::errors::ErrorCall;
+use crate::headers::HeaderCall;
+use crate::identifiers::{IdentifierCall, made};
+use crate::made::made_answer;
+use crate::numbers::{NaturalCall, WholeCall};
+use crate::own::PointCall;
+use crate::parts::encoding_answer;
+pub use crate::refusals::ran_out;
+use crate::refusals::{located_refusal, refusal};
+use crate::signed::signed_answer;
 use asn1_text::{blocks_text, octets_text};
 use simple_asn1::{
     ASN1DecodeErr, Document, HeaderCount, discard, from_der_counted, from_der_located,
@@ -28,7 +34,7 @@ use simple_asn1::{
 };
 use std::alloc::{AllocError, Global};
 
-// A call that a line names.
+/// A call of the library.
 #[derive(Drop)]
 pub enum Call {
     Read,
@@ -51,7 +57,7 @@ pub enum Call {
 }
 
 impl Call {
-    // The call of this name.
+    /// The call of this name.
     pub fn named(name: &[u8]) -> Option<Call> {
         match name {
             b"read" => Some(Call::Read),
@@ -68,7 +74,7 @@ impl Call {
         }
     }
 
-    // The answer of the call to the octets.
+    /// The answer of the call to the octets. The only error is that memory ran out.
     pub fn answer(&self, alloc: Global, octets: &[u8]) -> Result<String, AllocError> {
         match self {
             Call::Read => read_answer(alloc, octets),

@@ -1,5 +1,5 @@
 // Calls of a type of one's own, the example `Point`.
-use crate::calls::refusals::{no_octets, no_point, ran_out};
+use crate::refusals::{no_octets, no_point, ran_out};
 use asn1_text::octets_text;
 use simple_asn1::{Point, TripFault, der_decode, der_encode, round_trip};
 use std::alloc::{AllocError, Global};

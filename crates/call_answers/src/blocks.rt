@@ -1,7 +1,7 @@
 // Calls of blocks. They are given the blocks of a document.
-use crate::calls::parts::{offsets, parts, same};
-use crate::calls::refusals::{ran_out, refusal, write_refusal};
-use crate::calls::values::ValueCall;
+use crate::parts::{offsets, parts, same};
+use crate::refusals::{ran_out, refusal, write_refusal};
+use crate::values::ValueCall;
 use asn1_text::{blocks_text, octets_text};
 use simple_asn1::{ASN1Block, Document, discard, to_der};
 use std::alloc::{AllocError, Global};

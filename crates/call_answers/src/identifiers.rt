@@ -1,5 +1,5 @@
 // Calls of object identifiers. They are given the first block of a document.
-use crate::calls::refusals::{ran_out, refusal, write_refusal};
+use crate::refusals::{ran_out, refusal, write_refusal};
 use asn1_text::{blocks_text, octets_text};
 use simple_asn1::{
     ASN1Block, ASN1DecodeErr, BigUint, Document, FromBigUint, OID, decode_base127, oid,

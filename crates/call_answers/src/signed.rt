@@ -1,5 +1,5 @@
 // The call of a signed triple.
-use crate::calls::refusals::refusal;
+use crate::refusals::refusal;
 use asn1_text::{components_text, octets_text};
 use simple_asn1::{SignedTriple, TripleErr, read_signed};
 use std::alloc::{AllocError, Global};

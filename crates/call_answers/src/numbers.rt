@@ -1,6 +1,6 @@
 // Calls of numbers, given by their two's complement octets (X.690 8.3), or by their base-128 forms (8.1.2.4.2).
-use crate::calls::refusals::{ran_out, refusal};
-use crate::calls::values::shown;
+use crate::refusals::{ran_out, refusal};
+use crate::values::shown;
 use asn1_text::{blocks_text, octets_text};
 use simple_asn1::{ASN1Block, BigInt, BigUint, decode_base127, encode_base127};
 use std::alloc::{AllocError, Global};

@@ -20,8 +20,8 @@
 //     3F 02 80 00         an Explicit around the last block, in its place: an octet for the class, the tag number
 //
 // Each block has the offset 7, which no octets are to hang on.
-use crate::calls::identifiers::identifier_of;
-use crate::calls::refusals::{ran_out, refusal, write_refusal};
+use crate::identifiers::identifier_of;
+use crate::refusals::{ran_out, refusal, write_refusal};
 use asn1_text::{blocks_text, octets_text};
 use jiff::civil::DateTime;
 use simple_asn1::{ASN1Block, BigInt, BigUint, Document, decode_class, to_der};
