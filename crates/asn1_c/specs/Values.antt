@@ -4,6 +4,7 @@ use Rattle.std.specs.Int.{w64}
 use Rattle.std.specs.Str.{chars}
 use Rattle.asn1_leaves.specs.Contents.Moment.{Moment}
 use Rattle.asn1_leaves.specs.StringKind.{StringKind}
+use Rattle.simple_asn1.specs.DottedDecimal.{dotted_decimal}
 use Rattle.simple_asn1.specs.Fault.{DecodeFault}
 use Rattle.simple_asn1.specs.FittingNumbers.{HasNotAll}
 use Rattle.simple_asn1.specs.Grammar.{IsDocument, FirstFault}
@@ -100,20 +101,10 @@ pub data AnswersText (octets : List ℕ) (offset : ℕ) (before after : List ℕ
       IsMissing ((utf8 : List ℕ) × IsTextAt octets offset utf8) octets offset o.status → o.offset ≡ offset →
       after ≡ before → AnswersText octets offset before after o
 
--- each number in decimal, after a point
-abbrev pub pointed : List ℕ → List ℕ
-pointed [] = []
-pointed (n ∷ ns) = 46 ∷ (decimal n ++ pointed ns)
-
--- numbers in decimal, with a point between two of them
-abbrev pub dotted : List ℕ → List ℕ
-dotted [] = []
-dotted (n ∷ ns) = decimal n ++ pointed ns
-
--- the dotted components, or how much room they need; that one of them is too large; or that there is none
+-- the components in decimal, or how much room they need; that one of them is too large; or that there is none
 pub data AnswersIdentifier (octets : List ℕ) (offset : ℕ) (before after : List ℕ) (o : Outcome) : Type 0 where
   identifier_was_found :
-      (components : List ℕ) → IsIdentifierAt octets offset components → ArePut (dotted components) before after o →
+      (components : List ℕ) → IsIdentifierAt octets offset components → ArePut (dotted_decimal components) before after o →
       AnswersIdentifier octets offset before after o
   identifier_is_too_large :
       o.status ≡ out_of_range → (components : List ℕ) → IsIdentifierAt octets offset components →

@@ -5,21 +5,18 @@ ghost use Rattle.std.specs.Prelude.{
   ◌⊎◌,
   ◌<◌,
   ◌^◌,
-  ◌++◌,
-  ◌∷◌,
   ℕ,
   List,
   IfErr,
   IfOk,
   MatchOption,
-  OnOk,
-  decimal,
   string_bytes,
 };
+ghost use Rattle.simple_asn1.specs.DottedDecimal.{dotted_decimal};
 ghost use Rattle.simple_asn1.specs.FittingNumbers.{HasNotAll};
 ghost use Rattle.simple_asn1.specs.Tree.{leaf, object_identifier};
 ghost use Rattle.simple_asn1.specs.View.{tree_offset, view};
-ghost use Rattle.asn1_c.specs.Values.{AnswersIdentifier, dotted, pointed};
+ghost use Rattle.asn1_c.specs.Values.{AnswersIdentifier};
 
 use crate::alone::{only_block, read_alone};
 use crate::putting::{nothing_put, put_octets};
@@ -39,48 +36,18 @@ pub fn identifier_of(block: &ASN1Block) -> Option<&OID>
     }
 }
 
-// Puts a point and a number at the end.
-fn push_pointed(text: &mut String, number: u128) -> Result<(), AllocError>
-    ensures { OnOk result (string_bytes text.new ≡ string_bytes text.old ++ 46 ∷ decimal number) }
-{
-    write!(text, ".{number}")
-}
-
-// So with each of these numbers.
-fn push_all_pointed(text: &mut String, numbers: &[u128]) -> Result<(), AllocError>
-    ensures { OnOk result (string_bytes text.new ≡ string_bytes text.old ++ pointed numbers.now) }
-{
-    for number in numbers {
-        push_pointed(text, *number)?;
-    }
-    Ok(())
-}
-
-// Numbers with a point between two of them.
-fn dotted_text(alloc: Global, numbers: &[u128]) -> Result<String, AllocError>
-    ensures { IfOk result (λ text. string_bytes text ≡ dotted numbers.now) }
-{
-    let mut text = String::new(alloc);
-    let Some((first, rest)) = numbers.split_first() else {
-        return Ok(text);
-    };
-    write!(text, "{first}")?;
-    push_all_pointed(&mut text, rest)?;
-    Ok(text)
-}
-
 // The text of an object identifier, or the number of why there is none.
 fn text_of(alloc: Global, oid: &OID) -> Result<String, u32>
-    ensures text { IfOk result (λ text. string_bytes text ≡ dotted oid.now) }
+    ensures text { IfOk result (λ text. string_bytes text ≡ dotted_decimal oid.now) }
     ensures refused { IfErr result (λ status. (status ≡ 10)
         ⊎ ((status ≡ 13) × HasNotAll (λ n. n < 2 ^ 128) oid.now)) }
 {
-    let numbers = match oid.as_vec::<u128>(alloc) {
-        Ok(numbers) => numbers,
+    match oid.as_vec::<u128>(alloc) {
+        Ok(_) => (),
         Err(ASN1DecodeErr::Overflow) => return Err(OUT_OF_RANGE),
         Err(_) => return Err(NO_MEMORY),
-    };
-    match dotted_text(alloc, &numbers) {
+    }
+    match format!(in alloc; "{oid}") {
         Ok(text) => Ok(text),
         Err(AllocError) => Err(NO_MEMORY),
     }

@@ -5,3 +5,4 @@ pub mod ShortSubidentifiers
 pub mod SliceSplit
 pub mod IdentifierForms
 pub mod PushedNumbers
+pub mod DottedNumbers

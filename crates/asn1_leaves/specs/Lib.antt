@@ -1,3 +1,4 @@
 pub mod StringKind
 pub mod Contents
+pub mod DottedDecimal
 pub mod Inner

@@ -1,6 +1,8 @@
 // Object identifiers.
 ghost use Rattle.std.specs.Prelude.{◌≡◌, ◌↔◌, ◌⊎◌, ◌≤◌, ◌++◌, ◌∷◌, [], ℕ, List, None, Some, length};
 ghost use Rattle.std.specs.Prelude.{IfOk, IfErr, IfSome, IfNone, IsTrue, OnOk};
+ghost use Rattle.std.specs.Fmt.{WritesOnOk};
+ghost use Rattle.std.specs.List.{flat_map};
 ghost use Rattle.asn1_headers.specs.Fault.{OutOfMemoryOr};
 ghost use Rattle.asn1_leaves.specs.Contents.ObjectIdentifier.{
   IsFaithfulObjectIdentifier,
@@ -10,11 +12,13 @@ ghost use Rattle.asn1_leaves.specs.Contents.ObjectIdentifier.{
   object_identifier_contents,
   object_identifier_write_fault,
 };
+ghost use Rattle.asn1_leaves.specs.DottedDecimal.{IsDottedDecimal, dotted_decimal};
 ghost use Rattle.asn1_leaves.specs.Inner.IdentifierForms.{
   HaveShortContents,
   IsShortForm,
   components_of,
   numbers_after,
+  pointed,
 };
 ghost use Rattle.asn1_numbers.specs.FittingNumbers.{AreNumbers, HasNotAll};
 ghost use Rattle.asn1_headers.specs.declared.error.ASN1DecodeErr.TheVariants.{Overflow, OutOfMemory};
@@ -31,19 +35,36 @@ use asn1_numbers::number::big_uint::BigUint;
 use asn1_numbers::number::from_big_uint::FromBigUint;
 use asn1_numbers::sink::Sink;
 use std::alloc::{AllocError, Global};
+use std::fmt;
 use std::marker::Model;
 
 /// An object identifier (X.660): its components, natural numbers of any size.
 ///
 /// Any list of numbers makes one. Which of them have contents octets, [`OID::as_raw`] says.
-#[derive(Debug, Drop)]
+///
+/// `{}` and `{:?}` write the components in decimal with a point between two of them, as in `1.2.840`,
+/// and [`OID::from_text`] reads that. It takes no memory where all components are below 2^64; where
+/// there is none for others, the answer is `fmt::Error`.
+///
+/// ```rust
+/// use simple_asn1::OID;
+/// use std::alloc::{AllocError, Global};
+///
+/// // Of commonName of X.520 the text `2.5.4.3`.
+/// fn text(alloc: Global, oid: &OID) -> Result<String, AllocError> {
+///     format!(in alloc; "{oid}")
+/// }
+/// ```
+#[derive(Drop)]
 pub struct OID {
     kept: Kept,
+    // It takes no room. `fmt` is given no allocator, and a large component takes memory to be written.
+    alloc: Global,
 }
 
 // Nearly all have at most 24 contents octets, and these are kept in place, in their shortest form. The
 // others are kept as their components: those that have more contents octets, and those that have none.
-#[derive(Debug, Drop)]
+#[derive(Drop)]
 enum Kept {
     Octets(ArrayVec<u8, 24>),
     Components(Vec<BigUint>),
@@ -86,6 +107,62 @@ fn copy_of(alloc: Global, numbers: &[BigUint]) -> Result<Vec<BigUint>, AllocErro
         copy.push(number.clone(alloc)?)?;
     }
     Ok(copy)
+}
+
+// Writes each of the numbers in decimal, after a point.
+fn write_pointed<W: fmt::Write>(numbers: &[BigUint], f: &mut fmt::Formatter<W>) -> fmt::Result
+    ensures { WritesOnOk W.write_str_gives f.old result (flat_map pointed numbers.now) f.new }
+{
+    for number in numbers {
+        write!(f, ".{number}")?;
+    }
+    Ok(())
+}
+
+// Writes the numbers in decimal, with a point between two of them.
+fn write_dotted<W: fmt::Write>(numbers: &[BigUint], f: &mut fmt::Formatter<W>) -> fmt::Result
+    ensures { WritesOnOk W.write_str_gives f.old result (dotted_decimal numbers.now) f.new }
+{
+    let Some((first, rest)) = numbers.split_first() else {
+        return Ok(());
+    };
+    write!(f, "{first}")?;
+    write_pointed(rest, f)
+}
+
+// Writes each of the numbers of the subidentifiers in decimal, after a point.
+fn write_subidentifiers<W: fmt::Write>(
+    alloc: Global,
+    octets: &[u8],
+    f: &mut fmt::Formatter<W>,
+) -> fmt::Result
+    ensures { WritesOnOk W.write_str_gives f.old result (flat_map pointed (numbers_after 0 octets.now)) f.new }
+{
+    let mut index: usize = 0;
+    while index < octets.len() {
+        let Ok(number) = decode_base127(alloc, octets, &mut index) else {
+            return Err(fmt::Error);
+        };
+        write!(f, ".{number}")?;
+    }
+    Ok(())
+}
+
+// Writes the components of short contents octets in decimal, with a point between two of them.
+fn write_short<W: fmt::Write>(
+    alloc: Global,
+    contents: &[u8],
+    f: &mut fmt::Formatter<W>,
+) -> fmt::Result
+    requires { IsShortForm contents.now }
+    ensures { WritesOnOk W.write_str_gives f.old result (dotted_decimal (components_of contents.now)) f.new }
+{
+    let Some((octet, rest)) = contents.split_first() else {
+        unreachable!();
+    };
+    let (first, second) = first_two(*octet);
+    write!(f, "{first}.{second}")?;
+    write_subidentifiers(alloc, rest, f)
 }
 
 // Puts the number as a value of the type at the end.
@@ -161,7 +238,7 @@ pub fn read(alloc: Global, contents: &[u8]) -> Result<OID, ASN1DecodeErr>
     ensures refused { IfErr result (OutOfMemoryOr (ObjectIdentifierFault contents.now)) }
 {
     if contents.len() <= 24 && object_identifier::are_shortest(contents) {
-        return Ok(OID::from_short(contents));
+        return Ok(OID::from_short(alloc, contents));
     }
     Ok(OID::new(object_identifier::read(alloc, contents)?))
 }
@@ -225,18 +302,21 @@ impl OID {
     pub fn new(x: Vec<BigUint>) -> OID
         ensures { result ≡ x.items }
     {
+        let alloc = *x.allocator();
         if let Some(octets) = short_contents(x.as_slice()) {
             return OID {
                 kept: Kept::Octets(octets),
+                alloc,
             };
         }
         OID {
             kept: Kept::Components(x),
+            alloc,
         }
     }
 
     // The object identifier of at most 24 contents octets, in their shortest form.
-    fn from_short(contents: &[u8]) -> OID
+    fn from_short(alloc: Global, contents: &[u8]) -> OID
         requires short { length contents.now ≤ 24 }
         requires meant { (components : List ℕ) × ObjectIdentifierContents components contents.now }
         requires shortest { (components : List ℕ) → ObjectIdentifierContents components contents.now
@@ -247,6 +327,7 @@ impl OID {
         octets.try_extend_from_slice(contents).unwrap();
         OID {
             kept: Kept::Octets(octets),
+            alloc,
         }
     }
 
@@ -272,6 +353,42 @@ impl OID {
             numbers.push(BigUint::from_u64(alloc, *component)?)?;
         }
         Ok(OID::new(numbers))
+    }
+
+    /// The object identifier of a text that is decimal numerals, at least one, with a point between two
+    /// of them, as `{}` writes it: `1.2.840`. No numeral has a leading zero but `0` itself, or a sign.
+    /// Which components have contents octets is not asked. The components are put into a vector first,
+    /// as by [`OID::new`]; a numeral is read as by [`BigUint::from_text`]. The only error is that memory
+    /// ran out.
+    ///
+    /// ```rust
+    /// use simple_asn1::OID;
+    /// use std::alloc::{AllocError, Global};
+    ///
+    /// // Whether the text is the identifier's: `2.5.4.3` of commonName of X.520.
+    /// fn is_of(alloc: Global, oid: &OID, text: &str) -> Result<bool, AllocError> {
+    ///     Ok(match OID::from_text(alloc, text)? {
+    ///         Some(read) => read == *oid,
+    ///         None => false,
+    ///     })
+    /// }
+    /// ```
+    pub fn from_text(alloc: Global, text: &str) -> Result<Option<OID>, AllocError>
+        ensures identifier { IfOk result (λ read. IfSome read (IsDottedDecimal text.now)) }
+        ensures none { IfOk result (λ read. IfNone read
+            ((components : List ℕ) → IsDottedDecimal text.now components → ⊥)) }
+        // The text that an object identifier is written as is read as it.
+        ensures only { IfOk result (λ read. IfSome read (λ oid.
+            (components : List ℕ) → IsDottedDecimal text.now components → oid ≡ components)) }
+    {
+        let mut components = Vec::new(alloc);
+        for numeral in text.split('.') {
+            let Some(component) = BigUint::from_text(alloc, numeral)? else {
+                return Ok(None);
+            };
+            components.push(component)?;
+        }
+        Ok(Some(OID::new(components)))
     }
 
     /// The contents octets (X.690 8.19), in one allocation of their size: the first two components
@@ -354,7 +471,32 @@ impl OID {
                 components.as_slice(),
             )?),
         };
-        Ok(OID { kept })
+        Ok(OID { kept, alloc })
+    }
+}
+
+impl fmt::Display for OID {
+    ghost use Rattle.std.specs.Prelude.{Some};
+    ghost use Rattle.asn1_leaves.specs.DottedDecimal.{dotted_decimal};
+
+    ghost output = { λ oid. Some (dotted_decimal oid) };
+
+    fn fmt<W: fmt::Write>(&self, f: &mut fmt::Formatter<W>) -> fmt::Result {
+        match &self.kept {
+            Kept::Octets(octets) => write_short(self.alloc, octets.as_slice(), f),
+            Kept::Components(components) => write_dotted(components.as_slice(), f),
+        }
+    }
+}
+
+impl fmt::Debug for OID {
+    ghost use Rattle.std.specs.Prelude.{Some};
+    ghost use Rattle.asn1_leaves.specs.DottedDecimal.{dotted_decimal};
+
+    ghost debug_output = { λ oid. Some (dotted_decimal oid) };
+
+    fn fmt<W: fmt::Write>(&self, f: &mut fmt::Formatter<W>) -> fmt::Result {
+        fmt::Display::fmt(self, f)
     }
 }
 

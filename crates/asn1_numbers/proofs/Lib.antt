@@ -7,3 +7,4 @@ pub mod FittingNumbers
 pub mod Decimals
 pub mod Numerals
 pub mod SignedNumerals
+pub mod ReadNumerals

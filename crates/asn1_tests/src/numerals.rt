@@ -53,7 +53,7 @@ fn whole_numbers_are_written_in_decimal(rt: HostRuntime) -> Result<(), Fail> {
     Ok(())
 }
 
-// The number of this base-128 form is written so, also by `{:?}`.
+// The number of this base-128 form is written so, also by `{:?}`, and is read from that.
 fn check_natural(rt: &impl Abort, alloc: Global, digits: &str, numeral: &str) -> Result<(), Fail> {
     let number = decode_base127(alloc, &octets(alloc, digits)?, &mut 0)?;
     assert_eq!(rt;
@@ -66,6 +66,16 @@ fn check_natural(rt: &impl Abort, alloc: Global, digits: &str, numeral: &str) ->
         numeral,
         "{digits}"
     );
+    let read = BigUint::from_text(alloc, numeral)?;
+    assert!(rt; read.is_some_and(|read| read == number), "{digits}");
+    Ok(())
+}
+
+#[test]
+fn what_is_no_numeral_is_no_number(rt: HostRuntime) -> Result<(), Fail> {
+    for text in ["", "00", "0840", "+840", "-840", " 840", "8 40", "8_40", "0x0"] {
+        assert!(&rt; BigUint::from_text(rt.alloc(), text)?.is_none(), "{text}");
+    }
     Ok(())
 }
 

@@ -79,22 +79,10 @@ pub(crate) fn write_components(
     oid: &OID,
 ) -> Result<(), AllocError> {
     match oid.as_vec::<u128>(alloc) {
-        Ok(components) => write_numbers(out, &components),
+        Ok(_) => write!(out, "{oid}"),
         Err(ASN1DecodeErr::OutOfMemory) => Err(AllocError),
         Err(_) => write_contents(alloc, out, oid),
     }
-}
-
-fn write_numbers(out: &mut String, numbers: &[u128]) -> Result<(), AllocError> {
-    let mut is_first = true;
-    for number in numbers {
-        if !is_first {
-            out.push_str(".")?;
-        }
-        write!(out, "{number}")?;
-        is_first = false;
-    }
-    Ok(())
 }
 
 fn write_contents(alloc: Global, out: &mut String, oid: &OID) -> Result<(), AllocError> {

@@ -1,6 +1,7 @@
 // Calls of blocks. They are given the blocks of a document.
 use crate::parts::{offsets, parts, same};
 use crate::refusals::{ran_out, refusal, write_refusal};
+use crate::values::ValueCall;
 use asn1_text::{blocks_text, octets_text};
 use simple_asn1::{ASN1Block, Document, discard, to_der};
 use std::alloc::{AllocError, Global};
@@ -15,6 +16,7 @@ pub enum BlockCall {
     Parts,
     Same,
     All,
+    OfValue(ValueCall),
 }
 
 impl BlockCall {
@@ -27,7 +29,7 @@ impl BlockCall {
             b"parts" => Some(BlockCall::Parts),
             b"==" => Some(BlockCall::Same),
             b"all_blocks" => Some(BlockCall::All),
-            _ => None,
+            _ => ValueCall::named(name).map(BlockCall::OfValue),
         }
     }
 
@@ -48,6 +50,7 @@ impl BlockCall {
             BlockCall::Parts => parts(alloc, document.blocks()),
             BlockCall::Same => same(alloc, document.blocks()),
             BlockCall::All => offsets(alloc, document.blocks()),
+            BlockCall::OfValue(call) => call.values(alloc, document.blocks()),
         };
         match answers {
             Ok(text) => Ok(text),

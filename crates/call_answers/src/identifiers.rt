@@ -6,12 +6,15 @@ use simple_asn1::{
 };
 use std::alloc::{AllocError, Global};
 use std::fmt::Display;
+use std::str;
 
 // A call of an object identifier: of that of a document, or of one that it makes.
 #[derive(Drop)]
 pub enum IdentifierCall {
     New,
     FromNumbers,
+    FromText,
+    Show,
     Clone,
     AsRaw,
     AsVec(NumberType),
@@ -36,15 +39,20 @@ impl IdentifierCall {
             b"as_raw" => Some(IdentifierCall::AsRaw),
             b"OID::new" => Some(IdentifierCall::New),
             b"OID::from_u64s" => Some(IdentifierCall::FromNumbers),
+            b"OID::from_text" => Some(IdentifierCall::FromText),
+            b"OID::to_string" => Some(IdentifierCall::Show),
             _ => named_type(name).map(IdentifierCall::AsVec),
         }
     }
 
-    // The answer of the call, of the object identifier of these components, or of that which the document begins with.
+    // The answer of the call, of the object identifier of these components or of this text, or of that which the document
+    // begins with.
     pub fn answer(&self, alloc: Global, octets: &[u8]) -> Result<String, AllocError> {
         match self {
             IdentifierCall::New => new_contents(alloc, octets),
             IdentifierCall::FromNumbers => from_numbers(alloc, octets),
+            IdentifierCall::FromText => from_text(alloc, octets),
+            IdentifierCall::Show => shown_twice(alloc, &identifier_of(alloc, octets)?),
             IdentifierCall::Clone | IdentifierCall::AsRaw | IdentifierCall::AsVec(_) => {
                 self.answer_first(alloc, octets)
             }
@@ -60,7 +68,7 @@ impl IdentifierCall {
             Ok(before) => before,
             Err(fault) => return refusal(alloc, &fault),
         };
-        let Some(ASN1Block::ObjectIdentifier(_, oid)) = document.blocks().first() else {
+        let Some(oid) = document.blocks().first().and_then(|block| block.oid()) else {
             return String::from_str(alloc, "no object identifier");
         };
         match self.answer_of(alloc, oid) {
@@ -148,6 +156,26 @@ fn from_numbers(alloc: Global, octets: &[u8]) -> Result<String, AllocError> {
         return String::from_str(alloc, "another object identifier");
     }
     contents_text(alloc, &oid)
+}
+
+// The contents octets of the object identifier that is read from the text of these octets.
+fn from_text(alloc: Global, octets: &[u8]) -> Result<String, AllocError> {
+    let Ok(text) = str::from_utf8(octets) else {
+        return String::from_str(alloc, "no text");
+    };
+    match OID::from_text(alloc, text)? {
+        Some(oid) => contents_text(alloc, &oid),
+        None => String::from_str(alloc, "no object identifier"),
+    }
+}
+
+// What `{}` writes, which `{:?}` is to write too.
+fn shown_twice(alloc: Global, oid: &OID) -> Result<String, AllocError> {
+    let text = oid.to_string(alloc)?;
+    if format!(in alloc; "{oid:?}")? != text {
+        return String::from_str(alloc, "shown in two ways");
+    }
+    Ok(text)
 }
 
 fn contents_text(alloc: Global, oid: &OID) -> Result<String, AllocError> {

@@ -14,6 +14,7 @@ mod own;
 mod parts;
 mod refusals;
 mod signed;
+mod values;
 
 use crate::blocks::BlockCall;
 use crate::errors::ErrorCall;

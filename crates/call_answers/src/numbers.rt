@@ -1,16 +1,18 @@
 // Calls of numbers, given by their two's complement octets (X.690 8.3), or by their base-128 forms (8.1.2.4.2).
 use crate::refusals::{ran_out, refusal};
+use crate::values::shown;
 use asn1_text::{blocks_text, octets_text};
-use simple_asn1::{ASN1Block, BigInt, BigUint, decode_base127};
+use simple_asn1::{ASN1Block, BigInt, BigUint, decode_base127, encode_base127};
 use std::alloc::{AllocError, Global};
 use std::cmp::Ordering;
-use std::fmt::Display;
+use std::str;
 
 // A call of a natural number.
 #[derive(Drop)]
 pub enum NaturalCall {
     FromU64,
     FromU128,
+    FromText,
     Clone,
     Types,
     Order,
@@ -22,6 +24,7 @@ impl NaturalCall {
         match name {
             b"BigUint::from_u64" => Some(NaturalCall::FromU64),
             b"BigUint::from_u128" => Some(NaturalCall::FromU128),
+            b"BigUint::from_text" => Some(NaturalCall::FromText),
             b"BigUint::clone" => Some(NaturalCall::Clone),
             b"BigUint::to" => Some(NaturalCall::Types),
             b"BigUint::cmp" => Some(NaturalCall::Order),
@@ -29,9 +32,11 @@ impl NaturalCall {
         }
     }
 
-    // The number in decimal, made of that of the two's complement octets; or what is said of those of base-128 forms.
+    // The number in decimal, made of that of the two's complement octets; or what is said of those of base-128 forms; or
+    // the base-128 form of the number of a text.
     pub fn answer(&self, alloc: Global, octets: &[u8]) -> Result<String, AllocError> {
         match self {
+            NaturalCall::FromText => natural_read(alloc, octets),
             NaturalCall::Types => natural_types(alloc, octets),
             NaturalCall::Order => natural_order(alloc, octets),
             NaturalCall::FromU64 | NaturalCall::FromU128 | NaturalCall::Clone => {
@@ -62,6 +67,17 @@ fn no_such_number(alloc: Global) -> Result<String, AllocError> {
     String::from_str(alloc, "no such number")
 }
 
+// The base-128 form of the number that is read from the text of these octets.
+fn natural_read(alloc: Global, octets: &[u8]) -> Result<String, AllocError> {
+    let Ok(text) = str::from_utf8(octets) else {
+        return String::from_str(alloc, "no text");
+    };
+    match BigUint::from_text(alloc, text)? {
+        Some(number) => octets_text(alloc, &encode_base127(alloc, &number)?),
+        None => String::from_str(alloc, "no numeral"),
+    }
+}
+
 fn natural_clone(alloc: Global, n: u128) -> Result<String, AllocError> {
     let number = BigUint::from_u128(alloc, n)?;
     match number.clone(alloc) {
@@ -71,26 +87,18 @@ fn natural_clone(alloc: Global, n: u128) -> Result<String, AllocError> {
     }
 }
 
-// A number as one of a type, or a minus where it does not fit.
-fn fitting<T: Display + Drop>(alloc: Global, number: Option<T>) -> Result<String, AllocError> {
-    match number {
-        Some(n) => format!(in alloc; "{n}"),
-        None => String::from_str(alloc, "-"),
-    }
-}
-
 // The number of a base-128 form as one of each type.
 fn natural_types(alloc: Global, octets: &[u8]) -> Result<String, AllocError> {
     let number = match decode_base127(alloc, octets, &mut 0) {
         Ok(number) => number,
         Err(fault) => return refusal(alloc, &fault),
     };
-    let of_u8 = fitting(alloc, number.to_u8())?;
-    let of_u16 = fitting(alloc, number.to_u16())?;
-    let of_u32 = fitting(alloc, number.to_u32())?;
-    let of_u64 = fitting(alloc, number.to_u64())?;
-    let of_u128 = fitting(alloc, number.to_u128())?;
-    let of_usize = fitting(alloc, number.to_usize())?;
+    let of_u8 = shown(alloc, number.to_u8())?;
+    let of_u16 = shown(alloc, number.to_u16())?;
+    let of_u32 = shown(alloc, number.to_u32())?;
+    let of_u64 = shown(alloc, number.to_u64())?;
+    let of_u128 = shown(alloc, number.to_u128())?;
+    let of_usize = shown(alloc, number.to_usize())?;
     format!(in alloc;
         "u8 {of_u8}, u16 {of_u16}, u32 {of_u32}, u64 {of_u64}, u128 {of_u128}, usize {of_usize}"
     )
@@ -196,10 +204,10 @@ fn made_integer(alloc: Global, given: &BigInt, number: BigInt) -> Result<String,
 
 // The number as one of each type.
 fn whole_types(alloc: Global, number: &BigInt) -> Result<String, AllocError> {
-    let of_i64 = fitting(alloc, number.to_i64())?;
-    let of_u64 = fitting(alloc, number.to_u64())?;
-    let of_i128 = fitting(alloc, number.to_i128())?;
-    let of_u128 = fitting(alloc, number.to_u128())?;
+    let of_i64 = shown(alloc, number.to_i64())?;
+    let of_u64 = shown(alloc, number.to_u64())?;
+    let of_i128 = shown(alloc, number.to_i128())?;
+    let of_u128 = shown(alloc, number.to_u128())?;
     format!(in alloc; "i64 {of_i64}, u64 {of_u64}, i128 {of_i128}, u128 {of_u128}")
 }
 

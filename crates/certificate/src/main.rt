@@ -52,10 +52,7 @@ impl<'a> Certificate<'a> {
         let serial = fields.first()?.integer()?;
         let subject = fields.get(4)?.items()?;
         let key = fields.get(5)?.items()?;
-        let Some(ASN1Block::ObjectIdentifier(_, key_algorithm)) = key.first()?.items()?.first()
-        else {
-            return None;
-        };
+        let key_algorithm = key.first()?.items()?.first()?.oid()?;
         Some(Certificate {
             serial,
             subject,
@@ -73,19 +70,6 @@ fn without_version(fields: &[ASN1Block]) -> &[ASN1Block] {
     }
 }
 
-// The components with points between them; of a very long one nothing.
-fn components(alloc: Global, oid: &OID) -> Result<String, CertificateErr> {
-    let mut text = String::new(alloc);
-    for component in oid.as_vec::<u64>(alloc)? {
-        if !text.is_empty() {
-            text.push_str(".")?;
-        }
-        let digits = format!(in alloc; "{component}")?;
-        text.push_str(&digits)?;
-    }
-    Ok(text)
-}
-
 // A name is a list of sets of pairs, each an identifier and a string (X.501 9.2).
 fn write_name<W: Write>(
     alloc: Global,
@@ -95,7 +79,6 @@ fn write_name<W: Write>(
     for set in name {
         for pair in set.items().unwrap_or(&[]) {
             if let Some([ASN1Block::ObjectIdentifier(_, kind), value]) = pair.items() {
-                let kind = components(alloc, kind)?;
                 let value = value.text().unwrap_or("?");
                 writeln!(out, "  {kind} = {value}")?;
             }
@@ -122,7 +105,7 @@ fn print<R: Read, W: Write>(
     writeln!(out, "serial number {serial}")?;
     writeln!(out, "subject")?;
     write_name(alloc, out, certificate.subject)?;
-    let algorithm = components(alloc, certificate.key_algorithm)?;
+    let algorithm = certificate.key_algorithm;
     writeln!(out, "key {algorithm}")?;
     writeln!(out, "signed {} octets", certificate.signed.len())?;
     Ok(())

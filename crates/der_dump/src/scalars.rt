@@ -70,15 +70,3 @@ fn is_printable(number: u32) -> bool {
         || (0xFFF0 <= number && number < 0xFFFC)
         || 0xE0000 <= number)
 }
-
-// Components of an object identifier, with a point between two of them.
-pub fn write_components(alloc: Global, numbers: &[u128]) -> Result<String, AllocError> {
-    let mut text = String::new(alloc);
-    for number in numbers {
-        if !text.is_empty() {
-            text.push_str(".")?;
-        }
-        write!(text, "{number}")?;
-    }
-    Ok(text)
-}

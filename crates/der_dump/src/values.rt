@@ -2,7 +2,7 @@
 // says anything of it; that it becomes one line is seen to where it is put.
 use crate::header::Header;
 use crate::names::Names;
-use crate::scalars::{write_after_space, write_components, write_hex, write_quoted};
+use crate::scalars::{write_after_space, write_hex, write_quoted};
 use simple_asn1::{ASN1Block, ASN1Class, ASN1DecodeErr, BigInt, BigUint, OID};
 use std::alloc::{AllocError, Global};
 
@@ -138,7 +138,7 @@ fn write_identifier(
     oid: &OID,
 ) -> Result<(), AllocError> {
     let number = match oid.as_vec::<u128>(alloc) {
-        Ok(components) => write_components(alloc, &components)?,
+        Ok(_) => format!(in alloc; "{oid}")?,
         Err(ASN1DecodeErr::OutOfMemory) => return Err(AllocError),
         Err(_) => return out.push_str("OBJECT IDENTIFIER of components past 2^128"),
     };

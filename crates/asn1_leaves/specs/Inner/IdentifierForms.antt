@@ -1,5 +1,6 @@
--- How an `OID` is kept, and the components that it has.
+-- How an `OID` is kept, the components that it has, and how each is written.
 use Rattle.std.specs.Prelude.{◌≡◌, ℕ, ◌+◌, ◌-◌, ◌*◌, ◌%◌, ◌≤◌, List, [], ◌∷◌, length, nat_lt, if◌then◌else◌, None}
+use Rattle.asn1_numbers.specs.Decimal.{natural_numeral}
 use Rattle.asn1_leaves.specs.declared.oid.Kept.{Kept}
 use Rattle.asn1_leaves.specs.declared.oid.Kept.TheVariants.{Octets, Components}
 use Rattle.asn1_leaves.specs.Contents.ObjectIdentifier.{object_identifier_contents, object_identifier_write_fault}
@@ -42,3 +43,7 @@ IsShortForm octets =
 abbrev pub IsKeptOnce : Kept → Type 0
 IsKeptOnce (Octets octets) = IsShortForm octets.items
 IsKeptOnce (Components components) = HaveShortContents components.items → ⊥
+
+-- a number in decimal, after a point
+abbrev pub pointed : ℕ → List ℕ
+pointed n = 46 ∷ natural_numeral n

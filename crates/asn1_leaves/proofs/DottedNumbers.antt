@@ -1,0 +1,122 @@
+-- Numbers in decimal with points between them: joined, and cut at the points.
+use Rattle.std.proofs.Common.{◌≡◌, ℕ, zero, suc, ◌<◌, ◌≤◌, List, [], ◌∷◌, ◌++◌, length, get_or, All, refl, sym, ap, ◌∙◌}
+use Rattle.std.proofs.Common.{arith, map, false, append-nil, append_assoc, drop}
+use Rattle.std.specs.Prelude.{◌==◌, decimal}
+use Rattle.std.specs.Fmt.{HasWritten, IsPlainFormatter}
+use Rattle.std.specs.List.{flat_map, slice_range, slice_split}
+use Rattle.std.specs.declared.fmt.Formatter.{Formatter}
+use Rattle.std.proofs.Output.{has_written_append, has_written_of_eq}
+use Rattle.std.proofs.lemmas.List.{drop_all}
+use Rattle.asn1_numbers.specs.Base128.{IsBase128}
+use Rattle.std.proofs.lemmas.Bool.{ne_eqb}
+use Rattle.std.proofs.lemmas.Grind.{flat_map-append}
+use Rattle.std.proofs.lemmas.List.Elements.{All-from_get_or}
+use Rattle.std.proofs.lemmas.List.Splits.{slice_split_at, slice_split_none}
+use Rattle.asn1_numbers.specs.Decimal.{natural_numeral}
+use Rattle.asn1_numbers.proofs.Numerals.{decimal_numeral}
+use Rattle.asn1_numbers.proofs.ReadNumerals.{digits_of_numeral, same_numeral}
+use Rattle.asn1_leaves.specs.DottedDecimal.{IsDottedDecimal, dotted_decimal}
+use Rattle.asn1_leaves.specs.Inner.IdentifierForms.{numbers_after, pointed}
+use Rattle.asn1_leaves.proofs.PushedNumbers.{next_number}
+
+-- one more
+pub pointed_more : (ns : List ℕ) (n : ℕ) → flat_map pointed ns ++ pointed n ≡ flat_map pointed (ns ++ n ∷ [])
+pointed_more ns n = sym (flat_map-append pointed ns (n ∷ []) ∙ ap (λ l. flat_map pointed ns ++ l) (append-nil (pointed n)))
+
+-- the first has no point before it
+pub dotted_first : (n : ℕ) (ns : List ℕ) → dotted_decimal (n ∷ ns) ≡ natural_numeral n ++ flat_map pointed ns
+dotted_first n [] = sym (append-nil (natural_numeral n))
+dotted_first n (m ∷ ns) = ap (λ l. natural_numeral n ++ 46 ∷ l) (dotted_first m ns)
+
+-- the first two, as the machine writes them
+pub dotted_two : (x y : ℕ) (ns : List ℕ) → x < 256 → y < 256
+    → (decimal x ++ 46 ∷ decimal y) ++ flat_map pointed ns ≡ dotted_decimal (x ∷ y ∷ ns)
+dotted_two x y ns low_x low_y =
+    let first = decimal_numeral x (omega arith) in
+    let second = decimal_numeral y (omega arith) in
+    (λ i. (first i ++ 46 ∷ second i) ++ flat_map pointed ns)
+    ∙ append_assoc (natural_numeral x) (pointed y) (flat_map pointed ns)
+    ∙ ap (λ l. natural_numeral x ++ 46 ∷ l) (sym (dotted_first y ns))
+
+-- no digit is a point
+no_point : (n : ℕ) → All (λ b. (b == 46) ≡ false) (natural_numeral n)
+no_point n =
+    All-from_get_or (λ b. (b == 46) ≡ false) (natural_numeral n) 0
+    (λ k h. ne_eqb (get_or (natural_numeral n) k 0) 46 (λ e. omega (arith, digits_of_numeral n (natural_numeral n) refl k h, e)))
+
+-- cut at the points
+cut_again : (n : ℕ) (ns : List ℕ) → slice_split (λ b. b == 46) (dotted_decimal (n ∷ ns)) ≡ map natural_numeral (n ∷ ns)
+cut_again n [] = slice_split_none (λ b. b == 46) (natural_numeral n) (no_point n)
+cut_again n (m ∷ ns) =
+    slice_split_at (λ b. b == 46) (natural_numeral n) 46 (dotted_decimal (m ∷ ns)) (no_point n) refl
+    ∙ ap (λ l. natural_numeral n ∷ l) (cut_again m ns)
+
+pub dotted_parts : (text ns : List ℕ) → IsDottedDecimal text ns → slice_split (λ b. b == 46) text ≡ map natural_numeral ns
+dotted_parts text [] dotted = absurd (dotted.1 refl)
+dotted_parts text (n ∷ ns) dotted = ap (slice_split (λ b. b == 46)) dotted.0 ∙ cut_again n ns
+
+abbrev first_of : List (List ℕ) → List ℕ
+first_of [] = []
+first_of (x ∷ xs) = x
+
+abbrev rest_of : List (List ℕ) → List (List ℕ)
+rest_of [] = []
+rest_of (x ∷ xs) = xs
+
+-- numerals are of one list of numbers
+pub same_numerals : (ms ns : List ℕ) → map natural_numeral ms ≡ map natural_numeral ns → ms ≡ ns
+same_numerals [] [] e = refl
+same_numerals [] (n ∷ ns) e = absurd (omega (arith, ap length e))
+same_numerals (m ∷ ms) [] e = absurd (omega (arith, ap length e))
+same_numerals (m ∷ ms) (n ∷ ns) e =
+    let first = same_numeral m n (ap first_of e) in
+    let rest = same_numerals ms ns (ap rest_of e) in
+    (λ i. first i ∷ rest i)
+
+-- each of the parts is a numeral
+pub part_numeral : (ns : List ℕ) (k : ℕ) (part : List ℕ) → k < length (map natural_numeral ns)
+    → part ≡ get_or (map natural_numeral ns) k part
+    → (n : ℕ) × (part ≡ natural_numeral n)
+part_numeral [] k part h e = absurd (omega arith)
+part_numeral (n ∷ ns) zero part h e = (n, e)
+part_numeral (n ∷ ns) (suc k) part h e = part_numeral ns k part (omega arith) e
+
+-- the numbers before the index are written, each after a point, and those after it are all others
+abbrev pub AreWritten : {W : Type 0} → (W → List ℕ → W → Type 0) → Formatter W → Formatter W → List ℕ → ℕ → Type 0
+AreWritten took f g octets i =
+    (i ≤ length octets)
+    × ((done : List ℕ) × (done ++ numbers_after 0 (drop i octets) ≡ numbers_after 0 octets)
+    × (IsPlainFormatter f → HasWritten took f (flat_map pointed done) g))
+
+pub written_more : {W : Type 0} (took : W → List ℕ → W → Type 0) (f g h : Formatter W) (octets : List ℕ) (i j n : ℕ)
+    → i ≤ j → j ≤ length octets → IsBase128 (slice_range octets i j) n → AreWritten took f g octets i
+    → (IsPlainFormatter g → HasWritten took g (pointed n) h)
+    → AreWritten took f h octets j
+written_more took f g h octets i j n forward inside p (within, (done, all, before)) write =
+    let next = next_number octets i j n forward p in (
+      inside,
+      (
+        done ++ n ∷ [],
+        append_assoc done (n ∷ []) (numbers_after 0 (drop j octets)) ∙ ap (λ z. done ++ z) (sym next) ∙ all,
+        λ plain.
+            let so_far = before plain in
+            has_written_of_eq took f (flat_map pointed done ++ pointed n) (flat_map pointed (done ++ n ∷ [])) h (pointed_more done n)
+            (has_written_append took f (flat_map pointed done) g (pointed n) h so_far (write so_far.plain)),
+      ),
+    )
+
+-- and after all of them those are
+pub written_all : {W : Type 0} (took : W → List ℕ → W → Type 0) (f g : Formatter W) (octets : List ℕ) (i : ℕ)
+    → length octets ≤ i → AreWritten took f g octets i → IsPlainFormatter f
+    → HasWritten took f (flat_map pointed (numbers_after 0 octets)) g
+written_all took f g octets i end (within, (done, all, before)) plain =
+    let none = ap (numbers_after 0) (drop_all i octets end) in
+    let whole : done ≡ numbers_after 0 octets = sym (append-nil done) ∙ ap (λ z. done ++ z) (sym none) ∙ all in
+    has_written_of_eq took f (flat_map pointed done) (flat_map pointed (numbers_after 0 octets)) g (ap (flat_map pointed) whole) (before plain)
+
+-- one list after another
+pub written_both : {W : Type 0} (took : W → List ℕ → W → Type 0) (f g h : Formatter W) (text first rest : List ℕ)
+    → first ++ rest ≡ text → HasWritten took f first g → (IsPlainFormatter g → HasWritten took g rest h)
+    → HasWritten took f text h
+written_both took f g h text first rest e before write =
+    has_written_of_eq took f (first ++ rest) text h e (has_written_append took f first g rest h before (write before.plain))
