@@ -7,7 +7,7 @@ ghost use Rattle.asn1_blocks.specs.Inner.FaithfulWalk.{IsFaithfulAlone};
 ghost use Rattle.asn1_blocks.specs.View.{view, views};
 
 use crate::block::ASN1Block;
-use crate::body::{is_faithful_leaf, is_known};
+use crate::contents::{is_faithful_leaf, is_known};
 use crate::document::Document;
 use crate::walk::TreeWalk;
 use asn1_headers::error::ASN1DecodeErr;

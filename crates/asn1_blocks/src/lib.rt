@@ -4,14 +4,14 @@
 //! - [`read`]: documents are read, in one loop over the frames that are open; [`parsed`], [`owed`] and [`held`] are parts
 //!   of it; [`encoding`] finds an encoding by its header;
 //! - [`document`]: the owner of a document's blocks; [`walk`]: blocks in tree order;
-//! - [`body`]: which contents octets a tag has; [`faithful`]: which blocks are read back as they are.
+//! - [`contents`]: which contents octets a tag has; [`faithful`]: which blocks are read back as they are.
 //!
 //! `simple_asn1` hands on `ASN1Block`, `Document`, `from_der` and its like, `encoding_at`, `all_blocks` and `discard`.
 //! All else is public for the crates above alone, and may change with them.
 #![tactic(auto)]
 
 pub mod block;
-pub mod body;
+pub mod contents;
 pub mod document;
 pub mod encoding;
 pub mod faithful;

@@ -12,7 +12,7 @@ ghost use Rattle.asn1_blocks.specs.Tree.{Trees};
 ghost use Rattle.asn1_blocks.specs.View.{view, views};
 
 use crate::block::{ASN1Block, GroupKind};
-use crate::body::leaf_block;
+use crate::contents::leaf_block;
 use crate::encoding::encoding_count;
 use crate::held::HeldBlocks;
 use crate::owed::{Attempt, Owed, build, explicit_block, group_block, kept_block};

@@ -26,7 +26,7 @@ ghost use Rattle.asn1_c.specs.Records.{all_depths, no_record};
 
 use crate::header::{capped, class_number_of};
 use crate::record::Block;
-use asn1_blocks::body::check_contents;
+use asn1_blocks::contents::check_contents;
 use asn1_blocks::parsed::{Header, header_within};
 use asn1_blocks::read::{Extent, FrameKind, ReadAs, read_as};
 use simple_asn1::{ASN1DecodeErr, HeaderCount, LocatedErr};

@@ -26,8 +26,8 @@ ghost use Rattle.asn1_headers.specs.declared.error.ASN1EncodeErr.TheVariants.{
   OutOfMemory as no_memory,
 };
 
-use crate::body::object_identifier;
-use crate::body::object_identifier::{component_count, first_two};
+use crate::contents::object_identifier;
+use crate::contents::object_identifier::{component_count, first_two};
 use arrayvec::ArrayVec;
 use asn1_headers::error::{ASN1DecodeErr, ASN1EncodeErr};
 use asn1_headers::header::decode_base127;

@@ -5,8 +5,8 @@ use Rattle.std.specs.List.{list_all}
 use Rattle.std.specs.Str.{is_utf8}
 use Rattle.std.proofs.lemmas.Bool.{false≢true, cases_Bool}
 use Rattle.std.proofs.lemmas.Str.{encodes_same, IsUtf8-from_is_utf8, is_utf8-from_IsUtf8}
-use Rattle.asn1_leaves.specs.declared.body.text.TextForm.{TextForm}
-use Rattle.asn1_leaves.specs.declared.body.text.TextForm.TheVariants.{Utf8, Printable, Octets}
+use Rattle.asn1_leaves.specs.declared.contents.text.TextForm.{TextForm}
+use Rattle.asn1_leaves.specs.declared.contents.text.TextForm.TheVariants.{Utf8, Printable, Octets}
 use Rattle.asn1_headers.specs.Fault.{DecodeFault, IsOfReading, utf8_fault, printable_string_failure}
 use Rattle.asn1_leaves.specs.Contents.Text.{is_printable, HasCharacters, TextContents, TextFault, octet_write_fault, text_contents, text_write_fault}
 use Rattle.asn1_leaves.proofs.Characters.{octets_writable, octet_write_none, printable_write_none}

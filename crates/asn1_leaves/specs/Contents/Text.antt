@@ -2,8 +2,8 @@
 use Rattle.std.specs.Prelude.{◌≡◌, ◌==◌, ◌||◌, ◌&&◌, ℕ, Bool, true, List, nat_lt, nat_le, if◌then◌else◌, codes, Option, Some, None, IsUtf8, encode_utf8_all}
 use Rattle.std.specs.Str.{all_scalars}
 use Rattle.std.specs.List.{list_all, list_any}
-use Rattle.asn1_leaves.specs.declared.body.text.TextForm.{TextForm}
-use Rattle.asn1_leaves.specs.declared.body.text.TextForm.TheVariants.{Utf8, Printable, Octets}
+use Rattle.asn1_leaves.specs.declared.contents.text.TextForm.{TextForm}
+use Rattle.asn1_leaves.specs.declared.contents.text.TextForm.TheVariants.{Utf8, Printable, Octets}
 use Rattle.asn1_headers.specs.declared.error.ASN1EncodeErr.{ASN1EncodeErr}
 use Rattle.asn1_headers.specs.declared.error.ASN1EncodeErr.TheVariants.{CharacterTooLarge}
 use Rattle.asn1_headers.specs.Fault.{DecodeFault, utf8_fault, printable_string_failure}

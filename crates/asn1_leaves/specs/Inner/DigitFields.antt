@@ -1,4 +1,4 @@
--- The fields of a moment by the places of their digits. Private contracts of `body` alone name these.
+-- The fields of a moment by the places of their digits. Private contracts of `contents` alone name these.
 use Rattle.std.specs.Prelude.{◌≡◌, ◌⊎◌, ◌∷◌, ℕ, ◌+◌, ◌/◌, ◌%◌, ◌<◌, pos, List, slice_index}
 use Rattle.asn1_leaves.specs.Contents.GeneralizedTime.{IsEnd, fraction_number, tenth}
 use Rattle.asn1_leaves.specs.Contents.Moment.{Moment, IsValid}

@@ -7,12 +7,12 @@ ghost use Rattle.simple_asn1.specs.Inner.InPlace.{AreCanonical, AreCanonicalCont
 ghost use Rattle.asn1_headers.specs.declared.header.ASN1Class.TheVariants.{Universal};
 ghost use Rattle.asn1_headers.specs.declared.error.ASN1DecodeErr.TheVariants.{OutOfMemory};
 
-use asn1_blocks::body::is_known;
+use asn1_blocks::contents::is_known;
 use asn1_headers::error::ASN1DecodeErr;
 use asn1_headers::header::{
     ASN1Class, HeaderCount, decode_tag, identifier_size, length_at, length_size,
 };
-use asn1_leaves::body::{bit_string, boolean, generalized_time, integer, object_identifier};
+use asn1_leaves::contents::{bit_string, boolean, generalized_time, integer, object_identifier};
 use asn1_numbers::number::big_uint::BigUint;
 use std::alloc::Global;
 

@@ -6,8 +6,8 @@ ghost use Rattle.simple_asn1.specs.Inner.WriteWalk.{own_contents, own_fault};
 
 use asn1_blocks::block::ASN1Block;
 use asn1_headers::error::ASN1EncodeErr;
-use asn1_leaves::body::text::TextForm;
-use asn1_leaves::body::{bit_string, boolean, generalized_time, integer, text, utc_time};
+use asn1_leaves::contents::text::TextForm;
+use asn1_leaves::contents::{bit_string, boolean, generalized_time, integer, text, utc_time};
 use asn1_leaves::oid;
 use asn1_numbers::sink::Sink;
 

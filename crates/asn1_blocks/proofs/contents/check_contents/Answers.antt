@@ -1,0 +1,56 @@
+use Rattle.std.proofs.Common.{◌≡◌, ◌≢◌, ℕ, List, Bool, true, false, inl, inr, refl, sym, subst, Result, Ok, Err, OnOk}
+use Rattle.std.proofs.lemmas.Result.{IfErr-weaker}
+use Rattle.asn1_headers.specs.declared.error.ASN1DecodeErr.{ASN1DecodeErr}
+use Rattle.asn1_headers.specs.declared.header.ASN1Class.{ASN1Class}
+use Rattle.asn1_headers.specs.declared.header.ASN1Class.TheVariants.{Universal}
+use Rattle.asn1_headers.specs.Header.{Encoding}
+use Rattle.asn1_blocks.specs.Contents.{is_group_tag}
+use Rattle.asn1_blocks.specs.Grammar.{of_leaf_contents}
+use Rattle.asn1_blocks.specs.HeadersBegun.{IsReadInside}
+use Rattle.asn1_blocks.specs.Inner.LeafBlocks.{IsNoLeafOrMeant, IsSingleAt}
+use Rattle.asn1_blocks.specs.Tree.{leaf, unknown}
+use Rattle.asn1_blocks.proofs.Leaves.{TagKind, unknown_tag, group_tag_of, leaf_tag_of, tag_kind, group_tag_is}
+use Rattle.asn1_blocks.proofs.contents.check_contents.Goals as goal
+
+-- a leaf, or contents octets that have no rule
+universal_single : (k : Bool) (n : ℕ) (contents : List ℕ) → (IsReadInside Universal k n → ⊥) → IsNoLeafOrMeant n contents
+    → (offset : ℕ) (octets : List ℕ) (h : ℕ) → Encoding octets Universal k n contents h → IsSingleAt offset octets
+universal_single k n contents shut (inr (l, t, m)) offset octets h F =
+    (leaf offset l, refl, record { constructed = k; contents = contents; header = h; encoding = subst (λ z. Encoding octets Universal k z contents h) t F; place = refl; means = m })
+universal_single k n contents shut (inl none) offset octets h F = elim (tag_kind n) [
+  | unknown_tag e ↦ (unknown Universal k offset n contents, refl, record { header = h; encoding = F; place = refl; stays = inl (refl, e) })
+  | group_tag_of g e ↦ absurd (shut (inl (refl, subst (λ z. is_group_tag z ≡ true) (sym e) (group_tag_is g))))
+  | leaf_tag_of e ↦ absurd (cc)
+]
+
+passed : {P Q : Type 0} (r : Result (Unit {0}) ASN1DecodeErr) → (P → Q) → OnOk r P → OnOk r Q
+passed (Ok x) f p = f p
+passed (Err e) f p = tt
+
+pub returns-in-Universal-clause-encoded : goal.returns-in-Universal-clause-encoded
+returns-in-Universal-clause-encoded c =
+    let h = c.args.header.now in
+    let all : (d : ASN1Class) → d ≡ Universal → (IsReadInside d h.constructed h.tag → ⊥) → IsNoLeafOrMeant h.tag c.args.contents.now
+    → (offset : ℕ) (octets : List ℕ) (i : ℕ) → Encoding octets d h.constructed h.tag c.args.contents.now i → IsSingleAt offset octets =
+    λ d e. subst (λ z. (IsReadInside z h.constructed h.tag → ⊥) → IsNoLeafOrMeant h.tag c.args.contents.now
+    → (offset : ℕ) (octets : List ℕ) (i : ℕ) → Encoding octets z h.constructed h.tag c.args.contents.now i → IsSingleAt offset octets) (sym e)
+    (universal_single h.constructed h.tag c.args.contents.now)
+    in
+    passed c.check_leaf.result (all h.class c.in-Universal.is c.requires.closed) c.check_leaf.ensures.found
+
+pub returns-in-Universal-clause-refused : goal.returns-in-Universal-clause-refused
+returns-in-Universal-clause-refused c =
+    IfErr-weaker c.check_leaf.result _ _ (λ e found. elim found [ inl memory ↦ inl memory | inr fault ↦ inr (c.in-Universal.is, of_leaf_contents fault) ])
+    c.check_leaf.ensures.refused
+
+pub returns-in_default : goal.returns-in_default
+returns-in_default c =
+    let h = c.args.header.now in
+    record {
+      encoded = λ offset octets i F. (
+        unknown h.class h.constructed offset h.tag c.args.contents.now,
+        refl,
+        record { header = i; encoding = F; place = refl; stays = inr (c.in_default.not-Universal, λ z. c.requires.closed (inr (c.in_default.not-Universal, z.0))) },
+      );
+      refused = tt;
+    }

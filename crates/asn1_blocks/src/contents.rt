@@ -1,0 +1,189 @@
+// Contents octets of blocks: which module reads and puts those of a tag. There is one for each kind that has a rule.
+ghost use Rattle.std.specs.Prelude.{◌≡◌, ◌↔◌, ℕ, List, false, None, Some, IfOk, IfErr, IsTrue, MatchOption, OnOk};
+ghost use Rattle.asn1_headers.specs.declared.header.ASN1Class.TheVariants.{Universal};
+ghost use Rattle.asn1_blocks.specs.Contents.{LeafFault, is_known_tag, is_leaf_tag};
+ghost use Rattle.asn1_blocks.specs.Inner.LeafBlocks.{IsLeafOf, IsNoLeafOrMeant, IsSingleAt};
+ghost use Rattle.asn1_blocks.specs.Inner.FaithfulWalk.{IsFaithfulIfLeaf};
+ghost use Rattle.asn1_headers.specs.Fault.{OutOfMemoryOr};
+ghost use Rattle.asn1_blocks.specs.Grammar.{ContentsFault, Encodes};
+ghost use Rattle.asn1_headers.specs.Header.{Encoding};
+ghost use Rattle.asn1_blocks.specs.HeadersBegun.{IsReadInside};
+ghost use Rattle.asn1_blocks.specs.Tree.{unknown};
+ghost use Rattle.asn1_blocks.specs.View.{view};
+ghost use Rattle.asn1_headers.specs.declared.error.ASN1DecodeErr.TheVariants.{OutOfMemory};
+
+use crate::block::ASN1Block;
+use crate::parsed::Header;
+use asn1_headers::error::ASN1DecodeErr;
+use asn1_headers::header::ASN1Class;
+use asn1_leaves::contents::text::TextForm;
+use asn1_leaves::contents::{bit_string, boolean, generalized_time, integer, text, utc_time};
+use asn1_leaves::oid;
+use asn1_numbers::number::big_uint::BigUint;
+use asn1_numbers::octets::copy_of;
+use std::alloc::Global;
+
+// The block of an encoding whose contents are not read as blocks.
+pub fn leaf_block(
+    alloc: Global,
+    header: Header,
+    contents: &[u8],
+    offset: usize,
+) -> Result<ASN1Block, ASN1DecodeErr>
+    requires closed { IsReadInside header.class header.constructed header.tag → ⊥ }
+    ensures encoded { IfOk result (λ b. (octets : List ℕ) (h : ℕ)
+        → Encoding octets header.class header.constructed header.tag contents.now h
+        → Encodes offset octets (view b)) }
+    ensures refused { IfErr result (OutOfMemoryOr (λ e.
+        (header.class ≡ Universal) × ContentsFault header.tag contents.now e)) }
+{
+    match header.class {
+        ASN1Class::Universal => match universal_leaf(alloc, &header.tag, contents, offset)? {
+            Some(block) => Ok(block),
+            None => unknown_block(alloc, header, contents, offset),
+        },
+        _ => unknown_block(alloc, header, contents, offset),
+    }
+}
+
+// The leaf that contents octets of class Universal mean, where their tag is that of one.
+fn universal_leaf(
+    alloc: Global,
+    tag: &BigUint,
+    contents: &[u8],
+    offset: usize,
+) -> Result<Option<ASN1Block>, ASN1DecodeErr>
+    ensures found { IfOk result (λ found. MatchOption found (is_leaf_tag tag.now ≡ false)
+        (λ b. IsLeafOf offset tag.now contents.now (view b))) }
+    ensures refused { IfErr result (OutOfMemoryOr (LeafFault tag.now contents.now)) }
+{
+    let block = match tag.to_u64() {
+        Some(1) => ASN1Block::Boolean(offset, boolean::read(contents)?),
+        Some(2) => ASN1Block::Integer(offset, integer::read(alloc, contents)?),
+        Some(3) => {
+            let (bits, octets) = bit_string::read(alloc, contents)?;
+            ASN1Block::BitString(offset, bits, octets)
+        }
+        Some(4) => ASN1Block::OctetString(offset, copy_of(alloc, contents)?),
+        Some(5) => ASN1Block::Null(offset),
+        Some(6) => ASN1Block::ObjectIdentifier(offset, oid::read(alloc, contents)?),
+        Some(12) => ASN1Block::UTF8String(offset, text::read(alloc, TextForm::Utf8, contents)?),
+        Some(19) => {
+            ASN1Block::PrintableString(offset, text::read(alloc, TextForm::Printable, contents)?)
+        }
+        Some(20) => ASN1Block::TeletexString(offset, text::read(alloc, TextForm::Utf8, contents)?),
+        Some(22) => ASN1Block::IA5String(offset, text::read(alloc, TextForm::Octets, contents)?),
+        Some(23) => ASN1Block::UTCTime(offset, utc_time::read(alloc, contents)?),
+        Some(24) => ASN1Block::GeneralizedTime(offset, generalized_time::read(alloc, contents)?),
+        Some(28) => {
+            ASN1Block::UniversalString(offset, text::read(alloc, TextForm::Utf8, contents)?)
+        }
+        Some(30) => ASN1Block::BMPString(offset, text::read(alloc, TextForm::Utf8, contents)?),
+        _ => return Ok(None),
+    };
+    Ok(Some(block))
+}
+
+// Whether the contents octets of an encoding that are not read as blocks are those of a block, of which none is made.
+pub fn check_contents(alloc: Global, header: &Header, contents: &[u8]) -> Result<(), ASN1DecodeErr>
+    requires closed { IsReadInside header.now.class header.now.constructed header.now.tag → ⊥ }
+    ensures encoded { OnOk result ((offset : ℕ) (octets : List ℕ) (h : ℕ)
+        → Encoding octets header.now.class header.now.constructed header.now.tag contents.now h
+        → IsSingleAt offset octets) }
+    ensures refused { IfErr result (OutOfMemoryOr (λ e.
+        (header.now.class ≡ Universal) × ContentsFault header.now.tag contents.now e)) }
+{
+    match header.class {
+        ASN1Class::Universal => check_leaf(alloc, &header.tag, contents),
+        _ => Ok(()),
+    }
+}
+
+// Whether contents octets of class Universal mean a leaf, where their tag is that of one.
+fn check_leaf(alloc: Global, tag: &BigUint, contents: &[u8]) -> Result<(), ASN1DecodeErr>
+    ensures found { OnOk result (IsNoLeafOrMeant tag.now contents.now) }
+    ensures refused { IfErr result (OutOfMemoryOr (LeafFault tag.now contents.now)) }
+{
+    match tag.to_u64() {
+        Some(1) => {
+            boolean::read(contents)?;
+            Ok(())
+        }
+        Some(2) => Ok(()),
+        Some(3) => bit_string::check(contents),
+        Some(4) => Ok(()),
+        Some(5) => Ok(()),
+        Some(6) => oid::check(alloc, contents),
+        Some(12) => text::check(TextForm::Utf8, contents),
+        Some(19) => text::check(TextForm::Printable, contents),
+        Some(20) => text::check(TextForm::Utf8, contents),
+        Some(22) => Ok(()),
+        Some(23) => {
+            utc_time::read(alloc, contents)?;
+            Ok(())
+        }
+        Some(24) => {
+            generalized_time::read(alloc, contents)?;
+            Ok(())
+        }
+        Some(28) => text::check(TextForm::Utf8, contents),
+        Some(30) => text::check(TextForm::Utf8, contents),
+        _ => Ok(()),
+    }
+}
+
+fn unknown_block(
+    alloc: Global,
+    header: Header,
+    contents: &[u8],
+    offset: usize,
+) -> Result<ASN1Block, ASN1DecodeErr>
+    ensures kept { IfOk result (λ b.
+        view b ≡ unknown header.class header.constructed offset header.tag contents.now) }
+    ensures refused { IfErr result (λ e. e ≡ OutOfMemory) }
+{
+    let octets = copy_of(alloc, contents)?;
+    let Header {
+        class,
+        constructed,
+        tag,
+        ..
+    } = header;
+    Ok(ASN1Block::Unknown(class, constructed, offset, tag, octets))
+}
+
+// Whether a leaf is read back as it is, once it is written.
+pub fn is_faithful_leaf(b: &ASN1Block) -> bool
+    ensures { IsTrue result ↔ IsFaithfulIfLeaf (view b.now) }
+{
+    match b {
+        ASN1Block::BitString(_, bits, v) => bit_string::is_faithful(*bits, v),
+        ASN1Block::UTF8String(_, s)
+        | ASN1Block::TeletexString(_, s)
+        | ASN1Block::UniversalString(_, s)
+        | ASN1Block::BMPString(_, s) => text::is_faithful(TextForm::Utf8, s),
+        ASN1Block::PrintableString(_, s) => text::is_faithful(TextForm::Printable, s),
+        ASN1Block::IA5String(_, s) => text::is_faithful(TextForm::Octets, s),
+        ASN1Block::ObjectIdentifier(_, identifier) => oid::is_faithful(identifier),
+        ASN1Block::UTCTime(_, d) => utc_time::is_faithful(d),
+        ASN1Block::GeneralizedTime(_, d) => generalized_time::is_faithful(d),
+        ASN1Block::Boolean(_, _)
+        | ASN1Block::Integer(_, _)
+        | ASN1Block::OctetString(_, _)
+        | ASN1Block::Null(_) => true,
+        ASN1Block::Sequence(_, _)
+        | ASN1Block::Set(_, _)
+        | ASN1Block::Explicit(_, _, _, _)
+        | ASN1Block::Unknown(_, _, _, _, _) => true,
+    }
+}
+
+// Whether contents octets of class Universal with this tag number have a rule.
+pub fn is_known(tag: &BigUint) -> bool
+    ensures { result ≡ is_known_tag tag.now }
+{
+    matches!(
+        tag.to_u64(),
+        Some(1..=6 | 12 | 16 | 17 | 19 | 20 | 22 | 23 | 24 | 28 | 30)
+    )
+}

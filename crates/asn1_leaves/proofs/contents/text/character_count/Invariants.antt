@@ -1,0 +1,11 @@
+use Rattle.std.proofs.Common.{◌≡◌, length, drop}
+use Rattle.std.specs.Str.{chars}
+use Rattle.asn1_leaves.specs.Contents.Text.{octet_write_fault}
+use Rattle.asn1_leaves.proofs.contents.text.character_count.Given as goal
+
+-- the characters that are left settle the answer
+abbrev pub invariant-loop-c : goal.invariant-loop-c
+invariant-loop-c l = record {
+  count : l.count ≡ length l.yielded;
+  fault : octet_write_fault (drop l.count (chars l.text)) ≡ octet_write_fault (chars l.text);
+}
