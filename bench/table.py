@@ -47,7 +47,7 @@ def cell(item, peer, operation):
     per_octet = TIME[key] / SIZES[item][0]
     if peer == "Rust crate":
         return f"**{number(per_octet)}**"
-    if per_octet < 0.02:
+    if per_octet < 0.02 or RATIO[key] <= 0:
         return "~0"
     return f"{number(per_octet)} ({number(RATIO[key]) if operation == 'Strict' else number(1 / RATIO[key])})"
 
