@@ -2,8 +2,11 @@
 use Rattle.std.proofs.Common.{
   ◌≡◌,
   ◌≢◌,
+  ◌↔◌,
+  IsTrue,
   ℕ,
   ◌+◌,
+  ◌%◌,
   ◌<◌,
   ◌≤◌,
   ◌^◌,
@@ -22,6 +25,7 @@ use Rattle.std.proofs.Common.{
   ap,
   ◌∙◌,
   subst,
+  ap₂,
   arith,
   length-append,
   append_assoc,
@@ -31,16 +35,18 @@ use Rattle.std.proofs.lemmas.Bool.{false≢true, cases_lt, cond_below, cond_abov
 use Rattle.std.specs.Int.Digits.{digits_of}
 use Rattle.asn1_blocks.specs.declared.block.GroupKind.{GroupKind}
 use Rattle.asn1_headers.specs.declared.header.ASN1Class.{ASN1Class}
-use Rattle.asn1_headers.specs.declared.header.ASN1Class.TheVariants.{Universal}
+use Rattle.asn1_headers.specs.declared.header.ASN1Class.TheVariants.{Universal, Application, ContextSpecific, Private}
 use Rattle.asn1_headers.specs.Header.{Encoding, leading_octet, shortest_identifier, shortest_length}
 use Rattle.asn1_numbers.specs.Base128.{shortest_base128}
-use Rattle.asn1_blocks.specs.Tree.{Tree, Trees, leaf, group, explicit, unknown, no_trees, more_trees}
+use Rattle.asn1_blocks.specs.Tree.{Trees, leaf, group, explicit, unknown, no_trees, more_trees}
 use Rattle.asn1_blocks.specs.Contents.{LeafContents, group_tag, is_known_tag, leaf_contents, leaf_tag}
 use Rattle.simple_asn1.specs.Canonical.{shortest_encoding, canonical, all_canonical}
 use Rattle.asn1_blocks.specs.Grammar.{Encodes, EncodesAll}
 use Rattle.asn1_blocks.specs.Places.{joined}
-use Rattle.simple_asn1.specs.Inner.InPlace.{AreCanonical, AreCanonicalContents, LeavesBoth}
-use Rattle.asn1_headers.proofs.Prefixes.{encoding_alone, identifier_alone, identifier_some, length_alone, same_split}
+use Rattle.simple_asn1.specs.Inner.InPlace.{AreCanonical, AreCanonicalContents, HasPlainTag, LeavesBoth}
+use Rattle.std.proofs.lemmas.Bool.Decides.{nat_tests}
+use Rattle.asn1_headers.proofs.Fronts.{leading_parts}
+use Rattle.asn1_headers.proofs.Prefixes.{bit_small, encoding_alone, identifier_alone, identifier_some, length_alone, same_split}
 use Rattle.asn1_blocks.proofs.OneReading.{block_some, encodes_block, only}
 use Rattle.asn1_blocks.proofs.Faults.{block_encoding}
 use Rattle.asn1_blocks.proofs.Leaves.{group_known, leaf_known, leaf_no_group}
@@ -276,3 +282,72 @@ leaves_group x rest g m few small e = record {
   canonical = λ none after. into x rest g m few small e after;
   fewer = fewer x [] rest Universal true (group_tag g) m e;
 }
+
+-- tag numbers from 31 on have no rule
+high_tag : (n : ℕ) → 31 ≤ n → is_known_tag n ≡ false
+high_tag n high = grind (arith, nat_tests, high)
+
+-- the leading octet of another class
+other_class : (b : ℕ) (c : ASN1Class) (k : Bool) → b ≡ leading_octet c k (b % 32) → 64 ≤ b → c ≢ Universal
+other_class b c k p high e =
+    let q : b ≡ leading_octet Universal k (b % 32) = p ∙ ap (λ z. leading_octet z k (b % 32)) e in
+    omega (arith, q, bit_small k, high)
+
+not_universal : (b : ℕ) (c : ASN1Class) (k : Bool) → b ≡ leading_octet c k (b % 32) → c ≢ Universal → 64 ≤ b
+not_universal b Universal k p not = absurd (not refl)
+not_universal b Application k p not = omega (arith, p)
+not_universal b ContextSpecific k p not = omega (arith, p)
+not_universal b Private k p not = omega (arith, p)
+
+-- a constructed encoding
+constructed_octet : (b : ℕ) (c : ASN1Class) (k : Bool) → b ≡ leading_octet c k (b % 32) → k ≡ true → 32 ≤ b % 64
+constructed_octet b c k p e =
+    let q : b ≡ leading_octet c true (b % 32) = p ∙ ap (λ z. leading_octet c z (b % 32)) e in
+    omega (arith, q)
+
+-- a tag of another class in one octet
+pub short_plain :
+    (b : ℕ) (rest : List ℕ) (holds : Bool) → b < 256 → b % 32 ≢ 31 → 64 ≤ b → (IsTrue holds ↔ ((64 ≤ b) × (32 ≤ b % 64))) →
+    HasPlainTag (b ∷ rest) holds rest
+short_plain b rest holds small low high is =
+    let (c, k, p) = leading_parts b small in
+    let n = b % 32 in
+    record {
+      class = c;
+      constructed = k;
+      tag = n;
+      plain = λ u. absurd (other_class b c k p high u);
+      other = λ h. other_class b c k p high;
+      holds = λ other e. is.1 (high, constructed_octet b c k p e);
+      whole = ap (λ z. z ∷ rest) p ∙ ap (λ z. z ++ rest)
+          (cond_below n 31 (leading_octet c k n ∷ []) (leading_octet c k 31 ∷ shortest_base128 n) (omega (arith, low)));
+    }
+
+-- a tag number of 31 or more
+pub long_plain :
+    (b n : ℕ) (rest after : List ℕ) (holds : Bool) → b < 256 → b % 32 ≡ 31 → 31 ≤ n → rest ≡ shortest_base128 n ++ after →
+    (IsTrue holds ↔ ((64 ≤ b) × (32 ≤ b % 64))) → HasPlainTag (b ∷ rest) holds after
+long_plain b n rest after holds small last high e is =
+    let (c, k, p) = leading_parts b small in
+    let long = leading_octet c k 31 ∷ shortest_base128 n in
+    let first : b ≡ leading_octet c k 31 = p ∙ ap (leading_octet c k) last in
+    let whole : b ∷ rest ≡ long ++ after = ap₂ (λ x xs. x ∷ xs) first e in
+    record {
+      class = c;
+      constructed = k;
+      tag = n;
+      plain = λ u. high_tag n high;
+      other = λ h. other_class b c k p (is.0 h).0;
+      holds = λ other f. is.1 (not_universal b c k p other, constructed_octet b c k p f);
+      whole = whole ∙ ap (λ z. z ++ after) (cond_above n 31 (leading_octet c k n ∷ []) long long high refl);
+    }
+
+-- what such an encoding leaves
+pub leaves_plain : (x r own rest : List ℕ) (holds : Bool) → length x < 2 ^ 64 → HasPlainTag x holds r
+    → r ≡ shortest_length (length own) ++ (own ++ rest) → (IsTrue holds → LeavesBoth x own rest) × ((IsTrue holds → ⊥) → LeavesBoth x [] rest)
+leaves_plain x r own rest holds few t e =
+    let whole = t.whole ∙ ap (λ z. shortest_identifier t.class t.constructed t.tag ++ z) e in (
+      λ h. leaves_within x own rest t.class t.constructed t.tag few whole (t.other h),
+      λ not. leaves x own rest t.class t.constructed t.tag few whole
+          (unruled t.class t.constructed t.tag own t.plain (λ other k. not (t.holds other k))),
+    )

@@ -32,7 +32,6 @@ use Rattle.std.proofs.Common.{
   ◌∙◌,
   subst,
   arith,
-  length-append,
 }
 use Rattle.std.specs.Prelude.{if◌then◌else◌, pos, decimal, unsigned_abs, IsAscii, IsUtf8}
 use Rattle.std.specs.Char.{is_ascii}
@@ -300,18 +299,3 @@ generalized_time_kept m w p = p.valid
 -- what was read is faithful
 pub generalized_time_read : (m : Moment) (contents : List ℕ) → GeneralizedTimeContents m contents → IsFaithfulGeneralizedTime m
 generalized_time_read m contents p = p.valid
-
--- fifteen octets have no fraction, and are written of the moment that they mean
-pub generalized_time_short : (m : Moment) (contents : List ℕ) → length contents ≡ 15 → GeneralizedTimeContents m contents
-    → contents ≡ generalized_time_contents m
-generalized_time_short m contents size p =
-    let one : length p.end ≡ 1 = omega (arith, size, ap length p.octets, length-append (to_second m) p.end) in
-    let (digits, end) = alone p.digits p.end one p.is_end.1 in
-    let none : m.nanosecond ≡ 0 = p.nanosecond ∙ ap (fraction_number tenth) digits in
-    p.octets ∙ ap (λ z. to_second m ++ z) (end ∙ ap (λ z. written_fraction z ++ (90 ∷ [])) (sym none))
-  where
-    alone : (digits end : List ℕ) → length end ≡ 1 → (end ≡ digits ++ (90 ∷ [])) ⊎ (end ≡ 46 ∷ (digits ++ (90 ∷ [])))
-        → (digits ≡ []) × (end ≡ 90 ∷ [])
-    alone [] end one (inl e) = (refl, e)
-    alone (d ∷ digits) end one (inl e) = absurd (omega (arith, one, ap length e, length-append digits (90 ∷ [])))
-    alone digits end one (inr e) = absurd (omega (arith, one, ap length e, length-append digits (90 ∷ [])))

@@ -27,6 +27,7 @@ pub fn read(alloc: Global, contents: &[u8]) -> Result<DateTime, ASN1DecodeErr>
     }
 }
 
+#[inline(always)]
 fn moment(contents: &[u8]) -> Option<DateTime>
     ensures found { IfSome result (λ d. GeneralizedTimeContents (moment_of d) contents.now) }
     ensures none { IfNone result ((m : Moment) → GeneralizedTimeContents m contents.now → ⊥) }

@@ -4,7 +4,7 @@ ghost use Rattle.asn1_leaves.specs.Contents.Integer.{IntegerContents, integer_co
 ghost use Rattle.asn1_headers.specs.declared.error.ASN1DecodeErr.TheVariants.{OutOfMemory};
 
 use asn1_headers::error::ASN1DecodeErr;
-use asn1_numbers::number::big_int::{BigInt, needless_octets};
+use asn1_numbers::number::big_int::BigInt;
 use asn1_numbers::sink::Sink;
 use std::alloc::Global;
 
@@ -34,5 +34,15 @@ pub fn are_canonical(contents: &[u8]) -> bool
     ensures { IsTrue result → (n : ℤ) → IntegerContents n contents.now
         → contents.now ≡ integer_contents n }
 {
-    !contents.is_empty() && needless_octets(contents) == 0
+    match contents {
+        [] => false,
+        [_] => true,
+        [first, second, ..] => {
+            if *second < 128 {
+                *first != 0
+            } else {
+                *first != 0xFF
+            }
+        }
+    }
 }

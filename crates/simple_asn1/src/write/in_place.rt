@@ -1,41 +1,71 @@
 // A quick look at whether octets that were read are canonical. It goes over the octets, header after header, and not
 // over the blocks: in a SEQUENCE or SET without a look at where it ends, since what was read has each block end where
 // the length before it says.
-ghost use Rattle.std.specs.Prelude.{◌≡◌, ◌++◌, ◌∷◌, ◌<◌, ◌^◌, false, length, IfErr, IfOk, IfSome, IsTrue};
-ghost use Rattle.asn1_headers.specs.Header.{shortest_identifier, shortest_length};
-ghost use Rattle.simple_asn1.specs.Inner.InPlace.{AreCanonical, AreCanonicalContents, LeavesBoth};
+ghost use Rattle.std.specs.Prelude.{◌≡◌, ◌↔◌, ◌++◌, ◌∷◌, ◌<◌, ◌≤◌, ◌%◌, ◌^◌, ℕ, false, length, IfErr, IfOk, IfSome, IsTrue};
+ghost use Rattle.asn1_numbers.specs.Base128.{shortest_base128};
+ghost use Rattle.asn1_headers.specs.Header.{shortest_length};
+ghost use Rattle.simple_asn1.specs.Inner.InPlace.{AreCanonical, AreCanonicalContents, HasPlainTag, LeavesBoth};
 ghost use Rattle.asn1_headers.specs.declared.header.ASN1Class.TheVariants.{Universal};
 ghost use Rattle.asn1_headers.specs.declared.error.ASN1DecodeErr.TheVariants.{OutOfMemory};
 
-use asn1_blocks::contents::is_known;
 use asn1_headers::error::ASN1DecodeErr;
-use asn1_headers::header::{
-    ASN1Class, HeaderCount, decode_tag, identifier_size, length_at, length_size,
-};
-use asn1_leaves::contents::{bit_string, boolean, generalized_time, integer, object_identifier};
+use asn1_headers::header::{decode_base127, length_at, length_size};
+use asn1_leaves::body::{bit_string, boolean, generalized_time, integer, object_identifier};
 use asn1_numbers::number::big_uint::BigUint;
+use smallvec::SmallVec;
 use std::alloc::Global;
 
-// The tag, where its identifier octets are the shortest, and what follows them.
-fn after_identifier(alloc: Global, octets: &[u8]) -> Option<((BigUint, bool, ASN1Class), &[u8])>
-    ensures { IfSome result (λ x. octets.now
-        ≡ shortest_identifier x.0.2 x.0.1 x.0.0 ++ x.1.now) }
+// What follows a tag number of 31 or more that has its shortest form.
+fn after_long_tag(alloc: Global, octets: &[u8]) -> Option<&[u8]>
+    ensures { IfSome result (λ rest. (n : ℕ) × (31 ≤ n) × (octets.now ≡ shortest_base128 n ++ rest.now)) }
 {
     let mut size = 0;
-    let (tag, constructed, class) = match decode_tag(
-        alloc,
-        octets,
-        &mut size,
-        &mut HeaderCount::new(),
-    ) {
-        Ok(tag) => tag,
+    let number = match decode_base127(alloc, octets, &mut size) {
+        Ok(number) => number,
         Err(_) => return None,
     };
-    if identifier_size(class, constructed, &tag) != size {
+    if number.base128_size() != size || !is_high(&number) {
         return None;
     }
     let (_, rest) = octets.split_at(size);
-    Some(((tag, constructed, class), rest))
+    Some(rest)
+}
+
+// Whether no octet alone can have this tag number.
+fn is_high(number: &BigUint) -> bool
+    ensures { IsTrue result → 31 ≤ number.now }
+{
+    match number.to_u64() {
+        Some(n) => n >= 31,
+        None => true,
+    }
+}
+
+// Whether the contents octets behind this leading octet may hold a block: it is of another class, and constructed.
+fn may_hold(leading: u8) -> bool
+    ensures { IsTrue result ↔ ((64 ≤ leading) × (32 ≤ leading % 64)) }
+{
+    leading >= 64 && leading % 64 >= 32
+}
+
+// What follows the identifier octets, where they are the shortest of a tag without a rule; and whether the contents
+// octets may hold a block.
+fn after_identifier(alloc: Global, octets: &[u8]) -> Option<(bool, &[u8])>
+    ensures { IfSome result (λ x. HasPlainTag octets.now x.0 x.1.now) }
+{
+    let Some((leading, rest)) = octets.split_first() else {
+        return None;
+    };
+    if *leading % 32 == 31 {
+        return match after_long_tag(alloc, rest) {
+            Some(after) => Some((may_hold(*leading), after)),
+            None => None,
+        };
+    }
+    if *leading < 64 {
+        return None;
+    }
+    Some((may_hold(*leading), rest))
 }
 
 // The length, where its octets are the shortest, and what follows them.
@@ -115,7 +145,7 @@ fn past_header<'a>(alloc: Global, octets: &'a [u8]) -> Option<(&'a [u8], &'a [u8
             Some((_, contents)) => Some((&[], contents)),
             None => None,
         },
-        0x01..=0x1E => past_leaf(octets, *identifier, rest),
+        0..=0x1E => past_leaf(octets, *identifier, rest),
         _ => past_other(alloc, octets),
     }
 }
@@ -133,36 +163,26 @@ fn past_leaf<'a>(octets: &'a [u8], identifier: u8, rest: &'a [u8]) -> Option<(&'
     }
 }
 
-// Past an encoding of another class, or with a longer tag. A constructed one of another class may hold a block.
+// Past an encoding with another identifier octet.
 fn past_other<'a>(alloc: Global, octets: &'a [u8]) -> Option<(&'a [u8], &'a [u8])>
     ensures { IfSome result (λ x. LeavesBoth octets.now x.0.now x.1.now) }
 {
-    let Some(((tag, constructed, class), rest)) = after_identifier(alloc, octets) else {
-        return None;
-    };
-    past_tag(octets, class, constructed, &tag, rest)
+    match after_identifier(alloc, octets) {
+        Some((may_hold, rest)) => past_plain(octets, may_hold, rest),
+        None => None,
+    }
 }
 
 // After these identifier octets.
 #[inline(always)]
-fn past_tag<'a>(
-    octets: &'a [u8],
-    class: ASN1Class,
-    constructed: bool,
-    tag: &BigUint,
-    rest: &'a [u8],
-) -> Option<(&'a [u8], &'a [u8])>
-    requires { octets.now ≡ shortest_identifier class constructed tag.now ++ rest.now }
+fn past_plain<'a>(octets: &'a [u8], may_hold: bool, rest: &'a [u8]) -> Option<(&'a [u8], &'a [u8])>
+    requires { HasPlainTag octets.now may_hold rest.now }
     ensures { IfSome result (λ x. LeavesBoth octets.now x.0.now x.1.now) }
 {
-    let Some((own, after)) = contents_at(rest) else {
-        return None;
-    };
-    match class {
-        ASN1Class::Universal if is_known(tag) => None,
-        ASN1Class::Universal => Some((&[], after)),
-        _ if constructed => Some((own, after)),
-        _ => Some((&[], after)),
+    match contents_at(rest) {
+        Some((own, after)) if may_hold => Some((own, after)),
+        Some((_, after)) => Some((&[], after)),
+        None => None,
     }
 }
 
@@ -174,7 +194,7 @@ pub(crate) fn are_canonical_in_place(alloc: Global, i: &[u8]) -> Result<bool, AS
 {
     let mut rest = i;
     // what comes after the rest, the next of it last
-    let mut outer = Vec::new(alloc);
+    let mut outer: SmallVec<&[u8], 4> = SmallVec::new(alloc);
     'headers: loop {
         if rest.is_empty() {
             match outer.pop() {

@@ -41,8 +41,9 @@ use std::slice;
 /// [`to_der`](crate::to_der) writes. Whoever demands one form of each document reads with it: two documents that it
 /// accepts have equal blocks exactly if their octets are the same.
 ///
-/// Memory is taken as reading takes it, and then for the lists of blocks that are begun; where the octets are not
-/// canonical, also for a list of all blocks, as [`to_der`](crate::to_der) has it. The octets are compared in place, and
+/// Memory is taken as reading takes it, and then where more than four constructed encodings of other classes than
+/// Universal stand inside one another; where the octets are not canonical, also for the lists of blocks that are begun
+/// and for a list of all blocks, as [`to_der`](crate::to_der) has it. The octets are compared in place, and
 /// none are written. What was read of a document that is refused is dropped by a loop; the blocks that are answered are
 /// dropped as those of [`from_der`](crate::from_der) are, by a loop where [`discard`](crate::discard) is called.
 ///

@@ -34,5 +34,5 @@ pub headers-preserved : goal.headers-preserved
 headers-preserved c inside outer =
     let waits = c.in-Some-past_header.after in
     let leaves : LeavesBoth c.headers.rest.now c.in-Some-past_header.inside.now waits.now = c.in-Some-past_header.ensures in
-    let pushed = pushed_all c.headers.outer.items c.push.new.self.items waits c.in_ok-push.ensures.items outer in
+    let pushed = pushed_all c.headers.outer.items c.push.new.self.items waits c.in_ok-push.ensures.ok outer in
     c.headers.invariant (leaves.canonical inside pushed.1) pushed.0
