@@ -18,8 +18,7 @@ pub begun_header :
 begun_header x offset limit h r found within at size contents class bit tag =
     let octets = slice_range x offset h.end in
     let l : length (slice_range x h.start h.end) ≡ h.end - h.start = slice_length x h.start h.end found.order (omega (arith, found.fits, within)) in
-    let w : drop offset x ≡ octets ++ drop h.end x = slice_split x offset h.end (omega (arith, found.past, found.order)) in
-    (
+    let w : drop offset x ≡ octets ++ drop h.end x = slice_split x offset h.end (omega (arith, found.past, found.order)) in (
       octets,
       record {
         rest = drop h.end x;

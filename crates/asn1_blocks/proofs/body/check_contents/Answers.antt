@@ -31,10 +31,10 @@ pub returns-in-Universal-clause-encoded : goal.returns-in-Universal-clause-encod
 returns-in-Universal-clause-encoded c =
     let h = c.args.header.now in
     let all : (d : ASN1Class) → d ≡ Universal → (IsReadInside d h.constructed h.tag → ⊥) → IsNoLeafOrMeant h.tag c.args.contents.now
-        → (offset : ℕ) (octets : List ℕ) (i : ℕ) → Encoding octets d h.constructed h.tag c.args.contents.now i → IsSingleAt offset octets =
-      λ d e. subst (λ z. (IsReadInside z h.constructed h.tag → ⊥) → IsNoLeafOrMeant h.tag c.args.contents.now
-        → (offset : ℕ) (octets : List ℕ) (i : ℕ) → Encoding octets z h.constructed h.tag c.args.contents.now i → IsSingleAt offset octets) (sym e)
-        (universal_single h.constructed h.tag c.args.contents.now)
+    → (offset : ℕ) (octets : List ℕ) (i : ℕ) → Encoding octets d h.constructed h.tag c.args.contents.now i → IsSingleAt offset octets =
+    λ d e. subst (λ z. (IsReadInside z h.constructed h.tag → ⊥) → IsNoLeafOrMeant h.tag c.args.contents.now
+    → (offset : ℕ) (octets : List ℕ) (i : ℕ) → Encoding octets z h.constructed h.tag c.args.contents.now i → IsSingleAt offset octets) (sym e)
+    (universal_single h.constructed h.tag c.args.contents.now)
     in
     passed c.check_leaf.result (all h.class c.in-Universal.is c.requires.closed) c.check_leaf.ensures.found
 
