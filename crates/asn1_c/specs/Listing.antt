@@ -30,7 +30,7 @@ use Rattle.simple_asn1.specs.Fault.{DecodeFault, OutOfMemoryOr}
 use Rattle.simple_asn1.specs.FaultPlace.{BlocksFaultAt}
 use Rattle.simple_asn1.specs.Grammar.{EncodesAll}
 use Rattle.simple_asn1.specs.Places.{EncodingAt}
-use Rattle.simple_asn1.specs.Tree.{Tree, trees_of}
+use Rattle.simple_asn1.specs.Tree.{Tree, Trees, trees_of}
 use Rattle.simple_asn1.specs.View.{tree_offset}
 use Rattle.asn1_c.specs.Records.{HasHeader, all_depths, header_of, items_in, no_record}
 use Rattle.asn1_c.specs.declared.listing.Listing.{Listing}
@@ -59,6 +59,10 @@ AreEntries document i [] (d ∷ ds) rs = ⊥
 AreEntries document i (b ∷ bs) [] rs = ⊥
 AreEntries document i (b ∷ bs) (d ∷ ds) [] = ⊥
 AreEntries document i (b ∷ bs) (d ∷ ds) (r ∷ rs) = IsEntry document b i d r × AreEntries document (suc i) bs ds rs
+
+-- the records are those of all trees of these, in order
+abbrev pub AreRecordsOf : List ℕ → Trees ℕ → List Block → Type 0
+AreRecordsOf document bs rs = AreEntries document 0 (all_in_order bs) (all_depths 0 bs) rs
 
 -- the record is of an encoding at the offset, which holds nothing so far
 pub record IsBegun (document : List ℕ) (place index deep : ℕ) (r : Block) : Type 0 where

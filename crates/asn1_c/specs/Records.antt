@@ -121,11 +121,3 @@ pub record IsRecordAt (whole : List ℕ) (bs : Trees ℕ) (k : ℕ) (r : Block) 
 abbrev pub AreRecords : List ℕ → Trees ℕ → List Block → Type 0
 AreRecords whole bs records =
     (k : ℕ) → k < length (all_in_order bs) → IsRecordAt whole bs k (get_or records k no_record)
-
--- the indexes after each of the trees and all that it holds
-abbrev pub AreNexts : List (Tree ℕ) → List ℕ → Type 0
-AreNexts trees nexts = (k : ℕ) → k < length trees → get_or nexts k 0 ≡ k + length (in_order (get_or trees k no_tree))
-
--- the trees are those of a document, in order
-abbrev pub IsInOrder : List (Tree ℕ) → Type 0
-IsInOrder trees = (bs : Trees ℕ) × (trees ≡ all_in_order bs)

@@ -2,7 +2,6 @@
 // blocks, of which none is made.
 ghost use Rattle.std.specs.Prelude.{◌≡◌, ◌≢◌, ◌++◌, ◌^◌, ◌<◌, ◌≤◌, ◌∷◌, [], ℕ, IfErr, IfOk, OnOk, is_some, length, reverse, take, suc};
 ghost use Rattle.asn1_blocks.specs.Inner.ReaderSteps.{attempt_of};
-ghost use Rattle.simple_asn1.specs.BlockParts.{all_in_order};
 ghost use Rattle.simple_asn1.specs.Fault.{OutOfMemoryOr, fault_of};
 ghost use Rattle.simple_asn1.specs.FaultPlace.{FirstFaultAt};
 ghost use Rattle.simple_asn1.specs.Grammar.{IsDocument};
@@ -10,7 +9,7 @@ ghost use Rattle.simple_asn1.specs.Tree.{Trees};
 ghost use Rattle.asn1_headers.specs.declared.error.ASN1DecodeErr.TheVariants.{OutOfMemory};
 ghost use Rattle.asn1_blocks.specs.Inner.HeaderPlaces.{HeaderFound};
 ghost use Rattle.asn1_c.specs.Listing.{
-  AreEntries,
+  AreRecordsOf,
   HasStepped,
   HasTurned,
   IsAdded,
@@ -22,7 +21,6 @@ ghost use Rattle.asn1_c.specs.Listing.{
   left,
   sealed,
 };
-ghost use Rattle.asn1_c.specs.Records.{all_depths, no_record};
 
 use crate::header::{capped, class_number_of};
 use crate::record::Block;
@@ -32,6 +30,9 @@ use asn1_blocks::read::{Extent, FrameKind, ReadAs, read_as};
 use simple_asn1::{ASN1DecodeErr, HeaderCount, LocatedErr};
 use std::alloc::{AllocError, Global};
 use std::mem;
+
+// Of so many octets at most it is guessed how many blocks they hold: one for 16, as in certificates.
+const RESERVED: usize = 4096;
 
 // Contents octets that are being read: the index of the record of their encoding, and how many blocks they have so far.
 #[derive(Drop)]
@@ -63,7 +64,7 @@ enum Turn {
 // The records of a document.
 pub fn list(alloc: Global, octets: &[u8]) -> Result<Vec<Block>, LocatedErr>
     ensures document { IfOk result (λ records. (bs : Trees ℕ) × IsDocument octets.now bs
-        × AreEntries octets.now 0 (all_in_order bs) (all_depths 0 bs) records.items) }
+        × AreRecordsOf octets.now bs records.items) }
     ensures refused { IfErr result
         (λ e. OutOfMemoryOr (λ fault. FirstFaultAt octets.now fault e.offset) e.error) }
 {
@@ -73,6 +74,12 @@ pub fn list(alloc: Global, octets: &[u8]) -> Result<Vec<Block>, LocatedErr>
             offset: 0,
         });
     }
+    let Ok(records) = Vec::with_capacity(alloc, octets.len().min(RESERVED) / 16) else {
+        return Err(LocatedErr {
+            error: ASN1DecodeErr::OutOfMemory,
+            offset: 0,
+        });
+    };
     let mut listing = Listing {
         inner: OpenFrame {
             extent: Extent {
@@ -85,7 +92,7 @@ pub fn list(alloc: Global, octets: &[u8]) -> Result<Vec<Block>, LocatedErr>
         },
         outer: Vec::new(alloc),
         index: 0,
-        records: Vec::new(alloc),
+        records,
         fault: ASN1DecodeErr::OutOfMemory,
     };
     'turns: loop {

@@ -1,21 +1,15 @@
-use Rattle.std.proofs.Common.{◌∙◌}
-use Rattle.asn1_c.proofs.Outcomes.{list_answer, refused_answer}
+use Rattle.asn1_c.proofs.Outcomes.{read_answer}
 use Rattle.asn1_c.proofs.TwoEach.{two_among}
 use Rattle.asn1_c.proofs.simple_asn1_read.Goals as goal
 
 pub returns-in-Ok-clause-answer : goal.returns-in-Ok-clause-answer
 returns-in-Ok-clause-answer c =
     let (bs, d, e) = c.in-Ok.ensures.document in
-    list_answer c.args.octets.now bs c.in-Ok.records.items c.deref.result.now c.args.blocks.now c.put_records.new.room c.put_records.result
+    read_answer c.args.octets.now bs c.in-Ok.records.items c.deref.result.now c.args.blocks.now c.put_records.new.room c.put_records.result
     c.deref.ensures.value d e c.put_records.ensures
 
 pub returns-in-Ok-clause-few : goal.returns-in-Ok-clause-few
 returns-in-Ok-clause-few c bs d = two_among bs 0 c.args.octets.now d.blocks
-
-pub returns-in-Err-clause-answer : goal.returns-in-Err-clause-answer
-returns-in-Err-clause-answer c =
-    refused_answer c.args.octets.now c.args.blocks.now c.refused_outcome.result c.in-Err.located c.in-Err.ensures.refused
-    (c.refused_outcome.ensures.0 ∙ c.fault_at.ensures.status) (c.refused_outcome.ensures.1 ∙ c.fault_at.ensures.offset)
 
 pub returns-in-Err-clause-few : goal.returns-in-Err-clause-few
 returns-in-Err-clause-few c bs d = two_among bs 0 c.args.octets.now d.blocks

@@ -13,17 +13,8 @@ pub fn read(alloc: Global, contents: &[u8]) -> Result<(usize, Vec<u8>), ASN1Deco
     ensures found { IfOk result (λ x. BitStringContents x.0 x.1.items contents.now) }
     ensures refused { IfErr result (OutOfMemoryOr (BitStringFault contents.now)) }
 {
-    let Some((unused, octets)) = contents.split_first() else {
-        return Ok((0, Vec::new(alloc)));
-    };
-    let Some(room) = octets.len().checked_mul(8) else {
-        return Err(ASN1DecodeErr::LengthTooLarge(contents.len()));
-    };
-    let unused = *unused as usize;
-    if room < unused {
-        return Err(ASN1DecodeErr::InvalidBitStringLength(room as isize - unused as isize));
-    }
-    Ok((room - unused, copy_of(alloc, octets)?))
+    let (bits, octets) = bits_in(contents)?;
+    Ok((bits, copy_of(alloc, octets)?))
 }
 
 // Whether the contents octets mean bits, without a copy of them.
@@ -31,8 +22,17 @@ pub fn check(contents: &[u8]) -> Result<(), ASN1DecodeErr>
     ensures found { OnOk result ((n : ℕ) × (v : List ℕ) × BitStringContents n v contents.now) }
     ensures refused { IfErr result (λ e. BitStringFault contents.now (fault_of e)) }
 {
+    bits_in(contents)?;
+    Ok(())
+}
+
+// The number of bits, and where the octets stand that hold them.
+fn bits_in(contents: &[u8]) -> Result<(usize, &[u8]), ASN1DecodeErr>
+    ensures found { IfOk result (λ x. BitStringContents x.0 x.1.now contents.now) }
+    ensures refused { IfErr result (λ e. BitStringFault contents.now (fault_of e)) }
+{
     let Some((unused, octets)) = contents.split_first() else {
-        return Ok(());
+        return Ok((0, contents));
     };
     let Some(room) = octets.len().checked_mul(8) else {
         return Err(ASN1DecodeErr::LengthTooLarge(contents.len()));
@@ -41,7 +41,7 @@ pub fn check(contents: &[u8]) -> Result<(), ASN1DecodeErr>
     if room < unused {
         return Err(ASN1DecodeErr::InvalidBitStringLength(room as isize - unused as isize));
     }
-    Ok(())
+    Ok((room - unused, octets))
 }
 
 // The number of octets that are written.

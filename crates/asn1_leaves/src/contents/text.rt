@@ -46,14 +46,23 @@ fn check_utf8(contents: &[u8]) -> Result<(), ASN1DecodeErr>
     ensures found { OnOk result ((cs : List ℕ) × TextContents Utf8 cs contents.now) }
     ensures refused { IfErr result (λ e. TextFault Utf8 contents.now (fault_of e)) }
 {
+    utf8_text(contents)?;
+    Ok(())
+}
+
+// The text, where it stands.
+fn utf8_text(contents: &[u8]) -> Result<&str, ASN1DecodeErr>
+    ensures found { IfOk result (λ text. (text.now ≡ contents.now) × IsUtf8 contents.now) }
+    ensures refused { IfErr result (λ e. TextFault Utf8 contents.now (fault_of e)) }
+{
     match str::from_utf8(contents) {
-        Ok(_) => Ok(()),
+        Ok(text) => Ok(text),
         Err(e) => Err(ASN1DecodeErr::UTF8DecodeFailure(e)),
     }
 }
 
 fn check_printable(contents: &[u8]) -> Result<(), ASN1DecodeErr>
-    ensures found { OnOk result ((cs : List ℕ) × TextContents Printable cs contents.now) }
+    ensures found { OnOk result (TextContents Printable contents.now contents.now) }
     ensures refused { IfErr result (λ e. TextFault Printable contents.now (fault_of e)) }
 {
     if are_printable(contents) {
@@ -67,10 +76,8 @@ fn read_utf8(alloc: Global, contents: &[u8]) -> Result<String, ASN1DecodeErr>
     ensures found { IfOk result (λ s. TextContents Utf8 (chars (string_bytes s)) contents.now) }
     ensures refused { IfErr result (OutOfMemoryOr (TextFault Utf8 contents.now)) }
 {
-    match str::from_utf8(contents) {
-        Ok(text) => Ok(String::from_str(alloc, text)?),
-        Err(e) => Err(ASN1DecodeErr::UTF8DecodeFailure(e)),
-    }
+    let text = utf8_text(contents)?;
+    Ok(String::from_str(alloc, text)?)
 }
 
 // Whether the octet is a character of a PrintableString.
@@ -113,9 +120,7 @@ fn read_printable(alloc: Global, contents: &[u8]) -> Result<String, ASN1DecodeEr
         TextContents Printable (chars (string_bytes s)) contents.now) }
     ensures refused { IfErr result (OutOfMemoryOr (TextFault Printable contents.now)) }
 {
-    if !are_printable(contents) {
-        return Err(ASN1DecodeErr::PrintableStringDecodeFailure);
-    }
+    check_printable(contents)?;
     Ok(read_ascii(alloc, contents)?)
 }
 

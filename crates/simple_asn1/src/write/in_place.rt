@@ -10,7 +10,7 @@ ghost use Rattle.asn1_headers.specs.declared.error.ASN1DecodeErr.TheVariants.{Ou
 
 use asn1_headers::error::ASN1DecodeErr;
 use asn1_headers::header::{decode_base127, length_at, length_size};
-use asn1_leaves::body::{bit_string, boolean, generalized_time, integer, object_identifier};
+use asn1_leaves::contents::{bit_string, boolean, generalized_time, integer, object_identifier};
 use asn1_numbers::number::big_uint::BigUint;
 use smallvec::SmallVec;
 use std::alloc::Global;

@@ -33,7 +33,7 @@ first_reading x rs outer r o =
     subst (λ z. Reads x z f (reverse outer) 0) (sym r) (subst (λ z. Reads x [] f (reverse z) 0) (sym o) none)
 
 pub turns-init : goal.turns-init
-turns-init c = first_reading c.args.octets.now c.new-2.result.items c.new.result.items c.new-2.ensures.items c.new.ensures.items
+turns-init c = first_reading c.args.octets.now c.in-Ok.records.items c.new.result.items c.in-Ok.ensures.items c.new.ensures.items
 
 turned_more : (x : List ℕ) (t : Turn) (l : Listing) (most : ℕ) → t ≡ More → HasTurned x t l most → GoesOn x l most
 turned_more x t l most e w = subst (λ z. HasTurned x z l most) e w

@@ -2,7 +2,7 @@ use Rattle.std.proofs.Common.{◌≢◌, ◌+◌, ◌<◌, get_or, length, sym, 
 use Rattle.std.proofs.lemmas.Bool.Decides.{nat_tests}
 use Rattle.asn1_numbers.specs.TwosComplement.{shortest_octets}
 use Rattle.asn1_numbers.proofs.SignedNumbers.{shortest_from, sign_before}
-use Rattle.asn1_leaves.proofs.body.integer.are_canonical.Goals as goal
+use Rattle.asn1_leaves.proofs.contents.integer.are_canonical.Goals as goal
 
 pub returns-in-len1 : goal.returns-in-len1
 returns-in-len1 c said n p =
