@@ -73,7 +73,9 @@ fn check_natural(rt: &impl Abort, alloc: Global, digits: &str, numeral: &str) ->
 
 #[test]
 fn what_is_no_numeral_is_no_number(rt: HostRuntime) -> Result<(), Fail> {
-    for text in ["", "00", "0840", "+840", "-840", " 840", "8 40", "8_40", "0x0"] {
+    for text in [
+        "", "00", "0840", "+840", "-840", " 840", "8 40", "8_40", "0x0",
+    ] {
         assert!(&rt; BigUint::from_text(rt.alloc(), text)?.is_none(), "{text}");
     }
     Ok(())

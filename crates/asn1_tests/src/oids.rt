@@ -83,7 +83,9 @@ fn identifiers_are_written_in_decimal(rt: HostRuntime) -> Result<(), Fail> {
 
 #[test]
 fn what_is_no_list_of_numerals_is_no_identifier(rt: HostRuntime) -> Result<(), Fail> {
-    for text in ["", ".", "1.", ".1", "1..2", "1.02", "1.+2", "1.2 ", "1,2", "oid"] {
+    for text in [
+        "", ".", "1.", ".1", "1..2", "1.02", "1.+2", "1.2 ", "1,2", "oid",
+    ] {
         assert!(&rt; OID::from_text(rt.alloc(), text)?.is_none(), "{text}");
     }
     Ok(())

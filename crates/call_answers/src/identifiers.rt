@@ -45,8 +45,8 @@ impl IdentifierCall {
         }
     }
 
-    // The answer of the call, of the object identifier of these components or of this text, or of that which the document
-    // begins with.
+    // The answer of the call, of the object identifier of these components or of this text, or of that which the
+    // document begins with.
     pub fn answer(&self, alloc: Global, octets: &[u8]) -> Result<String, AllocError> {
         match self {
             IdentifierCall::New => new_contents(alloc, octets),

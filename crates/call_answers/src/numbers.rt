@@ -32,8 +32,8 @@ impl NaturalCall {
         }
     }
 
-    // The number in decimal, made of that of the two's complement octets; or what is said of those of base-128 forms; or
-    // the base-128 form of the number of a text.
+    // The number in decimal, made of that of the two's complement octets; or what is said of those of base-128 forms;
+    // or the base-128 form of the number of a text.
     pub fn answer(&self, alloc: Global, octets: &[u8]) -> Result<String, AllocError> {
         match self {
             NaturalCall::FromText => natural_read(alloc, octets),
