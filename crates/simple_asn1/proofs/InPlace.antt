@@ -129,6 +129,7 @@ both : (o : ℕ) (x s r rest written : List ℕ) (bs : Trees ℕ) → x ≡ s ++
 both o x s r rest written bs w t here then after =
     w ∙ (ap (λ z. z ++ r) here ∙ ap (λ z. written ++ z) (then ∙ after o bs (subst (λ z. EncodesAll o z bs) then t)))
 
+-- contents octets fit in a slice where those around them do
 own_small : (x own rest : List ℕ) (c : ASN1Class) (k : Bool) (n : ℕ) → length x < 2 ^ 64
     → x ≡ shortest_identifier c k n ++ (shortest_length (length own) ++ (own ++ rest)) → length own < 2 ^ 64
 own_small x own rest c k n few e =
@@ -137,7 +138,7 @@ own_small x own rest c k n few e =
     omega (arith, few, ap length e, length-append i (l ++ (own ++ rest)), length-append l (own ++ rest), length-append own rest)
 
 -- past an encoding that is no SEQUENCE or SET
-pub past : (x own rest : List ℕ) (c : ASN1Class) (k : Bool) (n : ℕ) → length x < 2 ^ 64 → AreCanonicalContents c k n own
+past : (x own rest : List ℕ) (c : ASN1Class) (k : Bool) (n : ℕ) → length x < 2 ^ 64 → AreCanonicalContents c k n own
     → x ≡ shortest_identifier c k n ++ (shortest_length (length own) ++ (own ++ rest)) → AreCanonical rest → AreCanonical x
 past x own rest c k n few keeps e after o no_trees s = s
 past x own rest c k n few keeps e after o (more_trees (leaf p l) bs) s =
@@ -160,8 +161,9 @@ past x own rest c k n few keeps e after o (more_trees (explicit d p m b) bs) s =
     (own_small x own rest c k n few e) e in
     let q = same_split one.contents own s.rest rest f.size f.whole in
     let within = keeps.within (λ u. one.other (f.class ∙ u)) (sym f.constructed) in
-    let item : EncodesAll (o + one.header) own (more_trees b no_trees) = only (o + one.header) own b (subst (λ z. Encodes (o + one.header) z b) q.0 one.means) in
-    let written : own ≡ canonical b = within (o + one.header) (more_trees b no_trees) item ∙ append-nil (canonical b) in
+    let place = o + one.header in
+    let item : EncodesAll place own (more_trees b no_trees) = only place own b (subst (λ z. Encodes place z b) q.0 one.means) in
+    let written : own ≡ canonical b = within place (more_trees b no_trees) item ∙ append-nil (canonical b) in
     let here = f.encoding ∙ same_encoding c d k true n m one.contents (canonical b) (sym f.class) (sym f.constructed) (sym f.tag) (q.0 ∙ written) in
     both (o + length s.first) x s.first s.rest rest (canonical (explicit d p m b)) bs s.whole s.items here q.1 after
 past x own rest c k n few keeps e after o (more_trees (unknown d j p m v) bs) s =
@@ -173,7 +175,7 @@ past x own rest c k n few keeps e after o (more_trees (unknown d j p m v) bs) s 
     both (o + length s.first) x s.first s.rest rest (canonical (unknown d j p m v)) bs s.whole s.items here q.1 after
 
 -- into a SEQUENCE or SET
-pub into : (x rest : List ℕ) (g : GroupKind) (m : ℕ) → length x < 2 ^ 64 → m < 2 ^ 64
+into : (x rest : List ℕ) (g : GroupKind) (m : ℕ) → length x < 2 ^ 64 → m < 2 ^ 64
     → x ≡ shortest_identifier Universal true (group_tag g) ++ (shortest_length m ++ rest) → AreCanonical rest → AreCanonical x
 into x rest g m few small e after o no_trees s = s
 into x rest g m few small e after o (more_trees (leaf p l) bs) s =
@@ -245,7 +247,7 @@ low_identifier n low =
     sym (cond_below n 31 (leading_octet Universal false n ∷ []) (leading_octet Universal false 31 ∷ shortest_base128 n) low) ∙ ap (λ z. z ∷ []) same
 
 -- contents octets of a tag without a rule
-pub unruled : (c : ASN1Class) (k : Bool) (n : ℕ) (own : List ℕ) → (c ≡ Universal → is_known_tag n ≡ false) → (c ≢ Universal → k ≡ true → ⊥)
+unruled : (c : ASN1Class) (k : Bool) (n : ℕ) (own : List ℕ) → (c ≡ Universal → is_known_tag n ≡ false) → (c ≢ Universal → k ≡ true → ⊥)
     → AreCanonicalContents c k n own
 unruled c k n own plain closed = record {
   no_group = λ u g e. false≢true (sym (plain u) ∙ ap is_known_tag e ∙ group_known g);
@@ -263,7 +265,7 @@ leaves x own rest c k n few e keeps = record {
 }
 
 -- one of another class leaves its contents octets
-pub leaves_within : (x own rest : List ℕ) (c : ASN1Class) (k : Bool) (n : ℕ) → length x < 2 ^ 64
+leaves_within : (x own rest : List ℕ) (c : ASN1Class) (k : Bool) (n : ℕ) → length x < 2 ^ 64
     → x ≡ shortest_identifier c k n ++ (shortest_length (length own) ++ (own ++ rest)) → c ≢ Universal → LeavesBoth x own rest
 leaves_within x own rest c k n few e other = record {
   canonical = λ inside after. past x own rest c k n few (record {
@@ -293,6 +295,7 @@ other_class b c k p high e =
     let q : b ≡ leading_octet Universal k (b % 32) = p ∙ ap (λ z. leading_octet z k (b % 32)) e in
     omega (arith, q, bit_small k, high)
 
+-- and the other way round
 not_universal : (b : ℕ) (c : ASN1Class) (k : Bool) → b ≡ leading_octet c k (b % 32) → c ≢ Universal → 64 ≤ b
 not_universal b Universal k p not = absurd (not refl)
 not_universal b Application k p not = omega (arith, p)
