@@ -97,6 +97,7 @@ all_added x rs ss f g [] ts (us ∷ rest) t same at count e a = absurd a
 all_added x rs ss f g (h ∷ gs) ts [] t same at count e a = absurd a
 all_added x rs ss f g (h ∷ gs) ts (us ∷ rest) t same at count e a =
     let size : length rs ≡ suc f.entry + length a.own = omega (arith, ap length a.whole, length-append a.front (a.head ∷ a.own), a.entry) in
+    let now = trees_of (ts ++ t ∷ []) in
     let more = entries_more x (suc f.entry) (length rs) (suc (length gs)) ts t a.own ss size a.entries e in
     let place = subst (λ (z : Extent). IsBegun x (offset_of z.kind) f.entry (length gs) a.head) (sym same) a.begun in
     record {
@@ -107,7 +108,7 @@ all_added x rs ss f g (h ∷ gs) ts (us ∷ rest) t same at count e a =
       entry = at ∙ a.entry;
       count = omega (arith, count, a.count, length-append ts (t ∷ []));
       begun = subst (λ z. IsBegun x (offset_of g.extent.kind) z (length gs) a.head) (sym at) place;
-      entries = subst (λ z. AreEntries x (suc z) (all_in_order (trees_of (ts ++ t ∷ []))) (all_depths (suc (length gs)) (trees_of (ts ++ t ∷ []))) (a.own ++ ss)) (sym at) more;
+      entries = subst (λ z. AreEntries x (suc z) (all_in_order now) (all_depths (suc (length gs)) now) (a.own ++ ss)) (sym at) more;
       around = a.around;
     }
 

@@ -19,6 +19,7 @@ ghost use Rattle.std.specs.Prelude.{
 ghost use Rattle.simple_asn1.specs.FittingNumbers.{HasNotAll};
 ghost use Rattle.simple_asn1.specs.Tree.{leaf, object_identifier};
 ghost use Rattle.simple_asn1.specs.View.{tree_offset, view};
+ghost use Rattle.asn1_c.specs.Status.{no_memory, out_of_range};
 ghost use Rattle.asn1_c.specs.Values.{AnswersIdentifier, dotted, pointed};
 
 use crate::alone::{only_block, read_alone};
@@ -72,8 +73,8 @@ fn dotted_text(alloc: Global, numbers: &[u128]) -> Result<String, AllocError>
 // The text of an object identifier, or the number of why there is none.
 fn text_of(alloc: Global, oid: &OID) -> Result<String, u32>
     ensures text { IfOk result (λ text. string_bytes text ≡ dotted oid.now) }
-    ensures refused { IfErr result (λ status. (status ≡ 10)
-        ⊎ ((status ≡ 13) × HasNotAll (λ n. n < 2 ^ 128) oid.now)) }
+    ensures refused { IfErr result (λ status. (status ≡ no_memory)
+        ⊎ ((status ≡ out_of_range) × HasNotAll (λ n. n < 2 ^ 128) oid.now)) }
 {
     let numbers = match oid.as_vec::<u128>(alloc) {
         Ok(numbers) => numbers,
