@@ -1,35 +1,5 @@
 -- The records of frames that are open, and of those that end.
-use Rattle.std.proofs.Common.{
-  ◌≡◌,
-  ◌≢◌,
-  ℕ,
-  suc,
-  ◌+◌,
-  ◌-◌,
-  ◌<◌,
-  ◌≤◌,
-  ◌^◌,
-  ◌++◌,
-  List,
-  [],
-  ◌∷◌,
-  get_or,
-  is_some,
-  true,
-  length,
-  reverse,
-  set,
-  take,
-  refl,
-  sym,
-  ap,
-  ◌∙◌,
-  subst,
-  arith,
-  append_assoc,
-  append-nil,
-  length-append,
-}
+use Rattle.std.proofs.Common.{◌≡◌, ◌≢◌, ℕ, suc, ◌+◌, ◌-◌, ◌<◌, ◌≤◌, ◌^◌, ◌++◌, List, [], ◌∷◌, is_some, true, length, reverse, set, take, refl, sym, ap, ◌∙◌, subst, arith, append_assoc, append-nil, length-append}
 use Rattle.std.specs.List.{slice_range}
 use Rattle.std.proofs.lemmas.List.{length-reverse, reverse-append}
 use Rattle.std.proofs.Math.Seq.{get_or-append_seam, set-append_seam}
@@ -43,9 +13,9 @@ use Rattle.asn1_headers.specs.declared.header.ASN1Class.TheVariants.{Universal}
 use Rattle.simple_asn1.specs.Fault.{DecodeFault}
 use Rattle.simple_asn1.specs.FaultPlace.{BlocksFaultAt}
 use Rattle.simple_asn1.specs.HeaderFault.{HeaderFault}
-use Rattle.simple_asn1.specs.Grammar.{ContentsFault, Encodes}
+use Rattle.simple_asn1.specs.Grammar.{ContentsFault}
 use Rattle.simple_asn1.specs.HeadersBegun.{IsReadInside}
-use Rattle.simple_asn1.specs.BlockParts.{all_in_order, in_order, tree_items}
+use Rattle.simple_asn1.specs.BlockParts.{all_in_order, in_order}
 use Rattle.simple_asn1.specs.Tree.{Tree, group, trees_of}
 use Rattle.simple_asn1.specs.View.{tree_offset}
 use Rattle.asn1_blocks.specs.Inner.HeaderPlaces.{HeaderFound}
@@ -56,7 +26,7 @@ use Rattle.asn1_blocks.specs.Inner.ReaderSteps.{IsKindOf, attempt_of}
 use Rattle.asn1_blocks.proofs.Frames.Advances.{opened_more, opened_places}
 use Rattle.asn1_blocks.proofs.Frames.Closing.{close_attempt, close_group, end_document}
 use Rattle.asn1_blocks.proofs.Frames.Opening.{header_stopping, headed_by, leaf_follows, leaf_stopping, opened_open}
-use Rattle.asn1_blocks.proofs.Frames.Stopping.{IsClosed, StoppingPlaces, stop_attempt, stop_document, stop_pop, stopping_places}
+use Rattle.asn1_blocks.proofs.Frames.Stopping.{IsClosed, stop_attempt, stop_document, stop_pop}
 use Rattle.asn1_blocks.proofs.Reader.Closing.{one_means, other_means, single}
 use Rattle.asn1_blocks.proofs.Slices.{encodes_offset}
 use Rattle.asn1_c.specs.Listing.{
@@ -83,7 +53,7 @@ use Rattle.asn1_c.specs.Records.{all_depths, depths, no_record}
 use Rattle.asn1_c.specs.declared.listing.Listing.{Listing}
 use Rattle.asn1_c.specs.declared.listing.OpenFrame.{OpenFrame}
 use Rattle.asn1_c.specs.declared.record.Block.{Block}
-use Rattle.asn1_c.proofs.Entries.{begun_entry, entries_length, entries_more, sealed_entry}
+use Rattle.asn1_c.proofs.Entries.{begun_entry, entries_more, sealed_entry}
 use Rattle.asn1_c.proofs.Orders.{held}
 
 -- the frame has one tree more, and these records more
