@@ -1,5 +1,5 @@
 -- The record of a header that was found.
-use Rattle.std.proofs.Common.{◌≡◌, ℕ, ◌+◌, ◌-◌, ◌<◌, ◌≤◌, ◌++◌, List, drop, length, sym, ap, ◌∙◌, subst, arith}
+use Rattle.std.proofs.Common.{◌≡◌, ℕ, ◌-◌, ◌≤◌, ◌++◌, List, drop, length, sym, ap, ◌∙◌, subst, arith}
 use Rattle.std.specs.List.{slice_range}
 use Rattle.asn1_blocks.specs.Inner.HeaderPlaces.{HeaderFound}
 use Rattle.asn1_blocks.specs.declared.parsed.Header.{Header}

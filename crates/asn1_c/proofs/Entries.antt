@@ -1,30 +1,5 @@
 -- Records of trees in order.
-use Rattle.std.proofs.Common.{
-  ◌≡◌,
-  ℕ,
-  zero,
-  suc,
-  ◌+◌,
-  ◌-◌,
-  ◌<◌,
-  ◌++◌,
-  List,
-  [],
-  ◌∷◌,
-  Option,
-  None,
-  get_or,
-  length,
-  refl,
-  sym,
-  ap,
-  ◌∙◌,
-  subst,
-  arith,
-  append_assoc,
-  append-nil,
-  length-append,
-}
+use Rattle.std.proofs.Common.{◌≡◌, ℕ, zero, suc, ◌+◌, ◌<◌, ◌++◌, List, [], ◌∷◌, None, get_or, length, refl, sym, ap, ◌∙◌, subst, arith, append_assoc, append-nil}
 use Rattle.simple_asn1.specs.BlockParts.{all_in_order, in_order, tree_items}
 use Rattle.simple_asn1.specs.Grammar.{IsDocument}
 use Rattle.simple_asn1.specs.Places.{EncodingAt}
@@ -32,19 +7,7 @@ use Rattle.simple_asn1.specs.Tree.{Tree, Trees, explicit, group, leaf, trees_of,
 use Rattle.simple_asn1.specs.View.{tree_offset}
 use Rattle.asn1_blocks.proofs.Slices.{encoding_at_alone, octets_encoding}
 use Rattle.asn1_c.specs.Listing.{AreEntries, HasHeaderAt, IsBegun, IsEntry, with_items}
-use Rattle.asn1_c.specs.Records.{
-  AreRecords,
-  HasHeader,
-  IsRecordAt,
-  Stands,
-  all_depths,
-  count_of,
-  depths,
-  header_of,
-  items_in,
-  no_record,
-  no_tree,
-}
+use Rattle.asn1_c.specs.Records.{AreRecords, HasHeader, Stands, all_depths, count_of, depths, header_of, no_record, no_tree}
 use Rattle.asn1_c.specs.declared.record.Block.{Block}
 use Rattle.asn1_c.proofs.Orders.{depth_first, head_first, held, held_count}
 use Rattle.asn1_c.proofs.Standing.{stands_at}

@@ -1,35 +1,5 @@
 -- The records of frames that are open, and of those that end.
-use Rattle.std.proofs.Common.{
-  ◌≡◌,
-  ◌≢◌,
-  ℕ,
-  suc,
-  ◌+◌,
-  ◌-◌,
-  ◌<◌,
-  ◌≤◌,
-  ◌^◌,
-  ◌++◌,
-  List,
-  [],
-  ◌∷◌,
-  get_or,
-  is_some,
-  true,
-  length,
-  reverse,
-  set,
-  take,
-  refl,
-  sym,
-  ap,
-  ◌∙◌,
-  subst,
-  arith,
-  append_assoc,
-  append-nil,
-  length-append,
-}
+use Rattle.std.proofs.Common.{◌≡◌, ◌≢◌, ℕ, suc, ◌+◌, ◌-◌, ◌<◌, ◌≤◌, ◌^◌, ◌++◌, List, [], ◌∷◌, is_some, true, length, reverse, set, take, refl, sym, ap, ◌∙◌, subst, arith, append_assoc, append-nil, length-append}
 use Rattle.std.specs.List.{slice_range}
 use Rattle.std.proofs.lemmas.List.{length-reverse, reverse-append}
 use Rattle.std.proofs.Math.Seq.{get_or-append_seam, set-append_seam}
@@ -43,9 +13,9 @@ use Rattle.asn1_headers.specs.declared.header.ASN1Class.TheVariants.{Universal}
 use Rattle.simple_asn1.specs.Fault.{DecodeFault}
 use Rattle.simple_asn1.specs.FaultPlace.{BlocksFaultAt}
 use Rattle.simple_asn1.specs.HeaderFault.{HeaderFault}
-use Rattle.simple_asn1.specs.Grammar.{ContentsFault, Encodes}
+use Rattle.simple_asn1.specs.Grammar.{ContentsFault}
 use Rattle.simple_asn1.specs.HeadersBegun.{IsReadInside}
-use Rattle.simple_asn1.specs.BlockParts.{all_in_order, in_order, tree_items}
+use Rattle.simple_asn1.specs.BlockParts.{all_in_order, in_order}
 use Rattle.simple_asn1.specs.Tree.{Tree, group, trees_of}
 use Rattle.simple_asn1.specs.View.{tree_offset}
 use Rattle.asn1_blocks.specs.Inner.HeaderPlaces.{HeaderFound}
@@ -56,7 +26,7 @@ use Rattle.asn1_blocks.specs.Inner.ReaderSteps.{IsKindOf, attempt_of}
 use Rattle.asn1_blocks.proofs.Frames.Advances.{opened_more, opened_places}
 use Rattle.asn1_blocks.proofs.Frames.Closing.{close_attempt, close_group, end_document}
 use Rattle.asn1_blocks.proofs.Frames.Opening.{header_stopping, headed_by, leaf_follows, leaf_stopping, opened_open}
-use Rattle.asn1_blocks.proofs.Frames.Stopping.{IsClosed, StoppingPlaces, stop_attempt, stop_document, stop_pop, stopping_places}
+use Rattle.asn1_blocks.proofs.Frames.Stopping.{IsClosed, stop_attempt, stop_document, stop_pop}
 use Rattle.asn1_blocks.proofs.Reader.Closing.{one_means, other_means, single}
 use Rattle.asn1_blocks.proofs.Slices.{encodes_offset}
 use Rattle.asn1_c.specs.Listing.{
@@ -83,7 +53,7 @@ use Rattle.asn1_c.specs.Records.{all_depths, depths, no_record}
 use Rattle.asn1_c.specs.declared.listing.Listing.{Listing}
 use Rattle.asn1_c.specs.declared.listing.OpenFrame.{OpenFrame}
 use Rattle.asn1_c.specs.declared.record.Block.{Block}
-use Rattle.asn1_c.proofs.Entries.{begun_entry, entries_length, entries_more, sealed_entry}
+use Rattle.asn1_c.proofs.Entries.{begun_entry, entries_more, sealed_entry}
 use Rattle.asn1_c.proofs.Orders.{held}
 
 -- the frame has one tree more, and these records more
@@ -97,6 +67,7 @@ all_added x rs ss f g [] ts (us ∷ rest) t same at count e a = absurd a
 all_added x rs ss f g (h ∷ gs) ts [] t same at count e a = absurd a
 all_added x rs ss f g (h ∷ gs) ts (us ∷ rest) t same at count e a =
     let size : length rs ≡ suc f.entry + length a.own = omega (arith, ap length a.whole, length-append a.front (a.head ∷ a.own), a.entry) in
+    let now = trees_of (ts ++ t ∷ []) in
     let more = entries_more x (suc f.entry) (length rs) (suc (length gs)) ts t a.own ss size a.entries e in
     let place = subst (λ (z : Extent). IsBegun x (offset_of z.kind) f.entry (length gs) a.head) (sym same) a.begun in
     record {
@@ -107,7 +78,7 @@ all_added x rs ss f g (h ∷ gs) ts (us ∷ rest) t same at count e a =
       entry = at ∙ a.entry;
       count = omega (arith, count, a.count, length-append ts (t ∷ []));
       begun = subst (λ z. IsBegun x (offset_of g.extent.kind) z (length gs) a.head) (sym at) place;
-      entries = subst (λ z. AreEntries x (suc z) (all_in_order (trees_of (ts ++ t ∷ []))) (all_depths (suc (length gs)) (trees_of (ts ++ t ∷ []))) (a.own ++ ss)) (sym at) more;
+      entries = subst (λ z. AreEntries x (suc z) (all_in_order now) (all_depths (suc (length gs)) now) (a.own ++ ss)) (sym at) more;
       around = a.around;
     }
 

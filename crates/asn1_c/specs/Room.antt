@@ -1,5 +1,5 @@
 -- Octets that are put into room that the caller has.
-use Rattle.std.specs.Prelude.{◌≡◌, ◌⊎◌, ℕ, ◌<◌, ◌++◌, List, drop, length}
+use Rattle.std.specs.Prelude.{◌≡◌, ◌⊎◌, ◌<◌, ◌++◌, List, drop, length}
 use Rattle.asn1_c.specs.Status.{done, no_room}
 use Rattle.asn1_c.specs.declared.record.Outcome.{Outcome}
 

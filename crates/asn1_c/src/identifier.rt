@@ -16,6 +16,7 @@ ghost use Rattle.simple_asn1.specs.DottedDecimal.{dotted_decimal};
 ghost use Rattle.simple_asn1.specs.FittingNumbers.{HasNotAll};
 ghost use Rattle.simple_asn1.specs.Tree.{leaf, object_identifier};
 ghost use Rattle.simple_asn1.specs.View.{tree_offset, view};
+ghost use Rattle.asn1_c.specs.Status.{no_memory, out_of_range};
 ghost use Rattle.asn1_c.specs.Values.{AnswersIdentifier};
 
 use crate::alone::{only_block, read_alone};
@@ -39,8 +40,8 @@ pub fn identifier_of(block: &ASN1Block) -> Option<&OID>
 // The text of an object identifier, or the number of why there is none.
 fn text_of(alloc: Global, oid: &OID) -> Result<String, u32>
     ensures text { IfOk result (λ text. string_bytes text ≡ dotted_decimal oid.now) }
-    ensures refused { IfErr result (λ status. (status ≡ 10)
-        ⊎ ((status ≡ 13) × HasNotAll (λ n. n < 2 ^ 128) oid.now)) }
+    ensures refused { IfErr result (λ status. (status ≡ no_memory)
+        ⊎ ((status ≡ out_of_range) × HasNotAll (λ n. n < 2 ^ 128) oid.now)) }
 {
     match oid.as_vec::<u128>(alloc) {
         Ok(_) => (),

@@ -1,6 +1,7 @@
 // Documents into records, straight from their octets: one loop over the frames that are open, as `asn1_blocks` reads
 // blocks, of which none is made.
-ghost use Rattle.std.specs.Prelude.{◌≡◌, ◌≢◌, ◌++◌, ◌^◌, ◌<◌, ◌≤◌, ◌∷◌, [], ℕ, IfErr, IfOk, OnOk, is_some, length, reverse, take, suc};
+ghost use Rattle.std.specs.Prelude.{◌≡◌, ◌≢◌, ◌++◌, ◌^◌, ◌<◌, ◌≤◌, ◌∷◌, [], ℕ, IfErr, IfOk, OnOk};
+ghost use Rattle.std.specs.Prelude.{is_some, length, reverse, suc, take};
 ghost use Rattle.asn1_blocks.specs.Inner.ReaderSteps.{attempt_of};
 ghost use Rattle.simple_asn1.specs.Fault.{OutOfMemoryOr, fault_of};
 ghost use Rattle.simple_asn1.specs.FaultPlace.{FirstFaultAt};

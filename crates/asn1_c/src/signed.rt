@@ -12,6 +12,7 @@ ghost use Rattle.simple_asn1.specs.Tree.{Trees, bit_string, group, leaf, more_tr
 ghost use Rattle.simple_asn1.specs.View.{tree_offset, view, views};
 ghost use Rattle.asn1_blocks.specs.declared.block.GroupKind.TheVariants.{Sequence};
 ghost use Rattle.asn1_c.specs.Answers.{AnswersSigned, AreRecordsOfParts, identifier_tree};
+ghost use Rattle.asn1_c.specs.Status.{not_signed};
 
 use crate::identifier::identifier_of;
 use crate::reading::{Fault, read};
@@ -115,7 +116,7 @@ fn records_of(
     blocks: &[ASN1Block],
 ) -> Result<SignedAnswer, AllocError>
     requires { IsDocument octets.now (views blocks.now) }
-    ensures { IfOk result (λ signed. ((signed.status ≡ 14) × IsOfAnotherShape octets.now)
+    ensures { IfOk result (λ signed. ((signed.status ≡ not_signed) × IsOfAnotherShape octets.now)
         ⊎ AreRecordsOfParts octets.now signed) }
 {
     let Some(first) = blocks.first() else {

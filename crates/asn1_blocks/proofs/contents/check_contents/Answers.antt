@@ -16,7 +16,8 @@ use Rattle.asn1_blocks.proofs.contents.check_contents.Goals as goal
 universal_single : (k : Bool) (n : ℕ) (contents : List ℕ) → (IsReadInside Universal k n → ⊥) → IsNoLeafOrMeant n contents
     → (offset : ℕ) (octets : List ℕ) (h : ℕ) → Encoding octets Universal k n contents h → IsSingleAt offset octets
 universal_single k n contents shut (inr (l, t, m)) offset octets h F =
-    (leaf offset l, refl, record { constructed = k; contents = contents; header = h; encoding = subst (λ z. Encoding octets Universal k z contents h) t F; place = refl; means = m })
+    let own = subst (λ z. Encoding octets Universal k z contents h) t F in
+    (leaf offset l, refl, record { constructed = k; contents = contents; header = h; encoding = own; place = refl; means = m })
 universal_single k n contents shut (inl none) offset octets h F = elim (tag_kind n) [
   | unknown_tag e ↦ (unknown Universal k offset n contents, refl, record { header = h; encoding = F; place = refl; stays = inl (refl, e) })
   | group_tag_of g e ↦ absurd (shut (inl (refl, subst (λ z. is_group_tag z ≡ true) (sym e) (group_tag_is g))))
@@ -46,11 +47,12 @@ returns-in-Universal-clause-refused c =
 pub returns-in_default : goal.returns-in_default
 returns-in_default c =
     let h = c.args.header.now in
+    let other = c.in_default.not-Universal in
     record {
       encoded = λ offset octets i F. (
         unknown h.class h.constructed offset h.tag c.args.contents.now,
         refl,
-        record { header = i; encoding = F; place = refl; stays = inr (c.in_default.not-Universal, λ z. c.requires.closed (inr (c.in_default.not-Universal, z.0))) },
+        record { header = i; encoding = F; place = refl; stays = inr (other, λ z. c.requires.closed (inr (other, z.0))) },
       );
       refused = tt;
     }

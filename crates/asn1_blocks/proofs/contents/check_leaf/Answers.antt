@@ -53,7 +53,8 @@ returns-in-Some-eq2-clause-found c =
 pub returns-in-Some-eq3-clause-found : goal.returns-in-Some-eq3-clause-found
 returns-in-Some-eq3-clause-found c =
     let t : c.args.tag.now ≡ 3 = grind (arith, common_steps) in
-    found c.args.tag.now c.args.contents.now c.check.result (λ m. leaf_meant (bit_string m.0 m.1) c.args.tag.now c.args.contents.now t m.2) c.check.ensures.found
+    found c.args.tag.now c.args.contents.now c.check.result (λ m. leaf_meant (bit_string m.0 m.1) c.args.tag.now c.args.contents.now t m.2)
+    c.check.ensures.found
 
 pub returns-in-Some-eq4-clause-found : goal.returns-in-Some-eq4-clause-found
 returns-in-Some-eq4-clause-found c =
@@ -68,7 +69,8 @@ returns-in-Some-eq5-clause-found c =
 pub returns-in-Some-eq6-clause-found : goal.returns-in-Some-eq6-clause-found
 returns-in-Some-eq6-clause-found c =
     let t : c.args.tag.now ≡ 6 = grind (arith, common_steps) in
-    found c.args.tag.now c.args.contents.now c.check-in-Some-eq6.result (λ m. leaf_meant (object_identifier m.0) c.args.tag.now c.args.contents.now t m.1) c.check-in-Some-eq6.ensures.found
+    found c.args.tag.now c.args.contents.now c.check-in-Some-eq6.result
+    (λ m. leaf_meant (object_identifier m.0) c.args.tag.now c.args.contents.now t m.1) c.check-in-Some-eq6.ensures.found
 
 pub returns-in-Some-eq22-clause-found : goal.returns-in-Some-eq22-clause-found
 returns-in-Some-eq22-clause-found c =

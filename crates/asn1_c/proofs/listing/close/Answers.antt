@@ -1,10 +1,10 @@
-use Rattle.std.proofs.Common.{◌≡◌, ℕ, ◌<◌, true, List, [], ◌∷◌, is_some, length, reverse, suc, take, sym, ap, ◌∙◌, subst, arith}
+use Rattle.std.proofs.Common.{◌≡◌, ℕ, ◌<◌, true, List, [], ◌∷◌, is_some, length, reverse, suc, take, sym, ap, subst, arith}
 use Rattle.std.proofs.lemmas.Grind.{common_steps}
 use Rattle.asn1_blocks.specs.Inner.ReaderSteps.{attempt_of}
-use Rattle.asn1_c.specs.Listing.{IsAdded, Reads, left, sealed}
+use Rattle.asn1_c.specs.Listing.{Reads, left, sealed}
 use Rattle.asn1_c.specs.declared.listing.Listing.{Listing}
 use Rattle.asn1_c.specs.declared.listing.OpenFrame.{OpenFrame}
-use Rattle.asn1_c.proofs.Listed.{N, added_goes_on, attempt_is, ended_ready, entry_within, kept_is, kept_ready, sealed_is, sealed_own}
+use Rattle.asn1_c.proofs.Listed.{N, added_goes_on, attempt_is, ended_ready, kept_is, kept_ready, sealed_is, sealed_own}
 use Rattle.asn1_c.proofs.listing.close.Goals as goal
 
 -- the frame that ended, as it was taken out of the listing

@@ -1,4 +1,4 @@
-use Rattle.std.proofs.Common.{◌≡◌, ℕ, ◌+◌, ◌-◌, ◌≤◌, List, ◌++◌, ◌∷◌, [], length, inl, inr, refl, subst, arith}
+use Rattle.std.proofs.Common.{◌≡◌, ℕ, ◌-◌, ◌≤◌, List, ◌++◌, ◌∷◌, [], length, inl, inr, refl, subst, arith}
 use Rattle.std.specs.List.{slice_range}
 use Rattle.std.proofs.lemmas.Grind.{common_steps}
 use Rattle.std.proofs.lemmas.Result.{err_from_is_err_and}
@@ -102,7 +102,8 @@ returns-in_ok-put-in-Leaf c =
     let single = subst Single leaf.0 c.in_ok-check_contents-in-Leaf.ensures.encoded a.index (slice_range x a.index h.end) (h.start - a.index) found.encoding in
     let at : c.len-entry.result ≡ length a.records.items = grind (arith, common_steps) in
     let deep : c.len.result ≡ length a.outer.items = grind (arith, common_steps) in
-    let begun = subst (λ z. IsBegun x a.index z (length a.outer.items) b) at (subst (λ z. IsBegun x a.index c.len-entry.result z b) deep c.begun_record-block.ensures) in
+    let stands = subst (λ z. IsBegun x a.index c.len-entry.result z b) deep c.begun_record-block.ensures in
+    let begun = subst (λ z. IsBegun x a.index z (length a.outer.items) b) at stands in
     record {
       stepped = added_goes_on x a c.put.new.listing (a.records.items ++ b ∷ []) a.records.items (b ∷ []) h.end _ refl c.in_ok-put-in-Leaf.ensures
           (leaf_nearer x a h found w) (leaf_ready x a h b found leaf.1 single begun w);
