@@ -1,7 +1,8 @@
 //! Prints what a certificate says: its serial number, its subject, the algorithm of its key, and how many octets were
-//! signed. An example of the library's use: `openssl x509 -in FILE.pem -outform DER | rt run`.
+//! signed. An example of the library's use: `rt run < FILE.pem`.
 #![tactic(auto)]
 
+use der_forms::{FormFault, document_of};
 use simple_asn1::{ASN1Block, ASN1Class, ASN1DecodeErr, BigInt, Document, OID, encoding_at};
 use std::alloc::{AllocError, Global};
 use std::io;
@@ -11,6 +12,8 @@ use std::io::{Read, Write};
 #[derive(Debug, Drop)]
 enum CertificateErr {
     Stream(io::Error),
+    // The input has no document in a form that is read.
+    Form(FormFault),
     Refused(ASN1DecodeErr),
     // The octets are a document, and no certificate.
     Shape,
@@ -19,6 +22,12 @@ enum CertificateErr {
 impl From<io::Error> for CertificateErr {
     fn from(e: io::Error) -> CertificateErr {
         CertificateErr::Stream(e)
+    }
+}
+
+impl From<FormFault> for CertificateErr {
+    fn from(e: FormFault) -> CertificateErr {
+        CertificateErr::Form(e)
     }
 }
 
@@ -92,8 +101,9 @@ fn print<R: Read, W: Write>(
     input: &mut R,
     out: &mut W,
 ) -> Result<(), CertificateErr> {
-    let mut octets = Vec::new(alloc);
-    input.read_to_end(&mut octets)?;
+    let mut bytes = Vec::new(alloc);
+    input.read_to_end(&mut bytes)?;
+    let octets = document_of(alloc, bytes)?;
     let document = Document::from_der(alloc, &octets)?;
     let Some(certificate) = Certificate::find(&octets, &document) else {
         return Err(CertificateErr::Shape);

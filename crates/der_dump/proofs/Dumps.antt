@@ -1,18 +1,20 @@
 -- Lines are put after lines.
 use Rattle.std.proofs.Common.{◌≡◌, ℕ, zero, suc, ◌+◌, List, [], ◌∷◌, ◌++◌, codes, drop, replicate}
-use Rattle.std.proofs.Common.{Bool, true, false, refl, sym, ap, ◌∙◌, subst, map, append_assoc, append-nil, arith}
+use Rattle.std.proofs.Common.{inl, inr, Bool, true, false, refl, sym, ap, ◌∙◌, subst, map, append_assoc, append-nil, arith}
 use Rattle.std.proofs.lemmas.List.{map-append, drop-drop}
 use Rattle.std.specs.Fmt.{decimal}
 use Rattle.std.specs.Prelude.{Option, Some, None, Result, Ok, Err, IfOk, IfSome, OnOk}
 use Rattle.std.specs.declared.alloc.AllocError.{AllocError}
-use Rattle.simple_asn1.specs.Grammar.{IsDocument}
+use Rattle.der_forms.specs.Forms.{form_is, objects, other_text}
+use Rattle.der_forms.specs.Objects.{objects_of}
+use Rattle.simple_asn1.specs.Fault.{OutOfMemoryOr, fault_of}
+use Rattle.simple_asn1.specs.Grammar.{FirstFault, IsDocument}
+use Rattle.simple_asn1.specs.Types.{OutOfMemory}
 use Rattle.simple_asn1.specs.Tree.{Trees}
-use Rattle.der_dump.specs.Forms.{form_is}
-use Rattle.der_dump.specs.declared.forms.Form.TheVariants.{Pem, Hex}
 use Rattle.der_dump.specs.declared.document.Verdict.{Verdict}
 use Rattle.der_dump.specs.declared.document.Verdict.TheVariants.{AllRead, Refused}
-use Rattle.der_dump.specs.Dump.{Adds, AddsAnswer, AddsDumpOf, AddsLine, AddsObjects, IsBlockLine, IsDump, IsFaultLine, IsInsideLine, IsNote, IsOneLine}
-use Rattle.der_dump.specs.Dump.{StandAt, StandsInside, all_offsets, block_line, both_read, inside_line, no_lines, of_cut_objects, of_hex, of_objects, spelled}
+use Rattle.der_dump.specs.Dump.{Adds, AddsAnswer, AddsDumpOf, AddsLine, AddsObject, AddsObjects, IsBlockLine, IsDump, IsFaultLine, IsInsideLine, IsNote, IsOneLine}
+use Rattle.der_dump.specs.Dump.{StandAt, StandsInside, all_offsets, block_line, both_read, inside_line, no_lines, of_cut_objects, of_text}
 use Rattle.der_dump.specs.Steps.{IsLineOf, PlacedInside, shown_at}
 
 -- a dump after a dump
@@ -216,45 +218,63 @@ objects_join [] ys v w a b c (e, n) h =
 objects_join (x ∷ xs) ys v w a b c (first, later, between, e, o, r) h =
     (first, both_read later w, between, ap (λ z. both_read z w) e ∙ both_after first later w, o, objects_join xs ys later w between b c r h)
 
-abbrev pub Objects : Verdict → List ℕ → List ℕ → Type 0
-Objects verdict a b = (objects : List (Option (List ℕ))) × AddsObjects objects verdict a b
+-- of all objects some were put, and these are left
+pub record Progressed (all left : List (Option (List ℕ))) (verdict : Verdict) (a b : List ℕ) : Type 0 where
+  pub done : List (Option (List ℕ))
+  pub order : all ≡ done ++ left
+  pub put : AddsObjects done verdict a b
 
-pub objects_more : (v w : Verdict) (a b c : List ℕ) → Objects v a b → Objects w b c → Objects (both_read v w) a c
-objects_more v w a b c (xs, x) (ys, y) = (xs ++ ys, objects_join xs ys v w a b c x y)
+pub none_done : (all : List (Option (List ℕ))) (a : List ℕ) → Progressed all all AllRead a a
+none_done all a = record { done = []; order = refl; put = (refl, refl) }
 
-pub objects_none : (a : List ℕ) → Objects AllRead a a
-objects_none a = ([], (refl, refl))
+-- one object more
+pub one_done :
+    (all left later : List (Option (List ℕ))) (object : Option (List ℕ)) (v w : Verdict) (a b c : List ℕ) →
+    left ≡ object ∷ later → Progressed all left v a b → AddsObject object w b c → Progressed all later (both_read v w) a c
+one_done all left later object v w a b c e h o = record {
+  done = h.done ++ object ∷ [];
+  order = h.order ∙ (ap (λ xs. h.done ++ xs) e ∙ sym (append_assoc h.done (object ∷ []) later));
+  put = objects_join h.done (object ∷ []) v w a b c h.put (w, AllRead, c, both_all w, o, (refl, refl));
+}
 
+-- all objects
+pub all_done : (all left : List (Option (List ℕ))) (v : Verdict) (a b : List ℕ) → left ≡ [] → Progressed all left v a b
+    → AddsObjects all v a b
+all_done all left v a b e h =
+    subst (λ xs. AddsObjects xs v a b) (sym (h.order ∙ (ap (λ xs. h.done ++ xs) e ∙ append-nil h.done))) h.put
+
+-- the octets of an object under its label
 pub object_done :
     (r : Result Verdict AllocError) (octets a b c : List ℕ) → AddsLine (IsNote 61) a b →
-    IfOk r (λ v. AddsDumpOf octets v b c) → IfOk r (λ v. Objects v a c)
-object_done (Ok v) octets a b c x y = (Some octets ∷ [], (v, AllRead, c, both_all v, (b, x, y), (refl, refl)))
+    IfOk r (λ v. AddsDumpOf octets v b c) → IfOk r (λ v. AddsObject (Some octets) v a c)
+object_done (Ok v) octets a b c x y = (b, x, y)
 object_done (Err e) octets a b c x y = tt
 
-pub object_refused : (a b c : List ℕ) → AddsLine (IsNote 61) a b → AddsLine (IsNote 33) b c → Objects Refused a c
-object_refused a b c x y = (None ∷ [], (Refused, AllRead, c, refl, (b, x, y, refl), (refl, refl)))
+pub answer_read : (r : Result Verdict AllocError) (input octets a b : List ℕ)
+    → ((v : Verdict) → AddsDumpOf octets v a b → AddsAnswer input v a b)
+    → IfOk r (λ v. AddsDumpOf octets v a b) → IfOk r (λ v. AddsAnswer input v a b)
+answer_read (Ok v) input octets a b f h = f v h
+answer_read (Err x) input octets a b f h = tt
 
-pub none_taken : {X : Type 0} (verdict : X → Verdict) (r : Result X AllocError) (a : List ℕ)
-    → IfOk r (λ x. verdict x ≡ AllRead) → IfOk r (λ x. Objects (verdict x) a a)
-none_taken verdict (Ok x) a e = subst (λ v. Objects v a a) (sym e) (objects_none a)
-none_taken verdict (Err f) a e = tt
+-- text that is no document
+pub answer_text :
+    (r : Result Verdict AllocError) (text : List ℕ) (fault : _) (a b : List ℕ) →
+    form_is text ≡ other_text → OutOfMemoryOr (FirstFault text) fault → IfOk r (λ v. fault ≡ OutOfMemory → ⊥) →
+    IfOk r (λ v. (v ≡ Refused) × AddsLine (IsNote 33) a b) → IfOk r (λ v. AddsAnswer text v a b)
+answer_text (Ok v) text fault a b f h m put = elim h [
+  | inl is ↦ absurd (m is)
+  | inr first ↦ of_text (fault_of fault) f first put.0 put.1
+]
+answer_text (Err x) text fault a b f h m put = tt
 
 -- the last object does not end
 pub answer_cut :
-    (input : List ℕ) (v w : Verdict) (a b c d : List ℕ) → form_is input ≡ Pem → Objects v a b → Objects w b c →
-    AddsLine (IsNote 33) c d → AddsAnswer input Refused a d
-answer_cut input v w a b c d f x y z =
-    let all = objects_more v w a b c x y in
-    of_cut_objects all.0 (both_read v w) c f all.1 z refl
-
-pub answer_objects : (input : List ℕ) (v : Verdict) (a b : List ℕ) → form_is input ≡ Pem → Objects v a b → AddsAnswer input v a b
-answer_objects input v a b f (objects, h) = of_objects objects f h
-
-pub answer_hex : (r : Result Verdict AllocError) (input octets a b : List ℕ) → form_is input ≡ Hex
-    → spelled input ≡ Some octets → IfOk r (λ v. AddsDumpOf octets v a b)
-    → IfOk r (λ v. AddsAnswer input v a b)
-answer_hex (Ok v) input octets a b f e h = of_hex octets f e h
-answer_hex (Err x) input octets a b f e h = tt
+    (r : Result Verdict AllocError) (input : List ℕ) (left : List (Option (List ℕ))) (v : Verdict) (a b c : List ℕ) →
+    form_is input ≡ objects → left ≡ [] → Progressed (objects_of input) left v a b →
+    IfOk r (λ w. (w ≡ Refused) × AddsLine (IsNote 33) b c) → IfOk r (λ w. AddsAnswer input w a c)
+answer_cut (Ok w) input left v a b c f e h put =
+    of_cut_objects v b f (all_done (objects_of input) left v a b e h) put.1 put.0
+answer_cut (Err x) input left v a b c f e h put = tt
 
 -- what was read is the input, and all that was put is the output
 pub input_answered : (o : Option (List ℕ)) (bytes start out : List ℕ) (v : Verdict) (P : List ℕ → Type 0)

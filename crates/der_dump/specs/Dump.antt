@@ -1,17 +1,14 @@
 -- What is written of a document: lines, one for each block in tree order, with its offset.
 use Rattle.std.specs.Prelude.{◌≡◌, ◌≢◌, ℕ, ◌+◌, List, [], ◌∷◌, ◌++◌, drop, length, map, replicate, codes, decimal}
-use Rattle.std.specs.Prelude.{if◌then◌else◌, Option, None, Some, Result, Ok, Err}
-use Rattle.std.specs.Char.{is_ascii_whitespace}
-use Rattle.hex.specs.Hex.{decode_of}
-use Rattle.hex.specs.declared.error.FromHexError.{FromHexError}
+use Rattle.std.specs.Prelude.{Option, None, Some}
 use Rattle.std.specs.List.{All}
-use Rattle.der_dump.specs.Forms.{form_is}
-use Rattle.der_dump.specs.declared.forms.Form.TheVariants.{Pem, Hex, Der}
+use Rattle.der_forms.specs.Forms.{form_is, objects, odd_digits, other_text, plain_octets, spelled}
+use Rattle.der_forms.specs.Objects.{objects_of}
 use Rattle.der_dump.specs.declared.document.Verdict.{Verdict}
 use Rattle.der_dump.specs.declared.document.Verdict.TheVariants.{AllRead, Refused}
 use Rattle.simple_asn1.specs.Fault.{DecodeFault}
 use Rattle.simple_asn1.specs.FaultPlace.{FirstFaultAt}
-use Rattle.simple_asn1.specs.Grammar.{IsDocument}
+use Rattle.simple_asn1.specs.Grammar.{FirstFault, IsDocument}
 use Rattle.simple_asn1.specs.Header.{IsLength, IsSomeIdentifier}
 use Rattle.simple_asn1.specs.Tree.{Tree, Trees, leaf, group, explicit, unknown, no_trees, more_trees}
 
@@ -147,39 +144,31 @@ both_read Refused verdict = Refused
 -- so of objects one after another, all of which are read, or not
 abbrev pub AddsObjects : List (Option (List ℕ)) → Verdict → List ℕ → List ℕ → Type 0
 AddsObjects [] verdict before after = (verdict ≡ AllRead) × (after ≡ before)
-AddsObjects (object ∷ objects) verdict before after =
+AddsObjects (object ∷ others) verdict before after =
     (first later : Verdict) × (between : List ℕ) × (verdict ≡ both_read first later)
-    × AddsObject object first before between × AddsObjects objects later between after
-
--- the text without its white space
-abbrev pub but_spaces : List ℕ → List ℕ
-but_spaces [] = []
-but_spaces (b ∷ text) = if is_ascii_whitespace b then but_spaces text else b ∷ but_spaces text
-
--- the octets of pairs of hex digits, or none where the text is anything else
-abbrev pub octets_or_none : Result (List ℕ) FromHexError → Option (List ℕ)
-octets_or_none (Ok octets) = Some octets
-octets_or_none (Err e) = None
-
--- the octets that a text spells in hex digits, wherever white space stands
-abbrev pub spelled : List ℕ → Option (List ℕ)
-spelled text = octets_or_none (decode_of (but_spaces text))
+    × AddsObject object first before between × AddsObjects others later between after
 
 -- what is put of an input, which has its documents in one of the forms
 pub data AddsAnswer (input : List ℕ) (verdict : Verdict) (before after : List ℕ) : Type 0 where
   of_octets :
-      form_is input ≡ Der → AddsDumpOf input verdict before after → AddsAnswer input verdict before after
-  of_hex :
-      (octets : List ℕ) → form_is input ≡ Hex → spelled input ≡ Some octets →
-      AddsDumpOf octets verdict before after → AddsAnswer input verdict before after
-  of_no_hex :
-      form_is input ≡ Hex → spelled input ≡ None → verdict ≡ Refused → AddsLine (IsNote 33) before after →
+      form_is input ≡ plain_octets → AddsDumpOf input verdict before after → AddsAnswer input verdict before after
+  of_spelled :
+      (octets : List ℕ) → form_is input ≡ spelled octets → AddsDumpOf octets verdict before after →
       AddsAnswer input verdict before after
+  of_odd_digits :
+      form_is input ≡ odd_digits → verdict ≡ Refused → AddsLine (IsNote 33) before after →
+      AddsAnswer input verdict before after
+  -- text may be the octets of a document all the same
+  of_read_text :
+      form_is input ≡ other_text → AddsDumpOf input verdict before after → AddsAnswer input verdict before after
+  of_text :
+      (fault : DecodeFault) → form_is input ≡ other_text → FirstFault input fault → verdict ≡ Refused →
+      AddsLine (IsNote 33) before after → AddsAnswer input verdict before after
   of_objects :
-      (objects : List (Option (List ℕ))) → form_is input ≡ Pem →
-      AddsObjects objects verdict before after → AddsAnswer input verdict before after
+      form_is input ≡ objects → AddsObjects (objects_of input) verdict before after →
+      AddsAnswer input verdict before after
   -- the last object does not end, which is told after it
   of_cut_objects :
-      (objects : List (Option (List ℕ))) (read : Verdict) (shown : List ℕ) →
-      form_is input ≡ Pem → AddsObjects objects read before shown →
+      (read : Verdict) (shown : List ℕ) →
+      form_is input ≡ objects → AddsObjects (objects_of input) read before shown →
       AddsLine (IsNote 33) shown after → verdict ≡ Refused → AddsAnswer input verdict before after

@@ -1,81 +1,69 @@
 // What is written of an input, in each of the forms.
-ghost use Rattle.std.specs.Prelude.{◌≡◌, List, ℕ, Option, IfOk, OnOk};
+ghost use Rattle.std.specs.Prelude.{◌≡◌, ◌≢◌, IfOk, OnOk};
 ghost use Rattle.std.specs.Option.{option_map};
-ghost use Rattle.der_dump.specs.Dump.{AddsAnswer, AddsLine, AddsObjects, IsNote};
-ghost use Rattle.der_dump.specs.Dump.{both_read, but_spaces, spelled};
-ghost use Rattle.der_dump.specs.Forms.{form_is};
-ghost use Rattle.der_dump.specs.declared.document.Verdict.TheVariants.{AllRead};
-ghost use Rattle.der_dump.specs.declared.forms.Form.TheVariants.{Hex, Pem};
+ghost use Rattle.std.specs.Result.{result_ok};
+ghost use Rattle.der_dump.specs.Dump.{AddsAnswer, AddsLine, AddsObject, IsNote, both_read};
+ghost use Rattle.der_dump.specs.declared.document.Verdict.TheVariants.{Refused};
+ghost use Rattle.simple_asn1.specs.Types.{OutOfMemory};
+ghost use Rattle.der_forms.specs.Forms.{form_is, objects, other_text};
 
 use crate::document::{Verdict, push_document};
-use crate::forms::{Form, form_of, is_end, label_of};
 use crate::lines::{Mark, push_note};
 use crate::names::Names;
-use base64::DecodeAllocError;
-use base64::engine::general_purpose::STANDARD;
-use hex::FromHexError;
+use der_forms::{Form, Lines, PemFault, PemObject, form_of, next_object};
+use simple_asn1::{ASN1DecodeErr, Document};
 use std::alloc::{AllocError, Global};
-use streams::split_line;
 
 // Puts what is said of an input.
 pub fn push_answer(alloc: Global, input: &[u8], out: &mut Vec<u8>) -> Result<Verdict, AllocError>
     ensures { IfOk result (λ verdict. AddsAnswer input.now verdict out.old.items out.new.items) }
 {
     let names = Names::new(alloc)?;
-    match form_of(input) {
+    match form_of(alloc, input)? {
         Form::Pem => push_pem(alloc, &names, input, out),
-        Form::Hex => push_hex(alloc, &names, input, out),
+        Form::Spelled(octets) => push_document(alloc, &names, &octets, out),
+        Form::OddDigits => push_refusal(b" refused: an odd number of hex digits", out),
+        Form::Text => push_text(alloc, &names, input, out),
         Form::Der => push_document(alloc, &names, input, out),
     }
 }
 
-fn push_hex(
+// Puts a line that says why something is not read.
+fn push_refusal(why: &[u8], out: &mut Vec<u8>) -> Result<Verdict, AllocError>
+    ensures { IfOk result (λ verdict. (verdict ≡ Refused) × AddsLine (IsNote 33) out.old.items out.new.items) }
+{
+    push_note(Mark::Fault, why, out)?;
+    Ok(Verdict::Refused)
+}
+
+// A document may be text, if it has no more than application tags and printed characters.
+fn push_text(
     alloc: Global,
     names: &Names,
-    input: &[u8],
+    text: &[u8],
     out: &mut Vec<u8>,
 ) -> Result<Verdict, AllocError>
-    requires { form_is input.now ≡ Hex }
-    ensures { IfOk result (λ verdict. AddsAnswer input.now verdict out.old.items out.new.items) }
+    requires { form_is text.now ≡ other_text }
+    ensures { IfOk result (λ verdict. AddsAnswer text.now verdict out.old.items out.new.items) }
 {
-    match octets_of(alloc, input)? {
-        Some(octets) => push_document(alloc, names, &octets, out),
-        None => {
-            push_note(Mark::Fault, b" refused: an odd number of hex digits", out)?;
-            Ok(Verdict::Refused)
-        }
+    match Document::from_der(alloc, text) {
+        Ok(_) => push_document(alloc, names, text, out),
+        Err(fault) => push_no_document(&fault, out),
     }
 }
 
-// The octets that the text spells in hex digits.
-fn octets_of(alloc: Global, text: &[u8]) -> Result<Option<Vec<u8>>, AllocError>
-    ensures { IfOk result (λ octets. option_map (λ v. v.items) octets ≡ spelled text.now) }
+// Puts the line of text that is no document, if it was not memory that ran out.
+fn push_no_document(fault: &ASN1DecodeErr, out: &mut Vec<u8>) -> Result<Verdict, AllocError>
+    ensures memory { IfOk result (λ _. fault.now ≢ OutOfMemory) }
+    ensures line { IfOk result (λ verdict. (verdict ≡ Refused) × AddsLine (IsNote 33) out.old.items out.new.items) }
 {
-    let digits = without_spaces(alloc, text)?;
-    match hex::decode(alloc, digits.as_slice()) {
-        Ok(octets) => Ok(Some(octets)),
-        Err(FromHexError::OutOfMemory) => Err(AllocError),
-        Err(_) => Ok(None),
+    match fault {
+        ASN1DecodeErr::OutOfMemory => Err(AllocError),
+        _ => push_refusal(
+            b" this looks like text; DER, PEM and hex digits are read",
+            out,
+        ),
     }
-}
-
-fn without_spaces(alloc: Global, text: &[u8]) -> Result<Vec<u8>, AllocError>
-    ensures { IfOk result (λ symbols. symbols.items ≡ but_spaces text.now) }
-{
-    let mut symbols = Vec::new(alloc);
-    for b in text {
-        if !b.is_ascii_whitespace() {
-            symbols.push(*b)?;
-        }
-    }
-    Ok(symbols)
-}
-
-// An object that is open: its label and its symbols of base 64 so far.
-#[derive(Drop)]
-struct Open<'a> {
-    label: &'a [u8],
-    symbols: Vec<u8>,
 }
 
 fn push_pem(
@@ -84,109 +72,53 @@ fn push_pem(
     input: &[u8],
     out: &mut Vec<u8>,
 ) -> Result<Verdict, AllocError>
-    requires { form_is input.now ≡ Pem }
+    requires { form_is input.now ≡ objects }
     ensures { IfOk result (λ verdict. AddsAnswer input.now verdict out.old.items out.new.items) }
 {
     let mut verdict = Verdict::AllRead;
-    let mut open = None;
-    let mut rest = input;
-    while !rest.is_empty() {
-        let (line, after) = split_line(rest);
-        rest = after;
-        let turn = take_line(alloc, names, line, open, out)?;
-        open = turn.open;
-        verdict = both(verdict, turn.verdict);
+    let mut cut_line = None;
+    let mut lines = Lines::of(input);
+    while let Some((object, after)) = next_object(alloc, lines)? {
+        let read = push_object(alloc, names, &object, out)?;
+        verdict = both(verdict, read);
+        cut_line = line_if_cut(&object);
+        lines = after;
     }
-    match open {
-        Some(open) => {
-            push_object(alloc, names, &open, out)?;
-            push_note(Mark::Fault, b" refused: no line ends this object", out)?;
-            Ok(Verdict::Refused)
+    match cut_line {
+        Some(line) => {
+            let why = format!(in alloc; " line {line}: no line ends this object")?;
+            push_refusal(why.as_bytes(), out)
         }
         None => Ok(verdict),
     }
 }
 
-// What a line leaves: the object that is open after it, and whether one that it ended was read.
-#[derive(Drop)]
-struct Turn<'a> {
-    open: Option<Open<'a>>,
-    verdict: Verdict,
-}
-
-fn take_line<'a>(
-    alloc: Global,
-    names: &Names,
-    line: &'a [u8],
-    open: Option<Open<'a>>,
-    out: &mut Vec<u8>,
-) -> Result<Turn<'a>, AllocError>
-    ensures { IfOk result (λ turn. (objects : List (Option (List ℕ)))
-        × AddsObjects objects turn.verdict out.old.items out.new.items) }
-{
-    let Some(object) = open else {
-        return begin_object(alloc, line);
-    };
-    if is_end(line) {
-        let verdict = push_object(alloc, names, &object, out)?;
-        return Ok(Turn {
-            open: None,
-            verdict,
-        });
+// The number of the line that begins an object which no line ends.
+fn line_if_cut(object: &PemObject<'_>) -> Option<usize> {
+    if object.is_ended {
+        None
+    } else {
+        Some(object.line)
     }
-    go_on(object, line)
-}
-
-fn begin_object<'a>(alloc: Global, line: &'a [u8]) -> Result<Turn<'a>, AllocError>
-    ensures { IfOk result (λ turn. turn.verdict ≡ AllRead) }
-{
-    let open = match label_of(line) {
-        Some(label) => Some(Open {
-            label,
-            symbols: Vec::new(alloc),
-        }),
-        None => None,
-    };
-    Ok(Turn {
-        open,
-        verdict: Verdict::AllRead,
-    })
-}
-
-// Adds the symbols of a line. A line with a colon is a header of the object (RFC 1421).
-fn go_on<'a>(mut object: Open<'a>, line: &[u8]) -> Result<Turn<'a>, AllocError>
-    ensures { IfOk result (λ turn. turn.verdict ≡ AllRead) }
-{
-    if !line.contains(&b':') {
-        for b in line {
-            if !b.is_ascii_whitespace() {
-                object.symbols.push(*b)?;
-            }
-        }
-    }
-    Ok(Turn {
-        open: Some(object),
-        verdict: Verdict::AllRead,
-    })
 }
 
 // Puts an object under its label.
 fn push_object(
     alloc: Global,
     names: &Names,
-    object: &Open<'_>,
+    object: &PemObject<'_>,
     out: &mut Vec<u8>,
 ) -> Result<Verdict, AllocError>
-    ensures { IfOk result (λ verdict. (objects : List (Option (List ℕ)))
-        × AddsObjects objects verdict out.old.items out.new.items) }
+    ensures { IfOk result (λ verdict. AddsObject
+        (option_map (λ v. v.items) (result_ok object.now.octets)) verdict out.old.items out.new.items) }
 {
     push_label(alloc, object.label, out)?;
-    match STANDARD.decode(alloc, &object.symbols) {
-        Ok(octets) => push_document(alloc, names, &octets, out),
-        Err(DecodeAllocError::OutOfMemory) => Err(AllocError),
-        Err(DecodeAllocError::DecodeError(_)) => {
-            push_note(Mark::Fault, b" refused: this is no base 64", out)?;
-            Ok(Verdict::Refused)
+    match &object.octets {
+        Ok(octets) => push_document(alloc, names, octets, out),
+        Err(PemFault::Encrypted) => push_refusal(b" encrypted, not read", out),
+        Err(PemFault::NoBase64(line)) => {
+            let why = format!(in alloc; " line {line}: this is no base 64")?;
+            push_refusal(why.as_bytes(), out)
         }
     }
 }

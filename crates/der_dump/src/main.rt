@@ -4,7 +4,6 @@
 mod answers;
 mod document;
 mod faults;
-mod forms;
 mod header;
 mod lines;
 mod names;

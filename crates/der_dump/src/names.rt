@@ -63,6 +63,7 @@ const NAMES: &str = "\
 1.2.840.10045.4.3.3 ecdsa-with-SHA384 RFC 5758
 1.2.840.10045.4.3.4 ecdsa-with-SHA512 RFC 5758
 1.2.840.10046.2.1 dhpublicnumber RFC 3279
+1.2.840.113533.7.65.0 entrustVersInfo Entrust
 1.2.840.113549.1.1.1 rsaEncryption RFC 8017
 1.2.840.113549.1.1.10 RSASSA-PSS RFC 8017
 1.2.840.113549.1.1.11 sha256WithRSAEncryption RFC 8017
@@ -180,6 +181,7 @@ const NAMES: &str = "\
 1.3.6.1.4.1.11129.2.4.3 ctPoison RFC 6962
 1.3.6.1.4.1.11129.2.4.4 ctPrecertificateSigning RFC 6962
 1.3.6.1.4.1.11129.2.4.5 ctOcspSctList RFC 6962
+1.3.6.1.4.1.11591.4.11 scrypt RFC 7914
 1.3.6.1.4.1.311.10.3.1 certTrustListSigning Microsoft
 1.3.6.1.4.1.311.10.3.12 documentSigning Microsoft
 1.3.6.1.4.1.311.10.3.3 serverGatedCrypto Microsoft
@@ -312,6 +314,8 @@ const NAMES: &str = "\
 2.23.140.1.3 extended-validation-codesigning CA/Browser Forum
 2.23.140.1.4.1 code-signing-requirements CA/Browser Forum
 2.23.140.3.1 cabfOrganizationIdentifier CA/Browser Forum
+2.23.42.3.0.0 set-rootKeyThumb SET
+2.23.42.7.0 setCext-hashedRoot SET
 2.5.29.14 subjectKeyIdentifier X.509
 2.5.29.15 keyUsage X.509
 2.5.29.16 privateKeyUsagePeriod X.509

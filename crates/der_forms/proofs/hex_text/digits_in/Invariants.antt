@@ -1,0 +1,12 @@
+use Rattle.std.proofs.Common.{◌≡◌, ◌++◌, length}
+use Rattle.streams.specs.Lines.{lines_of}
+use Rattle.der_forms.specs.Forms.{digits_of}
+use Rattle.der_forms.proofs.hex_text.digits_in.Given as goal
+
+-- what is left of the lines completes the digits
+abbrev pub invariant-loop-rest : goal.invariant-loop-rest
+invariant-loop-rest l =
+    l.digits.items ++ digits_of l.in_columns (lines_of l.rest) ≡ digits_of l.in_columns (lines_of l.text)
+
+abbrev pub decreases-loop-rest : goal.decreases-loop-rest
+decreases-loop-rest l = length l.rest

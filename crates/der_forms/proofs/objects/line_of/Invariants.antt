@@ -1,0 +1,6 @@
+use Rattle.std.proofs.Common.{length}
+use Rattle.std.specs.Prelude.{⊤}
+use Rattle.der_forms.proofs.objects.line_of.Given as goal
+
+abbrev pub decreases-loop-rest : goal.decreases-loop-rest
+decreases-loop-rest l = length l.rest

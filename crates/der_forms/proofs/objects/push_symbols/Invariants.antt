@@ -1,0 +1,7 @@
+use Rattle.std.proofs.Common.{◌≡◌, ◌++◌, drop}
+use Rattle.der_forms.specs.Forms.{but_spaces}
+use Rattle.der_forms.proofs.objects.push_symbols.Given as goal
+
+abbrev pub invariant-loop-b : goal.invariant-loop-b
+invariant-loop-b l =
+    l.symbols.items ++ but_spaces (drop l.b-index l.line) ≡ l.fn.symbols.items ++ but_spaces l.line

@@ -1,0 +1,59 @@
+-- The objects of PEM (RFC 7468), one after another.
+use Rattle.std.specs.Prelude.{ℕ, Bool, true, false, ◌==◌, List, [], ◌∷◌, ◌++◌, if◌then◌else◌, codes, Option, Some, None}
+use Rattle.std.specs.List.{list_any}
+use Rattle.std.specs.Result.{result_ok}
+use Rattle.base64.specs.Engines.{standard}
+use Rattle.base64.specs.GeneralPurpose.{decode_of as decode_base64}
+use Rattle.streams.specs.Lines.{lines_of}
+use Rattle.der_forms.specs.Forms.{InputForm, begins, begins_object, but_indent, but_mark, but_spaces, form_is}
+use Rattle.der_forms.specs.Forms.{objects, odd_digits, other_text, plain_octets, spelled}
+
+-- the line ends an object
+abbrev pub ends_object : List ℕ → Bool
+ends_object line = begins (codes "-----END ") (but_indent line)
+
+-- of the lines up to the end of an object, one says that it is encrypted (RFC 1421)
+abbrev pub is_encrypted : List (List ℕ) → Bool
+is_encrypted [] = false
+is_encrypted (line ∷ lines) =
+    if ends_object line then false
+    else if begins (codes "Proc-Type: 4,ENCRYPTED") (but_indent line) then true else is_encrypted lines
+
+-- the symbols of base 64 in a line. One with a colon is a header of the object, and has none
+abbrev pub symbols_of : List ℕ → List ℕ
+symbols_of line = if list_any (λ b. b == 58) line then [] else but_spaces line
+
+-- the symbols in the lines up to the end of an object
+abbrev pub symbols_in : List (List ℕ) → List ℕ
+symbols_in [] = []
+symbols_in (line ∷ lines) = if ends_object line then [] else symbols_of line ++ symbols_in lines
+
+-- the octets of an object that begins before the lines, or none where it is encrypted or no base 64
+abbrev pub octets_in : List (List ℕ) → Option (List ℕ)
+octets_in lines = if is_encrypted lines then None else result_ok (decode_base64 standard (symbols_in lines))
+
+-- the octets of each object that begins in the lines, which stand inside an object or do not
+abbrev pub objects_in : Bool → List (List ℕ) → List (Option (List ℕ))
+objects_in inside [] = []
+objects_in true (line ∷ lines) = if ends_object line then objects_in false lines else objects_in true lines
+objects_in false (line ∷ lines) =
+    if begins_object line then octets_in lines ∷ objects_in true lines else objects_in false lines
+
+-- the octets of each object of an input
+abbrev pub objects_of : List ℕ → List (Option (List ℕ))
+objects_of input = objects_in false (lines_of (but_mark input))
+
+abbrev pub first_of : List (Option (List ℕ)) → Option (List ℕ)
+first_of [] = None
+first_of (octets ∷ later) = octets
+
+abbrev pub document_in : InputForm → List ℕ → Option (List ℕ)
+document_in objects input = first_of (objects_of input)
+document_in (spelled octets) input = Some octets
+document_in odd_digits input = None
+document_in other_text input = None
+document_in plain_octets input = Some input
+
+-- the octets of the document that an input has, the first one of PEM
+abbrev pub document_of : List ℕ → Option (List ℕ)
+document_of input = document_in (form_is input) input

@@ -1,0 +1,35 @@
+// Text in base 64.
+ghost use Rattle.std.specs.Prelude.{◌≡◌, Err, IfOk, MatchResult, Ok};
+ghost use Rattle.base64.specs.Engines.{standard};
+ghost use Rattle.base64.specs.GeneralPurpose.{decode_of};
+ghost use Rattle.der_forms.specs.Forms.{but_spaces};
+
+use base64::engine::general_purpose::STANDARD;
+use base64::{DecodeAllocError, DecodeError};
+use std::alloc::{AllocError, Global};
+
+// The text without its white space.
+pub fn without_spaces(alloc: Global, text: &[u8]) -> Result<Vec<u8>, AllocError>
+    ensures { IfOk result (λ symbols. symbols.items ≡ but_spaces text.now) }
+{
+    let mut symbols = Vec::new(alloc);
+    for b in text {
+        if !b.is_ascii_whitespace() {
+            symbols.push(*b)?;
+        }
+    }
+    Ok(symbols)
+}
+
+// What the symbols spell, or why they spell nothing.
+pub fn decode(alloc: Global, symbols: &[u8]) -> Result<Result<Vec<u8>, DecodeError>, AllocError>
+    ensures { IfOk result (λ decoded. MatchResult decoded
+        (λ octets. decode_of standard symbols.now ≡ Ok octets.items)
+        (λ e. decode_of standard symbols.now ≡ Err e)) }
+{
+    match STANDARD.decode(alloc, symbols) {
+        Ok(octets) => Ok(Ok(octets)),
+        Err(DecodeAllocError::OutOfMemory) => Err(AllocError),
+        Err(DecodeAllocError::DecodeError(e)) => Ok(Err(e)),
+    }
+}

@@ -1,0 +1,130 @@
+// Text in hex digits.
+ghost use Rattle.std.specs.Prelude.{◌≡◌, ◌++◌, ◌==◌, IfOk, MatchOption, None, Ok, OnOk};
+ghost use Rattle.std.specs.Char.{is_ascii_hexdigit};
+ghost use Rattle.std.specs.List.{list_all};
+ghost use Rattle.std.specs.Result.{result_ok};
+ghost use Rattle.hex.specs.Hex.{decode_of};
+ghost use Rattle.der_forms.specs.Forms.{
+  all_of_some,
+  but_separators,
+  column_of,
+  digits_of,
+  has_columns,
+  is_separator,
+  up_to,
+};
+ghost use Rattle.streams.specs.Lines.{lines_of};
+
+use hex::FromHexError;
+use std::alloc::{AllocError, Global};
+use streams::split_line;
+
+// What may be the digits of a text.
+pub fn digits_in(alloc: Global, text: &[u8]) -> Result<Vec<u8>, AllocError>
+    ensures { IfOk result (λ digits. digits.items ≡ digits_of (has_columns text.now) (lines_of text.now)) }
+{
+    let in_columns = is_in_columns(text);
+    let mut digits = Vec::new(alloc);
+    let mut rest = text;
+    while !rest.is_empty() {
+        let (line, after) = split_line(rest);
+        if in_columns {
+            push_digits(digits_column(line), &mut digits)?;
+        } else {
+            push_digits(line, &mut digits)?;
+        }
+        rest = after;
+    }
+    Ok(digits)
+}
+
+fn is_in_columns(text: &[u8]) -> bool
+    ensures { result ≡ has_columns text.now }
+{
+    text.starts_with(b"00000000: ") || (text.starts_with(b"00000000  ") && text.contains(&b'|'))
+}
+
+// The column of digits in a line.
+fn digits_column(line: &[u8]) -> &[u8]
+    ensures { result.now ≡ column_of line.now }
+{
+    let offset = &line[..line.len().min(8)];
+    if !are_all_digits(offset) {
+        return line;
+    }
+    let after = &line[offset.len()..];
+    if after.starts_with(b":") {
+        part_before(b"  ", &after[1..])
+    } else {
+        part_before(b"|", after)
+    }
+}
+
+// What stands before the words.
+fn part_before<'a>(words: &[u8], text: &'a [u8]) -> &'a [u8]
+    ensures { result.now ≡ up_to words.now text.now }
+{
+    let mut end = 0;
+    while end < text.len() {
+        if text[end..].starts_with(words) {
+            return &text[..end];
+        }
+        end += 1;
+    }
+    text
+}
+
+// Puts what is left of the text without its separators.
+fn push_digits(text: &[u8], digits: &mut Vec<u8>) -> Result<(), AllocError>
+    ensures { OnOk result (digits.new.items ≡ digits.old.items ++ but_separators text.now) }
+{
+    let mut rest = text;
+    while !rest.is_empty() {
+        if rest.starts_with(b"0x") {
+            rest = &rest[2..];
+        } else {
+            let symbol = rest[0];
+            if !may_separate(symbol) {
+                digits.push(symbol)?;
+            }
+            rest = &rest[1..];
+        }
+    }
+    Ok(())
+}
+
+fn may_separate(b: u8) -> bool
+    ensures { result ≡ is_separator b }
+{
+    b.is_ascii_whitespace() || b == b':' || b == b','
+}
+
+// Whether there is a digit, and nothing else.
+pub fn are_digits(symbols: &[u8]) -> bool
+    ensures { result ≡ all_of_some is_ascii_hexdigit symbols.now }
+{
+    !symbols.is_empty() && are_all_digits(symbols)
+}
+
+fn are_all_digits(symbols: &[u8]) -> bool
+    ensures { result ≡ list_all is_ascii_hexdigit symbols.now }
+{
+    for b in symbols {
+        if !b.is_ascii_hexdigit() {
+            return false;
+        }
+    }
+    true
+}
+
+// The octets that the digits spell, if their number is even.
+pub fn decode(alloc: Global, digits: &[u8]) -> Result<Option<Vec<u8>>, AllocError>
+    ensures { IfOk result (λ octets. MatchOption octets
+        (result_ok (decode_of digits.now) ≡ None) (λ v. decode_of digits.now ≡ Ok v.items)) }
+{
+    match hex::decode(alloc, digits) {
+        Ok(octets) => Ok(Some(octets)),
+        Err(FromHexError::OutOfMemory) => Err(AllocError),
+        Err(_) => Ok(None),
+    }
+}

@@ -1,0 +1,17 @@
+//! The forms in which documents come: as they are, in PEM, in hex digits or in base 64.
+//!
+//! [`form_of`] tells what an input is, by its octets alone. Of PEM, [`next_object`] takes one object after another;
+//! [`document_of`] is for programs that want one document.
+#![tactic(auto)]
+
+mod base64_text;
+mod hex_text;
+mod input;
+mod lines;
+mod objects;
+#[cfg(test)]
+mod tests;
+
+pub use input::{Form, FormFault, document_of, form_of};
+pub use lines::Lines;
+pub use objects::{PemFault, PemObject, next_object};

@@ -1,0 +1,116 @@
+// Lines of an input, and which of them begin and end objects.
+ghost use Rattle.std.specs.Prelude.{◌≡◌, codes};
+ghost use Rattle.std.specs.List.{list_all};
+ghost use Rattle.der_forms.specs.Forms.{
+  begins,
+  begins_object,
+  but_indent,
+  but_mark,
+  has_object,
+  is_text_octet,
+};
+ghost use Rattle.der_forms.specs.Objects.{ends_object};
+ghost use Rattle.streams.specs.Lines.{lines_of};
+
+use streams::split_line;
+
+/// Lines that are still to be read.
+#[derive(Clone, Copy, Drop)]
+pub struct Lines<'a> {
+    /// What has not been read.
+    pub rest: &'a [u8],
+    /// How many lines were read before.
+    pub before: usize,
+}
+
+impl<'a> Lines<'a> {
+    /// All lines of an input, without a byte order mark.
+    pub fn of(input: &'a [u8]) -> Lines<'a>
+        ensures { result.rest.now ≡ but_mark input.now }
+    {
+        Lines {
+            rest: without_mark(input),
+            before: 0,
+        }
+    }
+}
+
+// The input without the byte order mark of UTF-8 at its front.
+pub fn without_mark(input: &[u8]) -> &[u8]
+    ensures { result.now ≡ but_mark input.now }
+{
+    if input.starts_with(&[0xEF, 0xBB, 0xBF]) {
+        &input[3..]
+    } else {
+        input
+    }
+}
+
+fn without_indent(line: &[u8]) -> &[u8]
+    ensures { result.now ≡ but_indent line.now }
+{
+    line.trim_ascii_start()
+}
+
+// PEM has a line that begins an object, and above it nothing but lines of text.
+pub fn is_pem(text: &[u8]) -> bool
+    ensures { result ≡ has_object (lines_of text.now) }
+{
+    let mut rest = text;
+    while !rest.is_empty() {
+        let (line, after) = split_line(rest);
+        if is_begin(line) {
+            return true;
+        }
+        if !is_text(line) {
+            return false;
+        }
+        rest = after;
+    }
+    false
+}
+
+// Whether a line begins an object.
+pub fn is_begin(line: &[u8]) -> bool
+    ensures { result ≡ begins_object line.now }
+{
+    without_indent(line).starts_with(b"-----BEGIN ")
+}
+
+// Whether a line ends an object.
+pub fn is_end(line: &[u8]) -> bool
+    ensures { result ≡ ends_object line.now }
+{
+    without_indent(line).starts_with(b"-----END ")
+}
+
+// Whether a line says that its object is encrypted.
+pub fn tells_encryption(line: &[u8]) -> bool
+    ensures { result ≡ begins (codes "Proc-Type: 4,ENCRYPTED") (but_indent line.now) }
+{
+    without_indent(line).starts_with(b"Proc-Type: 4,ENCRYPTED")
+}
+
+// What stands between the dashes of a line that begins an object.
+pub fn label_of(line: &[u8]) -> &[u8] {
+    let line = line.trim_ascii();
+    let label = line.strip_prefix(b"-----BEGIN ").unwrap_or(line);
+    label.strip_suffix(b"-----").unwrap_or(label)
+}
+
+fn is_text(line: &[u8]) -> bool
+    ensures { result ≡ list_all is_text_octet line.now }
+{
+    for b in line {
+        if !may_stand_in_text(*b) {
+            return false;
+        }
+    }
+    true
+}
+
+fn may_stand_in_text(b: u8) -> bool
+    ensures { result ≡ is_text_octet b }
+{
+    b >= b' ' || b.is_ascii_whitespace()
+}

@@ -1,0 +1,191 @@
+// The objects of PEM, one after another.
+ghost use Rattle.std.specs.Prelude.{◌≡◌, ◌∷◌, ◌++◌, ◌<◌, ◌≤◌, [], true, false, IfOk, MatchOption, OnOk, Option, length};
+ghost use Rattle.std.specs.List.{list_any};
+ghost use Rattle.std.specs.Option.{option_map};
+ghost use Rattle.std.specs.Result.{result_ok};
+ghost use Rattle.der_forms.specs.Objects.{is_encrypted, objects_in, octets_in, symbols_in, symbols_of};
+ghost use Rattle.streams.specs.Lines.{lines_of};
+
+use crate::base64_text::decode;
+use crate::lines::{Lines, is_begin, is_end, label_of, tells_encryption};
+use base64::DecodeError;
+use std::alloc::{AllocError, Global};
+use streams::split_line;
+
+/// Why an object has no octets.
+#[derive(Clone, Copy, Debug, Drop, PartialEq)]
+pub enum PemFault {
+    /// It is encrypted.
+    Encrypted,
+    /// A line is no base 64: its number, the first being 1.
+    NoBase64(usize),
+}
+
+/// An object of PEM.
+#[derive(Debug, Drop)]
+pub struct PemObject<'a> {
+    /// What stands between the dashes of the line that begins it.
+    pub label: &'a [u8],
+    /// The number of that line, the first being 1.
+    pub line: usize,
+    /// What its symbols spell.
+    pub octets: Result<Vec<u8>, PemFault>,
+    /// Whether a line ends it.
+    pub is_ended: bool,
+}
+
+/// The next object, and the lines after it. The only error is that memory ran out.
+pub fn next_object<'a>(
+    alloc: Global,
+    lines: Lines<'a>,
+) -> Result<Option<(PemObject<'a>, Lines<'a>)>, AllocError>
+    ensures { IfOk result (λ next. MatchOption next
+        (objects_in false (lines_of lines.entry.rest.now) ≡ [])
+        (λ found. (objects_in false (lines_of lines.entry.rest.now)
+        ≡ option_map (λ v. v.items) (result_ok found.0.octets) ∷ objects_in false (lines_of found.1.rest.now))
+        × (length found.1.rest.now < length lines.entry.rest.now))) }
+{
+    let Some((label, after)) = find_object(lines) else {
+        return Ok(None);
+    };
+    let body = read_body(alloc, after)?;
+    let octets = octets_of(alloc, &body, after)?;
+    let object = PemObject {
+        label,
+        line: after.before,
+        octets,
+        is_ended: body.is_ended,
+    };
+    Ok(Some((object, body.after)))
+}
+
+// The label of the next object, and the lines after the one that begins it.
+fn find_object<'a>(lines: Lines<'a>) -> Option<(&'a [u8], Lines<'a>)>
+    ensures { MatchOption result
+        (objects_in false (lines_of lines.entry.rest.now) ≡ [])
+        (λ found. (objects_in false (lines_of lines.entry.rest.now)
+        ≡ octets_in (lines_of found.1.rest.now) ∷ objects_in true (lines_of found.1.rest.now))
+        × (length found.1.rest.now < length lines.entry.rest.now)) }
+{
+    let mut rest = lines.rest;
+    let mut before = lines.before;
+    while !rest.is_empty() {
+        let (line, after) = split_line(rest);
+        rest = after;
+        before = before.saturating_add(1);
+        if is_begin(line) {
+            return Some((label_of(line), Lines { rest, before }));
+        }
+    }
+    None
+}
+
+// The lines of an object, up to the one that ends it.
+#[derive(Drop)]
+struct Body<'a> {
+    symbols: Vec<u8>,
+    is_encrypted: bool,
+    is_ended: bool,
+    after: Lines<'a>,
+}
+
+fn read_body<'a>(alloc: Global, lines: Lines<'a>) -> Result<Body<'a>, AllocError>
+    ensures symbols { IfOk result (λ body. body.symbols.items ≡ symbols_in (lines_of lines.entry.rest.now)) }
+    ensures encrypted { IfOk result (λ body. body.is_encrypted ≡ is_encrypted (lines_of lines.entry.rest.now)) }
+    ensures after { IfOk result (λ body. (objects_in true (lines_of lines.entry.rest.now)
+        ≡ objects_in false (lines_of body.after.rest.now)) × (length body.after.rest.now ≤ length lines.entry.rest.now)) }
+{
+    let mut symbols = Vec::new(alloc);
+    let mut is_encrypted = false;
+    let mut is_ended = false;
+    let mut rest = lines.rest;
+    let mut before = lines.before;
+    while !is_ended && !rest.is_empty() {
+        let (line, after) = split_line(rest);
+        rest = after;
+        before = before.saturating_add(1);
+        if is_end(line) {
+            is_ended = true;
+        } else {
+            is_encrypted = is_encrypted || tells_encryption(line);
+            push_symbols(line, &mut symbols)?;
+        }
+    }
+    Ok(Body {
+        symbols,
+        is_encrypted,
+        is_ended,
+        after: Lines { rest, before },
+    })
+}
+
+// Puts the symbols of a line. One with a colon is a header of the object (RFC 1421).
+fn push_symbols(line: &[u8], symbols: &mut Vec<u8>) -> Result<(), AllocError>
+    ensures { OnOk result (symbols.new.items ≡ symbols.old.items ++ symbols_of line.now) }
+{
+    if line.contains(&b':') {
+        return Ok(());
+    }
+    for b in line {
+        if !b.is_ascii_whitespace() {
+            symbols.push(*b)?;
+        }
+    }
+    Ok(())
+}
+
+fn octets_of(
+    alloc: Global,
+    body: &Body<'_>,
+    lines: Lines<'_>,
+) -> Result<Result<Vec<u8>, PemFault>, AllocError>
+    requires symbols { body.now.symbols.items ≡ symbols_in (lines_of lines.rest.now) }
+    requires encrypted { body.now.is_encrypted ≡ is_encrypted (lines_of lines.rest.now) }
+    ensures { IfOk result (λ octets.
+        option_map (λ v. v.items) (result_ok octets) ≡ octets_in (lines_of lines.entry.rest.now)) }
+{
+    if body.is_encrypted {
+        return Ok(Err(PemFault::Encrypted));
+    }
+    match decode(alloc, &body.symbols)? {
+        Ok(octets) => Ok(Ok(octets)),
+        Err(fault) => {
+            let place = place_of(&fault, body.symbols.len());
+            Ok(Err(PemFault::NoBase64(line_of(lines, place))))
+        }
+    }
+}
+
+// How many symbols stand before the one at fault, the last one where their number is at fault.
+fn place_of(fault: &DecodeError, count: usize) -> usize {
+    match fault {
+        DecodeError::InvalidByte(offset, _) => *offset,
+        DecodeError::InvalidLastSymbol { offset, .. } => *offset,
+        DecodeError::InvalidLength(_) | DecodeError::InvalidPadding => count.saturating_sub(1),
+    }
+}
+
+// The number of the line in which so many symbols stand before another.
+fn line_of(lines: Lines<'_>, place: usize) -> usize {
+    let mut rest = lines.rest;
+    let mut number = lines.before;
+    let mut left = place;
+    while !rest.is_empty() {
+        let (line, after) = split_line(rest);
+        number = number.saturating_add(1);
+        let count = symbol_count(line);
+        if left < count {
+            return number;
+        }
+        left -= count;
+        rest = after;
+    }
+    number
+}
+
+fn symbol_count(line: &[u8]) -> usize {
+    if line.contains(&b':') {
+        return 0;
+    }
+    line.iter().filter(|b| !b.is_ascii_whitespace()).count()
+}
