@@ -109,7 +109,7 @@ fn an_input_has_one_document_or_a_fault(rt: HostRuntime) -> Result<(), Fail> {
     for input in [two, b"30 00\n", b"\x30\x00", b"0x30,0x00"] {
         let input = Vec::from_slice(rt.alloc(), input)?;
         let document = document_of(rt.alloc(), input);
-        assert!(rt; document.is_ok_and(|octets| octets.as_slice() == [0x30, 0x00]));
+        assert!(rt; document.is_ok_and(|octets| octets.as_slice() == [0x30, 0x00].as_slice()));
     }
     for (input, fault) in [
         ("Dear reader,\n", FormFault::Text),
