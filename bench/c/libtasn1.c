@@ -1,6 +1,7 @@
 /* libtasn1, which reads by a schema: certificates alone, since its time for a list is quadratic. (A file of its own,
    since its header and OpenSSL's have names in common.) */
 #include <libtasn1.h>
+#include <limits.h>
 #include <stdint.h>
 #include <stdio.h>
 #include <stdlib.h>
@@ -30,8 +31,10 @@ static asn1_node schema;
 
 static int schema_read(void)
 {
-    char name[] = "/tmp/bench-schema-XXXXXX", error[ASN1_MAX_ERROR_DESCRIPTION_SIZE];
-    int to = mkstemp(name);
+    const char *folder = getenv("TMPDIR");
+    char name[PATH_MAX], error[ASN1_MAX_ERROR_DESCRIPTION_SIZE];
+    int size = snprintf(name, sizeof name, "%s/schema-XXXXXX", folder ? folder : P_tmpdir);
+    int to = size < (int)sizeof name ? mkstemp(name) : -1;
     FILE *file = to < 0 ? NULL : fdopen(to, "w");
     if (!file)
         return 0;

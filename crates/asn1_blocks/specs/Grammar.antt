@@ -28,7 +28,8 @@ mutual
   -- the octets are blocks one after another, also none
   pub data AreBlocks : List ℕ → Type 0 where
     no_blocks : AreBlocks []
-    more_blocks : {octets x rest : List ℕ} → octets ≡ x ++ rest → IsBlock x → AreBlocks rest → AreBlocks octets
+    more_blocks :
+        {octets x rest : List ℕ} → octets ≡ x ++ rest → IsBlock x → AreBlocks rest → AreBlocks octets
 
 -- contents octets with these fields are not read as more: their tag has no rule, or they are of another class and are
 -- not one block in a constructed encoding
@@ -40,7 +41,8 @@ StaysAsItCame c k n v =
 -- the octets at the offset, which is o, are an encoding of class Universal with this tag, and its contents octets, at
 -- the place where they begin, have the meaning. The constructed bit of a known tag may be any, where DER has it set for
 -- a SEQUENCE and a SET (X.690 8.9.1, 8.11.1) and clear for the rest (10.2)
-pub record EncodedAs (offset : ℕ) (octets : List ℕ) (o tag : ℕ) (Means : ℕ → List ℕ → Type 0) : Type 0 where
+pub record EncodedAs (offset : ℕ) (octets : List ℕ) (o tag : ℕ) (Means : ℕ → List ℕ → Type 0)
+    : Type 0 where
   pub constructed : Bool
   pub contents : List ℕ
   pub header : ℕ
@@ -67,7 +69,8 @@ pub record EncodedAsItCame (offset : ℕ) (octets : List ℕ) (class : ASN1Class
   pub stays : StaysAsItCame class constructed tag contents
 
 -- the octets are those of a first item, and then the rest, which begins after as many octets
-pub record EncodedFirst (octets : List ℕ) (First : List ℕ → Type 0) (Rest : ℕ → List ℕ → Type 0) : Type 0 where
+pub record EncodedFirst (octets : List ℕ) (First : List ℕ → Type 0) (Rest : ℕ → List ℕ → Type 0)
+    : Type 0 where
   pub first : List ℕ
   pub rest : List ℕ
   pub whole : octets ≡ first ++ rest

@@ -1,8 +1,8 @@
 //! The tree of blocks, and how octets are read into it: a layer of `simple_asn1`, which is the crate for users.
 //!
 //! - [`block`]: the tree; its equality, copies, dropping, and what is taken out of a block;
-//! - [`read`]: documents are read, in one loop over the frames that are open; [`parsed`], [`owed`] and [`held`] are parts
-//!   of it; [`encoding`] finds an encoding by its header;
+//! - [`read`]: documents are read, in one loop over the frames that are open; [`parsed`], [`owed`] and [`held`] are
+//!   parts of it; [`encoding`] finds an encoding by its header;
 //! - [`document`]: the owner of a document's blocks; [`walk`]: blocks in tree order;
 //! - [`contents`]: which contents octets a tag has; [`faithful`]: which blocks are read back as they are.
 //!

@@ -58,7 +58,8 @@ AreEntries document i [] [] (r ∷ rs) = ⊥
 AreEntries document i [] (d ∷ ds) rs = ⊥
 AreEntries document i (b ∷ bs) [] rs = ⊥
 AreEntries document i (b ∷ bs) (d ∷ ds) [] = ⊥
-AreEntries document i (b ∷ bs) (d ∷ ds) (r ∷ rs) = IsEntry document b i d r × AreEntries document (suc i) bs ds rs
+AreEntries document i (b ∷ bs) (d ∷ ds) (r ∷ rs) =
+    IsEntry document b i d r × AreEntries document (suc i) bs ds rs
 
 -- the records are those of all trees of these, in order
 abbrev pub AreRecordsOf : List ℕ → Trees ℕ → List Block → Type 0
@@ -92,7 +93,8 @@ pub record IsHeld (document : List ℕ) (f : OpenFrame) (deep : ℕ) (ts : List 
   pub around : Around front
 
 -- the records are those of the trees that the frames have, the innermost first
-abbrev pub AllHold : List ℕ → List Block → OpenFrame → List OpenFrame → List (Tree ℕ) → List (List (Tree ℕ)) → Type 0
+abbrev pub AllHold :
+    List ℕ → List Block → OpenFrame → List OpenFrame → List (Tree ℕ) → List (List (Tree ℕ)) → Type 0
 AllHold document rs f [] ts [] =
     (f.items ≡ length ts) × AreEntries document 0 (all_in_order (trees_of ts)) (all_depths 0 (trees_of ts)) rs
 AllHold document rs f [] ts (us ∷ rest) = ⊥
@@ -109,7 +111,8 @@ frames (f ∷ fs) [] = []
 frames (f ∷ fs) (ts ∷ rest) = frame f ts ∷ frames fs rest
 
 -- the frames are open, all is read up to the place, and the records are of all that was read
-pub record Reads (document : List ℕ) (rs : List Block) (f : OpenFrame) (gs : List OpenFrame) (place : ℕ) : Type 0 where
+pub record Reads (document : List ℕ) (rs : List Block) (f : OpenFrame) (gs : List OpenFrame) (place : ℕ)
+    : Type 0 where
   pub trees : List (Tree ℕ)
   pub outer : List (List (Tree ℕ))
   pub begun : ℕ

@@ -55,7 +55,8 @@ pub data IsReason (octets : List ℕ) (offset status : ℕ) : Type 0 where
   is_at_fault :
       (x : List ℕ) → EncodingAt octets offset x → (fault : DecodeFault) → FirstFault x fault →
       status ≡ status_of fault → IsReason octets offset status
-  is_another : status ≡ no_such_value → (bs : Trees ℕ) → IsReadAlone octets offset bs → IsReason octets offset status
+  is_another :
+      status ≡ no_such_value → (bs : Trees ℕ) → IsReadAlone octets offset bs → IsReason octets offset status
 
 -- no value of a kind is answered: memory ran out, or there is none at the offset
 abbrev pub IsMissing : Type 0 → List ℕ → ℕ → ℕ → Type 0
@@ -104,7 +105,8 @@ pub data AnswersText (octets : List ℕ) (offset : ℕ) (before after : List ℕ
 -- the components in decimal, or how much room they need; that one of them is too large; or that there is none
 pub data AnswersIdentifier (octets : List ℕ) (offset : ℕ) (before after : List ℕ) (o : Outcome) : Type 0 where
   identifier_was_found :
-      (components : List ℕ) → IsIdentifierAt octets offset components → ArePut (dotted_decimal components) before after o →
+      (components : List ℕ) → IsIdentifierAt octets offset components →
+      ArePut (dotted_decimal components) before after o →
       AnswersIdentifier octets offset before after o
   identifier_is_too_large :
       o.status ≡ out_of_range → (components : List ℕ) → IsIdentifierAt octets offset components →

@@ -3,8 +3,8 @@
 // A line is ended by octet 0A, and the last one perhaps by the end of the input. A line that begins with `#` is a
 // comment, and is not answered. Any other line has one line as its answer. What stands on it from a `#` on is a comment
 // too, and white space at either end is left out. If nothing is left, the answer is an empty line, so that groups of
-// rows stand apart in the answers too. Else the line is the name of a call, and after a space its octets in hex digits of
-// either case, with spaces or without; for no octets the name stands alone.
+// rows stand apart in the answers too. Else the line is the name of a call, and after a space its octets in hex digits
+// of either case, with spaces or without; for no octets the name stands alone.
 //
 //     read 30 03 02 01 05     Sequence(0, [Integer(2, 5)])
 //     count A0 02 02 05       2 begun, read

@@ -64,7 +64,7 @@ fn identifiers_are_written_in_decimal(rt: HostRuntime) -> Result<(), Fail> {
             "1.2.18446744073709551616",
         ),
         (
-            "06 14 69 83 F0 9D A7 EB CF DE E0 C7 A1 A7 B2 C0 94 8C C8 F9 D7 76",
+            "06 14 6983F09D A7EBCFDE E0C7A1A7 B2C0948C C8F9D776",
             "2.25.329800735698586629295641978511506172918",
         ),
         (

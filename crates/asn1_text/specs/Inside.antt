@@ -1,4 +1,5 @@
--- The blocks that are written inside a block, and how many blocks are left to write. Private contracts alone name these.
+-- The blocks that are written inside a block, and how many blocks are left to write. Private contracts alone name
+-- these.
 use Rattle.std.specs.Prelude.{ℕ, ◌+◌, ◌*◌, List, [], ◌∷◌}
 use Rattle.simple_asn1.specs.Tree.{Tree, Trees, leaf, group, explicit, unknown, no_trees, more_trees}
 use Rattle.simple_asn1.specs.View.{views}

@@ -11,13 +11,13 @@
 //! **Characters** are `U+` and their number in hex, in capitals and with at least four digits, with a space between two
 //! of them, and in brackets: `[U+00E9 U+1F600]`, `[]`.
 //!
-//! **Numbers.** Offsets and counts of bits are decimal. So is an integer that an `i64` holds, with `-` where it is below
-//! 0; any other is its shortest two's complement octets (X.690 8.3), in brackets: 2^64 is
+//! **Numbers.** Offsets and counts of bits are decimal. So is an integer that an `i64` holds, with `-` where it is
+//! below 0; any other is its shortest two's complement octets (X.690 8.3), in brackets: 2^64 is
 //! `[01 00 00 00 00 00 00 00 00]`. A tag number that a `u64` holds is decimal; any other is the octets of its shortest
 //! base-128 form (X.690 8.1.2.4.2), in brackets: 2^64 is `[82 80 80 80 80 80 80 80 80 00]`.
 //!
-//! **Components** of an object identifier are decimal, with a point between two of them: `1.2.840`. Where one is 2^128 or
-//! more, the contents octets that are written of the identifier stand in their place, in brackets.
+//! **Components** of an object identifier are decimal, with a point between two of them: `1.2.840`. Where one is 2^128
+//! or more, the contents octets that are written of the identifier stand in their place, in brackets.
 //!
 //! **Moments** are `YYYY-MM-DD hh:mm:ss`, and a point and nine digits of nanoseconds where they are not 0:
 //! `1992-05-21 00:00:00.300000000`. A year below 0, which no octets have, is `-` and three digits or more: `-005`.
@@ -33,7 +33,8 @@
 //! | NULL | `Null(OFFSET)` |
 //! | OBJECT IDENTIFIER | `ObjectIdentifier(OFFSET, COMPONENTS)` |
 //! | UTCTime, GeneralizedTime | `UTCTime(OFFSET, MOMENT)`, `GeneralizedTime(OFFSET, MOMENT)` |
-//! | the six strings of characters | `UTF8String(OFFSET, [CHARACTERS])`, and so `PrintableString`, `TeletexString`, `IA5String`, `UniversalString`, `BMPString` |
+//! | UTF8String | `UTF8String(OFFSET, [CHARACTERS])` |
+//! | PrintableString, TeletexString, IA5String, UniversalString, BMPString | so too, each with its own name |
 //! | SEQUENCE, SET | `Sequence(OFFSET, [BLOCKS])`, `Set(OFFSET, [BLOCKS])` |
 //! | explicit tagging | `Explicit(CLASS, OFFSET, TAG, BLOCK)` |
 //! | any other encoding | `Unknown(CLASS, CONSTRUCTED, OFFSET, TAG, [OCTETS])`, `CONSTRUCTED` being `true` or `false` |

@@ -71,8 +71,8 @@ pub(crate) fn write_tag_number(
     }
 }
 
-// Puts the components of an object identifier at the end, with a point between two of them. Where one is past a `u128`, the
-// contents octets of the identifier stand in brackets in their place.
+// Puts the components of an object identifier at the end, with a point between two of them. Where one is past a `u128`,
+// the contents octets of the identifier stand in brackets in their place.
 pub(crate) fn write_components(
     alloc: Global,
     out: &mut String,

@@ -118,8 +118,8 @@ pub data AreShown : ℕ → List ℕ → List ℕ → Type 0 where
       AreShown (from + length part) rest later → AreShown from octets offsets
 
 -- what is put after the text of octets: a document's lines, one for each block in tree order, and those of blocks
--- inside octets; of other octets the lines of what can be read, at least of a header at the front, and then their first fault,
--- at the offset of the innermost block at fault
+-- inside octets; of other octets the lines of what can be read, at least of a header at the front, and then their first
+-- fault, at the offset of the innermost block at fault
 abbrev pub AddsDumpOf : List ℕ → Verdict → List ℕ → List ℕ → Type 0
 AddsDumpOf octets AllRead before after =
     (bs : Trees ℕ) × IsDocument octets bs × Adds (StandsInside octets) (all_offsets bs) before after

@@ -87,7 +87,10 @@ up_to words (b ∷ text) = if begins words (b ∷ text) then [] else b ∷ up_to
 abbrev pub column_of : List ℕ → List ℕ
 column_of line =
     if list_all is_ascii_hexdigit (take 8 line)
-    then (if begins (codes ":") (drop 8 line) then up_to (codes "  ") (drop 9 line) else up_to (codes "|") (drop 8 line))
+    then
+    (if begins (codes ":") (drop 8 line)
+    then up_to (codes "  ") (drop 9 line)
+    else up_to (codes "|") (drop 8 line))
     else line
 
 -- what may be the digits of the lines, which come in columns or do not

@@ -15,7 +15,8 @@ use Rattle.asn1_blocks.specs.Faithful.{AreFaithful}
 use Rattle.asn1_blocks.specs.Tree.{Trees, no_trees, shapes}
 
 -- the octets are a document, and the value is read of its trees; trees after it are ignored
-pub record Decodes {T E : Type 0} (reads : Trees ℕ → Result (T × Trees ℕ) E → Type 0) (octets : List ℕ) (x : T)
+pub record Decodes
+    {T E : Type 0} (reads : Trees ℕ → Result (T × Trees ℕ) E → Type 0) (octets : List ℕ) (x : T)
     : Type 0 where
   pub trees : Trees ℕ
   pub rest : Trees ℕ
@@ -25,7 +26,8 @@ pub record Decodes {T E : Type 0} (reads : Trees ℕ → Result (T × Trees ℕ)
 -- the octets are a document whose trees the type refuses with the fault; or the fault is what the type makes of the
 -- first fault of the octets, or of memory that ran out
 abbrev pub DecodeFails : {T E : Type 0} →
-    (Trees ℕ → Result (T × Trees ℕ) E → Type 0) → (ASN1DecodeErr → E → Type 0) → List ℕ → E → Type 0
+    (Trees ℕ → Result (T × Trees ℕ) E → Type 0) → (ASN1DecodeErr → E → Type 0) →
+    List ℕ → E → Type 0
 DecodeFails reads from octets e =
     ((bs : Trees ℕ) × IsDocument octets bs × reads bs (Err e))
     ⊎ ((f : ASN1DecodeErr) × OutOfMemoryOr (FirstFault octets) f × from f e)
@@ -62,6 +64,7 @@ OwnEncodeFault writes from e = writes (Err e) ⊎ from no_memory e
 
 -- and so does reading them
 abbrev pub OwnDecodeFault : {T E : Type 0} →
-    (Trees ℕ → Result (T × Trees ℕ) E → Type 0) → (ASN1DecodeErr → E → Type 0) → Trees (Unit {0}) → E → Type 0
+    (Trees ℕ → Result (T × Trees ℕ) E → Type 0) → (ASN1DecodeErr → E → Type 0) →
+    Trees (Unit {0}) → E → Type 0
 OwnDecodeFault reads from ss e =
     ((bs : Trees ℕ) × (shapes bs ≡ ss) × reads bs (Err e)) ⊎ from OutOfMemory e

@@ -15,10 +15,12 @@ AreCanonical octets = (offset : ℕ) (bs : Trees ℕ) → EncodesAll offset octe
 
 -- contents octets behind identifier octets of these fields, which are no SEQUENCE or SET, are canonical whatever they
 -- mean
-pub record AreCanonicalContents (class : ASN1Class) (constructed : Bool) (tag : ℕ) (contents : List ℕ) : Type 0 where
+pub record AreCanonicalContents (class : ASN1Class) (constructed : Bool) (tag : ℕ) (contents : List ℕ)
+    : Type 0 where
   pub no_group : class ≡ Universal → (g : GroupKind) → tag ≡ group_tag g → ⊥
   pub primitive : class ≡ Universal → (l : Leaf) → tag ≡ leaf_tag l → constructed ≡ false
-  pub leaf : class ≡ Universal → (l : Leaf) → tag ≡ leaf_tag l → LeafContents l contents → contents ≡ leaf_contents l
+  pub leaf :
+      class ≡ Universal → (l : Leaf) → tag ≡ leaf_tag l → LeafContents l contents → contents ≡ leaf_contents l
   pub within : class ≢ Universal → constructed ≡ true → AreCanonical contents
 
 -- the octets begin with the shortest identifier octets of a tag without a rule, and then come the rest. It is one of
