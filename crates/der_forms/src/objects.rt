@@ -92,9 +92,9 @@ struct Body<'a> {
 fn read_body<'a>(alloc: Global, lines: Lines<'a>) -> Result<Body<'a>, AllocError>
     ensures symbols { IfOk result (λ body. body.symbols.items ≡ symbols_in (lines_of lines.entry.rest.now)) }
     ensures encrypted { IfOk result (λ body. body.is_encrypted ≡ is_encrypted (lines_of lines.entry.rest.now)) }
-    ensures after { IfOk result (λ body. (objects_in true (lines_of lines.entry.rest.now)
-        ≡ objects_in false (lines_of body.after.rest.now))
-        × (length body.after.rest.now ≤ length lines.entry.rest.now)) }
+    ensures after { IfOk result (λ body. objects_in true (lines_of lines.entry.rest.now)
+        ≡ objects_in false (lines_of body.after.rest.now)) }
+    ensures shorter { IfOk result (λ body. length body.after.rest.now ≤ length lines.entry.rest.now) }
 {
     let mut symbols = Vec::new(alloc);
     let mut is_encrypted = false;
