@@ -1,9 +1,100 @@
-// What is said of faults.
-use simple_asn1::ASN1DecodeErr;
+// What is said of faults. No contract says anything of it.
+use crate::header::{Header, read_header};
+use crate::scalars::{write_after_space, write_quoted};
+use simple_asn1::{ASN1Class, ASN1DecodeErr, encoding_at};
 use std::alloc::{AllocError, Global};
+use std::str;
+use std::str::Utf8Error;
 
-// Why octets are no document, in words, and the name of the fault.
-pub fn fault_words(alloc: Global, fault: &ASN1DecodeErr) -> Result<String, AllocError> {
+// Why octets are no document, in words, and the name of the fault, which the block at an offset has.
+pub fn words_at(
+    alloc: Global,
+    octets: &[u8],
+    offset: usize,
+    fault: &ASN1DecodeErr,
+) -> Result<String, AllocError> {
+    let Some(encoding) = encoding_at(octets, offset) else {
+        return fault_words(alloc, fault);
+    };
+    match read_header(alloc, encoding)? {
+        Some(header) if is_universal(&header) => leaf_words(alloc, &header, encoding, fault),
+        _ => fault_words(alloc, fault),
+    }
+}
+
+fn is_universal(header: &Header) -> bool {
+    matches!(header.class, ASN1Class::Universal)
+}
+
+// So of a block whose octets are all there: what its contents octets are, and what they should be.
+fn leaf_words(
+    alloc: Global,
+    header: &Header,
+    encoding: &[u8],
+    fault: &ASN1DecodeErr,
+) -> Result<String, AllocError> {
+    let (_, contents) = encoding.split_at(header.size.min(encoding.len()));
+    match (header.tag.to_u8(), fault) {
+        (Some(6), ASN1DecodeErr::Incomplete) => identifier_words(alloc, contents),
+        (Some(23), ASN1DecodeErr::InvalidDateValue(_)) => {
+            time_words(alloc, "UTCTime", "YYMMDDhhmmssZ", contents)
+        }
+        (Some(24), ASN1DecodeErr::InvalidDateValue(_)) => time_words(
+            alloc,
+            "GeneralizedTime",
+            "YYYYMMDDhhmmss, with a fraction or none, and Z",
+            contents,
+        ),
+        (_, ASN1DecodeErr::UTF8DecodeFailure(failure)) => utf8_words(alloc, failure),
+        _ => fault_words(alloc, fault),
+    }
+}
+
+fn identifier_words(alloc: Global, contents: &[u8]) -> Result<String, AllocError> {
+    if contents.is_empty() {
+        return String::from_str(
+            alloc,
+            "an OBJECT IDENTIFIER has no contents octets (Incomplete)",
+        );
+    }
+    String::from_str(
+        alloc,
+        "the last subidentifier of an OBJECT IDENTIFIER is cut off (Incomplete)",
+    )
+}
+
+// The text of a time, and of which form it should be.
+fn time_words(
+    alloc: Global,
+    name: &str,
+    form: &str,
+    contents: &[u8],
+) -> Result<String, AllocError> {
+    let mut words = format!(in alloc; "this is no {name}:")?;
+    match str::from_utf8(contents) {
+        Ok(text) => {
+            words.push_str(" ")?;
+            write_quoted(&mut words, text)?;
+        }
+        Err(_) => write_after_space(&mut words, contents)?,
+    }
+    write!(
+        words,
+        "; one is {form}, of a moment that exists (InvalidDateValue)"
+    )?;
+    Ok(words)
+}
+
+// Where the octets begin that are no character, counted from the first of the contents octets.
+fn utf8_words(alloc: Global, failure: &Utf8Error) -> Result<String, AllocError> {
+    let place = failure.valid_up_to();
+    format!(in alloc;
+        "the contents octets of a string are no UTF-8 from octet {place} of them on (UTF8DecodeFailure)"
+    )
+}
+
+// So of any fault.
+fn fault_words(alloc: Global, fault: &ASN1DecodeErr) -> Result<String, AllocError> {
     match fault {
         ASN1DecodeErr::EmptyBuffer => String::from_str(alloc, "there are no octets (EmptyBuffer)"),
         ASN1DecodeErr::BadBooleanLength(n) => {

@@ -5,7 +5,7 @@ ghost use Rattle.der_dump.specs.Dump.{Adds, AddsLine, AreShown, HasNoHeader, IsB
 ghost use Rattle.der_dump.specs.Dump.{StandAt, StandsInside};
 ghost use Rattle.der_dump.specs.Steps.{GoesTo, PlacedInside, PutsStep};
 
-use crate::faults::fault_words;
+use crate::faults::words_at;
 use crate::header::{Header, read_header};
 use crate::lines::{push_fault, push_line};
 use crate::names::Names;
@@ -43,7 +43,7 @@ pub fn push_refused(
         × AddsLine (IsFaultLine offset) shown out.new.items) }
 {
     push_to_fault(alloc, names, octets, out)?;
-    let words = fault_words(alloc, fault)?;
+    let words = words_at(alloc, octets, offset, fault)?;
     push_fault(alloc, offset, words.as_bytes(), out)
 }
 
