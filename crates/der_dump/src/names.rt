@@ -203,6 +203,8 @@ const NAMES: &str = "\
 1.3.6.1.4.1.311.60.2.1.1 jurisdictionLocalityName Microsoft
 1.3.6.1.4.1.311.60.2.1.2 jurisdictionStateOrProvinceName Microsoft
 1.3.6.1.4.1.311.60.2.1.3 jurisdictionCountryName Microsoft
+1.3.6.1.4.1.6189.3.4.1.1 atosTrustedRootPolicy Atos
+1.3.6.1.4.1.8024.0.3 quoVadisRootCA3Policy QuoVadis
 1.3.6.1.5.2.2 pkinitSan RFC 4556
 1.3.6.1.5.2.3.4 pkinitKPClientAuth RFC 4556
 1.3.6.1.5.2.3.5 pkinitKPKdc RFC 4556
@@ -246,6 +248,7 @@ const NAMES: &str = "\
 1.3.6.1.5.5.7.9.3 gender RFC 3739
 1.3.6.1.5.5.7.9.4 countryOfCitizenship RFC 3739
 1.3.6.1.5.5.7.9.5 countryOfResidence RFC 3739
+2.16.756.1.89.1.2.1.1 swissSignGoldPolicy SwissSign
 2.16.840.1.101.3.4.1.1 aes128-ECB NIST CSOR
 2.16.840.1.101.3.4.1.2 aes128-CBC NIST CSOR
 2.16.840.1.101.3.4.1.21 aes192-ECB NIST CSOR
