@@ -46,6 +46,13 @@ pub record IsFaultJson (octets : List ℕ) (label : Option (List ℕ)) (json : D
   pub place : offset_in told ≡ Some (number (unsigned offset))
   pub is : json ≡ object (member (codes "fault") told (labelled label))
 
+-- words that say why nothing is read
+abbrev pub words_json : List ℕ → Data
+words_json words = object (member (codes "text") (string words) no_members)
+
+abbrev pub refusal_json : List ℕ → Option (List ℕ) → Data
+refusal_json words label = object (member (codes "fault") (words_json words) (labelled label))
+
 -- the text of JSON of some kind was put after the text, and the end of a line
 abbrev pub AddsJson : (Data → Type 0) → List ℕ → List ℕ → Type 0
 AddsJson Is before after = (json : Data) × Is json × (after ≡ before ++ (compact_text json ++ 10 ∷ []))

@@ -30,4 +30,4 @@ mod row;
 mod tests;
 mod value;
 
-pub use line::push_json;
+pub use line::{push_json, push_refusal};

@@ -7,7 +7,7 @@ ghost use Rattle.serde_json.specs.Written.{comma_if, compact_text, has_float};
 ghost use Rattle.simple_asn1.specs.BlockParts.{all_in_order};
 ghost use Rattle.simple_asn1.specs.Types.{OutOfMemory};
 ghost use Rattle.simple_asn1.specs.View.{views};
-ghost use Rattle.der_json.specs.Json.{AddsJsonOf, offset_in};
+ghost use Rattle.der_json.specs.Json.{AddsJsonOf, offset_in, refusal_json, words_json};
 ghost use Rattle.der_json.specs.Rows.{AddsArray, AddsRows, label_text};
 
 use crate::row::{OpenBlocks, push_row};
@@ -43,6 +43,29 @@ pub fn push_json(
             Ok(false)
         }
     }
+}
+
+/// Puts a line of JSON at the end that says in words why there are no octets to be read: `{"fault":{"text":".."}}`, with
+/// the label after it. The only error is that memory ran out, after which some of the line may have been put.
+pub fn push_refusal(
+    alloc: Global,
+    label: Option<&str>,
+    words: &str,
+    out: &mut Vec<u8>,
+) -> Result<(), AllocError>
+    ensures { OnOk result (out.new.items ≡ out.old.items
+        ++ (compact_text (refusal_json words.now (option_map (λ t. t.now) label.entry)) ++ 10 ∷ [])) }
+{
+    let told = words_value(alloc, words)?;
+    put_fault(alloc, &told, out)?;
+    push_end(alloc, label, out)?;
+    Ok(())
+}
+
+fn words_value(alloc: Global, words: &str) -> Result<Value, AllocError>
+    ensures { IfOk result (λ v. view v ≡ words_json words.now) }
+{
+    json!(in alloc; {"text": words})
 }
 
 // Puts the rows of the blocks and of all inside them, and the end of an array.
@@ -108,6 +131,15 @@ fn push_fault(
         × (out.new.items ≡ out.old.items ++ (codes "{\"fault\":" ++ compact_text told))) }
 {
     let told = fault_value(alloc, fault, offset)?;
+    put_fault(alloc, &told, out)
+}
+
+// Puts the member `fault`, which begins an object.
+fn put_fault(alloc: Global, told: &Value, out: &mut Vec<u8>) -> Result<(), AllocError>
+    requires { has_float (view told.now) ≡ false }
+    ensures { OnOk result (out.new.items
+        ≡ out.old.items ++ (codes "{\"fault\":" ++ compact_text (view told.now))) }
+{
     let text = told.to_vec(alloc)?;
     out.extend_from_slice(b"{\"fault\":")?;
     out.extend_from_slice(&text)?;

@@ -1,6 +1,6 @@
 // The lines of short documents, of each kind of block, and of octets that are none. What each line is, was worked out by
 // hand from the tables of this crate's page.
-use crate::push_json;
+use crate::{push_json, push_refusal};
 use std::test::Fail;
 
 #[test]
@@ -96,5 +96,16 @@ fn each_kind_of_block_has_its_value(rt: HostRuntime) -> Result<(), Fail> {
             "{line}"
         );
     }
+    Ok(())
+}
+
+#[test]
+fn words_have_their_line(rt: HostRuntime) -> Result<(), Fail> {
+    let mut out = Vec::new(rt.alloc());
+    push_refusal(rt.alloc(), Some("X"), "encrypted, not read", &mut out)?;
+    assert_eq!(rt;
+        str::from_utf8(&out),
+        Ok("{\"fault\":{\"text\":\"encrypted, not read\"},\"label\":\"X\"}\n")
+    );
     Ok(())
 }
