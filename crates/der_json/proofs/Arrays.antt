@@ -1,0 +1,95 @@
+-- The text of an array, row by row.
+use Rattle.std.proofs.Common.{◌≡◌, ℕ, ◌+◌, ◌<◌, ◌≤◌, List, [], ◌∷◌, ◌++◌, Bool, true, false, length, map, take, get_or}
+use Rattle.std.proofs.Common.{refl, sym, ap, ◌∙◌, Bor}
+use Rattle.std.proofs.lemmas.List.{append_assoc, append-nil, map-append, take_all, take_more}
+use Rattle.serde_json.specs.Data.{Data}
+use Rattle.serde_json.specs.Written.{comma_if, compact_text, items_text}
+use Rattle.simple_asn1.specs.Tree.{Tree}
+use Rattle.simple_asn1.specs.Types.{ASN1Block}
+use Rattle.simple_asn1.specs.View.{view}
+use Rattle.der_json.specs.Json.{at_offset, items_of, offset_in}
+use Rattle.der_json.specs.Rows.{AddsArray, AddsRows, are_some, rows_text}
+
+-- one more row, behind others
+rows_later : (ds : List Data) (d : Data) → rows_text true (ds ++ d ∷ []) ≡ rows_text true ds ++ (comma_if true ++ compact_text d)
+rows_later [] d = ap (λ z. 44 ∷ z) (append-nil (compact_text d))
+rows_later (x ∷ xs) d =
+    ap (λ z. 44 ∷ (compact_text x ++ z)) (rows_later xs d)
+    ∙ ap (λ z. 44 ∷ z) (sym (append_assoc (compact_text x) (rows_text true xs) (comma_if true ++ compact_text d)))
+
+rows_more : (ds : List Data) (d : Data)
+    → rows_text false (ds ++ d ∷ []) ≡ rows_text false ds ++ (comma_if (are_some ds) ++ compact_text d)
+rows_more [] d = append-nil (compact_text d)
+rows_more (x ∷ xs) d =
+    ap (λ z. compact_text x ++ z) (rows_later xs d)
+    ∙ sym (append_assoc (compact_text x) (rows_text true xs) (comma_if true ++ compact_text d))
+
+some_more : (ds : List Data) (d : Data) → true ≡ are_some (ds ++ d ∷ [])
+some_more [] d = refl
+some_more (x ∷ xs) d = refl
+
+array_later : (ds : List Data) → items_text true (items_of ds) ≡ rows_text true ds ++ 93 ∷ []
+array_later [] = refl
+array_later (d ∷ ds) =
+    ap (λ z. 44 ∷ (compact_text d ++ z)) (array_later ds)
+    ∙ ap (λ z. 44 ∷ z) (sym (append_assoc (compact_text d) (rows_text true ds) (93 ∷ [])))
+
+array_is : (ds : List Data) → items_text false (items_of ds) ≡ rows_text false ds ++ 93 ∷ []
+array_is [] = refl
+array_is (d ∷ ds) =
+    ap (λ z. compact_text d ++ z) (array_later ds)
+    ∙ sym (append_assoc (compact_text d) (rows_text true ds) (93 ∷ []))
+
+pub no_rows : (before : List ℕ) → AddsRows false [] before before
+no_rows before = record { rows = []; offsets = refl; some = refl; is = sym (append-nil before) }
+
+pub one_row : (later : Bool) (trees : List (Tree ℕ)) (tree : Tree ℕ) (row : Data) (before middle comma after : List ℕ)
+    → AddsRows later trees before middle → comma ≡ middle ++ comma_if later → offset_in row ≡ at_offset tree
+    → after ≡ comma ++ compact_text row → AddsRows true (trees ++ tree ∷ []) before after
+one_row later trees tree row before middle comma after h c o e =
+    record {
+      rows = h.rows ++ row ∷ [];
+      offsets =
+          map-append offset_in h.rows (row ∷ [])
+          ∙ (ap (λ z. z ++ offset_in row ∷ []) h.offsets
+          ∙ (ap (λ z. map at_offset trees ++ z ∷ []) o ∙ sym (map-append at_offset trees (tree ∷ []))));
+      some = some_more h.rows row;
+      is =
+          e ∙ (ap (λ z. z ++ compact_text row) (c ∙ (ap (λ z. z ++ comma_if later) h.is))
+          ∙ (append_assoc (before ++ rows_text false h.rows) (comma_if later) (compact_text row)
+          ∙ append_assoc before (rows_text false h.rows) (comma_if later ++ compact_text row)
+          ∙ ap (λ z. before ++ z) (ap (λ z. rows_text false h.rows ++ (comma_if z ++ compact_text row)) h.some ∙ sym (rows_more h.rows row))));
+    }
+
+pub all_rows : (later : Bool) (trees : List (Tree ℕ)) (before middle after : List ℕ)
+    → AddsRows later trees before middle → after ≡ middle ++ 93 ∷ [] → AddsArray trees before after
+all_rows later trees before middle after h e = (
+  h.rows,
+  h.offsets,
+  e ∙ (ap (λ z. z ++ 93 ∷ []) h.is ∙ (append_assoc before (rows_text false h.rows) (93 ∷ [])
+      ∙ ap (λ z. before ++ z) (sym (array_is h.rows)))),
+)
+
+-- blocks of a list, as trees
+abbrev pub trees_at : List (Bor ASN1Block) → List (Tree ℕ)
+trees_at bs = map (λ b. view b.now) bs
+
+pub next_tree : (order : List (Bor ASN1Block)) (i : ℕ) (x : Bor ASN1Block) → i < length order → x ≡ get_or order i x
+    → trees_at (take (i + 1) order) ≡ trees_at (take i order) ++ view x.now ∷ []
+next_tree order i x l e =
+    ap trees_at (take_more order i x l)
+    ∙ (map-append (λ b. view b.now) (take i order) (get_or order i x ∷ [])
+    ∙ ap (λ z. trees_at (take i order) ++ view z.now ∷ []) (sym e))
+
+pub last_tree : (order : List (Bor ASN1Block)) (i : ℕ) → length order ≤ i → trees_at (take i order) ≡ trees_at order
+last_tree order i l = ap trees_at (take_all i order l)
+
+-- three texts put one after another
+pub joined : (out x y z a b c : List ℕ) → a ≡ out ++ x → b ≡ a ++ y → c ≡ b ++ z → c ≡ out ++ (x ++ (y ++ z))
+joined out x y z a b c d e f =
+    f ∙ (ap (λ v. v ++ z) (e ∙ ap (λ v. v ++ y) d) ∙ (append_assoc (out ++ x) y z ∙ append_assoc out x (y ++ z)))
+
+-- and where the first two are put at once
+pub after_begin : (out x y z b c : List ℕ) → b ≡ out ++ (x ++ y) → c ≡ b ++ z → c ≡ out ++ (x ++ (y ++ z))
+after_begin out x y z b c e f =
+    f ∙ (ap (λ v. v ++ z) e ∙ (append_assoc out (x ++ y) z ∙ ap (λ v. out ++ v) (append_assoc x y z)))

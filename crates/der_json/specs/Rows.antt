@@ -1,0 +1,33 @@
+-- The text of an array, as far as it is put. Private contracts alone name these.
+use Rattle.std.specs.Prelude.{◌≡◌, ℕ, Bool, true, false, List, [], ◌∷◌, ◌++◌, Option, map}
+use Rattle.serde_json.specs.Data.{Data}
+use Rattle.serde_json.specs.Written.{comma_if, compact_text, items_text, members_text}
+use Rattle.simple_asn1.specs.Tree.{Tree}
+use Rattle.der_json.specs.Json.{at_offset, items_of, labelled, offset_in}
+
+-- the texts of these, with a comma between two of them
+abbrev pub rows_text : Bool → List Data → List ℕ
+rows_text later [] = []
+rows_text later (d ∷ ds) = comma_if later ++ (compact_text d ++ rows_text true ds)
+
+-- whether there are any
+abbrev pub are_some : List Data → Bool
+are_some [] = false
+are_some (d ∷ ds) = true
+
+-- rows of these trees were put after the text, and whether any
+pub record AddsRows (later : Bool) (trees : List (Tree ℕ)) (before after : List ℕ) : Type 0 where
+  pub rows : List Data
+  pub offsets : map offset_in rows ≡ map at_offset trees
+  pub some : later ≡ are_some rows
+  pub is : after ≡ before ++ rows_text false rows
+
+-- so the array of them, with its closing bracket
+abbrev pub AddsArray : List (Tree ℕ) → List ℕ → List ℕ → Type 0
+AddsArray trees before after =
+    (rows : List Data) × (map offset_in rows ≡ map at_offset trees)
+    × (after ≡ before ++ items_text false (items_of rows))
+
+-- the end of an object that may have a label
+abbrev pub label_text : Option (List ℕ) → List ℕ
+label_text label = members_text true (labelled label)

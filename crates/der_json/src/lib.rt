@@ -1,0 +1,33 @@
+//! Documents as JSON, a line each, for programs.
+//!
+//! [`push_json`] puts an object whose `blocks` are those of the document in tree order, each an object:
+//!
+//! | Member | What |
+//! |---|---|
+//! | `offset` | how many octets stand before the block |
+//! | `size` | how many octets it has, with its header |
+//! | `depth` | how many blocks are around it |
+//! | `class` | `universal`, `application`, `context-specific` or `private` |
+//! | `tag` | its number, or its decimal digits as a text where a `u64` does not hold it |
+//! | `type` | `SEQUENCE` and its like; `null` where the library has no type for the tag |
+//! | `value` | what it holds: the next table |
+//!
+//! | Block | `value` |
+//! |---|---|
+//! | BOOLEAN | `true` or `false` |
+//! | INTEGER | a number, or its decimal digits as a text where an `i64` does not hold it |
+//! | OBJECT IDENTIFIER | a text, `1.2.840` |
+//! | strings of characters | their text |
+//! | UTCTime, GeneralizedTime | a text, `2026-11-23T00:43:05Z` |
+//! | BIT STRING | an object: `bits`, how many there are, and `octets`, in hex digits |
+//! | OCTET STRING, and what has no type | its octets in hex digits |
+//! | NULL, and what holds blocks | `null` |
+#![tactic(auto)]
+
+mod line;
+mod row;
+#[cfg(test)]
+mod tests;
+mod value;
+
+pub use line::{push_json, push_refusal};

@@ -1,0 +1,121 @@
+// What is told of a block: its type, its tag, and what it holds. None of it is a float.
+ghost use Rattle.std.specs.Prelude.{◌≡◌, false, IfOk};
+ghost use Rattle.serde_json.specs.View.{view};
+ghost use Rattle.serde_json.specs.Written.{has_float};
+
+use serde_json::{Value, json};
+use simple_asn1::{ASN1Block, ASN1Class, BigInt, BigUint};
+use std::alloc::{AllocError, Global};
+
+// The type of a block, where the library has one for its tag.
+fn type_of(block: &ASN1Block) -> Option<&'static str> {
+    match block {
+        ASN1Block::Boolean(_, _) => Some("BOOLEAN"),
+        ASN1Block::Integer(_, _) => Some("INTEGER"),
+        ASN1Block::BitString(_, _, _) => Some("BIT STRING"),
+        ASN1Block::OctetString(_, _) => Some("OCTET STRING"),
+        ASN1Block::Null(_) => Some("NULL"),
+        ASN1Block::ObjectIdentifier(_, _) => Some("OBJECT IDENTIFIER"),
+        ASN1Block::UTF8String(_, _) => Some("UTF8String"),
+        ASN1Block::PrintableString(_, _) => Some("PrintableString"),
+        ASN1Block::TeletexString(_, _) => Some("TeletexString"),
+        ASN1Block::IA5String(_, _) => Some("IA5String"),
+        ASN1Block::UTCTime(_, _) => Some("UTCTime"),
+        ASN1Block::GeneralizedTime(_, _) => Some("GeneralizedTime"),
+        ASN1Block::UniversalString(_, _) => Some("UniversalString"),
+        ASN1Block::BMPString(_, _) => Some("BMPString"),
+        ASN1Block::Sequence(_, _) => Some("SEQUENCE"),
+        ASN1Block::Set(_, _) => Some("SET"),
+        ASN1Block::Explicit(_, _, _, _) => None,
+        ASN1Block::Unknown(_, _, _, _, _) => None,
+    }
+}
+
+// Its name, or `null`.
+pub fn type_value(alloc: Global, block: &ASN1Block) -> Result<Value, AllocError>
+    ensures { IfOk result (λ v. has_float (view v) ≡ false) }
+{
+    match type_of(block) {
+        Some(name) => text_value(alloc, name),
+        None => Ok(Value::Null),
+    }
+}
+
+pub fn class_name(class: ASN1Class) -> &'static str {
+    match class {
+        ASN1Class::Universal => "universal",
+        ASN1Class::Application => "application",
+        ASN1Class::ContextSpecific => "context-specific",
+        ASN1Class::Private => "private",
+    }
+}
+
+// The tag number of a block.
+pub fn tag_value(alloc: Global, block: &ASN1Block) -> Result<Value, AllocError>
+    ensures { IfOk result (λ v. has_float (view v) ≡ false) }
+{
+    match block {
+        ASN1Block::Explicit(_, _, tag, _) => natural_value(alloc, tag),
+        ASN1Block::Unknown(_, _, _, tag, _) => natural_value(alloc, tag),
+        _ => Ok(Value::from(block.tag().unwrap_or(0))),
+    }
+}
+
+fn natural_value(alloc: Global, number: &BigUint) -> Result<Value, AllocError>
+    ensures { IfOk result (λ v. has_float (view v) ≡ false) }
+{
+    match number.to_u64() {
+        Some(n) => Ok(Value::from(n)),
+        None => Ok(Value::String(format!(in alloc; "{number}")?)),
+    }
+}
+
+fn integer_value(alloc: Global, number: &BigInt) -> Result<Value, AllocError>
+    ensures { IfOk result (λ v. has_float (view v) ≡ false) }
+{
+    match number.to_i64() {
+        Some(n) => Ok(Value::from(n)),
+        None => Ok(Value::String(format!(in alloc; "{number}")?)),
+    }
+}
+
+fn octets_value(alloc: Global, octets: &[u8]) -> Result<Value, AllocError>
+    ensures { IfOk result (λ v. has_float (view v) ≡ false) }
+{
+    Ok(Value::String(hex::encode(alloc, octets)?))
+}
+
+fn text_value(alloc: Global, text: &str) -> Result<Value, AllocError>
+    ensures { IfOk result (λ v. has_float (view v) ≡ false) }
+{
+    Value::try_from_str(alloc, text)
+}
+
+fn bits_value(alloc: Global, bits: usize, octets: &[u8]) -> Result<Value, AllocError>
+    ensures { IfOk result (λ v. has_float (view v) ≡ false) }
+{
+    let digits = hex::encode(alloc, octets)?;
+    json!(in alloc; {"bits": bits, "octets": digits})
+}
+
+// What a block holds, which is told after its type.
+pub fn value_of(alloc: Global, block: &ASN1Block) -> Result<Value, AllocError>
+    ensures { IfOk result (λ v. has_float (view v) ≡ false) }
+{
+    match block {
+        ASN1Block::Boolean(_, value) => Ok(Value::Bool(*value)),
+        ASN1Block::Integer(_, number) => integer_value(alloc, number),
+        ASN1Block::BitString(_, bits, octets) => bits_value(alloc, *bits, octets),
+        ASN1Block::OctetString(_, octets) => octets_value(alloc, octets),
+        ASN1Block::ObjectIdentifier(_, oid) => Ok(Value::String(format!(in alloc; "{oid}")?)),
+        ASN1Block::UTCTime(_, moment) => Ok(Value::String(format!(in alloc; "{moment}Z")?)),
+        ASN1Block::GeneralizedTime(_, moment) => {
+            Ok(Value::String(format!(in alloc; "{moment}Z")?))
+        }
+        ASN1Block::Unknown(_, _, _, _, octets) => octets_value(alloc, octets),
+        _ => match block.text() {
+            Some(text) => text_value(alloc, text),
+            None => Ok(Value::Null),
+        },
+    }
+}
