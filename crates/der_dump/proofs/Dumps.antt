@@ -3,18 +3,12 @@ use Rattle.std.proofs.Common.{◌≡◌, ℕ, zero, suc, ◌+◌, List, [], ◌�
 use Rattle.std.proofs.Common.{inl, inr, Bool, true, false, refl, sym, ap, ◌∙◌, subst, map, append_assoc, append-nil, arith}
 use Rattle.std.proofs.lemmas.List.{map-append, drop-drop}
 use Rattle.std.specs.Fmt.{decimal}
-use Rattle.std.specs.Prelude.{Option, Some, None, Result, Ok, Err, IfOk, IfSome, OnOk}
+use Rattle.std.specs.Prelude.{Result, Ok, Err, OnOk}
 use Rattle.std.specs.declared.alloc.AllocError.{AllocError}
-use Rattle.der_forms.specs.Forms.{form_is, objects, other_text}
-use Rattle.der_forms.specs.Objects.{objects_of}
-use Rattle.simple_asn1.specs.Fault.{OutOfMemoryOr, fault_of}
-use Rattle.simple_asn1.specs.Grammar.{FirstFault, IsDocument}
-use Rattle.simple_asn1.specs.Types.{OutOfMemory}
+use Rattle.simple_asn1.specs.Grammar.{IsDocument}
 use Rattle.simple_asn1.specs.Tree.{Trees}
-use Rattle.der_dump.specs.declared.document.Verdict.{Verdict}
-use Rattle.der_dump.specs.declared.document.Verdict.TheVariants.{AllRead, Refused}
-use Rattle.der_dump.specs.Dump.{Adds, AddsAnswer, AddsDumpOf, AddsLine, AddsObject, AddsObjects, IsBlockLine, IsDump, IsFaultLine, IsInsideLine, IsNote, IsOneLine}
-use Rattle.der_dump.specs.Dump.{StandAt, StandsInside, all_offsets, block_line, both_read, inside_line, no_lines, of_cut_objects, of_text}
+use Rattle.der_dump.specs.Dump.{Adds, AddsLine, IsBlockLine, IsDump, IsFaultLine, IsInsideLine, IsNote, IsOneLine}
+use Rattle.der_dump.specs.Dump.{StandAt, StandsInside, all_offsets, block_line, inside_line, no_lines}
 use Rattle.der_dump.specs.Steps.{IsLineOf, PlacedInside, shown_at}
 
 -- a dump after a dump
@@ -200,86 +194,3 @@ top_adds false base octets os a b e z adds =
     let P = PlacedInside base octets in
     adds_map P (StandsInside octets) (λ o (place, s, p). let same : place ≡ o = omega (arith, p, z) in subst (StandsInside octets) same s) os a b
     (subst (λ l. Adds P l a b) (ap (λ n. map (λ o. n + o) os) z ∙ later_by_none os) adds)
-
--- objects after objects
-both_after : (u v w : Verdict) → both_read (both_read u v) w ≡ both_read u (both_read v w)
-both_after AllRead v w = refl
-both_after Refused v w = refl
-
-both_all : (v : Verdict) → v ≡ both_read v AllRead
-both_all AllRead = refl
-both_all Refused = refl
-
-objects_join :
-    (xs ys : List (Option (List ℕ))) (v w : Verdict) (a b c : List ℕ) →
-    AddsObjects xs v a b → AddsObjects ys w b c → AddsObjects (xs ++ ys) (both_read v w) a c
-objects_join [] ys v w a b c (e, n) h =
-    subst (λ z. AddsObjects ys (both_read z w) a c) (sym e) (subst (λ z. AddsObjects ys w z c) n h)
-objects_join (x ∷ xs) ys v w a b c (first, later, between, e, o, r) h =
-    (first, both_read later w, between, ap (λ z. both_read z w) e ∙ both_after first later w, o, objects_join xs ys later w between b c r h)
-
--- of all objects some were put, and these are left
-pub record Progressed (all left : List (Option (List ℕ))) (verdict : Verdict) (a b : List ℕ) : Type 0 where
-  pub done : List (Option (List ℕ))
-  pub order : all ≡ done ++ left
-  pub put : AddsObjects done verdict a b
-
-pub none_done : (all : List (Option (List ℕ))) (a : List ℕ) → Progressed all all AllRead a a
-none_done all a = record { done = []; order = refl; put = (refl, refl) }
-
--- one object more
-pub one_done :
-    (all left later : List (Option (List ℕ))) (object : Option (List ℕ)) (v w : Verdict) (a b c : List ℕ) →
-    left ≡ object ∷ later → Progressed all left v a b → AddsObject object w b c → Progressed all later (both_read v w) a c
-one_done all left later object v w a b c e h o = record {
-  done = h.done ++ object ∷ [];
-  order = h.order ∙ (ap (λ xs. h.done ++ xs) e ∙ sym (append_assoc h.done (object ∷ []) later));
-  put = objects_join h.done (object ∷ []) v w a b c h.put (w, AllRead, c, both_all w, o, (refl, refl));
-}
-
--- all objects
-pub all_done : (all left : List (Option (List ℕ))) (v : Verdict) (a b : List ℕ) → left ≡ [] → Progressed all left v a b
-    → AddsObjects all v a b
-all_done all left v a b e h =
-    subst (λ xs. AddsObjects xs v a b) (sym (h.order ∙ (ap (λ xs. h.done ++ xs) e ∙ append-nil h.done))) h.put
-
--- the octets of an object under its label
-pub object_done :
-    (r : Result Verdict AllocError) (octets a b c : List ℕ) → AddsLine (IsNote 61) a b →
-    IfOk r (λ v. AddsDumpOf octets v b c) → IfOk r (λ v. AddsObject (Some octets) v a c)
-object_done (Ok v) octets a b c x y = (b, x, y)
-object_done (Err e) octets a b c x y = tt
-
-pub answer_read : (r : Result Verdict AllocError) (input octets a b : List ℕ)
-    → ((v : Verdict) → AddsDumpOf octets v a b → AddsAnswer input v a b)
-    → IfOk r (λ v. AddsDumpOf octets v a b) → IfOk r (λ v. AddsAnswer input v a b)
-answer_read (Ok v) input octets a b f h = f v h
-answer_read (Err x) input octets a b f h = tt
-
--- text that is no document
-pub answer_text :
-    (r : Result Verdict AllocError) (text : List ℕ) (fault : _) (a b : List ℕ) →
-    form_is text ≡ other_text → OutOfMemoryOr (FirstFault text) fault → IfOk r (λ v. fault ≡ OutOfMemory → ⊥) →
-    IfOk r (λ v. (v ≡ Refused) × AddsLine (IsNote 33) a b) → IfOk r (λ v. AddsAnswer text v a b)
-answer_text (Ok v) text fault a b f h m put = elim h [
-  | inl is ↦ absurd (m is)
-  | inr first ↦ of_text (fault_of fault) f first put.0 put.1
-]
-answer_text (Err x) text fault a b f h m put = tt
-
--- the last object does not end
-pub answer_cut :
-    (r : Result Verdict AllocError) (input : List ℕ) (left : List (Option (List ℕ))) (v : Verdict) (a b c : List ℕ) →
-    form_is input ≡ objects → left ≡ [] → Progressed (objects_of input) left v a b →
-    IfOk r (λ w. (w ≡ Refused) × AddsLine (IsNote 33) b c) → IfOk r (λ w. AddsAnswer input w a c)
-answer_cut (Ok w) input left v a b c f e h put =
-    of_cut_objects v b f (all_done (objects_of input) left v a b e h) put.1 put.0
-answer_cut (Err x) input left v a b c f e h put = tt
-
--- what was read is the input, and all that was put is the output
-pub input_answered : (o : Option (List ℕ)) (bytes start out : List ℕ) (v : Verdict) (P : List ℕ → Type 0)
-    → IfSome o (λ i. bytes ≡ i) → start ≡ []
-    → AddsAnswer bytes v start out → P out → IfSome o (λ i. (x : List ℕ) × AddsAnswer i v [] x × P x)
-input_answered None bytes start out v P e n a p = tt
-input_answered (Some i) bytes start out v P e n a p =
-    (out, subst (λ z. AddsAnswer i v z out) n (subst (λ z. AddsAnswer z v start out) e a), p)

@@ -1,4 +1,6 @@
+mod Answered
 mod Dumps
 mod Headers
+mod Inputs
 mod Shown
 mod Walks

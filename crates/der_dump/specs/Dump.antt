@@ -8,7 +8,7 @@ use Rattle.der_dump.specs.declared.document.Verdict.{Verdict}
 use Rattle.der_dump.specs.declared.document.Verdict.TheVariants.{AllRead, Refused}
 use Rattle.simple_asn1.specs.Fault.{DecodeFault}
 use Rattle.simple_asn1.specs.FaultPlace.{FirstFaultAt}
-use Rattle.simple_asn1.specs.Grammar.{FirstFault, IsDocument}
+use Rattle.simple_asn1.specs.Grammar.{IsDocument}
 use Rattle.simple_asn1.specs.Header.{IsLength, IsSomeIdentifier}
 use Rattle.simple_asn1.specs.Tree.{Tree, Trees, leaf, group, explicit, unknown, no_trees, more_trees}
 
@@ -127,48 +127,3 @@ AddsDumpOf octets Refused before after =
     (fault : DecodeFault) × (offset : ℕ) × FirstFaultAt octets fault offset
     × (offsets shown : List ℕ) × AreShown 0 octets offsets × (offsets ≡ [] → HasNoHeader octets)
     × Adds (StandsInside octets) offsets before shown × AddsLine (IsFaultLine offset) shown after
-
--- what is put after the text of an object: a line `=`, and the dump of its octets, or a line `!` where there are none
-abbrev pub AddsObject : Option (List ℕ) → Verdict → List ℕ → List ℕ → Type 0
-AddsObject (Some octets) verdict before after =
-    (named : List ℕ) × AddsLine (IsNote 61) before named × AddsDumpOf octets verdict named after
-AddsObject None verdict before after =
-    (named : List ℕ) × AddsLine (IsNote 61) before named
-    × AddsLine (IsNote 33) named after × (verdict ≡ Refused)
-
--- where one and then another were read, all was
-abbrev pub both_read : Verdict → Verdict → Verdict
-both_read AllRead verdict = verdict
-both_read Refused verdict = Refused
-
--- so of objects one after another, all of which are read, or not
-abbrev pub AddsObjects : List (Option (List ℕ)) → Verdict → List ℕ → List ℕ → Type 0
-AddsObjects [] verdict before after = (verdict ≡ AllRead) × (after ≡ before)
-AddsObjects (object ∷ others) verdict before after =
-    (first later : Verdict) × (between : List ℕ) × (verdict ≡ both_read first later)
-    × AddsObject object first before between × AddsObjects others later between after
-
--- what is put of an input, which has its documents in one of the forms
-pub data AddsAnswer (input : List ℕ) (verdict : Verdict) (before after : List ℕ) : Type 0 where
-  of_octets :
-      form_is input ≡ plain_octets → AddsDumpOf input verdict before after → AddsAnswer input verdict before after
-  of_spelled :
-      (octets : List ℕ) → form_is input ≡ spelled octets → AddsDumpOf octets verdict before after →
-      AddsAnswer input verdict before after
-  of_odd_digits :
-      form_is input ≡ odd_digits → verdict ≡ Refused → AddsLine (IsNote 33) before after →
-      AddsAnswer input verdict before after
-  -- text may be the octets of a document all the same
-  of_read_text :
-      form_is input ≡ other_text → AddsDumpOf input verdict before after → AddsAnswer input verdict before after
-  of_text :
-      (fault : DecodeFault) → form_is input ≡ other_text → FirstFault input fault → verdict ≡ Refused →
-      AddsLine (IsNote 33) before after → AddsAnswer input verdict before after
-  of_objects :
-      form_is input ≡ objects → AddsObjects (objects_of input) verdict before after →
-      AddsAnswer input verdict before after
-  -- the last object does not end, which is told after it
-  of_cut_objects :
-      (read : Verdict) (shown : List ℕ) →
-      form_is input ≡ objects → AddsObjects (objects_of input) read before shown →
-      AddsLine (IsNote 33) shown after → verdict ≡ Refused → AddsAnswer input verdict before after

@@ -1,2 +1,4 @@
 pub mod Dump
+pub mod Inputs
+pub mod Parts
 pub mod Steps

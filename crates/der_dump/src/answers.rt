@@ -1,35 +1,43 @@
-// What is written of an input, in each of the forms.
+// What is written of an input that is dumped, in each of the forms.
 ghost use Rattle.std.specs.Prelude.{◌≡◌, ◌≢◌, IfOk, OnOk};
 ghost use Rattle.std.specs.Option.{option_map};
 ghost use Rattle.std.specs.Result.{result_ok};
-ghost use Rattle.der_dump.specs.Dump.{AddsAnswer, AddsLine, AddsObject, IsNote, both_read};
+ghost use Rattle.der_dump.specs.Dump.{AddsLine, IsNote};
+ghost use Rattle.der_dump.specs.Inputs.{AddsAnswer, AddsObject, both_read};
 ghost use Rattle.der_dump.specs.declared.document.Verdict.TheVariants.{Refused};
 ghost use Rattle.simple_asn1.specs.Types.{OutOfMemory};
 ghost use Rattle.der_forms.specs.Forms.{form_is, objects, other_text};
 
-use crate::document::{Verdict, push_document};
+use crate::document::Verdict;
 use crate::lines::{Mark, push_note};
 use crate::names::Names;
+use crate::strict::push_read;
 use der_forms::{Form, Lines, PemFault, PemObject, form_of, next_object};
+use der_options::Options;
 use simple_asn1::{ASN1DecodeErr, Document};
 use std::alloc::{AllocError, Global};
 
 // Puts what is said of an input.
-pub fn push_answer(alloc: Global, input: &[u8], out: &mut Vec<u8>) -> Result<Verdict, AllocError>
-    ensures { IfOk result (λ verdict. AddsAnswer input.now verdict out.old.items out.new.items) }
+pub fn push_answer(
+    alloc: Global,
+    names: &Names,
+    options: &Options<'_>,
+    input: &[u8],
+    out: &mut Vec<u8>,
+) -> Result<Verdict, AllocError>
+    ensures { IfOk result (λ verdict. AddsAnswer options.now input.now verdict out.old.items out.new.items) }
 {
-    let names = Names::new(alloc)?;
     match form_of(alloc, input)? {
-        Form::Pem => push_pem(alloc, &names, input, out),
-        Form::Spelled(octets) => push_document(alloc, &names, &octets, out),
+        Form::Pem => push_pem(alloc, names, options, input, out),
+        Form::Spelled(octets) => push_read(alloc, names, options, &octets, out),
         Form::OddDigits => push_refusal(b" refused: an odd number of hex digits", out),
-        Form::Text => push_text(alloc, &names, input, out),
-        Form::Der => push_document(alloc, &names, input, out),
+        Form::Text => push_text(alloc, names, options, input, out),
+        Form::Der => push_read(alloc, names, options, input, out),
     }
 }
 
 // Puts a line that says why something is not read.
-fn push_refusal(why: &[u8], out: &mut Vec<u8>) -> Result<Verdict, AllocError>
+pub fn push_refusal(why: &[u8], out: &mut Vec<u8>) -> Result<Verdict, AllocError>
     ensures { IfOk result (λ verdict. (verdict ≡ Refused) × AddsLine (IsNote 33) out.old.items out.new.items) }
 {
     push_note(Mark::Fault, why, out)?;
@@ -40,14 +48,15 @@ fn push_refusal(why: &[u8], out: &mut Vec<u8>) -> Result<Verdict, AllocError>
 fn push_text(
     alloc: Global,
     names: &Names,
+    options: &Options<'_>,
     text: &[u8],
     out: &mut Vec<u8>,
 ) -> Result<Verdict, AllocError>
     requires { form_is text.now ≡ other_text }
-    ensures { IfOk result (λ verdict. AddsAnswer text.now verdict out.old.items out.new.items) }
+    ensures { IfOk result (λ verdict. AddsAnswer options.now text.now verdict out.old.items out.new.items) }
 {
     match Document::from_der(alloc, text) {
-        Ok(_) => push_document(alloc, names, text, out),
+        Ok(_) => push_read(alloc, names, options, text, out),
         Err(fault) => push_no_document(&fault, out),
     }
 }
@@ -69,17 +78,18 @@ fn push_no_document(fault: &ASN1DecodeErr, out: &mut Vec<u8>) -> Result<Verdict,
 fn push_pem(
     alloc: Global,
     names: &Names,
+    options: &Options<'_>,
     input: &[u8],
     out: &mut Vec<u8>,
 ) -> Result<Verdict, AllocError>
     requires { form_is input.now ≡ objects }
-    ensures { IfOk result (λ verdict. AddsAnswer input.now verdict out.old.items out.new.items) }
+    ensures { IfOk result (λ verdict. AddsAnswer options.now input.now verdict out.old.items out.new.items) }
 {
     let mut verdict = Verdict::AllRead;
     let mut cut_line = None;
     let mut lines = Lines::of(input);
     while let Some((object, after)) = next_object(alloc, lines)? {
-        let read = push_object(alloc, names, &object, out)?;
+        let read = push_object(alloc, names, options, &object, out)?;
         verdict = both(verdict, read);
         cut_line = line_if_cut(&object);
         lines = after;
@@ -106,15 +116,16 @@ fn line_if_cut(object: &PemObject<'_>) -> Option<usize> {
 fn push_object(
     alloc: Global,
     names: &Names,
+    options: &Options<'_>,
     object: &PemObject<'_>,
     out: &mut Vec<u8>,
 ) -> Result<Verdict, AllocError>
-    ensures { IfOk result (λ verdict. AddsObject
+    ensures { IfOk result (λ verdict. AddsObject options.now
         (option_map (λ v. v.items) (result_ok object.now.octets)) verdict out.old.items out.new.items) }
 {
     push_label(alloc, object.label, out)?;
     match &object.octets {
-        Ok(octets) => push_document(alloc, names, octets, out),
+        Ok(octets) => push_read(alloc, names, options, octets, out),
         Err(PemFault::Encrypted) => push_refusal(b" encrypted, not read", out),
         Err(PemFault::NoBase64(line)) => {
             let why = format!(in alloc; " line {line}: this is no base 64")?;
@@ -123,7 +134,7 @@ fn push_object(
     }
 }
 
-fn push_label(alloc: Global, label: &[u8], out: &mut Vec<u8>) -> Result<(), AllocError>
+pub fn push_label(alloc: Global, label: &[u8], out: &mut Vec<u8>) -> Result<(), AllocError>
     ensures { OnOk result (AddsLine (IsNote 61) out.old.items out.new.items) }
 {
     let mut text = Vec::from_slice(alloc, b" ")?;
@@ -131,7 +142,7 @@ fn push_label(alloc: Global, label: &[u8], out: &mut Vec<u8>) -> Result<(), Allo
     push_note(Mark::Object, &text, out)
 }
 
-fn both(a: Verdict, b: Verdict) -> Verdict
+pub fn both(a: Verdict, b: Verdict) -> Verdict
     ensures { result ≡ both_read a b }
 {
     match a {

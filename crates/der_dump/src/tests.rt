@@ -1,6 +1,9 @@
 // What is said of the shortest inputs in each form, and streams that fail.
 use crate::document::Verdict;
-use crate::tool::{run, status};
+use crate::tool::{Source, run, status};
+use der_options::options_of;
+use std::alloc::Global;
+use std::process::Abort;
 use std::test::Fail;
 use streams::StreamFault;
 use streams::failing::{FailingReader, FailingWriter};
@@ -12,45 +15,172 @@ const NO_OCTETS: &str = "! refused at offset 0: there are no octets (EmptyBuffer
 const TOO_LARGE: &str =
     "! refused at offset 0: a length, or the number of its octets, is too large: 9 (LengthTooLarge)\n";
 
+// The output and the exit status of a run by the words, over inputs of these names and octets.
+fn ran(alloc: Global, words: &[&str], inputs: &[(&str, &[u8])]) -> Result<(Vec<u8>, u8), Fail> {
+    let Ok(options) = options_of(alloc, words) else {
+        return Err(Fail::from("these words are no options"));
+    };
+    let mut sources = Vec::new(alloc);
+    for (name, reader) in inputs {
+        sources.push(Source {
+            name: *name,
+            reader: *reader,
+        })?;
+    }
+    let mut writer = Vec::new(alloc);
+    let outcome = run(alloc, &options, sources, &mut writer);
+    Ok((writer, status(&outcome)))
+}
+
+// The words write this of one input.
+fn writes(
+    rt: &impl Abort,
+    alloc: Global,
+    words: &[&str],
+    input: &[u8],
+    wanted: &[u8],
+    number: u8,
+) -> Result<(), Fail> {
+    let (written, got) = ran(alloc, words, &[("-", input)])?;
+    assert_eq!(rt; written.as_slice(), wanted, "at {words:?} {input:?}");
+    assert_eq!(rt; got, number, "at {words:?} {input:?}");
+    Ok(())
+}
+
 #[test]
 fn each_input_has_its_dump(rt: HostRuntime) -> Result<(), Fail> {
-    let empty: &[u8] = b"";
+    let dump = ["der_dump"];
+    let dump = dump.as_slice();
+    let alloc = rt.alloc();
+    writes(&rt, alloc, dump, b"", NO_OCTETS.as_bytes(), 1)?;
+    writes(&rt, alloc, dump, &[0x05, 0x00], NULL.as_bytes(), 0)?;
+    writes(&rt, alloc, dump, b"05 00\n", NULL.as_bytes(), 0)?;
+    writes(&rt, alloc, dump, &[0x04, 0x89], TOO_LARGE.as_bytes(), 1)?;
+    writes(&rt, alloc, dump, b"0489", TOO_LARGE.as_bytes(), 1)
+}
+
+// A SEQUENCE of a BOOLEAN that is not canonical, and of an INTEGER.
+const SEQUENCE: &[u8] = &[0x30, 0x06, 0x01, 0x01, 0x2A, 0x02, 0x01, 0x07];
+
+#[test]
+fn each_task_takes_its_block(rt: HostRuntime) -> Result<(), Fail> {
+    let alloc = rt.alloc();
+    let none = b"! no block stands at offset 6\n";
+    writes(
+        &rt,
+        alloc,
+        &["der_dump", "--extract=5"],
+        SEQUENCE,
+        &[0x02, 0x01, 0x07],
+        0,
+    )?;
+    writes(
+        &rt,
+        alloc,
+        &["der_dump", "--contents=5"],
+        SEQUENCE,
+        &[0x07],
+        0,
+    )?;
+    writes(
+        &rt,
+        alloc,
+        &["der_dump", "--contents=2"],
+        b"3006 01012A 020107",
+        &[0x2A],
+        0,
+    )?;
+    let integer = b"      0  2       1  INTEGER 7\n";
+    writes(&rt, alloc, &["der_dump", "--at=5"], SEQUENCE, integer, 0)?;
+    writes(&rt, alloc, &["der_dump", "--at=6"], SEQUENCE, none, 1)?;
+    writes(&rt, alloc, &["der_dump", "--extract=6"], SEQUENCE, none, 1)?;
+    writes(&rt, alloc, &["der_dump", "--contents=6"], SEQUENCE, none, 1)?;
+    let text = b"! this looks like text; DER, PEM and hex digits are read\n";
+    writes(&rt, alloc, &["der_dump", "--contents=6"], b"text", text, 1)
+}
+
+#[test]
+fn what_is_not_canonical_is_refused_where_that_is_asked(rt: HostRuntime) -> Result<(), Fail> {
+    let alloc = rt.alloc();
+    let strict = ["der_dump", "--strict"];
+    writes(
+        &rt,
+        alloc,
+        strict.as_slice(),
+        &[0x05, 0x00],
+        NULL.as_bytes(),
+        0,
+    )?;
+    let (written, number) = ran(alloc, strict.as_slice(), &[("-", SEQUENCE)])?;
+    let line = b"! refused at offset 0: the block at 0 is not in canonical form (NotCanonical)\n";
+    assert!(rt; written.as_slice().ends_with(line.as_slice()));
+    assert_eq!(rt; number, 1);
+    Ok(())
+}
+
+#[test]
+fn several_inputs_have_their_names(rt: HostRuntime) -> Result<(), Fail> {
     let null: &[u8] = &[0x05, 0x00];
-    let too_large: &[u8] = &[0x04, 0x89];
-    for (input, dump, verdict, number) in [
-        (empty, NO_OCTETS, Verdict::Refused, 1),
-        (null, NULL, Verdict::AllRead, 0),
-        (b"05 00\n", NULL, Verdict::AllRead, 0),
-        (too_large, TOO_LARGE, Verdict::Refused, 1),
-        (b"0489", TOO_LARGE, Verdict::Refused, 1),
-    ] {
-        let mut reader = input;
-        let mut writer = Vec::new(rt.alloc());
-        let outcome = run(rt.alloc(), &mut reader, &mut writer);
-        assert_eq!(rt; outcome, Ok(verdict), "at {input:?}");
-        assert_eq!(rt; status(&outcome), number, "at {input:?}");
-        assert_eq!(rt; writer.as_slice(), dump.as_bytes(), "at {input:?}");
+    let inputs = [("a", null), ("b", null)];
+    let (written, number) = ran(rt.alloc(), &["der_dump"], inputs.as_slice())?;
+    let wanted = "= a\n      0  2       0  NULL\n= b\n      0  2       0  NULL\n";
+    assert_eq!(rt; written.as_slice(), wanted.as_bytes());
+    assert_eq!(rt; number, 0);
+    let (written, number) = ran(rt.alloc(), &["der_dump", "--extract=0"], inputs.as_slice())?;
+    assert_eq!(rt; written.as_slice(), [0x05u8, 0x00, 0x05, 0x00].as_slice());
+    assert_eq!(rt; number, 0);
+    Ok(())
+}
+
+#[test]
+fn what_cannot_be_read_is_left_out(rt: HostRuntime) -> Result<(), Fail> {
+    let alloc = rt.alloc();
+    let words = ["der_dump"];
+    let Ok(options) = options_of(alloc, words.as_slice()) else {
+        return Err(Fail::from("these words are no options"));
+    };
+    for reads in 0..6 {
+        let mut sources = Vec::new(alloc);
+        for reads in [9, reads, 9] {
+            let reader = FailingReader {
+                octets: b"0500",
+                reads,
+            };
+            sources.push(Source { name: "a", reader })?;
+        }
+        let mut writer = Vec::new(alloc);
+        let outcome = run(alloc, &options, sources, &mut writer);
+        let middle = if reads == 5 {
+            Some(Verdict::AllRead)
+        } else {
+            None
+        };
+        let came = [Some(Verdict::AllRead), middle, Some(Verdict::AllRead)];
+        assert_eq!(rt; status(&outcome), if reads == 5 { 0 } else { 2 });
+        assert!(rt; outcome.is_ok_and(|outcome| outcome.as_slice() == came.as_slice()));
+        let shown = "= a\n      0  2       0  NULL\n".len();
+        assert_eq!(rt;
+            writer.len(),
+            if reads == 5 { 3 * shown } else { 2 * shown }
+        );
     }
     Ok(())
 }
 
 #[test]
-fn a_fault_of_a_stream_is_told(rt: HostRuntime) -> Result<(), Fail> {
-    for reads in 0..5 {
-        let mut reader = FailingReader {
-            octets: b"0500",
-            reads,
-        };
-        let mut writer = Vec::new(rt.alloc());
-        let outcome = run(rt.alloc(), &mut reader, &mut writer);
-        assert_eq!(rt; outcome, Err(StreamFault::Read), "after {reads} reads");
-        assert!(rt; writer.is_empty(), "after {reads} reads");
-    }
+fn a_fault_of_writing_is_told(rt: HostRuntime) -> Result<(), Fail> {
+    let alloc = rt.alloc();
+    let words = ["der_dump"];
+    let Ok(options) = options_of(alloc, words.as_slice()) else {
+        return Err(Fail::from("these words are no options"));
+    };
     for writes in 0..2 {
-        let mut reader: &[u8] = b"0500";
-        let outcome = run(rt.alloc(), &mut reader, &mut FailingWriter { writes });
-        assert_eq!(rt; outcome, Err(StreamFault::Write), "after {writes} writes");
+        let mut sources = Vec::new(alloc);
+        let reader: &[u8] = b"0500";
+        sources.push(Source { name: "-", reader })?;
+        let outcome = run(alloc, &options, sources, &mut FailingWriter { writes });
         assert_eq!(rt; status(&outcome), 2);
+        assert!(rt; outcome.is_err_and(|fault| fault == StreamFault::Write));
     }
     Ok(())
 }

@@ -1,48 +1,178 @@
 // The run of the program: all input is read before anything is written.
-ghost use Rattle.std.specs.Prelude.{◌≡◌, ◌⊎◌, List, ℕ, [], IfOk, IfErr, IfSome, IsErr, OnOk};
+ghost use Rattle.std.specs.Prelude.{◌≡◌, ◌⊎◌, List, ℕ, [], IfOk, IfErr, IfSome, IsErr, IsSome, length, map, max};
 ghost use Rattle.std.specs.Io.KnownBytes.{Appends, IsAtEnd, Keeps};
-ghost use Rattle.der_dump.specs.Dump.{AddsAnswer};
-ghost use Rattle.der_dump.specs.declared.document.Verdict.TheVariants.{AllRead, Refused};
-ghost use Rattle.streams.specs.declared.StreamFault.TheVariants.{Write as write_fault};
+ghost use Rattle.der_dump.specs.Inputs.{AddsNamed, AddsSource, AddsSources, greatest_status, names_shown, status_of};
+ghost use Rattle.streams.specs.declared.StreamFault.TheVariants.{Memory as memory_fault, Write as write_fault};
 
-use crate::answers::push_answer;
+use crate::answers::push_label;
 use crate::document::Verdict;
-use std::alloc::Global;
+use crate::names::Names;
+use crate::tasks::push_input;
+use der_options::{Options, Task};
+use std::alloc::{AllocError, Global};
 use std::io::{Read, Write};
 use streams::{StreamFault, read_all, write_all};
 
-/// Reads all of `r`, and writes what is said of it to `w`.
-///
-/// The input is a document, or documents in PEM, or a document in hex digits, told apart by their octets. The whole
-/// input and the whole output are kept in memory.
-///
-/// # Errors
-/// `Read` and `Memory`, after which nothing was written; `Write`, after which nothing is known of what was.
-pub fn run<R: Read, W: Write>(alloc: Global, r: &mut R, w: &mut W) -> Result<Verdict, StreamFault>
-    ensures answered { IfOk result (λ verdict. IfSome (R.remaining r.old) (λ input. (output : List ℕ)
-        × AddsAnswer input verdict [] output × Appends (W.contents w.old) (W.contents w.new) output)) }
-    ensures read { OnOk result (IsAtEnd (R.remaining r.new)) }
-    ensures kept { IfErr result (λ e. (e ≡ write_fault) ⊎ Keeps (W.contents w.old) (W.contents w.new)) }
-{
-    let input = read_all(alloc, r)?;
-    let mut output = Vec::new(alloc);
-    let Ok(verdict) = push_answer(alloc, &input, &mut output) else {
-        return Err(StreamFault::Memory);
-    };
-    write_all(w, &output)?;
-    Ok(verdict)
+/// An input: its name, and what it is read from.
+#[derive(Drop)]
+pub struct Source<'a, R> {
+    pub name: &'a str,
+    pub reader: R,
 }
 
-/// The exit status after a run: 0 where all was read, 1 where some of the input is no document, 2 after a fault of
-/// reading or writing and where memory ran out.
-pub fn status(outcome: &Result<Verdict, StreamFault>) -> u8
-    ensures all { IfOk outcome.now (λ verdict. verdict ≡ AllRead → result ≡ 0) }
-    ensures refused { IfOk outcome.now (λ verdict. verdict ≡ Refused → result ≡ 1) }
+/// Reads all of each input, in order, and writes to `w` what the options want of each; answers what each came to,
+/// `None` where it could not be read, of which nothing is written.
+///
+/// An input is a document, or documents in PEM, or a document in hex digits, told apart by its octets. All of the
+/// output is kept in memory, and one input at a time.
+///
+/// # Errors
+/// `Memory`, after which nothing was written; `Write`, after which nothing is known of what was.
+pub fn run<R: Read + Drop, W: Write>(
+    alloc: Global,
+    options: &Options<'_>,
+    sources: Vec<Source<'_, R>>,
+    w: &mut W,
+) -> Result<Vec<Option<Verdict>>, StreamFault>
+    ensures answered { IfOk result (λ came. (output : List ℕ)
+        × AddsSources (names_shown options.now.task (length sources.entry.items)) options.now
+        (map (λ source. R.remaining source.reader) sources.entry.items) came.items [] output
+        × Appends (W.contents w.old) (W.contents w.new) output) }
+    ensures kept { IfErr result (λ e. (e ≡ write_fault) ⊎ Keeps (W.contents w.old) (W.contents w.new)) }
+{
+    let Ok(names) = Names::new(alloc) else {
+        return Err(StreamFault::Memory);
+    };
+    let is_named = are_names_shown(options.task, sources.len());
+    let mut output = Vec::new(alloc);
+    let came = push_sources(alloc, &names, options, is_named, sources, &mut output)?;
+    write_all(w, &output)?;
+    Ok(came)
+}
+
+// Puts what the options want of each input, one after another.
+fn push_sources<R: Read + Drop>(
+    alloc: Global,
+    names: &Names,
+    options: &Options<'_>,
+    is_named: bool,
+    sources: Vec<Source<'_, R>>,
+    out: &mut Vec<u8>,
+) -> Result<Vec<Option<Verdict>>, StreamFault>
+    ensures put { IfOk result (λ came. AddsSources is_named options.now
+        (map (λ source. R.remaining source.reader) sources.entry.items) came.items out.old.items out.new.items) }
+    ensures fault { IfErr result (λ e. e ≡ memory_fault) }
+{
+    let mut came = Vec::new(alloc);
+    for source in sources {
+        let outcome = push_source(alloc, names, options, is_named, source, out)?;
+        if came.push(outcome).is_err() {
+            return Err(StreamFault::Memory);
+        }
+    }
+    Ok(came)
+}
+
+// Whether names are shown above what is put of so many inputs.
+fn are_names_shown(task: Task, count: usize) -> bool
+    ensures { result ≡ names_shown task count }
+{
+    match task {
+        Task::Extract(_) | Task::Contents(_) => false,
+        _ => count > 1,
+    }
+}
+
+// Puts what the options want of an input, where it can be read.
+fn push_source<R: Read + Drop>(
+    alloc: Global,
+    names: &Names,
+    options: &Options<'_>,
+    is_named: bool,
+    source: Source<'_, R>,
+    out: &mut Vec<u8>,
+) -> Result<Option<Verdict>, StreamFault>
+    ensures put { IfOk result (λ came. AddsSource is_named options.now (R.remaining source.entry.reader) came
+        out.old.items out.new.items) }
+    ensures fault { IfErr result (λ e. e ≡ memory_fault) }
+{
+    let Source { name, mut reader } = source;
+    let Some(input) = read_source(alloc, &mut reader)? else {
+        return Ok(None);
+    };
+    match push_named(alloc, names, options, is_named, name, input, out) {
+        Ok(verdict) => Ok(Some(verdict)),
+        Err(_) => Err(StreamFault::Memory),
+    }
+}
+
+/// All that the reader has left, or `None` where a read fails. It is read to its end.
+///
+/// # Errors
+/// `Memory` alone.
+pub fn read_source<R: Read>(alloc: Global, r: &mut R) -> Result<Option<Vec<u8>>, StreamFault>
+    ensures bytes { IfOk result (λ found. IfSome found (λ input.
+        IfSome (R.remaining r.old) (λ bytes. input.items ≡ bytes))) }
+    ensures read { IfOk result (λ found. IsSome found → IsAtEnd (R.remaining r.new)) }
+    ensures fault { IfErr result (λ e. e ≡ memory_fault) }
+{
+    match read_all(alloc, r) {
+        Ok(input) => Ok(Some(input)),
+        Err(StreamFault::Memory) => Err(StreamFault::Memory),
+        Err(_) => Ok(None),
+    }
+}
+
+// Puts what the options want of octets, under their name where names are shown.
+fn push_named(
+    alloc: Global,
+    names: &Names,
+    options: &Options<'_>,
+    is_named: bool,
+    name: &str,
+    input: Vec<u8>,
+    out: &mut Vec<u8>,
+) -> Result<Verdict, AllocError>
+    ensures { IfOk result (λ verdict. AddsNamed is_named options.now input.items verdict
+        out.old.items out.new.items) }
+{
+    if is_named {
+        push_label(alloc, name.as_bytes(), out)?;
+    }
+    push_input(alloc, names, options, input, out)
+}
+
+/// The exit status after a run: 0 where all was read, 1 where some of the input is no document, 2 where some could not
+/// be read, after a fault of writing and where memory ran out.
+pub fn status(outcome: &Result<Vec<Option<Verdict>>, StreamFault>) -> u8
+    ensures greatest { IfOk outcome.now (λ came. result ≡ greatest_status came.items) }
     ensures fault { IsErr outcome.now → result ≡ 2 }
 {
     match outcome {
-        Ok(Verdict::AllRead) => 0,
-        Ok(Verdict::Refused) => 1,
+        Ok(came) => greatest(came),
         Err(_) => 2,
+    }
+}
+
+fn greatest(came: &[Option<Verdict>]) -> u8
+    ensures { result ≡ greatest_status came.now }
+{
+    came.iter()
+        .fold(0, |most, outcome| larger(most, status_after(*outcome)))
+}
+
+fn larger(a: u8, b: u8) -> u8
+    ensures { result ≡ max a b }
+{
+    if a < b { b } else { a }
+}
+
+fn status_after(outcome: Option<Verdict>) -> u8
+    ensures { result ≡ status_of outcome }
+{
+    match outcome {
+        Some(Verdict::AllRead) => 0,
+        Some(Verdict::Refused) => 1,
+        None => 2,
     }
 }

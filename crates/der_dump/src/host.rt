@@ -1,0 +1,59 @@
+// What the program reads: standard input, and files, each of which is opened when it is first read.
+ghost use Rattle.std.specs.Prelude.{IfOk};
+ghost use Rattle.std.specs.Counts.{IsPrefixLen};
+
+use std::fs::File;
+use std::io;
+use std::io::{ErrorKind, Read};
+
+// Reads standard input, where the name is `-`, or the file that has the name.
+#[derive(Drop)]
+pub struct HostReader<'r, 'a> {
+    rt: &'r HostRuntime,
+    name: &'a str,
+    file: Option<File>,
+}
+
+impl<'r, 'a> HostReader<'r, 'a> {
+    // Nothing is opened yet.
+    pub fn new(rt: &'r HostRuntime, name: &'a str) -> HostReader<'r, 'a> {
+        HostReader {
+            rt,
+            name,
+            file: None,
+        }
+    }
+
+    // Reads some octets.
+    fn read_some(&mut self, buf: &mut [u8]) -> io::Result<usize>
+        ensures { IfOk result (λ count. IsPrefixLen count buf.new) }
+    {
+        if self.name == "-" {
+            return self.rt.stdin().read(buf);
+        }
+        if let Some(file) = &mut self.file {
+            return file.read(buf);
+        }
+        let mut file = File::open(self.rt, self.name)?;
+        let count = file.read(buf)?;
+        self.file = Some(file);
+        Ok(count)
+    }
+
+    // Says on standard error why nothing more can be read. A read that was interrupted is tried again.
+    fn tell(&self, fault: &io::Error) {
+        if fault.kind() != ErrorKind::Interrupted {
+            let _ = eprintln!(self.rt; "error: {}: {fault}", self.name);
+        }
+    }
+}
+
+impl Read for HostReader<'_, '_> {
+    fn read(&mut self, buf: &mut [u8]) -> io::Result<usize> {
+        let outcome = self.read_some(buf);
+        if let Err(fault) = &outcome {
+            self.tell(fault);
+        }
+        outcome
+    }
+}

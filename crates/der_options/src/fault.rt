@@ -1,0 +1,83 @@
+// Why words are no command line.
+ghost use Rattle.std.specs.Prelude.{◌≡◌};
+ghost use Rattle.der_options.specs.Options.{IsMemory, by_command, is_answer};
+
+use clap::Error;
+use clap::error::ErrorKind;
+use std::alloc::{AllocError, Global};
+use std::fmt;
+
+/// Why there are no options.
+#[derive(Debug, Drop)]
+pub enum OptionsFault<'a> {
+    /// What `clap` says of the words: help, the version, a mistake in them, or that memory ran out.
+    Command(Error),
+    /// The value of the argument is no number that 64 bits hold.
+    NoNumber(&'static str, &'a str),
+    /// Two arguments that do not go together.
+    TwoTasks(&'static str, &'static str),
+}
+
+impl From<Error> for OptionsFault<'_> {
+    ghost from_gives = { λ e fault. fault ≡ by_command e };
+
+    fn from(e: Error) -> Self {
+        OptionsFault::Command(e)
+    }
+}
+
+impl From<AllocError> for OptionsFault<'_> {
+    ghost from_gives = { λ _ fault. IsMemory fault };
+
+    fn from(e: AllocError) -> Self {
+        OptionsFault::Command(Error::from(e))
+    }
+}
+
+impl OptionsFault<'_> {
+    /// Whether the words asked for help or the version: the text goes to standard output, and nothing is wrong.
+    pub fn is_answer(&self) -> bool
+        ensures { result ≡ is_answer self.now }
+    {
+        match self {
+            OptionsFault::Command(e) => {
+                matches!(e.kind(), ErrorKind::DisplayHelp | ErrorKind::DisplayVersion)
+            }
+            _ => false,
+        }
+    }
+
+    /// The text for the user: the whole of help and of the version, and one line of what is wrong.
+    pub fn text(&self, alloc: Global) -> Result<String, AllocError> {
+        let whole = format!(in alloc; "{self}")?;
+        if self.is_answer() {
+            return Ok(whole);
+        }
+        String::from_str(alloc, first_line(&whole))
+    }
+}
+
+// The text up to the end of its first line.
+fn first_line(text: &str) -> &str {
+    text.lines().next().unwrap_or("")
+}
+
+impl fmt::Display for OptionsFault<'_> {
+    fn fmt<W: fmt::Write>(&self, f: &mut fmt::Formatter<W>) -> fmt::Result {
+        match self {
+            OptionsFault::Command(e) => write!(f, "{e}"),
+            OptionsFault::NoNumber(name, value) => {
+                write!(
+                    f,
+                    "error: invalid value '{value}' for '--{name}': no number of 64 bits"
+                )
+            }
+            OptionsFault::TwoTasks(first, second) => {
+                write!(
+                    f,
+                    "error: the argument '--{first}' cannot be used with '--{second}'"
+                )
+            }
+        }
+    }
+}

@@ -1,0 +1,148 @@
+// What each option asks for, and what is said of words that are no command line.
+use crate::{Options, Task, options_of};
+use std::alloc::Global;
+use std::process::Abort;
+use std::test::Fail;
+
+// What the words ask for, of one input.
+fn one_input(alloc: Global, input: &str, task: Task) -> Result<Options<'_>, Fail> {
+    let mut inputs = Vec::new(alloc);
+    inputs.push(input)?;
+    Ok(Options {
+        inputs,
+        task,
+        is_strict: false,
+    })
+}
+
+// The words ask for the task, of one input.
+fn asks(
+    rt: &impl Abort,
+    alloc: Global,
+    words: &[&str],
+    input: &str,
+    task: Task,
+) -> Result<(), Fail> {
+    let wanted = one_input(alloc, input, task)?;
+    let options = options_of(alloc, words);
+    assert!(rt; options.is_ok_and(|options| options == wanted), "{words:?}");
+    Ok(())
+}
+
+#[test]
+fn each_task_is_read(rt: HostRuntime) -> Result<(), Fail> {
+    let alloc = rt.alloc();
+    asks(&rt, alloc, &["der_dump"], "-", Task::Dump)?;
+    asks(&rt, alloc, &["der_dump", "-"], "-", Task::Dump)?;
+    asks(&rt, alloc, &["der_dump", "key.pem"], "key.pem", Task::Dump)?;
+    asks(&rt, alloc, &["der_dump", "--", "--at"], "--at", Task::Dump)?;
+    asks(&rt, alloc, &["der_dump", "--at", "26"], "-", Task::At(26))?;
+    asks(&rt, alloc, &["der_dump", "--at=+0", "a"], "a", Task::At(0))?;
+    asks(
+        &rt,
+        alloc,
+        &["der_dump", "a", "--extract", "4"],
+        "a",
+        Task::Extract(4),
+    )?;
+    let last = "--contents=18446744073709551615";
+    asks(
+        &rt,
+        alloc,
+        &["der_dump", last],
+        "-",
+        Task::Contents(18446744073709551615),
+    )
+}
+
+#[test]
+fn strict_reading_is_asked_for(rt: HostRuntime) -> Result<(), Fail> {
+    let wanted = Options {
+        is_strict: true,
+        ..one_input(rt.alloc(), "-", Task::Dump)?
+    };
+    let options = options_of(rt.alloc(), &["der_dump", "--strict"]);
+    assert!(rt; options.is_ok_and(|options| options == wanted));
+    Ok(())
+}
+
+#[test]
+fn inputs_keep_their_order(rt: HostRuntime) -> Result<(), Fail> {
+    let words = ["der_dump", "b.der", "--strict", "-", "a.der"];
+    let options = options_of(rt.alloc(), words.as_slice());
+    let wanted = ["b.der", "-", "a.der"];
+    assert!(rt; options.is_ok_and(|options| options.inputs.as_slice() == wanted.as_slice()));
+    Ok(())
+}
+
+// What is said of the words, which are refused or ask for a text.
+fn text_of(alloc: Global, words: &[&str]) -> Result<(bool, String), Fail> {
+    match options_of(alloc, words) {
+        Ok(_) => Err(Fail::from("these words are options")),
+        Err(fault) => Ok((fault.is_answer(), fault.text(alloc)?)),
+    }
+}
+
+#[test]
+fn each_refusal_is_one_line(rt: HostRuntime) -> Result<(), Fail> {
+    for (words, line) in [
+        (["--deep", "a"], "error: unexpected argument '--deep' found"),
+        (["a", "-x"], "error: unexpected argument '-x' found"),
+        (
+            ["a", "--at"],
+            "error: a value is required for '--at <OFFSET>' but none was supplied",
+        ),
+        (
+            ["--strict=1", "a"],
+            "error: unexpected value '1' for '--strict' found; no more were expected",
+        ),
+        (
+            ["--strict", "--strict"],
+            "error: the argument '--strict' cannot be used multiple times",
+        ),
+        (
+            ["--at=1", "--at=1"],
+            "error: the argument '--at <OFFSET>' cannot be used multiple times",
+        ),
+        (
+            ["--at=1", "--extract=1"],
+            "error: the argument '--at' cannot be used with '--extract'",
+        ),
+        (
+            ["--contents=1", "--at=1"],
+            "error: the argument '--at' cannot be used with '--contents'",
+        ),
+        (
+            ["--contents=1", "--extract=1"],
+            "error: the argument '--extract' cannot be used with '--contents'",
+        ),
+        (
+            ["--at", "1a"],
+            "error: invalid value '1a' for '--at': no number of 64 bits",
+        ),
+        (
+            ["--extract", ""],
+            "error: invalid value '' for '--extract': no number of 64 bits",
+        ),
+        (
+            ["--contents", "18446744073709551616"],
+            "error: invalid value '18446744073709551616' for '--contents': no number of 64 bits",
+        ),
+    ] {
+        let (is_answer, text) = text_of(rt.alloc(), &["der_dump", words[0], words[1]])?;
+        assert!(rt; !is_answer, "{words:?}");
+        assert_eq!(rt; text.as_str(), line, "{words:?}");
+    }
+    Ok(())
+}
+
+#[test]
+fn help_and_the_version_are_answers(rt: HostRuntime) -> Result<(), Fail> {
+    let (is_answer, text) = text_of(rt.alloc(), &["der_dump", "--version"])?;
+    assert!(rt; is_answer);
+    assert_eq!(rt; text.as_str(), "der_dump 1.0.0\n");
+    let (is_answer, text) = text_of(rt.alloc(), &["der_dump", "--help"])?;
+    assert!(rt; is_answer);
+    assert!(rt; text.contains("Usage: der_dump [OPTIONS] [FILE]...\n"));
+    Ok(())
+}
