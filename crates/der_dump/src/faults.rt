@@ -94,7 +94,7 @@ fn utf8_words(alloc: Global, failure: &Utf8Error) -> Result<String, AllocError> 
 }
 
 // So of any fault.
-fn fault_words(alloc: Global, fault: &ASN1DecodeErr) -> Result<String, AllocError> {
+pub fn fault_words(alloc: Global, fault: &ASN1DecodeErr) -> Result<String, AllocError> {
     match fault {
         ASN1DecodeErr::EmptyBuffer => String::from_str(alloc, "there are no octets (EmptyBuffer)"),
         ASN1DecodeErr::BadBooleanLength(n) => {
