@@ -9,6 +9,9 @@ use std::alloc::{AllocError, Global};
 // How many levels are shown by spaces; deeper ones stand where the last of them does.
 const MOST_LEVELS: usize = 40;
 
+// How many octets most lines fit.
+const LINE_ROOM: usize = 112;
+
 // What is said of a block at a depth. Where what it holds is shown below it, its octets are not written.
 pub fn block_text(
     alloc: Global,
@@ -18,7 +21,7 @@ pub fn block_text(
     block: &ASN1Block,
     is_opened: bool,
 ) -> Result<String, AllocError> {
-    let mut text = String::new(alloc);
+    let mut text = String::with_capacity(alloc, LINE_ROOM)?;
     match header {
         Some(header) => write_sizes(&mut text, header.size, header.announced, depth)?,
         None => write_sizes(&mut text, 0, 0, depth)?,
