@@ -7,7 +7,7 @@ ghost use Rattle.der_dump.specs.declared.document.Verdict.TheVariants.{Refused};
 ghost use Rattle.simple_asn1.specs.Types.{OutOfMemory};
 ghost use Rattle.der_forms.specs.Forms.{form_is, objects, other_text};
 
-use crate::document::{Verdict, push_document};
+use crate::document::{Verdict, push_document, push_read};
 use crate::lines::{Mark, push_note};
 use crate::names::Names;
 use der_forms::{Form, Lines, PemFault, PemObject, form_of, next_object};
@@ -47,7 +47,10 @@ fn push_text(
     ensures { IfOk result (λ verdict. AddsAnswer text.now verdict out.old.items out.new.items) }
 {
     match Document::from_der(alloc, text) {
-        Ok(_) => push_document(alloc, names, text, out),
+        Ok(document) => {
+            push_read(alloc, names, text, &document, out)?;
+            Ok(Verdict::AllRead)
+        }
         Err(fault) => push_no_document(&fault, out),
     }
 }

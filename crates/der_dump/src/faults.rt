@@ -1,9 +1,14 @@
 // What is said of faults.
+ghost use Rattle.std.specs.Prelude.{◌≡◌, ◌≢◌, IfOk};
+ghost use Rattle.simple_asn1.specs.Types.{OutOfMemory};
+
 use simple_asn1::ASN1DecodeErr;
 use std::alloc::{AllocError, Global};
 
-// Why octets are no document, in words, and the name of the fault.
-pub fn fault_words(alloc: Global, fault: &ASN1DecodeErr) -> Result<String, AllocError> {
+// Why octets are no document, in words, and the name of the fault. That memory ran out is none.
+pub fn fault_words(alloc: Global, fault: &ASN1DecodeErr) -> Result<String, AllocError>
+    ensures { IfOk result (λ _. fault.now ≢ OutOfMemory) }
+{
     match fault {
         ASN1DecodeErr::EmptyBuffer => String::from_str(alloc, "there are no octets (EmptyBuffer)"),
         ASN1DecodeErr::BadBooleanLength(n) => {
@@ -39,7 +44,7 @@ pub fn fault_words(alloc: Global, fault: &ASN1DecodeErr) -> Result<String, Alloc
         ASN1DecodeErr::InvalidClass(n) => format!(in alloc; "there is no class {n} (InvalidClass)"),
         ASN1DecodeErr::Incomplete => String::from_str(alloc, "the octets run out (Incomplete)"),
         ASN1DecodeErr::Overflow => String::from_str(alloc, "a number is too large (Overflow)"),
-        ASN1DecodeErr::OutOfMemory => String::from_str(alloc, "memory ran out"),
+        ASN1DecodeErr::OutOfMemory => Err(AllocError),
         ASN1DecodeErr::NotCanonical(n) => {
             format!(in alloc; "the block at {n} is not in canonical form (NotCanonical)")
         }

@@ -2,12 +2,15 @@
 #![tactic(auto)]
 
 mod answers;
+mod cursor;
 mod document;
+mod entries;
 mod faults;
 mod header;
+mod held;
 mod lines;
 mod names;
-mod refused;
+mod place;
 mod scalars;
 #[cfg(test)]
 mod tests;

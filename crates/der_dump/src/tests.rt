@@ -12,6 +12,12 @@ const NO_OCTETS: &str = "! refused at offset 0: there are no octets (EmptyBuffer
 const TOO_LARGE: &str =
     "! refused at offset 0: a length, or the number of its octets, is too large: 9 (LengthTooLarge)\n";
 
+const HELD: &str = "      0  2       6  OCTET STRING, which holds
+>     2  2       4    SEQUENCE
+>     4  2       0      BOOLEAN: a BOOLEAN has 0 contents octets in the place of one (BadBooleanLength)
+>     6  2       0      NULL
+";
+
 #[test]
 fn each_input_has_its_dump(rt: HostRuntime) -> Result<(), Fail> {
     let empty: &[u8] = b"";
@@ -23,6 +29,7 @@ fn each_input_has_its_dump(rt: HostRuntime) -> Result<(), Fail> {
         (b"05 00\n", NULL, Verdict::AllRead, 0),
         (too_large, TOO_LARGE, Verdict::Refused, 1),
         (b"0489", TOO_LARGE, Verdict::Refused, 1),
+        (b"0406300401000500", HELD, Verdict::AllRead, 0),
     ] {
         let mut reader = input;
         let mut writer = Vec::new(rt.alloc());
