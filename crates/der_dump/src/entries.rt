@@ -4,6 +4,7 @@ ghost use Rattle.der_dump.specs.Dump.{AddsLine};
 ghost use Rattle.der_dump.specs.Steps.{IsLineOf, PutsStep};
 ghost use Rattle.simple_asn1.specs.Types.{OutOfMemory};
 
+use crate::characters::{Characters, characters_of, write_as};
 use crate::cursor::Step;
 use crate::faults::fault_words;
 use crate::header::{Header, is_group, read_header};
@@ -11,7 +12,7 @@ use crate::lines::push_line;
 use crate::place::{Place, sum_of};
 use crate::scalars::write_after_space;
 use crate::values::{write_sizes, write_tag};
-use simple_asn1::ASN1DecodeErr;
+use simple_asn1::{ASN1Class, ASN1DecodeErr};
 use std::alloc::{AllocError, Global};
 
 // Puts the header of an encoding that is cut short.
@@ -57,10 +58,29 @@ pub fn push_faulty(
     ensures line { OnOk result (AddsLine (IsLineOf place.is_inside (place.base + offset))
         out.old.items out.new.items) }
 {
-    let contents = contents_text(alloc, header, encoding)?;
+    let contents = faulty_text(alloc, header, encoding)?;
     let words = fault_words(alloc, fault)?;
     let text = format!(in alloc; "{contents}: {words}")?;
     push_header(alloc, header, offset, place, &text, out)
+}
+
+// The contents octets of an encoding that are at fault: as characters where they are so in the form of their type.
+fn faulty_text(alloc: Global, header: &Header, encoding: &[u8]) -> Result<String, AllocError> {
+    let (_, contents) = encoding.split_at(header.size.min(encoding.len()));
+    if let Some(form) = form_of(header) {
+        let mut text = String::new(alloc);
+        if write_as(alloc, &mut text, form, contents)? {
+            return Ok(text);
+        }
+    }
+    contents_text(alloc, header, encoding)
+}
+
+fn form_of(header: &Header) -> Option<Characters> {
+    match header.class {
+        ASN1Class::Universal => characters_of(header.tag.to_u8()),
+        _ => None,
+    }
 }
 
 // A space and the contents octets of the encoding, as far as they are there.

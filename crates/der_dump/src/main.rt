@@ -2,6 +2,7 @@
 #![tactic(auto)]
 
 mod answers;
+mod characters;
 mod cursor;
 mod document;
 mod entries;
