@@ -1,5 +1,5 @@
 -- Lines are put after lines.
-use Rattle.std.proofs.Common.{◌≡◌, ℕ, zero, suc, ◌+◌, List, [], ◌∷◌, ◌++◌, codes, drop, replicate}
+use Rattle.std.proofs.Common.{◌≡◌, ◌⊎◌, ℕ, zero, suc, ◌+◌, List, [], ◌∷◌, ◌++◌, codes, drop, replicate}
 use Rattle.std.proofs.Common.{inl, inr, Bool, true, false, refl, sym, ap, ◌∙◌, subst, map, append_assoc, append-nil, arith}
 use Rattle.std.proofs.lemmas.List.{map-append, drop-drop}
 use Rattle.std.specs.Fmt.{decimal}
@@ -8,7 +8,7 @@ use Rattle.std.specs.declared.alloc.AllocError.{AllocError}
 use Rattle.simple_asn1.specs.Grammar.{IsDocument}
 use Rattle.simple_asn1.specs.Tree.{Trees}
 use Rattle.der_dump.specs.Dump.{Adds, AddsLine, IsBlockLine, IsDump, IsFaultLine, IsInsideLine, IsNote, IsOneLine}
-use Rattle.der_dump.specs.Dump.{StandAt, StandsInside, all_offsets, block_line, inside_line, no_lines}
+use Rattle.der_dump.specs.Dump.{HasBlockAt, HasHeaderAt, StandAt, StandsInside, all_offsets, block_line, inside_line, no_lines}
 use Rattle.der_dump.specs.Steps.{IsLineOf, PlacedInside, shown_at}
 
 -- a dump after a dump
@@ -100,20 +100,13 @@ pub inside_deeper : (octets part : List ℕ) (m o : ℕ) → StandAt octets m pa
 inside_deeper octets part m o at s = record {
   before = m + s.before;
   part = s.part;
-  blocks = s.blocks;
   place = s.place;
-  earlier = s.earlier;
-  later = s.later;
   stand = stand_deeper octets part s.part m s.before at s.stand;
-  document = s.document;
-  one = s.one;
+  shown = s.shown;
   is = let e : o ≡ s.before + s.place = s.is in omega (arith, e);
 }
 
 -- offsets in octets that stand at a place are offsets in the whole
-pub placed_inside : (octets part : List ℕ) (m o : ℕ) → StandAt octets m part → PlacedInside m part o → StandsInside octets o
-placed_inside octets part m o at (place, s, e) = subst (StandsInside octets) (sym e) (inside_deeper octets part m place at s)
-
 pub placed_deeper :
     (octets part : List ℕ) (base m further o : ℕ) → StandAt octets m part → further ≡ base + m →
     PlacedInside further part o → PlacedInside base octets o
@@ -127,23 +120,23 @@ pub progress_none : (inside : Bool) (base : ℕ) (octets all left a : List ℕ) 
 progress_none true base octets all left a e = ([], adds_nothing (PlacedInside base octets) a, sym e)
 progress_none false base octets all left a e = ([], adds_nothing (PlacedInside base octets) a, sym e)
 
+-- all of the octets are a document or encodings
+pub at_start : (octets : List ℕ) (o : ℕ) → HasBlockAt octets o ⊎ HasHeaderAt octets o → StandsInside octets o
+at_start octets o shown = record {
+  before = 0;
+  part = octets;
+  place = o;
+  stand = ([], sym (append-nil octets));
+  shown = shown;
+  is = omega arith;
+}
+
 one_line :
     (inside : Bool) (base o : ℕ) (octets : List ℕ) (bs : Trees ℕ) (done after b c : List ℕ) → IsDocument octets bs →
     all_offsets bs ≡ done ++ o ∷ after → AddsLine (IsLineOf inside (base + o)) b c →
     Adds (PlacedInside base octets) (shown_at inside base (o ∷ [])) b c
 one_line true base o octets bs done after b c d e line =
-    let s : StandsInside octets o = record {
-      before = 0;
-      part = octets;
-      blocks = bs;
-      place = o;
-      earlier = done;
-      later = after;
-      stand = ([], sym (append-nil octets));
-      document = d;
-      one = e;
-      is = omega arith;
-    } in
+    let s : StandsInside octets o = at_start octets o (inl (bs, done, after, d, e)) in
     adds_inside (PlacedInside base octets) (base + o) b c line (o, s, refl)
 one_line false base o octets bs done after b c d e line = adds_block (PlacedInside base octets) (base + o) b c line
 
@@ -159,20 +152,13 @@ progress_one inside base o octets bs left after a b c d (done, adds, e) f line =
       e ∙ (ap (λ z. done ++ z) f ∙ sym (append_assoc done (o ∷ []) after)),
     )
 
--- what stands inside octets has no lines of blocks
-inside_adds : (P : ℕ → Type 0) (inside : Bool) (base : ℕ) (os a b : List ℕ) → inside ≡ true
-    → Adds P (shown_at inside base os) a b → Adds P [] a b
-inside_adds P true base os a b e adds = adds
-inside_adds P false base os a b e adds = absurd (cc e)
-
 pub progress_held :
-    (inside held : Bool) (base further m : ℕ) (octets part all left os a b c : List ℕ) →
-    Progress inside base octets all left a b → StandAt octets m part → further ≡ base + m → held ≡ true →
-    Adds (PlacedInside further part) (shown_at held further os) b c → Progress inside base octets all left a c
-progress_held inside held base further m octets part all left os a b c (done, adds, e) at f h more =
+    (inside : Bool) (base further m : ℕ) (octets part all left a b c : List ℕ) →
+    Progress inside base octets all left a b → StandAt octets m part → further ≡ base + m →
+    Adds (PlacedInside further part) [] b c → Progress inside base octets all left a c
+progress_held inside base further m octets part all left a b c (done, adds, e) at f more =
     let P = PlacedInside base octets in
-    let deeper = adds_map (PlacedInside further part) P (λ o. placed_deeper octets part base m further o at f) [] b c
-    (inside_adds (PlacedInside further part) held further os b c h more) in
+    let deeper = adds_map (PlacedInside further part) P (λ o. placed_deeper octets part base m further o at f) [] b c more in
     (done, subst (λ z. Adds P z a c) (append-nil (shown_at inside base done)) (adds_join P _ _ a b c adds deeper), e)
 
 pub progress_all :

@@ -1,5 +1,5 @@
 -- What is written of a document: lines, one for each block in tree order, with its offset.
-use Rattle.std.specs.Prelude.{◌≡◌, ◌≢◌, ℕ, ◌+◌, List, [], ◌∷◌, ◌++◌, drop, length, map, replicate, codes, decimal}
+use Rattle.std.specs.Prelude.{◌≡◌, ◌≢◌, ◌⊎◌, ℕ, ◌+◌, List, [], ◌∷◌, ◌++◌, drop, length, map, replicate, codes, decimal}
 use Rattle.std.specs.Prelude.{Option, None, Some}
 use Rattle.std.specs.List.{All}
 use Rattle.der_forms.specs.Forms.{form_is, objects, odd_digits, other_text, plain_octets, spelled}
@@ -8,8 +8,9 @@ use Rattle.der_dump.specs.declared.document.Verdict.{Verdict}
 use Rattle.der_dump.specs.declared.document.Verdict.TheVariants.{AllRead, Refused}
 use Rattle.simple_asn1.specs.Fault.{DecodeFault}
 use Rattle.simple_asn1.specs.FaultPlace.{FirstFaultAt}
-use Rattle.simple_asn1.specs.Grammar.{IsDocument}
+use Rattle.simple_asn1.specs.Grammar.{FirstFault, IsDocument}
 use Rattle.simple_asn1.specs.Header.{IsLength, IsSomeIdentifier}
+use Rattle.simple_asn1.specs.Places.{IsEncoding}
 use Rattle.simple_asn1.specs.Tree.{Tree, Trees, leaf, group, explicit, unknown, no_trees, more_trees}
 
 abbrev mutual
@@ -58,17 +59,63 @@ pub record IsFaultLine (offset : ℕ) (line : List ℕ) : Type 0 where
 abbrev pub StandAt : List ℕ → ℕ → List ℕ → Type 0
 StandAt octets before part = (rest : List ℕ) × (drop before octets ≡ part ++ rest)
 
--- a document stands in the octets, and one of its blocks has the offset, counted from the first of the octets
+-- the octets are a header: identifier and length octets
+abbrev pub IsHeader : List ℕ → Type 0
+IsHeader header =
+    (identifier : List ℕ) × (len : List ℕ) × (header ≡ identifier ++ len)
+    × ((tag : ℕ) × IsSomeIdentifier identifier tag) × ((announced : ℕ) × IsLength len announced)
+
+-- the octets do not begin with a header
+abbrev pub HasNoHeader : List ℕ → Type 0
+HasNoHeader octets = (header : List ℕ) (rest : List ℕ) → IsHeader header → octets ≡ header ++ rest → ⊥
+
+-- lines of octets that are no document, which stand at the offset: one at each header, from the first on, whose
+-- contents octets are then gone into, or passed over where the encoding alone is at fault; and those of whole
+-- documents, as far as it goes. Each begins where the one before it ends
+pub data AreShown : ℕ → List ℕ → List ℕ → Type 0 where
+  no_more : {from : ℕ} {octets offsets : List ℕ} → offsets ≡ [] → AreShown from octets offsets
+  header_line :
+      {from : ℕ} {octets offsets : List ℕ} (header rest later : List ℕ) →
+      octets ≡ header ++ rest → IsHeader header → offsets ≡ from ∷ later →
+      AreShown (from + length header) rest later → AreShown from octets offsets
+  leaf_line :
+      {from : ℕ} {octets offsets : List ℕ} (part rest later : List ℕ) (fault : DecodeFault) →
+      octets ≡ part ++ rest → IsEncoding part → FirstFault part fault → offsets ≡ from ∷ later →
+      AreShown (from + length part) rest later → AreShown from octets offsets
+  document_lines :
+      {from : ℕ} {octets offsets : List ℕ} (part rest later : List ℕ) (bs : Trees ℕ) →
+      octets ≡ part ++ rest → IsDocument part bs → offsets ≡ map (λ o. from + o) (all_offsets bs) ++ later →
+      AreShown (from + length part) rest later → AreShown from octets offsets
+
+-- the octets are encodings one after another to the end, by their headers: the contents octets of each are gone into,
+-- and are so too, or are passed over
+pub data AreHeaders : List ℕ → Type 0 where
+  no_headers : {octets : List ℕ} → octets ≡ [] → AreHeaders octets
+  gone_into :
+      {octets : List ℕ} (header rest : List ℕ) →
+      octets ≡ header ++ rest → IsHeader header → AreHeaders rest → AreHeaders octets
+  passed_over :
+      {octets : List ℕ} (part rest : List ℕ) →
+      octets ≡ part ++ rest → IsEncoding part → AreHeaders rest → AreHeaders octets
+
+-- the octets are a document, and one of its blocks has the offset
+abbrev pub HasBlockAt : List ℕ → ℕ → Type 0
+HasBlockAt octets offset =
+    (blocks : Trees ℕ) × (earlier later : List ℕ) × IsDocument octets blocks
+    × (all_offsets blocks ≡ earlier ++ offset ∷ later)
+
+-- the octets are encodings by their headers, and one of those that are shown has the offset
+abbrev pub HasHeaderAt : List ℕ → ℕ → Type 0
+HasHeaderAt octets offset = AreHeaders octets × ((earlier : List ℕ) × AreShown 0 octets (earlier ++ offset ∷ []))
+
+-- a document, or encodings by their headers, stand in the octets, and one of the blocks or encodings has the offset,
+-- counted from the first of the octets
 pub record StandsInside (octets : List ℕ) (offset : ℕ) : Type 0 where
   pub before : ℕ
   pub part : List ℕ
-  pub blocks : Trees ℕ
   pub place : ℕ
-  pub earlier : List ℕ
-  pub later : List ℕ
   pub stand : StandAt octets before part
-  pub document : IsDocument part blocks
-  pub one : all_offsets blocks ≡ earlier ++ place ∷ later
+  pub shown : HasBlockAt part place ⊎ HasHeaderAt part place
   pub is : offset ≡ before + place
 
 -- the text is lines, each ended by octet 0A: those of blocks, which have these offsets, in order, and those of blocks
@@ -92,30 +139,6 @@ Adds Inside offsets before after =
 -- a line of some kind was put after the text
 abbrev pub AddsLine : (List ℕ → Type 0) → List ℕ → List ℕ → Type 0
 AddsLine Is before after = (line : List ℕ) × (after ≡ before ++ (line ++ 10 ∷ [])) × Is line
-
--- the octets are a header: identifier and length octets
-abbrev pub IsHeader : List ℕ → Type 0
-IsHeader header =
-    (identifier : List ℕ) × (len : List ℕ) × (header ≡ identifier ++ len)
-    × ((tag : ℕ) × IsSomeIdentifier identifier tag) × ((announced : ℕ) × IsLength len announced)
-
--- the octets do not begin with a header
-abbrev pub HasNoHeader : List ℕ → Type 0
-HasNoHeader octets = (header : List ℕ) (rest : List ℕ) → IsHeader header → octets ≡ header ++ rest → ⊥
-
--- lines of octets that are no document, which stand at the offset: one at each header, from the first on, whose
--- contents octets are then gone into, and those of whole documents, as far as it goes. Each begins where the one before
--- it ends
-pub data AreShown : ℕ → List ℕ → List ℕ → Type 0 where
-  no_more : {from : ℕ} {octets offsets : List ℕ} → offsets ≡ [] → AreShown from octets offsets
-  header_line :
-      {from : ℕ} {octets offsets : List ℕ} (header rest later : List ℕ) →
-      octets ≡ header ++ rest → IsHeader header → offsets ≡ from ∷ later →
-      AreShown (from + length header) rest later → AreShown from octets offsets
-  document_lines :
-      {from : ℕ} {octets offsets : List ℕ} (part rest later : List ℕ) (bs : Trees ℕ) →
-      octets ≡ part ++ rest → IsDocument part bs → offsets ≡ map (λ o. from + o) (all_offsets bs) ++ later →
-      AreShown (from + length part) rest later → AreShown from octets offsets
 
 -- what is put after the text of octets: a document's lines, one for each block in tree order, and those of blocks
 -- inside octets; of other octets the lines of what can be read, at least of a header at the front, and then their first

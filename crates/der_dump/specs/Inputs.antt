@@ -9,10 +9,11 @@ use Rattle.der_options.specs.declared.options.Options.{Options}
 use Rattle.der_options.specs.declared.options.Task.{Task}
 use Rattle.der_options.specs.declared.options.Task.TheVariants.{At, Contents, Dump, Extract}
 use Rattle.simple_asn1.specs.Fault.{DecodeFault}
-use Rattle.simple_asn1.specs.Grammar.{FirstFault}
+use Rattle.simple_asn1.specs.Grammar.{FirstFault, IsDocument}
 use Rattle.simple_asn1.specs.Places.{EncodingAt, HasNoEncodingAt}
 use Rattle.simple_asn1.specs.ReadBack.{IsCanonicalDocument}
 use Rattle.simple_asn1.specs.Strict.{IsNotCanonicalAt}
+use Rattle.simple_asn1.specs.Tree.{Trees}
 
 -- the dump of octets, where no document is read but a canonical one: of another, after its dump, the line of its first
 -- block at the top level that is not canonical
@@ -64,7 +65,8 @@ pub data AddsAnswer (options : Options) (input : List ℕ) (verdict : Verdict) (
       AddsAnswer options input verdict before after
   -- text may be the octets of a document all the same
   of_read_text :
-      form_is input ≡ other_text → AddsDocument options input verdict before after → AddsAnswer options input verdict before after
+      (bs : Trees ℕ) → form_is input ≡ other_text → IsDocument input bs → AddsDocument options input verdict before after →
+      AddsAnswer options input verdict before after
   of_text :
       (fault : DecodeFault) → form_is input ≡ other_text → FirstFault input fault → verdict ≡ Refused →
       AddsLine (IsNote 33) before after → AddsAnswer options input verdict before after

@@ -1,4 +1,7 @@
-// What is said of faults. No contract says anything of it.
+// What is said of faults.
+ghost use Rattle.std.specs.Prelude.{◌≡◌, ◌≢◌, IfOk};
+ghost use Rattle.simple_asn1.specs.Types.{OutOfMemory};
+
 use crate::header::{Header, read_header};
 use crate::scalars::{write_after_space, write_quoted};
 use simple_asn1::{ASN1Class, ASN1DecodeErr, encoding_at};
@@ -17,8 +20,8 @@ pub fn words_at(
         return fault_words(alloc, fault);
     };
     match read_header(alloc, encoding)? {
-        Some(header) if is_universal(&header) => leaf_words(alloc, &header, encoding, fault),
-        _ => fault_words(alloc, fault),
+        Some(header) => leaf_words(alloc, &header, encoding, fault),
+        None => fault_words(alloc, fault),
     }
 }
 
@@ -26,13 +29,18 @@ fn is_universal(header: &Header) -> bool {
     matches!(header.class, ASN1Class::Universal)
 }
 
-// So of a block whose octets are all there: what its contents octets are, and what they should be.
-fn leaf_words(
+// So of an encoding that is there whole: of a leaf also what its contents octets are, and what they should be.
+pub fn leaf_words(
     alloc: Global,
     header: &Header,
     encoding: &[u8],
     fault: &ASN1DecodeErr,
-) -> Result<String, AllocError> {
+) -> Result<String, AllocError>
+    ensures { IfOk result (λ _. fault.now ≢ OutOfMemory) }
+{
+    if !is_universal(header) {
+        return fault_words(alloc, fault);
+    }
     let (_, contents) = encoding.split_at(header.size.min(encoding.len()));
     match (header.tag.to_u8(), fault) {
         (Some(6), ASN1DecodeErr::Incomplete) => identifier_words(alloc, contents),
@@ -93,8 +101,10 @@ fn utf8_words(alloc: Global, failure: &Utf8Error) -> Result<String, AllocError> 
     )
 }
 
-// So of any fault.
-pub fn fault_words(alloc: Global, fault: &ASN1DecodeErr) -> Result<String, AllocError> {
+// So of any fault. That memory ran out is none.
+pub fn fault_words(alloc: Global, fault: &ASN1DecodeErr) -> Result<String, AllocError>
+    ensures { IfOk result (λ _. fault.now ≢ OutOfMemory) }
+{
     match fault {
         ASN1DecodeErr::EmptyBuffer => String::from_str(alloc, "there are no octets (EmptyBuffer)"),
         ASN1DecodeErr::BadBooleanLength(n) => {
@@ -130,7 +140,7 @@ pub fn fault_words(alloc: Global, fault: &ASN1DecodeErr) -> Result<String, Alloc
         ASN1DecodeErr::InvalidClass(n) => format!(in alloc; "there is no class {n} (InvalidClass)"),
         ASN1DecodeErr::Incomplete => String::from_str(alloc, "the octets run out (Incomplete)"),
         ASN1DecodeErr::Overflow => String::from_str(alloc, "a number is too large (Overflow)"),
-        ASN1DecodeErr::OutOfMemory => String::from_str(alloc, "memory ran out"),
+        ASN1DecodeErr::OutOfMemory => Err(AllocError),
         ASN1DecodeErr::NotCanonical(n) => {
             format!(in alloc; "the block at {n} is not in canonical form (NotCanonical)")
         }

@@ -58,3 +58,9 @@ fn no_header(fault: &ASN1DecodeErr) -> Result<Option<Header>, AllocError>
         _ => Ok(None),
     }
 }
+
+// Whether it is the header of a SEQUENCE or SET.
+pub fn is_group(header: &Header) -> bool {
+    matches!(header.class, ASN1Class::Universal)
+        && (header.tag.to_u8() == Some(16) || header.tag.to_u8() == Some(17))
+}

@@ -1,8 +1,9 @@
 // Lines, each put at the end of what is written.
-ghost use Rattle.std.specs.Prelude.{◌≡◌, ◌≢◌, ◌++◌, List, ℕ, OnOk, replicate};
+ghost use Rattle.std.specs.Prelude.{◌≡◌, ◌≢◌, ◌++◌, List, ℕ, OnOk, replicate, true};
 ghost use Rattle.der_dump.specs.Dump.{AddsLine, IsBlockLine, IsFaultLine, IsNote, IsOneLine};
 ghost use Rattle.der_dump.specs.Steps.{IsLineOf, mark_of};
 
+use memchr::memchr;
 use std::alloc::{AllocError, Global};
 
 // How a line that is no line of a block begins.
@@ -31,10 +32,19 @@ fn push_plain(text: &[u8], out: &mut Vec<u8>) -> Result<(), AllocError>
     ensures { OnOk result ((said : List ℕ)
         × (out.new.items ≡ out.old.items ++ said) × IsOneLine said) }
 {
+    if is_one_line(text) {
+        return out.extend_from_slice(text);
+    }
     for b in text {
         out.push(plain(*b))?;
     }
     Ok(())
+}
+
+fn is_one_line(text: &[u8]) -> bool
+    ensures { result ≡ true → IsOneLine text.now }
+{
+    memchr(b'\n', text).is_none()
 }
 
 fn plain(b: u8) -> u8

@@ -2,13 +2,17 @@
 #![tactic(auto)]
 
 mod answers;
+mod characters;
+mod cursor;
 mod document;
+mod entries;
 mod faults;
 mod header;
+mod held;
 mod host;
 mod lines;
 mod names;
-mod refused;
+mod place;
 mod scalars;
 mod strict;
 mod tasks;

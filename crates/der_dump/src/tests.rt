@@ -47,6 +47,12 @@ fn writes(
     Ok(())
 }
 
+const HELD: &str = "      0  2       6  OCTET STRING, which holds
+>     2  2       4    SEQUENCE
+>     4  2       0      BOOLEAN: a BOOLEAN has 0 contents octets in the place of one (BadBooleanLength)
+>     6  2       0      NULL
+";
+
 #[test]
 fn each_input_has_its_dump(rt: HostRuntime) -> Result<(), Fail> {
     let dump = ["der_dump"];
@@ -56,7 +62,8 @@ fn each_input_has_its_dump(rt: HostRuntime) -> Result<(), Fail> {
     writes(&rt, alloc, dump, &[0x05, 0x00], NULL.as_bytes(), 0)?;
     writes(&rt, alloc, dump, b"05 00\n", NULL.as_bytes(), 0)?;
     writes(&rt, alloc, dump, &[0x04, 0x89], TOO_LARGE.as_bytes(), 1)?;
-    writes(&rt, alloc, dump, b"0489", TOO_LARGE.as_bytes(), 1)
+    writes(&rt, alloc, dump, b"0489", TOO_LARGE.as_bytes(), 1)?;
+    writes(&rt, alloc, dump, b"0406300401000500", HELD.as_bytes(), 0)
 }
 
 // A SEQUENCE of a BOOLEAN that is not canonical, and of an INTEGER.

@@ -1,40 +1,28 @@
-// The lines of blocks, and of the documents that stand inside their octets.
-ghost use Rattle.std.specs.Prelude.{◌≡◌, ◌+◌, ◌<◌, IfOk, IfSome, OnOk};
-ghost use Rattle.der_dump.specs.Dump.{Adds, AddsLine, StandAt, all_offsets};
-ghost use Rattle.der_dump.specs.Steps.{IsHeldIn, IsLineOf, PlacedInside, shown_at};
+// The lines of blocks and of encodings, and of what stands inside their octets.
+ghost use Rattle.std.specs.Prelude.{◌≡◌, ◌+◌, ◌<◌, ◌≤◌, ◌++◌, [], List, ℕ};
+ghost use Rattle.std.specs.Prelude.{IfOk, IfSome, OnOk, drop, length, true};
+ghost use Rattle.der_dump.specs.Dump.{Adds, AddsLine, AreHeaders, AreShown, HasNoHeader};
+ghost use Rattle.der_dump.specs.Dump.{all_offsets};
+ghost use Rattle.der_dump.specs.Steps.{IsHeldIn, IsInside, IsLineOf, PlacedInside, PutsStep};
+ghost use Rattle.der_dump.specs.Steps.{shown_at};
 ghost use Rattle.simple_asn1.specs.Grammar.{IsDocument};
-ghost use Rattle.simple_asn1.specs.View.{document_trees, tree_offset, view, views};
+ghost use Rattle.simple_asn1.specs.Places.{EncodingAt};
+ghost use Rattle.simple_asn1.specs.View.{tree_offset, view, views};
 
-use crate::header::{Header, read_header};
+use crate::cursor::{Cursor, Step};
+use crate::entries::{push_cut, push_faulty, push_header};
+use crate::header::{Header, is_group, read_header};
+use crate::held::{Held, Inside, held_in};
 use crate::lines::push_line;
 use crate::names::Names;
+use crate::place::{Place, sum_of};
 use crate::values::block_text;
 use crate::walk::{Found, OpenLists};
-use simple_asn1::{ASN1Block, ASN1DecodeErr, Document, all_blocks, encoding_at};
+use simple_asn1::{ASN1Block, Document, all_blocks, encoding_at};
 use std::alloc::{AllocError, Global};
 
-// Where blocks are shown that were read from octets.
-#[derive(Clone, Copy, Drop)]
-pub struct Place {
-    // whether they stand inside octets of a block
-    pub is_inside: bool,
-    // how many octets stand before theirs
-    pub base: usize,
-    // how many levels are around them
-    pub depth: usize,
-    // how many documents are shown inside one another in them
-    pub documents: usize,
-}
-
-// A document that stands inside octets of a block.
-#[derive(Drop)]
-pub struct Held<'a> {
-    octets: &'a [u8],
-    document: Document,
-    place: Place,
-}
-
 // Puts the lines of blocks that were read from the octets, and of all inside them.
+#[cycle(blocks)]
 pub fn push_blocks(
     alloc: Global,
     names: &Names,
@@ -54,20 +42,105 @@ pub fn push_blocks(
         let depth = open.depth_of(block)?;
         let found = Found { block, depth };
         if let Some(held) = push_block(alloc, names, octets, &found, place, out)? {
-            push_blocks(
-                alloc,
-                names,
-                held.octets,
-                held.document.blocks(),
-                held.place,
-                out,
-            )?;
+            push_held(alloc, names, &held, out)?;
         }
     }
     Ok(())
 }
 
-// Puts the line of a block, and gives the document that stands inside its octets, if one is to be shown.
+// Puts the lines of what stands inside octets of a block.
+#[cycle(blocks)]
+fn push_held(
+    alloc: Global,
+    names: &Names,
+    held: &Held<'_>,
+    out: &mut Vec<u8>,
+) -> Result<(), AllocError>
+    requires holds { IsInside held.now.octets.now held.now.inside }
+    requires inside { held.now.place.is_inside ≡ true }
+    ensures { OnOk result (Adds (PlacedInside held.now.place.base held.now.octets.now) []
+        out.old.items out.new.items) }
+{
+    match &held.inside {
+        Inside::Blocks(document) => push_blocks(
+            alloc,
+            names,
+            held.octets,
+            document.blocks(),
+            held.place,
+            out,
+        ),
+        Inside::Headers => push_encodings(alloc, names, held.octets, held.place, out),
+    }
+}
+
+// Puts the lines of octets by the headers of the encodings in them, as far as there are headers. A SEQUENCE or SET is
+// gone into, all others are read alone. One that is cut short is shown as far as it goes.
+#[cycle(blocks)]
+pub fn push_encodings(
+    alloc: Global,
+    names: &Names,
+    octets: &[u8],
+    place: Place,
+    out: &mut Vec<u8>,
+) -> Result<(), AllocError>
+    requires { place.is_inside ≡ true → AreHeaders octets.now }
+    ensures { OnOk result ((offsets : List ℕ) × AreShown 0 octets.now offsets
+        × (offsets ≡ [] → HasNoHeader octets.now)
+        × Adds (PlacedInside place.base octets.now) (shown_at place.is_inside place.base offsets)
+        out.old.items out.new.items) }
+{
+    let mut cursor = Cursor::over(alloc, octets.len());
+    while cursor.leave_ended() {
+        let here = place.deeper(cursor.depth());
+        let left = cursor.left(octets);
+        let step = push_step(alloc, names, left, cursor.offset, here, out)?;
+        if !cursor.take(step)? {
+            return Ok(());
+        }
+    }
+    Ok(())
+}
+
+// Puts what stands at the front of octets that stand at an offset.
+#[cycle(blocks)]
+fn push_step(
+    alloc: Global,
+    names: &Names,
+    left: &[u8],
+    offset: usize,
+    place: Place,
+    out: &mut Vec<u8>,
+) -> Result<Step, AllocError>
+    ensures { IfOk result (λ step. PutsStep place.is_inside place.base offset left.now step
+        out.old.items out.new.items) }
+{
+    let Some(encoding) = encoding_at(left, 0) else {
+        return push_cut(alloc, left, offset, place, out);
+    };
+    let Some(header) = read_header(alloc, left)? else {
+        return Ok(Step::Fault);
+    };
+    let end = sum_of(offset, encoding.len())?;
+    if is_group(&header) {
+        let first = sum_of(offset, header.size)?;
+        push_header(alloc, &header, offset, place, "", out)?;
+        return Ok(Step::Inside(first, end));
+    }
+    match Document::from_der(alloc, encoding) {
+        Ok(document) => {
+            let inner = place.further(offset)?;
+            push_blocks(alloc, names, encoding, document.blocks(), inner, out)?;
+            Ok(Step::Past(end))
+        }
+        Err(fault) => {
+            push_faulty(alloc, &header, encoding, &fault, offset, place, out)?;
+            Ok(Step::Leaf(end))
+        }
+    }
+}
+
+// Puts the line of a block, and gives what stands inside its octets, if it is to be shown.
 fn push_block<'a>(
     alloc: Global,
     names: &Names,
@@ -86,17 +159,10 @@ fn push_block<'a>(
     let offset = sum_of(place.base, block.offset())?;
     let depth = place.depth.saturating_add(found.depth);
     let header = header_of(alloc, octets, block.offset())?;
-    let held = held_document(alloc, octets, block, header_size(&header), place, depth)?;
+    let held = held_in(alloc, octets, block, header_size(&header), place, depth)?;
     let text = block_text(alloc, names, &header, depth, block, held.is_some())?;
     push_line(alloc, place.is_inside, offset, text.as_bytes(), out)?;
     Ok(held)
-}
-
-// The sum. Octets of a size that passes a usize fit no memory.
-pub fn sum_of(a: usize, b: usize) -> Result<usize, AllocError>
-    ensures { IfOk result (λ n. n ≡ a + b) }
-{
-    a.checked_add(b).ok_or(AllocError)
 }
 
 fn header_of(alloc: Global, octets: &[u8], offset: usize) -> Result<Option<Header>, AllocError> {
@@ -111,102 +177,4 @@ fn header_size(header: &Option<Header>) -> usize {
         Some(header) => header.size,
         None => 0,
     }
-}
-
-// Octets among others.
-#[derive(Clone, Copy, Drop)]
-struct Part<'a> {
-    // how many octets stand before them
-    before: usize,
-    octets: &'a [u8],
-}
-
-// The document that stands inside octets of a block at a depth, if one may be shown. The header of the block has so
-// many octets.
-fn held_document<'a>(
-    alloc: Global,
-    octets: &'a [u8],
-    block: &ASN1Block,
-    header: usize,
-    place: Place,
-    depth: usize,
-) -> Result<Option<Held<'a>>, AllocError>
-    ensures held { IfOk result (λ held. IfSome held (IsHeldIn octets.now place.base)) }
-    ensures fewer { IfOk result (λ held. IfSome held (λ h. h.place.documents < place.documents)) }
-{
-    if place.documents == 0 {
-        return Ok(None);
-    }
-    let Some(part) = octets_inside(octets, block, header) else {
-        return Ok(None);
-    };
-    let Some(document) = document_in(alloc, part.octets)? else {
-        return Ok(None);
-    };
-    if !is_shown(block, document.blocks()) {
-        return Ok(None);
-    }
-    let place = Place {
-        is_inside: true,
-        base: sum_of(place.base, part.before)?,
-        depth: depth.saturating_add(1),
-        documents: place.documents - 1,
-    };
-    Ok(Some(Held {
-        octets: part.octets,
-        document,
-        place,
-    }))
-}
-
-// The octets inside a block in which a document may stand.
-fn octets_inside<'a>(octets: &'a [u8], block: &ASN1Block, header: usize) -> Option<Part<'a>>
-    ensures { IfSome result (λ p. StandAt octets.now p.before p.octets.now) }
-{
-    let skipped = header.saturating_add(octets_before(block)?);
-    let encoding = encoding_at(octets, block.offset())?;
-    let size = encoding.len().saturating_sub(skipped);
-    let before = block.offset().saturating_add(skipped).min(octets.len());
-    let (_, rest) = octets.split_at(before);
-    let (inside, _) = rest.split_at(size.min(rest.len()));
-    Some(Part {
-        before,
-        octets: inside,
-    })
-}
-
-// How many contents octets of a block stand before those in which a document may stand.
-fn octets_before(block: &ASN1Block) -> Option<usize> {
-    match block {
-        ASN1Block::OctetString(_, _) => Some(0),
-        ASN1Block::BitString(_, bits, octets) => {
-            if octets.len().checked_mul(8) == Some(*bits) {
-                Some(1)
-            } else {
-                None
-            }
-        }
-        ASN1Block::Unknown(_, true, _, _, _) => Some(0),
-        _ => None,
-    }
-}
-
-fn document_in(alloc: Global, octets: &[u8]) -> Result<Option<Document>, AllocError>
-    ensures { IfOk result (λ found. IfSome found (λ d. IsDocument octets.now (document_trees d))) }
-{
-    match Document::from_der(alloc, octets) {
-        Ok(document) => Ok(Some(document)),
-        Err(ASN1DecodeErr::OutOfMemory) => Err(AllocError),
-        Err(_) => Ok(None),
-    }
-}
-
-// Whether blocks that were read from the octets of a block are shown. In strings they are not where one is of no known
-// type, since octets that are no document may be read as such by chance.
-fn is_shown(block: &ASN1Block, inside: &[ASN1Block]) -> bool {
-    matches!(block, ASN1Block::Unknown(_, _, _, _, _)) || inside.iter().all(is_known)
-}
-
-fn is_known(block: &ASN1Block) -> bool {
-    !matches!(block, ASN1Block::Unknown(_, _, _, _, _))
 }

@@ -1,5 +1,6 @@
 // What is said of a block after its offset: the sizes of its header and contents, its tag, and its value. No contract
 // says anything of it; that it becomes one line is seen to where it is put.
+use crate::characters::{Characters, write_as};
 use crate::header::Header;
 use crate::names::Names;
 use crate::scalars::{write_after_space, write_hex, write_quoted};
@@ -8,6 +9,9 @@ use std::alloc::{AllocError, Global};
 
 // How many levels are shown by spaces; deeper ones stand where the last of them does.
 const MOST_LEVELS: usize = 40;
+
+// How many octets most lines fit.
+const LINE_ROOM: usize = 112;
 
 // What is said of a block at a depth. Where what it holds is shown below it, its octets are not written.
 pub fn block_text(
@@ -18,7 +22,7 @@ pub fn block_text(
     block: &ASN1Block,
     is_opened: bool,
 ) -> Result<String, AllocError> {
-    let mut text = String::new(alloc);
+    let mut text = String::with_capacity(alloc, LINE_ROOM)?;
     match header {
         Some(header) => write_sizes(&mut text, header.size, header.announced, depth)?,
         None => write_sizes(&mut text, 0, 0, depth)?,
@@ -63,8 +67,10 @@ fn write_block(
         ASN1Block::PrintableString(_, s) => write_string(out, "PrintableString", s),
         ASN1Block::TeletexString(_, s) => write_string(out, "TeletexString", s),
         ASN1Block::IA5String(_, s) => write_string(out, "IA5String", s),
-        ASN1Block::UniversalString(_, s) => write_string(out, "UniversalString", s),
-        ASN1Block::BMPString(_, s) => write_string(out, "BMPString", s),
+        ASN1Block::UniversalString(_, s) => {
+            write_wide(alloc, out, "UniversalString", Characters::Utf32, s)
+        }
+        ASN1Block::BMPString(_, s) => write_wide(alloc, out, "BMPString", Characters::Utf16, s),
         ASN1Block::Explicit(class, _, tag, _) => write_tag(alloc, out, *class, tag),
         ASN1Block::Unknown(class, constructed, _, tag, octets) => {
             write_tag(alloc, out, *class, tag)?;
@@ -75,6 +81,22 @@ fn write_block(
 
 fn write_string(out: &mut String, name: &str, text: &str) -> Result<(), AllocError> {
     out.push_str(name)?;
+    out.push_str(" ")?;
+    write_quoted(out, text)
+}
+
+// A string that the library reads as UTF-8, in the form that its type has, where the octets are so.
+fn write_wide(
+    alloc: Global,
+    out: &mut String,
+    name: &str,
+    form: Characters,
+    text: &str,
+) -> Result<(), AllocError> {
+    out.push_str(name)?;
+    if write_as(alloc, out, form, text.as_bytes())? {
+        return Ok(());
+    }
     out.push_str(" ")?;
     write_quoted(out, text)
 }

@@ -1,4 +1,4 @@
-use Rattle.std.proofs.Common.{◌≡◌, subst, sym, false}
+use Rattle.std.proofs.Common.{subst, sym, false}
 use Rattle.streams.specs.Lines.{lines_of}
 use Rattle.der_dump.proofs.Answered.{Progressed, answer_cut, one_done}
 use Rattle.der_forms.specs.Objects.{objects_in, objects_of}

@@ -1,5 +1,5 @@
 use Rattle.std.proofs.Common.{◌≡◌, ◌<◌, length}
-use Rattle.der_dump.proofs.refused.Cursor.leave_ended.Given as goal
+use Rattle.der_dump.proofs.cursor.Cursor.leave_ended.Given as goal
 
 abbrev pub invariant-loop-self : goal.invariant-loop-self
 invariant-loop-self l = (l.self.offset ≡ l.fn.self.offset) × (l.fn.self.offset < l.fn.self.end → l.self.end ≡ l.fn.self.end)

@@ -1,0 +1,85 @@
+// Where lines stand that are put.
+ghost use Rattle.std.specs.Prelude.{◌≡◌, ◌+◌, ◌<◌, IfOk, false, true};
+
+use std::alloc::AllocError;
+
+// How many documents are shown inside one another.
+const MOST_DOCUMENTS: usize = 8;
+
+// Where blocks are shown that were read from octets.
+#[derive(Clone, Copy, Drop)]
+pub struct Place {
+    // whether they stand inside octets of a block
+    pub is_inside: bool,
+    // how many octets stand before theirs
+    pub base: usize,
+    // how many levels are around them
+    pub depth: usize,
+    // how many documents are shown inside one another in them
+    pub documents: usize,
+}
+
+// The place of the document itself.
+pub fn outermost() -> Place
+    ensures outside { result.is_inside ≡ false }
+    ensures base { result.base ≡ 0 }
+{
+    Place {
+        is_inside: false,
+        base: 0,
+        depth: 0,
+        documents: MOST_DOCUMENTS,
+    }
+}
+
+impl Place {
+    // That of octets which stand so many octets further on.
+    pub fn further(self, before: usize) -> Result<Place, AllocError>
+        ensures same { IfOk result (λ p. p.is_inside ≡ self.is_inside) }
+        ensures base { IfOk result (λ p. p.base ≡ self.base + before) }
+        ensures documents { IfOk result (λ p. p.documents ≡ self.documents) }
+    {
+        Ok(Place {
+            is_inside: self.is_inside,
+            base: sum_of(self.base, before)?,
+            depth: self.depth,
+            documents: self.documents,
+        })
+    }
+
+    // That of octets which stand so many levels further in.
+    pub fn deeper(self, levels: usize) -> Place
+        ensures same { result.is_inside ≡ self.is_inside }
+        ensures base { result.base ≡ self.base }
+        ensures documents { result.documents ≡ self.documents }
+    {
+        Place {
+            is_inside: self.is_inside,
+            base: self.base,
+            depth: self.depth.saturating_add(levels),
+            documents: self.documents,
+        }
+    }
+
+    // That of octets inside a block at a depth, so many octets further on. One document fewer is shown in them.
+    pub fn inside(self, before: usize, depth: usize) -> Result<Place, AllocError>
+        requires { 0 < self.documents }
+        ensures inside { IfOk result (λ p. p.is_inside ≡ true) }
+        ensures base { IfOk result (λ p. p.base ≡ self.base + before) }
+        ensures fewer { IfOk result (λ p. p.documents < self.documents) }
+    {
+        Ok(Place {
+            is_inside: true,
+            base: sum_of(self.base, before)?,
+            depth: depth.saturating_add(1),
+            documents: self.documents - 1,
+        })
+    }
+}
+
+// The sum. Octets of a size that passes a usize fit no memory.
+pub fn sum_of(a: usize, b: usize) -> Result<usize, AllocError>
+    ensures { IfOk result (λ n. n ≡ a + b) }
+{
+    a.checked_add(b).ok_or(AllocError)
+}
