@@ -10,6 +10,7 @@ ghost use Rattle.der_forms.specs.Forms.{form_is, objects, other_text};
 use crate::document::{Verdict, push_document, push_read};
 use crate::lines::{Mark, push_note};
 use crate::names::Names;
+use crate::style::Style;
 use der_forms::{Form, Lines, PemFault, PemObject, form_of, next_object};
 use simple_asn1::{ASN1DecodeErr, Document};
 use std::alloc::{AllocError, Global};
@@ -21,10 +22,10 @@ pub fn push_answer(alloc: Global, input: &[u8], out: &mut Vec<u8>) -> Result<Ver
     let names = Names::new(alloc)?;
     match form_of(alloc, input)? {
         Form::Pem => push_pem(alloc, &names, input, out),
-        Form::Spelled(octets) => push_document(alloc, &names, &octets, out),
+        Form::Spelled(octets) => push_document(alloc, &names, Style::default(), &octets, out),
         Form::OddDigits => push_refusal(b" refused: an odd number of hex digits", out),
         Form::Text => push_text(alloc, &names, input, out),
-        Form::Der => push_document(alloc, &names, input, out),
+        Form::Der => push_document(alloc, &names, Style::default(), input, out),
     }
 }
 
@@ -48,7 +49,7 @@ fn push_text(
 {
     match Document::from_der(alloc, text) {
         Ok(document) => {
-            push_read(alloc, names, text, &document, out)?;
+            push_read(alloc, names, Style::default(), text, &document, out)?;
             Ok(Verdict::AllRead)
         }
         Err(fault) => push_no_document(&fault, out),
@@ -117,7 +118,7 @@ fn push_object(
 {
     push_label(alloc, object.label, out)?;
     match &object.octets {
-        Ok(octets) => push_document(alloc, names, octets, out),
+        Ok(octets) => push_document(alloc, names, Style::default(), octets, out),
         Err(PemFault::Encrypted) => push_refusal(b" encrypted, not read", out),
         Err(PemFault::NoBase64(line)) => {
             let why = format!(in alloc; " line {line}: this is no base 64")?;

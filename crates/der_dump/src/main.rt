@@ -13,6 +13,7 @@ mod lines;
 mod names;
 mod place;
 mod scalars;
+mod style;
 #[cfg(test)]
 mod tests;
 mod tool;
