@@ -11,7 +11,7 @@ use crate::header::{Header, is_group, read_header};
 use crate::lines::push_line;
 use crate::place::{Place, sum_of};
 use crate::scalars::write_after_space;
-use crate::values::{write_sizes, write_tag};
+use crate::values::{write_form, write_sizes, write_tag};
 use simple_asn1::{ASN1Class, ASN1DecodeErr};
 use std::alloc::{AllocError, Global};
 
@@ -116,6 +116,7 @@ pub fn push_header(
     let mut text = String::new(alloc);
     write_sizes(&mut text, header.size, header.announced, place.depth)?;
     write_tag(alloc, &mut text, header.class, &header.tag)?;
+    write_form(&mut text, header)?;
     text.push_str(after)?;
     let shown = sum_of(place.base, offset)?;
     push_line(alloc, place.is_inside, shown, text.as_bytes(), out)

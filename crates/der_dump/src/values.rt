@@ -37,7 +37,18 @@ pub fn block_text(
         None => write_sizes(&mut text, 0, 0, depth)?,
     }
     write_block(alloc, &mut text, names, block, manner)?;
+    if let Some(header) = header {
+        write_form(&mut text, header)?;
+    }
     Ok(text)
+}
+
+// What is said of a length of the indefinite form: blocks that stand inside in BER are shown behind.
+pub fn write_form(out: &mut String, header: &Header) -> Result<(), AllocError> {
+    if header.is_indefinite {
+        return out.push_str(", indefinite length (BER): levels are lost from here");
+    }
+    Ok(())
 }
 
 // The sizes of header and contents, and the spaces of the depth.
