@@ -1,5 +1,5 @@
 -- Blocks by their offsets, and inputs after inputs.
-use Rattle.std.proofs.Common.{◌≡◌, ◌≤◌, ℕ, List, [], ◌∷◌, ◌++◌, ap, drop, inl, inr, length, map, refl, false, is_err, is_ok, if◌then◌else◌, subst, sym, take, ◌∙◌, append_assoc}
+use Rattle.std.proofs.Common.{◌≡◌, ℕ, List, [], ◌∷◌, ◌++◌, ap, drop, inl, inr, length, map, refl, false, is_err, is_ok, if◌then◌else◌, subst, sym, take, ◌∙◌, append_assoc}
 use Rattle.std.specs.Prelude.{Option, Some, Result, Ok, Err, IfOk}
 use Rattle.std.specs.declared.alloc.AllocError.{AllocError}
 use Rattle.std.proofs.lemmas.List.{map-append, take-append-drop}

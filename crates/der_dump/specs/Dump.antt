@@ -1,9 +1,6 @@
 -- What is written of a document: lines, one for each block in tree order, with its offset.
 use Rattle.std.specs.Prelude.{◌≡◌, ◌≢◌, ◌⊎◌, ℕ, ◌+◌, List, [], ◌∷◌, ◌++◌, drop, length, map, replicate, codes, decimal}
-use Rattle.std.specs.Prelude.{Option, None, Some}
 use Rattle.std.specs.List.{All}
-use Rattle.der_forms.specs.Forms.{form_is, objects, odd_digits, other_text, plain_octets, spelled}
-use Rattle.der_forms.specs.Objects.{objects_of}
 use Rattle.der_dump.specs.declared.document.Verdict.{Verdict}
 use Rattle.der_dump.specs.declared.document.Verdict.TheVariants.{AllRead, Refused}
 use Rattle.simple_asn1.specs.Fault.{DecodeFault}

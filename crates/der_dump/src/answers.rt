@@ -11,7 +11,7 @@ ghost use Rattle.der_forms.specs.Forms.{form_is, objects, other_text};
 use crate::document::Verdict;
 use crate::lines::{Mark, push_note};
 use crate::names::Names;
-use crate::strict::push_read;
+use crate::strict::push_dump;
 use der_forms::{Form, Lines, PemFault, PemObject, form_of, next_object};
 use der_options::Options;
 use simple_asn1::{ASN1DecodeErr, Document};
@@ -29,10 +29,10 @@ pub fn push_answer(
 {
     match form_of(alloc, input)? {
         Form::Pem => push_pem(alloc, names, options, input, out),
-        Form::Spelled(octets) => push_read(alloc, names, options, &octets, out),
+        Form::Spelled(octets) => push_dump(alloc, names, options, &octets, out),
         Form::OddDigits => push_refusal(b" refused: an odd number of hex digits", out),
         Form::Text => push_text(alloc, names, options, input, out),
-        Form::Der => push_read(alloc, names, options, input, out),
+        Form::Der => push_dump(alloc, names, options, input, out),
     }
 }
 
@@ -56,7 +56,7 @@ fn push_text(
     ensures { IfOk result (λ verdict. AddsAnswer options.now text.now verdict out.old.items out.new.items) }
 {
     match Document::from_der(alloc, text) {
-        Ok(_) => push_read(alloc, names, options, text, out),
+        Ok(_) => push_dump(alloc, names, options, text, out),
         Err(fault) => push_no_document(&fault, out),
     }
 }
@@ -125,7 +125,7 @@ fn push_object(
 {
     push_label(alloc, object.label, out)?;
     match &object.octets {
-        Ok(octets) => push_read(alloc, names, options, octets, out),
+        Ok(octets) => push_dump(alloc, names, options, octets, out),
         Err(PemFault::Encrypted) => push_refusal(b" encrypted, not read", out),
         Err(PemFault::NoBase64(line)) => {
             let why = format!(in alloc; " line {line}: this is no base 64")?;

@@ -11,6 +11,7 @@ use crate::faults::words_at;
 use crate::lines::push_fault;
 use crate::names::Names;
 use crate::place::outermost;
+use crate::style::Style;
 use crate::tree::{push_blocks, push_encodings};
 use simple_asn1::{ASN1DecodeErr, Document};
 use std::alloc::{AllocError, Global};
@@ -29,6 +30,7 @@ pub enum Verdict {
 pub fn push_document(
     alloc: Global,
     names: &Names,
+    style: Style,
     octets: &[u8],
     out: &mut Vec<u8>,
 ) -> Result<Verdict, AllocError>
@@ -36,13 +38,13 @@ pub fn push_document(
 {
     match Document::from_der_located(alloc, octets) {
         Ok(document) => {
-            push_read(alloc, names, octets, &document, out)?;
+            push_read(alloc, names, style, octets, &document, out)?;
             Ok(Verdict::AllRead)
         }
         Err(located) => match located.error {
             ASN1DecodeErr::OutOfMemory => Err(AllocError),
             fault => {
-                push_refused(alloc, names, octets, &fault, located.offset, out)?;
+                push_refused(alloc, names, style, octets, &fault, located.offset, out)?;
                 Ok(Verdict::Refused)
             }
         },
@@ -53,6 +55,7 @@ pub fn push_document(
 pub fn push_read(
     alloc: Global,
     names: &Names,
+    style: Style,
     octets: &[u8],
     document: &Document,
     out: &mut Vec<u8>,
@@ -60,13 +63,21 @@ pub fn push_read(
     requires { IsDocument octets.now (document_trees document.now) }
     ensures { OnOk result (AddsDumpOf octets.now AllRead out.old.items out.new.items) }
 {
-    push_blocks(alloc, names, octets, document.blocks(), outermost(), out)
+    push_blocks(
+        alloc,
+        names,
+        octets,
+        document.blocks(),
+        outermost(style),
+        out,
+    )
 }
 
 // Puts the encodings of octets that are no document, and then the fault and its offset in words.
 fn push_refused(
     alloc: Global,
     names: &Names,
+    style: Style,
     octets: &[u8],
     fault: &ASN1DecodeErr,
     offset: usize,
@@ -75,7 +86,7 @@ fn push_refused(
     requires { FirstFaultAt octets.now (fault_of fault.now) offset }
     ensures { OnOk result (AddsDumpOf octets.now Refused out.old.items out.new.items) }
 {
-    push_encodings(alloc, names, octets, outermost(), out)?;
+    push_encodings(alloc, names, octets, outermost(style), out)?;
     let words = words_at(alloc, octets, offset, fault)?;
     push_fault(alloc, offset, words.as_bytes(), out)
 }

@@ -11,7 +11,7 @@ use crate::header::{Header, is_group, read_header};
 use crate::lines::push_line;
 use crate::place::{Place, sum_of};
 use crate::scalars::write_after_space;
-use crate::values::{write_sizes, write_tag};
+use crate::values::{write_form, write_sizes, write_tag};
 use simple_asn1::{ASN1Class, ASN1DecodeErr};
 use std::alloc::{AllocError, Global};
 
@@ -37,7 +37,7 @@ pub fn push_cut(
         push_header(alloc, &header, offset, place, &cut, out)?;
         return Ok(Step::Cut(first));
     }
-    let contents = contents_text(alloc, &header, left)?;
+    let contents = contents_text(alloc, &header, left, place.is_full)?;
     let colon = if there == 0 { "" } else { ":" };
     let text = format!(in alloc; "{cut}{colon}{contents}")?;
     push_header(alloc, &header, offset, place, &text, out)?;
@@ -58,14 +58,19 @@ pub fn push_faulty(
     ensures line { OnOk result (AddsLine (IsLineOf place.is_inside (place.base + offset))
         out.old.items out.new.items) }
 {
-    let contents = faulty_text(alloc, header, encoding)?;
+    let contents = faulty_text(alloc, header, encoding, place.is_full)?;
     let words = leaf_words(alloc, header, encoding, fault)?;
     let text = format!(in alloc; "{contents}: {words}")?;
     push_header(alloc, header, offset, place, &text, out)
 }
 
 // The contents octets of an encoding that are at fault: as characters where they are so in the form of their type.
-fn faulty_text(alloc: Global, header: &Header, encoding: &[u8]) -> Result<String, AllocError> {
+fn faulty_text(
+    alloc: Global,
+    header: &Header,
+    encoding: &[u8],
+    is_full: bool,
+) -> Result<String, AllocError> {
     let (_, contents) = encoding.split_at(header.size.min(encoding.len()));
     if let Some(form) = form_of(header) {
         let mut text = String::new(alloc);
@@ -73,7 +78,7 @@ fn faulty_text(alloc: Global, header: &Header, encoding: &[u8]) -> Result<String
             return Ok(text);
         }
     }
-    contents_text(alloc, header, encoding)
+    contents_text(alloc, header, encoding, is_full)
 }
 
 fn form_of(header: &Header) -> Option<Characters> {
@@ -84,10 +89,15 @@ fn form_of(header: &Header) -> Option<Characters> {
 }
 
 // A space and the contents octets of the encoding, as far as they are there.
-fn contents_text(alloc: Global, header: &Header, encoding: &[u8]) -> Result<String, AllocError> {
+fn contents_text(
+    alloc: Global,
+    header: &Header,
+    encoding: &[u8],
+    is_full: bool,
+) -> Result<String, AllocError> {
     let (_, contents) = encoding.split_at(header.size.min(encoding.len()));
     let mut text = String::new(alloc);
-    write_after_space(&mut text, contents)?;
+    write_after_space(&mut text, contents, is_full)?;
     Ok(text)
 }
 
@@ -106,6 +116,7 @@ pub fn push_header(
     let mut text = String::new(alloc);
     write_sizes(&mut text, header.size, header.announced, place.depth)?;
     write_tag(alloc, &mut text, header.class, &header.tag)?;
+    write_form(&mut text, header)?;
     text.push_str(after)?;
     let shown = sum_of(place.base, offset)?;
     push_line(alloc, place.is_inside, shown, text.as_bytes(), out)

@@ -84,7 +84,7 @@ fn time_words(
             words.push_str(" ")?;
             write_quoted(&mut words, text)?;
         }
-        Err(_) => write_after_space(&mut words, contents)?,
+        Err(_) => write_after_space(&mut words, contents, false)?,
     }
     write!(
         words,

@@ -18,6 +18,8 @@ pub struct Header {
     pub class: ASN1Class,
     pub size: usize,
     pub announced: usize,
+    // whether it has the indefinite form of BER, which is read as a length of 0
+    pub is_indefinite: bool,
 }
 
 // The header at the front, where one stands there.
@@ -44,9 +46,16 @@ pub fn read_header(alloc: Global, octets: &[u8]) -> Result<Option<Header>, Alloc
             class,
             size,
             announced,
+            is_indefinite: has_indefinite_form(octets, size, constructed, announced),
         })),
         Err(_) => Ok(None),
     }
+}
+
+// Whether a header of so many octets, which announces so many contents octets, has the length octet 80 of a constructed
+// encoding (X.690 8.1.3.6).
+fn has_indefinite_form(octets: &[u8], size: usize, constructed: bool, announced: usize) -> bool {
+    constructed && announced == 0 && octets.get(size.saturating_sub(1)) == Some(&0x80)
 }
 
 // What a fault of identifier octets says of the header.

@@ -15,6 +15,7 @@ mod names;
 mod place;
 mod scalars;
 mod strict;
+mod style;
 mod tasks;
 #[cfg(test)]
 mod tests;

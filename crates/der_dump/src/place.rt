@@ -1,6 +1,7 @@
 // Where lines stand that are put.
 ghost use Rattle.std.specs.Prelude.{◌≡◌, ◌+◌, ◌<◌, IfOk, false, true};
 
+use crate::style::Style;
 use std::alloc::AllocError;
 
 // How many documents are shown inside one another.
@@ -17,10 +18,12 @@ pub struct Place {
     pub depth: usize,
     // how many documents are shown inside one another in them
     pub documents: usize,
+    // whether octets are written whole
+    pub is_full: bool,
 }
 
 // The place of the document itself.
-pub fn outermost() -> Place
+pub fn outermost(style: Style) -> Place
     ensures outside { result.is_inside ≡ false }
     ensures base { result.base ≡ 0 }
 {
@@ -28,7 +31,8 @@ pub fn outermost() -> Place
         is_inside: false,
         base: 0,
         depth: 0,
-        documents: MOST_DOCUMENTS,
+        documents: if style.is_flat { 0 } else { MOST_DOCUMENTS },
+        is_full: style.is_full,
     }
 }
 
@@ -44,6 +48,7 @@ impl Place {
             base: sum_of(self.base, before)?,
             depth: self.depth,
             documents: self.documents,
+            is_full: self.is_full,
         })
     }
 
@@ -58,6 +63,7 @@ impl Place {
             base: self.base,
             depth: self.depth.saturating_add(levels),
             documents: self.documents,
+            is_full: self.is_full,
         }
     }
 
@@ -73,6 +79,7 @@ impl Place {
             base: sum_of(self.base, before)?,
             depth: depth.saturating_add(1),
             documents: self.documents - 1,
+            is_full: self.is_full,
         })
     }
 }

@@ -1,21 +1,21 @@
 // Octets, characters and numbers.
 use std::alloc::{AllocError, Global};
 
-// How many octets are written at most; of longer ones the first of them, and how many there are.
+// How many octets are written at most where not all are; of longer ones the first of them, and how many there are.
 const MOST_OCTETS: usize = 32;
 
 // Puts a space and the octets at the end, if there are any.
-pub fn write_after_space(out: &mut String, octets: &[u8]) -> Result<(), AllocError> {
+pub fn write_after_space(out: &mut String, octets: &[u8], is_full: bool) -> Result<(), AllocError> {
     if octets.is_empty() {
         return Ok(());
     }
     out.push_str(" ")?;
-    write_hex(out, octets)
+    write_hex(out, octets, is_full)
 }
 
-// Puts the octets at the end in pairs of hex digits.
-pub fn write_hex(out: &mut String, octets: &[u8]) -> Result<(), AllocError> {
-    if octets.len() <= MOST_OCTETS {
+// Puts the octets at the end in pairs of hex digits, all of them or as many as are written at most.
+pub fn write_hex(out: &mut String, octets: &[u8], is_full: bool) -> Result<(), AllocError> {
+    if is_full || octets.len() <= MOST_OCTETS {
         return write_pairs(out, octets);
     }
     let (first, _) = octets.split_at(MOST_OCTETS);

@@ -6,12 +6,12 @@ use crate::document::{Verdict, push_document};
 use crate::faults::fault_words;
 use crate::lines::push_fault;
 use crate::names::Names;
-use der_options::Options;
+use der_options::{Options, Style};
 use simple_asn1::{ASN1DecodeErr, discard, from_der_strict, law_one_reading};
 use std::alloc::{AllocError, Global};
 
 // Puts the dump of octets, as the options want it.
-pub fn push_read(
+pub fn push_dump(
     alloc: Global,
     names: &Names,
     options: &Options<'_>,
@@ -21,9 +21,9 @@ pub fn push_read(
     ensures { IfOk result (λ verdict. AddsDocument options.now octets.now verdict out.old.items out.new.items) }
 {
     if options.is_strict {
-        push_strictly(alloc, names, octets, out)
+        push_strictly(alloc, names, options.style, octets, out)
     } else {
-        push_document(alloc, names, octets, out)
+        push_document(alloc, names, options.style, octets, out)
     }
 }
 
@@ -31,13 +31,14 @@ pub fn push_read(
 fn push_strictly(
     alloc: Global,
     names: &Names,
+    style: Style,
     octets: &[u8],
     out: &mut Vec<u8>,
 ) -> Result<Verdict, AllocError>
     ensures { IfOk result (λ verdict. AddsStrictDumpOf octets.now verdict out.old.items out.new.items) }
 {
     law_one_reading();
-    match push_document(alloc, names, octets, out)? {
+    match push_document(alloc, names, style, octets, out)? {
         Verdict::Refused => Ok(Verdict::Refused),
         Verdict::AllRead => match from_der_strict(alloc, octets) {
             Ok(blocks) => {

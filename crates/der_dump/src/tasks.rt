@@ -11,7 +11,7 @@ use crate::answers::{push_answer, push_refusal};
 use crate::document::Verdict;
 use crate::header::read_header;
 use crate::names::Names;
-use crate::strict::push_read;
+use crate::strict::push_dump;
 use der_forms::{FormFault, document_of};
 use der_options::{Options, Task};
 use simple_asn1::encoding_at;
@@ -93,7 +93,7 @@ fn push_part(
     match options.task {
         Task::Extract(_) => push_octets(block, out),
         Task::Contents(_) => push_contents(alloc, block, out),
-        _ => push_read(alloc, names, options, block, out),
+        _ => push_dump(alloc, names, options, block, out),
     }
 }
 

@@ -16,7 +16,7 @@ use crate::held::{Held, Inside, held_in};
 use crate::lines::push_line;
 use crate::names::Names;
 use crate::place::{Place, sum_of};
-use crate::values::block_text;
+use crate::values::{Manner, block_text};
 use crate::walk::{Found, OpenLists};
 use simple_asn1::{ASN1Block, Document, all_blocks, encoding_at};
 use std::alloc::{AllocError, Global};
@@ -160,7 +160,11 @@ fn push_block<'a>(
     let depth = place.depth.saturating_add(found.depth);
     let header = header_of(alloc, octets, block.offset())?;
     let held = held_in(alloc, octets, block, header_size(&header), place, depth)?;
-    let text = block_text(alloc, names, &header, depth, block, held.is_some())?;
+    let manner = Manner {
+        is_opened: held.is_some(),
+        is_full: place.is_full,
+    };
+    let text = block_text(alloc, names, &header, depth, block, manner)?;
     push_line(alloc, place.is_inside, offset, text.as_bytes(), out)?;
     Ok(held)
 }

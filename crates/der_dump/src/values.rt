@@ -13,22 +13,42 @@ const MOST_LEVELS: usize = 40;
 // How many octets most lines fit.
 const LINE_ROOM: usize = 112;
 
-// What is said of a block at a depth. Where what it holds is shown below it, its octets are not written.
+// How a block is written.
+#[derive(Clone, Copy, Drop)]
+pub struct Manner {
+    // whether what its octets hold is shown below it, and they are not written
+    pub is_opened: bool,
+    // whether octets are written whole
+    pub is_full: bool,
+}
+
+// What is said of a block at a depth.
 pub fn block_text(
     alloc: Global,
     names: &Names,
     header: &Option<Header>,
     depth: usize,
     block: &ASN1Block,
-    is_opened: bool,
+    manner: Manner,
 ) -> Result<String, AllocError> {
     let mut text = String::with_capacity(alloc, LINE_ROOM)?;
     match header {
         Some(header) => write_sizes(&mut text, header.size, header.announced, depth)?,
         None => write_sizes(&mut text, 0, 0, depth)?,
     }
-    write_block(alloc, &mut text, names, block, is_opened)?;
+    write_block(alloc, &mut text, names, block, manner)?;
+    if let Some(header) = header {
+        write_form(&mut text, header)?;
+    }
     Ok(text)
+}
+
+// What is said of a length of the indefinite form: blocks that stand inside in BER are shown behind.
+pub fn write_form(out: &mut String, header: &Header) -> Result<(), AllocError> {
+    if header.is_indefinite {
+        return out.push_str(", indefinite length (BER): levels are lost from here");
+    }
+    Ok(())
 }
 
 // The sizes of header and contents, and the spaces of the depth.
@@ -50,16 +70,16 @@ fn write_block(
     out: &mut String,
     names: &Names,
     block: &ASN1Block,
-    is_opened: bool,
+    manner: Manner,
 ) -> Result<(), AllocError> {
     match block {
         ASN1Block::Boolean(_, value) => write!(out, "BOOLEAN {value}"),
         ASN1Block::Null(_) => out.push_str("NULL"),
         ASN1Block::Sequence(_, _) => out.push_str("SEQUENCE"),
         ASN1Block::Set(_, _) => out.push_str("SET"),
-        ASN1Block::Integer(_, n) => write_integer(alloc, out, "INTEGER", n),
-        ASN1Block::BitString(_, bits, octets) => write_bit_string(out, *bits, octets, is_opened),
-        ASN1Block::OctetString(_, octets) => write_octets(out, "OCTET STRING", octets, is_opened),
+        ASN1Block::Integer(_, n) => write_integer(alloc, out, "INTEGER", n, manner),
+        ASN1Block::BitString(_, bits, octets) => write_bit_string(out, *bits, octets, manner),
+        ASN1Block::OctetString(_, octets) => write_octets(out, "OCTET STRING", octets, manner),
         ASN1Block::ObjectIdentifier(_, oid) => write_identifier(alloc, out, names, oid),
         ASN1Block::UTCTime(_, moment) => write!(out, "UTCTime {moment}Z"),
         ASN1Block::GeneralizedTime(_, moment) => write!(out, "GeneralizedTime {moment}Z"),
@@ -74,7 +94,7 @@ fn write_block(
         ASN1Block::Explicit(class, _, tag, _) => write_tag(alloc, out, *class, tag),
         ASN1Block::Unknown(class, constructed, _, tag, octets) => {
             write_tag(alloc, out, *class, tag)?;
-            write_unknown(alloc, out, *class, *constructed, tag, octets, is_opened)
+            write_unknown(alloc, out, *class, *constructed, tag, octets, manner)
         }
     }
 }
@@ -107,13 +127,14 @@ fn write_integer(
     out: &mut String,
     name: &str,
     number: &BigInt,
+    manner: Manner,
 ) -> Result<(), AllocError> {
     out.push_str(name)?;
     match number.to_i128() {
         Some(n) => write!(out, " {n}"),
         None => {
             out.push_str(" hex ")?;
-            write_hex(out, &number.to_signed_bytes_be(alloc)?)
+            write_hex(out, &number.to_signed_bytes_be(alloc)?, manner.is_full)
         }
     }
 }
@@ -122,24 +143,24 @@ fn write_octets(
     out: &mut String,
     name: &str,
     octets: &[u8],
-    is_opened: bool,
+    manner: Manner,
 ) -> Result<(), AllocError> {
     out.push_str(name)?;
-    if is_opened {
+    if manner.is_opened {
         return out.push_str(", which holds");
     }
-    write_after_space(out, octets)
+    write_after_space(out, octets, manner.is_full)
 }
 
 fn write_bit_string(
     out: &mut String,
     bits: usize,
     octets: &[u8],
-    is_opened: bool,
+    manner: Manner,
 ) -> Result<(), AllocError> {
     let ending = if bits == 1 { "" } else { "s" };
     write!(out, "BIT STRING {bits} bit{ending}")?;
-    if is_opened {
+    if manner.is_opened {
         return out.push_str(", which holds");
     }
     let unused = octets.len().saturating_mul(8).saturating_sub(bits);
@@ -150,7 +171,7 @@ fn write_bit_string(
         return Ok(());
     }
     out.push_str(":")?;
-    write_after_space(out, octets)
+    write_after_space(out, octets, manner.is_full)
 }
 
 fn write_identifier(
@@ -247,16 +268,16 @@ fn write_unknown(
     constructed: bool,
     tag: &BigUint,
     octets: &[u8],
-    is_opened: bool,
+    manner: Manner,
 ) -> Result<(), AllocError> {
-    if is_opened {
+    if manner.is_opened {
         return out.push_str(", which holds");
     }
     if is_enumerated(class, tag) && !constructed {
         let number = BigInt::from_signed_bytes_be(alloc, octets)?;
-        return write_integer(alloc, out, "", &number);
+        return write_integer(alloc, out, "", &number, manner);
     }
-    write_after_space(out, octets)?;
+    write_after_space(out, octets, manner.is_full)?;
     if is_text(octets) {
         write_ascii(out, octets)?;
     }

@@ -12,6 +12,7 @@ use Rattle.clap.specs.declared.error.kind.ErrorKind.TheVariants.{DisplayHelp, Di
 use Rattle.der_options.specs.declared.fault.OptionsFault.{OptionsFault}
 use Rattle.der_options.specs.declared.fault.OptionsFault.TheVariants.{Command, NoNumber, TwoTasks}
 use Rattle.der_options.specs.declared.options.Options.{Options}
+use Rattle.der_options.specs.declared.options.Style.{Style}
 use Rattle.der_options.specs.declared.options.Task.{Task}
 use Rattle.der_options.specs.declared.options.Task.TheVariants.{At, Contents, Dump, Extract}
 
@@ -30,6 +31,9 @@ files = record (new_rule (codes "FILE")) { action = Some Append }
 abbrev pub task_rules : List Rule
 task_rules = valued (codes "at") ∷ valued (codes "extract") ∷ valued (codes "contents") ∷ flag (codes "strict") ∷ []
 
+abbrev pub style_rules : List Rule
+style_rules = flag (codes "full") ∷ flag (codes "flat") ∷ []
+
 abbrev pub with_rules : App → List Rule → App
 with_rules = fold with_rule
 
@@ -41,7 +45,7 @@ bare_command =
 
 -- the whole command
 unfoldable pub command : App
-command = with_rules bare_command task_rules
+command = with_rules (with_rules bare_command task_rules) style_rules
 
 -- a flag is set: its value is `true`
 abbrev pub is_true : Option Text → Bool
@@ -67,12 +71,18 @@ IsTask None (Some text) None task = (n : ℕ) × IsNumber text n × (task ≡ Ex
 IsTask None None (Some text) task = (n : ℕ) × IsNumber text n × (task ≡ Contents n)
 IsTask _ _ _ task = ⊥
 
+-- what the matches of the words say that a dump shows
+pub record IsStyle (rows : List Row) (style : Style) : Type 0 where
+  pub full : style.is_full ≡ is_true (first_of (codes "full") rows)
+  pub flat : style.is_flat ≡ is_true (first_of (codes "flat") rows)
+
 -- what the matches of the words ask for
 pub record AsksFor (rows : List Row) (options : Options) : Type 0 where
   pub inputs : map (λ name. name.now) options.inputs.items ≡ names_of (all_of (codes "FILE") rows)
   pub task :
       IsTask (first_of (codes "at") rows) (first_of (codes "extract") rows) (first_of (codes "contents") rows)
       options.task
+  pub style : IsStyle rows options.style
   pub strict : options.is_strict ≡ is_true (first_of (codes "strict") rows)
 
 -- the words, of which the first is the program's name, ask for the options: the command takes them, and its matches do

@@ -2,7 +2,7 @@
 ghost use Rattle.std.specs.Prelude.{◌≡◌, IfOk, false};
 ghost use Rattle.clap.specs.Words.{app_of, rule_of};
 ghost use Rattle.der_options.specs.Options.{command as command_is, flag as flag_is, valued as valued_is};
-ghost use Rattle.der_options.specs.Options.{files as files_is, bare_command, task_rules, with_rules};
+ghost use Rattle.der_options.specs.Options.{files as files_is, bare_command, task_rules, style_rules, with_rules};
 
 use clap::{Arg, ArgAction, Command};
 use std::alloc::{AllocError, Global};
@@ -19,7 +19,8 @@ pub fn command<'a>(alloc: Global) -> Result<Command<'a>, AllocError>
     ensures { IfOk result (λ c. app_of c ≡ command_is) }
 {
     let bare = bare(alloc)?;
-    with_tasks(alloc, bare)
+    let with_tasks = with_tasks(alloc, bare)?;
+    with_styles(alloc, with_tasks)
 }
 
 // The command with its files alone.
@@ -59,6 +60,15 @@ fn with_tasks<'a>(alloc: Global, command: Command<'a>) -> Result<Command<'a>, Al
     );
     let strict = flag(alloc, "strict", "Refuses what is no canonical document");
     command.arg(at)?.arg(extract)?.arg(contents)?.arg(strict)
+}
+
+// The command with what the dump shows.
+fn with_styles<'a>(alloc: Global, command: Command<'a>) -> Result<Command<'a>, AllocError>
+    ensures { IfOk result (λ c. app_of c ≡ with_rules (app_of command.entry) style_rules) }
+{
+    let full = flag(alloc, "full", "Writes values whole");
+    let flat = flag(alloc, "flat", "Looks into no octets");
+    command.arg(full)?.arg(flat)
 }
 
 // An argument `--name` with no value.

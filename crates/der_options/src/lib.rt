@@ -10,4 +10,4 @@ mod options;
 mod tests;
 
 pub use fault::OptionsFault;
-pub use options::{Options, Task, options_of};
+pub use options::{Options, Style, Task, options_of};

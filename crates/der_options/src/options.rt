@@ -1,7 +1,7 @@
 // The options, and how the matches of `clap` give them.
 ghost use Rattle.std.specs.Prelude.{◌≡◌, ℕ, IfOk, IfErr, codes, map, option_map};
 ghost use Rattle.clap.specs.Words.{all_of, first_of, found_of, rows_of};
-ghost use Rattle.der_options.specs.Options.{AsksFor, AsksForNothing, IsNumber, IsRefused, IsTask, Means};
+ghost use Rattle.der_options.specs.Options.{AsksFor, AsksForNothing, IsNumber, IsRefused, IsStyle, IsTask, Means};
 ghost use Rattle.der_options.specs.Options.{is_true, names_of};
 ghost use Rattle.der_options.specs.Steps.{IsMatched, IsUnmatched, LacksOptions};
 
@@ -18,6 +18,8 @@ pub struct Options<'a> {
     pub inputs: Vec<&'a str>,
     /// What is done with each input.
     pub task: Task,
+    /// What a dump shows.
+    pub style: Style,
     /// What is no canonical document is refused.
     pub is_strict: bool,
 }
@@ -33,6 +35,15 @@ pub enum Task {
     Extract(usize),
     /// The contents octets of the block that stands at the offset are written.
     Contents(usize),
+}
+
+/// What a dump shows. By default octets are cut off after some, and documents inside octets are shown.
+#[derive(Clone, Copy, Debug, Default, PartialEq)]
+pub struct Style {
+    /// Values are written whole.
+    pub is_full: bool,
+    /// No octets are looked into.
+    pub is_flat: bool,
 }
 
 /// The options that the words ask for. The first word is the program's name.
@@ -73,6 +84,7 @@ fn asked_for<'a>(alloc: Global, matches: &ArgMatches<'a>) -> Result<Options<'a>,
     Ok(Options {
         inputs,
         task: task_of(matches)?,
+        style: style_of(matches),
         is_strict: is_set(matches, "strict"),
     })
 }
@@ -108,6 +120,16 @@ fn task_of<'a>(matches: &ArgMatches<'a>) -> Result<Task, OptionsFault<'a>>
         (Some(_), Some(_), _) => Err(OptionsFault::TwoTasks("at", "extract")),
         (Some(_), None, Some(_)) => Err(OptionsFault::TwoTasks("at", "contents")),
         (None, Some(_), Some(_)) => Err(OptionsFault::TwoTasks("extract", "contents")),
+    }
+}
+
+// What a dump shows.
+fn style_of(matches: &ArgMatches<'_>) -> Style
+    ensures { IsStyle (rows_of (found_of matches.now)) result }
+{
+    Style {
+        is_full: is_set(matches, "full"),
+        is_flat: is_set(matches, "flat"),
     }
 }
 

@@ -1,8 +1,13 @@
 // What each option asks for, and what is said of words that are no command line.
-use crate::{Options, Task, options_of};
+use crate::{Options, Style, Task, options_of};
 use std::alloc::Global;
 use std::process::Abort;
 use std::test::Fail;
+
+const PLAIN: Style = Style {
+    is_full: false,
+    is_flat: false,
+};
 
 // What the words ask for, of one input.
 fn one_input(alloc: Global, input: &str, task: Task) -> Result<Options<'_>, Fail> {
@@ -11,6 +16,7 @@ fn one_input(alloc: Global, input: &str, task: Task) -> Result<Options<'_>, Fail
     Ok(Options {
         inputs,
         task,
+        style: PLAIN,
         is_strict: false,
     })
 }
@@ -56,19 +62,42 @@ fn each_task_is_read(rt: HostRuntime) -> Result<(), Fail> {
 }
 
 #[test]
-fn strict_reading_is_asked_for(rt: HostRuntime) -> Result<(), Fail> {
-    let wanted = Options {
-        is_strict: true,
-        ..one_input(rt.alloc(), "-", Task::Dump)?
-    };
-    let options = options_of(rt.alloc(), &["der_dump", "--strict"]);
-    assert!(rt; options.is_ok_and(|options| options == wanted));
+fn each_flag_is_read(rt: HostRuntime) -> Result<(), Fail> {
+    let alloc = rt.alloc();
+    for (word, style, is_strict) in [
+        ("--strict", PLAIN, true),
+        (
+            "--full",
+            Style {
+                is_full: true,
+                ..PLAIN
+            },
+            false,
+        ),
+        (
+            "--flat",
+            Style {
+                is_flat: true,
+                ..PLAIN
+            },
+            false,
+        ),
+    ] {
+        let wanted = Options {
+            style,
+            is_strict,
+            ..one_input(alloc, "-", Task::Dump)?
+        };
+        let words = ["der_dump", word];
+        let options = options_of(alloc, words.as_slice());
+        assert!(rt; options.is_ok_and(|options| options == wanted), "{word}");
+    }
     Ok(())
 }
 
 #[test]
 fn inputs_keep_their_order(rt: HostRuntime) -> Result<(), Fail> {
-    let words = ["der_dump", "b.der", "--strict", "-", "a.der"];
+    let words = ["der_dump", "b.der", "--flat", "-", "a.der"];
     let options = options_of(rt.alloc(), words.as_slice());
     let wanted = ["b.der", "-", "a.der"];
     assert!(rt; options.is_ok_and(|options| options.inputs.as_slice() == wanted.as_slice()));
@@ -93,12 +122,12 @@ fn each_refusal_is_one_line(rt: HostRuntime) -> Result<(), Fail> {
             "error: a value is required for '--at <OFFSET>' but none was supplied",
         ),
         (
-            ["--strict=1", "a"],
-            "error: unexpected value '1' for '--strict' found; no more were expected",
+            ["--full=1", "a"],
+            "error: unexpected value '1' for '--full' found; no more were expected",
         ),
         (
-            ["--strict", "--strict"],
-            "error: the argument '--strict' cannot be used multiple times",
+            ["--flat", "--flat"],
+            "error: the argument '--flat' cannot be used multiple times",
         ),
         (
             ["--at=1", "--at=1"],

@@ -9,5 +9,5 @@ pub returns-in-Spelled : goal.returns-in-Spelled
 returns-in-Spelled c =
     let e : form_is c.args.input.now ≡ spelled c.in-Spelled.octets.items = sym (rw c.in-Spelled.is at c.in_ok-form_of.ensures) in
     let d : c.deref.result.now ≡ c.in-Spelled.octets.items = grind (arith, common_steps) in
-    answer_read c.args.options.now c.push_read.result c.args.input.now c.in-Spelled.octets.items _ _ (λ v h. of_spelled c.in-Spelled.octets.items e h)
-    (rw d at c.push_read.ensures)
+    answer_read c.args.options.now c.push_dump.result c.args.input.now c.in-Spelled.octets.items _ _ (λ v h. of_spelled c.in-Spelled.octets.items e h)
+    (rw d at c.push_dump.ensures)

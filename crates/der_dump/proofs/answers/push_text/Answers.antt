@@ -5,8 +5,8 @@ use Rattle.der_dump.proofs.answers.push_text.Goals as goal
 
 pub returns-in-Ok : goal.returns-in-Ok
 returns-in-Ok c =
-    answer_read c.args.options.now c.push_read.result c.args.text.now c.args.text.now _ _
-    (λ v h. of_read_text (document_trees c.in-Ok.field-0) c.requires c.in-Ok.ensures.document h) c.push_read.ensures
+    answer_read c.args.options.now c.push_dump.result c.args.text.now c.args.text.now _ _
+    (λ v h. of_read_text (document_trees c.in-Ok.field-0) c.requires c.in-Ok.ensures.document h) c.push_dump.ensures
 
 pub returns : goal.returns
 returns c =

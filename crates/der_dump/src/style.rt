@@ -1,0 +1,2 @@
+// How documents are shown.
+pub use der_options::Style;
