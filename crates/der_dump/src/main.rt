@@ -28,27 +28,47 @@ use crate::host::HostReader;
 use crate::tool::{Source, run, status};
 use der_options::{Options, OptionsFault, options_of};
 use std::alloc::AllocError;
-use std::env;
 use std::process::ExitCode;
+use std::{env, io};
 use streams::{StreamFault, fault_text};
 
 // The exit status of words that are no command line.
 const WRONG_WORDS: u8 = 2;
 
 fn main(rt: HostRuntime) -> ExitCode {
-    let Ok(words) = words(&rt) else {
-        let _ = eprintln!(rt; "error: the arguments are no text");
-        return ExitCode::from(WRONG_WORDS);
-    };
-    match options_of(rt.alloc(), words.as_slice()) {
-        Ok(options) => ExitCode::from(answer(&rt, &options)),
-        Err(fault) => ExitCode::from(tell(&rt, &fault)),
+    match words(&rt) {
+        Ok(words) => ExitCode::from(obey(&rt, &words)),
+        Err(e) => {
+            let _ = eprintln!(rt; "{}", words_fault(&e));
+            ExitCode::from(WRONG_WORDS)
+        }
     }
 }
 
-// The program's name and its arguments.
-fn words(rt: &HostRuntime) -> anyhow::Result<Vec<String>> {
-    Ok(env::args(rt)?.collect(rt.alloc())?)
+// The program's name and its arguments. `collect` would go on where it gets no room beforehand.
+fn words(rt: &HostRuntime) -> io::Result<Vec<String>> {
+    let arguments = env::args(rt)?;
+    let mut words = Vec::with_capacity(rt.alloc(), arguments.len())?;
+    for word in arguments {
+        words.push(word)?;
+    }
+    Ok(words)
+}
+
+// Why the arguments are no words.
+fn words_fault(e: &io::Error) -> &'static str {
+    match e.kind() {
+        io::ErrorKind::OutOfMemory => fault_text(&StreamFault::Memory),
+        _ => "error: the arguments are no text",
+    }
+}
+
+// Does what the words ask for, the first of which is the program's name.
+fn obey(rt: &HostRuntime, words: &[String]) -> u8 {
+    match options_of(rt.alloc(), words) {
+        Ok(options) => answer(rt, &options),
+        Err(fault) => tell(rt, &fault),
+    }
 }
 
 // Help and the version go to standard output, and what is wrong to standard error.
