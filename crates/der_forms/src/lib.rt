@@ -9,8 +9,6 @@ mod hex_text;
 mod input;
 mod lines;
 mod objects;
-#[cfg(test)]
-mod tests;
 
 pub use input::{Form, FormFault, document_of, form_of};
 pub use lines::Lines;

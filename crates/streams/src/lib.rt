@@ -14,8 +14,6 @@ ghost use Rattle.streams.specs.declared.StreamFault.TheVariants.{Write as write_
 ghost use Rattle.streams.specs.declared.StreamFault.TheVariants.{Memory as memory_fault};
 
 pub mod failing;
-#[cfg(test)]
-mod tests;
 
 use memchr::memchr;
 use std::alloc::Global;

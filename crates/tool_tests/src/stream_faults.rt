@@ -1,7 +1,7 @@
 // Streams that fail, and what is said of their faults.
-use crate::failing::{FailingReader, FailingWriter};
-use crate::{StreamFault, fault_text, read_all, status, write_all};
 use std::test::Fail;
+use streams::failing::{FailingReader, FailingWriter};
+use streams::{StreamFault, fault_text, read_all, status, write_all};
 
 const OCTETS: &[u8] = b"30 00\n04 89\n";
 

@@ -1,5 +1,5 @@
 // Inputs in each form, as openssl 3.0, xxd and hexdump print them, or by hand.
-use crate::{Form, FormFault, Lines, PemFault, document_of, form_of, next_object};
+use der_forms::{Form, FormFault, Lines, PemFault, document_of, form_of, next_object};
 use std::test::Fail;
 
 // A SEQUENCE of the INTEGER 5 and 12 more octets, of 19 octets.
