@@ -1,5 +1,5 @@
-// The lines of short documents, of each kind of block, and of octets that are none. What each line is, was worked out by
-// hand from the tables of this crate's page.
+// The lines of short documents, of each kind of block, and of octets that are none. What each line is, was worked out
+// by hand from the tables of this crate's page.
 use crate::{push_json, push_refusal};
 use std::test::Fail;
 
@@ -95,6 +95,48 @@ fn each_kind_of_block_has_its_value(rt: HostRuntime) -> Result<(), Fail> {
             line.ends_with(format!(in rt.alloc(); "{told}}}]}}\n")?.as_str()),
             "{line}"
         );
+    }
+    Ok(())
+}
+
+#[test]
+fn numbers_that_readers_round_are_texts(rt: HostRuntime) -> Result<(), Fail> {
+    let greatest: &[u8] = &[0x02, 0x07, 0x1F, 0xFF, 0xFF, 0xFF, 0xFF, 0xFF, 0xFF];
+    let greater: &[u8] = &[0x02, 0x07, 0x20, 0, 0, 0, 0, 0, 0];
+    let least: &[u8] = &[0x02, 0x07, 0xE0, 0, 0, 0, 0, 0, 1];
+    let less: &[u8] = &[0x02, 0x07, 0xE0, 0, 0, 0, 0, 0, 0];
+    let greatest_tag: &[u8] = &[0x9F, 0x8F, 0xFF, 0xFF, 0xFF, 0xFF, 0xFF, 0xFF, 0x7F, 0x00];
+    let greater_tag: &[u8] = &[0x9F, 0x90, 0x80, 0x80, 0x80, 0x80, 0x80, 0x80, 0x00, 0x00];
+    for (document, told) in [
+        (greatest, "\"type\":\"INTEGER\",\"value\":9007199254740991}"),
+        (
+            greater,
+            "\"type\":\"INTEGER\",\"value\":\"9007199254740992\"}",
+        ),
+        (least, "\"type\":\"INTEGER\",\"value\":-9007199254740991}"),
+        (
+            less,
+            "\"type\":\"INTEGER\",\"value\":\"-9007199254740992\"}",
+        ),
+        (
+            greatest_tag,
+            "\"tag\":9007199254740991,\"type\":null,\"value\":\"\"}",
+        ),
+        (
+            greater_tag,
+            "\"tag\":\"9007199254740992\",\"type\":null,\"value\":\"\"}",
+        ),
+    ] {
+        let mut out = Vec::new(rt.alloc());
+        assert_eq!(rt;
+            push_json(rt.alloc(), None, document, &mut out),
+            Ok(true),
+            "of {document:?}"
+        );
+        let Ok(line) = str::from_utf8(&out) else {
+            panic!(rt; "of {document:?}");
+        };
+        assert!(rt; line.contains(told), "{line}");
     }
     Ok(())
 }
