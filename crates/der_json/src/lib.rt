@@ -23,6 +23,9 @@
 //! | OCTET STRING, and what has no type | its octets in hex digits |
 //! | NULL, and what holds blocks | `null` |
 //!
+//! An [`Origin`] adds the members `file` and `label`, of each that is known. Where octets are no document, or are not
+//! read, `fault` stands in place of `blocks`: an object with the words `text`, and the `offset` of what is at fault.
+//!
 //! Numbers beyond 2^53 - 1 are texts since `jq` and JavaScript round them, as RFC 7493 (section 2.2) lets readers do.
 #![tactic(auto)]
 
@@ -32,4 +35,4 @@ mod row;
 mod tests;
 mod value;
 
-pub use line::{push_json, push_refusal};
+pub use line::{Origin, push_json, push_refusal};
