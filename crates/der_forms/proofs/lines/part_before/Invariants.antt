@@ -1,6 +1,6 @@
 use Rattle.std.proofs.Common.{◌≡◌, ◌++◌, ◌-◌, ◌≤◌, drop, length, take}
 use Rattle.der_forms.specs.Forms.{up_to}
-use Rattle.der_forms.proofs.hex_text.part_before.Given as goal
+use Rattle.der_forms.proofs.lines.part_before.Given as goal
 
 -- the words do not stand before the place
 abbrev pub invariant-loop-end : goal.invariant-loop-end

@@ -1,7 +1,7 @@
 use Rattle.std.proofs.Common.{◌≡◌, Bool, true, append-nil, ◌+◌, ◌-◌, ◌<◌, ℕ, zero, suc, List, [], ◌∷◌, ◌++◌, drop, false, take, length, refl, sym, ap, ◌∙◌, arith}
 use Rattle.std.proofs.lemmas.List.{take_all, drop_all, length-drop}
 use Rattle.der_forms.specs.Forms.{begins, up_to}
-use Rattle.der_forms.proofs.hex_text.part_before.Goals as goal
+use Rattle.der_forms.proofs.lines.part_before.Goals as goal
 
 -- where the words do not stand, one more octet stands before them
 one_more : (words text : List ℕ) (n : ℕ) → n < length text → begins words (drop n text) ≡ false
