@@ -1,0 +1,33 @@
+// The dump of octets, as the options want it.
+ghost use Rattle.std.specs.Prelude.{IfOk};
+ghost use Rattle.der_dump.specs.Inputs.{AddsDocument};
+
+use der_lines::{Names, Style, Verdict, push_document, push_document_strictly};
+use der_options::Options;
+use std::alloc::{AllocError, Global};
+
+// Puts the dump of octets.
+pub fn push_dump(
+    alloc: Global,
+    names: &Names,
+    options: &Options<'_>,
+    octets: &[u8],
+    out: &mut Vec<u8>,
+) -> Result<Verdict, AllocError>
+    ensures { IfOk result (λ verdict. AddsDocument options.now octets.now verdict out.old.items out.new.items) }
+{
+    let style = style_of(options);
+    if options.is_strict {
+        push_document_strictly(alloc, names, style, octets, out)
+    } else {
+        push_document(alloc, names, style, octets, out)
+    }
+}
+
+// What the options want to be shown.
+fn style_of(options: &Options<'_>) -> Style {
+    Style {
+        is_full: options.style.is_full,
+        is_flat: options.style.is_flat,
+    }
+}
