@@ -6,7 +6,8 @@ use crate::document::{Verdict, push_document};
 use crate::faults::fault_words;
 use crate::lines::push_fault;
 use crate::names::Names;
-use der_options::{Options, Style};
+use crate::style::{Style, style_of};
+use der_options::Options;
 use simple_asn1::{ASN1DecodeErr, discard, from_der_strict, law_one_reading};
 use std::alloc::{AllocError, Global};
 
@@ -21,9 +22,9 @@ pub fn push_dump(
     ensures { IfOk result (λ verdict. AddsDocument options.now octets.now verdict out.old.items out.new.items) }
 {
     if options.is_strict {
-        push_strictly(alloc, names, options.style, octets, out)
+        push_strictly(alloc, names, style_of(options), octets, out)
     } else {
-        push_document(alloc, names, options.style, octets, out)
+        push_document(alloc, names, style_of(options), octets, out)
     }
 }
 
