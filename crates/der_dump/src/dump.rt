@@ -1,5 +1,5 @@
 // The dump of octets, as the options want it.
-ghost use Rattle.std.specs.Prelude.{IfOk};
+ghost use Rattle.std.specs.Prelude.{◌≡◌, IfOk};
 ghost use Rattle.der_dump.specs.Inputs.{AddsDocument};
 
 use der_lines::{Names, Style, Verdict, push_document, push_document_strictly};
@@ -24,10 +24,13 @@ pub fn push_dump(
     }
 }
 
-// What the options want to be shown.
-fn style_of(options: &Options<'_>) -> Style {
+// The style that the options ask for.
+fn style_of(options: &Options<'_>) -> Style
+    ensures full { result.is_full ≡ options.now.is_full }
+    ensures flat { result.is_flat ≡ options.now.is_flat }
+{
     Style {
-        is_full: options.style.is_full,
-        is_flat: options.style.is_flat,
+        is_full: options.is_full,
+        is_flat: options.is_flat,
     }
 }
