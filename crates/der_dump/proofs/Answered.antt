@@ -7,9 +7,9 @@ use Rattle.der_forms.specs.Objects.{objects_of}
 use Rattle.simple_asn1.specs.Fault.{OutOfMemoryOr, fault_of}
 use Rattle.simple_asn1.specs.Grammar.{FirstFault}
 use Rattle.simple_asn1.specs.Types.{OutOfMemory}
-use Rattle.der_dump.specs.declared.document.Verdict.{Verdict}
-use Rattle.der_dump.specs.declared.document.Verdict.TheVariants.{AllRead, Refused}
-use Rattle.der_dump.specs.Dump.{AddsLine, IsNote}
+use Rattle.der_lines.specs.declared.document.Verdict.{Verdict}
+use Rattle.der_lines.specs.declared.document.Verdict.TheVariants.{AllRead, Refused}
+use Rattle.der_lines.specs.Dump.{AddsLine, IsNote}
 use Rattle.der_dump.specs.Inputs.{AddsAnswer, AddsDocument, AddsObject, AddsObjects, both_read, of_cut_objects, of_text}
 use Rattle.der_options.specs.declared.options.Options.{Options}
 

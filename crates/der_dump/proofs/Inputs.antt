@@ -1,16 +1,12 @@
 -- Blocks by their offsets, and inputs after inputs.
-use Rattle.std.proofs.Common.{◌≡◌, ℕ, List, [], ◌∷◌, ◌++◌, ap, drop, inl, inr, length, map, refl, false, is_err, is_ok, if◌then◌else◌, subst, sym, take, ◌∙◌, append_assoc}
+use Rattle.std.proofs.Common.{◌≡◌, ℕ, List, [], ◌∷◌, ◌++◌, ap, length, map, refl, false, is_err, is_ok, if◌then◌else◌, subst, sym, ◌∙◌, append_assoc}
 use Rattle.std.specs.Prelude.{Option, Some, Result, Ok, Err, IfOk}
 use Rattle.std.specs.declared.alloc.AllocError.{AllocError}
-use Rattle.std.proofs.lemmas.List.{map-append, take-append-drop}
-use Rattle.simple_asn1.specs.Fault.{DecodeFault, OutOfMemoryOr, fault_of, not_canonical}
-use Rattle.simple_asn1.specs.Grammar.{FirstFault}
-use Rattle.simple_asn1.specs.Laws.OneReading.{OneReading}
+use Rattle.std.proofs.lemmas.List.{map-append}
 use Rattle.simple_asn1.specs.Places.{EncodingAt, HasNoEncodingAt, IsEncoding}
-use Rattle.simple_asn1.specs.Strict.{IsNotCanonicalAt, StrictFault}
-use Rattle.der_dump.specs.declared.document.Verdict.{Verdict}
-use Rattle.der_dump.specs.declared.document.Verdict.TheVariants.{Refused}
-use Rattle.der_dump.specs.Dump.{AddsLine, HasNoHeader, IsHeader, IsNote}
+use Rattle.der_lines.specs.declared.document.Verdict.{Verdict}
+use Rattle.der_lines.specs.declared.document.Verdict.TheVariants.{Refused}
+use Rattle.der_lines.specs.Dump.{AddsLine, HasNoHeader, IsNote, StandsBehindHeader}
 use Rattle.der_dump.specs.Inputs.{AddsBlock, AddsContents, AddsInput, AddsOctets, AddsSource, AddsSources, AddsTask, of_block, of_no_block}
 use Rattle.der_forms.specs.Objects.{document_of}
 use Rattle.der_options.specs.declared.options.Options.{Options}
@@ -49,24 +45,10 @@ one_pushed named options known inputs input (Err x) was now last a b c e p earli
 
 -- what is put behind a header
 pub contents_put :
-    (r : Result Verdict AllocError) (octets behind : List ℕ) (n : ℕ) (a b : List ℕ) → IsHeader (take n octets) →
-    behind ≡ drop n octets → IfOk r (λ v. AddsOctets behind v a b) → IfOk r (λ v. AddsContents octets v a b)
-contents_put (Ok v) octets behind n a b h e put =
-    (take n octets, behind, sym (ap (λ z. take n octets ++ z) e ∙ take-append-drop n octets), h, put)
-contents_put (Err x) octets behind n a b h e put = tt
-
--- the offset of the one fault of strict reading alone
-offset_in : DecodeFault → ℕ
-offset_in (not_canonical n) = n
-offset_in _ = 0
-
-pub not_canonical_at :
-    OneReading → (octets : List ℕ) (n : ℕ) (e : _) → fault_of e ≡ not_canonical n → OutOfMemoryOr (StrictFault octets) e →
-    IsNotCanonicalAt octets n
-unfolding offset_in
-not_canonical_at law octets n e f (inl memory) = absurd (cc (f, ap fault_of memory))
-not_canonical_at law octets n e f (inr (inl first)) = absurd (law.of_reading octets (not_canonical n) (subst (FirstFault octets) f first))
-not_canonical_at law octets n e f (inr (inr (offset, at, is))) = subst (IsNotCanonicalAt octets) (sym (ap offset_in (sym f ∙ is))) at
+    (r : Result Verdict AllocError) (octets behind : List ℕ) (a b : List ℕ) → StandsBehindHeader octets behind →
+    IfOk r (λ v. AddsOctets behind v a b) → IfOk r (λ v. AddsContents octets v a b)
+contents_put (Ok v) octets behind a b (header, whole, is) put = (header, behind, whole, is, put)
+contents_put (Err x) octets behind a b h put = tt
 
 module _ (Puts : List ℕ → Verdict → List ℕ → List ℕ → Type 0) (r : Result Verdict AllocError) (input document octets : List ℕ)
     (n : ℕ) (a b : List ℕ) (d : document_of input ≡ Some document) (e : octets ≡ document) where

@@ -1,6 +1,2 @@
 mod Answered
-mod Dumps
-mod Headers
 mod Inputs
-mod Shown
-mod Walks

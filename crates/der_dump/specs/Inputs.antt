@@ -1,28 +1,18 @@
 -- What is put of inputs: of each in its form, as the options want it, and of one after another.
-use Rattle.std.specs.Prelude.{◌≡◌, ◌⊎◌, ℕ, Bool, true, false, List, [], ◌∷◌, ◌++◌, Option, Some, None, IfSome, fold, max, nat_lt}
+use Rattle.std.specs.Prelude.{◌≡◌, ℕ, Bool, true, false, List, [], ◌∷◌, ◌++◌, Option, Some, None, IfSome, fold, max, nat_lt}
 use Rattle.der_forms.specs.Forms.{form_is, objects, odd_digits, other_text, plain_octets, spelled}
 use Rattle.der_forms.specs.Objects.{document_of, objects_of}
-use Rattle.der_dump.specs.Dump.{AddsDumpOf, AddsLine, IsFaultLine, IsHeader, IsNote}
-use Rattle.der_dump.specs.declared.document.Verdict.{Verdict}
-use Rattle.der_dump.specs.declared.document.Verdict.TheVariants.{AllRead, Refused}
+use Rattle.der_lines.specs.Dump.{AddsDumpOf, AddsLine, IsHeader, IsNote}
+use Rattle.der_lines.specs.Strict.{AddsStrictDumpOf}
+use Rattle.der_lines.specs.declared.document.Verdict.{Verdict}
+use Rattle.der_lines.specs.declared.document.Verdict.TheVariants.{AllRead, Refused}
 use Rattle.der_options.specs.declared.options.Options.{Options}
 use Rattle.der_options.specs.declared.options.Task.{Task}
 use Rattle.der_options.specs.declared.options.Task.TheVariants.{At, Contents, Dump, Extract}
 use Rattle.simple_asn1.specs.Fault.{DecodeFault}
 use Rattle.simple_asn1.specs.Grammar.{FirstFault, IsDocument}
 use Rattle.simple_asn1.specs.Places.{EncodingAt, HasNoEncodingAt}
-use Rattle.simple_asn1.specs.ReadBack.{IsCanonicalDocument}
-use Rattle.simple_asn1.specs.Strict.{IsNotCanonicalAt}
 use Rattle.simple_asn1.specs.Tree.{Trees}
-
--- the dump of octets, where no document is read but a canonical one: of another, after its dump, the line of its first
--- block at the top level that is not canonical
-abbrev pub AddsStrictDumpOf : List ℕ → Verdict → List ℕ → List ℕ → Type 0
-AddsStrictDumpOf octets AllRead before after = IsCanonicalDocument octets × AddsDumpOf octets AllRead before after
-AddsStrictDumpOf octets Refused before after =
-    AddsDumpOf octets Refused before after
-    ⊎ ((offset : ℕ) × (shown : List ℕ) × IsNotCanonicalAt octets offset
-    × AddsDumpOf octets AllRead before shown × AddsLine (IsFaultLine offset) shown after)
 
 -- the dump of octets, read strictly or not
 abbrev pub AddsReading : Bool → List ℕ → Verdict → List ℕ → List ℕ → Type 0

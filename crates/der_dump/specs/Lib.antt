@@ -1,4 +1,2 @@
-pub mod Dump
 pub mod Inputs
 pub mod Parts
-pub mod Steps

@@ -1,7 +1,7 @@
 -- What is put of one block, and of one input after another. Private contracts alone name these.
 use Rattle.std.specs.Prelude.{ℕ, List}
 use Rattle.der_dump.specs.Inputs.{AddsContents, AddsDocument, AddsOctets}
-use Rattle.der_dump.specs.declared.document.Verdict.{Verdict}
+use Rattle.der_lines.specs.declared.document.Verdict.{Verdict}
 use Rattle.der_options.specs.declared.options.Options.{Options}
 use Rattle.der_options.specs.declared.options.Task.{Task}
 use Rattle.der_options.specs.declared.options.Task.TheVariants.{Contents, Extract}

@@ -1,18 +1,16 @@
 // What is written of an input that is dumped, in each of the forms.
-ghost use Rattle.std.specs.Prelude.{◌≡◌, ◌≢◌, IfOk, OnOk};
+ghost use Rattle.std.specs.Prelude.{◌≡◌, ◌≢◌, IfOk};
 ghost use Rattle.std.specs.Option.{option_map};
 ghost use Rattle.std.specs.Result.{result_ok};
-ghost use Rattle.der_dump.specs.Dump.{AddsLine, IsNote};
+ghost use Rattle.der_lines.specs.Dump.{AddsLine, IsNote};
 ghost use Rattle.der_dump.specs.Inputs.{AddsAnswer, AddsObject, both_read};
-ghost use Rattle.der_dump.specs.declared.document.Verdict.TheVariants.{Refused};
+ghost use Rattle.der_lines.specs.declared.document.Verdict.TheVariants.{Refused};
 ghost use Rattle.simple_asn1.specs.Types.{OutOfMemory};
 ghost use Rattle.der_forms.specs.Forms.{form_is, objects, other_text};
 
-use crate::document::Verdict;
-use crate::lines::{Mark, push_note};
-use crate::names::Names;
-use crate::strict::push_dump;
+use crate::dump::push_dump;
 use der_forms::{Form, Lines, PemFault, PemObject, form_of, next_object};
+use der_lines::{Names, Verdict, push_label, push_refusal};
 use der_options::Options;
 use simple_asn1::{ASN1DecodeErr, Document};
 use std::alloc::{AllocError, Global};
@@ -34,14 +32,6 @@ pub fn push_answer(
         Form::Text => push_text(alloc, names, options, input, out),
         Form::Der => push_dump(alloc, names, options, input, out),
     }
-}
-
-// Puts a line that says why something is not read.
-pub fn push_refusal(why: &[u8], out: &mut Vec<u8>) -> Result<Verdict, AllocError>
-    ensures { IfOk result (λ verdict. (verdict ≡ Refused) × AddsLine (IsNote 33) out.old.items out.new.items) }
-{
-    push_note(Mark::Fault, why, out)?;
-    Ok(Verdict::Refused)
 }
 
 // A document may be text, if it has no more than application tags and printed characters.
@@ -134,15 +124,7 @@ fn push_object(
     }
 }
 
-pub fn push_label(alloc: Global, label: &[u8], out: &mut Vec<u8>) -> Result<(), AllocError>
-    ensures { OnOk result (AddsLine (IsNote 61) out.old.items out.new.items) }
-{
-    let mut text = Vec::from_slice(alloc, b" ")?;
-    text.extend_from_slice(label)?;
-    push_note(Mark::Object, &text, out)
-}
-
-pub fn both(a: Verdict, b: Verdict) -> Verdict
+fn both(a: Verdict, b: Verdict) -> Verdict
     ensures { result ≡ both_read a b }
 {
     match a {

@@ -2,27 +2,12 @@
 #![tactic(auto)]
 
 mod answers;
-mod characters;
-mod cursor;
-mod document;
-mod entries;
-mod faults;
-mod header;
-mod held;
+mod dump;
 mod host;
-mod lines;
-mod names;
-mod place;
-mod scalars;
-mod strict;
-mod style;
 mod tasks;
 #[cfg(test)]
 mod tests;
 mod tool;
-mod tree;
-mod values;
-mod walk;
 
 use crate::host::HostReader;
 use crate::tool::{Source, run, status};

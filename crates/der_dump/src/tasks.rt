@@ -1,18 +1,16 @@
 // What is done with an input.
 ghost use Rattle.std.specs.Prelude.{◌≡◌, ◌≢◌, IfOk};
-ghost use Rattle.der_dump.specs.Dump.{AddsLine, IsNote};
+ghost use Rattle.der_lines.specs.Dump.{AddsLine, IsNote};
 ghost use Rattle.der_dump.specs.Inputs.{AddsBlock, AddsContents, AddsInput, AddsOctets};
 ghost use Rattle.der_dump.specs.Parts.{AddsPart};
-ghost use Rattle.der_dump.specs.declared.document.Verdict.TheVariants.{Refused};
+ghost use Rattle.der_lines.specs.declared.document.Verdict.TheVariants.{Refused};
 ghost use Rattle.der_forms.specs.declared.input.FormFault.TheVariants.{OutOfMemory};
 ghost use Rattle.simple_asn1.specs.Places.{IsEncoding};
 
-use crate::answers::{push_answer, push_refusal};
-use crate::document::Verdict;
-use crate::header::read_header;
-use crate::names::Names;
-use crate::strict::push_dump;
+use crate::answers::push_answer;
+use crate::dump::push_dump;
 use der_forms::{FormFault, document_of};
+use der_lines::{Names, Verdict, behind_header, push_refusal};
 use der_options::{Options, Task};
 use simple_asn1::encoding_at;
 use std::alloc::{AllocError, Global};
@@ -102,11 +100,8 @@ fn push_contents(alloc: Global, block: &[u8], out: &mut Vec<u8>) -> Result<Verdi
     requires { IsEncoding block.now }
     ensures { IfOk result (λ verdict. AddsContents block.now verdict out.old.items out.new.items) }
 {
-    match read_header(alloc, block)? {
-        Some(header) => {
-            let (_, contents) = block.split_at(header.size);
-            push_octets(contents, out)
-        }
+    match behind_header(alloc, block)? {
+        Some(contents) => push_octets(contents, out),
         None => unreachable!(),
     }
 }

@@ -1,8 +1,6 @@
 // What is said of the shortest inputs in each form, and streams that fail.
-use crate::document::{Verdict, push_document};
-use crate::names::Names;
-use crate::style::Style;
 use crate::tool::{Source, run, status};
+use der_lines::Verdict;
 use der_options::options_of;
 use std::alloc::Global;
 use std::process::Abort;
@@ -172,40 +170,6 @@ fn what_cannot_be_read_is_left_out(rt: HostRuntime) -> Result<(), Fail> {
             writer.len(),
             if reads == 5 { 3 * shown } else { 2 * shown }
         );
-    }
-    Ok(())
-}
-
-const CUT_AND_HELD: &str = "      0  2      39  SEQUENCE
-      2  2      33    OCTET STRING 000102030405060708090a0b0c0d0e0f101112131415161718191a1b1c1d1e1f.. (33 octets)
-     37  2       2    OCTET STRING, which holds
->    39  2       0      NULL
-";
-
-const WHOLE_AND_FLAT: &str = "      0  2      39  SEQUENCE
-      2  2      33    OCTET STRING 000102030405060708090a0b0c0d0e0f101112131415161718191a1b1c1d1e1f20
-     37  2       2    OCTET STRING 0500
-";
-
-#[test]
-fn each_style_shows_its_own(rt: HostRuntime) -> Result<(), Fail> {
-    let octets: &[u8] = &[
-        0x30, 0x27, 0x04, 0x21, 0, 1, 2, 3, 4, 5, 6, 7, 8, 9, 10, 11, 12, 13, 14, 15, 16, 17, 18,
-        19, 20, 21, 22, 23, 24, 25, 26, 27, 28, 29, 30, 31, 32, 0x04, 0x02, 0x05, 0x00,
-    ];
-    let whole_and_flat = Style {
-        is_full: true,
-        is_flat: true,
-    };
-    let names = Names::new(rt.alloc())?;
-    for (style, dump) in [
-        (Style::default(), CUT_AND_HELD),
-        (whole_and_flat, WHOLE_AND_FLAT),
-    ] {
-        let mut out = Vec::new(rt.alloc());
-        let verdict = push_document(rt.alloc(), &names, style, octets, &mut out)?;
-        assert_eq!(rt; verdict, Verdict::AllRead);
-        assert_eq!(rt; out.as_slice(), dump.as_bytes(), "at {style:?}");
     }
     Ok(())
 }

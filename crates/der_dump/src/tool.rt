@@ -4,10 +4,8 @@ ghost use Rattle.std.specs.Io.KnownBytes.{Appends, IsAtEnd, Keeps};
 ghost use Rattle.der_dump.specs.Inputs.{AddsNamed, AddsSource, AddsSources, greatest_status, names_shown, status_of};
 ghost use Rattle.streams.specs.declared.StreamFault.TheVariants.{Memory as memory_fault, Write as write_fault};
 
-use crate::answers::push_label;
-use crate::document::Verdict;
-use crate::names::Names;
 use crate::tasks::push_input;
+use der_lines::{Names, Verdict, push_label};
 use der_options::{Options, Task};
 use std::alloc::{AllocError, Global};
 use std::io::{Read, Write};

@@ -1,12 +1,22 @@
 -- The objects of PEM (RFC 7468), one after another.
-use Rattle.std.specs.Prelude.{ℕ, Bool, true, false, ◌==◌, List, [], ◌∷◌, ◌++◌, if◌then◌else◌, codes, Option, Some, None}
+use Rattle.std.specs.Prelude.{ℕ, Bool, true, false, ◌==◌, List, [], ◌∷◌, ◌++◌, drop, if◌then◌else◌, codes}
+use Rattle.std.specs.Prelude.{Option, Some, None}
 use Rattle.std.specs.List.{list_any}
 use Rattle.std.specs.Result.{result_ok}
 use Rattle.base64.specs.Engines.{standard}
 use Rattle.base64.specs.GeneralPurpose.{decode_of as decode_base64}
 use Rattle.streams.specs.Lines.{lines_of}
 use Rattle.der_forms.specs.Forms.{InputForm, begins, begins_object, but_indent, but_mark, but_spaces, form_is}
-use Rattle.der_forms.specs.Forms.{objects, odd_digits, other_text, plain_octets, spelled}
+use Rattle.der_forms.specs.Forms.{objects, odd_digits, other_text, plain_octets, spelled, up_to}
+
+-- an object: its label, and its octets, or none where it is encrypted or no base 64
+pub record Object : Type 0 where
+  pub label : List ℕ
+  pub octets : Option (List ℕ)
+
+-- the label in a line that begins an object: what stands between `-----BEGIN ` and `-----`
+abbrev pub label_in : List ℕ → List ℕ
+label_in line = up_to (codes "-----") (drop 11 (but_indent line))
 
 -- the line ends an object
 abbrev pub ends_object : List ℕ → Bool
@@ -32,20 +42,25 @@ symbols_in (line ∷ lines) = if ends_object line then [] else symbols_of line +
 abbrev pub octets_in : List (List ℕ) → Option (List ℕ)
 octets_in lines = if is_encrypted lines then None else result_ok (decode_base64 standard (symbols_in lines))
 
--- the octets of each object that begins in the lines, which stand inside an object or do not
-abbrev pub objects_in : Bool → List (List ℕ) → List (Option (List ℕ))
+-- the object that begins before the lines with this label
+abbrev pub object_in : List ℕ → List (List ℕ) → Object
+object_in label lines = record { label = label; octets = octets_in lines }
+
+-- each object that begins in the lines, which stand inside an object or do not
+abbrev pub objects_in : Bool → List (List ℕ) → List Object
 objects_in inside [] = []
 objects_in true (line ∷ lines) = if ends_object line then objects_in false lines else objects_in true lines
 objects_in false (line ∷ lines) =
-    if begins_object line then octets_in lines ∷ objects_in true lines else objects_in false lines
+    if begins_object line then object_in (label_in line) lines ∷ objects_in true lines else objects_in false lines
 
--- the octets of each object of an input
-abbrev pub objects_of : List ℕ → List (Option (List ℕ))
+-- each object of an input
+abbrev pub objects_of : List ℕ → List Object
 objects_of input = objects_in false (lines_of (but_mark input))
 
-abbrev pub first_of : List (Option (List ℕ)) → Option (List ℕ)
+-- the octets of the first
+abbrev pub first_of : List Object → Option (List ℕ)
 first_of [] = None
-first_of (octets ∷ later) = octets
+first_of (object ∷ later) = object.octets
 
 abbrev pub document_in : InputForm → List ℕ → Option (List ℕ)
 document_in objects input = first_of (objects_of input)

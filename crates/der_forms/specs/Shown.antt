@@ -1,7 +1,11 @@
--- What a form is, as a value of the definitions.
+-- What a form is, and an object, as values of the definitions.
+use Rattle.std.specs.Option.{option_map}
+use Rattle.std.specs.Result.{result_ok}
 use Rattle.der_forms.specs.Forms.{InputForm, objects, odd_digits, other_text, plain_octets, spelled}
+use Rattle.der_forms.specs.Objects.{Object}
 use Rattle.der_forms.specs.declared.input.Form.{Form}
 use Rattle.der_forms.specs.declared.input.Form.TheVariants.{Pem, Spelled, OddDigits, Text, Der}
+use Rattle.der_forms.specs.declared.objects.PemObject.{PemObject}
 
 abbrev pub shown : Form → InputForm
 shown Pem = objects
@@ -9,3 +13,9 @@ shown (Spelled octets) = spelled octets.items
 shown OddDigits = odd_digits
 shown Text = other_text
 shown Der = plain_octets
+
+abbrev pub shown_object : PemObject → Object
+shown_object object = record {
+  label = object.label.now;
+  octets = option_map (λ v. v.items) (result_ok object.octets);
+}

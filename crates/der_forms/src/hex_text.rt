@@ -11,10 +11,10 @@ ghost use Rattle.der_forms.specs.Forms.{
   digits_of,
   has_columns,
   is_separator,
-  up_to,
 };
 ghost use Rattle.streams.specs.Lines.{lines_of};
 
+use crate::lines::part_before;
 use hex::FromHexError;
 use std::alloc::{AllocError, Global};
 use streams::split_line;
@@ -58,20 +58,6 @@ fn digits_column(line: &[u8]) -> &[u8]
     } else {
         part_before(b"|", after)
     }
-}
-
-// What stands before the words.
-fn part_before<'a>(words: &[u8], text: &'a [u8]) -> &'a [u8]
-    ensures { result.now ≡ up_to words.now text.now }
-{
-    let mut end = 0;
-    while end < text.len() {
-        if text[end..].starts_with(words) {
-            return &text[..end];
-        }
-        end += 1;
-    }
-    text
 }
 
 // Puts what is left of the text without its separators.

@@ -1,5 +1,5 @@
 // Lines of an input, and which of them begin and end objects.
-ghost use Rattle.std.specs.Prelude.{◌≡◌, codes};
+ghost use Rattle.std.specs.Prelude.{◌≡◌, MatchOption, codes, false, true};
 ghost use Rattle.std.specs.List.{list_all};
 ghost use Rattle.der_forms.specs.Forms.{
   begins,
@@ -8,8 +8,9 @@ ghost use Rattle.der_forms.specs.Forms.{
   but_mark,
   has_object,
   is_text_octet,
+  up_to,
 };
-ghost use Rattle.der_forms.specs.Objects.{ends_object};
+ghost use Rattle.der_forms.specs.Objects.{ends_object, label_in};
 ghost use Rattle.streams.specs.Lines.{lines_of};
 
 use streams::split_line;
@@ -91,11 +92,31 @@ pub fn tells_encryption(line: &[u8]) -> bool
     without_indent(line).starts_with(b"Proc-Type: 4,ENCRYPTED")
 }
 
-// What stands between the dashes of a line that begins an object.
-pub fn label_of(line: &[u8]) -> &[u8] {
-    let line = line.trim_ascii();
-    let label = line.strip_prefix(b"-----BEGIN ").unwrap_or(line);
-    label.strip_suffix(b"-----").unwrap_or(label)
+// The label in a line, if it begins an object.
+pub fn label_of(line: &[u8]) -> Option<&[u8]>
+    ensures { MatchOption result (begins_object line.now ≡ false)
+        (λ label. (begins_object line.now ≡ true) × (label.now ≡ label_in line.now)) }
+{
+    let text = without_indent(line);
+    if text.starts_with(b"-----BEGIN ") {
+        Some(part_before(b"-----", &text[11..]))
+    } else {
+        None
+    }
+}
+
+// What stands before the words.
+pub fn part_before<'a>(words: &[u8], text: &'a [u8]) -> &'a [u8]
+    ensures { result.now ≡ up_to words.now text.now }
+{
+    let mut end = 0;
+    while end < text.len() {
+        if text[end..].starts_with(words) {
+            return &text[..end];
+        }
+        end += 1;
+    }
+    text
 }
 
 fn is_text(line: &[u8]) -> bool

@@ -3,11 +3,12 @@ ghost use Rattle.std.specs.Prelude.{◌≡◌, ◌∷◌, ◌++◌, ◌<◌, ◌
 ghost use Rattle.std.specs.List.{list_any};
 ghost use Rattle.std.specs.Option.{option_map};
 ghost use Rattle.std.specs.Result.{result_ok};
-ghost use Rattle.der_forms.specs.Objects.{is_encrypted, objects_in, octets_in, symbols_in, symbols_of};
+ghost use Rattle.der_forms.specs.Objects.{is_encrypted, object_in, objects_in, octets_in, symbols_in, symbols_of};
+ghost use Rattle.der_forms.specs.Shown.{shown_object};
 ghost use Rattle.streams.specs.Lines.{lines_of};
 
 use crate::base64_text::decode;
-use crate::lines::{Lines, is_begin, is_end, label_of, tells_encryption};
+use crate::lines::{Lines, is_end, label_of, tells_encryption};
 use base64::DecodeError;
 use std::alloc::{AllocError, Global};
 use streams::split_line;
@@ -24,7 +25,7 @@ pub enum PemFault {
 /// An object of PEM.
 #[derive(Debug, Drop)]
 pub struct PemObject<'a> {
-    /// What stands between the dashes of the line that begins it.
+    /// What stands in the line that begins it, between `-----BEGIN ` and `-----`: ASCII, by RFC 7468, or any octets.
     pub label: &'a [u8],
     /// The number of that line, the first being 1.
     pub line: usize,
@@ -42,7 +43,7 @@ pub fn next_object<'a>(
     ensures { IfOk result (λ next. MatchOption next
         (objects_in false (lines_of lines.entry.rest.now) ≡ [])
         (λ found. (objects_in false (lines_of lines.entry.rest.now)
-        ≡ option_map (λ v. v.items) (result_ok found.0.octets) ∷ objects_in false (lines_of found.1.rest.now))
+        ≡ shown_object found.0 ∷ objects_in false (lines_of found.1.rest.now))
         × (length found.1.rest.now < length lines.entry.rest.now))) }
 {
     let Some((label, after)) = find_object(lines) else {
@@ -64,7 +65,7 @@ fn find_object<'a>(lines: Lines<'a>) -> Option<(&'a [u8], Lines<'a>)>
     ensures { MatchOption result
         (objects_in false (lines_of lines.entry.rest.now) ≡ [])
         (λ found. (objects_in false (lines_of lines.entry.rest.now)
-        ≡ octets_in (lines_of found.1.rest.now) ∷ objects_in true (lines_of found.1.rest.now))
+        ≡ object_in found.0.now (lines_of found.1.rest.now) ∷ objects_in true (lines_of found.1.rest.now))
         × (length found.1.rest.now < length lines.entry.rest.now)) }
 {
     let mut rest = lines.rest;
@@ -73,8 +74,8 @@ fn find_object<'a>(lines: Lines<'a>) -> Option<(&'a [u8], Lines<'a>)>
         let (line, after) = split_line(rest);
         rest = after;
         before = before.saturating_add(1);
-        if is_begin(line) {
-            return Some((label_of(line), Lines { rest, before }));
+        if let Some(label) = label_of(line) {
+            return Some((label, Lines { rest, before }));
         }
     }
     None

@@ -88,8 +88,3 @@ last_tree order i l = ap trees_at (take_all i order l)
 pub joined : (out x y z a b c : List ℕ) → a ≡ out ++ x → b ≡ a ++ y → c ≡ b ++ z → c ≡ out ++ (x ++ (y ++ z))
 joined out x y z a b c d e f =
     f ∙ (ap (λ v. v ++ z) (e ∙ ap (λ v. v ++ y) d) ∙ (append_assoc (out ++ x) y z ∙ append_assoc out x (y ++ z)))
-
--- and where the first two are put at once
-pub after_begin : (out x y z b c : List ℕ) → b ≡ out ++ (x ++ y) → c ≡ b ++ z → c ≡ out ++ (x ++ (y ++ z))
-after_begin out x y z b c e f =
-    f ∙ (ap (λ v. v ++ z) e ∙ (append_assoc out (x ++ y) z ∙ ap (λ v. out ++ v) (append_assoc x y z)))

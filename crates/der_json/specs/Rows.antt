@@ -1,9 +1,9 @@
 -- The text of an array, as far as it is put. Private contracts alone name these.
-use Rattle.std.specs.Prelude.{◌≡◌, ℕ, Bool, true, false, List, [], ◌∷◌, ◌++◌, Option, map}
-use Rattle.serde_json.specs.Data.{Data}
+use Rattle.std.specs.Prelude.{◌≡◌, ℕ, Bool, true, false, List, [], ◌∷◌, ◌++◌, Option, None, Some, map}
+use Rattle.serde_json.specs.Data.{Data, Members, string}
 use Rattle.serde_json.specs.Written.{comma_if, compact_text, items_text, members_text}
 use Rattle.simple_asn1.specs.Tree.{Tree}
-use Rattle.der_json.specs.Json.{at_offset, items_of, labelled, offset_in}
+use Rattle.der_json.specs.Json.{at_offset, items_of, offset_in}
 
 -- the texts of these, with a comma between two of them
 abbrev pub rows_text : Bool → List Data → List ℕ
@@ -28,6 +28,11 @@ AddsArray trees before after =
     (rows : List Data) × (map offset_in rows ≡ map at_offset trees)
     × (after ≡ before ++ items_text false (items_of rows))
 
--- the end of an object that may have a label
-abbrev pub label_text : Option (List ℕ) → List ℕ
-label_text label = members_text true (labelled label)
+-- the end of an object that has these members after its first
+abbrev pub end_text : Members → List ℕ
+end_text origin = members_text true origin
+
+-- a text behind its name, where there is one
+abbrev pub told_text : List ℕ → Option (List ℕ) → List ℕ
+told_text name None = []
+told_text name (Some told) = name ++ compact_text (string told)

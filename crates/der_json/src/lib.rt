@@ -8,20 +8,25 @@
 //! | `size` | how many octets it has, with its header |
 //! | `depth` | how many blocks are around it |
 //! | `class` | `universal`, `application`, `context-specific` or `private` |
-//! | `tag` | its number, or its decimal digits as a text where a `u64` does not hold it |
+//! | `tag` | its number; as a text of its decimal digits where it is greater than 2^53 - 1 |
 //! | `type` | `SEQUENCE` and its like; `null` where the library has no type for the tag |
 //! | `value` | what it holds: the next table |
 //!
 //! | Block | `value` |
 //! |---|---|
 //! | BOOLEAN | `true` or `false` |
-//! | INTEGER | a number, or its decimal digits as a text where an `i64` does not hold it |
+//! | INTEGER | a number from -(2^53 - 1) to 2^53 - 1; any other as a text of its decimal digits |
 //! | OBJECT IDENTIFIER | a text, `1.2.840` |
 //! | strings of characters | their text |
 //! | UTCTime, GeneralizedTime | a text, `2026-11-23T00:43:05Z` |
 //! | BIT STRING | an object: `bits`, how many there are, and `octets`, in hex digits |
 //! | OCTET STRING, and what has no type | its octets in hex digits |
 //! | NULL, and what holds blocks | `null` |
+//!
+//! An [`Origin`] adds the members `file` and `label`, of each that is known. Where octets are no document, or are not
+//! read, `fault` stands in place of `blocks`: an object with the words `text`, and the `offset` of what is at fault.
+//!
+//! Numbers beyond 2^53 - 1 are texts since `jq` and JavaScript round them, as RFC 7493 (section 2.2) lets readers do.
 #![tactic(auto)]
 
 mod line;
@@ -30,4 +35,4 @@ mod row;
 mod tests;
 mod value;
 
-pub use line::{push_json, push_refusal};
+pub use line::{Origin, push_json, push_refusal};

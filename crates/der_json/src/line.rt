@@ -1,71 +1,100 @@
 // A document as a line of JSON.
-ghost use Rattle.std.specs.Prelude.{◌≡◌, ◌≢◌, ◌++◌, ◌∷◌, [], codes, false, IfOk, OnOk, Some};
+ghost use Rattle.std.specs.Prelude.{◌≡◌, ◌≢◌, ◌++◌, ◌∷◌, [], IfOk, OnOk};
 ghost use Rattle.std.specs.Option.{option_map};
-ghost use Rattle.serde_json.specs.Data.{Data, number, unsigned};
+ghost use Rattle.serde_json.specs.Data.{string};
 ghost use Rattle.serde_json.specs.View.{view};
-ghost use Rattle.serde_json.specs.Written.{comma_if, compact_text, has_float};
+ghost use Rattle.serde_json.specs.Written.{comma_if, compact_text};
 ghost use Rattle.simple_asn1.specs.BlockParts.{all_in_order};
 ghost use Rattle.simple_asn1.specs.Types.{OutOfMemory};
 ghost use Rattle.simple_asn1.specs.View.{views};
-ghost use Rattle.der_json.specs.Json.{AddsJsonOf, offset_in, refusal_json, words_json};
-ghost use Rattle.der_json.specs.Rows.{AddsArray, AddsRows, label_text};
+ghost use Rattle.der_json.specs.Json.{AddsJsonOf, origin_members, refusal_json, told_of, words_json};
+ghost use Rattle.der_json.specs.Rows.{AddsArray, AddsRows, end_text, told_text};
 
 use crate::row::{OpenBlocks, push_row};
 use serde_json::{Value, json};
 use simple_asn1::{ASN1Block, ASN1DecodeErr, Document, all_blocks};
 use std::alloc::{AllocError, Global};
 
+/// Where octets are from, as far as a line tells it. Each text that is there is the member of its name, behind the
+/// blocks or the fault.
+#[derive(Clone, Copy, Debug, Default, Drop, PartialEq)]
+pub struct Origin<'a> {
+    /// The name of the file.
+    pub file: Option<&'a str>,
+    /// The label of the object of PEM.
+    pub label: Option<&'a str>,
+}
+
 /// Puts the octets at the end as one line of JSON, as the page of this crate describes it: `{"blocks":[..]}` of a
-/// document, and of other octets `{"fault":{"offset":..,"text":".."}}`, where the offset is that of the innermost block at
-/// fault. A label is the member `label` after it. Whether the octets are a document.
+/// document, and of other octets `{"fault":{"offset":..,"text":".."}}`, where the offset is that of the innermost block
+/// at fault. Where they are from follows, as the members `file` and `label`. Whether the octets are a document.
 ///
 /// It takes memory for the blocks and one row; the only error is that it ran out, after which some of the line may have
 /// been put.
 pub fn push_json(
     alloc: Global,
-    label: Option<&str>,
+    origin: Origin<'_>,
     octets: &[u8],
     out: &mut Vec<u8>,
 ) -> Result<bool, AllocError>
-    ensures { IfOk result (λ is_read. AddsJsonOf octets.now (option_map (λ t. t.now) label.entry) is_read
+    ensures { IfOk result (λ is_read. AddsJsonOf octets.now (told_of origin.entry) is_read
         out.old.items out.new.items) }
 {
     match Document::from_der_located(alloc, octets) {
         Ok(document) => {
             out.extend_from_slice(b"{\"blocks\":[")?;
             push_rows(alloc, octets, document.blocks(), out)?;
-            push_end(alloc, label, out)?;
+            push_end(alloc, origin, out)?;
             Ok(true)
         }
         Err(located) => {
-            push_fault(alloc, &located.error, located.offset, out)?;
-            push_end(alloc, label, out)?;
+            let text = fault_text(alloc, &located.error)?;
+            push_refusal(alloc, origin, Some(located.offset), &text, out)?;
             Ok(false)
         }
     }
 }
 
-/// Puts a line of JSON at the end that says in words why there are no octets to be read: `{"fault":{"text":".."}}`, with
-/// the label after it. The only error is that memory ran out, after which some of the line may have been put.
+/// Puts a line of JSON at the end that says in words why octets are not read: `{"fault":{"text":".."}}`. Where the fault
+/// has an offset, counted in octets from the first, it is the member `offset` before `text`. Where the octets are from
+/// follows, as the members `file` and `label`.
+///
+/// The only error is that memory ran out, after which some of the line may have been put.
 pub fn push_refusal(
     alloc: Global,
-    label: Option<&str>,
+    origin: Origin<'_>,
+    offset: Option<usize>,
     words: &str,
     out: &mut Vec<u8>,
 ) -> Result<(), AllocError>
     ensures { OnOk result (out.new.items ≡ out.old.items
-        ++ (compact_text (refusal_json words.now (option_map (λ t. t.now) label.entry)) ++ 10 ∷ [])) }
+        ++ (compact_text (refusal_json offset words.now (told_of origin.entry)) ++ 10 ∷ [])) }
 {
-    let told = words_value(alloc, words)?;
-    put_fault(alloc, &told, out)?;
-    push_end(alloc, label, out)?;
+    let told = words_value(alloc, offset, words)?;
+    let text = told.to_vec(alloc)?;
+    out.extend_from_slice(b"{\"fault\":")?;
+    out.extend_from_slice(&text)?;
+    push_end(alloc, origin, out)?;
     Ok(())
 }
 
-fn words_value(alloc: Global, words: &str) -> Result<Value, AllocError>
-    ensures { IfOk result (λ v. view v ≡ words_json words.now) }
+fn words_value(alloc: Global, offset: Option<usize>, words: &str) -> Result<Value, AllocError>
+    ensures { IfOk result (λ v. view v ≡ words_json offset words.now) }
 {
-    json!(in alloc; {"text": words})
+    match offset {
+        Some(offset) => json!(in alloc; {"offset": offset, "text": words}),
+        None => json!(in alloc; {"text": words}),
+    }
+}
+
+// What a fault says, if it was not memory that ran out.
+fn fault_text(alloc: Global, fault: &ASN1DecodeErr) -> Result<String, AllocError>
+    ensures { IfOk result (λ _. fault.now ≢ OutOfMemory) }
+{
+    match fault {
+        ASN1DecodeErr::OutOfMemory => Err(AllocError),
+        _ => format!(in alloc; "{fault}"),
+    }
 }
 
 // Puts the rows of the blocks and of all inside them, and the end of an array.
@@ -98,63 +127,37 @@ fn push_comma(is_later: bool, out: &mut Vec<u8>) -> Result<(), AllocError>
     Ok(())
 }
 
-// Puts the end of an object and of its line, with its label, if it has one.
-fn push_end(alloc: Global, label: Option<&str>, out: &mut Vec<u8>) -> Result<(), AllocError>
-    ensures { OnOk result (out.new.items
-        ≡ out.old.items ++ (label_text (option_map (λ t. t.now) label.entry) ++ 10 ∷ [])) }
+// Puts the end of an object and of its line, with where the octets are from.
+fn push_end(alloc: Global, origin: Origin<'_>, out: &mut Vec<u8>) -> Result<(), AllocError>
+    ensures { OnOk result (out.new.items ≡ out.old.items ++ (end_text (told_of origin.entry) ++ 10 ∷ [])) }
 {
-    match label {
-        Some(label) => push_label(alloc, label, out),
-        None => Ok(out.extend_from_slice(b"}\n")?),
-    }
-}
-
-fn push_label(alloc: Global, label: &str, out: &mut Vec<u8>) -> Result<(), AllocError>
-    ensures { OnOk result (out.new.items ≡ out.old.items ++ (label_text (Some label.now) ++ 10 ∷ [])) }
-{
-    let text = Value::try_from_str(alloc, label)?.to_vec(alloc)?;
-    out.extend_from_slice(b",\"label\":")?;
-    out.extend_from_slice(&text)?;
+    push_told(alloc, b",\"file\":", origin.file, out)?;
+    push_told(alloc, b",\"label\":", origin.label, out)?;
     out.extend_from_slice(b"}\n")?;
     Ok(())
 }
 
-// Puts the member of a fault, which begins an object, if it was not memory that ran out.
-fn push_fault(
+// Puts a text behind its name, if there is one.
+fn push_told(
     alloc: Global,
-    fault: &ASN1DecodeErr,
-    offset: usize,
+    name: &[u8],
+    told: Option<&str>,
     out: &mut Vec<u8>,
 ) -> Result<(), AllocError>
-    ensures memory { OnOk result (fault.now ≢ OutOfMemory) }
-    ensures told { OnOk result ((told : Data) × (offset_in told ≡ Some (number (unsigned offset)))
-        × (out.new.items ≡ out.old.items ++ (codes "{\"fault\":" ++ compact_text told))) }
+    ensures { OnOk result (out.new.items
+        ≡ out.old.items ++ told_text name.now (option_map (λ t. t.now) told.entry)) }
 {
-    let told = fault_value(alloc, fault, offset)?;
-    put_fault(alloc, &told, out)
+    match told {
+        Some(told) => push_text(alloc, name, told, out),
+        None => Ok(()),
+    }
 }
 
-// Puts the member `fault`, which begins an object.
-fn put_fault(alloc: Global, told: &Value, out: &mut Vec<u8>) -> Result<(), AllocError>
-    requires { has_float (view told.now) ≡ false }
-    ensures { OnOk result (out.new.items
-        ≡ out.old.items ++ (codes "{\"fault\":" ++ compact_text (view told.now))) }
+fn push_text(alloc: Global, name: &[u8], told: &str, out: &mut Vec<u8>) -> Result<(), AllocError>
+    ensures { OnOk result (out.new.items ≡ out.old.items ++ (name.now ++ compact_text (string told.now))) }
 {
-    let text = told.to_vec(alloc)?;
-    out.extend_from_slice(b"{\"fault\":")?;
+    let text = Value::try_from_str(alloc, told)?.to_vec(alloc)?;
+    out.extend_from_slice(name)?;
     out.extend_from_slice(&text)?;
     Ok(())
-}
-
-// A fault as an object.
-fn fault_value(alloc: Global, fault: &ASN1DecodeErr, offset: usize) -> Result<Value, AllocError>
-    ensures memory { IfOk result (λ _. fault.now ≢ OutOfMemory) }
-    ensures offset { IfOk result (λ v. offset_in (view v) ≡ Some (number (unsigned offset))) }
-    ensures exact { IfOk result (λ v. has_float (view v) ≡ false) }
-{
-    if matches!(fault, ASN1DecodeErr::OutOfMemory) {
-        return Err(AllocError);
-    }
-    let text = format!(in alloc; "{fault}")?;
-    json!(in alloc; {"offset": offset, "text": text})
 }

@@ -7,6 +7,9 @@ use serde_json::{Value, json};
 use simple_asn1::{ASN1Block, ASN1Class, BigInt, BigUint};
 use std::alloc::{AllocError, Global};
 
+// The greatest number that every reader of JSON takes as it is (RFC 7493, section 2.2): 2^53 - 1.
+const GREATEST_NUMBER: u64 = 9_007_199_254_740_991;
+
 // The type of a block, where the library has one for its tag.
 fn type_of(block: &ASN1Block) -> Option<&'static str> {
     match block {
@@ -65,8 +68,8 @@ fn natural_value(alloc: Global, number: &BigUint) -> Result<Value, AllocError>
     ensures { IfOk result (λ v. has_float (view v) ≡ false) }
 {
     match number.to_u64() {
-        Some(n) => Ok(Value::from(n)),
-        None => Ok(Value::String(format!(in alloc; "{number}")?)),
+        Some(n) if n <= GREATEST_NUMBER => Ok(Value::from(n)),
+        _ => Ok(Value::String(format!(in alloc; "{number}")?)),
     }
 }
 
@@ -74,8 +77,8 @@ fn integer_value(alloc: Global, number: &BigInt) -> Result<Value, AllocError>
     ensures { IfOk result (λ v. has_float (view v) ≡ false) }
 {
     match number.to_i64() {
-        Some(n) => Ok(Value::from(n)),
-        None => Ok(Value::String(format!(in alloc; "{number}")?)),
+        Some(n) if n.unsigned_abs() <= GREATEST_NUMBER => Ok(Value::from(n)),
+        _ => Ok(Value::String(format!(in alloc; "{number}")?)),
     }
 }
 

@@ -1,6 +1,6 @@
 -- What clap says of the command, as it says it of any that is equal to it.
-use Rattle.std.proofs.Common.{◌≡◌, ◌∙◌, sym, ap, refl, true, List, []}
-use Rattle.clap.specs.Words.{App, IsAmong, Row, Text, fault_of, is_simple, is_simple_and_free, matches_of}
+use Rattle.std.proofs.Common.{◌≡◌, ◌∙◌, sym, ap, refl, true, List}
+use Rattle.clap.specs.Words.{App, Row, Text, fault_of, is_simple, is_simple_and_free, matches_of}
 use Rattle.der_options.specs.Options.{command}
 
 -- clap states the matches of the command exactly, and the kinds of its faults

@@ -1,6 +1,7 @@
 -- Which words of a command line give which options, by what `clap` makes of the words.
-use Rattle.std.specs.Prelude.{◌≡◌, ◌≢◌, ◌⊎◌, ℕ, ◌<◌, ◌^◌, Bool, true, false, List, [], ◌∷◌, codes, fold, map}
-use Rattle.std.specs.Prelude.{Option, Some, None, IsSome}
+use Rattle.std.specs.Prelude.{◌≡◌, ◌⊎◌, ◌&&◌, ℕ, ◌<◌, ◌^◌, Bool, true, false, not, List, [], ◌∷◌, codes, fold, map}
+use Rattle.std.specs.Prelude.{Option, Some, None, is_some, if◌then◌else◌}
+use Rattle.std.specs.List.{list_all, list_any}
 use Rattle.std.specs.Str.{bytes_eq}
 use Rattle.std.specs.Str.Parse.{IsNumeral, digits_value, without_leading_plus}
 use Rattle.clap.specs.Words.{App, IsAmong, Row, Rule, Text, all_of, fault_of, first_of, kind_of, matches_of, new_app}
@@ -10,9 +11,8 @@ use Rattle.clap.specs.declared.error.Error.{Error}
 use Rattle.clap.specs.declared.error.kind.ErrorKind.{ErrorKind}
 use Rattle.clap.specs.declared.error.kind.ErrorKind.TheVariants.{DisplayHelp, DisplayVersion, OutOfMemory as memory_kind}
 use Rattle.der_options.specs.declared.fault.OptionsFault.{OptionsFault}
-use Rattle.der_options.specs.declared.fault.OptionsFault.TheVariants.{Command, NoNumber, TwoTasks}
+use Rattle.der_options.specs.declared.fault.OptionsFault.TheVariants.{Command, NoNumber, NotTogether}
 use Rattle.der_options.specs.declared.options.Options.{Options}
-use Rattle.der_options.specs.declared.options.Style.{Style}
 use Rattle.der_options.specs.declared.options.Task.{Task}
 use Rattle.der_options.specs.declared.options.Task.TheVariants.{At, Contents, Dump, Extract}
 
@@ -32,7 +32,7 @@ abbrev pub task_rules : List Rule
 task_rules = valued (codes "at") ∷ valued (codes "extract") ∷ valued (codes "contents") ∷ flag (codes "strict") ∷ []
 
 abbrev pub style_rules : List Rule
-style_rules = flag (codes "full") ∷ flag (codes "flat") ∷ []
+style_rules = flag (codes "full") ∷ flag (codes "flat") ∷ valued (codes "depth") ∷ flag (codes "json") ∷ []
 
 abbrev pub with_rules : App → List Rule → App
 with_rules = fold with_rule
@@ -63,39 +63,68 @@ names_of None = codes "-" ∷ []
 names_of (Some []) = codes "-" ∷ []
 names_of (Some (name ∷ names)) = name ∷ names
 
--- what is done with each input, by the values of `--at`, `--extract` and `--contents`
-abbrev pub IsTask : Option Text → Option Text → Option Text → Task → Type 0
-IsTask None None None task = task ≡ Dump
-IsTask (Some text) None None task = (n : ℕ) × IsNumber text n × (task ≡ At n)
-IsTask None (Some text) None task = (n : ℕ) × IsNumber text n × (task ≡ Extract n)
-IsTask None None (Some text) task = (n : ℕ) × IsNumber text n × (task ≡ Contents n)
-IsTask _ _ _ task = ⊥
+-- the arguments whose values are numbers
+abbrev pub takes_number : Text → Bool
+takes_number name =
+    list_any (bytes_eq name) (codes "at" ∷ codes "extract" ∷ codes "contents" ∷ codes "depth" ∷ [])
 
--- what the matches of the words say that a dump shows
-pub record IsStyle (rows : List Row) (style : Style) : Type 0 where
-  pub full : style.is_full ≡ is_true (first_of (codes "full") rows)
-  pub flat : style.is_flat ≡ is_true (first_of (codes "flat") rows)
+-- the argument is among the words: one that takes a number has a value, and a flag is set
+abbrev pub is_given : Text → List Row → Bool
+is_given name rows = if takes_number name then is_some (first_of name rows) else is_true (first_of name rows)
+
+abbrev pub are_both_given : Text → Text → List Row → Bool
+are_both_given first second rows = is_given first rows && is_given second rows
+
+-- the arguments that do not go together: two tasks, and JSON, which has all blocks whole, with what shows fewer or less,
+-- or writes octets
+abbrev pub exclusions : List (Text × Text)
+exclusions =
+    (codes "at", codes "extract") ∷ (codes "at", codes "contents") ∷ (codes "extract", codes "contents")
+    ∷ (codes "json", codes "depth") ∷ (codes "json", codes "full") ∷ (codes "json", codes "flat")
+    ∷ (codes "json", codes "extract") ∷ (codes "json", codes "contents") ∷ []
+
+abbrev pub are_exclusive : Text → Text → Bool
+are_exclusive first second = list_any (λ pair. bytes_eq pair.0 first && bytes_eq pair.1 second) exclusions
+
+-- no two arguments are given that do not go together
+abbrev pub go_together : List Row → Bool
+go_together rows = list_all (λ pair. not (are_both_given pair.0 pair.1 rows)) exclusions
+
+-- the number that the value of the argument is, where it is given
+abbrev pub IsNumberOf : Text → List Row → Option ℕ → Type 0
+IsNumberOf name rows None = first_of name rows ≡ None
+IsNumberOf name rows (Some n) = (text : Text) × (first_of name rows ≡ Some text) × IsNumber text n
+
+-- what is done with each input
+abbrev pub IsTask : List Row → Task → Type 0
+IsTask rows Dump =
+    IsNumberOf (codes "at") rows None × IsNumberOf (codes "extract") rows None × IsNumberOf (codes "contents") rows None
+IsTask rows (At n) = IsNumberOf (codes "at") rows (Some n)
+IsTask rows (Extract n) = IsNumberOf (codes "extract") rows (Some n)
+IsTask rows (Contents n) = IsNumberOf (codes "contents") rows (Some n)
 
 -- what the matches of the words ask for
 pub record AsksFor (rows : List Row) (options : Options) : Type 0 where
+  pub together : go_together rows ≡ true
   pub inputs : map (λ name. name.now) options.inputs.items ≡ names_of (all_of (codes "FILE") rows)
-  pub task :
-      IsTask (first_of (codes "at") rows) (first_of (codes "extract") rows) (first_of (codes "contents") rows)
-      options.task
-  pub style : IsStyle rows options.style
+  pub task : IsTask rows options.task
   pub strict : options.is_strict ≡ is_true (first_of (codes "strict") rows)
+  pub full : options.is_full ≡ is_true (first_of (codes "full") rows)
+  pub flat : options.is_flat ≡ is_true (first_of (codes "flat") rows)
+  pub json : options.is_json ≡ is_true (first_of (codes "json") rows)
+  pub depth : IsNumberOf (codes "depth") rows options.most_depth
 
 -- the words, of which the first is the program's name, ask for the options: the command takes them, and its matches do
 abbrev pub Means : List Text → Options → Type 0
 Means words options = (fault_of command words ≡ []) × AsksFor (matches_of command words) options
 
--- the matches ask for nothing: the value of an argument is no number, or two arguments do not go together
+-- the matches ask for nothing: the value of an argument that takes a number is none, or two arguments do not go together
 abbrev pub AsksForNothing : List Row → OptionsFault → Type 0
 AsksForNothing rows (Command e) = ⊥
 AsksForNothing rows (NoNumber name text) =
-    (first_of name.now rows ≡ Some text.now) × ((n : ℕ) → IsNumber text.now n → ⊥)
-AsksForNothing rows (TwoTasks first second) =
-    (first.now ≢ second.now) × IsSome (first_of first.now rows) × IsSome (first_of second.now rows)
+    (takes_number name.now ≡ true) × (first_of name.now rows ≡ Some text.now) × ((n : ℕ) → IsNumber text.now n → ⊥)
+AsksForNothing rows (NotTogether first second) =
+    (are_exclusive first.now second.now ≡ true) × (are_both_given first.now second.now rows ≡ true)
 
 -- what clap says
 abbrev pub by_command : Error → OptionsFault

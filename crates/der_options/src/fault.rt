@@ -15,7 +15,7 @@ pub enum OptionsFault<'a> {
     /// The value of the argument is no number that 64 bits hold.
     NoNumber(&'static str, &'a str),
     /// Two arguments that do not go together.
-    TwoTasks(&'static str, &'static str),
+    NotTogether(&'static str, &'static str),
 }
 
 impl From<Error> for OptionsFault<'_> {
@@ -72,7 +72,7 @@ impl fmt::Display for OptionsFault<'_> {
                     "error: invalid value '{value}' for '--{name}': no number of 64 bits"
                 )
             }
-            OptionsFault::TwoTasks(first, second) => {
+            OptionsFault::NotTogether(first, second) => {
                 write!(
                     f,
                     "error: the argument '--{first}' cannot be used with '--{second}'"

@@ -1,6 +1,7 @@
 //! The command line of `der_dump`: which words ask for what.
 //!
-//! [`options_of`] reads the words by the crate `clap`. What it refuses is an [`OptionsFault`], whose text is for the user.
+//! [`options_of`] reads the words by the crate `clap`. What it refuses is an [`OptionsFault`], whose text is for the
+//! user.
 #![tactic(auto)]
 
 mod command;
@@ -10,4 +11,4 @@ mod options;
 mod tests;
 
 pub use fault::OptionsFault;
-pub use options::{Options, Style, Task, options_of};
+pub use options::{Options, Task, options_of};

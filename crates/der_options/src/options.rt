@@ -1,8 +1,9 @@
 // The options, and how the matches of `clap` give them.
-ghost use Rattle.std.specs.Prelude.{◌≡◌, ℕ, IfOk, IfErr, codes, map, option_map};
+ghost use Rattle.std.specs.Prelude.{◌≡◌, IfOk, IfErr, OnOk, codes, map, option_map, true, false};
 ghost use Rattle.clap.specs.Words.{all_of, first_of, found_of, rows_of};
-ghost use Rattle.der_options.specs.Options.{AsksFor, AsksForNothing, IsNumber, IsRefused, IsStyle, IsTask, Means};
-ghost use Rattle.der_options.specs.Options.{is_true, names_of};
+ghost use Rattle.der_options.specs.Options.{AsksFor, AsksForNothing, IsNumberOf, IsRefused, IsTask, Means};
+ghost use Rattle.der_options.specs.Options.{are_both_given, are_exclusive, go_together, is_given as is_given_by};
+ghost use Rattle.der_options.specs.Options.{is_true, names_of, takes_number};
 ghost use Rattle.der_options.specs.Steps.{IsMatched, IsUnmatched, LacksOptions};
 
 use crate::command::command;
@@ -18,10 +19,17 @@ pub struct Options<'a> {
     pub inputs: Vec<&'a str>,
     /// What is done with each input.
     pub task: Task,
-    /// What a dump shows.
-    pub style: Style,
     /// What is no canonical document is refused.
     pub is_strict: bool,
+    /// Values are written whole, however many octets they have.
+    pub is_full: bool,
+    /// No octets are looked into.
+    pub is_flat: bool,
+    /// Documents are written as JSON, a line each.
+    pub is_json: bool,
+    /// The most blocks that may be around a block that is shown, counted in blocks; the outermost has none around it.
+    /// `None` where all blocks are shown.
+    pub most_depth: Option<usize>,
 }
 
 /// What is done with an input. Offsets are counted in octets from the first octet of its document.
@@ -35,15 +43,6 @@ pub enum Task {
     Extract(usize),
     /// The contents octets of the block that stands at the offset are written.
     Contents(usize),
-}
-
-/// What a dump shows. By default octets are cut off after some, and documents inside octets are shown.
-#[derive(Clone, Copy, Debug, Default, PartialEq)]
-pub struct Style {
-    /// Values are written whole.
-    pub is_full: bool,
-    /// No octets are looked into.
-    pub is_flat: bool,
 }
 
 /// The options that the words ask for. The first word is the program's name.
@@ -80,13 +79,58 @@ fn asked_for<'a>(alloc: Global, matches: &ArgMatches<'a>) -> Result<Options<'a>,
     ensures read { IfOk result (AsksFor (rows_of (found_of matches.now))) }
     ensures refused { IfErr result (LacksOptions (rows_of (found_of matches.now))) }
 {
-    let inputs = inputs_of(alloc, matches)?;
+    refuse_exclusions(matches)?;
     Ok(Options {
-        inputs,
+        inputs: inputs_of(alloc, matches)?,
         task: task_of(matches)?,
-        style: style_of(matches),
         is_strict: is_set(matches, "strict"),
+        is_full: is_set(matches, "full"),
+        is_flat: is_set(matches, "flat"),
+        is_json: is_set(matches, "json"),
+        most_depth: number_of(matches, "depth")?,
     })
+}
+
+// Refuses arguments that do not go together.
+fn refuse_exclusions<'a>(matches: &ArgMatches<'a>) -> Result<(), OptionsFault<'a>>
+    ensures kept { OnOk result (go_together (rows_of (found_of matches.now)) ≡ true) }
+    ensures refused { IfErr result (AsksForNothing (rows_of (found_of matches.now))) }
+{
+    refuse_both(matches, "at", "extract")?;
+    refuse_both(matches, "at", "contents")?;
+    refuse_both(matches, "extract", "contents")?;
+    refuse_both(matches, "json", "depth")?;
+    refuse_both(matches, "json", "full")?;
+    refuse_both(matches, "json", "flat")?;
+    refuse_both(matches, "json", "extract")?;
+    refuse_both(matches, "json", "contents")
+}
+
+// Refuses two arguments, where both are given.
+fn refuse_both<'a>(
+    matches: &ArgMatches<'a>,
+    first: &'static str,
+    second: &'static str,
+) -> Result<(), OptionsFault<'a>>
+    requires { are_exclusive first.now second.now ≡ true }
+    ensures kept { OnOk result
+        (are_both_given first.entry.now second.entry.now (rows_of (found_of matches.now)) ≡ false) }
+    ensures refused { IfErr result (AsksForNothing (rows_of (found_of matches.now))) }
+{
+    if is_given(matches, first) && is_given(matches, second) {
+        return Err(OptionsFault::NotTogether(first, second));
+    }
+    Ok(())
+}
+
+// Whether an argument is among the words: one that takes a number has a value then, and a flag is set.
+fn is_given(matches: &ArgMatches<'_>, name: &str) -> bool
+    ensures { result ≡ is_given_by name.now (rows_of (found_of matches.now)) }
+{
+    match name {
+        "at" | "extract" | "contents" | "depth" => value(matches, name).is_some(),
+        _ => is_set(matches, name),
+    }
 }
 
 // The names of the inputs.
@@ -104,32 +148,36 @@ fn inputs_of<'a>(alloc: Global, matches: &ArgMatches<'a>) -> Result<Vec<&'a str>
 
 // What is done with each input.
 fn task_of<'a>(matches: &ArgMatches<'a>) -> Result<Task, OptionsFault<'a>>
-    ensures read { let rows = rows_of (found_of matches.now) in IfOk result (IsTask (first_of (codes "at") rows)
-        (first_of (codes "extract") rows) (first_of (codes "contents") rows)) }
+    ensures read { IfOk result (IsTask (rows_of (found_of matches.now))) }
     ensures refused { IfErr result (AsksForNothing (rows_of (found_of matches.now))) }
 {
-    match (
-        value(matches, "at"),
-        value(matches, "extract"),
-        value(matches, "contents"),
-    ) {
-        (None, None, None) => Ok(Task::Dump),
-        (Some(text), None, None) => Ok(Task::At(number("at", text)?)),
-        (None, Some(text), None) => Ok(Task::Extract(number("extract", text)?)),
-        (None, None, Some(text)) => Ok(Task::Contents(number("contents", text)?)),
-        (Some(_), Some(_), _) => Err(OptionsFault::TwoTasks("at", "extract")),
-        (Some(_), None, Some(_)) => Err(OptionsFault::TwoTasks("at", "contents")),
-        (None, Some(_), Some(_)) => Err(OptionsFault::TwoTasks("extract", "contents")),
+    if let Some(offset) = number_of(matches, "at")? {
+        return Ok(Task::At(offset));
+    }
+    if let Some(offset) = number_of(matches, "extract")? {
+        return Ok(Task::Extract(offset));
+    }
+    match number_of(matches, "contents")? {
+        Some(offset) => Ok(Task::Contents(offset)),
+        None => Ok(Task::Dump),
     }
 }
 
-// What a dump shows.
-fn style_of(matches: &ArgMatches<'_>) -> Style
-    ensures { IsStyle (rows_of (found_of matches.now)) result }
+// The number that the value of an argument is, where it has one.
+fn number_of<'a>(
+    matches: &ArgMatches<'a>,
+    name: &'static str,
+) -> Result<Option<usize>, OptionsFault<'a>>
+    requires { takes_number name.now ≡ true }
+    ensures read { IfOk result (IsNumberOf name.entry.now (rows_of (found_of matches.now))) }
+    ensures refused { IfErr result (AsksForNothing (rows_of (found_of matches.now))) }
 {
-    Style {
-        is_full: is_set(matches, "full"),
-        is_flat: is_set(matches, "flat"),
+    let Some(text) = value(matches, name) else {
+        return Ok(None);
+    };
+    match text.parse::<usize>() {
+        Ok(n) => Ok(Some(n)),
+        Err(_) => Err(OptionsFault::NoNumber(name, text)),
     }
 }
 
@@ -155,17 +203,5 @@ fn is_set(matches: &ArgMatches<'_>, name: &str) -> bool
     match value(matches, name) {
         Some(text) => text == "true",
         None => false,
-    }
-}
-
-// The number that the value of an argument is.
-fn number<'a>(name: &'static str, text: &'a str) -> Result<usize, OptionsFault<'a>>
-    ensures read { IfOk result (IsNumber text.entry.now) }
-    ensures refused { IfErr result (λ fault. (fault ≡ OptionsFault.NoNumber name.entry text.entry)
-        × ((n : ℕ) → IsNumber text.entry.now n → ⊥)) }
-{
-    match text.parse::<usize>() {
-        Ok(n) => Ok(n),
-        Err(_) => Err(OptionsFault::NoNumber(name, text)),
     }
 }

@@ -1,13 +1,8 @@
 // What each option asks for, and what is said of words that are no command line.
-use crate::{Options, Style, Task, options_of};
+use crate::{Options, Task, options_of};
 use std::alloc::Global;
 use std::process::Abort;
 use std::test::Fail;
-
-const PLAIN: Style = Style {
-    is_full: false,
-    is_flat: false,
-};
 
 // What the words ask for, of one input.
 fn one_input(alloc: Global, input: &str, task: Task) -> Result<Options<'_>, Fail> {
@@ -16,9 +11,27 @@ fn one_input(alloc: Global, input: &str, task: Task) -> Result<Options<'_>, Fail
     Ok(Options {
         inputs,
         task,
-        style: PLAIN,
         is_strict: false,
+        is_full: false,
+        is_flat: false,
+        is_json: false,
+        most_depth: None,
     })
+}
+
+// The words ask for the options.
+fn asks_for(
+    rt: &impl Abort,
+    alloc: Global,
+    words: &[&str],
+    wanted: &Options<'_>,
+) -> Result<(), Fail> {
+    let options = options_of(alloc, words);
+    assert!(rt;
+        options.is_ok_and(|options| options == *wanted),
+        "{words:?}"
+    );
+    Ok(())
 }
 
 // The words ask for the task, of one input.
@@ -29,10 +42,7 @@ fn asks(
     input: &str,
     task: Task,
 ) -> Result<(), Fail> {
-    let wanted = one_input(alloc, input, task)?;
-    let options = options_of(alloc, words);
-    assert!(rt; options.is_ok_and(|options| options == wanted), "{words:?}");
-    Ok(())
+    asks_for(rt, alloc, words, &one_input(alloc, input, task)?)
 }
 
 #[test]
@@ -64,35 +74,54 @@ fn each_task_is_read(rt: HostRuntime) -> Result<(), Fail> {
 #[test]
 fn each_flag_is_read(rt: HostRuntime) -> Result<(), Fail> {
     let alloc = rt.alloc();
-    for (word, style, is_strict) in [
-        ("--strict", PLAIN, true),
-        (
-            "--full",
-            Style {
-                is_full: true,
-                ..PLAIN
-            },
-            false,
-        ),
-        (
-            "--flat",
-            Style {
-                is_flat: true,
-                ..PLAIN
-            },
-            false,
-        ),
-    ] {
-        let wanted = Options {
-            style,
-            is_strict,
-            ..one_input(alloc, "-", Task::Dump)?
-        };
-        let words = ["der_dump", word];
-        let options = options_of(alloc, words.as_slice());
-        assert!(rt; options.is_ok_and(|options| options == wanted), "{word}");
-    }
-    Ok(())
+    let strict = Options {
+        is_strict: true,
+        ..one_input(alloc, "-", Task::Dump)?
+    };
+    asks_for(&rt, alloc, &["der_dump", "--strict"], &strict)?;
+    let full = Options {
+        is_full: true,
+        ..one_input(alloc, "-", Task::Dump)?
+    };
+    asks_for(&rt, alloc, &["der_dump", "--full"], &full)?;
+    let flat = Options {
+        is_flat: true,
+        ..one_input(alloc, "-", Task::Dump)?
+    };
+    asks_for(&rt, alloc, &["der_dump", "--flat"], &flat)?;
+    let json = Options {
+        is_json: true,
+        ..one_input(alloc, "-", Task::Dump)?
+    };
+    asks_for(&rt, alloc, &["der_dump", "--json"], &json)
+}
+
+#[test]
+fn a_depth_is_read(rt: HostRuntime) -> Result<(), Fail> {
+    let alloc = rt.alloc();
+    let outermost = Options {
+        most_depth: Some(0),
+        ..one_input(alloc, "-", Task::Dump)?
+    };
+    asks_for(&rt, alloc, &["der_dump", "--depth", "0"], &outermost)?;
+    let twelve = Options {
+        most_depth: Some(12),
+        is_flat: true,
+        ..one_input(alloc, "-", Task::Dump)?
+    };
+    asks_for(&rt, alloc, &["der_dump", "--depth=12", "--flat"], &twelve)
+}
+
+#[test]
+fn a_block_is_written_as_json(rt: HostRuntime) -> Result<(), Fail> {
+    let alloc = rt.alloc();
+    let wanted = Options {
+        is_strict: true,
+        is_json: true,
+        ..one_input(alloc, "a", Task::At(4))?
+    };
+    let words = ["der_dump", "--json", "--strict", "--at=4", "a"];
+    asks_for(&rt, alloc, words.as_slice(), &wanted)
 }
 
 #[test]
@@ -146,6 +175,26 @@ fn each_refusal_is_one_line(rt: HostRuntime) -> Result<(), Fail> {
             "error: the argument '--extract' cannot be used with '--contents'",
         ),
         (
+            ["--depth=1", "--json"],
+            "error: the argument '--json' cannot be used with '--depth'",
+        ),
+        (
+            ["--json", "--full"],
+            "error: the argument '--json' cannot be used with '--full'",
+        ),
+        (
+            ["--flat", "--json"],
+            "error: the argument '--json' cannot be used with '--flat'",
+        ),
+        (
+            ["--json", "--extract=1"],
+            "error: the argument '--json' cannot be used with '--extract'",
+        ),
+        (
+            ["--contents=1", "--json"],
+            "error: the argument '--json' cannot be used with '--contents'",
+        ),
+        (
             ["--at", "1a"],
             "error: invalid value '1a' for '--at': no number of 64 bits",
         ),
@@ -156,6 +205,11 @@ fn each_refusal_is_one_line(rt: HostRuntime) -> Result<(), Fail> {
         (
             ["--contents", "18446744073709551616"],
             "error: invalid value '18446744073709551616' for '--contents': no number of 64 bits",
+        ),
+        (["--depth", "-1"], "error: unexpected argument '-1' found"),
+        (
+            ["--depth=-1", "a"],
+            "error: invalid value '-1' for '--depth': no number of 64 bits",
         ),
     ] {
         let (is_answer, text) = text_of(rt.alloc(), &["der_dump", words[0], words[1]])?;

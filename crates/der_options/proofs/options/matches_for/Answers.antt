@@ -1,5 +1,5 @@
-use Rattle.std.proofs.Common.{◌∙◌, map, subst}
-use Rattle.clap.specs.Words.{HasKind, app_of, rows_of, found_of}
+use Rattle.std.proofs.Common.{◌∙◌, map}
+use Rattle.clap.specs.Words.{app_of, rows_of, found_of}
 use Rattle.der_options.proofs.Commands.{faults, free, matched, simple}
 use Rattle.der_options.proofs.options.matches_for.Goals as goal
 

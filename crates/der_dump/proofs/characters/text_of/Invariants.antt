@@ -1,5 +1,0 @@
-use Rattle.std.proofs.Common.{length}
-use Rattle.der_dump.proofs.characters.text_of.Given as goal
-
-abbrev pub decreases-loop-c : goal.decreases-loop-c
-decreases-loop-c l = length l.rest

@@ -1,6 +1,0 @@
-use Rattle.der_dump.proofs.Shown.{over_header}
-use Rattle.der_dump.proofs.held.step_over.Goals as goal
-
-pub returns-then-header : goal.returns-then-header
-returns-then-header c =
-    over_header c.args.left.now c.args.offset c.in-Some-2.header.size c.in_ok-first.first c.in_ok-end.end (rw c.in-Some-2.is at c.in_ok-header.ensures) c.in_ok-first.ensures

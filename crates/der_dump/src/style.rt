@@ -1,2 +1,0 @@
-// How documents are shown.
-pub use der_options::Style;

@@ -1,0 +1,77 @@
+-- Headers at the front of octets.
+use Rattle.std.proofs.Common.{
+  ◌≡◌,
+  ◌⊎◌,
+  inl,
+  inr,
+  ℕ,
+  ◌+◌,
+  ◌-◌,
+  ◌≤◌,
+  List,
+  ◌++◌,
+  drop,
+  length,
+  take,
+  slice_range,
+  refl,
+  sym,
+  ap,
+  ◌∙◌,
+  subst,
+  append_assoc,
+  arith,
+}
+use Rattle.std.proofs.Math.Seq.{take-add}
+use Rattle.std.specs.Prelude.{Option, None, Result, Ok, Err, IfOk, MatchOption}
+use Rattle.std.specs.declared.alloc.AllocError.{AllocError}
+use Rattle.std.proofs.lemmas.List.{drop_at, length-take-le, take-append-drop, take_at}
+use Rattle.simple_asn1.specs.Header.{BeginsWithNo, IsIdentifier, IsLength, IsSomeIdentifier}
+use Rattle.simple_asn1.specs.Laws.Header.{HeaderLaws}
+use Rattle.der_lines.specs.Dump.{HasNoHeader, IsHeader}
+
+front : (octets : List ℕ) (n : ℕ) → slice_range octets 0 n ≡ take n octets
+front octets n = let e : n - 0 ≡ n = omega arith in ap (λ m. take m octets) e
+
+-- identifier octets, and then length octets
+pub header_found :
+    (octets : List ℕ) (s t : ℕ) → s ≤ t →
+    ((tag : ℕ) × IsSomeIdentifier (slice_range octets 0 s) tag) → ((n : ℕ) × IsLength (slice_range octets s t) n) → IsHeader (take t octets)
+header_found octets s t le i l =
+    let e : t ≡ s + (t - s) = omega (arith, le) in (
+      slice_range octets 0 s,
+      slice_range octets s t,
+      ap (λ m. take m octets) e ∙ (take-add s (t - s) octets ∙ ap (λ z. z ++ slice_range octets s t) (sym (front octets s))),
+      i,
+      l,
+    )
+
+-- what begins with no identifier octets begins with no header
+pub no_identifier : (octets : List ℕ) → BeginsWithNo IsSomeIdentifier octets → HasNoHeader octets
+no_identifier octets none header rest (identifier, len, is, (tag, i), l) q =
+    let whole : octets ≡ identifier ++ (len ++ rest) = q ∙ (ap (λ z. z ++ rest) is ∙ append_assoc identifier len rest) in
+    let e : take (length identifier) octets ≡ identifier =
+    ap (take (length identifier)) whole ∙ take_at identifier (len ++ rest) (length identifier) refl in
+    none tag (length identifier) (subst (λ z. IsSomeIdentifier z tag) (sym e) i)
+
+-- so does what has no length octets after its identifier octets, which are the only ones
+pub no_length :
+    HeaderLaws → (octets : List ℕ) (s m : ℕ) → s ≤ length octets → IsSomeIdentifier (slice_range octets 0 s) m →
+    BeginsWithNo IsLength (drop s octets) → HasNoHeader octets
+no_length law octets s m fits (c, j, found) none header rest (identifier, len, is, (tag, (d, k, i)), (n, l)) q =
+    let whole : octets ≡ identifier ++ (len ++ rest) = q ∙ (ap (λ z. z ++ rest) is ∙ append_assoc identifier len rest) in
+    let parts : take s octets ++ drop s octets ≡ identifier ++ (len ++ rest) = take-append-drop s octets ∙ whole in
+    let same = law.one_identifier (take s octets) identifier (drop s octets) (len ++ rest) c d j k m tag
+    (subst (λ z. IsIdentifier z c j m) (front octets s) found) i parts in
+    let size : length identifier ≡ s = sym (ap length same.0) ∙ length-take-le s octets fits in
+    let behind : drop s octets ≡ len ++ rest = ap (drop s) whole ∙ drop_at identifier (len ++ rest) s size in
+    let e : take (length len) (drop s octets) ≡ len = ap (take (length len)) behind ∙ take_at len rest (length len) refl in
+    none n (length len) (subst (λ z. IsLength z n) (sym e) l)
+
+-- memory ran out, or no header was found
+pub none_found :
+    {H : Type 0} (r : Result (Option H) AllocError) (octets : List ℕ) (P : H → Type 0) (M : Type 0) →
+    IfOk r (λ found. (found ≡ None) × (M → ⊥)) → M ⊎ HasNoHeader octets → IfOk r (λ found. MatchOption found (HasNoHeader octets) P)
+none_found (Err e) octets P M f h = tt
+none_found (Ok found) octets P M (none, some) (inl memory) = absurd (some memory)
+none_found (Ok found) octets P M (none, some) (inr no_header) = subst (λ z. MatchOption z (HasNoHeader octets) P) (sym none) no_header

@@ -1,0 +1,5 @@
+mod Dumps
+mod Headers
+mod Shown
+mod StrictFaults
+mod Walks

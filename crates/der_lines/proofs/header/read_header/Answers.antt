@@ -1,0 +1,24 @@
+use Rattle.std.proofs.Common.{inl, inr}
+use Rattle.der_lines.specs.Steps.{IsAtFront}
+use Rattle.der_lines.proofs.Headers.{header_found, no_identifier, no_length, none_found}
+use Rattle.der_lines.proofs.header.read_header.Goals as goal
+
+pub returns-in-Err : goal.returns-in-Err
+returns-in-Err c =
+    let octets = c.args.octets.now in
+    none_found c.no_header.result octets (IsAtFront octets) _ c.no_header.ensures
+    (elim c.in-Err.ensures.refused [ inl memory ↦ inl memory | inr none ↦ inr (no_identifier octets none.1) ])
+
+pub returns-in-Ok-decode_length : goal.returns-in-Ok-decode_length
+returns-in-Ok-decode_length c =
+    let found = c.in-Ok.found in (
+      c.in-Ok-decode_length.ensures.moved.1,
+      header_found c.args.octets.now c.decode_tag.new.index c.decode_length.new.index c.in-Ok-decode_length.ensures.moved.0
+          (found.0, (found.2, found.1, c.in-Ok.ensures.found)) (c.in-Ok-decode_length.announced, c.in-Ok-decode_length.ensures.found),
+    )
+
+pub returns-in-Err-decode_length : goal.returns-in-Err-decode_length
+returns-in-Err-decode_length c =
+    let found = c.in-Ok.found in
+    no_length c.law_header.ensures c.args.octets.now c.decode_tag.new.index found.0 c.in-Ok.ensures.moved.1
+    (found.2, found.1, c.in-Ok.ensures.found) c.in-Err-decode_length.ensures.refused

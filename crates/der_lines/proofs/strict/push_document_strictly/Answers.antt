@@ -1,0 +1,17 @@
+use Rattle.std.proofs.Common.{ap, inr}
+use Rattle.simple_asn1.specs.Fault.{fault_of}
+use Rattle.der_lines.proofs.StrictFaults.{not_canonical_at}
+use Rattle.der_lines.proofs.strict.push_document_strictly.Goals as goal
+
+pub returns-in-Err-NotCanonical : goal.returns-in-Err-NotCanonical
+returns-in-Err-NotCanonical c =
+    let offset = c.in-Err-NotCanonical.offset in
+    let is = ap fault_of c.in-Err-NotCanonical.field-0-is in
+    inr (
+      offset,
+      c.push_document.new.out.items,
+      not_canonical_at c.law_one_reading.ensures c.args.octets.now offset c.in-Err-NotCanonical.field-0 is
+          c.in-Err-NotCanonical.ensures.fault,
+      rw c.in-AllRead.is at c.in_ok-push_document.ensures,
+      c.in_ok-push_fault-in-Err-NotCanonical.ensures,
+    )

@@ -1,0 +1,33 @@
+use Rattle.std.proofs.Common.{◌+◌, ◌-◌, ◌*◌, ◌^◌, drop}
+use Rattle.simple_asn1.specs.View.{views}
+use Rattle.der_lines.specs.Dump.{all_offsets}
+use Rattle.der_lines.proofs.Dumps.{Progress}
+use Rattle.der_lines.proofs.Shown.{ShownTo}
+use Rattle.der_lines.proofs.Walks.{offsets_at}
+use Rattle.der_lines.proofs.tree.+blocks.Given as goal
+
+abbrev pub decreases-push_blocks : goal.decreases-push_blocks
+decreases-push_blocks l = 4 * l.place.documents
+
+abbrev pub decreases-push_step : goal.decreases-push_step
+decreases-push_step l = 4 * l.place.documents + 1
+
+abbrev pub decreases-push_encodings : goal.decreases-push_encodings
+decreases-push_encodings l = 4 * l.place.documents + 2
+
+abbrev pub decreases-push_held : goal.decreases-push_held
+decreases-push_held l = 4 * l.held.now.place.documents + 3
+
+-- the blocks before this one are put
+abbrev pub invariant-push_blocks-loop-block : goal.invariant-push_blocks-loop-block
+invariant-push_blocks-loop-block l =
+    Progress l.place.is_inside l.place.base l.octets (all_offsets (views l.blocks)) (offsets_at (drop l.block-index l.block-items))
+    l.fn.out.items l.out.items
+
+-- the encodings before the cursor are put
+abbrev pub invariant-push_encodings-loop-alloc : goal.invariant-push_encodings-loop-alloc
+invariant-push_encodings-loop-alloc l =
+    ShownTo l.place.is_inside l.place.base l.octets l.cursor.offset l.cursor.end l.fn.out.items l.out.items
+
+abbrev pub decreases-push_encodings-loop-alloc : goal.decreases-push_encodings-loop-alloc
+decreases-push_encodings-loop-alloc l = 2 ^ 64 - l.cursor.offset

@@ -1,0 +1,108 @@
+-- What is put step by step. Private contracts alone name these.
+use Rattle.std.specs.Prelude.{◌≡◌, ◌⊎◌, ℕ, ◌+◌, ◌≤◌, Bool, true, false, List, [], ◌∷◌, ◌++◌, length, map, take}
+use Rattle.simple_asn1.specs.Fault.{DecodeFault}
+use Rattle.simple_asn1.specs.Grammar.{FirstFault, IsDocument}
+use Rattle.simple_asn1.specs.Places.{IsEncoding}
+use Rattle.simple_asn1.specs.Tree.{Trees}
+use Rattle.der_lines.specs.Dump.{Adds, AreHeaders, AreShown, HasNoHeader, IsBlockLine, IsHeader, IsInsideLine}
+use Rattle.der_lines.specs.Dump.{StandAt, StandsInside, all_offsets}
+use Rattle.simple_asn1.specs.View.{document_trees}
+use Rattle.der_lines.specs.declared.held.Held.{Held}
+use Rattle.der_lines.specs.declared.held.Inside.{Inside}
+use Rattle.der_lines.specs.declared.held.Inside.TheVariants.{Blocks, Headers}
+use Rattle.der_lines.specs.declared.header.Header.{Header}
+use Rattle.der_lines.specs.declared.lines.Mark.{Mark}
+use Rattle.der_lines.specs.declared.lines.Mark.TheVariants.{Fault as fault_mark, Object as object_mark}
+use Rattle.der_lines.specs.declared.cursor.Step.{Step}
+use Rattle.der_lines.specs.declared.cursor.Step.TheVariants.{Past, Leaf, Inside as Into, Cut, Fault}
+
+-- the header stands at the front of the octets
+abbrev pub IsAtFront : List ℕ → Header → Type 0
+IsAtFront octets header = (header.size ≤ length octets) × IsHeader (take header.size octets)
+
+-- the octet that a line begins with
+abbrev pub mark_of : Mark → ℕ
+mark_of fault_mark = 33
+mark_of object_mark = 61
+
+-- the line of a block, inside octets of another or not
+abbrev pub IsLineOf : Bool → ℕ → List ℕ → Type 0
+IsLineOf true offset line = IsInsideLine offset line
+IsLineOf false offset line = IsBlockLine offset line
+
+-- the offsets of the lines of blocks, where all stand so many octets later; inside octets there are none
+abbrev pub shown_at : Bool → ℕ → List ℕ → List ℕ
+shown_at true base offsets = []
+shown_at false base offsets = map (λ o. base + o) offsets
+
+-- the offset is one of a block inside octets that stand so many octets later
+abbrev pub PlacedInside : ℕ → List ℕ → ℕ → Type 0
+PlacedInside base octets offset = (place : ℕ) × StandsInside octets place × (offset ≡ base + place)
+
+-- octets that are shown inside others are a document, or encodings by their headers
+abbrev pub IsInside : List ℕ → Inside → Type 0
+IsInside octets (Blocks document) = IsDocument octets (document_trees document)
+IsInside octets Headers = AreHeaders octets
+
+-- what is shown inside octets stands in them, and its offsets are counted from where it does
+abbrev pub IsHeldIn : List ℕ → ℕ → Held → Type 0
+IsHeldIn octets base held =
+    (before : ℕ) × StandAt octets before held.octets.now × (held.place.base ≡ base + before)
+    × IsInside held.octets.now held.inside × (held.place.is_inside ≡ true)
+
+-- the lines of a document at the front, and where it ends
+abbrev pub ShowsDocument : ℕ → List ℕ → List ℕ → ℕ → Type 0
+ShowsDocument from octets offsets next =
+    (part rest : List ℕ) × (bs : Trees ℕ) × (octets ≡ part ++ rest) × IsDocument part bs
+    × (offsets ≡ map (λ o. from + o) (all_offsets bs)) × (next ≡ from + length part)
+
+-- the line of an encoding at the front that is at fault, and where it ends
+abbrev pub ShowsLeaf : ℕ → List ℕ → List ℕ → ℕ → Type 0
+ShowsLeaf from octets offsets next =
+    (part rest : List ℕ) × (fault : DecodeFault) × (octets ≡ part ++ rest) × IsEncoding part
+    × FirstFault part fault × (offsets ≡ from ∷ []) × (next ≡ from + length part)
+
+-- the line of a header at the front, and where it ends
+abbrev pub ShowsHeader : ℕ → List ℕ → List ℕ → ℕ → Type 0
+ShowsHeader from octets offsets next =
+    (header rest : List ℕ) × (octets ≡ header ++ rest) × IsHeader header
+    × (offsets ≡ from ∷ []) × (next ≡ from + length header)
+
+-- a step puts lines at these offsets, of octets that stand at one
+abbrev pub Shows : ℕ → List ℕ → List ℕ → Step → Type 0
+Shows from octets offsets (Past next) = ShowsDocument from octets offsets next
+Shows from octets offsets (Leaf next) = ShowsLeaf from octets offsets next
+Shows from octets offsets (Into first last) = ShowsHeader from octets offsets first
+Shows from octets offsets (Cut first) = ShowsHeader from octets offsets first
+Shows from octets offsets Fault =
+    ((offsets ≡ []) × HasNoHeader octets) ⊎ ((next : ℕ) × ShowsHeader from octets offsets next)
+
+-- the offset is that of octets inside others, of which a line is shown at their front, or of what stands inside them
+abbrev pub PlacedFrom : Bool → ℕ → ℕ → List ℕ → ℕ → Type 0
+PlacedFrom inside base from octets offset =
+    ((inside ≡ true) × (offset ≡ base + from) × AreShown from octets (from ∷ []))
+    ⊎ PlacedInside (base + from) octets offset
+
+-- and puts them after a text
+abbrev pub PutsStep : Bool → ℕ → ℕ → List ℕ → Step → List ℕ → List ℕ → Type 0
+PutsStep inside base from octets step before after =
+    (offsets : List ℕ) × Adds (PlacedFrom inside base from octets) (shown_at inside base offsets) before after
+    × Shows from octets offsets step
+
+-- a step passes an encoding, or its header
+abbrev pub PassesOver : ℕ → List ℕ → Step → Type 0
+PassesOver from octets (Past next) = ⊥
+PassesOver from octets (Leaf next) =
+    (part rest : List ℕ) × (octets ≡ part ++ rest) × IsEncoding part × (next ≡ from + length part)
+PassesOver from octets (Into first last) =
+    (header rest : List ℕ) × (octets ≡ header ++ rest) × IsHeader header × (first ≡ from + length header)
+PassesOver from octets (Cut first) = ⊥
+PassesOver from octets Fault = Unit {0}
+
+-- after the step it is gone on at the offset
+abbrev pub GoesTo : Step → ℕ → Type 0
+GoesTo (Past next) offset = offset ≡ next
+GoesTo (Leaf next) offset = offset ≡ next
+GoesTo (Into first last) offset = offset ≡ first
+GoesTo (Cut first) offset = offset ≡ first
+GoesTo Fault offset = ⊥

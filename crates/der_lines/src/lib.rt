@@ -1,0 +1,49 @@
+//! The lines of DER documents, for people: one for each block, in tree order.
+//!
+//! [`push_document`] puts the lines of a document at the end of what is written, in a [`Style`]:
+//!
+//! ```text
+//!       0  2       6  SEQUENCE
+//!       2  2       4    OCTET STRING, which holds
+//! >     4  2       2      SEQUENCE
+//! >     6  2       0        NULL
+//! ```
+//!
+//! A line has the offset of its block, in octets from the first of the document, how many octets its header has, how
+//! many contents octets it announces, its type, and its value. What stands inside octets of a block has lines that
+//! begin with `>`. Of octets that are no document, the encodings that can be read are shown, and then the first fault,
+//! on a line that begins with `!`; what came of it is the [`Verdict`]. [`push_document_strictly`] refuses what is not
+//! canonical, too.
+//!
+//! [`push_label`] and [`push_refusal`] put the other lines of what is written: `=` and the label of a document, `!` and
+//! why there is none. [`behind_header`] gives the contents octets of an encoding.
+//!
+//! The only error is that memory ran out. What was put until then stays where it was put.
+#![tactic(auto)]
+
+mod characters;
+mod cursor;
+mod document;
+mod entries;
+mod faults;
+mod header;
+mod held;
+mod lines;
+mod names;
+mod notes;
+mod place;
+mod scalars;
+mod strict;
+mod style;
+#[cfg(test)]
+mod tests;
+mod tree;
+mod values;
+mod walk;
+
+pub use document::{Verdict, push_document};
+pub use header::behind_header;
+pub use names::Names;
+pub use notes::{push_label, push_refusal};
+pub use strict::push_document_strictly;
+pub use style::Style;

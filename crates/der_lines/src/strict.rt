@@ -1,0 +1,43 @@
+// Dumps of which only canonical documents are read.
+ghost use Rattle.std.specs.Prelude.{IfOk};
+ghost use Rattle.der_lines.specs.Strict.{AddsStrictDumpOf};
+
+use crate::document::{Verdict, push_document};
+use crate::faults::fault_words;
+use crate::lines::push_fault;
+use crate::names::Names;
+use crate::style::Style;
+use simple_asn1::{ASN1DecodeErr, discard, from_der_strict, law_one_reading};
+use std::alloc::{AllocError, Global};
+
+/// Puts the lines of a document as [`push_document`](crate::push_document) does, and then the fault of one that is not
+/// canonical, at the offset of its first block at the top level that is not.
+///
+/// # Errors
+/// Memory ran out.
+pub fn push_document_strictly(
+    alloc: Global,
+    names: &Names,
+    style: Style,
+    octets: &[u8],
+    out: &mut Vec<u8>,
+) -> Result<Verdict, AllocError>
+    ensures { IfOk result (λ verdict. AddsStrictDumpOf octets.now verdict out.old.items out.new.items) }
+{
+    law_one_reading();
+    match push_document(alloc, names, style, octets, out)? {
+        Verdict::Refused => Ok(Verdict::Refused),
+        Verdict::AllRead => match from_der_strict(alloc, octets) {
+            Ok(blocks) => {
+                discard(blocks);
+                Ok(Verdict::AllRead)
+            }
+            Err(ASN1DecodeErr::NotCanonical(offset)) => {
+                let words = fault_words(alloc, &ASN1DecodeErr::NotCanonical(offset))?;
+                push_fault(alloc, offset, words.as_bytes(), out)?;
+                Ok(Verdict::Refused)
+            }
+            Err(_) => Err(AllocError),
+        },
+    }
+}

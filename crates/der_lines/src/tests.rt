@@ -1,0 +1,88 @@
+// What is put of a few documents, by hand.
+use crate::document::{Verdict, push_document};
+use crate::header::behind_header;
+use crate::names::Names;
+use crate::notes::{push_label, push_refusal};
+use crate::strict::push_document_strictly;
+use crate::style::Style;
+use std::test::Fail;
+
+const CUT_AND_HELD: &str = "      0  2      39  SEQUENCE
+      2  2      33    OCTET STRING 000102030405060708090a0b0c0d0e0f101112131415161718191a1b1c1d1e1f.. (33 octets)
+     37  2       2    OCTET STRING, which holds
+>    39  2       0      NULL
+";
+
+const WHOLE_AND_FLAT: &str = "      0  2      39  SEQUENCE
+      2  2      33    OCTET STRING 000102030405060708090a0b0c0d0e0f101112131415161718191a1b1c1d1e1f20
+     37  2       2    OCTET STRING 0500
+";
+
+#[test]
+fn each_style_shows_its_own(rt: HostRuntime) -> Result<(), Fail> {
+    let octets: &[u8] = &[
+        0x30, 0x27, 0x04, 0x21, 0, 1, 2, 3, 4, 5, 6, 7, 8, 9, 10, 11, 12, 13, 14, 15, 16, 17, 18,
+        19, 20, 21, 22, 23, 24, 25, 26, 27, 28, 29, 30, 31, 32, 0x04, 0x02, 0x05, 0x00,
+    ];
+    let whole_and_flat = Style {
+        is_full: true,
+        is_flat: true,
+    };
+    let names = Names::new(rt.alloc())?;
+    for (style, dump) in [
+        (Style::default(), CUT_AND_HELD),
+        (whole_and_flat, WHOLE_AND_FLAT),
+    ] {
+        let mut out = Vec::new(rt.alloc());
+        let verdict = push_document(rt.alloc(), &names, style, octets, &mut out)?;
+        assert_eq!(rt; verdict, Verdict::AllRead);
+        assert_eq!(rt; out.as_slice(), dump.as_bytes(), "at {style:?}");
+    }
+    Ok(())
+}
+
+const TRUE: &str = "      0  2       3  SEQUENCE
+      2  2       1    BOOLEAN true
+";
+
+const NOT_CANONICAL: &str =
+    "! refused at offset 0: the block at 0 is not in canonical form (NotCanonical)\n";
+
+#[test]
+fn what_is_not_canonical_is_refused_strictly(rt: HostRuntime) -> Result<(), Fail> {
+    let names = Names::new(rt.alloc())?;
+    let style = Style::default();
+    for (value, line, wanted) in [
+        (0x2A, NOT_CANONICAL, Verdict::Refused),
+        (0xFF, "", Verdict::AllRead),
+    ] {
+        let octets: &[u8] = &[0x30, 0x03, 0x01, 0x01, value];
+        let dump = format!(in rt.alloc(); "{TRUE}{line}")?;
+        let mut out = Vec::new(rt.alloc());
+        let verdict = push_document_strictly(rt.alloc(), &names, style, octets, &mut out)?;
+        assert_eq!(rt; verdict, wanted);
+        assert_eq!(rt; out.as_slice(), dump.as_bytes(), "at {value}");
+    }
+    Ok(())
+}
+
+#[test]
+fn labels_and_refusals_are_lines(rt: HostRuntime) -> Result<(), Fail> {
+    let mut out = Vec::new(rt.alloc());
+    push_label(rt.alloc(), b"A\nB", &mut out)?;
+    let verdict = push_refusal(b" encrypted, not read", &mut out)?;
+    assert_eq!(rt; verdict, Verdict::Refused);
+    assert_eq!(rt;
+        out.as_slice(),
+        b"= A B\n! encrypted, not read\n".as_slice()
+    );
+    Ok(())
+}
+
+#[test]
+fn contents_octets_stand_behind_the_header(rt: HostRuntime) -> Result<(), Fail> {
+    let contents = behind_header(rt.alloc(), &[0x1F, 0x81, 0x01, 0x81, 0x02, 0x07, 0x08])?;
+    assert_eq!(rt; contents, Some([0x07u8, 0x08].as_slice()));
+    assert_eq!(rt; behind_header(rt.alloc(), &[0x30])?, None);
+    Ok(())
+}
