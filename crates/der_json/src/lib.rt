@@ -31,8 +31,6 @@
 
 mod line;
 mod row;
-#[cfg(test)]
-mod tests;
 mod value;
 
 pub use line::{Origin, push_json, push_refusal};

@@ -35,8 +35,6 @@ mod place;
 mod scalars;
 mod strict;
 mod style;
-#[cfg(test)]
-mod tests;
 mod tree;
 mod values;
 mod walk;

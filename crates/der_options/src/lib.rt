@@ -7,8 +7,6 @@
 mod command;
 mod fault;
 mod options;
-#[cfg(test)]
-mod tests;
 
 pub use fault::OptionsFault;
 pub use options::{Options, Task, options_of};

@@ -3,6 +3,12 @@
 #![tactic(auto)]
 
 #[cfg(test)]
+mod command_line;
+#[cfg(test)]
+mod document_lines;
+#[cfg(test)]
 mod input_forms;
+#[cfg(test)]
+mod json_lines;
 #[cfg(test)]
 mod stream_faults;

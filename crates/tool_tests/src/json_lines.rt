@@ -1,6 +1,6 @@
 // The lines of short documents, of each kind of block, and of octets that are none. What each line is, was worked out
-// by hand from the tables of this crate's page.
-use crate::{Origin, push_json, push_refusal};
+// by hand from the tables of the page of `der_json`.
+use der_json::{Origin, push_json, push_refusal};
 use std::test::Fail;
 
 #[test]

@@ -1,5 +1,5 @@
 // What each option asks for, and what is said of words that are no command line.
-use crate::{Options, Task, options_of};
+use der_options::{Options, Task, options_of};
 use std::alloc::Global;
 use std::process::Abort;
 use std::test::Fail;

@@ -1,10 +1,8 @@
 // What is put of a few documents, by hand.
-use crate::document::{Verdict, push_document};
-use crate::header::behind_header;
-use crate::names::Names;
-use crate::notes::{push_label, push_refusal};
-use crate::strict::push_document_strictly;
-use crate::style::Style;
+use der_lines::{
+    Names, Style, Verdict, behind_header, push_document, push_document_strictly, push_label,
+    push_refusal,
+};
 use std::test::Fail;
 
 const CUT_AND_HELD: &str = "      0  2      39  SEQUENCE
