@@ -46,7 +46,8 @@ AddsObjects options (object ∷ others) verdict before after =
 -- what is put of an input, which has its documents in one of the forms
 pub data AddsAnswer (options : Options) (input : List ℕ) (verdict : Verdict) (before after : List ℕ) : Type 0 where
   of_octets :
-      form_is input ≡ plain_octets → AddsDocument options input verdict before after → AddsAnswer options input verdict before after
+      form_is input ≡ plain_octets → AddsDocument options input verdict before after →
+      AddsAnswer options input verdict before after
   of_spelled :
       (octets : List ℕ) → form_is input ≡ spelled octets → AddsDocument options octets verdict before after →
       AddsAnswer options input verdict before after
@@ -55,7 +56,8 @@ pub data AddsAnswer (options : Options) (input : List ℕ) (verdict : Verdict) (
       AddsAnswer options input verdict before after
   -- text may be the octets of a document all the same
   of_read_text :
-      (bs : Trees ℕ) → form_is input ≡ other_text → IsDocument input bs → AddsDocument options input verdict before after →
+      (bs : Trees ℕ) → form_is input ≡ other_text → IsDocument input bs →
+      AddsDocument options input verdict before after →
       AddsAnswer options input verdict before after
   of_text :
       (fault : DecodeFault) → form_is input ≡ other_text → FirstFault input fault → verdict ≡ Refused →
@@ -118,11 +120,13 @@ AddsNamed true options octets verdict before after =
 -- what is put of an input, the octets of which may be known: nothing where it can't be read
 abbrev pub AddsSource : Bool → Options → Option (List ℕ) → Option Verdict → List ℕ → List ℕ → Type 0
 AddsSource named options known (Some verdict) before after =
-    (octets : List ℕ) × IfSome known (λ bytes. octets ≡ bytes) × AddsNamed named options octets verdict before after
+    (octets : List ℕ) × IfSome known (λ bytes. octets ≡ bytes)
+    × AddsNamed named options octets verdict before after
 AddsSource named options known None before after = after ≡ before
 
 -- so of inputs one after another, each of which came to this
-abbrev pub AddsSources : Bool → Options → List (Option (List ℕ)) → List (Option Verdict) → List ℕ → List ℕ → Type 0
+abbrev pub AddsSources :
+    Bool → Options → List (Option (List ℕ)) → List (Option Verdict) → List ℕ → List ℕ → Type 0
 AddsSources named options [] [] before after = after ≡ before
 AddsSources named options (known ∷ inputs) (came ∷ later) before after =
     (between : List ℕ) × AddsSource named options known came before between

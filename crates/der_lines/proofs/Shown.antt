@@ -357,14 +357,18 @@ put_document inside held base further left part bs from next a b (rest, is) d n 
 -- headers that are passed over
 pass_header :
     (octets left after : List ℕ) (from next : ℕ) → drop from octets ≡ left ++ after →
-    ((header rest : List ℕ) × (left ≡ header ++ rest) × IsHeader header × (next ≡ from + length header)) →
+    ((header contents rest : List ℕ) × (left ≡ (header ++ contents) ++ rest) × IsHeader header
+    × IsEncoding (header ++ contents) × (next ≡ from + length header)) →
     AreHeaders (drop next octets) → AreHeaders (drop from octets)
-pass_header octets left after from next at (header, rest, is, h, n) more =
-    let whole : drop from octets ≡ header ++ (rest ++ after) = at ∙ (ap (λ z. z ++ after) is ∙ append_assoc header rest after) in
-    let behind : drop next octets ≡ rest ++ after =
+pass_header octets left after from next at (header, contents, rest, is, h, i, n) more =
+    let behind : List ℕ = contents ++ (rest ++ after) in
+    let whole : drop from octets ≡ (header ++ contents) ++ (rest ++ after) =
+    at ∙ (ap (λ z. z ++ after) is ∙ append_assoc (header ++ contents) rest after) in
+    let parted : drop from octets ≡ header ++ behind = whole ∙ append_assoc header contents (rest ++ after) in
+    let later : drop next octets ≡ behind =
     ap (λ z. drop z octets) n ∙ (sym (drop-drop (length header) from octets)
-    ∙ (ap (drop (length header)) whole ∙ drop_at header (rest ++ after) (length header) refl)) in
-    gone_into header (rest ++ after) whole h (subst AreHeaders behind more)
+    ∙ (ap (drop (length header)) parted ∙ drop_at header behind (length header) refl)) in
+    gone_into header contents (rest ++ after) whole h i (subst AreHeaders later more)
 
 pass_encoding :
     (octets left after : List ℕ) (from next : ℕ) → drop from octets ≡ left ++ after →
@@ -377,16 +381,20 @@ pass_encoding octets left after from next at (part, rest, is, i, n) more =
     ∙ (ap (drop (length part)) whole ∙ drop_at part (rest ++ after) (length part) refl)) in
     passed_over part (rest ++ after) whole i (subst AreHeaders behind more)
 
--- a header at the front
-pub over_header : (left : List ℕ) (from size first last : ℕ) → (size ≤ length left) × IsHeader (take size left) → first ≡ from + size
-    → PassesOver from left (Into first last)
-over_header left from size first last (fits, header) e = (
-  take size left,
-  drop size left,
-  sym (take-append-drop size left),
-  header,
-  e ∙ ap (λ m. from + m) (sym (length-take-le size left fits)),
-)
+-- the header of an encoding at the front
+pub over_header :
+    (left part : List ℕ) (from size first last : ℕ) → EncodingAt left 0 part → (size ≤ length part) × IsHeader (take size part) →
+    first ≡ from + size → PassesOver from left (Into first last)
+over_header left part from size first last e (fits, header) f =
+    let whole : part ≡ take size part ++ drop size part = sym (take-append-drop size part) in (
+      take size part,
+      drop size part,
+      e.rest,
+      e.stands ∙ ap (λ z. z ++ e.rest) whole,
+      header,
+      subst IsEncoding whole e.are,
+      f ∙ ap (λ m. from + m) (sym (length-take-le size part fits)),
+    )
 
 -- an encoding at the front
 pub over_encoding : (left part : List ℕ) (from next : ℕ) → EncodingAt left 0 part → next ≡ from + length part → PassesOver from left (Leaf next)
@@ -398,7 +406,7 @@ pub headers_more :
 headers_more octets left after from next (Past n) at p g more = absurd p
 headers_more octets left after from next (Leaf n) at (part, rest, is, i, e) g more =
     pass_encoding octets left after from next at (part, rest, is, i, g ∙ e) more
-headers_more octets left after from next (Into n last) at (header, rest, is, h, e) g more =
-    pass_header octets left after from next at (header, rest, is, h, g ∙ e) more
+headers_more octets left after from next (Into n last) at (header, contents, rest, is, h, i, e) g more =
+    pass_header octets left after from next at (header, contents, rest, is, h, i, g ∙ e) more
 headers_more octets left after from next (Cut n) at p g more = absurd p
 headers_more octets left after from next Fault at p g more = absurd g

@@ -93,8 +93,9 @@ pub data AreShown : ℕ → List ℕ → List ℕ → Type 0 where
 pub data AreHeaders : List ℕ → Type 0 where
   no_headers : {octets : List ℕ} → octets ≡ [] → AreHeaders octets
   gone_into :
-      {octets : List ℕ} (header rest : List ℕ) →
-      octets ≡ header ++ rest → IsHeader header → AreHeaders rest → AreHeaders octets
+      {octets : List ℕ} (header contents rest : List ℕ) →
+      octets ≡ (header ++ contents) ++ rest → IsHeader header → IsEncoding (header ++ contents) →
+      AreHeaders (contents ++ rest) → AreHeaders octets
   passed_over :
       {octets : List ℕ} (part rest : List ℕ) →
       octets ≡ part ++ rest → IsEncoding part → AreHeaders rest → AreHeaders octets

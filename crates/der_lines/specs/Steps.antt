@@ -89,13 +89,14 @@ PutsStep inside base from octets step before after =
     (offsets : List ℕ) × Adds (PlacedFrom inside base from octets) (shown_at inside base offsets) before after
     × Shows from octets offsets step
 
--- a step passes an encoding, or its header
+-- a step passes an encoding, or the header of one
 abbrev pub PassesOver : ℕ → List ℕ → Step → Type 0
 PassesOver from octets (Past next) = ⊥
 PassesOver from octets (Leaf next) =
     (part rest : List ℕ) × (octets ≡ part ++ rest) × IsEncoding part × (next ≡ from + length part)
 PassesOver from octets (Into first last) =
-    (header rest : List ℕ) × (octets ≡ header ++ rest) × IsHeader header × (first ≡ from + length header)
+    (header contents rest : List ℕ) × (octets ≡ (header ++ contents) ++ rest) × IsHeader header
+    × IsEncoding (header ++ contents) × (first ≡ from + length header)
 PassesOver from octets (Cut first) = ⊥
 PassesOver from octets Fault = Unit {0}
 

@@ -51,8 +51,8 @@ pub fn push_document(
     }
 }
 
-/// Puts the lines of a document that was read.
-pub fn push_read(
+// Puts the lines of a document that was read.
+fn push_read(
     alloc: Global,
     names: &Names,
     style: Style,

@@ -193,7 +193,7 @@ fn step_over(alloc: Global, left: &[u8], offset: usize) -> Result<Step, AllocErr
     let Some(encoding) = encoding_at(left, 0) else {
         return Ok(Step::Fault);
     };
-    let Some(header) = read_header(alloc, left)? else {
+    let Some(header) = read_header(alloc, encoding)? else {
         return Ok(Step::Fault);
     };
     let end = sum_of(offset, encoding.len())?;

@@ -44,11 +44,8 @@ impl Place {
         ensures documents { IfOk result (λ p. p.documents ≡ self.documents) }
     {
         Ok(Place {
-            is_inside: self.is_inside,
             base: sum_of(self.base, before)?,
-            depth: self.depth,
-            documents: self.documents,
-            is_full: self.is_full,
+            ..self
         })
     }
 
@@ -59,11 +56,8 @@ impl Place {
         ensures documents { result.documents ≡ self.documents }
     {
         Place {
-            is_inside: self.is_inside,
-            base: self.base,
             depth: self.depth.saturating_add(levels),
-            documents: self.documents,
-            is_full: self.is_full,
+            ..self
         }
     }
 
@@ -79,7 +73,7 @@ impl Place {
             base: sum_of(self.base, before)?,
             depth: depth.saturating_add(1),
             documents: self.documents - 1,
-            is_full: self.is_full,
+            ..self
         })
     }
 }
