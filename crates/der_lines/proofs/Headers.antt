@@ -30,7 +30,7 @@ use Rattle.simple_asn1.specs.Header.{BeginsWithNo, IsIdentifier, IsLength, IsSom
 use Rattle.simple_asn1.specs.Laws.Header.{HeaderLaws}
 use Rattle.der_lines.specs.Dump.{HasNoHeader, IsHeader}
 
-front : (octets : List ℕ) (n : ℕ) → slice_range octets 0 n ≡ take n octets
+pub front : (octets : List ℕ) (n : ℕ) → slice_range octets 0 n ≡ take n octets
 front octets n = let e : n - 0 ≡ n = omega arith in ap (λ m. take m octets) e
 
 -- identifier octets, and then length octets

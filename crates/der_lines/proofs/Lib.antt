@@ -1,5 +1,6 @@
 mod Dumps
 mod Headers
+mod IndefiniteForms
 mod Shown
 mod StrictFaults
 mod Walks

@@ -1,13 +1,15 @@
 -- What is written of a document: lines, one for each block in tree order, with its offset.
-use Rattle.std.specs.Prelude.{◌≡◌, ◌≢◌, ◌⊎◌, ℕ, ◌+◌, List, [], ◌∷◌, ◌++◌, drop, length, map, replicate, codes, decimal}
+use Rattle.std.specs.Prelude.{◌≡◌, ◌≢◌, ◌⊎◌, ℕ, ◌+◌, true, List, [], ◌∷◌, ◌++◌}
+use Rattle.std.specs.Prelude.{drop, length, map, replicate, codes, decimal}
 use Rattle.std.specs.List.{All}
 use Rattle.der_lines.specs.declared.document.Verdict.{Verdict}
 use Rattle.der_lines.specs.declared.document.Verdict.TheVariants.{AllRead, Refused}
 use Rattle.simple_asn1.specs.Fault.{DecodeFault}
 use Rattle.simple_asn1.specs.FaultPlace.{FirstFaultAt}
 use Rattle.simple_asn1.specs.Grammar.{FirstFault, IsDocument}
-use Rattle.simple_asn1.specs.Header.{IsLength, IsSomeIdentifier}
+use Rattle.simple_asn1.specs.Header.{IsIdentifier, IsLength, IsSomeIdentifier}
 use Rattle.simple_asn1.specs.Places.{IsEncoding}
+use Rattle.simple_asn1.specs.declared.ASN1Class.{ASN1Class}
 use Rattle.simple_asn1.specs.Tree.{Tree, Trees, leaf, group, explicit, unknown, no_trees, more_trees}
 
 abbrev mutual
@@ -142,13 +144,42 @@ Adds Inside offsets before after =
 abbrev pub AddsLine : (List ℕ → Type 0) → List ℕ → List ℕ → Type 0
 AddsLine Is before after = (line : List ℕ) × (after ≡ before ++ (line ++ 10 ∷ [])) × Is line
 
--- what is put after the text of octets: a document's lines, one for each block in tree order, and those of blocks
--- inside octets; of other octets the lines of what can be read, at least of a header at the front, and then their first
--- fault, at the offset of the innermost block at fault
-abbrev pub AddsDumpOf : List ℕ → Verdict → List ℕ → List ℕ → Type 0
-AddsDumpOf octets AllRead before after =
-    (bs : Trees ℕ) × IsDocument octets bs × Adds (StandsInside octets) (all_offsets bs) before after
-AddsDumpOf octets Refused before after =
+-- the octets begin with identifier octets of a constructed encoding and the one length octet 80, which in BER is the
+-- indefinite form (X.690 8.1.3.6). It is read as a length of 0
+abbrev pub HasIndefiniteForm : List ℕ → Type 0
+HasIndefiniteForm octets =
+    (identifier behind : List ℕ) × (octets ≡ identifier ++ 128 ∷ behind)
+    × ((class : ASN1Class) × (tag : ℕ) × IsIdentifier identifier class true tag)
+
+-- nothing that stands at the offsets has it
+abbrev pub AreDefinite : List ℕ → List ℕ → Type 0
+AreDefinite octets offsets = All (λ o. HasIndefiniteForm (drop o octets) → ⊥) offsets
+
+-- of what stands at the offsets, the first that has it stands at this one
+abbrev pub IsFirstIndefinite : List ℕ → List ℕ → ℕ → Type 0
+IsFirstIndefinite octets offsets offset =
+    (earlier later : List ℕ) × (offsets ≡ earlier ++ offset ∷ later) × AreDefinite octets earlier
+    × HasIndefiniteForm (drop offset octets)
+
+-- the octets are a document, and its lines were put: one for each block in tree order, and those of blocks inside octets
+abbrev pub AddsBlocksOf : List ℕ → Trees ℕ → List ℕ → List ℕ → Type 0
+AddsBlocksOf octets bs before after =
+    IsDocument octets bs × Adds (StandsInside octets) (all_offsets bs) before after
+
+-- the octets are no document: the lines were put of what can be read, at least of a header at the front, and then their
+-- first fault, at the offset of the innermost block at fault
+abbrev pub AddsFaultOf : List ℕ → List ℕ → List ℕ → Type 0
+AddsFaultOf octets before after =
     (fault : DecodeFault) × (offset : ℕ) × FirstFaultAt octets fault offset
     × (offsets shown : List ℕ) × AreShown 0 octets offsets × (offsets ≡ [] → HasNoHeader octets)
     × Adds (StandsInside octets) offsets before shown × AddsLine (IsFaultLine offset) shown after
+
+-- what is put after the text of octets. A document is refused, after all its lines, where a block of it has the
+-- indefinite form, at the offset of the first that has
+abbrev pub AddsDumpOf : List ℕ → Verdict → List ℕ → List ℕ → Type 0
+AddsDumpOf octets AllRead before after =
+    (bs : Trees ℕ) × AddsBlocksOf octets bs before after × AreDefinite octets (all_offsets bs)
+AddsDumpOf octets Refused before after =
+    AddsFaultOf octets before after
+    ⊎ ((bs : Trees ℕ) × (offset : ℕ) × (shown : List ℕ) × AddsBlocksOf octets bs before shown
+    × IsFirstIndefinite octets (all_offsets bs) offset × AddsLine (IsFaultLine offset) shown after)

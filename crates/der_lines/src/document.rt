@@ -1,18 +1,19 @@
 // The lines of a document.
-ghost use Rattle.std.specs.Prelude.{◌≡◌, IfOk, OnOk};
-ghost use Rattle.der_lines.specs.Dump.{AddsDumpOf};
-ghost use Rattle.der_lines.specs.declared.document.Verdict.TheVariants.{AllRead, Refused};
+ghost use Rattle.std.specs.Prelude.{IfOk, MatchOption, OnOk};
+ghost use Rattle.der_lines.specs.Dump.{AddsBlocksOf, AddsDumpOf, AddsFaultOf};
 ghost use Rattle.simple_asn1.specs.FaultPlace.{FirstFaultAt};
 ghost use Rattle.simple_asn1.specs.Fault.{fault_of};
 ghost use Rattle.simple_asn1.specs.Grammar.{IsDocument};
 ghost use Rattle.simple_asn1.specs.View.{document_trees};
 
 use crate::faults::words_at;
+use crate::indefinite::first_indefinite;
 use crate::lines::push_fault;
 use crate::names::Names;
 use crate::place::outermost;
 use crate::style::Style;
 use crate::tree::{push_blocks, push_encodings};
+use crate::values::INDEFINITE;
 use simple_asn1::{ASN1DecodeErr, Document};
 use std::alloc::{AllocError, Global};
 
@@ -21,12 +22,17 @@ use std::alloc::{AllocError, Global};
 pub enum Verdict {
     /// It is documents.
     AllRead,
-    /// Some of it is none.
+    /// Some of it is none, or has a length of the indefinite form.
     Refused,
 }
 
 /// Puts the lines of a document: one for each block, in tree order. Of octets that are none, those of the encodings in
-/// them, and then the first fault and where it is. The only error is that memory ran out.
+/// them, and then the first fault and where it is. Of a document, too, the verdict is `Refused` where a block has the
+/// indefinite form of BER, whose contents are not told from what stands behind them; the first such block has a line
+/// after all others.
+///
+/// # Errors
+/// Memory ran out.
 pub fn push_document(
     alloc: Global,
     names: &Names,
@@ -36,16 +42,40 @@ pub fn push_document(
 ) -> Result<Verdict, AllocError>
     ensures { IfOk result (λ verdict. AddsDumpOf octets.now verdict out.old.items out.new.items) }
 {
+    let Some(document) = push_octets(alloc, names, style, octets, out)? else {
+        return Ok(Verdict::Refused);
+    };
+    match first_indefinite(alloc, octets, document.blocks())? {
+        Some(offset) => {
+            push_fault(alloc, offset, INDEFINITE.as_bytes(), out)?;
+            Ok(Verdict::Refused)
+        }
+        None => Ok(Verdict::AllRead),
+    }
+}
+
+// Puts the lines of a document, which is given, or of octets that are none, and then their fault.
+pub fn push_octets(
+    alloc: Global,
+    names: &Names,
+    style: Style,
+    octets: &[u8],
+    out: &mut Vec<u8>,
+) -> Result<Option<Document>, AllocError>
+    ensures { IfOk result (λ read. MatchOption read
+        (AddsFaultOf octets.now out.old.items out.new.items)
+        (λ document. AddsBlocksOf octets.now (document_trees document) out.old.items out.new.items)) }
+{
     match Document::from_der_located(alloc, octets) {
         Ok(document) => {
             push_read(alloc, names, style, octets, &document, out)?;
-            Ok(Verdict::AllRead)
+            Ok(Some(document))
         }
         Err(located) => match located.error {
             ASN1DecodeErr::OutOfMemory => Err(AllocError),
             fault => {
                 push_refused(alloc, names, style, octets, &fault, located.offset, out)?;
-                Ok(Verdict::Refused)
+                Ok(None)
             }
         },
     }
@@ -61,7 +91,7 @@ fn push_read(
     out: &mut Vec<u8>,
 ) -> Result<(), AllocError>
     requires { IsDocument octets.now (document_trees document.now) }
-    ensures { OnOk result (AddsDumpOf octets.now AllRead out.old.items out.new.items) }
+    ensures { OnOk result (AddsBlocksOf octets.now (document_trees document.now) out.old.items out.new.items) }
 {
     push_blocks(
         alloc,
@@ -84,7 +114,7 @@ fn push_refused(
     out: &mut Vec<u8>,
 ) -> Result<(), AllocError>
     requires { FirstFaultAt octets.now (fault_of fault.now) offset }
-    ensures { OnOk result (AddsDumpOf octets.now Refused out.old.items out.new.items) }
+    ensures { OnOk result (AddsFaultOf octets.now out.old.items out.new.items) }
 {
     push_encodings(alloc, names, octets, outermost(style), out)?;
     let words = words_at(alloc, octets, offset, fault)?;

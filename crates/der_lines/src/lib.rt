@@ -12,8 +12,8 @@
 //! A line has the offset of its block, in octets from the first of the document, how many octets its header has, how
 //! many contents octets it announces, its type, and its value. What stands inside octets of a block has lines that
 //! begin with `>`. Of octets that are no document, the encodings that can be read are shown, and then the first fault,
-//! on a line that begins with `!`; what came of it is the [`Verdict`]. [`push_document_strictly`] refuses what is not
-//! canonical, too.
+//! on a line that begins with `!`; what came of it is the [`Verdict`]. A document with a length of the indefinite form
+//! of BER is refused, too, after all its lines. [`push_document_strictly`] refuses what is not canonical.
 //!
 //! [`push_label`] and [`push_refusal`] put the other lines of what is written: `=` and the label of a document, `!` and
 //! why there is none. [`behind_header`] gives the contents octets of an encoding.
@@ -28,6 +28,7 @@ mod entries;
 mod faults;
 mod header;
 mod held;
+mod indefinite;
 mod lines;
 mod names;
 mod notes;

@@ -2,7 +2,7 @@
 ghost use Rattle.std.specs.Prelude.{IfOk};
 ghost use Rattle.der_lines.specs.Strict.{AddsStrictDumpOf};
 
-use crate::document::{Verdict, push_document};
+use crate::document::{Verdict, push_octets};
 use crate::faults::fault_words;
 use crate::lines::push_fault;
 use crate::names::Names;
@@ -11,7 +11,7 @@ use simple_asn1::{ASN1DecodeErr, discard, from_der_strict, law_one_reading};
 use std::alloc::{AllocError, Global};
 
 /// Puts the lines of a document as [`push_document`](crate::push_document) does, and then the fault of one that is not
-/// canonical, at the offset of its first block at the top level that is not.
+/// canonical, at the offset of its first block at the top level that is not; an indefinite form is told so, too.
 ///
 /// # Errors
 /// Memory ran out.
@@ -25,19 +25,19 @@ pub fn push_document_strictly(
     ensures { IfOk result (λ verdict. AddsStrictDumpOf octets.now verdict out.old.items out.new.items) }
 {
     law_one_reading();
-    match push_document(alloc, names, style, octets, out)? {
-        Verdict::Refused => Ok(Verdict::Refused),
-        Verdict::AllRead => match from_der_strict(alloc, octets) {
-            Ok(blocks) => {
-                discard(blocks);
-                Ok(Verdict::AllRead)
-            }
-            Err(ASN1DecodeErr::NotCanonical(offset)) => {
-                let words = fault_words(alloc, &ASN1DecodeErr::NotCanonical(offset))?;
-                push_fault(alloc, offset, words.as_bytes(), out)?;
-                Ok(Verdict::Refused)
-            }
-            Err(_) => Err(AllocError),
-        },
+    let Some(_) = push_octets(alloc, names, style, octets, out)? else {
+        return Ok(Verdict::Refused);
+    };
+    match from_der_strict(alloc, octets) {
+        Ok(blocks) => {
+            discard(blocks);
+            Ok(Verdict::AllRead)
+        }
+        Err(ASN1DecodeErr::NotCanonical(offset)) => {
+            let words = fault_words(alloc, &ASN1DecodeErr::NotCanonical(offset))?;
+            push_fault(alloc, offset, words.as_bytes(), out)?;
+            Ok(Verdict::Refused)
+        }
+        Err(_) => Err(AllocError),
     }
 }

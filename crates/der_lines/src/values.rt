@@ -13,6 +13,9 @@ const MOST_LEVELS: usize = 40;
 // How many octets most lines fit.
 const LINE_ROOM: usize = 112;
 
+// What is said of a length of the indefinite form: blocks that stand inside in BER are shown behind.
+pub const INDEFINITE: &str = "indefinite length (BER): levels are lost from here";
+
 // How a block is written.
 #[derive(Clone, Copy, Drop)]
 pub struct Manner {
@@ -43,10 +46,11 @@ pub fn block_text(
     Ok(text)
 }
 
-// What is said of a length of the indefinite form: blocks that stand inside in BER are shown behind.
+// What is said of a length of the indefinite form, if the header has it.
 pub fn write_form(out: &mut String, header: &Header) -> Result<(), AllocError> {
     if header.is_indefinite {
-        return out.push_str(", indefinite length (BER): levels are lost from here");
+        out.push_str(", ")?;
+        out.push_str(INDEFINITE)?;
     }
     Ok(())
 }

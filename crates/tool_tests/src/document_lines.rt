@@ -64,6 +64,39 @@ fn what_is_not_canonical_is_refused_strictly(rt: HostRuntime) -> Result<(), Fail
     Ok(())
 }
 
+// As `openssl cms -sign -stream -outform DER` begins, and then the ends of contents.
+const STREAMED: &[u8] = &[
+    0x30, 0x80, 0x06, 0x09, 0x2A, 0x86, 0x48, 0x86, 0xF7, 0x0D, 0x01, 0x07, 0x02, 0xA0, 0x80, 0x00,
+    0x00, 0x00, 0x00,
+];
+
+const LEVELS_ARE_LOST: &str =
+    "      0  2       0  SEQUENCE, indefinite length (BER): levels are lost from here
+      2  2       9  OBJECT IDENTIFIER 1.2.840.113549.1.7.2 (signedData, RFC 5652)
+     13  2       0  [0], indefinite length (BER): levels are lost from here
+     15  2       0  [UNIVERSAL 0]
+     17  2       0  [UNIVERSAL 0]
+";
+
+#[test]
+fn the_first_indefinite_length_is_refused(rt: HostRuntime) -> Result<(), Fail> {
+    let alloc = rt.alloc();
+    let names = Names::new(alloc)?;
+    let style = Style::default();
+    let line = "! refused at offset 0: indefinite length (BER): levels are lost from here\n";
+    let dump = format!(in alloc; "{LEVELS_ARE_LOST}{line}")?;
+    let mut out = Vec::new(alloc);
+    let verdict = push_document(alloc, &names, style, STREAMED, &mut out)?;
+    assert_eq!(rt; verdict, Verdict::Refused);
+    assert_eq!(rt; out.as_slice(), dump.as_bytes());
+    let mut out = Vec::new(alloc);
+    let verdict = push_document_strictly(alloc, &names, style, STREAMED, &mut out)?;
+    let dump = format!(in alloc; "{LEVELS_ARE_LOST}{NOT_CANONICAL}")?;
+    assert_eq!(rt; verdict, Verdict::Refused);
+    assert_eq!(rt; out.as_slice(), dump.as_bytes());
+    Ok(())
+}
+
 #[test]
 fn labels_and_refusals_are_lines(rt: HostRuntime) -> Result<(), Fail> {
     let mut out = Vec::new(rt.alloc());

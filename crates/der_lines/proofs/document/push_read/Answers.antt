@@ -4,17 +4,16 @@ use Rattle.std.specs.declared.alloc.AllocError.{AllocError}
 use Rattle.simple_asn1.specs.Grammar.{IsDocument}
 use Rattle.simple_asn1.specs.Tree.{Trees}
 use Rattle.simple_asn1.specs.View.{document_trees}
-use Rattle.der_lines.specs.Dump.{Adds, AddsDumpOf, all_offsets}
+use Rattle.der_lines.specs.Dump.{Adds, AddsBlocksOf, all_offsets}
 use Rattle.der_lines.specs.Steps.{PlacedInside, shown_at}
-use Rattle.der_lines.specs.declared.document.Verdict.TheVariants.{AllRead}
 use Rattle.der_lines.proofs.Dumps.{top_adds}
 use Rattle.der_lines.proofs.document.push_read.Goals as goal
 
 put : (r : Result (Unit {0}) AllocError) (inside : _) (base : ℕ) (octets : List ℕ) (seen bs : Trees ℕ) (a b : List ℕ) →
     inside ≡ false → base ≡ 0 → seen ≡ bs → IsDocument octets bs →
-    OnOk r (Adds (PlacedInside base octets) (shown_at inside base (all_offsets seen)) a b) → OnOk r (AddsDumpOf octets AllRead a b)
+    OnOk r (Adds (PlacedInside base octets) (shown_at inside base (all_offsets seen)) a b) → OnOk r (AddsBlocksOf octets bs a b)
 put (Ok u) inside base octets seen bs a b i z e d adds =
-    (bs, d, top_adds inside base octets (all_offsets bs) a b i z (subst (λ t. Adds (PlacedInside base octets) (shown_at inside base (all_offsets t)) a b) e adds))
+    (d, top_adds inside base octets (all_offsets bs) a b i z (subst (λ t. Adds (PlacedInside base octets) (shown_at inside base (all_offsets t)) a b) e adds))
 put (Err x) inside base octets seen bs a b i z e d adds = tt
 
 pub returns : goal.returns

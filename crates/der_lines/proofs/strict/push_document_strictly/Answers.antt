@@ -1,5 +1,6 @@
 use Rattle.std.proofs.Common.{ap, inr}
 use Rattle.simple_asn1.specs.Fault.{fault_of}
+use Rattle.simple_asn1.specs.View.{document_trees}
 use Rattle.der_lines.proofs.StrictFaults.{not_canonical_at}
 use Rattle.der_lines.proofs.strict.push_document_strictly.Goals as goal
 
@@ -9,9 +10,9 @@ returns-in-Err-NotCanonical c =
     let is = ap fault_of c.in-Err-NotCanonical.field-0-is in
     inr (
       offset,
-      c.push_document.new.out.items,
+      c.push_octets.new.out.items,
       not_canonical_at c.law_one_reading.ensures c.args.octets.now offset c.in-Err-NotCanonical.field-0 is
           c.in-Err-NotCanonical.ensures.fault,
-      rw c.in-AllRead.is at c.in_ok-push_document.ensures,
+      (document_trees c.in-Some.field-0, rw c.in-Some.is at c.in_ok-push_octets.ensures),
       c.in_ok-push_fault-in-Err-NotCanonical.ensures,
     )

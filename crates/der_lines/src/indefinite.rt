@@ -1,0 +1,60 @@
+// Lengths of the indefinite form of BER.
+ghost use Rattle.std.specs.Prelude.{◌≡◌, ◌≢◌, ◌↔◌, ◌∷◌, List, ℕ, false, IfOk, IsTrue, MatchOption};
+ghost use Rattle.der_lines.specs.Dump.{AreDefinite, HasIndefiniteForm, IsFirstIndefinite, all_offsets};
+ghost use Rattle.simple_asn1.specs.Types.{OutOfMemory};
+ghost use Rattle.simple_asn1.specs.View.{views};
+
+use simple_asn1::{ASN1Block, ASN1DecodeErr, HeaderCount, all_blocks, decode_tag, law_header};
+use std::alloc::{AllocError, Global};
+
+// The offset of the first block, in tree order, whose header in the octets has the indefinite form.
+pub fn first_indefinite(
+    alloc: Global,
+    octets: &[u8],
+    blocks: &[ASN1Block],
+) -> Result<Option<usize>, AllocError>
+    ensures { let offsets = all_offsets (views blocks.now) in IfOk result (λ found. MatchOption found
+        (AreDefinite octets.now offsets)
+        (IsFirstIndefinite octets.now offsets)) }
+{
+    let order = all_blocks(alloc, blocks)?;
+    for block in &order {
+        let offset = block.offset();
+        let (_, here) = octets.split_at(offset.min(octets.len()));
+        if has_indefinite_form(alloc, here)? {
+            return Ok(Some(offset));
+        }
+    }
+    Ok(None)
+}
+
+// Whether the octets begin with a header of the indefinite form.
+fn has_indefinite_form(alloc: Global, octets: &[u8]) -> Result<bool, AllocError>
+    ensures { IfOk result (λ has. IsTrue has ↔ HasIndefiniteForm octets.now) }
+{
+    law_header();
+    let mut size = 0;
+    match decode_tag(alloc, octets, &mut size, &mut HeaderCount::new()) {
+        Ok((_, constructed, _)) => {
+            let (_, behind) = octets.split_at(size);
+            Ok(constructed && begins_with_80(behind))
+        }
+        Err(fault) => no_header(&fault),
+    }
+}
+
+// What a fault of identifier octets says of the form.
+fn no_header(fault: &ASN1DecodeErr) -> Result<bool, AllocError>
+    ensures { IfOk result (λ has. (has ≡ false) × (fault.now ≢ OutOfMemory)) }
+{
+    match fault {
+        ASN1DecodeErr::OutOfMemory => Err(AllocError),
+        _ => Ok(false),
+    }
+}
+
+fn begins_with_80(octets: &[u8]) -> bool
+    ensures { IsTrue result ↔ ((rest : List ℕ) × (octets.now ≡ 128 ∷ rest)) }
+{
+    matches!(octets, [0x80, ..])
+}
