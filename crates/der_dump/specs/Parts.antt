@@ -1,13 +1,19 @@
--- What is put of one block, and of one input after another. Private contracts alone name these.
-use Rattle.std.specs.Prelude.{ℕ, List}
-use Rattle.der_dump.specs.Inputs.{AddsContents, AddsDocument, AddsOctets}
+-- What is put in a manner, and of one block. Private contracts alone name these.
+use Rattle.std.specs.Prelude.{ℕ, List, Option, None}
+use Rattle.std.specs.Option.{option_map}
+use Rattle.der_dump.specs.Documents.{PutsAs}
+use Rattle.der_dump.specs.Inputs.{AddsContents, AddsOctets, AddsOr, Putting}
+use Rattle.der_dump.specs.declared.manner.Manner.{Manner}
 use Rattle.der_lines.specs.declared.document.Verdict.{Verdict}
-use Rattle.der_options.specs.declared.options.Options.{Options}
 use Rattle.der_options.specs.declared.options.Task.{Task}
 use Rattle.der_options.specs.declared.options.Task.TheVariants.{Contents, Extract}
 
--- what the task wants of a block
-abbrev pub AddsPart : Options → Task → List ℕ → Verdict → List ℕ → List ℕ → Type 0
-AddsPart options (Extract offset) = AddsOctets
-AddsPart options (Contents offset) = AddsContents
-AddsPart options _ = AddsDocument options
+-- what is put in this manner
+abbrev pub PutsIn : Manner → Putting
+PutsIn manner = PutsAs manner.is_json manner.is_strict (option_map (λ name. name.now) manner.file)
+
+-- what the task wants of a block, or of none
+abbrev pub AddsPart : Manner → Task → Option (List ℕ) → Verdict → List ℕ → List ℕ → Type 0
+AddsPart manner (Extract offset) = AddsOr (PutsIn manner) AddsOctets
+AddsPart manner (Contents offset) = AddsOr (PutsIn manner) AddsContents
+AddsPart manner _ = PutsIn manner None

@@ -2,8 +2,9 @@
 #![tactic(auto)]
 
 mod answers;
-mod dump;
 mod host;
+mod json_lines;
+mod manner;
 mod tasks;
 #[cfg(test)]
 mod tests;
@@ -75,7 +76,7 @@ fn tell(rt: &HostRuntime, fault: &OptionsFault<'_>) -> u8 {
 // Does what the options want.
 fn answer(rt: &HostRuntime, options: &Options<'_>) -> u8 {
     let outcome = match sources(rt, options) {
-        Ok(sources) => run(rt.alloc(), options, sources, &mut rt.stdout()),
+        Ok(mut sources) => run(rt.alloc(), options, &mut sources, &mut rt.stdout()),
         Err(_) => Err(StreamFault::Memory),
     };
     if let Err(fault) = &outcome {

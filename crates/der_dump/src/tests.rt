@@ -28,7 +28,7 @@ fn ran(alloc: Global, words: &[&str], inputs: &[(&str, &[u8])]) -> Result<(Vec<u
         })?;
     }
     let mut writer = Vec::new(alloc);
-    let outcome = run(alloc, &options, sources, &mut writer);
+    let outcome = run(alloc, &options, &mut sources, &mut writer);
     Ok((writer, status(&outcome)))
 }
 
@@ -156,7 +156,7 @@ fn what_cannot_be_read_is_left_out(rt: HostRuntime) -> Result<(), Fail> {
             sources.push(Source { name: "a", reader })?;
         }
         let mut writer = Vec::new(alloc);
-        let outcome = run(alloc, &options, sources, &mut writer);
+        let outcome = run(alloc, &options, &mut sources, &mut writer);
         let middle = if reads == 5 {
             Some(Verdict::AllRead)
         } else {
@@ -185,7 +185,7 @@ fn a_fault_of_writing_is_told(rt: HostRuntime) -> Result<(), Fail> {
         let mut sources = Vec::new(alloc);
         let reader: &[u8] = b"0500";
         sources.push(Source { name: "-", reader })?;
-        let outcome = run(alloc, &options, sources, &mut FailingWriter { writes });
+        let outcome = run(alloc, &options, &mut sources, &mut FailingWriter { writes });
         assert_eq!(rt; status(&outcome), 2);
         assert!(rt; outcome.is_err_and(|fault| fault == StreamFault::Write));
     }

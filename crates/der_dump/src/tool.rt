@@ -1,11 +1,14 @@
 // The run of the program: all input is read before anything is written.
-ghost use Rattle.std.specs.Prelude.{◌≡◌, ◌⊎◌, List, ℕ, [], IfOk, IfErr, IfSome, IsErr, IsSome, length, map, max};
+ghost use Rattle.std.specs.Prelude.{◌≡◌, ◌⊎◌, List, ℕ, [], IfOk, IfErr, IfSome, IsErr, IsSome, OnOk, length, map, max};
 ghost use Rattle.std.specs.Io.KnownBytes.{Appends, IsAtEnd, Keeps};
-ghost use Rattle.der_dump.specs.Inputs.{AddsNamed, AddsSource, AddsSources, greatest_status, names_shown, status_of};
+ghost use Rattle.std.specs.Option.{option_map};
+ghost use Rattle.der_dump.specs.Inputs.{AddsName, AddsNamed, AddsSource, AddsSources, AreReadToEnds, IsReadToEnd};
+ghost use Rattle.der_dump.specs.Inputs.{greatest_status, input_of, names_shown, status_of};
 ghost use Rattle.streams.specs.declared.StreamFault.TheVariants.{Memory as memory_fault, Write as write_fault};
 
+use crate::manner::Manner;
 use crate::tasks::push_input;
-use der_lines::{Names, Verdict, push_label};
+use der_lines::{Names, Style, Verdict, push_label};
 use der_options::{Options, Task};
 use std::alloc::{AllocError, Global};
 use std::io::{Read, Write};
@@ -19,23 +22,25 @@ pub struct Source<'a, R> {
 }
 
 /// Reads all of each input, in order, and writes to `w` what the options want of each; answers what each came to,
-/// `None` where it could not be read, of which nothing is written.
+/// `None` where it could not be read, of which nothing is written. The readers of the others are at their ends.
 ///
-/// An input is a document, or documents in PEM, or a document in hex digits, told apart by its octets. All of the
-/// output is kept in memory, and one input at a time.
+/// An input is a document, or documents in PEM, or a document in hex digits, told apart by its octets. A document is
+/// put as a dump, or as a line of JSON. All of the output is kept in memory, and one input at a time.
 ///
 /// # Errors
 /// `Memory`, after which nothing was written; `Write`, after which nothing is known of what was.
 pub fn run<R: Read + Drop, W: Write>(
     alloc: Global,
     options: &Options<'_>,
-    sources: Vec<Source<'_, R>>,
+    sources: &mut [Source<'_, R>],
     w: &mut W,
 ) -> Result<Vec<Option<Verdict>>, StreamFault>
     ensures answered { IfOk result (λ came. (output : List ℕ)
-        × AddsSources (names_shown options.now.task (length sources.entry.items)) options.now
-        (map (λ source. R.remaining source.reader) sources.entry.items) came.items [] output
+        × AddsSources (names_shown options.now.task (length sources.old)) options.now
+        (map (λ source. input_of source.name.now (R.remaining source.reader)) sources.old) came.items [] output
         × Appends (W.contents w.old) (W.contents w.new) output) }
+    ensures read { IfOk result (λ came. AreReadToEnds came.items
+        (map (λ source. R.remaining source.reader) sources.new)) }
     ensures kept { IfErr result (λ e. (e ≡ write_fault) ⊎ Keeps (W.contents w.old) (W.contents w.new)) }
 {
     let Ok(names) = Names::new(alloc) else {
@@ -54,15 +59,18 @@ fn push_sources<R: Read + Drop>(
     names: &Names,
     options: &Options<'_>,
     is_named: bool,
-    sources: Vec<Source<'_, R>>,
+    sources: &mut [Source<'_, R>],
     out: &mut Vec<u8>,
 ) -> Result<Vec<Option<Verdict>>, StreamFault>
     ensures put { IfOk result (λ came. AddsSources is_named options.now
-        (map (λ source. R.remaining source.reader) sources.entry.items) came.items out.old.items out.new.items) }
+        (map (λ source. input_of source.name.now (R.remaining source.reader)) sources.old) came.items
+        out.old.items out.new.items) }
+    ensures read { IfOk result (λ came. AreReadToEnds came.items
+        (map (λ source. R.remaining source.reader) sources.new)) }
     ensures fault { IfErr result (λ e. e ≡ memory_fault) }
 {
     let mut came = Vec::new(alloc);
-    for source in sources {
+    for source in sources.iter_mut() {
         let outcome = push_source(alloc, names, options, is_named, source, out)?;
         if came.push(outcome).is_err() {
             return Err(StreamFault::Memory);
@@ -71,7 +79,7 @@ fn push_sources<R: Read + Drop>(
     Ok(came)
 }
 
-// Whether names are shown above what is put of so many inputs.
+// Whether names are told of so many inputs.
 fn are_names_shown(task: Task, count: usize) -> bool
     ensures { result ≡ names_shown task count }
 {
@@ -87,18 +95,18 @@ fn push_source<R: Read + Drop>(
     names: &Names,
     options: &Options<'_>,
     is_named: bool,
-    source: Source<'_, R>,
+    source: &mut Source<'_, R>,
     out: &mut Vec<u8>,
 ) -> Result<Option<Verdict>, StreamFault>
-    ensures put { IfOk result (λ came. AddsSource is_named options.now (R.remaining source.entry.reader) came
-        out.old.items out.new.items) }
+    ensures put { IfOk result (λ came. AddsSource is_named options.now
+        (input_of source.old.name.now (R.remaining source.old.reader)) came out.old.items out.new.items) }
+    ensures read { IfOk result (λ came. IsReadToEnd came (R.remaining source.new.reader)) }
     ensures fault { IfErr result (λ e. e ≡ memory_fault) }
 {
-    let Source { name, mut reader } = source;
-    let Some(input) = read_source(alloc, &mut reader)? else {
+    let Some(input) = read_source(alloc, &mut source.reader)? else {
         return Ok(None);
     };
-    match push_named(alloc, names, options, is_named, name, input, out) {
+    match push_named(alloc, names, options, is_named, source.name, input, out) {
         Ok(verdict) => Ok(Some(verdict)),
         Err(_) => Err(StreamFault::Memory),
     }
@@ -121,7 +129,7 @@ pub fn read_source<R: Read>(alloc: Global, r: &mut R) -> Result<Option<Vec<u8>>,
     }
 }
 
-// Puts what the options want of octets, under their name where names are shown.
+// Puts what the options want of octets, with their name where names are told.
 fn push_named(
     alloc: Global,
     names: &Names,
@@ -131,13 +139,48 @@ fn push_named(
     input: Vec<u8>,
     out: &mut Vec<u8>,
 ) -> Result<Verdict, AllocError>
-    ensures { IfOk result (λ verdict. AddsNamed is_named options.now input.items verdict
+    ensures { IfOk result (λ verdict. AddsNamed is_named options.now name.now input.items verdict
         out.old.items out.new.items) }
 {
     if is_named {
-        push_label(alloc, name.as_bytes(), out)?;
+        push_name(alloc, options.is_json, name, out)?;
+        let manner = manner_of(names, options, Some(name));
+        push_input(alloc, &manner, options.task, input, out)
+    } else {
+        let manner = manner_of(names, options, None);
+        push_input(alloc, &manner, options.task, input, out)
     }
-    push_input(alloc, names, options, input, out)
+}
+
+// Puts the line of a name, above a dump.
+fn push_name(alloc: Global, is_json: bool, name: &str, out: &mut Vec<u8>) -> Result<(), AllocError>
+    ensures { OnOk result (AddsName is_json out.old.items out.new.items) }
+{
+    if is_json {
+        Ok(())
+    } else {
+        push_label(alloc, name.as_bytes(), out)
+    }
+}
+
+// In which manner the options want documents to be put that stand in the file.
+fn manner_of<'a>(names: &'a Names, options: &Options<'_>, file: Option<&'a str>) -> Manner<'a>
+    ensures json { result.is_json ≡ options.now.is_json }
+    ensures strict { result.is_strict ≡ options.now.is_strict }
+    ensures file { option_map (λ name. name.now) result.file ≡ option_map (λ name. name.now) file.entry }
+    ensures full { result.style.is_full ≡ options.now.is_full }
+    ensures flat { result.style.is_flat ≡ options.now.is_flat }
+{
+    Manner {
+        names,
+        style: Style {
+            is_full: options.is_full,
+            is_flat: options.is_flat,
+        },
+        is_strict: options.is_strict,
+        is_json: options.is_json,
+        file,
+    }
 }
 
 /// The exit status after a run: 0 where all was read, 1 where some of the input is no document, 2 where some could not

@@ -4,12 +4,12 @@ use Rattle.der_dump.proofs.tasks.push_block.Goals as goal
 
 pub returns-in-Some : goal.returns-in-Some
 returns-in-Some c =
-    block_put (AddsPart c.args.options.now c.args.options.now.task) c.push_part.result c.args.input.items c.in-Ok.document.items
+    block_put (AddsPart c.args.manner.now c.args.task) c.push_part.result c.args.input.items c.in-Ok.document.items
     c.deref.result.now c.args.offset c.args.out.now.items c.push_part.new.out.items c.in-Ok.ensures.octets c.deref.ensures.value
     c.in-Some.block.now c.in-Some.ensures.found c.push_part.ensures
 
 pub returns : goal.returns
 returns c =
-    none_put (AddsPart c.args.options.now c.args.options.now.task) c.push_refusal.result c.args.input.items c.in-Ok.document.items
-    c.deref.result.now c.args.offset c.args.out.now.items c.push_refusal.new.out.items c.in-Ok.ensures.octets c.deref.ensures.value
-    c.in-None.ensures.none c.push_refusal.ensures
+    none_put (AddsPart c.args.manner.now c.args.task) c.push_no_part.result c.args.input.items c.in-Ok.document.items
+    c.deref.result.now c.args.offset c.args.out.now.items c.push_no_part.new.out.items c.in-Ok.ensures.octets c.deref.ensures.value
+    c.in-None.ensures.none c.push_no_part.ensures

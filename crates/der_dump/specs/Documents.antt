@@ -1,0 +1,79 @@
+-- What is put of octets that may have a label, or of what has none that can be read: as a dump, or as a line of JSON.
+use Rattle.std.specs.Prelude.{◌≡◌, ◌⊎◌, ℕ, Bool, true, false, List, [], ◌∷◌, ◌++◌, Option, Some, None, option_map}
+use Rattle.std.specs.Str.Lossy.{utf8_lossy}
+use Rattle.serde_json.specs.Data.{Members}
+use Rattle.serde_json.specs.Written.{compact_text}
+use Rattle.der_json.specs.Json.{AddsJsonOf, origin_members, refusal_json}
+use Rattle.der_lines.specs.Dump.{AddsDumpOf, AddsLine, IsNote}
+use Rattle.der_lines.specs.Strict.{AddsStrictDumpOf}
+use Rattle.der_lines.specs.declared.document.Verdict.{Verdict}
+use Rattle.der_lines.specs.declared.document.Verdict.TheVariants.{AllRead, Refused}
+use Rattle.der_options.specs.declared.options.Options.{Options}
+use Rattle.simple_asn1.specs.ReadBack.{IsCanonicalDocument}
+use Rattle.simple_asn1.specs.Strict.{IsNotCanonicalAt}
+
+-- the dump of octets, read strictly or not
+abbrev pub AddsReading : Bool → List ℕ → Verdict → List ℕ → List ℕ → Type 0
+AddsReading false = AddsDumpOf
+AddsReading true = AddsStrictDumpOf
+
+-- the dump of octets, or a line `!` where there are none to be read
+abbrev pub AddsDump : Bool → Option (List ℕ) → Verdict → List ℕ → List ℕ → Type 0
+AddsDump strict (Some octets) verdict before after = AddsReading strict octets verdict before after
+AddsDump strict None verdict before after = (verdict ≡ Refused) × AddsLine (IsNote 33) before after
+
+-- the line `=` of a label, where there is one
+abbrev pub AddsLabel : Option (List ℕ) → List ℕ → List ℕ → Type 0
+AddsLabel None before after = after ≡ before
+AddsLabel (Some label) before after = AddsLine (IsNote 61) before after
+
+-- a dump under the line of its label
+abbrev pub PutsDump : Bool → Option (List ℕ) → Option (List ℕ) → Verdict → List ℕ → List ℕ → Type 0
+PutsDump strict label octets verdict before after =
+    (named : List ℕ) × AddsLabel label before named × AddsDump strict octets verdict named after
+
+-- a line of JSON that says in words why octets are not read, and perhaps at which offset
+abbrev pub AddsRefusal : Option ℕ → Members → List ℕ → List ℕ → Type 0
+AddsRefusal offset origin before after =
+    (words : List ℕ) × (after ≡ before ++ (compact_text (refusal_json offset words origin) ++ 10 ∷ []))
+
+abbrev pub is_all_read : Verdict → Bool
+is_all_read AllRead = true
+is_all_read Refused = false
+
+-- the line of JSON of octets, where no document is read but a canonical one: of another, that of a refusal at its first
+-- block at the top level that is not canonical
+abbrev pub AddsStrictJsonOf : List ℕ → Members → Verdict → List ℕ → List ℕ → Type 0
+AddsStrictJsonOf octets origin AllRead before after =
+    IsCanonicalDocument octets × AddsJsonOf octets origin true before after
+AddsStrictJsonOf octets origin Refused before after =
+    AddsJsonOf octets origin false before after
+    ⊎ ((offset : ℕ) × IsNotCanonicalAt octets offset × AddsRefusal (Some offset) origin before after)
+
+-- the line of JSON of octets, read strictly or not
+abbrev pub AddsJsonReading : Bool → List ℕ → Members → Verdict → List ℕ → List ℕ → Type 0
+AddsJsonReading false octets origin verdict = AddsJsonOf octets origin (is_all_read verdict)
+AddsJsonReading true octets origin verdict = AddsStrictJsonOf octets origin verdict
+
+-- the line of JSON of octets, or that of a refusal where there are none to be read
+abbrev pub AddsJsonLine : Bool → Option (List ℕ) → Members → Verdict → List ℕ → List ℕ → Type 0
+AddsJsonLine strict (Some octets) origin verdict before after = AddsJsonReading strict octets origin verdict before after
+AddsJsonLine strict None origin verdict before after = (verdict ≡ Refused) × AddsRefusal None origin before after
+
+-- a line of JSON that tells its file and its label, of each that there is. Where a label is no UTF-8, U+FFFD stands in
+-- place of the octets that are none
+abbrev pub PutsJson :
+    Bool → Option (List ℕ) → Option (List ℕ) → Option (List ℕ) → Verdict → List ℕ → List ℕ → Type 0
+PutsJson strict file label octets = AddsJsonLine strict octets (origin_members file (option_map utf8_lossy label))
+
+-- as JSON or as a dump
+abbrev pub PutsAs :
+    Bool → Bool → Option (List ℕ) → Option (List ℕ) → Option (List ℕ) → Verdict → List ℕ → List ℕ → Type 0
+PutsAs true strict file = PutsJson strict file
+PutsAs false strict file = PutsDump strict
+
+-- what the options want to be put of octets that have this label, if any, in the file of this name, if it is told; or of
+-- what has no octets that can be read
+abbrev pub Puts :
+    Options → Option (List ℕ) → Option (List ℕ) → Option (List ℕ) → Verdict → List ℕ → List ℕ → Type 0
+Puts options file = PutsAs options.is_json options.is_strict file
