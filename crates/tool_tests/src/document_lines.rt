@@ -72,10 +72,10 @@ const STREAMED: &[u8] = &[
 
 const LEVELS_ARE_LOST: &str =
     "      0  2       0  SEQUENCE, indefinite length (BER): levels are lost from here
-      2  2       9  OBJECT IDENTIFIER 1.2.840.113549.1.7.2 (signedData, RFC 5652)
+      2  2       9  OBJECT IDENTIFIER 1.2.840.113549.1.7.2 signedData (RFC 5652)
      13  2       0  [0], indefinite length (BER): levels are lost from here
-     15  2       0  [UNIVERSAL 0]
-     17  2       0  [UNIVERSAL 0]
+     15  2       0  end-of-contents
+     17  2       0  end-of-contents
 ";
 
 #[test]
