@@ -1,15 +1,16 @@
 -- What is put of an input, object after object.
-use Rattle.std.proofs.Common.{◌≡◌, ℕ, List, [], ◌∷◌, ◌++◌, inl, inr, refl, sym, ap, ◌∙◌, subst, append_assoc, append-nil}
+use Rattle.std.proofs.Common.{◌≡◌, ℕ, List, [], ◌∷◌, ◌++◌, inl, inr, refl, sym, ap, ◌∙◌, subst}
+use Rattle.std.proofs.Common.{append_assoc, append-nil}
 use Rattle.std.specs.Prelude.{Option, Some, None, Result, Ok, Err, IfOk}
 use Rattle.std.specs.declared.alloc.AllocError.{AllocError}
-use Rattle.der_forms.specs.Forms.{form_is, objects, other_text}
-use Rattle.der_forms.specs.Objects.{Object, objects_of}
+use Rattle.der_forms.specs.Forms.{form_is, other_text}
+use Rattle.der_forms.specs.Objects.{Object}
 use Rattle.simple_asn1.specs.Fault.{OutOfMemoryOr, fault_of}
 use Rattle.simple_asn1.specs.Grammar.{FirstFault}
 use Rattle.simple_asn1.specs.Types.{OutOfMemory}
 use Rattle.der_lines.specs.declared.document.Verdict.{Verdict}
 use Rattle.der_lines.specs.declared.document.Verdict.TheVariants.{AllRead, Refused}
-use Rattle.der_dump.specs.Inputs.{AddsAnswer, AddsObjects, Putting, both_read, of_cut_objects, of_text}
+use Rattle.der_dump.specs.Inputs.{AddsAnswer, AddsObjects, Putting, both_read, of_text}
 
 -- objects after objects
 both_after : (u v w : Verdict) → both_read (both_read u v) w ≡ both_read u (both_read v w)

@@ -13,8 +13,13 @@ use Rattle.der_options.specs.declared.options.Task.{Task}
 pub has_header : (octets : List ℕ) → IsEncoding octets → HasNoHeader octets → ⊥
 has_header octets e none =
     let parts = e.encoding in
-    none (parts.identifier ++ parts.len) e.contents
-    (parts.identifier, parts.len, refl, (e.tag, (e.class, e.constructed, parts.identifier_octets)), (length e.contents, parts.length_octets))
+    none (parts.identifier ++ parts.len) e.contents (
+      parts.identifier,
+      parts.len,
+      refl,
+      (e.tag, (e.class, e.constructed, parts.identifier_octets)),
+      (length e.contents, parts.length_octets),
+    )
     (parts.whole ∙ sym (append_assoc parts.identifier parts.len e.contents))
 
 -- what is put behind a header
@@ -33,7 +38,9 @@ module _ (Put : Option (List ℕ) → Verdict → List ℕ → List ℕ → Type
       IfOk r (λ v. AddsBlock Put n input v a b)
   block_put block at put = go r put
     where
-      go : (z : Result Verdict AllocError) → IfOk z (λ v. Put (Some block) v a b) → IfOk z (λ v. AddsBlock Put n input v a b)
+      go :
+          (z : Result Verdict AllocError) → IfOk z (λ v. Put (Some block) v a b) →
+          IfOk z (λ v. AddsBlock Put n input v a b)
       go (Ok v) h = of_block octets block (d ∙ ap Some (sym e)) at h
       go (Err x) h = tt
 

@@ -1,7 +1,7 @@
 -- Inputs after inputs, each of which a loop over their readers has come to.
 use Rattle.std.proofs.Common.{◌≡◌, ◌<◌, ◌+◌, ℕ, suc, List, [], ◌∷◌, ◌++◌, Bool, arith, drop, get_or, length, map, refl}
 use Rattle.std.proofs.Common.{false, is_err, is_ok, if◌then◌else◌, set, sym, take, ◌∙◌}
-use Rattle.std.specs.Prelude.{Option, Some, None, Result, Ok, Err}
+use Rattle.std.specs.Prelude.{Option, Result, Ok, Err}
 use Rattle.std.proofs.lemmas.List.{drop-set-lt, map-append, take_more}
 use Rattle.std.proofs.lemmas.Grind.{take-set_at}
 use Rattle.std.proofs.Math.Seq.{drop-cons}
@@ -58,7 +58,8 @@ module _ {S T E : Type 0} (i : ℕ) (all now : List S) (l : i < length all) (n :
       AddsSource named options (input (get_or now i d)) last b c →
       AddsSources named options (map input (take (i + 1) all)) are a c
   one_put named options input d a b c earlier one =
-      rw (take_more all i d l, map-append input (take i all) (get_or all i d ∷ []), ← here d, pushed r were are last e p)
+      let more = map-append input (take i all) (get_or all i d ∷ []) in
+      rw (take_more all i d l, more, ← here d, pushed r were are last e p)
       (one_more named options (map input (take i all)) were (input (get_or now i d)) last a b c earlier one)
 
   pub one_read :
@@ -66,5 +67,6 @@ module _ {S T E : Type 0} (i : ℕ) (all now : List S) (l : i < length all) (n :
       AreReadToEnds are (map rest (take (i + 1) (set now i y)))
   one_read rest y earlier one =
       let m : i < length now = omega arith in
-      rw (take-set_at now i (i + 1) y refl m, map-append rest (take i now) (y ∷ []), pushed r were are last e p)
+      let more = map-append rest (take i now) (y ∷ []) in
+      rw (take-set_at now i (i + 1) y refl m, more, pushed r were are last e p)
       (one_more_read were (map rest (take i now)) last (rest y) earlier one)

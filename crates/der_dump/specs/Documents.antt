@@ -57,7 +57,8 @@ AddsJsonReading true octets origin verdict = AddsStrictJsonOf octets origin verd
 
 -- the line of JSON of octets, or that of a refusal where there are none to be read
 abbrev pub AddsJsonLine : Bool → Option (List ℕ) → Members → Verdict → List ℕ → List ℕ → Type 0
-AddsJsonLine strict (Some octets) origin verdict before after = AddsJsonReading strict octets origin verdict before after
+AddsJsonLine strict (Some octets) origin verdict before after =
+    AddsJsonReading strict octets origin verdict before after
 AddsJsonLine strict None origin verdict before after = (verdict ≡ Refused) × AddsRefusal None origin before after
 
 -- a line of JSON that tells its file and its label, of each that there is. Where a label is no UTF-8, U+FFFD stands in
@@ -72,8 +73,8 @@ abbrev pub PutsAs :
 PutsAs true strict file = PutsJson strict file
 PutsAs false strict file = PutsDump strict
 
--- what the options want to be put of octets that have this label, if any, in the file of this name, if it is told; or of
--- what has no octets that can be read
+-- what the options want to be put of octets that have this label, if any, in the file of this name, if it is told; or
+-- of what has no octets that can be read
 abbrev pub Puts :
     Options → Option (List ℕ) → Option (List ℕ) → Option (List ℕ) → Verdict → List ℕ → List ℕ → Type 0
 Puts options file = PutsAs options.is_json options.is_strict file

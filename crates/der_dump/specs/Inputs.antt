@@ -1,5 +1,6 @@
 -- What is put of inputs: of each in its form, as the options want it, and of one after another.
-use Rattle.std.specs.Prelude.{◌≡◌, ℕ, Bool, true, false, List, [], ◌∷◌, ◌++◌, Option, Some, None, IfSome, fold, max, nat_lt}
+use Rattle.std.specs.Prelude.{◌≡◌, ℕ, Bool, true, false, List, [], ◌∷◌, ◌++◌, fold, max, nat_lt}
+use Rattle.std.specs.Prelude.{Option, Some, None, IfSome}
 use Rattle.std.specs.Io.KnownBytes.{IsAtEnd}
 use Rattle.der_forms.specs.Forms.{form_is, objects, odd_digits, other_text, plain_octets, spelled}
 use Rattle.der_forms.specs.Objects.{Object, document_of, objects_of}

@@ -29,6 +29,9 @@ fn ran(alloc: Global, words: &[&str], inputs: &[(&str, &[u8])]) -> Result<(Vec<u
     }
     let mut writer = Vec::new(alloc);
     let outcome = run(alloc, &options, &mut sources, &mut writer);
+    if sources.iter().any(|source| !source.reader.is_empty()) {
+        return Err(Fail::from("an input is not read to its end"));
+    }
     Ok((writer, status(&outcome)))
 }
 
@@ -135,6 +138,72 @@ fn several_inputs_have_their_names(rt: HostRuntime) -> Result<(), Fail> {
     assert_eq!(rt; number, 0);
     let (written, number) = ran(rt.alloc(), &["der_dump", "--extract=0"], inputs.as_slice())?;
     assert_eq!(rt; written.as_slice(), [0x05u8, 0x00, 0x05, 0x00].as_slice());
+    assert_eq!(rt; number, 0);
+    Ok(())
+}
+
+const NULL_ROW: &str =
+    "{\"blocks\":[{\"class\":\"universal\",\"depth\":0,\"offset\":0,\"size\":2,\"tag\":5,\
+     \"type\":\"NULL\",\"value\":null}]";
+
+// A NULL, an object that is encrypted, and one that is no base 64 and does not end, the label of which is no UTF-8.
+const OBJECTS: &[u8] = b"-----BEGIN A-----\nBQA=\n-----END A-----\n\
+    -----BEGIN B-----\nProc-Type: 4,ENCRYPTED\n-----END B-----\n\
+    -----BEGIN \xFFC-----\n*\n";
+
+#[test]
+fn each_input_has_its_lines_of_json(rt: HostRuntime) -> Result<(), Fail> {
+    let alloc = rt.alloc();
+    let json = ["der_dump", "--json"];
+    let json = json.as_slice();
+    let null = format!(in alloc; "{NULL_ROW}}}\n")?;
+    let odd = b"{\"fault\":{\"text\":\"refused: an odd number of hex digits\"}}\n";
+    let text =
+        b"{\"fault\":{\"text\":\"this looks like text; DER, PEM and hex digits are read\"}}\n";
+    let cut = b"{\"fault\":{\"offset\":0,\"text\":\"Incomplete data or invalid ASN1\"}}\n";
+    let objects = format!(in alloc;
+        "{NULL_ROW},\"label\":\"A\"}}\n\
+         {{\"fault\":{{\"text\":\"encrypted, not read\"}},\"label\":\"B\"}}\n\
+         {{\"fault\":{{\"text\":\"line 8: this is no base 64\"}},\"label\":\"\u{FFFD}C\"}}\n\
+         {{\"fault\":{{\"text\":\"line 7: no line ends this object\"}}}}\n"
+    )?;
+    writes(&rt, alloc, json, &[0x05, 0x00], null.as_bytes(), 0)?;
+    writes(&rt, alloc, json, b"05 00\n", null.as_bytes(), 0)?;
+    writes(&rt, alloc, json, b"05 0", odd, 1)?;
+    writes(&rt, alloc, json, b"text", text, 1)?;
+    writes(&rt, alloc, json, &[0x05, 0x01], cut, 1)?;
+    writes(&rt, alloc, json, OBJECTS, objects.as_bytes(), 1)
+}
+
+#[test]
+fn json_tells_blocks_and_what_is_not_canonical(rt: HostRuntime) -> Result<(), Fail> {
+    let alloc = rt.alloc();
+    let strict = b"{\"fault\":{\"offset\":0,\"text\":\"Block is not in canonical form: 0\"}}\n";
+    let integer =
+        b"{\"blocks\":[{\"class\":\"universal\",\"depth\":0,\"offset\":0,\"size\":3,\"tag\":2,\
+        \"type\":\"INTEGER\",\"value\":7}]}\n";
+    let none = b"{\"fault\":{\"text\":\"no block stands at offset 6\"}}\n";
+    let null = format!(in alloc; "{NULL_ROW}}}\n")?;
+    let words = ["der_dump", "--json", "--strict"];
+    writes(&rt, alloc, words.as_slice(), SEQUENCE, strict, 1)?;
+    writes(&rt, alloc, words.as_slice(), b"0500", null.as_bytes(), 0)?;
+    let words = ["der_dump", "--json", "--at=5"];
+    writes(&rt, alloc, words.as_slice(), SEQUENCE, integer, 0)?;
+    let words = ["der_dump", "--json", "--at=6"];
+    writes(&rt, alloc, words.as_slice(), SEQUENCE, none, 1)
+}
+
+#[test]
+fn json_tells_the_files_of_several_inputs(rt: HostRuntime) -> Result<(), Fail> {
+    let alloc = rt.alloc();
+    let null: &[u8] = &[0x05, 0x00];
+    let object: &[u8] = b"-----BEGIN X-----\nBQA=\n-----END X-----\n";
+    let inputs = [("a.der", null), ("b.pem", object)];
+    let (written, number) = ran(alloc, &["der_dump", "--json"], inputs.as_slice())?;
+    let wanted = format!(in alloc;
+        "{NULL_ROW},\"file\":\"a.der\"}}\n{NULL_ROW},\"file\":\"b.pem\",\"label\":\"X\"}}\n"
+    )?;
+    assert_eq!(rt; written.as_slice(), wanted.as_bytes());
     assert_eq!(rt; number, 0);
     Ok(())
 }

@@ -55,9 +55,9 @@ pub fn push_json(
     }
 }
 
-/// Puts a line of JSON at the end that says in words why octets are not read: `{"fault":{"text":".."}}`. Where the fault
-/// has an offset, counted in octets from the first, it is the member `offset` before `text`. Where the octets are from
-/// follows, as the members `file` and `label`.
+/// Puts a line of JSON at the end that says in words why octets are not read: `{"fault":{"text":".."}}`. Where the
+/// fault has an offset, counted in octets from the first, it is the member `offset` before `text`. Where the octets are
+/// from follows, as the members `file` and `label`.
 ///
 /// The only error is that memory ran out, after which some of the line may have been put.
 pub fn push_refusal(

@@ -25,8 +25,8 @@ fn a_document_has_its_line(rt: HostRuntime) -> Result<(), Fail> {
             nested,
             in_file,
             "{\"blocks\":[{\"class\":\"universal\",\"depth\":0,\"offset\":0,\"size\":10,\"tag\":16,\
-             \"type\":\"SEQUENCE\",\"value\":null},{\"class\":\"universal\",\"depth\":1,\"offset\":2,\"size\":5,\"tag\":17,\"type\":\"SET\",\
-             \"value\":null},{\"class\":\"universal\",\"depth\":2,\"offset\":4,\"size\":3,\"tag\":2,\
+             \"type\":\"SEQUENCE\",\"value\":null},{\"class\":\"universal\",\"depth\":1,\"offset\":2,\
+             \"size\":5,\"tag\":17,\"type\":\"SET\",\"value\":null},{\"class\":\"universal\",\"depth\":2,\"offset\":4,\"size\":3,\"tag\":2,\
              \"type\":\"INTEGER\",\"value\":-1},{\"class\":\"context-specific\",\"depth\":1,\"offset\":7,\"size\":3,\
              \"tag\":0,\"type\":null,\"value\":\"05\"}],\"file\":\"a.pem\",\"label\":\"A \\\"B\\\"\"}\n",
             true,

@@ -1,4 +1,4 @@
-use Rattle.std.proofs.Common.{sym, ◌∙◌, false}
+use Rattle.std.proofs.Common.{sym, ◌∙◌}
 use Rattle.der_dump.specs.Inputs.{input_of}
 use Rattle.der_dump.proofs.Readers.{left_later, one_put, one_read}
 use Rattle.der_dump.proofs.tool.push_sources.Goals as goal

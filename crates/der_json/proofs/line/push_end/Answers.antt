@@ -10,6 +10,6 @@ pub returns : goal.returns
 returns c =
     let file : Option (List ℕ) = option_map {T = Bor (List ℕ)} (λ t. t.now) c.args.origin.file in
     let label : Option (List ℕ) = option_map {T = Bor (List ℕ)} (λ t. t.now) c.args.origin.label in
-    joined c.args.out.now.items (told_text (codes ",\"file\":") file) (told_text (codes ",\"label\":") label) (codes "}\n")
-    _ _ _ c.in_ok-push_told.ensures c.in_ok-push_told-2.ensures c.in_ok-extend_from_slice.ensures.items
+    joined c.args.out.now.items (told_text (codes ",\"file\":") file) (told_text (codes ",\"label\":") label)
+    (codes "}\n") _ _ _ c.in_ok-push_told.ensures c.in_ok-push_told-2.ensures c.in_ok-extend_from_slice.ensures.items
     ∙ ap (λ z. c.args.out.now.items ++ z) (origin_end file label)

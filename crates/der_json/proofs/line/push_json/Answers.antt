@@ -16,7 +16,8 @@ returns-in_ok-push_end-in-Ok c =
     let origin : Members = told_of c.args.origin in
     let (rows, offsets, is) = c.in_ok-push_rows-in-Ok.ensures in
     let line =
-    joined c.args.out.now.items (codes "{\"blocks\":[") (items_text false (items_of rows)) (end_text origin ++ 10 ∷ []) _ _ _
+    joined c.args.out.now.items (codes "{\"blocks\":[") (items_text false (items_of rows)) (end_text origin ++ 10 ∷ [])
+    _ _ _
     c.in_ok-extend_from_slice-in-Ok.ensures.items is c.in_ok-push_end-in-Ok.ensures
     ∙ ap (λ z. c.args.out.now.items ++ z) (document_line origin rows)
     in
@@ -35,7 +36,8 @@ returns-in_ok-push_end-in-Ok c =
 pub returns-in_ok-push_refusal-in-Err : goal.returns-in_ok-push_refusal-in-Err
 returns-in_ok-push_refusal-in-Err c =
     let origin : Members = told_of c.args.origin in
-    let first : FirstFaultAt c.args.octets.now (fault_of c.in-Err.located.error) c.in-Err.located.offset = search rules in
+    let first : FirstFaultAt c.args.octets.now (fault_of c.in-Err.located.error) c.in-Err.located.offset = search rules
+    in
     let json : IsFaultJson c.args.octets.now origin _ =
     record {
       fault = fault_of c.in-Err.located.error;
