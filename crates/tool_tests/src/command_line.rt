@@ -15,7 +15,6 @@ fn one_input(alloc: Global, input: &str, task: Task) -> Result<Options<'_>, Fail
         is_full: false,
         is_flat: false,
         is_json: false,
-        most_depth: None,
     })
 }
 
@@ -97,22 +96,6 @@ fn each_flag_is_read(rt: HostRuntime) -> Result<(), Fail> {
 }
 
 #[test]
-fn a_depth_is_read(rt: HostRuntime) -> Result<(), Fail> {
-    let alloc = rt.alloc();
-    let outermost = Options {
-        most_depth: Some(0),
-        ..one_input(alloc, "-", Task::Dump)?
-    };
-    asks_for(&rt, alloc, &["der_dump", "--depth", "0"], &outermost)?;
-    let twelve = Options {
-        most_depth: Some(12),
-        is_flat: true,
-        ..one_input(alloc, "-", Task::Dump)?
-    };
-    asks_for(&rt, alloc, &["der_dump", "--depth=12", "--flat"], &twelve)
-}
-
-#[test]
 fn a_block_is_written_as_json(rt: HostRuntime) -> Result<(), Fail> {
     let alloc = rt.alloc();
     let wanted = Options {
@@ -175,10 +158,6 @@ fn each_refusal_is_one_line(rt: HostRuntime) -> Result<(), Fail> {
             "error: the argument '--extract' cannot be used with '--contents'",
         ),
         (
-            ["--depth=1", "--json"],
-            "error: the argument '--json' cannot be used with '--depth'",
-        ),
-        (
             ["--json", "--full"],
             "error: the argument '--json' cannot be used with '--full'",
         ),
@@ -205,11 +184,6 @@ fn each_refusal_is_one_line(rt: HostRuntime) -> Result<(), Fail> {
         (
             ["--contents", "18446744073709551616"],
             "error: invalid value '18446744073709551616' for '--contents': no number of 64 bits",
-        ),
-        (["--depth", "-1"], "error: unexpected argument '-1' found"),
-        (
-            ["--depth=-1", "a"],
-            "error: invalid value '-1' for '--depth': no number of 64 bits",
         ),
     ] {
         let (is_answer, text) = text_of(rt.alloc(), &["der_dump", words[0], words[1]])?;
