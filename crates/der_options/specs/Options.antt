@@ -29,7 +29,9 @@ abbrev pub files : Rule
 files = record (new_rule (codes "FILE")) { action = Some Append }
 
 abbrev pub task_rules : List Rule
-task_rules = valued (codes "at") ∷ valued (codes "extract") ∷ valued (codes "contents") ∷ flag (codes "strict") ∷ []
+task_rules =
+    valued (codes "at") ∷ valued (codes "extract") ∷ valued (codes "contents")
+    ∷ flag (codes "strict") ∷ []
 
 abbrev pub style_rules : List Rule
 style_rules = flag (codes "full") ∷ flag (codes "flat") ∷ flag (codes "json") ∷ []
@@ -75,8 +77,8 @@ is_given name rows = if takes_number name then is_some (first_of name rows) else
 abbrev pub are_both_given : Text → Text → List Row → Bool
 are_both_given first second rows = is_given first rows && is_given second rows
 
--- the arguments that do not go together: two tasks, and JSON, which has all blocks whole, with what shows more or less,
--- or writes octets
+-- the arguments that do not go together: two tasks, and JSON, which has all blocks whole, with what shows more or
+-- less, or writes octets
 abbrev pub exclusions : List (Text × Text)
 exclusions =
     (codes "at", codes "extract") ∷ (codes "at", codes "contents") ∷ (codes "extract", codes "contents")
@@ -117,7 +119,8 @@ pub record AsksFor (rows : List Row) (options : Options) : Type 0 where
 abbrev pub Means : List Text → Options → Type 0
 Means words options = (fault_of command words ≡ []) × AsksFor (matches_of command words) options
 
--- the matches ask for nothing: the value of an argument that takes a number is none, or two arguments do not go together
+-- the matches ask for nothing: the value of an argument that takes a number is none, or two arguments do not go
+-- together
 abbrev pub AsksForNothing : List Row → OptionsFault → Type 0
 AsksForNothing rows (Command e) = ⊥
 AsksForNothing rows (NoNumber name text) =
