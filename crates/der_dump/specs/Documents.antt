@@ -12,15 +12,15 @@ use Rattle.der_options.specs.declared.options.Options.{Options}
 use Rattle.simple_asn1.specs.ReadBack.{IsCanonicalDocument}
 use Rattle.simple_asn1.specs.Strict.{IsNotCanonicalAt}
 
--- the dump of octets, read strictly or not
-abbrev pub AddsReading : Bool → List ℕ → Verdict → List ℕ → List ℕ → Type 0
+-- the dump of octets, read strictly or not, with no more than so many blocks around a block, where there is a most
+abbrev pub AddsReading : Bool → Option ℕ → List ℕ → Verdict → List ℕ → List ℕ → Type 0
 AddsReading false = AddsDumpOf
 AddsReading true = AddsStrictDumpOf
 
 -- the dump of octets, or a line `!` where there are none to be read
-abbrev pub AddsDump : Bool → Option (List ℕ) → Verdict → List ℕ → List ℕ → Type 0
-AddsDump strict (Some octets) verdict before after = AddsReading strict octets verdict before after
-AddsDump strict None verdict before after = (verdict ≡ Refused) × AddsLine (IsNote 33) before after
+abbrev pub AddsDump : Bool → Option ℕ → Option (List ℕ) → Verdict → List ℕ → List ℕ → Type 0
+AddsDump strict most (Some octets) verdict before after = AddsReading strict most octets verdict before after
+AddsDump strict most None verdict before after = (verdict ≡ Refused) × AddsLine (IsNote 33) before after
 
 -- the line `=` of a label, where there is one
 abbrev pub AddsLabel : Option (List ℕ) → List ℕ → List ℕ → Type 0
@@ -28,9 +28,10 @@ AddsLabel None before after = after ≡ before
 AddsLabel (Some label) before after = AddsLine (IsNote 61) before after
 
 -- a dump under the line of its label
-abbrev pub PutsDump : Bool → Option (List ℕ) → Option (List ℕ) → Verdict → List ℕ → List ℕ → Type 0
-PutsDump strict label octets verdict before after =
-    (named : List ℕ) × AddsLabel label before named × AddsDump strict octets verdict named after
+abbrev pub PutsDump :
+    Bool → Option ℕ → Option (List ℕ) → Option (List ℕ) → Verdict → List ℕ → List ℕ → Type 0
+PutsDump strict most label octets verdict before after =
+    (named : List ℕ) × AddsLabel label before named × AddsDump strict most octets verdict named after
 
 -- a line of JSON that says in words why octets are not read, and perhaps at which offset
 abbrev pub AddsRefusal : Option ℕ → Members → List ℕ → List ℕ → Type 0
@@ -67,14 +68,14 @@ abbrev pub PutsJson :
     Bool → Option (List ℕ) → Option (List ℕ) → Option (List ℕ) → Verdict → List ℕ → List ℕ → Type 0
 PutsJson strict file label octets = AddsJsonLine strict octets (origin_members file (option_map utf8_lossy label))
 
--- as JSON or as a dump
+-- as JSON, which has all blocks, or as a dump
 abbrev pub PutsAs :
-    Bool → Bool → Option (List ℕ) → Option (List ℕ) → Option (List ℕ) → Verdict → List ℕ → List ℕ → Type 0
-PutsAs true strict file = PutsJson strict file
-PutsAs false strict file = PutsDump strict
+    Bool → Bool → Option ℕ → Option (List ℕ) → Option (List ℕ) → Option (List ℕ) → Verdict → List ℕ → List ℕ → Type 0
+PutsAs true strict most file = PutsJson strict file
+PutsAs false strict most file = PutsDump strict most
 
 -- what the options want to be put of octets that have this label, if any, in the file of this name, if it is told; or
 -- of what has no octets that can be read
 abbrev pub Puts :
     Options → Option (List ℕ) → Option (List ℕ) → Option (List ℕ) → Verdict → List ℕ → List ℕ → Type 0
-Puts options file = PutsAs options.is_json options.is_strict file
+Puts options file = PutsAs options.is_json options.is_strict options.most_depth file

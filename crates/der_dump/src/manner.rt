@@ -1,11 +1,9 @@
 // In which manner what is read is put: as a dump, or as a line of JSON.
-ghost use Rattle.std.specs.Prelude.{◌≡◌, IfOk, OnOk};
+ghost use Rattle.std.specs.Prelude.{IfOk, OnOk};
 ghost use Rattle.std.specs.Option.{option_map};
 ghost use Rattle.std.specs.Result.{result_ok};
 ghost use Rattle.der_dump.specs.Documents.{AddsDump, AddsLabel, AddsReading, PutsDump};
 ghost use Rattle.der_dump.specs.Parts.{PutsIn};
-ghost use Rattle.der_lines.specs.Dump.{AddsLine, IsNote};
-ghost use Rattle.der_lines.specs.declared.document.Verdict.TheVariants.{Refused};
 
 use crate::json_lines::push_json_line;
 use der_lines::{
@@ -50,19 +48,19 @@ fn push_dump(
     found: Result<&[u8], &str>,
     out: &mut Vec<u8>,
 ) -> Result<Verdict, AllocError>
-    ensures { IfOk result (λ verdict. PutsDump manner.now.is_strict (option_map (λ l. l.now) label.entry)
+    ensures { IfOk result (λ verdict. PutsDump manner.now.is_strict manner.now.style.most_depth (option_map (λ l. l.now) label.entry)
         (option_map (λ o. o.now) (result_ok found.entry)) verdict out.old.items out.new.items) }
 {
-    push_label_of(alloc, label, out)?;
+    push_label_of(label, out)?;
     push_lines(alloc, manner, found, out)
 }
 
 // Puts the line of a label, if there is one.
-fn push_label_of(alloc: Global, label: Option<&[u8]>, out: &mut Vec<u8>) -> Result<(), AllocError>
+fn push_label_of(label: Option<&[u8]>, out: &mut Vec<u8>) -> Result<(), AllocError>
     ensures { OnOk result (AddsLabel (option_map (λ l. l.now) label.entry) out.old.items out.new.items) }
 {
     match label {
-        Some(label) => push_label(alloc, label, out),
+        Some(label) => push_label(label, out),
         None => Ok(()),
     }
 }
@@ -73,12 +71,12 @@ fn push_lines(
     found: Result<&[u8], &str>,
     out: &mut Vec<u8>,
 ) -> Result<Verdict, AllocError>
-    ensures { IfOk result (λ verdict. AddsDump manner.now.is_strict
+    ensures { IfOk result (λ verdict. AddsDump manner.now.is_strict manner.now.style.most_depth
         (option_map (λ o. o.now) (result_ok found.entry)) verdict out.old.items out.new.items) }
 {
     match found {
         Ok(octets) => push_reading(alloc, manner, octets, out),
-        Err(why) => push_words(alloc, why, out),
+        Err(why) => push_refusal(why, out),
     }
 }
 
@@ -89,21 +87,12 @@ fn push_reading(
     octets: &[u8],
     out: &mut Vec<u8>,
 ) -> Result<Verdict, AllocError>
-    ensures { IfOk result (λ verdict. AddsReading manner.now.is_strict octets.now verdict
-        out.old.items out.new.items) }
+    ensures { IfOk result (λ verdict. AddsReading manner.now.is_strict manner.now.style.most_depth
+        octets.now verdict out.old.items out.new.items) }
 {
     if manner.is_strict {
         push_document_strictly(alloc, manner.names, manner.style, octets, out)
     } else {
         push_document(alloc, manner.names, manner.style, octets, out)
     }
-}
-
-// Puts the line that says why there are no octets to be read.
-fn push_words(alloc: Global, why: &str, out: &mut Vec<u8>) -> Result<Verdict, AllocError>
-    ensures { IfOk result (λ verdict. (verdict ≡ Refused) × AddsLine (IsNote 33) out.old.items out.new.items) }
-{
-    let mut words = Vec::from_slice(alloc, b" ")?;
-    words.extend_from_slice(why.as_bytes())?;
-    push_refusal(&words, out)
 }

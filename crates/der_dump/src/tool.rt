@@ -143,7 +143,7 @@ fn push_named(
         out.old.items out.new.items) }
 {
     if is_named {
-        push_name(alloc, options.is_json, name, out)?;
+        push_name(options.is_json, name, out)?;
         let manner = manner_of(names, options, Some(name));
         push_input(alloc, &manner, options.task, input, out)
     } else {
@@ -153,13 +153,13 @@ fn push_named(
 }
 
 // Puts the line of a name, above a dump.
-fn push_name(alloc: Global, is_json: bool, name: &str, out: &mut Vec<u8>) -> Result<(), AllocError>
+fn push_name(is_json: bool, name: &str, out: &mut Vec<u8>) -> Result<(), AllocError>
     ensures { OnOk result (AddsName is_json out.old.items out.new.items) }
 {
     if is_json {
         Ok(())
     } else {
-        push_label(alloc, name.as_bytes(), out)
+        push_label(name.as_bytes(), out)
     }
 }
 
@@ -170,12 +170,14 @@ fn manner_of<'a>(names: &'a Names, options: &Options<'_>, file: Option<&'a str>)
     ensures file { option_map (λ name. name.now) result.file ≡ option_map (λ name. name.now) file.entry }
     ensures full { result.style.is_full ≡ options.now.is_full }
     ensures flat { result.style.is_flat ≡ options.now.is_flat }
+    ensures depth { result.style.most_depth ≡ options.now.most_depth }
 {
     Manner {
         names,
         style: Style {
             is_full: options.is_full,
             is_flat: options.is_flat,
+            most_depth: options.most_depth,
         },
         is_strict: options.is_strict,
         is_json: options.is_json,

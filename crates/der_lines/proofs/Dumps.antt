@@ -3,13 +3,14 @@ use Rattle.std.proofs.Common.{◌≡◌, ◌⊎◌, ℕ, zero, suc, ◌+◌, Lis
 use Rattle.std.proofs.Common.{inl, Bool, true, false, refl, sym, ap, ◌∙◌, subst, map, append_assoc, append-nil, arith}
 use Rattle.std.proofs.lemmas.List.{map-append, drop-drop}
 use Rattle.std.specs.Fmt.{decimal}
-use Rattle.std.specs.Prelude.{Result, Ok, Err, OnOk}
+use Rattle.std.specs.Prelude.{Option, Result, Ok, Err, OnOk}
 use Rattle.std.specs.declared.alloc.AllocError.{AllocError}
 use Rattle.simple_asn1.specs.Grammar.{IsDocument}
 use Rattle.simple_asn1.specs.Tree.{Trees}
 use Rattle.der_lines.specs.Dump.{Adds, AddsLine, IsBlockLine, IsDump, IsFaultLine, IsInsideLine, IsNote, IsOneLine}
-use Rattle.der_lines.specs.Dump.{HasBlockAt, HasHeaderAt, StandAt, StandsInside, all_offsets, block_line, inside_line, no_lines}
+use Rattle.der_lines.specs.Dump.{HasBlockAt, HasHeaderAt, StandAt, StandsInside, all_offsets, offsets_to, block_line, inside_line, no_lines}
 use Rattle.der_lines.specs.Steps.{IsLineOf, PlacedInside, shown_at}
+use Rattle.der_lines.proofs.Depths.{IsAmong, to_among}
 
 -- a dump after a dump
 pub dump_join : (P : ℕ → Type 0) (os ps a b : List ℕ) → IsDump P os a → IsDump P ps b → IsDump P (os ++ ps) (a ++ b)
@@ -66,11 +67,11 @@ line_inside (Ok u) inside offset a b c e p line = subst (λ z. AddsLine (IsLineO
 line_inside (Err x) inside offset a b c e p line = tt
 
 -- the parts of a note
-pub note_put : (a b c d said : List ℕ) (mark : ℕ) → b ≡ a ++ mark ∷ [] → c ≡ b ++ said → d ≡ c ++ 10 ∷ []
-    → IsOneLine said → AddsLine (IsNote mark) a d
-note_put a b c d said mark p q r one =
-    let line : List ℕ = mark ∷ said in
-    let whole : d ≡ a ++ (line ++ 10 ∷ []) = rw (r, q, p) (simp append_assoc) in
+pub note_put : (a b c d e said : List ℕ) (mark : ℕ) → b ≡ a ++ mark ∷ [] → c ≡ b ++ 32 ∷ [] → d ≡ c ++ said → e ≡ d ++ 10 ∷ []
+    → IsOneLine said → AddsLine (IsNote mark) a e
+note_put a b c d e said mark p q r s one =
+    let line : List ℕ = mark ∷ 32 ∷ said in
+    let whole : e ≡ a ++ (line ++ 10 ∷ []) = rw (s, r, q, p) (simp append_assoc) in
     (line, whole, record { said = said; is = refl; one = one })
 
 -- the parts of the line of a fault
@@ -132,21 +133,22 @@ at_start octets o shown = record {
 }
 
 one_line :
-    (inside : Bool) (base o : ℕ) (octets : List ℕ) (bs : Trees ℕ) (done after b c : List ℕ) → IsDocument octets bs →
-    all_offsets bs ≡ done ++ o ∷ after → AddsLine (IsLineOf inside (base + o)) b c →
+    (inside : Bool) (base o : ℕ) (octets : List ℕ) (bs : Trees ℕ) (b c : List ℕ) → IsDocument octets bs →
+    IsAmong (all_offsets bs) o → AddsLine (IsLineOf inside (base + o)) b c →
     Adds (PlacedInside base octets) (shown_at inside base (o ∷ [])) b c
-one_line true base o octets bs done after b c d e line =
-    let s : StandsInside octets o = at_start octets o (inl (bs, done, after, d, e)) in
+one_line true base o octets bs b c d (earlier, later, e) line =
+    let s : StandsInside octets o = at_start octets o (inl (bs, earlier, later, d, e)) in
     adds_inside (PlacedInside base octets) (base + o) b c line (o, s, refl)
-one_line false base o octets bs done after b c d e line = adds_block (PlacedInside base octets) (base + o) b c line
+one_line false base o octets bs b c d among line = adds_block (PlacedInside base octets) (base + o) b c line
 
 pub progress_one :
-    (inside : Bool) (base o : ℕ) (octets : List ℕ) (bs : Trees ℕ) (left after a b c : List ℕ) → IsDocument octets bs →
-    Progress inside base octets (all_offsets bs) left a b → left ≡ o ∷ after →
-    AddsLine (IsLineOf inside (base + o)) b c → Progress inside base octets (all_offsets bs) after a c
-progress_one inside base o octets bs left after a b c d (done, adds, e) f line =
+    (inside : Bool) (base o : ℕ) (octets : List ℕ) (bs : Trees ℕ) (most : Option ℕ) (depth : ℕ) (left after a b c : List ℕ) →
+    IsDocument octets bs → Progress inside base octets (offsets_to most depth bs) left a b → left ≡ o ∷ after →
+    AddsLine (IsLineOf inside (base + o)) b c → Progress inside base octets (offsets_to most depth bs) after a c
+progress_one inside base o octets bs most depth left after a b c d (done, adds, e) f line =
     let P = PlacedInside base octets in
-    let one = one_line inside base o octets bs done after b c d (e ∙ ap (λ z. done ++ z) f) line in (
+    let among = to_among most depth bs o (done, after, e ∙ ap (λ z. done ++ z) f) in
+    let one = one_line inside base o octets bs b c d among line in (
       done ++ o ∷ [],
       subst (λ z. Adds P z a c) (sym (shown_join inside base done (o ∷ []))) (adds_join P _ _ a b c adds one),
       e ∙ (ap (λ z. done ++ z) f ∙ sym (append_assoc done (o ∷ []) after)),

@@ -1,3 +1,4 @@
+mod Depths
 mod Dumps
 mod Headers
 mod IndefiniteForms

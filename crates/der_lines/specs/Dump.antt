@@ -1,5 +1,5 @@
 -- What is written of a document: lines, one for each block in tree order, with its offset.
-use Rattle.std.specs.Prelude.{◌≡◌, ◌≢◌, ◌⊎◌, ℕ, ◌+◌, true, List, [], ◌∷◌, ◌++◌}
+use Rattle.std.specs.Prelude.{◌≡◌, ◌≢◌, ◌⊎◌, ℕ, suc, ◌+◌, nat_lt, Bool, true, false, if◌then◌else◌, Option, None, Some, List, [], ◌∷◌, ◌++◌}
 use Rattle.std.specs.Prelude.{drop, length, map, replicate, codes, decimal}
 use Rattle.std.specs.List.{All}
 use Rattle.der_lines.specs.declared.document.Verdict.{Verdict}
@@ -25,6 +25,25 @@ abbrev mutual
   all_offsets no_trees = []
   all_offsets (more_trees b bs) = offsets_in b ++ all_offsets bs
 
+-- what stands inside so many blocks stands inside more than the most, where there is a most
+abbrev pub is_too_deep : Option ℕ → ℕ → Bool
+is_too_deep None depth = false
+is_too_deep (Some most) depth = nat_lt most depth
+
+abbrev mutual
+  -- the offsets of a tree, which stands inside so many others, and of all inside it, but of none that stands too deep
+  pub offsets_in_to : Option ℕ → ℕ → Tree ℕ → List ℕ
+  offsets_in_to most depth (leaf o l) = if is_too_deep most depth then [] else o ∷ []
+  offsets_in_to most depth (group o g bs) = if is_too_deep most depth then [] else o ∷ offsets_to most (suc depth) bs
+  offsets_in_to most depth (explicit c o n b) =
+      if is_too_deep most depth then [] else o ∷ offsets_in_to most (suc depth) b
+  offsets_in_to most depth (unknown c k o n v) = if is_too_deep most depth then [] else o ∷ []
+
+  -- so of trees one after another
+  pub offsets_to : Option ℕ → ℕ → Trees ℕ → List ℕ
+  offsets_to most depth no_trees = []
+  offsets_to most depth (more_trees b bs) = offsets_in_to most depth b ++ offsets_to most depth bs
+
 -- no octet 0A, which ends a line
 abbrev pub IsOneLine : List ℕ → Type 0
 IsOneLine text = All (λ b. b ≢ 10) text
@@ -42,10 +61,11 @@ pub record IsInsideLine (offset : ℕ) (line : List ℕ) : Type 0 where
   pub is : line ≡ 62 ∷ shown
   pub block : IsBlockLine offset shown
 
--- any other line but that of a first fault: `=` and the label of an object, or `!` and what is wrong with one
+-- any other line but that of a first fault: `=`, a space and the label of an object, or `!`, a space and what is wrong
+-- with one
 pub record IsNote (mark : ℕ) (line : List ℕ) : Type 0 where
   pub said : List ℕ
-  pub is : line ≡ mark ∷ said
+  pub is : line ≡ mark ∷ 32 ∷ said
   pub one : IsOneLine said
 
 -- the line of a fault: `! refused at offset`, the offset in decimal, a colon, a space, and words
@@ -161,10 +181,11 @@ IsFirstIndefinite octets offsets offset =
     (earlier later : List ℕ) × (offsets ≡ earlier ++ offset ∷ later) × AreDefinite octets earlier
     × HasIndefiniteForm (drop offset octets)
 
--- the octets are a document, and its lines were put: one for each block in tree order, and those of blocks inside octets
-abbrev pub AddsBlocksOf : List ℕ → Trees ℕ → List ℕ → List ℕ → Type 0
-AddsBlocksOf octets bs before after =
-    IsDocument octets bs × Adds (StandsInside octets) (all_offsets bs) before after
+-- the octets are a document, and its lines were put: one for each block in tree order that stands inside no more than
+-- the most others, and those of blocks inside octets
+abbrev pub AddsBlocksOf : Option ℕ → List ℕ → Trees ℕ → List ℕ → List ℕ → Type 0
+AddsBlocksOf most octets bs before after =
+    IsDocument octets bs × Adds (StandsInside octets) (offsets_to most 0 bs) before after
 
 -- the octets are no document: the lines were put of what can be read, at least of a header at the front, and then their
 -- first fault, at the offset of the innermost block at fault
@@ -176,10 +197,10 @@ AddsFaultOf octets before after =
 
 -- what is put after the text of octets. A document is refused, after all its lines, where a block of it has the
 -- indefinite form, at the offset of the first that has
-abbrev pub AddsDumpOf : List ℕ → Verdict → List ℕ → List ℕ → Type 0
-AddsDumpOf octets AllRead before after =
-    (bs : Trees ℕ) × AddsBlocksOf octets bs before after × AreDefinite octets (all_offsets bs)
-AddsDumpOf octets Refused before after =
+abbrev pub AddsDumpOf : Option ℕ → List ℕ → Verdict → List ℕ → List ℕ → Type 0
+AddsDumpOf most octets AllRead before after =
+    (bs : Trees ℕ) × AddsBlocksOf most octets bs before after × AreDefinite octets (all_offsets bs)
+AddsDumpOf most octets Refused before after =
     AddsFaultOf octets before after
-    ⊎ ((bs : Trees ℕ) × (offset : ℕ) × (shown : List ℕ) × AddsBlocksOf octets bs before shown
+    ⊎ ((bs : Trees ℕ) × (offset : ℕ) × (shown : List ℕ) × AddsBlocksOf most octets bs before shown
     × IsFirstIndefinite octets (all_offsets bs) offset × AddsLine (IsFaultLine offset) shown after)

@@ -1,16 +1,19 @@
 -- What is put step by step. Private contracts alone name these.
-use Rattle.std.specs.Prelude.{◌≡◌, ◌⊎◌, ℕ, ◌+◌, ◌≤◌, Bool, true, false, List, [], ◌∷◌, ◌++◌, length, map, take}
+use Rattle.std.specs.Prelude.{◌≡◌, ◌⊎◌, ℕ, suc, ◌+◌, ◌≤◌, Option, Bool, true, false, List, [], ◌∷◌, ◌++◌, length, map, take, unwrap_or}
 use Rattle.simple_asn1.specs.Fault.{DecodeFault}
 use Rattle.simple_asn1.specs.Grammar.{FirstFault, IsDocument}
 use Rattle.simple_asn1.specs.Places.{IsEncoding}
-use Rattle.simple_asn1.specs.Tree.{Trees}
+use Rattle.simple_asn1.specs.BlockParts.{tree_items}
+use Rattle.simple_asn1.specs.Tree.{Tree, Trees, no_trees}
 use Rattle.der_lines.specs.Dump.{Adds, AreHeaders, AreShown, HasNoHeader, IsBlockLine, IsHeader, IsInsideLine}
-use Rattle.der_lines.specs.Dump.{StandAt, StandsInside, all_offsets}
-use Rattle.simple_asn1.specs.View.{document_trees}
+use Rattle.der_lines.specs.Dump.{StandAt, StandsInside, all_offsets, offsets_to}
+use Rattle.simple_asn1.specs.Types.{ASN1Block}
+use Rattle.simple_asn1.specs.View.{document_trees, views}
 use Rattle.der_lines.specs.declared.held.Held.{Held}
 use Rattle.der_lines.specs.declared.held.Inside.{Inside}
 use Rattle.der_lines.specs.declared.held.Inside.TheVariants.{Blocks, Headers}
 use Rattle.der_lines.specs.declared.header.Header.{Header}
+use Rattle.der_lines.specs.declared.walk.Walk.{Walk}
 use Rattle.der_lines.specs.declared.lines.Mark.{Mark}
 use Rattle.der_lines.specs.declared.lines.Mark.TheVariants.{Fault as fault_mark, Object as object_mark}
 use Rattle.der_lines.specs.declared.cursor.Step.{Step}
@@ -107,3 +110,17 @@ GoesTo (Leaf next) offset = offset ≡ next
 GoesTo (Into first last) offset = offset ≡ first
 GoesTo (Cut first) offset = offset ≡ first
 GoesTo Fault offset = ⊥
+
+-- the trees that a tree holds
+abbrev pub trees_in : Tree ℕ → Trees ℕ
+trees_in b = unwrap_or (tree_items b) no_trees
+
+-- the offsets of what is left of lists of blocks inside one another, the innermost last, the first of which stands so
+-- deep
+abbrev pub left_of : Option ℕ → ℕ → List (List ASN1Block) → List ℕ
+left_of most depth [] = []
+left_of most depth (blocks ∷ inner) = left_of most (suc depth) inner ++ offsets_to most depth (views blocks)
+
+-- the offsets of what a walk has yet to come to
+abbrev pub ahead : Walk → List ℕ
+ahead walk = left_of walk.most_depth walk.depth (map (λ blocks. blocks.now) walk.lists.items)

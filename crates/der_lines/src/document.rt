@@ -40,7 +40,7 @@ pub fn push_document(
     octets: &[u8],
     out: &mut Vec<u8>,
 ) -> Result<Verdict, AllocError>
-    ensures { IfOk result (λ verdict. AddsDumpOf octets.now verdict out.old.items out.new.items) }
+    ensures { IfOk result (λ verdict. AddsDumpOf style.most_depth octets.now verdict out.old.items out.new.items) }
 {
     let Some(document) = push_octets(alloc, names, style, octets, out)? else {
         return Ok(Verdict::Refused);
@@ -64,7 +64,7 @@ pub fn push_octets(
 ) -> Result<Option<Document>, AllocError>
     ensures { IfOk result (λ read. MatchOption read
         (AddsFaultOf octets.now out.old.items out.new.items)
-        (λ document. AddsBlocksOf octets.now (document_trees document) out.old.items out.new.items)) }
+        (λ document. AddsBlocksOf style.most_depth octets.now (document_trees document) out.old.items out.new.items)) }
 {
     match Document::from_der_located(alloc, octets) {
         Ok(document) => {
@@ -91,7 +91,7 @@ fn push_read(
     out: &mut Vec<u8>,
 ) -> Result<(), AllocError>
     requires { IsDocument octets.now (document_trees document.now) }
-    ensures { OnOk result (AddsBlocksOf octets.now (document_trees document.now) out.old.items out.new.items) }
+    ensures { OnOk result (AddsBlocksOf style.most_depth octets.now (document_trees document.now) out.old.items out.new.items) }
 {
     push_blocks(
         alloc,

@@ -48,7 +48,7 @@ pub fn held_in<'a>(
     ensures held { IfOk result (λ held. IfSome held (IsHeldIn octets.now place.base)) }
     ensures fewer { IfOk result (λ held. IfSome held (λ h. h.place.documents < place.documents)) }
 {
-    if place.documents == 0 {
+    if place.documents == 0 || !place.goes_into(depth) {
         return Ok(None);
     }
     let Some(part) = octets_inside(octets, block, header) else {

@@ -72,11 +72,12 @@ fn push_block_line(
     Ok(())
 }
 
-// A line that is no line of a block.
+// A line that is no line of a block: its mark, a space, and what is said.
 pub fn push_note(mark: Mark, said: &[u8], out: &mut Vec<u8>) -> Result<(), AllocError>
     ensures { OnOk result (AddsLine (IsNote (mark_of mark)) out.old.items out.new.items) }
 {
     out.push(mark_octet(mark))?;
+    out.push(b' ')?;
     push_plain(said, out)?;
     out.push(b'\n')?;
     Ok(())

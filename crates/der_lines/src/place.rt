@@ -1,5 +1,5 @@
 // Where lines stand that are put.
-ghost use Rattle.std.specs.Prelude.{◌≡◌, ◌+◌, ◌<◌, IfOk, false, true};
+ghost use Rattle.std.specs.Prelude.{◌≡◌, ◌+◌, ◌<◌, IfOk, None, false, true};
 
 use crate::style::Style;
 use std::alloc::AllocError;
@@ -20,12 +20,16 @@ pub struct Place {
     pub documents: usize,
     // whether octets are written whole
     pub is_full: bool,
+    // the most levels that may be around a block that is shown, if there is a most
+    pub most_depth: Option<usize>,
 }
 
 // The place of the document itself.
 pub fn outermost(style: Style) -> Place
     ensures outside { result.is_inside ≡ false }
     ensures base { result.base ≡ 0 }
+    ensures depth { result.depth ≡ 0 }
+    ensures most { result.most_depth ≡ style.most_depth }
 {
     Place {
         is_inside: false,
@@ -33,15 +37,38 @@ pub fn outermost(style: Style) -> Place
         depth: 0,
         documents: if style.is_flat { 0 } else { MOST_DOCUMENTS },
         is_full: style.is_full,
+        most_depth: style.most_depth,
     }
 }
 
 impl Place {
+    // That of which all is shown.
+    pub fn unlimited(self) -> Place
+        ensures same { result.is_inside ≡ self.is_inside }
+        ensures base { result.base ≡ self.base }
+        ensures documents { result.documents ≡ self.documents }
+        ensures most { result.most_depth ≡ None }
+    {
+        Place {
+            most_depth: None,
+            ..self
+        }
+    }
+
+    // Whether blocks at a depth may hold what is shown.
+    pub fn goes_into(self, depth: usize) -> bool {
+        match self.most_depth {
+            Some(most) => depth < most,
+            None => true,
+        }
+    }
+
     // That of octets which stand so many octets further on.
     pub fn further(self, before: usize) -> Result<Place, AllocError>
         ensures same { IfOk result (λ p. p.is_inside ≡ self.is_inside) }
         ensures base { IfOk result (λ p. p.base ≡ self.base + before) }
         ensures documents { IfOk result (λ p. p.documents ≡ self.documents) }
+        ensures most { IfOk result (λ p. p.most_depth ≡ self.most_depth) }
     {
         Ok(Place {
             base: sum_of(self.base, before)?,

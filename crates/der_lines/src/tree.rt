@@ -2,7 +2,7 @@
 ghost use Rattle.std.specs.Prelude.{◌≡◌, ◌+◌, ◌<◌, ◌≤◌, ◌++◌, [], List, ℕ};
 ghost use Rattle.std.specs.Prelude.{IfOk, IfSome, OnOk, drop, length, true};
 ghost use Rattle.der_lines.specs.Dump.{Adds, AddsLine, AreHeaders, AreShown, HasNoHeader};
-ghost use Rattle.der_lines.specs.Dump.{all_offsets};
+ghost use Rattle.der_lines.specs.Dump.{offsets_to};
 ghost use Rattle.der_lines.specs.Steps.{IsHeldIn, IsInside, IsLineOf, PlacedInside, PutsStep};
 ghost use Rattle.der_lines.specs.Steps.{shown_at};
 ghost use Rattle.simple_asn1.specs.Grammar.{IsDocument};
@@ -17,11 +17,11 @@ use crate::lines::push_line;
 use crate::names::Names;
 use crate::place::{Place, sum_of};
 use crate::values::{Manner, block_text};
-use crate::walk::{Found, OpenLists};
-use simple_asn1::{ASN1Block, Document, all_blocks, encoding_at};
+use crate::walk::{Found, Walk};
+use simple_asn1::{ASN1Block, Document, encoding_at};
 use std::alloc::{AllocError, Global};
 
-// Puts the lines of blocks that were read from the octets, and of all inside them.
+// Puts the lines of blocks that were read from the octets, and of all inside them, as deep as they are shown.
 #[cycle(blocks)]
 pub fn push_blocks(
     alloc: Global,
@@ -33,14 +33,11 @@ pub fn push_blocks(
 ) -> Result<(), AllocError>
     requires { IsDocument octets.now (views blocks.now) }
     ensures { OnOk result (Adds (PlacedInside place.base octets.now)
-        (shown_at place.is_inside place.base (all_offsets (views blocks.now)))
+        (shown_at place.is_inside place.base (offsets_to place.most_depth place.depth (views blocks.now)))
         out.old.items out.new.items) }
 {
-    let order = all_blocks(alloc, blocks)?;
-    let mut open = OpenLists::over(alloc, blocks.len())?;
-    for block in &order {
-        let depth = open.depth_of(block)?;
-        let found = Found { block, depth };
+    let mut walk = Walk::over(alloc, blocks, place)?;
+    while let Some(found) = walk.next()? {
         if let Some(held) = push_block(alloc, names, octets, &found, place, out)? {
             push_held(alloc, names, &held, out)?;
         }
@@ -129,7 +126,7 @@ fn push_step(
     }
     match Document::from_der(alloc, encoding) {
         Ok(document) => {
-            let inner = place.further(offset)?;
+            let inner = place.unlimited().further(offset)?;
             push_blocks(alloc, names, encoding, document.blocks(), inner, out)?;
             Ok(Step::Past(end))
         }
@@ -157,7 +154,7 @@ fn push_block<'a>(
 {
     let block = found.block;
     let offset = sum_of(place.base, block.offset())?;
-    let depth = place.depth.saturating_add(found.depth);
+    let depth = found.depth;
     let header = header_of(alloc, octets, block.offset())?;
     let held = held_in(alloc, octets, block, header_size(&header), place, depth)?;
     let manner = Manner {

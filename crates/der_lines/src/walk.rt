@@ -1,39 +1,100 @@
-// How deeply blocks stand that are gone over in tree order.
+// Blocks in tree order with how deep they stand, as deep as they are shown.
+ghost use Rattle.std.specs.Prelude.{◌≡◌, ◌+◌, ◌∷◌, ◌++◌, [], length, IfOk, MatchOption};
+ghost use Rattle.der_lines.specs.Dump.{is_too_deep, offsets_to};
+ghost use Rattle.der_lines.specs.Steps.{ahead, trees_in};
+ghost use Rattle.simple_asn1.specs.View.{tree_offset, view, views};
+
+use crate::place::{Place, sum_of};
 use simple_asn1::ASN1Block;
 use std::alloc::{AllocError, Global};
 
-// A block, and how many lists around it are open.
+// A block, and how many blocks are around it.
 #[derive(Drop)]
 pub struct Found<'a> {
     pub block: &'a ASN1Block,
     pub depth: usize,
 }
 
-// How many blocks are still to come of each list that is open, the innermost last.
+// A walk over blocks and what they hold.
 #[derive(Drop)]
-pub struct OpenLists {
-    left: Vec<usize>,
+pub struct Walk<'a> {
+    // what is left of each list that is open, the innermost last
+    lists: Vec<&'a [ASN1Block]>,
+    // how many blocks are around those of the outermost list
+    depth: usize,
+    most_depth: Option<usize>,
 }
 
-impl OpenLists {
-    // A list of so many blocks.
-    pub fn over(alloc: Global, count: usize) -> Result<OpenLists, AllocError> {
-        let mut left = Vec::new(alloc);
-        left.push(count)?;
-        Ok(OpenLists { left })
+impl<'a> Walk<'a> {
+    // Over blocks that stand at the place.
+    pub fn over(
+        alloc: Global,
+        blocks: &'a [ASN1Block],
+        place: Place,
+    ) -> Result<Walk<'a>, AllocError>
+        ensures { IfOk result (λ walk. ahead walk ≡ offsets_to place.most_depth place.depth (views blocks.now)) }
+    {
+        let mut lists = Vec::new(alloc);
+        lists.push(blocks)?;
+        Ok(Walk {
+            lists,
+            depth: place.depth,
+            most_depth: place.most_depth,
+        })
     }
 
-    // How many lists are open around the next block, which is this one.
-    pub fn depth_of(&mut self, block: &ASN1Block) -> Result<usize, AllocError> {
-        while let Some(left) = self.left.pop() {
-            if left != 0 {
-                let depth = self.left.len();
-                self.left.push(left - 1)?;
-                self.left
-                    .push(block.items().map_or(0, |items| items.len()))?;
-                return Ok(depth);
+    // The next block.
+    pub fn next(&mut self) -> Result<Option<Found<'a>>, AllocError>
+        ensures { IfOk result (λ found. MatchOption found
+            (ahead self.old ≡ [])
+            (λ f. ahead self.old ≡ tree_offset (view f.block.now) ∷ ahead self.new)) }
+    {
+        while let Some(list) = self.lists.pop() {
+            let found = self.enter(list)?;
+            if found.is_some() {
+                return Ok(found);
             }
         }
-        Ok(0)
+        Ok(None)
+    }
+
+    // The first block of a list that stood innermost, whose blocks inside are then gone over, and the rest of the list.
+    fn enter(&mut self, list: &'a [ASN1Block]) -> Result<Option<Found<'a>>, AllocError>
+        ensures next { let depth = self.old.depth + length self.old.lists.items in
+            let before = offsets_to self.old.most_depth depth (views list.now) ++ ahead self.old in
+            IfOk result (λ found. MatchOption found
+            ((before ≡ ahead self.new) × (self.new.lists.items ≡ self.old.lists.items))
+            (λ f. before ≡ tree_offset (view f.block.now) ∷ ahead self.new)) }
+        ensures depth { self.new.depth ≡ self.old.depth }
+        ensures most { self.new.most_depth ≡ self.old.most_depth }
+    {
+        let depth = sum_of(self.depth, self.lists.len())?;
+        match list.split_first() {
+            Some((block, rest)) if !self.is_too_deep(depth) => {
+                self.lists.push(rest)?;
+                self.lists.push(blocks_in(block))?;
+                Ok(Some(Found { block, depth }))
+            }
+            _ => Ok(None),
+        }
+    }
+
+    fn is_too_deep(&self, depth: usize) -> bool
+        ensures { result ≡ is_too_deep self.now.most_depth depth }
+    {
+        match self.most_depth {
+            Some(most) => most < depth,
+            None => false,
+        }
+    }
+}
+
+// The blocks that a block holds.
+fn blocks_in(block: &ASN1Block) -> &[ASN1Block]
+    ensures { views result.now ≡ trees_in (view block.now) }
+{
+    match block.items() {
+        Some(items) => items,
+        None => &[],
     }
 }

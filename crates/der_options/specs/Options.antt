@@ -34,7 +34,7 @@ task_rules =
     ∷ flag (codes "strict") ∷ []
 
 abbrev pub style_rules : List Rule
-style_rules = flag (codes "full") ∷ flag (codes "flat") ∷ flag (codes "json") ∷ []
+style_rules = flag (codes "full") ∷ flag (codes "flat") ∷ valued (codes "depth") ∷ flag (codes "json") ∷ []
 
 abbrev pub with_rules : App → List Rule → App
 with_rules = fold with_rule
@@ -68,7 +68,7 @@ names_of (Some (name ∷ names)) = name ∷ names
 -- the arguments whose values are numbers
 abbrev pub takes_number : Text → Bool
 takes_number name =
-    list_any (bytes_eq name) (codes "at" ∷ codes "extract" ∷ codes "contents" ∷ [])
+    list_any (bytes_eq name) (codes "at" ∷ codes "extract" ∷ codes "contents" ∷ codes "depth" ∷ [])
 
 -- the argument is among the words: one that takes a number has a value, and a flag is set
 abbrev pub is_given : Text → List Row → Bool
@@ -77,12 +77,12 @@ is_given name rows = if takes_number name then is_some (first_of name rows) else
 abbrev pub are_both_given : Text → Text → List Row → Bool
 are_both_given first second rows = is_given first rows && is_given second rows
 
--- the arguments that do not go together: two tasks, and JSON, which has all blocks whole, with what shows more or
+-- the arguments that do not go together: two tasks, and JSON, which has all blocks whole, with what shows fewer or
 -- less, or writes octets
 abbrev pub exclusions : List (Text × Text)
 exclusions =
     (codes "at", codes "extract") ∷ (codes "at", codes "contents") ∷ (codes "extract", codes "contents")
-    ∷ (codes "json", codes "full") ∷ (codes "json", codes "flat")
+    ∷ (codes "json", codes "depth") ∷ (codes "json", codes "full") ∷ (codes "json", codes "flat")
     ∷ (codes "json", codes "extract") ∷ (codes "json", codes "contents") ∷ []
 
 abbrev pub are_exclusive : Text → Text → Bool
@@ -114,6 +114,7 @@ pub record AsksFor (rows : List Row) (options : Options) : Type 0 where
   pub full : options.is_full ≡ is_true (first_of (codes "full") rows)
   pub flat : options.is_flat ≡ is_true (first_of (codes "flat") rows)
   pub json : options.is_json ≡ is_true (first_of (codes "json") rows)
+  pub depth : IsNumberOf (codes "depth") rows options.most_depth
 
 -- the words, of which the first is the program's name, ask for the options: the command takes them, and its matches do
 abbrev pub Means : List Text → Options → Type 0

@@ -68,12 +68,18 @@ fn with_styles<'a>(alloc: Global, command: Command<'a>) -> Result<Command<'a>, A
 {
     let full = flag(alloc, "full", "Writes values whole");
     let flat = flag(alloc, "flat", "Looks into no octets");
+    let depth = valued(
+        alloc,
+        "depth",
+        "COUNT",
+        "Shows no block that has more than COUNT blocks around it; the outermost has none",
+    );
     let json = flag(
         alloc,
         "json",
         "Writes each document as JSON on one line, with all of its blocks whole",
     );
-    command.arg(full)?.arg(flat)?.arg(json)
+    command.arg(full)?.arg(flat)?.arg(depth)?.arg(json)
 }
 
 // An argument `--name` with no value.

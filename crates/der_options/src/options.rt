@@ -27,6 +27,9 @@ pub struct Options<'a> {
     pub is_flat: bool,
     /// Documents are written as JSON, a line each.
     pub is_json: bool,
+    /// The most blocks that may be around a block that is shown, counted in blocks; the outermost has none around it.
+    /// `None` where all blocks are shown.
+    pub most_depth: Option<usize>,
 }
 
 /// What is done with an input. Offsets are counted in octets from the first octet of its document.
@@ -84,6 +87,7 @@ fn asked_for<'a>(alloc: Global, matches: &ArgMatches<'a>) -> Result<Options<'a>,
         is_full: is_set(matches, "full"),
         is_flat: is_set(matches, "flat"),
         is_json: is_set(matches, "json"),
+        most_depth: number_of(matches, "depth")?,
     })
 }
 
@@ -95,6 +99,7 @@ fn refuse_exclusions<'a>(matches: &ArgMatches<'a>) -> Result<(), OptionsFault<'a
     refuse_both(matches, "at", "extract")?;
     refuse_both(matches, "at", "contents")?;
     refuse_both(matches, "extract", "contents")?;
+    refuse_both(matches, "json", "depth")?;
     refuse_both(matches, "json", "full")?;
     refuse_both(matches, "json", "flat")?;
     refuse_both(matches, "json", "extract")?;
@@ -123,7 +128,7 @@ fn is_given(matches: &ArgMatches<'_>, name: &str) -> bool
     ensures { result ≡ is_given_by name.now (rows_of (found_of matches.now)) }
 {
     match name {
-        "at" | "extract" | "contents" => value(matches, name).is_some(),
+        "at" | "extract" | "contents" | "depth" => value(matches, name).is_some(),
         _ => is_set(matches, name),
     }
 }

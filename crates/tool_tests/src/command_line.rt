@@ -15,6 +15,7 @@ fn one_input(alloc: Global, input: &str, task: Task) -> Result<Options<'_>, Fail
         is_full: false,
         is_flat: false,
         is_json: false,
+        most_depth: None,
     })
 }
 
@@ -96,6 +97,22 @@ fn each_flag_is_read(rt: HostRuntime) -> Result<(), Fail> {
 }
 
 #[test]
+fn a_depth_is_read(rt: HostRuntime) -> Result<(), Fail> {
+    let alloc = rt.alloc();
+    let outermost = Options {
+        most_depth: Some(0),
+        ..one_input(alloc, "-", Task::Dump)?
+    };
+    asks_for(&rt, alloc, &["der_dump", "--depth", "0"], &outermost)?;
+    let twelve = Options {
+        most_depth: Some(12),
+        is_flat: true,
+        ..one_input(alloc, "-", Task::Dump)?
+    };
+    asks_for(&rt, alloc, &["der_dump", "--depth=12", "--flat"], &twelve)
+}
+
+#[test]
 fn a_block_is_written_as_json(rt: HostRuntime) -> Result<(), Fail> {
     let alloc = rt.alloc();
     let wanted = Options {
@@ -124,8 +141,16 @@ fn text_of(alloc: Global, words: &[&str]) -> Result<(bool, String), Fail> {
     }
 }
 
+// The words are refused, and this is all that is said.
+fn is_refused(rt: &impl Abort, alloc: Global, words: [&str; 2], line: &str) -> Result<(), Fail> {
+    let (is_answer, text) = text_of(alloc, &["der_dump", words[0], words[1]])?;
+    assert!(rt; !is_answer, "{words:?}");
+    assert_eq!(rt; text.as_str(), line, "{words:?}");
+    Ok(())
+}
+
 #[test]
-fn each_refusal_is_one_line(rt: HostRuntime) -> Result<(), Fail> {
+fn words_that_are_no_options_are_refused(rt: HostRuntime) -> Result<(), Fail> {
     for (words, line) in [
         (["--deep", "a"], "error: unexpected argument '--deep' found"),
         (["a", "-x"], "error: unexpected argument '-x' found"),
@@ -145,6 +170,15 @@ fn each_refusal_is_one_line(rt: HostRuntime) -> Result<(), Fail> {
             ["--at=1", "--at=1"],
             "error: the argument '--at <OFFSET>' cannot be used multiple times",
         ),
+    ] {
+        is_refused(&rt, rt.alloc(), words, line)?;
+    }
+    Ok(())
+}
+
+#[test]
+fn options_that_do_not_go_together_are_refused(rt: HostRuntime) -> Result<(), Fail> {
+    for (words, line) in [
         (
             ["--at=1", "--extract=1"],
             "error: the argument '--at' cannot be used with '--extract'",
@@ -156,6 +190,10 @@ fn each_refusal_is_one_line(rt: HostRuntime) -> Result<(), Fail> {
         (
             ["--contents=1", "--extract=1"],
             "error: the argument '--extract' cannot be used with '--contents'",
+        ),
+        (
+            ["--depth=1", "--json"],
+            "error: the argument '--json' cannot be used with '--depth'",
         ),
         (
             ["--json", "--full"],
@@ -173,6 +211,15 @@ fn each_refusal_is_one_line(rt: HostRuntime) -> Result<(), Fail> {
             ["--contents=1", "--json"],
             "error: the argument '--json' cannot be used with '--contents'",
         ),
+    ] {
+        is_refused(&rt, rt.alloc(), words, line)?;
+    }
+    Ok(())
+}
+
+#[test]
+fn values_that_are_no_numbers_are_refused(rt: HostRuntime) -> Result<(), Fail> {
+    for (words, line) in [
         (
             ["--at", "1a"],
             "error: invalid value '1a' for '--at': no number of 64 bits",
@@ -185,10 +232,13 @@ fn each_refusal_is_one_line(rt: HostRuntime) -> Result<(), Fail> {
             ["--contents", "18446744073709551616"],
             "error: invalid value '18446744073709551616' for '--contents': no number of 64 bits",
         ),
+        (["--depth", "-1"], "error: unexpected argument '-1' found"),
+        (
+            ["--depth=-1", "a"],
+            "error: invalid value '-1' for '--depth': no number of 64 bits",
+        ),
     ] {
-        let (is_answer, text) = text_of(rt.alloc(), &["der_dump", words[0], words[1]])?;
-        assert!(rt; !is_answer, "{words:?}");
-        assert_eq!(rt; text.as_str(), line, "{words:?}");
+        is_refused(&rt, rt.alloc(), words, line)?;
     }
     Ok(())
 }

@@ -16,6 +16,21 @@ const WHOLE_AND_FLAT: &str = "      0  2      39  SEQUENCE
      37  2       2    OCTET STRING 0500
 ";
 
+const OUTERMOST: &str = "      0  2      39  SEQUENCE
+";
+
+const TO_DEPTH_1: &str = "      0  2      39  SEQUENCE
+      2  2      33    OCTET STRING 000102030405060708090a0b0c0d0e0f101112131415161718191a1b1c1d1e1f.. (33 octets)
+     37  2       2    OCTET STRING 0500
+";
+
+fn to_depth(most: usize) -> Style {
+    Style {
+        most_depth: Some(most),
+        ..Style::default()
+    }
+}
+
 #[test]
 fn each_style_shows_its_own(rt: HostRuntime) -> Result<(), Fail> {
     let octets: &[u8] = &[
@@ -25,11 +40,14 @@ fn each_style_shows_its_own(rt: HostRuntime) -> Result<(), Fail> {
     let whole_and_flat = Style {
         is_full: true,
         is_flat: true,
+        most_depth: None,
     };
     let names = Names::new(rt.alloc())?;
     for (style, dump) in [
         (Style::default(), CUT_AND_HELD),
         (whole_and_flat, WHOLE_AND_FLAT),
+        (to_depth(0), OUTERMOST),
+        (to_depth(1), TO_DEPTH_1),
     ] {
         let mut out = Vec::new(rt.alloc());
         let verdict = push_document(rt.alloc(), &names, style, octets, &mut out)?;
@@ -100,8 +118,8 @@ fn the_first_indefinite_length_is_refused(rt: HostRuntime) -> Result<(), Fail> {
 #[test]
 fn labels_and_refusals_are_lines(rt: HostRuntime) -> Result<(), Fail> {
     let mut out = Vec::new(rt.alloc());
-    push_label(rt.alloc(), b"A\nB", &mut out)?;
-    let verdict = push_refusal(b" encrypted, not read", &mut out)?;
+    push_label(b"A\nB", &mut out)?;
+    let verdict = push_refusal("encrypted, not read", &mut out)?;
     assert_eq!(rt; verdict, Verdict::Refused);
     assert_eq!(rt;
         out.as_slice(),

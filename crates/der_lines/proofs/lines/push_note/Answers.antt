@@ -8,4 +8,4 @@ returns c =
     let (said, is, one) = c.in_ok-push_plain.ensures in
     let marked : c.push.new.self.items ≡ c.args.out.now.items ++ mark_of c.args.mark ∷ [] =
     c.in_ok-push.ensures.items ∙ ap (λ z. c.args.out.now.items ++ z ∷ []) c.mark_octet.ensures in
-    note_put _ _ _ _ said _ marked is c.in_ok-push-2.ensures.items one
+    note_put _ _ _ _ _ said _ marked c.in_ok-push-2.ensures.items is c.in_ok-push-3.ensures.items one

@@ -1,46 +1,14 @@
-use Rattle.std.proofs.Common.{ap, ◌∙◌, arith, subst}
+use Rattle.std.proofs.Common.{◌≡◌, ◌+◌, ◌∷◌, ap, ◌∙◌, arith, subst}
 use Rattle.simple_asn1.specs.Fault.{fault_of}
-use Rattle.simple_asn1.specs.View.{document_trees, views}
-use Rattle.der_lines.specs.Dump.{Adds, all_offsets}
-use Rattle.der_lines.specs.Steps.{IsHeldIn, PlacedInside, shown_at}
+use Rattle.simple_asn1.specs.View.{document_trees, tree_offset, view, views}
+use Rattle.std.specs.Prelude.{None}
+use Rattle.der_lines.specs.Dump.{Adds, all_offsets, offsets_to}
+use Rattle.der_lines.specs.Steps.{IsHeldIn, ahead, PlacedInside, shown_at}
 use Rattle.der_lines.specs.declared.cursor.Step.TheVariants.{Inside as Into}
+use Rattle.der_lines.proofs.Depths.{to_all}
 use Rattle.der_lines.proofs.Dumps.{progress_all, progress_held, progress_none, progress_one}
 use Rattle.der_lines.proofs.Shown.{StepPut, fault_first, put_document, put_header, put_leaf, put_none, shown_done, shown_ended, shown_more, shown_none, step_placed}
-use Rattle.der_lines.proofs.Walks.{offsets_at, offsets_next, offsets_none, offsets_ordered}
 use Rattle.der_lines.proofs.tree.+blocks.Goals as goal
-use Rattle.der_lines.proofs.tree.+blocks.Goals.{push_blocks-in-Some+in_ok-push_held+in-Blocks-1, push_blocks-in-Some+in_ok-push_held+in-Headers-1, push_blocks-in_default}
-
-pub push_blocks-loop-block-init : goal.push_blocks-loop-block-init
-push_blocks-loop-block-init t c =
-    progress_none _ _ _ _ _ _
-    (ap offsets_at c.deref-block-items.ensures.value ∙ offsets_ordered c.in_ok-order.order.items (views c.args.blocks.now) c.in_ok-order.ensures)
-
-pub push_blocks-loop-block-preserved : goal.push_blocks-loop-block-preserved
-push_blocks-loop-block-preserved t c =
-    let inside = c.args.place.is_inside in
-    let base = c.args.place.base in
-    let items = c.deref-block-items.result.now in
-    let next = offsets_next items c.loop-block.block-index c.block-item.result c.loop-block-test.true c.block-item.is in
-    let line = progress_one inside base _ c.args.octets.now (views c.args.blocks.now) _ _ _ _ _
-    c.requires c.loop-block.invariant next c.in_ok-held.ensures.line in
-    elim c.match-branch-5.branch [
-      | push_blocks-in-Some+in_ok-push_held+in-Blocks-1 w ↦
-          let held : IsHeldIn c.args.octets.now base w.in-Some.held = rw w.in-Some.is at c.in_ok-held.ensures.held in
-          let (before, stand, further, holds, is) = held in
-          rw w.out-is (progress_held inside base w.in-Some.held.place.base before c.args.octets.now
-          w.in-Some.held.octets.now (all_offsets (views c.args.blocks.now)) _ _ _ _ line stand further w.in_ok-push_held.ensures)
-      | push_blocks-in-Some+in_ok-push_held+in-Headers-1 w ↦
-          let held : IsHeldIn c.args.octets.now base w.in-Some.held = rw w.in-Some.is at c.in_ok-held.ensures.held in
-          let (before, stand, further, holds, is) = held in
-          rw w.out-is (progress_held inside base w.in-Some.held.place.base before c.args.octets.now
-          w.in-Some.held.octets.now (all_offsets (views c.args.blocks.now)) _ _ _ _ line stand further w.in_ok-push_held.ensures)
-      | push_blocks-in_default w ↦ rw w.out-is line
-    ]
-
-pub push_blocks-returns : goal.push_blocks-returns
-push_blocks-returns t c =
-    let items = c.deref-block-items.result.now in
-    progress_all c.args.place.is_inside c.args.place.base _ _ _ _ _ c.loop-block.invariant (offsets_none items c.loop-block.block-index (omega arith))
 
 pub push_encodings-loop-alloc-init : goal.push_encodings-loop-alloc-init
 push_encodings-loop-alloc-init t c =
@@ -88,12 +56,14 @@ push_step-returns-in-Ok t c =
     let inner = c.in_ok-inner-in-Ok.inner in
     let octets = c.in-Some.encoding.now in
     let there = c.in-Some.ensures.found in
-    let adds = subst (λ bs. Adds (PlacedInside inner.base octets) (shown_at inner.is_inside inner.base (all_offsets bs))
-    c.args.out.now.items c.push_blocks.new.out.items)
-    c.blocks-in-Ok.ensures c.in_ok-push_blocks-in-Ok.ensures in
+    let most : inner.most_depth ≡ None = c.in_ok-inner-in-Ok.ensures.most ∙ c.unlimited.ensures.most in
+    let all = ap (λ m. offsets_to m inner.depth (views c.blocks-in-Ok.result.now)) most
+    ∙ (to_all inner.depth (views c.blocks-in-Ok.result.now) ∙ ap all_offsets c.blocks-in-Ok.ensures) in
+    let adds = subst (λ os. Adds (PlacedInside inner.base octets) (shown_at inner.is_inside inner.base os)
+    c.args.out.now.items c.push_blocks.new.out.items) all c.in_ok-push_blocks-in-Ok.ensures in
     put_document c.args.place.is_inside inner.is_inside c.args.place.base inner.base c.args.left.now octets (document_trees c.in-Ok.document)
     c.args.offset c.in_ok-end.end _ _ (there.rest, there.stands) c.in-Ok.ensures.document c.in_ok-end.ensures
-    c.in_ok-inner-in-Ok.ensures.same c.in_ok-inner-in-Ok.ensures.base adds
+    (c.in_ok-inner-in-Ok.ensures.same ∙ c.unlimited.ensures.same) (c.in_ok-inner-in-Ok.ensures.base ∙ ap (λ n. n + c.args.offset) c.unlimited.ensures.base) adds
 
 pub push_step-returns : goal.push_step-returns
 push_step-returns t c =
@@ -102,3 +72,38 @@ push_step-returns t c =
     let fault = fault_first octets c.in-Err.fault c.in-Err.ensures.fault c.in_ok-push_faulty-in-Err.ensures.memory in
     put_leaf c.args.place.is_inside c.args.place.base c.args.left.now octets (fault_of c.in-Err.fault) c.args.offset c.in_ok-end.end _ _
     (there.rest, there.stands) there.are fault c.in_ok-end.ensures c.in_ok-push_faulty-in-Err.ensures.line
+
+pub push_blocks-loop-walk-init : goal.push_blocks-loop-walk-init
+push_blocks-loop-walk-init t c = progress_none _ _ _ _ _ _ c.in_ok-walk.ensures
+
+pub push_blocks-loop-walk-preserved-in_ok-push_held : goal.push_blocks-loop-walk-preserved-in_ok-push_held
+push_blocks-loop-walk-preserved-in_ok-push_held t c =
+    let place = c.args.place in
+    let bs = views c.args.blocks.now in
+    let next : ahead c.loop-walk.walk ≡ tree_offset (view c.in-Some.found.block.now) ∷ ahead c.next.new.self = rw c.in-Some.is at c.in_ok-found.ensures in
+    let line = progress_one place.is_inside place.base _ c.args.octets.now bs place.most_depth place.depth _ _ _ _ _
+    c.requires c.loop-walk.invariant next c.in_ok-held.ensures.line in
+    let held : IsHeldIn c.args.octets.now place.base c.in-Some-2.held = rw c.in-Some-2.is at c.in_ok-held.ensures.held in
+    let (before, stand, further, holds, is) = held in
+    progress_held place.is_inside place.base c.in-Some-2.held.place.base before c.args.octets.now c.in-Some-2.held.octets.now
+    (offsets_to place.most_depth place.depth bs) _ _ _ _ line stand further c.in_ok-push_held.ensures
+
+pub push_blocks-loop-walk-preserved-in_ok-push_held-2 : goal.push_blocks-loop-walk-preserved-in_ok-push_held-2
+push_blocks-loop-walk-preserved-in_ok-push_held-2 t c =
+    let place = c.args.place in
+    let bs = views c.args.blocks.now in
+    let next : ahead c.loop-walk.walk ≡ tree_offset (view c.in-Some.found.block.now) ∷ ahead c.next.new.self = rw c.in-Some.is at c.in_ok-found.ensures in
+    let line = progress_one place.is_inside place.base _ c.args.octets.now bs place.most_depth place.depth _ _ _ _ _
+    c.requires c.loop-walk.invariant next c.in_ok-held.ensures.line in
+    let held : IsHeldIn c.args.octets.now place.base c.in-Some-2.held = rw c.in-Some-2.is at c.in_ok-held.ensures.held in
+    let (before, stand, further, holds, is) = held in
+    progress_held place.is_inside place.base c.in-Some-2.held.place.base before c.args.octets.now c.in-Some-2.held.octets.now
+    (offsets_to place.most_depth place.depth bs) _ _ _ _ line stand further c.in_ok-push_held.ensures
+
+pub push_blocks-loop-walk-preserved : goal.push_blocks-loop-walk-preserved
+push_blocks-loop-walk-preserved t c =
+    let place = c.args.place in
+    let bs = views c.args.blocks.now in
+    let next : ahead c.loop-walk.walk ≡ tree_offset (view c.in-Some.found.block.now) ∷ ahead c.next.new.self = rw c.in-Some.is at c.in_ok-found.ensures in
+    progress_one place.is_inside place.base _ c.args.octets.now bs place.most_depth place.depth _ _ _ _ _
+    c.requires c.loop-walk.invariant next c.in_ok-held.ensures.line

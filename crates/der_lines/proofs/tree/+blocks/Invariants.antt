@@ -1,9 +1,9 @@
-use Rattle.std.proofs.Common.{◌+◌, ◌-◌, ◌*◌, ◌^◌, drop}
+use Rattle.std.proofs.Common.{◌+◌, ◌-◌, ◌*◌, ◌^◌, length}
 use Rattle.simple_asn1.specs.View.{views}
-use Rattle.der_lines.specs.Dump.{all_offsets}
+use Rattle.der_lines.specs.Dump.{offsets_to}
+use Rattle.der_lines.specs.Steps.{ahead}
 use Rattle.der_lines.proofs.Dumps.{Progress}
 use Rattle.der_lines.proofs.Shown.{ShownTo}
-use Rattle.der_lines.proofs.Walks.{offsets_at}
 use Rattle.der_lines.proofs.tree.+blocks.Given as goal
 
 abbrev pub decreases-push_blocks : goal.decreases-push_blocks
@@ -19,10 +19,13 @@ abbrev pub decreases-push_held : goal.decreases-push_held
 decreases-push_held l = 4 * l.held.now.place.documents + 3
 
 -- the blocks before this one are put
-abbrev pub invariant-push_blocks-loop-block : goal.invariant-push_blocks-loop-block
-invariant-push_blocks-loop-block l =
-    Progress l.place.is_inside l.place.base l.octets (all_offsets (views l.blocks)) (offsets_at (drop l.block-index l.block-items))
+abbrev pub invariant-push_blocks-loop-walk : goal.invariant-push_blocks-loop-walk
+invariant-push_blocks-loop-walk l =
+    Progress l.place.is_inside l.place.base l.octets (offsets_to l.place.most_depth l.place.depth (views l.blocks)) (ahead l.walk)
     l.fn.out.items l.out.items
+
+abbrev pub decreases-push_blocks-loop-walk : goal.decreases-push_blocks-loop-walk
+decreases-push_blocks-loop-walk l = length (ahead l.walk)
 
 -- the encodings before the cursor are put
 abbrev pub invariant-push_encodings-loop-alloc : goal.invariant-push_encodings-loop-alloc
