@@ -1,3 +1,4 @@
 mod Answered
+mod IndefiniteForms
 mod Inputs
 mod Readers

@@ -4,13 +4,15 @@ use Rattle.std.specs.Str.Lossy.{utf8_lossy}
 use Rattle.serde_json.specs.Data.{Members}
 use Rattle.serde_json.specs.Written.{compact_text}
 use Rattle.der_json.specs.Json.{AddsJsonOf, origin_members, refusal_json}
-use Rattle.der_lines.specs.Dump.{AddsDumpOf, AddsLine, IsNote}
+use Rattle.der_lines.specs.Dump.{AddsDumpOf, AddsLine, AreDefinite, IsFirstIndefinite, IsNote, all_offsets}
 use Rattle.der_lines.specs.Strict.{AddsStrictDumpOf}
 use Rattle.der_lines.specs.declared.document.Verdict.{Verdict}
 use Rattle.der_lines.specs.declared.document.Verdict.TheVariants.{AllRead, Refused}
 use Rattle.der_options.specs.declared.options.Options.{Options}
+use Rattle.simple_asn1.specs.Grammar.{IsDocument}
 use Rattle.simple_asn1.specs.ReadBack.{IsCanonicalDocument}
 use Rattle.simple_asn1.specs.Strict.{IsNotCanonicalAt}
+use Rattle.simple_asn1.specs.Tree.{Trees}
 
 -- the dump of octets, read strictly or not, with no more than so many blocks around a block, where there is a most
 abbrev pub AddsReading : Bool → Option ℕ → List ℕ → Verdict → List ℕ → List ℕ → Type 0
@@ -38,9 +40,24 @@ abbrev pub AddsRefusal : Option ℕ → Members → List ℕ → List ℕ → Ty
 AddsRefusal offset origin before after =
     (words : List ℕ) × (after ≡ before ++ (compact_text (refusal_json offset words origin) ++ 10 ∷ []))
 
-abbrev pub is_all_read : Verdict → Bool
-is_all_read AllRead = true
-is_all_read Refused = false
+-- the octets are a document no block of which has the indefinite form of BER
+abbrev pub IsDefiniteDocument : List ℕ → Type 0
+IsDefiniteDocument octets = (bs : Trees ℕ) × IsDocument octets bs × AreDefinite octets (all_offsets bs)
+
+-- the octets are a document, and of its blocks, in tree order, the first that has the form stands at the offset
+abbrev pub IsIndefiniteAt : List ℕ → ℕ → Type 0
+IsIndefiniteAt octets offset =
+    (bs : Trees ℕ) × IsDocument octets bs × IsFirstIndefinite octets (all_offsets bs) offset
+
+-- the line of JSON of octets. A document is refused, after its line, where a block of it has the indefinite form, at
+-- the offset of the first that has
+abbrev pub AddsDefiniteJsonOf : List ℕ → Members → Verdict → List ℕ → List ℕ → Type 0
+AddsDefiniteJsonOf octets origin AllRead before after =
+    IsDefiniteDocument octets × AddsJsonOf octets origin true before after
+AddsDefiniteJsonOf octets origin Refused before after =
+    AddsJsonOf octets origin false before after
+    ⊎ ((offset : ℕ) × (shown : List ℕ) × IsIndefiniteAt octets offset × AddsJsonOf octets origin true before shown
+    × AddsRefusal (Some offset) origin shown after)
 
 -- the line of JSON of octets, where no document is read but a canonical one: of another, that of a refusal at its first
 -- block at the top level that is not canonical
@@ -53,7 +70,7 @@ AddsStrictJsonOf octets origin Refused before after =
 
 -- the line of JSON of octets, read strictly or not
 abbrev pub AddsJsonReading : Bool → List ℕ → Members → Verdict → List ℕ → List ℕ → Type 0
-AddsJsonReading false octets origin verdict = AddsJsonOf octets origin (is_all_read verdict)
+AddsJsonReading false octets origin verdict = AddsDefiniteJsonOf octets origin verdict
 AddsJsonReading true octets origin verdict = AddsStrictJsonOf octets origin verdict
 
 -- the line of JSON of octets, or that of a refusal where there are none to be read

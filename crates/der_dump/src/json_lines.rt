@@ -1,15 +1,16 @@
 // Lines of JSON.
-ghost use Rattle.std.specs.Prelude.{IfOk, OnOk};
+ghost use Rattle.std.specs.Prelude.{IfOk, MatchOption, OnOk};
 ghost use Rattle.std.specs.Option.{option_map};
 ghost use Rattle.std.specs.Result.{result_ok};
-ghost use Rattle.der_dump.specs.Documents.{AddsJsonLine, AddsJsonReading, AddsRefusal};
-ghost use Rattle.der_dump.specs.Documents.{AddsStrictJsonOf, PutsJson, is_all_read};
+ghost use Rattle.der_dump.specs.Documents.{AddsDefiniteJsonOf, AddsJsonLine, AddsJsonReading, AddsRefusal};
+ghost use Rattle.der_dump.specs.Documents.{AddsStrictJsonOf, IsDefiniteDocument, IsIndefiniteAt, PutsJson};
+ghost use Rattle.der_dump.specs.Parts.{is_all_read};
 ghost use Rattle.der_json.specs.Json.{AddsJsonOf, told_of};
 
 use crate::manner::Manner;
 use der_json::{Origin, push_json, push_refusal};
-use der_lines::Verdict;
-use simple_asn1::{ASN1DecodeErr, discard, from_der_strict, law_one_reading};
+use der_lines::{INDEFINITE, Verdict, first_indefinite};
+use simple_asn1::{ASN1DecodeErr, Document, discard, from_der_strict, law_one_reading};
 use std::alloc::{AllocError, Global};
 
 // Puts the line of what was found: octets, or why there are none to be read.
@@ -70,7 +71,41 @@ fn push_octets(
     if is_strict {
         push_strictly(alloc, origin, octets, out)
     } else {
-        push_plainly(alloc, origin, octets, out)
+        push_definite(alloc, origin, octets, out)
+    }
+}
+
+// Puts the line of octets, and behind that of a document the refusal of its first block that has the indefinite form.
+fn push_definite(
+    alloc: Global,
+    origin: Origin<'_>,
+    octets: &[u8],
+    out: &mut Vec<u8>,
+) -> Result<Verdict, AllocError>
+    ensures { IfOk result (λ verdict. AddsDefiniteJsonOf octets.now (told_of origin.entry) verdict
+        out.old.items out.new.items) }
+{
+    match push_plainly(alloc, origin, octets, out)? {
+        Verdict::Refused => Ok(Verdict::Refused),
+        Verdict::AllRead => match indefinite_in(alloc, octets)? {
+            Some(offset) => {
+                push_refusal(alloc, origin, Some(offset), INDEFINITE, out)?;
+                Ok(Verdict::Refused)
+            }
+            None => Ok(Verdict::AllRead),
+        },
+    }
+}
+
+// The offset of the first block of a document that has the indefinite form.
+fn indefinite_in(alloc: Global, octets: &[u8]) -> Result<Option<usize>, AllocError>
+    ensures { IfOk result (λ found. MatchOption found
+        (IsDefiniteDocument octets.now)
+        (IsIndefiniteAt octets.now)) }
+{
+    match Document::from_der(alloc, octets) {
+        Ok(document) => first_indefinite(alloc, octets, document.blocks()),
+        Err(_) => Err(AllocError),
     }
 }
 

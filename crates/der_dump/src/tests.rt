@@ -193,6 +193,37 @@ fn json_tells_blocks_and_what_is_not_canonical(rt: HostRuntime) -> Result<(), Fa
     writes(&rt, alloc, words.as_slice(), SEQUENCE, none, 1)
 }
 
+// A NULL and two SEQUENCEs of indefinite length.
+const INDEFINITE_ROWS: &str =
+    "{\"blocks\":[{\"class\":\"universal\",\"depth\":0,\"offset\":0,\"size\":2,\"tag\":5,\
+     \"type\":\"NULL\",\"value\":null},\
+     {\"class\":\"universal\",\"depth\":0,\"offset\":2,\"size\":2,\"tag\":16,\
+     \"type\":\"SEQUENCE\",\"value\":null},\
+     {\"class\":\"universal\",\"depth\":0,\"offset\":4,\"size\":2,\"tag\":16,\
+     \"type\":\"SEQUENCE\",\"value\":null}]}";
+
+#[test]
+fn json_refuses_the_first_indefinite_length(rt: HostRuntime) -> Result<(), Fail> {
+    let alloc = rt.alloc();
+    let octets = b"0500 3080 3080";
+    let refused = format!(in alloc;
+        "{INDEFINITE_ROWS}\n\
+         {{\"fault\":{{\"offset\":2,\"text\":\"indefinite length (BER): levels are lost from here\"}}}}\n"
+    )?;
+    let strict = b"{\"fault\":{\"offset\":2,\"text\":\"Block is not in canonical form: 2\"}}\n";
+    let ended = b"{\"blocks\":[\
+        {\"class\":\"universal\",\"depth\":0,\"offset\":0,\"size\":2,\"tag\":16,\
+        \"type\":\"SEQUENCE\",\"value\":null},\
+        {\"class\":\"universal\",\"depth\":0,\"offset\":2,\"size\":2,\"tag\":0,\
+        \"type\":null,\"value\":\"\"}]}\n\
+        {\"fault\":{\"offset\":0,\"text\":\"indefinite length (BER): levels are lost from here\"}}\n";
+    let words = ["der_dump", "--json"];
+    writes(&rt, alloc, words.as_slice(), octets, refused.as_bytes(), 1)?;
+    writes(&rt, alloc, words.as_slice(), b"30 80 00 00", ended, 1)?;
+    let words = ["der_dump", "--json", "--strict"];
+    writes(&rt, alloc, words.as_slice(), octets, strict, 1)
+}
+
 #[test]
 fn json_tells_the_files_of_several_inputs(rt: HostRuntime) -> Result<(), Fail> {
     let alloc = rt.alloc();

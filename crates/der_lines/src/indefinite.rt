@@ -7,7 +7,12 @@ ghost use Rattle.simple_asn1.specs.View.{views};
 use simple_asn1::{ASN1Block, ASN1DecodeErr, HeaderCount, all_blocks, decode_tag, law_header};
 use std::alloc::{AllocError, Global};
 
-// The offset of the first block, in tree order, whose header in the octets has the indefinite form.
+/// The offset of the first block, in tree order, whose header in the octets has the indefinite form of BER (X.690,
+/// 8.1.3.6), if there is one: a constructed encoding with the one length octet 80, which is read as a length of 0. The
+/// blocks are those of the document that the octets are.
+///
+/// # Errors
+/// Memory ran out.
 pub fn first_indefinite(
     alloc: Global,
     octets: &[u8],

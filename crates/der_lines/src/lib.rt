@@ -16,7 +16,8 @@
 //! of BER is refused, too, after all its lines. [`push_document_strictly`] refuses what is not canonical.
 //!
 //! [`push_label`] and [`push_refusal`] put the other lines of what is written: `=` and the label of a document, `!` and
-//! why there is none. [`behind_header`] gives the contents octets of an encoding.
+//! why there is none. [`behind_header`] gives the contents octets of an encoding. [`first_indefinite`] finds the
+//! indefinite form of BER, for those who say [`INDEFINITE`] in lines of another kind.
 //!
 //! The only error is that memory ran out. What was put until then stays where it was put.
 #![tactic(auto)]
@@ -42,7 +43,9 @@ mod walk;
 
 pub use document::{Verdict, push_document};
 pub use header::behind_header;
+pub use indefinite::first_indefinite;
 pub use names::Names;
 pub use notes::{push_label, push_refusal};
 pub use strict::push_document_strictly;
 pub use style::Style;
+pub use values::INDEFINITE;

@@ -13,7 +13,7 @@ const MOST_LEVELS: usize = 40;
 // How many octets most lines fit.
 const LINE_ROOM: usize = 112;
 
-// What is said of a length of the indefinite form: blocks that stand inside in BER are shown behind.
+/// What is said of a length of the indefinite form: blocks that stand inside in BER are shown behind.
 pub const INDEFINITE: &str = "indefinite length (BER): levels are lost from here";
 
 // How a block is written.
