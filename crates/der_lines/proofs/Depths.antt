@@ -1,6 +1,6 @@
 -- Blocks as deep as they are shown.
 use Rattle.std.proofs.Common.{◌≡◌, ◌⊎◌, inl, inr, ℕ, suc, ◌+◌, Bool, true, false, if◌then◌else◌, List, [], ◌∷◌, ◌++◌}
-use Rattle.std.proofs.Common.{length, map, refl, sym, ap, ◌∙◌, subst, append_assoc, append-nil, arith, Bor}
+use Rattle.std.proofs.Common.{length, map, refl, sym, ap, ◌∙◌, append_assoc, append-nil, arith, Bor}
 use Rattle.std.proofs.lemmas.List.{length-map, length_push, map_push}
 use Rattle.std.specs.Prelude.{MatchOption, Option, None, Some, is_some}
 use Rattle.simple_asn1.specs.Types.{ASN1Block}

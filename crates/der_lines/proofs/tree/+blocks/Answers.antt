@@ -1,4 +1,4 @@
-use Rattle.std.proofs.Common.{◌≡◌, ◌+◌, ◌∷◌, ap, ◌∙◌, arith, subst}
+use Rattle.std.proofs.Common.{◌≡◌, ◌+◌, ◌∷◌, ap, ◌∙◌, subst}
 use Rattle.simple_asn1.specs.Fault.{fault_of}
 use Rattle.simple_asn1.specs.View.{document_trees, tree_offset, view, views}
 use Rattle.std.specs.Prelude.{None}
@@ -6,7 +6,7 @@ use Rattle.der_lines.specs.Dump.{Adds, all_offsets, offsets_to}
 use Rattle.der_lines.specs.Steps.{IsHeldIn, ahead, PlacedInside, shown_at}
 use Rattle.der_lines.specs.declared.cursor.Step.TheVariants.{Inside as Into}
 use Rattle.der_lines.proofs.Depths.{to_all}
-use Rattle.der_lines.proofs.Dumps.{progress_all, progress_held, progress_none, progress_one}
+use Rattle.der_lines.proofs.Dumps.{progress_held, progress_none, progress_one}
 use Rattle.der_lines.proofs.Shown.{StepPut, fault_first, put_document, put_header, put_leaf, put_none, shown_done, shown_ended, shown_more, shown_none, step_placed}
 use Rattle.der_lines.proofs.tree.+blocks.Goals as goal
 
