@@ -21,13 +21,14 @@
 // the algorithm, the number of bits and the octets of the signature: `content 30 00, algorithm 1.2, 8 bits, AB`. A
 // call that refuses its octets is answered by `refused`, the name of the fault, and after a space what the fault
 // holds: its number in decimal, or its characters as in the notation. The other calls are named as in the library.
-// Those of `OID::new`, `OID::from_u64s`, `OID::to_string`, `BigUint::to` and `BigUint::cmp` are given base-128 forms,
-// `OID::from_text` and `BigUint::from_text` a text, `encoding_at` the offset and then the document. `parts` is answered
-// by class, tag number and offset of each block, and what else it has, `boolean`, `bits`, `oid` and `moment` by that of
-// each block, or a minus, `==` by the places of blocks that are equal, `all_blocks` by the offsets of all, `Utf8Error`
-// by where contents octets stop being UTF-8, the two of texts by contents octets and by a base-128 form, and `made` by
-// what becomes of a block made by hand (`made` of `call_answers`). A line that
-// is anything else is answered by `badline`.
+// Those of `OID::new`, `OID::from_u64s`, `OID::to_string`, `BigUint::to`, `BigUint::to_string` and `BigUint::cmp` are
+// given base-128 forms, `OID::from_text` and `BigUint::from_text` a text, `encoding_at` the offset and then the
+// document. `parts` is answered by class, tag number and offset of each block, and what else it has, `boolean`,
+// `bits`, `oid` and `moment` by that of each block, or a minus, `{:?}` by what that writes of the blocks, `==` by the
+// places of blocks that are equal, `all_blocks` by the offsets of all, `Utf8Error` by where contents octets stop being
+// UTF-8, the two of texts by contents octets and by a base-128 form, and `made` by what becomes of a block made by
+// hand (`made` of `call_answers`). What `to_string` and `oid` answer `{:?}` writes too, and of an object identifier
+// and a natural number the same is read. A line that is anything else is answered by `badline`.
 ghost use Rattle.std.specs.Prelude.{◌≡◌, ◌++◌, ◌∷◌, ℕ, List, IfOk, OnOk, string_bytes, if◌then◌else◌};
 ghost use Rattle.asn1_calls.specs.Answers.{AreAnswers, IsAnswer, is_comment};
 

@@ -35,29 +35,3 @@ fn long_contents_have_long_lengths(rt: HostRuntime) -> Result<(), Fail> {
     }
     Ok(())
 }
-
-// The blocks of these octets are shown so by `{:?}`.
-fn check_shown(rt: &impl Abort, alloc: Global, input: &str, shown: &str) -> Result<(), Fail> {
-    let document = Document::from_der(alloc, &octets(alloc, input)?)?;
-    let blocks = document.blocks();
-    assert_eq!(rt; format!(in alloc; "{blocks:?}")?.as_str(), shown);
-    Ok(())
-}
-
-#[test]
-fn blocks_are_shown_with_their_values(rt: HostRuntime) -> Result<(), Fail> {
-    for (input, shown) in [
-        (
-            "31 0B 30 09 06 03 55 04 06 13 02 44 45",
-            r#"[Set(0, [Sequence(2, [ObjectIdentifier(4, 2.5.4.6), PrintableString(9, "DE")])])]"#,
-        ),
-        (
-            "30 18 02 02 03 E8 17 0D 35 30 30 31 30 31 30 30 30 30 30 30 5A A0 03 01 01 FF",
-            "[Sequence(0, [Integer(2, 1000), UTCTime(6, 1950-01-01T00:00:00), \
-             Explicit(ContextSpecific, 21, 0, Boolean(23, true))])]",
-        ),
-    ] {
-        check_shown(&rt, rt.alloc(), input, shown)?;
-    }
-    Ok(())
-}

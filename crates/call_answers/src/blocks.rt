@@ -16,6 +16,7 @@ pub enum BlockCall {
     Parts,
     Same,
     All,
+    Show,
     OfValue(ValueCall),
 }
 
@@ -29,6 +30,7 @@ impl BlockCall {
             b"parts" => Some(BlockCall::Parts),
             b"==" => Some(BlockCall::Same),
             b"all_blocks" => Some(BlockCall::All),
+            b"{:?}" => Some(BlockCall::Show),
             _ => ValueCall::named(name).map(BlockCall::OfValue),
         }
     }
@@ -50,6 +52,7 @@ impl BlockCall {
             BlockCall::Parts => parts(alloc, document.blocks()),
             BlockCall::Same => same(alloc, document.blocks()),
             BlockCall::All => offsets(alloc, document.blocks()),
+            BlockCall::Show => shown(alloc, document.blocks()),
             BlockCall::OfValue(call) => call.values(alloc, document.blocks()),
         };
         match answers {
@@ -91,6 +94,10 @@ fn clone_text(alloc: Global, block: &ASN1Block) -> Result<String, AllocError> {
     };
     discard(clones);
     text
+}
+
+fn shown(alloc: Global, blocks: &[ASN1Block]) -> Result<String, AllocError> {
+    format!(in alloc; "{blocks:?}")
 }
 
 fn faithful(alloc: Global, blocks: &[ASN1Block]) -> Result<String, AllocError> {

@@ -52,7 +52,7 @@ impl IdentifierCall {
             IdentifierCall::New => new_contents(alloc, octets),
             IdentifierCall::FromNumbers => from_numbers(alloc, octets),
             IdentifierCall::FromText => from_text(alloc, octets),
-            IdentifierCall::Show => shown_twice(alloc, &identifier_of(alloc, octets)?),
+            IdentifierCall::Show => identifier_shown(alloc, &identifier_of(alloc, octets)?),
             IdentifierCall::Clone | IdentifierCall::AsRaw | IdentifierCall::AsVec(_) => {
                 self.answer_first(alloc, octets)
             }
@@ -169,13 +169,24 @@ fn from_text(alloc: Global, octets: &[u8]) -> Result<String, AllocError> {
     }
 }
 
-// What `{}` writes, which `{:?}` is to write too.
-fn shown_twice(alloc: Global, oid: &OID) -> Result<String, AllocError> {
+// What `{}` writes, which `{:?}` is to write too, and of which, where there are components, an equal object identifier
+// is to be read.
+pub fn identifier_shown(alloc: Global, oid: &OID) -> Result<String, AllocError> {
     let text = oid.to_string(alloc)?;
     if format!(in alloc; "{oid:?}")? != text {
         return String::from_str(alloc, "shown in two ways");
     }
+    if !text.is_empty() && !is_text_of(alloc, oid, &text)? {
+        return String::from_str(alloc, "read as another");
+    }
     Ok(text)
+}
+
+fn is_text_of(alloc: Global, oid: &OID, text: &str) -> Result<bool, AllocError> {
+    match OID::from_text(alloc, text)? {
+        Some(read) => Ok(read == *oid),
+        None => Ok(false),
+    }
 }
 
 fn contents_text(alloc: Global, oid: &OID) -> Result<String, AllocError> {

@@ -13,6 +13,7 @@ pub enum NaturalCall {
     FromU64,
     FromU128,
     FromText,
+    Show,
     Clone,
     Types,
     Order,
@@ -25,6 +26,7 @@ impl NaturalCall {
             b"BigUint::from_u64" => Some(NaturalCall::FromU64),
             b"BigUint::from_u128" => Some(NaturalCall::FromU128),
             b"BigUint::from_text" => Some(NaturalCall::FromText),
+            b"BigUint::to_string" => Some(NaturalCall::Show),
             b"BigUint::clone" => Some(NaturalCall::Clone),
             b"BigUint::to" => Some(NaturalCall::Types),
             b"BigUint::cmp" => Some(NaturalCall::Order),
@@ -37,6 +39,7 @@ impl NaturalCall {
     pub fn answer(&self, alloc: Global, octets: &[u8]) -> Result<String, AllocError> {
         match self {
             NaturalCall::FromText => natural_read(alloc, octets),
+            NaturalCall::Show => natural_shown(alloc, octets),
             NaturalCall::Types => natural_types(alloc, octets),
             NaturalCall::Order => natural_order(alloc, octets),
             NaturalCall::FromU64 | NaturalCall::FromU128 | NaturalCall::Clone => {
@@ -75,6 +78,23 @@ fn natural_read(alloc: Global, octets: &[u8]) -> Result<String, AllocError> {
     match BigUint::from_text(alloc, text)? {
         Some(number) => octets_text(alloc, &encode_base127(alloc, &number)?),
         None => String::from_str(alloc, "no numeral"),
+    }
+}
+
+// What `{}` writes of the number of a base-128 form, which `{:?}` is to write too, and of which the number is to be
+// read.
+fn natural_shown(alloc: Global, octets: &[u8]) -> Result<String, AllocError> {
+    let number = match decode_base127(alloc, octets, &mut 0) {
+        Ok(number) => number,
+        Err(fault) => return refusal(alloc, &fault),
+    };
+    let text = format!(in alloc; "{number}")?;
+    if format!(in alloc; "{number:?}")? != text {
+        return String::from_str(alloc, "shown in two ways");
+    }
+    match BigUint::from_text(alloc, &text)? {
+        Some(read) if read == number => Ok(text),
+        _ => String::from_str(alloc, "read as another"),
     }
 }
 
@@ -146,6 +166,7 @@ pub enum WholeCall {
     FromU128,
     FromOctets,
     ToOctets,
+    Show,
     Clone,
     Types,
 }
@@ -160,6 +181,7 @@ impl WholeCall {
             b"BigInt::from_u128" => Some(WholeCall::FromU128),
             b"BigInt::from_signed_bytes_be" => Some(WholeCall::FromOctets),
             b"BigInt::to_signed_bytes_be" => Some(WholeCall::ToOctets),
+            b"BigInt::to_string" => Some(WholeCall::Show),
             b"BigInt::clone" => Some(WholeCall::Clone),
             b"BigInt::to" => Some(WholeCall::Types),
             _ => None,
@@ -188,6 +210,7 @@ impl WholeCall {
             },
             WholeCall::FromOctets => integer_text(alloc, given),
             WholeCall::ToOctets => whole_octets(alloc, octets),
+            WholeCall::Show => whole_shown(alloc, &given),
             WholeCall::Clone => whole_clone(alloc, octets),
             WholeCall::Types => whole_types(alloc, &given),
         }
@@ -218,6 +241,15 @@ fn whole_octets(alloc: Global, octets: &[u8]) -> Result<String, AllocError> {
         Ok(shortest) => octets_text(alloc, &shortest),
         Err(AllocError) => ran_out(alloc, number == before),
     }
+}
+
+// What `{}` writes, which `{:?}` is to write too.
+fn whole_shown(alloc: Global, number: &BigInt) -> Result<String, AllocError> {
+    let text = format!(in alloc; "{number}")?;
+    if format!(in alloc; "{number:?}")? != text {
+        return String::from_str(alloc, "shown in two ways");
+    }
+    Ok(text)
 }
 
 fn whole_clone(alloc: Global, octets: &[u8]) -> Result<String, AllocError> {

@@ -1,4 +1,5 @@
 // The values that blocks of one kind alone have.
+use crate::identifiers::identifier_shown;
 use asn1_text::octets_text;
 use simple_asn1::ASN1Block;
 use std::alloc::{AllocError, Global};
@@ -41,7 +42,10 @@ impl ValueCall {
         match self {
             ValueCall::Boolean => shown(alloc, block.boolean()),
             ValueCall::Bits => bits_text(alloc, block),
-            ValueCall::Identifier => shown(alloc, block.oid()),
+            ValueCall::Identifier => match block.oid() {
+                Some(oid) => identifier_shown(alloc, oid),
+                None => String::from_str(alloc, "-"),
+            },
             ValueCall::Moment => shown(alloc, block.moment()),
         }
     }
