@@ -6,75 +6,75 @@ use Rattle.std.specs.Prelude.{MatchOption, Option, None, Some, is_some}
 use Rattle.simple_asn1.specs.Types.{ASN1Block}
 use Rattle.simple_asn1.specs.Tree.{Tree, Trees, leaf, group, explicit, unknown, no_trees, more_trees}
 use Rattle.simple_asn1.specs.View.{tree_offset, view, views}
-use Rattle.der_lines.specs.Dump.{all_offsets, is_too_deep, offsets_in, offsets_in_to, offsets_to}
+use Rattle.der_lines.specs.Dump.{all_offsets, is_too_deep, offsets_in, offsets_in_down_to, offsets_down_to}
 use Rattle.der_lines.specs.Steps.{left_of, trees_in}
 
 mutual
-  in_all : (depth : ℕ) (b : Tree ℕ) → offsets_in_to None depth b ≡ offsets_in b
+  in_all : (depth : ℕ) (b : Tree ℕ) → offsets_in_down_to None depth b ≡ offsets_in b
   in_all depth (leaf o l) = refl
   in_all depth (group o g bs) = ap (λ z. o ∷ z) (to_all (suc depth) bs)
   in_all depth (explicit c o n b) = ap (λ z. o ∷ z) (in_all (suc depth) b)
   in_all depth (unknown c k o n v) = refl
 
   -- where there is no most, all are shown
-  pub to_all : (depth : ℕ) (bs : Trees ℕ) → offsets_to None depth bs ≡ all_offsets bs
+  pub to_all : (depth : ℕ) (bs : Trees ℕ) → offsets_down_to None depth bs ≡ all_offsets bs
   to_all depth no_trees = refl
   to_all depth (more_trees b bs) =
-      ap (λ z. z ++ offsets_to None depth bs) (in_all depth b) ∙ ap (λ z. offsets_in b ++ z) (to_all depth bs)
+      ap (λ z. z ++ offsets_down_to None depth bs) (in_all depth b) ∙ ap (λ z. offsets_in b ++ z) (to_all depth bs)
 
-in_none : (most : Option ℕ) (depth : ℕ) (b : Tree ℕ) → is_too_deep most depth ≡ true → offsets_in_to most depth b ≡ []
+in_none : (most : Option ℕ) (depth : ℕ) (b : Tree ℕ) → is_too_deep most depth ≡ true → offsets_in_down_to most depth b ≡ []
 in_none most depth (leaf o l) e = ap (λ z. if z then [] else o ∷ []) e
-in_none most depth (group o g bs) e = ap (λ z. if z then [] else o ∷ offsets_to most (suc depth) bs) e
-in_none most depth (explicit c o n b) e = ap (λ z. if z then [] else o ∷ offsets_in_to most (suc depth) b) e
+in_none most depth (group o g bs) e = ap (λ z. if z then [] else o ∷ offsets_down_to most (suc depth) bs) e
+in_none most depth (explicit c o n b) e = ap (λ z. if z then [] else o ∷ offsets_in_down_to most (suc depth) b) e
 in_none most depth (unknown c k o n v) e = ap (λ z. if z then [] else o ∷ []) e
 
 -- of what is too deep none is
-pub to_none : (most : Option ℕ) (depth : ℕ) (bs : Trees ℕ) → is_too_deep most depth ≡ true → offsets_to most depth bs ≡ []
+pub to_none : (most : Option ℕ) (depth : ℕ) (bs : Trees ℕ) → is_too_deep most depth ≡ true → offsets_down_to most depth bs ≡ []
 to_none most depth no_trees e = refl
 to_none most depth (more_trees b bs) e =
-    ap (λ z. z ++ offsets_to most depth bs) (in_none most depth b e) ∙ to_none most depth bs e
+    ap (λ z. z ++ offsets_down_to most depth bs) (in_none most depth b e) ∙ to_none most depth bs e
 
 in_next :
     (most : Option ℕ) (depth : ℕ) (b : Tree ℕ) → is_too_deep most depth ≡ false →
-    offsets_in_to most depth b ≡ tree_offset b ∷ offsets_to most (suc depth) (trees_in b)
+    offsets_in_down_to most depth b ≡ tree_offset b ∷ offsets_down_to most (suc depth) (trees_in b)
 in_next most depth (leaf o l) e = ap (λ z. if z then [] else o ∷ []) e
-in_next most depth (group o g bs) e = ap (λ z. if z then [] else o ∷ offsets_to most (suc depth) bs) e
+in_next most depth (group o g bs) e = ap (λ z. if z then [] else o ∷ offsets_down_to most (suc depth) bs) e
 in_next most depth (explicit c o n b) e =
-    ap (λ z. if z then [] else o ∷ offsets_in_to most (suc depth) b) e
-    ∙ ap (λ z. o ∷ z) (sym (append-nil (offsets_in_to most (suc depth) b)))
+    ap (λ z. if z then [] else o ∷ offsets_in_down_to most (suc depth) b) e
+    ∙ ap (λ z. o ∷ z) (sym (append-nil (offsets_in_down_to most (suc depth) b)))
 in_next most depth (unknown c k o n v) e = ap (λ z. if z then [] else o ∷ []) e
 
 -- the innermost list of a walk, and those around it
 pub left_innermost :
     (most : Option ℕ) (depth : ℕ) (outer : List (List ASN1Block)) (bs : List ASN1Block) →
-    left_of most depth (outer ++ bs ∷ []) ≡ offsets_to most (depth + length outer) (views bs) ++ left_of most depth outer
+    left_of most depth (outer ++ bs ∷ []) ≡ offsets_down_to most (depth + length outer) (views bs) ++ left_of most depth outer
 left_innermost most depth [] bs =
     let same : depth ≡ depth + 0 = omega arith in
-    ap (λ n. offsets_to most n (views bs)) same ∙ sym (append-nil (offsets_to most (depth + 0) (views bs)))
+    ap (λ n. offsets_down_to most n (views bs)) same ∙ sym (append-nil (offsets_down_to most (depth + 0) (views bs)))
 left_innermost most depth (list ∷ outer) bs =
     let same : suc depth + length outer ≡ depth + suc (length outer) = omega arith in
-    ap (λ z. z ++ offsets_to most depth (views list)) (left_innermost most (suc depth) outer bs)
-    ∙ (append_assoc (offsets_to most (suc depth + length outer) (views bs)) (left_of most (suc depth) outer) (offsets_to most depth (views list))
-    ∙ ap (λ n. offsets_to most n (views bs) ++ (left_of most (suc depth) outer ++ offsets_to most depth (views list))) same)
+    ap (λ z. z ++ offsets_down_to most depth (views list)) (left_innermost most (suc depth) outer bs)
+    ∙ (append_assoc (offsets_down_to most (suc depth + length outer) (views bs)) (left_of most (suc depth) outer) (offsets_down_to most depth (views list))
+    ∙ ap (λ n. offsets_down_to most n (views bs) ++ (left_of most (suc depth) outer ++ offsets_down_to most depth (views list))) same)
 
 -- a walk goes into what its next block holds, and then on with the rest
 pub left_entered :
     (most : Option ℕ) (depth : ℕ) (outer : List (List ASN1Block)) (b : Tree ℕ) (held rest : List ASN1Block) →
     is_too_deep most (depth + length outer) ≡ false → views held ≡ trees_in b →
-    offsets_to most (depth + length outer) (more_trees b (views rest)) ++ left_of most depth outer
+    offsets_down_to most (depth + length outer) (more_trees b (views rest)) ++ left_of most depth outer
     ≡ tree_offset b ∷ left_of most depth ((outer ++ rest ∷ []) ++ held ∷ [])
 left_entered most depth outer b held rest e h =
     let here = depth + length outer in
-    let ahead = offsets_to most here (views rest) ++ left_of most depth outer in
+    let ahead = offsets_down_to most here (views rest) ++ left_of most depth outer in
     let size : length (outer ++ rest ∷ []) ≡ length outer + 1 = length_push outer rest in
     let deeper : depth + length (outer ++ rest ∷ []) ≡ suc here = omega (arith, size) in
-    let inner : offsets_to most (suc here) (views held) ≡ offsets_to most (depth + length (outer ++ rest ∷ [])) (views held) =
-    ap (λ n. offsets_to most n (views held)) (sym deeper) in
-    ap (λ z. (z ++ offsets_to most here (views rest)) ++ left_of most depth outer) (in_next most here b e)
-    ∙ (ap (λ z. tree_offset b ∷ z) (append_assoc (offsets_to most (suc here) (trees_in b)) (offsets_to most here (views rest)) (left_of most depth outer))
-    ∙ (ap (λ z. tree_offset b ∷ (offsets_to most (suc here) z ++ ahead)) (sym h)
+    let inner : offsets_down_to most (suc here) (views held) ≡ offsets_down_to most (depth + length (outer ++ rest ∷ [])) (views held) =
+    ap (λ n. offsets_down_to most n (views held)) (sym deeper) in
+    ap (λ z. (z ++ offsets_down_to most here (views rest)) ++ left_of most depth outer) (in_next most here b e)
+    ∙ (ap (λ z. tree_offset b ∷ z) (append_assoc (offsets_down_to most (suc here) (trees_in b)) (offsets_down_to most here (views rest)) (left_of most depth outer))
+    ∙ (ap (λ z. tree_offset b ∷ (offsets_down_to most (suc here) z ++ ahead)) (sym h)
     ∙ (ap (λ z. tree_offset b ∷ (z ++ ahead)) inner
-    ∙ (ap (λ z. tree_offset b ∷ (offsets_to most (depth + length (outer ++ rest ∷ [])) (views held) ++ z)) (sym (left_innermost most depth outer rest))
+    ∙ (ap (λ z. tree_offset b ∷ (offsets_down_to most (depth + length (outer ++ rest ∷ [])) (views held) ++ z)) (sym (left_innermost most depth outer rest))
     ∙ ap (λ z. tree_offset b ∷ z) (sym (left_innermost most depth (outer ++ rest ∷ []) held))))))
 
 -- an offset is one of some
@@ -113,19 +113,19 @@ among_shown false x xs ys o f h =
     ]
 
 mutual
-  in_among : (most : Option ℕ) (depth : ℕ) (b : Tree ℕ) (o : ℕ) → IsAmong (offsets_in_to most depth b) o → IsAmong (offsets_in b) o
+  in_among : (most : Option ℕ) (depth : ℕ) (b : Tree ℕ) (o : ℕ) → IsAmong (offsets_in_down_to most depth b) o → IsAmong (offsets_in b) o
   in_among most depth (leaf p l) o h = among_shown (is_too_deep most depth) p [] [] o (λ q i. i) h
   in_among most depth (group p g bs) o h =
-      among_shown (is_too_deep most depth) p (offsets_to most (suc depth) bs) (all_offsets bs) o (λ q i. to_among most (suc depth) bs q i) h
+      among_shown (is_too_deep most depth) p (offsets_down_to most (suc depth) bs) (all_offsets bs) o (λ q i. to_among most (suc depth) bs q i) h
   in_among most depth (explicit c p n b) o h =
-      among_shown (is_too_deep most depth) p (offsets_in_to most (suc depth) b) (offsets_in b) o (λ q i. in_among most (suc depth) b q i) h
+      among_shown (is_too_deep most depth) p (offsets_in_down_to most (suc depth) b) (offsets_in b) o (λ q i. in_among most (suc depth) b q i) h
   in_among most depth (unknown c k p n v) o h = among_shown (is_too_deep most depth) p [] [] o (λ q i. i) h
 
   -- what is shown is one of all
-  pub to_among : (most : Option ℕ) (depth : ℕ) (bs : Trees ℕ) (o : ℕ) → IsAmong (offsets_to most depth bs) o → IsAmong (all_offsets bs) o
+  pub to_among : (most : Option ℕ) (depth : ℕ) (bs : Trees ℕ) (o : ℕ) → IsAmong (offsets_down_to most depth bs) o → IsAmong (all_offsets bs) o
   to_among most depth no_trees o h = h
   to_among most depth (more_trees b bs) o h =
-      elim (among_either (offsets_in_to most depth b) (offsets_to most depth bs) o h) [
+      elim (among_either (offsets_in_down_to most depth b) (offsets_down_to most depth bs) o h) [
         | inl i ↦ among_left (offsets_in b) (all_offsets bs) o (in_among most depth b o i)
         | inr i ↦ among_right (offsets_in b) (all_offsets bs) o (to_among most depth bs o i)
       ]
@@ -135,39 +135,39 @@ pub ahead_popped :
     (most : Option ℕ) (depth : ℕ) (lists outer : List (Bor (List ASN1Block))) (list : Bor (List ASN1Block)) →
     lists ≡ outer ++ list ∷ [] →
     left_of most depth (map (λ bs. bs.now) lists)
-    ≡ offsets_to most (depth + length outer) (views list.now) ++ left_of most depth (map (λ bs. bs.now) outer)
+    ≡ offsets_down_to most (depth + length outer) (views list.now) ++ left_of most depth (map (λ bs. bs.now) outer)
 ahead_popped most depth lists outer list e =
     let now : Bor (List ASN1Block) → List ASN1Block = λ bs. bs.now in
     ap (λ z. left_of most depth (map now z)) e
     ∙ (ap (left_of most depth) (map_push now outer list)
     ∙ (left_innermost most depth (map now outer) list.now
-    ∙ ap (λ n. offsets_to most (depth + n) (views list.now) ++ left_of most depth (map now outer)) (length-map outer now)))
+    ∙ ap (λ n. offsets_down_to most (depth + n) (views list.now) ++ left_of most depth (map now outer)) (length-map outer now)))
 
 -- and is gone into
 pub entered :
     (most : Option ℕ) (depth : ℕ) (outer with_rest lists : List (Bor (List ASN1Block))) (list : List ASN1Block) (b : ASN1Block)
     (rest held : Bor (List ASN1Block)) → list ≡ b ∷ rest.now → with_rest ≡ outer ++ rest ∷ [] → lists ≡ with_rest ++ held ∷ [] →
     is_too_deep most (depth + length outer) ≡ false → views held.now ≡ trees_in (view b) →
-    offsets_to most (depth + length outer) (views list) ++ left_of most depth (map (λ bs. bs.now) outer)
+    offsets_down_to most (depth + length outer) (views list) ++ left_of most depth (map (λ bs. bs.now) outer)
     ≡ tree_offset (view b) ∷ left_of most depth (map (λ bs. bs.now) lists)
 entered most depth outer with_rest lists list b rest held is with_it all deep h =
     let now : Bor (List ASN1Block) → List ASN1Block = λ bs. bs.now in
     let size : length (map now outer) ≡ length outer = length-map outer now in
     let whole : map now lists ≡ (map now outer ++ rest.now ∷ []) ++ held.now ∷ [] =
     ap (map now) all ∙ (map_push now with_rest held ∙ ap (λ z. z ++ held.now ∷ []) (ap (map now) with_it ∙ map_push now outer rest)) in
-    ap (λ z. offsets_to most (depth + length outer) (views z) ++ left_of most depth (map now outer)) is
-    ∙ (ap (λ n. offsets_to most (depth + n) (views (b ∷ rest.now)) ++ left_of most depth (map now outer)) (sym size)
+    ap (λ z. offsets_down_to most (depth + length outer) (views z) ++ left_of most depth (map now outer)) is
+    ∙ (ap (λ n. offsets_down_to most (depth + n) (views (b ∷ rest.now)) ++ left_of most depth (map now outer)) (sym size)
     ∙ (left_entered most depth (map now outer) (view b) held.now rest.now (ap (λ n. is_too_deep most (depth + n)) size ∙ deep) h
     ∙ ap (λ z. tree_offset (view b) ∷ left_of most depth z) (sym whole)))
 
 -- a list that is not gone into has nothing that is shown
-pub passed_empty : (most : Option ℕ) (depth : ℕ) (list : List ASN1Block) (os : List ℕ) → length list ≡ 0 → offsets_to most depth (views list) ++ os ≡ os
+pub passed_empty : (most : Option ℕ) (depth : ℕ) (list : List ASN1Block) (os : List ℕ) → length list ≡ 0 → offsets_down_to most depth (views list) ++ os ≡ os
 passed_empty most depth [] os e = refl
 passed_empty most depth (b ∷ bs) os e = absurd (omega (arith, e))
 
 pub passed_deep :
     (most : Option ℕ) (depth : ℕ) (list : List ASN1Block) (os : List ℕ) → is_too_deep most depth ≡ true →
-    offsets_to most depth (views list) ++ os ≡ os
+    offsets_down_to most depth (views list) ++ os ≡ os
 passed_deep most depth list os deep = ap (λ z. z ++ os) (to_none most depth (views list) deep)
 
 -- what was found, or not, of what was to come

@@ -8,7 +8,7 @@ use Rattle.std.specs.declared.alloc.AllocError.{AllocError}
 use Rattle.simple_asn1.specs.Grammar.{IsDocument}
 use Rattle.simple_asn1.specs.Tree.{Trees}
 use Rattle.der_lines.specs.Dump.{Adds, AddsLine, IsBlockLine, IsDump, IsFaultLine, IsInsideLine, IsNote, IsOneLine}
-use Rattle.der_lines.specs.Dump.{HasBlockAt, HasHeaderAt, StandAt, StandsInside, all_offsets, offsets_to, block_line, inside_line, no_lines}
+use Rattle.der_lines.specs.Dump.{HasBlockAt, HasHeaderAt, StandAt, StandsInside, all_offsets, offsets_down_to, block_line, inside_line, no_lines}
 use Rattle.der_lines.specs.Steps.{IsLineOf, PlacedInside, shown_at}
 use Rattle.der_lines.proofs.Depths.{IsAmong, to_among}
 
@@ -132,7 +132,7 @@ at_start octets o shown = record {
   is = omega arith;
 }
 
-one_line :
+pub one_line :
     (inside : Bool) (base o : ℕ) (octets : List ℕ) (bs : Trees ℕ) (b c : List ℕ) → IsDocument octets bs →
     IsAmong (all_offsets bs) o → AddsLine (IsLineOf inside (base + o)) b c →
     Adds (PlacedInside base octets) (shown_at inside base (o ∷ [])) b c
@@ -143,8 +143,8 @@ one_line false base o octets bs b c d among line = adds_block (PlacedInside base
 
 pub progress_one :
     (inside : Bool) (base o : ℕ) (octets : List ℕ) (bs : Trees ℕ) (most : Option ℕ) (depth : ℕ) (left after a b c : List ℕ) →
-    IsDocument octets bs → Progress inside base octets (offsets_to most depth bs) left a b → left ≡ o ∷ after →
-    AddsLine (IsLineOf inside (base + o)) b c → Progress inside base octets (offsets_to most depth bs) after a c
+    IsDocument octets bs → Progress inside base octets (offsets_down_to most depth bs) left a b → left ≡ o ∷ after →
+    AddsLine (IsLineOf inside (base + o)) b c → Progress inside base octets (offsets_down_to most depth bs) after a c
 progress_one inside base o octets bs most depth left after a b c d (done, adds, e) f line =
     let P = PlacedInside base octets in
     let among = to_among most depth bs o (done, after, e ∙ ap (λ z. done ++ z) f) in

@@ -29,22 +29,27 @@ use Rattle.std.proofs.lemmas.List.{drop_at, length-take-le, take-append-drop, ta
 use Rattle.simple_asn1.specs.Header.{BeginsWithNo, IsIdentifier, IsLength, IsSomeIdentifier}
 use Rattle.simple_asn1.specs.Laws.Header.{HeaderLaws}
 use Rattle.der_lines.specs.Dump.{HasNoHeader, IsHeader}
+use Rattle.der_lines.specs.Steps.{IsAtFront}
+use Rattle.der_lines.specs.declared.header.Header.{Header}
 
 pub front : (octets : List ℕ) (n : ℕ) → slice_range octets 0 n ≡ take n octets
 front octets n = let e : n - 0 ≡ n = omega arith in ap (λ m. take m octets) e
 
 -- identifier octets, and then length octets
-pub header_found :
-    (octets : List ℕ) (s t : ℕ) → s ≤ t →
-    ((tag : ℕ) × IsSomeIdentifier (slice_range octets 0 s) tag) → ((n : ℕ) × IsLength (slice_range octets s t) n) → IsHeader (take t octets)
-header_found octets s t le i l =
-    let e : t ≡ s + (t - s) = omega (arith, le) in (
-      slice_range octets 0 s,
-      slice_range octets s t,
-      ap (λ m. take m octets) e ∙ (take-add s (t - s) octets ∙ ap (λ z. z ++ slice_range octets s t) (sym (front octets s))),
-      i,
-      l,
-    )
+pub front_parted : (octets : List ℕ) (s t : ℕ) → s ≤ t → take t octets ≡ slice_range octets 0 s ++ slice_range octets s t
+front_parted octets s t le =
+    let e : t ≡ s + (t - s) = omega (arith, le) in
+    ap (λ m. take m octets) e ∙ (take-add s (t - s) octets ∙ ap (λ z. z ++ slice_range octets s t) (sym (front octets s)))
+
+-- a header that was read
+pub front_header : (octets : List ℕ) (header : Header) → IsAtFront octets header → IsHeader (take header.size octets)
+front_header octets header h = (
+  h.identifier,
+  h.len,
+  h.is,
+  (header.tag, (header.class, header.constructed, h.fields)),
+  (header.announced, h.announces),
+)
 
 -- what begins with no identifier octets begins with no header
 pub no_identifier : (octets : List ℕ) → BeginsWithNo IsSomeIdentifier octets → HasNoHeader octets

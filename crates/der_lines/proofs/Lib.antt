@@ -2,6 +2,7 @@ mod Depths
 mod Dumps
 mod Headers
 mod IndefiniteForms
+mod PartsOfBlocks
 mod Shown
 mod StrictFaults
 mod Walks

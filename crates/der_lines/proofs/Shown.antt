@@ -9,7 +9,9 @@ use Rattle.simple_asn1.specs.Places.{EncodingAt, IsEncoding}
 use Rattle.simple_asn1.specs.Tree.{Tree, Trees, leaf, group, explicit, unknown, no_trees, more_trees}
 use Rattle.der_lines.specs.Dump.{Adds, AddsLine, AreHeaders, AreShown, HasNoHeader, IsHeader, gone_into, passed_over}
 use Rattle.der_lines.specs.Dump.{StandAt, all_offsets, offsets_in, document_lines, header_line, leaf_line, no_more}
-use Rattle.der_lines.specs.Steps.{GoesTo, IsLineOf, PassesOver, PlacedFrom, PlacedInside, PutsStep, Shows, ShowsDocument, ShowsHeader, ShowsLeaf, shown_at}
+use Rattle.der_lines.specs.declared.header.Header.{Header}
+use Rattle.der_lines.proofs.Headers.{front_header}
+use Rattle.der_lines.specs.Steps.{GoesTo, IsAtFront, IsLineOf, PassesOver, PlacedFrom, PlacedInside, PutsStep, Shows, ShowsDocument, ShowsHeader, ShowsLeaf, shown_at}
 use Rattle.der_lines.specs.declared.cursor.Step.{Step}
 use Rattle.der_lines.specs.declared.cursor.Step.TheVariants.{Past, Leaf, Inside as Into, Cut, Fault}
 use Rattle.der_lines.proofs.Dumps.{adds_block, adds_inside, adds_join, adds_map, adds_nothing, at_start, placed_deeper, shown_join}
@@ -33,7 +35,7 @@ no_header_of_none [] e header rest (b ∷ identifier, len, is, i, l) q =
     let all : [] ≡ b ∷ (identifier ++ len) ++ rest = q ∙ ap (λ z. z ++ rest) is in absurd (cc all)
 no_header_of_none (b ∷ octets) e header rest h q = absurd (omega (arith, e))
 
-adds_none : (P : ℕ → Type 0) (inside : Bool) (base : ℕ) (a : List ℕ) → Adds P (shown_at inside base []) a a
+pub adds_none : (P : ℕ → Type 0) (inside : Bool) (base : ℕ) (a : List ℕ) → Adds P (shown_at inside base []) a a
 adds_none P true base a = adds_nothing P a
 adds_none P false base a = adds_nothing P a
 
@@ -292,11 +294,14 @@ put_line false base from left a b shown line = adds_block (PlacedFrom false base
 
 -- the line of a header
 pub put_header :
-    (inside : Bool) (base : ℕ) (step : Step) (left : List ℕ) (from next size : ℕ) (a b : List ℕ) → next ≡ from + size →
-    (size ≤ length left) × IsHeader (take size left) →
+    (inside : Bool) (base : ℕ) (step : Step) (left : List ℕ) (from next : ℕ) (at : Header) (a b : List ℕ) → next ≡ from + at.size →
+    IsAtFront left at →
     (ShowsHeader from left (from ∷ []) next → Shows from left (from ∷ []) step) → AddsLine (IsLineOf inside (base + from)) a b →
     PutsStep inside base from left step a b
-put_header inside base step left from next size a b n (fits, header) shows line =
+put_header inside base step left from next at a b n there shows line =
+    let size = at.size in
+    let fits = there.fits in
+    let header = front_header left at there in
     let e : next ≡ from + length (take size left) = n ∙ ap (λ m. from + m) (sym (length-take-le size left fits)) in
     let whole : left ≡ take size left ++ drop size left = sym (take-append-drop size left) in (
       from ∷ [],
@@ -333,7 +338,7 @@ later_twice base from (o ∷ os) =
     let e : base + from + o ≡ base + (from + o) = omega arith in
     ap (λ z. z ∷ map (λ o. base + from + o) os) e ∙ ap (λ z. (base + (from + o)) ∷ z) (later_twice base from os)
 
-shown_twice : (inside : Bool) (base from : ℕ) (os : List ℕ) → shown_at inside (base + from) os ≡ shown_at inside base (map (λ o. from + o) os)
+pub shown_twice : (inside : Bool) (base from : ℕ) (os : List ℕ) → shown_at inside (base + from) os ≡ shown_at inside base (map (λ o. from + o) os)
 shown_twice true base from os = refl
 shown_twice false base from os = later_twice base from os
 
@@ -383,9 +388,12 @@ pass_encoding octets left after from next at (part, rest, is, i, n) more =
 
 -- the header of an encoding at the front
 pub over_header :
-    (left part : List ℕ) (from size first last : ℕ) → EncodingAt left 0 part → (size ≤ length part) × IsHeader (take size part) →
-    first ≡ from + size → PassesOver from left (Into first last)
-over_header left part from size first last e (fits, header) f =
+    (left part : List ℕ) (from first last : ℕ) (at : Header) → EncodingAt left 0 part → IsAtFront part at →
+    first ≡ from + at.size → PassesOver from left (Into first last)
+over_header left part from first last at e there f =
+    let size = at.size in
+    let fits = there.fits in
+    let header = front_header part at there in
     let whole : part ≡ take size part ++ drop size part = sym (take-append-drop size part) in (
       take size part,
       drop size part,

@@ -32,17 +32,17 @@ is_too_deep (Some most) depth = nat_lt most depth
 
 abbrev mutual
   -- the offsets of a tree, which stands inside so many others, and of all inside it, but of none that stands too deep
-  pub offsets_in_to : Option ℕ → ℕ → Tree ℕ → List ℕ
-  offsets_in_to most depth (leaf o l) = if is_too_deep most depth then [] else o ∷ []
-  offsets_in_to most depth (group o g bs) = if is_too_deep most depth then [] else o ∷ offsets_to most (suc depth) bs
-  offsets_in_to most depth (explicit c o n b) =
-      if is_too_deep most depth then [] else o ∷ offsets_in_to most (suc depth) b
-  offsets_in_to most depth (unknown c k o n v) = if is_too_deep most depth then [] else o ∷ []
+  pub offsets_in_down_to : Option ℕ → ℕ → Tree ℕ → List ℕ
+  offsets_in_down_to most depth (leaf o l) = if is_too_deep most depth then [] else o ∷ []
+  offsets_in_down_to most depth (group o g bs) = if is_too_deep most depth then [] else o ∷ offsets_down_to most (suc depth) bs
+  offsets_in_down_to most depth (explicit c o n b) =
+      if is_too_deep most depth then [] else o ∷ offsets_in_down_to most (suc depth) b
+  offsets_in_down_to most depth (unknown c k o n v) = if is_too_deep most depth then [] else o ∷ []
 
   -- so of trees one after another
-  pub offsets_to : Option ℕ → ℕ → Trees ℕ → List ℕ
-  offsets_to most depth no_trees = []
-  offsets_to most depth (more_trees b bs) = offsets_in_to most depth b ++ offsets_to most depth bs
+  pub offsets_down_to : Option ℕ → ℕ → Trees ℕ → List ℕ
+  offsets_down_to most depth no_trees = []
+  offsets_down_to most depth (more_trees b bs) = offsets_in_down_to most depth b ++ offsets_down_to most depth bs
 
 -- no octet 0A, which ends a line
 abbrev pub IsOneLine : List ℕ → Type 0
@@ -185,7 +185,7 @@ IsFirstIndefinite octets offsets offset =
 -- the most others, and those of blocks inside octets
 abbrev pub AddsBlocksOf : Option ℕ → List ℕ → Trees ℕ → List ℕ → List ℕ → Type 0
 AddsBlocksOf most octets bs before after =
-    IsDocument octets bs × Adds (StandsInside octets) (offsets_to most 0 bs) before after
+    IsDocument octets bs × Adds (StandsInside octets) (offsets_down_to most 0 bs) before after
 
 -- the octets are no document: the lines were put of what can be read, at least of a header at the front, and then their
 -- first fault, at the offset of the innermost block at fault

@@ -1,18 +1,23 @@
 -- What is put step by step. Private contracts alone name these.
 use Rattle.std.specs.Prelude.{◌≡◌, ◌⊎◌, ℕ, suc, ◌+◌, ◌≤◌, Option, Bool, true, false, List, [], ◌∷◌, ◌++◌, length, map, take, unwrap_or}
 use Rattle.simple_asn1.specs.Fault.{DecodeFault}
-use Rattle.simple_asn1.specs.Grammar.{FirstFault, IsDocument}
+use Rattle.simple_asn1.specs.Grammar.{EncodesAll, FirstFault, IsDocument}
+use Rattle.simple_asn1.specs.Header.{IsIdentifier, IsLength}
+use Rattle.simple_asn1.specs.Contents.{group_tag}
+use Rattle.asn1_blocks.specs.declared.block.GroupKind.{GroupKind}
+use Rattle.simple_asn1.specs.declared.ASN1Class.TheVariants.{Universal}
 use Rattle.simple_asn1.specs.Places.{IsEncoding}
 use Rattle.simple_asn1.specs.BlockParts.{tree_items}
 use Rattle.simple_asn1.specs.Tree.{Tree, Trees, no_trees}
-use Rattle.der_lines.specs.Dump.{Adds, AreHeaders, AreShown, HasNoHeader, IsBlockLine, IsHeader, IsInsideLine}
-use Rattle.der_lines.specs.Dump.{StandAt, StandsInside, all_offsets, offsets_to}
+use Rattle.der_lines.specs.Dump.{Adds, AreDefinite, AreHeaders, AreShown, HasNoHeader, IsBlockLine, IsHeader, IsInsideLine}
+use Rattle.der_lines.specs.Dump.{StandAt, StandsInside, all_offsets, offsets_down_to}
 use Rattle.simple_asn1.specs.Types.{ASN1Block}
 use Rattle.simple_asn1.specs.View.{document_trees, views}
 use Rattle.der_lines.specs.declared.held.Held.{Held}
 use Rattle.der_lines.specs.declared.held.Inside.{Inside}
 use Rattle.der_lines.specs.declared.held.Inside.TheVariants.{Blocks, Headers}
 use Rattle.der_lines.specs.declared.header.Header.{Header}
+use Rattle.der_lines.specs.declared.place.Place.{Place}
 use Rattle.der_lines.specs.declared.walk.Walk.{Walk}
 use Rattle.der_lines.specs.declared.lines.Mark.{Mark}
 use Rattle.der_lines.specs.declared.lines.Mark.TheVariants.{Fault as fault_mark, Object as object_mark}
@@ -20,8 +25,17 @@ use Rattle.der_lines.specs.declared.cursor.Step.{Step}
 use Rattle.der_lines.specs.declared.cursor.Step.TheVariants.{Past, Leaf, Inside as Into, Cut, Fault}
 
 -- the header stands at the front of the octets
-abbrev pub IsAtFront : List ℕ → Header → Type 0
-IsAtFront octets header = (header.size ≤ length octets) × IsHeader (take header.size octets)
+pub record IsAtFront (octets : List ℕ) (header : Header) : Type 0 where
+  pub fits : header.size ≤ length octets
+  pub identifier : List ℕ
+  pub len : List ℕ
+  pub is : take header.size octets ≡ identifier ++ len
+  pub fields : IsIdentifier identifier header.class header.constructed header.tag
+  pub announces : IsLength len header.announced
+
+-- the header is of a SEQUENCE or SET
+abbrev pub IsGroupHeader : Header → Type 0
+IsGroupHeader header = (header.class ≡ Universal) × ((kind : GroupKind) × (header.tag ≡ group_tag kind))
 
 -- the octet that a line begins with
 abbrev pub mark_of : Mark → ℕ
@@ -41,6 +55,18 @@ shown_at false base offsets = map (λ o. base + o) offsets
 -- the offset is one of a block inside octets that stand so many octets later
 abbrev pub PlacedInside : ℕ → List ℕ → ℕ → Type 0
 PlacedInside base octets offset = (place : ℕ) × StandsInside octets place × (offset ≡ base + place)
+
+-- what was put stands behind the text
+abbrev pub Keeps : List ℕ → List ℕ → Type 0
+Keeps before after = (text : List ℕ) × (after ≡ before ++ text)
+
+-- the octets are blocks one after another, of which none has the indefinite form, and their lines were put
+pub record PutsBlocks (place : Place) (octets : List ℕ) (before : List ℕ) (after : List ℕ) : Type 0 where
+  pub trees : Trees ℕ
+  pub blocks : EncodesAll 0 octets trees
+  pub definite : AreDefinite octets (all_offsets trees)
+  pub lines : Adds (PlacedInside place.base octets)
+      (shown_at place.is_inside place.base (offsets_down_to place.most_depth place.depth trees)) before after
 
 -- octets that are shown inside others are a document, or encodings by their headers
 abbrev pub IsInside : List ℕ → Inside → Type 0
@@ -119,7 +145,7 @@ trees_in b = unwrap_or (tree_items b) no_trees
 -- deep
 abbrev pub left_of : Option ℕ → ℕ → List (List ASN1Block) → List ℕ
 left_of most depth [] = []
-left_of most depth (blocks ∷ inner) = left_of most (suc depth) inner ++ offsets_to most depth (views blocks)
+left_of most depth (blocks ∷ inner) = left_of most (suc depth) inner ++ offsets_down_to most depth (views blocks)
 
 -- the offsets of what a walk has yet to come to
 abbrev pub ahead : Walk → List ℕ

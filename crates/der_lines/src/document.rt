@@ -10,6 +10,7 @@ use crate::faults::words_at;
 use crate::indefinite::first_indefinite;
 use crate::lines::push_fault;
 use crate::names::Names;
+use crate::parts::{MOST_OPEN, push_parts};
 use crate::place::outermost;
 use crate::style::Style;
 use crate::tree::{push_blocks, push_encodings};
@@ -42,6 +43,11 @@ pub fn push_document(
 ) -> Result<Verdict, AllocError>
     ensures { IfOk result (λ verdict. AddsDumpOf style.most_depth octets.now verdict out.old.items out.new.items) }
 {
+    let start = out.len();
+    if push_parts(alloc, names, octets, outermost(style), MOST_OPEN, out)? && !octets.is_empty() {
+        return Ok(Verdict::AllRead);
+    }
+    out.truncate(start);
     let Some(document) = push_octets(alloc, names, style, octets, out)? else {
         return Ok(Verdict::Refused);
     };

@@ -1,7 +1,7 @@
 // The headers of encodings, by their octets.
-ghost use Rattle.std.specs.Prelude.{◌≡◌, ◌≢◌, None, IfOk, MatchOption};
+ghost use Rattle.std.specs.Prelude.{◌≡◌, ◌≢◌, None, IfOk, IsTrue, MatchOption};
 ghost use Rattle.der_lines.specs.Dump.{HasNoHeader, StandsBehindHeader};
-ghost use Rattle.der_lines.specs.Steps.{IsAtFront};
+ghost use Rattle.der_lines.specs.Steps.{IsAtFront, IsGroupHeader};
 ghost use Rattle.simple_asn1.specs.Types.{OutOfMemory};
 
 use simple_asn1::{
@@ -86,7 +86,9 @@ fn no_header(fault: &ASN1DecodeErr) -> Result<Option<Header>, AllocError>
 }
 
 // Whether it is the header of a SEQUENCE or SET.
-pub fn is_group(header: &Header) -> bool {
+pub fn is_group(header: &Header) -> bool
+    ensures { IsTrue result → IsGroupHeader header.now }
+{
     matches!(header.class, ASN1Class::Universal)
         && (header.tag.to_u8() == Some(16) || header.tag.to_u8() == Some(17))
 }

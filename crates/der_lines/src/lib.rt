@@ -33,6 +33,7 @@ mod indefinite;
 mod lines;
 mod names;
 mod notes;
+mod parts;
 mod place;
 mod scalars;
 mod strict;

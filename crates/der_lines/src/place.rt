@@ -1,5 +1,6 @@
 // Where lines stand that are put.
-ghost use Rattle.std.specs.Prelude.{◌≡◌, ◌+◌, ◌<◌, IfOk, None, false, true};
+ghost use Rattle.std.specs.Prelude.{◌≡◌, ◌+◌, ◌<◌, IfOk, None, false, suc, true};
+ghost use Rattle.der_lines.specs.Dump.{is_too_deep};
 
 use crate::style::Style;
 use std::alloc::AllocError;
@@ -55,6 +56,13 @@ impl Place {
         }
     }
 
+    // Whether blocks that stand here are not shown, since there are too many around them.
+    pub fn is_too_deep(self) -> bool
+        ensures { result ≡ is_too_deep self.most_depth self.depth }
+    {
+        is_too_deep(self.most_depth, self.depth)
+    }
+
     // Whether blocks at a depth may hold what is shown.
     pub fn goes_into(self, depth: usize) -> bool {
         match self.most_depth {
@@ -67,11 +75,26 @@ impl Place {
     pub fn further(self, before: usize) -> Result<Place, AllocError>
         ensures same { IfOk result (λ p. p.is_inside ≡ self.is_inside) }
         ensures base { IfOk result (λ p. p.base ≡ self.base + before) }
+        ensures depth { IfOk result (λ p. p.depth ≡ self.depth) }
         ensures documents { IfOk result (λ p. p.documents ≡ self.documents) }
         ensures most { IfOk result (λ p. p.most_depth ≡ self.most_depth) }
     {
         Ok(Place {
             base: sum_of(self.base, before)?,
+            ..self
+        })
+    }
+
+    // That of contents octets behind a header of so many octets.
+    pub fn behind(self, header: usize) -> Result<Place, AllocError>
+        ensures same { IfOk result (λ p. p.is_inside ≡ self.is_inside) }
+        ensures base { IfOk result (λ p. p.base ≡ self.base + header) }
+        ensures depth { IfOk result (λ p. p.depth ≡ suc self.depth) }
+        ensures most { IfOk result (λ p. p.most_depth ≡ self.most_depth) }
+    {
+        Ok(Place {
+            base: sum_of(self.base, header)?,
+            depth: sum_of(self.depth, 1)?,
             ..self
         })
     }
@@ -102,6 +125,16 @@ impl Place {
             documents: self.documents - 1,
             ..self
         })
+    }
+}
+
+// Whether so many levels around a block are more than the most, where there is a most.
+pub fn is_too_deep(most_depth: Option<usize>, depth: usize) -> bool
+    ensures { result ≡ is_too_deep most_depth depth }
+{
+    match most_depth {
+        Some(most) => most < depth,
+        None => false,
     }
 }
 

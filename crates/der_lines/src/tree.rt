@@ -2,7 +2,7 @@
 ghost use Rattle.std.specs.Prelude.{◌≡◌, ◌+◌, ◌<◌, ◌≤◌, ◌++◌, [], List, ℕ};
 ghost use Rattle.std.specs.Prelude.{IfOk, IfSome, OnOk, drop, length, true};
 ghost use Rattle.der_lines.specs.Dump.{Adds, AddsLine, AreHeaders, AreShown, HasNoHeader};
-ghost use Rattle.der_lines.specs.Dump.{offsets_to};
+ghost use Rattle.der_lines.specs.Dump.{offsets_down_to};
 ghost use Rattle.der_lines.specs.Steps.{IsHeldIn, IsInside, IsLineOf, PlacedInside, PutsStep};
 ghost use Rattle.der_lines.specs.Steps.{shown_at};
 ghost use Rattle.simple_asn1.specs.Grammar.{IsDocument};
@@ -33,7 +33,7 @@ pub fn push_blocks(
 ) -> Result<(), AllocError>
     requires { IsDocument octets.now (views blocks.now) }
     ensures { OnOk result (Adds (PlacedInside place.base octets.now)
-        (shown_at place.is_inside place.base (offsets_to place.most_depth place.depth (views blocks.now)))
+        (shown_at place.is_inside place.base (offsets_down_to place.most_depth place.depth (views blocks.now)))
         out.old.items out.new.items) }
 {
     let mut walk = Walk::over(alloc, blocks, place)?;

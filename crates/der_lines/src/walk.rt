@@ -1,10 +1,10 @@
 // Blocks in tree order with how deep they stand, as deep as they are shown.
 ghost use Rattle.std.specs.Prelude.{◌≡◌, ◌+◌, ◌∷◌, ◌++◌, [], length, IfOk, MatchOption};
-ghost use Rattle.der_lines.specs.Dump.{is_too_deep, offsets_to};
+ghost use Rattle.der_lines.specs.Dump.{offsets_down_to};
 ghost use Rattle.der_lines.specs.Steps.{ahead, trees_in};
 ghost use Rattle.simple_asn1.specs.View.{tree_offset, view, views};
 
-use crate::place::{Place, sum_of};
+use crate::place::{Place, is_too_deep, sum_of};
 use simple_asn1::ASN1Block;
 use std::alloc::{AllocError, Global};
 
@@ -32,7 +32,7 @@ impl<'a> Walk<'a> {
         blocks: &'a [ASN1Block],
         place: Place,
     ) -> Result<Walk<'a>, AllocError>
-        ensures { IfOk result (λ walk. ahead walk ≡ offsets_to place.most_depth place.depth (views blocks.now)) }
+        ensures { IfOk result (λ walk. ahead walk ≡ offsets_down_to place.most_depth place.depth (views blocks.now)) }
     {
         let mut lists = Vec::new(alloc);
         lists.push(blocks)?;
@@ -61,7 +61,7 @@ impl<'a> Walk<'a> {
     // The first block of a list that stood innermost, whose blocks inside are then gone over, and the rest of the list.
     fn enter(&mut self, list: &'a [ASN1Block]) -> Result<Option<Found<'a>>, AllocError>
         ensures next { let depth = self.old.depth + length self.old.lists.items in
-            let before = offsets_to self.old.most_depth depth (views list.now) ++ ahead self.old in
+            let before = offsets_down_to self.old.most_depth depth (views list.now) ++ ahead self.old in
             IfOk result (λ found. MatchOption found
             ((before ≡ ahead self.new) × (self.new.lists.items ≡ self.old.lists.items))
             (λ f. before ≡ tree_offset (view f.block.now) ∷ ahead self.new)) }
@@ -70,21 +70,12 @@ impl<'a> Walk<'a> {
     {
         let depth = sum_of(self.depth, self.lists.len())?;
         match list.split_first() {
-            Some((block, rest)) if !self.is_too_deep(depth) => {
+            Some((block, rest)) if !is_too_deep(self.most_depth, depth) => {
                 self.lists.push(rest)?;
                 self.lists.push(blocks_in(block))?;
                 Ok(Some(Found { block, depth }))
             }
             _ => Ok(None),
-        }
-    }
-
-    fn is_too_deep(&self, depth: usize) -> bool
-        ensures { result ≡ is_too_deep self.now.most_depth depth }
-    {
-        match self.most_depth {
-            Some(most) => most < depth,
-            None => false,
         }
     }
 }

@@ -8,11 +8,11 @@ returns-in_default c = put_none _ _ _ _ _ (rw c.in_default.is at c.in_ok-header.
 
 pub returns-then-is_group : goal.returns-then-is_group
 returns-then-is_group c =
-    put_header _ _ (Cut c.in_ok-first.first) c.args.left.now c.args.offset c.in_ok-first.first c.in-Some.header.size _ _ c.in_ok-first.ensures
+    put_header _ _ (Cut c.in_ok-first.first) c.args.left.now c.args.offset c.in_ok-first.first c.in-Some.header _ _ c.in_ok-first.ensures
     (rw c.in-Some.is at c.in_ok-header.ensures) (λ shown. shown) c.in_ok-push_header.ensures
 
 pub returns : goal.returns
 returns c =
     let next = c.args.offset + c.in-Some.header.size in
-    put_header _ _ Fault c.args.left.now c.args.offset next c.in-Some.header.size _ _ refl
+    put_header _ _ Fault c.args.left.now c.args.offset next c.in-Some.header _ _ refl
     (rw c.in-Some.is at c.in_ok-header.ensures) (λ shown. inr (next, shown)) c.in_ok-push_header-2.ensures

@@ -1,6 +1,6 @@
-use Rattle.std.proofs.Common.{inl, inr}
+use Rattle.std.proofs.Common.{inl, inr, slice_range}
 use Rattle.der_lines.specs.Steps.{IsAtFront}
-use Rattle.der_lines.proofs.Headers.{header_found, no_identifier, no_length, none_found}
+use Rattle.der_lines.proofs.Headers.{front_parted, no_identifier, no_length, none_found}
 use Rattle.der_lines.proofs.header.read_header.Goals as goal
 
 pub returns-in-Err : goal.returns-in-Err
@@ -11,11 +11,17 @@ returns-in-Err c =
 
 pub returns-in-Ok-decode_length : goal.returns-in-Ok-decode_length
 returns-in-Ok-decode_length c =
-    let found = c.in-Ok.found in (
-      c.in-Ok-decode_length.ensures.moved.1,
-      header_found c.args.octets.now c.decode_tag.new.index c.decode_length.new.index c.in-Ok-decode_length.ensures.moved.0
-          (found.0, (found.2, found.1, c.in-Ok.ensures.found)) (c.in-Ok-decode_length.announced, c.in-Ok-decode_length.ensures.found),
-    )
+    let octets = c.args.octets.now in
+    let behind = c.decode_tag.new.index in
+    let size = c.decode_length.new.index in
+    record {
+      fits = c.in-Ok-decode_length.ensures.moved.1;
+      identifier = slice_range octets 0 behind;
+      len = slice_range octets behind size;
+      is = front_parted octets behind size c.in-Ok-decode_length.ensures.moved.0;
+      fields = c.in-Ok.ensures.found;
+      announces = c.in-Ok-decode_length.ensures.found;
+    }
 
 pub returns-in-Err-decode_length : goal.returns-in-Err-decode_length
 returns-in-Err-decode_length c =

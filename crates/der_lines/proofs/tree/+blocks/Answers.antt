@@ -2,7 +2,7 @@ use Rattle.std.proofs.Common.{◌≡◌, ◌+◌, ◌∷◌, ap, ◌∙◌, subs
 use Rattle.simple_asn1.specs.Fault.{fault_of}
 use Rattle.simple_asn1.specs.View.{document_trees, tree_offset, view, views}
 use Rattle.std.specs.Prelude.{None}
-use Rattle.der_lines.specs.Dump.{Adds, all_offsets, offsets_to}
+use Rattle.der_lines.specs.Dump.{Adds, all_offsets, offsets_down_to}
 use Rattle.der_lines.specs.Steps.{IsHeldIn, ahead, PlacedInside, shown_at}
 use Rattle.der_lines.specs.declared.cursor.Step.TheVariants.{Inside as Into}
 use Rattle.der_lines.proofs.Depths.{to_all}
@@ -48,7 +48,7 @@ push_step-returns-in_default-2 t c =
 pub push_step-returns-then-is_group : goal.push_step-returns-then-is_group
 push_step-returns-then-is_group t c =
     put_header c.args.place.is_inside c.args.place.base (Into c.in_ok-first.first c.in_ok-end.end) c.args.left.now c.args.offset
-    c.in_ok-first.first c.in-Some-2.header.size _ _ c.in_ok-first.ensures
+    c.in_ok-first.first c.in-Some-2.header _ _ c.in_ok-first.ensures
     (rw c.in-Some-2.is at c.in_ok-header.ensures) (λ shown. shown) c.in_ok-push_header.ensures
 
 pub push_step-returns-in-Ok : goal.push_step-returns-in-Ok
@@ -57,7 +57,7 @@ push_step-returns-in-Ok t c =
     let octets = c.in-Some.encoding.now in
     let there = c.in-Some.ensures.found in
     let most : inner.most_depth ≡ None = c.in_ok-inner-in-Ok.ensures.most ∙ c.unlimited.ensures.most in
-    let all = ap (λ m. offsets_to m inner.depth (views c.blocks-in-Ok.result.now)) most
+    let all = ap (λ m. offsets_down_to m inner.depth (views c.blocks-in-Ok.result.now)) most
     ∙ (to_all inner.depth (views c.blocks-in-Ok.result.now) ∙ ap all_offsets c.blocks-in-Ok.ensures) in
     let adds = subst (λ os. Adds (PlacedInside inner.base octets) (shown_at inner.is_inside inner.base os)
     c.args.out.now.items c.push_blocks.new.out.items) all c.in_ok-push_blocks-in-Ok.ensures in
@@ -86,7 +86,7 @@ push_blocks-loop-walk-preserved-in_ok-push_held t c =
     let held : IsHeldIn c.args.octets.now place.base c.in-Some-2.held = rw c.in-Some-2.is at c.in_ok-held.ensures.held in
     let (before, stand, further, holds, is) = held in
     progress_held place.is_inside place.base c.in-Some-2.held.place.base before c.args.octets.now c.in-Some-2.held.octets.now
-    (offsets_to place.most_depth place.depth bs) _ _ _ _ line stand further c.in_ok-push_held.ensures
+    (offsets_down_to place.most_depth place.depth bs) _ _ _ _ line stand further c.in_ok-push_held.ensures
 
 pub push_blocks-loop-walk-preserved-in_ok-push_held-2 : goal.push_blocks-loop-walk-preserved-in_ok-push_held-2
 push_blocks-loop-walk-preserved-in_ok-push_held-2 t c =
@@ -98,7 +98,7 @@ push_blocks-loop-walk-preserved-in_ok-push_held-2 t c =
     let held : IsHeldIn c.args.octets.now place.base c.in-Some-2.held = rw c.in-Some-2.is at c.in_ok-held.ensures.held in
     let (before, stand, further, holds, is) = held in
     progress_held place.is_inside place.base c.in-Some-2.held.place.base before c.args.octets.now c.in-Some-2.held.octets.now
-    (offsets_to place.most_depth place.depth bs) _ _ _ _ line stand further c.in_ok-push_held.ensures
+    (offsets_down_to place.most_depth place.depth bs) _ _ _ _ line stand further c.in_ok-push_held.ensures
 
 pub push_blocks-loop-walk-preserved : goal.push_blocks-loop-walk-preserved
 push_blocks-loop-walk-preserved t c =

@@ -1,6 +1,6 @@
 use Rattle.std.proofs.Common.{◌+◌, ◌-◌, ◌*◌, ◌^◌, length}
 use Rattle.simple_asn1.specs.View.{views}
-use Rattle.der_lines.specs.Dump.{offsets_to}
+use Rattle.der_lines.specs.Dump.{offsets_down_to}
 use Rattle.der_lines.specs.Steps.{ahead}
 use Rattle.der_lines.proofs.Dumps.{Progress}
 use Rattle.der_lines.proofs.Shown.{ShownTo}
@@ -21,7 +21,7 @@ decreases-push_held l = 4 * l.held.now.place.documents + 3
 -- the blocks before this one are put
 abbrev pub invariant-push_blocks-loop-walk : goal.invariant-push_blocks-loop-walk
 invariant-push_blocks-loop-walk l =
-    Progress l.place.is_inside l.place.base l.octets (offsets_to l.place.most_depth l.place.depth (views l.blocks)) (ahead l.walk)
+    Progress l.place.is_inside l.place.base l.octets (offsets_down_to l.place.most_depth l.place.depth (views l.blocks)) (ahead l.walk)
     l.fn.out.items l.out.items
 
 abbrev pub decreases-push_blocks-loop-walk : goal.decreases-push_blocks-loop-walk
