@@ -32,6 +32,10 @@ pub enum Verdict {
 /// indefinite form of BER, whose contents are not told from what stands behind them; the first such block has a line
 /// after all others.
 ///
+/// Beside the lines it takes the memory of the blocks of one part of a document at a time: an encoding that is no
+/// SEQUENCE or SET, or one of these of no more than 65,536 contents octets. Of octets that are refused it takes that of
+/// all blocks.
+///
 /// # Errors
 /// Memory ran out.
 pub fn push_document(

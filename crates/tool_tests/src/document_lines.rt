@@ -3,6 +3,7 @@ use der_lines::{
     Names, Style, Verdict, behind_header, push_document, push_document_strictly, push_label,
     push_refusal,
 };
+use std::alloc::Global;
 use std::test::Fail;
 
 const CUT_AND_HELD: &str = "      0  2      39  SEQUENCE
@@ -112,6 +113,51 @@ fn the_first_indefinite_length_is_refused(rt: HostRuntime) -> Result<(), Fail> {
     let dump = format!(in alloc; "{LEVELS_ARE_LOST}{NOT_CANONICAL}")?;
     assert_eq!(rt; verdict, Verdict::Refused);
     assert_eq!(rt; out.as_slice(), dump.as_bytes());
+    Ok(())
+}
+
+// A SEQUENCE of 66,000 contents octets: NULLs, and then two octets.
+fn sequence_of_nulls(alloc: Global, last: [u8; 2]) -> Result<Vec<u8>, Fail> {
+    let mut octets = Vec::new(alloc);
+    octets.extend_from_slice(&[0x30, 0x83, 0x01, 0x01, 0xD0])?;
+    for _ in 0..32_999 {
+        octets.extend_from_slice(&[0x05, 0x00])?;
+    }
+    octets.extend_from_slice(&last)?;
+    Ok(octets)
+}
+
+const FIRST_NULLS: &str = "= A
+      0  5   66000  SEQUENCE
+      5  2       0    NULL
+      7  2       0    NULL
+";
+
+const LAST_NULL: &str = "
+  66003  2       0    NULL
+";
+
+const LAST_LOST: &str = "
+  66003  2       0    SEQUENCE, indefinite length (BER): levels are lost from here
+! refused at offset 66003: indefinite length (BER): levels are lost from here
+";
+
+#[test]
+fn a_long_sequence_is_shown_once(rt: HostRuntime) -> Result<(), Fail> {
+    let alloc = rt.alloc();
+    let names = Names::new(alloc)?;
+    for (last, ending, lines) in [
+        ([0x05, 0x00], LAST_NULL, 33_002),
+        ([0x30, 0x80], LAST_LOST, 33_003),
+    ] {
+        let octets = sequence_of_nulls(alloc, last)?;
+        let mut out = Vec::new(alloc);
+        push_label(b"A", &mut out)?;
+        push_document(alloc, &names, Style::default(), &octets, &mut out)?;
+        assert!(rt; out.as_slice().starts_with(FIRST_NULLS.as_bytes()));
+        assert!(rt; out.as_slice().ends_with(ending.as_bytes()));
+        assert_eq!(rt; out.iter().filter(|octet| **octet == b'\n').count(), lines);
+    }
     Ok(())
 }
 
