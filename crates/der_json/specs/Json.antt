@@ -13,7 +13,8 @@ use Rattle.simple_asn1.specs.FaultPlace.{FirstFaultAt}
 use Rattle.simple_asn1.specs.Grammar.{IsDocument}
 use Rattle.simple_asn1.specs.Places.{TreeAt}
 use Rattle.simple_asn1.specs.Tree.{Leaf, Tree, Trees, leaf, group, explicit, unknown, boolean, integer, bit_string}
-use Rattle.simple_asn1.specs.Tree.{octet_string, null as null_leaf, object_identifier, text as text_leaf, utc_time, generalized_time}
+use Rattle.simple_asn1.specs.Tree.{octet_string, null as null_leaf, object_identifier, text as text_leaf}
+use Rattle.simple_asn1.specs.Tree.{utc_time, generalized_time}
 use Rattle.simple_asn1.specs.View.{tree_class, tree_offset}
 use Rattle.simple_asn1.specs.declared.ASN1Class.{ASN1Class}
 use Rattle.simple_asn1.specs.declared.ASN1Class.TheVariants.{Application, ContextSpecific, Private, Universal}
