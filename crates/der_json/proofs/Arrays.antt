@@ -2,12 +2,13 @@
 use Rattle.std.proofs.Common.{◌≡◌, ℕ, ◌+◌, ◌<◌, ◌≤◌, List, [], ◌∷◌, ◌++◌, Bool, true, false, length, map, take, get_or}
 use Rattle.std.proofs.Common.{refl, sym, ap, ◌∙◌, Bor}
 use Rattle.std.proofs.lemmas.List.{append_assoc, append-nil, map-append, take_all, take_more}
+use Rattle.std.proofs.lemmas.Slice.Zip.{all_zipped_more}
 use Rattle.serde_json.specs.Data.{Data}
 use Rattle.serde_json.specs.Written.{comma_if, compact_text, items_text}
 use Rattle.simple_asn1.specs.Tree.{Tree}
 use Rattle.simple_asn1.specs.Types.{ASN1Block}
 use Rattle.simple_asn1.specs.View.{view}
-use Rattle.der_json.specs.Json.{at_offset, items_of, offset_in}
+use Rattle.der_json.specs.Json.{IsRow, items_of}
 use Rattle.der_json.specs.Rows.{AddsArray, AddsRows, are_some, rows_text}
 
 -- one more row, behind others
@@ -40,19 +41,16 @@ array_is (d ∷ ds) =
     ap (λ z. compact_text d ++ z) (array_later ds)
     ∙ sym (append_assoc (compact_text d) (rows_text true ds) (93 ∷ []))
 
-pub no_rows : (before : List ℕ) → AddsRows false [] before before
-no_rows before = record { rows = []; offsets = refl; some = refl; is = sym (append-nil before) }
+pub no_rows : (document before : List ℕ) → AddsRows document false [] before before
+no_rows document before = record { rows = []; told = tt; some = refl; is = sym (append-nil before) }
 
-pub one_row : (later : Bool) (trees : List (Tree ℕ)) (tree : Tree ℕ) (row : Data) (before middle comma after : List ℕ)
-    → AddsRows later trees before middle → comma ≡ middle ++ comma_if later → offset_in row ≡ at_offset tree
-    → after ≡ comma ++ compact_text row → AddsRows true (trees ++ tree ∷ []) before after
-one_row later trees tree row before middle comma after h c o e =
+pub one_row : (document : List ℕ) (later : Bool) (trees : List (Tree ℕ)) (tree : Tree ℕ) (row : Data) (before middle comma after : List ℕ)
+    → AddsRows document later trees before middle → comma ≡ middle ++ comma_if later → IsRow document tree row
+    → after ≡ comma ++ compact_text row → AddsRows document true (trees ++ tree ∷ []) before after
+one_row document later trees tree row before middle comma after h c o e =
     record {
       rows = h.rows ++ row ∷ [];
-      offsets =
-          map-append offset_in h.rows (row ∷ [])
-          ∙ (ap (λ z. z ++ offset_in row ∷ []) h.offsets
-          ∙ (ap (λ z. map at_offset trees ++ z ∷ []) o ∙ sym (map-append at_offset trees (tree ∷ []))));
+      told = all_zipped_more (IsRow document) trees h.rows tree row h.told o;
       some = some_more h.rows row;
       is =
           e ∙ (ap (λ z. z ++ compact_text row) (c ∙ (ap (λ z. z ++ comma_if later) h.is))
@@ -61,11 +59,11 @@ one_row later trees tree row before middle comma after h c o e =
           ∙ ap (λ z. before ++ z) (ap (λ z. rows_text false h.rows ++ (comma_if z ++ compact_text row)) h.some ∙ sym (rows_more h.rows row))));
     }
 
-pub all_rows : (later : Bool) (trees : List (Tree ℕ)) (before middle after : List ℕ)
-    → AddsRows later trees before middle → after ≡ middle ++ 93 ∷ [] → AddsArray trees before after
-all_rows later trees before middle after h e = (
+pub all_rows : (document : List ℕ) (later : Bool) (trees : List (Tree ℕ)) (before middle after : List ℕ)
+    → AddsRows document later trees before middle → after ≡ middle ++ 93 ∷ [] → AddsArray document trees before after
+all_rows document later trees before middle after h e = (
   h.rows,
-  h.offsets,
+  h.told,
   e ∙ (ap (λ z. z ++ 93 ∷ []) h.is ∙ (append_assoc before (rows_text false h.rows) (93 ∷ [])
       ∙ ap (λ z. before ++ z) (sym (array_is h.rows)))),
 )

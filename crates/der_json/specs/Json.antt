@@ -1,25 +1,86 @@
 -- What is written of octets as JSON: an object that has the blocks of the document, or its first fault.
-use Rattle.std.specs.Prelude.{◌≡◌, ℕ, Bool, true, false, List, [], ◌∷◌, ◌++◌, codes, map}
+use Rattle.std.specs.Prelude.{◌≡◌, ℕ, nat_lt, Bool, true, false, if◌then◌else◌, List, [], ◌∷◌, ◌++◌, codes, length}
 use Rattle.std.specs.Prelude.{Option, None, Some, option_map}
-use Rattle.serde_json.specs.Data.{Data, array, number, object, string, unsigned, Items, no_items, item}
+use Rattle.std.specs.List.{AllZip}
+use Rattle.serde_json.specs.Data.{Data, array, null, number, object, string, unsigned, Items, no_items, item}
 use Rattle.serde_json.specs.Data.{Members, no_members, member}
 use Rattle.serde_json.specs.Find.{get}
 use Rattle.serde_json.specs.Written.{compact_text}
-use Rattle.simple_asn1.specs.BlockParts.{all_in_order}
+use Rattle.simple_asn1.specs.BlockParts.{all_in_order, tree_tag}
+use Rattle.simple_asn1.specs.Decimal.{natural_numeral}
 use Rattle.simple_asn1.specs.Fault.{DecodeFault}
 use Rattle.simple_asn1.specs.FaultPlace.{FirstFaultAt}
 use Rattle.simple_asn1.specs.Grammar.{IsDocument}
-use Rattle.simple_asn1.specs.Tree.{Tree, Trees}
-use Rattle.simple_asn1.specs.View.{tree_offset}
+use Rattle.simple_asn1.specs.Places.{TreeAt}
+use Rattle.simple_asn1.specs.Tree.{Leaf, Tree, Trees, leaf, group, explicit, unknown, boolean, integer, bit_string}
+use Rattle.simple_asn1.specs.Tree.{octet_string, null as null_leaf, object_identifier, text as text_leaf}
+use Rattle.simple_asn1.specs.Tree.{utc_time, generalized_time}
+use Rattle.simple_asn1.specs.View.{tree_class, tree_offset}
+use Rattle.simple_asn1.specs.declared.ASN1Class.{ASN1Class}
+use Rattle.simple_asn1.specs.declared.ASN1Class.TheVariants.{Application, ContextSpecific, Private, Universal}
+use Rattle.asn1_blocks.specs.declared.block.GroupKind.{GroupKind}
+use Rattle.asn1_blocks.specs.declared.block.GroupKind.TheVariants.{Sequence, Set}
+use Rattle.asn1_leaves.specs.StringKind.{StringKind, utf8, printable, teletex, ia5, universal, bmp}
 use Rattle.der_json.specs.declared.line.Origin.{Origin}
 
--- the member `offset` of an object
-abbrev pub offset_in : Data → Option Data
-offset_in d = get (codes "offset") d
+-- a natural number: greater ones than these are texts, since readers of JSON round them
+abbrev pub natural_json : ℕ → Data
+natural_json n = if nat_lt 9007199254740991 n then string (natural_numeral n) else number (unsigned n)
 
--- what it is for a block
-abbrev pub at_offset : Tree ℕ → Option Data
-at_offset tree = Some (number (unsigned (tree_offset tree)))
+-- how a class is called
+abbrev pub class_name : ASN1Class → List ℕ
+class_name Universal = codes "universal"
+class_name Application = codes "application"
+class_name ContextSpecific = codes "context-specific"
+class_name Private = codes "private"
+
+-- how types are called
+abbrev pub string_name : StringKind → List ℕ
+string_name utf8 = codes "UTF8String"
+string_name printable = codes "PrintableString"
+string_name teletex = codes "TeletexString"
+string_name ia5 = codes "IA5String"
+string_name universal = codes "UniversalString"
+string_name bmp = codes "BMPString"
+
+abbrev pub leaf_name : Leaf → List ℕ
+leaf_name (boolean b) = codes "BOOLEAN"
+leaf_name (integer n) = codes "INTEGER"
+leaf_name (bit_string n v) = codes "BIT STRING"
+leaf_name (octet_string v) = codes "OCTET STRING"
+leaf_name null_leaf = codes "NULL"
+leaf_name (object_identifier i) = codes "OBJECT IDENTIFIER"
+leaf_name (text_leaf kind cs) = string_name kind
+leaf_name (utc_time m) = codes "UTCTime"
+leaf_name (generalized_time m) = codes "GeneralizedTime"
+
+abbrev pub group_name : GroupKind → List ℕ
+group_name Sequence = codes "SEQUENCE"
+group_name Set = codes "SET"
+
+-- the type of a block, where the library has one for its tag
+abbrev pub type_name : Tree ℕ → Option (List ℕ)
+type_name (leaf o l) = Some (leaf_name l)
+type_name (group o g bs) = Some (group_name g)
+type_name (explicit c o n b) = None
+type_name (unknown c k o n v) = None
+
+abbrev pub text_or_null : Option (List ℕ) → Data
+text_or_null None = null
+text_or_null (Some name) = string name
+
+abbrev pub type_json : Tree ℕ → Data
+type_json tree = text_or_null (type_name tree)
+
+-- what an object tells of a block of the document: where it stands, how many octets it has, its class, tag and type
+pub record IsRow (document : List ℕ) (tree : Tree ℕ) (row : Data) : Type 0 where
+  pub offset : get (codes "offset") row ≡ Some (number (unsigned (tree_offset tree)))
+  pub size :
+      (octets : List ℕ) →
+      TreeAt document (tree_offset tree) octets → get (codes "size") row ≡ Some (number (unsigned (length octets)))
+  pub class : get (codes "class") row ≡ Some (string (class_name (tree_class tree)))
+  pub tag : get (codes "tag") row ≡ Some (natural_json (tree_tag tree))
+  pub kind : get (codes "type") row ≡ Some (type_json tree)
 
 -- an array of these
 abbrev pub items_of : List Data → Items
@@ -39,12 +100,12 @@ origin_members file label = member_if (codes "file") file (member_if (codes "lab
 abbrev pub told_of : Origin → Members
 told_of origin = origin_members (option_map (λ t. t.now) origin.file) (option_map (λ t. t.now) origin.label)
 
--- an object whose blocks are those of the document, in tree order, each with its offset
+-- an object whose blocks are those of the document, in tree order
 pub record IsDocumentJson (octets : List ℕ) (origin : Members) (json : Data) : Type 0 where
   pub trees : Trees ℕ
   pub rows : List Data
   pub document : IsDocument octets trees
-  pub offsets : map offset_in rows ≡ map at_offset (all_in_order trees)
+  pub told : AllZip (IsRow octets) (all_in_order trees) rows
   pub is : json ≡ object (member (codes "blocks") (array (items_of rows)) origin)
 
 -- words that say why octets are not read, and perhaps the offset of what is at fault

@@ -104,7 +104,7 @@ fn push_rows(
     blocks: &[ASN1Block],
     out: &mut Vec<u8>,
 ) -> Result<(), AllocError>
-    ensures { OnOk result (AddsArray (all_in_order (views blocks.now)) out.old.items out.new.items) }
+    ensures { OnOk result (AddsArray octets.now (all_in_order (views blocks.now)) out.old.items out.new.items) }
 {
     let order = all_blocks(alloc, blocks)?;
     let mut open = OpenBlocks::none(alloc);

@@ -4,7 +4,7 @@ ghost use Rattle.serde_json.specs.Data.{Data};
 ghost use Rattle.serde_json.specs.View.{view};
 ghost use Rattle.serde_json.specs.Written.{compact_text, has_float};
 ghost use Rattle.simple_asn1.specs.View.{view as view_block};
-ghost use Rattle.der_json.specs.Json.{at_offset, offset_in};
+ghost use Rattle.der_json.specs.Json.{IsRow};
 
 use crate::value::{class_name, tag_value, type_value, value_of};
 use serde_json::{Value, json};
@@ -45,11 +45,12 @@ pub fn row_of(
     block: &ASN1Block,
     open: &mut OpenBlocks,
 ) -> Result<Value, AllocError>
-    ensures offset { IfOk result (λ v. offset_in (view v) ≡ at_offset (view_block block.now)) }
+    ensures told { IfOk result (λ v. IsRow document.now (view_block block.now) (view v)) }
     ensures exact { IfOk result (λ v. has_float (view v) ≡ false) }
 {
     let offset = block.offset();
-    let size = encoding_at(document, offset).map_or(0, |encoding| encoding.len());
+    let encoding = encoding_at(document, offset).unwrap_or(&[]);
+    let size = encoding.len();
     let depth = open.depth_of(offset, offset.saturating_add(size))?;
     let tag = tag_value(alloc, block)?;
     let kind = type_value(alloc, block)?;
@@ -73,7 +74,7 @@ pub fn push_row(
     open: &mut OpenBlocks,
     out: &mut Vec<u8>,
 ) -> Result<(), AllocError>
-    ensures { OnOk result ((row : Data) × (offset_in row ≡ at_offset (view_block block.now))
+    ensures { OnOk result ((row : Data) × IsRow document.now (view_block block.now) row
         × (out.new.items ≡ out.old.items ++ compact_text row)) }
 {
     let row = row_of(alloc, document, block, open)?;

@@ -1,7 +1,11 @@
 // What is told of a block: its type, its tag, and what it holds. None of it is a float.
-ghost use Rattle.std.specs.Prelude.{◌≡◌, false, IfOk};
+ghost use Rattle.std.specs.Prelude.{◌≡◌, false, IfOk, option_map};
 ghost use Rattle.serde_json.specs.View.{view};
 ghost use Rattle.serde_json.specs.Written.{has_float};
+ghost use Rattle.simple_asn1.specs.BlockParts.{tree_tag};
+ghost use Rattle.simple_asn1.specs.View.{view as view_block};
+ghost use Rattle.serde_json.specs.Data.{string};
+ghost use Rattle.der_json.specs.Json.{class_name as name_of, natural_json, type_json, type_name};
 
 use serde_json::{Value, json};
 use simple_asn1::{ASN1Block, ASN1Class, BigInt, BigUint};
@@ -11,7 +15,9 @@ use std::alloc::{AllocError, Global};
 const GREATEST_NUMBER: u64 = 9_007_199_254_740_991;
 
 // The type of a block, where the library has one for its tag.
-fn type_of(block: &ASN1Block) -> Option<&'static str> {
+fn type_of(block: &ASN1Block) -> Option<&'static str>
+    ensures { option_map (λ name. name.now) result ≡ type_name (view_block block.now) }
+{
     match block {
         ASN1Block::Boolean(_, _) => Some("BOOLEAN"),
         ASN1Block::Integer(_, _) => Some("INTEGER"),
@@ -36,7 +42,8 @@ fn type_of(block: &ASN1Block) -> Option<&'static str> {
 
 // Its name, or `null`.
 pub fn type_value(alloc: Global, block: &ASN1Block) -> Result<Value, AllocError>
-    ensures { IfOk result (λ v. has_float (view v) ≡ false) }
+    ensures told { IfOk result (λ v. view v ≡ type_json (view_block block.now)) }
+    ensures exact { IfOk result (λ v. has_float (view v) ≡ false) }
 {
     match type_of(block) {
         Some(name) => text_value(alloc, name),
@@ -44,7 +51,9 @@ pub fn type_value(alloc: Global, block: &ASN1Block) -> Result<Value, AllocError>
     }
 }
 
-pub fn class_name(class: ASN1Class) -> &'static str {
+pub fn class_name(class: ASN1Class) -> &'static str
+    ensures { result.now ≡ name_of class }
+{
     match class {
         ASN1Class::Universal => "universal",
         ASN1Class::Application => "application",
@@ -55,7 +64,8 @@ pub fn class_name(class: ASN1Class) -> &'static str {
 
 // The tag number of a block.
 pub fn tag_value(alloc: Global, block: &ASN1Block) -> Result<Value, AllocError>
-    ensures { IfOk result (λ v. has_float (view v) ≡ false) }
+    ensures told { IfOk result (λ v. view v ≡ natural_json (tree_tag (view_block block.now))) }
+    ensures exact { IfOk result (λ v. has_float (view v) ≡ false) }
 {
     match block {
         ASN1Block::Explicit(_, _, tag, _) => natural_value(alloc, tag),
@@ -65,7 +75,8 @@ pub fn tag_value(alloc: Global, block: &ASN1Block) -> Result<Value, AllocError>
 }
 
 fn natural_value(alloc: Global, number: &BigUint) -> Result<Value, AllocError>
-    ensures { IfOk result (λ v. has_float (view v) ≡ false) }
+    ensures told { IfOk result (λ v. view v ≡ natural_json number.now) }
+    ensures exact { IfOk result (λ v. has_float (view v) ≡ false) }
 {
     match number.to_u64() {
         Some(n) if n <= GREATEST_NUMBER => Ok(Value::from(n)),
@@ -89,7 +100,8 @@ fn octets_value(alloc: Global, octets: &[u8]) -> Result<Value, AllocError>
 }
 
 fn text_value(alloc: Global, text: &str) -> Result<Value, AllocError>
-    ensures { IfOk result (λ v. has_float (view v) ≡ false) }
+    ensures told { IfOk result (λ v. view v ≡ string text.now) }
+    ensures exact { IfOk result (λ v. has_float (view v) ≡ false) }
 {
     Value::try_from_str(alloc, text)
 }

@@ -1,6 +1,6 @@
 // Why words are no command line.
-ghost use Rattle.std.specs.Prelude.{◌≡◌};
-ghost use Rattle.der_options.specs.Options.{IsMemory, by_command, is_answer};
+ghost use Rattle.std.specs.Prelude.{◌≡◌, IfOk, false, string_bytes};
+ghost use Rattle.der_options.specs.Options.{IsMemory, IsOneLine, by_command, is_answer};
 
 use clap::Error;
 use clap::error::ErrorKind;
@@ -48,7 +48,9 @@ impl OptionsFault<'_> {
     }
 
     /// The text for the user: the whole of help and of the version, and one line of what is wrong.
-    pub fn text(&self, alloc: Global) -> Result<String, AllocError> {
+    pub fn text(&self, alloc: Global) -> Result<String, AllocError>
+        ensures one_line { IfOk result (λ text. is_answer self.now ≡ false → IsOneLine (string_bytes text)) }
+    {
         let whole = format!(in alloc; "{self}")?;
         if self.is_answer() {
             return Ok(whole);
@@ -58,7 +60,9 @@ impl OptionsFault<'_> {
 }
 
 // The text up to the end of its first line.
-fn first_line(text: &str) -> &str {
+fn first_line(text: &str) -> &str
+    ensures { IsOneLine result.now }
+{
     text.lines().next().unwrap_or("")
 }
 

@@ -14,7 +14,7 @@ use Rattle.der_json.proofs.line.push_json.Goals as goal
 pub returns-in_ok-push_end-in-Ok : goal.returns-in_ok-push_end-in-Ok
 returns-in_ok-push_end-in-Ok c =
     let origin : Members = told_of c.args.origin in
-    let (rows, offsets, is) = c.in_ok-push_rows-in-Ok.ensures in
+    let (rows, told, is) = c.in_ok-push_rows-in-Ok.ensures in
     let line =
     joined c.args.out.now.items (codes "{\"blocks\":[") (items_text false (items_of rows)) (end_text origin ++ 10 ∷ [])
     _ _ _
@@ -27,7 +27,7 @@ returns-in_ok-push_end-in-Ok c =
       trees = views c.blocks-in-Ok.result.now;
       rows = rows;
       document = document;
-      offsets = offsets;
+      told = told;
       is = refl;
     }
     in

@@ -7,9 +7,9 @@ use Rattle.der_json.proofs.line.push_rows.Goals as goal
 pub loop-block-preserved : goal.loop-block-preserved
 loop-block-preserved c =
     let items = c.deref-block-items.result.now in
-    let (row, offset, is) = c.in_ok-push_row.ensures in
+    let (row, told, is) = c.in_ok-push_row.ensures in
     rw (next_tree items c.loop-block.block-index c.block-item.result c.loop-block-test.true c.block-item.is)
-    (one_row _ _ _ row _ _ _ _ c.loop-block.invariant c.in_ok-push_comma.ensures offset is)
+    (one_row _ _ _ _ row _ _ _ _ c.loop-block.invariant c.in_ok-push_comma.ensures told is)
 
 pub returns : goal.returns
 returns c =
@@ -18,4 +18,4 @@ returns c =
     last_tree items c.loop-block.block-index (omega arith)
     ∙ (ap trees_at c.deref-block-items.ensures.value ∙ c.in_ok-order.ensures)
     in
-    rw (sym order) (all_rows _ _ _ _ _ c.loop-block.invariant c.in_ok-push.ensures.items)
+    rw (sym order) (all_rows _ _ _ _ _ _ c.loop-block.invariant c.in_ok-push.ensures.items)

@@ -1,0 +1,36 @@
+use Rattle.std.proofs.Common.{◌≢◌, ◌+◌, ◌≤◌, ◌∙◌, ⊎_elim, arith, length, sym, subst, take, Bor, List, None, Option, Some, ℕ, inl, inr}
+use Rattle.std.proofs.lemmas.List.{take_all}
+use Rattle.std.proofs.lemmas.List.Elements.{All-from_get_or, All-pop}
+use Rattle.std.proofs.lemmas.Bool.{cases_lt}
+use Rattle.std.proofs.lemmas.Str.Pattern.{NoCharPasses-char}
+use Rattle.std.specs.Char.{is_newline}
+use Rattle.std.specs.Option.{unwrap_or}
+use Rattle.std.specs.Str.{NoCharPasses}
+use Rattle.std.specs.Str.Iter.{lines_rest, lines_steps}
+use Rattle.std.specs.Str.Lines.{IsFirstLine, StripsCarriageReturn}
+use Rattle.der_options.specs.Options.{IsOneLine}
+use Rattle.der_options.proofs.fault.first_line.Goals as goal
+
+no_end : (text : List ℕ) → NoCharPasses is_newline text → IsOneLine text
+no_end text none = All-from_get_or (λ b. b ≢ 10) text 0 (λ i lt. NoCharPasses-char 10 text i none (omega arith) lt)
+
+stripped : (line text : List ℕ) → StripsCarriageReturn line text → IsOneLine line → IsOneLine text
+stripped line text (inl same) one = subst IsOneLine (sym same.0) one
+stripped line text (inr e) one = (All-pop (λ b. b ≢ 10) line text (Some 13) e one).0
+
+first : (text line rest : List ℕ) → IsFirstLine text line rest → IsOneLine line
+first text line rest h =
+    let front : IsOneLine (take h.0 text) = no_end (take h.0 text) h.1 in
+    ⊎_elim (λ within. stripped (take h.0 text) line (h.5 within) front)
+    (λ whole. let end : h.0 + length rest ≤ length text = h.3 in
+    subst IsOneLine (take_all h.0 text whole ∙ sym (h.4 (omega arith))) front)
+    (cases_lt h.0 (length text))
+
+first_or : (s t : _) (line : Option (Bor (List ℕ))) (other : Bor (List ℕ)) → lines_steps s line t → IsOneLine other.now
+    → IsOneLine (unwrap_or line other).now
+first_or s t None other steps one = one
+first_or s t (Some line) other steps one = first (lines_rest s) line.now (lines_rest t) steps.0.2
+
+pub returns : goal.returns
+returns c = subst (λ x. IsOneLine x.now) (sym c.unwrap_or.ensures)
+    (first_or c.lines.result c.next.new.self c.next.result _ c.next.ensures.steps (λ k d lt e. absurd (omega arith)))
