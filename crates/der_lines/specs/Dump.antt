@@ -1,5 +1,6 @@
 -- What is written of a document: lines, one for each block in tree order, with its offset.
-use Rattle.std.specs.Prelude.{◌≡◌, ◌≢◌, ◌⊎◌, ℕ, suc, ◌+◌, nat_lt, Bool, true, false, if◌then◌else◌, Option, None, Some, List, [], ◌∷◌, ◌++◌}
+use Rattle.std.specs.Prelude.{◌≡◌, ◌≢◌, ◌⊎◌, ℕ, suc, ◌+◌, nat_lt, Bool, true, false, if◌then◌else◌, Option, None}
+use Rattle.std.specs.Prelude.{Some, List, [], ◌∷◌, ◌++◌}
 use Rattle.std.specs.Prelude.{drop, length, map, replicate, codes, decimal}
 use Rattle.std.specs.List.{All}
 use Rattle.der_lines.specs.declared.document.Verdict.{Verdict}
@@ -34,7 +35,8 @@ abbrev mutual
   -- the offsets of a tree, which stands inside so many others, and of all inside it, but of none that stands too deep
   pub offsets_in_down_to : Option ℕ → ℕ → Tree ℕ → List ℕ
   offsets_in_down_to most depth (leaf o l) = if is_too_deep most depth then [] else o ∷ []
-  offsets_in_down_to most depth (group o g bs) = if is_too_deep most depth then [] else o ∷ offsets_down_to most (suc depth) bs
+  offsets_in_down_to most depth (group o g bs) =
+      if is_too_deep most depth then [] else o ∷ offsets_down_to most (suc depth) bs
   offsets_in_down_to most depth (explicit c o n b) =
       if is_too_deep most depth then [] else o ∷ offsets_in_down_to most (suc depth) b
   offsets_in_down_to most depth (unknown c k o n v) = if is_too_deep most depth then [] else o ∷ []

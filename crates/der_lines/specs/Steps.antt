@@ -1,5 +1,6 @@
 -- What is put step by step. Private contracts alone name these.
-use Rattle.std.specs.Prelude.{◌≡◌, ◌⊎◌, ℕ, suc, ◌+◌, ◌≤◌, Option, Bool, true, false, List, [], ◌∷◌, ◌++◌, length, map, take, unwrap_or}
+use Rattle.std.specs.Prelude.{◌≡◌, ◌⊎◌, ℕ, suc, ◌+◌, ◌≤◌, Option, Bool, true, false, List, [], ◌∷◌, ◌++◌, length, map}
+use Rattle.std.specs.Prelude.{take, unwrap_or}
 use Rattle.simple_asn1.specs.Fault.{DecodeFault}
 use Rattle.simple_asn1.specs.Grammar.{EncodesAll, FirstFault, IsDocument}
 use Rattle.simple_asn1.specs.Header.{IsIdentifier, IsLength}
@@ -9,7 +10,8 @@ use Rattle.simple_asn1.specs.declared.ASN1Class.TheVariants.{Universal}
 use Rattle.simple_asn1.specs.Places.{IsEncoding}
 use Rattle.simple_asn1.specs.BlockParts.{tree_items}
 use Rattle.simple_asn1.specs.Tree.{Tree, Trees, no_trees}
-use Rattle.der_lines.specs.Dump.{Adds, AreDefinite, AreHeaders, AreShown, HasNoHeader, IsBlockLine, IsHeader, IsInsideLine}
+use Rattle.der_lines.specs.Dump.{Adds, AreDefinite, AreHeaders, AreShown, HasNoHeader, IsBlockLine, IsHeader}
+use Rattle.der_lines.specs.Dump.{IsInsideLine}
 use Rattle.der_lines.specs.Dump.{StandAt, StandsInside, all_offsets, offsets_down_to}
 use Rattle.simple_asn1.specs.Types.{ASN1Block}
 use Rattle.simple_asn1.specs.View.{document_trees, views}

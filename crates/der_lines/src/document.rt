@@ -101,7 +101,8 @@ fn push_read(
     out: &mut Vec<u8>,
 ) -> Result<(), AllocError>
     requires { IsDocument octets.now (document_trees document.now) }
-    ensures { OnOk result (AddsBlocksOf style.most_depth octets.now (document_trees document.now) out.old.items out.new.items) }
+    ensures { OnOk result (AddsBlocksOf style.most_depth octets.now (document_trees document.now)
+        out.old.items out.new.items) }
 {
     push_blocks(
         alloc,
