@@ -3,7 +3,7 @@ use Rattle.std.proofs.Common.{◌≡◌, ℕ, suc, ◌+◌, ◌-◌, ◌<◌, �
 use Rattle.std.proofs.Common.{drop, length, map, take, refl, sym, ap, ◌∙◌, subst, length-append, append_assoc, append-nil, arith}
 use Rattle.std.proofs.Math.Seq.{take-add}
 use Rattle.std.proofs.lemmas.Bool.{lt-ltb, ltb-true}
-use Rattle.std.proofs.lemmas.List.{drop-append-le, drop-drop, drop_at, length-drop, length-take-le, map-append, take-append-drop, take_at, take_all}
+use Rattle.std.proofs.lemmas.List.{drop-append-le, drop-drop, drop_at, length-drop, length-take-le, map-append, nil_from_length, take-append-drop, take_at, take_all}
 use Rattle.std.proofs.lemmas.List.Elements.{All-append, All-cons, All-map, All-nil}
 use Rattle.std.specs.List.{All}
 use Rattle.std.specs.Prelude.{IfOk, IsTrue, MatchOption, OnOk, Option, None, Some, Result, Ok, Err, is_some}
@@ -348,26 +348,27 @@ put_none_yet place octets a = record {
 }
 
 pub put_more :
-    HeaderLaws → (place here : Place) (octets part : List ℕ) (next after : ℕ) (a b c : List ℕ) → next ≤ length octets → EncodingAt octets next part →
+    HeaderLaws → (place here : Place) (octets part rest : List ℕ) (next after : ℕ) (a b c : List ℕ) → next ≤ length octets →
+    drop next octets ≡ part ++ rest →
     here.is_inside ≡ place.is_inside → here.base ≡ place.base + next → here.depth ≡ place.depth → here.most_depth ≡ place.most_depth →
     after ≡ next + length part → PutTo place octets next a b → PutsBlocks here part b c → PutTo place octets after a c
-put_more law place here octets part next after a b c fits at i base d most n before p =
+put_more law place here octets part rest next after a b c fits at i base d most n before p =
     let Q = PlacedInside place.base octets in
     let front = take next octets in
     let more = all_later next p.trees in
     let size : length front ≡ next = length-take-le next octets fits in
     let longer : take after octets ≡ front ++ part =
     ap (λ m. take m octets) n ∙ (take-add next (length part) octets
-    ∙ ap (λ z. front ++ z) (ap (take (length part)) at.stands ∙ take_at part at.rest (length part) refl)) in
+    ∙ ap (λ z. front ++ z) (ap (take (length part)) at ∙ take_at part rest (length part) refl)) in
     let there : EncodesAll (0 + length front) part more =
     encodes_all_at (λ o. o + next) 0 (0 + length front) part p.trees (λ k. omega (arith, size)) p.blocks in
-    let lines = lines_at place here octets part at.rest next place.depth p.trees b c at.stands i base d most p.lines in
+    let lines = lines_at place here octets part rest next place.depth p.trees b c at i base d most p.lines in
     record {
       trees = joined before.trees more;
       blocks = subst (λ z. EncodesAll 0 z (joined before.trees more)) (sym longer) (encodes_joined 0 front part before.trees more before.blocks there);
       definite = subst (AreDefinite octets) (sym (all_offsets_joined before.trees more))
           (All-append (λ o. HasIndefiniteForm (drop o octets) → ⊥) _ _ before.definite
-          (later_definite law octets part at.rest next p.trees at.stands p.blocks p.definite));
+          (later_definite law octets part rest next p.trees at p.blocks p.definite));
       lines = subst (λ z. Adds Q z a c)
           (sym (ap (shown_at place.is_inside place.base) (down_to_joined place.most_depth place.depth before.trees more)
           ∙ shown_join place.is_inside place.base _ _))
@@ -381,6 +382,28 @@ put_all place octets next a b le p = record {
   definite = p.definite;
   lines = p.lines;
 }
+
+-- the part that is taken of what is left
+pub part_there :
+    (octets left part later : List ℕ) (next size : ℕ) → left ≡ drop next octets → part ≡ take size left → later ≡ drop size left →
+    drop next octets ≡ part ++ later
+part_there octets left part later next size e front back =
+    sym e ∙ (sym (take-append-drop size left) ∙ (ap (λ z. z ++ drop size left) (sym front) ∙ ap (λ z. part ++ z) (sym back)))
+
+-- an encoding that has all octets is they
+pub whole_encoding : (octets encoding : List ℕ) → EncodingAt octets 0 encoding → length encoding ≡ length octets → IsEncoding octets
+whole_encoding octets encoding at same =
+    let sum : length octets ≡ length encoding + length at.rest = ap length at.stands ∙ length-append encoding at.rest in
+    let none : at.rest ≡ [] = nil_from_length at.rest (omega (arith, same, sum)) in
+    let whole : octets ≡ encoding = at.stands ∙ (ap (λ z. encoding ++ z) none ∙ append-nil encoding) in
+    subst IsEncoding (sym whole) at.are
+
+-- an encoding ends inside the octets
+pub encoding_fits : (octets encoding : List ℕ) (o : ℕ) → EncodingAt octets o encoding → o ≤ length octets → o + length encoding ≤ length octets
+encoding_fits octets encoding o at fits =
+    let left : length octets - o ≡ length encoding + length at.rest =
+    sym (length-drop o octets) ∙ (ap length at.stands ∙ length-append encoding at.rest) in
+    omega (arith, left, fits)
 
 -- an encoding takes octets
 pub encoding_takes : (octets part : List ℕ) (next : ℕ) → EncodingAt octets next part → 0 < length part

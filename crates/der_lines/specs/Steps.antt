@@ -1,5 +1,5 @@
 -- What is put step by step. Private contracts alone name these.
-use Rattle.std.specs.Prelude.{◌≡◌, ◌⊎◌, ℕ, suc, ◌+◌, ◌≤◌, Option, Bool, true, false, List, [], ◌∷◌, ◌++◌, length, map}
+use Rattle.std.specs.Prelude.{◌≡◌, ◌⊎◌, ℕ, suc, ◌+◌, ◌<◌, ◌≤◌, Option, Bool, true, false, List, [], ◌∷◌, ◌++◌, length, map}
 use Rattle.std.specs.Prelude.{take, unwrap_or}
 use Rattle.simple_asn1.specs.Fault.{DecodeFault}
 use Rattle.simple_asn1.specs.Grammar.{EncodesAll, FirstFault, IsDocument}
@@ -38,6 +38,13 @@ pub record IsAtFront (octets : List ℕ) (header : Header) : Type 0 where
 -- the header is of a SEQUENCE or SET
 abbrev pub IsGroupHeader : Header → Type 0
 IsGroupHeader header = (header.class ≡ Universal) × ((kind : GroupKind) × (header.tag ≡ group_tag kind))
+
+-- the octets are one SEQUENCE or SET, whose header announces contents octets
+pub record IsLongGroup (octets : List ℕ) (header : Header) : Type 0 where
+  pub encoding : IsEncoding octets
+  pub front : IsAtFront octets header
+  pub group : IsGroupHeader header
+  pub some : 0 < header.announced
 
 -- the octet that a line begins with
 abbrev pub mark_of : Mark → ℕ

@@ -32,9 +32,9 @@ pub enum Verdict {
 /// indefinite form of BER, whose contents are not told from what stands behind them; the first such block has a line
 /// after all others.
 ///
-/// Beside the lines it takes the memory of the blocks of one part of a document at a time: an encoding that is no
-/// SEQUENCE or SET, or one of these of no more than 65,536 contents octets. Of octets that are refused it takes that of
-/// all blocks.
+/// Beside the lines it takes the memory of the blocks of one part of a document at a time: of encodings of no more than
+/// 65,536 octets together, or of a longer one that is no SEQUENCE or SET, or stands inside 64 of these. Of octets that
+/// are refused it takes that of all blocks.
 ///
 /// # Errors
 /// Memory ran out.
@@ -57,7 +57,7 @@ pub fn push_document(
     };
     match first_indefinite(alloc, octets, document.blocks())? {
         Some(offset) => {
-            push_fault(alloc, offset, INDEFINITE.as_bytes(), out)?;
+            push_fault(offset, INDEFINITE.as_bytes(), out)?;
             Ok(Verdict::Refused)
         }
         None => Ok(Verdict::AllRead),
@@ -129,5 +129,5 @@ fn push_refused(
 {
     push_encodings(alloc, names, octets, outermost(style), out)?;
     let words = words_at(alloc, octets, offset, fault)?;
-    push_fault(alloc, offset, words.as_bytes(), out)
+    push_fault(offset, words.as_bytes(), out)
 }

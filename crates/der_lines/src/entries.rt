@@ -119,5 +119,5 @@ pub fn push_header(
     write_form(&mut text, header)?;
     text.push_str(after)?;
     let shown = sum_of(place.base, offset)?;
-    push_line(alloc, place.is_inside, shown, text.as_bytes(), out)
+    push_line(place.is_inside, shown, text.as_bytes(), out)
 }

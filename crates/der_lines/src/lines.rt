@@ -3,8 +3,9 @@ ghost use Rattle.std.specs.Prelude.{◌≡◌, ◌≢◌, ◌++◌, List, ℕ, O
 ghost use Rattle.der_lines.specs.Dump.{AddsLine, IsBlockLine, IsFaultLine, IsNote, IsOneLine};
 ghost use Rattle.der_lines.specs.Steps.{IsLineOf, mark_of};
 
+use itoa::Buffer;
 use memchr::memchr;
-use std::alloc::{AllocError, Global};
+use std::alloc::AllocError;
 
 // How a line that is no line of a block begins.
 #[derive(Clone, Copy, Drop)]
@@ -55,7 +56,6 @@ fn plain(b: u8) -> u8
 
 // The line of a block: its offset, which takes so many characters with the spaces before it, and what is said of it.
 fn push_block_line(
-    alloc: Global,
     width: usize,
     offset: usize,
     said: &[u8],
@@ -63,7 +63,8 @@ fn push_block_line(
 ) -> Result<(), AllocError>
     ensures { OnOk result (AddsLine (IsBlockLine offset) out.old.items out.new.items) }
 {
-    let number = format!(in alloc; "{offset}")?;
+    let mut digits = Buffer::new();
+    let number = digits.format(offset);
     push_spaces(width.saturating_sub(number.len()), out)?;
     out.extend_from_slice(number.as_bytes())?;
     out.push(b' ')?;
@@ -84,17 +85,12 @@ pub fn push_note(mark: Mark, said: &[u8], out: &mut Vec<u8>) -> Result<(), Alloc
 }
 
 // The line of a fault: its offset, and what is said of it.
-pub fn push_fault(
-    alloc: Global,
-    offset: usize,
-    said: &[u8],
-    out: &mut Vec<u8>,
-) -> Result<(), AllocError>
+pub fn push_fault(offset: usize, said: &[u8], out: &mut Vec<u8>) -> Result<(), AllocError>
     ensures { OnOk result (AddsLine (IsFaultLine offset) out.old.items out.new.items) }
 {
+    let mut digits = Buffer::new();
     out.extend_from_slice(b"! refused at offset ")?;
-    let number = format!(in alloc; "{offset}")?;
-    out.extend_from_slice(number.as_bytes())?;
+    out.extend_from_slice(digits.format(offset).as_bytes())?;
     out.push(b':')?;
     out.push(b' ')?;
     push_plain(said, out)?;
@@ -113,7 +109,6 @@ fn mark_octet(mark: Mark) -> u8
 
 // The line of a block, which begins with `>` where the block stands inside octets of another.
 pub fn push_line(
-    alloc: Global,
     is_inside: bool,
     offset: usize,
     said: &[u8],
@@ -122,8 +117,8 @@ pub fn push_line(
     ensures { OnOk result (AddsLine (IsLineOf is_inside offset) out.old.items out.new.items) }
 {
     if !is_inside {
-        return push_block_line(alloc, OFFSET_WIDTH, offset, said, out);
+        return push_block_line(OFFSET_WIDTH, offset, said, out);
     }
     out.push(b'>')?;
-    push_block_line(alloc, OFFSET_WIDTH - 1, offset, said, out)
+    push_block_line(OFFSET_WIDTH - 1, offset, said, out)
 }

@@ -1,8 +1,7 @@
 // The lines of a document part by part, so that the blocks of one part alone are held at once.
-ghost use Rattle.std.specs.Prelude.{◌≡◌, ◌<◌, ◌+◌, IfOk, IsTrue, OnOk, false, true};
+ghost use Rattle.std.specs.Prelude.{◌≡◌, ◌≤◌, ◌<◌, ◌+◌, IfOk, IfSome, IsTrue, OnOk, false, length, true};
 ghost use Rattle.der_lines.specs.Dump.{AddsLine, is_too_deep};
-ghost use Rattle.der_lines.specs.Steps.{IsAtFront, IsGroupHeader, IsLineOf, Keeps, PutsBlocks};
-ghost use Rattle.simple_asn1.specs.Places.{IsEncoding};
+ghost use Rattle.der_lines.specs.Steps.{IsLineOf, IsLongGroup, Keeps, PutsBlocks};
 
 use crate::entries::push_header;
 use crate::header::{Header, is_group, read_header};
@@ -13,8 +12,8 @@ use crate::tree::push_blocks;
 use simple_asn1::{ASN1DecodeErr, Document, encoding_at, law_header};
 use std::alloc::{AllocError, Global};
 
-// A SEQUENCE or SET of more contents octets is gone into. All else is read whole.
-const MOST_READ_WHOLE: usize = 65_536;
+// The most octets of encodings that are read together. A SEQUENCE or SET of more contents octets is gone into.
+const MOST_READ_AT_ONCE: usize = 65_536;
 
 // How many SEQUENCEs and SETs are gone into inside one another.
 pub const MOST_OPEN: usize = 64;
@@ -36,45 +35,70 @@ pub fn push_parts(
     law_header();
     let mut next = 0;
     while next < octets.len() {
-        let Some(encoding) = encoding_at(octets, next) else {
-            return Ok(false);
-        };
+        let (_, left) = octets.split_at(next);
+        let (part, _) = left.split_at(part_size(left)?);
         let here = place.further(next)?;
-        if !push_part(alloc, names, encoding, here, levels, out)? {
+        if !push_part(alloc, names, part, here, levels, out)? {
             return Ok(false);
         }
-        next = sum_of(next, encoding.len())?;
+        next = sum_of(next, part.len())?;
     }
     Ok(true)
 }
 
-// So of one encoding.
+// How many octets at the front are the next part: encodings that are read together, as many as may be, and the first at
+// least; all octets where no encoding stands at the front.
+fn part_size(octets: &[u8]) -> Result<usize, AllocError>
+    requires { 0 < length octets.now }
+    ensures some { IfOk result (λ size. 0 < size) }
+    ensures fits { IfOk result (λ size. size ≤ length octets.now) }
+{
+    let mut size = 0;
+    while let Some(encoding) = encoding_at(octets, size) {
+        let more = sum_of(size, encoding.len())?;
+        if size > 0 && more > MOST_READ_AT_ONCE {
+            return Ok(size);
+        }
+        size = more;
+    }
+    Ok(if size == 0 { octets.len() } else { size })
+}
+
+// So of a part.
 #[cycle(parts)]
 fn push_part(
     alloc: Global,
     names: &Names,
-    encoding: &[u8],
+    part: &[u8],
     place: Place,
     levels: usize,
     out: &mut Vec<u8>,
 ) -> Result<bool, AllocError>
-    requires { IsEncoding encoding.now }
-    ensures all { IfOk result (λ is_all. IsTrue is_all → PutsBlocks place encoding.now out.old.items out.new.items) }
+    ensures all { IfOk result (λ is_all. IsTrue is_all → PutsBlocks place part.now out.old.items out.new.items) }
     ensures kept { OnOk result (Keeps out.old.items out.new.items) }
 {
-    match read_header(alloc, encoding)? {
-        Some(header) if levels > 0 && is_long_group(&header) => {
-            push_group(alloc, names, encoding, &header, place, levels - 1, out)
+    match long_group(alloc, part)? {
+        Some(header) if levels > 0 => {
+            push_group(alloc, names, part, &header, place, levels - 1, out)
         }
-        _ => push_whole(alloc, names, encoding, place, out),
+        _ => push_whole(alloc, names, part, place, out),
     }
 }
 
-fn is_long_group(header: &Header) -> bool
-    ensures group { IsTrue result → IsGroupHeader header.now }
-    ensures long { IsTrue result → 0 < header.now.announced }
+// The header of octets that are one SEQUENCE or SET which is gone into.
+fn long_group(alloc: Global, octets: &[u8]) -> Result<Option<Header>, AllocError>
+    ensures { IfOk result (λ found. IfSome found (IsLongGroup octets.now)) }
 {
-    is_group(header) && header.announced > MOST_READ_WHOLE
+    match encoding_at(octets, 0) {
+        Some(encoding) if encoding.len() == octets.len() => {}
+        _ => return Ok(None),
+    }
+    match read_header(alloc, octets)? {
+        Some(header) if is_group(&header) && header.announced > MOST_READ_AT_ONCE => {
+            Ok(Some(header))
+        }
+        _ => Ok(None),
+    }
 }
 
 // So of a SEQUENCE or SET, by its header and then its contents octets.
@@ -88,10 +112,7 @@ fn push_group(
     levels: usize,
     out: &mut Vec<u8>,
 ) -> Result<bool, AllocError>
-    requires encoding { IsEncoding encoding.now }
-    requires header { IsAtFront encoding.now header.now }
-    requires group { IsGroupHeader header.now }
-    requires definite { 0 < header.now.announced }
+    requires { IsLongGroup encoding.now header.now }
     ensures all { IfOk result (λ is_all. IsTrue is_all → PutsBlocks place encoding.now out.old.items out.new.items) }
     ensures kept { OnOk result (Keeps out.old.items out.new.items) }
 {
@@ -129,21 +150,21 @@ fn push_group_line(
 fn push_whole(
     alloc: Global,
     names: &Names,
-    encoding: &[u8],
+    octets: &[u8],
     place: Place,
     out: &mut Vec<u8>,
 ) -> Result<bool, AllocError>
-    ensures all { IfOk result (λ is_all. IsTrue is_all → PutsBlocks place encoding.now out.old.items out.new.items) }
+    ensures all { IfOk result (λ is_all. IsTrue is_all → PutsBlocks place octets.now out.old.items out.new.items) }
     ensures kept { OnOk result (Keeps out.old.items out.new.items) }
 {
-    let document = match Document::from_der(alloc, encoding) {
+    let document = match Document::from_der(alloc, octets) {
         Ok(document) => document,
         Err(ASN1DecodeErr::OutOfMemory) => return Err(AllocError),
         Err(_) => return Ok(false),
     };
-    if first_indefinite(alloc, encoding, document.blocks())?.is_some() {
+    if first_indefinite(alloc, octets, document.blocks())?.is_some() {
         return Ok(false);
     }
-    push_blocks(alloc, names, encoding, document.blocks(), place, out)?;
+    push_blocks(alloc, names, octets, document.blocks(), place, out)?;
     Ok(true)
 }

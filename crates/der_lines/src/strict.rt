@@ -35,7 +35,7 @@ pub fn push_document_strictly(
         }
         Err(ASN1DecodeErr::NotCanonical(offset)) => {
             let words = fault_words(alloc, &ASN1DecodeErr::NotCanonical(offset))?;
-            push_fault(alloc, offset, words.as_bytes(), out)?;
+            push_fault(offset, words.as_bytes(), out)?;
             Ok(Verdict::Refused)
         }
         Err(_) => Err(AllocError),

@@ -162,7 +162,7 @@ fn push_block<'a>(
         is_full: place.is_full,
     };
     let text = block_text(alloc, names, &header, depth, block, manner)?;
-    push_line(alloc, place.is_inside, offset, text.as_bytes(), out)?;
+    push_line(place.is_inside, offset, text.as_bytes(), out)?;
     Ok(held)
 }
 

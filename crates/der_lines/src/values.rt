@@ -4,6 +4,7 @@ use crate::characters::{Characters, write_as};
 use crate::header::Header;
 use crate::names::Names;
 use crate::scalars::{write_after_space, write_hex, write_quoted};
+use itoa::Buffer;
 use simple_asn1::{ASN1Block, ASN1Class, ASN1DecodeErr, BigInt, BigUint, OID};
 use std::alloc::{AllocError, Global};
 
@@ -62,11 +63,24 @@ pub fn write_sizes(
     contents: usize,
     depth: usize,
 ) -> Result<(), AllocError> {
-    write!(out, "{header:>2} {contents:>7}  ")?;
+    write_right(out, 2, header)?;
+    out.push_str(" ")?;
+    write_right(out, 7, contents)?;
+    out.push_str("  ")?;
     for _i in 0..depth.min(MOST_LEVELS) {
         out.push_str("  ")?;
     }
     Ok(())
+}
+
+// A number with spaces before it, where it takes fewer characters than these.
+fn write_right(out: &mut String, width: usize, n: usize) -> Result<(), AllocError> {
+    let mut digits = Buffer::new();
+    let number = digits.format(n);
+    for _i in number.len()..width {
+        out.push_str(" ")?;
+    }
+    out.push_str(number)
 }
 
 fn write_block(
