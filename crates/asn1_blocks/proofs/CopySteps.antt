@@ -81,6 +81,14 @@ enough_made b left after done n s =
 pub view_explicit : (c : ASN1Class) (o n : ℕ) (b : Box ASN1Block Global) → view (Explicit c o n b) ≡ explicit c o n (view b.value)
 view_explicit c o n b = search (rules, the_lemmas)
 
+-- a copy of the block that one holds makes its copy
+pub explicit_of_copy : (c : ASN1Class) (o n : ℕ) (held made : Box ASN1Block Global) (copy : ASN1Block) → made.value ≡ copy
+    → views (copy ∷ []) ≡ inside (view (Explicit c o n held)) → view (Explicit c o n made) ≡ view (Explicit c o n held)
+explicit_of_copy c o n held made copy is e =
+    let same : views (copy ∷ []) ≡ views (held.value ∷ []) = e ∙ ap inside (view_explicit c o n held) in
+    let one : view copy ≡ view held.value = cc in
+    view_explicit c o n made ∙ (ap (explicit c o n) (ap view is ∙ one) ∙ sym (view_explicit c o n held))
+
 view_sequence : (o : ℕ) (v : Vec ASN1Block Global) → view (Sequence o v) ≡ group o GroupKind.Sequence (views v.items)
 view_sequence o v = search (rules, the_lemmas)
 

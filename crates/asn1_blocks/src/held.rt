@@ -5,8 +5,8 @@ ghost use Rattle.std.specs.Prelude.{◌≡◌, ◌<◌, ◌≤◌, ◌++◌, ◌
 use crate::block::ASN1Block;
 use crate::block::discard::{discard, discard_one};
 use std::alloc::{AllocError, Global};
-use std::fmt;
 use std::marker::Model;
+use std::{fmt, mem};
 
 pub struct HeldBlocks {
     blocks: Vec<ASN1Block>,
@@ -133,6 +133,14 @@ impl HeldBlocks {
         ensures { OnOk result (self.new ≡ self.old ++ others) }
     {
         self.blocks.append(&mut others.blocks)
+    }
+
+    // Gives all away, and has none left.
+    #[inline(always)]
+    pub fn take_all(&mut self, alloc: Global) -> Vec<ASN1Block>
+        ensures { result.items ≡ self.old }
+    {
+        mem::replace(&mut self.blocks, Vec::new(alloc))
     }
 
     // Gives them away.

@@ -19,15 +19,16 @@ abbrev pub AddsReading : Bool → Option ℕ → List ℕ → Verdict → List �
 AddsReading false = AddsDumpOf
 AddsReading true = AddsStrictDumpOf
 
--- the dump of octets, or a line `!` where there are none to be read
+-- the dump of octets, or a line `!` in words where there are none to be read
 abbrev pub AddsDump : Bool → Option ℕ → Option (List ℕ) → Verdict → List ℕ → List ℕ → Type 0
 AddsDump strict most (Some octets) verdict before after = AddsReading strict most octets verdict before after
-AddsDump strict most None verdict before after = (verdict ≡ Refused) × AddsLine (IsNote 33) before after
+AddsDump strict most None verdict before after =
+    (verdict ≡ Refused) × ((why : List ℕ) × AddsLine (IsNote 33 why) before after)
 
--- the line `=` of a label, where there is one
+-- the line `=` and a label, where there is one
 abbrev pub AddsLabel : Option (List ℕ) → List ℕ → List ℕ → Type 0
 AddsLabel None before after = after ≡ before
-AddsLabel (Some label) before after = AddsLine (IsNote 61) before after
+AddsLabel (Some label) before after = AddsLine (IsNote 61 label) before after
 
 -- a dump under the line of its label
 abbrev pub PutsDump :

@@ -104,16 +104,16 @@ names_shown (Extract offset) count = false
 names_shown (Contents offset) count = false
 names_shown _ count = nat_lt 1 count
 
--- the line `=` of a name, above dumps: JSON tells it in each line
-abbrev pub AddsName : Bool → List ℕ → List ℕ → Type 0
-AddsName true before after = after ≡ before
-AddsName false before after = AddsLine (IsNote 61) before after
+-- the line `=` and a name, above dumps: JSON tells it in each line
+abbrev pub AddsName : Bool → List ℕ → List ℕ → List ℕ → Type 0
+AddsName true name before after = after ≡ before
+AddsName false name before after = AddsLine (IsNote 61 name) before after
 
 -- what is put of octets in the file of this name, which is told or not
 abbrev pub AddsNamed : Bool → Options → List ℕ → List ℕ → Verdict → List ℕ → List ℕ → Type 0
 AddsNamed false options name octets verdict before after = AddsInput options None octets verdict before after
 AddsNamed true options name octets verdict before after =
-    (named : List ℕ) × AddsName options.is_json before named
+    (named : List ℕ) × AddsName options.is_json name before named
     × AddsInput options (Some name) octets verdict named after
 
 -- an input: its name, and its octets, where they are known

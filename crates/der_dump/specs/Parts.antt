@@ -15,7 +15,8 @@ is_all_read Refused = false
 
 -- what is put in this manner
 abbrev pub PutsIn : Manner → Putting
-PutsIn manner = PutsAs manner.is_json manner.is_strict manner.style.most_depth (option_map (λ name. name.now) manner.file)
+PutsIn manner =
+    PutsAs manner.is_json manner.is_strict manner.style.most_depth (option_map (λ name. name.now) manner.file)
 
 -- what the task wants of a block, or of none
 abbrev pub AddsPart : Manner → Task → Option (List ℕ) → Verdict → List ℕ → List ℕ → Type 0

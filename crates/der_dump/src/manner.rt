@@ -48,8 +48,9 @@ fn push_dump(
     found: Result<&[u8], &str>,
     out: &mut Vec<u8>,
 ) -> Result<Verdict, AllocError>
-    ensures { IfOk result (λ verdict. PutsDump manner.now.is_strict manner.now.style.most_depth (option_map (λ l. l.now) label.entry)
-        (option_map (λ o. o.now) (result_ok found.entry)) verdict out.old.items out.new.items) }
+    ensures { IfOk result (λ verdict. PutsDump manner.now.is_strict manner.now.style.most_depth
+        (option_map (λ l. l.now) label.entry) (option_map (λ o. o.now) (result_ok found.entry))
+        verdict out.old.items out.new.items) }
 {
     push_label_of(label, out)?;
     push_lines(alloc, manner, found, out)

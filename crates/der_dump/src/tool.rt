@@ -154,7 +154,7 @@ fn push_named(
 
 // Puts the line of a name, above a dump.
 fn push_name(is_json: bool, name: &str, out: &mut Vec<u8>) -> Result<(), AllocError>
-    ensures { OnOk result (AddsName is_json out.old.items out.new.items) }
+    ensures { OnOk result (AddsName is_json name.now out.old.items out.new.items) }
 {
     if is_json {
         Ok(())

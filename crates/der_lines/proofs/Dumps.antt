@@ -1,13 +1,15 @@
 -- Lines are put after lines.
-use Rattle.std.proofs.Common.{◌≡◌, ◌⊎◌, ℕ, zero, suc, ◌+◌, List, [], ◌∷◌, ◌++◌, codes, drop, replicate}
+use Rattle.std.proofs.Common.{◌≡◌, ◌≢◌, ◌==◌, ◌⊎◌, ℕ, zero, suc, ◌+◌, List, [], ◌∷◌, ◌++◌, codes, drop, if◌then◌else◌, replicate}
 use Rattle.std.proofs.Common.{inl, Bool, true, false, refl, sym, ap, ◌∙◌, subst, map, append_assoc, append-nil, arith}
 use Rattle.std.proofs.lemmas.List.{map-append, drop-drop}
+use Rattle.std.proofs.lemmas.Bool.{eqb-false, eqb-true}
+use Rattle.std.proofs.lemmas.List.Elements.{All-cons, All-head, All-nil, All-tail}
 use Rattle.std.specs.Fmt.{decimal}
 use Rattle.std.specs.Prelude.{Option, Result, Ok, Err, OnOk}
 use Rattle.std.specs.declared.alloc.AllocError.{AllocError}
 use Rattle.simple_asn1.specs.Grammar.{IsDocument}
 use Rattle.simple_asn1.specs.Tree.{Trees}
-use Rattle.der_lines.specs.Dump.{Adds, AddsLine, IsBlockLine, IsDump, IsFaultLine, IsInsideLine, IsNote, IsOneLine}
+use Rattle.der_lines.specs.Dump.{Adds, AddsLine, IsBlockLine, IsDump, IsFaultLine, IsInsideLine, IsNote, IsOneLine, on_one_line}
 use Rattle.der_lines.specs.Dump.{HasBlockAt, HasHeaderAt, StandAt, StandsInside, all_offsets, offsets_down_to, block_line, inside_line, no_lines}
 use Rattle.der_lines.specs.Steps.{IsLineOf, PlacedInside, shown_at}
 use Rattle.der_lines.proofs.Depths.{IsAmong, to_among}
@@ -44,13 +46,33 @@ adds_block P o a b (line, is, l) = (line ++ 10 ∷ [], is, block_line o [] line 
 pub adds_inside : (P : ℕ → Type 0) (o : ℕ) (a b : List ℕ) → AddsLine (IsInsideLine o) a b → P o → Adds P [] a b
 adds_inside P o a b (line, is, l) i = (line ++ 10 ∷ [], is, inside_line o line [] refl l i (no_lines refl refl))
 
+-- octets 0A become spaces, and no other changes
+is_no_end : (b : ℕ) (q : Bool) → (b == 10) ≡ q → (if q then 32 else b) ≢ 10
+is_no_end b true is e = absurd (omega (arith, e))
+is_no_end b false is e = eqb-false b 10 is e
+
+pub has_one_line : (text : List ℕ) → IsOneLine (on_one_line text)
+has_one_line [] = All-nil (λ b. b ≢ 10)
+has_one_line (b ∷ text) =
+    All-cons (λ b. b ≢ 10) (if b == 10 then 32 else b) (on_one_line text) (is_no_end b (b == 10) refl) (has_one_line text)
+
+stays : (b : ℕ) (q : Bool) → (b == 10) ≡ q → b ≢ 10 → (if q then 32 else b) ≡ b
+stays b true is other = absurd (other (eqb-true b 10 is))
+stays b false is other = refl
+
+pub stays_on_one_line : (text : List ℕ) → IsOneLine text → on_one_line text ≡ text
+stays_on_one_line [] one = refl
+stays_on_one_line (b ∷ text) one =
+    rw (stays b (b == 10) refl (All-head (λ b. b ≢ 10) b text one), stays_on_one_line text (All-tail (λ b. b ≢ 10) b text one)) refl
+
 -- the parts of the line of a block
-pub line_put : (a b c d e f said : List ℕ) (n offset : ℕ) → b ≡ a ++ replicate n 32 → c ≡ b ++ decimal offset → d ≡ c ++ 32 ∷ []
-    → e ≡ d ++ said → f ≡ e ++ 10 ∷ [] → IsOneLine said → AddsLine (IsBlockLine offset) a f
-line_put a b c d e f said n offset p q r s t one =
+pub line_put : (a b c d e f text : List ℕ) (n offset : ℕ) → b ≡ a ++ replicate n 32 → c ≡ b ++ decimal offset → d ≡ c ++ 32 ∷ []
+    → e ≡ d ++ on_one_line text → f ≡ e ++ 10 ∷ [] → AddsLine (IsBlockLine offset) a f
+line_put a b c d e f text n offset p q r s t =
+    let said = on_one_line text in
     let line : List ℕ = replicate n 32 ++ (decimal offset ++ 32 ∷ said) in
     let whole : f ≡ a ++ (line ++ 10 ∷ []) = rw (t, s, r, q, p) (simp append_assoc) in
-    (line, whole, record { spaces = n; said = said; is = refl; one = one })
+    (line, whole, record { spaces = n; said = said; is = refl; one = has_one_line text })
 
 -- the line of a block after its mark
 pub inside_put : (a b c : List ℕ) (offset : ℕ) → b ≡ a ++ 62 ∷ [] → AddsLine (IsBlockLine offset) b c → AddsLine (IsInsideLine offset) a c
@@ -67,20 +89,21 @@ line_inside (Ok u) inside offset a b c e p line = subst (λ z. AddsLine (IsLineO
 line_inside (Err x) inside offset a b c e p line = tt
 
 -- the parts of a note
-pub note_put : (a b c d e said : List ℕ) (mark : ℕ) → b ≡ a ++ mark ∷ [] → c ≡ b ++ 32 ∷ [] → d ≡ c ++ said → e ≡ d ++ 10 ∷ []
-    → IsOneLine said → AddsLine (IsNote mark) a e
-note_put a b c d e said mark p q r s one =
-    let line : List ℕ = mark ∷ 32 ∷ said in
+pub note_put : (a b c d e text : List ℕ) (mark : ℕ) → b ≡ a ++ mark ∷ [] → c ≡ b ++ 32 ∷ [] → d ≡ c ++ on_one_line text
+    → e ≡ d ++ 10 ∷ [] → AddsLine (IsNote mark text) a e
+note_put a b c d e text mark p q r s =
+    let line : List ℕ = mark ∷ 32 ∷ on_one_line text in
     let whole : e ≡ a ++ (line ++ 10 ∷ []) = rw (s, r, q, p) (simp append_assoc) in
-    (line, whole, record { said = said; is = refl; one = one })
+    (line, whole, refl)
 
 -- the parts of the line of a fault
-pub fault_put : (a b c d e f g said : List ℕ) (offset : ℕ) → b ≡ a ++ codes "! refused at offset " → c ≡ b ++ decimal offset
-    → d ≡ c ++ 58 ∷ [] → e ≡ d ++ 32 ∷ [] → f ≡ e ++ said → g ≡ f ++ 10 ∷ [] → IsOneLine said → AddsLine (IsFaultLine offset) a g
-fault_put a b c d e f g said offset p q r s t u one =
+pub fault_put : (a b c d e f g text : List ℕ) (offset : ℕ) → b ≡ a ++ codes "! refused at offset " → c ≡ b ++ decimal offset
+    → d ≡ c ++ 58 ∷ [] → e ≡ d ++ 32 ∷ [] → f ≡ e ++ on_one_line text → g ≡ f ++ 10 ∷ [] → AddsLine (IsFaultLine offset) a g
+fault_put a b c d e f g text offset p q r s t u =
+    let said = on_one_line text in
     let line : List ℕ = codes "! refused at offset " ++ decimal offset ++ 58 ∷ 32 ∷ said in
     let whole : g ≡ a ++ (line ++ 10 ∷ []) = rw (u, t, s, r, q, p) (simp append_assoc) in
-    (line, whole, record { said = said; is = refl; one = one })
+    (line, whole, record { said = said; is = refl; one = has_one_line text })
 
 pub shown_join : (inside : Bool) (base : ℕ) (xs ys : List ℕ) → shown_at inside base (xs ++ ys) ≡ shown_at inside base xs ++ shown_at inside base ys
 shown_join true base xs ys = refl

@@ -317,9 +317,9 @@ step_placed here inside there base from left step a b i e put =
     subst (λ n. PutsStep inside n from left step a b) e (subst (λ z. PutsStep z there from left step a b) i put)
 
 -- a fault that is not of memory
-pub fault_first : (part : List ℕ) (fault : _) → OutOfMemoryOr (FirstFault part) fault → (fault ≡ OutOfMemory → ⊥) → FirstFault part (fault_of fault)
-fault_first part fault (inl is) other = absurd (other is)
-fault_first part fault (inr first) other = first
+pub fault_first : (Is : DecodeFault → Type 0) (fault : _) → OutOfMemoryOr Is fault → (fault ≡ OutOfMemory → ⊥) → Is (fault_of fault)
+fault_first Is fault (inl is) other = absurd (other is)
+fault_first Is fault (inr first) other = first
 
 -- the line of an encoding at fault
 pub put_leaf :

@@ -1,5 +1,6 @@
 -- What is written of a document: lines, one for each block in tree order, with its offset.
-use Rattle.std.specs.Prelude.{◌≡◌, ◌≢◌, ◌⊎◌, ℕ, suc, ◌+◌, nat_lt, Bool, true, false, if◌then◌else◌, Option, None}
+use Rattle.std.specs.Prelude.{◌≡◌, ◌≢◌, ◌⊎◌, ◌==◌, ℕ, suc, ◌+◌, nat_lt, Bool, true, false, if◌then◌else◌}
+use Rattle.std.specs.Prelude.{Option, None}
 use Rattle.std.specs.Prelude.{Some, List, [], ◌∷◌, ◌++◌}
 use Rattle.std.specs.Prelude.{drop, length, map, replicate, codes, decimal}
 use Rattle.std.specs.List.{All}
@@ -63,12 +64,14 @@ pub record IsInsideLine (offset : ℕ) (line : List ℕ) : Type 0 where
   pub is : line ≡ 62 ∷ shown
   pub block : IsBlockLine offset shown
 
+-- the text with a space in the place of each octet 0A
+abbrev pub on_one_line : List ℕ → List ℕ
+on_one_line text = map (λ b. if b == 10 then 32 else b) text
+
 -- any other line but that of a first fault: `=`, a space and the label of an object, or `!`, a space and what is wrong
--- with one
-pub record IsNote (mark : ℕ) (line : List ℕ) : Type 0 where
-  pub said : List ℕ
-  pub is : line ≡ mark ∷ 32 ∷ said
-  pub one : IsOneLine said
+-- with one, on one line
+abbrev pub IsNote : ℕ → List ℕ → List ℕ → Type 0
+IsNote mark said line = line ≡ mark ∷ 32 ∷ on_one_line said
 
 -- the line of a fault: `! refused at offset`, the offset in decimal, a colon, a space, and words
 pub record IsFaultLine (offset : ℕ) (line : List ℕ) : Type 0 where

@@ -1,6 +1,6 @@
 // Lines, each put at the end of what is written.
-ghost use Rattle.std.specs.Prelude.{◌≡◌, ◌≢◌, ◌++◌, List, ℕ, OnOk, replicate, true};
-ghost use Rattle.der_lines.specs.Dump.{AddsLine, IsBlockLine, IsFaultLine, IsNote, IsOneLine};
+ghost use Rattle.std.specs.Prelude.{◌≡◌, ◌==◌, ◌++◌, OnOk, if◌then◌else◌, replicate, true};
+ghost use Rattle.der_lines.specs.Dump.{AddsLine, IsBlockLine, IsFaultLine, IsNote, IsOneLine, on_one_line};
 ghost use Rattle.der_lines.specs.Steps.{IsLineOf, mark_of};
 
 use itoa::Buffer;
@@ -30,8 +30,7 @@ fn push_spaces(n: usize, out: &mut Vec<u8>) -> Result<(), AllocError>
 
 // Puts the text at the end, with a space in the place of each octet 0A.
 fn push_plain(text: &[u8], out: &mut Vec<u8>) -> Result<(), AllocError>
-    ensures { OnOk result ((said : List ℕ)
-        × (out.new.items ≡ out.old.items ++ said) × IsOneLine said) }
+    ensures { OnOk result (out.new.items ≡ out.old.items ++ on_one_line text.now) }
 {
     if is_one_line(text) {
         return out.extend_from_slice(text);
@@ -49,7 +48,7 @@ fn is_one_line(text: &[u8]) -> bool
 }
 
 fn plain(b: u8) -> u8
-    ensures { result ≢ 10 }
+    ensures { result ≡ (if b == 10 then 32 else b) }
 {
     if b == b'\n' { b' ' } else { b }
 }
@@ -75,7 +74,7 @@ fn push_block_line(
 
 // A line that is no line of a block: its mark, a space, and what is said.
 pub fn push_note(mark: Mark, said: &[u8], out: &mut Vec<u8>) -> Result<(), AllocError>
-    ensures { OnOk result (AddsLine (IsNote (mark_of mark)) out.old.items out.new.items) }
+    ensures { OnOk result (AddsLine (IsNote (mark_of mark) said.now) out.old.items out.new.items) }
 {
     out.push(mark_octet(mark))?;
     out.push(b' ')?;

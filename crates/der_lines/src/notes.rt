@@ -12,18 +12,19 @@ use std::alloc::AllocError;
 /// # Errors
 /// Memory ran out.
 pub fn push_label(label: &[u8], out: &mut Vec<u8>) -> Result<(), AllocError>
-    ensures { OnOk result (AddsLine (IsNote 61) out.old.items out.new.items) }
+    ensures { OnOk result (AddsLine (IsNote 61 label.now) out.old.items out.new.items) }
 {
     push_note(Mark::Object, label, out)
 }
 
-/// Puts a line that says why something is not read: `!`, a space, and the words, with a space in the place of each octet
-/// 0A. The verdict is `Refused`.
+/// Puts a line that says why something is not read: `!`, a space, and the words, with a space in the place of each
+/// octet 0A. The verdict is `Refused`.
 ///
 /// # Errors
 /// Memory ran out.
 pub fn push_refusal(why: &str, out: &mut Vec<u8>) -> Result<Verdict, AllocError>
-    ensures { IfOk result (λ verdict. (verdict ≡ Refused) × AddsLine (IsNote 33) out.old.items out.new.items) }
+    ensures { IfOk result (λ verdict.
+        (verdict ≡ Refused) × AddsLine (IsNote 33 why.now) out.old.items out.new.items) }
 {
     push_note(Mark::Fault, why.as_bytes(), out)?;
     Ok(Verdict::Refused)

@@ -64,7 +64,7 @@ fn part_size(octets: &[u8]) -> Result<usize, AllocError>
     Ok(if size == 0 { octets.len() } else { size })
 }
 
-// So of a part.
+// Puts the lines of one part, and tells whether it is such blocks.
 #[cycle(parts)]
 fn push_part(
     alloc: Global,
@@ -101,7 +101,7 @@ fn long_group(alloc: Global, octets: &[u8]) -> Result<Option<Header>, AllocError
     }
 }
 
-// So of a SEQUENCE or SET, by its header and then its contents octets.
+// Puts the lines of a SEQUENCE or SET, by its header and then its contents octets, and tells whether it is such blocks.
 #[cycle(parts)]
 fn push_group(
     alloc: Global,
@@ -146,7 +146,7 @@ fn push_group_line(
     push_header(alloc, header, 0, place, "", out)
 }
 
-// So of blocks that are read whole.
+// Puts the lines of octets that are read at once, and tells whether they are such blocks.
 fn push_whole(
     alloc: Global,
     names: &Names,

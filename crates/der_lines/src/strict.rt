@@ -22,7 +22,8 @@ pub fn push_document_strictly(
     octets: &[u8],
     out: &mut Vec<u8>,
 ) -> Result<Verdict, AllocError>
-    ensures { IfOk result (λ verdict. AddsStrictDumpOf style.most_depth octets.now verdict out.old.items out.new.items) }
+    ensures { IfOk result (λ verdict.
+        AddsStrictDumpOf style.most_depth octets.now verdict out.old.items out.new.items) }
 {
     law_one_reading();
     let Some(_) = push_octets(alloc, names, style, octets, out)? else {

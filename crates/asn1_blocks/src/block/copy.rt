@@ -24,9 +24,9 @@ fn take_back(alloc: Global, copies: &mut HeldBlocks, n: usize) -> Result<HeldBlo
     Ok(taken)
 }
 
-// The same block, where the copies are those of the blocks that it holds.
-fn copy_over(alloc: Global, b: &ASN1Block, held: HeldBlocks) -> Result<ASN1Block, AllocError>
-    requires { views held ≡ inside (view b.now) }
+// The same block, where the copies are those of the blocks that it holds, which it takes.
+fn copy_over(alloc: Global, b: &ASN1Block, held: &mut HeldBlocks) -> Result<ASN1Block, AllocError>
+    requires { views held.old ≡ inside (view b.now) }
     ensures { IfOk result (λ r. view r ≡ view b.now) }
 {
     match b {
@@ -46,11 +46,11 @@ fn copy_over(alloc: Global, b: &ASN1Block, held: HeldBlocks) -> Result<ASN1Block
         ASN1Block::IA5String(o, s) => Ok(ASN1Block::IA5String(*o, s.clone()?)),
         ASN1Block::UniversalString(o, s) => Ok(ASN1Block::UniversalString(*o, s.clone()?)),
         ASN1Block::BMPString(o, s) => Ok(ASN1Block::BMPString(*o, s.clone()?)),
-        ASN1Block::Sequence(o, _) => Ok(ASN1Block::Sequence(*o, held.into_vec())),
-        ASN1Block::Set(o, _) => Ok(ASN1Block::Set(*o, held.into_vec())),
+        ASN1Block::Sequence(o, _) => Ok(ASN1Block::Sequence(*o, held.take_all(alloc))),
+        ASN1Block::Set(o, _) => Ok(ASN1Block::Set(*o, held.take_all(alloc))),
         ASN1Block::Explicit(c, o, t, _) => {
             let tag = t.clone(alloc)?;
-            Ok(ASN1Block::Explicit(*c, *o, tag, boxed(alloc, held.into_only())?))
+            Ok(ASN1Block::Explicit(*c, *o, tag, boxed(alloc, held.take_last())?))
         }
         ASN1Block::Unknown(c, k, o, t, v) => {
             Ok(ASN1Block::Unknown(*c, *k, *o, t.clone(alloc)?, copy_of(alloc, v)?))
@@ -67,8 +67,8 @@ fn copy(alloc: Global, b: &ASN1Block) -> Result<ASN1Block, AllocError>
     while i > 0 {
         i -= 1;
         let block = order[i];
-        let held = take_back(alloc, &mut copies, blocks_inside(block).len())?;
-        let copy = copy_over(alloc, block, held)?;
+        let mut held = take_back(alloc, &mut copies, blocks_inside(block).len())?;
+        let copy = copy_over(alloc, block, &mut held)?;
         copies.push(copy)?;
     }
     Ok(copies.take_last())

@@ -1,4 +1,4 @@
-use Rattle.std.proofs.Common.{◌≡◌, ◌≢◌, ℕ, List, Bool, true, false, inl, inr, refl, sym, subst, Result, Ok, Err, OnOk}
+use Rattle.std.proofs.Common.{◌≡◌, ℕ, List, Bool, true, inl, inr, refl, sym, subst, Result, Ok, Err, OnOk}
 use Rattle.std.proofs.lemmas.Result.{IfErr-weaker}
 use Rattle.asn1_headers.specs.declared.error.ASN1DecodeErr.{ASN1DecodeErr}
 use Rattle.asn1_headers.specs.declared.header.ASN1Class.{ASN1Class}
@@ -9,7 +9,7 @@ use Rattle.asn1_blocks.specs.Grammar.{of_leaf_contents}
 use Rattle.asn1_blocks.specs.HeadersBegun.{IsReadInside}
 use Rattle.asn1_blocks.specs.Inner.LeafBlocks.{IsNoLeafOrMeant, IsSingleAt}
 use Rattle.asn1_blocks.specs.Tree.{leaf, unknown}
-use Rattle.asn1_blocks.proofs.Leaves.{TagKind, unknown_tag, group_tag_of, leaf_tag_of, tag_kind, group_tag_is}
+use Rattle.asn1_blocks.proofs.Leaves.{unknown_tag, group_tag_of, leaf_tag_of, tag_kind, group_tag_is}
 use Rattle.asn1_blocks.proofs.contents.check_contents.Goals as goal
 
 -- a leaf, or contents octets that have no rule

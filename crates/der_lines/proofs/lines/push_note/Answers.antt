@@ -5,7 +5,6 @@ use Rattle.der_lines.proofs.lines.push_note.Goals as goal
 
 pub returns : goal.returns
 returns c =
-    let (said, is, one) = c.in_ok-push_plain.ensures in
     let marked : c.push.new.self.items ≡ c.args.out.now.items ++ mark_of c.args.mark ∷ [] =
     c.in_ok-push.ensures.items ∙ ap (λ z. c.args.out.now.items ++ z ∷ []) c.mark_octet.ensures in
-    note_put _ _ _ _ _ said _ marked c.in_ok-push-2.ensures.items is c.in_ok-push-3.ensures.items one
+    note_put _ _ _ _ _ c.args.said.now _ marked c.in_ok-push-2.ensures.items c.in_ok-push_plain.ensures c.in_ok-push-3.ensures.items

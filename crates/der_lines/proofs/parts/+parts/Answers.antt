@@ -1,4 +1,4 @@
-use Rattle.std.proofs.Common.{◌+◌, arith, length, subst}
+use Rattle.std.proofs.Common.{arith, subst}
 use Rattle.der_lines.specs.Steps.{PutsBlocks}
 use Rattle.der_lines.proofs.PartsOfBlocks.{all_of, group_put, keeps_line, kept_of, part_there, put_more, put_none_yet}
 use Rattle.der_lines.proofs.parts.+parts.Goals as goal

@@ -1,5 +1,6 @@
 use Rattle.std.proofs.Common.{◌≡◌, ◌+◌, ◌∷◌, ap, ◌∙◌, subst}
 use Rattle.simple_asn1.specs.Fault.{fault_of}
+use Rattle.simple_asn1.specs.Grammar.{FirstFault}
 use Rattle.simple_asn1.specs.View.{document_trees, tree_offset, view, views}
 use Rattle.std.specs.Prelude.{None}
 use Rattle.der_lines.specs.Dump.{Adds, all_offsets, offsets_down_to}
@@ -69,7 +70,7 @@ pub push_step-returns : goal.push_step-returns
 push_step-returns t c =
     let octets = c.in-Some.encoding.now in
     let there = c.in-Some.ensures.found in
-    let fault = fault_first octets c.in-Err.fault c.in-Err.ensures.fault c.in_ok-push_faulty-in-Err.ensures.memory in
+    let fault = fault_first (FirstFault octets) c.in-Err.fault c.in-Err.ensures.fault c.in_ok-push_faulty-in-Err.ensures.memory in
     put_leaf c.args.place.is_inside c.args.place.base c.args.left.now octets (fault_of c.in-Err.fault) c.args.offset c.in_ok-end.end _ _
     (there.rest, there.stands) there.are fault c.in_ok-end.ensures c.in_ok-push_faulty-in-Err.ensures.line
 

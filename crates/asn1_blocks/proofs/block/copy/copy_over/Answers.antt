@@ -1,23 +1,42 @@
-use Rattle.std.proofs.Common.{sym, ap, ◌∙◌}
+use Rattle.std.proofs.Common.{◌≡◌, ◌++◌, ◌∷◌, [], List, length, length-append, refl, sym, ap, ◌∙◌, arith}
+use Rattle.asn1_blocks.specs.declared.block.ASN1Block.{ASN1Block, Explicit}
 use Rattle.asn1_blocks.specs.Inner.TreeOrder.{inside}
 use Rattle.asn1_blocks.specs.View.{view, views}
 use Rattle.asn1_blocks.proofs.BlockLists.{count, count_views}
-use Rattle.asn1_blocks.proofs.CopySteps.{sequence_of_copies, set_of_copies, view_explicit}
+use Rattle.asn1_blocks.proofs.CopySteps.{explicit_of_copy, sequence_of_copies, set_of_copies, view_explicit}
 use Rattle.asn1_blocks.proofs.block.copy.copy_over.Goals as goal
 
-pub into_only-requires : goal.into_only-requires
-into_only-requires c =
+pub take_last-requires : goal.take_last-requires
+take_last-requires c =
     let r = c.in-Explicit in
-    sym (count_views c.args.held) ∙ (ap count c.requires ∙ ap (λ z. count (inside z)) (ap view r.is ∙ view_explicit r.c r.o r.t r.field-3))
+    let one : length c.args.held.now ≡ 1 = sym (count_views c.args.held.now)
+    ∙ (ap count c.requires ∙ ap (λ z. count (inside z)) (ap view r.is ∙ view_explicit r.c r.o r.t r.field-3)) in
+    omega (arith, one)
+
+-- the last of a list of one is that one
+only : (kept : List ASN1Block) (b : ASN1Block) → length (kept ++ b ∷ []) ≡ 1 → kept ++ b ∷ [] ≡ b ∷ []
+only [] b e = refl
+only (x ∷ kept) b e = absurd (omega (arith, e, length-append kept (b ∷ [])))
+
+pub returns-in_ok-boxed-in-Explicit : goal.returns-in_ok-boxed-in-Explicit
+returns-in_ok-boxed-in-Explicit c =
+    let r = c.in-Explicit in
+    let copy = c.take_last.result in
+    let one : length c.args.held.now ≡ 1 = sym (count_views c.args.held.now)
+    ∙ (ap count c.requires ∙ ap (λ z. count (inside z)) (ap view r.is ∙ view_explicit r.c r.o r.t r.field-3)) in
+    let last = only _ copy (ap length (sym c.take_last.ensures) ∙ one) in
+    let e = ap views (sym (c.take_last.ensures ∙ last)) ∙ (c.requires ∙ ap (λ b. inside (view b)) r.is) in
+    ap (λ n. view (Explicit r.c r.o n c.in_ok-boxed-in-Explicit.field-0)) c.in_ok-tag-in-Explicit.ensures
+    ∙ (explicit_of_copy r.c r.o r.t r.field-3 c.in_ok-boxed-in-Explicit.field-0 copy c.in_ok-boxed-in-Explicit.ensures e ∙ ap view (sym r.is))
 
 pub returns-in-Sequence : goal.returns-in-Sequence
 returns-in-Sequence c =
     let r = c.in-Sequence in
-    let e = ap views c.into_vec.ensures ∙ (c.requires ∙ ap (λ b. inside (view b)) r.is) in
-    sequence_of_copies r.o r.field-1 c.into_vec.result e ∙ ap view (sym r.is)
+    let e = ap views c.take_all.ensures ∙ (c.requires ∙ ap (λ b. inside (view b)) r.is) in
+    sequence_of_copies r.o r.field-1 c.take_all.result e ∙ ap view (sym r.is)
 
 pub returns-in-Set : goal.returns-in-Set
 returns-in-Set c =
     let r = c.in-Set in
-    let e = ap views c.into_vec-in-Set.ensures ∙ (c.requires ∙ ap (λ b. inside (view b)) r.is) in
-    set_of_copies r.o r.field-1 c.into_vec-in-Set.result e ∙ ap view (sym r.is)
+    let e = ap views c.take_all-in-Set.ensures ∙ (c.requires ∙ ap (λ b. inside (view b)) r.is) in
+    set_of_copies r.o r.field-1 c.take_all-in-Set.result e ∙ ap view (sym r.is)

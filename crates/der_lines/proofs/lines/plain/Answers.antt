@@ -1,0 +1,5 @@
+use Rattle.std.proofs.Common.{rules}
+use Rattle.der_lines.proofs.lines.plain.Goals as goal
+
+pub returns-then-b-eq10 : goal.returns-then-b-eq10
+returns-then-b-eq10 c = search rules
