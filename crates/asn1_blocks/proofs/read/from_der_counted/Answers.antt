@@ -22,3 +22,21 @@ pub returns-in-Err-clause-refuses : goal.returns-in-Err-clause-refuses
 returns-in-Err-clause-refuses c =
     fault_refused {A = Vec ASN1Block Global} c.args.i.now (Err c.in-Err.located.error) (omega (arith, c.requires)) tt
     (without_place c.args.i.now c.in-Err.located.error c.in-Err.located.offset c.in-Err.ensures.refused)
+
+pub returns-in-Ok-clause-counted : goal.returns-in-Ok-clause-counted
+returns-in-Ok-clause-counted c = c.in-Ok.ensures.counted
+
+pub returns-in-Ok-clause-grown : goal.returns-in-Ok-clause-grown
+returns-in-Ok-clause-grown c = c.in-Ok.ensures.grown
+
+pub returns-in-Ok-clause-bounded : goal.returns-in-Ok-clause-bounded
+returns-in-Ok-clause-bounded c = c.in-Ok.ensures.bounded
+
+pub returns-in-Err-clause-counted : goal.returns-in-Err-clause-counted
+returns-in-Err-clause-counted c = c.in-Err.ensures.counted
+
+pub returns-in-Err-clause-grown : goal.returns-in-Err-clause-grown
+returns-in-Err-clause-grown c = c.in-Err.ensures.grown
+
+pub returns-in-Err-clause-bounded : goal.returns-in-Err-clause-bounded
+returns-in-Err-clause-bounded c = c.in-Err.ensures.bounded

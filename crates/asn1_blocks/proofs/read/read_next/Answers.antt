@@ -1,4 +1,4 @@
-use Rattle.std.proofs.Common.{◌≡◌, ℕ, ◌+◌, ◌-◌, ◌≤◌, List, length, inl, inr, refl, subst, arith}
+use Rattle.std.proofs.Common.{rules, ◌≡◌, ℕ, ◌+◌, ◌-◌, ◌≤◌, List, length, inl, inr, refl, subst, arith}
 use Rattle.std.specs.List.{slice_range}
 use Rattle.std.proofs.lemmas.Grind.{common_steps}
 use Rattle.std.proofs.lemmas.Result.{err_from_is_err_and}
@@ -93,3 +93,12 @@ returns-in_ok-put-in-Leaf-clause-stepped c n w =
     let encoded = subst Encoded leaf.0 c.in_ok-block-in-Leaf.ensures.encoded (slice_range octets a.index h.end) (h.start - a.index) found.encoding in
     put_goes_on octets a c.put.new.reader block h.end (n + 1) _ c.in_ok-put-in-Leaf.ensures.put c.in_ok-put-in-Leaf.ensures.index
     (leaf_nearer octets a h n found w) (leaf_ready octets a h block n found leaf.1 encoded w)
+
+pub returns-in_err-with_capacity-in-Blocks-clause-counted : goal.returns-in_err-with_capacity-in-Blocks-clause-counted
+returns-in_err-with_capacity-in-Blocks-clause-counted c = search rules
+
+pub returns-in_err-open-in-Blocks-clause-counted : goal.returns-in_err-open-in-Blocks-clause-counted
+returns-in_err-open-in-Blocks-clause-counted c = search rules
+
+pub returns-in_ok-open-in-Blocks-clause-counted : goal.returns-in_ok-open-in-Blocks-clause-counted
+returns-in_ok-open-in-Blocks-clause-counted c = search rules
