@@ -3,4 +3,4 @@ use Rattle.asn1_blocks.proofs.read.from_der.Goals as goal
 pub returns : goal.returns
 returns c =
     let said = c.from_der_counted.ensures in
-    record {document = said.document; fault = said.fault; accepts = said.accepts; refuses = said.refuses}
+    record { document = said.document; fault = said.fault; accepts = said.accepts; refuses = said.refuses }
