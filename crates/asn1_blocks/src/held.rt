@@ -138,7 +138,8 @@ impl HeldBlocks {
     // Gives all away, and has none left.
     #[inline(always)]
     pub fn take_all(&mut self, alloc: Global) -> Vec<ASN1Block>
-        ensures { result.items ≡ self.old }
+        ensures all { result.items ≡ self.old }
+        ensures none_left { self.new ≡ [] }
     {
         mem::replace(&mut self.blocks, Vec::new(alloc))
     }

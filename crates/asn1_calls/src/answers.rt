@@ -67,10 +67,15 @@ fn answer(alloc: Global, line: &[u8]) -> Result<String, AllocError>
         return Ok(String::new(alloc));
     }
     let (name, digits) = split_name(text);
-    match (Call::named(name), octets_of(alloc, digits)?) {
+    match (call_named(name), octets_of(alloc, digits)?) {
         (Some(call), Some(octets)) => called(alloc, &call, &octets),
         _ => String::from_str(alloc, "badline"),
     }
+}
+
+// The call of this name.
+fn call_named(name: &[u8]) -> Option<Call> {
+    Call::named(str::from_utf8(name).ok()?)
 }
 
 // The answer of the call. Where memory ran out, the octets have to be as they were.

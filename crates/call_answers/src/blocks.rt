@@ -22,15 +22,15 @@ pub enum BlockCall {
 
 impl BlockCall {
     // The call of this name.
-    pub fn named(name: &[u8]) -> Option<BlockCall> {
+    pub fn named(name: &str) -> Option<BlockCall> {
         match name {
-            b"to_der" => Some(BlockCall::Write),
-            b"clone" => Some(BlockCall::Clone),
-            b"is_faithful" => Some(BlockCall::IsFaithful),
-            b"parts" => Some(BlockCall::Parts),
-            b"==" => Some(BlockCall::Same),
-            b"all_blocks" => Some(BlockCall::All),
-            b"{:?}" => Some(BlockCall::Show),
+            "to_der" => Some(BlockCall::Write),
+            "clone" => Some(BlockCall::Clone),
+            "is_faithful" => Some(BlockCall::IsFaithful),
+            "parts" => Some(BlockCall::Parts),
+            "==" => Some(BlockCall::Same),
+            "all_blocks" => Some(BlockCall::All),
+            "{:?}" => Some(BlockCall::Show),
             _ => ValueCall::named(name).map(BlockCall::OfValue),
         }
     }

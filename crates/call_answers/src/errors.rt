@@ -14,12 +14,12 @@ pub enum ErrorCall {
 
 impl ErrorCall {
     // The call of this name.
-    pub fn named(name: &[u8]) -> Option<ErrorCall> {
+    pub fn named(name: &str) -> Option<ErrorCall> {
         match name {
-            b"ASN1DecodeErr::clone" => Some(ErrorCall::CloneOfReading),
-            b"LocatedErr::clone" => Some(ErrorCall::CloneOfPlace),
-            b"ASN1EncodeErr::clone" => Some(ErrorCall::CloneOfWriting),
-            b"Utf8Error" => Some(ErrorCall::Cause),
+            "ASN1DecodeErr::clone" => Some(ErrorCall::CloneOfReading),
+            "LocatedErr::clone" => Some(ErrorCall::CloneOfPlace),
+            "ASN1EncodeErr::clone" => Some(ErrorCall::CloneOfWriting),
+            "Utf8Error" => Some(ErrorCall::Cause),
             _ => None,
         }
     }

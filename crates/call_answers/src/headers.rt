@@ -23,16 +23,16 @@ pub enum HeaderCall {
 
 impl HeaderCall {
     // The call of this name.
-    pub fn named(name: &[u8]) -> Option<HeaderCall> {
+    pub fn named(name: &str) -> Option<HeaderCall> {
         match name {
-            b"decode_tag" => Some(HeaderCall::DecodeTag),
-            b"decode_length" => Some(HeaderCall::DecodeLength),
-            b"decode_base127" => Some(HeaderCall::DecodeBase128),
-            b"encode_tag" => Some(HeaderCall::EncodeTag),
-            b"encode_len" => Some(HeaderCall::EncodeLength),
-            b"encode_base127" => Some(HeaderCall::EncodeBase128),
-            b"decode_class" => Some(HeaderCall::DecodeClass),
-            b"encode_class" => Some(HeaderCall::EncodeClass),
+            "decode_tag" => Some(HeaderCall::DecodeTag),
+            "decode_length" => Some(HeaderCall::DecodeLength),
+            "decode_base127" => Some(HeaderCall::DecodeBase128),
+            "encode_tag" => Some(HeaderCall::EncodeTag),
+            "encode_len" => Some(HeaderCall::EncodeLength),
+            "encode_base127" => Some(HeaderCall::EncodeBase128),
+            "decode_class" => Some(HeaderCall::DecodeClass),
+            "encode_class" => Some(HeaderCall::EncodeClass),
             _ => None,
         }
     }

@@ -33,14 +33,14 @@ pub enum NumberType {
 
 impl IdentifierCall {
     // The call of this name.
-    pub fn named(name: &[u8]) -> Option<IdentifierCall> {
+    pub fn named(name: &str) -> Option<IdentifierCall> {
         match name {
-            b"OID::clone" => Some(IdentifierCall::Clone),
-            b"as_raw" => Some(IdentifierCall::AsRaw),
-            b"OID::new" => Some(IdentifierCall::New),
-            b"OID::from_u64s" => Some(IdentifierCall::FromNumbers),
-            b"OID::from_text" => Some(IdentifierCall::FromText),
-            b"OID::to_string" => Some(IdentifierCall::Show),
+            "OID::clone" => Some(IdentifierCall::Clone),
+            "as_raw" => Some(IdentifierCall::AsRaw),
+            "OID::new" => Some(IdentifierCall::New),
+            "OID::from_u64s" => Some(IdentifierCall::FromNumbers),
+            "OID::from_text" => Some(IdentifierCall::FromText),
+            "OID::to_string" => Some(IdentifierCall::Show),
             _ => named_type(name).map(IdentifierCall::AsVec),
         }
     }
@@ -86,14 +86,14 @@ impl IdentifierCall {
     }
 }
 
-fn named_type(name: &[u8]) -> Option<NumberType> {
+fn named_type(name: &str) -> Option<NumberType> {
     match name {
-        b"as_vec" => Some(NumberType::U64),
-        b"as_vec::<u8>" => Some(NumberType::U8),
-        b"as_vec::<i8>" => Some(NumberType::I8),
-        b"as_vec::<i64>" => Some(NumberType::I64),
-        b"as_vec::<u128>" => Some(NumberType::U128),
-        b"as_vec::<usize>" => Some(NumberType::Usize),
+        "as_vec" => Some(NumberType::U64),
+        "as_vec::<u8>" => Some(NumberType::U8),
+        "as_vec::<i8>" => Some(NumberType::I8),
+        "as_vec::<i64>" => Some(NumberType::I64),
+        "as_vec::<u128>" => Some(NumberType::U128),
+        "as_vec::<usize>" => Some(NumberType::Usize),
         _ => None,
     }
 }

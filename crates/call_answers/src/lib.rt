@@ -58,18 +58,18 @@ pub enum Call {
 
 impl Call {
     /// The call of this name.
-    pub fn named(name: &[u8]) -> Option<Call> {
+    pub fn named(name: &str) -> Option<Call> {
         match name {
-            b"read" => Some(Call::Read),
-            b"count" => Some(Call::Count),
-            b"place" => Some(Call::Place),
-            b"rewrite" => Some(Call::Rewrite),
-            b"strict" => Some(Call::Strict),
-            b"signed" => Some(Call::Signed),
-            b"oid!" => Some(Call::MakeIdentifier),
-            b"Document::from_der_located" => Some(Call::ReadLocated),
-            b"encoding_at" => Some(Call::EncodingAt),
-            b"made" => Some(Call::Made),
+            "read" => Some(Call::Read),
+            "count" => Some(Call::Count),
+            "place" => Some(Call::Place),
+            "rewrite" => Some(Call::Rewrite),
+            "strict" => Some(Call::Strict),
+            "signed" => Some(Call::Signed),
+            "oid!" => Some(Call::MakeIdentifier),
+            "Document::from_der_located" => Some(Call::ReadLocated),
+            "encoding_at" => Some(Call::EncodingAt),
+            "made" => Some(Call::Made),
             _ => named_otherwise(name),
         }
     }
@@ -98,7 +98,7 @@ impl Call {
     }
 }
 
-fn named_otherwise(name: &[u8]) -> Option<Call> {
+fn named_otherwise(name: &str) -> Option<Call> {
     if let Some(call) = BlockCall::named(name) {
         return Some(Call::OfBlock(call));
     }

@@ -21,15 +21,15 @@ pub enum NaturalCall {
 
 impl NaturalCall {
     // The call of this name.
-    pub fn named(name: &[u8]) -> Option<NaturalCall> {
+    pub fn named(name: &str) -> Option<NaturalCall> {
         match name {
-            b"BigUint::from_u64" => Some(NaturalCall::FromU64),
-            b"BigUint::from_u128" => Some(NaturalCall::FromU128),
-            b"BigUint::from_text" => Some(NaturalCall::FromText),
-            b"BigUint::to_string" => Some(NaturalCall::Show),
-            b"BigUint::clone" => Some(NaturalCall::Clone),
-            b"BigUint::to" => Some(NaturalCall::Types),
-            b"BigUint::cmp" => Some(NaturalCall::Order),
+            "BigUint::from_u64" => Some(NaturalCall::FromU64),
+            "BigUint::from_u128" => Some(NaturalCall::FromU128),
+            "BigUint::from_text" => Some(NaturalCall::FromText),
+            "BigUint::to_string" => Some(NaturalCall::Show),
+            "BigUint::clone" => Some(NaturalCall::Clone),
+            "BigUint::to" => Some(NaturalCall::Types),
+            "BigUint::cmp" => Some(NaturalCall::Order),
             _ => None,
         }
     }
@@ -173,17 +173,17 @@ pub enum WholeCall {
 
 impl WholeCall {
     // The call of this name.
-    pub fn named(name: &[u8]) -> Option<WholeCall> {
+    pub fn named(name: &str) -> Option<WholeCall> {
         match name {
-            b"BigInt::from_i64" => Some(WholeCall::FromI64),
-            b"BigInt::from_u64" => Some(WholeCall::FromU64),
-            b"BigInt::from_i128" => Some(WholeCall::FromI128),
-            b"BigInt::from_u128" => Some(WholeCall::FromU128),
-            b"BigInt::from_signed_bytes_be" => Some(WholeCall::FromOctets),
-            b"BigInt::to_signed_bytes_be" => Some(WholeCall::ToOctets),
-            b"BigInt::to_string" => Some(WholeCall::Show),
-            b"BigInt::clone" => Some(WholeCall::Clone),
-            b"BigInt::to" => Some(WholeCall::Types),
+            "BigInt::from_i64" => Some(WholeCall::FromI64),
+            "BigInt::from_u64" => Some(WholeCall::FromU64),
+            "BigInt::from_i128" => Some(WholeCall::FromI128),
+            "BigInt::from_u128" => Some(WholeCall::FromU128),
+            "BigInt::from_signed_bytes_be" => Some(WholeCall::FromOctets),
+            "BigInt::to_signed_bytes_be" => Some(WholeCall::ToOctets),
+            "BigInt::to_string" => Some(WholeCall::Show),
+            "BigInt::clone" => Some(WholeCall::Clone),
+            "BigInt::to" => Some(WholeCall::Types),
             _ => None,
         }
     }

@@ -14,11 +14,11 @@ pub enum PointCall {
 
 impl PointCall {
     // The call of this name.
-    pub fn named(name: &[u8]) -> Option<PointCall> {
+    pub fn named(name: &str) -> Option<PointCall> {
         match name {
-            b"der_decode" => Some(PointCall::Decode),
-            b"der_encode" => Some(PointCall::Encode),
-            b"round_trip" => Some(PointCall::RoundTrip),
+            "der_decode" => Some(PointCall::Decode),
+            "der_encode" => Some(PointCall::Encode),
+            "round_trip" => Some(PointCall::RoundTrip),
             _ => None,
         }
     }

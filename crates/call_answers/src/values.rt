@@ -16,12 +16,12 @@ pub enum ValueCall {
 
 impl ValueCall {
     // The call of this name.
-    pub fn named(name: &[u8]) -> Option<ValueCall> {
+    pub fn named(name: &str) -> Option<ValueCall> {
         match name {
-            b"boolean" => Some(ValueCall::Boolean),
-            b"bits" => Some(ValueCall::Bits),
-            b"oid" => Some(ValueCall::Identifier),
-            b"moment" => Some(ValueCall::Moment),
+            "boolean" => Some(ValueCall::Boolean),
+            "bits" => Some(ValueCall::Bits),
+            "oid" => Some(ValueCall::Identifier),
+            "moment" => Some(ValueCall::Moment),
             _ => None,
         }
     }

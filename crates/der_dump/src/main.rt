@@ -1,17 +1,10 @@
 //! Shows DER documents, which come as octets, in PEM or in hex digits.
 #![tactic(auto)]
 
-mod answers;
 mod host;
-mod json_lines;
-mod manner;
-mod tasks;
-#[cfg(test)]
-mod tests;
-mod tool;
 
 use crate::host::HostReader;
-use crate::tool::{Source, run, status};
+use der_inputs::{Source, run, status};
 use der_options::{Options, OptionsFault, options_of};
 use std::alloc::AllocError;
 use std::process::ExitCode;

@@ -11,4 +11,6 @@ mod input_forms;
 #[cfg(test)]
 mod json_lines;
 #[cfg(test)]
+mod runs;
+#[cfg(test)]
 mod stream_faults;

@@ -1,4 +1,5 @@
-use Rattle.std.proofs.Common.{◌≡◌, ◌++◌, ◌∷◌, [], List, length, length-append, refl, sym, ap, ◌∙◌, arith}
+use Rattle.std.proofs.Common.{◌≡◌, ◌++◌, ◌∷◌, [], List, ℕ, Box, Global, length, length-append, refl, sym, ap, ◌∙◌, arith}
+use Rattle.asn1_headers.specs.declared.header.ASN1Class.{ASN1Class}
 use Rattle.asn1_blocks.specs.declared.block.ASN1Block.{ASN1Block, Explicit}
 use Rattle.asn1_blocks.specs.Inner.TreeOrder.{inside}
 use Rattle.asn1_blocks.specs.View.{view, views}
@@ -6,11 +7,16 @@ use Rattle.asn1_blocks.proofs.BlockLists.{count, count_views}
 use Rattle.asn1_blocks.proofs.CopySteps.{explicit_of_copy, sequence_of_copies, set_of_copies, view_explicit}
 use Rattle.asn1_blocks.proofs.block.copy.copy_over.Goals as goal
 
+-- what is held for an explicit block is one block
+holds_one : (held : List ASN1Block) (b : ASN1Block) (c : ASN1Class) (o n : ℕ) (inner : Box ASN1Block Global) → b ≡ Explicit c o n inner
+    → views held ≡ inside (view b) → length held ≡ 1
+holds_one held b c o n inner is e = sym (count_views held)
+    ∙ (ap count e ∙ ap (λ z. count (inside z)) (ap view is ∙ view_explicit c o n inner))
+
 pub take_last-requires : goal.take_last-requires
 take_last-requires c =
     let r = c.in-Explicit in
-    let one : length c.args.held.now ≡ 1 = sym (count_views c.args.held.now)
-    ∙ (ap count c.requires ∙ ap (λ z. count (inside z)) (ap view r.is ∙ view_explicit r.c r.o r.t r.field-3)) in
+    let one = holds_one c.args.held.now c.args.b.now r.c r.o r.t r.field-3 r.is c.requires in
     omega (arith, one)
 
 -- the last of a list of one is that one
@@ -22,8 +28,7 @@ pub returns-in_ok-boxed-in-Explicit : goal.returns-in_ok-boxed-in-Explicit
 returns-in_ok-boxed-in-Explicit c =
     let r = c.in-Explicit in
     let copy = c.take_last.result in
-    let one : length c.args.held.now ≡ 1 = sym (count_views c.args.held.now)
-    ∙ (ap count c.requires ∙ ap (λ z. count (inside z)) (ap view r.is ∙ view_explicit r.c r.o r.t r.field-3)) in
+    let one = holds_one c.args.held.now c.args.b.now r.c r.o r.t r.field-3 r.is c.requires in
     let last = only _ copy (ap length (sym c.take_last.ensures) ∙ one) in
     let e = ap views (sym (c.take_last.ensures ∙ last)) ∙ (c.requires ∙ ap (λ b. inside (view b)) r.is) in
     ap (λ n. view (Explicit r.c r.o n c.in_ok-boxed-in-Explicit.field-0)) c.in_ok-tag-in-Explicit.ensures
@@ -32,11 +37,11 @@ returns-in_ok-boxed-in-Explicit c =
 pub returns-in-Sequence : goal.returns-in-Sequence
 returns-in-Sequence c =
     let r = c.in-Sequence in
-    let e = ap views c.take_all.ensures ∙ (c.requires ∙ ap (λ b. inside (view b)) r.is) in
+    let e = ap views c.take_all.ensures.all ∙ (c.requires ∙ ap (λ b. inside (view b)) r.is) in
     sequence_of_copies r.o r.field-1 c.take_all.result e ∙ ap view (sym r.is)
 
 pub returns-in-Set : goal.returns-in-Set
 returns-in-Set c =
     let r = c.in-Set in
-    let e = ap views c.take_all-in-Set.ensures ∙ (c.requires ∙ ap (λ b. inside (view b)) r.is) in
+    let e = ap views c.take_all-in-Set.ensures.all ∙ (c.requires ∙ ap (λ b. inside (view b)) r.is) in
     set_of_copies r.o r.field-1 c.take_all-in-Set.result e ∙ ap view (sym r.is)

@@ -1,0 +1,72 @@
+-- Inputs after inputs, each of which a loop over their readers has come to.
+use Rattle.std.proofs.Common.{◌≡◌, ◌<◌, ◌+◌, ℕ, suc, List, [], ◌∷◌, ◌++◌, Bool, arith, drop, get_or, length, map, refl}
+use Rattle.std.proofs.Common.{false, is_err, is_ok, if◌then◌else◌, set, sym, take, ◌∙◌}
+use Rattle.std.specs.Prelude.{Option, Result, Ok, Err}
+use Rattle.std.proofs.lemmas.List.{drop-set-lt, map-append, take_more}
+use Rattle.std.proofs.lemmas.Grind.{take-set_at}
+use Rattle.std.proofs.Math.Seq.{drop-cons}
+use Rattle.der_inputs.specs.Inputs.{AddsSource, AddsSources, AreReadToEnds, Input, IsReadToEnd}
+use Rattle.der_lines.specs.declared.document.Verdict.{Verdict}
+use Rattle.der_options.specs.declared.options.Options.{Options}
+
+-- one input more
+one_more :
+    (named : Bool) (options : Options) (inputs : List Input) (came : List (Option Verdict)) (input : Input)
+    (last : Option Verdict) (a b c : List ℕ) →
+    AddsSources named options inputs came a b → AddsSource named options input last b c →
+    AddsSources named options (inputs ++ input ∷ []) (came ++ last ∷ []) a c
+one_more named options [] [] input last a b c e h = (c, rw (← e) h, refl)
+one_more named options (x ∷ xs) (v ∷ vs) input last a b c (between, first, rest) h =
+    (between, first, one_more named options xs vs input last between b c rest h)
+one_more named options [] (v ∷ vs) input last a b c e h = absurd e
+one_more named options (x ∷ xs) [] input last a b c e h = absurd e
+
+-- one reader more
+one_more_read :
+    (came : List (Option Verdict)) (left : List (Option (List ℕ))) (last : Option Verdict) (its : Option (List ℕ)) →
+    AreReadToEnds came left → IsReadToEnd last its → AreReadToEnds (came ++ last ∷ []) (left ++ its ∷ [])
+one_more_read [] [] last its h e = (e, tt)
+one_more_read (v ∷ vs) (x ∷ xs) last its (first, rest) e = (first, one_more_read vs xs last its rest e)
+one_more_read [] (x ∷ xs) last its h e = absurd h
+one_more_read (v ∷ vs) [] last its h e = absurd h
+
+pushed :
+    {T E : Type 0} (r : Result T E) (was now : List (Option Verdict)) (last : Option Verdict) → is_err r ≡ false →
+    now ≡ (if is_ok r then was ++ last ∷ [] else was) → now ≡ was ++ last ∷ []
+pushed (Ok x) was now last e p = p
+pushed (Err x) was now last e p = absurd (cc e)
+
+-- a loop has come to the source at a place: those from there on are as they were
+module _ {S T E : Type 0} (i : ℕ) (all now : List S) (l : i < length all) (n : length now ≡ length all)
+    (left : drop i now ≡ drop i all) (r : Result T E) (were are : List (Option Verdict)) (last : Option Verdict)
+    (e : is_err r ≡ false) (p : are ≡ (if is_ok r then were ++ last ∷ [] else were)) where
+  from_here : (d : S) → get_or now i d ∷ drop (i + 1) now ≡ get_or all i d ∷ drop (i + 1) all
+  from_here d =
+      let m : i < length now = omega arith in
+      let next : i + 1 ≡ suc i = omega arith in
+      rw next (sym (drop-cons now i d m) ∙ left ∙ drop-cons all i d l)
+
+  here : (d : S) → get_or now i d ≡ get_or all i d
+  here d = let both = from_here d in cc
+
+  pub left_later : (y : S) → drop (i + 1) (set now i y) ≡ drop (i + 1) all
+  left_later y = drop-set-lt (i + 1) now i y (omega arith) ∙ (let both = from_here y in cc)
+
+  pub one_put :
+      (named : Bool) (options : Options) (input : S → Input) (d : S) (a b c : List ℕ) →
+      AddsSources named options (map input (take i all)) were a b →
+      AddsSource named options (input (get_or now i d)) last b c →
+      AddsSources named options (map input (take (i + 1) all)) are a c
+  one_put named options input d a b c earlier one =
+      let more = map-append input (take i all) (get_or all i d ∷ []) in
+      rw (take_more all i d l, more, ← here d, pushed r were are last e p)
+      (one_more named options (map input (take i all)) were (input (get_or now i d)) last a b c earlier one)
+
+  pub one_read :
+      (rest : S → Option (List ℕ)) (y : S) → AreReadToEnds were (map rest (take i now)) → IsReadToEnd last (rest y) →
+      AreReadToEnds are (map rest (take (i + 1) (set now i y)))
+  one_read rest y earlier one =
+      let m : i < length now = omega arith in
+      let more = map-append rest (take i now) (y ∷ []) in
+      rw (take-set_at now i (i + 1) y refl m, more, pushed r were are last e p)
+      (one_more_read were (map rest (take i now)) last (rest y) earlier one)

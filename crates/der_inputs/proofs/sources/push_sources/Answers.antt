@@ -1,0 +1,27 @@
+use Rattle.std.proofs.Common.{sym, ◌∙◌}
+use Rattle.der_inputs.specs.Inputs.{input_of}
+use Rattle.der_inputs.proofs.Readers.{left_later, one_put, one_read}
+use Rattle.der_inputs.proofs.sources.push_sources.Goals as goal
+
+pub loop-source-preserved : goal.loop-source-preserved
+loop-source-preserved g c =
+    let i = c.loop-source.source-index in
+    let all = c.args.sources.now in
+    let now = c.loop-source.sources in
+    let l = c.loop-source-test.true in
+    let n = c.loop-source.auto.sources in
+    let left = c.loop-source.invariant.left in
+    let were = c.loop-source.came.items in
+    let are = c.push.new.self.items in
+    let last = c.in_ok-outcome.outcome in
+    let e = sym c.is_err.ensures.value ∙ c.if-is_err.false in
+    let p = c.push.ensures.items in
+    record {
+      put = one_put i all now l n left c.push.result were are last e p c.args.is_named c.args.options.now
+          (λ source. input_of source.name.now (g.R.Read.remaining source.reader)) c.source-item.result
+          c.args.out.now.items c.loop-source.out.items c.push_source.new.out.items c.loop-source.invariant.put
+          c.in_ok-outcome.ensures.put;
+      read = one_read i all now l n left c.push.result were are last e p (λ source. g.R.Read.remaining source.reader)
+          c.push_source.new.source c.loop-source.invariant.read c.in_ok-outcome.ensures.read;
+      left = left_later i all now l n left c.push.result were are last e p c.push_source.new.source;
+    }

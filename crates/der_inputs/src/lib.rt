@@ -1,0 +1,17 @@
+//! What `der_dump` writes of its inputs.
+//!
+//! [`run`] reads inputs, each a [`Source`] with a name, and writes what the options of `der_options` want of each: a
+//! dump, a line of JSON, or octets as they stand. An input is a document in one of the forms of `der_forms`, told
+//! apart by its octets; a dump has the lines of `der_lines`, and a line of JSON is that of `der_json`. [`status`] is the
+//! exit status after a run.
+//!
+//! It opens nothing by itself: `der_dump` gives it files and standard input, and tests give it octets.
+#![tactic(auto)]
+
+mod answers;
+mod json_lines;
+mod manner;
+mod sources;
+mod tasks;
+
+pub use sources::{Source, run, status};
