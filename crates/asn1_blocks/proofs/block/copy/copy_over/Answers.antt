@@ -1,4 +1,4 @@
-use Rattle.std.proofs.Common.{◌≡◌, ◌++◌, ◌∷◌, [], List, ℕ, Box, Global, length, length-append, refl, sym, ap, ◌∙◌, arith}
+use Rattle.std.proofs.Common.{◌≡◌, ◌++◌, ◌∷◌, [], List, ℕ, Box, Global, length, length-append, refl, sym, ap, ◌∙◌, arith, rules}
 use Rattle.asn1_headers.specs.declared.header.ASN1Class.{ASN1Class}
 use Rattle.asn1_blocks.specs.declared.block.ASN1Block.{ASN1Block, Explicit}
 use Rattle.asn1_blocks.specs.Inner.TreeOrder.{inside}
@@ -33,6 +33,9 @@ returns-in_ok-boxed-in-Explicit c =
     let e = ap views (sym (c.take_last.ensures ∙ last)) ∙ (c.requires ∙ ap (λ b. inside (view b)) r.is) in
     ap (λ n. view (Explicit r.c r.o n c.in_ok-boxed-in-Explicit.field-0)) c.in_ok-tag-in-Explicit.ensures
     ∙ (explicit_of_copy r.c r.o r.t r.field-3 c.in_ok-boxed-in-Explicit.field-0 copy c.in_ok-boxed-in-Explicit.ensures e ∙ ap view (sym r.is))
+
+pub returns-in_ok-clone-in-Integer : goal.returns-in_ok-clone-in-Integer
+returns-in_ok-clone-in-Integer c = search rules
 
 pub returns-in-Sequence : goal.returns-in-Sequence
 returns-in-Sequence c =
