@@ -3,10 +3,12 @@
 //!
 //! - [`contents`]: a module for each kind of contents octets: how they are read, how many are written, how they are put,
 //!   and which values are read back as they are;
+//! - [`from_big_uint`]: the types that a component of an object identifier is asked for as;
 //! - [`oid`]: the type of object identifiers.
 //!
-//! `simple_asn1` hands on `OID`. All else is public for the crates above alone, and may change with them.
+//! `simple_asn1` hands on `OID` and `FromBigUint`. All else is public for the crates above alone, and may change with them.
 #![tactic(auto)]
 
 pub mod contents;
+pub mod from_big_uint;
 pub mod oid;

@@ -28,11 +28,11 @@ ghost use Rattle.asn1_headers.specs.declared.error.ASN1EncodeErr.TheVariants.{
 
 use crate::contents::object_identifier;
 use crate::contents::object_identifier::{component_count, first_two};
+use crate::from_big_uint::FromBigUint;
 use arrayvec::ArrayVec;
 use asn1_headers::error::{ASN1DecodeErr, ASN1EncodeErr};
 use asn1_headers::header::decode_base127;
 use asn1_numbers::number::big_uint::BigUint;
-use asn1_numbers::number::from_big_uint::FromBigUint;
 use asn1_numbers::sink::Sink;
 use std::alloc::{AllocError, Global};
 use std::fmt;

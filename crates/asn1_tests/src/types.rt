@@ -63,12 +63,13 @@ impl ToASN1 for Nothing {
 
 impl RoundTrip for Nothing {
     ghost use Rattle.asn1_tests.specs.Nothing.{nothing_read_back};
+    ghost use Rattle.std.proofs.Common.{refl};
 
     ghost trees_of = { λ x. no_trees };
 
     ghost written = { λ x bs h. h };
 
-    ghost read_back = { nothing_read_back };
+    ghost read_back = { nothing_read_back (λ x y. refl) };
 }
 
 // The blocks of a document.

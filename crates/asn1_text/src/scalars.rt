@@ -30,14 +30,23 @@ pub(crate) fn write_characters(out: &mut String, text: &str) -> Result<(), Alloc
     out.push_str("[")?;
     let mut is_first = true;
     for c in text.chars() {
-        if !is_first {
-            out.push_str(" ")?;
-        }
-        let number = c as u32;
-        write!(out, "U+{number:04X}")?;
+        write_character(out, is_first, c)?;
         is_first = false;
     }
     out.push_str("]")
+}
+
+// Puts a character at the end, behind a space if it is not the first.
+fn write_character(out: &mut String, is_first: bool, c: char) -> Result<(), AllocError> {
+    if !is_first {
+        out.push_str(" ")?;
+    }
+    write_number(out, c as u32)
+}
+
+// Puts the number of a character at the end.
+fn write_number(out: &mut String, number: u32) -> Result<(), AllocError> {
+    write!(out, "U+{number:04X}")
 }
 
 // Puts the octets at the end, in brackets.

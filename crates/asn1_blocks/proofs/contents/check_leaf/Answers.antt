@@ -137,3 +137,51 @@ pub returns-in-Some-eq30-clause-refused : goal.returns-in-Some-eq30-clause-refus
 returns-in-Some-eq30-clause-refused c =
     let t : c.args.tag.now ≡ 30 = grind (arith, common_steps) in
     text_refused bmp c.args.tag.now c.args.contents.now c.check-in-Some-eq30.result t c.check-in-Some-eq30.ensures.refused
+
+pub returns-in_err-read-in-Some-eq1-clause-found : goal.returns-in_err-read-in-Some-eq1-clause-found
+returns-in_err-read-in-Some-eq1-clause-found c = grind (arith, common_steps)
+
+pub returns-in_err-read-in-Some-eq1-clause-refused : goal.returns-in_err-read-in-Some-eq1-clause-refused
+returns-in_err-read-in-Some-eq1-clause-refused c = grind (arith, common_steps)
+
+pub returns-in_err-read-in-Some-eq23-clause-found : goal.returns-in_err-read-in-Some-eq23-clause-found
+returns-in_err-read-in-Some-eq23-clause-found c = grind (arith, common_steps)
+
+pub returns-in_err-read-in-Some-eq23-clause-refused : goal.returns-in_err-read-in-Some-eq23-clause-refused
+returns-in_err-read-in-Some-eq23-clause-refused c = grind (arith, common_steps)
+
+pub returns-in_err-read-in-Some-eq24-clause-found : goal.returns-in_err-read-in-Some-eq24-clause-found
+returns-in_err-read-in-Some-eq24-clause-found c = grind (arith, common_steps)
+
+pub returns-in_err-read-in-Some-eq24-clause-refused : goal.returns-in_err-read-in-Some-eq24-clause-refused
+returns-in_err-read-in-Some-eq24-clause-refused c = grind (arith, common_steps)
+
+pub returns-in_ok-read-in-Some-eq1-clause-refused : goal.returns-in_ok-read-in-Some-eq1-clause-refused
+returns-in_ok-read-in-Some-eq1-clause-refused c = grind (arith, common_steps)
+
+pub returns-in-Some-eq2-clause-refused : goal.returns-in-Some-eq2-clause-refused
+returns-in-Some-eq2-clause-refused c = grind (arith, common_steps)
+
+pub returns-in-Some-eq3-clause-refused : goal.returns-in-Some-eq3-clause-refused
+returns-in-Some-eq3-clause-refused c = grind (arith, common_steps)
+
+pub returns-in-Some-eq4-clause-refused : goal.returns-in-Some-eq4-clause-refused
+returns-in-Some-eq4-clause-refused c = grind (arith, common_steps)
+
+pub returns-in-Some-eq5-clause-refused : goal.returns-in-Some-eq5-clause-refused
+returns-in-Some-eq5-clause-refused c = grind (arith, common_steps)
+
+pub returns-in-Some-eq6-clause-refused : goal.returns-in-Some-eq6-clause-refused
+returns-in-Some-eq6-clause-refused c = grind (arith, common_steps)
+
+pub returns-in-Some-eq22-clause-refused : goal.returns-in-Some-eq22-clause-refused
+returns-in-Some-eq22-clause-refused c = grind (arith, common_steps)
+
+pub returns-in_ok-read-in-Some-eq23-clause-refused : goal.returns-in_ok-read-in-Some-eq23-clause-refused
+returns-in_ok-read-in-Some-eq23-clause-refused c = grind (arith, common_steps)
+
+pub returns-in_ok-read-in-Some-eq24-clause-refused : goal.returns-in_ok-read-in-Some-eq24-clause-refused
+returns-in_ok-read-in-Some-eq24-clause-refused c = grind (arith, common_steps)
+
+pub returns-in_default-clause-refused : goal.returns-in_default-clause-refused
+returns-in_default-clause-refused c = grind (arith, common_steps)

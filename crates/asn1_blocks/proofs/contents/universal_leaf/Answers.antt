@@ -45,3 +45,75 @@ returns-in_err-read-in-Some-eq30-clause-refused c =
     let t : c.args.tag.now ≡ 30 = grind (arith, common_steps) in
     passed bmp c.args.tag.now c.args.contents.now _ c.from_residual-in_err-read-in-Some-eq30.result
     c.from_residual-in_err-read-in-Some-eq30.ensures t c.in_err-read-in-Some-eq30.ensures.refused
+
+pub returns-in_err-read-in-Some-eq1-clause-found : goal.returns-in_err-read-in-Some-eq1-clause-found
+returns-in_err-read-in-Some-eq1-clause-found c = grind (arith, common_steps)
+
+pub returns-in_err-read-in-Some-eq1-clause-refused : goal.returns-in_err-read-in-Some-eq1-clause-refused
+returns-in_err-read-in-Some-eq1-clause-refused c = grind (arith, common_steps)
+
+pub returns-in_err-read-in-Some-eq2-clause-found : goal.returns-in_err-read-in-Some-eq2-clause-found
+returns-in_err-read-in-Some-eq2-clause-found c = grind (arith, common_steps)
+
+pub returns-in_err-read-in-Some-eq2-clause-refused : goal.returns-in_err-read-in-Some-eq2-clause-refused
+returns-in_err-read-in-Some-eq2-clause-refused c = grind (arith, common_steps)
+
+pub returns-in_err-bits-in-Some-eq3-clause-found : goal.returns-in_err-bits-in-Some-eq3-clause-found
+returns-in_err-bits-in-Some-eq3-clause-found c = grind (arith, common_steps)
+
+pub returns-in_err-bits-in-Some-eq3-clause-refused : goal.returns-in_err-bits-in-Some-eq3-clause-refused
+returns-in_err-bits-in-Some-eq3-clause-refused c = grind (arith, common_steps)
+
+pub returns-in_err-copy_of-in-Some-eq4-clause-found : goal.returns-in_err-copy_of-in-Some-eq4-clause-found
+returns-in_err-copy_of-in-Some-eq4-clause-found c = grind (arith, common_steps)
+
+pub returns-in_err-copy_of-in-Some-eq4-clause-refused : goal.returns-in_err-copy_of-in-Some-eq4-clause-refused
+returns-in_err-copy_of-in-Some-eq4-clause-refused c = grind (arith, common_steps)
+
+pub returns-in_err-read-in-Some-eq6-clause-found : goal.returns-in_err-read-in-Some-eq6-clause-found
+returns-in_err-read-in-Some-eq6-clause-found c = grind (arith, common_steps)
+
+pub returns-in_err-read-in-Some-eq6-clause-refused : goal.returns-in_err-read-in-Some-eq6-clause-refused
+returns-in_err-read-in-Some-eq6-clause-refused c = grind (arith, common_steps)
+
+pub returns-in_err-read-in-Some-eq12-clause-found : goal.returns-in_err-read-in-Some-eq12-clause-found
+returns-in_err-read-in-Some-eq12-clause-found c = grind (arith, common_steps)
+
+pub returns-in_err-read-in-Some-eq19-clause-found : goal.returns-in_err-read-in-Some-eq19-clause-found
+returns-in_err-read-in-Some-eq19-clause-found c = grind (arith, common_steps)
+
+pub returns-in_err-read-in-Some-eq20-clause-found : goal.returns-in_err-read-in-Some-eq20-clause-found
+returns-in_err-read-in-Some-eq20-clause-found c = grind (arith, common_steps)
+
+pub returns-in_err-read-in-Some-eq22-clause-found : goal.returns-in_err-read-in-Some-eq22-clause-found
+returns-in_err-read-in-Some-eq22-clause-found c = grind (arith, common_steps)
+
+pub returns-in_err-read-in-Some-eq22-clause-refused : goal.returns-in_err-read-in-Some-eq22-clause-refused
+returns-in_err-read-in-Some-eq22-clause-refused c = grind (arith, common_steps)
+
+pub returns-in_err-read-in-Some-eq23-clause-found : goal.returns-in_err-read-in-Some-eq23-clause-found
+returns-in_err-read-in-Some-eq23-clause-found c = grind (arith, common_steps)
+
+pub returns-in_err-read-in-Some-eq23-clause-refused : goal.returns-in_err-read-in-Some-eq23-clause-refused
+returns-in_err-read-in-Some-eq23-clause-refused c = grind (arith, common_steps)
+
+pub returns-in_err-read-in-Some-eq24-clause-found : goal.returns-in_err-read-in-Some-eq24-clause-found
+returns-in_err-read-in-Some-eq24-clause-found c = grind (arith, common_steps)
+
+pub returns-in_err-read-in-Some-eq24-clause-refused : goal.returns-in_err-read-in-Some-eq24-clause-refused
+returns-in_err-read-in-Some-eq24-clause-refused c = grind (arith, common_steps)
+
+pub returns-in_err-read-in-Some-eq28-clause-found : goal.returns-in_err-read-in-Some-eq28-clause-found
+returns-in_err-read-in-Some-eq28-clause-found c = grind (arith, common_steps)
+
+pub returns-in_err-read-in-Some-eq30-clause-found : goal.returns-in_err-read-in-Some-eq30-clause-found
+returns-in_err-read-in-Some-eq30-clause-found c = grind (arith, common_steps)
+
+pub returns-in_default-clause-found : goal.returns-in_default-clause-found
+returns-in_default-clause-found c = grind (arith, common_steps)
+
+pub returns-in_default-clause-refused : goal.returns-in_default-clause-refused
+returns-in_default-clause-refused c = grind (arith, common_steps)
+
+pub returns-clause-refused : goal.returns-clause-refused
+returns-clause-refused c = grind (arith, common_steps)

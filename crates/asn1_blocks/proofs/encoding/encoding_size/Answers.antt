@@ -1,3 +1,4 @@
+use Rattle.std.proofs.lemmas.Grind.{common_steps}
 use Rattle.std.proofs.Common.{◌≡◌, ◌+◌, ◌<◌, ◌≤◌, length, drop, take, sym, subst, arith}
 use Rattle.std.proofs.lemmas.List.{length-take-le}
 use Rattle.asn1_headers.specs.Header.{BeginsWithNo, IsLength}
@@ -57,3 +58,18 @@ returns-else-size-octets-clause-none c =
     let s : n ≡ i + l + m = omega (arith, c.in-Some-checked_add.ensures) in
     let short : length octets < n = omega arith in
     no_contents_here octets i l m tag t le (subst (λ z. IsLength (take l z) m) e u.1) few (omega (arith, s, short))
+
+pub returns-in_default-clause-found : goal.returns-in_default-clause-found
+returns-in_default-clause-found c = grind (arith, common_steps)
+
+pub returns-in-Err-clause-found : goal.returns-in-Err-clause-found
+returns-in-Err-clause-found c = grind (arith, common_steps)
+
+pub returns-in_default-checked_add-clause-found : goal.returns-in_default-checked_add-clause-found
+returns-in_default-checked_add-clause-found c = grind (arith, common_steps)
+
+pub returns-then-size-octets-clause-none : goal.returns-then-size-octets-clause-none
+returns-then-size-octets-clause-none c = grind (arith, common_steps)
+
+pub returns-else-size-octets-clause-found : goal.returns-else-size-octets-clause-found
+returns-else-size-octets-clause-found c = grind (arith, common_steps)

@@ -1,3 +1,4 @@
+use Rattle.std.proofs.lemmas.Grind.{common_steps}
 use Rattle.std.proofs.Common.{◌<◌, ◌≤◌, length, drop, inr, arith}
 use Rattle.std.proofs.lemmas.Result.{err_from_is_err_and}
 use Rattle.std.specs.List.{slice_range}
@@ -56,3 +57,33 @@ returns-clause-found c =
     let encoding = encoding_read octets c.in_ok-tag.class c.in_ok-tag.constructed c.in_ok-tag.tag i j k c.in_ok-len.len (omega (arith, m.0)) n.0
     c.in_ok-tag.ensures.found c.in_ok-len.ensures.found end (omega (arith, c.in-Some.ensures)) (omega arith) in
     record { encoding = encoding; past = omega (arith, m.0, n.0); order = omega (arith, c.in-Some.ensures); fits = omega arith }
+
+pub returns-in_err-tag-clause-found : goal.returns-in_err-tag-clause-found
+returns-in_err-tag-clause-found c = grind (arith, common_steps)
+
+pub returns-in_err-tag-clause-counted : goal.returns-in_err-tag-clause-counted
+returns-in_err-tag-clause-counted c = grind (arith, common_steps)
+
+pub returns-in_err-len-clause-found : goal.returns-in_err-len-clause-found
+returns-in_err-len-clause-found c = grind (arith, common_steps)
+
+pub returns-in_err-len-clause-counted : goal.returns-in_err-len-clause-counted
+returns-in_err-len-clause-counted c = grind (arith, common_steps)
+
+pub returns-in_default-clause-found : goal.returns-in_default-clause-found
+returns-in_default-clause-found c = grind (arith, common_steps)
+
+pub returns-in_default-clause-counted : goal.returns-in_default-clause-counted
+returns-in_default-clause-counted c = grind (arith, common_steps)
+
+pub returns-then-end-octets-clause-found : goal.returns-then-end-octets-clause-found
+returns-then-end-octets-clause-found c = grind (arith, common_steps)
+
+pub returns-then-end-octets-clause-counted : goal.returns-then-end-octets-clause-counted
+returns-then-end-octets-clause-counted c = grind (arith, common_steps)
+
+pub returns-clause-refused : goal.returns-clause-refused
+returns-clause-refused c = grind (arith, common_steps)
+
+pub returns-clause-counted : goal.returns-clause-counted
+returns-clause-counted c = grind (arith, common_steps)

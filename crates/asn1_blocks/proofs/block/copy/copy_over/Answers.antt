@@ -1,3 +1,4 @@
+use Rattle.std.proofs.lemmas.Grind.{common_steps}
 use Rattle.std.proofs.Common.{◌≡◌, ◌++◌, ◌∷◌, [], List, ℕ, Box, Global, length, length-append, refl, sym, ap, ◌∙◌, arith, rules}
 use Rattle.asn1_headers.specs.declared.header.ASN1Class.{ASN1Class}
 use Rattle.asn1_blocks.specs.declared.block.ASN1Block.{ASN1Block, Explicit}
@@ -48,3 +49,60 @@ returns-in-Set c =
     let r = c.in-Set in
     let e = ap views c.take_all-in-Set.ensures.all ∙ (c.requires ∙ ap (λ b. inside (view b)) r.is) in
     set_of_copies r.o r.field-1 c.take_all-in-Set.result e ∙ ap view (sym r.is)
+
+pub returns-in_err-clone-in-Integer : goal.returns-in_err-clone-in-Integer
+returns-in_err-clone-in-Integer c = grind (arith, common_steps)
+
+pub returns-in_err-copy_of-in-BitString : goal.returns-in_err-copy_of-in-BitString
+returns-in_err-copy_of-in-BitString c = grind (arith, common_steps)
+
+pub returns-in_err-copy_of-in-OctetString : goal.returns-in_err-copy_of-in-OctetString
+returns-in_err-copy_of-in-OctetString c = grind (arith, common_steps)
+
+pub returns-in_err-clone-in-ObjectIdentifier : goal.returns-in_err-clone-in-ObjectIdentifier
+returns-in_err-clone-in-ObjectIdentifier c = grind (arith, common_steps)
+
+pub returns-in_err-clone-in-UTF8String : goal.returns-in_err-clone-in-UTF8String
+returns-in_err-clone-in-UTF8String c = grind (arith, common_steps)
+
+pub returns-in_err-clone-in-PrintableString : goal.returns-in_err-clone-in-PrintableString
+returns-in_err-clone-in-PrintableString c = grind (arith, common_steps)
+
+pub returns-in_err-clone-in-TeletexString : goal.returns-in_err-clone-in-TeletexString
+returns-in_err-clone-in-TeletexString c = grind (arith, common_steps)
+
+pub returns-in_err-clone-in-IA5String : goal.returns-in_err-clone-in-IA5String
+returns-in_err-clone-in-IA5String c = grind (arith, common_steps)
+
+pub returns-in_err-clone-in-UniversalString : goal.returns-in_err-clone-in-UniversalString
+returns-in_err-clone-in-UniversalString c = grind (arith, common_steps)
+
+pub returns-in_err-clone-in-BMPString : goal.returns-in_err-clone-in-BMPString
+returns-in_err-clone-in-BMPString c = grind (arith, common_steps)
+
+pub returns-in_err-tag-in-Explicit : goal.returns-in_err-tag-in-Explicit
+returns-in_err-tag-in-Explicit c = grind (arith, common_steps)
+
+pub returns-in_err-boxed-in-Explicit : goal.returns-in_err-boxed-in-Explicit
+returns-in_err-boxed-in-Explicit c = grind (arith, common_steps)
+
+pub returns-in_err-clone-in-Unknown : goal.returns-in_err-clone-in-Unknown
+returns-in_err-clone-in-Unknown c = grind (arith, common_steps)
+
+pub returns-in_err-copy_of-in-Unknown : goal.returns-in_err-copy_of-in-Unknown
+returns-in_err-copy_of-in-Unknown c = grind (arith, common_steps)
+
+pub returns-in-Boolean : goal.returns-in-Boolean
+returns-in-Boolean c = grind (arith, common_steps)
+
+pub returns-in-Null : goal.returns-in-Null
+returns-in-Null c = grind (arith, common_steps)
+
+pub returns-in_ok-clone-in-ObjectIdentifier : goal.returns-in_ok-clone-in-ObjectIdentifier
+returns-in_ok-clone-in-ObjectIdentifier c = grind (arith, common_steps)
+
+pub returns-in-UTCTime : goal.returns-in-UTCTime
+returns-in-UTCTime c = grind (arith, common_steps)
+
+pub returns-in-GeneralizedTime : goal.returns-in-GeneralizedTime
+returns-in-GeneralizedTime c = grind (arith, common_steps)

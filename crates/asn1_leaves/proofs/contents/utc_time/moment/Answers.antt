@@ -1,3 +1,4 @@
+use Rattle.std.proofs.lemmas.Grind.{common_steps}
 use Rattle.std.proofs.Common.{arith}
 use Rattle.std.proofs.lemmas.Int.{ints}
 use Rattle.std.proofs.lemmas.Option.{IfSome_then}
@@ -17,3 +18,15 @@ returns-clause-found c = IfSome_then c.moment_from.result c.moment_from.ensures.
       c.args.contents.now c.full_year-year.result c.in_ok-pair.field-0 (moment_of d) (omega arith) (omega arith)
       c.in_ok-pair.ensures.found c.full_year-year.ensures.ends p,
 ))
+
+pub returns-then-contents-ne13-clause-found : goal.returns-then-contents-ne13-clause-found
+returns-then-contents-ne13-clause-found c = grind (arith, common_steps)
+
+pub returns-then-contents-ne13-clause-none : goal.returns-then-contents-ne13-clause-none
+returns-then-contents-ne13-clause-none c = grind (arith, common_steps)
+
+pub returns-in_err-pair-clause-found : goal.returns-in_err-pair-clause-found
+returns-in_err-pair-clause-found c = grind (arith, common_steps)
+
+pub returns-in_err-pair-clause-none : goal.returns-in_err-pair-clause-none
+returns-in_err-pair-clause-none c = grind (arith, common_steps)

@@ -1,3 +1,5 @@
+use Rattle.std.proofs.Common.{arith}
+use Rattle.std.proofs.lemmas.Grind.{common_steps}
 use Rattle.std.proofs.Common.{lit<, subst, ap, ◌∙◌, length, ◌<◌, get_or}
 use Rattle.std.proofs.lemmas.Iterator.Consumers.{YieldsList-end, YieldsList-turn}
 use Rattle.std.proofs.lemmas.Iterator.Splits.{YieldsList-from_str_split}
@@ -22,3 +24,30 @@ returns-clause-only c = λ ns dotted.
     let cut = YieldsList-from_str_split {s = c.into_iter-numeral-iterator.result} 46 text (lit< tt) (cc) (cc) (cc) in
     let end = YieldsList-end cut c.loop-numeral.yielded _ c.loop-numeral.yielded_by _ _ c.in-None.is c.next.ensures.steps in
     c.new.ensures ∙ same_numerals c.loop-numeral.components.items ns (c.loop-numeral.invariant ∙ end.0 ∙ dotted_parts text ns dotted)
+
+pub returns-in_err-component-clause-identifier : goal.returns-in_err-component-clause-identifier
+returns-in_err-component-clause-identifier c = grind (arith, common_steps)
+
+pub returns-in_err-component-clause-none : goal.returns-in_err-component-clause-none
+returns-in_err-component-clause-none c = grind (arith, common_steps)
+
+pub returns-in_err-component-clause-only : goal.returns-in_err-component-clause-only
+returns-in_err-component-clause-only c = grind (arith, common_steps)
+
+pub returns-in_default-clause-identifier : goal.returns-in_default-clause-identifier
+returns-in_default-clause-identifier c = grind (arith, common_steps)
+
+pub returns-in_default-clause-only : goal.returns-in_default-clause-only
+returns-in_default-clause-only c = grind (arith, common_steps)
+
+pub returns-in_err-push-clause-identifier : goal.returns-in_err-push-clause-identifier
+returns-in_err-push-clause-identifier c = grind (arith, common_steps)
+
+pub returns-in_err-push-clause-none : goal.returns-in_err-push-clause-none
+returns-in_err-push-clause-none c = grind (arith, common_steps)
+
+pub returns-in_err-push-clause-only : goal.returns-in_err-push-clause-only
+returns-in_err-push-clause-only c = grind (arith, common_steps)
+
+pub returns-clause-none : goal.returns-clause-none
+returns-clause-none c = grind (arith, common_steps)

@@ -1,7 +1,7 @@
 // Types of numbers that a component of an object identifier is asked for as.
 ghost use Rattle.std.specs.Prelude.{◌≡◌, ℕ, ◌<◌, ◌^◌, pos, MatchOption};
 
-use crate::number::big_uint::BigUint;
+use asn1_numbers::number::big_uint::BigUint;
 
 /// A type of numbers that a [`BigUint`] may fit.
 ///
