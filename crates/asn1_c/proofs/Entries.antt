@@ -1,130 +1,65 @@
--- Records of trees in order.
-use Rattle.std.proofs.Common.{◌≡◌, ℕ, zero, suc, ◌+◌, ◌<◌, ◌++◌, List, [], ◌∷◌, None, get_or, length, refl, sym, ap, ◌∙◌, subst, arith, append_assoc, append-nil}
-use Rattle.simple_asn1.specs.BlockParts.{all_in_order, in_order, tree_items}
+-- Records of the entries of a document.
+use Rattle.std.proofs.Common.{◌≡◌, ℕ, zero, suc, ◌<◌, ◌≤◌, ◌++◌, List, [], ◌∷◌, drop, get_or, length, map, set, take, refl, sym, ap, subst, arith}
+use Rattle.std.proofs.lemmas.List.{get_or-map}
+use Rattle.simple_asn1.specs.BlockParts.{all_in_order}
 use Rattle.simple_asn1.specs.Grammar.{IsDocument}
 use Rattle.simple_asn1.specs.Places.{EncodingAt}
-use Rattle.simple_asn1.specs.Tree.{Tree, Trees, explicit, group, leaf, trees_of, unknown}
+use Rattle.simple_asn1.specs.Tree.{Tree, Trees}
 use Rattle.simple_asn1.specs.View.{tree_offset}
 use Rattle.asn1_blocks.proofs.Slices.{encoding_at_alone, octets_encoding}
-use Rattle.asn1_c.specs.Listing.{AreEntries, HasHeaderAt, IsBegun, IsEntry, with_items}
-use Rattle.asn1_c.specs.Records.{AreRecords, HasHeader, Stands, all_depths, count_of, depths, header_of, no_record, no_tree}
+use Rattle.asn1_outline.proofs.Entries.{entries_length, entry_at}
+use Rattle.asn1_outline.specs.Entries.{AreEntriesOf, HasHeaderAt, all_depths, no_entry, no_tree}
+use Rattle.asn1_outline.specs.declared.entry.Entry.{Entry}
+use Rattle.asn1_c.specs.Records.{AreRecords, HasHeader, IsRecordAt, Stands, block_of, header_of, no_record}
 use Rattle.asn1_c.specs.declared.record.Block.{Block}
-use Rattle.asn1_c.proofs.Orders.{depth_first, head_first, held, held_count}
 use Rattle.asn1_c.proofs.Standing.{stands_at}
 
--- as many records as trees
-pub entries_length : (x : List ℕ) (i : ℕ) (bs : List (Tree ℕ)) (ds : List ℕ) (rs : List Block) → AreEntries x i bs ds rs → length rs ≡ length bs
-entries_length x i [] [] [] e = refl
-entries_length x i [] [] (r ∷ rs) e = absurd e
-entries_length x i [] (d ∷ ds) rs e = absurd e
-entries_length x i (b ∷ bs) [] rs e = absurd e
-entries_length x i (b ∷ bs) (d ∷ ds) [] e = absurd e
-entries_length x i (b ∷ bs) (d ∷ ds) (r ∷ rs) e = ap suc (entries_length x (suc i) bs ds rs e.1)
-
--- records of trees, and then of others
-pub entries_append :
-    (x : List ℕ) (i j : ℕ) (bs cs : List (Tree ℕ)) (ds es : List ℕ) (rs ss : List Block) → j ≡ i + length bs →
-    AreEntries x i bs ds rs → AreEntries x j cs es ss → AreEntries x i (bs ++ cs) (ds ++ es) (rs ++ ss)
-entries_append x i j [] cs [] es [] ss at e f = subst (λ z. AreEntries x z cs es ss) (omega (arith, at)) f
-entries_append x i j [] cs [] es (r ∷ rs) ss at e f = absurd e
-entries_append x i j [] cs (d ∷ ds) es rs ss at e f = absurd e
-entries_append x i j (b ∷ bs) cs [] es rs ss at e f = absurd e
-entries_append x i j (b ∷ bs) cs (d ∷ ds) es [] ss at e f = absurd e
-entries_append x i j (b ∷ bs) cs (d ∷ ds) es (r ∷ rs) ss at e f =
-    (e.0, entries_append x (suc i) j bs cs ds es rs ss (omega (arith, at)) e.1 f)
-
--- the last of trees
-pub order_more : (ts : List (Tree ℕ)) (t : Tree ℕ) → all_in_order (trees_of (ts ++ t ∷ [])) ≡ all_in_order (trees_of ts) ++ in_order t
-order_more [] t = append-nil (in_order t)
-order_more (s ∷ ts) t = ap (λ z. in_order s ++ z) (order_more ts t) ∙ sym (append_assoc (in_order s) (all_in_order (trees_of ts)) (in_order t))
-
-pub depths_more : (d : ℕ) (ts : List (Tree ℕ)) (t : Tree ℕ) → all_depths d (trees_of (ts ++ t ∷ [])) ≡ all_depths d (trees_of ts) ++ depths d t
-depths_more d [] t = append-nil (depths d t)
-depths_more d (s ∷ ts) t = ap (λ z. depths d s ++ z) (depths_more d ts t) ∙ sym (append_assoc (depths d s) (all_depths d (trees_of ts)) (depths d t))
-
--- one tree more has these records
-pub entries_more :
-    (x : List ℕ) (i j d : ℕ) (ts : List (Tree ℕ)) (t : Tree ℕ) (rs ss : List Block) → j ≡ i + length rs →
-    AreEntries x i (all_in_order (trees_of ts)) (all_depths d (trees_of ts)) rs → AreEntries x j (in_order t) (depths d t) ss →
-    AreEntries x i (all_in_order (trees_of (ts ++ t ∷ []))) (all_depths d (trees_of (ts ++ t ∷ []))) (rs ++ ss)
-entries_more x i j d ts t rs ss at e f =
-    let l = entries_length x i _ _ rs e in
-    let all = entries_append x i j (all_in_order (trees_of ts)) (in_order t) (all_depths d (trees_of ts)) (depths d t) rs ss (omega (arith, at, l)) e f in
-    subst (λ z. AreEntries x i z (all_depths d (trees_of (ts ++ t ∷ []))) (rs ++ ss)) (sym (order_more ts t))
-    (subst (λ z. AreEntries x i (all_in_order (trees_of ts) ++ in_order t) z (rs ++ ss)) (sym (depths_more d ts t)) all)
-
--- the record of a tree that holds none
-pub begun_entry : (x : List ℕ) (o i d : ℕ) (t : Tree ℕ) (r : Block) → tree_items t ≡ None → tree_offset t ≡ o → IsBegun x o i d r
-    → AreEntries x i (in_order t) (depths d t) (r ∷ [])
-begun_entry x o i d (leaf p l) r none at b =
-    (record { header = b.header; offset = b.offset ∙ sym at; items = b.items; next = omega (arith, b.next); depth = b.depth }, tt)
-begun_entry x o i d (group p g bs) r none at b = absurd (cc)
-begun_entry x o i d (explicit c p n a) r none at b = absurd (cc)
-begun_entry x o i d (unknown c k p n v) r none at b =
-    (record { header = b.header; offset = b.offset ∙ sym at; items = b.items; next = omega (arith, b.next); depth = b.depth }, tt)
-
-count_trees : (ts : List (Tree ℕ)) → count_of (trees_of ts) ≡ length ts
-count_trees [] = refl
-count_trees (t ∷ ts) = ap suc (count_trees ts)
-
--- that of a tree that holds some, before those of what it holds
-pub sealed_entry :
-    (x : List ℕ) (o i d items next : ℕ) (t : Tree ℕ) (ts : List (Tree ℕ)) (r : Block) (rs : List Block) → held t ≡ trees_of ts →
-    tree_offset t ≡ o → items ≡ length ts → next ≡ i + suc (length rs) → IsBegun x o i d r →
-    AreEntries x (suc i) (all_in_order (trees_of ts)) (all_depths (suc d) (trees_of ts)) rs →
-    AreEntries x i (in_order t) (depths d t) (with_items items next r ∷ rs)
-sealed_entry x o i d items next t ts r rs holds at n m b e =
-    let l = entries_length x (suc i) _ _ rs e in
-    let order : in_order t ≡ t ∷ all_in_order (trees_of ts) = head_first t ∙ ap (λ z. t ∷ all_in_order z) holds in
-    let deep : depths d t ≡ d ∷ all_depths (suc d) (trees_of ts) = depth_first d t ∙ ap (λ z. d ∷ all_depths (suc d) z) holds in
-    let size : length (in_order t) ≡ suc (length rs) = ap length order ∙ ap suc (sym l) in
-    let own : IsEntry x t i d (with_items items next r) = record {
-      header = b.header;
-      offset = b.offset ∙ sym at;
-      items = n ∙ sym (held_count t ∙ ap count_of holds ∙ count_trees ts);
-      next = omega (arith, m, size);
-      depth = b.depth;
-    } in
-    subst (λ z. AreEntries x i z (depths d t) (with_items items next r ∷ rs)) (sym order)
-    (subst (λ z. AreEntries x i (t ∷ all_in_order (trees_of ts)) z (with_items items next r ∷ rs)) (sym deep) (own, e))
-
--- each record
-entry_at :
-    (x : List ℕ) (i : ℕ) (bs : List (Tree ℕ)) (ds : List ℕ) (rs : List Block) → AreEntries x i bs ds rs → (k : ℕ) → k < length bs →
-    IsEntry x (get_or bs k no_tree) (i + k) (get_or ds k 0) (get_or rs k no_record)
-entry_at x i [] ds rs e k h = absurd (omega (arith, h))
-entry_at x i (b ∷ bs) [] rs e k h = absurd e
-entry_at x i (b ∷ bs) (d ∷ ds) [] e k h = absurd e
-entry_at x i (b ∷ bs) (d ∷ ds) (r ∷ rs) e zero h = subst (λ z. IsEntry x b z d r) (omega arith) e.0
-entry_at x i (b ∷ bs) (d ∷ ds) (r ∷ rs) e (suc k) h =
-    let at : suc i + k ≡ i + suc k = omega arith in
-    subst (λ z. IsEntry x (get_or bs k no_tree) z (get_or ds k 0) (get_or rs k no_record)) at (entry_at x (suc i) bs ds rs e.1 k (omega (arith, h)))
-
--- the octets of a tree have the header that stands at its record
-header_stands : (x : List ℕ) (b : Tree ℕ) (r : Block) → HasHeaderAt x r → r.offset ≡ tree_offset b → (s : Stands x b)
-    → HasHeader s.1 (header_of r)
-header_stands x b r (y, at, h) o (bs, z, d, has) =
+-- the octets of a tree have the header that stands at its entry
+header_stands : (x : List ℕ) (b : Tree ℕ) (e : Entry) → HasHeaderAt x e → e.offset ≡ tree_offset b → (s : Stands x b)
+    → HasHeader s.1 (header_of (block_of e))
+header_stands x b e (y, at, h) o (bs, z, d, has) =
     let there = octets_encoding x bs b z d has in
     let here = subst (λ n. EncodingAt x n y) o at in
-    subst (λ w. HasHeader w (header_of r)) (encoding_at_alone x (tree_offset b) y z here there) h
+    let own : HasHeader y (header_of (block_of e)) = record {
+      class = e.class;
+      constructed = e.constructed;
+      tag = h.tag;
+      contents = h.contents;
+      encoding = h.encoding;
+      class_field = refl;
+      constructed_field = refl;
+      tag_field = h.tag_field;
+      contents_field = h.contents_field;
+    } in
+    subst (λ w. HasHeader w (header_of (block_of e))) (encoding_at_alone x (tree_offset b) y z here there) own
 
 -- the records of a document
-pub entries_records :
-    (x : List ℕ) (bs : Trees ℕ) (rs : List Block) → IsDocument x bs → AreEntries x 0 (all_in_order bs) (all_depths 0 bs) rs → AreRecords x bs rs
-entries_records x bs rs d e k h =
-    let w = entry_at x 0 (all_in_order bs) (all_depths 0 bs) rs e k h in
+pub entries_records : (x : List ℕ) (bs : Trees ℕ) (es : List Entry) → IsDocument x bs → AreEntriesOf x bs es → AreRecords x bs (map block_of es)
+entries_records x bs es d are k h =
+    let w = entry_at x 0 (all_in_order bs) (all_depths 0 bs) es are k h in
     let b = get_or (all_in_order bs) k no_tree in
+    let e = get_or es k no_entry in
     let s = stands_at x bs k d h in
-    record {
+    let l = entries_length x 0 (all_in_order bs) (all_depths 0 bs) es are in
+    let own : IsRecordAt x bs k (block_of e) = record {
       fields = record {
         bs = s.0;
         octets = s.1;
         document = s.2;
         stands = s.3;
-        header = header_stands x b (get_or rs k no_record) w.header w.offset s;
+        header = header_stands x b e w.header w.offset s;
         offset = w.offset;
         items = w.items;
       };
       next = omega (arith, w.next);
       depth = w.depth;
-    }
+    } in
+    subst (λ r. IsRecordAt x bs k r) (sym (get_or-map block_of es k no_entry no_record (omega (arith, h, l)))) own
+
+-- one record more is put
+pub put_next : (es : List Entry) (room : List Block) (k : ℕ) → k < length es → length es ≤ length room
+    → set (map block_of (take k es) ++ drop k room) k (block_of (get_or es k no_entry)) ≡ map block_of (take (suc k) es) ++ drop (suc k) room
+put_next [] room k h l = absurd (omega (arith, h))
+put_next (e ∷ es) [] k h l = absurd (omega (arith, l))
+put_next (e ∷ es) (r ∷ room) zero h l = refl
+put_next (e ∷ es) (r ∷ room) (suc k) h l = ap (λ z. block_of e ∷ z) (put_next es room k (omega (arith, h)) (omega (arith, l)))

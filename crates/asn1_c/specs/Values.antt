@@ -1,5 +1,5 @@
 -- The value of the block at an offset.
-use Rattle.std.specs.Prelude.{◌≡◌, ◌⊎◌, ℕ, ℤ, ◌<◌, ◌^◌, ◌++◌, List, [], ◌∷◌, FitsSigned, decimal}
+use Rattle.std.specs.Prelude.{◌≡◌, ◌⊎◌, ℕ, ℤ, ◌<◌, ◌^◌, List, FitsSigned}
 use Rattle.std.specs.Int.{w64}
 use Rattle.std.specs.Str.{chars}
 use Rattle.asn1_leaves.specs.Contents.Moment.{Moment}

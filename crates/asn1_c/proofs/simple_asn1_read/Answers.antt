@@ -1,3 +1,4 @@
+use Rattle.asn1_outline.specs.Entries.{entries_in}
 use Rattle.asn1_c.proofs.Outcomes.{read_answer}
 use Rattle.asn1_c.proofs.TwoEach.{two_among}
 use Rattle.asn1_c.proofs.simple_asn1_read.Goals as goal
@@ -5,8 +6,8 @@ use Rattle.asn1_c.proofs.simple_asn1_read.Goals as goal
 pub returns-in-Ok-clause-answer : goal.returns-in-Ok-clause-answer
 returns-in-Ok-clause-answer c =
     let (bs, d, e) = c.in-Ok.ensures.document in
-    read_answer c.args.octets.now bs c.in-Ok.records.items c.deref.result.now c.args.blocks.now c.put_records.new.room c.put_records.result
-    c.deref.ensures.value d e c.put_records.ensures
+    read_answer c.args.octets.now bs (entries_in c.in-Ok.outline) c.entries.result.now c.args.blocks.now c.put_records.new.room c.put_records.result
+    c.entries.ensures d e c.put_records.ensures
 
 pub returns-in-Ok-clause-few : goal.returns-in-Ok-clause-few
 returns-in-Ok-clause-few c bs d = two_among bs 0 c.args.octets.now d.blocks

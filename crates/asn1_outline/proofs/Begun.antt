@@ -1,0 +1,43 @@
+-- The entry of a header that was found.
+use Rattle.std.proofs.Common.{◌≡◌, ℕ, ◌-◌, ◌≤◌, ◌++◌, List, drop, length, sym, arith}
+use Rattle.std.specs.List.{slice_range}
+use Rattle.asn1_leaves.proofs.SliceSplit.{slice_split}
+use Rattle.asn1_blocks.specs.Inner.HeaderPlaces.{HeaderFound}
+use Rattle.asn1_blocks.specs.declared.parsed.Header.{Header}
+use Rattle.asn1_blocks.proofs.ReadSteps.{slice_length}
+use Rattle.asn1_outline.specs.Entries.{HasHeaderAt, HasTag}
+
+-- it says what stands at its offset
+pub begun_header :
+    (x : List ℕ) (offset limit : ℕ) (h : Header) (tag items next depth : ℕ) → HeaderFound x offset limit h → limit ≤ length x → HasTag h.tag tag →
+    HasHeaderAt x (record {
+      class = h.class;
+      constructed = h.constructed;
+      tag = tag;
+      offset = offset;
+      header = h.start - offset;
+      contents = h.end - h.start;
+      items = items;
+      next = next;
+      depth = depth;
+    })
+begun_header x offset limit h tag items next depth found within is =
+    let octets = slice_range x offset h.end in
+    let contents = slice_range x h.start h.end in
+    let l : length contents ≡ h.end - h.start = slice_length x h.start h.end found.order (omega (arith, found.fits, within)) in
+    let w : drop offset x ≡ octets ++ drop h.end x = slice_split x offset h.end (omega (arith, found.past, found.order)) in (
+      octets,
+      record {
+        rest = drop h.end x;
+        stands = w;
+        are = record {
+          class = h.class;
+          constructed = h.constructed;
+          tag = h.tag;
+          contents = contents;
+          header = h.start - offset;
+          encoding = found.encoding;
+        };
+      },
+      record { tag = h.tag; contents = contents; encoding = found.encoding; tag_field = is; contents_field = sym l },
+    )

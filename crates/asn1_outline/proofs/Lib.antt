@@ -1,0 +1,7 @@
+pub mod Orders
+pub mod Entries
+pub mod Begun
+pub mod Standing
+mod Listed
+mod Answered
+mod Values

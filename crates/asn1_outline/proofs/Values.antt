@@ -1,0 +1,256 @@
+-- What an entry's contents octets mean.
+use Rattle.std.proofs.Common.{◌≡◌, ℕ, ◌+◌, ◌<◌, ◌≤◌, ◌^◌, ◌++◌, Bool, true, false, List, [], Some, None, lit<, inl, inr, length, refl, sym, ap, subst, ◌∙◌, arith, append_assoc, length-append}
+use Rattle.std.specs.List.{slice_range}
+use Rattle.std.proofs.lemmas.Bool.{cases_lt}
+use Rattle.asn1_numbers.specs.TwosComplement.{signed_number}
+use Rattle.asn1_headers.specs.Header.{Encoding}
+use Rattle.asn1_headers.specs.declared.header.ASN1Class.{ASN1Class}
+use Rattle.asn1_headers.specs.declared.header.ASN1Class.TheVariants.{Universal}
+use Rattle.asn1_headers.proofs.Prefixes.{SameEncoding, encoding_alone}
+use Rattle.asn1_leaves.specs.StringKind.{StringKind, utf8, printable, teletex, ia5, universal, bmp}
+use Rattle.asn1_blocks.specs.BlockParts.{all_in_order, leaf_integer, tree_integer, tree_text}
+use Rattle.asn1_blocks.specs.Contents.{LeafContents, LeafFault, group_tag, is_known_tag, is_leaf_tag, leaf_tag, of_text, string_tag}
+use Rattle.asn1_blocks.specs.Inner.LeafBlocks.{IsLeafOf}
+use Rattle.asn1_blocks.proofs.Leaves.{leaf_alone, leaf_no_fault, leaf_tag_known, leaf_tag_no_group}
+use Rattle.asn1_headers.specs.Fault.{DecodeFault}
+use Rattle.asn1_leaves.specs.Contents.Text.{TextContents, TextFault, text_form}
+use Rattle.asn1_blocks.specs.declared.block.GroupKind.TheVariants.{Sequence, Set}
+use Rattle.asn1_blocks.specs.Grammar.{Encodes}
+use Rattle.asn1_blocks.specs.Places.{EncodingAt}
+use Rattle.asn1_blocks.specs.Tree.{Leaf, Tree, bit_string, boolean, explicit, generalized_time, group, integer, leaf, null, object_identifier, octet_string, text, unknown, utc_time}
+use Rattle.asn1_blocks.specs.View.{tree_offset}
+use Rattle.asn1_blocks.proofs.Slices.{encoding_at_alone, found_octets, octets_encoding, slice_here}
+use Rattle.asn1_outline.specs.Entries.{HasTag, all_depths}
+use Rattle.asn1_outline.specs.Values.{EachIsOfItsTree, IsEntryOf}
+use Rattle.asn1_outline.proofs.Entries.{entry_at}
+use Rattle.asn1_outline.proofs.Standing.{stands_among}
+use Rattle.asn1_outline.specs.declared.entry.Entry.{Entry}
+
+-- the tree's octets, and the contents octets where the entry has them
+pub record Contents (x : List ℕ) (b : Tree ℕ) (r : Entry) : Type 0 where
+  pub octets : List ℕ
+  pub tag : ℕ
+  pub contents : List ℕ
+  pub encoding : Encoding octets r.class r.constructed tag contents r.header
+  pub encoded : Encodes (tree_offset b) octets b
+  pub number : HasTag tag r.tag
+  pub within : r.offset + r.header + r.contents ≤ length x
+  pub are : slice_range x (r.offset + r.header) (r.offset + r.header + r.contents) ≡ contents
+
+pub contents_of : (x : List ℕ) (b : Tree ℕ) (r : Entry) → IsEntryOf x b r → Contents x b r
+contents_of x b r e =
+    let (y, at, h) = e.header in
+    let f = found_octets x e.all b e.octets e.read e.has in
+    let same : y ≡ e.octets = encoding_at_alone x (tree_offset b) y e.octets (subst (λ n. EncodingAt x n y) e.stands at) (octets_encoding x e.all b e.octets e.read e.has) in
+    let i = h.encoding.identifier in
+    let l = h.encoding.len in
+    let v = h.contents in
+    let whole : x ≡ (f.before ++ (i ++ l)) ++ (v ++ f.behind) =
+    f.whole ∙ ap (λ z. f.before ++ (z ++ f.behind)) (sym same ∙ h.encoding.whole ∙ sym (append_assoc i l v))
+    ∙ ap (λ z. f.before ++ z) (append_assoc (i ++ l) v f.behind) ∙ sym (append_assoc f.before (i ++ l) (v ++ f.behind)) in
+    let front : r.offset + r.header ≡ length (f.before ++ (i ++ l)) =
+    omega (arith, e.stands, f.at, h.encoding.size, length-append f.before (i ++ l), length-append i l) in
+    let end : r.offset + r.header + r.contents ≡ length (f.before ++ (i ++ l)) + length v = omega (arith, front, h.contents_field) in
+    record {
+      octets = y;
+      tag = h.tag;
+      contents = v;
+      encoding = h.encoding;
+      encoded = subst (λ z. Encodes (tree_offset b) z b) (sym same) f.encoded;
+      number = h.tag_field;
+      within = omega (arith, end, ap length whole, length-append (f.before ++ (i ++ l)) (v ++ f.behind), length-append v f.behind);
+      are = slice_here x (f.before ++ (i ++ l)) v f.behind (r.offset + r.header) (r.offset + r.header + r.contents) whole front end;
+    }
+
+-- octets have one header
+one : (y : List ℕ) (c d : ASN1Class) (j k : Bool) (m n : ℕ) (v w : List ℕ) (g h : ℕ) → Encoding y c j m v g → Encoding y d k n w h
+    → SameEncoding y y c d j k m n v w g h [] []
+one y c d j k m n v w g h p q = encoding_alone y y c d j k m n v w g h [] [] p q refl
+
+-- a small number is the tag's
+small_tag : (n field m : ℕ) → HasTag n field → field ≡ m → m < 64 → n ≡ m
+small_tag n field m (low, high) e s = elim (cases_lt n (2 ^ 64)) [
+  | inl lt ↦ sym (low lt) ∙ e
+  | inr ge ↦ absurd (omega (arith, high ge, e, s))
+]
+
+integer_leaf : (l : Leaf) (v w : List ℕ) → leaf_tag l ≡ 2 → v ≡ w → LeafContents l v → leaf_integer l ≡ Some (signed_number w)
+integer_leaf (boolean b) v w t e m = absurd (cc)
+integer_leaf (integer n) v w t e m = ap Some (m ∙ ap signed_number e)
+integer_leaf (bit_string n o) v w t e m = absurd (cc)
+integer_leaf (octet_string o) v w t e m = absurd (cc)
+integer_leaf null v w t e m = absurd (cc)
+integer_leaf (object_identifier ns) v w t e m = absurd (cc)
+integer_leaf (text utf8 cs) v w t e m = absurd (cc)
+integer_leaf (text printable cs) v w t e m = absurd (cc)
+integer_leaf (text teletex cs) v w t e m = absurd (cc)
+integer_leaf (text ia5 cs) v w t e m = absurd (cc)
+integer_leaf (text universal cs) v w t e m = absurd (cc)
+integer_leaf (text bmp cs) v w t e m = absurd (cc)
+integer_leaf (utc_time d) v w t e m = absurd (cc)
+integer_leaf (generalized_time d) v w t e m = absurd (cc)
+
+-- the tree of an INTEGER's contents octets
+integer_tree : (o : ℕ) (y : List ℕ) (b : Tree ℕ) (k : Bool) (w : List ℕ) (h : ℕ) → Encodes o y b → Encoding y Universal k 2 w h
+    → tree_integer b ≡ Some (signed_number w)
+integer_tree o y (leaf p l) k w h s e =
+    let z = one y Universal Universal s.constructed k (leaf_tag l) 2 s.contents w s.header h s.encoding e in
+    integer_leaf l s.contents w z.tag z.contents s.means
+integer_tree o y (group p Sequence bs) k w h s e =
+    let z = one y Universal Universal s.constructed k 16 2 s.contents w s.header h s.encoding e in
+    absurd (omega (arith, z.tag))
+integer_tree o y (group p Set bs) k w h s e =
+    let z = one y Universal Universal s.constructed k 17 2 s.contents w s.header h s.encoding e in
+    absurd (omega (arith, z.tag))
+integer_tree o y (explicit c p n b) k w h s e =
+    let z = one y c Universal true k n 2 s.contents w s.header h s.encoding e in
+    absurd (s.other z.class)
+integer_tree o y (unknown c j p n v) k w h s e =
+    let z = one y c Universal j k n 2 v w s.header h s.encoding e in
+    elim s.stays [
+      | inl known ↦ absurd (known_two n z.tag known.1)
+      | inr other ↦ absurd (other.0 z.class)
+    ]
+  where
+    known_two : (n : ℕ) → n ≡ 2 → is_known_tag n ≡ false → ⊥
+    known_two n e f = absurd (two (subst (λ z. is_known_tag z ≡ false) e f))
+      where
+        two : true ≡ false → ⊥
+        two q = absurd (cc)
+
+pub is_integer : (x : List ℕ) (b : Tree ℕ) (r : Entry) → IsEntryOf x b r → r.class ≡ Universal → r.tag ≡ 2
+    → tree_integer b ≡ Some (signed_number (slice_range x (r.offset + r.header) (r.offset + r.header + r.contents)))
+is_integer x b r e class tag =
+    let c = contents_of x b r e in
+    let t = small_tag c.tag r.tag 2 c.number tag (omega arith) in
+    let own = subst (λ z. Encoding c.octets z r.constructed c.tag c.contents r.header) class c.encoding in
+    let two = subst (λ z. Encoding c.octets Universal r.constructed z c.contents r.header) t own in
+    integer_tree (tree_offset b) c.octets b r.constructed c.contents r.header c.encoded two ∙ ap (λ z. Some (signed_number z)) (sym c.are)
+
+-- any other tree is none
+no_integer_leaf : (o : ℕ) (y : List ℕ) (b : Tree ℕ) (c : ASN1Class) (k : Bool) (n : ℕ) (w : List ℕ) (h : ℕ) → Encodes o y b → Encoding y c k n w h
+    → ((c ≡ Universal) × (n ≡ 2) → ⊥) → tree_integer b ≡ None
+no_integer_leaf o y (leaf p (boolean b)) c k n w h s e other = refl
+no_integer_leaf o y (leaf p (integer m)) c k n w h s e other =
+    let z = one y Universal c s.constructed k 2 n s.contents w s.header h s.encoding e in
+    absurd (other (sym z.class, sym z.tag))
+no_integer_leaf o y (leaf p (bit_string m v)) c k n w h s e other = refl
+no_integer_leaf o y (leaf p (octet_string v)) c k n w h s e other = refl
+no_integer_leaf o y (leaf p null) c k n w h s e other = refl
+no_integer_leaf o y (leaf p (object_identifier ns)) c k n w h s e other = refl
+no_integer_leaf o y (leaf p (text kind cs)) c k n w h s e other = refl
+no_integer_leaf o y (leaf p (utc_time d)) c k n w h s e other = refl
+no_integer_leaf o y (leaf p (generalized_time d)) c k n w h s e other = refl
+no_integer_leaf o y (group p g bs) c k n w h s e other = refl
+no_integer_leaf o y (explicit d p m b) c k n w h s e other = refl
+no_integer_leaf o y (unknown d j p m v) c k n w h s e other = refl
+
+pub is_no_integer : (x : List ℕ) (b : Tree ℕ) (r : Entry) → IsEntryOf x b r → ((r.class ≡ Universal) × (r.tag ≡ 2) → ⊥) → tree_integer b ≡ None
+is_no_integer x b r e other =
+    let c = contents_of x b r e in
+    no_integer_leaf (tree_offset b) c.octets b r.class r.constructed c.tag c.contents r.header c.encoded c.encoding
+    (λ (d, t). other (d, c.number.0 (omega (arith, t)) ∙ t))
+
+-- and what lies outside the octets is of no entry
+pub is_within : (x : List ℕ) (b : Tree ℕ) (r : Entry) → IsEntryOf x b r → r.offset + r.header + r.contents ≤ length x
+is_within x b r e = (contents_of x b r e).within
+
+-- the tree of an entry of class Universal with the tag of a leaf
+leaf_encoded : (o : ℕ) (y : List ℕ) (b : Tree ℕ) (k : Bool) (n : ℕ) (w : List ℕ) (h : ℕ) → is_leaf_tag n ≡ true → Encodes o y b → Encoding y Universal k n w h
+    → IsLeafOf o n w b
+leaf_encoded o y (leaf p l) k n w h t s e =
+    let z = one y Universal Universal s.constructed k (leaf_tag l) n s.contents w s.header h s.encoding e in
+    (s.place, sym z.tag, subst (LeafContents l) z.contents s.means)
+leaf_encoded o y (group p g bs) k n w h t s e =
+    let z = one y Universal Universal s.constructed k (group_tag g) n s.contents w s.header h s.encoding e in
+    leaf_tag_no_group n g t (sym z.tag)
+leaf_encoded o y (explicit c p m b) k n w h t s e =
+    let z = one y c Universal true k m n s.contents w s.header h s.encoding e in
+    s.other z.class
+leaf_encoded o y (unknown c j p m v) k n w h t s e =
+    let z = one y c Universal j k m n v w s.header h s.encoding e in
+    elim s.stays [
+      | inl known ↦ not_known (sym (leaf_tag_known n t) ∙ ap is_known_tag (sym z.tag) ∙ known.1)
+      | inr other ↦ other.0 z.class
+    ]
+  where
+    not_known : true ≡ false → ⊥
+    not_known q = absurd (cc)
+
+pub is_leaf : (x : List ℕ) (b : Tree ℕ) (r : Entry) (n : ℕ) → IsEntryOf x b r → r.class ≡ Universal → r.tag ≡ n → n < 64 → is_leaf_tag n ≡ true
+    → IsLeafOf (tree_offset b) n (slice_range x (r.offset + r.header) (r.offset + r.header + r.contents)) b
+is_leaf x b r n e class tag small t =
+    let c = contents_of x b r e in
+    let own = subst (λ z. Encoding c.octets z r.constructed c.tag c.contents r.header) class c.encoding in
+    let two = subst (λ z. Encoding c.octets Universal r.constructed z c.contents r.header) (small_tag c.tag r.tag n c.number tag small) own in
+    subst (λ z. IsLeafOf (tree_offset b) n z b) (sym c.are) (leaf_encoded (tree_offset b) c.octets b r.constructed n c.contents r.header t c.encoded two)
+
+-- it is the leaf that the contents octets mean
+leaf_is : (o n : ℕ) (v : List ℕ) (b : Tree ℕ) (l : Leaf) → IsLeafOf o n v b → n ≡ leaf_tag l → LeafContents l v → (p : ℕ) × (b ≡ leaf p l)
+leaf_is o n v (leaf p m) l s t e = (p, ap (leaf p) (leaf_alone m l v (sym s.1 ∙ t) s.2 e))
+leaf_is o n v (group p g bs) l s t e = absurd s
+leaf_is o n v (explicit c p m b) l s t e = absurd s
+leaf_is o n v (unknown c k p m w) l s t e = absurd s
+
+-- and they have no fault
+leaf_faultless : (o n : ℕ) (v : List ℕ) (b : Tree ℕ) (fault : DecodeFault) → IsLeafOf o n v b → LeafFault n v fault → ⊥
+leaf_faultless o n v (leaf p m) fault s f = leaf_no_fault n v fault m s.1 s.2 f
+leaf_faultless o n v (group p g bs) fault s f = s
+leaf_faultless o n v (explicit c p m b) fault s f = s
+leaf_faultless o n v (unknown c k p m w) fault s f = s
+
+string_leaf : (kind : StringKind) → (string_tag kind < 64) × (is_leaf_tag (string_tag kind) ≡ true)
+string_leaf utf8 = (lit< tt, refl)
+string_leaf printable = (lit< tt, refl)
+string_leaf teletex = (lit< tt, refl)
+string_leaf ia5 = (lit< tt, refl)
+string_leaf universal = (lit< tt, refl)
+string_leaf bmp = (lit< tt, refl)
+
+pub is_text : (x : List ℕ) (b : Tree ℕ) (r : Entry) (kind : StringKind) (cs : List ℕ) → IsEntryOf x b r → r.class ≡ Universal → r.tag ≡ string_tag kind
+    → TextContents (text_form kind) cs (slice_range x (r.offset + r.header) (r.offset + r.header + r.contents)) → tree_text b ≡ Some cs
+is_text x b r kind cs e class tag means =
+    let (small, t) = string_leaf kind in
+    let v = slice_range x (r.offset + r.header) (r.offset + r.header + r.contents) in
+    let (p, same) = leaf_is (tree_offset b) (string_tag kind) v b (text kind cs) (is_leaf x b r (string_tag kind) e class tag small t) refl means in
+    ap tree_text same
+
+pub is_no_faulty_text : (x : List ℕ) (b : Tree ℕ) (r : Entry) (kind : StringKind) (fault : DecodeFault) → IsEntryOf x b r → r.class ≡ Universal
+    → r.tag ≡ string_tag kind
+    → TextFault (text_form kind) (slice_range x (r.offset + r.header) (r.offset + r.header + r.contents)) fault → ⊥
+is_no_faulty_text x b r kind fault e class tag f =
+    let (small, t) = string_leaf kind in
+    let v = slice_range x (r.offset + r.header) (r.offset + r.header + r.contents) in
+    leaf_faultless (tree_offset b) (string_tag kind) v b fault (is_leaf x b r (string_tag kind) e class tag small t) (of_text kind refl f)
+
+-- a tree of no string
+no_text_leaf : (o : ℕ) (y : List ℕ) (b : Tree ℕ) (c : ASN1Class) (k : Bool) (n : ℕ) (w : List ℕ) (h : ℕ) → Encodes o y b → Encoding y c k n w h
+    → ((kind : StringKind) → (c ≡ Universal) × (n ≡ string_tag kind) → ⊥) → tree_text b ≡ None
+no_text_leaf o y (leaf p (boolean b)) c k n w h s e other = refl
+no_text_leaf o y (leaf p (integer m)) c k n w h s e other = refl
+no_text_leaf o y (leaf p (bit_string m v)) c k n w h s e other = refl
+no_text_leaf o y (leaf p (octet_string v)) c k n w h s e other = refl
+no_text_leaf o y (leaf p null) c k n w h s e other = refl
+no_text_leaf o y (leaf p (object_identifier ns)) c k n w h s e other = refl
+no_text_leaf o y (leaf p (text kind cs)) c k n w h s e other =
+    let z = one y Universal c s.constructed k (string_tag kind) n s.contents w s.header h s.encoding e in
+    absurd (other kind (sym z.class, sym z.tag))
+no_text_leaf o y (leaf p (utc_time d)) c k n w h s e other = refl
+no_text_leaf o y (leaf p (generalized_time d)) c k n w h s e other = refl
+no_text_leaf o y (group p g bs) c k n w h s e other = refl
+no_text_leaf o y (explicit d p m b) c k n w h s e other = refl
+no_text_leaf o y (unknown d j p m v) c k n w h s e other = refl
+
+pub is_no_text : (x : List ℕ) (b : Tree ℕ) (r : Entry) → IsEntryOf x b r → ((kind : StringKind) → (r.class ≡ Universal) × (r.tag ≡ string_tag kind) → ⊥)
+    → tree_text b ≡ None
+is_no_text x b r e other =
+    let c = contents_of x b r e in
+    no_text_leaf (tree_offset b) c.octets b r.class r.constructed c.tag c.contents r.header c.encoded c.encoding
+    (λ kind (d, t). other kind (d, c.number.0 (omega (arith, t, (string_leaf kind).0)) ∙ t))
+
+-- each entry of a document is of its tree
+pub each_of_its_tree : EachIsOfItsTree
+each_of_its_tree x bs rs d are k h =
+    let w = entry_at x 0 (all_in_order bs) (all_depths 0 bs) rs are k h in
+    let (stop, s) = stands_among bs (length x) k h in
+    record { all = bs; octets = _; read = d; has = record { end = stop; stands = s; are = refl }; stands = w.offset; header = w.header }
