@@ -3,7 +3,24 @@
  * Link libsimple_asn1, which calls the program's malloc, realloc and free. No call keeps memory or gives memory away,
  * and calls may run in several threads at once. Each answers whatever the octets, offsets and records are. A caller
  * owes this alone: each pointer has as many octets or records behind it as the number after it says (it may be null
- * where that number is 0), and what is written to overlaps nothing that is read. */
+ * where that number is 0), and what is written to overlaps nothing that is read.
+ *
+ * Where what is read is not X.690's BER, or strict reading lets pass what DER forbids:
+ *
+ * - OBJECT IDENTIFIER: the first subidentifier is one octet. 88 37 is 2.56.55, where X.690 has 2.999.
+ * - BMPString, UniversalString and TeletexString hold UTF-8, where X.690 has other codes.
+ * - BIT STRING: no bits are 03 00 in canonical form, where X.690 has 03 01 00. The latter is read, but not strictly.
+ * - Length octets: 80 is the length 0. The indefinite form is not known.
+ * - Constructed strings are not joined: the contents octets of 24 03 04 01 05 are 04 01 05.
+ * - Text: of UTF8String, PrintableString, TeletexString, IA5String, UniversalString and BMPString alone. The other
+ *   strings (NumericString, VisibleString, GeneralString ..) have none, and their contents octets may be any.
+ * - Times: those with an offset, a comma, second 60 or no seconds are faults.
+ * - A value beyond int64_t, and a component of an OBJECT IDENTIFIER beyond 128 bits, are SIMPLE_ASN1_RANGE.
+ * - Another class: a constructed block has the block that it holds as an item where that is one and without a fault.
+ *   Else, and where it is primitive, its contents octets are not looked into, by strict reading neither.
+ * - Strict reading lets pass: unused bits that are not 0, and more than 7 of them; octets of an IA5String above 7F; a
+ *   SET in any order; DEFAULT values; any contents octets of tags of class Universal that have no type here, as
+ *   ENUMERATED and REAL. */
 #ifndef SIMPLE_ASN1_H
 #define SIMPLE_ASN1_H
 #include <stddef.h>
