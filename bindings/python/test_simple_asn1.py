@@ -1,8 +1,14 @@
-"""Tests of simple_asn1.py: python3 -m unittest, in this folder."""
+"""Tests of simple_asn1: python3 -m unittest, in this folder."""
+import array
+import base64
+import copy
+import datetime
+import pickle
+import tracemalloc
 import unittest
 
 import simple_asn1
-from simple_asn1 import Refused, Status
+from simple_asn1 import Moment, NoSuchValue, PemObject, Refused, Status
 
 DOCUMENT = bytes.fromhex("30 09 02 01 05 A0 04 0C 02 C3 A4 05 00")
 
@@ -41,6 +47,7 @@ class Reading(unittest.TestCase):
         self.assertEqual(only("02 09 01 00 00 00 00 00 00 00 00").integer, 2**64)
         self.assertEqual(only("02 01 FF").integer, -1)
         self.assertEqual(only("06 06 2A 86 48 86 F7 0D").oid, "1.2.840.113549")
+        self.assertEqual((only("0C 00").text, only("16 01 E9").text), ("", "é"))
         time = simple_asn1.read(b"\x18\x1320261123070322.125Z").blocks[0].moment
         self.assertEqual(str(time), "2026-11-23T07:03:22.125000000Z")
 
@@ -49,13 +56,175 @@ class Reading(unittest.TestCase):
         self.assertEqual(simple_asn1.rewrite(loose), canonical)
         records = simple_asn1.read(loose).records
         self.assertEqual(simple_asn1.write(loose, records), canonical)
-        records[0].items = 2
+        records[0] = records[0]._replace(items=2)
         self.assertEqual(self.refused(simple_asn1.write, loose, records), (Status.BAD_RECORD, 0))
 
     def test_signed_parts_are_octets_of_the_document(self):
         triple = bytes.fromhex("30 0E 30 03 02 01 01 30 03 06 01 2A 03 02 00 99")
         signed = simple_asn1.Signed(triple)
         self.assertEqual((signed.content, signed.algorithm, signed.signature), (triple[2:7], "1.2", b"\x99"))
+        self.assertEqual((signed.algorithm_identifier, signed.parameters), (triple[7:12], b""))
+        self.assertEqual(signed.unused_bits, 0)
+        self.assertEqual(signed, simple_asn1.Signed(bytearray(triple)))
+
+    def test_parameters_and_unused_bits_of_signed_parts_are_kept(self):
+        triple = bytes.fromhex("30 11 30 00 30 08 06 01 2A 30 03 02 01 20 03 03 03 AB C8")
+        signed = simple_asn1.Signed(triple)
+        self.assertEqual(signed.parameters, bytes.fromhex("30 03 02 01 20"))
+        self.assertEqual(signed.algorithm_identifier, bytes.fromhex("30 08 06 01 2A 30 03 02 01 20"))
+        self.assertEqual((signed.signature, signed.unused_bits), (b"\xab\xc8", 3))
+
+
+class LiesOfItsLength:
+    """An object whose `len` is not that of its octets."""
+
+    def __init__(self, octets, length):
+        self.octets, self.length = octets, length
+
+    def __bytes__(self):
+        return self.octets
+
+    def __len__(self):
+        return self.length
+
+
+class LyingBytes(bytes):
+    def __len__(self):
+        return 66
+
+
+class Octets(unittest.TestCase):
+    CALLS = (
+        simple_asn1.read,
+        simple_asn1.read_strict,
+        simple_asn1.rewrite,
+        simple_asn1.Signed,
+        lambda octets: simple_asn1.write(octets, [simple_asn1.Record(4, 0, 2, 64, 0, 1, 0, 0, 0)]),
+    )
+
+    def test_no_octet_behind_those_given_is_read(self):
+        cut = bytes.fromhex("04 40")
+        lying = [LiesOfItsLength(cut, length) for length in (0, 66, 0x40000006)]
+        for source in (*lying, LiesOfItsLength(LyingBytes(cut), 66), LyingBytes(cut)):
+            for call in self.CALLS:
+                with self.assertRaises(Refused) as why:
+                    call(source)
+                self.assertIn(why.exception.status, (Status.INCOMPLETE, Status.BAD_RECORD))
+
+    def test_all_octets_of_wide_elements_are_read(self):
+        document = bytes.fromhex("04 06 01 02 03 04 05 06")
+        wide = array.array("H", document)
+        for source in (wide, memoryview(wide), memoryview(document), bytearray(document), list(document)):
+            self.assertEqual(simple_asn1.rewrite(source), document)
+            self.assertEqual(simple_asn1.read(source).octets, document)
+
+    def test_a_number_and_text_are_no_octets(self):
+        for source in (4, True, "30 00", None):
+            for call in self.CALLS:
+                with self.assertRaises(TypeError):
+                    call(source)
+
+    def test_memory_goes_with_the_blocks_and_not_with_the_octets(self):
+        octets = bytes.fromhex("04 84 00 80 00 00") + bytes(0x800000)
+        tracemalloc.start()
+        document = simple_asn1.read(octets)
+        held, most = tracemalloc.get_traced_memory()
+        tracemalloc.stop()
+        self.assertLess(most, 1_000_000)
+        self.assertEqual(len(document.all_blocks), 1)
+
+    def test_more_blocks_than_are_tried_first_are_read(self):
+        document = simple_asn1.read(b"\x05\x00" * 3000)
+        self.assertEqual((len(document), len(document.all_blocks)), (3000, 3000))
+        self.assertEqual(simple_asn1.write(document.octets, document.records), document.octets)
+
+
+class Objects(unittest.TestCase):
+    def test_an_error_crosses_to_other_processes(self):
+        for octets, kind in (("30 04 02 01", Refused), ("05 00", NoSuchValue)):
+            with self.assertRaises(kind) as why:
+                only(octets).text
+            for other in (pickle.loads(pickle.dumps(why.exception)), copy.copy(why.exception)):
+                self.assertIs(type(other), kind)
+                self.assertEqual((other.status, other.offset), (why.exception.status, why.exception.offset))
+                self.assertEqual(str(other), str(why.exception))
+
+    def test_records_do_not_change(self):
+        document = simple_asn1.read(DOCUMENT)
+        with self.assertRaises(AttributeError):
+            document.records[0].next = 0
+        document.records.clear()
+        self.assertEqual([block.tag for block in document.blocks], [16, 5])
+
+    def test_numbers_that_do_not_fit_a_record_are_refused(self):
+        record = simple_asn1.read(DOCUMENT).records[-1]
+        for wrong in ({"items": -1}, {"offset": 2**64}, {"tag_class": 256}):
+            with self.assertRaises(Refused) as why:
+                simple_asn1.write(DOCUMENT, [record, record._replace(**wrong)])
+            self.assertEqual((why.exception.status, why.exception.offset), (Status.BAD_RECORD, 1))
+
+    def test_equal_moments_are_equal(self):
+        first, second = (only("17 0D 32 36 31 31 32 33 30 37 30 33 32 32 5A").moment for _ in range(2))
+        self.assertEqual(first, second)
+        self.assertEqual(first, Moment(2026, 11, 23, 7, 3, 22, 0))
+        self.assertEqual(len({first, second}), 1)
+        self.assertLess(first, first._replace(nanosecond=1))
+
+    def test_a_moment_is_a_datetime(self):
+        block = simple_asn1.read(b"\x18\x1320261123070322.125Z").blocks[0]
+        wanted = datetime.datetime(2026, 11, 23, 7, 3, 22, 125000, datetime.timezone.utc)
+        self.assertEqual(block.datetime, wanted)
+        with self.assertRaises(ValueError):
+            simple_asn1.read(b"\x18\x0f00000101000000Z").blocks[0].datetime
+
+    def test_a_value_of_another_kind_is_no_attribute(self):
+        for name in ("text", "integer", "moment", "datetime", "oid", "bits"):
+            self.assertIsNone(getattr(only("05 00"), name, None))
+            self.assertFalse(hasattr(only("05 00"), name))
+
+    def test_an_integer_of_any_size_is_an_int(self):
+        for number in (0, 127, -128, 2**64, -(2**8000), 10**3000):
+            size = number.bit_length() // 8 + 1
+            octets = b"\x02\x82" + size.to_bytes(2, "big") + number.to_bytes(size, "big", signed=True)
+            self.assertEqual(simple_asn1.read(octets)[0].integer, number)
+        self.assertEqual(only("02 00").integer, 0)
+
+    def test_blocks_are_gone_over(self):
+        document = simple_asn1.read(DOCUMENT)
+        self.assertEqual((len(document), len(document[0]), len(document[1])), (2, 2, 0))
+        self.assertEqual([block.tag for block in document], [16, 5])
+        self.assertEqual([item.tag for item in document[0]], [2, 0])
+        self.assertEqual(document[0][-1][0].text, "ä")
+        self.assertTrue(document[1])
+        with self.assertRaises(IndexError):
+            document[2]
+
+    def test_they_are_shown(self):
+        document = simple_asn1.read(DOCUMENT)
+        self.assertEqual(repr(document), "<Document of 13 bytes: 2 blocks>")
+        self.assertEqual(repr(document[0]), "<SEQUENCE at 0: 2 items>")
+        self.assertEqual(repr(document[0].items), "[<INTEGER at 2: 05>, <[0] at 5: 1 item>]")
+        self.assertEqual(repr(only("44 12" + "01" * 18)), f"<[APPLICATION 4] at 0: {'01 ' * 15}01.. of 18 bytes>")
+
+
+class Pem(unittest.TestCase):
+    BODY = base64.b64encode(DOCUMENT).decode()
+    TEXT = (
+        f"of somebody\r\n-----BEGIN CERTIFICATE-----\r\n{BODY}\r\n-----END CERTIFICATE-----\r\n"
+        "-----BEGIN X-----\nBQ\nA=\n-----END X-----"
+    )
+
+    def test_objects_are_taken_in_order(self):
+        for text in (self.TEXT, self.TEXT.encode()):
+            self.assertEqual(
+                simple_asn1.pem_objects(text), [PemObject("CERTIFICATE", DOCUMENT), PemObject("X", b"\x05\x00")]
+            )
+            self.assertEqual(simple_asn1.read_pem(text).octets, DOCUMENT)
+
+    def test_what_is_none_is_refused(self):
+        for text in ("", "BQA=", "-----BEGIN X-----\nBQA=", "-----BEGIN X-----\nB?A=\n-----END X-----"):
+            with self.assertRaises(ValueError):
+                simple_asn1.pem_objects(text)
 
 
 if __name__ == "__main__":

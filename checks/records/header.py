@@ -13,6 +13,7 @@ header = (top / "bindings/c/simple_asn1.h").read_text()
 sys.path.insert(0, str(top / "bindings/python"))
 sys.dont_write_bytecode = True
 import simple_asn1
+from simple_asn1 import _calls
 
 
 def same(what, first, second):
@@ -50,12 +51,15 @@ found = re.findall(r"pub const (\w+): u32 = (\d+)", proved) + re.findall(r"ASN1D
 same("the header's and the library's statuses", statuses, {other_names.get(k, k): int(n) for k, n in found})
 
 records = {
-    "block": simple_asn1.Record,
-    "outcome": simple_asn1._Outcome,
-    "integer": simple_asn1._Integer,
-    "moment": simple_asn1.Moment,
-    "signed_parts": simple_asn1._SignedParts,
+    "block": _calls.Block,
+    "outcome": _calls.Outcome,
+    "integer": _calls.Integer,
+    "moment": _calls.MomentAnswer,
+    "signed_parts": _calls.SignedParts,
 }
+same("Python's records and those it hands out", simple_asn1.Record._fields, tuple(f[0] for f in _calls.Block._fields_))
+moment = tuple(f[0] for f in _calls.MomentAnswer._fields_[1:])
+same("Python's moments and those it hands out", simple_asn1.Moment._fields, moment)
 lines = []
 for name, record in records.items():
     lines.append(f'printf("{name} %zu\\n", sizeof(simple_asn1_{name}));')

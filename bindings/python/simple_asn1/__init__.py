@@ -1,0 +1,18 @@
+"""Reads and writes DER (ITU-T X.690) by the proved library simple_asn1.
+
+    document = read(octets)                 # or read_strict, of canonical documents alone; or read_pem
+    for block in document:                  # those at the top level; all_blocks has those inside them too
+        print(block.tag, list(block))
+
+Octets that are no document raise Refused, with the fault and the offset of the block at fault. The library is in the
+package, or where bindings/c/build puts it, or at the path in SIMPLE_ASN1_LIBRARY.
+"""
+from ._calls import Octets, Record
+from ._document import Bits, Block, Document, Moment, Signed, read, read_pem, read_strict, rewrite, write
+from ._pem import PemObject, pem_objects
+from ._status import TEXTS, NoSuchValue, Refused, Status
+
+__all__ = [
+    "Bits", "Block", "Document", "Moment", "NoSuchValue", "Octets", "PemObject", "Record", "Refused", "Signed",
+    "Status", "TEXTS", "pem_objects", "read", "read_pem", "read_strict", "rewrite", "write",
+]  # fmt: skip

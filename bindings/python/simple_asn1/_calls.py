@@ -1,0 +1,198 @@
+"""The calls of simple_asn1.h, by ctypes. Only here are octets handed to C: each call takes the `bytes` of octets_of."""
+import ctypes
+import os
+import pathlib
+from typing import Any, Callable, Iterable, List, NamedTuple, Sequence, SupportsBytes, Union
+
+from ._status import Status, refusal
+
+Octets = Union[bytes, bytearray, memoryview, SupportsBytes, Iterable[int]]
+
+
+class Block(ctypes.Structure):
+    _fields_ = [
+        ("tag", ctypes.c_uint64),
+        ("offset", ctypes.c_size_t),
+        ("header", ctypes.c_size_t),
+        ("contents", ctypes.c_size_t),
+        ("items", ctypes.c_size_t),
+        ("next", ctypes.c_size_t),
+        ("depth", ctypes.c_size_t),
+        ("tag_class", ctypes.c_uint8),
+        ("constructed", ctypes.c_uint8),
+    ]
+
+
+class Outcome(ctypes.Structure):
+    _fields_ = [("status", ctypes.c_uint32), ("offset", ctypes.c_size_t), ("count", ctypes.c_size_t)]
+
+
+class Integer(ctypes.Structure):
+    _fields_ = [("status", ctypes.c_uint32), ("value", ctypes.c_int64)]
+
+
+class MomentAnswer(ctypes.Structure):
+    _fields_ = [("status", ctypes.c_uint32), ("year", ctypes.c_int32)] + [
+        (name, ctypes.c_uint32) for name in ("month", "day", "hour", "minute", "second", "nanosecond")
+    ]
+
+
+class SignedParts(ctypes.Structure):
+    _fields_ = [("status", ctypes.c_uint32), ("offset", ctypes.c_size_t)] + [
+        (name, Block) for name in ("content", "algorithm", "signature")
+    ]
+
+
+class Record(NamedTuple):
+    """A block as the library has it; simple_asn1.h says what the fields are."""
+
+    tag: int
+    offset: int
+    header: int
+    contents: int
+    items: int
+    next: int
+    depth: int
+    tag_class: int
+    constructed: int
+
+
+def record_of(block: Any) -> Record:
+    return Record(*(getattr(block, name) for name in Record._fields))
+
+
+def octets_of(source: Octets) -> bytes:
+    """These octets as `bytes` of no subclass, whose length is true whatever class the source is of.
+
+    A number is no octets, though `bytes` takes it as a count of zeros.
+    """
+    if type(source) is bytes:
+        return source
+    try:
+        view = memoryview(source)  # type: ignore[arg-type]
+    except TypeError:
+        view = memoryview(bytes(_no_number(source)))
+    return bytes(view if view.ndim > 0 else _no_number(view.obj))
+
+
+def _no_number(source: Any) -> Any:
+    if hasattr(source, "__index__"):
+        raise TypeError(f"octets are wanted, not {type(source).__name__}")
+    return source
+
+
+def _path() -> str:
+    """Of the library: as the environment says, in this package, where bindings/c/build puts it, or as installed."""
+    here = pathlib.Path(__file__).resolve().parent
+    places = [here / "libsimple_asn1.so", here.parents[1] / "c" / "out" / "lib" / "libsimple_asn1.so"]
+    found = [str(place) for place in places if place.exists()]
+    return os.environ.get("SIMPLE_ASN1_LIBRARY") or (found + ["libsimple_asn1.so.1"])[0]
+
+
+def _library() -> Any:
+    path = _path()
+    try:
+        library = ctypes.CDLL(path)
+    except OSError as why:
+        raise ImportError(
+            f"{path} can't be loaded: {why}. bindings/c/build makes it; SIMPLE_ASN1_LIBRARY can say where it is."
+        ) from why
+    octets, records = [ctypes.c_char_p, ctypes.c_size_t], [ctypes.POINTER(Block), ctypes.c_size_t]
+    offset = [ctypes.c_size_t]
+    for name, answer, arguments in (
+        ("read", Outcome, octets + records),
+        ("read_strict", Outcome, octets + records),
+        ("rewrite", Outcome, octets + octets),
+        ("write", Outcome, octets + records + octets),
+        ("int64", Integer, octets + offset),
+        ("time", MomentAnswer, octets + offset),
+        ("text", Outcome, octets + offset + octets),
+        ("oid", Outcome, octets + offset + octets),
+        ("signed", SignedParts, octets),
+    ):
+        call = getattr(library, "simple_asn1_" + name)
+        call.restype, call.argtypes = answer, arguments
+    return library
+
+
+_LIBRARY = _library()
+
+# so many records are tried first; a document with more is read again with room for as many as it has
+_FIRST_ROOM = 1024
+
+
+def _read(call: Callable[..., Any], octets: bytes) -> "ctypes.Array[Block]":
+    room = min(len(octets) // 2, _FIRST_ROOM)
+    blocks = (Block * room)()
+    answer = call(octets, len(octets), blocks, room)
+    if answer.status == Status.NO_ROOM:
+        blocks = (Block * answer.count)()
+        answer = call(octets, len(octets), blocks, answer.count)
+    if answer.status != Status.OK:
+        raise refusal(answer.status, answer.offset)
+    return (Block * answer.count).from_buffer_copy(blocks)
+
+
+def read(octets: bytes) -> "ctypes.Array[Block]":
+    return _read(_LIBRARY.simple_asn1_read, octets)
+
+
+def read_strict(octets: bytes) -> "ctypes.Array[Block]":
+    return _read(_LIBRARY.simple_asn1_read_strict, octets)
+
+
+def _sized(call: Callable[..., Any], *arguments: Any) -> bytes:
+    """The octets that a call writes, which is asked for their number first."""
+    answer = call(*arguments, None, 0)
+    out = ctypes.create_string_buffer(0)
+    if answer.status == Status.NO_ROOM:
+        out = ctypes.create_string_buffer(answer.count)
+        answer = call(*arguments, out, answer.count)
+    if answer.status != Status.OK:
+        raise refusal(answer.status, answer.offset)
+    return out.raw
+
+
+def rewrite(octets: bytes) -> bytes:
+    return _sized(_LIBRARY.simple_asn1_rewrite, octets, len(octets))
+
+
+def write(octets: bytes, records: Sequence[Record]) -> bytes:
+    blocks: List[Block] = []
+    for index, record in enumerate(records):
+        blocks.append(Block(*record))
+        if record_of(blocks[index]) != record:  # ctypes cuts numbers that do not fit
+            raise refusal(Status.BAD_RECORD, index)
+    array = (Block * len(blocks))(*blocks)
+    return _sized(_LIBRARY.simple_asn1_write, octets, len(octets), array, len(blocks))
+
+
+def int64(octets: bytes, offset: int) -> int:
+    answer = _LIBRARY.simple_asn1_int64(octets, len(octets), offset)
+    if answer.status != Status.OK:
+        raise refusal(answer.status, offset)
+    return int(answer.value)
+
+
+def time(octets: bytes, offset: int) -> List[int]:
+    """Year, month, day, hour, minute, second and nanosecond."""
+    answer = _LIBRARY.simple_asn1_time(octets, len(octets), offset)
+    if answer.status != Status.OK:
+        raise refusal(answer.status, offset)
+    return [getattr(answer, name) for name, *_ in MomentAnswer._fields_[1:]]
+
+
+def text(octets: bytes, offset: int) -> str:
+    return _sized(_LIBRARY.simple_asn1_text, octets, len(octets), offset).decode()
+
+
+def oid(octets: bytes, offset: int) -> str:
+    return _sized(_LIBRARY.simple_asn1_oid, octets, len(octets), offset).decode()
+
+
+def signed(octets: bytes) -> List[Record]:
+    """The records of the content, of the algorithm's OBJECT IDENTIFIER and of the signature."""
+    answer = _LIBRARY.simple_asn1_signed(octets, len(octets))
+    if answer.status != Status.OK:
+        raise refusal(answer.status, answer.offset)
+    return [record_of(part) for part in (answer.content, answer.algorithm, answer.signature)]

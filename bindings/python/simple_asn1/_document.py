@@ -1,0 +1,304 @@
+"""Documents, their blocks, and the values of these."""
+from datetime import datetime as DateTime, timezone
+from typing import Iterable, Iterator, List, NamedTuple, Tuple, Union, overload
+
+from . import _calls
+from ._calls import Octets, Record, octets_of, record_of
+from ._pem import pem_objects
+from ._status import Status, refusal
+
+_NAMES = {
+    1: "BOOLEAN", 2: "INTEGER", 3: "BIT STRING", 4: "OCTET STRING", 5: "NULL", 6: "OBJECT IDENTIFIER", 10: "ENUMERATED",
+    12: "UTF8String", 16: "SEQUENCE", 17: "SET", 18: "NumericString", 19: "PrintableString", 20: "TeletexString",
+    22: "IA5String", 23: "UTCTime", 24: "GeneralizedTime", 26: "VisibleString", 28: "UniversalString", 30: "BMPString",
+}  # fmt: skip
+_CLASSES = ("UNIVERSAL ", "APPLICATION ", "", "PRIVATE ")
+
+
+class Moment(NamedTuple):
+    """A moment in UTC, to the nanosecond."""
+
+    year: int
+    month: int
+    day: int
+    hour: int
+    minute: int
+    second: int
+    nanosecond: int
+
+    @property
+    def datetime(self) -> DateTime:
+        """It with its time zone, UTC. What is finer than a microsecond is dropped. ValueError for the year 0."""
+        return DateTime(*self[:6], self.nanosecond // 1000, tzinfo=timezone.utc)
+
+    def __str__(self) -> str:
+        text = f"{self.year:04}-{self.month:02}-{self.day:02}T{self.hour:02}:{self.minute:02}:{self.second:02}"
+        return text + (f".{self.nanosecond:09}Z" if self.nanosecond else "Z")
+
+
+class Bits(NamedTuple):
+    """The octets that hold the bits of a BIT STRING, and how many bits there are.
+
+    The first bit is the most significant of the first octet.
+    """
+
+    octets: bytes
+    length: int
+
+
+class Document:
+    """Octets that were read, with the record of each of their blocks. read, read_strict and read_pem make it."""
+
+    def __init__(self, octets: Octets, *, strict: bool = False) -> None:
+        self._octets = octets_of(octets)
+        self._blocks = (_calls.read_strict if strict else _calls.read)(self._octets)
+
+    @property
+    def octets(self) -> bytes:
+        return self._octets
+
+    @property
+    def records(self) -> List[Record]:
+        """The records of all blocks, as `write` takes them."""
+        return [record_of(block) for block in self._blocks]
+
+    @property
+    def blocks(self) -> List["Block"]:
+        """The blocks at the top level."""
+        return list(self)
+
+    @property
+    def all_blocks(self) -> List["Block"]:
+        """The blocks at all depths, each before those that it holds."""
+        return [Block(self, index) for index in range(len(self._blocks))]
+
+    def _among(self, index: int, end: int) -> Iterator["Block"]:
+        while index < end:
+            yield Block(self, index)
+            index = self._blocks[index].next
+
+    def __iter__(self) -> Iterator["Block"]:
+        """Over the blocks at the top level."""
+        return self._among(0, len(self._blocks))
+
+    def __len__(self) -> int:
+        """How many blocks are at the top level."""
+        return sum(1 for _ in self)
+
+    @overload
+    def __getitem__(self, index: int) -> "Block": ...
+    @overload
+    def __getitem__(self, index: slice) -> List["Block"]: ...
+    def __getitem__(self, index: Union[int, slice]) -> Union["Block", List["Block"]]:
+        return self.blocks[index]
+
+    def __repr__(self) -> str:
+        return f"<Document of {_count(len(self._octets), 'byte')}: {_count(len(self), 'block')}>"
+
+
+class Block:
+    """A block of a document. Two are equal where they are the same block of one document."""
+
+    __slots__ = ("_document", "_index", "_record")
+
+    def __init__(self, document: Document, index: int) -> None:
+        self._document = document
+        self._index = index
+        self._record = record_of(document._blocks[index])
+
+    @property
+    def document(self) -> Document:
+        return self._document
+
+    @property
+    def index(self) -> int:
+        """Its index in `all_blocks` and `records` of the document."""
+        return self._index
+
+    @property
+    def record(self) -> Record:
+        return self._record
+
+    def __eq__(self, other: object) -> bool:
+        return isinstance(other, Block) and self._document is other._document and self._index == other._index
+
+    def __hash__(self) -> int:
+        return hash((id(self._document), self._index))
+
+    def __repr__(self) -> str:
+        kind = _NAMES.get(self.tag, "") if self.tag_class == 0 else ""
+        kind = kind or f"[{_CLASSES[self.tag_class]}{self.tag}]"
+        if len(self) > 0:
+            return f"<{kind} at {self.offset}: {_count(len(self), 'item')}>"
+        cut = "" if len(self.contents) <= 16 else f".. of {len(self.contents)} bytes"
+        return f"<{kind} at {self.offset}: {self.contents[:16].hex(' ').upper()}{cut}>"
+
+    @property
+    def tag_class(self) -> int:
+        """0 universal, 1 application, 2 context-specific, 3 private."""
+        return self._record.tag_class
+
+    @property
+    def tag(self) -> int:
+        return self._record.tag
+
+    @property
+    def constructed(self) -> bool:
+        return self._record.constructed != 0
+
+    @property
+    def offset(self) -> int:
+        return self._record.offset
+
+    @property
+    def depth(self) -> int:
+        """How many blocks it stands in."""
+        return self._record.depth
+
+    @property
+    def items(self) -> List["Block"]:
+        """The blocks that it holds, without those inside them."""
+        return list(self)
+
+    def __iter__(self) -> Iterator["Block"]:
+        """Over its items."""
+        return self._document._among(self._index + 1, self._record.next)
+
+    def __len__(self) -> int:
+        """How many items it has."""
+        return self._record.items
+
+    def __bool__(self) -> bool:
+        """True: a block without items is a block."""
+        return True
+
+    @overload
+    def __getitem__(self, index: int) -> "Block": ...
+    @overload
+    def __getitem__(self, index: slice) -> List["Block"]: ...
+    def __getitem__(self, index: Union[int, slice]) -> Union["Block", List["Block"]]:
+        return self.items[index]
+
+    @property
+    def octets(self) -> bytes:
+        """The octets of the whole block."""
+        start = self._record.offset
+        return self._document.octets[start : start + self._record.header + self._record.contents]
+
+    @property
+    def contents(self) -> bytes:
+        """Its contents octets: the value of an OCTET STRING."""
+        start = self._record.offset + self._record.header
+        return self._document.octets[start : start + self._record.contents]
+
+    @property
+    def integer(self) -> int:
+        """The number of an INTEGER, of whatever size."""
+        if (self.tag_class, self.tag) != (0, 2):
+            raise refusal(Status.NO_SUCH_VALUE, self.offset)
+        return int.from_bytes(self.contents, "big", signed=True)
+
+    @property
+    def moment(self) -> Moment:
+        """The moment of a UTCTime or GeneralizedTime."""
+        return Moment(*_calls.time(self._document.octets, self.offset))
+
+    @property
+    def datetime(self) -> DateTime:
+        """The moment of a UTCTime or GeneralizedTime, to the microsecond."""
+        return self.moment.datetime
+
+    @property
+    def text(self) -> str:
+        """The text of a string, of whatever kind."""
+        return _calls.text(self._document.octets, self.offset)
+
+    @property
+    def oid(self) -> str:
+        """The components of an OBJECT IDENTIFIER, as in 1.2.840."""
+        return _calls.oid(self._document.octets, self.offset)
+
+    @property
+    def bits(self) -> Bits:
+        """The octets that hold the bits of a BIT STRING, and how many bits there are."""
+        if (self.tag_class, self.tag) != (0, 3):
+            raise refusal(Status.NO_SUCH_VALUE, self.offset)
+        return _bits_of(self.contents)
+
+
+def _bits_of(contents: bytes) -> Bits:
+    return Bits(contents[1:], 8 * len(contents[1:]) - (contents[0] if contents else 0))
+
+
+def _count(number: int, what: str) -> str:
+    return f"{number} {what}" + ("" if number == 1 else "s")
+
+
+def read(octets: Octets) -> Document:
+    """The document of these octets."""
+    return Document(octets)
+
+
+def read_strict(octets: Octets) -> Document:
+    """The document of these octets, which have to be in canonical form (DER)."""
+    return Document(octets, strict=True)
+
+
+def read_pem(text: Union[str, bytes]) -> Document:
+    """The document of the first object of PEM. ValueError, where there is none."""
+    return Document(pem_objects(text)[0].octets)
+
+
+def rewrite(octets: Octets) -> bytes:
+    """The canonical octets (DER) of a document."""
+    return _calls.rewrite(octets_of(octets))
+
+
+def write(octets: Octets, records: Iterable[Record]) -> bytes:
+    """The canonical octets of what the records spell, whose contents octets are among these octets."""
+    return _calls.write(octets_of(octets), list(records))
+
+
+class Signed:
+    """The parts of a certificate, request or revocation list that its signature is checked by."""
+
+    content: bytes
+    """The octets that were signed."""
+    algorithm: str
+    """The OBJECT IDENTIFIER of the algorithm, as in 1.2.840."""
+    algorithm_identifier: bytes
+    """The octets of the AlgorithmIdentifier: the SEQUENCE of that OBJECT IDENTIFIER and the parameters."""
+    parameters: bytes
+    """The octets of the algorithm's parameters; none, where there are none. RSASSA-PSS can't be checked without."""
+    signature: bytes
+    """The octets that hold the bits of the signature."""
+    unused_bits: int
+    """How many bits of the last of these are not of the signature: 0 with all usual algorithms."""
+
+    def __init__(self, source: Octets) -> None:
+        octets = octets_of(source)
+        content, algorithm, signature = _calls.signed(octets)
+        end, bits = _end(content), octets[signature.offset + signature.header : _end(signature)]
+        self.content = octets[content.offset : end]
+        self.algorithm = _calls.oid(octets, algorithm.offset)
+        # content, algorithm and signature stand one after another
+        self.algorithm_identifier = octets[end : signature.offset]
+        self.parameters = octets[_end(algorithm) : signature.offset]
+        self.signature = bits[1:]
+        self.unused_bits = bits[0] if bits else 0
+
+    def _key(self) -> Tuple[bytes, bytes, bytes, int]:
+        return self.content, self.algorithm_identifier, self.signature, self.unused_bits
+
+    def __eq__(self, other: object) -> bool:
+        return isinstance(other, Signed) and self._key() == other._key()
+
+    def __hash__(self) -> int:
+        return hash(self._key())
+
+    def __repr__(self) -> str:
+        return f"<Signed: {_count(len(self.content), 'byte')} by {self.algorithm}>"
+
+
+def _end(record: Record) -> int:
+    return record.offset + record.header + record.contents

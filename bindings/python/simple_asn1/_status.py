@@ -1,0 +1,71 @@
+"""What the library answers, and the errors that are raised of it."""
+import enum
+from typing import Tuple
+
+
+class Status(enum.IntEnum):
+    """What the library answers."""
+
+    OK = 0
+    EMPTY = 1
+    BOOLEAN_LENGTH = 2
+    LENGTH = 3
+    UTF8 = 4
+    PRINTABLE = 5
+    DATE = 6
+    BIT_STRING_LENGTH = 7
+    INCOMPLETE = 8
+    NOT_CANONICAL = 9
+    NO_MEMORY = 10
+    NO_ROOM = 11
+    NO_SUCH_VALUE = 12
+    RANGE = 13
+    NOT_SIGNED = 14
+    BAD_RECORD = 15
+
+
+TEXTS = {
+    Status.OK: "done",
+    Status.EMPTY: "there are no octets",
+    Status.BOOLEAN_LENGTH: "a BOOLEAN has other than one contents octet",
+    Status.LENGTH: "a length is too large",
+    Status.UTF8: "a string or time is no UTF-8",
+    Status.PRINTABLE: "a PrintableString has a character that it can't have",
+    Status.DATE: "a time is no moment",
+    Status.BIT_STRING_LENGTH: "a BIT STRING has more unused bits than bits",
+    Status.INCOMPLETE: "the octets run out",
+    Status.NOT_CANONICAL: "a block is not in canonical form",
+    Status.NO_MEMORY: "out of memory",
+    Status.NO_ROOM: "there is too little room",
+    Status.NO_SUCH_VALUE: "no block of this kind stands there",
+    Status.RANGE: "the value does not fit",
+    Status.NOT_SIGNED: "the first block is no signed triple",
+    Status.BAD_RECORD: "a record can't be written",
+}
+
+
+class Refused(ValueError):
+    """Octets are no document, or a block has no value of a kind: `status` says why.
+
+    `offset` says where, in bytes from the start. For a record that can't be written it is the record's index.
+    """
+
+    status: Status
+    offset: int
+
+    def __init__(self, status: int, offset: int) -> None:
+        self.status = Status(status)
+        self.offset = offset
+        super().__init__(f"{TEXTS[self.status]}, at {offset}")
+
+    def __reduce__(self) -> Tuple[type, Tuple[Status, int]]:
+        return type(self), (self.status, self.offset)
+
+
+class NoSuchValue(Refused, AttributeError):
+    """A block is of another kind. It is an AttributeError, so that `getattr(block, "text", None)` is None then."""
+
+
+def refusal(status: int, offset: int) -> Refused:
+    """The error of a status."""
+    return (NoSuchValue if status == Status.NO_SUCH_VALUE else Refused)(status, offset)
