@@ -119,8 +119,10 @@ pub fn from_der(alloc: Global, i: &[u8]) -> Result<Vec<ASN1Block>, ASN1DecodeErr
     ensures refuses { (fault : DecodeFault) → FirstFault i.now fault
         → IsErrAnd result (OutOfMemoryOr (λ e. e ≡ fault)) }
 {
-    let mut count = HeaderCount::new();
-    from_der_counted(alloc, i, &mut count)
+    match read_uncounted(alloc, i) {
+        Ok(blocks) => Ok(blocks),
+        Err(located) => Err(located.error),
+    }
 }
 
 /// Reads a document as [`from_der`] does, and adds one to the count for each header that is begun, those of failed
@@ -194,6 +196,15 @@ pub fn from_der_located(alloc: Global, i: &[u8]) -> Result<Vec<ASN1Block>, Locat
     ensures refuses { (fault : DecodeFault) (offset : ℕ) → FirstFaultAt i.now fault offset
         → IsErrAnd result
         (λ e. OutOfMemoryOr (λ found. (found ≡ fault) × (e.offset ≡ offset)) e.error) }
+{
+    read_uncounted(alloc, i)
+}
+
+// Reads a document with a count that nobody asks for: the one place where the reader makes a count of its own.
+fn read_uncounted(alloc: Global, i: &[u8]) -> Result<Vec<ASN1Block>, LocatedErr>
+    ensures document { IfOk result (λ blocks. IsDocument i.now (views blocks.items)) }
+    ensures refused { IfErr result
+        (λ e. OutOfMemoryOr (λ fault. FirstFaultAt i.now fault e.offset) e.error) }
 {
     let mut count = HeaderCount::new();
     read_blocks(alloc, i, &mut count)
