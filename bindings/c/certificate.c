@@ -4,75 +4,169 @@
 #include <stdlib.h>
 #include <string.h>
 
-static uint8_t octets[1 << 16];
+static uint8_t *octets;
 static size_t size;
-static simple_asn1_block blocks[1 << 15]; /* of so many octets there are at most half as many blocks */
+static simple_asn1_block *blocks;
+
+static void fail(const char *why)
+{
+    fprintf(stderr, "%s\n", why);
+    exit(1);
+}
+
+static void *resized(void *held, size_t bytes)
+{
+    void *found = realloc(held, bytes ? bytes : 1);
+    if (!found)
+        fail(simple_asn1_status_text(SIMPLE_ASN1_NO_MEMORY));
+    return found;
+}
+
+static void read_input(void)
+{
+    size_t room = 0;
+    do {
+        room = 2 * room + 4096;
+        octets = resized(octets, room + 1);
+        size += fread(octets + size, 1, room - size, stdin);
+    } while (size == room);
+    if (ferror(stdin))
+        fail("the input can't be read");
+    octets[size] = 0; /* for strstr */
+    if (octets[0] != 0x30 && strstr((const char *)octets, "-----BEGIN "))
+        fail("this is PEM; as DER it is: openssl x509 -in FILE -outform DER");
+}
+
+/* Asks how many records there are, and then for these. */
+static void read_blocks(void)
+{
+    simple_asn1_outcome o = simple_asn1_read(octets, size, NULL, 0);
+    if (o.status == SIMPLE_ASN1_NO_ROOM) {
+        blocks = resized(NULL, o.count * sizeof *blocks);
+        o = simple_asn1_read(octets, size, blocks, o.count);
+    }
+    if (o.status) {
+        fprintf(stderr, "refused at offset %zu: %s\n", o.offset, simple_asn1_status_text(o.status));
+        exit(1);
+    }
+}
 
 /* The index of the field, counted from 0, of the block at the index, where it has so many. */
 static size_t field(size_t block, size_t number)
 {
     size_t found = block + 1;
-    if (number >= blocks[block].items) {
-        fprintf(stderr, "this is no certificate\n");
-        exit(1);
-    }
+    if (number >= blocks[block].items)
+        fail("this is no certificate");
     while (number-- > 0)
         found = blocks[found].next;
     return found;
 }
 
-static void print_text(size_t block)
+typedef simple_asn1_outcome value_call(const uint8_t *octets, size_t size, size_t offset, uint8_t *out, size_t room);
+
+/* What the call answers of a block, with a 0 behind it, for the caller to free; NULL where it is of another kind. */
+static char *value_of(value_call *call, size_t block, size_t *length)
 {
-    uint8_t text[256];
-    simple_asn1_outcome o = simple_asn1_text(octets, size, blocks[block].offset, text, sizeof text);
-    printf("%.*s", o.status ? 0 : (int)o.count, (const char *)text);
+    simple_asn1_outcome o = call(octets, size, blocks[block].offset, NULL, 0);
+    if (o.status && o.status != SIMPLE_ASN1_NO_ROOM)
+        return NULL;
+    char *value = resized(NULL, o.count + 1);
+    o = call(octets, size, blocks[block].offset, (uint8_t *)value, o.count);
+    if (o.status)
+        fail(simple_asn1_status_text(o.status));
+    value[o.count] = 0;
+    *length = o.count;
+    return value;
+}
+
+/* The backslash, controls, and characters that can't be seen or turn the direction of a line. */
+static int is_hidden(uint32_t c)
+{
+    return c == '\\' || c < 0x20 || (c >= 0x7F && c <= 0x9F) || (c >= 0x200B && c <= 0x200F) ||
+           (c >= 0x2028 && c <= 0x202E) || (c >= 0x2060 && c <= 0x206F) || c == 0xFEFF;
+}
+
+/* Prints UTF-8 of this length, which may have a 0 in it, with what would hide or fake a part of it escaped. */
+static void print_text(const char *text, size_t length)
+{
+    for (size_t at = 0, step; at < length; at += step) {
+        uint8_t first = (uint8_t)text[at];
+        step = first < 0x80 ? 1 : first < 0xE0 ? 2 : first < 0xF0 ? 3 : 4;
+        step = step < length - at ? step : length - at;
+        uint32_t c = step == 1 ? first : first & (0x7Fu >> step);
+        for (size_t n = 1; n < step; n++)
+            c = c << 6 | (text[at + n] & 0x3F);
+        if (is_hidden(c))
+            printf("\\u{%x}", (unsigned)c);
+        else
+            fwrite(text + at, 1, step, stdout);
+    }
+}
+
+/* The text of a value; in hex digits where it has none. */
+static void print_value(size_t block)
+{
+    size_t length;
+    char *text = value_of(simple_asn1_text, block, &length);
+    if (text) {
+        print_text(text, length);
+    } else {
+        printf("#");
+        for (size_t n = 0; n < blocks[block].header + blocks[block].contents; n++)
+            printf("%02x", octets[blocks[block].offset + n]);
+    }
+    free(text);
 }
 
 static void print_attribute(size_t attribute)
 {
     static const char *const known[][2] = {
-        {"2.5.4.3", "CN"}, {"2.5.4.6", "C"}, {"2.5.4.7", "L"}, {"2.5.4.8", "ST"}, {"2.5.4.10", "O"}, {"2.5.4.11", "OU"}};
-    uint8_t type[64];
-    simple_asn1_outcome o =
-        simple_asn1_oid(octets, size, blocks[field(attribute, 0)].offset, type, sizeof type - 1);
-    type[o.status ? 0 : o.count] = 0;
-    const char *name = (const char *)type;
+        {"2.5.4.3", "CN"}, {"2.5.4.6", "C"},  {"2.5.4.7", "L"},
+        {"2.5.4.8", "ST"}, {"2.5.4.10", "O"}, {"2.5.4.11", "OU"}};
+    size_t length;
+    char *type = value_of(simple_asn1_oid, field(attribute, 0), &length);
+    if (!type)
+        fail("this is no certificate");
+    const char *name = type;
     for (size_t k = 0; k < sizeof known / sizeof *known; k++)
-        if (strcmp(name, known[k][0]) == 0)
+        if (strcmp(type, known[k][0]) == 0)
             name = known[k][1];
     printf(" %s=", name);
-    print_text(field(attribute, 1));
+    print_value(field(attribute, 1));
+    free(type);
 }
 
 static void print_time(const char *what, size_t block)
 {
     simple_asn1_moment m = simple_asn1_time(octets, size, blocks[block].offset);
     if (m.status)
-        printf("%s: %s\n", what, simple_asn1_status_text(m.status));
-    else
-        printf("%s: %04d-%02u-%02uT%02u:%02u:%02uZ\n", what, (int)m.year, (unsigned)m.month, (unsigned)m.day,
-               (unsigned)m.hour, (unsigned)m.minute, (unsigned)m.second);
+        fail("this is no certificate");
+    printf("%s: %04d-%02u-%02uT%02u:%02u:%02u", what, (int)m.year, (unsigned)m.month, (unsigned)m.day,
+           (unsigned)m.hour, (unsigned)m.minute, (unsigned)m.second);
+    if (m.nanosecond)
+        printf(".%09u", (unsigned)m.nanosecond);
+    printf("Z\n");
 }
 
 int main(void)
 {
-    size = fread(octets, 1, sizeof octets, stdin);
-    simple_asn1_outcome o = simple_asn1_read(octets, size, blocks, sizeof blocks / sizeof *blocks);
-    if (o.status) {
-        fprintf(stderr, "refused at offset %zu: %s\n", o.offset, simple_asn1_status_text(o.status));
-        return 1;
-    }
+    read_input();
+    read_blocks();
     size_t content = field(0, 0);
-    size_t first = field(content, 0);
-    size_t version = blocks[first].tag_class == 2 && blocks[first].tag == 0; /* [0] is the version, which may be left out */
+    size_t version = blocks[field(content, 0)].tag_class == 2; /* [0] is the version, which may be left out */
     size_t validity = field(content, version + 3);
     size_t subject = field(content, version + 4);
 
     printf("subject:");
-    for (size_t set = 0; set < blocks[subject].items; set++)
-        print_attribute(field(field(subject, set), 0));
+    for (size_t set = 0; set < blocks[subject].items; set++) {
+        size_t attributes = field(subject, set);
+        for (size_t n = 0; n < blocks[attributes].items; n++)
+            print_attribute(field(attributes, n));
+    }
     printf("\n");
     print_time("not before", field(validity, 0));
     print_time("not after", field(validity, 1));
+    free(blocks);
+    free(octets);
     return 0;
 }

@@ -202,6 +202,7 @@ class Objects(unittest.TestCase):
     def test_they_are_shown(self):
         document = simple_asn1.read(DOCUMENT)
         self.assertEqual(repr(document), "<Document of 13 bytes: 2 blocks>")
+        self.assertEqual(repr(document[1]), "<NULL at 11>")
         self.assertEqual(repr(document[0]), "<SEQUENCE at 0: 2 items>")
         self.assertEqual(repr(document[0].items), "[<INTEGER at 2: 05>, <[0] at 5: 1 item>]")
         self.assertEqual(repr(only("44 12" + "01" * 18)), f"<[APPLICATION 4] at 0: {'01 ' * 15}01.. of 18 bytes>")

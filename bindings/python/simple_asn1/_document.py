@@ -130,8 +130,9 @@ class Block:
         kind = kind or f"[{_CLASSES[self.tag_class]}{self.tag}]"
         if len(self) > 0:
             return f"<{kind} at {self.offset}: {_count(len(self), 'item')}>"
-        cut = "" if len(self.contents) <= 16 else f".. of {len(self.contents)} bytes"
-        return f"<{kind} at {self.offset}: {self.contents[:16].hex(' ').upper()}{cut}>"
+        shown = self.contents[:16].hex(" ").upper()
+        cut = f".. of {len(self.contents)} bytes" if len(self.contents) > 16 else ""
+        return f"<{kind} at {self.offset}{':' if shown else ''} {shown}{cut}".rstrip() + ">"
 
     @property
     def tag_class(self) -> int:

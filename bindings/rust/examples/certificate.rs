@@ -1,38 +1,59 @@
 //! Shows the subject of a certificate and when it is valid: certificate < FILE.der
 
-use simple_asn1_records::{Block, Class, Document, Fault, Moment};
+use simple_asn1_records::{Block, Class, Document};
 use std::error::Error;
 use std::io::Read;
-
-fn main() -> Result<(), Box<dyn Error>> {
-    let mut octets = Vec::new();
-    std::io::stdin().read_to_end(&mut octets)?;
-    let document = Document::read(&octets)?;
-    let certificate = document.blocks().next().ok_or(SHAPE)?;
-    let content = certificate.items().next().ok_or(SHAPE)?;
-    // [0] is the version, which may be left out
-    let mut fields = content.items().skip_while(|field| field.class() == Class::ContextSpecific);
-    let validity = fields.nth(3).ok_or(SHAPE)?;
-    let subject = fields.next().ok_or(SHAPE)?;
-
-    print!("subject:");
-    for attribute in subject.items().flat_map(|set| set.items()) {
-        let (name, value) = attribute_of(attribute)?;
-        print!(" {name}={value}");
-    }
-    println!();
-    let mut times = validity.items().map(|time| time.moment());
-    println!("not before: {}", text_of(times.next().ok_or(SHAPE)??));
-    println!("not after: {}", text_of(times.next().ok_or(SHAPE)??));
-    Ok(())
-}
+use std::process::ExitCode;
 
 const SHAPE: &str = "this is no certificate";
+const PEM: &str = "this is PEM; as DER it is: openssl x509 -in FILE -outform DER";
 
-fn attribute_of(attribute: Block) -> Result<(String, String), Box<dyn Error>> {
+fn main() -> ExitCode {
+    match shown() {
+        Ok(text) => {
+            print!("{text}");
+            ExitCode::SUCCESS
+        }
+        Err(why) => {
+            eprintln!("{why}");
+            ExitCode::FAILURE
+        }
+    }
+}
+
+fn shown() -> Result<String, Box<dyn Error>> {
+    let mut octets = Vec::new();
+    std::io::stdin().read_to_end(&mut octets)?;
+    if octets.first() != Some(&0x30) && octets.windows(11).any(|part| part == b"-----BEGIN ") {
+        return Err(PEM.into());
+    }
+    let document =
+        Document::read(&octets).map_err(|fault| format!("refused at offset {}: {}", fault.offset, fault.kind))?;
+    certificate_text(&document).ok_or_else(|| SHAPE.into())
+}
+
+/// The lines of a certificate; of another document none.
+fn certificate_text(document: &Document) -> Option<String> {
+    let content = document.blocks().next()?.items().next()?;
+    // [0] is the version, which may be left out
+    let mut fields = content.items().skip_while(|field| field.class() == Class::ContextSpecific);
+    let validity = fields.nth(3)?;
+    let subject = fields.next()?;
+
+    let mut text = String::from("subject:");
+    for attribute in subject.items().flat_map(|set| set.items()) {
+        text += &format!(" {}", attribute_text(attribute)?);
+    }
+    let mut times = validity.items();
+    text += &format!("\nnot before: {}", times.next()?.moment().ok()?);
+    text += &format!("\nnot after: {}\n", times.next()?.moment().ok()?);
+    Some(text)
+}
+
+fn attribute_text(attribute: Block) -> Option<String> {
     let mut items = attribute.items();
-    let (kind, value) = items.next().zip(items.next()).ok_or(SHAPE)?;
-    let kind = kind.oid()?;
+    let kind = items.next()?.oid().ok()?;
+    let value = items.next()?;
     let name = match kind.as_str() {
         "2.5.4.3" => "CN",
         "2.5.4.6" => "C",
@@ -42,9 +63,27 @@ fn attribute_of(attribute: Block) -> Result<(String, String), Box<dyn Error>> {
         "2.5.4.11" => "OU",
         other => other,
     };
-    Ok((name.to_string(), value.text().unwrap_or_else(|fault: Fault| format!("({fault})"))))
+    Some(format!("{name}={}", value_text(value)))
 }
 
-fn text_of(m: Moment) -> String {
-    format!("{:04}-{:02}-{:02}T{:02}:{:02}:{:02}Z", m.year, m.month, m.day, m.hour, m.minute, m.second)
+/// The text of a value, with what would hide or fake a part of it escaped; in hex digits where it has none.
+fn value_text(value: Block) -> String {
+    match value.text() {
+        Ok(text) => text.chars().map(shown_character).collect(),
+        Err(_) => value.octets().iter().fold(String::from("#"), |text, octet| format!("{text}{octet:02x}")),
+    }
+}
+
+fn shown_character(c: char) -> String {
+    if is_hidden(c) {
+        c.escape_unicode().to_string()
+    } else {
+        c.to_string()
+    }
+}
+
+/// The backslash, controls, and characters that can't be seen or turn the direction of a line.
+fn is_hidden(c: char) -> bool {
+    matches!(c, '\\' | '\0'..='\x1f' | '\x7f'..='\u{9f}' | '\u{200b}'..='\u{200f}' | '\u{2028}'..='\u{202e}')
+        || matches!(c, '\u{2060}'..='\u{206f}' | '\u{feff}')
 }

@@ -100,16 +100,26 @@ fn sized<T: Clone + Default>(call: impl Fn(*mut T, usize) -> Outcome) -> Result<
 }
 
 // SAFETY, of each call below: the declarations are those of simple_asn1.h, which checks/bindings compares; each pointer
-// comes with the length of what is behind it; `out` is of its own, so that it overlaps nothing; no call keeps a pointer.
+// comes with the length of what is behind it; `out` is of its own, so that it overlaps nothing; no call keeps a
+// pointer.
 
-/// As many records as any document of so many octets needs are made room for, so that one call is enough.
+/// So many records are tried first. Most documents have fewer, and are read by one call.
+const FIRST_ROOM: usize = 1024;
+
+/// Room for as many records as any document of so many octets needs would be 32 octets for each of them. So a document
+/// with more than are tried first is read again, with room for as many as it has.
 fn records(octets: &[u8], call: impl Fn(*mut Record, usize) -> Outcome) -> Result<Vec<Record>, Fault> {
-    let mut records = vec![Record::default(); octets.len() / 2];
-    let answer = call(records.as_mut_ptr(), records.len());
+    let mut records = vec![Record::default(); FIRST_ROOM.min(octets.len() / 2)];
+    let mut answer = call(records.as_mut_ptr(), records.len());
+    if answer.status == NO_ROOM {
+        records = vec![Record::default(); answer.count];
+        answer = call(records.as_mut_ptr(), records.len());
+    }
     if answer.status != OK {
         return Err(Fault::of_status(answer.status, answer.offset));
     }
     records.truncate(answer.count);
+    records.shrink_to_fit();
     Ok(records)
 }
 

@@ -15,6 +15,7 @@
 mod calls;
 mod fault;
 
+use calls::SignedRecords;
 pub use calls::{Moment, Record};
 pub use fault::{Fault, FaultKind};
 
@@ -199,6 +200,18 @@ impl fmt::Debug for Block<'_, '_> {
     }
 }
 
+/// As in `2026-11-23T07:03:22Z`, with nine digits of a fraction where there is one.
+impl fmt::Display for Moment {
+    fn fmt(&self, f: &mut fmt::Formatter<'_>) -> fmt::Result {
+        let Moment { year, month, day, hour, minute, second, nanosecond } = self;
+        write!(f, "{year:04}-{month:02}-{day:02}T{hour:02}:{minute:02}:{second:02}")?;
+        match nanosecond {
+            0 => f.write_str("Z"),
+            _ => write!(f, ".{nanosecond:09}Z"),
+        }
+    }
+}
+
 fn text_of(octets: Vec<u8>, offset: usize) -> Result<String, Fault> {
     String::from_utf8(octets).map_err(|_| Fault { kind: FaultKind::Utf8, offset })
 }
@@ -216,21 +229,41 @@ pub fn write(octets: &[u8], records: &[Record]) -> Result<Vec<u8>, Fault> {
 
 /// The parts of a certificate, request or revocation list that a signature is checked by (RFC 5280, section 4.1).
 #[derive(Clone, Debug, PartialEq, Eq)]
+#[non_exhaustive]
 pub struct Signed<'a> {
     /// The octets that were signed.
     pub content: &'a [u8],
-    /// The OBJECT IDENTIFIER of the algorithm.
+    /// The OBJECT IDENTIFIER of the algorithm, as in `1.2.840`.
     pub algorithm: String,
+    /// The octets of the AlgorithmIdentifier: the SEQUENCE of that OBJECT IDENTIFIER and the parameters.
+    pub algorithm_identifier: &'a [u8],
+    /// The octets of the algorithm's parameters, or none. RSASSA-PSS can't be checked without them.
+    pub parameters: &'a [u8],
     /// The octets that hold the bits of the signature.
     pub signature: &'a [u8],
+    /// How many bits of the last of these are not of the signature: 0 with all usual algorithms.
+    pub unused_bits: u8,
 }
 
 impl<'a> Signed<'a> {
     pub fn read(octets: &'a [u8]) -> Result<Signed<'a>, Fault> {
-        let parts = calls::signed(octets)?;
-        let document = Document { octets, records: vec![parts.content, parts.algorithm, parts.signature] };
-        let block = |index| Block { document: &document, index };
-        let signature = block(2).bits()?.0;
-        Ok(Signed { content: block(0).octets(), algorithm: block(1).oid()?, signature })
+        let SignedRecords { content, algorithm, signature } = calls::signed(octets)?;
+        let (unused_bits, bits) = match &octets[signature.offset + signature.header..end_of(&signature)] {
+            [] => (0, &[][..]),
+            [unused, bits @ ..] => (*unused, bits),
+        };
+        Ok(Signed {
+            content: &octets[content.offset..end_of(&content)],
+            algorithm: text_of(calls::oid(octets, algorithm.offset)?, algorithm.offset)?,
+            // content, algorithm and signature stand one after another
+            algorithm_identifier: &octets[end_of(&content)..signature.offset],
+            parameters: &octets[end_of(&algorithm)..signature.offset],
+            signature: bits,
+            unused_bits,
+        })
     }
+}
+
+fn end_of(record: &Record) -> usize {
+    record.offset + record.header + record.contents
 }

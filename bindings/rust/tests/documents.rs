@@ -52,6 +52,10 @@ fn values_are_those_of_their_blocks() -> Result<(), Fault> {
     let time = b"\x17\x0D261123070322Z";
     let wanted = Moment { year: 2026, month: 11, day: 23, hour: 7, minute: 3, second: 22, nanosecond: 0 };
     assert_eq!(Document::read(time)?.blocks().next().unwrap().moment()?, wanted);
+    assert_eq!(wanted.to_string(), "2026-11-23T07:03:22Z");
+    let fraction = b"\x18\x1320261123070322.125Z";
+    let moment = Document::read(fraction)?.blocks().next().unwrap().moment()?;
+    assert_eq!(moment.to_string(), "2026-11-23T07:03:22.125000000Z");
     Ok(())
 }
 
@@ -77,6 +81,30 @@ fn signed_parts_are_slices_of_the_document() -> Result<(), Fault> {
     assert_eq!(signed.content, &triple[2..7]);
     assert_eq!(signed.algorithm, "1.2");
     assert_eq!(signed.signature, &[0x99]);
+    assert_eq!((signed.algorithm_identifier, signed.parameters), (&triple[7..12], &[][..]));
+    assert_eq!(signed.unused_bits, 0);
+    Ok(())
+}
+
+#[test]
+fn parameters_and_unused_bits_of_signed_parts_are_kept() -> Result<(), Fault> {
+    let triple = [
+        0x30, 0x11, 0x30, 0x00, 0x30, 0x08, 0x06, 0x01, 0x2A, 0x30, 0x03, 0x02, 0x01, 0x20, 0x03, 0x03, 0x03,
+        0xAB, 0xC8,
+    ];
+    let signed = Signed::read(&triple)?;
+    assert_eq!(signed.parameters, &triple[9..14]);
+    assert_eq!(signed.algorithm_identifier, &triple[4..14]);
+    assert_eq!((signed.signature, signed.unused_bits), (&[0xAB, 0xC8][..], 3));
+    Ok(())
+}
+
+#[test]
+fn more_blocks_than_are_tried_first_are_read() -> Result<(), Fault> {
+    let octets = [0x05, 0x00].repeat(3000);
+    let document = Document::read(&octets)?;
+    assert_eq!((document.blocks().count(), document.all_blocks().len()), (3000, 3000));
+    assert_eq!(write(document.octets(), document.records())?, octets);
     Ok(())
 }
 
