@@ -31,10 +31,17 @@ same("the header and the library's names", declared, {line.split()[-1] for line 
 calls = (top / "bindings/rust/src/calls.rs").read_text()
 same("the header and Rust's names", declared, set(re.findall(r"^    fn (simple_asn1_\w+)", calls, re.M)))
 
+page = (top / "bindings/c/simple_asn1.3").read_text()
+inline = set(re.findall(r"^static inline .*?(simple_asn1_\w+)\(", code, re.M))
+named = set(re.findall(r'^\.BI ".*?(simple_asn1_\w+)\(', page, re.M))
+same("the header's and the man page's names", declared | inline, named)
+
 statuses = {name: int(number) for name, number in re.findall(r"SIMPLE_ASN1_(\w+) = (\d+)", header)}
 same("the header's and Python's statuses", statuses, {s.name: s.value for s in simple_asn1.Status})
 texts = dict(re.findall(r'case SIMPLE_ASN1_(\w+): return "([^"]*)"', header))
 same("the header's and Python's texts", texts, {s.name: t for s, t in simple_asn1.TEXTS.items()})
+told = dict(re.findall(r"^\.B SIMPLE_ASN1_(\w+)\n([^;\n]*)", page, re.M))
+same("the header's and the man page's texts", {k: t for k, t in texts.items() if k != "OK"}, told)
 fault = (top / "bindings/rust/src/fault.rs").read_text()
 kinds = dict(re.findall(r"FaultKind::(\w+) => \"([^\"]*)\"", fault))
 numbers = {int(n): kinds[k] for n, k in re.findall(r"(\d+) => FaultKind::(\w+)", fault)}

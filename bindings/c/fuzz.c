@@ -1,0 +1,93 @@
+/* A target for libFuzzer: any octets are read, written and asked for values, and the answers have to go together. */
+#include "simple_asn1.h"
+#include <stdio.h>
+#include <stdlib.h>
+#include <string.h>
+
+#define CHECK(holds)                                                                                                   \
+    do {                                                                                                               \
+        if (!(holds)) {                                                                                                \
+            fprintf(stderr, "line %d: %s\n", __LINE__, #holds);                                                        \
+            abort();                                                                                                   \
+        }                                                                                                              \
+    } while (0)
+
+static void *room_for(size_t bytes)
+{
+    void *room = malloc(bytes ? bytes : 1);
+    CHECK(room);
+    return room;
+}
+
+/* Each value of each block, into just as much room as it needs. */
+static void ask_values(const uint8_t *octets, size_t size, const simple_asn1_block *block)
+{
+    simple_asn1_int64(octets, size, block->offset);
+    simple_asn1_time(octets, size, block->offset);
+    simple_asn1_outcome text = simple_asn1_text(octets, size, block->offset, NULL, 0);
+    if (text.status == SIMPLE_ASN1_NO_ROOM) {
+        uint8_t *out = room_for(text.count);
+        CHECK(simple_asn1_text(octets, size, block->offset, out, text.count).status == SIMPLE_ASN1_OK);
+        free(out);
+    }
+    simple_asn1_outcome oid = simple_asn1_oid(octets, size, block->offset, NULL, 0);
+    if (oid.status == SIMPLE_ASN1_NO_ROOM) {
+        uint8_t *out = room_for(oid.count);
+        CHECK(simple_asn1_oid(octets, size, block->offset, out, oid.count).status == SIMPLE_ASN1_OK);
+        free(out);
+    }
+}
+
+/* The canonical octets are those that the records spell, and are their own canonical octets. */
+static void rewrite(const uint8_t *octets, size_t size, const simple_asn1_block *blocks, size_t count,
+                    int any_tag_is_cut)
+{
+    size_t length = simple_asn1_rewrite(octets, size, NULL, 0).count;
+    uint8_t *canonical = room_for(length), *again = room_for(length);
+    CHECK(simple_asn1_rewrite(octets, size, canonical, length).status == SIMPLE_ASN1_OK);
+    if (!any_tag_is_cut) {
+        simple_asn1_outcome written = simple_asn1_write(octets, size, blocks, count, again, length);
+        CHECK(written.status == SIMPLE_ASN1_OK && written.count == length && memcmp(canonical, again, length) == 0);
+    }
+    simple_asn1_outcome rewritten = simple_asn1_rewrite(canonical, length, again, length);
+    CHECK(rewritten.status == SIMPLE_ASN1_OK && rewritten.count == length && memcmp(canonical, again, length) == 0);
+    int is_strict = simple_asn1_read_strict(octets, size, NULL, 0).status == SIMPLE_ASN1_NO_ROOM;
+    CHECK(is_strict == (length == size && memcmp(canonical, octets, size) == 0));
+    free(canonical);
+    free(again);
+}
+
+static void look_at_signed(const uint8_t *octets, size_t size)
+{
+    simple_asn1_signed_parts parts = simple_asn1_signed(octets, size);
+    if (parts.status == SIMPLE_ASN1_OK) {
+        size_t end = parts.content.offset + parts.content.header + parts.content.contents;
+        CHECK(end <= parts.algorithm.offset && parts.algorithm.offset < parts.signature.offset);
+        CHECK(parts.signature.offset + parts.signature.header + parts.signature.contents <= size);
+    }
+}
+
+int LLVMFuzzerTestOneInput(const uint8_t *octets, size_t size)
+{
+    simple_asn1_outcome asked = simple_asn1_read(octets, size, NULL, 0);
+    if (asked.status != SIMPLE_ASN1_NO_ROOM) {
+        CHECK(asked.status != SIMPLE_ASN1_OK && asked.offset <= size);
+        CHECK(simple_asn1_rewrite(octets, size, NULL, 0).status == asked.status);
+        return 0;
+    }
+    CHECK(asked.count <= size / 2);
+    simple_asn1_block *blocks = room_for(asked.count * sizeof *blocks);
+    CHECK(simple_asn1_read(octets, size, blocks, asked.count).status == SIMPLE_ASN1_OK);
+    int any_tag_is_cut = 0;
+    for (size_t index = 0; index < asked.count; index++) {
+        const simple_asn1_block *block = &blocks[index];
+        CHECK(block->next > index && block->next <= asked.count);
+        CHECK(block->offset + block->header + block->contents <= size);
+        any_tag_is_cut |= block->tag == UINT64_MAX;
+        ask_values(octets, size, block);
+    }
+    rewrite(octets, size, blocks, asked.count, any_tag_is_cut);
+    look_at_signed(octets, size);
+    free(blocks);
+    return 0;
+}
