@@ -114,7 +114,9 @@ simple_asn1_moment simple_asn1_time(const uint8_t *octets, size_t size, size_t o
 simple_asn1_outcome simple_asn1_text(const uint8_t *octets, size_t size, size_t offset, uint8_t *out, size_t room);
 simple_asn1_outcome simple_asn1_oid(const uint8_t *octets, size_t size, size_t offset, uint8_t *out, size_t room);
 
-/* The parts of a certificate, request or revocation list that a signature is checked by (RFC 5280, section 4.1). */
+/* The parts of a certificate, request or revocation list that a signature is checked by (RFC 5280, section 4.1). The
+ * algorithm's parameters are the octets from the end of its OBJECT IDENTIFIER to the offset of the signature; the first
+ * contents octet of the signature is the number of its unused bits. */
 simple_asn1_signed_parts simple_asn1_signed(const uint8_t *octets, size_t size);
 
 /* The contents octets of a block that was read of these octets. They are the value of an OCTET STRING. Those of an
