@@ -149,6 +149,13 @@ class Objects(unittest.TestCase):
                 self.assertEqual((other.status, other.offset), (why.exception.status, why.exception.offset))
                 self.assertEqual(str(other), str(why.exception))
 
+    def test_a_block_crosses_to_other_processes_with_its_document(self):
+        block = pickle.loads(pickle.dumps(simple_asn1.read(DOCUMENT)[0]))
+        self.assertEqual((block.document.octets, block[1][0].text), (DOCUMENT, "ä"))
+        triple = bytes.fromhex("30 0E 30 03 02 01 01 30 03 06 01 2A 03 02 00 99")
+        signed = simple_asn1.Signed(triple)
+        self.assertEqual(pickle.loads(pickle.dumps(signed)), signed)
+
     def test_records_do_not_change(self):
         document = simple_asn1.read(DOCUMENT)
         with self.assertRaises(AttributeError):

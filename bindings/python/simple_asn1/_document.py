@@ -53,6 +53,10 @@ class Document:
         self._octets = octets_of(octets)
         self._blocks = (_calls.read_strict if strict else _calls.read)(self._octets)
 
+    def __reduce__(self) -> Tuple[type, Tuple[bytes]]:
+        """Other processes read it again."""
+        return Document, (self._octets,)
+
     @property
     def octets(self) -> bytes:
         return self._octets
