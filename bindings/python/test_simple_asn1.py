@@ -215,6 +215,41 @@ class Objects(unittest.TestCase):
         self.assertEqual(repr(only("44 12" + "01" * 18)), f"<[APPLICATION 4] at 0: {'01 ' * 15}01.. of 18 bytes>")
 
 
+class Grammar(unittest.TestCase):
+    """Where what is read is not X.690's, as docs/BINDINGS.md and simple_asn1.h list it."""
+
+    def test_values_that_are_others(self):
+        self.assertEqual(only("06 02 88 37").oid, "2.56.55")
+        for tag in ("14", "1C", "1E"):
+            self.assertEqual(only(tag + "02 C3 A4").text, "ä")
+        self.assertEqual([len(block) for block in simple_asn1.read(bytes.fromhex("30 80 00 00"))], [0, 0])
+        self.assertEqual(only("24 03 04 01 05").contents, bytes.fromhex("04 01 05"))
+        self.assertEqual([len(only("A0 03 02 01 05")), len(only("A0 06 02 01 05 02 01 06"))], [1, 0])
+        for tag in ("07", "12", "15", "19", "1A", "1B", "1D"):
+            self.assertFalse(hasattr(only(tag + "01 41"), "text"))
+
+    def test_times_that_are_faults(self):
+        for text in ("2611230703+0100", "20261123070322,5Z", "261123070360Z", "2611230703Z", "202611230703Z"):
+            octets = bytes([24 if text.startswith("2026") else 23, len(text)]) + text.encode()
+            with self.assertRaises(Refused) as why:
+                simple_asn1.read(octets)
+            self.assertEqual(why.exception.status, Status.DATE)
+
+    def test_no_bits_have_another_canonical_form(self):
+        no_bits = bytes.fromhex("03 01 00")
+        self.assertEqual(simple_asn1.rewrite(no_bits), bytes.fromhex("03 00"))
+        with self.assertRaises(Refused) as why:
+            simple_asn1.read_strict(no_bits)
+        self.assertEqual(why.exception.status, Status.NOT_CANONICAL)
+
+    def test_what_strict_reading_lets_pass(self):
+        for octets in (
+            "03 02 04 BF", "03 03 0A FF FF", "16 01 E9", "31 06 02 01 02 02 01 01", "30 03 01 01 00", "80 02 02 81",
+            "A0 07 02 81 01 05 02 01 06", "0A 00", "09 01 FF", "1A 01 FF",
+        ):  # fmt: skip
+            self.assertEqual(len(simple_asn1.read_strict(bytes.fromhex(octets))), 1)
+
+
 class Pem(unittest.TestCase):
     BODY = base64.b64encode(DOCUMENT).decode()
     TEXT = (
