@@ -47,9 +47,10 @@ impl Drop for Owed {
 pub fn group_block(kind: GroupKind, offset: usize, blocks: HeldBlocks) -> ASN1Block
     ensures { view result ≡ group offset kind (views blocks) }
 {
+    let items = blocks.into_vec();
     match kind {
-        GroupKind::Sequence => ASN1Block::Sequence(offset, blocks.into_vec()),
-        GroupKind::Set => ASN1Block::Set(offset, blocks.into_vec()),
+        GroupKind::Sequence => ASN1Block::Sequence(offset, items),
+        GroupKind::Set => ASN1Block::Set(offset, items),
     }
 }
 

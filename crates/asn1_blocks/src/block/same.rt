@@ -20,17 +20,11 @@ fn same_text(s: &str, t: &str) -> bool
     s == t
 }
 
-// Whether two moments are the same, field by field.
+// Whether two moments are the same.
 fn same_moment(a: &DateTime, b: &DateTime) -> bool
     ensures { IsTrue result ↔ (moment_of a.now ≡ moment_of b.now) }
 {
-    if a.year() != b.year() || a.month() != b.month() || a.day() != b.day() {
-        return false;
-    }
-    if a.hour() != b.hour() || a.minute() != b.minute() || a.second() != b.second() {
-        return false;
-    }
-    a.subsec_nanosecond() == b.subsec_nanosecond()
+    a == b
 }
 
 // Whether two blocks are the same beside the blocks that they hold.
@@ -42,18 +36,18 @@ fn same_own(a: &ASN1Block, b: &ASN1Block) -> bool
         (ASN1Block::Integer(_, m), ASN1Block::Integer(_, n)) => m == n,
         (ASN1Block::BitString(_, m, v), ASN1Block::BitString(_, n, w)) => m == n && v == w,
         (ASN1Block::OctetString(_, v), ASN1Block::OctetString(_, w)) => v == w,
-        (ASN1Block::Null(_), ASN1Block::Null(_)) => true,
         (ASN1Block::ObjectIdentifier(_, s), ASN1Block::ObjectIdentifier(_, t)) => s == t,
-        (ASN1Block::UTCTime(_, d), ASN1Block::UTCTime(_, e)) => same_moment(d, e),
-        (ASN1Block::GeneralizedTime(_, d), ASN1Block::GeneralizedTime(_, e)) => same_moment(d, e),
-        (ASN1Block::UTF8String(_, s), ASN1Block::UTF8String(_, t)) => same_text(s, t),
-        (ASN1Block::PrintableString(_, s), ASN1Block::PrintableString(_, t)) => same_text(s, t),
-        (ASN1Block::TeletexString(_, s), ASN1Block::TeletexString(_, t)) => same_text(s, t),
-        (ASN1Block::IA5String(_, s), ASN1Block::IA5String(_, t)) => same_text(s, t),
-        (ASN1Block::UniversalString(_, s), ASN1Block::UniversalString(_, t)) => same_text(s, t),
-        (ASN1Block::BMPString(_, s), ASN1Block::BMPString(_, t)) => same_text(s, t),
-        (ASN1Block::Sequence(_, _), ASN1Block::Sequence(_, _)) => true,
-        (ASN1Block::Set(_, _), ASN1Block::Set(_, _)) => true,
+        (ASN1Block::UTCTime(_, d), ASN1Block::UTCTime(_, e))
+        | (ASN1Block::GeneralizedTime(_, d), ASN1Block::GeneralizedTime(_, e)) => same_moment(d, e),
+        (ASN1Block::UTF8String(_, s), ASN1Block::UTF8String(_, t))
+        | (ASN1Block::PrintableString(_, s), ASN1Block::PrintableString(_, t))
+        | (ASN1Block::TeletexString(_, s), ASN1Block::TeletexString(_, t))
+        | (ASN1Block::IA5String(_, s), ASN1Block::IA5String(_, t))
+        | (ASN1Block::UniversalString(_, s), ASN1Block::UniversalString(_, t))
+        | (ASN1Block::BMPString(_, s), ASN1Block::BMPString(_, t)) => same_text(s, t),
+        (ASN1Block::Null(_), ASN1Block::Null(_))
+        | (ASN1Block::Sequence(_, _), ASN1Block::Sequence(_, _))
+        | (ASN1Block::Set(_, _), ASN1Block::Set(_, _)) => true,
         (ASN1Block::Explicit(c, _, m, _), ASN1Block::Explicit(d, _, n, _)) => c == d && m == n,
         (ASN1Block::Unknown(c, j, _, m, v), ASN1Block::Unknown(d, k, _, n, w)) => {
             c == d && j == k && m == n && v == w
