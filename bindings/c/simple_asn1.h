@@ -44,15 +44,15 @@ enum { /* what calls answer */
     SIMPLE_ASN1_NOT_CANONICAL = 9,     /* read_strict: a block that rewrite would change */
     SIMPLE_ASN1_NO_MEMORY = 10,
     SIMPLE_ASN1_NO_ROOM = 11,          /* count says how much is needed; nothing was written */
-    SIMPLE_ASN1_NO_SUCH_VALUE = 12,    /* no block stands at the offset, or one of another kind */
+    SIMPLE_ASN1_NO_SUCH_VALUE = 12,    /* nothing of this kind stands at the offset */
     SIMPLE_ASN1_RANGE = 13,            /* the value does not fit */
     SIMPLE_ASN1_NOT_SIGNED = 14,       /* the first block is no signed triple */
-    SIMPLE_ASN1_BAD_RECORD = 15        /* write: the record at the index `offset` can't be written */
+    SIMPLE_ASN1_BAD_RECORD = 15        /* write: the record at index `offset` can't be written */
 };
 
 /* A block. The blocks that it holds come right after it. */
 typedef struct simple_asn1_block {
-    uint64_t tag;       /* tag number; UINT64_MAX for greater ones */
+    uint64_t tag;       /* tag number; UINT64_MAX for greater ones too, and write rejects a record with it */
     size_t offset;      /* of its first octet, in the document */
     size_t header;      /* how many identifier and length octets it has */
     size_t contents;    /* how many contents octets follow them */
@@ -65,16 +65,16 @@ typedef struct simple_asn1_block {
 
 typedef struct simple_asn1_outcome {
     uint32_t status;
-    size_t offset; /* of the block at fault */
-    size_t count;  /* records or octets: how many were written, or are needed */
+    size_t offset; /* of the block at fault; 0 where nothing is at fault */
+    size_t count;  /* records or octets: how many were written, or are needed; 0 with any other status */
 } simple_asn1_outcome;
 
 typedef struct simple_asn1_integer {
     uint32_t status;
-    int64_t value;
+    int64_t value; /* 0 unless the status is SIMPLE_ASN1_OK */
 } simple_asn1_integer;
 
-typedef struct simple_asn1_moment { /* in UTC */
+typedef struct simple_asn1_moment { /* in UTC; all 0 unless the status is SIMPLE_ASN1_OK */
     uint32_t status;
     int32_t year;
     uint32_t month; /* 1 to 12 */
@@ -93,7 +93,8 @@ typedef struct simple_asn1_signed_parts { /* next and depth of the records are 0
     simple_asn1_block signature; /* BIT STRING */
 } simple_asn1_signed_parts;
 
-/* The records of all blocks of a document, each before those that it holds. At most size / 2 are needed. */
+/* The records of all blocks of a document, each before those that it holds. At most size / 2 are needed. Records of the
+ * caller behind those that are written stay as they are; with any other status than SIMPLE_ASN1_OK all do. */
 simple_asn1_outcome simple_asn1_read(const uint8_t *octets, size_t size, simple_asn1_block *blocks, size_t room);
 
 /* So of a document in canonical form (DER) alone. */
@@ -103,12 +104,14 @@ simple_asn1_outcome simple_asn1_read_strict(const uint8_t *octets, size_t size, 
 simple_asn1_outcome simple_asn1_rewrite(const uint8_t *octets, size_t size, uint8_t *out, size_t room);
 
 /* The canonical octets of what records spell: one with items holds the next of them; any other has the contents octets
- * from offset + header on of these. Records that were read can be passed as they are; next and depth play no part. */
+ * from offset + header on of these. Records that were read can be passed as they are; next and depth play no part. A
+ * record with the tag UINT64_MAX is a BAD_RECORD, since that number also stands for each greater one. */
 simple_asn1_outcome simple_asn1_write(const uint8_t *octets, size_t size, const simple_asn1_block *blocks, size_t count,
                                       uint8_t *out, size_t room);
 
 /* The value of the block at an offset: an INTEGER's number, where it fits; a UTCTime's or GeneralizedTime's moment; a
- * string's text, of whatever kind, in UTF-8; an OBJECT IDENTIFIER's components, as in 1.2.840. No 0 is added. */
+ * string's text, of whatever kind, in UTF-8; an OBJECT IDENTIFIER's components, as in 1.2.840. No 0 is added. Only its
+ * header and its own contents octets are looked at; what has another tag is NO_SUCH_VALUE, whatever it holds. */
 simple_asn1_integer simple_asn1_int64(const uint8_t *octets, size_t size, size_t offset);
 simple_asn1_moment simple_asn1_time(const uint8_t *octets, size_t size, size_t offset);
 simple_asn1_outcome simple_asn1_text(const uint8_t *octets, size_t size, size_t offset, uint8_t *out, size_t room);

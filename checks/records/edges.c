@@ -39,11 +39,68 @@ static void check_answers(void)
     const uint8_t wide[] = {2, 9, 1, 0, 0, 0, 0, 0, 0, 0, 0};
     CHECK(simple_asn1_int64(wide, 11, 0).status == SIMPLE_ASN1_RANGE);
     const uint8_t bad[] = {1, 2, 0, 0};
-    CHECK(simple_asn1_int64(bad, 4, 0).status == SIMPLE_ASN1_BOOLEAN_LENGTH);
+    CHECK(simple_asn1_int64(bad, 4, 0).status == SIMPLE_ASN1_NO_SUCH_VALUE);
     const uint8_t fraction[] = "\x18\x13" "20261123070322.125Z";
     simple_asn1_moment m = simple_asn1_time(fraction, 21, 0);
     CHECK(m.status == SIMPLE_ASN1_OK && m.year == 2026 && m.month == 11 && m.day == 23 && m.hour == 7);
     CHECK(m.minute == 3 && m.second == 22 && m.nanosecond == 125000000);
+}
+
+/* Each call for a value answers the fault of contents octets of its kind, and then no value. */
+static void check_values_at_fault(void)
+{
+    uint8_t out[16];
+    const uint8_t text[] = {12, 1, 0xC3};
+    simple_asn1_outcome o = simple_asn1_text(text, 3, 0, out, sizeof out);
+    CHECK(o.status == SIMPLE_ASN1_UTF8 && o.count == 0);
+    const uint8_t printable[] = {0x30, 3, 19, 1, '*'};
+    o = simple_asn1_text(printable, 5, 2, out, sizeof out);
+    CHECK(o.status == SIMPLE_ASN1_PRINTABLE && o.offset == 2 && o.count == 0);
+    const uint8_t oid[] = {6, 2, 0x2A, 0x80};
+    o = simple_asn1_oid(oid, 4, 0, out, sizeof out);
+    CHECK(o.status == SIMPLE_ASN1_INCOMPLETE && o.count == 0);
+    const uint8_t date[] = "\x17\x0D" "261323070322Z";
+    simple_asn1_moment m = simple_asn1_time(date, 15, 0);
+    CHECK(m.status == SIMPLE_ASN1_DATE && m.year == 0 && m.month == 0);
+    const uint8_t inside[] = {0x30, 3, 1, 1};
+    CHECK(simple_asn1_text(inside, 4, 0, out, sizeof out).status == SIMPLE_ASN1_NO_SUCH_VALUE);
+}
+
+/* What stands in the caller's array behind the records that are written, and all of it at a refusal, stays. */
+static void check_kept(void)
+{
+    const uint8_t two[] = {0x30, 3, 2, 1, 5};
+    const uint8_t cut[] = {0x30, 4, 2, 1, 5};
+    simple_asn1_block blocks[3], before[3];
+    memset(before, 0xA5, sizeof before);
+    memcpy(blocks, before, sizeof blocks);
+    simple_asn1_outcome o = simple_asn1_read(cut, 5, blocks, 3);
+    CHECK(o.status == SIMPLE_ASN1_INCOMPLETE && o.count == 0 && memcmp(blocks, before, sizeof blocks) == 0);
+    o = simple_asn1_read_strict(cut, 5, blocks, 3);
+    CHECK(o.status == SIMPLE_ASN1_INCOMPLETE && o.count == 0 && memcmp(blocks, before, sizeof blocks) == 0);
+    o = simple_asn1_read(two, 5, blocks, 3);
+    CHECK(o.status == SIMPLE_ASN1_OK && o.offset == 0 && o.count == 2);
+    CHECK(memcmp(&blocks[2], &before[2], sizeof before[2]) == 0);
+    o = simple_asn1_read_strict(two, 5, blocks, 3);
+    CHECK(o.status == SIMPLE_ASN1_OK && memcmp(&blocks[2], &before[2], sizeof before[2]) == 0);
+}
+
+/* Tag numbers that a record can't hold, and the last two that it can. */
+static void check_tags(void)
+{
+    uint8_t below[] = {0x9F, 0x81, 0xFF, 0xFF, 0xFF, 0xFF, 0xFF, 0xFF, 0xFF, 0xFF, 0x7E, 1, 0x2A};
+    uint8_t above[] = {0x9F, 0x82, 0x80, 0x80, 0x80, 0x80, 0x80, 0x80, 0x80, 0x80, 0x00, 1, 0x2A};
+    uint8_t out[16];
+    simple_asn1_block block;
+    CHECK(simple_asn1_read(below, sizeof below, &block, 1).status == SIMPLE_ASN1_OK && block.tag == UINT64_MAX - 1);
+    simple_asn1_outcome o = simple_asn1_write(below, sizeof below, &block, 1, out, sizeof out);
+    CHECK(o.status == SIMPLE_ASN1_OK && o.count == sizeof below && memcmp(out, below, sizeof below) == 0);
+    CHECK(simple_asn1_read(above, sizeof above, &block, 1).status == SIMPLE_ASN1_OK && block.tag == UINT64_MAX);
+    o = simple_asn1_write(above, sizeof above, &block, 1, out, sizeof out);
+    CHECK(o.status == SIMPLE_ASN1_BAD_RECORD && o.offset == 0 && o.count == 0);
+    below[10] = 0x7F;
+    CHECK(simple_asn1_read(below, sizeof below, &block, 1).status == SIMPLE_ASN1_OK && block.tag == UINT64_MAX);
+    CHECK(simple_asn1_write(below, sizeof below, &block, 1, out, sizeof out).status == SIMPLE_ASN1_BAD_RECORD);
 }
 
 /* A tree that was made by hand: SEQUENCE { INTEGER 42, [0] { NULL } }. */
@@ -108,6 +165,9 @@ int main(int argc, char **argv)
 {
     check_nothing();
     check_answers();
+    check_values_at_fault();
+    check_kept();
+    check_tags();
     check_made();
     size_t read = 0, refused = 0;
     for (int f = 1; f < argc; f++) {

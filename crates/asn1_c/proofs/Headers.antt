@@ -19,13 +19,15 @@ use Rattle.std.proofs.Common.{
   ◌∙◌,
   arith,
   length-append,
+  append_assoc,
 }
 use Rattle.std.specs.List.{slice_range}
 use Rattle.std.proofs.Math.Seq.{take-append_seam}
 use Rattle.std.proofs.lemmas.List.{drop_at}
 use Rattle.asn1_headers.specs.declared.header.ASN1Class.{ASN1Class}
 use Rattle.asn1_blocks.specs.declared.block.ASN1Block.{ASN1Block}
-use Rattle.simple_asn1.specs.Header.{BeginsWithNo, Encoding, IsIdentifier, IsLength, IsSomeIdentifier}
+use Rattle.asn1_headers.specs.declared.header.ASN1Class.TheVariants.{Universal, Application, ContextSpecific, Private}
+use Rattle.simple_asn1.specs.Header.{BeginsWithNo, Encoding, IsIdentifier, IsLength, IsSomeIdentifier, class_number}
 use Rattle.simple_asn1.specs.Laws.Header.{HeaderLaws}
 use Rattle.simple_asn1.specs.Places.{IsEncoding}
 use Rattle.simple_asn1.specs.View.{views}
@@ -81,6 +83,21 @@ module _ (L : HeaderLaws) (x : List ℕ) (i : ℕ) (c : ASN1Class) (k : Bool) (n
         },
         is,
       )
+
+-- the class whose number is 0
+pub universal_number : (c : ASN1Class) → class_number c ≡ 0 → c ≡ Universal
+universal_number Universal e = refl
+universal_number Application e = absurd (omega (arith, e))
+universal_number ContextSpecific e = absurd (omega (arith, e))
+universal_number Private e = absurd (omega (arith, e))
+
+-- the contents octets are what follows the header
+pub contents_behind : (x : List ℕ) (c : ASN1Class) (k : Bool) (n : ℕ) (v : List ℕ) (h : ℕ) → Encoding x c k n v h → drop h x ≡ v
+contents_behind x c k n v h e =
+    let i = e.identifier in
+    let l = e.len in
+    let at : length (i ++ l) ≡ h = omega (arith, e.size, length-append i l) in
+    ap (drop h) (e.whole ∙ sym (append_assoc i l v)) ∙ drop_at (i ++ l) v h at
 
 -- the trees of blocks are as many
 pub views_count : (bs : List ASN1Block) → count_of (views bs) ≡ length bs

@@ -38,7 +38,7 @@ use Rattle.simple_asn1.specs.Canonical.{shortest_encoding}
 use Rattle.simple_asn1.specs.Header.{class_number, shortest_identifier, shortest_length}
 use Rattle.asn1_headers.specs.declared.header.ASN1Class.{ASN1Class}
 use Rattle.asn1_c.specs.declared.record.Block.{Block}
-use Rattle.asn1_c.specs.Spelled.{IsState, IsUnspellable, contents_of, has_too_many, spells_contents, spells_items, starts_of}
+use Rattle.asn1_c.specs.Spelled.{IsState, IsUnspellable, contents_of, greatest_tag, has_too_many, spells_contents, spells_items, starts_of}
 
 pub starts_count : (xs : List (List ℕ)) → length (starts_of xs) ≡ length xs
 starts_count [] = refl
@@ -98,12 +98,12 @@ module _ (octets : List ℕ) (r : Block) (class : ASN1Class) (is : class_number 
 
   -- with contents octets of its own
   pub contents_more :
-      r.items ≡ 0 → r.offset + r.header + r.contents ≤ length octets → (with_contents : List ℕ) →
+      r.tag < greatest_tag → r.items ≡ 0 → r.offset + r.header + r.contents ≤ length octets → (with_contents : List ℕ) →
       with_contents ≡ back ++ reverse (contents_of octets r) →
       reverse new_back ≡ shortest_identifier class (nat_lt 0 r.constructed) r.tag ++
       (shortest_length (length (contents_of octets r)) ++ reverse with_contents) →
       new_starts ≡ starts ++ length back ∷ [] → IsState octets (r ∷ rs) new_back new_starts
-  contents_more none within with_contents put headed started =
+  contents_more low none within with_contents put headed started =
       let v = contents_of octets r in
       let i = shortest_identifier class (nat_lt 0 r.constructed) r.tag in
       let l = shortest_length (length v) in
@@ -112,18 +112,18 @@ module _ (octets : List ℕ) (r : Block) (class : ASN1Class) (is : class_number 
       let size : length back ≡ length (concat xs) = sym (reverse_count back) ∙ ap length state.spelled in
       record {
         xs = shortest_encoding class (nat_lt 0 r.constructed) r.tag v ∷ xs;
-        spells = spells_contents r class is none within state.spells;
+        spells = spells_contents r class is low none within state.spells;
         spelled = headed ∙ ap (λ z. i ++ (l ++ z)) inner ∙ sym (append_assoc i (l ++ v) (concat xs) ∙ ap (λ z. i ++ z) (append_assoc l v (concat xs)));
         places = started ∙ ap (λ z. z ++ length back ∷ []) state.places ∙ ap (λ z. starts_of xs ++ z ∷ []) size;
       }
 
   -- with the encodings that follow it
   pub items_more :
-      (start size : ℕ) (left : List ℕ) → 0 < r.items → r.items ≤ length starts → left ≡ take (length starts - r.items) starts →
+      (start size : ℕ) (left : List ℕ) → r.tag < greatest_tag → 0 < r.items → r.items ≤ length starts → left ≡ take (length starts - r.items) starts →
       start ≡ get_or starts (length starts - r.items) 0 → size + start ≡ length back →
       reverse new_back ≡ shortest_identifier class true r.tag ++ (shortest_length size ++ reverse back) →
       new_starts ≡ left ++ start ∷ [] → IsState octets (r ∷ rs) new_back new_starts
-  items_more start size left some few taken began sized headed started =
+  items_more start size left low some few taken began sized headed started =
       let k = r.items in
       let count : length starts ≡ length xs = ap length state.places ∙ starts_count xs in
       let fits : k ≤ length xs = omega (arith, few, count) in
@@ -142,7 +142,7 @@ module _ (octets : List ℕ) (r : Block) (class : ASN1Class) (is : class_number 
       ∙ take_starts_of k xs fits in
       record {
         xs = shortest_encoding class true r.tag v ∷ drop k xs;
-        spells = spells_items r class is some fits state.spells;
+        spells = spells_items r class is low some fits state.spells;
         spelled = headed ∙ ap (λ z. i ++ (shortest_length z ++ reverse back)) inside ∙ ap (λ z. i ++ (l ++ z)) (state.spelled ∙ sym whole)
             ∙ sym (append_assoc i (l ++ v) (concat (drop k xs)) ∙ ap (λ z. i ++ z) (append_assoc l v (concat (drop k xs))));
         places = started ∙ ap (λ z. z ++ start ∷ []) rest ∙ ap (λ z. starts_of (drop k xs) ++ z ∷ []) at;

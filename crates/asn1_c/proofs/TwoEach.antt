@@ -14,7 +14,7 @@ some_length : (s : List ℕ) (n : ℕ) → IsLength s n → 0 < length s
 some_length [] n h = absurd h
 some_length (b ∷ s) n h = omega arith
 
-two_more : (x : List ℕ) (c : ASN1Class) (k : Bool) (n : ℕ) (v : List ℕ) (h : ℕ) → Encoding x c k n v h → 2 + length v ≤ length x
+pub two_more : (x : List ℕ) (c : ASN1Class) (k : Bool) (n : ℕ) (v : List ℕ) (h : ℕ) → Encoding x c k n v h → 2 + length v ≤ length x
 two_more x c k n v h e =
     let first = some_identifier e.identifier c k n e.identifier_octets in
     let second = some_length e.len (length v) e.length_octets in

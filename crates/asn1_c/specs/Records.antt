@@ -61,6 +61,10 @@ no_record = record {
   constructed = 0;
 }
 
+-- the record says nothing of the records beside it
+abbrev pub HasNoLinks : Block → Type 0
+HasNoLinks r = (r.next ≡ 0) × (r.depth ≡ 0)
+
 -- the record of an entry
 abbrev pub block_of : Entry → Block
 block_of e = record {

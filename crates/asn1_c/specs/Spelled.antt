@@ -3,6 +3,8 @@ use Rattle.std.specs.Prelude.{
   ◌≡◌,
   ℕ,
   ◌+◌,
+  ◌-◌,
+  ◌^◌,
   ◌<◌,
   ◌≤◌,
   ◌++◌,
@@ -29,24 +31,29 @@ use Rattle.asn1_c.specs.declared.record.Block.{Block}
 abbrev pub contents_of : List ℕ → Block → List ℕ
 contents_of octets r = slice_range octets (r.offset + r.header) (r.offset + r.header + r.contents)
 
+-- what a record has for each tag number from here on, so that it names none
+abbrev pub greatest_tag : ℕ
+greatest_tag = 2 ^ 64 - 1
+
 -- one encoding for each record that no other holds, in order. A record without items has its contents octets of these
--- octets; one with items holds the encodings that follow it
+-- octets; one with items holds the encodings that follow it. The tag of each is that of one number alone
 pub data Spells (octets : List ℕ) : List Block → List (List ℕ) → Type 0 where
   spells_none : Spells octets [] []
   spells_contents :
       {rs : List Block} {xs : List (List ℕ)} (r : Block) (class : ASN1Class) →
-      class_number class ≡ r.tag_class → r.items ≡ 0 →
+      class_number class ≡ r.tag_class → r.tag < greatest_tag → r.items ≡ 0 →
       r.offset + r.header + r.contents ≤ length octets → Spells octets rs xs →
       Spells octets (r ∷ rs) (shortest_encoding class (nat_lt 0 r.constructed) r.tag (contents_of octets r) ∷ xs)
   spells_items :
       {rs : List Block} {xs : List (List ℕ)} (r : Block) (class : ASN1Class) →
-      class_number class ≡ r.tag_class → 0 < r.items → r.items ≤ length xs →
+      class_number class ≡ r.tag_class → r.tag < greatest_tag → 0 < r.items → r.items ≤ length xs →
       Spells octets rs xs →
       Spells octets (r ∷ rs) (shortest_encoding class true r.tag (concat (take r.items xs)) ∷ drop r.items xs)
 
 -- the record can't be put before these encodings
 pub data IsUnspellable (octets : List ℕ) (xs : List (List ℕ)) (r : Block) : Type 0 where
   has_no_class : 3 < r.tag_class → IsUnspellable octets xs r
+  has_no_tag : greatest_tag ≤ r.tag → IsUnspellable octets xs r
   -- it holds more than there are
   has_too_many : length xs < r.items → IsUnspellable octets xs r
   -- its contents octets are not within these

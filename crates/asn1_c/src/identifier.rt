@@ -19,10 +19,11 @@ ghost use Rattle.simple_asn1.specs.View.{tree_offset, view};
 ghost use Rattle.asn1_c.specs.Status.{no_memory, out_of_range};
 ghost use Rattle.asn1_c.specs.Values.{AnswersIdentifier};
 
-use crate::alone::{only_block, read_alone};
+use crate::alone::universal_at;
 use crate::putting::{nothing_put, put_octets};
 use crate::record::Outcome;
-use crate::status::{NO_MEMORY, NO_SUCH_VALUE, OUT_OF_RANGE};
+use crate::status::{NO_MEMORY, NO_SUCH_VALUE, OUT_OF_RANGE, status_of_fault};
+use asn1_leaves::oid;
 use simple_asn1::{ASN1Block, ASN1DecodeErr, OID};
 use std::alloc::{AllocError, Global};
 
@@ -57,17 +58,18 @@ fn text_of(alloc: Global, oid: &OID) -> Result<String, u32>
 pub fn identifier_at(alloc: Global, octets: &[u8], offset: usize, room: &mut [u8]) -> Outcome
     ensures { AnswersIdentifier octets.now offset room.old room.new result }
 {
-    let held = match read_alone(alloc, octets, offset) {
-        Ok(held) => held,
+    let (tag, contents) = match universal_at(alloc, octets, offset) {
+        Ok(found) => found,
         Err(status) => return nothing_put(status, offset),
     };
-    let Some(block) = only_block(&held) else {
+    if tag != 6 {
         return nothing_put(NO_SUCH_VALUE, offset);
+    }
+    let oid = match oid::read(alloc, contents) {
+        Ok(oid) => oid,
+        Err(e) => return nothing_put(status_of_fault(&e), offset),
     };
-    let Some(oid) = identifier_of(block) else {
-        return nothing_put(NO_SUCH_VALUE, offset);
-    };
-    match text_of(alloc, oid) {
+    match text_of(alloc, &oid) {
         Ok(text) => put_octets(text.as_bytes(), room),
         Err(status) => nothing_put(status, offset),
     }

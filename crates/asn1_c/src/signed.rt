@@ -2,7 +2,6 @@
 ghost use Rattle.std.specs.Prelude.{◌≡◌, ◌≢◌, ◌⊎◌, ℕ, List, IfOk, MatchOption};
 ghost use Rattle.simple_asn1.specs.Grammar.{IsDocument};
 ghost use Rattle.simple_asn1.specs.SignedTrees.{
-  IsOfAnotherShape,
   SignedParts,
   algorithm_tree,
   signature_tree,
@@ -11,8 +10,7 @@ ghost use Rattle.simple_asn1.specs.SignedTrees.{
 ghost use Rattle.simple_asn1.specs.Tree.{Trees, bit_string, group, leaf, more_trees, object_identifier};
 ghost use Rattle.simple_asn1.specs.View.{tree_offset, view, views};
 ghost use Rattle.asn1_blocks.specs.declared.block.GroupKind.TheVariants.{Sequence};
-ghost use Rattle.asn1_c.specs.Answers.{AnswersSigned, AreRecordsOfParts, identifier_tree};
-ghost use Rattle.asn1_c.specs.Status.{not_signed};
+ghost use Rattle.asn1_c.specs.Answers.{AnswersSigned, AreRecordsOfParts, HasNoParts, identifier_tree};
 
 use crate::identifier::identifier_of;
 use crate::reading::{Fault, read};
@@ -98,7 +96,7 @@ const NO_BLOCK: Block = Block {
 };
 
 fn no_parts(status: u32, offset: usize) -> SignedAnswer
-    ensures { (result.status ≡ status) × (result.offset ≡ offset) }
+    ensures { (result.status ≡ status) × (result.offset ≡ offset) × HasNoParts result }
 {
     SignedAnswer {
         status,
@@ -116,8 +114,7 @@ fn records_of(
     blocks: &[ASN1Block],
 ) -> Result<SignedAnswer, AllocError>
     requires { IsDocument octets.now (views blocks.now) }
-    ensures { IfOk result (λ signed. ((signed.status ≡ not_signed) × IsOfAnotherShape octets.now)
-        ⊎ AreRecordsOfParts octets.now signed) }
+    ensures { IfOk result (AnswersSigned octets.now) }
 {
     let Some(first) = blocks.first() else {
         return Ok(no_parts(NOT_SIGNED, 0));

@@ -1,5 +1,9 @@
 // What is read of an entry alone: the leaf readers of its contents octets.
-ghost use Rattle.std.specs.Prelude.{◌≡◌, ℕ, ◌+◌, ◌<◌, List, length, slice_range, None, Some, IfOk, IsTrue, ◌↔◌, MatchOption, MatchResult};
+ghost use Rattle.std.specs.Prelude.{◌≡◌, ◌⊎◌, ◌↔◌, ℕ, ◌+◌, ◌<◌, List, length, slice_range, None, Some, IfErr, IfOk, IsTrue, MatchOption, MatchResult};
+ghost use Rattle.asn1_headers.specs.Fault.{OutOfMemoryOr};
+ghost use Rattle.asn1_leaves.specs.Contents.GeneralizedTime.{GeneralizedTimeContents, GeneralizedTimeFault};
+ghost use Rattle.asn1_leaves.specs.Contents.Moment.{moment_of};
+ghost use Rattle.asn1_leaves.specs.Contents.UtcTime.{UtcTimeContents, UtcTimeFault};
 ghost use Rattle.asn1_headers.specs.declared.error.ASN1DecodeErr.TheVariants.{OutOfMemory};
 ghost use Rattle.asn1_headers.specs.declared.header.ASN1Class.TheVariants.{Universal};
 ghost use Rattle.asn1_blocks.specs.BlockParts.{tree_integer, tree_text};
@@ -15,8 +19,9 @@ use crate::entry::Entry;
 use asn1_headers::error::ASN1DecodeErr;
 use asn1_headers::header::ASN1Class;
 use asn1_leaves::contents::text::TextForm;
-use asn1_leaves::contents::{integer, text};
+use asn1_leaves::contents::{generalized_time, integer, text, utc_time};
 use asn1_numbers::number::big_int::BigInt;
+use jiff::civil::DateTime;
 use std::alloc::{AllocError, Global};
 
 impl Entry {
@@ -104,7 +109,7 @@ impl Entry {
 }
 
 // The form of a string with the tag number.
-fn form_of(tag: u64) -> Option<TextForm>
+pub fn form_of(tag: u64) -> Option<TextForm>
     ensures { MatchOption result
         ((kind : StringKind) → tag ≡ string_tag kind → ⊥)
         (λ form. (kind : StringKind) × (tag ≡ string_tag kind) × (form ≡ text_form kind)) }
@@ -117,6 +122,23 @@ fn form_of(tag: u64) -> Option<TextForm>
         28 => Some(TextForm::Utf8),
         30 => Some(TextForm::Utf8),
         _ => None,
+    }
+}
+
+// The moment of contents octets behind the tag number of a UTCTime or a GeneralizedTime.
+pub fn time_of(alloc: Global, tag: u64, contents: &[u8]) -> Result<Option<DateTime>, ASN1DecodeErr>
+    ensures found { IfOk result (λ found. MatchOption found
+        ((tag ≡ 23) ⊎ (tag ≡ 24) → ⊥)
+        (λ d. ((tag ≡ 23) × UtcTimeContents (moment_of d) contents.now)
+        ⊎ ((tag ≡ 24) × GeneralizedTimeContents (moment_of d) contents.now))) }
+    ensures refused { IfErr result (OutOfMemoryOr (λ e.
+        ((tag ≡ 23) × UtcTimeFault contents.now e)
+        ⊎ ((tag ≡ 24) × GeneralizedTimeFault contents.now e))) }
+{
+    match tag {
+        23 => Ok(Some(utc_time::read(alloc, contents)?)),
+        24 => Ok(Some(generalized_time::read(alloc, contents)?)),
+        _ => Ok(None),
     }
 }
 

@@ -1,5 +1,5 @@
 use Rattle.asn1_outline.specs.Entries.{entries_in}
-use Rattle.asn1_c.proofs.Outcomes.{read_answer}
+use Rattle.asn1_c.proofs.Outcomes.{read_answer, read_refused}
 use Rattle.asn1_c.proofs.TwoEach.{two_among}
 use Rattle.asn1_c.proofs.simple_asn1_read.Goals as goal
 
@@ -14,3 +14,8 @@ returns-in-Ok-clause-few c bs d = two_among bs 0 c.args.octets.now d.blocks
 
 pub returns-in-Err-clause-few : goal.returns-in-Err-clause-few
 returns-in-Err-clause-few c bs d = two_among bs 0 c.args.octets.now d.blocks
+
+pub returns-in-Err-clause-answer : goal.returns-in-Err-clause-answer
+returns-in-Err-clause-answer c =
+    let f = c.in-Err.fault in
+    read_refused c.args.octets.now c.args.blocks.now c.refused_outcome.result f.status f.offset c.refused_outcome.ensures c.in-Err.ensures.fault

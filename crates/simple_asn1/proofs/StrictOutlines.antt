@@ -1,0 +1,39 @@
+-- An answer that is the outline of a canonical document, or a strict fault, is the only one.
+use Rattle.std.proofs.Common.{◌≡◌, ℕ, ◌<◌, ◌^◌, List, Ok, Err, Result, length, inl, inr, ap, subst, ◌∙◌}
+use Rattle.std.specs.Prelude.{IfErr, IfOk, IsErrAnd, MatchResult}
+use Rattle.asn1_headers.specs.Fault.{DecodeFault, OutOfMemoryOr, fault_of}
+use Rattle.asn1_headers.specs.declared.error.ASN1DecodeErr.{ASN1DecodeErr}
+use Rattle.asn1_headers.specs.declared.error.ASN1DecodeErr.TheVariants.{OutOfMemory}
+use Rattle.asn1_blocks.specs.Grammar.{IsDocument}
+use Rattle.asn1_blocks.specs.Tree.{Trees}
+use Rattle.asn1_blocks.proofs.OneReading.{all_alone}
+use Rattle.asn1_outline.specs.Entries.{AreEntriesOf, entries_in}
+use Rattle.asn1_outline.specs.declared.outline.Outline.{Outline}
+use Rattle.simple_asn1.specs.Canonical.{all_canonical}
+use Rattle.simple_asn1.specs.ReadBack.{CanonicalDocument}
+use Rattle.simple_asn1.specs.Strict.{StrictFault}
+use Rattle.simple_asn1.proofs.Strict.{strict_fault_alone, strict_not_both}
+
+abbrev pub IsStrictOutline : List ℕ → Outline → Type 0
+IsStrictOutline i outline = (bs : Trees ℕ) × CanonicalDocument i bs × AreEntriesOf i bs (entries_in outline)
+
+pub outline_accepted :
+    (i : List ℕ) (r : Result Outline ASN1DecodeErr) → length i < 2 ^ 64 → IfOk r (IsStrictOutline i) →
+    IfErr r (OutOfMemoryOr (StrictFault i)) → (bs : Trees ℕ) → CanonicalDocument i bs →
+    MatchResult r (λ outline. AreEntriesOf i bs (entries_in outline)) (λ e. e ≡ OutOfMemory)
+outline_accepted i (Ok outline) small (cs, d, are) err bs e =
+    subst (λ z. AreEntriesOf i z (entries_in outline)) (all_alone 0 i cs bs d.0.blocks e.0.blocks) are
+outline_accepted i (Err e) small ok (inl memory) bs d = memory
+outline_accepted i (Err e) small ok (inr fault) bs d = absurd (strict_not_both i bs (fault_of e) small d fault)
+
+pub outline_refused :
+    (i : List ℕ) (r : Result Outline ASN1DecodeErr) → length i < 2 ^ 64 → IfOk r (IsStrictOutline i) →
+    IfErr r (OutOfMemoryOr (StrictFault i)) → (fault : DecodeFault) → StrictFault i fault →
+    IsErrAnd r (OutOfMemoryOr (λ e. e ≡ fault))
+outline_refused i (Ok outline) small (cs, d, are) err fault f = strict_not_both i cs fault small d f
+outline_refused i (Err e) small ok (inl memory) fault f = inl memory
+outline_refused i (Err e) small ok (inr first) fault f = inr (strict_fault_alone i (fault_of e) fault small first f)
+
+-- a document that has the octets of its blocks has those of its only reading
+pub canonical_here : (i : List ℕ) (bs cs : Trees ℕ) → CanonicalDocument i bs → IsDocument i cs → i ≡ all_canonical cs
+canonical_here i bs cs d e = d.1 ∙ ap all_canonical (all_alone 0 i bs cs d.0.blocks e.blocks)

@@ -1,0 +1,66 @@
+// Outlines of documents that are in canonical form, and of no others.
+ghost use Rattle.std.specs.Prelude.{◌≡◌, ℕ, IfErr, IfOk, IsErrAnd, MatchResult, OnOk};
+ghost use Rattle.asn1_headers.specs.Fault.{DecodeFault, OutOfMemoryOr, not_canonical};
+ghost use Rattle.asn1_headers.specs.declared.error.ASN1DecodeErr.TheVariants.{OutOfMemory};
+ghost use Rattle.asn1_blocks.specs.Grammar.{FirstFault, IsDocument};
+ghost use Rattle.asn1_blocks.specs.Tree.{Trees};
+ghost use Rattle.asn1_outline.specs.Entries.{AreEntriesOf, entries_in};
+ghost use Rattle.simple_asn1.specs.Canonical.{all_canonical};
+ghost use Rattle.simple_asn1.specs.ReadBack.{CanonicalDocument};
+ghost use Rattle.simple_asn1.specs.Strict.{IsNotCanonicalAt, StrictFault};
+
+use crate::write::in_place::are_canonical_in_place;
+use crate::write::strict::from_der_strict;
+use asn1_blocks::block::discard::discard;
+use asn1_headers::error::{ASN1DecodeErr, LocatedErr};
+use asn1_outline::outline::Outline;
+use std::alloc::Global;
+
+/// Reads a document in canonical form into its outline, as [`from_der_strict`] reads it into blocks. No block is made,
+/// unless a quick look at the octets leaves open whether they are canonical.
+///
+/// # Errors
+/// Those of [`from_der_strict`].
+pub fn outline_strict(alloc: Global, octets: &[u8]) -> Result<Outline, ASN1DecodeErr>
+    ensures document { IfOk result (λ outline. (bs : Trees ℕ) × CanonicalDocument octets.now bs
+        × AreEntriesOf octets.now bs (entries_in outline)) }
+    ensures fault { IfErr result (OutOfMemoryOr (StrictFault octets.now)) }
+    ensures accepts { (bs : Trees ℕ) → CanonicalDocument octets.now bs
+        → MatchResult result
+        (λ outline. AreEntriesOf octets.now bs (entries_in outline))
+        (λ e. e ≡ OutOfMemory) }
+    ensures refuses { (fault : DecodeFault) → FirstFault octets.now fault
+        → IsErrAnd result (OutOfMemoryOr (λ e. e ≡ fault)) }
+    ensures not_canonical { (offset : ℕ) → IsNotCanonicalAt octets.now offset
+        → IsErrAnd result (OutOfMemoryOr (λ e. e ≡ not_canonical offset)) }
+{
+    canonical_outline(alloc, octets)
+}
+
+// The outline of a canonical document.
+fn canonical_outline(alloc: Global, octets: &[u8]) -> Result<Outline, ASN1DecodeErr>
+    ensures document { IfOk result (λ outline. (bs : Trees ℕ) × CanonicalDocument octets.now bs
+        × AreEntriesOf octets.now bs (entries_in outline)) }
+    ensures fault { IfErr result (OutOfMemoryOr (StrictFault octets.now)) }
+{
+    match Outline::from_der(alloc, octets) {
+        Ok(outline) => {
+            check_canonical(alloc, octets)?;
+            Ok(outline)
+        }
+        Err(LocatedErr { error, .. }) => Err(error),
+    }
+}
+
+// Whether a document is canonical: by a look at its octets in place, and by its blocks where that says no.
+fn check_canonical(alloc: Global, octets: &[u8]) -> Result<(), ASN1DecodeErr>
+    ensures canonical { OnOk result
+        ((bs : Trees ℕ) → IsDocument octets.now bs → octets.now ≡ all_canonical bs) }
+    ensures fault { IfErr result (OutOfMemoryOr (StrictFault octets.now)) }
+{
+    if are_canonical_in_place(alloc, octets)? {
+        return Ok(());
+    }
+    discard(from_der_strict(alloc, octets)?);
+    Ok(())
+}
