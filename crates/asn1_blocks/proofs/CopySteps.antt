@@ -89,10 +89,10 @@ explicit_of_copy c o n held made copy is e =
     let one : view copy ≡ view held.value = cc in
     view_explicit c o n made ∙ (ap (explicit c o n) (ap view is ∙ one) ∙ sym (view_explicit c o n held))
 
-view_sequence : (o : ℕ) (v : Vec ASN1Block Global) → view (Sequence o v) ≡ group o GroupKind.Sequence (views v.items)
+pub view_sequence : (o : ℕ) (v : Vec ASN1Block Global) → view (Sequence o v) ≡ group o GroupKind.Sequence (views v.items)
 view_sequence o v = search (rules, the_lemmas)
 
-view_set : (o : ℕ) (v : Vec ASN1Block Global) → view (Set o v) ≡ group o GroupKind.Set (views v.items)
+pub view_set : (o : ℕ) (v : Vec ASN1Block Global) → view (Set o v) ≡ group o GroupKind.Set (views v.items)
 view_set o v = search (rules, the_lemmas)
 
 -- copies of what a group holds make its copy

@@ -120,8 +120,8 @@ pub fn from_der(alloc: Global, i: &[u8]) -> Result<Vec<ASN1Block>, ASN1DecodeErr
         → IsErrAnd result (OutOfMemoryOr (λ e. e ≡ fault)) }
 {
     match read_uncounted(alloc, i) {
-        Ok(blocks) => Ok(blocks),
-        Err(located) => Err(located.error),
+        Ok(document) => Ok(document),
+        Err(refusal) => Err(refusal.error),
     }
 }
 

@@ -1,4 +1,4 @@
-use Rattle.std.proofs.Common.{◌∙◌, take, drop, ap, sym, subst}
+use Rattle.std.proofs.Common.{◌≡◌, ◌++◌, ℕ, List, ◌∙◌, take, drop, ap, sym, subst}
 use Rattle.std.proofs.lemmas.List.{take-append-drop}
 use Rattle.asn1_blocks.specs.Places.{EncodingAt, IsEncoding}
 use Rattle.asn1_blocks.proofs.EncodingSizes.{encoding_of, none_past_end}
@@ -14,17 +14,23 @@ returns-in_default-clause-block c octets t =
     let p = encoding_of c.args.document.now c.args.offset octets t in
     c.in_default.ensures.none octets p.rest (c.split_at.ensures.back ∙ p.stands) p.are
 
+-- the front of what stands at the offset, as long as its header says
+stands_here : (document : List ℕ) (o n : ℕ) (rest front : List ℕ) → rest ≡ drop o document → front ≡ take n rest → IsEncoding (take n rest)
+    → EncodingAt document o front
+stands_here document o n rest front r f are = record {
+  rest = drop n (drop o document);
+  stands = sym (take-append-drop n (drop o document)) ∙ ap (λ z. z ++ drop n (drop o document)) (sym (f ∙ ap (take n) r));
+  are = subst IsEncoding (sym f) are;
+}
+
+pub returns-clause-found : goal.returns-clause-found
+returns-clause-found c =
+    let (_, _, are) = c.in-Some.ensures.found in
+    stands_here c.args.document.now c.args.offset c.in-Some.size _ _ c.split_at.ensures.back c.split_at-2.ensures.front are
+
 pub returns-clause-block : goal.returns-clause-block
 returns-clause-block c octets t =
     let document = c.args.document.now in
-    let o = c.args.offset in
-    let n = c.in-Some.size in
-    let (_, _, found) = c.in-Some.ensures.found in
-    let r = c.split_at.ensures.back in
-    let f = c.split_at-2.ensures.front ∙ ap (take n) r in
-    let q : EncodingAt document o (take n (drop o document)) = record {
-      rest = drop n (drop o document);
-      stands = sym (take-append-drop n (drop o document));
-      are = subst (λ z. IsEncoding (take n z)) r found;
-    } in
-    f ∙ encoding_at_alone document o (take n (drop o document)) octets q (encoding_of document o octets t)
+    let (_, _, are) = c.in-Some.ensures.found in
+    let here = stands_here document c.args.offset c.in-Some.size _ _ c.split_at.ensures.back c.split_at-2.ensures.front are in
+    encoding_at_alone document c.args.offset _ octets here (encoding_of document c.args.offset octets t)

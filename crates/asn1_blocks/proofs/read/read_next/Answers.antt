@@ -1,4 +1,4 @@
-use Rattle.std.proofs.Common.{rules, ◌≡◌, ℕ, ◌+◌, ◌-◌, ◌≤◌, List, length, inl, inr, refl, subst, arith}
+use Rattle.std.proofs.Common.{◌≡◌, ℕ, ◌+◌, ◌-◌, ◌≤◌, List, length, inl, inr, refl, subst, arith}
 use Rattle.std.specs.List.{slice_range}
 use Rattle.std.proofs.lemmas.Grind.{common_steps}
 use Rattle.std.proofs.lemmas.Result.{err_from_is_err_and}
@@ -95,10 +95,10 @@ returns-in_ok-put-in-Leaf-clause-stepped c n w =
     (leaf_nearer octets a h n found w) (leaf_ready octets a h block n found leaf.1 encoded w)
 
 pub returns-in_err-with_capacity-in-Blocks-clause-counted : goal.returns-in_err-with_capacity-in-Blocks-clause-counted
-returns-in_err-with_capacity-in-Blocks-clause-counted c = search rules
+returns-in_err-with_capacity-in-Blocks-clause-counted c = c.header_within.ensures.counted
 
 pub returns-in_err-open-in-Blocks-clause-counted : goal.returns-in_err-open-in-Blocks-clause-counted
-returns-in_err-open-in-Blocks-clause-counted c = search rules
+returns-in_err-open-in-Blocks-clause-counted c = c.header_within.ensures.counted
 
 pub returns-in_ok-open-in-Blocks-clause-counted : goal.returns-in_ok-open-in-Blocks-clause-counted
-returns-in_ok-open-in-Blocks-clause-counted c = search rules
+returns-in_ok-open-in-Blocks-clause-counted c = c.header_within.ensures.counted

@@ -1,7 +1,7 @@
 use Rattle.std.proofs.lemmas.Grind.{common_steps}
-use Rattle.std.proofs.Common.{◌≡◌, ◌++◌, ◌∷◌, [], List, ℕ, Box, Global, length, length-append, refl, sym, ap, ◌∙◌, arith, rules}
+use Rattle.std.proofs.Common.{◌≡◌, ◌++◌, ◌∷◌, [], List, ℕ, Box, Global, length, length-append, refl, sym, ap, ◌∙◌, arith}
 use Rattle.asn1_headers.specs.declared.header.ASN1Class.{ASN1Class}
-use Rattle.asn1_blocks.specs.declared.block.ASN1Block.{ASN1Block, Explicit}
+use Rattle.asn1_blocks.specs.declared.block.ASN1Block.{ASN1Block, Explicit, Integer}
 use Rattle.asn1_blocks.specs.Inner.TreeOrder.{inside}
 use Rattle.asn1_blocks.specs.View.{view, views}
 use Rattle.asn1_blocks.proofs.BlockLists.{count, count_views}
@@ -36,7 +36,9 @@ returns-in_ok-boxed-in-Explicit c =
     ∙ (explicit_of_copy r.c r.o r.t r.field-3 c.in_ok-boxed-in-Explicit.field-0 copy c.in_ok-boxed-in-Explicit.ensures e ∙ ap view (sym r.is))
 
 pub returns-in_ok-clone-in-Integer : goal.returns-in_ok-clone-in-Integer
-returns-in_ok-clone-in-Integer c = search rules
+returns-in_ok-clone-in-Integer c =
+    let r = c.in-Integer in
+    ap (λ n. view (Integer r.o n)) c.in_ok-clone-in-Integer.ensures ∙ ap view (sym r.is)
 
 pub returns-in-Sequence : goal.returns-in-Sequence
 returns-in-Sequence c =
