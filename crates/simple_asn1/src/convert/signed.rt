@@ -70,10 +70,7 @@ fn object_identifier_of(b: &ASN1Block) -> Option<&OID>
         ((o : ℕ) (i : List ℕ) → view b.now ≢ leaf o (object_identifier i))
         (λ i. view b.now ≡ leaf (tree_offset (view b.now)) (object_identifier i.now)) }
 {
-    match b {
-        ASN1Block::ObjectIdentifier(_, i) => Some(i),
-        _ => None,
-    }
+    b.oid()
 }
 
 // The number of bits of a BIT STRING, and the octets that hold them.
@@ -82,10 +79,7 @@ fn bit_string_of(b: &ASN1Block) -> Option<(usize, &[u8])>
         ((o n : ℕ) (v : List ℕ) → view b.now ≢ leaf o (bit_string n v))
         (λ x. view b.now ≡ leaf (tree_offset (view b.now)) (bit_string x.0 x.1.now)) }
 {
-    match b {
-        ASN1Block::BitString(_, n, v) => Some((*n, v)),
-        _ => None,
-    }
+    b.bits()
 }
 
 // The object identifier of an algorithm, the first item of its SEQUENCE.
