@@ -1,0 +1,4 @@
+use Rattle.asn1_blocks.proofs.block.ASN1Block.clone.Goals as goal
+
+pub returns : goal.returns
+returns c = c.copy.ensures

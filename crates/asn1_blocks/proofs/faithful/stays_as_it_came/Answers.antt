@@ -1,0 +1,5 @@
+use Rattle.std.proofs.Common.{rules}
+use Rattle.asn1_blocks.proofs.faithful.stays_as_it_came.Goals as goal
+
+pub returns : goal.returns
+returns c = search rules
