@@ -8,7 +8,7 @@ use Rattle.asn1_headers.specs.declared.header.ASN1Class.{ASN1Class}
 use Rattle.asn1_headers.specs.declared.header.ASN1Class.TheVariants.{Universal}
 use Rattle.asn1_headers.proofs.Prefixes.{SameEncoding, encoding_alone}
 use Rattle.asn1_leaves.specs.StringKind.{StringKind, utf8, printable, teletex, ia5, universal, bmp}
-use Rattle.asn1_blocks.specs.BlockParts.{all_in_order, leaf_integer, tree_integer, tree_text}
+use Rattle.asn1_blocks.specs.BlockParts.{all_in_order, leaf_integer, tree_bits, tree_boolean, tree_integer, tree_moment, tree_oid, tree_text}
 use Rattle.asn1_blocks.specs.Contents.{LeafContents, LeafFault, group_tag, is_known_tag, is_leaf_tag, leaf_tag, of_text, string_tag}
 use Rattle.asn1_blocks.specs.Inner.LeafBlocks.{IsLeafOf}
 use Rattle.asn1_blocks.proofs.Leaves.{leaf_alone, leaf_no_fault, leaf_tag_known, leaf_tag_no_group}
@@ -21,7 +21,7 @@ use Rattle.asn1_blocks.specs.Tree.{Leaf, Tree, bit_string, boolean, explicit, ge
 use Rattle.asn1_blocks.specs.View.{tree_offset}
 use Rattle.asn1_blocks.proofs.Slices.{encoding_at_alone, found_octets, octets_encoding, slice_here}
 use Rattle.asn1_outline.specs.Entries.{HasTag, all_depths}
-use Rattle.asn1_outline.specs.Values.{EachIsOfItsTree, IsEntryOf}
+use Rattle.asn1_outline.specs.Values.{EachIsOfItsTree, IsEntryOf, IsNoLeafWith}
 use Rattle.asn1_outline.proofs.Entries.{entry_at}
 use Rattle.asn1_outline.proofs.Standing.{stands_among}
 use Rattle.asn1_outline.specs.declared.entry.Entry.{Entry}
@@ -186,14 +186,14 @@ is_leaf x b r n e class tag small t =
     subst (λ z. IsLeafOf (tree_offset b) n z b) (sym c.are) (leaf_encoded (tree_offset b) c.octets b r.constructed n c.contents r.header t c.encoded two)
 
 -- it is the leaf that the contents octets mean
-leaf_is : (o n : ℕ) (v : List ℕ) (b : Tree ℕ) (l : Leaf) → IsLeafOf o n v b → n ≡ leaf_tag l → LeafContents l v → (p : ℕ) × (b ≡ leaf p l)
+pub leaf_is : (o n : ℕ) (v : List ℕ) (b : Tree ℕ) (l : Leaf) → IsLeafOf o n v b → n ≡ leaf_tag l → LeafContents l v → (p : ℕ) × (b ≡ leaf p l)
 leaf_is o n v (leaf p m) l s t e = (p, ap (leaf p) (leaf_alone m l v (sym s.1 ∙ t) s.2 e))
 leaf_is o n v (group p g bs) l s t e = absurd s
 leaf_is o n v (explicit c p m b) l s t e = absurd s
 leaf_is o n v (unknown c k p m w) l s t e = absurd s
 
 -- and they have no fault
-leaf_faultless : (o n : ℕ) (v : List ℕ) (b : Tree ℕ) (fault : DecodeFault) → IsLeafOf o n v b → LeafFault n v fault → ⊥
+pub leaf_faultless : (o n : ℕ) (v : List ℕ) (b : Tree ℕ) (fault : DecodeFault) → IsLeafOf o n v b → LeafFault n v fault → ⊥
 leaf_faultless o n v (leaf p m) fault s f = leaf_no_fault n v fault m s.1 s.2 f
 leaf_faultless o n v (group p g bs) fault s f = s
 leaf_faultless o n v (explicit c p m b) fault s f = s
@@ -254,3 +254,42 @@ each_of_its_tree x bs rs d are k h =
     let w = entry_at x 0 (all_in_order bs) (all_depths 0 bs) rs are k h in
     let (stop, s) = stands_among bs (length x) k h in
     record { all = bs; octets = _; read = d; has = record { end = stop; stands = s; are = refl }; stands = w.offset; header = w.header }
+
+-- a tree of class Universal with a leaf's tag alone is a leaf with it
+pub no_leaf_with : (x : List ℕ) (b : Tree ℕ) (r : Entry) (n : ℕ) → IsEntryOf x b r → n < 64 → ((r.class ≡ Universal) × (r.tag ≡ n) → ⊥)
+    → IsNoLeafWith n b
+no_leaf_with x b r n e small other o l is tag =
+    let c = contents_of x b r e in
+    let s : Encodes (tree_offset b) c.octets (leaf o l) = subst (λ z. Encodes (tree_offset b) c.octets z) is c.encoded in
+    let z = one c.octets Universal r.class s.constructed r.constructed (leaf_tag l) c.tag s.contents c.contents s.header r.header s.encoding c.encoding in
+    let number : c.tag ≡ n = sym z.tag ∙ tag in
+    other (sym z.class, c.number.0 (omega (arith, number, small)) ∙ number)
+
+pub no_boolean : (b : Tree ℕ) → IsNoLeafWith 1 b → tree_boolean b ≡ None
+no_boolean (leaf o (boolean v)) other = absurd (other o (boolean v) refl refl)
+no_boolean (leaf o l) other = refl
+no_boolean (group o g bs) other = refl
+no_boolean (explicit c o n b) other = refl
+no_boolean (unknown c k o n v) other = refl
+
+pub no_bits : (b : Tree ℕ) → IsNoLeafWith 3 b → tree_bits b ≡ None
+no_bits (leaf o (bit_string n v)) other = absurd (other o (bit_string n v) refl refl)
+no_bits (leaf o l) other = refl
+no_bits (group o g bs) other = refl
+no_bits (explicit c o n b) other = refl
+no_bits (unknown c k o n v) other = refl
+
+pub no_oid : (b : Tree ℕ) → IsNoLeafWith 6 b → tree_oid b ≡ None
+no_oid (leaf o (object_identifier ns)) other = absurd (other o (object_identifier ns) refl refl)
+no_oid (leaf o l) other = refl
+no_oid (group o g bs) other = refl
+no_oid (explicit c o n b) other = refl
+no_oid (unknown c k o n v) other = refl
+
+pub no_moment : (b : Tree ℕ) → IsNoLeafWith 23 b → IsNoLeafWith 24 b → tree_moment b ≡ None
+no_moment (leaf o (utc_time m)) other more = absurd (other o (utc_time m) refl refl)
+no_moment (leaf o (generalized_time m)) other more = absurd (more o (generalized_time m) refl refl)
+no_moment (leaf o l) other more = refl
+no_moment (group o g bs) other more = refl
+no_moment (explicit c o n b) other more = refl
+no_moment (unknown c k o n v) other more = refl

@@ -16,16 +16,17 @@ use Rattle.std.specs.Prelude.{
   Option,
   Some,
   None,
+  get_or,
   length,
 }
 use Rattle.asn1_headers.specs.Header.{Encoding}
 use Rattle.asn1_headers.specs.declared.header.ASN1Class.TheVariants.{Universal}
 use Rattle.asn1_blocks.specs.BlockParts.{all_in_order, in_order, tree_items}
+use Rattle.asn1_blocks.specs.Grammar.{IsDocument}
 use Rattle.asn1_blocks.specs.Places.{EncodingAt}
 use Rattle.asn1_blocks.specs.Tree.{Tree, Trees, explicit, group, leaf, more_trees, no_trees, null, unknown}
 use Rattle.asn1_blocks.specs.View.{tree_offset}
 use Rattle.asn1_outline.specs.declared.entry.Entry.{Entry}
-use Rattle.asn1_outline.specs.declared.outline.Outline.{Outline}
 
 -- how many trees there are
 abbrev pub count_of : Trees ℕ → ℕ
@@ -108,6 +109,10 @@ abbrev mutual
 abbrev pub AreEntriesOf : List ℕ → Trees ℕ → List Entry → Type 0
 AreEntriesOf document bs rs = AreEntries document 0 (all_in_order bs) (all_depths 0 bs) rs
 
--- the entries that an `Outline` owns
-abbrev pub entries_in : Outline → List Entry
-entries_in outline = outline.entries.items
+-- the octets are a document, and the entries are its
+abbrev pub IsOutline : List ℕ → List Entry → Type 0
+IsOutline document rs = (bs : Trees ℕ) × IsDocument document bs × AreEntriesOf document bs rs
+
+-- the tree that stands at the index among all trees of these, in order
+abbrev pub tree_at : Trees ℕ → ℕ → Tree ℕ
+tree_at bs index = get_or (all_in_order bs) index no_tree

@@ -1,3 +1,4 @@
 pub mod Entries
+pub mod Outlines
 pub mod Values
 pub mod Listing

@@ -1,9 +1,10 @@
 -- Which trees entries are of, for what is read of an entry alone.
 use Rattle.std.specs.Prelude.{◌≡◌, ℕ, ◌<◌, List, get_or, length}
 use Rattle.asn1_blocks.specs.BlockParts.{all_in_order}
+use Rattle.asn1_blocks.specs.Contents.{leaf_tag}
 use Rattle.asn1_blocks.specs.Grammar.{IsDocument}
 use Rattle.asn1_blocks.specs.Places.{HasOctets}
-use Rattle.asn1_blocks.specs.Tree.{Tree, Trees}
+use Rattle.asn1_blocks.specs.Tree.{Leaf, Tree, Trees, leaf}
 use Rattle.asn1_blocks.specs.View.{tree_offset}
 use Rattle.asn1_outline.specs.Entries.{AreEntriesOf, HasHeaderAt, no_entry, no_tree}
 use Rattle.asn1_outline.specs.declared.entry.Entry.{Entry}
@@ -16,6 +17,10 @@ pub record IsEntryOf (document : List ℕ) (b : Tree ℕ) (r : Entry) : Type 0 w
   pub has : HasOctets document all b octets
   pub stands : r.offset ≡ tree_offset b
   pub header : HasHeaderAt document r
+
+-- the tree is no leaf with this tag number
+abbrev pub IsNoLeafWith : ℕ → Tree ℕ → Type 0
+IsNoLeafWith tag b = (o : ℕ) (l : Leaf) → b ≡ leaf o l → leaf_tag l ≡ tag → ⊥
 
 -- each entry of a document is of the tree that has its index among the document's trees in order
 abbrev pub EachIsOfItsTree : Type 0

@@ -8,4 +8,5 @@
 pub mod entry;
 mod listing;
 pub mod outline;
+mod reading;
 pub mod value;

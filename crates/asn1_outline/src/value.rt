@@ -1,25 +1,28 @@
 // What is read of an entry alone: the leaf readers of its contents octets.
-ghost use Rattle.std.specs.Prelude.{◌≡◌, ◌⊎◌, ◌↔◌, ℕ, ◌+◌, ◌<◌, List, length, slice_range, None, Some, IfErr, IfOk, IsTrue, MatchOption, MatchResult};
+ghost use Rattle.std.specs.Prelude.{◌≡◌, ◌⊎◌, ◌↔◌, ℕ, ◌+◌, ◌<◌, List, length, slice_range, None, Some, true, IfErr, IfOk, IsOkAnd, IsTrue, MatchOption, MatchResult};
 ghost use Rattle.asn1_headers.specs.Fault.{OutOfMemoryOr};
 ghost use Rattle.asn1_leaves.specs.Contents.GeneralizedTime.{GeneralizedTimeContents, GeneralizedTimeFault};
 ghost use Rattle.asn1_leaves.specs.Contents.Moment.{moment_of};
 ghost use Rattle.asn1_leaves.specs.Contents.UtcTime.{UtcTimeContents, UtcTimeFault};
 ghost use Rattle.asn1_headers.specs.declared.error.ASN1DecodeErr.TheVariants.{OutOfMemory};
 ghost use Rattle.asn1_headers.specs.declared.header.ASN1Class.TheVariants.{Universal};
-ghost use Rattle.asn1_blocks.specs.BlockParts.{tree_integer, tree_text};
-ghost use Rattle.asn1_blocks.specs.Contents.{string_tag};
+ghost use Rattle.asn1_blocks.specs.BlockParts.{tree_bits, tree_boolean, tree_integer, tree_moment, tree_oid, tree_text};
+ghost use Rattle.asn1_blocks.specs.Contents.{is_leaf_tag, string_tag};
+ghost use Rattle.asn1_blocks.specs.Inner.LeafBlocks.{IsLeafOf};
+ghost use Rattle.asn1_blocks.specs.View.{tree_offset};
 ghost use Rattle.asn1_leaves.specs.Contents.Text.{text_form};
 ghost use Rattle.asn1_leaves.specs.StringKind.{StringKind};
 ghost use Rattle.std.specs.Prelude.{string_bytes};
 ghost use Rattle.std.specs.Str.{chars};
 ghost use Rattle.asn1_blocks.specs.Tree.{Tree};
-ghost use Rattle.asn1_outline.specs.Values.{EachIsOfItsTree, IsEntryOf};
+ghost use Rattle.asn1_outline.specs.Values.{EachIsOfItsTree, IsEntryOf, IsNoLeafWith};
 
 use crate::entry::Entry;
 use asn1_headers::error::ASN1DecodeErr;
 use asn1_headers::header::ASN1Class;
 use asn1_leaves::contents::text::TextForm;
-use asn1_leaves::contents::{generalized_time, integer, text, utc_time};
+use asn1_leaves::contents::{bit_string, boolean, generalized_time, integer, text, utc_time};
+use asn1_leaves::oid::{self, OID};
 use asn1_numbers::number::big_int::BigInt;
 use jiff::civil::DateTime;
 use std::alloc::{AllocError, Global};
@@ -51,6 +54,109 @@ impl Entry {
         match self.class {
             ASN1Class::Universal => self.tag == tag,
             _ => false,
+        }
+    }
+
+    // The contents octets of a leaf of class Universal with the tag number, if this is the entry of one.
+    fn leaf_in<'a>(&self, document: &'a [u8], tag: u64) -> Option<&'a [u8]>
+        requires small { tag < 64 }
+        requires leaf { is_leaf_tag tag ≡ true }
+        ensures { (b : Tree ℕ) → IsEntryOf document.now b self.now → MatchOption result
+            (IsNoLeafWith tag b)
+            (λ contents. IsLeafOf (tree_offset b) tag contents.now b) }
+    {
+        if !self.is_universal(tag) {
+            return None;
+        }
+        match self.contents_in(document) {
+            Some(contents) => Some(contents),
+            None => None,
+        }
+    }
+
+    /// The value of a BOOLEAN of the document whose entry this is; `None` of any other block.
+    ///
+    /// # Errors
+    /// Only with an entry of another document.
+    pub fn boolean(&self, document: &[u8]) -> Result<Option<bool>, ASN1DecodeErr>
+        ensures { (b : Tree ℕ) → IsEntryOf document.now b self.now → IsOkAnd result
+            (λ found. MatchOption found (tree_boolean b ≡ None) (λ yes. tree_boolean b ≡ Some yes)) }
+    {
+        let Some(contents) = self.leaf_in(document, 1) else {
+            return Ok(None);
+        };
+        match boolean::read(contents) {
+            Ok(yes) => Ok(Some(yes)),
+            Err(e) => Err(e),
+        }
+    }
+
+    /// The components of an OBJECT IDENTIFIER of the document whose entry this is; `None` of any other block.
+    ///
+    /// # Errors
+    /// `OutOfMemory`; with an entry of another document also others.
+    pub fn oid(&self, alloc: Global, document: &[u8]) -> Result<Option<OID>, ASN1DecodeErr>
+        ensures { (b : Tree ℕ) → IsEntryOf document.now b self.now → MatchResult result
+            (λ found. MatchOption found (tree_oid b ≡ None) (λ oid. tree_oid b ≡ Some oid))
+            (λ e. e ≡ OutOfMemory) }
+    {
+        let Some(contents) = self.leaf_in(document, 6) else {
+            return Ok(None);
+        };
+        match oid::read(alloc, contents) {
+            Ok(oid) => Ok(Some(oid)),
+            Err(e) => Err(e),
+        }
+    }
+
+    /// The number of bits of a BIT STRING of the document whose entry this is, and the octets that hold them; `None` of
+    /// any other block.
+    ///
+    /// # Errors
+    /// `OutOfMemory`; with an entry of another document also others.
+    pub fn bits(
+        &self,
+        alloc: Global,
+        document: &[u8],
+    ) -> Result<Option<(usize, Vec<u8>)>, ASN1DecodeErr>
+        ensures { (b : Tree ℕ) → IsEntryOf document.now b self.now → MatchResult result
+            (λ found. MatchOption found
+            (tree_bits b ≡ None)
+            (λ bits. tree_bits b ≡ Some (bits.0, bits.1.items)))
+            (λ e. e ≡ OutOfMemory) }
+    {
+        let Some(contents) = self.leaf_in(document, 3) else {
+            return Ok(None);
+        };
+        match bit_string::read(alloc, contents) {
+            Ok(bits) => Ok(Some(bits)),
+            Err(e) => Err(e),
+        }
+    }
+
+    /// The moment of a UTCTime or GeneralizedTime of the document whose entry this is; `None` of any other block.
+    ///
+    /// # Errors
+    /// `OutOfMemory`; with an entry of another document also others.
+    pub fn moment(&self, alloc: Global, document: &[u8]) -> Result<Option<DateTime>, ASN1DecodeErr>
+        ensures { (b : Tree ℕ) → IsEntryOf document.now b self.now → MatchResult result
+            (λ found. MatchOption found
+            (tree_moment b ≡ None)
+            (λ d. tree_moment b ≡ Some (moment_of d)))
+            (λ e. e ≡ OutOfMemory) }
+    {
+        if let Some(contents) = self.leaf_in(document, 23) {
+            return match utc_time::read(alloc, contents) {
+                Ok(d) => Ok(Some(d)),
+                Err(e) => Err(e),
+            };
+        }
+        let Some(contents) = self.leaf_in(document, 24) else {
+            return Ok(None);
+        };
+        match generalized_time::read(alloc, contents) {
+            Ok(d) => Ok(Some(d)),
+            Err(e) => Err(e),
         }
     }
 

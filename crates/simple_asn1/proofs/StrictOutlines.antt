@@ -7,7 +7,8 @@ use Rattle.asn1_headers.specs.declared.error.ASN1DecodeErr.TheVariants.{OutOfMem
 use Rattle.asn1_blocks.specs.Grammar.{IsDocument}
 use Rattle.asn1_blocks.specs.Tree.{Trees}
 use Rattle.asn1_blocks.proofs.OneReading.{all_alone}
-use Rattle.asn1_outline.specs.Entries.{AreEntriesOf, entries_in}
+use Rattle.asn1_outline.specs.Entries.{AreEntriesOf}
+use Rattle.asn1_outline.specs.Outlines.{entries_in}
 use Rattle.asn1_outline.specs.declared.outline.Outline.{Outline}
 use Rattle.simple_asn1.specs.Canonical.{all_canonical}
 use Rattle.simple_asn1.specs.ReadBack.{CanonicalDocument}

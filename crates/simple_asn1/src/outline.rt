@@ -4,7 +4,8 @@ ghost use Rattle.asn1_headers.specs.Fault.{DecodeFault, OutOfMemoryOr, not_canon
 ghost use Rattle.asn1_headers.specs.declared.error.ASN1DecodeErr.TheVariants.{OutOfMemory};
 ghost use Rattle.asn1_blocks.specs.Grammar.{FirstFault, IsDocument};
 ghost use Rattle.asn1_blocks.specs.Tree.{Trees};
-ghost use Rattle.asn1_outline.specs.Entries.{AreEntriesOf, entries_in};
+ghost use Rattle.asn1_outline.specs.Entries.{AreEntriesOf};
+ghost use Rattle.asn1_outline.specs.Outlines.{entries_in, octets_in};
 ghost use Rattle.simple_asn1.specs.Canonical.{all_canonical};
 ghost use Rattle.simple_asn1.specs.ReadBack.{CanonicalDocument};
 ghost use Rattle.simple_asn1.specs.Strict.{IsNotCanonicalAt, StrictFault};
@@ -12,7 +13,7 @@ ghost use Rattle.simple_asn1.specs.Strict.{IsNotCanonicalAt, StrictFault};
 use crate::write::in_place::are_canonical_in_place;
 use crate::write::strict::from_der_strict;
 use asn1_blocks::block::discard::discard;
-use asn1_headers::error::{ASN1DecodeErr, LocatedErr};
+use asn1_headers::error::ASN1DecodeErr;
 use asn1_outline::outline::Outline;
 use std::alloc::Global;
 
@@ -21,9 +22,10 @@ use std::alloc::Global;
 ///
 /// # Errors
 /// Those of [`from_der_strict`].
-pub fn outline_strict(alloc: Global, octets: &[u8]) -> Result<Outline, ASN1DecodeErr>
+pub fn outline_strict<'a>(alloc: Global, octets: &'a [u8]) -> Result<Outline<'a>, ASN1DecodeErr>
     ensures document { IfOk result (λ outline. (bs : Trees ℕ) × CanonicalDocument octets.now bs
         × AreEntriesOf octets.now bs (entries_in outline)) }
+    ensures lent { IfOk result (λ outline. octets_in outline ≡ octets.now) }
     ensures fault { IfErr result (OutOfMemoryOr (StrictFault octets.now)) }
     ensures accepts { (bs : Trees ℕ) → CanonicalDocument octets.now bs
         → MatchResult result
@@ -38,9 +40,10 @@ pub fn outline_strict(alloc: Global, octets: &[u8]) -> Result<Outline, ASN1Decod
 }
 
 // The outline of a canonical document.
-fn canonical_outline(alloc: Global, octets: &[u8]) -> Result<Outline, ASN1DecodeErr>
+fn canonical_outline<'a>(alloc: Global, octets: &'a [u8]) -> Result<Outline<'a>, ASN1DecodeErr>
     ensures document { IfOk result (λ outline. (bs : Trees ℕ) × CanonicalDocument octets.now bs
         × AreEntriesOf octets.now bs (entries_in outline)) }
+    ensures lent { IfOk result (λ outline. octets_in outline ≡ octets.now) }
     ensures fault { IfErr result (OutOfMemoryOr (StrictFault octets.now)) }
 {
     match Outline::from_der(alloc, octets) {
@@ -48,7 +51,7 @@ fn canonical_outline(alloc: Global, octets: &[u8]) -> Result<Outline, ASN1Decode
             check_canonical(alloc, octets)?;
             Ok(outline)
         }
-        Err(LocatedErr { error, .. }) => Err(error),
+        Err(e) => Err(e),
     }
 }
 

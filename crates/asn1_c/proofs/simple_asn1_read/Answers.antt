@@ -1,4 +1,4 @@
-use Rattle.asn1_outline.specs.Entries.{entries_in}
+use Rattle.asn1_outline.specs.Outlines.{entries_in}
 use Rattle.asn1_c.proofs.Outcomes.{read_answer, read_refused}
 use Rattle.asn1_c.proofs.TwoEach.{two_among}
 use Rattle.asn1_c.proofs.simple_asn1_read.Goals as goal

@@ -1,4 +1,4 @@
-use Rattle.asn1_outline.specs.Entries.{entries_in}
+use Rattle.asn1_outline.specs.Outlines.{entries_in}
 use Rattle.asn1_c.proofs.Outcomes.{read_strict_answer, read_strict_refused}
 use Rattle.asn1_c.proofs.simple_asn1_read_strict.Goals as goal
 

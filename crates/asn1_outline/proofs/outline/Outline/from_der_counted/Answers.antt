@@ -1,6 +1,7 @@
 use Rattle.std.proofs.Common.{◌<◌, ◌^◌, Err, length, arith}
 use Rattle.asn1_blocks.proofs.Readings.{document_accepted_here, fault_refused_here}
 use Rattle.asn1_outline.proofs.Answered.{none_refused, only_entries}
+use Rattle.std.proofs.lemmas.Grind.{merely}
 use Rattle.asn1_outline.proofs.outline.Outline.from_der_counted.Goals as goal
 
 pub returns-in-Ok-clause-accepts : goal.returns-in-Ok-clause-accepts
@@ -38,3 +39,6 @@ returns-in-Err-clause-grown c = c.in-Err.ensures.grown
 
 pub returns-in-Err-clause-bounded : goal.returns-in-Err-clause-bounded
 returns-in-Err-clause-bounded c = c.in-Err.ensures.bounded
+
+pub invariant_of-result : goal.invariant_of-result
+invariant_of-result c = record { document = merely c.in-Ok.ensures.document }

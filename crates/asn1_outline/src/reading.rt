@@ -1,0 +1,116 @@
+// How an outline is read, and what it lends.
+ghost use Rattle.std.specs.Prelude.{◌≡◌, ◌+◌, ◌<◌, ◌≤◌, ◌^◌, ◌⊎◌, ℕ, length, IfErr, IfOk, IsErrAnd, MatchResult};
+ghost use Rattle.asn1_headers.specs.Fault.{DecodeFault, OutOfMemoryOr};
+ghost use Rattle.asn1_headers.specs.declared.error.ASN1DecodeErr.TheVariants.{OutOfMemory};
+ghost use Rattle.asn1_blocks.specs.FaultPlace.{FirstFaultAt};
+ghost use Rattle.asn1_blocks.specs.Grammar.{FirstFault, IsDocument};
+ghost use Rattle.asn1_blocks.specs.HeadersBegun.{HeadersBegun};
+ghost use Rattle.asn1_blocks.specs.Tree.{Trees};
+ghost use Rattle.asn1_outline.specs.Entries.{AreEntriesOf};
+ghost use Rattle.asn1_outline.specs.Outlines.{entries_in, octets_in};
+
+use crate::entry::Entry;
+use crate::listing::list;
+use crate::outline::Outline;
+use asn1_headers::error::{ASN1DecodeErr, LocatedErr};
+use asn1_headers::header::HeaderCount;
+use std::alloc::Global;
+
+impl<'a> Outline<'a> {
+    /// Reads a document into entries, with the answers of `from_der`.
+    ///
+    /// # Errors
+    /// Those of `from_der`.
+    pub fn from_der(alloc: Global, octets: &'a [u8]) -> Result<Outline<'a>, ASN1DecodeErr>
+        ensures document { IfOk result (λ outline. (bs : Trees ℕ) × IsDocument octets.now bs
+            × AreEntriesOf octets.now bs (entries_in outline)) }
+        ensures lent { IfOk result (λ outline. octets_in outline ≡ octets.now) }
+        ensures fault { IfErr result (OutOfMemoryOr (FirstFault octets.now)) }
+
+        // Memory aside, each document has its entries, and other octets are refused with their first fault.
+        ensures accepts { (bs : Trees ℕ) → IsDocument octets.now bs
+            → MatchResult result
+            (λ outline. AreEntriesOf octets.now bs (entries_in outline))
+            (λ e. e ≡ OutOfMemory) }
+        ensures refuses { (fault : DecodeFault) → FirstFault octets.now fault
+            → IsErrAnd result (OutOfMemoryOr (λ e. e ≡ fault)) }
+    {
+        match Outline::from_der_located(alloc, octets) {
+            Ok(outline) => Ok(outline),
+            Err(LocatedErr { error, .. }) => Err(error),
+        }
+    }
+
+    /// Reads a document into entries, and says of a fault where it is, with the answers of `from_der_located`.
+    ///
+    /// # Errors
+    /// Those of `from_der`, each with the offset of the innermost block at fault.
+    pub fn from_der_located(alloc: Global, octets: &'a [u8]) -> Result<Outline<'a>, LocatedErr>
+        ensures document { IfOk result (λ outline. (bs : Trees ℕ) × IsDocument octets.now bs
+            × AreEntriesOf octets.now bs (entries_in outline)) }
+        ensures lent { IfOk result (λ outline. octets_in outline ≡ octets.now) }
+        ensures fault { IfErr result
+            (λ e. OutOfMemoryOr (λ fault. FirstFaultAt octets.now fault e.offset) e.error) }
+        ensures accepts { (bs : Trees ℕ) → IsDocument octets.now bs
+            → MatchResult result
+            (λ outline. AreEntriesOf octets.now bs (entries_in outline))
+            (λ e. e.error ≡ OutOfMemory) }
+        ensures refuses { (fault : DecodeFault) (offset : ℕ) → FirstFaultAt octets.now fault offset
+            → IsErrAnd result
+            (λ e. OutOfMemoryOr (λ found. (found ≡ fault) × (e.offset ≡ offset)) e.error) }
+    {
+        let mut count = HeaderCount::new();
+        Outline::from_der_counted(alloc, octets, &mut count)
+    }
+
+    /// Reads a document as [`Outline::from_der_located`] does, and adds one to the count for each header that is begun,
+    /// those of failed attempts too, as `from_der_counted` does.
+    ///
+    /// # Errors
+    /// Those of [`Outline::from_der_located`].
+    pub fn from_der_counted(
+        alloc: Global,
+        octets: &'a [u8],
+        count: &mut HeaderCount,
+    ) -> Result<Outline<'a>, LocatedErr>
+        requires room { count.old + length octets.now < 2 ^ 64 }
+        ensures document { IfOk result (λ outline. (bs : Trees ℕ) × IsDocument octets.now bs
+            × AreEntriesOf octets.now bs (entries_in outline)) }
+        ensures lent { IfOk result (λ outline. octets_in outline ≡ octets.now) }
+        ensures fault { IfErr result
+            (λ e. OutOfMemoryOr (λ fault. FirstFaultAt octets.now fault e.offset) e.error) }
+        ensures accepts { (bs : Trees ℕ) → IsDocument octets.now bs
+            → MatchResult result
+            (λ outline. AreEntriesOf octets.now bs (entries_in outline))
+            (λ e. e.error ≡ OutOfMemory) }
+        ensures refuses { (fault : DecodeFault) (offset : ℕ) → FirstFaultAt octets.now fault offset
+            → IsErrAnd result
+            (λ e. OutOfMemoryOr (λ found. (found ≡ fault) × (e.offset ≡ offset)) e.error) }
+
+        ensures counted { MatchResult result
+            (λ _. (n : ℕ) × HeadersBegun octets.now n × (count.new ≡ count.old + n))
+            (λ e. (e.error ≡ OutOfMemory)
+            ⊎ ((n : ℕ) × HeadersBegun octets.now n × (count.new ≡ count.old + n))) }
+        ensures grown { count.old ≤ count.new }
+        ensures bounded { count.new ≤ count.old + length octets.now }
+    {
+        match list(alloc, octets, count) {
+            Ok(entries) => Ok(Outline { octets, entries }),
+            Err(located) => Err(located),
+        }
+    }
+
+    /// Lends the entries, in order.
+    pub fn entries(&self) -> &[Entry]
+        ensures { result.now ≡ entries_in self.now }
+    {
+        self.entries.as_slice()
+    }
+
+    /// The octets of the document.
+    pub fn octets(&self) -> &'a [u8]
+        ensures { result.now ≡ octets_in self.now }
+    {
+        self.octets
+    }
+}
