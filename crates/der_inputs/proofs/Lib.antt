@@ -2,3 +2,4 @@ mod Answered
 mod IndefiniteForms
 mod Inputs
 mod Readers
+mod StrictFaults

@@ -5,7 +5,7 @@ use Rattle.serde_json.specs.Data.{Members}
 use Rattle.serde_json.specs.Written.{compact_text}
 use Rattle.der_json.specs.Json.{AddsJsonOf, origin_members, refusal_json}
 use Rattle.der_lines.specs.Dump.{AddsDumpOf, AddsLine, AreDefinite, IsFirstIndefinite, IsNote, all_offsets}
-use Rattle.der_lines.specs.Strict.{AddsStrictDumpOf}
+use Rattle.der_inputs.specs.Strict.{AddsStrictDumpOf}
 use Rattle.der_lines.specs.declared.document.Verdict.{Verdict}
 use Rattle.der_lines.specs.declared.document.Verdict.TheVariants.{AllRead, Refused}
 use Rattle.der_options.specs.declared.options.Options.{Options}

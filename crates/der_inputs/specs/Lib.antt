@@ -1,3 +1,4 @@
 pub mod Documents
 pub mod Inputs
 pub mod Parts
+pub mod Strict

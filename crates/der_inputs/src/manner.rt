@@ -6,9 +6,8 @@ ghost use Rattle.der_inputs.specs.Documents.{AddsDump, AddsLabel, AddsReading, P
 ghost use Rattle.der_inputs.specs.Parts.{PutsIn};
 
 use crate::json_lines::push_json_line;
-use der_lines::{
-    Names, Style, Verdict, push_document, push_document_strictly, push_label, push_refusal,
-};
+use crate::strict::push_document_strictly;
+use der_lines::{Names, Style, Verdict, push_document, push_label, push_refusal};
 use std::alloc::{AllocError, Global};
 
 // How what is read is put.

@@ -5,9 +5,9 @@ use Rattle.std.proofs.lemmas.List.{append_assoc, append-nil, map-append, take_al
 use Rattle.std.proofs.lemmas.Slice.Zip.{all_zipped_more}
 use Rattle.serde_json.specs.Data.{Data}
 use Rattle.serde_json.specs.Written.{comma_if, compact_text, items_text}
-use Rattle.simple_asn1.specs.Tree.{Tree}
-use Rattle.simple_asn1.specs.Types.{ASN1Block}
-use Rattle.simple_asn1.specs.View.{view}
+use Rattle.asn1_blocks.specs.Tree.{Tree}
+use Rattle.asn1_blocks.specs.declared.block.ASN1Block.{ASN1Block}
+use Rattle.asn1_blocks.specs.View.{view}
 use Rattle.der_json.specs.Json.{IsRow, items_of}
 use Rattle.der_json.specs.Rows.{AddsArray, AddsRows, are_some, rows_text}
 

@@ -1,31 +1,42 @@
 -- What is written of octets as JSON: an object that has the blocks of the document, or its first fault.
-use Rattle.std.specs.Prelude.{◌≡◌, ℕ, nat_lt, Bool, true, false, if◌then◌else◌, List, [], ◌∷◌, ◌++◌, codes, length}
+use Rattle.std.specs.Prelude.{◌≡◌, ℕ, ℤ, unsigned_abs, nat_lt, Bool, true, false, if◌then◌else◌, List, [], ◌∷◌, ◌++◌, codes, length}
 use Rattle.std.specs.Prelude.{Option, None, Some, option_map}
 use Rattle.std.specs.List.{AllZip}
-use Rattle.serde_json.specs.Data.{Data, array, null, number, object, string, unsigned, Items, no_items, item}
+use Rattle.std.specs.Str.{chars}
+use Rattle.hex.specs.Hex.{encode_lower}
+use Rattle.jiff.specs.Names.{iso_datetime_text}
+use Rattle.jiff_core.specs.declared.civil.datetime.DateTime.{DateTime}
+use Rattle.serde_json.specs.Data.{Data, array, boolean as boolean_json, null, number, object, string, unsigned, Items, no_items, item}
 use Rattle.serde_json.specs.Data.{Members, no_members, member}
-use Rattle.serde_json.specs.Find.{get}
+use Rattle.serde_json.specs.Find.{get, of_integer}
 use Rattle.serde_json.specs.Written.{compact_text}
-use Rattle.simple_asn1.specs.BlockParts.{all_in_order, tree_tag}
-use Rattle.simple_asn1.specs.Decimal.{natural_numeral}
-use Rattle.simple_asn1.specs.Fault.{DecodeFault}
-use Rattle.simple_asn1.specs.FaultPlace.{FirstFaultAt}
-use Rattle.simple_asn1.specs.Grammar.{IsDocument}
-use Rattle.simple_asn1.specs.Places.{TreeAt}
-use Rattle.simple_asn1.specs.Tree.{Leaf, Tree, Trees, leaf, group, explicit, unknown, boolean, integer, bit_string}
-use Rattle.simple_asn1.specs.Tree.{octet_string, null as null_leaf, object_identifier, text as text_leaf}
-use Rattle.simple_asn1.specs.Tree.{utc_time, generalized_time}
-use Rattle.simple_asn1.specs.View.{tree_class, tree_offset}
-use Rattle.simple_asn1.specs.declared.ASN1Class.{ASN1Class}
-use Rattle.simple_asn1.specs.declared.ASN1Class.TheVariants.{Application, ContextSpecific, Private, Universal}
+use Rattle.asn1_blocks.specs.BlockParts.{all_in_order, tree_tag}
+use Rattle.asn1_numbers.specs.Decimal.{natural_numeral, whole_numeral}
+use Rattle.asn1_headers.specs.Fault.{DecodeFault}
+use Rattle.asn1_blocks.specs.FaultPlace.{FirstFaultAt}
+use Rattle.asn1_blocks.specs.Grammar.{IsDocument}
+use Rattle.asn1_blocks.specs.Places.{TreeAt}
+use Rattle.asn1_blocks.specs.Tree.{Leaf, Tree, Trees, leaf, group, explicit, unknown, boolean, integer, bit_string}
+use Rattle.asn1_blocks.specs.Tree.{octet_string, null as null_leaf, object_identifier, text as text_leaf}
+use Rattle.asn1_blocks.specs.Tree.{utc_time, generalized_time}
+use Rattle.asn1_blocks.specs.View.{tree_class, tree_offset}
+use Rattle.asn1_headers.specs.declared.header.ASN1Class.{ASN1Class}
+use Rattle.asn1_headers.specs.declared.header.ASN1Class.TheVariants.{Application, ContextSpecific, Private, Universal}
 use Rattle.asn1_blocks.specs.declared.block.GroupKind.{GroupKind}
 use Rattle.asn1_blocks.specs.declared.block.GroupKind.TheVariants.{Sequence, Set}
+use Rattle.asn1_leaves.specs.Contents.Moment.{Moment, moment_of}
+use Rattle.asn1_leaves.specs.DottedDecimal.{dotted_decimal}
 use Rattle.asn1_leaves.specs.StringKind.{StringKind, utf8, printable, teletex, ia5, universal, bmp}
 use Rattle.der_json.specs.declared.line.Origin.{Origin}
 
 -- a natural number: greater ones than these are texts, since readers of JSON round them
 abbrev pub natural_json : ℕ → Data
 natural_json n = if nat_lt 9007199254740991 n then string (natural_numeral n) else number (unsigned n)
+
+-- a whole number, likewise
+abbrev pub whole_json : ℤ → Data
+whole_json n =
+    if nat_lt 9007199254740991 (unsigned_abs n) then string (whole_numeral n) else number (of_integer n)
 
 -- how a class is called
 abbrev pub class_name : ASN1Class → List ℕ
@@ -72,7 +83,38 @@ text_or_null (Some name) = string name
 abbrev pub type_json : Tree ℕ → Data
 type_json tree = text_or_null (type_name tree)
 
--- what an object tells of a block of the document: where it stands, how many octets it has, its class, tag and type
+-- the text of a moment: `2026-11-23T00:43:05Z`
+abbrev pub IsMomentText : Moment → List ℕ → Type 0
+IsMomentText moment text =
+    (datetime : DateTime) × (moment_of datetime ≡ moment) × (text ≡ iso_datetime_text datetime ++ codes "Z")
+
+-- bits: how many there are, and the octets that hold them
+abbrev pub bits_json : ℕ → List ℕ → Data
+bits_json bits octets =
+    object (member (codes "bits") (number (unsigned bits))
+    (member (codes "octets") (string (encode_lower octets)) no_members))
+
+-- the value of a leaf
+abbrev pub IsLeafValue : Leaf → Data → Type 0
+IsLeafValue (boolean b) value = value ≡ boolean_json b
+IsLeafValue (integer n) value = value ≡ whole_json n
+IsLeafValue (bit_string bits octets) value = value ≡ bits_json bits octets
+IsLeafValue (octet_string octets) value = value ≡ string (encode_lower octets)
+IsLeafValue null_leaf value = value ≡ null
+IsLeafValue (object_identifier components) value = value ≡ string (dotted_decimal components)
+IsLeafValue (text_leaf kind characters) value = (text : List ℕ) × (chars text ≡ characters) × (value ≡ string text)
+IsLeafValue (utc_time moment) value = (text : List ℕ) × IsMomentText moment text × (value ≡ string text)
+IsLeafValue (generalized_time moment) value = (text : List ℕ) × IsMomentText moment text × (value ≡ string text)
+
+-- the value of a block: none of one that holds blocks
+abbrev pub IsValue : Tree ℕ → Data → Type 0
+IsValue (leaf o l) value = IsLeafValue l value
+IsValue (group o g bs) value = value ≡ null
+IsValue (explicit c o n b) value = value ≡ null
+IsValue (unknown c k o n octets) value = value ≡ string (encode_lower octets)
+
+-- what an object tells of a block of the document: where it stands, how many octets it has, its class, tag, type and
+-- value
 pub record IsRow (document : List ℕ) (tree : Tree ℕ) (row : Data) : Type 0 where
   pub offset : get (codes "offset") row ≡ Some (number (unsigned (tree_offset tree)))
   pub size :
@@ -81,6 +123,7 @@ pub record IsRow (document : List ℕ) (tree : Tree ℕ) (row : Data) : Type 0 w
   pub class : get (codes "class") row ≡ Some (string (class_name (tree_class tree)))
   pub tag : get (codes "tag") row ≡ Some (natural_json (tree_tag tree))
   pub kind : get (codes "type") row ≡ Some (type_json tree)
+  pub value : (value : Data) × (get (codes "value") row ≡ Some value) × IsValue tree value
 
 -- an array of these
 abbrev pub items_of : List Data → Items

@@ -3,7 +3,7 @@ use Rattle.std.specs.Prelude.{◌≡◌, ℕ, Bool, true, false, List, [], ◌�
 use Rattle.std.specs.List.{AllZip}
 use Rattle.serde_json.specs.Data.{Data, Members, string}
 use Rattle.serde_json.specs.Written.{comma_if, compact_text, items_text, members_text}
-use Rattle.simple_asn1.specs.Tree.{Tree}
+use Rattle.asn1_blocks.specs.Tree.{Tree}
 use Rattle.der_json.specs.Json.{IsRow, items_of}
 
 -- the texts of these, with a comma between two of them

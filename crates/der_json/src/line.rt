@@ -4,15 +4,18 @@ ghost use Rattle.std.specs.Option.{option_map};
 ghost use Rattle.serde_json.specs.Data.{string};
 ghost use Rattle.serde_json.specs.View.{view};
 ghost use Rattle.serde_json.specs.Written.{comma_if, compact_text};
-ghost use Rattle.simple_asn1.specs.BlockParts.{all_in_order};
-ghost use Rattle.simple_asn1.specs.Types.{OutOfMemory};
-ghost use Rattle.simple_asn1.specs.View.{views};
+ghost use Rattle.asn1_blocks.specs.BlockParts.{all_in_order};
+ghost use Rattle.asn1_headers.specs.declared.error.ASN1DecodeErr.TheVariants.{OutOfMemory};
+ghost use Rattle.asn1_blocks.specs.View.{views};
 ghost use Rattle.der_json.specs.Json.{AddsJsonOf, origin_members, refusal_json, told_of, words_json};
 ghost use Rattle.der_json.specs.Rows.{AddsArray, AddsRows, end_text, told_text};
 
 use crate::row::{OpenBlocks, push_row};
+use asn1_blocks::block::ASN1Block;
+use asn1_blocks::block::parts::all_blocks;
+use asn1_blocks::document::Document;
+use asn1_headers::error::ASN1DecodeErr;
 use serde_json::{Value, json};
-use simple_asn1::{ASN1Block, ASN1DecodeErr, Document, all_blocks};
 use std::alloc::{AllocError, Global};
 
 /// Where octets are from, as far as a line tells it. Each text that is there is the member of its name, behind the

@@ -3,12 +3,13 @@ ghost use Rattle.std.specs.Prelude.{◌≡◌, ◌++◌, false, IfOk, OnOk};
 ghost use Rattle.serde_json.specs.Data.{Data};
 ghost use Rattle.serde_json.specs.View.{view};
 ghost use Rattle.serde_json.specs.Written.{compact_text, has_float};
-ghost use Rattle.simple_asn1.specs.View.{view as view_block};
+ghost use Rattle.asn1_blocks.specs.View.{view as view_block};
 ghost use Rattle.der_json.specs.Json.{IsRow};
 
 use crate::value::{class_name, tag_value, type_value, value_of};
+use asn1_blocks::block::ASN1Block;
+use asn1_blocks::encoding::encoding_at;
 use serde_json::{Value, json};
-use simple_asn1::{ASN1Block, encoding_at};
 use std::alloc::{AllocError, Global};
 
 // Where the blocks end that are around the next block, the innermost last.

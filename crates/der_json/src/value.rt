@@ -1,14 +1,23 @@
 // What is told of a block: its type, its tag, and what it holds. None of it is a float.
-ghost use Rattle.std.specs.Prelude.{◌≡◌, false, IfOk, option_map};
+ghost use Rattle.std.specs.Prelude.{◌≡◌, List, ℕ, false, IfOk, option_map};
+ghost use Rattle.hex.specs.Hex.{encode_lower};
+ghost use Rattle.asn1_leaves.specs.Contents.Moment.{moment_of};
 ghost use Rattle.serde_json.specs.View.{view};
 ghost use Rattle.serde_json.specs.Written.{has_float};
-ghost use Rattle.simple_asn1.specs.BlockParts.{tree_tag};
-ghost use Rattle.simple_asn1.specs.View.{view as view_block};
+ghost use Rattle.asn1_blocks.specs.BlockParts.{tree_tag};
+ghost use Rattle.asn1_blocks.specs.View.{view as view_block};
 ghost use Rattle.serde_json.specs.Data.{string};
-ghost use Rattle.der_json.specs.Json.{class_name as name_of, natural_json, type_json, type_name};
+ghost use Rattle.asn1_leaves.specs.DottedDecimal.{dotted_decimal};
+ghost use Rattle.der_json.specs.Json.{IsMomentText, IsValue, bits_json, class_name as name_of, natural_json, type_json};
+ghost use Rattle.der_json.specs.Json.{type_name, whole_json};
 
+use asn1_blocks::block::ASN1Block;
+use asn1_headers::header::ASN1Class;
+use asn1_leaves::oid::OID;
+use asn1_numbers::number::big_int::BigInt;
+use asn1_numbers::number::big_uint::BigUint;
+use jiff::civil::DateTime;
 use serde_json::{Value, json};
-use simple_asn1::{ASN1Block, ASN1Class, BigInt, BigUint};
 use std::alloc::{AllocError, Global};
 
 // The greatest number that every reader of JSON takes as it is (RFC 7493, section 2.2): 2^53 - 1.
@@ -85,7 +94,8 @@ fn natural_value(alloc: Global, number: &BigUint) -> Result<Value, AllocError>
 }
 
 fn integer_value(alloc: Global, number: &BigInt) -> Result<Value, AllocError>
-    ensures { IfOk result (λ v. has_float (view v) ≡ false) }
+    ensures told { IfOk result (λ v. view v ≡ whole_json number.now) }
+    ensures exact { IfOk result (λ v. has_float (view v) ≡ false) }
 {
     match number.to_i64() {
         Some(n) if n.unsigned_abs() <= GREATEST_NUMBER => Ok(Value::from(n)),
@@ -94,7 +104,8 @@ fn integer_value(alloc: Global, number: &BigInt) -> Result<Value, AllocError>
 }
 
 fn octets_value(alloc: Global, octets: &[u8]) -> Result<Value, AllocError>
-    ensures { IfOk result (λ v. has_float (view v) ≡ false) }
+    ensures told { IfOk result (λ v. view v ≡ string (encode_lower octets.now)) }
+    ensures exact { IfOk result (λ v. has_float (view v) ≡ false) }
 {
     Ok(Value::String(hex::encode(alloc, octets)?))
 }
@@ -107,30 +118,50 @@ fn text_value(alloc: Global, text: &str) -> Result<Value, AllocError>
 }
 
 fn bits_value(alloc: Global, bits: usize, octets: &[u8]) -> Result<Value, AllocError>
-    ensures { IfOk result (λ v. has_float (view v) ≡ false) }
+    ensures told { IfOk result (λ v. view v ≡ bits_json bits octets.now) }
+    ensures exact { IfOk result (λ v. has_float (view v) ≡ false) }
 {
     let digits = hex::encode(alloc, octets)?;
     json!(in alloc; {"bits": bits, "octets": digits})
 }
 
+fn identifier_value(alloc: Global, identifier: &OID) -> Result<Value, AllocError>
+    ensures told { IfOk result (λ v. view v ≡ string (dotted_decimal identifier.now)) }
+    ensures exact { IfOk result (λ v. has_float (view v) ≡ false) }
+{
+    Ok(Value::String(format!(in alloc; "{identifier}")?))
+}
+
+fn moment_value(alloc: Global, moment: &DateTime) -> Result<Value, AllocError>
+    ensures told { IfOk result (λ v. (text : List ℕ) × IsMomentText (moment_of moment.now) text × (view v ≡ string text)) }
+    ensures exact { IfOk result (λ v. has_float (view v) ≡ false) }
+{
+    Ok(Value::String(format!(in alloc; "{moment}Z")?))
+}
+
 // What a block holds, which is told after its type.
 pub fn value_of(alloc: Global, block: &ASN1Block) -> Result<Value, AllocError>
-    ensures { IfOk result (λ v. has_float (view v) ≡ false) }
+    ensures told { IfOk result (λ v. IsValue (view_block block.now) (view v)) }
+    ensures exact { IfOk result (λ v. has_float (view v) ≡ false) }
 {
     match block {
         ASN1Block::Boolean(_, value) => Ok(Value::Bool(*value)),
         ASN1Block::Integer(_, number) => integer_value(alloc, number),
         ASN1Block::BitString(_, bits, octets) => bits_value(alloc, *bits, octets),
         ASN1Block::OctetString(_, octets) => octets_value(alloc, octets),
-        ASN1Block::ObjectIdentifier(_, oid) => Ok(Value::String(format!(in alloc; "{oid}")?)),
-        ASN1Block::UTCTime(_, moment) => Ok(Value::String(format!(in alloc; "{moment}Z")?)),
-        ASN1Block::GeneralizedTime(_, moment) => {
-            Ok(Value::String(format!(in alloc; "{moment}Z")?))
-        }
+        ASN1Block::ObjectIdentifier(_, oid) => identifier_value(alloc, oid),
+        ASN1Block::UTCTime(_, moment) => moment_value(alloc, moment),
+        ASN1Block::GeneralizedTime(_, moment) => moment_value(alloc, moment),
         ASN1Block::Unknown(_, _, _, _, octets) => octets_value(alloc, octets),
-        _ => match block.text() {
-            Some(text) => text_value(alloc, text),
-            None => Ok(Value::Null),
-        },
+        ASN1Block::UTF8String(_, text)
+        | ASN1Block::PrintableString(_, text)
+        | ASN1Block::TeletexString(_, text)
+        | ASN1Block::IA5String(_, text)
+        | ASN1Block::UniversalString(_, text)
+        | ASN1Block::BMPString(_, text) => text_value(alloc, text),
+        ASN1Block::Null(_)
+        | ASN1Block::Sequence(_, _)
+        | ASN1Block::Set(_, _)
+        | ASN1Block::Explicit(_, _, _, _) => Ok(Value::Null),
     }
 }

@@ -3,9 +3,9 @@ use Rattle.std.proofs.Common.{◌≡◌, ◌⊎◌, inl, inr, ℕ, suc, ◌+◌,
 use Rattle.std.proofs.Common.{length, map, refl, sym, ap, ◌∙◌, append_assoc, append-nil, arith, Bor}
 use Rattle.std.proofs.lemmas.List.{length-map, length_push, map_push}
 use Rattle.std.specs.Prelude.{MatchOption, Option, None, Some, is_some}
-use Rattle.simple_asn1.specs.Types.{ASN1Block}
-use Rattle.simple_asn1.specs.Tree.{Tree, Trees, leaf, group, explicit, unknown, no_trees, more_trees}
-use Rattle.simple_asn1.specs.View.{tree_offset, view, views}
+use Rattle.asn1_blocks.specs.declared.block.ASN1Block.{ASN1Block}
+use Rattle.asn1_blocks.specs.Tree.{Tree, Trees, leaf, group, explicit, unknown, no_trees, more_trees}
+use Rattle.asn1_blocks.specs.View.{tree_offset, view, views}
 use Rattle.der_lines.specs.Dump.{all_offsets, is_too_deep, offsets_in, offsets_in_down_to, offsets_down_to}
 use Rattle.der_lines.specs.Steps.{left_of, trees_in}
 

@@ -7,8 +7,8 @@ use Rattle.std.proofs.lemmas.List.Elements.{All-cons, All-head, All-nil, All-tai
 use Rattle.std.specs.Fmt.{decimal}
 use Rattle.std.specs.Prelude.{Option, Result, Ok, Err, OnOk}
 use Rattle.std.specs.declared.alloc.AllocError.{AllocError}
-use Rattle.simple_asn1.specs.Grammar.{IsDocument}
-use Rattle.simple_asn1.specs.Tree.{Trees}
+use Rattle.asn1_blocks.specs.Grammar.{IsDocument}
+use Rattle.asn1_blocks.specs.Tree.{Trees}
 use Rattle.der_lines.specs.Dump.{Adds, AddsLine, IsBlockLine, IsDump, IsFaultLine, IsInsideLine, IsNote, IsOneLine, on_one_line}
 use Rattle.der_lines.specs.Dump.{HasBlockAt, HasHeaderAt, StandAt, StandsInside, all_offsets, offsets_down_to, block_line, inside_line, no_lines}
 use Rattle.der_lines.specs.Steps.{IsLineOf, PlacedInside, shown_at}

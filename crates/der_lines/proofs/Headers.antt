@@ -26,8 +26,8 @@ use Rattle.std.proofs.Math.Seq.{take-add}
 use Rattle.std.specs.Prelude.{Option, None, Result, Ok, Err, IfOk, MatchOption}
 use Rattle.std.specs.declared.alloc.AllocError.{AllocError}
 use Rattle.std.proofs.lemmas.List.{drop_at, length-take-le, take-append-drop, take_at}
-use Rattle.simple_asn1.specs.Header.{BeginsWithNo, IsIdentifier, IsLength, IsSomeIdentifier}
-use Rattle.simple_asn1.specs.Laws.Header.{HeaderLaws}
+use Rattle.asn1_headers.specs.Header.{BeginsWithNo, IsIdentifier, IsLength, IsSomeIdentifier}
+use Rattle.asn1_headers.proofs.Prefixes.{identifier_alone}
 use Rattle.der_lines.specs.Dump.{HasNoHeader, IsHeader}
 use Rattle.der_lines.specs.Steps.{IsAtFront}
 use Rattle.der_lines.specs.declared.header.Header.{Header}
@@ -61,14 +61,14 @@ no_identifier octets none header rest (identifier, len, is, (tag, i), l) q =
 
 -- so does what has no length octets after its identifier octets, which are the only ones
 pub no_length :
-    HeaderLaws → (octets : List ℕ) (s m : ℕ) → s ≤ length octets → IsSomeIdentifier (slice_range octets 0 s) m →
+    (octets : List ℕ) (s m : ℕ) → s ≤ length octets → IsSomeIdentifier (slice_range octets 0 s) m →
     BeginsWithNo IsLength (drop s octets) → HasNoHeader octets
-no_length law octets s m fits (c, j, found) none header rest (identifier, len, is, (tag, (d, k, i)), (n, l)) q =
+no_length octets s m fits (c, j, found) none header rest (identifier, len, is, (tag, (d, k, i)), (n, l)) q =
     let whole : octets ≡ identifier ++ (len ++ rest) = q ∙ (ap (λ z. z ++ rest) is ∙ append_assoc identifier len rest) in
     let parts : take s octets ++ drop s octets ≡ identifier ++ (len ++ rest) = take-append-drop s octets ∙ whole in
-    let same = law.one_identifier (take s octets) identifier (drop s octets) (len ++ rest) c d j k m tag
+    let same = identifier_alone (take s octets) identifier (drop s octets) (len ++ rest) c d j k m tag
     (subst (λ z. IsIdentifier z c j m) (front octets s) found) i parts in
-    let size : length identifier ≡ s = sym (ap length same.0) ∙ length-take-le s octets fits in
+    let size : length identifier ≡ s = sym (ap length same.octets) ∙ length-take-le s octets fits in
     let behind : drop s octets ≡ len ++ rest = ap (drop s) whole ∙ drop_at identifier (len ++ rest) s size in
     let e : take (length len) (drop s octets) ≡ len = ap (take (length len)) behind ∙ take_at len rest (length len) refl in
     none n (length len) (subst (λ z. IsLength z n) (sym e) l)

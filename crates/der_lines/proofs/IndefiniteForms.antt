@@ -5,12 +5,12 @@ use Rattle.std.proofs.lemmas.List.{drop_at, drop_min, length-take-le, take-appen
 use Rattle.std.proofs.lemmas.List.Elements.{All-push}
 use Rattle.std.specs.Prelude.{Result, Ok, Err, IfOk, IsTrue}
 use Rattle.std.specs.declared.alloc.AllocError.{AllocError}
-use Rattle.simple_asn1.specs.Header.{BeginsWithNo, IsIdentifier, IsSomeIdentifier}
-use Rattle.simple_asn1.specs.Laws.Header.{HeaderLaws}
+use Rattle.asn1_headers.specs.Header.{BeginsWithNo, IsIdentifier, IsSomeIdentifier}
+use Rattle.asn1_headers.proofs.Prefixes.{identifier_alone}
 use Rattle.der_lines.specs.Dump.{AreDefinite, HasIndefiniteForm, IsFirstIndefinite}
 use Rattle.der_lines.proofs.Headers.{front}
 
-module _ (law : HeaderLaws) (octets behind : List ℕ) (s m : ℕ) (class : _) (constructed : Bool) (fits : s ≤ length octets)
+module _ (octets behind : List ℕ) (s m : ℕ) (class : _) (constructed : Bool) (fits : s ≤ length octets)
     (found : IsIdentifier (slice_range octets 0 s) class constructed m) (back : behind ≡ drop s octets) where
   identifier_is : IsIdentifier (take s octets) class constructed m
   identifier_is = subst (λ z. IsIdentifier z class constructed m) (front octets s) found
@@ -18,10 +18,10 @@ module _ (law : HeaderLaws) (octets behind : List ℕ) (s m : ℕ) (class : _) (
   -- a header of the form has these identifier octets
   form_alone : HasIndefiniteForm octets → (constructed ≡ true) × ((rest : List ℕ) × (behind ≡ 128 ∷ rest))
   form_alone (identifier, rest, whole, (other, tag, is)) =
-      let (octets_same, classes, bits, tags) = law.one_identifier (take s octets) identifier (drop s octets) (128 ∷ rest)
+      let same = identifier_alone (take s octets) identifier (drop s octets) (128 ∷ rest)
       class other constructed true m tag identifier_is is (take-append-drop s octets ∙ whole) in
-      let size : length identifier ≡ s = sym (ap length octets_same) ∙ length-take-le s octets fits in
-      (bits, (rest, back ∙ (ap (drop s) whole ∙ drop_at identifier (128 ∷ rest) s size)))
+      let size : length identifier ≡ s = sym (ap length same.octets) ∙ length-take-le s octets fits in
+      (same.constructed, (rest, back ∙ (ap (drop s) whole ∙ drop_at identifier (128 ∷ rest) s size)))
 
   form_there : (rest : List ℕ) → constructed ≡ true → behind ≡ 128 ∷ rest → HasIndefiniteForm octets
   form_there rest is_so is = (

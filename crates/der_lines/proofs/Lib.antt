@@ -4,5 +4,4 @@ mod Headers
 mod IndefiniteForms
 mod PartsOfBlocks
 mod Shown
-mod StrictFaults
 mod Walks

@@ -9,16 +9,16 @@ use Rattle.std.specs.List.{All}
 use Rattle.std.specs.Prelude.{IfOk, IsTrue, MatchOption, OnOk, Option, None, Some, Result, Ok, Err, is_some}
 use Rattle.std.specs.declared.alloc.AllocError.{AllocError}
 use Rattle.asn1_blocks.specs.declared.block.GroupKind.{GroupKind}
-use Rattle.simple_asn1.specs.declared.ASN1Class.{ASN1Class}
-use Rattle.simple_asn1.specs.declared.ASN1Class.TheVariants.{Universal}
+use Rattle.asn1_headers.specs.declared.header.ASN1Class.{ASN1Class}
+use Rattle.asn1_headers.specs.declared.header.ASN1Class.TheVariants.{Universal}
 use Rattle.asn1_blocks.proofs.OneReading.{block_some, encodes_block, only}
 use Rattle.asn1_blocks.proofs.Slices.{encodes_all_at, encodes_joined, open_contents, open_first, open_rest}
-use Rattle.simple_asn1.specs.Contents.{group_tag}
-use Rattle.simple_asn1.specs.Grammar.{Encodes, EncodesAll, IsDocument}
-use Rattle.simple_asn1.specs.Header.{Encoding, IsIdentifier, IsLength}
-use Rattle.simple_asn1.specs.Laws.Header.{HeaderLaws}
-use Rattle.simple_asn1.specs.Places.{EncodingAt, IsEncoding, all_later, joined, with_offsets}
-use Rattle.simple_asn1.specs.Tree.{Tree, Trees, leaf, group, explicit, unknown, no_trees, more_trees}
+use Rattle.asn1_blocks.specs.Contents.{group_tag}
+use Rattle.asn1_blocks.specs.Grammar.{Encodes, EncodesAll, IsDocument}
+use Rattle.asn1_headers.specs.Header.{Encoding, IsIdentifier, IsLength}
+use Rattle.asn1_headers.proofs.Prefixes.{identifier_alone, length_alone}
+use Rattle.asn1_blocks.specs.Places.{EncodingAt, IsEncoding, all_later, joined, with_offsets}
+use Rattle.asn1_blocks.specs.Tree.{Tree, Trees, leaf, group, explicit, unknown, no_trees, more_trees}
 use Rattle.der_lines.specs.Dump.{Adds, AddsBlocksOf, AddsLine, AreDefinite, HasIndefiniteForm, all_offsets, is_too_deep, offsets_in}
 use Rattle.der_lines.specs.Dump.{offsets_down_to, offsets_in_down_to}
 use Rattle.der_lines.specs.Steps.{IsAtFront, IsLineOf, Keeps, PlacedInside, PutsBlocks, shown_at}
@@ -142,104 +142,103 @@ there_inside octets o there =
     sym (length-drop o octets) ∙ (ap length there.is ∙ length-append there.identifier (there.first ∷ there.behind)) in
     omega (arith, left)
 
-module _ (law : HeaderLaws) where
-  -- the form of what stands at the front does not depend on what stands behind
-  form_of_part : (part rest : List ℕ) (o : ℕ) → HeaderThere part o → HasIndefiniteForm (drop o part ++ rest) → HasIndefiniteForm (drop o part)
-  form_of_part part rest o there (identifier, behind, whole, (class, tag, is)) =
-      let parted : there.identifier ++ ((there.first ∷ there.behind) ++ rest) ≡ identifier ++ (128 ∷ behind) =
-      sym (append_assoc there.identifier (there.first ∷ there.behind) rest) ∙ (ap (λ z. z ++ rest) (sym there.is) ∙ whole) in
-      let same = law.one_identifier there.identifier identifier ((there.first ∷ there.behind) ++ rest) (128 ∷ behind)
-      there.class class there.constructed true there.tag tag there.fields is parted in
-      let after : (there.first ∷ there.behind) ++ rest ≡ 128 ∷ behind =
-      sym (drop_at there.identifier ((there.first ∷ there.behind) ++ rest) (length identifier) (ap length same.0))
-      ∙ (ap (drop (length identifier)) parted ∙ drop_at identifier (128 ∷ behind) (length identifier) refl) in
-      let first : there.first ≡ 128 = cc after in
-      let is_so : drop o part ≡ identifier ++ 128 ∷ there.behind =
-      there.is ∙ (ap (λ z. z ++ there.first ∷ there.behind) same.0 ∙ ap (λ z. identifier ++ z ∷ there.behind) first) in
-      (identifier, there.behind, is_so, (class, tag, is))
+-- the form of what stands at the front does not depend on what stands behind
+form_of_part : (part rest : List ℕ) (o : ℕ) → HeaderThere part o → HasIndefiniteForm (drop o part ++ rest) → HasIndefiniteForm (drop o part)
+form_of_part part rest o there (identifier, behind, whole, (class, tag, is)) =
+    let parted : there.identifier ++ ((there.first ∷ there.behind) ++ rest) ≡ identifier ++ (128 ∷ behind) =
+    sym (append_assoc there.identifier (there.first ∷ there.behind) rest) ∙ (ap (λ z. z ++ rest) (sym there.is) ∙ whole) in
+    let same = identifier_alone there.identifier identifier ((there.first ∷ there.behind) ++ rest) (128 ∷ behind)
+    there.class class there.constructed true there.tag tag there.fields is parted in
+    let after : (there.first ∷ there.behind) ++ rest ≡ 128 ∷ behind =
+    sym (drop_at there.identifier ((there.first ∷ there.behind) ++ rest) (length identifier) (ap length same.octets))
+    ∙ (ap (drop (length identifier)) parted ∙ drop_at identifier (128 ∷ behind) (length identifier) refl) in
+    let first : there.first ≡ 128 = cc after in
+    let is_so : drop o part ≡ identifier ++ 128 ∷ there.behind =
+    there.is ∙ (ap (λ z. z ++ there.first ∷ there.behind) same.octets ∙ ap (λ z. identifier ++ z ∷ there.behind) first) in
+    (identifier, there.behind, is_so, (class, tag, is))
 
-  -- blocks of a part of octets are definite there, too
-  pub later_definite :
-      (octets part rest : List ℕ) (m : ℕ) (bs : Trees ℕ) → drop m octets ≡ part ++ rest → EncodesAll 0 part bs → AreDefinite part (all_offsets bs) →
-      AreDefinite octets (all_offsets (all_later m bs))
-  later_definite octets part rest m bs at e definite =
-      subst (AreDefinite octets) (sym (all_offsets_later m bs))
-      (All-map (λ o. HasIndefiniteForm (drop o octets) → ⊥) (λ o. m + o) (all_offsets bs) one)
-    where
-      headers : All (HeaderThere part) (all_offsets bs)
-      headers = headers_among part [] part [] bs (sym (append-nil part)) e
+-- blocks of a part of octets are definite there, too
+pub later_definite :
+    (octets part rest : List ℕ) (m : ℕ) (bs : Trees ℕ) → drop m octets ≡ part ++ rest → EncodesAll 0 part bs → AreDefinite part (all_offsets bs) →
+    AreDefinite octets (all_offsets (all_later m bs))
+later_definite octets part rest m bs at e definite =
+    subst (AreDefinite octets) (sym (all_offsets_later m bs))
+    (All-map (λ o. HasIndefiniteForm (drop o octets) → ⊥) (λ o. m + o) (all_offsets bs) one)
+  where
+    headers : All (HeaderThere part) (all_offsets bs)
+    headers = headers_among part [] part [] bs (sym (append-nil part)) e
 
-      one : All (λ o. HasIndefiniteForm (drop (m + o) octets) → ⊥) (all_offsets bs)
-      one k d inside has =
-          let o = get_or (all_offsets bs) k d in
-          let there = headers k d inside in
-          let here : drop (m + o) octets ≡ drop o (part ++ rest) = sym (drop-drop o m octets) ∙ ap (drop o) at in
-          let fits : o ≤ length part = there_inside part o there in
-          definite k d inside (form_of_part part rest o there (subst HasIndefiniteForm (here ∙ drop-append-le o part rest fits) has))
+    one : All (λ o. HasIndefiniteForm (drop (m + o) octets) → ⊥) (all_offsets bs)
+    one k d inside has =
+        let o = get_or (all_offsets bs) k d in
+        let there = headers k d inside in
+        let here : drop (m + o) octets ≡ drop o (part ++ rest) = sym (drop-drop o m octets) ∙ ap (drop o) at in
+        let fits : o ≤ length part = there_inside part o there in
+        definite k d inside (form_of_part part rest o there (subst HasIndefiniteForm (here ∙ drop-append-le o part rest fits) has))
 
-  module _ (octets : List ℕ) (header : Header) (there : IsAtFront octets header) (e : IsEncoding octets) where
-    abbrev behind : List ℕ
-    behind = drop header.size octets
+module _ (octets : List ℕ) (header : Header) (there : IsAtFront octets header) (e : IsEncoding octets) where
+  abbrev behind : List ℕ
+  behind = drop header.size octets
 
-    whole : octets ≡ there.identifier ++ (there.len ++ behind)
-    whole =
-        sym (take-append-drop header.size octets)
-        ∙ (ap (λ z. z ++ behind) there.is ∙ append_assoc there.identifier there.len behind)
+  whole : octets ≡ there.identifier ++ (there.len ++ behind)
+  whole =
+      sym (take-append-drop header.size octets)
+      ∙ (ap (λ z. z ++ behind) there.is ∙ append_assoc there.identifier there.len behind)
 
-    size : header.size ≡ length there.identifier + length there.len
-    size =
-        sym (length-take-le header.size octets there.fits)
-        ∙ (ap length there.is ∙ length-append there.identifier there.len)
+  size : header.size ≡ length there.identifier + length there.len
+  size =
+      sym (length-take-le header.size octets there.fits)
+      ∙ (ap length there.is ∙ length-append there.identifier there.len)
 
-    -- the contents octets that it announces are all that stands behind it
-    announced : header.announced ≡ length behind
-    announced =
-        let f = e.encoding in
-        let parted = sym whole ∙ f.whole in
-        let same = law.one_identifier there.identifier f.identifier (there.len ++ behind) (f.len ++ e.contents)
-        header.class e.class header.constructed e.constructed header.tag e.tag there.fields f.identifier_octets parted in
-        let after : there.len ++ behind ≡ f.len ++ e.contents =
-        sym (drop_at there.identifier (there.len ++ behind) (length f.identifier) (ap length same.0))
-        ∙ (ap (drop (length f.identifier)) parted ∙ drop_at f.identifier (f.len ++ e.contents) (length f.identifier) refl) in
-        let lengths = law.one_length there.len f.len behind e.contents header.announced (length e.contents) there.announces f.length_octets after in
-        let sum : length there.len + length behind ≡ length f.len + length e.contents =
-        sym (length-append there.len behind) ∙ (ap length after ∙ length-append f.len e.contents) in
-        omega (arith, lengths.1, ap length lengths.0, sum)
+  -- the contents octets that it announces are all that stands behind it
+  announced : header.announced ≡ length behind
+  announced =
+      let f = e.encoding in
+      let parted = sym whole ∙ f.whole in
+      let same = identifier_alone there.identifier f.identifier (there.len ++ behind) (f.len ++ e.contents)
+      header.class e.class header.constructed e.constructed header.tag e.tag there.fields f.identifier_octets parted in
+      let after : there.len ++ behind ≡ f.len ++ e.contents =
+      sym (drop_at there.identifier (there.len ++ behind) (length f.identifier) (ap length same.octets))
+      ∙ (ap (drop (length f.identifier)) parted ∙ drop_at f.identifier (f.len ++ e.contents) (length f.identifier) refl) in
+      let lengths = length_alone there.len f.len behind e.contents header.announced (length e.contents) there.announces f.length_octets after in
+      let sum : length there.len + length behind ≡ length f.len + length e.contents =
+      sym (length-append there.len behind) ∙ (ap length after ∙ length-append f.len e.contents) in
+      omega (arith, lengths.number, ap length lengths.octets, sum)
 
-    encoding_here : Encoding octets header.class header.constructed header.tag behind header.size
-    encoding_here = record {
-      identifier = there.identifier;
-      len = there.len;
-      identifier_octets = there.fields;
-      length_octets = subst (IsLength there.len) announced there.announces;
-      whole = whole;
-      size = size;
-    }
+  encoding_here : Encoding octets header.class header.constructed header.tag behind header.size
+  encoding_here = record {
+    identifier = there.identifier;
+    len = there.len;
+    identifier_octets = there.fields;
+    length_octets = subst (IsLength there.len) announced there.announces;
+    whole = whole;
+    size = size;
+  }
 
-    -- of a length that is not 0 none is the indefinite form
-    definite_header : 0 < header.announced → HasIndefiniteForm octets → ⊥
-    definite_header some (identifier, rest, is, (class, tag, fields)) =
-        let parted = sym whole ∙ is in
-        let same = law.one_identifier there.identifier identifier (there.len ++ behind) (128 ∷ rest)
-        header.class class header.constructed true header.tag tag there.fields fields parted in
-        let after : there.len ++ behind ≡ 128 ∷ rest =
-        sym (drop_at there.identifier (there.len ++ behind) (length identifier) (ap length same.0))
-        ∙ (ap (drop (length identifier)) parted ∙ drop_at identifier (128 ∷ rest) (length identifier) refl) in
-        not_80 there.len behind rest header.announced there.announces some after
+  -- of a length that is not 0 none is the indefinite form
+  definite_header : 0 < header.announced → HasIndefiniteForm octets → ⊥
+  definite_header some (identifier, rest, is, (class, tag, fields)) =
+      let parted = sym whole ∙ is in
+      let same = identifier_alone there.identifier identifier (there.len ++ behind) (128 ∷ rest)
+      header.class class header.constructed true header.tag tag there.fields fields parted in
+      let after : there.len ++ behind ≡ 128 ∷ rest =
+      sym (drop_at there.identifier (there.len ++ behind) (length identifier) (ap length same.octets))
+      ∙ (ap (drop (length identifier)) parted ∙ drop_at identifier (128 ∷ rest) (length identifier) refl) in
+      not_80 there.len behind rest header.announced there.announces some after
 
-    -- the trees that it holds make one
-    encodes_group :
-        (kind : GroupKind) (bs : Trees ℕ) → header.class ≡ Universal → header.tag ≡ group_tag kind → EncodesAll 0 behind bs →
-        Encodes 0 octets (group 0 kind (all_later header.size bs))
-    encodes_group kind bs c t s = record {
-      constructed = header.constructed;
-      contents = behind;
-      header = header.size;
-      encoding = subst (λ z. Encoding octets Universal header.constructed z behind header.size) t
-          (subst (λ z. Encoding octets z header.constructed header.tag behind header.size) c encoding_here);
-      place = refl;
-      means = encodes_all_at (λ o. o + header.size) 0 (0 + header.size) behind bs (λ d. omega arith) s;
-    }
+  -- the trees that it holds make one
+  encodes_group :
+      (kind : GroupKind) (bs : Trees ℕ) → header.class ≡ Universal → header.tag ≡ group_tag kind → EncodesAll 0 behind bs →
+      Encodes 0 octets (group 0 kind (all_later header.size bs))
+  encodes_group kind bs c t s = record {
+    constructed = header.constructed;
+    contents = behind;
+    header = header.size;
+    encoding = subst (λ z. Encoding octets Universal header.constructed z behind header.size) t
+        (subst (λ z. Encoding octets z header.constructed header.tag behind header.size) c encoding_here);
+    place = refl;
+    means = encodes_all_at (λ o. o + header.size) 0 (0 + header.size) behind bs (λ d. omega arith) s;
+  }
 
 -- the lines of a part, as lines of all
 lines_at :
@@ -264,7 +263,7 @@ lines_at place here octets part rest m depth bs b c at i base d most lines =
 
 -- a SEQUENCE or SET, by its header and then its contents octets
 module _
-    (law : HeaderLaws) (place inner : Place) (octets : List ℕ) (header : Header) (kind : GroupKind) (a b c : List ℕ)
+    (place inner : Place) (octets : List ℕ) (header : Header) (kind : GroupKind) (a b c : List ℕ)
     (there : IsAtFront octets header) (e : IsEncoding octets) (universal : header.class ≡ Universal) (tag : header.tag ≡ group_tag kind)
     (p : PutsBlocks inner (drop header.size octets) b c) where
   abbrev held : Trees ℕ
@@ -274,7 +273,7 @@ module _
   whole_tree = more_trees (group 0 kind held) no_trees
 
   encoded : Encodes 0 octets (group 0 kind held)
-  encoded = encodes_group law octets header there e kind p.trees universal tag p.blocks
+  encoded = encodes_group octets header there e kind p.trees universal tag p.blocks
 
   behind_header : drop header.size octets ≡ drop header.size octets ++ []
   behind_header = sym (append-nil (drop header.size octets))
@@ -288,9 +287,9 @@ module _
   group_definite : 0 < header.announced → AreDefinite octets (all_offsets whole_tree)
   group_definite some =
       let P : ℕ → Type 0 = λ o. HasIndefiniteForm (drop o octets) → ⊥ in
-      let inside = later_definite law octets (drop header.size octets) [] header.size p.trees behind_header p.blocks p.definite in
+      let inside = later_definite octets (drop header.size octets) [] header.size p.trees behind_header p.blocks p.definite in
       All-append P (0 ∷ all_offsets held) []
-      (All-cons P 0 (all_offsets held) (definite_header law octets header there e some) inside) (All-nil P)
+      (All-cons P 0 (all_offsets held) (definite_header octets header there e some) inside) (All-nil P)
 
   module _
       (i : inner.is_inside ≡ place.is_inside) (base : inner.base ≡ place.base + header.size) (d : inner.depth ≡ suc place.depth)
@@ -348,11 +347,11 @@ put_none_yet place octets a = record {
 }
 
 pub put_more :
-    HeaderLaws → (place here : Place) (octets part rest : List ℕ) (next after : ℕ) (a b c : List ℕ) → next ≤ length octets →
+    (place here : Place) (octets part rest : List ℕ) (next after : ℕ) (a b c : List ℕ) → next ≤ length octets →
     drop next octets ≡ part ++ rest →
     here.is_inside ≡ place.is_inside → here.base ≡ place.base + next → here.depth ≡ place.depth → here.most_depth ≡ place.most_depth →
     after ≡ next + length part → PutTo place octets next a b → PutsBlocks here part b c → PutTo place octets after a c
-put_more law place here octets part rest next after a b c fits at i base d most n before p =
+put_more place here octets part rest next after a b c fits at i base d most n before p =
     let Q = PlacedInside place.base octets in
     let front = take next octets in
     let more = all_later next p.trees in
@@ -368,7 +367,7 @@ put_more law place here octets part rest next after a b c fits at i base d most 
       blocks = subst (λ z. EncodesAll 0 z (joined before.trees more)) (sym longer) (encodes_joined 0 front part before.trees more before.blocks there);
       definite = subst (AreDefinite octets) (sym (all_offsets_joined before.trees more))
           (All-append (λ o. HasIndefiniteForm (drop o octets) → ⊥) _ _ before.definite
-          (later_definite law octets part rest next p.trees at p.blocks p.definite));
+          (later_definite octets part rest next p.trees at p.blocks p.definite));
       lines = subst (λ z. Adds Q z a c)
           (sym (ap (shown_at place.is_inside place.base) (down_to_joined place.most_depth place.depth before.trees more)
           ∙ shown_join place.is_inside place.base _ _))

@@ -2,11 +2,11 @@
 use Rattle.std.proofs.Common.{◌≡◌, inl, inr, ℕ, suc, ◌+◌, ◌-◌, min, ◌<◌, ◌≤◌, Bool, true, false, List}
 use Rattle.std.proofs.Common.{[], ◌∷◌, ◌++◌, drop, length, map, take, refl, sym, ap, ◌∙◌, subst, append_assoc, append-nil, arith}
 use Rattle.std.proofs.lemmas.List.{drop-drop, drop_at, drop_min, length-drop, length-take-le, nil_from_length, take-append-drop}
-use Rattle.simple_asn1.specs.Fault.{DecodeFault, OutOfMemoryOr, fault_of}
-use Rattle.simple_asn1.specs.Types.{OutOfMemory}
-use Rattle.simple_asn1.specs.Grammar.{FirstFault, IsDocument}
-use Rattle.simple_asn1.specs.Places.{EncodingAt, IsEncoding}
-use Rattle.simple_asn1.specs.Tree.{Tree, Trees, leaf, group, explicit, unknown, no_trees, more_trees}
+use Rattle.asn1_headers.specs.Fault.{DecodeFault, OutOfMemoryOr, fault_of}
+use Rattle.asn1_headers.specs.declared.error.ASN1DecodeErr.TheVariants.{OutOfMemory}
+use Rattle.asn1_blocks.specs.Grammar.{FirstFault, IsDocument}
+use Rattle.asn1_blocks.specs.Places.{EncodingAt, IsEncoding}
+use Rattle.asn1_blocks.specs.Tree.{Tree, Trees, leaf, group, explicit, unknown, no_trees, more_trees}
 use Rattle.der_lines.specs.Dump.{Adds, AddsLine, AreHeaders, AreShown, HasNoHeader, IsHeader, gone_into, passed_over}
 use Rattle.der_lines.specs.Dump.{StandAt, all_offsets, offsets_in, document_lines, header_line, leaf_line, no_more}
 use Rattle.der_lines.specs.declared.header.Header.{Header}

@@ -1,10 +1,10 @@
 -- The offsets of blocks in tree order.
 use Rattle.std.proofs.Common.{◌≡◌, ℕ, ◌+◌, ◌<◌, ◌≤◌, List, [], ◌∷◌, ◌++◌, length, map, drop, get_or, refl, sym, ap, ◌∙◌, Bor}
 use Rattle.std.proofs.lemmas.List.{drop_all, drop_more, map-append}
-use Rattle.simple_asn1.specs.Types.{ASN1Block}
-use Rattle.simple_asn1.specs.BlockParts.{in_order, all_in_order}
-use Rattle.simple_asn1.specs.Tree.{Tree, Trees, leaf, group, explicit, unknown, no_trees, more_trees}
-use Rattle.simple_asn1.specs.View.{tree_offset, view}
+use Rattle.asn1_blocks.specs.declared.block.ASN1Block.{ASN1Block}
+use Rattle.asn1_blocks.specs.BlockParts.{in_order, all_in_order}
+use Rattle.asn1_blocks.specs.Tree.{Tree, Trees, leaf, group, explicit, unknown, no_trees, more_trees}
+use Rattle.asn1_blocks.specs.View.{tree_offset, view}
 use Rattle.der_lines.specs.Dump.{all_offsets, offsets_in}
 
 mutual

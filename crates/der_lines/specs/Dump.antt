@@ -6,13 +6,13 @@ use Rattle.std.specs.Prelude.{drop, length, map, replicate, codes, decimal}
 use Rattle.std.specs.List.{All}
 use Rattle.der_lines.specs.declared.document.Verdict.{Verdict}
 use Rattle.der_lines.specs.declared.document.Verdict.TheVariants.{AllRead, Refused}
-use Rattle.simple_asn1.specs.Fault.{DecodeFault}
-use Rattle.simple_asn1.specs.FaultPlace.{FirstFaultAt}
-use Rattle.simple_asn1.specs.Grammar.{FirstFault, IsDocument}
-use Rattle.simple_asn1.specs.Header.{IsIdentifier, IsLength, IsSomeIdentifier}
-use Rattle.simple_asn1.specs.Places.{IsEncoding}
-use Rattle.simple_asn1.specs.declared.ASN1Class.{ASN1Class}
-use Rattle.simple_asn1.specs.Tree.{Tree, Trees, leaf, group, explicit, unknown, no_trees, more_trees}
+use Rattle.asn1_headers.specs.Fault.{DecodeFault}
+use Rattle.asn1_blocks.specs.FaultPlace.{FirstFaultAt}
+use Rattle.asn1_blocks.specs.Grammar.{FirstFault, IsDocument}
+use Rattle.asn1_headers.specs.Header.{IsIdentifier, IsLength, IsSomeIdentifier}
+use Rattle.asn1_blocks.specs.Places.{IsEncoding}
+use Rattle.asn1_headers.specs.declared.header.ASN1Class.{ASN1Class}
+use Rattle.asn1_blocks.specs.Tree.{Tree, Trees, leaf, group, explicit, unknown, no_trees, more_trees}
 
 abbrev mutual
   -- the offsets of a tree and of all inside it, each before those that it holds

@@ -1,3 +1,2 @@
 pub mod Dump
 pub mod Steps
-pub mod Strict

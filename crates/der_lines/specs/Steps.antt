@@ -1,20 +1,20 @@
 -- What is put step by step. Private contracts alone name these.
 use Rattle.std.specs.Prelude.{◌≡◌, ◌⊎◌, ℕ, suc, ◌+◌, ◌<◌, ◌≤◌, Option, Bool, true, false, List, [], ◌∷◌, ◌++◌, length}
 use Rattle.std.specs.Prelude.{map, take, unwrap_or}
-use Rattle.simple_asn1.specs.Fault.{DecodeFault}
-use Rattle.simple_asn1.specs.Grammar.{EncodesAll, FirstFault, IsDocument}
-use Rattle.simple_asn1.specs.Header.{IsIdentifier, IsLength}
-use Rattle.simple_asn1.specs.Contents.{group_tag}
+use Rattle.asn1_headers.specs.Fault.{DecodeFault}
+use Rattle.asn1_blocks.specs.Grammar.{EncodesAll, FirstFault, IsDocument}
+use Rattle.asn1_headers.specs.Header.{IsIdentifier, IsLength}
+use Rattle.asn1_blocks.specs.Contents.{group_tag}
 use Rattle.asn1_blocks.specs.declared.block.GroupKind.{GroupKind}
-use Rattle.simple_asn1.specs.declared.ASN1Class.TheVariants.{Universal}
-use Rattle.simple_asn1.specs.Places.{IsEncoding}
-use Rattle.simple_asn1.specs.BlockParts.{tree_items}
-use Rattle.simple_asn1.specs.Tree.{Tree, Trees, no_trees}
+use Rattle.asn1_headers.specs.declared.header.ASN1Class.TheVariants.{Universal}
+use Rattle.asn1_blocks.specs.Places.{IsEncoding}
+use Rattle.asn1_blocks.specs.BlockParts.{tree_items}
+use Rattle.asn1_blocks.specs.Tree.{Tree, Trees, no_trees}
 use Rattle.der_lines.specs.Dump.{Adds, AreDefinite, AreHeaders, AreShown, HasNoHeader, IsBlockLine, IsHeader}
 use Rattle.der_lines.specs.Dump.{IsInsideLine}
 use Rattle.der_lines.specs.Dump.{StandAt, StandsInside, all_offsets, offsets_down_to}
-use Rattle.simple_asn1.specs.Types.{ASN1Block}
-use Rattle.simple_asn1.specs.View.{document_trees, views}
+use Rattle.asn1_blocks.specs.declared.block.ASN1Block.{ASN1Block}
+use Rattle.asn1_blocks.specs.View.{document_trees, views}
 use Rattle.der_lines.specs.declared.held.Held.{Held}
 use Rattle.der_lines.specs.declared.held.Inside.{Inside}
 use Rattle.der_lines.specs.declared.held.Inside.TheVariants.{Blocks, Headers}

@@ -1,10 +1,10 @@
 // The lines of a document.
 ghost use Rattle.std.specs.Prelude.{IfOk, MatchOption, OnOk};
 ghost use Rattle.der_lines.specs.Dump.{AddsBlocksOf, AddsDumpOf, AddsFaultOf};
-ghost use Rattle.simple_asn1.specs.FaultPlace.{FirstFaultAt};
-ghost use Rattle.simple_asn1.specs.Fault.{fault_of};
-ghost use Rattle.simple_asn1.specs.Grammar.{IsDocument};
-ghost use Rattle.simple_asn1.specs.View.{document_trees};
+ghost use Rattle.asn1_blocks.specs.FaultPlace.{FirstFaultAt};
+ghost use Rattle.asn1_headers.specs.Fault.{fault_of};
+ghost use Rattle.asn1_blocks.specs.Grammar.{IsDocument};
+ghost use Rattle.asn1_blocks.specs.View.{document_trees};
 
 use crate::faults::words_at;
 use crate::indefinite::first_indefinite;
@@ -15,7 +15,8 @@ use crate::place::outermost;
 use crate::style::Style;
 use crate::tree::{push_blocks, push_encodings};
 use crate::values::INDEFINITE;
-use simple_asn1::{ASN1DecodeErr, Document};
+use asn1_blocks::document::Document;
+use asn1_headers::error::ASN1DecodeErr;
 use std::alloc::{AllocError, Global};
 
 /// Whether all of an input was read.
@@ -64,7 +65,11 @@ pub fn push_document(
     }
 }
 
-// Puts the lines of a document, which is given, or of octets that are none, and then their fault.
+/// Puts the lines of a document, which is returned, one for each block in tree order; of octets that are none, those of
+/// the encodings in them, and then the first fault and where it is.
+///
+/// # Errors
+/// Memory ran out.
 pub fn push_octets(
     alloc: Global,
     names: &Names,

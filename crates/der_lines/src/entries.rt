@@ -2,7 +2,7 @@
 ghost use Rattle.std.specs.Prelude.{◌≡◌, ◌≢◌, ◌+◌, IfOk, OnOk};
 ghost use Rattle.der_lines.specs.Dump.{AddsLine};
 ghost use Rattle.der_lines.specs.Steps.{IsLineOf, PutsStep};
-ghost use Rattle.simple_asn1.specs.Types.{OutOfMemory};
+ghost use Rattle.asn1_headers.specs.declared.error.ASN1DecodeErr.TheVariants.{OutOfMemory};
 
 use crate::characters::{Characters, characters_of, write_as};
 use crate::cursor::Step;
@@ -12,7 +12,8 @@ use crate::lines::push_line;
 use crate::place::{Place, sum_of};
 use crate::scalars::write_after_space;
 use crate::values::{write_form, write_sizes, write_tag};
-use simple_asn1::{ASN1Class, ASN1DecodeErr};
+use asn1_headers::error::ASN1DecodeErr;
+use asn1_headers::header::ASN1Class;
 use std::alloc::{AllocError, Global};
 
 // Puts the header of an encoding that is cut short.

@@ -1,13 +1,33 @@
 // What is said of faults.
-ghost use Rattle.std.specs.Prelude.{◌≡◌, ◌≢◌, IfOk};
-ghost use Rattle.simple_asn1.specs.Types.{OutOfMemory};
+ghost use Rattle.std.specs.Prelude.{◌≡◌, ◌≢◌, IfOk, OnOk};
+ghost use Rattle.der_lines.specs.Dump.{AddsLine, IsFaultLine};
+ghost use Rattle.asn1_headers.specs.declared.error.ASN1DecodeErr.TheVariants.{OutOfMemory};
 
 use crate::header::{Header, read_header};
+use crate::lines::push_fault;
 use crate::scalars::{write_after_space, write_quoted};
-use simple_asn1::{ASN1Class, ASN1DecodeErr, encoding_at};
+use asn1_blocks::encoding::encoding_at;
+use asn1_headers::error::ASN1DecodeErr;
+use asn1_headers::header::ASN1Class;
 use std::alloc::{AllocError, Global};
 use std::str;
 use std::str::Utf8Error;
+
+/// Puts the line of a fault: its offset, and what it is in words.
+///
+/// # Errors
+/// Memory ran out.
+pub fn push_fault_line(
+    alloc: Global,
+    offset: usize,
+    fault: &ASN1DecodeErr,
+    out: &mut Vec<u8>,
+) -> Result<(), AllocError>
+    ensures { OnOk result (AddsLine (IsFaultLine offset) out.old.items out.new.items) }
+{
+    let words = fault_words(alloc, fault)?;
+    push_fault(offset, words.as_bytes(), out)
+}
 
 // Why octets are no document, in words, and the name of the fault, which the block at an offset has.
 pub fn words_at(

@@ -2,11 +2,11 @@
 ghost use Rattle.std.specs.Prelude.{◌≡◌, ◌≢◌, None, IfOk, IsTrue, MatchOption};
 ghost use Rattle.der_lines.specs.Dump.{HasNoHeader, StandsBehindHeader};
 ghost use Rattle.der_lines.specs.Steps.{IsAtFront, IsGroupHeader};
-ghost use Rattle.simple_asn1.specs.Types.{OutOfMemory};
+ghost use Rattle.asn1_headers.specs.declared.error.ASN1DecodeErr.TheVariants.{OutOfMemory};
 
-use simple_asn1::{
-    ASN1Class, ASN1DecodeErr, BigUint, HeaderCount, decode_length, decode_tag, law_header,
-};
+use asn1_headers::error::ASN1DecodeErr;
+use asn1_headers::header::{ASN1Class, HeaderCount, decode_length, decode_tag};
+use asn1_numbers::number::big_uint::BigUint;
 use std::alloc::{AllocError, Global};
 
 // The header of an encoding: the fields of its identifier octets, how many octets it has, and how many contents octets
@@ -28,7 +28,6 @@ pub fn read_header(alloc: Global, octets: &[u8]) -> Result<Option<Header>, Alloc
         (HasNoHeader octets.now)
         (IsAtFront octets.now)) }
 {
-    law_header();
     let mut size = 0;
     let (tag, constructed, class) = match decode_tag(
         alloc,

@@ -2,13 +2,17 @@
 ghost use Rattle.std.specs.Prelude.{◌≡◌, ◌<◌, IfOk, IfSome, IsTrue, length, true};
 ghost use Rattle.der_lines.specs.Dump.{AreHeaders, StandAt};
 ghost use Rattle.der_lines.specs.Steps.{IsHeldIn, IsInside, PassesOver};
-ghost use Rattle.simple_asn1.specs.Grammar.{IsDocument};
-ghost use Rattle.simple_asn1.specs.View.{document_trees};
+ghost use Rattle.asn1_blocks.specs.Grammar.{IsDocument};
+ghost use Rattle.asn1_blocks.specs.View.{document_trees};
 
 use crate::cursor::{Cursor, Step};
 use crate::header::{is_group, read_header};
 use crate::place::{Place, sum_of};
-use simple_asn1::{ASN1Block, ASN1Class, ASN1DecodeErr, Document, encoding_at};
+use asn1_blocks::block::ASN1Block;
+use asn1_blocks::document::Document;
+use asn1_blocks::encoding::encoding_at;
+use asn1_headers::error::ASN1DecodeErr;
+use asn1_headers::header::ASN1Class;
 use std::alloc::{AllocError, Global};
 
 // What octets of a block hold.

@@ -1,10 +1,13 @@
 // Lengths of the indefinite form of BER.
 ghost use Rattle.std.specs.Prelude.{◌≡◌, ◌≢◌, ◌↔◌, ◌∷◌, List, ℕ, false, IfOk, IsTrue, MatchOption};
 ghost use Rattle.der_lines.specs.Dump.{AreDefinite, HasIndefiniteForm, IsFirstIndefinite, all_offsets};
-ghost use Rattle.simple_asn1.specs.Types.{OutOfMemory};
-ghost use Rattle.simple_asn1.specs.View.{views};
+ghost use Rattle.asn1_headers.specs.declared.error.ASN1DecodeErr.TheVariants.{OutOfMemory};
+ghost use Rattle.asn1_blocks.specs.View.{views};
 
-use simple_asn1::{ASN1Block, ASN1DecodeErr, HeaderCount, all_blocks, decode_tag, law_header};
+use asn1_blocks::block::ASN1Block;
+use asn1_blocks::block::parts::all_blocks;
+use asn1_headers::error::ASN1DecodeErr;
+use asn1_headers::header::{HeaderCount, decode_tag};
 use std::alloc::{AllocError, Global};
 
 /// The offset of the first block, in tree order, whose header in the octets has the indefinite form of BER (X.690,
@@ -37,7 +40,6 @@ pub fn first_indefinite(
 fn has_indefinite_form(alloc: Global, octets: &[u8]) -> Result<bool, AllocError>
     ensures { IfOk result (λ has. IsTrue has ↔ HasIndefiniteForm octets.now) }
 {
-    law_header();
     let mut size = 0;
     match decode_tag(alloc, octets, &mut size, &mut HeaderCount::new()) {
         Ok((_, constructed, _)) => {

@@ -13,7 +13,8 @@
 //! many contents octets it announces, its type, and its value. What stands inside octets of a block has lines that
 //! begin with `>`. Of octets that are no document, the encodings that can be read are shown, and then the first fault,
 //! on a line that begins with `!`; what came of it is the [`Verdict`]. A document with a length of the indefinite form
-//! of BER is refused, too, after all its lines. [`push_document_strictly`] refuses what is not canonical.
+//! of BER is refused, too, after all its lines. [`push_octets`] puts the lines alone and returns the document, for those who
+//! ask more of it; [`push_fault_line`] puts the line of a fault that they find.
 //!
 //! [`push_label`] and [`push_refusal`] put the other lines of what is written: `=` and the label of a document, `!` and
 //! why there is none. [`behind_header`] gives the contents octets of an encoding. [`first_indefinite`] finds the
@@ -36,17 +37,16 @@ mod notes;
 mod parts;
 mod place;
 mod scalars;
-mod strict;
 mod style;
 mod tree;
 mod values;
 mod walk;
 
-pub use document::{Verdict, push_document};
+pub use document::{Verdict, push_document, push_octets};
+pub use faults::push_fault_line;
 pub use header::behind_header;
 pub use indefinite::first_indefinite;
 pub use names::Names;
 pub use notes::{push_label, push_refusal};
-pub use strict::push_document_strictly;
 pub use style::Style;
 pub use values::INDEFINITE;

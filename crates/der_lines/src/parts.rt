@@ -9,7 +9,9 @@ use crate::indefinite::first_indefinite;
 use crate::names::Names;
 use crate::place::{Place, sum_of};
 use crate::tree::push_blocks;
-use simple_asn1::{ASN1DecodeErr, Document, encoding_at, law_header};
+use asn1_blocks::document::Document;
+use asn1_blocks::encoding::encoding_at;
+use asn1_headers::error::ASN1DecodeErr;
 use std::alloc::{AllocError, Global};
 
 // The most octets of encodings that are read together. A SEQUENCE or SET of more contents octets is gone into.
@@ -32,7 +34,6 @@ pub fn push_parts(
     ensures all { IfOk result (λ is_all. IsTrue is_all → PutsBlocks place octets.now out.old.items out.new.items) }
     ensures kept { OnOk result (Keeps out.old.items out.new.items) }
 {
-    law_header();
     let mut next = 0;
     while next < octets.len() {
         let (_, left) = octets.split_at(next);
@@ -116,7 +117,6 @@ fn push_group(
     ensures all { IfOk result (λ is_all. IsTrue is_all → PutsBlocks place encoding.now out.old.items out.new.items) }
     ensures kept { OnOk result (Keeps out.old.items out.new.items) }
 {
-    law_header();
     push_group_line(alloc, header, place, out)?;
     let (_, contents) = encoding.split_at(header.size);
     push_parts(

@@ -5,9 +5,9 @@ ghost use Rattle.der_lines.specs.Dump.{Adds, AddsLine, AreHeaders, AreShown, Has
 ghost use Rattle.der_lines.specs.Dump.{offsets_down_to};
 ghost use Rattle.der_lines.specs.Steps.{IsHeldIn, IsInside, IsLineOf, PlacedInside, PutsStep};
 ghost use Rattle.der_lines.specs.Steps.{shown_at};
-ghost use Rattle.simple_asn1.specs.Grammar.{IsDocument};
-ghost use Rattle.simple_asn1.specs.Places.{EncodingAt};
-ghost use Rattle.simple_asn1.specs.View.{tree_offset, view, views};
+ghost use Rattle.asn1_blocks.specs.Grammar.{IsDocument};
+ghost use Rattle.asn1_blocks.specs.Places.{EncodingAt};
+ghost use Rattle.asn1_blocks.specs.View.{tree_offset, view, views};
 
 use crate::cursor::{Cursor, Step};
 use crate::entries::{push_cut, push_faulty, push_header};
@@ -18,7 +18,9 @@ use crate::names::Names;
 use crate::place::{Place, sum_of};
 use crate::values::{Manner, block_text};
 use crate::walk::{Found, Walk};
-use simple_asn1::{ASN1Block, Document, encoding_at};
+use asn1_blocks::block::ASN1Block;
+use asn1_blocks::document::Document;
+use asn1_blocks::encoding::encoding_at;
 use std::alloc::{AllocError, Global};
 
 // Puts the lines of blocks that were read from the octets, and of all inside them, as deep as they are shown.

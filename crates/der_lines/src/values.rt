@@ -4,8 +4,13 @@ use crate::characters::{Characters, write_as};
 use crate::header::Header;
 use crate::names::Names;
 use crate::scalars::{write_after_space, write_hex, write_quoted};
+use asn1_blocks::block::ASN1Block;
+use asn1_headers::error::ASN1DecodeErr;
+use asn1_headers::header::ASN1Class;
+use asn1_leaves::oid::OID;
+use asn1_numbers::number::big_int::BigInt;
+use asn1_numbers::number::big_uint::BigUint;
 use itoa::Buffer;
-use simple_asn1::{ASN1Block, ASN1Class, ASN1DecodeErr, BigInt, BigUint, OID};
 use std::alloc::{AllocError, Global};
 
 // How many levels are shown by spaces; deeper ones stand where the last of them does.

@@ -2,10 +2,10 @@
 ghost use Rattle.std.specs.Prelude.{◌≡◌, ◌+◌, ◌∷◌, ◌++◌, [], length, IfOk, MatchOption};
 ghost use Rattle.der_lines.specs.Dump.{offsets_down_to};
 ghost use Rattle.der_lines.specs.Steps.{ahead, trees_in};
-ghost use Rattle.simple_asn1.specs.View.{tree_offset, view, views};
+ghost use Rattle.asn1_blocks.specs.View.{tree_offset, view, views};
 
 use crate::place::{Place, is_too_deep, sum_of};
-use simple_asn1::ASN1Block;
+use asn1_blocks::block::ASN1Block;
 use std::alloc::{AllocError, Global};
 
 // A block, and how many blocks are around it.

@@ -1,8 +1,6 @@
 // What is put of a few documents, by hand.
-use der_lines::{
-    Names, Style, Verdict, behind_header, push_document, push_document_strictly, push_label,
-    push_refusal,
-};
+use der_inputs::push_document_strictly;
+use der_lines::{Names, Style, Verdict, behind_header, push_document, push_label, push_refusal};
 use std::alloc::Global;
 use std::test::Fail;
 

@@ -1,10 +1,10 @@
 use Rattle.std.proofs.Common.{rules, ◌++◌, ◌∷◌, [], ◌∙◌, ap, codes, false, refl, subst, sym}
 use Rattle.serde_json.specs.Data.{Members}
 use Rattle.serde_json.specs.Written.{items_text}
-use Rattle.simple_asn1.specs.Fault.{fault_of}
-use Rattle.simple_asn1.specs.FaultPlace.{FirstFaultAt}
-use Rattle.simple_asn1.specs.Grammar.{IsDocument}
-use Rattle.simple_asn1.specs.View.{views}
+use Rattle.asn1_headers.specs.Fault.{fault_of}
+use Rattle.asn1_blocks.specs.FaultPlace.{FirstFaultAt}
+use Rattle.asn1_blocks.specs.Grammar.{IsDocument}
+use Rattle.asn1_blocks.specs.View.{views}
 use Rattle.der_json.specs.Json.{IsDocumentJson, IsFaultJson, items_of, told_of}
 use Rattle.der_json.specs.Rows.{end_text}
 use Rattle.der_json.proofs.Arrays.{joined}

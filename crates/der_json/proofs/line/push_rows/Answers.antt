@@ -1,6 +1,6 @@
 use Rattle.std.proofs.Common.{◌≡◌, ◌∙◌, arith, ap, sym, take}
-use Rattle.simple_asn1.specs.BlockParts.{all_in_order}
-use Rattle.simple_asn1.specs.View.{views}
+use Rattle.asn1_blocks.specs.BlockParts.{all_in_order}
+use Rattle.asn1_blocks.specs.View.{views}
 use Rattle.der_json.proofs.Arrays.{all_rows, last_tree, next_tree, one_row, trees_at}
 use Rattle.der_json.proofs.line.push_rows.Goals as goal
 

@@ -2,7 +2,7 @@ use Rattle.std.proofs.Common.{◌≡◌, ◌∙◌, ap, length, rules, subst, sy
 use Rattle.std.specs.Option.{IsSomeAnd, unwrap_or}
 use Rattle.serde_json.specs.declared.value.Value.{the_lemmas}
 use Rattle.serde_json.specs.Data.{number, unsigned}
-use Rattle.simple_asn1.specs.Places.{TreeAt}
+use Rattle.asn1_blocks.specs.Places.{TreeAt}
 use Rattle.der_json.proofs.row.row_of.Goals as goal
 
 found_is : (found : Option (Bor (List ℕ))) (other : Bor (List ℕ)) (octets : List ℕ) → IsSomeAnd found (λ x. x.now ≡ octets)
@@ -23,4 +23,5 @@ returns-in-Ok-json-14-clause-told c =
       class = search (rules, the_lemmas);
       tag = search (rules, the_lemmas);
       kind = search (rules, the_lemmas);
+      value = (_, search (rules, the_lemmas), c.in_ok-value.ensures.told);
     }

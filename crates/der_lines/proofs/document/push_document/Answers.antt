@@ -1,5 +1,5 @@
 use Rattle.std.proofs.Common.{◌≡◌, ◌∙◌, inl, inr, subst}
-use Rattle.simple_asn1.specs.View.{document_trees}
+use Rattle.asn1_blocks.specs.View.{document_trees}
 use Rattle.der_lines.specs.Dump.{AddsBlocksOf, AddsFaultOf, AreDefinite, IsFirstIndefinite, all_offsets}
 use Rattle.der_lines.proofs.PartsOfBlocks.{document_put, some_octets, taken_back}
 use Rattle.der_lines.proofs.document.push_document.Goals as goal

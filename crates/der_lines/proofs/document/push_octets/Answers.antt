@@ -1,4 +1,4 @@
-use Rattle.simple_asn1.specs.FaultPlace.{FirstFaultAt}
+use Rattle.asn1_blocks.specs.FaultPlace.{FirstFaultAt}
 use Rattle.der_lines.proofs.Shown.{fault_first}
 use Rattle.der_lines.proofs.document.push_octets.Goals as goal
 

@@ -1,9 +1,9 @@
 use Rattle.std.proofs.Common.{◌≡◌, ℕ, List, false, ap, ◌∙◌, subst}
 use Rattle.std.specs.Prelude.{Option, Result, Ok, Err, OnOk}
 use Rattle.std.specs.declared.alloc.AllocError.{AllocError}
-use Rattle.simple_asn1.specs.Grammar.{IsDocument}
-use Rattle.simple_asn1.specs.Tree.{Trees}
-use Rattle.simple_asn1.specs.View.{document_trees}
+use Rattle.asn1_blocks.specs.Grammar.{IsDocument}
+use Rattle.asn1_blocks.specs.Tree.{Trees}
+use Rattle.asn1_blocks.specs.View.{document_trees}
 use Rattle.der_lines.specs.Dump.{Adds, AddsBlocksOf, offsets_down_to}
 use Rattle.der_lines.specs.Steps.{PlacedInside, shown_at}
 use Rattle.der_lines.proofs.Dumps.{top_adds}

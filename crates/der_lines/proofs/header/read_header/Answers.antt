@@ -26,5 +26,5 @@ returns-in-Ok-decode_length c =
 pub returns-in-Err-decode_length : goal.returns-in-Err-decode_length
 returns-in-Err-decode_length c =
     let found = c.in-Ok.found in
-    no_length c.law_header.ensures c.args.octets.now c.decode_tag.new.index found.0 c.in-Ok.ensures.moved.1
+    no_length c.args.octets.now c.decode_tag.new.index found.0 c.in-Ok.ensures.moved.1
     (found.2, found.1, c.in-Ok.ensures.found) c.in-Err-decode_length.ensures.refused

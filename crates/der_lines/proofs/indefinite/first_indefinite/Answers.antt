@@ -1,6 +1,6 @@
 use Rattle.std.proofs.Common.{[], ap, drop, sym, ◌∙◌, arith}
 use Rattle.std.proofs.lemmas.List.Elements.{All-nil}
-use Rattle.simple_asn1.specs.View.{views}
+use Rattle.asn1_blocks.specs.View.{views}
 use Rattle.der_lines.specs.Dump.{HasIndefiniteForm, all_offsets}
 use Rattle.der_lines.proofs.IndefiniteForms.{here_is, searched_all, searched_first, searched_one}
 use Rattle.der_lines.proofs.Walks.{offsets_at, offsets_next, offsets_none, offsets_ordered}

@@ -1,5 +1,5 @@
 use Rattle.std.proofs.Common.{drop}
-use Rattle.simple_asn1.specs.View.{views}
+use Rattle.asn1_blocks.specs.View.{views}
 use Rattle.der_lines.specs.Dump.{all_offsets}
 use Rattle.der_lines.proofs.IndefiniteForms.{Searched}
 use Rattle.der_lines.proofs.Walks.{offsets_at}

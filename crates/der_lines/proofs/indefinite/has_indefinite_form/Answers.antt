@@ -10,11 +10,11 @@ returns-in-Ok c =
     let size = c.decode_tag.new.index in
     elim c.if-constructed.branch [
       | then-constructed w ↦
-          form_of_constructed c.law_header.ensures octets behind size c.in-Ok.field-0-0 c.in-Ok.field-0-2 c.in-Ok.constructed c.in-Ok.ensures.moved.1
+          form_of_constructed octets behind size c.in-Ok.field-0-0 c.in-Ok.field-0-2 c.in-Ok.constructed c.in-Ok.ensures.moved.1
           c.in-Ok.ensures.found c.split_at.ensures.back w.begins_with_80.result c.if-constructed.result w.if-constructed.true
           w.begins_with_80.ensures w.result-is
       | else-constructed w ↦
-          form_of_primitive c.law_header.ensures octets behind size c.in-Ok.field-0-0 c.in-Ok.field-0-2 c.in-Ok.constructed c.in-Ok.ensures.moved.1
+          form_of_primitive octets behind size c.in-Ok.field-0-0 c.in-Ok.field-0-2 c.in-Ok.constructed c.in-Ok.ensures.moved.1
           c.in-Ok.ensures.found c.split_at.ensures.back c.if-constructed.result w.if-constructed.false (w.result-is ∙ w.if-constructed.false)
     ]
 

@@ -10,7 +10,7 @@ pub push_parts-loop-next-preserved : goal.push_parts-loop-next-preserved
 push_parts-loop-next-preserved t c =
     let here = c.in_ok-here.ensures in
     let at = part_there c.args.octets.now _ _ _ _ _ c.split_at.ensures.back c.split_at-in-loop-next.ensures.front c.split_at-in-loop-next.ensures.back in
-    put_more c.law_header.ensures c.args.place c.in_ok-here.here c.args.octets.now _ _ _ _ _ _ _
+    put_more c.args.place c.in_ok-here.here c.args.octets.now _ _ _ _ _ _ _
     (omega (arith, c.loop-next-test.true)) at here.same here.base here.depth here.most c.in_ok-next.ensures
     c.loop-next.invariant (c.in_ok-push_part.ensures.all c.if-not-branch.false)
 
@@ -23,7 +23,7 @@ push_group-returns-clause-all t c =
     let line = c.in_ok-push_group_line.ensures in
     let is = c.requires in
     let (universal, (kind, tag)) = is.group in
-    all_of c.push_parts.result _ _ (λ p. group_put c.law_header.ensures c.args.place inner octets header kind _ _ _
+    all_of c.push_parts.result _ _ (λ p. group_put c.args.place inner octets header kind _ _ _
     is.front is.encoding universal tag
     (subst (λ z. PutsBlocks inner z c.push_group_line.new.out.items c.push_parts.new.out.items) c.split_at.ensures.back p)
     there.same there.base there.depth there.most line.shown line.hidden is.some) c.push_parts.ensures.all

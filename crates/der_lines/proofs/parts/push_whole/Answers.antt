@@ -1,5 +1,5 @@
 use Rattle.std.proofs.Common.{◌∙◌, subst, sym}
-use Rattle.simple_asn1.specs.View.{document_trees}
+use Rattle.asn1_blocks.specs.View.{document_trees}
 use Rattle.der_lines.specs.Dump.{AreDefinite, all_offsets}
 use Rattle.der_lines.proofs.PartsOfBlocks.{none_has, whole_put}
 use Rattle.der_lines.proofs.parts.push_whole.Goals as goal

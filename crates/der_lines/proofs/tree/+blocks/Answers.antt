@@ -1,7 +1,7 @@
 use Rattle.std.proofs.Common.{◌≡◌, ◌+◌, ◌∷◌, ap, ◌∙◌, subst}
-use Rattle.simple_asn1.specs.Fault.{fault_of}
-use Rattle.simple_asn1.specs.Grammar.{FirstFault}
-use Rattle.simple_asn1.specs.View.{document_trees, tree_offset, view, views}
+use Rattle.asn1_headers.specs.Fault.{fault_of}
+use Rattle.asn1_blocks.specs.Grammar.{FirstFault}
+use Rattle.asn1_blocks.specs.View.{document_trees, tree_offset, view, views}
 use Rattle.std.specs.Prelude.{None}
 use Rattle.der_lines.specs.Dump.{Adds, all_offsets, offsets_down_to}
 use Rattle.der_lines.specs.Steps.{IsHeldIn, ahead, PlacedInside, shown_at}

@@ -1,5 +1,5 @@
 use Rattle.std.proofs.Common.{◌+◌, ◌-◌, ◌*◌, ◌^◌, length}
-use Rattle.simple_asn1.specs.View.{views}
+use Rattle.asn1_blocks.specs.View.{views}
 use Rattle.der_lines.specs.Dump.{offsets_down_to}
 use Rattle.der_lines.specs.Steps.{ahead}
 use Rattle.der_lines.proofs.Dumps.{Progress}

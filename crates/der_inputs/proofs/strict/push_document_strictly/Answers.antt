@@ -1,8 +1,8 @@
 use Rattle.std.proofs.Common.{ap, inr}
 use Rattle.simple_asn1.specs.Fault.{fault_of}
 use Rattle.simple_asn1.specs.View.{document_trees}
-use Rattle.der_lines.proofs.StrictFaults.{not_canonical_at}
-use Rattle.der_lines.proofs.strict.push_document_strictly.Goals as goal
+use Rattle.der_inputs.proofs.StrictFaults.{not_canonical_at}
+use Rattle.der_inputs.proofs.strict.push_document_strictly.Goals as goal
 
 pub returns-in-Err-NotCanonical : goal.returns-in-Err-NotCanonical
 returns-in-Err-NotCanonical c =
@@ -14,5 +14,5 @@ returns-in-Err-NotCanonical c =
       not_canonical_at c.law_one_reading.ensures c.args.octets.now offset c.in-Err-NotCanonical.field-0 is
           c.in-Err-NotCanonical.ensures.fault,
       (document_trees c.in-Some.field-0, rw c.in-Some.is at c.in_ok-push_octets.ensures),
-      c.in_ok-push_fault-in-Err-NotCanonical.ensures,
+      c.in_ok-push_fault_line-in-Err-NotCanonical.ensures,
     )

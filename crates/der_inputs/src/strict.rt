@@ -1,17 +1,13 @@
 // Dumps of which only canonical documents are read.
 ghost use Rattle.std.specs.Prelude.{IfOk};
-ghost use Rattle.der_lines.specs.Strict.{AddsStrictDumpOf};
+ghost use Rattle.der_inputs.specs.Strict.{AddsStrictDumpOf};
 
-use crate::document::{Verdict, push_octets};
-use crate::faults::fault_words;
-use crate::lines::push_fault;
-use crate::names::Names;
-use crate::style::Style;
+use der_lines::{Names, Style, Verdict, push_fault_line, push_octets};
 use simple_asn1::{ASN1DecodeErr, discard, from_der_strict, law_one_reading};
 use std::alloc::{AllocError, Global};
 
-/// Puts the lines of a document as [`push_document`](crate::push_document) does, and then the fault of one that is not
-/// canonical, at the offset of its first block at the top level that is not; an indefinite form is told so, too.
+/// Puts the lines of a document, and then the fault of one that is not canonical, at the offset of its first block at the
+/// top level that is not; an indefinite form is told so, too.
 ///
 /// # Errors
 /// Memory ran out.
@@ -35,8 +31,7 @@ pub fn push_document_strictly(
             Ok(Verdict::AllRead)
         }
         Err(ASN1DecodeErr::NotCanonical(offset)) => {
-            let words = fault_words(alloc, &ASN1DecodeErr::NotCanonical(offset))?;
-            push_fault(offset, words.as_bytes(), out)?;
+            push_fault_line(alloc, offset, &ASN1DecodeErr::NotCanonical(offset), out)?;
             Ok(Verdict::Refused)
         }
         Err(_) => Err(AllocError),
