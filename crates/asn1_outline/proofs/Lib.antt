@@ -5,3 +5,4 @@ pub mod Standing
 mod Listed
 mod Answered
 mod Values
+mod Lent

@@ -6,6 +6,7 @@
 #![tactic(auto)]
 
 pub mod entry;
+mod indexed;
 mod listing;
 pub mod outline;
 mod reading;

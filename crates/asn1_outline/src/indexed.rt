@@ -1,0 +1,130 @@
+// What an outline says of the block at an index, by its entry.
+ghost use Rattle.std.specs.Prelude.{◌≡◌, ◌<◌, ◌≤◌, ℕ, List, length, string_bytes, None, Some, IfOk, IsNone, IsSomeAnd, MatchOption};
+ghost use Rattle.std.specs.Str.{chars};
+ghost use Rattle.asn1_leaves.specs.Contents.Moment.{moment_of};
+ghost use Rattle.asn1_blocks.specs.BlockParts.{tree_bits, tree_boolean, tree_integer, tree_moment, tree_oid, tree_text};
+ghost use Rattle.asn1_blocks.specs.Grammar.{IsDocument};
+ghost use Rattle.asn1_blocks.specs.Places.{HasOctets};
+ghost use Rattle.asn1_blocks.specs.Tree.{Trees};
+ghost use Rattle.asn1_outline.specs.Entries.{tree_at};
+ghost use Rattle.asn1_outline.specs.Outlines.{entries_in, octets_in};
+
+use crate::outline::Outline;
+use asn1_blocks::encoding::encoding_at;
+use asn1_leaves::oid::OID;
+use asn1_numbers::number::big_int::BigInt;
+use jiff::civil::DateTime;
+use std::alloc::{AllocError, Global};
+
+impl<'a> Outline<'a> {
+    /// The octets of the block at the index; `None` past the end.
+    pub fn encoding(&self, index: usize) -> Option<&'a [u8]>
+        ensures found { (bs : Trees ℕ) (octets : List ℕ) → IsDocument (octets_in self.now) bs
+            → index < length (entries_in self.now)
+            → HasOctets (octets_in self.now) bs (tree_at bs index) octets
+            → IsSomeAnd result (λ found. found.now ≡ octets) }
+        ensures none { length (entries_in self.now) ≤ index → IsNone result }
+    {
+        let Some(entry) = self.entries.get(index) else {
+            return None;
+        };
+        encoding_at(self.octets, entry.offset)
+    }
+
+    /// The number of the INTEGER at the index; `None` of any other block, and past the end.
+    pub fn integer(&self, alloc: Global, index: usize) -> Result<Option<BigInt>, AllocError>
+        ensures { (bs : Trees ℕ) → IsDocument (octets_in self.now) bs → IfOk result
+            (λ found. MatchOption found
+            (tree_integer (tree_at bs index) ≡ None)
+            (λ n. tree_integer (tree_at bs index) ≡ Some n)) }
+    {
+        let Some(entry) = self.entries.get(index) else {
+            return Ok(None);
+        };
+        match entry.integer(alloc, self.octets) {
+            Ok(found) => Ok(found),
+            Err(_) => Err(AllocError),
+        }
+    }
+
+    /// The text of the string of characters at the index, of any of the six kinds; `None` of any other block, and past
+    /// the end.
+    pub fn text(&self, alloc: Global, index: usize) -> Result<Option<String>, AllocError>
+        ensures { (bs : Trees ℕ) → IsDocument (octets_in self.now) bs → IfOk result
+            (λ found. MatchOption found
+            (tree_text (tree_at bs index) ≡ None)
+            (λ text. tree_text (tree_at bs index) ≡ Some (chars (string_bytes text)))) }
+    {
+        let Some(entry) = self.entries.get(index) else {
+            return Ok(None);
+        };
+        match entry.text(alloc, self.octets) {
+            Ok(found) => Ok(found),
+            Err(_) => Err(AllocError),
+        }
+    }
+
+    /// The components of the OBJECT IDENTIFIER at the index; `None` of any other block, and past the end.
+    pub fn oid(&self, alloc: Global, index: usize) -> Result<Option<OID>, AllocError>
+        ensures { (bs : Trees ℕ) → IsDocument (octets_in self.now) bs → IfOk result
+            (λ found. MatchOption found
+            (tree_oid (tree_at bs index) ≡ None)
+            (λ oid. tree_oid (tree_at bs index) ≡ Some oid)) }
+    {
+        let Some(entry) = self.entries.get(index) else {
+            return Ok(None);
+        };
+        match entry.oid(alloc, self.octets) {
+            Ok(found) => Ok(found),
+            Err(_) => Err(AllocError),
+        }
+    }
+
+    /// The moment of the UTCTime or GeneralizedTime at the index; `None` of any other block, and past the end.
+    pub fn moment(&self, alloc: Global, index: usize) -> Result<Option<DateTime>, AllocError>
+        ensures { (bs : Trees ℕ) → IsDocument (octets_in self.now) bs → IfOk result
+            (λ found. MatchOption found
+            (tree_moment (tree_at bs index) ≡ None)
+            (λ d. tree_moment (tree_at bs index) ≡ Some (moment_of d))) }
+    {
+        let Some(entry) = self.entries.get(index) else {
+            return Ok(None);
+        };
+        let Ok(found) = entry.moment(alloc, self.octets) else {
+            return Err(AllocError);
+        };
+        Ok(found)
+    }
+
+    /// The number of bits of the BIT STRING at the index, and the octets that hold them; `None` of any other block, and
+    /// past the end.
+    pub fn bits(&self, alloc: Global, index: usize) -> Result<Option<(usize, Vec<u8>)>, AllocError>
+        ensures { (bs : Trees ℕ) → IsDocument (octets_in self.now) bs → IfOk result
+            (λ found. MatchOption found
+            (tree_bits (tree_at bs index) ≡ None)
+            (λ bits. tree_bits (tree_at bs index) ≡ Some (bits.0, bits.1.items))) }
+    {
+        let Some(entry) = self.entries.get(index) else {
+            return Ok(None);
+        };
+        match entry.bits(alloc, self.octets) {
+            Ok(found) => Ok(found),
+            Err(_) => Err(AllocError),
+        }
+    }
+
+    /// The value of the BOOLEAN at the index; `None` of any other block, and past the end.
+    pub fn boolean(&self, index: usize) -> Option<bool>
+        ensures { (bs : Trees ℕ) → IsDocument (octets_in self.now) bs → MatchOption result
+            (tree_boolean (tree_at bs index) ≡ None)
+            (λ yes. tree_boolean (tree_at bs index) ≡ Some yes) }
+    {
+        let Some(entry) = self.entries.get(index) else {
+            return None;
+        };
+        let Ok(found) = entry.boolean(self.octets) else {
+            return None;
+        };
+        found
+    }
+}

@@ -1,0 +1,42 @@
+// Outlines: the entry of each block of a document.
+use crate::helpers::octets;
+use simple_asn1::{ASN1DecodeErr, Outline, outline_strict};
+use std::process::Abort;
+use std::test::Fail;
+
+// SEQUENCE { BOOLEAN, INTEGER, OBJECT IDENTIFIER, BIT STRING, UTF8String, UTCTime, [0] { NULL } }
+const DOCUMENT: &str = "30 26 01 01 FF 02 01 05 06 03 55 04 03 03 02 04 F0 0C 02 68 69 \
+    17 0D 32 36 31 31 32 35 30 31 30 32 30 33 5A A0 02 05 00";
+
+#[test]
+fn an_entry_says_where_its_block_is(rt: HostRuntime) -> Result<(), Fail> {
+    let alloc = rt.alloc();
+    let document = octets(alloc, DOCUMENT)?;
+    let outline = Outline::from_der(alloc, &document)?;
+    assert_eq!(rt; outline.entries().len(), 9);
+    assert_eq!(rt; outline.octets().len(), 40);
+    let Some(explicit) = outline.entries().get(7) else {
+        return Err("no entry".into());
+    };
+    assert_eq!(rt;
+        (explicit.offset, explicit.header, explicit.contents),
+        (36, 2, 2)
+    );
+    assert_eq!(rt; (explicit.items, explicit.next, explicit.depth), (1, 9, 1));
+    assert!(rt; outline.encoding(7) == Some(b"\xA0\x02\x05\x00"));
+    assert!(rt; outline.encoding(9).is_none());
+    Ok(())
+}
+
+#[test]
+fn strictly_a_block_that_is_not_canonical_is_named(rt: HostRuntime) -> Result<(), Fail> {
+    let alloc = rt.alloc();
+    assert!(rt; outline_strict(alloc, &octets(alloc, "05 00 01 01 FF")?).is_ok());
+    let loose = octets(alloc, "05 00 01 01 2A")?;
+    let refused = outline_strict(alloc, &loose).is_err_and(|e| matches!(
+        e,
+        ASN1DecodeErr::NotCanonical(2)
+    ));
+    assert!(rt; refused);
+    Ok(())
+}
