@@ -4,7 +4,7 @@ ghost use Rattle.std.specs.Counts.{IsPrefixLen};
 
 use std::fs::File;
 use std::io;
-use std::io::{ErrorKind, Read};
+use std::io::Read;
 
 // Reads standard input, where the name is `-`, or the file that has the name.
 #[derive(Drop)]
@@ -40,11 +40,9 @@ impl<'r, 'a> HostReader<'r, 'a> {
         Ok(count)
     }
 
-    // Says on standard error why nothing more can be read. A read that was interrupted is tried again.
+    // Says on standard error why nothing more can be read.
     fn tell(&self, fault: &io::Error) {
-        if fault.kind() != ErrorKind::Interrupted {
-            let _ = eprintln!(self.rt; "error: {}: {fault}", self.name);
-        }
+        let _ = eprintln!(self.rt; "error: {}: {fault}", self.name);
     }
 }
 

@@ -25,10 +25,7 @@ use Rattle.std.proofs.Common.{
   ◌∙◌,
   arith,
 }
-use Rattle.std.specs.Prelude.{Bool, true, false, if◌then◌else◌, ◌-◌, take, MatchResult, codes}
-use Rattle.std.specs.List.{ends_with}
-use Rattle.std.proofs.lemmas.List.{length-take}
-use Rattle.der_tool.specs.Answers.{but_return}
+use Rattle.std.specs.Prelude.{MatchResult, codes}
 use Rattle.std.proofs.lemmas.Bool.{cond_both}
 use Rattle.hex.specs.declared.error.FromHexError.{FromHexError}
 use Rattle.hex.specs.Hex.{decode_of, encode_upper}
@@ -107,32 +104,24 @@ some_verdict : (reading : Reading) → Settled reading → (octets : List ℕ) �
 some_verdict reading law octets small =
     elim (law.either octets small) [ inl d ↦ (codes "ok " ++ encode_upper d.0, inl (d.0, d.1, refl)) | inr f ↦ (refusal f.0, inr (f.0, f.1, refl)) ]
 
--- a line without its carriage return is no longer
-within_choice : (b : Bool) (line : List ℕ) (n : ℕ) → length line ≤ n → length (if b then take (length line - 1) line else line) ≤ n
-within_choice true line n within = omega (arith, within, length-take (length line - 1) line)
-within_choice false line n within = within
-
-within_line : (line : List ℕ) (n : ℕ) → length line ≤ n → length (but_return line) ≤ n
-within_line line n within = within_choice (ends_with (λ a b. a == b) line (13 ∷ [])) line n within
-
 one_answer :
     (reading : Reading) → Settled reading → (line a b : List ℕ) (n : ℕ) → length line ≤ n → n < 2 ^ 64 →
     IsAnswer reading line a → IsAnswer reading line b → a ≡ b
-one_answer reading law line a b n within small u v = go (decode_of (but_return line)) refl u v
+one_answer reading law line a b n within small u v = go (decode_of line) refl u v
   where
-    go : (r : Result (List ℕ) FromHexError) → decode_of (but_return line) ≡ r → MatchResult r (λ octets. IsVerdict reading octets a) (λ _. a ≡ codes "badhex")
+    go : (r : Result (List ℕ) FromHexError) → decode_of line ≡ r → MatchResult r (λ octets. IsVerdict reading octets a) (λ _. a ≡ codes "badhex")
         → MatchResult r (λ octets. IsVerdict reading octets b) (λ _. b ≡ codes "badhex") → a ≡ b
-    go (Ok octets) is u v = one_verdict reading law octets a b (few_octets (but_return line) octets n (within_line line n within) small is) u v
+    go (Ok octets) is u v = one_verdict reading law octets a b (few_octets line octets n within small is) u v
     go (Err e) is u v = u ∙ sym v
 
 some_answer : (reading : Reading) → Settled reading → (line : List ℕ) (n : ℕ) → length line ≤ n → n < 2 ^ 64
     → (answer : List ℕ) × IsAnswer reading line answer
-some_answer reading law line n within small = go (decode_of (but_return line)) refl
+some_answer reading law line n within small = go (decode_of line) refl
   where
     go :
-        (r : Result (List ℕ) FromHexError) → decode_of (but_return line) ≡ r →
+        (r : Result (List ℕ) FromHexError) → decode_of line ≡ r →
         (answer : List ℕ) × MatchResult r (λ octets. IsVerdict reading octets answer) (λ _. answer ≡ codes "badhex")
-    go (Ok octets) is = some_verdict reading law octets (few_octets (but_return line) octets n (within_line line n within) small is)
+    go (Ok octets) is = some_verdict reading law octets (few_octets line octets n within small is)
     go (Err e) is = (codes "badhex", refl)
 
 one_of_lines :

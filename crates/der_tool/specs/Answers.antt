@@ -1,8 +1,6 @@
 -- What is answered to lines, each a document in hex digits.
-use Rattle.std.specs.Prelude.{◌≡◌, ◌⊎◌, ◌++◌, ◌-◌, ◌==◌, ℕ, List, [], ◌∷◌, MatchResult, codes, decimal}
-use Rattle.std.specs.Prelude.{if◌then◌else◌, length, take}
+use Rattle.std.specs.Prelude.{◌≡◌, ◌⊎◌, ◌++◌, ℕ, List, [], ◌∷◌, MatchResult, codes, decimal}
 use Rattle.std.specs.Fmt.{signed_decimal}
-use Rattle.std.specs.List.{ends_with}
 use Rattle.hex.specs.Hex.{decode_of, encode_upper}
 use Rattle.streams.specs.Lines.{lines_of}
 use Rattle.simple_asn1.specs.Tree.{Trees}
@@ -60,14 +58,10 @@ IsVerdict reading octets answer =
     × (answer ≡ codes "ok " ++ encode_upper canonical))
     ⊎ ((fault : DecodeFault) × IsRefused reading octets fault × (answer ≡ refusal fault))
 
--- the line without a carriage return at its end
-abbrev pub but_return : List ℕ → List ℕ
-but_return line = if ends_with (λ a b. a == b) line (13 ∷ []) then take (length line - 1) line else line
-
 -- what is said of a line
 abbrev pub IsAnswer : Reading → List ℕ → List ℕ → Type 0
 IsAnswer reading line answer =
-    MatchResult (decode_of (but_return line))
+    MatchResult (decode_of line)
     (λ octets. IsVerdict reading octets answer)
     (λ _. answer ≡ codes "badhex")
 

@@ -6,7 +6,6 @@ ghost use Rattle.der_tool.specs.Answers.{
   IsAnswer,
   IsRefused,
   IsVerdict,
-  but_return,
   name_of,
   number_after,
   refusal,
@@ -52,21 +51,10 @@ fn append_answer(
     ensures { OnOk result ((answer : List ℕ) × IsAnswer reading line.now answer
         × (output.new.items ≡ output.old.items ++ answer)) }
 {
-    match hex::decode(alloc, without_return(line)) {
+    match hex::decode(alloc, line) {
         Ok(octets) => append_verdict(alloc, reading, &octets, output),
         Err(FromHexError::OutOfMemory) => Err(AllocError),
         Err(_) => output.extend_from_slice(b"badhex"),
-    }
-}
-
-// The line without a carriage return at its end, as lines of other systems have one.
-fn without_return(line: &[u8]) -> &[u8]
-    ensures { result.now ≡ but_return line.now }
-{
-    if line.ends_with(b"\r") {
-        &line[..line.len() - 1]
-    } else {
-        line
     }
 }
 

@@ -7,9 +7,8 @@ mod laws;
 mod tests;
 mod tool;
 
-use crate::tool::run;
+use crate::tool::{fault_text, run, status};
 use std::process::ExitCode;
-use streams::{fault_text, status};
 
 fn main(rt: HostRuntime) -> ExitCode {
     let outcome = run(rt.alloc(), &mut rt.stdin(), &mut rt.stdout());

@@ -10,6 +10,12 @@ use std::alloc::Global;
 use std::io::{Read, Write};
 use streams::{StreamFault, read_all, write_all};
 
+pub use streams::{fault_text, status};
+
+/// Why a run did not answer its input: `Read`, `Write` or `Memory`. Every fault of a read is `Read`, whatever its kind, and
+/// every fault of a write or a flush is `Write`; `Memory` is memory of our own that was refused.
+pub type ToolFault = StreamFault;
+
 /// Reads all of `r`, and writes the answer to each line to `w`.
 ///
 /// A line is ended by octet 0A, and the last one perhaps by the end of the input. It is a document in hex digits of
@@ -19,7 +25,7 @@ use streams::{StreamFault, read_all, write_all};
 ///
 /// # Errors
 /// `Read` and `Memory`, after which nothing was written; `Write`, after which nothing is known of what was.
-pub fn run<R: Read, W: Write>(alloc: Global, r: &mut R, w: &mut W) -> Result<(), StreamFault>
+pub fn run<R: Read, W: Write>(alloc: Global, r: &mut R, w: &mut W) -> Result<(), ToolFault>
     ensures answered { OnOk result (IfSome (R.remaining r.old) (λ input. (output : List ℕ)
         × AreAnswers Lenient input output × Appends (W.contents w.old) (W.contents w.new) output)) }
     ensures read { OnOk result (IsAtEnd (R.remaining r.new)) }
@@ -34,7 +40,7 @@ pub fn run<R: Read, W: Write>(alloc: Global, r: &mut R, w: &mut W) -> Result<(),
 ///
 /// # Errors
 /// Those of [`run`].
-pub fn run_strict<R: Read, W: Write>(alloc: Global, r: &mut R, w: &mut W) -> Result<(), StreamFault>
+pub fn run_strict<R: Read, W: Write>(alloc: Global, r: &mut R, w: &mut W) -> Result<(), ToolFault>
     ensures answered { OnOk result (IfSome (R.remaining r.old) (λ input. (output : List ℕ)
         × AreAnswers Strict input output × Appends (W.contents w.old) (W.contents w.new) output)) }
     ensures read { OnOk result (IsAtEnd (R.remaining r.new)) }
@@ -49,7 +55,7 @@ fn run_with<R: Read, W: Write>(
     reading: Reading,
     r: &mut R,
     w: &mut W,
-) -> Result<(), StreamFault>
+) -> Result<(), ToolFault>
     ensures answered { OnOk result (IfSome (R.remaining r.old) (λ input. (output : List ℕ)
         × AreAnswers reading input output × Appends (W.contents w.old) (W.contents w.new) output)) }
     ensures read { OnOk result (IsAtEnd (R.remaining r.new)) }
@@ -57,7 +63,7 @@ fn run_with<R: Read, W: Write>(
 {
     let input = read_all(alloc, r)?;
     let Ok(output) = answers(alloc, reading, &input) else {
-        return Err(StreamFault::Memory);
+        return Err(ToolFault::Memory);
     };
     write_all(w, &output)
 }

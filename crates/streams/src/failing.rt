@@ -10,12 +10,14 @@ pub struct FailingReader<'a> {
     pub octets: &'a [u8],
     /// How many reads have no fault.
     pub reads: usize,
+    /// The kind of the fault.
+    pub kind: ErrorKind,
 }
 
 impl Read for FailingReader<'_> {
     fn read(&mut self, buf: &mut [u8]) -> io::Result<usize> {
         if self.reads == 0 {
-            return Err(ErrorKind::Other.into());
+            return Err(self.kind.into());
         }
         self.reads -= 1;
         if self.octets.is_empty() || buf.is_empty() {

@@ -6,7 +6,7 @@
 //! to standard error, and [`status`] is the exit status of the program.
 #![tactic(auto)]
 
-ghost use Rattle.std.specs.Prelude.{◌≡◌, ◌⊎◌, ◌<◌, ◌∷◌, length, IfOk, IfErr, IfSome, OnOk, IsOk, codes};
+ghost use Rattle.std.specs.Prelude.{◌≡◌, ◌⊎◌, ◌<◌, ◌∷◌, ◌++◌, length, IfOk, IfErr, IfSome, OnOk, IsOk, codes};
 ghost use Rattle.std.specs.Io.KnownBytes.{Appends, IsAtEnd};
 ghost use Rattle.streams.specs.Lines.{lines_of};
 ghost use Rattle.streams.specs.declared.StreamFault.TheVariants.{Read as read_fault};
@@ -17,7 +17,7 @@ pub mod failing;
 
 use memchr::memchr;
 use std::alloc::Global;
-use std::io::{ErrorKind, Read, Write};
+use std::io::{Read, Write};
 
 /// Why a run did not answer its input.
 #[derive(Debug, Drop, PartialEq)]
@@ -30,22 +30,39 @@ pub enum StreamFault {
     Memory,
 }
 
+// How many octets are read at a time.
+const CHUNK: usize = 8192;
+
 /// All that the reader has left, which is kept in memory.
 ///
 /// # Errors
-/// `Read` and `Memory`.
+/// `Read` where a read fails, whatever its fault: one that was interrupted is not tried again. So too after `u64::MAX`
+/// reads with no end. `Memory` where memory for what was read is refused.
 pub fn read_all<R: Read>(alloc: Global, r: &mut R) -> Result<Vec<u8>, StreamFault>
     ensures bytes { IfOk result (λ input. IfSome (R.remaining r.old) (λ bytes. input.items ≡ bytes)) }
     ensures read { OnOk result (IsAtEnd (R.remaining r.new)) }
     ensures fault { IfErr result (λ e. (e ≡ read_fault) ⊎ (e ≡ memory_fault)) }
 {
     let mut input = Vec::new(alloc);
-    match r.read_to_end(&mut input) {
-        Ok(_) => Ok(input),
-        Err(e) => match e.kind() {
-            ErrorKind::OutOfMemory => Err(StreamFault::Memory),
-            _ => Err(StreamFault::Read),
-        },
+    let mut chunk = [0u8; CHUNK];
+    for _ in 0..u64::MAX {
+        match r.read(&mut chunk) {
+            Ok(0) => return Ok(input),
+            Ok(count) => append(&mut input, &chunk[..count])?,
+            Err(_) => return Err(StreamFault::Read),
+        }
+    }
+    Err(StreamFault::Read)
+}
+
+// Appends what was read.
+fn append(input: &mut Vec<u8>, chunk: &[u8]) -> Result<(), StreamFault>
+    ensures appended { OnOk result (input.new.items ≡ input.old.items ++ chunk.now) }
+    ensures fault { IfErr result (λ e. e ≡ memory_fault) }
+{
+    match input.extend_from_slice(chunk) {
+        Ok(()) => Ok(()),
+        Err(_) => Err(StreamFault::Memory),
     }
 }
 
