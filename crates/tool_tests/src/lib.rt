@@ -1,15 +1,9 @@
-//! Tests of the libraries that the programs stand on, through their public calls. The values were worked out outside
-//! of them.
+//! Tests of the libraries that the programs stand on, of what no row of a program can show: streams that fail, a long
+//! document, and what a program has no words for. The values were worked out outside of them.
 #![tactic(auto)]
 
 #[cfg(test)]
-mod command_line;
-#[cfg(test)]
-mod document_lines;
-#[cfg(test)]
-mod input_forms;
-#[cfg(test)]
-mod json_lines;
+mod dumps;
 #[cfg(test)]
 mod runs;
 #[cfg(test)]

@@ -1,25 +1,34 @@
 // Streams that fail, and what is said of their faults.
+use std::io::ErrorKind;
 use std::test::Fail;
 use streams::failing::{FailingReader, FailingWriter};
 use streams::{StreamFault, fault_text, read_all, status, write_all};
 
 const OCTETS: &[u8] = b"30 00\n04 89\n";
 
+// Gives the octets, and has a fault of this kind after so many reads.
+fn reader(reads: usize, kind: ErrorKind) -> FailingReader<'static> {
+    FailingReader {
+        octets: OCTETS,
+        reads,
+        kind,
+    }
+}
+
 #[test]
 fn a_fault_of_a_stream_is_told(rt: HostRuntime) -> Result<(), Fail> {
-    for reads in 0..OCTETS.len() + 1 {
-        let mut reader = FailingReader {
-            octets: OCTETS,
-            reads,
-        };
-        let input = read_all(rt.alloc(), &mut reader);
-        assert_eq!(rt; input, Err(StreamFault::Read), "after {reads} reads");
+    let enough = OCTETS.len() + 1;
+    for kind in [
+        ErrorKind::Other,
+        ErrorKind::Interrupted,
+        ErrorKind::OutOfMemory,
+    ] {
+        for reads in 0..enough {
+            let input = read_all(rt.alloc(), &mut reader(reads, kind));
+            assert_eq!(rt; input, Err(StreamFault::Read), "{kind} after {reads} reads");
+        }
     }
-    let mut reader = FailingReader {
-        octets: OCTETS,
-        reads: OCTETS.len() + 1,
-    };
-    let input = read_all(rt.alloc(), &mut reader);
+    let input = read_all(rt.alloc(), &mut reader(enough, ErrorKind::Other));
     assert!(rt; input.is_ok_and(|input| input.as_slice() == OCTETS));
     for writes in 0..2 {
         let outcome = write_all(&mut FailingWriter { writes }, OCTETS);

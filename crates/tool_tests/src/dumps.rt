@@ -1,0 +1,58 @@
+// What is put of a document that is too long for a row, of a label on two lines, and of half a header.
+use der_lines::{Names, Style, behind_header, push_document, push_label};
+use std::alloc::Global;
+use std::test::Fail;
+
+// A SEQUENCE of 66,000 contents octets: NULLs, and then two octets.
+fn sequence_of_nulls(alloc: Global, last: [u8; 2]) -> Result<Vec<u8>, Fail> {
+    let mut octets = Vec::new(alloc);
+    octets.extend_from_slice(&[0x30, 0x83, 0x01, 0x01, 0xD0])?;
+    for _ in 0..32_999 {
+        octets.extend_from_slice(&[0x05, 0x00])?;
+    }
+    octets.extend_from_slice(&last)?;
+    Ok(octets)
+}
+
+const FIRST_NULLS: &[u8] = b"= A
+      0  5   66000  SEQUENCE
+      5  2       0    NULL
+      7  2       0    NULL
+";
+
+const LAST_NULL: &[u8] = b"
+  66003  2       0    NULL
+";
+
+const LAST_LOST: &[u8] = b"
+  66003  2       0    SEQUENCE, indefinite length (BER): levels are lost from here
+! refused at offset 66003: indefinite length (BER): levels are lost from here
+";
+
+#[test]
+fn a_long_sequence_is_shown_once(rt: HostRuntime) -> Result<(), Fail> {
+    let alloc = rt.alloc();
+    let names = Names::new(alloc)?;
+    for (last, ending, lines) in [
+        ([0x05, 0x00], LAST_NULL, 33_002),
+        ([0x30, 0x80], LAST_LOST, 33_003),
+    ] {
+        let octets = sequence_of_nulls(alloc, last)?;
+        let mut out = Vec::new(alloc);
+        push_label(b"A", &mut out)?;
+        push_document(alloc, &names, Style::default(), &octets, &mut out)?;
+        assert!(rt; out.starts_with(FIRST_NULLS));
+        assert!(rt; out.ends_with(ending));
+        assert_eq!(rt; out.iter().filter(|octet| **octet == b'\n').count(), lines);
+    }
+    Ok(())
+}
+
+#[test]
+fn a_label_is_one_line(rt: HostRuntime) -> Result<(), Fail> {
+    let mut out = Vec::new(rt.alloc());
+    push_label(b"A\nB", &mut out)?;
+    assert_eq!(rt; out.as_slice(), b"= A B\n".as_slice());
+    assert_eq!(rt; behind_header(rt.alloc(), &[0x30])?, None);
+    Ok(())
+}
