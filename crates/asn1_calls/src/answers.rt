@@ -24,11 +24,13 @@
 // Those of `OID::new`, `OID::from_u64s`, `OID::to_string`, `BigUint::to`, `BigUint::to_string` and `BigUint::cmp` are
 // given base-128 forms, `OID::from_text` and `BigUint::from_text` a text, `encoding_at` the offset and then the
 // document. `parts` is answered by class, tag number and offset of each block, and what else it has, `boolean`,
-// `bits`, `oid` and `moment` by that of each block, or a minus, `{:?}` by what that writes of the blocks, `==` by the
-// places of blocks that are equal, `all_blocks` by the offsets of all, `Utf8Error` by where contents octets stop being
-// UTF-8, the two of texts by contents octets and by a base-128 form, and `made` by what becomes of a block made by
-// hand (`made` of `call_answers`). What `to_string` and `oid` answer `{:?}` writes too, and of an object identifier
-// and a natural number the same is read. A line that is anything else is answered by `badline`.
+// `bits`, `oid`, `moment` and `sequence_items` by that of each block, or a minus, `{:?}` by what that writes of the
+// blocks, `==` by the places of blocks that are equal, `all_blocks` by the offsets of all, `Utf8Error` by where
+// contents octets stop being UTF-8, the two of texts by contents octets and by a base-128 form, and `made` by what
+// becomes of a block made by hand (`made` of `call_answers`). `to_string` of an error is given the error's number in
+// the list of them and what it holds, and is answered by its text. What the other `to_string` and `oid` answer `{:?}`
+// writes too, and of an object identifier and a natural number the same is read. A line that is anything else is
+// answered by `badline`.
 ghost use Rattle.std.specs.Prelude.{◌≡◌, ◌++◌, ◌∷◌, ℕ, List, IfOk, OnOk, string_bytes, if◌then◌else◌};
 ghost use Rattle.asn1_calls.specs.Answers.{AreAnswers, IsAnswer, is_comment};
 

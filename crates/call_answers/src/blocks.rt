@@ -1,5 +1,5 @@
 // Calls of blocks. They are given the blocks of a document.
-use crate::parts::{offsets, parts, same};
+use crate::parts::{offsets, parts, push_after, same};
 use crate::refusals::{ran_out, refusal, write_refusal};
 use crate::values::ValueCall;
 use asn1_text::{blocks_text, octets_text};
@@ -76,10 +76,7 @@ fn written(alloc: Global, blocks: &[ASN1Block]) -> Result<String, AllocError> {
 fn cloned(alloc: Global, blocks: &[ASN1Block]) -> Result<String, AllocError> {
     let mut text = String::new(alloc);
     for block in blocks {
-        if !text.is_empty() {
-            text.push_str(", ")?;
-        }
-        text.push_str(&clone_text(alloc, block)?)?;
+        push_after(&mut text, ", ", &clone_text(alloc, block)?)?;
     }
     Ok(text)
 }
@@ -103,14 +100,8 @@ fn shown(alloc: Global, blocks: &[ASN1Block]) -> Result<String, AllocError> {
 fn faithful(alloc: Global, blocks: &[ASN1Block]) -> Result<String, AllocError> {
     let mut text = String::new(alloc);
     for block in blocks {
-        if !text.is_empty() {
-            text.push_str(", ")?;
-        }
-        text.push_str(if block.is_faithful(alloc)? {
-            "true"
-        } else {
-            "false"
-        })?;
+        let is_faithful = block.is_faithful(alloc)?;
+        push_after(&mut text, ", ", if is_faithful { "true" } else { "false" })?;
     }
     Ok(text)
 }

@@ -64,7 +64,10 @@ fn tag_answer(alloc: Global, octets: &[u8]) -> Result<String, AllocError> {
             format!(in alloc; "{class} {constructed} {tag}, index {index}, count {counted}")
         }
         Err(ASN1DecodeErr::OutOfMemory) => ran_out(alloc, index == 0 && counted == 1),
-        Err(fault) => refused_at(alloc, &fault, index),
+        Err(fault) => {
+            let refusal = refused_at(alloc, &fault, index)?;
+            format!(in alloc; "{refusal}, count {counted}")
+        }
     }
 }
 

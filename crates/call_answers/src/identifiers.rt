@@ -1,4 +1,5 @@
 // Calls of object identifiers. They are given the first block of a document.
+use crate::parts::push_after;
 use crate::refusals::{ran_out, refusal, write_refusal};
 use asn1_text::{blocks_text, octets_text};
 use simple_asn1::{
@@ -225,11 +226,7 @@ fn components_text<T: FromBigUint + Display>(
     };
     let mut text = String::new(alloc);
     for component in &components {
-        if !text.is_empty() {
-            text.push_str(", ")?;
-        }
-        let digits = format!(in alloc; "{component}")?;
-        text.push_str(&digits)?;
+        push_after(&mut text, ", ", &format!(in alloc; "{component}")?)?;
     }
     Ok(text)
 }

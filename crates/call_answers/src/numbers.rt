@@ -1,10 +1,12 @@
 // Calls of numbers, given by their two's complement octets (X.690 8.3), or by their base-128 forms (8.1.2.4.2).
+use crate::parts::push_after;
 use crate::refusals::{ran_out, refusal};
 use crate::values::shown;
 use asn1_text::{blocks_text, octets_text};
 use simple_asn1::{ASN1Block, BigInt, BigUint, decode_base127, encode_base127};
 use std::alloc::{AllocError, Global};
 use std::cmp::Ordering;
+use std::fmt::Display;
 use std::str;
 
 // A call of a natural number.
@@ -113,15 +115,30 @@ fn natural_types(alloc: Global, octets: &[u8]) -> Result<String, AllocError> {
         Ok(number) => number,
         Err(fault) => return refusal(alloc, &fault),
     };
-    let of_u8 = shown(alloc, number.to_u8())?;
-    let of_u16 = shown(alloc, number.to_u16())?;
-    let of_u32 = shown(alloc, number.to_u32())?;
-    let of_u64 = shown(alloc, number.to_u64())?;
-    let of_u128 = shown(alloc, number.to_u128())?;
-    let of_usize = shown(alloc, number.to_usize())?;
-    format!(in alloc;
-        "u8 {of_u8}, u16 {of_u16}, u32 {of_u32}, u64 {of_u64}, u128 {of_u128}, usize {of_usize}"
-    )
+    natural_as_types(alloc, &number)
+}
+
+fn natural_as_types(alloc: Global, number: &BigUint) -> Result<String, AllocError> {
+    let mut text = String::new(alloc);
+    push_shown(alloc, "u8", number.to_u8(), &mut text)?;
+    push_shown(alloc, "u16", number.to_u16(), &mut text)?;
+    push_shown(alloc, "u32", number.to_u32(), &mut text)?;
+    push_shown(alloc, "u64", number.to_u64(), &mut text)?;
+    push_shown(alloc, "u128", number.to_u128(), &mut text)?;
+    push_shown(alloc, "usize", number.to_usize(), &mut text)?;
+    Ok(text)
+}
+
+// Appends the name of a type and the value, or a minus where it has none.
+fn push_shown<T: Display + Drop>(
+    alloc: Global,
+    name: &str,
+    value: Option<T>,
+    text: &mut String,
+) -> Result<(), AllocError> {
+    push_after(text, ", ", name)?;
+    text.push_str(" ")?;
+    text.push_str(&shown(alloc, value)?)
 }
 
 // How the numbers of two base-128 forms are ordered, the first of them cloned.
@@ -190,30 +207,47 @@ impl WholeCall {
 
     // An INTEGER of the number, made of that of the two's complement octets, or its octets.
     pub fn answer(&self, alloc: Global, octets: &[u8]) -> Result<String, AllocError> {
-        let given = BigInt::from_signed_bytes_be(alloc, octets)?;
         match self {
-            WholeCall::FromI64 => match given.to_i64() {
-                Some(n) => made_integer(alloc, &given, BigInt::from_i64(alloc, n)?),
+            WholeCall::ToOctets => whole_octets(alloc, octets),
+            WholeCall::Clone => whole_clone(alloc, octets),
+            WholeCall::FromOctets => {
+                integer_text(alloc, BigInt::from_signed_bytes_be(alloc, octets)?)
+            }
+            _ => self.answer_of(alloc, &BigInt::from_signed_bytes_be(alloc, octets)?),
+        }
+    }
+
+    fn answer_of(&self, alloc: Global, given: &BigInt) -> Result<String, AllocError> {
+        match self {
+            WholeCall::Show => whole_shown(alloc, given),
+            WholeCall::Types => whole_types(alloc, given),
+            _ => match self.made(alloc, given)? {
+                Some(number) => made_integer(alloc, given, number),
                 None => no_such_number(alloc),
+            },
+        }
+    }
+
+    // The number, made of one of a type that holds it.
+    fn made(&self, alloc: Global, given: &BigInt) -> Result<Option<BigInt>, AllocError> {
+        Ok(match self {
+            WholeCall::FromI64 => match given.to_i64() {
+                Some(n) => Some(BigInt::from_i64(alloc, n)?),
+                None => None,
             },
             WholeCall::FromU64 => match given.to_u64() {
-                Some(n) => made_integer(alloc, &given, BigInt::from_u64(alloc, n)?),
-                None => no_such_number(alloc),
+                Some(n) => Some(BigInt::from_u64(alloc, n)?),
+                None => None,
             },
             WholeCall::FromI128 => match given.to_i128() {
-                Some(n) => made_integer(alloc, &given, BigInt::from_i128(alloc, n)?),
-                None => no_such_number(alloc),
+                Some(n) => Some(BigInt::from_i128(alloc, n)?),
+                None => None,
             },
-            WholeCall::FromU128 => match given.to_u128() {
-                Some(n) => made_integer(alloc, &given, BigInt::from_u128(alloc, n)?),
-                None => no_such_number(alloc),
+            _ => match given.to_u128() {
+                Some(n) => Some(BigInt::from_u128(alloc, n)?),
+                None => None,
             },
-            WholeCall::FromOctets => integer_text(alloc, given),
-            WholeCall::ToOctets => whole_octets(alloc, octets),
-            WholeCall::Show => whole_shown(alloc, &given),
-            WholeCall::Clone => whole_clone(alloc, octets),
-            WholeCall::Types => whole_types(alloc, &given),
-        }
+        })
     }
 }
 
@@ -227,11 +261,12 @@ fn made_integer(alloc: Global, given: &BigInt, number: BigInt) -> Result<String,
 
 // The number as one of each type.
 fn whole_types(alloc: Global, number: &BigInt) -> Result<String, AllocError> {
-    let of_i64 = shown(alloc, number.to_i64())?;
-    let of_u64 = shown(alloc, number.to_u64())?;
-    let of_i128 = shown(alloc, number.to_i128())?;
-    let of_u128 = shown(alloc, number.to_u128())?;
-    format!(in alloc; "i64 {of_i64}, u64 {of_u64}, i128 {of_i128}, u128 {of_u128}")
+    let mut text = String::new(alloc);
+    push_shown(alloc, "i64", number.to_i64(), &mut text)?;
+    push_shown(alloc, "u64", number.to_u64(), &mut text)?;
+    push_shown(alloc, "i128", number.to_i128(), &mut text)?;
+    push_shown(alloc, "u128", number.to_u128(), &mut text)?;
+    Ok(text)
 }
 
 fn whole_octets(alloc: Global, octets: &[u8]) -> Result<String, AllocError> {

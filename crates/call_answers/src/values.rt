@@ -1,7 +1,8 @@
 // The values that blocks of one kind alone have.
 use crate::identifiers::identifier_shown;
-use asn1_text::octets_text;
-use simple_asn1::ASN1Block;
+use crate::parts::push_after;
+use asn1_text::{blocks_text, octets_text};
+use simple_asn1::{ASN1Block, sequence_items};
 use std::alloc::{AllocError, Global};
 use std::fmt::Display;
 
@@ -12,6 +13,7 @@ pub enum ValueCall {
     Bits,
     Identifier,
     Moment,
+    Items,
 }
 
 impl ValueCall {
@@ -22,6 +24,7 @@ impl ValueCall {
             "bits" => Some(ValueCall::Bits),
             "oid" => Some(ValueCall::Identifier),
             "moment" => Some(ValueCall::Moment),
+            "sequence_items" => Some(ValueCall::Items),
             _ => None,
         }
     }
@@ -30,10 +33,7 @@ impl ValueCall {
     pub fn values(self, alloc: Global, blocks: &[ASN1Block]) -> Result<String, AllocError> {
         let mut text = String::new(alloc);
         for block in blocks {
-            if !text.is_empty() {
-                text.push_str(", ")?;
-            }
-            text.push_str(&self.value(alloc, block)?)?;
+            push_after(&mut text, ", ", &self.value(alloc, block)?)?;
         }
         Ok(text)
     }
@@ -47,6 +47,7 @@ impl ValueCall {
                 None => String::from_str(alloc, "-"),
             },
             ValueCall::Moment => shown(alloc, block.moment()),
+            ValueCall::Items => items_text(alloc, block),
         }
     }
 }
@@ -65,4 +66,12 @@ fn bits_text(alloc: Global, block: &ASN1Block) -> Result<String, AllocError> {
     };
     let octets = octets_text(alloc, octets)?;
     format!(in alloc; "{bits} of [{octets}]")
+}
+
+fn items_text(alloc: Global, block: &ASN1Block) -> Result<String, AllocError> {
+    let Some(items) = sequence_items(block) else {
+        return String::from_str(alloc, "-");
+    };
+    let items = blocks_text(alloc, items)?;
+    format!(in alloc; "[{items}]")
 }

@@ -9,11 +9,10 @@ use crate::answers::{Reading, answers};
 use std::alloc::Global;
 use std::io::{Read, Write};
 use streams::{StreamFault, read_all, write_all};
-
 pub use streams::{fault_text, status};
 
-/// Why a run did not answer its input: `Read`, `Write` or `Memory`. Every fault of a read is `Read`, whatever its kind, and
-/// every fault of a write or a flush is `Write`; `Memory` is memory of our own that was refused.
+/// Why a run did not answer its input: `Read`, `Write` or `Memory`. Every fault of a read is `Read`, whatever its kind,
+/// and every fault of a write or a flush is `Write`; `Memory` is memory of our own that was refused.
 pub type ToolFault = StreamFault;
 
 /// Reads all of `r`, and writes the answer to each line to `w`.
