@@ -4,7 +4,7 @@ ghost use Rattle.std.specs.Counts.{IsPrefixLen};
 
 use std::fs::File;
 use std::io;
-use std::io::Read;
+use std::io::{ErrorKind, Read, Write};
 
 // Reads standard input, where the name is `-`, or the file that has the name.
 #[derive(Drop)]
@@ -43,6 +43,43 @@ impl<'r, 'a> HostReader<'r, 'a> {
     // Says on standard error why nothing more can be read.
     fn tell(&self, fault: &io::Error) {
         let _ = eprintln!(self.rt; "error: {}: {fault}", self.name);
+    }
+}
+
+// Writes to standard output, and keeps in mind whether its reader has gone, as that of `| head` may.
+#[derive(Drop)]
+pub struct HostWriter<'r> {
+    rt: &'r HostRuntime,
+    pub is_closed: bool,
+}
+
+impl<'r> HostWriter<'r> {
+    pub fn new(rt: &'r HostRuntime) -> HostWriter<'r> {
+        HostWriter {
+            rt,
+            is_closed: false,
+        }
+    }
+}
+
+fn is_closed_pipe<T>(outcome: &io::Result<T>) -> bool {
+    match outcome {
+        Ok(_) => false,
+        Err(fault) => fault.kind() == ErrorKind::BrokenPipe,
+    }
+}
+
+impl Write for HostWriter<'_> {
+    fn write(&mut self, buf: &[u8]) -> io::Result<usize> {
+        let outcome = self.rt.stdout().write(buf);
+        self.is_closed = is_closed_pipe(&outcome);
+        outcome
+    }
+
+    fn flush(&mut self) -> io::Result<()> {
+        let outcome = self.rt.stdout().flush();
+        self.is_closed = is_closed_pipe(&outcome);
+        outcome
     }
 }
 

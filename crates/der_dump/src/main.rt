@@ -3,7 +3,7 @@
 
 mod host;
 
-use crate::host::HostReader;
+use crate::host::{HostReader, HostWriter};
 use der_inputs::{Source, run, status};
 use der_options::{Options, OptionsFault, options_of};
 use std::alloc::AllocError;
@@ -68,12 +68,16 @@ fn tell(rt: &HostRuntime, fault: &OptionsFault<'_>) -> u8 {
 
 // Does what the options want.
 fn answer(rt: &HostRuntime, options: &Options<'_>) -> u8 {
+    let mut output = HostWriter::new(rt);
     let outcome = match sources(rt, options) {
-        Ok(mut sources) => run(rt.alloc(), options, &mut sources, &mut rt.stdout()),
+        Ok(mut sources) => run(rt.alloc(), options, &mut sources, &mut output),
         Err(_) => Err(StreamFault::Memory),
     };
-    if let Err(fault) = &outcome {
-        let _ = eprintln!(rt; "{}", fault_text(fault));
+    match &outcome {
+        Err(fault) if !output.is_closed => {
+            let _ = eprintln!(rt; "{}", fault_text(fault));
+        }
+        _ => {}
     }
     status(&outcome)
 }

@@ -53,6 +53,16 @@ objects_in true (line ∷ lines) = if ends_object line then objects_in false lin
 objects_in false (line ∷ lines) =
     if begins_object line then object_in (label_in line) lines ∷ objects_in true lines else objects_in false lines
 
+-- no line ends the last object, of lines that stand inside an object or do not
+abbrev pub is_cut_in : Bool → List (List ℕ) → Bool
+is_cut_in inside [] = inside
+is_cut_in true (line ∷ lines) = if ends_object line then is_cut_in false lines else is_cut_in true lines
+is_cut_in false (line ∷ lines) = if begins_object line then is_cut_in true lines else is_cut_in false lines
+
+-- no line ends the last object of an input
+abbrev pub is_cut : List ℕ → Bool
+is_cut input = is_cut_in false (lines_of (but_mark input))
+
 -- each object of an input
 abbrev pub objects_of : List ℕ → List Object
 objects_of input = objects_in false (lines_of (but_mark input))

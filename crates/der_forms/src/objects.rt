@@ -1,9 +1,11 @@
 // The objects of PEM, one after another.
-ghost use Rattle.std.specs.Prelude.{◌≡◌, ◌∷◌, ◌++◌, ◌<◌, ◌≤◌, [], true, false, IfOk, MatchOption, OnOk, Option, length};
+ghost use Rattle.std.specs.Prelude.{◌≡◌, ◌∷◌, ◌++◌, ◌<◌, ◌≤◌, [], true, false, not, length};
+ghost use Rattle.std.specs.Prelude.{IfOk, IfSome, MatchOption, OnOk, Option};
 ghost use Rattle.std.specs.List.{list_any};
 ghost use Rattle.std.specs.Option.{option_map};
 ghost use Rattle.std.specs.Result.{result_ok};
-ghost use Rattle.der_forms.specs.Objects.{is_encrypted, object_in, objects_in, octets_in, symbols_in, symbols_of};
+ghost use Rattle.der_forms.specs.Objects.{is_cut_in, is_encrypted, object_in, objects_in, octets_in, symbols_in};
+ghost use Rattle.der_forms.specs.Objects.{symbols_of};
 ghost use Rattle.der_forms.specs.Shown.{shown_object};
 ghost use Rattle.streams.specs.Lines.{lines_of};
 
@@ -40,11 +42,17 @@ pub fn next_object<'a>(
     alloc: Global,
     lines: Lines<'a>,
 ) -> Result<Option<(PemObject<'a>, Lines<'a>)>, AllocError>
-    ensures { IfOk result (λ next. MatchOption next
+    ensures found { IfOk result (λ next. MatchOption next
         (objects_in false (lines_of lines.entry.rest.now) ≡ [])
         (λ found. (objects_in false (lines_of lines.entry.rest.now)
         ≡ shown_object found.0 ∷ objects_in false (lines_of found.1.rest.now))
         × (length found.1.rest.now < length lines.entry.rest.now))) }
+    ensures cut { IfOk result (λ next. MatchOption next
+        (is_cut_in false (lines_of lines.entry.rest.now) ≡ false)
+        (λ found. is_cut_in false (lines_of lines.entry.rest.now)
+        ≡ is_cut_in (not found.0.is_ended) (lines_of found.1.rest.now))) }
+    ensures last { IfOk result (λ next. IfSome next (λ found.
+        found.0.is_ended ≡ false → found.1.rest.now ≡ [])) }
 {
     let Some((label, after)) = find_object(lines) else {
         return Ok(None);
@@ -62,11 +70,14 @@ pub fn next_object<'a>(
 
 // The label of the next object, and the lines after the one that begins it.
 fn find_object<'a>(lines: Lines<'a>) -> Option<(&'a [u8], Lines<'a>)>
-    ensures { MatchOption result
+    ensures found { MatchOption result
         (objects_in false (lines_of lines.entry.rest.now) ≡ [])
         (λ found. (objects_in false (lines_of lines.entry.rest.now)
         ≡ object_in found.0.now (lines_of found.1.rest.now) ∷ objects_in true (lines_of found.1.rest.now))
         × (length found.1.rest.now < length lines.entry.rest.now)) }
+    ensures cut { MatchOption result
+        (is_cut_in false (lines_of lines.entry.rest.now) ≡ false)
+        (λ found. is_cut_in false (lines_of lines.entry.rest.now) ≡ is_cut_in true (lines_of found.1.rest.now)) }
 {
     let mut rest = lines.rest;
     let mut before = lines.before;
@@ -96,6 +107,9 @@ fn read_body<'a>(alloc: Global, lines: Lines<'a>) -> Result<Body<'a>, AllocError
     ensures after { IfOk result (λ body. objects_in true (lines_of lines.entry.rest.now)
         ≡ objects_in false (lines_of body.after.rest.now)) }
     ensures shorter { IfOk result (λ body. length body.after.rest.now ≤ length lines.entry.rest.now) }
+    ensures cut { IfOk result (λ body. is_cut_in true (lines_of lines.entry.rest.now)
+        ≡ is_cut_in (not body.is_ended) (lines_of body.after.rest.now)) }
+    ensures last { IfOk result (λ body. body.is_ended ≡ false → body.after.rest.now ≡ []) }
 {
     let mut symbols = Vec::new(alloc);
     let mut is_encrypted = false;

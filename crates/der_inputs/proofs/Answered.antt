@@ -1,10 +1,11 @@
 -- What is put of an input, object after object.
 use Rattle.std.proofs.Common.{◌≡◌, ℕ, List, [], ◌∷◌, ◌++◌, inl, inr, refl, sym, ap, ◌∙◌, subst}
 use Rattle.std.proofs.Common.{append_assoc, append-nil}
-use Rattle.std.specs.Prelude.{Option, Some, None, Result, Ok, Err, IfOk}
+use Rattle.std.specs.Prelude.{Bool, false, not, true, Option, Some, None, Result, Ok, Err, IfOk, MatchOption}
 use Rattle.std.specs.declared.alloc.AllocError.{AllocError}
 use Rattle.der_forms.specs.Forms.{form_is, other_text}
-use Rattle.der_forms.specs.Objects.{Object}
+use Rattle.der_forms.specs.Objects.{Object, is_cut_in, objects_in}
+use Rattle.streams.specs.Lines.{lines_of}
 use Rattle.simple_asn1.specs.Fault.{OutOfMemoryOr, fault_of}
 use Rattle.simple_asn1.specs.Grammar.{FirstFault}
 use Rattle.simple_asn1.specs.Types.{OutOfMemory}
@@ -61,6 +62,32 @@ pub all_done :
     AddsObjects Put all v a b
 all_done Put all left v a b e h =
     subst (λ xs. AddsObjects Put xs v a b) (sym (h.order ∙ (ap (λ xs. h.done ++ xs) e ∙ append-nil h.done))) h.put
+
+-- whether no line ends the last object: the last that was put is not ended, and none is left, or what is left tells
+abbrev pub CutIsKnown : Option ℕ → List ℕ → Bool → Type 0
+CutIsKnown None rest cut = cut ≡ is_cut_in false (lines_of rest)
+CutIsKnown (Some line) rest cut = (rest ≡ []) × (cut ≡ true)
+
+pub known_after :
+    (before line : Option ℕ) (rest after : List ℕ) (cut ended : Bool) (object : Object) (later : List Object) →
+    CutIsKnown before rest cut → objects_in false (lines_of rest) ≡ object ∷ later →
+    is_cut_in false (lines_of rest) ≡ is_cut_in (not ended) (lines_of after) → (ended ≡ false → after ≡ []) →
+    MatchOption line (ended ≡ true) (λ l. ended ≡ false) → CutIsKnown line after cut
+known_after None None rest after cut ended object later known next same last is =
+    known ∙ (same ∙ ap (λ z. is_cut_in (not z) (lines_of after)) is)
+known_after None (Some l) rest after cut ended object later known next same last is = (
+  last is,
+  known ∙ (same ∙ (ap (λ z. is_cut_in (not z) (lines_of after)) is ∙ ap (λ z. is_cut_in true (lines_of z)) (last is))),
+)
+known_after (Some l) line rest after cut ended object later (none, known) next same last is =
+    let nothing : objects_in false (lines_of rest) ≡ [] = ap (λ z. objects_in false (lines_of z)) none in
+    absurd (cc (nothing, next))
+
+pub known_ended :
+    (line : Option ℕ) (rest : List ℕ) (cut : Bool) → CutIsKnown line rest cut → is_cut_in false (lines_of rest) ≡ false →
+    MatchOption line (cut ≡ false) (λ l. cut ≡ true)
+known_ended None rest cut known ended = known ∙ ended
+known_ended (Some l) rest cut known ended = known.1
 
 -- text that is no document
 pub answer_text :

@@ -3,7 +3,7 @@ use Rattle.std.specs.Prelude.{◌≡◌, ℕ, Bool, true, false, List, [], ◌�
 use Rattle.std.specs.Prelude.{Option, Some, None, IfSome}
 use Rattle.std.specs.Io.KnownBytes.{IsAtEnd}
 use Rattle.der_forms.specs.Forms.{form_is, objects, odd_digits, other_text, plain_octets, spelled}
-use Rattle.der_forms.specs.Objects.{Object, document_of, objects_of}
+use Rattle.der_forms.specs.Objects.{Object, document_of, is_cut, objects_of}
 use Rattle.der_lines.specs.Dump.{AddsLine, IsHeader, IsNote}
 use Rattle.der_lines.specs.declared.document.Verdict.{Verdict}
 use Rattle.der_lines.specs.declared.document.Verdict.TheVariants.{AllRead, Refused}
@@ -51,12 +51,12 @@ pub data AddsAnswer (Put : Putting) (input : List ℕ) (verdict : Verdict) (befo
       (fault : DecodeFault) → form_is input ≡ other_text → FirstFault input fault → Put None None verdict before after →
       AddsAnswer Put input verdict before after
   of_objects :
-      form_is input ≡ objects → AddsObjects Put (objects_of input) verdict before after →
+      form_is input ≡ objects → is_cut input ≡ false → AddsObjects Put (objects_of input) verdict before after →
       AddsAnswer Put input verdict before after
-  -- the last object does not end, which is told after it
+  -- no line ends the last object, which is told after it
   of_cut_objects :
       (read : Verdict) (shown : List ℕ) →
-      form_is input ≡ objects → AddsObjects Put (objects_of input) read before shown →
+      form_is input ≡ objects → is_cut input ≡ true → AddsObjects Put (objects_of input) read before shown →
       Put None None verdict shown after → AddsAnswer Put input verdict before after
 
 -- so of the block that stands at the offset in the document of an input, the first one of PEM; or where there is none

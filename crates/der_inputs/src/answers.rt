@@ -1,5 +1,5 @@
 // What is written of an input in each of the forms.
-ghost use Rattle.std.specs.Prelude.{◌≡◌, ◌≢◌, IfOk, None, Some};
+ghost use Rattle.std.specs.Prelude.{◌≡◌, ◌≢◌, IfOk, MatchOption, None, Some, false, true};
 ghost use Rattle.der_inputs.specs.Inputs.{AddsAnswer, both_read};
 ghost use Rattle.der_inputs.specs.Parts.{PutsIn};
 ghost use Rattle.der_forms.specs.Forms.{form_is, objects, other_text};
@@ -99,7 +99,9 @@ fn push_pem(
 }
 
 // The number of the line that begins an object which no line ends.
-fn line_if_cut(object: &PemObject<'_>) -> Option<usize> {
+fn line_if_cut(object: &PemObject<'_>) -> Option<usize>
+    ensures { MatchOption result (object.now.is_ended ≡ true) (λ line. object.now.is_ended ≡ false) }
+{
     if object.is_ended {
         None
     } else {

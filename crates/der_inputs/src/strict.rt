@@ -6,8 +6,8 @@ use der_lines::{Names, Style, Verdict, push_fault_line, push_octets};
 use simple_asn1::{ASN1DecodeErr, discard, from_der_strict, law_one_reading};
 use std::alloc::{AllocError, Global};
 
-/// Puts the lines of a document, and then the fault of one that is not canonical, at the offset of its first block at the
-/// top level that is not; an indefinite form is told so, too.
+/// Puts the lines of a document, and then the fault of one that is not canonical, at the offset of its first block at
+/// the top level that is not; an indefinite form is told so, too.
 ///
 /// # Errors
 /// Memory ran out.

@@ -1,13 +1,13 @@
 -- What is written of octets as JSON: an object that has the blocks of the document, or its first fault.
-use Rattle.std.specs.Prelude.{◌≡◌, ℕ, ℤ, unsigned_abs, nat_lt, Bool, true, false, if◌then◌else◌, List, [], ◌∷◌, ◌++◌, codes, length}
-use Rattle.std.specs.Prelude.{Option, None, Some, option_map}
+use Rattle.std.specs.Prelude.{◌≡◌, ℕ, ◌<◌, ℤ, unsigned_abs, nat_lt, Bool, true, false, if◌then◌else◌}
+use Rattle.std.specs.Prelude.{List, [], ◌∷◌, ◌++◌, codes, length, Option, None, Some, option_map}
 use Rattle.std.specs.List.{AllZip}
 use Rattle.std.specs.Str.{chars}
 use Rattle.hex.specs.Hex.{encode_lower}
 use Rattle.jiff.specs.Names.{iso_datetime_text}
 use Rattle.jiff_core.specs.declared.civil.datetime.DateTime.{DateTime}
-use Rattle.serde_json.specs.Data.{Data, array, boolean as boolean_json, null, number, object, string, unsigned, Items, no_items, item}
-use Rattle.serde_json.specs.Data.{Members, no_members, member}
+use Rattle.serde_json.specs.Data.{Data, array, boolean as boolean_json, null, number, object, string, unsigned}
+use Rattle.serde_json.specs.Data.{Items, no_items, item, Members, no_members, member}
 use Rattle.serde_json.specs.Find.{get, of_integer}
 use Rattle.serde_json.specs.Written.{compact_text}
 use Rattle.asn1_blocks.specs.BlockParts.{all_in_order, tree_tag}
@@ -24,6 +24,7 @@ use Rattle.asn1_headers.specs.declared.header.ASN1Class.{ASN1Class}
 use Rattle.asn1_headers.specs.declared.header.ASN1Class.TheVariants.{Application, ContextSpecific, Private, Universal}
 use Rattle.asn1_blocks.specs.declared.block.GroupKind.{GroupKind}
 use Rattle.asn1_blocks.specs.declared.block.GroupKind.TheVariants.{Sequence, Set}
+use Rattle.asn1_leaves.specs.Contents.ObjectIdentifier.{object_identifier_contents}
 use Rattle.asn1_leaves.specs.Contents.Moment.{Moment, moment_of}
 use Rattle.asn1_leaves.specs.DottedDecimal.{dotted_decimal}
 use Rattle.asn1_leaves.specs.StringKind.{StringKind, utf8, printable, teletex, ia5, universal, bmp}
@@ -94,6 +95,24 @@ bits_json bits octets =
     object (member (codes "bits") (number (unsigned bits))
     (member (codes "octets") (string (encode_lower octets)) no_members))
 
+-- one contents octet has the first two components (X.690 8.19.4)
+abbrev pub HasShortFront : List ℕ → Type 0
+HasShortFront components =
+    (octet : ℕ) × (rest : List ℕ) × (object_identifier_contents components ≡ octet ∷ rest) × (octet < 128)
+
+-- the value of an object identifier, which the library reads so. Where its first subidentifier has more octets, its
+-- components are others
+abbrev pub IsIdentifierValue : List ℕ → Data → Type 0
+IsIdentifierValue components value =
+    (text : List ℕ) × (value ≡ string text) × (HasShortFront components → text ≡ dotted_decimal components)
+
+-- the value of a string, which the library reads as these characters. X.690 has UTF-32 and UTF-16 for the last two
+-- kinds, which it reads as UTF-8
+abbrev pub IsStringValue : StringKind → List ℕ → Data → Type 0
+IsStringValue universal characters value = (text : List ℕ) × (value ≡ string text)
+IsStringValue bmp characters value = (text : List ℕ) × (value ≡ string text)
+IsStringValue kind characters value = (text : List ℕ) × (chars text ≡ characters) × (value ≡ string text)
+
 -- the value of a leaf
 abbrev pub IsLeafValue : Leaf → Data → Type 0
 IsLeafValue (boolean b) value = value ≡ boolean_json b
@@ -101,8 +120,8 @@ IsLeafValue (integer n) value = value ≡ whole_json n
 IsLeafValue (bit_string bits octets) value = value ≡ bits_json bits octets
 IsLeafValue (octet_string octets) value = value ≡ string (encode_lower octets)
 IsLeafValue null_leaf value = value ≡ null
-IsLeafValue (object_identifier components) value = value ≡ string (dotted_decimal components)
-IsLeafValue (text_leaf kind characters) value = (text : List ℕ) × (chars text ≡ characters) × (value ≡ string text)
+IsLeafValue (object_identifier components) value = IsIdentifierValue components value
+IsLeafValue (text_leaf kind characters) value = IsStringValue kind characters value
 IsLeafValue (utc_time moment) value = (text : List ℕ) × IsMomentText moment text × (value ≡ string text)
 IsLeafValue (generalized_time moment) value = (text : List ℕ) × IsMomentText moment text × (value ≡ string text)
 

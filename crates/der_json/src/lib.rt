@@ -16,8 +16,8 @@
 //! |---|---|
 //! | BOOLEAN | `true` or `false` |
 //! | INTEGER | a number from -(2^53 - 1) to 2^53 - 1; any other as a text of its decimal digits |
-//! | OBJECT IDENTIFIER | a text, `1.2.840` |
-//! | strings of characters | their text |
+//! | OBJECT IDENTIFIER | a text, `1.2.840`, as X.690 has it: of `88 37` `2.999` |
+//! | strings of characters | their text: of a UniversalString in UTF-32, of a BMPString in UTF-16, where it is so |
 //! | UTCTime, GeneralizedTime | a text, `2026-11-23T00:43:05Z` |
 //! | BIT STRING | an object: `bits`, how many there are, and `octets`, in hex digits |
 //! | OCTET STRING, and what has no type | its octets in hex digits |

@@ -55,7 +55,7 @@ pub fn row_of(
     let depth = open.depth_of(offset, offset.saturating_add(size))?;
     let tag = tag_value(alloc, block)?;
     let kind = type_value(alloc, block)?;
-    let value = value_of(alloc, block)?;
+    let value = value_of(alloc, encoding, block)?;
     json!(in alloc; {
         "offset": offset,
         "size": size,

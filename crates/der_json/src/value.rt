@@ -1,5 +1,5 @@
 // What is told of a block: its type, its tag, and what it holds. None of it is a float.
-ghost use Rattle.std.specs.Prelude.{◌≡◌, List, ℕ, false, IfOk, option_map};
+ghost use Rattle.std.specs.Prelude.{◌≡◌, List, ℕ, false, IfOk, IsTrue, option_map};
 ghost use Rattle.hex.specs.Hex.{encode_lower};
 ghost use Rattle.asn1_leaves.specs.Contents.Moment.{moment_of};
 ghost use Rattle.serde_json.specs.View.{view};
@@ -8,14 +8,17 @@ ghost use Rattle.asn1_blocks.specs.BlockParts.{tree_tag};
 ghost use Rattle.asn1_blocks.specs.View.{view as view_block};
 ghost use Rattle.serde_json.specs.Data.{string};
 ghost use Rattle.asn1_leaves.specs.DottedDecimal.{dotted_decimal};
+ghost use Rattle.der_json.specs.Json.{HasShortFront, IsIdentifierValue};
 ghost use Rattle.der_json.specs.Json.{IsMomentText, IsValue, bits_json, class_name as name_of, natural_json, type_json};
 ghost use Rattle.der_json.specs.Json.{type_name, whole_json};
 
 use asn1_blocks::block::ASN1Block;
+use asn1_headers::error::ASN1EncodeErr;
 use asn1_headers::header::ASN1Class;
 use asn1_leaves::oid::OID;
 use asn1_numbers::number::big_int::BigInt;
 use asn1_numbers::number::big_uint::BigUint;
+use der_values::{Characters, contents_of, long_identifier, text_in_form};
 use jiff::civil::DateTime;
 use serde_json::{Value, json};
 use std::alloc::{AllocError, Global};
@@ -125,22 +128,59 @@ fn bits_value(alloc: Global, bits: usize, octets: &[u8]) -> Result<Value, AllocE
     json!(in alloc; {"bits": bits, "octets": digits})
 }
 
-fn identifier_value(alloc: Global, identifier: &OID) -> Result<Value, AllocError>
+fn dotted_value(alloc: Global, identifier: &OID) -> Result<Value, AllocError>
     ensures told { IfOk result (λ v. view v ≡ string (dotted_decimal identifier.now)) }
     ensures exact { IfOk result (λ v. has_float (view v) ≡ false) }
 {
     Ok(Value::String(format!(in alloc; "{identifier}")?))
 }
 
+// The object identifier that an encoding has, of which the library read this one.
+fn identifier_value(alloc: Global, encoding: &[u8], read: &OID) -> Result<Value, AllocError>
+    ensures told { IfOk result (λ v. IsIdentifierValue read.now (view v)) }
+    ensures exact { IfOk result (λ v. has_float (view v) ≡ false) }
+{
+    if has_short_front(alloc, read)? {
+        return dotted_value(alloc, read);
+    }
+    match long_identifier(alloc, contents_of(alloc, encoding)?)? {
+        Some(long) => dotted_value(alloc, &long),
+        None => dotted_value(alloc, read),
+    }
+}
+
+// Whether one octet has the first two components.
+fn has_short_front(alloc: Global, identifier: &OID) -> Result<bool, AllocError>
+    ensures { IfOk result (λ is_short. HasShortFront identifier.now → IsTrue is_short) }
+{
+    match identifier.as_raw(alloc) {
+        Ok(contents) => Ok(!matches!(contents.as_slice(), [0x80..=0xFF, ..])),
+        Err(ASN1EncodeErr::OutOfMemory) => Err(AllocError),
+        Err(_) => Ok(true),
+    }
+}
+
+// A string that the library reads as UTF-8, in the form that its type has, where the octets are so.
+fn wide_value(alloc: Global, form: Characters, text: &str) -> Result<Value, AllocError>
+    ensures told { IfOk result (λ v. (characters : List ℕ) × (view v ≡ string characters)) }
+    ensures exact { IfOk result (λ v. has_float (view v) ≡ false) }
+{
+    match text_in_form(alloc, form, text.as_bytes())? {
+        Some(characters) => Ok(Value::String(characters)),
+        None => text_value(alloc, text),
+    }
+}
+
 fn moment_value(alloc: Global, moment: &DateTime) -> Result<Value, AllocError>
-    ensures told { IfOk result (λ v. (text : List ℕ) × IsMomentText (moment_of moment.now) text × (view v ≡ string text)) }
+    ensures told { IfOk result (λ v. (text : List ℕ) × IsMomentText (moment_of moment.now) text
+        × (view v ≡ string text)) }
     ensures exact { IfOk result (λ v. has_float (view v) ≡ false) }
 {
     Ok(Value::String(format!(in alloc; "{moment}Z")?))
 }
 
-// What a block holds, which is told after its type.
-pub fn value_of(alloc: Global, block: &ASN1Block) -> Result<Value, AllocError>
+// What a block with this encoding holds, which is told after its type.
+pub fn value_of(alloc: Global, encoding: &[u8], block: &ASN1Block) -> Result<Value, AllocError>
     ensures told { IfOk result (λ v. IsValue (view_block block.now) (view v)) }
     ensures exact { IfOk result (λ v. has_float (view v) ≡ false) }
 {
@@ -149,16 +189,16 @@ pub fn value_of(alloc: Global, block: &ASN1Block) -> Result<Value, AllocError>
         ASN1Block::Integer(_, number) => integer_value(alloc, number),
         ASN1Block::BitString(_, bits, octets) => bits_value(alloc, *bits, octets),
         ASN1Block::OctetString(_, octets) => octets_value(alloc, octets),
-        ASN1Block::ObjectIdentifier(_, oid) => identifier_value(alloc, oid),
+        ASN1Block::ObjectIdentifier(_, oid) => identifier_value(alloc, encoding, oid),
         ASN1Block::UTCTime(_, moment) => moment_value(alloc, moment),
         ASN1Block::GeneralizedTime(_, moment) => moment_value(alloc, moment),
         ASN1Block::Unknown(_, _, _, _, octets) => octets_value(alloc, octets),
         ASN1Block::UTF8String(_, text)
         | ASN1Block::PrintableString(_, text)
         | ASN1Block::TeletexString(_, text)
-        | ASN1Block::IA5String(_, text)
-        | ASN1Block::UniversalString(_, text)
-        | ASN1Block::BMPString(_, text) => text_value(alloc, text),
+        | ASN1Block::IA5String(_, text) => text_value(alloc, text),
+        ASN1Block::UniversalString(_, text) => wide_value(alloc, Characters::Utf32, text),
+        ASN1Block::BMPString(_, text) => wide_value(alloc, Characters::Utf16, text),
         ASN1Block::Null(_)
         | ASN1Block::Sequence(_, _)
         | ASN1Block::Set(_, _)

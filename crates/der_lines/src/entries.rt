@@ -4,16 +4,16 @@ ghost use Rattle.der_lines.specs.Dump.{AddsLine};
 ghost use Rattle.der_lines.specs.Steps.{IsLineOf, PutsStep};
 ghost use Rattle.asn1_headers.specs.declared.error.ASN1DecodeErr.TheVariants.{OutOfMemory};
 
-use crate::characters::{Characters, characters_of, write_as};
 use crate::cursor::Step;
 use crate::faults::leaf_words;
 use crate::header::{Header, is_group, read_header};
 use crate::lines::push_line;
 use crate::place::{Place, sum_of};
-use crate::scalars::write_after_space;
+use crate::scalars::{write_after_space, write_as};
 use crate::values::{write_form, write_sizes, write_tag};
 use asn1_headers::error::ASN1DecodeErr;
 use asn1_headers::header::ASN1Class;
+use der_values::{Characters, characters_of};
 use std::alloc::{AllocError, Global};
 
 // Puts the header of an encoding that is cut short.

@@ -4,6 +4,7 @@ ghost use Rattle.der_lines.specs.Dump.{HasNoHeader, StandsBehindHeader};
 ghost use Rattle.der_lines.specs.Steps.{IsAtFront, IsGroupHeader};
 ghost use Rattle.asn1_headers.specs.declared.error.ASN1DecodeErr.TheVariants.{OutOfMemory};
 
+use asn1_blocks::encoding::encoding_at;
 use asn1_headers::error::ASN1DecodeErr;
 use asn1_headers::header::{ASN1Class, HeaderCount, decode_length, decode_tag};
 use asn1_numbers::number::big_uint::BigUint;
@@ -20,6 +21,50 @@ pub struct Header {
     pub announced: usize,
     // whether it has the indefinite form of BER, which is read as a length of 0
     pub is_indefinite: bool,
+}
+
+// The octets of a block, and its header.
+#[derive(Drop)]
+pub struct Encoding<'a> {
+    pub octets: &'a [u8],
+    pub header: Option<Header>,
+}
+
+impl Encoding<'_> {
+    // How many octets the header has.
+    pub fn header_size(&self) -> usize {
+        match &self.header {
+            Some(header) => header.size,
+            None => 0,
+        }
+    }
+
+    // Whether the length has the indefinite form of BER.
+    pub fn is_indefinite(&self) -> bool {
+        match &self.header {
+            Some(header) => header.is_indefinite,
+            None => false,
+        }
+    }
+
+    // The octets behind the header.
+    pub fn contents(&self) -> &[u8] {
+        let (_, contents) = self
+            .octets
+            .split_at(self.header_size().min(self.octets.len()));
+        contents
+    }
+}
+
+// The octets of the block at the offset, and its header.
+pub fn encoding_of(
+    alloc: Global,
+    octets: &[u8],
+    offset: usize,
+) -> Result<Encoding<'_>, AllocError> {
+    let octets = encoding_at(octets, offset).unwrap_or(&[]);
+    let header = read_header(alloc, octets)?;
+    Ok(Encoding { octets, header })
 }
 
 // The header at the front, where one stands there.

@@ -1,4 +1,5 @@
 // Octets, characters and numbers.
+use der_values::{Characters, text_in_form};
 use std::alloc::{AllocError, Global};
 
 // How many octets are written at most where not all are; of longer ones the first of them, and how many there are.
@@ -69,4 +70,32 @@ fn is_printable(number: u32) -> bool {
         || number == 0xFEFF
         || (0xFFF0 <= number && number < 0xFFFC)
         || 0xE0000 <= number)
+}
+
+// Puts the name of the form and the octets as characters at the end, if they are at least one. Whether that was done.
+pub fn write_as(
+    alloc: Global,
+    out: &mut String,
+    form: Characters,
+    octets: &[u8],
+) -> Result<bool, AllocError> {
+    if octets.is_empty() {
+        return Ok(false);
+    }
+    let Some(text) = text_in_form(alloc, form, octets)? else {
+        return Ok(false);
+    };
+    out.push_str(" (as ")?;
+    out.push_str(form_name(form))?;
+    out.push_str(") ")?;
+    write_quoted(out, &text)?;
+    Ok(true)
+}
+
+fn form_name(form: Characters) -> &'static str {
+    match form {
+        Characters::Utf16 => "UTF-16",
+        Characters::Utf32 => "UTF-32",
+        Characters::Latin1 => "Latin-1",
+    }
 }

@@ -11,7 +11,7 @@ ghost use Rattle.asn1_blocks.specs.View.{tree_offset, view, views};
 
 use crate::cursor::{Cursor, Step};
 use crate::entries::{push_cut, push_faulty, push_header};
-use crate::header::{Header, is_group, read_header};
+use crate::header::{encoding_of, is_group, read_header};
 use crate::held::{Held, Inside, held_in};
 use crate::lines::push_line;
 use crate::names::Names;
@@ -157,27 +157,13 @@ fn push_block<'a>(
     let block = found.block;
     let offset = sum_of(place.base, block.offset())?;
     let depth = found.depth;
-    let header = header_of(alloc, octets, block.offset())?;
-    let held = held_in(alloc, octets, block, header_size(&header), place, depth)?;
+    let encoding = encoding_of(alloc, octets, block.offset())?;
+    let held = held_in(alloc, octets, block, encoding.header_size(), place, depth)?;
     let manner = Manner {
         is_opened: held.is_some(),
         is_full: place.is_full,
     };
-    let text = block_text(alloc, names, &header, depth, block, manner)?;
+    let text = block_text(alloc, names, &encoding, depth, block, manner)?;
     push_line(place.is_inside, offset, text.as_bytes(), out)?;
     Ok(held)
-}
-
-fn header_of(alloc: Global, octets: &[u8], offset: usize) -> Result<Option<Header>, AllocError> {
-    match encoding_at(octets, offset) {
-        Some(encoding) => read_header(alloc, encoding),
-        None => Ok(None),
-    }
-}
-
-fn header_size(header: &Option<Header>) -> usize {
-    match header {
-        Some(header) => header.size,
-        None => 0,
-    }
 }

@@ -1,15 +1,15 @@
 // What is said of a block after its offset: the sizes of its header and contents, its tag, and its value. No contract
 // says anything of it; that it becomes one line is seen to where it is put.
-use crate::characters::{Characters, write_as};
-use crate::header::Header;
+use crate::header::{Encoding, Header};
 use crate::names::Names;
-use crate::scalars::{write_after_space, write_hex, write_quoted};
+use crate::scalars::{write_after_space, write_as, write_hex, write_quoted};
 use asn1_blocks::block::ASN1Block;
 use asn1_headers::error::ASN1DecodeErr;
 use asn1_headers::header::ASN1Class;
 use asn1_leaves::oid::OID;
 use asn1_numbers::number::big_int::BigInt;
 use asn1_numbers::number::big_uint::BigUint;
+use der_values::{Characters, long_identifier};
 use itoa::Buffer;
 use std::alloc::{AllocError, Global};
 
@@ -35,18 +35,18 @@ pub struct Manner {
 pub fn block_text(
     alloc: Global,
     names: &Names,
-    header: &Option<Header>,
+    encoding: &Encoding<'_>,
     depth: usize,
     block: &ASN1Block,
     manner: Manner,
 ) -> Result<String, AllocError> {
     let mut text = String::with_capacity(alloc, LINE_ROOM)?;
-    match header {
+    match &encoding.header {
         Some(header) => write_sizes(&mut text, header.size, header.announced, depth)?,
         None => write_sizes(&mut text, 0, 0, depth)?,
     }
-    write_block(alloc, &mut text, names, block, manner)?;
-    if let Some(header) = header {
+    write_block(alloc, &mut text, names, encoding, block, manner)?;
+    if let Some(header) = &encoding.header {
         write_form(&mut text, header)?;
     }
     Ok(text)
@@ -92,6 +92,7 @@ fn write_block(
     alloc: Global,
     out: &mut String,
     names: &Names,
+    encoding: &Encoding<'_>,
     block: &ASN1Block,
     manner: Manner,
 ) -> Result<(), AllocError> {
@@ -103,7 +104,12 @@ fn write_block(
         ASN1Block::Integer(_, n) => write_integer(alloc, out, "INTEGER", n, manner),
         ASN1Block::BitString(_, bits, octets) => write_bit_string(out, *bits, octets, manner),
         ASN1Block::OctetString(_, octets) => write_octets(out, "OCTET STRING", octets, manner),
-        ASN1Block::ObjectIdentifier(_, oid) => write_identifier(alloc, out, names, oid),
+        ASN1Block::ObjectIdentifier(_, oid) => {
+            match long_identifier(alloc, encoding.contents())? {
+                Some(long) => write_identifier(alloc, out, names, &long),
+                None => write_identifier(alloc, out, names, oid),
+            }
+        }
         ASN1Block::UTCTime(_, moment) => write!(out, "UTCTime {moment}Z"),
         ASN1Block::GeneralizedTime(_, moment) => write!(out, "GeneralizedTime {moment}Z"),
         ASN1Block::UTF8String(_, s) => write_string(out, "UTF8String", s),
@@ -117,6 +123,9 @@ fn write_block(
         ASN1Block::Explicit(class, _, tag, _) => write_tag(alloc, out, *class, tag),
         ASN1Block::Unknown(class, constructed, _, tag, octets) => {
             write_tag(alloc, out, *class, tag)?;
+            if *constructed && !manner.is_opened && !encoding.is_indefinite() {
+                out.push_str(", constructed")?;
+            }
             write_unknown(alloc, out, *class, *constructed, tag, octets, manner)
         }
     }

@@ -1,21 +1,20 @@
 // Strings of characters in forms that the library does not read: it takes contents octets for UTF-8.
 ghost use Rattle.std.specs.Prelude.{◌<◌, IfSome, length};
 
-use crate::scalars::write_quoted;
 use std::alloc::{AllocError, Global};
 
-// A form of characters.
+/// A form of characters.
 #[derive(Clone, Copy, Drop)]
 pub enum Characters {
-    // two octets each, or four of two surrogates, as a BMPString has
+    /// two octets each, or four of two surrogates, as a BMPString has
     Utf16,
-    // four octets each, as a UniversalString has
+    /// four octets each, as a UniversalString has
     Utf32,
-    // an octet each, as a TeletexString mostly has
+    /// an octet each, as a TeletexString mostly has
     Latin1,
 }
 
-// The form of the strings with a tag of class Universal, if it is one that the library does not read.
+/// The form of the strings with a tag of class Universal, if it is one that the library does not read.
 pub fn characters_of(tag: Option<u8>) -> Option<Characters> {
     match tag {
         Some(20) => Some(Characters::Latin1),
@@ -25,36 +24,15 @@ pub fn characters_of(tag: Option<u8>) -> Option<Characters> {
     }
 }
 
-// Puts the name of the form and the octets as characters at the end, if they are at least one. Whether that was done.
-pub fn write_as(
+/// The characters that the octets are in the form, if all of them are.
+///
+/// # Errors
+/// Memory ran out.
+pub fn text_in_form(
     alloc: Global,
-    out: &mut String,
     form: Characters,
     octets: &[u8],
-) -> Result<bool, AllocError> {
-    if octets.is_empty() {
-        return Ok(false);
-    }
-    let Some(text) = text_of(alloc, form, octets)? else {
-        return Ok(false);
-    };
-    out.push_str(" (as ")?;
-    out.push_str(form_name(form))?;
-    out.push_str(") ")?;
-    write_quoted(out, &text)?;
-    Ok(true)
-}
-
-fn form_name(form: Characters) -> &'static str {
-    match form {
-        Characters::Utf16 => "UTF-16",
-        Characters::Utf32 => "UTF-32",
-        Characters::Latin1 => "Latin-1",
-    }
-}
-
-// The characters that the octets are, if all of them are.
-fn text_of(alloc: Global, form: Characters, octets: &[u8]) -> Result<Option<String>, AllocError> {
+) -> Result<Option<String>, AllocError> {
     let mut text = String::with_capacity(alloc, octets.len())?;
     let mut rest = octets;
     while let Some((c, after)) = next_of(form, rest) {

@@ -1,5 +1,5 @@
 use Rattle.std.proofs.Common.{length}
-use Rattle.der_lines.proofs.characters.text_of.Given as goal
+use Rattle.der_values.proofs.characters.text_in_form.Given as goal
 
 abbrev pub decreases-loop-c : goal.decreases-loop-c
 decreases-loop-c l = length l.rest
