@@ -1,4 +1,4 @@
-"""A plain recursive reader of the grammar, for comparison. It gives the answers of `asn1_calls` to `read` and `count`.
+"""A plain recursive reader of the grammar, for comparison. It gives the answers of `test_calls` to `read` and `count`.
 
 It is written from docs/GRAMMAR.md, an attempt being a call that may fail, and shares nothing with the library.
 """

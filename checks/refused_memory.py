@@ -27,7 +27,7 @@ def rows():
 
 def called(line, answer):
     """The call that the line names."""
-    if test or name != "asn1_calls":
+    if test or name != "test_calls":
         return test or "run"
     return line.split()[0] if answer not in ("", "badline") else "no call"
 

@@ -48,7 +48,7 @@ numbers = {int(n): kinds[k] for n, k in re.findall(r"(\d+) => FaultKind::(\w+)",
 never = {statuses["OK"], statuses["NO_ROOM"]}
 same("the header's and Rust's texts", {n: texts[s] for s, n in statuses.items() if n not in never}, numbers)
 
-proved = (top / "crates/asn1_c/src/status.rt").read_text()
+proved = (top / "crates/simple_asn1_c/src/status.rt").read_text()
 other_names = {
     "DONE": "OK", "OUT_OF_RANGE": "RANGE", "EmptyBuffer": "EMPTY", "BadBooleanLength": "BOOLEAN_LENGTH",
     "LengthTooLarge": "LENGTH", "UTF8DecodeFailure": "UTF8", "PrintableStringDecodeFailure": "PRINTABLE",
@@ -89,7 +89,7 @@ for name, record in records.items():
         wanted.append(f"{name}.{field[0]} {place.offset} {place.size}")
 same("the header's and Python's records", found, wanted)
 
-source = (top / "crates/asn1_c/src/record.rt").read_text()
+source = (top / "crates/simple_asn1_c/src/record.rt").read_text()
 answers = {"IntegerAnswer": "integer", "MomentAnswer": "moment", "SignedAnswer": "signed_parts"}
 for kind, size in re.findall(r"size_of::<(\w+)>\(\) == (\d+)", source):
     name = answers.get(kind, kind.lower())

@@ -5,11 +5,11 @@ mod host;
 
 use crate::host::{HostReader, HostWriter};
 use der_inputs::{Source, run, status};
+use der_io::{StreamFault, fault_text};
 use der_options::{Options, OptionsFault, options_of};
 use std::alloc::AllocError;
 use std::process::ExitCode;
 use std::{env, io};
-use streams::{StreamFault, fault_text};
 
 // The exit status of words that are no command line.
 const WRONG_WORDS: u8 = 2;

@@ -8,7 +8,7 @@ use Rattle.base64.specs.GeneralPurpose.{decode_of as decode_base64}
 use Rattle.base64.specs.declared.decode.DecodeError.{DecodeError}
 use Rattle.hex.specs.Hex.{decode_of as decode_hex}
 use Rattle.hex.specs.declared.error.FromHexError.{FromHexError}
-use Rattle.streams.specs.Lines.{lines_of}
+use Rattle.der_io.specs.Lines.{lines_of}
 
 -- what an input is
 pub data InputForm : Type 0 where

@@ -5,7 +5,7 @@ use Rattle.std.specs.List.{list_any}
 use Rattle.std.specs.Result.{result_ok}
 use Rattle.base64.specs.Engines.{standard}
 use Rattle.base64.specs.GeneralPurpose.{decode_of as decode_base64}
-use Rattle.streams.specs.Lines.{lines_of}
+use Rattle.der_io.specs.Lines.{lines_of}
 use Rattle.der_forms.specs.Forms.{InputForm, begins, begins_object, but_indent, but_mark, but_spaces, form_is}
 use Rattle.der_forms.specs.Forms.{objects, odd_digits, other_text, plain_octets, spelled, up_to}
 

@@ -12,12 +12,12 @@ ghost use Rattle.der_forms.specs.Forms.{
   has_columns,
   is_separator,
 };
-ghost use Rattle.streams.specs.Lines.{lines_of};
+ghost use Rattle.der_io.specs.Lines.{lines_of};
 
 use crate::lines::part_before;
+use der_io::split_line;
 use hex::FromHexError;
 use std::alloc::{AllocError, Global};
-use streams::split_line;
 
 // What may be the digits of a text.
 pub fn digits_in(alloc: Global, text: &[u8]) -> Result<Vec<u8>, AllocError>

@@ -11,9 +11,9 @@ ghost use Rattle.der_forms.specs.Forms.{
   up_to,
 };
 ghost use Rattle.der_forms.specs.Objects.{ends_object, label_in};
-ghost use Rattle.streams.specs.Lines.{lines_of};
+ghost use Rattle.der_io.specs.Lines.{lines_of};
 
-use streams::split_line;
+use der_io::split_line;
 
 /// Lines that are still to be read.
 #[derive(Clone, Copy, Drop)]

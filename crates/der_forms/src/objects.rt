@@ -7,13 +7,13 @@ ghost use Rattle.std.specs.Result.{result_ok};
 ghost use Rattle.der_forms.specs.Objects.{is_cut_in, is_encrypted, object_in, objects_in, octets_in, symbols_in};
 ghost use Rattle.der_forms.specs.Objects.{symbols_of};
 ghost use Rattle.der_forms.specs.Shown.{shown_object};
-ghost use Rattle.streams.specs.Lines.{lines_of};
+ghost use Rattle.der_io.specs.Lines.{lines_of};
 
 use crate::base64_text::decode;
 use crate::lines::{Lines, is_end, label_of, tells_encryption};
 use base64::DecodeError;
+use der_io::split_line;
 use std::alloc::{AllocError, Global};
-use streams::split_line;
 
 /// Why an object has no octets.
 #[derive(Clone, Copy, Debug, Drop, PartialEq)]

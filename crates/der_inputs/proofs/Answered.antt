@@ -5,7 +5,7 @@ use Rattle.std.specs.Prelude.{Bool, false, not, true, Option, Some, None, Result
 use Rattle.std.specs.declared.alloc.AllocError.{AllocError}
 use Rattle.der_forms.specs.Forms.{form_is, other_text}
 use Rattle.der_forms.specs.Objects.{Object, is_cut_in, objects_in}
-use Rattle.streams.specs.Lines.{lines_of}
+use Rattle.der_io.specs.Lines.{lines_of}
 use Rattle.simple_asn1.specs.Fault.{OutOfMemoryOr, fault_of}
 use Rattle.simple_asn1.specs.Grammar.{FirstFault}
 use Rattle.simple_asn1.specs.Types.{OutOfMemory}

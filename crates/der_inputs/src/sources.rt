@@ -4,15 +4,15 @@ ghost use Rattle.std.specs.Io.KnownBytes.{Appends, IsAtEnd, Keeps};
 ghost use Rattle.std.specs.Option.{option_map};
 ghost use Rattle.der_inputs.specs.Inputs.{AddsName, AddsNamed, AddsSource, AddsSources, AreReadToEnds, IsReadToEnd};
 ghost use Rattle.der_inputs.specs.Inputs.{greatest_status, input_of, names_shown, status_of};
-ghost use Rattle.streams.specs.declared.StreamFault.TheVariants.{Memory as memory_fault, Write as write_fault};
+ghost use Rattle.der_io.specs.declared.StreamFault.TheVariants.{Memory as memory_fault, Write as write_fault};
 
 use crate::manner::Manner;
 use crate::tasks::push_input;
+use der_io::{StreamFault, read_all, write_all};
 use der_lines::{Names, Style, Verdict, push_label};
 use der_options::{Options, Task};
 use std::alloc::{AllocError, Global};
 use std::io::{Read, Write};
-use streams::{StreamFault, read_all, write_all};
 
 /// An input: its name, and what it is read from.
 #[derive(Drop)]

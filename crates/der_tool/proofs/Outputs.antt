@@ -34,7 +34,7 @@ use Rattle.simple_asn1.specs.Canonical.{all_canonical}
 use Rattle.simple_asn1.specs.Laws.OneReading.{OneReading}
 use Rattle.simple_asn1.specs.Laws.Strict.{StrictReading}
 use Rattle.simple_asn1.specs.Fault.{DecodeFault}
-use Rattle.streams.specs.Lines.{lines_of, onto_first_line}
+use Rattle.der_io.specs.Lines.{lines_of, onto_first_line}
 use Rattle.der_tool.specs.declared.answers.Reading.{Reading}
 use Rattle.der_tool.specs.declared.answers.Reading.TheVariants.{Lenient, Strict}
 use Rattle.der_tool.specs.Answers.{IsAccepted, IsRefused, refusal, IsVerdict, IsAnswer, AreLineAnswers}

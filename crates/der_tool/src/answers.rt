@@ -12,10 +12,10 @@ ghost use Rattle.der_tool.specs.Answers.{
 };
 ghost use Rattle.simple_asn1.specs.Fault.{OutOfMemoryOr, fault_of};
 
+use der_io::split_line;
 use hex::FromHexError;
 use simple_asn1::{ASN1DecodeErr, discard, from_der_strict, rewrite};
 use std::alloc::{AllocError, Global};
-use streams::split_line;
 
 // Which documents are accepted, and with which octets they are answered.
 #[derive(Clone, Copy)]

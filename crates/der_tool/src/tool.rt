@@ -3,13 +3,13 @@ ghost use Rattle.std.specs.Prelude.{◌≡◌, ◌⊎◌, List, ℕ, IfErr, IfSo
 ghost use Rattle.std.specs.Io.KnownBytes.{Appends, IsAtEnd, Keeps};
 ghost use Rattle.der_tool.specs.Answers.{AreAnswers};
 ghost use Rattle.der_tool.specs.declared.answers.Reading.TheVariants.{Lenient, Strict};
-ghost use Rattle.streams.specs.declared.StreamFault.TheVariants.{Write as write_fault};
+ghost use Rattle.der_io.specs.declared.StreamFault.TheVariants.{Write as write_fault};
 
 use crate::answers::{Reading, answers};
+use der_io::{StreamFault, read_all, write_all};
+pub use der_io::{fault_text, status};
 use std::alloc::Global;
 use std::io::{Read, Write};
-use streams::{StreamFault, read_all, write_all};
-pub use streams::{fault_text, status};
 
 /// Why a run did not answer its input: `Read`, `Write` or `Memory`. Every fault of a read is `Read`, whatever its kind,
 /// and every fault of a write or a flush is `Write`; `Memory` is memory of our own that was refused.

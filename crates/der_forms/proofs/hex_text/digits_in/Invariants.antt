@@ -1,5 +1,5 @@
 use Rattle.std.proofs.Common.{◌≡◌, ◌++◌, length}
-use Rattle.streams.specs.Lines.{lines_of}
+use Rattle.der_io.specs.Lines.{lines_of}
 use Rattle.der_forms.specs.Forms.{digits_of}
 use Rattle.der_forms.proofs.hex_text.digits_in.Given as goal
 

@@ -1,5 +1,5 @@
 use Rattle.std.proofs.Common.{◌≡◌, length}
-use Rattle.streams.specs.Lines.{lines_of}
+use Rattle.der_io.specs.Lines.{lines_of}
 use Rattle.der_forms.specs.Forms.{has_object}
 use Rattle.der_forms.proofs.lines.is_pem.Given as goal
 

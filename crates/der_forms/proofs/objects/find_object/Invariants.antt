@@ -1,5 +1,5 @@
 use Rattle.std.proofs.Common.{◌≡◌, ◌≤◌, false, length}
-use Rattle.streams.specs.Lines.{lines_of}
+use Rattle.der_io.specs.Lines.{lines_of}
 use Rattle.der_forms.specs.Objects.{is_cut_in, objects_in}
 use Rattle.der_forms.proofs.objects.find_object.Given as goal
 

@@ -1,5 +1,5 @@
 use Rattle.std.proofs.Common.{◌≡◌, ◌++◌, ◌≤◌, [], if◌then◌else◌, ◌||◌, true, false, not, length}
-use Rattle.streams.specs.Lines.{lines_of}
+use Rattle.der_io.specs.Lines.{lines_of}
 use Rattle.der_forms.specs.Objects.{is_cut_in, is_encrypted, objects_in, symbols_in}
 use Rattle.der_forms.proofs.objects.read_body.Given as goal
 

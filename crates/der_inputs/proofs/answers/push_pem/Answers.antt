@@ -1,6 +1,6 @@
 use Rattle.std.proofs.Common.{subst, sym, false}
 use Rattle.std.specs.Prelude.{None}
-use Rattle.streams.specs.Lines.{lines_of}
+use Rattle.der_io.specs.Lines.{lines_of}
 use Rattle.der_inputs.proofs.Answered.{Progressed, all_done, answered, known_after, known_ended, one_done}
 use Rattle.der_inputs.specs.Inputs.{of_cut_objects}
 use Rattle.der_inputs.specs.Parts.{PutsIn}

@@ -1,5 +1,5 @@
 use Rattle.std.proofs.Common.{false, length}
-use Rattle.streams.specs.Lines.{lines_of}
+use Rattle.der_io.specs.Lines.{lines_of}
 use Rattle.der_inputs.proofs.Answered.{CutIsKnown, Progressed}
 use Rattle.der_inputs.specs.Parts.{PutsIn}
 use Rattle.der_forms.specs.Objects.{is_cut, objects_in, objects_of}

@@ -1,5 +1,5 @@
 use Rattle.std.proofs.Common.{rules, ◌≡◌, ◌++◌, ℕ, List, [], ◌∷◌, length, refl, sym, ap, ◌∙◌, arith, subst, append_assoc, append-nil}
-use Rattle.streams.specs.Lines.{lines_of}
+use Rattle.der_io.specs.Lines.{lines_of}
 use Rattle.der_tool.specs.Answers.{AreLineAnswers}
 use Rattle.der_tool.specs.declared.answers.Reading.{Reading}
 use Rattle.der_tool.proofs.answers.answers.Goals as goal

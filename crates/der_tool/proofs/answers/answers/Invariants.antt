@@ -1,5 +1,5 @@
 use Rattle.std.proofs.Common.{◌++◌, ℕ, List, length}
-use Rattle.streams.specs.Lines.{lines_of}
+use Rattle.der_io.specs.Lines.{lines_of}
 use Rattle.der_tool.specs.Answers.{AreLineAnswers}
 use Rattle.der_tool.proofs.answers.answers.Given as goal
 

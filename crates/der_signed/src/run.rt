@@ -1,0 +1,130 @@
+// The run of the program: all input is read before anything is written.
+ghost use Rattle.std.specs.Prelude.{◌≡◌, ◌⊎◌, ℕ, List, Err, IfErr, IfOk, IfSome, IsOk, OnOk, codes};
+ghost use Rattle.std.specs.Io.KnownBytes.{Appends, IsAtEnd, Keeps};
+ghost use Rattle.der_forms.specs.declared.input.FormFault.{FormFault};
+ghost use Rattle.der_signed.specs.Content.{HasDocument, IsContent, IsFaultOf, IsRefusalOf, TellsWhy};
+ghost use Rattle.der_signed.specs.declared.run.RunFault.TheVariants.{Stream, NotSigned as not_signed};
+ghost use Rattle.der_signed.specs.declared.run.RunFault.TheVariants.{NoDocument as no_document, Refused as refused};
+ghost use Rattle.der_io.specs.declared.StreamFault.TheVariants.{Read as read_fault};
+ghost use Rattle.der_io.specs.declared.StreamFault.TheVariants.{Write as write_fault};
+ghost use Rattle.der_io.specs.declared.StreamFault.TheVariants.{Memory as memory_fault};
+
+use der_forms::{FormFault, document_of};
+use der_io::{StreamFault, fault_status, read_all, write_all};
+use simple_asn1::{ASN1DecodeErr, TripleErr, read_signed};
+use std::alloc::Global;
+use std::io::{Read, Write};
+
+/// Why a run wrote no content.
+#[derive(Debug, Drop, PartialEq)]
+pub enum RunFault {
+    /// A stream failed, or memory ran out.
+    Stream(StreamFault),
+    /// The input has no document in a form that is read.
+    NoDocument(FormFault),
+    /// The octets of the document are at fault.
+    Refused(ASN1DecodeErr),
+    /// The first block of the document is no signed triple.
+    NotSigned,
+}
+
+/// Wraps the fault.
+impl From<StreamFault> for RunFault {
+    ghost use Rattle.der_signed.specs.declared.run.RunFault.TheVariants.{Stream};
+
+    ghost from_gives = { λ f e. e ≡ Stream f };
+
+    fn from(e: StreamFault) -> RunFault {
+        RunFault::Stream(e)
+    }
+}
+
+/// Reads all of `r`, and writes the octets that were signed to `w`, where the input has a document that begins with a
+/// signed triple: as it is, in PEM (its first object), in hex digits or in base 64. The whole input is kept in memory,
+/// with its blocks while it is read, and the content beside it.
+///
+/// # Errors
+/// `Read`, `Memory`, `NoDocument`, `Refused` and `NotSigned`, after which nothing was written; `Write`, after which
+/// nothing is known of what was.
+pub fn run<R: Read, W: Write>(alloc: Global, r: &mut R, w: &mut W) -> Result<(), RunFault>
+    ensures written { OnOk result (IfSome (R.remaining r.old) (λ input. (content : List ℕ)
+        × HasDocument input (λ octets. IsContent octets content)
+        × Appends (W.contents w.old) (W.contents w.new) content)) }
+    ensures read { OnOk result (IsAtEnd (R.remaining r.new)) }
+    ensures kept { IfErr result (λ e. (e ≡ Stream write_fault) ⊎ Keeps (W.contents w.old) (W.contents w.new)) }
+    ensures refused { IfErr result (λ e. IfSome (R.remaining r.old) (TellsWhy e)) }
+{
+    let input = read_all(alloc, r)?;
+    let content = content_of(alloc, input)?;
+    write_all(w, &content)?;
+    Ok(())
+}
+
+// The octets that were signed.
+fn content_of(alloc: Global, input: Vec<u8>) -> Result<Vec<u8>, RunFault>
+    ensures content { IfOk result (λ content. HasDocument input.items (λ octets. IsContent octets content.items)) }
+    ensures refused { IfErr result (λ e. TellsWhy e input.items) }
+{
+    match document_of(alloc, input) {
+        Ok(octets) => signed_part(alloc, &octets),
+        Err(FormFault::OutOfMemory) => Err(RunFault::Stream(StreamFault::Memory)),
+        Err(fault) => Err(RunFault::NoDocument(fault)),
+    }
+}
+
+// The octets that were signed of a document.
+fn signed_part(alloc: Global, octets: &[u8]) -> Result<Vec<u8>, RunFault>
+    ensures content { IfOk result (λ content. IsContent octets.now content.items) }
+    ensures refused { IfErr result (λ e. IsFaultOf e octets.now) }
+{
+    match read_signed(alloc, octets) {
+        Ok(triple) => Ok(triple.content),
+        Err(fault) => Err(refusal_of(fault)),
+    }
+}
+
+// Whether memory ran out, or the octets are at fault, or the shape of their first block.
+fn refusal_of(fault: TripleErr) -> RunFault
+    ensures { IsRefusalOf fault result }
+{
+    match fault {
+        TripleErr::Codec(ASN1DecodeErr::OutOfMemory) => RunFault::Stream(StreamFault::Memory),
+        TripleErr::Codec(fault) => RunFault::Refused(fault),
+        TripleErr::Shape => RunFault::NotSigned,
+    }
+}
+
+/// The exit status after a run: 0 where the content was written, 1 after a fault of reading or writing, 2 where memory
+/// ran out, 3 where the input has no document that begins with a signed triple.
+pub fn status(outcome: &Result<(), RunFault>) -> u8
+    ensures written { IsOk outcome.now → result ≡ 0 }
+    ensures stream { IfErr outcome.now
+        (λ e. (e ≡ Stream read_fault) ⊎ (e ≡ Stream write_fault) → result ≡ 1) }
+    ensures memory { IfErr outcome.now (λ e. e ≡ Stream memory_fault → result ≡ 2) }
+    ensures form { (f : FormFault) → outcome.now ≡ Err (no_document f) → result ≡ 3 }
+    ensures octets { (f : _) → outcome.now ≡ Err (refused f) → result ≡ 3 }
+    ensures refused { IfErr outcome.now (λ e. e ≡ not_signed → result ≡ 3) }
+{
+    match outcome {
+        Ok(()) => 0,
+        Err(RunFault::Stream(fault)) => fault_status(fault),
+        Err(RunFault::NoDocument(_) | RunFault::Refused(_)) => 3,
+        Err(RunFault::NotSigned) => 3,
+    }
+}
+
+/// What is said of a fault on standard error, before what is wrong with the document.
+pub fn fault_text(fault: &RunFault) -> &'static str
+    ensures reading { fault.now ≡ Stream read_fault → result.now ≡ codes "read fault" }
+    ensures writing { fault.now ≡ Stream write_fault → result.now ≡ codes "write fault" }
+    ensures memory { fault.now ≡ Stream memory_fault → result.now ≡ codes "out of memory" }
+    ensures form { (f : FormFault) → fault.now ≡ no_document f → result.now ≡ codes "no document" }
+    ensures octets { (f : _) → fault.now ≡ refused f → result.now ≡ codes "no document" }
+    ensures refused { fault.now ≡ not_signed → result.now ≡ codes "no signed triple" }
+{
+    match fault {
+        RunFault::Stream(fault) => der_io::fault_text(fault),
+        RunFault::NoDocument(_) | RunFault::Refused(_) => "no document",
+        RunFault::NotSigned => "no signed triple",
+    }
+}

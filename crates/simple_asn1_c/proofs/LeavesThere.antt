@@ -1,0 +1,103 @@
+-- The leaf that an encoding at an offset is, by its tag and its contents octets, and why there is none of a kind.
+use Rattle.std.proofs.Common.{◌≡◌, ◌⊎◌, ℕ, ◌<◌, ◌^◌, List, [], inl, inr, length, refl, sym, subst, ◌∙◌, arith, append-nil}
+use Rattle.std.proofs.lemmas.Bool.{cases_lt}
+use Rattle.asn1_headers.proofs.Prefixes.{encoding_alone}
+use Rattle.asn1_headers.specs.declared.header.ASN1Class.TheVariants.{Universal}
+use Rattle.asn1_blocks.proofs.Leaves.{leaf_no_fault}
+use Rattle.asn1_blocks.proofs.OneReading.{block_some, encodes_block, only, only_tree}
+use Rattle.asn1_blocks.proofs.Slices.{encoding_at_alone}
+use Rattle.asn1_outline.specs.Entries.{HasTag}
+use Rattle.simple_asn1.specs.Contents.{LeafContents, LeafFault, leaf_tag}
+use Rattle.simple_asn1.specs.Fault.{DecodeFault}
+use Rattle.simple_asn1.specs.Grammar.{Encodes, FirstFault, after_blocks, in_contents, no_blocks, of_leaf_contents}
+use Rattle.simple_asn1.specs.Header.{Encoding}
+use Rattle.simple_asn1.specs.Tree.{Leaf, leaf}
+use Rattle.simple_asn1_c.specs.Status.{no_memory, no_such_value, status_of}
+use Rattle.simple_asn1_c.specs.Values.{IsLeafAt, IsMissing, UniversalAt, is_at_fault, is_of_another_kind}
+use Rattle.simple_asn1_c.proofs.TwoEach.{two_more}
+
+-- a small number in a record is the tag's
+pub small_tag : (n field m : ℕ) → HasTag n field → field ≡ m → m < 64 → n ≡ m
+small_tag n field m (low, high) e s = elim (cases_lt n (2 ^ 64)) [
+  | inl lt ↦ sym (low lt) ∙ e
+  | inr ge ↦ absurd (omega (arith, high ge, e, s))
+]
+
+module _ (octets : List ℕ) (offset : ℕ) where
+  pub leaf_here : (l : Leaf) (v : List ℕ) → UniversalAt octets offset (leaf_tag l) v → LeafContents l v → IsLeafAt octets offset l
+  leaf_here l v u means =
+      let s : Encodes 0 u.whole (leaf 0 l) = record {
+        constructed = u.constructed;
+        contents = v;
+        header = u.header;
+        encoding = u.encoding;
+        place = refl;
+        means = means;
+      } in
+      let some = block_some u.whole (encodes_block 0 u.whole (leaf 0 l) s) in
+      (0, (u.whole, u.at, record { some = some; blocks = only 0 u.whole (leaf 0 l) s }))
+
+  -- the encoding of a leaf that is read alone
+  record LeafThere (l : Leaf) : Type 0 where
+    contents : List ℕ
+    universal : UniversalAt octets offset (leaf_tag l) contents
+    means : LeafContents l contents
+
+  leaf_there : (l : Leaf) → IsLeafAt octets offset l → LeafThere l
+  leaf_there l (o, (x, at, d)) =
+      let s = only_tree 0 x (leaf o l) d.blocks in record {
+        contents = s.contents;
+        universal = record { whole = x; at = at; constructed = s.constructed; header = s.header; encoding = s.encoding };
+        means = s.means;
+      }
+
+  -- one encoding stands there
+  one_universal : (m n : ℕ) (v w : List ℕ) → UniversalAt octets offset m v → UniversalAt octets offset n w → (m ≡ n) × (v ≡ w)
+  one_universal m n v w a b =
+      let same = encoding_at_alone octets offset a.whole b.whole a.at b.at in
+      let here = subst (λ z. Encoding z Universal a.constructed m v a.header) same a.encoding in
+      let e = encoding_alone b.whole b.whole Universal Universal a.constructed b.constructed m n v w a.header b.header [] [] here b.encoding refl in
+      (e.tag, e.contents)
+
+  -- contents octets at fault are the first fault
+  first_fault : (n : ℕ) (v : List ℕ) (u : UniversalAt octets offset n v) (fault : DecodeFault) → LeafFault n v fault → FirstFault u.whole fault
+  first_fault n v u fault f =
+      let x = u.whole in
+      let some : 0 < length x = omega (arith, two_more x Universal u.constructed n v u.header u.encoding) in
+      inr (after_blocks [] x refl no_blocks some (in_contents x [] (sym (append-nil x)) u.encoding (of_leaf_contents f)))
+
+  -- a kind, whose values are leaves with one of these tags
+  module _ (Value : Type 0) (IsTag : ℕ → Type 0) (leaf_of : Value → (l : Leaf) × IsTag (leaf_tag l) × IsLeafAt octets offset l) where
+    none_there : (s : ℕ) → ((n : ℕ) (v : List ℕ) → IsTag n → UniversalAt octets offset n v → ⊥) → s ≡ no_such_value
+        → IsMissing Value IsTag octets offset s
+    none_there s none e = inr (
+      (λ value.
+          let (l, t, is) = leaf_of value in
+          let w = leaf_there l is in
+          none (leaf_tag l) w.contents t w.universal),
+      is_of_another_kind e none,
+    )
+
+    pub nothing_there : (status s : ℕ) → (status ≡ no_memory) ⊎ ((status ≡ no_such_value) × ((n : ℕ) (v : List ℕ) → UniversalAt octets offset n v → ⊥))
+        → s ≡ status → IsMissing Value IsTag octets offset s
+    nothing_there status s (inl m) e = inl (e ∙ m)
+    nothing_there status s (inr (m, none)) e = none_there s (λ n v t u. none n v u) (e ∙ m)
+
+    pub another_there : (s n field : ℕ) (v : List ℕ) → UniversalAt octets offset n v → HasTag n field → ((m : ℕ) → IsTag m → m < 2 ^ 64)
+        → (IsTag field → ⊥) → s ≡ no_such_value → IsMissing Value IsTag octets offset s
+    another_there s n field v u (exact, capped) small other e =
+        none_there s (λ m w t a.
+        let same = (one_universal m n w v a u).0 in
+        let number : field ≡ n = exact (subst (λ z. z < 2 ^ 64) same (small m t)) in
+        other (subst IsTag (same ∙ sym number) t)) e
+
+    pub fault_there : (s n : ℕ) (v : List ℕ) → IsTag n → UniversalAt octets offset n v → (fault : DecodeFault) → LeafFault n v fault
+        → s ≡ status_of fault → IsMissing Value IsTag octets offset s
+    fault_there s n v t u fault f e = inr (
+      (λ value.
+          let (l, tl, is) = leaf_of value in
+          let w = leaf_there l is in
+          let (tag, contents) = one_universal (leaf_tag l) n w.contents v w.universal u in
+          leaf_no_fault n v fault l (sym tag) (subst (LeafContents l) contents w.means) f),
+      is_at_fault n t v u fault (first_fault n v u fault f) e,
+    )

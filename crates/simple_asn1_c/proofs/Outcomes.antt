@@ -1,0 +1,119 @@
+-- What a call answers, by what it did.
+use Rattle.std.proofs.Common.{◌≡◌, ◌⊎◌, ℕ, ◌≤◌, ◌++◌, inl, inr, List, drop, get_or, length, map, refl, sym, ap, subst, ◌∙◌, arith}
+use Rattle.std.proofs.lemmas.List.{drop_at, get_or_append_left, length-map}
+use Rattle.simple_asn1.specs.BlockParts.{all_in_order}
+use Rattle.simple_asn1.specs.Canonical.{all_canonical}
+use Rattle.simple_asn1.specs.FaultPlace.{FirstFaultAt}
+use Rattle.simple_asn1.specs.Grammar.{IsDocument}
+use Rattle.simple_asn1.specs.Strict.{IsNotCanonicalAt}
+use Rattle.simple_asn1.specs.ReadBack.{CanonicalDocument}
+use Rattle.simple_asn1.specs.Tree.{Trees}
+use Rattle.simple_asn1_c.specs.Answers.{
+  AnswersRead,
+  AnswersReadStrict,
+  AnswersRewrite,
+  IsNoMemory,
+  IsRefused,
+  IsRefusedStrict,
+  had_no_memory,
+  had_no_memory_strict,
+  had_no_memory_to_write,
+  had_no_room,
+  had_no_room_strict,
+  had_no_room_to_write,
+  was_read,
+  was_read_strict,
+  was_refused,
+  was_refused_strict,
+  was_refused_to_write,
+  was_written,
+}
+use Rattle.asn1_outline.proofs.Entries.{entries_length}
+use Rattle.asn1_outline.specs.Entries.{AreEntriesOf, all_depths}
+use Rattle.asn1_outline.specs.declared.entry.Entry.{Entry}
+use Rattle.simple_asn1_c.specs.Records.{AreRecords, IsRecordAt, block_of, no_record}
+use Rattle.simple_asn1_c.specs.Room.{AreFront, AreKeptBehind, ArePut}
+use Rattle.simple_asn1_c.specs.declared.record.Block.{Block}
+use Rattle.simple_asn1_c.specs.declared.record.Outcome.{Outcome}
+use Rattle.simple_asn1_c.proofs.Entries.{entries_records}
+
+pub rewrite_answer :
+    (octets found before after : List ℕ) (o : Outcome) (bs : Trees ℕ) → IsDocument octets bs → found ≡ all_canonical bs →
+    ArePut found before after o → AnswersRewrite octets before after o
+rewrite_answer octets found before after o bs d e (n, z, inl (s, w, f)) = was_written s z bs d (n ∙ ap length e) (subst (λ z. AreFront z before after) e f)
+rewrite_answer octets found before after o bs d e (n, z, inr (s, lt, f)) =
+    had_no_room_to_write s z bs d (n ∙ ap length e) (omega (arith, lt, n)) f
+
+-- the records of a document that are put at the front
+put_at :
+    (octets : List ℕ) (bs : Trees ℕ) (records found before after : List Block) → found ≡ records → AreRecords octets bs records →
+    length records ≡ length (all_in_order bs) → AreFront found before after → AreRecords octets bs after
+put_at octets bs records found before after e own count f k h =
+    let behind = drop (length found) before in
+    let same : get_or after k no_record ≡ get_or records k no_record =
+    ap (λ z. get_or z k no_record) f ∙ ap (λ z. get_or (z ++ behind) k no_record) e
+    ∙ get_or_append_left records behind no_record k (omega (arith, h, count)) in
+    subst (λ z. IsRecordAt octets bs k z) (sym same) (own k h)
+
+-- and those behind them are as before
+kept_behind : (found before after : List Block) (count : ℕ) → count ≡ length found → length found ≤ length before → AreFront found before after
+    → AreKeptBehind count before after
+kept_behind found before after count n w f = (
+  omega (arith, n, w),
+  ap (drop count) f ∙ drop_at found (drop (length found) before) count (sym n) ∙ ap (λ k. drop k before) (sym n),
+)
+
+-- as many records as trees
+put_count : (octets : List ℕ) (bs : Trees ℕ) (es : List Entry) → AreEntriesOf octets bs es → length (map block_of es) ≡ length (all_in_order bs)
+put_count octets bs es are = length-map es block_of ∙ entries_length octets 0 (all_in_order bs) (all_depths 0 bs) es are
+
+pub read_answer :
+    (octets : List ℕ) (bs : Trees ℕ) (es found : List Entry) (before after : List Block) (o : Outcome) → found ≡ es → IsDocument octets bs →
+    AreEntriesOf octets bs es → ArePut (map block_of found) before after o → AnswersRead octets before after o
+read_answer octets bs es found before after o e d are (n, z, inl (s, w, f)) =
+    let count = put_count octets bs es are in
+    let same = ap (map block_of) e in
+    was_read s z bs d (n ∙ ap length same ∙ count)
+    (put_at octets bs (map block_of es) (map block_of found) before after same (entries_records octets bs es d are) count f)
+    (kept_behind (map block_of found) before after o.count n w f)
+read_answer octets bs es found before after o e d are (n, z, inr (s, lt, f)) =
+    had_no_room s z bs d (n ∙ ap length (ap (map block_of) e) ∙ put_count octets bs es are) (omega (arith, lt, n)) f
+
+pub read_strict_answer :
+    (octets : List ℕ) (bs : Trees ℕ) (es found : List Entry) (before after : List Block) (o : Outcome) → found ≡ es → CanonicalDocument octets bs →
+    AreEntriesOf octets bs es → ArePut (map block_of found) before after o → AnswersReadStrict octets before after o
+read_strict_answer octets bs es found before after o e d are (n, z, inl (s, w, f)) =
+    let count = put_count octets bs es are in
+    let same = ap (map block_of) e in
+    was_read_strict s z bs d (n ∙ ap length same ∙ count)
+    (put_at octets bs (map block_of es) (map block_of found) before after same (entries_records octets bs es d.0 are) count f)
+    (kept_behind (map block_of found) before after o.count n w f)
+read_strict_answer octets bs es found before after o e d are (n, z, inr (s, lt, f)) =
+    had_no_room_strict s z bs d (n ∙ ap length (ap (map block_of) e) ∙ put_count octets bs es are) (omega (arith, lt, n)) f
+
+-- what a fault's outcome tells
+abbrev pub Tells : Outcome → ℕ → ℕ → Type 0
+Tells o status offset = (o.status ≡ status) × (o.offset ≡ offset) × (o.count ≡ 0)
+
+pub no_memory_told : (o : Outcome) (status offset : ℕ) → Tells o status offset → IsNoMemory status offset → IsNoMemory o.status o.offset
+no_memory_told o status offset (s, p, c) (m, z) = (s ∙ m, p ∙ z)
+
+pub refusal_told : (octets : List ℕ) (o : Outcome) (status offset : ℕ) → Tells o status offset → IsRefused octets status offset
+    → IsRefused octets o.status o.offset
+refusal_told octets o status offset (s, p, c) (fault, first, e) = (fault, subst (FirstFaultAt octets fault) (sym p) first, s ∙ e)
+
+module _ (octets : List ℕ) (before : List Block) (o : Outcome) (status offset : ℕ) (told : Tells o status offset) where
+  pub read_refused : IsNoMemory status offset ⊎ IsRefused octets status offset → AnswersRead octets before before o
+  read_refused (inl m) = had_no_memory (no_memory_told o status offset told m) told.2 refl
+  read_refused (inr f) = was_refused (refusal_told octets o status offset told f) told.2 refl
+
+  pub read_strict_refused : IsNoMemory status offset ⊎ IsRefusedStrict octets status offset → AnswersReadStrict octets before before o
+  read_strict_refused (inl m) = had_no_memory_strict (no_memory_told o status offset told m) told.2 refl
+  read_strict_refused (inr (inl f)) = was_refused_strict (inl (refusal_told octets o status offset told f)) told.2 refl
+  read_strict_refused (inr (inr (e, n))) =
+      was_refused_strict (inr (told.0 ∙ e, subst (IsNotCanonicalAt octets) (sym told.1) n)) told.2 refl
+
+pub rewrite_refused : (octets before : List ℕ) (o : Outcome) (status offset : ℕ) → Tells o status offset
+    → IsNoMemory status offset ⊎ IsRefused octets status offset → AnswersRewrite octets before before o
+rewrite_refused octets before o status offset told (inl m) = had_no_memory_to_write (no_memory_told o status offset told m) told.2 refl
+rewrite_refused octets before o status offset told (inr f) = was_refused_to_write (refusal_told octets o status offset told f) told.2 refl

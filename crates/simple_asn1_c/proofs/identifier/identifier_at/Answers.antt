@@ -1,0 +1,82 @@
+use Rattle.std.proofs.Common.{◌≡◌, ℕ, List, inl, inr, refl, ap, subst, ◌∙◌, arith}
+use Rattle.asn1_headers.specs.Fault.{fault_of}
+use Rattle.simple_asn1.specs.Contents.{leaf_tag, of_object_identifier}
+use Rattle.simple_asn1.specs.Tree.{Leaf, object_identifier}
+use Rattle.simple_asn1_c.specs.Room.{ArePut}
+use Rattle.simple_asn1_c.specs.Status.{status_of}
+use Rattle.simple_asn1_c.specs.Values.{IsIdentifierAt, IsIdentifierTag, IsLeafAt, UniversalAt}
+use Rattle.simple_asn1_c.specs.Values.{identifier_is_missing, identifier_is_too_large, identifier_was_found}
+use Rattle.simple_asn1_c.proofs.LeavesThere.{another_there, fault_there, leaf_here, nothing_there, small_tag}
+use Rattle.simple_asn1_c.proofs.identifier.identifier_at.Goals as goal
+
+leaf_of : (octets : List ℕ) (offset : ℕ) → (ns : List ℕ) × IsIdentifierAt octets offset ns
+    → (l : Leaf) × IsIdentifierTag (leaf_tag l) × IsLeafAt octets offset l
+leaf_of octets offset (ns, is) = (object_identifier ns, refl, is)
+
+pub returns-in-Err : goal.returns-in-Err
+returns-in-Err c =
+    let octets = c.args.octets.now in
+    let offset = c.args.offset in
+    let put = c.nothing_put.ensures in
+    identifier_is_missing
+    (nothing_there octets offset ((ns : List ℕ) × IsIdentifierAt octets offset ns) IsIdentifierTag (leaf_of octets offset) c.in-Err.status
+    c.nothing_put.result.status c.in-Err.ensures.missing put.status)
+    put.offset put.count refl
+
+pub returns-then-tag-ne6 : goal.returns-then-tag-ne6
+returns-then-tag-ne6 c =
+    let octets = c.args.octets.now in
+    let offset = c.args.offset in
+    let put = c.nothing_put-then-tag-ne6.ensures in
+    let (n, u, number) = c.in-Ok.ensures.found in
+    identifier_is_missing
+    (another_there octets offset ((ns : List ℕ) × IsIdentifierAt octets offset ns) IsIdentifierTag (leaf_of octets offset)
+    c.nothing_put-then-tag-ne6.result.status n c.in-Ok.found.0 c.in-Ok.found.1.now u number (λ m t. omega (arith, t)) c.if-tag-ne6.true put.status)
+    put.offset put.count refl
+
+pub returns-in-Err-read : goal.returns-in-Err-read
+returns-in-Err-read c =
+    let octets = c.args.octets.now in
+    let offset = c.args.offset in
+    let v = c.in-Ok.found.1.now in
+    let f = fault_of c.in-Err-read.e in
+    let put = c.nothing_put-in-Err-read.ensures in
+    let (n, u, number) = c.in-Ok.ensures.found in
+    let six : n ≡ 6 = small_tag n c.in-Ok.found.0 6 number c.if-tag-ne6.false (omega arith) in
+    let told = put.status ∙ c.status_of_fault.ensures in
+    elim c.in-Err-read.ensures.refused [
+      | inl memory ↦ identifier_is_missing (inl (told ∙ ap (λ z. status_of (fault_of z)) memory)) put.offset put.count refl
+      | inr fault ↦
+          identifier_is_missing
+          (fault_there octets offset ((ns : List ℕ) × IsIdentifierAt octets offset ns) IsIdentifierTag (leaf_of octets offset)
+          c.nothing_put-in-Err-read.result.status n v six u f (of_object_identifier six fault) told)
+          put.offset put.count refl
+    ]
+
+pub returns-in-Ok-text_of : goal.returns-in-Ok-text_of
+returns-in-Ok-text_of c =
+    let octets = c.args.octets.now in
+    let offset = c.args.offset in
+    let v = c.in-Ok.found.1.now in
+    let ns = c.in-Ok-read.oid in
+    let (n, u, number) = c.in-Ok.ensures.found in
+    let six : n ≡ 6 = small_tag n c.in-Ok.found.0 6 number c.if-tag-ne6.false (omega arith) in
+    let is = leaf_here octets offset (object_identifier ns) v (subst (λ z. UniversalAt octets offset z v) six u) c.in-Ok-read.ensures.found in
+    identifier_was_found ns is
+    (subst (λ z. ArePut z c.args.room.now c.put_octets.new.room c.put_octets.result)
+    (c.as_bytes.ensures.value ∙ c.in-Ok-text_of.ensures.text) c.put_octets.ensures)
+
+pub returns : goal.returns
+returns c =
+    let octets = c.args.octets.now in
+    let offset = c.args.offset in
+    let v = c.in-Ok.found.1.now in
+    let ns = c.in-Ok-read.oid in
+    let (n, u, number) = c.in-Ok.ensures.found in
+    let six : n ≡ 6 = small_tag n c.in-Ok.found.0 6 number c.if-tag-ne6.false (omega arith) in
+    let is = leaf_here octets offset (object_identifier ns) v (subst (λ z. UniversalAt octets offset z v) six u) c.in-Ok-read.ensures.found in
+    let put = c.nothing_put-in-Err-text_of.ensures in
+    elim c.in-Err-text_of.ensures.refused [
+      | inl e ↦ identifier_is_missing (inl (put.status ∙ e)) put.offset put.count refl
+      | inr (e, not_all) ↦ identifier_is_too_large (put.status ∙ e) ns is not_all put.offset put.count refl
+    ]

@@ -1,0 +1,87 @@
+use Rattle.std.proofs.Common.{◌≡◌, ◌⊎◌, ℕ, ◌<◌, ◌^◌, List, inl, inr, refl, ap, subst, ◌∙◌, arith}
+use Rattle.asn1_headers.specs.Fault.{fault_of}
+use Rattle.asn1_leaves.specs.Contents.GeneralizedTime.{GeneralizedTimeContents}
+use Rattle.asn1_leaves.specs.Contents.Moment.{Moment, moment_of}
+use Rattle.asn1_leaves.specs.Contents.UtcTime.{UtcTimeContents}
+use Rattle.simple_asn1.specs.Contents.{leaf_tag, of_generalized_time, of_utc_time}
+use Rattle.simple_asn1.specs.Tree.{Leaf, generalized_time, utc_time}
+use Rattle.simple_asn1_c.specs.Status.{status_of}
+use Rattle.simple_asn1_c.specs.Values.{IsLeafAt, IsMomentAt, IsMomentTag, UniversalAt, moment_is_missing, moment_was_found}
+use Rattle.simple_asn1_c.proofs.LeavesThere.{another_there, fault_there, leaf_here, nothing_there, small_tag}
+use Rattle.simple_asn1_c.proofs.moment.moment_at.Goals as goal
+
+leaf_of : (octets : List ℕ) (offset : ℕ) → (m : Moment) × IsMomentAt octets offset m → (l : Leaf) × IsMomentTag (leaf_tag l) × IsLeafAt octets offset l
+leaf_of octets offset (m, inl is) = (utc_time m, inl refl, is)
+leaf_of octets offset (m, inr is) = (generalized_time m, inr refl, is)
+
+small : (tag : ℕ) → IsMomentTag tag → tag < 2 ^ 64
+small tag (inl e) = omega (arith, e)
+small tag (inr e) = omega (arith, e)
+
+pub returns-in-Err : goal.returns-in-Err
+returns-in-Err c =
+    let octets = c.args.octets.now in
+    let offset = c.args.offset in
+    let none = c.no_moment.ensures in
+    moment_is_missing
+    (nothing_there octets offset ((m : Moment) × IsMomentAt octets offset m) IsMomentTag (leaf_of octets offset) c.in-Err.status c.no_moment.result.status
+    c.in-Err.ensures.missing none.status)
+    none.fields
+
+pub returns-in-Ok-Some : goal.returns-in-Ok-Some
+returns-in-Ok-Some c =
+    let octets = c.args.octets.now in
+    let offset = c.args.offset in
+    let v = c.in-Ok.found.1.now in
+    let m = moment_of c.in-Ok-Some.d in
+    let (n, u, number) = c.in-Ok.ensures.found in
+    let at = λ (k : ℕ) (e : n ≡ k). subst (λ z. UniversalAt octets offset z v) e u in
+    let tag = c.in-Ok.found.0 in
+    let said : ((tag ≡ 23) × UtcTimeContents m v) ⊎ ((tag ≡ 24) × GeneralizedTimeContents m v) =
+    rw c.in-Ok-Some.field-0-is at c.in-Ok-Some.ensures.found in
+    let is : IsMomentAt octets offset m = elim said [
+      | inl (tag, means) ↦
+          let same : n ≡ 23 = small_tag n c.in-Ok.found.0 23 number tag (omega arith) in
+          inl (leaf_here octets offset (utc_time m) v (at 23 same) means)
+      | inr (tag, means) ↦
+          let same : n ≡ 24 = small_tag n c.in-Ok.found.0 24 number tag (omega arith) in
+          inr (leaf_here octets offset (generalized_time m) v (at 24 same) means)
+    ] in
+    moment_was_found c.moment_answer.ensures.status m is c.moment_answer.ensures.moment
+
+pub returns-in-Ok-None : goal.returns-in-Ok-None
+returns-in-Ok-None c =
+    let octets = c.args.octets.now in
+    let offset = c.args.offset in
+    let none = c.no_moment-in-Ok-None.ensures in
+    let (n, u, number) = c.in-Ok.ensures.found in
+    let other : IsMomentTag c.in-Ok.found.0 → ⊥ = rw c.in-Ok-None.field-0-is at c.in-Ok-None.ensures.found in
+    moment_is_missing
+    (another_there octets offset ((m : Moment) × IsMomentAt octets offset m) IsMomentTag (leaf_of octets offset) c.no_moment-in-Ok-None.result.status n
+    c.in-Ok.found.0 c.in-Ok.found.1.now u number small other none.status)
+    none.fields
+
+pub returns-in-Err-time_of : goal.returns-in-Err-time_of
+returns-in-Err-time_of c =
+    let octets = c.args.octets.now in
+    let offset = c.args.offset in
+    let v = c.in-Ok.found.1.now in
+    let f = fault_of c.in-Err-time_of.e in
+    let none = c.no_moment-in-Err-time_of.ensures in
+    let (n, u, number) = c.in-Ok.ensures.found in
+    let told = none.status ∙ c.status_of_fault.ensures in
+    elim c.in-Err-time_of.ensures.refused [
+      | inl memory ↦ moment_is_missing (inl (told ∙ ap (λ z. status_of (fault_of z)) memory)) none.fields
+      | inr (inl (tag, fault)) ↦
+          let same : n ≡ 23 = small_tag n c.in-Ok.found.0 23 number tag (omega arith) in
+          moment_is_missing
+          (fault_there octets offset ((m : Moment) × IsMomentAt octets offset m) IsMomentTag (leaf_of octets offset)
+          c.no_moment-in-Err-time_of.result.status n v (inl same) u f (of_utc_time same fault) told)
+          none.fields
+      | inr (inr (tag, fault)) ↦
+          let same : n ≡ 24 = small_tag n c.in-Ok.found.0 24 number tag (omega arith) in
+          moment_is_missing
+          (fault_there octets offset ((m : Moment) × IsMomentAt octets offset m) IsMomentTag (leaf_of octets offset)
+          c.no_moment-in-Err-time_of.result.status n v (inr same) u f (of_generalized_time same fault) told)
+          none.fields
+    ]

@@ -1,0 +1,43 @@
+use Rattle.std.proofs.Common.{refl, inl, inr, sym, subst, ◌∙◌}
+use Rattle.simple_asn1_c.specs.Answers.{IsRefused, had_no_memory_to_spell, has_bad_record, spelled_no_document, was_spelled}
+use Rattle.simple_asn1_c.specs.Room.{ArePut}
+use Rattle.simple_asn1_c.specs.Spelled.{IsBadAt, IsSpelled}
+use Rattle.simple_asn1_c.proofs.Outcomes.{no_memory_told, refusal_told}
+use Rattle.simple_asn1_c.proofs.simple_asn1_write.Goals as goal
+
+pub returns-in-Ok-rewrite : goal.returns-in-Ok-rewrite
+returns-in-Ok-rewrite c =
+    let octets = c.args.octets.now in
+    let records = c.args.blocks.now in
+    let is = subst (IsSpelled octets records) (sym c.deref.ensures.value) c.in-Ok.ensures.spelled in
+    let (bs, d, e) = c.in-Ok-rewrite.ensures.document in
+    was_spelled c.deref.result.now is bs d
+    (subst (λ z. ArePut z c.args.room.now c.put_octets.new.room c.put_octets.result) (c.deref-in-Ok-rewrite.ensures.value ∙ e) c.put_octets.ensures)
+
+pub returns : goal.returns
+returns c =
+    let octets = c.args.octets.now in
+    let records = c.args.blocks.now in
+    let is = subst (IsSpelled octets records) (sym c.deref.ensures.value) c.in-Ok.ensures.spelled in
+    let o = c.refused_outcome-in-Err-rewrite.result in
+    let told = c.refused_outcome-in-Err-rewrite.ensures in
+    let f = c.rewrite_fault.result in
+    elim c.rewrite_fault.ensures [
+      | inl m ↦ had_no_memory_to_spell (no_memory_told o f.status f.offset told m) told.2 refl
+      | inr e ↦
+          spelled_no_document c.deref.result.now is
+          (subst (λ z. IsRefused z o.status o.offset) (c.deref-in-Err-rewrite.ensures.value ∙ sym c.deref.ensures.value)
+          (refusal_told c.deref-in-Err-rewrite.result.now o f.status f.offset told e)) told.2 refl
+    ]
+
+pub returns-in-Err : goal.returns-in-Err
+returns-in-Err c =
+    let octets = c.args.octets.now in
+    let records = c.args.blocks.now in
+    let o = c.refused_outcome.result in
+    let told = c.refused_outcome.ensures in
+    let f = c.in-Err.fault in
+    elim c.in-Err.ensures.fault [
+      | inl m ↦ had_no_memory_to_spell (no_memory_told o f.status f.offset told m) told.2 refl
+      | inr (e, bad) ↦ has_bad_record (told.0 ∙ e) (subst (IsBadAt octets records) (sym told.1) bad) told.2 refl
+    ]

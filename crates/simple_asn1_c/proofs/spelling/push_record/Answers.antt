@@ -1,0 +1,8 @@
+use Rattle.simple_asn1_c.specs.declared.spelling.SpellErr.{SpellErr}
+use Rattle.simple_asn1_c.specs.declared.spelling.SpellErr.TheVariants.{Record}
+use Rattle.simple_asn1_c.proofs.Spellings.{too_many}
+use Rattle.simple_asn1_c.proofs.spelling.push_record.Goals as goal
+
+pub returns-then-block-gt0-clause-refused : goal.returns-then-block-gt0-clause-refused
+returns-then-block-gt0-clause-refused c =
+    too_many c.args.octets.now c.args.block.now c.args.back.now.items c.args.starts.now.items SpellErr Record c.push_items.result c.push_items.ensures.refused

@@ -1,0 +1,12 @@
+use Rattle.std.proofs.Common.{◌≤◌, drop, length}
+use Rattle.simple_asn1_c.specs.Spelled.{IsState}
+use Rattle.simple_asn1_c.proofs.spelling.spell.Given as goal
+
+abbrev pub invariant-loop-i : goal.invariant-loop-i
+invariant-loop-i l = record {
+  within : l.i ≤ length l.records;
+  state : IsState l.octets (drop l.i l.records) l.back.items l.starts.items;
+}
+
+abbrev pub decreases-loop-i : goal.decreases-loop-i
+decreases-loop-i l = l.i

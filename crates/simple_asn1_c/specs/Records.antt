@@ -1,0 +1,92 @@
+-- What a record says of a block.
+use Rattle.std.specs.Prelude.{◌≡◌, ℕ, ◌+◌, ◌<◌, Bool, List, get_or, length}
+use Rattle.simple_asn1.specs.BlockParts.{all_in_order, in_order}
+use Rattle.simple_asn1.specs.Grammar.{IsDocument}
+use Rattle.simple_asn1.specs.Header.{Encoding, class_number, constructed_bit}
+use Rattle.simple_asn1.specs.Places.{HasOctets}
+use Rattle.simple_asn1.specs.Tree.{Tree, Trees}
+use Rattle.simple_asn1.specs.View.{tree_offset}
+use Rattle.asn1_headers.specs.declared.header.ASN1Class.{ASN1Class}
+use Rattle.asn1_outline.specs.Entries.{HasTag, all_depths, items_in, no_tree}
+use Rattle.asn1_outline.specs.declared.entry.Entry.{Entry}
+use Rattle.simple_asn1_c.specs.declared.header.Header.{Header}
+use Rattle.simple_asn1_c.specs.declared.record.Block.{Block}
+
+-- the octets are an encoding with this header
+pub record HasHeader (octets : List ℕ) (h : Header) : Type 0 where
+  pub class : ASN1Class
+  pub constructed : Bool
+  pub tag : ℕ
+  pub contents : List ℕ
+  pub encoding : Encoding octets class constructed tag contents h.size
+  pub class_field : h.tag_class ≡ class_number class
+  pub constructed_field : h.constructed ≡ constructed_bit constructed
+  pub tag_field : HasTag tag h.tag
+  pub contents_field : h.contents ≡ length contents
+
+-- the tree stands in a document of these octets
+abbrev pub Stands : List ℕ → Tree ℕ → Type 0
+Stands document b = (bs : Trees ℕ) × (octets : List ℕ) × IsDocument document bs × HasOctets document bs b octets
+
+abbrev pub header_of : Block → Header
+header_of r = record {
+  tag = r.tag;
+  tag_class = r.tag_class;
+  constructed = r.constructed;
+  size = r.header;
+  contents = r.contents;
+}
+
+-- the record is of the tree, which stands in a document of these octets
+pub record IsRecord (whole : List ℕ) (b : Tree ℕ) (r : Block) : Type 0 where
+  pub bs : Trees ℕ
+  pub octets : List ℕ
+  pub document : IsDocument whole bs
+  pub stands : HasOctets whole bs b octets
+  pub header : HasHeader octets (header_of r)
+  pub offset : r.offset ≡ tree_offset b
+  pub items : r.items ≡ items_in b
+
+-- what is read of a place past the end
+abbrev pub no_record : Block
+no_record = record {
+  tag = 0;
+  offset = 0;
+  header = 0;
+  contents = 0;
+  items = 0;
+  next = 0;
+  depth = 0;
+  tag_class = 0;
+  constructed = 0;
+}
+
+-- the record says nothing of the records beside it
+abbrev pub HasNoLinks : Block → Type 0
+HasNoLinks r = (r.next ≡ 0) × (r.depth ≡ 0)
+
+-- the record of an entry
+abbrev pub block_of : Entry → Block
+block_of e = record {
+  tag = e.tag;
+  offset = e.offset;
+  header = e.header;
+  contents = e.contents;
+  items = e.items;
+  next = e.next;
+  depth = e.depth;
+  tag_class = class_number e.class;
+  constructed = constructed_bit e.constructed;
+}
+
+-- the record is that of the tree that stands at the index among those of a document, in order
+pub record IsRecordAt (whole : List ℕ) (bs : Trees ℕ) (k : ℕ) (r : Block) : Type 0 where
+  pub fields : IsRecord whole (get_or (all_in_order bs) k no_tree) r
+  -- the index after it and all that it holds
+  pub next : r.next ≡ k + length (in_order (get_or (all_in_order bs) k no_tree))
+  pub depth : r.depth ≡ get_or (all_depths 0 bs) k 0
+
+-- the first records are those of the trees of a document, one each, in order
+abbrev pub AreRecords : List ℕ → Trees ℕ → List Block → Type 0
+AreRecords whole bs records =
+    (k : ℕ) → k < length (all_in_order bs) → IsRecordAt whole bs k (get_or records k no_record)

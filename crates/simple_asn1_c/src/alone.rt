@@ -1,0 +1,35 @@
+// The encoding at an offset, by its header alone.
+ghost use Rattle.std.specs.Prelude.{◌≡◌, ◌⊎◌, ℕ, List, IfErr, IfOk};
+ghost use Rattle.asn1_outline.specs.Entries.{HasTag};
+ghost use Rattle.simple_asn1_c.specs.Status.{no_memory, no_such_value};
+ghost use Rattle.simple_asn1_c.specs.Values.{UniversalAt};
+
+use crate::header::read_header;
+use crate::status::{NO_MEMORY, NO_SUCH_VALUE};
+use simple_asn1::encoding_at;
+use std::alloc::Global;
+
+// The tag number, the greatest u64 for greater ones, and the contents octets of an encoding of class Universal; or the
+// number of why there is none.
+pub fn universal_at<'a>(
+    alloc: Global,
+    octets: &'a [u8],
+    offset: usize,
+) -> Result<(u64, &'a [u8]), u32>
+    ensures found { IfOk result
+        (λ x. (tag : ℕ) × UniversalAt octets.now offset tag x.1.now × HasTag tag x.0) }
+    ensures missing { IfErr result (λ status. (status ≡ no_memory) ⊎ ((status ≡ no_such_value)
+        × ((tag : ℕ) (contents : List ℕ) → UniversalAt octets.now offset tag contents → ⊥))) }
+{
+    let Some(encoding) = encoding_at(octets, offset) else {
+        return Err(NO_SUCH_VALUE);
+    };
+    let Ok(header) = read_header(alloc, encoding) else {
+        return Err(NO_MEMORY);
+    };
+    if header.tag_class != 0 {
+        return Err(NO_SUCH_VALUE);
+    }
+    let (_, contents) = encoding.split_at(header.size);
+    Ok((header.tag, contents))
+}

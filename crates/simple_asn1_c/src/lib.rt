@@ -1,0 +1,193 @@
+//! The calls of `simple_asn1` for C: flat records in place of trees, and no memory that a caller must give back.
+#![tactic(auto)]
+
+mod alone;
+mod header;
+mod identifier;
+mod integer;
+mod moment;
+mod putting;
+mod reading;
+mod record;
+mod signed;
+mod spelling;
+mod status;
+mod text;
+
+ghost use Rattle.std.specs.Prelude.{◌≡◌, ◌⊎◌, ◌*◌, ◌≤◌, ℕ, length};
+ghost use Rattle.simple_asn1.specs.BlockParts.{all_in_order};
+ghost use Rattle.simple_asn1.specs.Fault.{OutOfMemoryOr};
+ghost use Rattle.simple_asn1.specs.Grammar.{IsDocument, FirstFault};
+ghost use Rattle.simple_asn1.specs.Tree.{Trees};
+ghost use Rattle.simple_asn1_c.specs.Answers.{
+  AnswersRead,
+  AnswersReadStrict,
+  AnswersRewrite,
+  AnswersSigned,
+  AnswersWrite,
+  IsNoMemory,
+  IsRefused,
+};
+ghost use Rattle.simple_asn1_c.specs.Values.{AnswersIdentifier, AnswersInteger, AnswersMoment, AnswersText};
+
+use crate::identifier::identifier_at;
+use crate::integer::integer_at;
+use crate::moment::moment_at;
+use crate::putting::{put_octets, put_records};
+use crate::reading::{Fault, OUT_OF_MEMORY, fault_of_refused, read_records, read_records_strict};
+use crate::record::{Block, IntegerAnswer, MomentAnswer, Outcome, SignedAnswer};
+use crate::signed::signed_in;
+use crate::spelling::spell;
+use crate::text::text_at;
+use simple_asn1::{ASN1DecodeErr, rewrite};
+use std::alloc::Global;
+
+/// Reads a document into records: one for each block, each before those that it holds.
+///
+/// Answers their number; `NO_ROOM` with the number that is needed, where there is less room, and then nothing is
+/// written; or the number of the first fault, with the offset of the block at fault, and then nothing is written
+/// either. Records behind those that are written stay as they are. Memory is taken for the records, which are put there
+/// when all are known, and 64 octets for each level of nesting that is open, and all of it is given back; room for both
+/// is doubled as they grow. The stack that is taken does not grow with the nesting.
+#[unsafe(no_mangle)]
+pub extern "C" fn simple_asn1_read(alloc: Global, octets: &[u8], blocks: &mut [Block]) -> Outcome
+    ensures answer { AnswersRead octets.now blocks.old blocks.new result }
+
+    // Half as many records as octets are room enough.
+    ensures few { (bs : Trees ℕ) → IsDocument octets.now bs → 2 * length (all_in_order bs) ≤ length octets.now }
+{
+    match read_records(alloc, octets) {
+        Ok(outline) => put_records(outline.entries(), blocks),
+        Err(fault) => refused_outcome(fault),
+    }
+}
+
+/// Reads a document in canonical form (X.690 10, 11) into records, as [`simple_asn1_read`] does. Of another document it
+/// answers `NOT_CANONICAL`, with the offset of the first block at the top level that is not in its canonical octets.
+#[unsafe(no_mangle)]
+pub extern "C" fn simple_asn1_read_strict(
+    alloc: Global,
+    octets: &[u8],
+    blocks: &mut [Block],
+) -> Outcome
+    ensures { AnswersReadStrict octets.now blocks.old blocks.new result }
+{
+    match read_records_strict(alloc, octets) {
+        Ok(outline) => put_records(outline.entries(), blocks),
+        Err(fault) => refused_outcome(fault),
+    }
+}
+
+/// Puts the canonical octets of a document at the front of the room, and answers their number; or `NO_ROOM` with that
+/// number, where there is less room, or the first fault, as [`simple_asn1_read`] does: then nothing is written.
+#[unsafe(no_mangle)]
+pub extern "C" fn simple_asn1_rewrite(alloc: Global, octets: &[u8], room: &mut [u8]) -> Outcome
+    ensures { AnswersRewrite octets.now room.old room.new result }
+{
+    match rewrite(alloc, octets) {
+        Ok(canonical) => put_octets(&canonical, room),
+        Err(e) => refused_outcome(rewrite_fault(alloc, octets, &e)),
+    }
+}
+
+fn refused_outcome(fault: Fault) -> Outcome
+    ensures { (result.status ≡ fault.status) × (result.offset ≡ fault.offset) × (result.count ≡ 0) }
+{
+    Outcome {
+        status: fault.status,
+        offset: fault.offset,
+        count: 0,
+    }
+}
+
+// The fault of octets that were not rewritten.
+fn rewrite_fault(alloc: Global, octets: &[u8], e: &ASN1DecodeErr) -> Fault
+    requires { OutOfMemoryOr (FirstFault octets.now) e.now }
+    ensures { IsNoMemory result.status result.offset ⊎ IsRefused octets.now result.status result.offset }
+{
+    match e {
+        ASN1DecodeErr::OutOfMemory => OUT_OF_MEMORY,
+        _ => fault_of_refused(alloc, octets),
+    }
+}
+
+/// The number of the INTEGER at an offset (X.690 8.3). `OUT_OF_RANGE` where it fits no `i64`; `NO_SUCH_VALUE` where no
+/// encoding stands there, or one of another kind; the fault of one that is no block. The block there is read alone, in
+/// memory that is given back.
+#[unsafe(no_mangle)]
+pub extern "C" fn simple_asn1_int64(alloc: Global, octets: &[u8], offset: usize) -> IntegerAnswer
+    ensures { AnswersInteger octets.now offset result }
+{
+    integer_at(alloc, octets, offset)
+}
+
+/// The moment of the UTCTime or GeneralizedTime at an offset (X.690 8.25), in UTC; what else it answers is as with
+/// [`simple_asn1_int64`].
+#[unsafe(no_mangle)]
+pub extern "C" fn simple_asn1_time(alloc: Global, octets: &[u8], offset: usize) -> MomentAnswer
+    ensures { AnswersMoment octets.now offset result }
+{
+    moment_at(alloc, octets, offset)
+}
+
+/// Puts the text of the string at an offset (X.690 8.23), of whatever kind, in UTF-8 at the front of the room, and
+/// answers how many octets it has; `NO_ROOM` with that number, where there is less room. What else it answers is as
+/// with [`simple_asn1_int64`], and then nothing is written.
+#[unsafe(no_mangle)]
+pub extern "C" fn simple_asn1_text(
+    alloc: Global,
+    octets: &[u8],
+    offset: usize,
+    room: &mut [u8],
+) -> Outcome
+    ensures { AnswersText octets.now offset room.old room.new result }
+{
+    text_at(alloc, octets, offset, room)
+}
+
+/// Puts the components of the OBJECT IDENTIFIER at an offset (X.690 8.19) in decimal, with a point between two of them,
+/// as [`simple_asn1_text`] does. `OUT_OF_RANGE` where one of them is 2^128 or more.
+#[unsafe(no_mangle)]
+pub extern "C" fn simple_asn1_oid(
+    alloc: Global,
+    octets: &[u8],
+    offset: usize,
+    room: &mut [u8],
+) -> Outcome
+    ensures { AnswersIdentifier octets.now offset room.old room.new result }
+{
+    identifier_at(alloc, octets, offset, room)
+}
+
+/// The records of the content, the algorithm's OBJECT IDENTIFIER and the signature of the signed triple that a document
+/// begins with; `next` and `depth` are 0 in them. `NOT_SIGNED` where it begins with another block; of other octets the
+/// first fault, as [`simple_asn1_read`] has it.
+#[unsafe(no_mangle)]
+pub extern "C" fn simple_asn1_signed(alloc: Global, octets: &[u8]) -> SignedAnswer
+    ensures { AnswersSigned octets.now result }
+{
+    signed_in(alloc, octets)
+}
+
+/// Puts the canonical octets of the document that records spell: one with items holds the next of them, any other has
+/// contents octets of these. Answers as [`simple_asn1_rewrite`] does; the offset of a fault is that in what is spelled.
+/// `BAD_RECORD` with the index of the last record that can't be put: its class is none, its tag is the greatest `u64`,
+/// which also stands for each greater number, it holds more than there are, or its contents octets are not within these.
+#[unsafe(no_mangle)]
+pub extern "C" fn simple_asn1_write(
+    alloc: Global,
+    octets: &[u8],
+    blocks: &[Block],
+    room: &mut [u8],
+) -> Outcome
+    ensures { AnswersWrite octets.now blocks.now room.old room.new result }
+{
+    let spelled = match spell(alloc, octets, blocks) {
+        Ok(spelled) => spelled,
+        Err(fault) => return refused_outcome(fault),
+    };
+    match rewrite(alloc, &spelled) {
+        Ok(canonical) => put_octets(&canonical, room),
+        Err(e) => refused_outcome(rewrite_fault(alloc, &spelled, &e)),
+    }
+}

@@ -1,0 +1,68 @@
+// Octets and records into room that the caller has.
+ghost use Rattle.std.specs.Prelude.{◌≡◌, map};
+ghost use Rattle.simple_asn1_c.specs.Records.{block_of};
+ghost use Rattle.simple_asn1_c.specs.Room.{ArePut};
+ghost use Rattle.simple_asn1_c.specs.Status.{done, no_room};
+
+use crate::record::{Block, Outcome, block_of};
+use crate::status::{DONE, NO_ROOM};
+use asn1_outline::entry::Entry;
+
+pub fn put_octets(octets: &[u8], room: &mut [u8]) -> Outcome
+    ensures { ArePut octets.now room.old room.new result }
+{
+    let count = octets.len();
+    if count > room.len() {
+        return not_enough(count);
+    }
+    room[..count].copy_from_slice(octets);
+    all_put(count)
+}
+
+// Puts the records of the entries at the front.
+pub fn put_records(entries: &[Entry], room: &mut [Block]) -> Outcome
+    ensures { ArePut (map block_of entries.now) room.old room.new result }
+{
+    let count = entries.len();
+    if room.len() < count {
+        return not_enough(count);
+    }
+    for k in 0..count {
+        room[k] = block_of(&entries[k]);
+    }
+    all_put(count)
+}
+
+fn all_put(count: usize) -> Outcome
+    ensures { (result.status ≡ done) × (result.count ≡ count) × (result.offset ≡ 0) }
+{
+    Outcome {
+        status: DONE,
+        offset: 0,
+        count,
+    }
+}
+
+// What a call answers that needs more room.
+fn not_enough(count: usize) -> Outcome
+    ensures { (result.status ≡ no_room) × (result.count ≡ count) × (result.offset ≡ 0) }
+{
+    Outcome {
+        status: NO_ROOM,
+        offset: 0,
+        count,
+    }
+}
+
+// What a call answers that puts nothing.
+pub fn nothing_put(status: u32, offset: usize) -> Outcome
+    ensures status { result.status ≡ status }
+    ensures offset { result.offset ≡ offset }
+    ensures count { result.count ≡ 0 }
+{
+    Outcome {
+        status,
+        offset,
+        count: 0,
+    }
+}

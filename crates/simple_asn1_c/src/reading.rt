@@ -1,0 +1,126 @@
+// Blocks under an owner, or the number of their fault with its place.
+ghost use Rattle.std.specs.Prelude.{◌≡◌, ◌≢◌, ◌⊎◌, ℕ, IfErr, IfOk};
+ghost use Rattle.simple_asn1.specs.Fault.{DecodeFault, OutOfMemoryOr, fault_of};
+ghost use Rattle.simple_asn1.specs.Grammar.{IsDocument, FirstFault};
+ghost use Rattle.simple_asn1.specs.ReadBack.{CanonicalDocument};
+ghost use Rattle.simple_asn1.specs.Strict.{StrictFault};
+ghost use Rattle.simple_asn1.specs.Tree.{Trees};
+ghost use Rattle.simple_asn1.specs.View.{views};
+ghost use Rattle.asn1_outline.specs.Entries.{AreEntriesOf};
+ghost use Rattle.asn1_outline.specs.Outlines.{entries_in};
+ghost use Rattle.simple_asn1_c.specs.Answers.{IsNoMemory, IsRefused, IsRefusedStrict};
+ghost use Rattle.simple_asn1_c.specs.Status.{status_of};
+ghost use Rattle.asn1_headers.specs.declared.error.ASN1DecodeErr.TheVariants.{OutOfMemory};
+
+use crate::status::{NO_MEMORY, NOT_CANONICAL, status_of_fault};
+use asn1_outline::outline::Outline;
+use simple_asn1::{
+    ASN1Block, ASN1DecodeErr, LocatedErr, discard, from_der_located, law_one_reading,
+    outline_strict,
+};
+use std::alloc::Global;
+
+// Blocks that are dropped by a loop.
+pub struct Held {
+    pub blocks: Vec<ASN1Block>,
+}
+
+impl Drop for Held {
+    fn drop(self) {
+        let Held { blocks } = self;
+        discard(blocks);
+    }
+}
+
+// The number of a fault, and its place.
+#[derive(Clone, Copy, Drop)]
+pub struct Fault {
+    pub status: u32,
+    pub offset: usize,
+}
+
+pub const OUT_OF_MEMORY: Fault = Fault {
+    status: NO_MEMORY,
+    offset: 0,
+};
+
+pub fn read(alloc: Global, octets: &[u8]) -> Result<Held, Fault>
+    ensures document { IfOk result (λ held. IsDocument octets.now (views held.blocks.items)) }
+    ensures fault { IfErr result
+        (λ f. IsNoMemory f.status f.offset ⊎ IsRefused octets.now f.status f.offset) }
+{
+    match from_der_located(alloc, octets) {
+        Ok(blocks) => Ok(Held { blocks }),
+        Err(located) => Err(fault_at(&located)),
+    }
+}
+
+// The number of an error, with its place where it is a fault of octets.
+fn fault_at(located: &LocatedErr) -> Fault
+    ensures memory { located.now.error ≡ OutOfMemory → IsNoMemory result.status result.offset }
+    ensures fault { located.now.error ≢ OutOfMemory →
+        (result.status ≡ status_of (fault_of located.now.error)) × (result.offset ≡ located.now.offset) }
+{
+    match located.error {
+        ASN1DecodeErr::OutOfMemory => OUT_OF_MEMORY,
+        _ => Fault {
+            status: status_of_fault(&located.error),
+            offset: located.offset,
+        },
+    }
+}
+
+// The entries of a document.
+pub fn read_records<'a>(alloc: Global, octets: &'a [u8]) -> Result<Outline<'a>, Fault>
+    ensures document { IfOk result (λ outline. (bs : Trees ℕ) × IsDocument octets.now bs
+        × AreEntriesOf octets.now bs (entries_in outline)) }
+    ensures fault { IfErr result
+        (λ f. IsNoMemory f.status f.offset ⊎ IsRefused octets.now f.status f.offset) }
+{
+    match Outline::from_der_located(alloc, octets) {
+        Ok(outline) => Ok(outline),
+        Err(located) => Err(fault_at(&located)),
+    }
+}
+
+// Those of one in canonical form.
+pub fn read_records_strict<'a>(alloc: Global, octets: &'a [u8]) -> Result<Outline<'a>, Fault>
+    ensures document { IfOk result (λ outline. (bs : Trees ℕ) × CanonicalDocument octets.now bs
+        × AreEntriesOf octets.now bs (entries_in outline)) }
+    ensures fault { IfErr result
+        (λ f. IsNoMemory f.status f.offset ⊎ IsRefusedStrict octets.now f.status f.offset) }
+{
+    match outline_strict(alloc, octets) {
+        Ok(outline) => Ok(outline),
+        Err(e) => Err(strict_fault(alloc, octets, &e)),
+    }
+}
+
+// The fault of octets that were refused strictly.
+fn strict_fault(alloc: Global, octets: &[u8], e: &ASN1DecodeErr) -> Fault
+    requires { OutOfMemoryOr (StrictFault octets.now) e.now }
+    ensures { IsNoMemory result.status result.offset
+        ⊎ IsRefusedStrict octets.now result.status result.offset }
+{
+    law_one_reading();
+    match e {
+        ASN1DecodeErr::NotCanonical(offset) => Fault {
+            status: NOT_CANONICAL,
+            offset: *offset,
+        },
+        ASN1DecodeErr::OutOfMemory => OUT_OF_MEMORY,
+        _ => fault_of_refused(alloc, octets),
+    }
+}
+
+// The fault of octets that are no document.
+pub fn fault_of_refused(alloc: Global, octets: &[u8]) -> Fault
+    requires { (fault : DecodeFault) × FirstFault octets.now fault }
+    ensures { IsNoMemory result.status result.offset ⊎ IsRefused octets.now result.status result.offset }
+{
+    law_one_reading();
+    match read(alloc, octets) {
+        Ok(_) => unreachable!(),
+        Err(fault) => fault,
+    }
+}

@@ -1,0 +1,137 @@
+// The record of a block.
+ghost use Rattle.std.specs.Prelude.{◌≡◌, IfOk};
+ghost use Rattle.simple_asn1.specs.View.{view};
+ghost use Rattle.asn1_outline.specs.Entries.{items_in};
+ghost use Rattle.simple_asn1_c.specs.Records.{IsRecord, Stands, block_of};
+
+use crate::header::{class_number_of, read_header};
+use asn1_outline::entry::Entry;
+use simple_asn1::{ASN1Block, encoding_at};
+use std::alloc::{AllocError, Global};
+use std::mem::size_of;
+
+/// A block as C sees it. `simple_asn1.h` says what the fields are.
+#[repr(C)]
+#[derive(Clone, Copy)]
+pub struct Block {
+    pub tag: u64,
+    pub offset: usize,
+    pub header: usize,
+    pub contents: usize,
+    pub items: usize,
+    pub next: usize,
+    pub depth: usize,
+    pub tag_class: u8,
+    pub constructed: u8,
+}
+
+/// What a call answers: a status, the offset of the block at fault, and how many records or octets were written, or
+/// are needed.
+#[repr(C)]
+#[derive(Clone, Copy)]
+pub struct Outcome {
+    pub status: u32,
+    pub offset: usize,
+    pub count: usize,
+}
+
+/// An integer, or why there is none.
+#[repr(C)]
+#[derive(Clone, Copy)]
+pub struct IntegerAnswer {
+    pub status: u32,
+    pub value: i64,
+}
+
+/// A moment, or why there is none.
+#[repr(C)]
+#[derive(Clone, Copy)]
+pub struct MomentAnswer {
+    pub status: u32,
+    pub year: i32,
+    pub month: u32,
+    pub day: u32,
+    pub hour: u32,
+    pub minute: u32,
+    pub second: u32,
+    pub nanosecond: u32,
+}
+
+/// What was signed, its algorithm and the signature.
+#[repr(C)]
+#[derive(Clone, Copy)]
+pub struct SignedAnswer {
+    pub status: u32,
+    pub offset: usize,
+    pub content: Block,
+    pub algorithm: Block,
+    pub signature: Block,
+}
+
+// What the C header has for them.
+const _: () = prove!(size_of::<Block>() == 64);
+
+const _: () = prove!(size_of::<Outcome>() == 24);
+
+const _: () = prove!(size_of::<IntegerAnswer>() == 16);
+
+const _: () = prove!(size_of::<MomentAnswer>() == 32);
+
+const _: () = prove!(size_of::<SignedAnswer>() == 208);
+
+// How many blocks a block holds, without those inside them.
+pub fn item_count(block: &ASN1Block) -> usize
+    ensures { result ≡ items_in (view block.now) }
+{
+    match block.items() {
+        Some(items) => items.len(),
+        None => 0,
+    }
+}
+
+// The record of a block of the document. What stands in `next` and `depth` is passed on.
+pub fn record_of(
+    alloc: Global,
+    document: &[u8],
+    block: &ASN1Block,
+    next: usize,
+    depth: usize,
+) -> Result<Block, AllocError>
+    requires { Stands document.now (view block.now) }
+    ensures fields { IfOk result (IsRecord document.now (view block.now)) }
+    ensures links { IfOk result (λ r. (r.next ≡ next) × (r.depth ≡ depth)) }
+{
+    let offset = block.offset();
+    let Some(encoding) = encoding_at(document, offset) else {
+        unreachable!()
+    };
+    let header = read_header(alloc, encoding)?;
+    Ok(Block {
+        tag: header.tag,
+        offset,
+        header: header.size,
+        contents: header.contents,
+        items: item_count(block),
+        next,
+        depth,
+        tag_class: header.tag_class,
+        constructed: header.constructed,
+    })
+}
+
+// The record of an entry.
+pub fn block_of(entry: &Entry) -> Block
+    ensures { result ≡ block_of entry.now }
+{
+    Block {
+        tag: entry.tag,
+        offset: entry.offset,
+        header: entry.header,
+        contents: entry.contents,
+        items: entry.items,
+        next: entry.next,
+        depth: entry.depth,
+        tag_class: class_number_of(entry.class),
+        constructed: if entry.constructed { 1 } else { 0 },
+    }
+}

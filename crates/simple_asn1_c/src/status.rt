@@ -1,0 +1,41 @@
+// The numbers of faults.
+ghost use Rattle.std.specs.Prelude.{◌≡◌};
+ghost use Rattle.simple_asn1.specs.Fault.{fault_of};
+ghost use Rattle.simple_asn1_c.specs.Status.{status_of};
+
+use simple_asn1::ASN1DecodeErr;
+
+pub const DONE: u32 = 0;
+
+pub const NOT_CANONICAL: u32 = 9;
+
+pub const NO_MEMORY: u32 = 10;
+
+pub const NO_ROOM: u32 = 11;
+
+pub const NO_SUCH_VALUE: u32 = 12;
+
+pub const OUT_OF_RANGE: u32 = 13;
+
+pub const NOT_SIGNED: u32 = 14;
+
+pub const BAD_RECORD: u32 = 15;
+
+pub fn status_of_fault(e: &ASN1DecodeErr) -> u32
+    ensures { result ≡ status_of (fault_of e.now) }
+{
+    match e {
+        ASN1DecodeErr::EmptyBuffer => 1,
+        ASN1DecodeErr::BadBooleanLength(_) => 2,
+        ASN1DecodeErr::LengthTooLarge(_) => 3,
+        ASN1DecodeErr::UTF8DecodeFailure(_) => 4,
+        ASN1DecodeErr::PrintableStringDecodeFailure => 5,
+        ASN1DecodeErr::InvalidDateValue(_) => 6,
+        ASN1DecodeErr::InvalidBitStringLength(_) => 7,
+        ASN1DecodeErr::Incomplete => 8,
+        ASN1DecodeErr::NotCanonical(_) => NOT_CANONICAL,
+        ASN1DecodeErr::OutOfMemory => NO_MEMORY,
+        ASN1DecodeErr::InvalidClass(_) => NO_SUCH_VALUE,
+        ASN1DecodeErr::Overflow => NO_SUCH_VALUE,
+    }
+}

@@ -1,6 +1,0 @@
-use Rattle.std.specs.Io.KnownBytes.{Consumes}
-use Rattle.streams.proofs.read_all.Given as goal
-
--- what was read so far, and then what is left, is all
-abbrev pub invariant-loop : goal.invariant-loop
-invariant-loop g l = Consumes (g.R.Read.remaining l.fn.r) (g.R.Read.remaining l.r) l.input.items

@@ -1,0 +1,39 @@
+// Errors beside others: rows of `test_calls` have their texts and their clones.
+use simple_asn1::{ASN1DecodeErr, ASN1EncodeErr, LocatedErr};
+use std::alloc::AllocError;
+use std::test::Fail;
+
+#[test]
+fn payloads_are_compared(rt: HostRuntime) -> Result<(), Fail> {
+    let alloc = rt.alloc();
+    let eleven = ASN1DecodeErr::InvalidDateValue(String::from_str(alloc, "11")?);
+    let one = ASN1DecodeErr::InvalidDateValue(String::from_str(alloc, "1")?);
+    assert!(rt; eleven.clone(alloc)? == eleven);
+    assert!(rt; eleven != one);
+    assert!(rt; ASN1DecodeErr::LengthTooLarge(9) != ASN1DecodeErr::LengthTooLarge(127));
+    assert!(rt; ASN1DecodeErr::LengthTooLarge(2) != ASN1DecodeErr::BadBooleanLength(2));
+    Ok(())
+}
+
+#[test]
+fn refused_memory_is_out_of_memory(rt: HostRuntime) {
+    assert!(rt; ASN1DecodeErr::from(AllocError) == ASN1DecodeErr::OutOfMemory);
+    assert!(rt; ASN1EncodeErr::from(AllocError) == ASN1EncodeErr::OutOfMemory);
+}
+
+// `Incomplete` at an offset.
+fn incomplete_at(offset: usize) -> LocatedErr {
+    LocatedErr {
+        error: ASN1DecodeErr::Incomplete,
+        offset,
+    }
+}
+
+#[test]
+fn a_located_error_is_compared_with_its_place(rt: HostRuntime) -> Result<(), Fail> {
+    let located = incomplete_at(4);
+    assert!(rt; located.clone(rt.alloc())? == located);
+    assert!(rt; located != incomplete_at(0));
+    assert!(rt; ASN1DecodeErr::from(located) == ASN1DecodeErr::Incomplete);
+    Ok(())
+}

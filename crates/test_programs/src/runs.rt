@@ -1,0 +1,75 @@
+// Runs of the dump whose streams fail.
+use der_inputs::{Source, run, status};
+use der_io::StreamFault;
+use der_io::failing::{FailingReader, FailingWriter};
+use der_lines::Verdict;
+use der_options::{Options, Task};
+use std::alloc::Global;
+use std::io::ErrorKind;
+use std::test::Fail;
+
+// Each input is dumped.
+fn dump(alloc: Global) -> Options<'static> {
+    Options {
+        inputs: Vec::new(alloc),
+        task: Task::Dump,
+        is_strict: false,
+        is_full: false,
+        is_flat: false,
+        is_json: false,
+        most_depth: None,
+    }
+}
+
+// Three inputs of the digits of a NULL, the second of which has a fault after so many reads.
+fn sources(
+    alloc: Global,
+    reads: usize,
+) -> Result<Vec<Source<'static, FailingReader<'static>>>, Fail> {
+    let mut sources = Vec::new(alloc);
+    for reads in [9, reads, 9] {
+        let reader = FailingReader {
+            octets: b"0500",
+            reads,
+            kind: ErrorKind::Other,
+        };
+        sources.push(Source { name: "a", reader })?;
+    }
+    Ok(sources)
+}
+
+const SHOWN: &str = "= a\n      0  2       0  NULL\n";
+
+#[test]
+fn what_cannot_be_read_is_left_out(rt: HostRuntime) -> Result<(), Fail> {
+    let alloc = rt.alloc();
+    let options = dump(alloc);
+    for reads in 0..6 {
+        let mut sources = sources(alloc, reads)?;
+        let mut writer = Vec::new(alloc);
+        let outcome = run(alloc, &options, &mut sources, &mut writer);
+        let (middle, number, shown) = if reads == 5 {
+            (Some(Verdict::AllRead), 0, 3)
+        } else {
+            (None, 2, 2)
+        };
+        let came = [Some(Verdict::AllRead), middle, Some(Verdict::AllRead)];
+        assert_eq!(rt; status(&outcome), number);
+        assert!(rt; outcome.is_ok_and(|outcome| outcome.as_slice() == came.as_slice()));
+        assert_eq!(rt; writer.len(), shown * SHOWN.len());
+    }
+    Ok(())
+}
+
+#[test]
+fn a_fault_of_writing_is_told(rt: HostRuntime) -> Result<(), Fail> {
+    let alloc = rt.alloc();
+    let options = dump(alloc);
+    for writes in 0..2 {
+        let mut sources = sources(alloc, 9)?;
+        let outcome = run(alloc, &options, &mut sources, &mut FailingWriter { writes });
+        assert_eq!(rt; status(&outcome), 2);
+        assert!(rt; outcome.is_err_and(|fault| fault == StreamFault::Write));
+    }
+    Ok(())
+}
