@@ -1,25 +1,25 @@
 /* simple_asn1.h: reads and writes DER (ITU-T X.690) as flat records.
  *
  * Link libsimple_asn1, which calls the program's malloc, realloc and free. No call keeps memory or gives memory away,
- * and calls may run in several threads at once. Each answers whatever the octets, offsets and records are. A caller
- * owes this alone: each pointer has as many octets or records behind it as the number after it says (it may be null
- * where that number is 0), and what is written to overlaps nothing that is read.
+ * and calls may run in several threads at once. Every call returns for all octets, offsets and records. The caller must
+ * ensure that each pointer has as many octets or records behind it as the number after it says (it may be null if that
+ * is 0), and that no output overlaps an input.
  *
- * Where what is read is not X.690's BER, or strict reading lets pass what DER forbids:
+ * Differences from X.690's BER, and what strict reading accepts though DER forbids it:
  *
  * - OBJECT IDENTIFIER: the first subidentifier is one octet. 88 37 is 2.56.55, where X.690 has 2.999.
  * - BMPString, UniversalString and TeletexString hold UTF-8, where X.690 has other codes.
- * - BIT STRING: no bits are 03 00 in canonical form, where X.690 has 03 01 00. The latter is read, but not strictly.
- * - Length octets: 80 is the length 0. The indefinite form is not known.
+ * - BIT STRING: no bits are 03 00 in canonical form, where X.690 has 03 01 00, which is read, but not strictly.
+ * - Length octets: 80 is the length 0. The indefinite form is not supported.
  * - Constructed strings are not joined: the contents octets of 24 03 04 01 05 are 04 01 05.
- * - Text: of UTF8String, PrintableString, TeletexString, IA5String, UniversalString and BMPString alone. The other
- *   strings (NumericString, VisibleString, GeneralString ..) have none, and their contents octets may be any.
- * - Times: those with an offset, a comma, second 60 or no seconds are faults.
+ * - Text: of UTF8String, PrintableString, TeletexString, IA5String, UniversalString and BMPString only. Other strings
+ *   (NumericString, VisibleString, GeneralString ..) have none, and any contents octets.
+ * - Times: those with an offset, a comma, second 60 or no seconds are rejected.
  * - A value beyond int64_t, and a component of an OBJECT IDENTIFIER beyond 128 bits, are SIMPLE_ASN1_RANGE.
- * - Another class: a constructed block has the block that it holds as an item where that is one and without a fault.
- *   Else, and where it is primitive, its contents octets are not looked into, by strict reading neither.
- * - Strict reading lets pass: unused bits that are not 0, and more than 7 of them; octets of an IA5String above 7F; a
- *   SET in any order; DEFAULT values; any contents octets of tags of class Universal that have no type here, as
+ * - Other classes: a constructed block has an item if it holds exactly one valid block. Otherwise, and if it is
+ *   primitive, its contents octets are not looked into, not by strict reading either.
+ * - Strict reading accepts unused bits that are not 0, and more than 7 of them; octets of an IA5String above 7F; a SET
+ *   in any order; DEFAULT values; any contents octets of tags of class Universal without a type here, such as
  *   ENUMERATED and REAL. */
 #ifndef SIMPLE_ASN1_H
 #define SIMPLE_ASN1_H
@@ -30,43 +30,44 @@ extern "C" {
 #endif
 
 #define SIMPLE_ASN1_VERSION 1 /* of the calls and records; libsimple_asn1.so.1 */
+#define SIMPLE_ASN1_RELEASE "1.0.0" /* of the library; CHANGELOG.md says what it promises */
 
-enum { /* what calls answer */
+enum { /* what calls return */
     SIMPLE_ASN1_OK = 0,
-    SIMPLE_ASN1_EMPTY = 1,             /* faults of octets that are no document: there are none */
-    SIMPLE_ASN1_BOOLEAN_LENGTH = 2,    /* a BOOLEAN of other than one contents octet */
+    SIMPLE_ASN1_EMPTY = 1,             /* errors of reading: the input is empty */
+    SIMPLE_ASN1_BOOLEAN_LENGTH = 2,    /* a BOOLEAN must have one contents octet */
     SIMPLE_ASN1_LENGTH = 3,            /* a length beyond size_t */
-    SIMPLE_ASN1_UTF8 = 4,              /* a string or time that is no UTF-8 */
-    SIMPLE_ASN1_PRINTABLE = 5,         /* a PrintableString with another character */
-    SIMPLE_ASN1_DATE = 6,              /* a UTCTime or GeneralizedTime that is no moment */
-    SIMPLE_ASN1_BIT_STRING_LENGTH = 7, /* a BIT STRING with more unused bits than bits */
-    SIMPLE_ASN1_INCOMPLETE = 8,        /* the octets run out */
+    SIMPLE_ASN1_UTF8 = 4,              /* a string or time is not UTF-8 */
+    SIMPLE_ASN1_PRINTABLE = 5,         /* a PrintableString has a forbidden character */
+    SIMPLE_ASN1_DATE = 6,              /* a UTCTime or GeneralizedTime is invalid */
+    SIMPLE_ASN1_BIT_STRING_LENGTH = 7, /* a BIT STRING has more unused bits than bits */
+    SIMPLE_ASN1_INCOMPLETE = 8,        /* the input is truncated */
     SIMPLE_ASN1_NOT_CANONICAL = 9,     /* read_strict: a block that rewrite would change */
     SIMPLE_ASN1_NO_MEMORY = 10,
-    SIMPLE_ASN1_NO_ROOM = 11,          /* count says how much is needed; nothing was written */
-    SIMPLE_ASN1_NO_SUCH_VALUE = 12,    /* nothing of this kind stands at the offset */
+    SIMPLE_ASN1_NO_ROOM = 11,          /* count is how much is needed; nothing was written */
+    SIMPLE_ASN1_NO_SUCH_VALUE = 12,    /* there is no block of this kind at the offset */
     SIMPLE_ASN1_RANGE = 13,            /* the value does not fit */
-    SIMPLE_ASN1_NOT_SIGNED = 14,       /* the first block is no signed triple */
-    SIMPLE_ASN1_BAD_RECORD = 15        /* write: the record at index `offset` can't be written */
+    SIMPLE_ASN1_NOT_SIGNED = 14,       /* the first block is not a signed triple */
+    SIMPLE_ASN1_BAD_RECORD = 15        /* write: the record at index `offset` cannot be written */
 };
 
 /* A block. The blocks that it holds come right after it. */
 typedef struct simple_asn1_block {
     uint64_t tag;       /* tag number; UINT64_MAX for greater ones too, and write rejects a record with it */
-    size_t offset;      /* of its first octet, in the document */
-    size_t header;      /* how many identifier and length octets it has */
-    size_t contents;    /* how many contents octets follow them */
-    size_t items;       /* how many blocks it holds, without those inside them */
+    size_t offset;      /* of its first octet from the start of the document */
+    size_t header;      /* number of identifier and length octets */
+    size_t contents;    /* number of contents octets after them */
+    size_t items;       /* number of blocks directly inside it */
     size_t next;        /* index of the record after it and all that it holds */
-    size_t depth;       /* how many blocks it stands in */
+    size_t depth;       /* number of blocks around it */
     uint8_t tag_class;  /* 0 universal, 1 application, 2 context-specific, 3 private */
     uint8_t constructed;
 } simple_asn1_block;
 
 typedef struct simple_asn1_outcome {
     uint32_t status;
-    size_t offset; /* of the block at fault; 0 where nothing is at fault */
-    size_t count;  /* records or octets: how many were written, or are needed; 0 with any other status */
+    size_t offset; /* of the block at fault; 0 if none is */
+    size_t count;  /* records or octets that were written, or with NO_ROOM are needed; otherwise 0 */
 } simple_asn1_outcome;
 
 typedef struct simple_asn1_integer {
@@ -93,38 +94,38 @@ typedef struct simple_asn1_signed_parts { /* next and depth of the records are 0
     simple_asn1_block signature; /* BIT STRING */
 } simple_asn1_signed_parts;
 
-/* The records of all blocks of a document, each before those that it holds. At most size / 2 are needed. Records of the
- * caller behind those that are written stay as they are; with any other status than SIMPLE_ASN1_OK all do. */
+/* Writes the record of each block of a document, in order. At most size / 2 are needed. Records after those that are
+ * written stay as they are; with any other status than SIMPLE_ASN1_OK all do. */
 simple_asn1_outcome simple_asn1_read(const uint8_t *octets, size_t size, simple_asn1_block *blocks, size_t room);
 
-/* So of a document in canonical form (DER) alone. */
+/* The same, for documents in canonical form (DER) only. */
 simple_asn1_outcome simple_asn1_read_strict(const uint8_t *octets, size_t size, simple_asn1_block *blocks, size_t room);
 
-/* The canonical octets (DER) of a document. */
+/* Writes the canonical octets (DER) of a document. */
 simple_asn1_outcome simple_asn1_rewrite(const uint8_t *octets, size_t size, uint8_t *out, size_t room);
 
-/* The canonical octets of what records spell: one with items holds the next of them; any other has the contents octets
- * from offset + header on of these. Records that were read can be passed as they are; next and depth play no part. A
- * record with the tag UINT64_MAX is a BAD_RECORD, since that number also stands for each greater one. */
+/* Writes the canonical octets of what records describe: one with items holds the records after it; any other has the
+ * contents octets from offset + header on. Records that were read can be passed as they are; next and depth are
+ * ignored. A record with the tag UINT64_MAX is a BAD_RECORD, since that number also stands for each greater one. */
 simple_asn1_outcome simple_asn1_write(const uint8_t *octets, size_t size, const simple_asn1_block *blocks, size_t count,
                                       uint8_t *out, size_t room);
 
-/* The value of the block at an offset: an INTEGER's number, where it fits; a UTCTime's or GeneralizedTime's moment; a
- * string's text, of whatever kind, in UTF-8; an OBJECT IDENTIFIER's components, as in 1.2.840. No 0 is added. Only its
- * header and its own contents octets are looked at; what has another tag is NO_SUCH_VALUE, whatever it holds. */
+/* The value of the block at an offset: an INTEGER's number, if it fits; a UTCTime's or GeneralizedTime's moment; a
+ * string's text, of any kind, in UTF-8; an OBJECT IDENTIFIER's components, as in 1.2.840. No terminating 0 is added.
+ * Only its header and its own contents octets are looked at; a block with another tag is NO_SUCH_VALUE. */
 simple_asn1_integer simple_asn1_int64(const uint8_t *octets, size_t size, size_t offset);
 simple_asn1_moment simple_asn1_time(const uint8_t *octets, size_t size, size_t offset);
 simple_asn1_outcome simple_asn1_text(const uint8_t *octets, size_t size, size_t offset, uint8_t *out, size_t room);
 simple_asn1_outcome simple_asn1_oid(const uint8_t *octets, size_t size, size_t offset, uint8_t *out, size_t room);
 
-/* The parts of a certificate, request or revocation list that a signature is checked by (RFC 5280, section 4.1). The
+/* The parts of a certificate, request or revocation list that verify its signature (RFC 5280, section 4.1). The
  * algorithm's parameters are the octets from the end of its OBJECT IDENTIFIER to the offset of the signature; the first
  * contents octet of the signature is the number of its unused bits. */
 simple_asn1_signed_parts simple_asn1_signed(const uint8_t *octets, size_t size);
 
-/* The contents octets of a block that was read of these octets. They are the value of an OCTET STRING. Those of an
- * INTEGER are its number, of whatever size, in two's complement, the most significant octet first. Those of a BIT STRING
- * are the number of unused bits in the last octet, and then the bits, the first the most significant of its octet:
+/* The contents octets of a block of this document: the value of an OCTET STRING; the number of an INTEGER, of any size,
+ * in two's complement, most significant octet first; of a BIT STRING the number of unused bits in the last octet, and
+ * then the bits, most significant first:
  *
  *     const uint8_t *contents = simple_asn1_contents(octets, &block);
  *     size_t bits = block.contents == 0 ? 0 : 8 * (block.contents - 1) - contents[0];
@@ -140,22 +141,22 @@ static inline const char *simple_asn1_status_text(uint32_t status)
 {
     switch (status) {
     case SIMPLE_ASN1_OK: return "done";
-    case SIMPLE_ASN1_EMPTY: return "there are no octets";
-    case SIMPLE_ASN1_BOOLEAN_LENGTH: return "a BOOLEAN has other than one contents octet";
+    case SIMPLE_ASN1_EMPTY: return "the input is empty";
+    case SIMPLE_ASN1_BOOLEAN_LENGTH: return "a BOOLEAN must have one content byte";
     case SIMPLE_ASN1_LENGTH: return "a length is too large";
-    case SIMPLE_ASN1_UTF8: return "a string or time is no UTF-8";
-    case SIMPLE_ASN1_PRINTABLE: return "a PrintableString has a character that it can't have";
-    case SIMPLE_ASN1_DATE: return "a time is no moment";
+    case SIMPLE_ASN1_UTF8: return "a string or time is not UTF-8";
+    case SIMPLE_ASN1_PRINTABLE: return "a PrintableString has a forbidden character";
+    case SIMPLE_ASN1_DATE: return "a time is invalid";
     case SIMPLE_ASN1_BIT_STRING_LENGTH: return "a BIT STRING has more unused bits than bits";
-    case SIMPLE_ASN1_INCOMPLETE: return "the octets run out";
+    case SIMPLE_ASN1_INCOMPLETE: return "the input is truncated";
     case SIMPLE_ASN1_NOT_CANONICAL: return "a block is not in canonical form";
     case SIMPLE_ASN1_NO_MEMORY: return "out of memory";
-    case SIMPLE_ASN1_NO_ROOM: return "there is too little room";
-    case SIMPLE_ASN1_NO_SUCH_VALUE: return "no block of this kind stands there";
+    case SIMPLE_ASN1_NO_ROOM: return "there is not enough room";
+    case SIMPLE_ASN1_NO_SUCH_VALUE: return "there is no block of this kind";
     case SIMPLE_ASN1_RANGE: return "the value does not fit";
-    case SIMPLE_ASN1_NOT_SIGNED: return "the first block is no signed triple";
-    case SIMPLE_ASN1_BAD_RECORD: return "a record can't be written";
-    default: return "no status";
+    case SIMPLE_ASN1_NOT_SIGNED: return "the first block is not a signed triple";
+    case SIMPLE_ASN1_BAD_RECORD: return "a record cannot be written";
+    default: return "unknown status";
     }
 }
 

@@ -44,7 +44,7 @@ class SignedParts(ctypes.Structure):
 
 
 class Record(NamedTuple):
-    """A block as the library has it; simple_asn1.h says what the fields are."""
+    """The record of a block; simple_asn1.h describes the fields."""
 
     tag: int
     offset: int

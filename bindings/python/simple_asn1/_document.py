@@ -28,7 +28,7 @@ class Moment(NamedTuple):
 
     @property
     def datetime(self) -> DateTime:
-        """It with its time zone, UTC. What is finer than a microsecond is dropped. ValueError for the year 0."""
+        """As a `datetime` in UTC, cut to the microsecond. ValueError for the year 0."""
         return DateTime(*self[:6], self.nanosecond // 1000, tzinfo=timezone.utc)
 
     def __str__(self) -> str:
@@ -37,7 +37,7 @@ class Moment(NamedTuple):
 
 
 class Bits(NamedTuple):
-    """The octets that hold the bits of a BIT STRING, and how many bits there are.
+    """The octets that hold the bits of a BIT STRING, and the number of bits.
 
     The first bit is the most significant of the first octet.
     """
@@ -47,14 +47,14 @@ class Bits(NamedTuple):
 
 
 class Document:
-    """Octets that were read, with the record of each of their blocks. read, read_strict and read_pem make it."""
+    """A document and the record of each of its blocks. `read`, `read_strict` and `read_pem` make it."""
 
     def __init__(self, octets: Octets, *, strict: bool = False) -> None:
         self._octets = octets_of(octets)
         self._blocks = (_calls.read_strict if strict else _calls.read)(self._octets)
 
     def __reduce__(self) -> Tuple[type, Tuple[bytes]]:
-        """Other processes read it again."""
+        """A pickled document is read again where it is loaded."""
         return Document, (self._octets,)
 
     @property
@@ -73,7 +73,7 @@ class Document:
 
     @property
     def all_blocks(self) -> List["Block"]:
-        """The blocks at all depths, each before those that it holds."""
+        """The blocks at all depths, each before those inside it."""
         return [Block(self, index) for index in range(len(self._blocks))]
 
     def _among(self, index: int, end: int) -> Iterator["Block"]:
@@ -86,7 +86,7 @@ class Document:
         return self._among(0, len(self._blocks))
 
     def __len__(self) -> int:
-        """How many blocks are at the top level."""
+        """The number of blocks at the top level."""
         return sum(1 for _ in self)
 
     @overload
@@ -101,7 +101,7 @@ class Document:
 
 
 class Block:
-    """A block of a document. Two are equal where they are the same block of one document."""
+    """A block of a document. Two are equal if they are the same block of the same document."""
 
     __slots__ = ("_document", "_index", "_record")
 
@@ -157,12 +157,12 @@ class Block:
 
     @property
     def depth(self) -> int:
-        """How many blocks it stands in."""
+        """The number of blocks around it."""
         return self._record.depth
 
     @property
     def items(self) -> List["Block"]:
-        """The blocks that it holds, without those inside them."""
+        """The blocks directly inside it."""
         return list(self)
 
     def __iter__(self) -> Iterator["Block"]:
@@ -170,11 +170,11 @@ class Block:
         return self._document._among(self._index + 1, self._record.next)
 
     def __len__(self) -> int:
-        """How many items it has."""
+        """The number of items."""
         return self._record.items
 
     def __bool__(self) -> bool:
-        """True: a block without items is a block."""
+        """True, also without items."""
         return True
 
     @overload
@@ -198,7 +198,7 @@ class Block:
 
     @property
     def integer(self) -> int:
-        """The number of an INTEGER, of whatever size."""
+        """The number of an INTEGER, of any size."""
         if (self.tag_class, self.tag) != (0, 2):
             raise refusal(Status.NO_SUCH_VALUE, self.offset)
         return int.from_bytes(self.contents, "big", signed=True)
@@ -215,7 +215,7 @@ class Block:
 
     @property
     def text(self) -> str:
-        """The text of a string, of whatever kind."""
+        """The text of a string, of any kind."""
         return _calls.text(self._document.octets, self.offset)
 
     @property
@@ -225,7 +225,7 @@ class Block:
 
     @property
     def bits(self) -> Bits:
-        """The octets that hold the bits of a BIT STRING, and how many bits there are."""
+        """The octets that hold the bits of a BIT STRING, and the number of bits."""
         if (self.tag_class, self.tag) != (0, 3):
             raise refusal(Status.NO_SUCH_VALUE, self.offset)
         return _bits_of(self.contents)
@@ -240,17 +240,17 @@ def _count(number: int, what: str) -> str:
 
 
 def read(octets: Octets) -> Document:
-    """The document of these octets."""
+    """Reads a document. Raises Refused."""
     return Document(octets)
 
 
 def read_strict(octets: Octets) -> Document:
-    """The document of these octets, which have to be in canonical form (DER)."""
+    """Reads a document in canonical form (DER). Raises Refused for any other."""
     return Document(octets, strict=True)
 
 
 def read_pem(text: Union[str, bytes]) -> Document:
-    """The document of the first object of PEM. ValueError, where there is none."""
+    """Reads the first object of PEM. ValueError if there is none."""
     return Document(pem_objects(text)[0].octets)
 
 
@@ -260,7 +260,7 @@ def rewrite(octets: Octets) -> bytes:
 
 
 def write(octets: Octets, records: Iterable[Record]) -> bytes:
-    """The canonical octets of what the records spell, whose contents octets are among these octets."""
+    """The canonical octets of what the records describe; their offsets are into these octets."""
     return _calls.write(octets_of(octets), list(records))
 
 

@@ -26,21 +26,21 @@ class Status(enum.IntEnum):
 
 TEXTS = {
     Status.OK: "done",
-    Status.EMPTY: "there are no octets",
-    Status.BOOLEAN_LENGTH: "a BOOLEAN has other than one contents octet",
+    Status.EMPTY: "the input is empty",
+    Status.BOOLEAN_LENGTH: "a BOOLEAN must have one content byte",
     Status.LENGTH: "a length is too large",
-    Status.UTF8: "a string or time is no UTF-8",
-    Status.PRINTABLE: "a PrintableString has a character that it can't have",
-    Status.DATE: "a time is no moment",
+    Status.UTF8: "a string or time is not UTF-8",
+    Status.PRINTABLE: "a PrintableString has a forbidden character",
+    Status.DATE: "a time is invalid",
     Status.BIT_STRING_LENGTH: "a BIT STRING has more unused bits than bits",
-    Status.INCOMPLETE: "the octets run out",
+    Status.INCOMPLETE: "the input is truncated",
     Status.NOT_CANONICAL: "a block is not in canonical form",
     Status.NO_MEMORY: "out of memory",
-    Status.NO_ROOM: "there is too little room",
-    Status.NO_SUCH_VALUE: "no block of this kind stands there",
+    Status.NO_ROOM: "there is not enough room",
+    Status.NO_SUCH_VALUE: "there is no block of this kind",
     Status.RANGE: "the value does not fit",
-    Status.NOT_SIGNED: "the first block is no signed triple",
-    Status.BAD_RECORD: "a record can't be written",
+    Status.NOT_SIGNED: "the first block is not a signed triple",
+    Status.BAD_RECORD: "a record cannot be written",
 }
 
 

@@ -15,21 +15,21 @@ pub struct Fault {
 #[derive(Clone, Copy, Debug, PartialEq, Eq, Hash)]
 #[non_exhaustive]
 pub enum FaultKind {
-    /// There are no octets.
+    /// The input is empty.
     Empty,
-    /// A BOOLEAN has other than one contents octet.
+    /// A BOOLEAN must have one content byte.
     BooleanLength,
     /// A length is beyond `usize`.
     Length,
-    /// A string or time is no UTF-8.
+    /// A string or time is not UTF-8.
     Utf8,
-    /// A PrintableString has a character that it can't have.
+    /// A PrintableString has a forbidden character.
     Printable,
-    /// A UTCTime or GeneralizedTime is no moment.
+    /// A UTCTime or GeneralizedTime is invalid.
     Date,
     /// A BIT STRING has more unused bits than bits.
     BitStringLength,
-    /// The octets run out.
+    /// The input is truncated.
     Incomplete,
     /// A block is not in canonical form: of [`Document::read_strict`](crate::Document::read_strict) alone.
     NotCanonical,
@@ -38,9 +38,9 @@ pub enum FaultKind {
     NoSuchValue,
     /// The value does not fit.
     Range,
-    /// The first block is no signed triple.
+    /// The first block is not a signed triple.
     NotSigned,
-    /// A record can't be written.
+    /// A record cannot be written.
     BadRecord,
 }
 
@@ -61,7 +61,7 @@ impl Fault {
             13 => FaultKind::Range,
             14 => FaultKind::NotSigned,
             15 => FaultKind::BadRecord,
-            _ => unreachable!("the library has no status {status} here"),
+            _ => unreachable!("unexpected status {status}"),
         };
         Fault { kind, offset }
     }
@@ -70,20 +70,20 @@ impl Fault {
 impl fmt::Display for FaultKind {
     fn fmt(&self, f: &mut fmt::Formatter<'_>) -> fmt::Result {
         f.write_str(match self {
-            FaultKind::Empty => "there are no octets",
-            FaultKind::BooleanLength => "a BOOLEAN has other than one contents octet",
+            FaultKind::Empty => "the input is empty",
+            FaultKind::BooleanLength => "a BOOLEAN must have one content byte",
             FaultKind::Length => "a length is too large",
-            FaultKind::Utf8 => "a string or time is no UTF-8",
-            FaultKind::Printable => "a PrintableString has a character that it can't have",
-            FaultKind::Date => "a time is no moment",
+            FaultKind::Utf8 => "a string or time is not UTF-8",
+            FaultKind::Printable => "a PrintableString has a forbidden character",
+            FaultKind::Date => "a time is invalid",
             FaultKind::BitStringLength => "a BIT STRING has more unused bits than bits",
-            FaultKind::Incomplete => "the octets run out",
+            FaultKind::Incomplete => "the input is truncated",
             FaultKind::NotCanonical => "a block is not in canonical form",
             FaultKind::NoMemory => "out of memory",
-            FaultKind::NoSuchValue => "no block of this kind stands there",
+            FaultKind::NoSuchValue => "there is no block of this kind",
             FaultKind::Range => "the value does not fit",
-            FaultKind::NotSigned => "the first block is no signed triple",
-            FaultKind::BadRecord => "a record can't be written",
+            FaultKind::NotSigned => "the first block is not a signed triple",
+            FaultKind::BadRecord => "a record cannot be written",
         })
     }
 }

@@ -22,7 +22,7 @@ pub use fault::{Fault, FaultKind};
 use std::fmt;
 use std::iter::FusedIterator;
 
-/// Octets that were read, with the record of each of their blocks.
+/// A document, with the record of each of its blocks.
 #[derive(Clone, Debug)]
 pub struct Document<'a> {
     octets: &'a [u8],
@@ -35,7 +35,7 @@ impl<'a> Document<'a> {
         Ok(Document { octets, records: calls::read(octets)? })
     }
 
-    /// Reads a document in canonical form (DER), and no other.
+    /// Reads a document in canonical form (DER), and rejects any other.
     pub fn read_strict(octets: &'a [u8]) -> Result<Document<'a>, Fault> {
         Ok(Document { octets, records: calls::read_strict(octets)? })
     }
@@ -45,7 +45,7 @@ impl<'a> Document<'a> {
         Blocks { document: self, index: 0, end: self.records.len() }
     }
 
-    /// The blocks at all depths, each before those that it holds.
+    /// The blocks at all depths, each before those inside it.
     pub fn all_blocks(&self) -> impl ExactSizeIterator<Item = Block<'_, 'a>> + DoubleEndedIterator {
         (0..self.records.len()).map(|index| Block { document: self, index })
     }
@@ -69,7 +69,7 @@ impl<'d, 'a> IntoIterator for &'d Document<'a> {
     }
 }
 
-/// Blocks one after another, without those inside them.
+/// Blocks one after another at one level.
 #[derive(Clone)]
 pub struct Blocks<'d, 'a> {
     document: &'d Document<'a>,
@@ -140,12 +140,12 @@ impl<'d, 'a> Block<'d, 'a> {
         self.record().offset
     }
 
-    /// How many blocks it stands in.
+    /// The number of blocks around it.
     pub fn depth(&self) -> usize {
         self.record().depth
     }
 
-    /// The blocks that it holds, without those inside them.
+    /// The blocks directly inside it.
     pub fn items(&self) -> Blocks<'d, 'a> {
         Blocks { document: self.document, index: self.index + 1, end: self.record().next }
     }
@@ -161,7 +161,7 @@ impl<'d, 'a> Block<'d, 'a> {
         &self.octets()[self.record().header..]
     }
 
-    /// The number of an INTEGER, where it fits.
+    /// The number of an INTEGER, if it fits.
     pub fn int64(&self) -> Result<i64, Fault> {
         calls::int64(self.document.octets, self.offset())
     }
@@ -171,7 +171,7 @@ impl<'d, 'a> Block<'d, 'a> {
         calls::time(self.document.octets, self.offset())
     }
 
-    /// The text of a string, of whatever kind.
+    /// The text of a string, of any kind.
     pub fn text(&self) -> Result<String, Fault> {
         text_of(calls::text(self.document.octets, self.offset())?, self.offset())
     }
@@ -181,7 +181,7 @@ impl<'d, 'a> Block<'d, 'a> {
         text_of(calls::oid(self.document.octets, self.offset())?, self.offset())
     }
 
-    /// The octets that hold the bits of a BIT STRING, and how many bits there are, the first of them the most
+    /// The octets that hold the bits of a BIT STRING, and the number of bits, the first of them the most
     /// significant of the first octet.
     pub fn bits(&self) -> Result<(&'a [u8], usize), Fault> {
         if self.class() != Class::Universal || self.tag() != 3 {
@@ -200,7 +200,7 @@ impl fmt::Debug for Block<'_, '_> {
     }
 }
 
-/// As in `2026-11-23T07:03:22Z`, with nine digits of a fraction where there is one.
+/// As in `2026-11-23T07:03:22Z`, with nine digits of the fraction, if any.
 impl fmt::Display for Moment {
     fn fmt(&self, f: &mut fmt::Formatter<'_>) -> fmt::Result {
         let Moment { year, month, day, hour, minute, second, nanosecond } = self;
@@ -221,13 +221,13 @@ pub fn rewrite(octets: &[u8]) -> Result<Vec<u8>, Fault> {
     calls::rewrite(octets)
 }
 
-/// The canonical octets of what records spell: one with items holds the next of them, any other has contents octets of
-/// these. `next` and `depth` play no part.
+/// The canonical octets of what records describe: one with items holds the records after it, any other has its contents
+/// octets among these. `next` and `depth` are ignored.
 pub fn write(octets: &[u8], records: &[Record]) -> Result<Vec<u8>, Fault> {
     calls::write(octets, records)
 }
 
-/// The parts of a certificate, request or revocation list that a signature is checked by (RFC 5280, section 4.1).
+/// The parts of a certificate, request or revocation list that verify its signature (RFC 5280, section 4.1).
 #[derive(Clone, Debug, PartialEq, Eq)]
 #[non_exhaustive]
 pub struct Signed<'a> {
@@ -237,11 +237,11 @@ pub struct Signed<'a> {
     pub algorithm: String,
     /// The octets of the AlgorithmIdentifier: the SEQUENCE of that OBJECT IDENTIFIER and the parameters.
     pub algorithm_identifier: &'a [u8],
-    /// The octets of the algorithm's parameters, or none. RSASSA-PSS can't be checked without them.
+    /// The octets of the algorithm's parameters, if any. RSASSA-PSS cannot be verified without them.
     pub parameters: &'a [u8],
     /// The octets that hold the bits of the signature.
     pub signature: &'a [u8],
-    /// How many bits of the last of these are not of the signature: 0 with all usual algorithms.
+    /// The number of unused bits in the last of these: 0 with all usual algorithms.
     pub unused_bits: u8,
 }
 

@@ -26,8 +26,8 @@ fn blocks_are_walked_over_in_order() -> Result<(), Fault> {
 fn faults_say_what_and_where() {
     let fault = Document::read(&[0x30, 0x04, 0x02, 0x01, 0x05, 0x01]).unwrap_err();
     assert_eq!(fault, Fault { kind: FaultKind::Incomplete, offset: 5 });
-    assert_eq!(fault.to_string(), "the octets run out, at 5");
-    assert_eq!(fault.source().unwrap().to_string(), "the octets run out");
+    assert_eq!(fault.to_string(), "the input is truncated, at 5");
+    assert_eq!(fault.source().unwrap().to_string(), "the input is truncated");
     assert_eq!(Document::read(&[]).unwrap_err().kind, FaultKind::Empty);
     assert_eq!(Document::read_strict(&[1, 1, 42]).unwrap_err().kind, FaultKind::NotCanonical);
     let document = Document::read(&DOCUMENT).unwrap();
