@@ -4,7 +4,7 @@ import statistics
 import sys
 
 RESULTS = pathlib.Path(sys.argv[1])
-PEERS = ["Rust crate", "here", "here, Document", "der-parser", "libtasn1", "OpenSSL tree", "OpenSSL types"]
+PEERS = ["Rust crate", "here", "here, Document", "here, Outline", "der-parser", "libtasn1", "OpenSSL tree", "OpenSSL types"]
 OPERATIONS = ["Read", "Strict", "Write"]
 RUNS = sorted(RESULTS.glob("time.*"))
 
@@ -48,14 +48,15 @@ def cell(item, peer, operation):
     if peer == "Rust crate":
         return f"**{number(per_octet)}**"
     if per_octet < 0.02 or RATIO[key] <= 0:
-        return "~0"
+        return ""  # within the noise
     return f"{number(per_octet)} ({number(RATIO[key]) if operation == 'Strict' else number(1 / RATIO[key])})"
 
 
 def operation_table(title, operation):
     peers = [peer for peer in PEERS if any((item, 4, peer, operation) in TIME for item in ITEMS)]
     sizes = {item: [f"{octets:,}", f"{blocks:,}"] for item, (octets, blocks) in SIZES.items()}
-    lines = ([item, *sizes[item], *(cell(item, peer, operation) for peer in peers)] for item in ITEMS)
+    cells = {item: [cell(item, peer, operation) for peer in peers] for item in ITEMS}
+    lines = ([item, *sizes[item], *cells[item]] for item in ITEMS if any(cells[item]))
     table(title, ["item", "octets", "blocks", *peers], lines)
 
 

@@ -37,6 +37,12 @@ pub fn peers() -> Vec<Peer> {
             write: None,
         },
         Peer {
+            name: "here, Outline",
+            read: |it| unsafe { bench_outline(it.octets.as_ptr(), it.octets.len()) >= 0 },
+            read_strictly: Some(|it| unsafe { bench_outline_strictly(it.octets.as_ptr(), it.octets.len()) >= 0 }),
+            write: None,
+        },
+        Peer {
             name: "der-parser",
             read: |it| all_read(it, |octets| der_parser::ber::parse_ber_recursive(octets, DEPTH)),
             read_strictly: Some(|it| all_read(it, |octets| der_parser::der::parse_der_recursive(octets, DEPTH))),
@@ -123,6 +129,8 @@ fn openssl(it: &Document, times: u64) -> bool {
 extern "C" {
     fn bench_read(octets: *const u8, size: usize) -> i64;
     fn bench_read_document(octets: *const u8, size: usize) -> i64;
+    fn bench_outline(octets: *const u8, size: usize) -> i64;
+    fn bench_outline_strictly(octets: *const u8, size: usize) -> i64;
     fn bench_read_strictly(octets: *const u8, size: usize) -> i64;
     fn bench_write(octets: *const u8, size: usize, times: u64) -> i64;
     fn bench_rewrite(octets: *const u8, size: usize, room: *mut u8, room_size: usize) -> i64;
