@@ -11,7 +11,7 @@ use std::alloc::{AllocError, Global};
 const VERSION: &str = "1.0.0";
 
 const ABOUT: &str =
-    "Shows DER documents, which come as octets, in PEM, in hex digits or in base 64.";
+    "Shows DER documents, such as certificates and keys, given as DER, PEM, hex digits or base 64.";
 
 // The command with all of its arguments.
 #[tactic(auto, unfolding(crate::specs::Options::command))]
@@ -28,7 +28,7 @@ fn bare<'a>(alloc: Global) -> Result<Command<'a>, AllocError>
     ensures { IfOk result (λ c. app_of c ≡ bare_command) }
 {
     let files = Arg::new(alloc, "FILE").action(ArgAction::Append).help(
-        "What is read, each in turn; `-` is standard input, which is also read when no file is named",
+        "Files to read, each in turn; `-`, or no file, is standard input",
     );
     Command::new(alloc, "der_dump")
         .version(VERSION)
@@ -44,21 +44,25 @@ fn with_tasks<'a>(alloc: Global, command: Command<'a>) -> Result<Command<'a>, Al
         alloc,
         "at",
         "OFFSET",
-        "Dumps the block that stands at the offset, alone",
+        "Show only the block at the offset, in bytes from the start",
     );
     let extract = valued(
         alloc,
         "extract",
         "OFFSET",
-        "Writes the octets of the block that stands at the offset",
+        "Write the bytes of the block at the offset",
     );
     let contents = valued(
         alloc,
         "contents",
         "OFFSET",
-        "Writes the contents octets of the block that stands at the offset",
+        "Write the contents of the block at the offset",
     );
-    let strict = flag(alloc, "strict", "Refuses what is no canonical document");
+    let strict = flag(
+        alloc,
+        "strict",
+        "Reject documents that are not canonical DER, after showing them",
+    );
     command.arg(at)?.arg(extract)?.arg(contents)?.arg(strict)
 }
 
@@ -66,18 +70,18 @@ fn with_tasks<'a>(alloc: Global, command: Command<'a>) -> Result<Command<'a>, Al
 fn with_styles<'a>(alloc: Global, command: Command<'a>) -> Result<Command<'a>, AllocError>
     ensures { IfOk result (λ c. app_of c ≡ with_rules (app_of command.entry) style_rules) }
 {
-    let full = flag(alloc, "full", "Writes values whole");
-    let flat = flag(alloc, "flat", "Looks into no octets");
+    let full = flag(alloc, "full", "Do not cut values to 32 bytes");
+    let flat = flag(alloc, "flat", "Do not expand nested DER");
     let depth = valued(
         alloc,
         "depth",
         "COUNT",
-        "Shows no block that has more than COUNT blocks around it; the outermost has none",
+        "Hide blocks with more than COUNT blocks around them; 0 shows the outermost only",
     );
     let json = flag(
         alloc,
         "json",
-        "Writes each document as JSON on one line, with all of its blocks whole",
+        "Write each document as one line of JSON, with all blocks whole",
     );
     command.arg(full)?.arg(flat)?.arg(depth)?.arg(json)
 }
