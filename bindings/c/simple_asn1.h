@@ -57,7 +57,7 @@ typedef struct simple_asn1_block {
     size_t offset;      /* of its first octet from the start of the document */
     size_t header;      /* number of identifier and length octets */
     size_t contents;    /* number of contents octets after them */
-    size_t items;       /* number of blocks directly inside it */
+    size_t items;       /* number of blocks directly inside it, also of another class than 0 */
     size_t next;        /* index of the record after it and all that it holds */
     size_t depth;       /* number of blocks around it */
     uint8_t tag_class;  /* 0 universal, 1 application, 2 context-specific, 3 private */
@@ -106,7 +106,8 @@ simple_asn1_outcome simple_asn1_rewrite(const uint8_t *octets, size_t size, uint
 
 /* Writes the canonical octets of what records describe: one with items holds the records after it; any other has the
  * contents octets from offset + header on. Records that were read can be passed as they are; next and depth are
- * ignored. A record with the tag UINT64_MAX is a BAD_RECORD, since that number also stands for each greater one. */
+ * ignored. Several blocks in one of another class than 0 get the shortest headers, where rewrite keeps them as they
+ * came. A record with the tag UINT64_MAX is a BAD_RECORD, since that number also stands for each greater one. */
 simple_asn1_outcome simple_asn1_write(const uint8_t *octets, size_t size, const simple_asn1_block *blocks, size_t count,
                                       uint8_t *out, size_t room);
 

@@ -4,47 +4,54 @@ use Rattle.std.proofs.Props.{props}
 use Rattle.std.proofs.lemmas.List.{get_or_past}
 use Rattle.std.specs.Prelude.{MatchOption}
 use mathlib.Core.Logic.{∥∥₁_elim}
-use Rattle.asn1_blocks.specs.BlockParts.{all_in_order}
 use Rattle.asn1_blocks.specs.Grammar.{IsDocument}
 use Rattle.asn1_blocks.specs.Tree.{Trees}
-use Rattle.asn1_blocks.proofs.OneReading.{all_alone}
-use Rattle.asn1_outline.specs.Entries.{AreEntriesOf, IsOutline, all_depths, no_entry, no_tree, tree_at}
+use Rattle.asn1_outline.specs.Entries.{AreEntries, AreEntriesOf, IsOutline, no_entry}
+use Rattle.asn1_outline.specs.Structure.{IsStructure, Nodes, no_node, no_tree, node_tree, nodes_depths, nodes_in_order, tree_at}
 use Rattle.asn1_outline.specs.Values.{IsEntryOf}
 use Rattle.asn1_outline.specs.declared.entry.Entry.{Entry}
 use Rattle.asn1_outline.proofs.Entries.{entries_length}
-use Rattle.asn1_outline.proofs.Values.{each_of_its_tree}
+use Rattle.asn1_outline.proofs.Structures.{structure_alone}
+use Rattle.asn1_outline.proofs.Values.{entry_of_node}
 
-module _ (octets : List ℕ) (es : List Entry) (bs : Trees ℕ) (k : ℕ) (lent : ∥ IsOutline octets es ∥₁) (d : IsDocument octets bs) where
-  entries_of : (cs : Trees ℕ) → IsDocument octets cs → AreEntriesOf octets cs es → AreEntriesOf octets bs es
-  entries_of cs e are = subst (λ z. AreEntriesOf octets z es) (all_alone 0 octets cs bs e.blocks d.blocks) are
+module _ (octets : List ℕ) (es : List Entry) (ns : Nodes) (k : ℕ) (lent : ∥ IsOutline octets es ∥₁) (d : IsStructure octets ns) where
+  entries_of : (cs : Trees ℕ) → IsDocument octets cs → AreEntriesOf octets cs es → AreEntries octets 0 (nodes_in_order ns) (nodes_depths 0 ns) es
+  entries_of cs e are =
+      let own : IsStructure octets are.nodes = (subst (IsDocument octets) (sym are.trees) e, are.are) in
+      subst (λ z. AreEntries octets 0 (nodes_in_order z) (nodes_depths 0 z) es) (structure_alone octets are.nodes ns own d) are.entries
 
-  as_many : AreEntriesOf octets bs es → length es ≡ length (all_in_order bs)
-  as_many are = entries_length octets 0 (all_in_order bs) (all_depths 0 bs) es are
+  as_many : AreEntries octets 0 (nodes_in_order ns) (nodes_depths 0 ns) es → length es ≡ length (nodes_in_order ns)
+  as_many are = entries_length octets 0 (nodes_in_order ns) (nodes_depths 0 ns) es are
 
   -- a proposition that follows from whose entry stands at the index
-  pub at_entry : (Q : Type 0) → IsProp Q → k < length es → (IsEntryOf octets (tree_at bs k) (get_or es k no_entry) → Q) → Q
+  pub at_entry : (Q : Type 0) → IsProp Q → k < length es → (IsEntryOf octets (tree_at ns k) (get_or es k no_entry) → Q) → Q
   at_entry Q prop h f = ∥∥₁_elim lent prop
       (λ x. let (cs, e, are) = x in
       let own = entries_of cs e are in
-      f (each_of_its_tree octets bs es d own k (omega (arith, h, as_many own))))
+      f (entry_of_node octets ns es d own k (omega (arith, h, as_many own))))
 
-  -- and past the end no tree stands
-  pub past_trees : length es ≤ k → length (all_in_order bs) ≤ k
-  past_trees h =
-      let prop : IsProp (length (all_in_order bs) ≤ k) = hlevel props in
+  pub found_within : k < length es → k < length (nodes_in_order ns)
+  found_within h =
+      let prop : IsProp (k < length (nodes_in_order ns)) = hlevel props in
       ∥∥₁_elim lent prop (λ x. let (cs, e, are) = x in omega (arith, h, as_many (entries_of cs e are)))
 
-  pub no_tree_there : length es ≤ k → tree_at bs k ≡ no_tree
-  no_tree_there h = get_or_past (all_in_order bs) k no_tree (past_trees h)
+  -- and past the end no block stands
+  pub past_nodes : length es ≤ k → length (nodes_in_order ns) ≤ k
+  past_nodes h =
+      let prop : IsProp (length (nodes_in_order ns) ≤ k) = hlevel props in
+      ∥∥₁_elim lent prop (λ x. let (cs, e, are) = x in omega (arith, h, as_many (entries_of cs e are)))
+
+  pub no_tree_there : length es ≤ k → tree_at ns k ≡ no_tree
+  no_tree_there h = ap node_tree (get_or_past (nodes_in_order ns) k no_node (past_nodes h))
 
   -- so of what was looked up
   pub found_entry : (items : List Entry) (entry : Entry) → items ≡ es → (k < length items) × ((r : Entry) → entry ≡ get_or items k r)
-      → (Q : Type 0) → IsProp Q → (IsEntryOf octets (tree_at bs k) entry → Q) → Q
+      → (Q : Type 0) → IsProp Q → (IsEntryOf octets (tree_at ns k) entry → Q) → Q
   found_entry items entry same (h, is) Q prop f =
       at_entry Q prop (subst (λ z. k < length z) same h)
-      (λ e. f (subst (IsEntryOf octets (tree_at bs k)) (sym (is no_entry ∙ ap (λ z. get_or z k no_entry) same)) e))
+      (λ e. f (subst (IsEntryOf octets (tree_at ns k)) (sym (is no_entry ∙ ap (λ z. get_or z k no_entry) same)) e))
 
-  pub none_there : (items : List Entry) → items ≡ es → length items ≤ k → tree_at bs k ≡ no_tree
+  pub none_there : (items : List Entry) → items ≡ es → length items ≤ k → tree_at ns k ≡ no_tree
   none_there items same h = no_tree_there (subst (λ z. length z ≤ k) same h)
 
 -- an equation for each case of an option is a proposition

@@ -1,4 +1,4 @@
-pub mod Orders
+pub mod Structures
 pub mod Entries
 pub mod Begun
 pub mod Standing

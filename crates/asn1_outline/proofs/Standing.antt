@@ -1,39 +1,142 @@
--- Where the trees of a document stand.
-use Rattle.std.proofs.Common.{ℕ, zero, suc, ◌-◌, ◌<◌, inl, inr, length, get_or, refl, sym, subst, arith, length-append}
+-- Where the blocks of a document's structure stand.
+use Rattle.std.proofs.Common.{◌≡◌, ℕ, zero, suc, ◌+◌, ◌-◌, ◌*◌, ◌<◌, ◌≤◌, ◌++◌, Bool, List, [], ◌∷◌, inl, inr, drop, length, get_or, refl, sym, ap, ◌∙◌, subst, arith, append_assoc, append-nil, length-append, drop-drop}
 use Rattle.std.proofs.lemmas.Bool.{cases_lt}
-use Rattle.std.proofs.lemmas.List.{get_or_append_left, get_or-append_right}
-use Rattle.asn1_blocks.specs.BlockParts.{in_order, all_in_order}
-use Rattle.asn1_blocks.specs.Places.{StandsIn, StandsAmong, itself, in_group, in_explicit, in_first, in_later, end_before}
-use Rattle.asn1_blocks.specs.Tree.{Tree, Trees, leaf, group, explicit, unknown, no_trees, more_trees}
-use Rattle.asn1_outline.specs.Entries.{no_tree}
+use Rattle.std.proofs.lemmas.List.{drop_at, get_or_append_left, get_or-append_right}
+use Rattle.asn1_headers.specs.Header.{Encoding, IsIdentifier, IsLength}
+use Rattle.asn1_headers.specs.declared.header.ASN1Class.{ASN1Class}
+use Rattle.asn1_headers.proofs.Prefixes.{identifier_some}
+use Rattle.asn1_blocks.specs.Grammar.{Encodes, EncodesAll, IsDocument}
+use Rattle.asn1_blocks.specs.Tree.{Tree, Trees, explicit, group, leaf, no_trees, unknown}
+use Rattle.asn1_blocks.specs.View.{tree_offset}
+use Rattle.asn1_blocks.specs.Places.{EncodingAt}
+use Rattle.asn1_blocks.proofs.Faults.{block_encoding}
+use Rattle.asn1_blocks.proofs.OneReading.{encodes_block, only}
+use Rattle.asn1_blocks.proofs.Slices.{encodes_offset}
+use Rattle.asn1_outline.specs.Structure.{AreNodes, Holds, IsEncodedIn, IsNode, IsStructure, Node, Nodes, more_nodes, no_node, no_nodes, node, node_at, node_in_order, node_tree, nodes_in_order, nodes_trees}
+
+some_length : (s : List ℕ) (n : ℕ) → IsLength s n → 0 < length s
+some_length [] n h = absurd h
+some_length (b ∷ s) n h = omega arith
+
+-- an encoding has two octets beside its contents octets
+pub two_more : (x : List ℕ) (c : ASN1Class) (k : Bool) (n : ℕ) (v : List ℕ) (h : ℕ) → Encoding x c k n v h → 2 + length v ≤ length x
+two_more x c k n v h e =
+    let first = identifier_some e.identifier c k n e.identifier_octets in
+    let second = some_length e.len (length v) e.length_octets in
+    omega (arith, first, second, ap length e.whole, length-append e.identifier (e.len ++ v), length-append e.len v)
+
+-- the contents octets of an encoding that stands in others
+pub contents_stand :
+    (x y rest : List ℕ) (c : ASN1Class) (k : Bool) (n : ℕ) (v : List ℕ) (o h : ℕ) → drop o x ≡ y ++ rest → Encoding y c k n v h →
+    drop (o + h) x ≡ v ++ rest
+contents_stand x y rest c k n v o h s e =
+    let i = e.identifier ++ e.len in
+    let size : length i ≡ h = omega (arith, e.size, length-append e.identifier e.len) in
+    let whole : y ++ rest ≡ i ++ (v ++ rest) =
+    ap (λ z. z ++ rest) (e.whole ∙ sym (append_assoc e.identifier e.len v)) ∙ append_assoc i v rest in
+    let two : drop h (drop o x) ≡ drop (o + h) x = drop-drop h o x ∙ ap (λ z. drop z x) (omega arith) in
+    sym two ∙ ap (drop h) (s ∙ whole) ∙ drop_at i (v ++ rest) h size
+
+-- the blocks that a tree holds, in octets that are at most its contents octets
+pub record HeldIn (x y : List ℕ) (bs : Trees ℕ) : Type 0 where
+  pub place : ℕ
+  pub contents : List ℕ
+  pub rest : List ℕ
+  pub stands : drop place x ≡ contents ++ rest
+  pub encoded : EncodesAll place contents bs
+  pub shorter : 2 + length contents ≤ length y
+
+none_held : (x y : List ℕ) (c : ASN1Class) (k : Bool) (n : ℕ) (v : List ℕ) (h : ℕ) (bs : Trees ℕ) → Encoding y c k n v h → bs ≡ no_trees → HeldIn x y bs
+none_held x y c k n v h bs e none = record {
+  place = 0;
+  contents = [];
+  rest = x;
+  stands = refl;
+  encoded = subst (λ z. EncodesAll 0 [] z) (sym none) refl;
+  shorter = omega (arith, two_more y c k n v h e);
+}
+
+pub held_in : (x : List ℕ) (o : ℕ) (b : Tree ℕ) (y rest : List ℕ) (bs : Trees ℕ) → drop o x ≡ y ++ rest → Encodes o y b → Holds x b bs → HeldIn x y bs
+held_in x o (leaf p l) y rest bs s e h = none_held x y _ e.constructed _ e.contents e.header bs e.encoding h
+held_in x o (group p g items) y rest bs s e h = record {
+  place = o + e.header;
+  contents = e.contents;
+  rest = rest;
+  stands = contents_stand x y rest _ e.constructed _ e.contents o e.header s e.encoding;
+  encoded = subst (λ z. EncodesAll (o + e.header) e.contents z) (sym h) e.means;
+  shorter = two_more y _ e.constructed _ e.contents e.header e.encoding;
+}
+held_in x o (explicit c p n b) y rest bs s e h = record {
+  place = o + e.header;
+  contents = e.contents;
+  rest = rest;
+  stands = contents_stand x y rest c _ n e.contents o e.header s e.encoding;
+  encoded = subst (λ z. EncodesAll (o + e.header) e.contents z) (sym h) (only (o + e.header) e.contents b e.means);
+  shorter = two_more y c _ n e.contents e.header e.encoding;
+}
+held_in x o (unknown c k p n v) y rest bs s e (inl (i, q, t, f)) = record {
+  place = q;
+  contents = v;
+  rest = t.rest;
+  stands = subst (λ z. drop z x ≡ v ++ t.rest) (sym t.begins) (contents_stand x t.octets t.rest c _ n v p t.header t.stands t.encoding);
+  encoded = f;
+  shorter = two_more y c k n v e.header e.encoding;
+}
+held_in x o (unknown c k p n v) y rest bs s e (inr (none, other)) = none_held x y c k n v e.header bs e.encoding none
+
+-- the first octets of others, and the rest
+pub first_stands : (x : List ℕ) (place : ℕ) (v first after rest : List ℕ) → drop place x ≡ v ++ rest → v ≡ first ++ after
+    → drop place x ≡ first ++ (after ++ rest)
+first_stands x place v first after rest s e = s ∙ ap (λ z. z ++ rest) e ∙ append_assoc first after rest
+
+pub rest_stands : (x : List ℕ) (place : ℕ) (v first after rest : List ℕ) → drop place x ≡ v ++ rest → v ≡ first ++ after
+    → drop (place + length first) x ≡ after ++ rest
+rest_stands x place v first after rest s e =
+    let size = length first in
+    let two : drop size (drop place x) ≡ drop (place + size) x = drop-drop size place x ∙ ap (λ z. drop z x) (omega arith) in
+    sym two ∙ ap (drop size) (first_stands x place v first after rest s e) ∙ drop_at first (after ++ rest) size refl
+
+-- some octets encode a node's tree
+abbrev pub IsStanding : List ℕ → Node → Type 0
+IsStanding x n = (octets : List ℕ) × IsEncodedIn x (node_tree n) octets × IsNode x n
 
 mutual
-  stands_in : (a : Tree ℕ) (e i : ℕ) → i < length (in_order a) → (stop : ℕ) × StandsIn a e (get_or (in_order a) i no_tree) stop
-  stands_in (leaf o l) e zero h = (e, itself)
-  stands_in (leaf o l) e (suc i) h = absurd (omega (arith, h))
-  stands_in (group o g bs) e zero h = (e, itself)
-  stands_in (group o g bs) e (suc i) h =
-      let (stop, s) = stands_among bs e i (omega (arith, h)) in
-      (stop, in_group s)
-  stands_in (explicit c o n b) e zero h = (e, itself)
-  stands_in (explicit c o n b) e (suc i) h =
-      let (stop, s) = stands_in b e i (omega (arith, h)) in
-      (stop, in_explicit s)
-  stands_in (unknown c k o n v) e zero h = (e, itself)
-  stands_in (unknown c k o n v) e (suc i) h = absurd (omega (arith, h))
+  node_stands : (x : List ℕ) (n : Node) (y : List ℕ) → IsEncodedIn x (node_tree n) y → IsNode x n → (k : ℕ) → k < length (node_in_order n)
+      → IsStanding x (get_or (node_in_order n) k no_node)
+  node_stands x (node b ns) y s is zero h = (y, s, is)
+  node_stands x (node b ns) y s is (suc k) h =
+      let i = held_in x (tree_offset b) b y s.rest (nodes_trees ns) s.stands s.encoded is.0 in
+      nodes_stand x ns i.place i.contents i.rest i.stands i.encoded is.1 k (omega (arith, h))
 
-  pub stands_among : (bs : Trees ℕ) (e i : ℕ) → i < length (all_in_order bs)
-      → (stop : ℕ) × StandsAmong bs e (get_or (all_in_order bs) i no_tree) stop
-  stands_among no_trees e i h = absurd (omega (arith, h))
-  stands_among (more_trees b bs) e i h = elim (cases_lt i (length (in_order b))) [
-    | inl lt ↦
-        let (stop, s) = stands_in b (end_before bs e) i lt in
-        (stop, subst (λ z. StandsAmong (more_trees b bs) e z stop) (sym (get_or_append_left (in_order b) (all_in_order bs) no_tree i lt)) (in_first s))
-    | inr ge ↦
-        let j = i - length (in_order b) in
-        let (stop, s) = stands_among bs e j (omega (arith, h, ge, length-append (in_order b) (all_in_order bs))) in (
-          stop,
-          subst (λ z. StandsAmong (more_trees b bs) e z stop)
-              (sym (get_or-append_right (in_order b) (all_in_order bs) (length (in_order b)) i no_tree refl ge)) (in_later s),
-        )
-  ]
+  nodes_stand : (x : List ℕ) (ns : Nodes) (place : ℕ) (v rest : List ℕ) → drop place x ≡ v ++ rest → EncodesAll place v (nodes_trees ns) → AreNodes x ns
+      → (k : ℕ) → k < length (nodes_in_order ns) → IsStanding x (get_or (nodes_in_order ns) k no_node)
+  nodes_stand x no_nodes place v rest s e are k h = absurd (omega (arith, h))
+  nodes_stand x (more_nodes n ns) place v rest s e are k h =
+      let front = node_in_order n in
+      let behind = nodes_in_order ns in
+      let at = encodes_offset place e.first (node_tree n) e.item in
+      let whole = first_stands x place v e.first e.rest rest s e.whole in
+      elim (cases_lt k (length front)) [
+        | inl lt ↦
+            let own : IsEncodedIn x (node_tree n) e.first = record {
+              rest = e.rest ++ rest;
+              stands = subst (λ z. drop z x ≡ e.first ++ (e.rest ++ rest)) (sym at) whole;
+              encoded = subst (λ z. Encodes z e.first (node_tree n)) (sym at) e.item;
+            } in
+            subst (IsStanding x) (sym (get_or_append_left front behind no_node k lt)) (node_stands x n e.first own are.0 k lt)
+        | inr ge ↦
+            let size = length e.first in
+            let after = rest_stands x place v e.first e.rest rest s e.whole in
+            let there = nodes_stand x ns (place + size) e.rest rest after e.items are.1 (k - length front)
+            (omega (arith, h, ge, length-append front behind)) in
+            subst (IsStanding x) (sym (get_or-append_right front behind (length front) k no_node refl ge)) there
+      ]
+
+-- each node of a document's structure
+pub structure_stands : (x : List ℕ) (ns : Nodes) → IsStructure x ns → (k : ℕ) → k < length (nodes_in_order ns) → IsStanding x (node_at ns k)
+structure_stands x ns (d, are) k h = nodes_stand x ns 0 x [] (sym (append-nil x)) d.blocks are k h
+
+-- the octets of a tree are an encoding
+pub encoding_of : (x : List ℕ) (b : Tree ℕ) (octets : List ℕ) → IsEncodedIn x b octets → EncodingAt x (tree_offset b) octets
+encoding_of x b octets s =
+    record { rest = s.rest; stands = s.stands; are = block_encoding octets (encodes_block (tree_offset b) octets b s.encoded) }

@@ -1,29 +1,31 @@
 -- What an entry's contents octets mean.
-use Rattle.std.proofs.Common.{◌≡◌, ℕ, ◌+◌, ◌<◌, ◌≤◌, ◌^◌, ◌++◌, Bool, true, false, List, [], Some, None, lit<, inl, inr, length, refl, sym, ap, subst, ◌∙◌, arith, append_assoc, length-append}
+use Rattle.std.proofs.Common.{◌≡◌, ℕ, ◌+◌, ◌<◌, ◌≤◌, ◌^◌, ◌++◌, Bool, true, false, ◌-◌, List, [], Some, None, lit<, inl, inr, drop, get_or, length, take, refl, sym, ap, subst, ◌∙◌, arith, length-append}
 use Rattle.std.specs.List.{slice_range}
 use Rattle.std.proofs.lemmas.Bool.{cases_lt}
+use Rattle.std.proofs.lemmas.List.{length-drop, take_at}
 use Rattle.asn1_numbers.specs.TwosComplement.{signed_number}
 use Rattle.asn1_headers.specs.Header.{Encoding}
 use Rattle.asn1_headers.specs.declared.header.ASN1Class.{ASN1Class}
 use Rattle.asn1_headers.specs.declared.header.ASN1Class.TheVariants.{Universal}
-use Rattle.asn1_headers.proofs.Prefixes.{SameEncoding, encoding_alone}
+use Rattle.asn1_headers.proofs.Prefixes.{SameEncoding, encoding_alone, encoding_some}
 use Rattle.asn1_leaves.specs.StringKind.{StringKind, utf8, printable, teletex, ia5, universal, bmp}
-use Rattle.asn1_blocks.specs.BlockParts.{all_in_order, leaf_integer, tree_bits, tree_boolean, tree_integer, tree_moment, tree_oid, tree_text}
+use Rattle.asn1_blocks.specs.BlockParts.{leaf_integer, tree_bits, tree_boolean, tree_integer, tree_moment, tree_oid, tree_text}
 use Rattle.asn1_blocks.specs.Contents.{LeafContents, LeafFault, group_tag, is_known_tag, is_leaf_tag, leaf_tag, of_text, string_tag}
 use Rattle.asn1_blocks.specs.Inner.LeafBlocks.{IsLeafOf}
 use Rattle.asn1_blocks.proofs.Leaves.{leaf_alone, leaf_no_fault, leaf_tag_known, leaf_tag_no_group}
 use Rattle.asn1_headers.specs.Fault.{DecodeFault}
 use Rattle.asn1_leaves.specs.Contents.Text.{TextContents, TextFault, text_form}
 use Rattle.asn1_blocks.specs.declared.block.GroupKind.TheVariants.{Sequence, Set}
-use Rattle.asn1_blocks.specs.Grammar.{Encodes}
+use Rattle.asn1_blocks.specs.Grammar.{Encodes, IsDocument}
 use Rattle.asn1_blocks.specs.Places.{EncodingAt}
 use Rattle.asn1_blocks.specs.Tree.{Leaf, Tree, bit_string, boolean, explicit, generalized_time, group, integer, leaf, null, object_identifier, octet_string, text, unknown, utc_time}
 use Rattle.asn1_blocks.specs.View.{tree_offset}
-use Rattle.asn1_blocks.proofs.Slices.{encoding_at_alone, found_octets, octets_encoding, slice_here}
-use Rattle.asn1_outline.specs.Entries.{HasTag, all_depths}
+use Rattle.asn1_blocks.proofs.Slices.{encoding_at_alone}
+use Rattle.asn1_outline.specs.Entries.{AreEntries, HasTag, no_entry}
+use Rattle.asn1_outline.specs.Structure.{IsStructure, Nodes, nodes_depths, nodes_in_order, tree_at}
 use Rattle.asn1_outline.specs.Values.{EachIsOfItsTree, IsEntryOf, IsNoLeafWith}
-use Rattle.asn1_outline.proofs.Entries.{entry_at}
-use Rattle.asn1_outline.proofs.Standing.{stands_among}
+use Rattle.asn1_outline.proofs.Entries.{entries_length, entry_at}
+use Rattle.asn1_outline.proofs.Standing.{contents_stand, encoding_of, structure_stands}
 use Rattle.asn1_outline.specs.declared.entry.Entry.{Entry}
 
 -- the tree's octets, and the contents octets where the entry has them
@@ -37,29 +39,36 @@ pub record Contents (x : List ℕ) (b : Tree ℕ) (r : Entry) : Type 0 where
   pub within : r.offset + r.header + r.contents ≤ length x
   pub are : slice_range x (r.offset + r.header) (r.offset + r.header + r.contents) ≡ contents
 
+-- the slice where octets stand
+slice_at : (x v rest : List ℕ) (s e : ℕ) → drop s x ≡ v ++ rest → length v ≡ e - s → slice_range x s e ≡ v
+slice_at x v rest s e st l = ap (take (e - s)) st ∙ take_at v rest (e - s) l
+
 pub contents_of : (x : List ℕ) (b : Tree ℕ) (r : Entry) → IsEntryOf x b r → Contents x b r
 contents_of x b r e =
     let (y, at, h) = e.header in
-    let f = found_octets x e.all b e.octets e.read e.has in
-    let same : y ≡ e.octets = encoding_at_alone x (tree_offset b) y e.octets (subst (λ n. EncodingAt x n y) e.stands at) (octets_encoding x e.all b e.octets e.read e.has) in
-    let i = h.encoding.identifier in
-    let l = h.encoding.len in
-    let v = h.contents in
-    let whole : x ≡ (f.before ++ (i ++ l)) ++ (v ++ f.behind) =
-    f.whole ∙ ap (λ z. f.before ++ (z ++ f.behind)) (sym same ∙ h.encoding.whole ∙ sym (append_assoc i l v))
-    ∙ ap (λ z. f.before ++ z) (append_assoc (i ++ l) v f.behind) ∙ sym (append_assoc f.before (i ++ l) (v ++ f.behind)) in
-    let front : r.offset + r.header ≡ length (f.before ++ (i ++ l)) =
-    omega (arith, e.stands, f.at, h.encoding.size, length-append f.before (i ++ l), length-append i l) in
-    let end : r.offset + r.header + r.contents ≡ length (f.before ++ (i ++ l)) + length v = omega (arith, front, h.contents_field) in
+    let own = e.encoded in
+    let there = encoding_of x b e.octets own in
+    let same : y ≡ e.octets = encoding_at_alone x (tree_offset b) y e.octets (subst (λ n. EncodingAt x n y) e.stands at) there in
+    let stands : drop r.offset x ≡ y ++ at.rest = at.stands in
+    let size : length y ≡ r.header + r.contents = omega (
+      arith,
+      h.encoding.size,
+      h.contents_field,
+      ap length h.encoding.whole,
+      length-append h.encoding.identifier (h.encoding.len ++ h.contents),
+      length-append h.encoding.len h.contents,
+    ) in
+    let after = contents_stand x y at.rest r.class r.constructed h.tag h.contents r.offset r.header stands h.encoding in
+    let some = encoding_some y r.class r.constructed h.tag h.contents r.header h.encoding in
     record {
       octets = y;
       tag = h.tag;
-      contents = v;
+      contents = h.contents;
       encoding = h.encoding;
-      encoded = subst (λ z. Encodes (tree_offset b) z b) (sym same) f.encoded;
+      encoded = subst (λ z. Encodes (tree_offset b) z b) (sym same) own.encoded;
       number = h.tag_field;
-      within = omega (arith, end, ap length whole, length-append (f.before ++ (i ++ l)) (v ++ f.behind), length-append v f.behind);
-      are = slice_here x (f.before ++ (i ++ l)) v f.behind (r.offset + r.header) (r.offset + r.header + r.contents) whole front end;
+      within = omega (arith, size, some, ap length stands, length-append y at.rest, length-drop r.offset x);
+      are = slice_at x h.contents at.rest (r.offset + r.header) (r.offset + r.header + r.contents) after (omega (arith, h.contents_field));
     }
 
 -- octets have one header
@@ -248,12 +257,20 @@ is_no_text x b r e other =
     no_text_leaf (tree_offset b) c.octets b r.class r.constructed c.tag c.contents r.header c.encoded c.encoding
     (λ kind (d, t). other kind (d, c.number.0 (omega (arith, t, (string_leaf kind).0)) ∙ t))
 
--- each entry of a document is of its tree
+-- each entry of a document is of its node's tree
+pub entry_of_node : (x : List ℕ) (ns : Nodes) (rs : List Entry) → IsStructure x ns → AreEntries x 0 (nodes_in_order ns) (nodes_depths 0 ns) rs
+    → (k : ℕ) → k < length (nodes_in_order ns) → IsEntryOf x (tree_at ns k) (get_or rs k no_entry)
+entry_of_node x ns rs d are k h =
+    let w = entry_at x 0 (nodes_in_order ns) (nodes_depths 0 ns) rs are k h in
+    let (y, s, is) = structure_stands x ns d k h in
+    record { octets = y; encoded = s; stands = w.offset; header = w.header }
+
 pub each_of_its_tree : EachIsOfItsTree
-each_of_its_tree x bs rs d are k h =
-    let w = entry_at x 0 (all_in_order bs) (all_depths 0 bs) rs are k h in
-    let (stop, s) = stands_among bs (length x) k h in
-    record { all = bs; octets = _; read = d; has = record { end = stop; stands = s; are = refl }; stands = w.offset; header = w.header }
+each_of_its_tree x bs rs d all k h =
+    let ns = all.nodes in
+    let own : IsStructure x ns = (subst (IsDocument x) (sym all.trees) d, all.are) in
+    let l = entries_length x 0 (nodes_in_order ns) (nodes_depths 0 ns) rs all.entries in
+    entry_of_node x ns rs own all.entries k (omega (arith, h, l))
 
 -- a tree of class Universal with a leaf's tag alone is a leaf with it
 pub no_leaf_with : (x : List ℕ) (b : Tree ℕ) (r : Entry) (n : ℕ) → IsEntryOf x b r → n < 64 → ((r.class ≡ Universal) × (r.tag ≡ n) → ⊥)

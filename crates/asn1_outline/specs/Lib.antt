@@ -1,3 +1,4 @@
+pub mod Structure
 pub mod Entries
 pub mod Outlines
 pub mod Values

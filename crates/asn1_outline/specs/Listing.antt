@@ -18,6 +18,7 @@ use Rattle.std.specs.Prelude.{
   Err,
   get_or,
   length,
+  map,
   reverse,
   set,
 }
@@ -25,13 +26,12 @@ use Rattle.asn1_headers.specs.declared.error.ASN1DecodeErr.{ASN1DecodeErr}
 use Rattle.asn1_blocks.specs.declared.read.FrameKind.{FrameKind}
 use Rattle.asn1_blocks.specs.declared.read.FrameKind.TheVariants.{Whole, Group, Attempt}
 use Rattle.asn1_blocks.specs.Inner.OpenFrames.{AreOpen, Frame, IsStopping}
-use Rattle.asn1_blocks.specs.BlockParts.{all_in_order}
 use Rattle.asn1_headers.specs.Fault.{DecodeFault, OutOfMemoryOr}
 use Rattle.asn1_blocks.specs.HeadersBegun.{HeadersBegun}
 use Rattle.asn1_blocks.specs.Inner.ReaderSteps.{IsFaultyDocument}
 use Rattle.asn1_blocks.specs.Grammar.{EncodesAll}
-use Rattle.asn1_blocks.specs.Tree.{Tree, trees_of}
-use Rattle.asn1_outline.specs.Entries.{AreEntries, HasHeaderAt, all_depths, no_entry}
+use Rattle.asn1_outline.specs.Entries.{AreEntries, HasHeaderAt, no_entry}
+use Rattle.asn1_outline.specs.Structure.{AreNodes, Node, node_tree, nodes_depths, nodes_in_order, nodes_of, nodes_trees}
 use Rattle.asn1_outline.specs.declared.listing.Listing.{Listing}
 use Rattle.asn1_outline.specs.declared.listing.OpenFrame.{OpenFrame}
 use Rattle.asn1_outline.specs.declared.listing.Turn.{Turn}
@@ -52,45 +52,48 @@ offset_of Whole = 0
 offset_of (Group g o) = o
 offset_of (Attempt a) = a.offset
 
--- the entries are those around a frame, its own, and those of its trees
-pub record IsHeld (document : List ℕ) (f : OpenFrame) (deep : ℕ) (ts : List (Tree ℕ)) (rs : List Entry)
+-- the entries are those around a frame, its own, and those of its nodes
+pub record IsHeld (document : List ℕ) (f : OpenFrame) (deep : ℕ) (ns : List Node) (rs : List Entry)
     (Around : List Entry → Type 0) : Type 0 where
   pub front : List Entry
   pub head : Entry
   pub own : List Entry
   pub whole : rs ≡ front ++ head ∷ own
   pub entry : f.entry ≡ length front
-  pub count : f.items ≡ length ts
+  pub count : f.items ≡ length ns
   pub begun : IsBegun document (offset_of f.extent.kind) f.entry deep head
-  pub entries : AreEntries document (suc f.entry) (all_in_order (trees_of ts)) (all_depths (suc deep) (trees_of ts)) own
+  pub are : AreNodes document (nodes_of ns)
+  pub entries :
+      AreEntries document (suc f.entry) (nodes_in_order (nodes_of ns)) (nodes_depths (suc deep) (nodes_of ns)) own
   pub around : Around front
 
--- the entries are those of the trees that the frames have, the innermost first
+-- the entries are those of the nodes that the frames have, the innermost first
 abbrev pub AllHold :
-    List ℕ → List Entry → OpenFrame → List OpenFrame → List (Tree ℕ) → List (List (Tree ℕ)) → Type 0
-AllHold document rs f [] ts [] =
-    (f.items ≡ length ts) × AreEntries document 0 (all_in_order (trees_of ts)) (all_depths 0 (trees_of ts)) rs
-AllHold document rs f [] ts (us ∷ rest) = ⊥
-AllHold document rs f (g ∷ gs) ts [] = ⊥
-AllHold document rs f (g ∷ gs) ts (us ∷ rest) =
-    IsHeld document f (length gs) ts rs (λ front. AllHold document front g gs us rest)
+    List ℕ → List Entry → OpenFrame → List OpenFrame → List Node → List (List Node) → Type 0
+AllHold document rs f [] ns [] =
+    (f.items ≡ length ns) × AreNodes document (nodes_of ns)
+    × AreEntries document 0 (nodes_in_order (nodes_of ns)) (nodes_depths 0 (nodes_of ns)) rs
+AllHold document rs f [] ns (ms ∷ rest) = ⊥
+AllHold document rs f (g ∷ gs) ns [] = ⊥
+AllHold document rs f (g ∷ gs) ns (ms ∷ rest) =
+    IsHeld document f (length gs) ns rs (λ front. AllHold document front g gs ms rest)
 
-abbrev pub frame : OpenFrame → List (Tree ℕ) → Frame
-frame f ts = record { extent = f.extent; trees = ts }
+abbrev pub frame : OpenFrame → List Node → Frame
+frame f ns = record { extent = f.extent; trees = map node_tree ns }
 
-abbrev pub frames : List OpenFrame → List (List (Tree ℕ)) → List Frame
+abbrev pub frames : List OpenFrame → List (List Node) → List Frame
 frames [] rest = []
 frames (f ∷ fs) [] = []
-frames (f ∷ fs) (ts ∷ rest) = frame f ts ∷ frames fs rest
+frames (f ∷ fs) (ns ∷ rest) = frame f ns ∷ frames fs rest
 
 -- the frames are open, all is read up to the place, and the entries are of all that was read; n headers were
 -- begun
 pub record Reads (document : List ℕ) (rs : List Entry) (f : OpenFrame) (gs : List OpenFrame)
     (place n : ℕ) : Type 0 where
-  pub trees : List (Tree ℕ)
-  pub outer : List (List (Tree ℕ))
-  pub holds : AllHold document rs f gs trees outer
-  pub opened : AreOpen document (frame f trees) (frames gs outer) place n
+  pub nodes : List Node
+  pub outer : List (List Node)
+  pub holds : AllHold document rs f gs nodes outer
+  pub opened : AreOpen document (frame f nodes) (frames gs outer) place n
 
 abbrev pub IsListing : List ℕ → Listing → ℕ → Type 0
 IsListing document l n = Reads document l.entries.items l.inner (reverse l.outer.items) l.index n
@@ -98,13 +101,13 @@ IsListing document l n = Reads document l.entries.items l.inner (reverse l.outer
 -- a fault is in the frame, of a block at the offset; some entries at the end are left over
 pub record IsRefusedIn (document : List ℕ) (rs : List Entry) (f : OpenFrame) (gs : List OpenFrame) (e : DecodeFault)
     (offset n : ℕ) : Type 0 where
-  pub trees : List (Tree ℕ)
-  pub outer : List (List (Tree ℕ))
+  pub nodes : List Node
+  pub outer : List (List Node)
   pub front : List Entry
   pub more : List Entry
   pub whole : rs ≡ front ++ more
-  pub holds : AllHold document front f gs trees outer
-  pub stopping : IsStopping document (frame f trees) (frames gs outer) e offset n
+  pub holds : AllHold document front f gs nodes outer
+  pub stopping : IsStopping document (frame f nodes) (frames gs outer) e offset n
 
 -- how much is left to do: each turn goes on in the octets, or closes a frame
 abbrev pub left : ℕ → ℕ → List OpenFrame → ℕ
@@ -127,9 +130,11 @@ HasStepped document (Err e) l n most = OutOfMemoryOr (λ fault. IsFaulty documen
 
 -- the entries are those of the document
 pub record HasEnded (document : List ℕ) (l : Listing) (n : ℕ) : Type 0 where
-  pub trees : List (Tree ℕ)
-  pub encoded : EncodesAll 0 document (trees_of trees)
-  pub entries : AreEntries document 0 (all_in_order (trees_of trees)) (all_depths 0 (trees_of trees)) l.entries.items
+  pub nodes : List Node
+  pub encoded : EncodesAll 0 document (nodes_trees (nodes_of nodes))
+  pub are : AreNodes document (nodes_of nodes)
+  pub entries :
+      AreEntries document 0 (nodes_in_order (nodes_of nodes)) (nodes_depths 0 (nodes_of nodes)) l.entries.items
   pub begun : HeadersBegun document n
 
 -- where a turn leads

@@ -16,7 +16,8 @@ pub struct Entry {
     pub header: usize,
     /// How many contents octets there are.
     pub contents: usize,
-    /// How many blocks it holds, without those inside them.
+    /// How many blocks it holds, without those inside them. A constructed encoding of another class holds those that its
+    /// contents octets are, if these are blocks: with one, its block is `Explicit`, otherwise `Unknown`.
     pub items: usize,
     /// The index of the first entry after it and all that it holds.
     pub next: usize,

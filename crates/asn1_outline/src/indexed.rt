@@ -1,13 +1,10 @@
 // What an outline says of the block at an index, by its entry.
-ghost use Rattle.std.specs.Prelude.{◌≡◌, ◌<◌, ◌≤◌, ℕ, List, length, string_bytes, None, Some, IfOk, IsNone, IsSomeAnd, MatchOption};
+ghost use Rattle.std.specs.Prelude.{◌≡◌, ◌<◌, ◌≤◌, length, string_bytes, None, Some, IfOk, IsNone, IsSomeAnd, MatchOption};
 ghost use Rattle.std.specs.Str.{chars};
 ghost use Rattle.asn1_leaves.specs.Contents.Moment.{moment_of};
 ghost use Rattle.asn1_blocks.specs.BlockParts.{tree_bits, tree_boolean, tree_integer, tree_moment, tree_oid, tree_text};
-ghost use Rattle.asn1_blocks.specs.Grammar.{IsDocument};
-ghost use Rattle.asn1_blocks.specs.Places.{HasOctets};
-ghost use Rattle.asn1_blocks.specs.Tree.{Trees};
-ghost use Rattle.asn1_outline.specs.Entries.{tree_at};
 ghost use Rattle.asn1_outline.specs.Outlines.{entries_in, octets_in};
+ghost use Rattle.asn1_outline.specs.Structure.{IsEncodedIn, IsStructure, Nodes, tree_at};
 
 use crate::outline::Outline;
 use asn1_blocks::encoding::encoding_at;
@@ -19,10 +16,9 @@ use std::alloc::{AllocError, Global};
 impl<'a> Outline<'a> {
     /// The octets of the block at the index; `None` past the end.
     pub fn encoding(&self, index: usize) -> Option<&'a [u8]>
-        ensures found { (bs : Trees ℕ) (octets : List ℕ) → IsDocument (octets_in self.now) bs
+        ensures found { (ns : Nodes) → IsStructure (octets_in self.now) ns
             → index < length (entries_in self.now)
-            → HasOctets (octets_in self.now) bs (tree_at bs index) octets
-            → IsSomeAnd result (λ found. found.now ≡ octets) }
+            → IsSomeAnd result (λ found. IsEncodedIn (octets_in self.now) (tree_at ns index) found.now) }
         ensures none { length (entries_in self.now) ≤ index → IsNone result }
     {
         let Some(entry) = self.entries.get(index) else {
@@ -33,10 +29,10 @@ impl<'a> Outline<'a> {
 
     /// The number of the INTEGER at the index; `None` of any other block, and past the end.
     pub fn integer(&self, alloc: Global, index: usize) -> Result<Option<BigInt>, AllocError>
-        ensures { (bs : Trees ℕ) → IsDocument (octets_in self.now) bs → IfOk result
+        ensures { (ns : Nodes) → IsStructure (octets_in self.now) ns → IfOk result
             (λ found. MatchOption found
-            (tree_integer (tree_at bs index) ≡ None)
-            (λ n. tree_integer (tree_at bs index) ≡ Some n)) }
+            (tree_integer (tree_at ns index) ≡ None)
+            (λ n. tree_integer (tree_at ns index) ≡ Some n)) }
     {
         let Some(entry) = self.entries.get(index) else {
             return Ok(None);
@@ -50,10 +46,10 @@ impl<'a> Outline<'a> {
     /// The text of the string of characters at the index, of any of the six kinds; `None` of any other block, and past
     /// the end.
     pub fn text(&self, alloc: Global, index: usize) -> Result<Option<String>, AllocError>
-        ensures { (bs : Trees ℕ) → IsDocument (octets_in self.now) bs → IfOk result
+        ensures { (ns : Nodes) → IsStructure (octets_in self.now) ns → IfOk result
             (λ found. MatchOption found
-            (tree_text (tree_at bs index) ≡ None)
-            (λ text. tree_text (tree_at bs index) ≡ Some (chars (string_bytes text)))) }
+            (tree_text (tree_at ns index) ≡ None)
+            (λ text. tree_text (tree_at ns index) ≡ Some (chars (string_bytes text)))) }
     {
         let Some(entry) = self.entries.get(index) else {
             return Ok(None);
@@ -66,10 +62,10 @@ impl<'a> Outline<'a> {
 
     /// The components of the OBJECT IDENTIFIER at the index; `None` of any other block, and past the end.
     pub fn oid(&self, alloc: Global, index: usize) -> Result<Option<OID>, AllocError>
-        ensures { (bs : Trees ℕ) → IsDocument (octets_in self.now) bs → IfOk result
+        ensures { (ns : Nodes) → IsStructure (octets_in self.now) ns → IfOk result
             (λ found. MatchOption found
-            (tree_oid (tree_at bs index) ≡ None)
-            (λ oid. tree_oid (tree_at bs index) ≡ Some oid)) }
+            (tree_oid (tree_at ns index) ≡ None)
+            (λ oid. tree_oid (tree_at ns index) ≡ Some oid)) }
     {
         let Some(entry) = self.entries.get(index) else {
             return Ok(None);
@@ -82,10 +78,10 @@ impl<'a> Outline<'a> {
 
     /// The moment of the UTCTime or GeneralizedTime at the index; `None` of any other block, and past the end.
     pub fn moment(&self, alloc: Global, index: usize) -> Result<Option<DateTime>, AllocError>
-        ensures { (bs : Trees ℕ) → IsDocument (octets_in self.now) bs → IfOk result
+        ensures { (ns : Nodes) → IsStructure (octets_in self.now) ns → IfOk result
             (λ found. MatchOption found
-            (tree_moment (tree_at bs index) ≡ None)
-            (λ d. tree_moment (tree_at bs index) ≡ Some (moment_of d))) }
+            (tree_moment (tree_at ns index) ≡ None)
+            (λ d. tree_moment (tree_at ns index) ≡ Some (moment_of d))) }
     {
         let Some(entry) = self.entries.get(index) else {
             return Ok(None);
@@ -99,10 +95,10 @@ impl<'a> Outline<'a> {
     /// The number of bits of the BIT STRING at the index, and the octets that hold them; `None` of any other block, and
     /// past the end.
     pub fn bits(&self, alloc: Global, index: usize) -> Result<Option<(usize, Vec<u8>)>, AllocError>
-        ensures { (bs : Trees ℕ) → IsDocument (octets_in self.now) bs → IfOk result
+        ensures { (ns : Nodes) → IsStructure (octets_in self.now) ns → IfOk result
             (λ found. MatchOption found
-            (tree_bits (tree_at bs index) ≡ None)
-            (λ bits. tree_bits (tree_at bs index) ≡ Some (bits.0, bits.1.items))) }
+            (tree_bits (tree_at ns index) ≡ None)
+            (λ bits. tree_bits (tree_at ns index) ≡ Some (bits.0, bits.1.items))) }
     {
         let Some(entry) = self.entries.get(index) else {
             return Ok(None);
@@ -115,9 +111,9 @@ impl<'a> Outline<'a> {
 
     /// The value of the BOOLEAN at the index; `None` of any other block, and past the end.
     pub fn boolean(&self, index: usize) -> Option<bool>
-        ensures { (bs : Trees ℕ) → IsDocument (octets_in self.now) bs → MatchOption result
-            (tree_boolean (tree_at bs index) ≡ None)
-            (λ yes. tree_boolean (tree_at bs index) ≡ Some yes) }
+        ensures { (ns : Nodes) → IsStructure (octets_in self.now) ns → MatchOption result
+            (tree_boolean (tree_at ns index) ≡ None)
+            (λ yes. tree_boolean (tree_at ns index) ≡ Some yes) }
     {
         let Some(entry) = self.entries.get(index) else {
             return None;

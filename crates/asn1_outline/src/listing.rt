@@ -282,16 +282,10 @@ fn close(octets: &[u8], listing: &mut Listing, parent: OpenFrame) -> Result<(), 
         (left (length octets.now) listing.old.inner.extent.end (parent ∷ listing.old.outer.items)) }
 {
     let OpenFrame {
-        extent: Extent { kind, end, .. },
+        extent: Extent { end, .. },
         entry,
         items,
     } = mem::replace(&mut listing.inner, parent);
-    if !is_attempt(kind) {
-        return Ok(seal(listing, entry, items, end)?);
-    }
-    if items != 1 {
-        return Ok(keep(listing, entry, end)?);
-    }
     Ok(seal(listing, entry, items, end)?)
 }
 

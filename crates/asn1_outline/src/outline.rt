@@ -7,6 +7,12 @@ use crate::entry::Entry;
 /// the document's octets. No block is made, so contents octets are checked and not copied, and dropping an `Outline`
 /// takes no call for a level of nesting.
 ///
+/// It shows the blocks in each constructed encoding of another class (X.690 8.14), however many, where [`ASN1Block`] has
+/// one as `Explicit` and keeps several as `Unknown`: the attributes of a certification request, for example. Where
+/// contents octets of another class have a fault, they stay as they came, without items.
+///
+/// [`ASN1Block`]: asn1_blocks::block::ASN1Block
+///
 /// ```rust
 /// use simple_asn1::Outline;
 /// use std::alloc::Global;

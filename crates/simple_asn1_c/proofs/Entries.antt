@@ -1,24 +1,23 @@
 -- Records of the entries of a document.
 use Rattle.std.proofs.Common.{◌≡◌, ℕ, zero, suc, ◌<◌, ◌≤◌, ◌++◌, List, [], ◌∷◌, drop, get_or, length, map, set, take, refl, sym, ap, subst, arith}
 use Rattle.std.proofs.lemmas.List.{get_or-map}
-use Rattle.simple_asn1.specs.BlockParts.{all_in_order}
-use Rattle.simple_asn1.specs.Grammar.{IsDocument}
 use Rattle.simple_asn1.specs.Places.{EncodingAt}
-use Rattle.simple_asn1.specs.Tree.{Tree, Trees}
+use Rattle.simple_asn1.specs.Structure.{IsEncodedIn, IsStructure, Nodes, nodes_depths, nodes_in_order, tree_at}
+use Rattle.simple_asn1.specs.Tree.{Tree}
 use Rattle.simple_asn1.specs.View.{tree_offset}
-use Rattle.asn1_blocks.proofs.Slices.{encoding_at_alone, octets_encoding}
+use Rattle.asn1_blocks.proofs.Slices.{encoding_at_alone}
 use Rattle.asn1_outline.proofs.Entries.{entries_length, entry_at}
-use Rattle.asn1_outline.specs.Entries.{AreEntriesOf, HasHeaderAt, all_depths, no_entry, no_tree}
+use Rattle.asn1_outline.proofs.Standing.{encoding_of, structure_stands}
+use Rattle.asn1_outline.specs.Entries.{AreEntries, HasHeaderAt, no_entry}
 use Rattle.asn1_outline.specs.declared.entry.Entry.{Entry}
-use Rattle.simple_asn1_c.specs.Records.{AreRecords, HasHeader, IsRecordAt, Stands, block_of, header_of, no_record}
+use Rattle.simple_asn1_c.specs.Records.{AreRecords, HasHeader, IsRecordAt, block_of, header_of, no_record}
 use Rattle.simple_asn1_c.specs.declared.record.Block.{Block}
-use Rattle.simple_asn1_c.proofs.Standing.{stands_at}
 
 -- the octets of a tree have the header that stands at its entry
-header_stands : (x : List ℕ) (b : Tree ℕ) (e : Entry) → HasHeaderAt x e → e.offset ≡ tree_offset b → (s : Stands x b)
-    → HasHeader s.1 (header_of (block_of e))
-header_stands x b e (y, at, h) o (bs, z, d, has) =
-    let there = octets_encoding x bs b z d has in
+header_stands : (x : List ℕ) (b : Tree ℕ) (e : Entry) (octets : List ℕ) → HasHeaderAt x e → e.offset ≡ tree_offset b → IsEncodedIn x b octets
+    → HasHeader octets (header_of (block_of e))
+header_stands x b e octets (y, at, h) o s =
+    let there = encoding_of x b octets s in
     let here = subst (λ n. EncodingAt x n y) o at in
     let own : HasHeader y (header_of (block_of e)) = record {
       class = e.class;
@@ -31,30 +30,26 @@ header_stands x b e (y, at, h) o (bs, z, d, has) =
       tag_field = h.tag_field;
       contents_field = h.contents_field;
     } in
-    subst (λ w. HasHeader w (header_of (block_of e))) (encoding_at_alone x (tree_offset b) y z here there) own
+    subst (λ w. HasHeader w (header_of (block_of e))) (encoding_at_alone x (tree_offset b) y octets here there) own
 
 -- the records of a document
-pub entries_records : (x : List ℕ) (bs : Trees ℕ) (es : List Entry) → IsDocument x bs → AreEntriesOf x bs es → AreRecords x bs (map block_of es)
-entries_records x bs es d are k h =
-    let w = entry_at x 0 (all_in_order bs) (all_depths 0 bs) es are k h in
-    let b = get_or (all_in_order bs) k no_tree in
+pub entries_records : (x : List ℕ) (ns : Nodes) (es : List Entry) → IsStructure x ns → AreEntries x 0 (nodes_in_order ns) (nodes_depths 0 ns) es
+    → AreRecords x ns (map block_of es)
+entries_records x ns es d are k h =
+    let w = entry_at x 0 (nodes_in_order ns) (nodes_depths 0 ns) es are k h in
     let e = get_or es k no_entry in
-    let s = stands_at x bs k d h in
-    let l = entries_length x 0 (all_in_order bs) (all_depths 0 bs) es are in
-    let own : IsRecordAt x bs k (block_of e) = record {
-      fields = record {
-        bs = s.0;
-        octets = s.1;
-        document = s.2;
-        stands = s.3;
-        header = header_stands x b e w.header w.offset s;
-        offset = w.offset;
-        items = w.items;
-      };
+    let (octets, s, is) = structure_stands x ns d k h in
+    let l = entries_length x 0 (nodes_in_order ns) (nodes_depths 0 ns) es are in
+    let own : IsRecordAt x ns k (block_of e) = record {
+      octets = octets;
+      encoded = s;
+      header = header_stands x (tree_at ns k) e octets w.header w.offset s;
+      offset = w.offset;
+      items = w.items;
       next = omega (arith, w.next);
       depth = w.depth;
     } in
-    subst (λ r. IsRecordAt x bs k r) (sym (get_or-map block_of es k no_entry no_record (omega (arith, h, l)))) own
+    subst (λ r. IsRecordAt x ns k r) (sym (get_or-map block_of es k no_entry no_record (omega (arith, h, l)))) own
 
 -- one record more is put
 pub put_next : (es : List Entry) (room : List Block) (k : ℕ) → k < length es → length es ≤ length room

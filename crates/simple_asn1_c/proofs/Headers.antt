@@ -33,7 +33,7 @@ use Rattle.simple_asn1.specs.Places.{IsEncoding}
 use Rattle.simple_asn1.specs.View.{views}
 use Rattle.asn1_blocks.proofs.ReadSteps.{slice_length}
 use Rattle.asn1_leaves.proofs.SliceSplit.{slice_split}
-use Rattle.asn1_outline.specs.Entries.{count_of}
+use Rattle.simple_asn1_c.specs.Records.{count_of}
 
 -- an encoding begins with identifier octets
 pub some_identifier : (x : List ℕ) → IsEncoding x → BeginsWithNo IsSomeIdentifier x → ⊥

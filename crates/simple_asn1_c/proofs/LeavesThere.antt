@@ -14,7 +14,7 @@ use Rattle.simple_asn1.specs.Header.{Encoding}
 use Rattle.simple_asn1.specs.Tree.{Leaf, leaf}
 use Rattle.simple_asn1_c.specs.Status.{no_memory, no_such_value, status_of}
 use Rattle.simple_asn1_c.specs.Values.{IsLeafAt, IsMissing, UniversalAt, is_at_fault, is_of_another_kind}
-use Rattle.simple_asn1_c.proofs.TwoEach.{two_more}
+use Rattle.asn1_outline.proofs.Standing.{two_more}
 
 -- a small number in a record is the tag's
 pub small_tag : (n field m : ℕ) → HasTag n field → field ≡ m → m < 64 → n ≡ m

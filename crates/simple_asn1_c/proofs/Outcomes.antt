@@ -1,17 +1,18 @@
 -- What a call answers, by what it did.
 use Rattle.std.proofs.Common.{◌≡◌, ◌⊎◌, ℕ, ◌≤◌, ◌++◌, inl, inr, List, drop, get_or, length, map, refl, sym, ap, subst, ◌∙◌, arith}
 use Rattle.std.proofs.lemmas.List.{drop_at, get_or_append_left, length-map}
-use Rattle.simple_asn1.specs.BlockParts.{all_in_order}
 use Rattle.simple_asn1.specs.Canonical.{all_canonical}
 use Rattle.simple_asn1.specs.FaultPlace.{FirstFaultAt}
 use Rattle.simple_asn1.specs.Grammar.{IsDocument}
 use Rattle.simple_asn1.specs.Strict.{IsNotCanonicalAt}
 use Rattle.simple_asn1.specs.ReadBack.{CanonicalDocument}
+use Rattle.simple_asn1.specs.Structure.{IsStructure, Nodes, nodes_depths, nodes_in_order}
 use Rattle.simple_asn1.specs.Tree.{Trees}
 use Rattle.simple_asn1_c.specs.Answers.{
   AnswersRead,
   AnswersReadStrict,
   AnswersRewrite,
+  IsCanonicalStructure,
   IsNoMemory,
   IsRefused,
   IsRefusedStrict,
@@ -29,7 +30,7 @@ use Rattle.simple_asn1_c.specs.Answers.{
   was_written,
 }
 use Rattle.asn1_outline.proofs.Entries.{entries_length}
-use Rattle.asn1_outline.specs.Entries.{AreEntriesOf, all_depths}
+use Rattle.asn1_outline.specs.Entries.{AreEntries, AreEntriesOf}
 use Rattle.asn1_outline.specs.declared.entry.Entry.{Entry}
 use Rattle.simple_asn1_c.specs.Records.{AreRecords, IsRecordAt, block_of, no_record}
 use Rattle.simple_asn1_c.specs.Room.{AreFront, AreKeptBehind, ArePut}
@@ -46,14 +47,14 @@ rewrite_answer octets found before after o bs d e (n, z, inr (s, lt, f)) =
 
 -- the records of a document that are put at the front
 put_at :
-    (octets : List ℕ) (bs : Trees ℕ) (records found before after : List Block) → found ≡ records → AreRecords octets bs records →
-    length records ≡ length (all_in_order bs) → AreFront found before after → AreRecords octets bs after
-put_at octets bs records found before after e own count f k h =
+    (octets : List ℕ) (ns : Nodes) (records found before after : List Block) → found ≡ records → AreRecords octets ns records →
+    length records ≡ length (nodes_in_order ns) → AreFront found before after → AreRecords octets ns after
+put_at octets ns records found before after e own count f k h =
     let behind = drop (length found) before in
     let same : get_or after k no_record ≡ get_or records k no_record =
     ap (λ z. get_or z k no_record) f ∙ ap (λ z. get_or (z ++ behind) k no_record) e
     ∙ get_or_append_left records behind no_record k (omega (arith, h, count)) in
-    subst (λ z. IsRecordAt octets bs k z) (sym same) (own k h)
+    subst (λ z. IsRecordAt octets ns k z) (sym same) (own k h)
 
 -- and those behind them are as before
 kept_behind : (found before after : List Block) (count : ℕ) → count ≡ length found → length found ≤ length before → AreFront found before after
@@ -63,33 +64,59 @@ kept_behind found before after count n w f = (
   ap (drop count) f ∙ drop_at found (drop (length found) before) count (sym n) ∙ ap (λ k. drop k before) (sym n),
 )
 
--- as many records as trees
-put_count : (octets : List ℕ) (bs : Trees ℕ) (es : List Entry) → AreEntriesOf octets bs es → length (map block_of es) ≡ length (all_in_order bs)
-put_count octets bs es are = length-map es block_of ∙ entries_length octets 0 (all_in_order bs) (all_depths 0 bs) es are
+-- as many records as blocks
+put_count : (octets : List ℕ) (ns : Nodes) (es : List Entry) → AreEntries octets 0 (nodes_in_order ns) (nodes_depths 0 ns) es
+    → length (map block_of es) ≡ length (nodes_in_order ns)
+put_count octets ns es are = length-map es block_of ∙ entries_length octets 0 (nodes_in_order ns) (nodes_depths 0 ns) es are
 
 pub read_answer :
     (octets : List ℕ) (bs : Trees ℕ) (es found : List Entry) (before after : List Block) (o : Outcome) → found ≡ es → IsDocument octets bs →
     AreEntriesOf octets bs es → ArePut (map block_of found) before after o → AnswersRead octets before after o
-read_answer octets bs es found before after o e d are (n, z, inl (s, w, f)) =
-    let count = put_count octets bs es are in
-    let same = ap (map block_of) e in
-    was_read s z bs d (n ∙ ap length same ∙ count)
-    (put_at octets bs (map block_of es) (map block_of found) before after same (entries_records octets bs es d are) count f)
-    (kept_behind (map block_of found) before after o.count n w f)
-read_answer octets bs es found before after o e d are (n, z, inr (s, lt, f)) =
-    had_no_room s z bs d (n ∙ ap length (ap (map block_of) e) ∙ put_count octets bs es are) (omega (arith, lt, n)) f
+read_answer octets bs es found before after o e d are put = go put
+  where
+    ns : Nodes
+    ns = are.nodes
+
+    own : IsStructure octets ns
+    own = (subst (IsDocument octets) (sym are.trees) d, are.are)
+
+    count : length (map block_of es) ≡ length (nodes_in_order ns)
+    count = put_count octets ns es are.entries
+
+    same : map block_of found ≡ map block_of es
+    same = ap (map block_of) e
+
+    go : ArePut (map block_of found) before after o → AnswersRead octets before after o
+    go (n, z, inl (s, w, f)) =
+        was_read s z ns own (n ∙ ap length same ∙ count)
+        (put_at octets ns (map block_of es) (map block_of found) before after same (entries_records octets ns es own are.entries) count f)
+        (kept_behind (map block_of found) before after o.count n w f)
+    go (n, z, inr (s, lt, f)) = had_no_room s z ns own (n ∙ ap length same ∙ count) (omega (arith, lt, n)) f
 
 pub read_strict_answer :
     (octets : List ℕ) (bs : Trees ℕ) (es found : List Entry) (before after : List Block) (o : Outcome) → found ≡ es → CanonicalDocument octets bs →
     AreEntriesOf octets bs es → ArePut (map block_of found) before after o → AnswersReadStrict octets before after o
-read_strict_answer octets bs es found before after o e d are (n, z, inl (s, w, f)) =
-    let count = put_count octets bs es are in
-    let same = ap (map block_of) e in
-    was_read_strict s z bs d (n ∙ ap length same ∙ count)
-    (put_at octets bs (map block_of es) (map block_of found) before after same (entries_records octets bs es d.0 are) count f)
-    (kept_behind (map block_of found) before after o.count n w f)
-read_strict_answer octets bs es found before after o e d are (n, z, inr (s, lt, f)) =
-    had_no_room_strict s z bs d (n ∙ ap length (ap (map block_of) e) ∙ put_count octets bs es are) (omega (arith, lt, n)) f
+read_strict_answer octets bs es found before after o e d are put = go put
+  where
+    ns : Nodes
+    ns = are.nodes
+
+    own : IsCanonicalStructure octets ns
+    own = (subst (CanonicalDocument octets) (sym are.trees) d, are.are)
+
+    count : length (map block_of es) ≡ length (nodes_in_order ns)
+    count = put_count octets ns es are.entries
+
+    same : map block_of found ≡ map block_of es
+    same = ap (map block_of) e
+
+    go : ArePut (map block_of found) before after o → AnswersReadStrict octets before after o
+    go (n, z, inl (s, w, f)) =
+        was_read_strict s z ns own (n ∙ ap length same ∙ count)
+        (put_at octets ns (map block_of es) (map block_of found) before after same
+        (entries_records octets ns es (own.0.0, own.1) are.entries) count f)
+        (kept_behind (map block_of found) before after o.count n w f)
+    go (n, z, inr (s, lt, f)) = had_no_room_strict s z ns own (n ∙ ap length same ∙ count) (omega (arith, lt, n)) f
 
 -- what a fault's outcome tells
 abbrev pub Tells : Outcome → ℕ → ℕ → Type 0

@@ -1,6 +1,5 @@
 -- What each call answers.
 use Rattle.std.specs.Prelude.{◌≡◌, ◌⊎◌, ℕ, ◌<◌, List, length}
-use Rattle.simple_asn1.specs.BlockParts.{all_in_order}
 use Rattle.simple_asn1.specs.Canonical.{all_canonical}
 use Rattle.simple_asn1.specs.Fault.{DecodeFault}
 use Rattle.simple_asn1.specs.FaultPlace.{FirstFaultAt}
@@ -8,6 +7,7 @@ use Rattle.simple_asn1.specs.Grammar.{IsDocument}
 use Rattle.simple_asn1.specs.ReadBack.{CanonicalDocument}
 use Rattle.simple_asn1.specs.Strict.{IsNotCanonicalAt}
 use Rattle.simple_asn1.specs.SignedTrees.{IsOfAnotherShape, IsSigned, SignedParts, signature_tree}
+use Rattle.simple_asn1.specs.Structure.{AreNodes, IsStructure, Nodes, nodes_in_order, nodes_trees}
 use Rattle.simple_asn1.specs.Tree.{Tree, Trees, leaf, object_identifier}
 use Rattle.simple_asn1_c.specs.Room.{AreFront, AreKeptBehind, ArePut}
 use Rattle.simple_asn1_c.specs.Records.{AreRecords, HasNoLinks, IsRecord, no_record}
@@ -36,25 +36,29 @@ IsNoMemory status offset = (status ≡ no_memory) × (offset ≡ 0)
 -- place; or memory ran out
 pub data AnswersRead (octets : List ℕ) (before after : List Block) (o : Outcome) : Type 0 where
   was_read :
-      o.status ≡ done → o.offset ≡ 0 → (bs : Trees ℕ) → IsDocument octets bs → o.count ≡ length (all_in_order bs) →
-      AreRecords octets bs after → AreKeptBehind o.count before after → AnswersRead octets before after o
+      o.status ≡ done → o.offset ≡ 0 → (ns : Nodes) → IsStructure octets ns → o.count ≡ length (nodes_in_order ns) →
+      AreRecords octets ns after → AreKeptBehind o.count before after → AnswersRead octets before after o
   had_no_room :
-      o.status ≡ no_room → o.offset ≡ 0 → (bs : Trees ℕ) → IsDocument octets bs →
-      o.count ≡ length (all_in_order bs) → length before < o.count → after ≡ before →
+      o.status ≡ no_room → o.offset ≡ 0 → (ns : Nodes) → IsStructure octets ns →
+      o.count ≡ length (nodes_in_order ns) → length before < o.count → after ≡ before →
       AnswersRead octets before after o
   was_refused :
       IsRefused octets o.status o.offset → o.count ≡ 0 → after ≡ before → AnswersRead octets before after o
   had_no_memory : IsNoMemory o.status o.offset → o.count ≡ 0 → after ≡ before → AnswersRead octets before after o
 
+-- the octets are a document in canonical form with this structure
+abbrev pub IsCanonicalStructure : List ℕ → Nodes → Type 0
+IsCanonicalStructure octets ns = CanonicalDocument octets (nodes_trees ns) × AreNodes octets ns
+
 -- so of documents in canonical form alone; of another document the first block that is not canonical
 pub data AnswersReadStrict (octets : List ℕ) (before after : List Block) (o : Outcome) : Type 0 where
   was_read_strict :
-      o.status ≡ done → o.offset ≡ 0 → (bs : Trees ℕ) → CanonicalDocument octets bs →
-      o.count ≡ length (all_in_order bs) → AreRecords octets bs after → AreKeptBehind o.count before after →
+      o.status ≡ done → o.offset ≡ 0 → (ns : Nodes) → IsCanonicalStructure octets ns →
+      o.count ≡ length (nodes_in_order ns) → AreRecords octets ns after → AreKeptBehind o.count before after →
       AnswersReadStrict octets before after o
   had_no_room_strict :
-      o.status ≡ no_room → o.offset ≡ 0 → (bs : Trees ℕ) → CanonicalDocument octets bs →
-      o.count ≡ length (all_in_order bs) → length before < o.count → after ≡ before →
+      o.status ≡ no_room → o.offset ≡ 0 → (ns : Nodes) → IsCanonicalStructure octets ns →
+      o.count ≡ length (nodes_in_order ns) → length before < o.count → after ≡ before →
       AnswersReadStrict octets before after o
   was_refused_strict :
       IsRefusedStrict octets o.status o.offset → o.count ≡ 0 → after ≡ before →

@@ -1,13 +1,14 @@
 -- What a record says of a block.
-use Rattle.std.specs.Prelude.{◌≡◌, ℕ, ◌+◌, ◌<◌, Bool, List, get_or, length}
-use Rattle.simple_asn1.specs.BlockParts.{all_in_order, in_order}
+use Rattle.std.specs.Prelude.{◌≡◌, ℕ, suc, ◌+◌, ◌<◌, Bool, List, Option, None, Some, get_or, length}
+use Rattle.simple_asn1.specs.BlockParts.{tree_items}
 use Rattle.simple_asn1.specs.Grammar.{IsDocument}
 use Rattle.simple_asn1.specs.Header.{Encoding, class_number, constructed_bit}
 use Rattle.simple_asn1.specs.Places.{HasOctets}
-use Rattle.simple_asn1.specs.Tree.{Tree, Trees}
+use Rattle.simple_asn1.specs.Structure.{IsEncodedIn, Nodes, node_at, node_count, node_in_order, node_items, nodes_depths, nodes_in_order, tree_at}
+use Rattle.simple_asn1.specs.Tree.{Tree, Trees, more_trees, no_trees}
 use Rattle.simple_asn1.specs.View.{tree_offset}
 use Rattle.asn1_headers.specs.declared.header.ASN1Class.{ASN1Class}
-use Rattle.asn1_outline.specs.Entries.{HasTag, all_depths, items_in, no_tree}
+use Rattle.asn1_outline.specs.Entries.{HasTag}
 use Rattle.asn1_outline.specs.declared.entry.Entry.{Entry}
 use Rattle.simple_asn1_c.specs.declared.header.Header.{Header}
 use Rattle.simple_asn1_c.specs.declared.record.Block.{Block}
@@ -36,6 +37,19 @@ header_of r = record {
   size = r.header;
   contents = r.contents;
 }
+
+-- how many trees there are
+abbrev pub count_of : Trees ℕ → ℕ
+count_of no_trees = 0
+count_of (more_trees b bs) = suc (count_of bs)
+
+abbrev pub count_in : Option (Trees ℕ) → ℕ
+count_in None = 0
+count_in (Some bs) = count_of bs
+
+-- how many trees a tree holds, without those inside them
+abbrev pub items_in : Tree ℕ → ℕ
+items_in b = count_in (tree_items b)
 
 -- the record is of the tree, which stands in a document of these octets
 pub record IsRecord (whole : List ℕ) (b : Tree ℕ) (r : Block) : Type 0 where
@@ -79,14 +93,18 @@ block_of e = record {
   constructed = constructed_bit e.constructed;
 }
 
--- the record is that of the tree that stands at the index among those of a document, in order
-pub record IsRecordAt (whole : List ℕ) (bs : Trees ℕ) (k : ℕ) (r : Block) : Type 0 where
-  pub fields : IsRecord whole (get_or (all_in_order bs) k no_tree) r
+-- the record is that of the block at the index in a document's structure
+pub record IsRecordAt (whole : List ℕ) (ns : Nodes) (k : ℕ) (r : Block) : Type 0 where
+  pub octets : List ℕ
+  pub encoded : IsEncodedIn whole (tree_at ns k) octets
+  pub header : HasHeader octets (header_of r)
+  pub offset : r.offset ≡ tree_offset (tree_at ns k)
+  pub items : r.items ≡ node_count (node_items (node_at ns k))
   -- the index after it and all that it holds
-  pub next : r.next ≡ k + length (in_order (get_or (all_in_order bs) k no_tree))
-  pub depth : r.depth ≡ get_or (all_depths 0 bs) k 0
+  pub next : r.next ≡ k + length (node_in_order (node_at ns k))
+  pub depth : r.depth ≡ get_or (nodes_depths 0 ns) k 0
 
--- the first records are those of the trees of a document, one each, in order
-abbrev pub AreRecords : List ℕ → Trees ℕ → List Block → Type 0
-AreRecords whole bs records =
-    (k : ℕ) → k < length (all_in_order bs) → IsRecordAt whole bs k (get_or records k no_record)
+-- the first records are those of the blocks of a document at all depths, one each, in order
+abbrev pub AreRecords : List ℕ → Nodes → List Block → Type 0
+AreRecords whole ns records =
+    (k : ℕ) → k < length (nodes_in_order ns) → IsRecordAt whole ns k (get_or records k no_record)

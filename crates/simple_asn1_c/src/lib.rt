@@ -15,10 +15,9 @@ mod status;
 mod text;
 
 ghost use Rattle.std.specs.Prelude.{◌≡◌, ◌⊎◌, ◌*◌, ◌≤◌, ℕ, length};
-ghost use Rattle.simple_asn1.specs.BlockParts.{all_in_order};
 ghost use Rattle.simple_asn1.specs.Fault.{OutOfMemoryOr};
-ghost use Rattle.simple_asn1.specs.Grammar.{IsDocument, FirstFault};
-ghost use Rattle.simple_asn1.specs.Tree.{Trees};
+ghost use Rattle.simple_asn1.specs.Grammar.{FirstFault};
+ghost use Rattle.simple_asn1.specs.Structure.{IsStructure, Nodes, nodes_in_order};
 ghost use Rattle.simple_asn1_c.specs.Answers.{
   AnswersRead,
   AnswersReadStrict,
@@ -54,7 +53,7 @@ pub extern "C" fn simple_asn1_read(alloc: Global, octets: &[u8], blocks: &mut [B
     ensures answer { AnswersRead octets.now blocks.old blocks.new result }
 
     // Half as many records as octets are room enough.
-    ensures few { (bs : Trees ℕ) → IsDocument octets.now bs → 2 * length (all_in_order bs) ≤ length octets.now }
+    ensures few { (ns : Nodes) → IsStructure octets.now ns → 2 * length (nodes_in_order ns) ≤ length octets.now }
 {
     match read_records(alloc, octets) {
         Ok(outline) => put_records(outline.entries(), blocks),

@@ -1,8 +1,7 @@
 // The record of a block.
 ghost use Rattle.std.specs.Prelude.{◌≡◌, IfOk};
 ghost use Rattle.simple_asn1.specs.View.{view};
-ghost use Rattle.asn1_outline.specs.Entries.{items_in};
-ghost use Rattle.simple_asn1_c.specs.Records.{IsRecord, Stands, block_of};
+ghost use Rattle.simple_asn1_c.specs.Records.{IsRecord, Stands, block_of, items_in};
 
 use crate::header::{class_number_of, read_header};
 use asn1_outline::entry::Entry;

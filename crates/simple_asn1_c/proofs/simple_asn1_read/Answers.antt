@@ -1,6 +1,6 @@
 use Rattle.asn1_outline.specs.Outlines.{entries_in}
 use Rattle.simple_asn1_c.proofs.Outcomes.{read_answer, read_refused}
-use Rattle.simple_asn1_c.proofs.TwoEach.{two_among}
+use Rattle.simple_asn1_c.proofs.TwoEach.{two_each}
 use Rattle.simple_asn1_c.proofs.simple_asn1_read.Goals as goal
 
 pub returns-in-Ok-clause-answer : goal.returns-in-Ok-clause-answer
@@ -10,10 +10,10 @@ returns-in-Ok-clause-answer c =
     c.entries.ensures d e c.put_records.ensures
 
 pub returns-in-Ok-clause-few : goal.returns-in-Ok-clause-few
-returns-in-Ok-clause-few c bs d = two_among bs 0 c.args.octets.now d.blocks
+returns-in-Ok-clause-few c ns d = two_each c.args.octets.now ns d
 
 pub returns-in-Err-clause-few : goal.returns-in-Err-clause-few
-returns-in-Err-clause-few c bs d = two_among bs 0 c.args.octets.now d.blocks
+returns-in-Err-clause-few c ns d = two_each c.args.octets.now ns d
 
 pub returns-in-Err-clause-answer : goal.returns-in-Err-clause-answer
 returns-in-Err-clause-answer c =

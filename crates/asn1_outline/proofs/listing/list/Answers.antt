@@ -6,8 +6,8 @@ use Rattle.asn1_blocks.specs.declared.read.FrameKind.TheVariants.{Whole}
 use Rattle.asn1_blocks.proofs.Frames.Slices.{slice_none}
 use Rattle.asn1_blocks.proofs.ReadSteps.{no_octets}
 use Rattle.asn1_headers.specs.Fault.{OutOfMemoryOr}
-use Rattle.asn1_blocks.specs.Tree.{trees_of}
 use Rattle.asn1_outline.specs.Listing.{GoesOn, HasEnded, HasTurned, Reads}
+use Rattle.asn1_outline.specs.Structure.{nodes_of, nodes_trees}
 use Rattle.asn1_outline.specs.declared.listing.Listing.{Listing}
 use Rattle.asn1_outline.specs.declared.listing.Turn.{Turn}
 use Rattle.asn1_outline.specs.declared.listing.Turn.TheVariants.{End, More, Stop}
@@ -23,9 +23,9 @@ first_reading x rs outer r o =
     let f : OpenFrame = record { extent = record { kind = Whole; start = 0; end = length x }; entry = 0; items = 0 } in
     let z = slice_none x 0 in
     let none : Reads x [] f [] 0 0 = record {
-      trees = [];
+      nodes = [];
       outer = [];
-      holds = (refl, tt);
+      holds = (refl, tt, tt);
       opened = record {
         whole = record { kind = refl; start = refl; end = refl };
         read = record { from = omega arith; to = omega arith; within = omega arith; encoded = z; begun = begun_none z };
@@ -76,7 +76,8 @@ returns-in-End-clause-document c =
     let t = c.take_turn.ensures.turned n c.args.count.now w e in
     let d = turned_end c.args.octets.now c.take_turn.result c.take_turn.new.listing t.begun _ c.in-End.is t.turned in
     let some : 0 < length c.args.octets.now = grind (arith, common_steps) in
-    (trees_of d.trees, record { some = some; blocks = d.encoded }, d.entries)
+    let ns = nodes_of d.nodes in
+    (nodes_trees ns, record { some = some; blocks = d.encoded }, record { nodes = ns; trees = refl; are = d.are; entries = d.entries })
 
 pub returns-in-End-clause-counted : goal.returns-in-End-clause-counted
 returns-in-End-clause-counted c =

@@ -1,5 +1,5 @@
 use Rattle.std.proofs.Common.{sym, ap, ◌∙◌}
-use Rattle.asn1_outline.specs.Entries.{count_in}
+use Rattle.simple_asn1_c.specs.Records.{count_in}
 use Rattle.simple_asn1_c.proofs.Headers.{views_count}
 use Rattle.simple_asn1_c.proofs.record.item_count.Goals as goal
 
