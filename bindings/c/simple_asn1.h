@@ -16,8 +16,8 @@
  *   (NumericString, VisibleString, GeneralString ..) have none, and any contents octets.
  * - Times: those with an offset, a comma, second 60 or no seconds are rejected.
  * - A value beyond int64_t, and a component of an OBJECT IDENTIFIER beyond 128 bits, are SIMPLE_ASN1_RANGE.
- * - Other classes: a constructed block has an item if it holds exactly one valid block. Otherwise, and if it is
- *   primitive, its contents octets are not looked into, not by strict reading either.
+ * - Other classes: a constructed block has items if its contents octets are valid blocks. Strict reading looks at one
+ *   item, and at no other contents octets.
  * - Strict reading accepts unused bits that are not 0, and more than 7 of them; octets of an IA5String above 7F; a SET
  *   in any order; DEFAULT values; any contents octets of tags of class Universal without a type here, such as
  *   ENUMERATED and REAL. */

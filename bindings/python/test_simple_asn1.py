@@ -224,7 +224,7 @@ class Grammar(unittest.TestCase):
             self.assertEqual(only(tag + "02 C3 A4").text, "ä")
         self.assertEqual([len(block) for block in simple_asn1.read(bytes.fromhex("30 80 00 00"))], [0, 0])
         self.assertEqual(only("24 03 04 01 05").contents, bytes.fromhex("04 01 05"))
-        self.assertEqual([len(only("A0 03 02 01 05")), len(only("A0 06 02 01 05 02 01 06"))], [1, 0])
+        self.assertEqual([len(only("A0 03 02 01 05")), len(only("A0 06 02 01 05 02 01 06"))], [1, 2])
         for tag in ("07", "12", "15", "19", "1A", "1B", "1D"):
             self.assertFalse(hasattr(only(tag + "01 41"), "text"))
 
