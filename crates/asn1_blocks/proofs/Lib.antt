@@ -18,3 +18,4 @@ pub mod EncodingSizes
 pub mod OwedBlocks
 pub mod Frames
 pub mod Reader
+pub mod TreeBuilding

@@ -24,12 +24,13 @@ use Rattle.std.proofs.Math.Seq.{take-append_seam, drop-append_seam}
 use Rattle.std.proofs.lemmas.List.{take-map, drop-map, map-append, length-map}
 use Rattle.asn1_blocks.specs.declared.block.GroupKind.{GroupKind}
 use Rattle.asn1_blocks.specs.declared.block.ASN1Block.{ASN1Block}
-use Rattle.asn1_blocks.specs.declared.owed.Attempt.{Attempt}
+use Rattle.asn1_blocks.specs.declared.reading.Attempt.{Attempt}
 use Rattle.asn1_blocks.specs.declared.owed.Owed.{Owed}
 use Rattle.asn1_blocks.specs.declared.owed.Owed.TheVariants.{Ready, Group, Explicit, Kept}
 use Rattle.asn1_blocks.specs.Tree.{Tree, group, trees_of}
 use Rattle.asn1_blocks.specs.View.{view, views}
-use Rattle.asn1_blocks.specs.Inner.Owed.{around, as_it_came, around_last, after, after_all, Leads}
+use Rattle.asn1_blocks.specs.Inner.OpenFrames.{around, as_it_came}
+use Rattle.asn1_blocks.specs.Inner.Owed.{around_last, after, after_all, Leads}
 
 -- some after others
 pub after_join : (octets : List ℕ) (es fs : List Owed) (s : List (Tree ℕ)) → after_all octets (es ++ fs) s ≡ after_all octets fs (after_all octets es s)

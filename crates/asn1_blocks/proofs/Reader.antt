@@ -1,9 +1,7 @@
--- The reader: what its frames hold as blocks and owe, and its steps.
+-- The reader: its steps, whatever is built.
 pub mod Memory
 pub mod Turning
 pub mod Popping
-pub mod Holding
-pub mod Adding
 pub mod Opening
 pub mod Closing
 pub mod Stopping

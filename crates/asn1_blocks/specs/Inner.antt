@@ -10,3 +10,4 @@ pub mod HeaderPlaces
 pub mod Owed
 pub mod OpenFrames
 pub mod ReaderSteps
+pub mod TreeBuilding

@@ -1,8 +1,9 @@
 //! The tree of blocks, and how octets are read into it: a layer of `simple_asn1`, which is the crate for users.
 //!
 //! - [`block`]: the tree; its equality, copies, dropping, and what is taken out of a block;
-//! - [`read`]: documents are read, in one loop over the frames that are open; [`parsed`], [`owed`] and [`held`] are
-//!   parts of it; [`encoding`] finds an encoding by its header;
+//! - [`reading`]: documents are read, in one loop over the frames that are open, whatever is built of the blocks;
+//!   [`parsed`] is part of it; [`encoding`] finds an encoding by its header;
+//! - [`read`]: trees are built; [`owed`] and [`held`] are parts of it;
 //! - [`document`]: the owner of a document's blocks; [`walk`]: blocks in tree order;
 //! - [`contents`]: which contents octets a tag has; [`faithful`]: which blocks are read back as they are.
 //!
@@ -19,4 +20,5 @@ pub mod held;
 pub mod owed;
 pub mod parsed;
 pub mod read;
+pub mod reading;
 pub mod walk;

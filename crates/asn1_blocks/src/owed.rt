@@ -2,24 +2,15 @@
 ghost use Rattle.std.specs.Prelude.{◌≡◌, true, [], map, slice_range, IfOk, OnOk};
 ghost use Rattle.asn1_blocks.specs.Tree.{group, unknown};
 ghost use Rattle.asn1_blocks.specs.View.{view, views};
-ghost use Rattle.asn1_blocks.specs.Inner.Owed.{after, after_all, around};
+ghost use Rattle.asn1_blocks.specs.Inner.OpenFrames.{around};
+ghost use Rattle.asn1_blocks.specs.Inner.Owed.{after, after_all};
 
 use crate::block::discard::discard_one;
 use crate::block::{ASN1Block, GroupKind};
 use crate::held::{HeldBlocks, boxed};
-use asn1_headers::header::ASN1Class;
-use asn1_numbers::number::big_uint::BigUint;
+use crate::reading::Attempt;
 use asn1_numbers::octets::copy_of;
 use std::alloc::{AllocError, Global};
-
-// A constructed encoding of another class than Universal. Its contents octets are read as blocks; where that fails, or
-// gives any other number than one, it stays as it came.
-#[derive(Drop)]
-pub struct Attempt {
-    pub class: ASN1Class,
-    pub offset: usize,
-    pub tag: BigUint,
-}
 
 // A block that is owed: how it is built of those before it, once the encoding has ended.
 pub enum Owed {

@@ -1,88 +1,32 @@
-// Reading documents: one loop over the frames that are open, so that no function calls itself.
-ghost use Rattle.std.specs.Prelude.{◌≡◌, ◌≢◌, ◌↔◌, ℕ, ◌+◌, ◌-◌, ◌<◌, ◌≤◌, ◌^◌, ◌⊎◌, ◌++◌, ◌∷◌, [], true, length, map, reverse, IfOk, IfErr, IsErrAnd, IsTrue, MatchResult, OnOk};
+// Documents into trees of blocks.
+ghost use Rattle.std.specs.Prelude.{◌≡◌, ℕ, ◌+◌, ◌<◌, ◌≤◌, ◌^◌, ◌⊎◌, ◌++◌, ◌∷◌, [], length, map, IfOk, IfErr, IsErrAnd, MatchResult, OnOk};
 ghost use Rattle.asn1_blocks.specs.declared.block.ASN1Block.{ASN1Block};
 ghost use Rattle.asn1_headers.specs.declared.error.ASN1DecodeErr.TheVariants.{OutOfMemory};
-ghost use Rattle.asn1_headers.specs.Fault.{DecodeFault, OutOfMemoryOr, UnlessOutOfMemory, fault_of};
+ghost use Rattle.asn1_headers.specs.Fault.{DecodeFault, OutOfMemoryOr, UnlessOutOfMemory};
 ghost use Rattle.asn1_blocks.specs.FaultPlace.{FirstFaultAt};
 ghost use Rattle.asn1_blocks.specs.Grammar.{IsDocument, FirstFault};
 ghost use Rattle.asn1_blocks.specs.HeadersBegun.{HeadersBegun};
-ghost use Rattle.asn1_blocks.specs.Inner.Owed.{after_all, around};
-ghost use Rattle.asn1_blocks.specs.Inner.ReaderSteps.{IsFaulty, IsKept, IsOpened, IsOwed, IsPut, IsReadAs, IsReading, Reads, HasStepped, HasTakenTurn, HasTurned, attempt_of, left};
+ghost use Rattle.asn1_blocks.specs.Inner.OpenFrames.{around};
+ghost use Rattle.asn1_blocks.specs.Inner.Owed.{after_all};
+ghost use Rattle.asn1_blocks.specs.Inner.TreeBuilding.{IsKept, IsOwed, IsPut, builder_holds};
 ghost use Rattle.asn1_blocks.specs.Tree.{Trees};
 ghost use Rattle.asn1_blocks.specs.View.{view, views};
 
-use crate::block::{ASN1Block, GroupKind};
+use crate::block::ASN1Block;
 use crate::contents::leaf_block;
 use crate::encoding::encoding_count;
 use crate::held::HeldBlocks;
-use crate::owed::{Attempt, Owed, build, explicit_block, group_block, kept_block};
-use crate::parsed::{Header, header_within};
+use crate::owed::{Owed, build, explicit_block, group_block, kept_block};
+use crate::parsed::Header;
+use crate::reading::{Attempt, Builder, Extent, FrameKind, read_into};
 use asn1_headers::error::{ASN1DecodeErr, LocatedErr};
 use asn1_headers::header::{ASN1Class, HeaderCount};
 use std::alloc::{AllocError, Global};
-use std::mem;
 
 // Contents octets up to this length are copied at once, also inside an open attempt, where longer ones are owed: copies
 // that may be dropped again cost at most so many octets for each header, and to owe one costs more than so small a
 // copy.
 const COPIED_AT_ONCE: usize = 256;
-
-// What the contents octets of a frame are.
-#[derive(Drop)]
-pub enum FrameKind {
-    // The whole document.
-    Whole,
-    // Those of a SEQUENCE or SET at the offset.
-    Group(GroupKind, usize),
-    Attempt(Attempt),
-}
-
-// Contents octets, and where they begin and end in the document.
-#[derive(Drop)]
-pub struct Extent {
-    pub kind: FrameKind,
-    pub start: usize,
-    pub end: usize,
-}
-
-// Contents octets that are being read, and their blocks: the first of them, and how many more are owed. These stand
-// behind so many that the frames around it owe.
-#[derive(Drop)]
-struct OpenFrame {
-    extent: Extent,
-    blocks: HeldBlocks,
-    begin: usize,
-    owes: usize,
-}
-
-// The innermost frame, those around it, the place reached, and what is owed.
-#[derive(Drop)]
-struct Reader {
-    inner: OpenFrame,
-    outer: Vec<OpenFrame>,
-    index: usize,
-    owed: Vec<Owed>,
-    // How many frames stand around the outermost open attempt. No answer depends on it: it says which contents octets
-    // are copied at once, and which are owed.
-    outermost: Option<usize>,
-    // Why reading stopped.
-    fault: ASN1DecodeErr,
-}
-
-// What contents octets are read as: blocks in a frame, or a leaf with this header.
-#[derive(Drop)]
-pub enum ReadAs {
-    Blocks(FrameKind),
-    Leaf(Header),
-}
-
-// Where a turn leads: there is more to read, the document has ended, or the reader has a fault.
-#[derive(Clone, Copy)]
-enum Turn {
-    More,
-    End,
-    Stop,
-}
 
 /// Reads a document: blocks one after another to the end of `i`, at least one.
 ///
@@ -226,43 +170,24 @@ fn read_blocks(
     ensures grown { count.old ≤ count.new }
     ensures bounded { count.new ≤ count.old + length i.now }
 {
-    if i.is_empty() {
-        return Err(LocatedErr {
-            error: ASN1DecodeErr::EmptyBuffer,
-            offset: 0,
-        });
-    }
-    let Ok(blocks) = HeldBlocks::with_capacity(alloc, encoding_count(i)) else {
+    let Ok(first) = HeldBlocks::with_capacity(alloc, encoding_count(i)) else {
         return Err(out_of_memory(0));
     };
-    let mut reader = Reader {
-        inner: OpenFrame {
-            extent: Extent {
-                kind: FrameKind::Whole,
-                start: 0,
-                end: i.len(),
-            },
-            blocks,
-            begin: 0,
-            owes: 0,
-        },
-        outer: Vec::new(alloc),
-        index: 0,
+    let items = FrameBlocks {
+        first,
+        owed_before: 0,
+        owed_count: 0,
+    };
+    let builder = TreeBuilder {
         owed: Vec::new(alloc),
         outermost: None,
-        fault: ASN1DecodeErr::OutOfMemory,
     };
-    'turns: loop {
-        match take_turn(alloc, i, &mut reader, count) {
-            Turn::More => {}
-            Turn::End => return whole_document(alloc, i, reader),
-            Turn::Stop => {
-                return Err(LocatedErr {
-                    error: reader.fault,
-                    offset: reader.index,
-                });
-            }
-        }
+    match read_into(alloc, i, builder, items, count) {
+        Ok((builder, items)) => match all_blocks(alloc, i, builder, items) {
+            Ok(blocks) => Ok(blocks),
+            Err(_) => Err(out_of_memory(i.len())),
+        },
+        Err(located) => Err(located),
     }
 }
 
@@ -275,248 +200,189 @@ fn out_of_memory(offset: usize) -> LocatedErr
     }
 }
 
-fn whole_document(
-    alloc: Global,
-    octets: &[u8],
-    reader: Reader,
-) -> Result<Vec<ASN1Block>, LocatedErr>
-    ensures blocks { IfOk result (λ blocks. map view blocks.items
-        ≡ map view reader.inner.blocks ++ after_all octets.now reader.owed.items []) }
-    ensures memory { IfErr result (λ e. e.error ≡ OutOfMemory) }
-{
-    match all_blocks(alloc, octets, reader) {
-        Ok(blocks) => Ok(blocks),
-        Err(_) => Err(out_of_memory(octets.len())),
-    }
-}
-
 // The blocks of the document, which was read to its end.
-fn all_blocks(alloc: Global, octets: &[u8], reader: Reader) -> Result<Vec<ASN1Block>, AllocError>
+fn all_blocks(
+    alloc: Global,
+    octets: &[u8],
+    builder: TreeBuilder,
+    items: FrameBlocks,
+) -> Result<Vec<ASN1Block>, AllocError>
     ensures { IfOk result (λ blocks. map view blocks.items
-        ≡ map view reader.inner.blocks ++ after_all octets.now reader.owed.items []) }
+        ≡ map view items.first ++ after_all octets.now builder.owed.items []) }
 {
-    let Reader { inner, owed, .. } = reader;
-    let OpenFrame { mut blocks, .. } = inner;
-    let others = build(alloc, octets, owed)?;
-    blocks.append(others)?;
-    Ok(blocks.into_vec())
+    let FrameBlocks { mut first, .. } = items;
+    let others = build(alloc, octets, builder.owed)?;
+    first.append(others)?;
+    Ok(first.into_vec())
 }
 
-// Reads one header and what it leads, or closes a frame at its end.
-#[inline(always)]
-fn take_turn(alloc: Global, octets: &[u8], reader: &mut Reader, count: &mut HeaderCount) -> Turn
-    requires small { length octets.now < 2 ^ 64 }
-    requires reading { (n : ℕ) × IsReading octets.now reader.old n
-        × (count.old + (length octets.now - n) < 2 ^ 64) }
-    ensures turned { (n base : ℕ) → IsReading octets.now reader.old n → count.old ≡ base + n
-        → HasTakenTurn octets.now result reader.new count.new base
-        (left (length octets.now) reader.old.index reader.old.outer.items) }
-{
-    if reader.index != reader.inner.extent.end {
-        let step = read_next(alloc, octets, reader, count);
-        return turn_of(alloc, octets, reader, step);
-    }
-    match reader.outer.pop() {
-        Some(parent) => {
-            let step = close(alloc, octets, reader, parent);
-            turn_of(alloc, octets, reader, step)
+// The blocks of a frame: the first of them, and how many more are owed. These stand behind so many that the frames
+// around it owe.
+#[derive(Drop)]
+struct FrameBlocks {
+    first: HeldBlocks,
+    owed_before: usize,
+    owed_count: usize,
+}
+
+// Builds trees: what all frames owe.
+#[derive(Drop)]
+struct TreeBuilder {
+    owed: Vec<Owed>,
+    // How many frames stand around the outermost open attempt. No answer depends on it: it says which contents octets
+    // are copied at once, and which are owed.
+    outermost: Option<usize>,
+}
+
+impl Builder for TreeBuilder {
+    type Items = FrameBlocks;
+
+    ghost holds = { builder_holds };
+
+    #[inline(always)]
+    fn open(
+        &mut self,
+        alloc: Global,
+        octets: &[u8],
+        header: &Header,
+        _offset: usize,
+        depth: usize,
+    ) -> Result<FrameBlocks, AllocError> {
+        let contents = &octets[header.start..header.end];
+        let first = HeldBlocks::with_capacity(alloc, encoding_count(contents))?;
+        if !matches!(header.class, ASN1Class::Universal) && self.outermost.is_none() {
+            self.outermost = Some(depth);
         }
-        None => Turn::End,
+        Ok(FrameBlocks {
+            first,
+            owed_before: self.owed.len(),
+            owed_count: 0,
+        })
     }
-}
 
-// Where a step leads. Memory that ran out ends reading; a fault goes to the innermost attempt.
-#[inline(always)]
-fn turn_of(
-    alloc: Global,
-    octets: &[u8],
-    reader: &mut Reader,
-    step: Result<(), ASN1DecodeErr>,
-) -> Turn
-    requires small { length octets.now < 2 ^ 64 }
-    requires stepped { (n most : ℕ) × HasStepped octets.now step reader.old n most }
-    ensures turned { (n most : ℕ) → HasStepped octets.now step reader.old n most
-        → HasTurned octets.now result reader.new n most }
-{
-    match step {
-        Ok(()) => Turn::More,
-        Err(e) => fail(alloc, octets, reader, e),
+    #[inline(always)]
+    fn leaf(
+        &mut self,
+        alloc: Global,
+        octets: &[u8],
+        items: &mut FrameBlocks,
+        header: Header,
+        offset: usize,
+        _depth: usize,
+    ) -> Result<(), ASN1DecodeErr> {
+        let contents = &octets[header.start..header.end];
+        let block = leaf_block(alloc, header, contents, offset)?;
+        Ok(self.put(items, block)?)
     }
-}
 
-#[cold]
-#[inline(never)]
-fn fail(alloc: Global, octets: &[u8], reader: &mut Reader, e: ASN1DecodeErr) -> Turn
-    requires small { length octets.now < 2 ^ 64 }
-    requires failed { (n most : ℕ)
-        × OutOfMemoryOr (λ fault. IsFaulty octets.now reader.old fault n most) e }
-    ensures turned { (n most : ℕ)
-        → OutOfMemoryOr (λ fault. IsFaulty octets.now reader.old fault n most) e
-        → HasTurned octets.now result reader.new n most }
-{
-    if is_out_of_memory(&e) {
-        reader.fault = e;
-        return Turn::Stop;
-    }
-    refuse(alloc, octets, reader, e)
-}
-
-fn is_out_of_memory(e: &ASN1DecodeErr) -> bool
-    ensures { IsTrue result ↔ (e.now ≡ OutOfMemory) }
-{
-    matches!(e, ASN1DecodeErr::OutOfMemory)
-}
-
-// Reads one header of the innermost frame, and what it leads.
-#[inline(always)]
-fn read_next(
-    alloc: Global,
-    octets: &[u8],
-    reader: &mut Reader,
-    count: &mut HeaderCount,
-) -> Result<(), ASN1DecodeErr>
-    requires room { count.old + 1 < 2 ^ 64 }
-    requires small { length octets.now < 2 ^ 64 }
-    requires more { reader.old.index ≢ reader.old.inner.extent.end }
-    requires reading { (n : ℕ) × IsReading octets.now reader.old n }
-    ensures counted { count.new ≡ count.old + 1 }
-    ensures stepped { (n : ℕ) → IsReading octets.now reader.old n
-        → HasStepped octets.now result reader.new (n + 1)
-        (left (length octets.now) reader.old.index reader.old.outer.items) }
-{
-    let offset = reader.index;
-    let Extent { start, end, .. } = reader.inner.extent;
-    let header = header_within(alloc, octets, start, end, offset, count)?;
-    let (start, end) = (header.start, header.end);
-    let contents = &octets[start..end];
-    match read_as(header, offset) {
-        ReadAs::Blocks(kind) => {
-            let frame = OpenFrame {
-                extent: Extent { kind, start, end },
-                blocks: HeldBlocks::with_capacity(alloc, encoding_count(contents))?,
-                begin: reader.owed.len(),
-                owes: 0,
-            };
-            Ok(open(reader, frame)?)
-        }
-        ReadAs::Leaf(header) => {
-            let block = leaf_block(alloc, header, contents, offset)?;
-            Ok(put(reader, end, block)?)
-        }
-    }
-}
-
-// What the contents octets of an encoding at the offset are read as.
-#[inline(always)]
-pub fn read_as(header: Header, offset: usize) -> ReadAs
-    ensures { IsReadAs header offset result }
-{
-    match header.class {
-        ASN1Class::Universal => match header.tag.to_u64() {
-            Some(16) => ReadAs::Blocks(FrameKind::Group(GroupKind::Sequence, offset)),
-            Some(17) => ReadAs::Blocks(FrameKind::Group(GroupKind::Set, offset)),
-            _ => ReadAs::Leaf(header),
-        },
-        _ => {
-            if !header.constructed {
-                return ReadAs::Leaf(header);
+    #[inline(always)]
+    fn close(
+        &mut self,
+        alloc: Global,
+        octets: &[u8],
+        extent: Extent,
+        items: FrameBlocks,
+        parent: &mut FrameBlocks,
+        depth: usize,
+    ) -> Result<(), AllocError> {
+        let Extent { kind, start, end } = extent;
+        let FrameBlocks {
+            first,
+            owed_before,
+            owed_count,
+        } = items;
+        match kind {
+            FrameKind::Whole => unreachable!(),
+            FrameKind::Group(group, offset) => {
+                if owed_count != 0 {
+                    return self.owe(parent, Owed::Group(group, offset, first, owed_count));
+                }
+                self.put(parent, group_block(group, offset, first))
             }
-            let Header { class, tag, .. } = header;
-            ReadAs::Blocks(FrameKind::Attempt(Attempt { class, offset, tag }))
+            FrameKind::Attempt(attempt) => {
+                let inside = leave(&mut self.outermost, depth);
+                if owed_count == 1 && first.len() == 0 {
+                    return self.owe(parent, Owed::Explicit(attempt));
+                }
+                if owed_count == 0 && first.len() == 1 {
+                    let block = around_block(alloc, attempt, first)?;
+                    return self.put(parent, block);
+                }
+                self.owed.truncate(owed_before);
+                self.put_as_it_came(alloc, octets, parent, inside, attempt, start, end)
+            }
         }
+    }
+
+    #[cold]
+    fn keep(
+        &mut self,
+        alloc: Global,
+        octets: &[u8],
+        extent: Extent,
+        items: FrameBlocks,
+        parent: &mut FrameBlocks,
+        depth: usize,
+    ) -> Result<(), AllocError> {
+        let Extent { kind, start, end } = extent;
+        let FrameKind::Attempt(attempt) = kind else {
+            unreachable!()
+        };
+        let inside = leave(&mut self.outermost, depth);
+        self.owed.truncate(items.owed_before);
+        self.put_as_it_came(alloc, octets, parent, inside, attempt, start, end)
     }
 }
 
-// Goes on inside a new frame, the innermost from now on.
-#[inline(always)]
-fn open(reader: &mut Reader, frame: OpenFrame) -> Result<(), AllocError>
-    ensures opened { OnOk result (IsOpened reader.old frame reader.new) }
-    ensures index { OnOk result (reader.new.index ≡ frame.extent.start) }
-{
-    reader.outer.reserve(1)?;
-    if matches!(frame.extent.kind, FrameKind::Attempt(_)) && reader.outermost.is_none() {
-        reader.outermost = Some(reader.outer.len());
-    }
-    reader.index = frame.extent.start;
-    let parent = mem::replace(&mut reader.inner, frame);
-    reader.outer.push_reserved(parent);
-    Ok(())
-}
-
-// Puts a block at the end of the innermost frame, and goes on after it.
-#[inline(always)]
-fn put(reader: &mut Reader, end: usize, block: ASN1Block) -> Result<(), AllocError>
-    ensures put { OnOk result (IsPut reader.old block reader.new) }
-    ensures index { OnOk result (reader.new.index ≡ end) }
-{
-    if reader.inner.owes != 0 {
-        return owe(reader, end, Owed::Ready(block));
-    }
-    reader.inner.blocks.push(block)?;
-    reader.index = end;
-    Ok(())
-}
-
-// Owes a block at the end of the innermost frame, and goes on after it.
-#[cold]
-#[inline(never)]
-fn owe(reader: &mut Reader, end: usize, one: Owed) -> Result<(), AllocError>
-    ensures owed { OnOk result (IsOwed reader.old one reader.new) }
-    ensures index { OnOk result (reader.new.index ≡ end) }
-{
-    let Some(owes) = reader.inner.owes.checked_add(1) else {
-        return Err(AllocError);
-    };
-    reader.owed.reserve(1)?;
-    reader.owed.push_reserved(one);
-    reader.inner.owes = owes;
-    reader.index = end;
-    Ok(())
-}
-
-// The innermost frame has ended: it becomes a block of the frame around it.
-#[inline(always)]
-fn close(
-    alloc: Global,
-    octets: &[u8],
-    reader: &mut Reader,
-    parent: OpenFrame,
-) -> Result<(), ASN1DecodeErr>
-    requires small { length octets.now < 2 ^ 64 }
-    requires reading { (n : ℕ) × Reads octets.now reader.old.owed.items reader.old.inner
-        (parent ∷ reverse reader.old.outer.items) reader.old.inner.extent.end n }
-    ensures stepped { (n : ℕ) → Reads octets.now reader.old.owed.items reader.old.inner
-        (parent ∷ reverse reader.old.outer.items) reader.old.inner.extent.end n
-        → HasStepped octets.now result reader.new n
-        (left (length octets.now) reader.old.inner.extent.end (parent ∷ reader.old.outer.items)) }
-{
-    let OpenFrame {
-        extent: Extent { kind, start, end },
-        blocks,
-        begin,
-        owes,
-    } = mem::replace(&mut reader.inner, parent);
-    match kind {
-        FrameKind::Whole => unreachable!(),
-        FrameKind::Group(group, offset) => {
-            if owes != 0 {
-                return Ok(owe(reader, end, Owed::Group(group, offset, blocks, owes))?);
-            }
-            Ok(put(reader, end, group_block(group, offset, blocks))?)
+impl TreeBuilder {
+    // The frame has the block.
+    #[inline(always)]
+    fn put(&mut self, items: &mut FrameBlocks, block: ASN1Block) -> Result<(), AllocError>
+        ensures { OnOk result (IsPut self.old items.old block self.new items.new) }
+    {
+        if items.owed_count != 0 {
+            return self.owe(items, Owed::Ready(block));
         }
-        FrameKind::Attempt(attempt) => {
-            let depth = reader.outer.len();
-            let inside = leave(&mut reader.outermost, depth);
-            if owes == 1 && blocks.len() == 0 {
-                return Ok(owe(reader, end, Owed::Explicit(attempt))?);
-            }
-            if owes == 0 && blocks.len() == 1 {
-                let block = around_block(alloc, attempt, blocks)?;
-                return Ok(put(reader, end, block)?);
-            }
-            reader.owed.truncate(begin);
-            Ok(keep(alloc, octets, reader, inside, attempt, start, end)?)
+        items.first.push(block)
+    }
+
+    // The frame owes the block.
+    #[cold]
+    #[inline(never)]
+    fn owe(&mut self, items: &mut FrameBlocks, block: Owed) -> Result<(), AllocError>
+        ensures { OnOk result (IsOwed self.old items.old block self.new items.new) }
+    {
+        let Some(count) = items.owed_count.checked_add(1) else {
+            return Err(AllocError);
+        };
+        self.owed.reserve(1)?;
+        self.owed.push_reserved(block);
+        items.owed_count = count;
+        Ok(())
+    }
+
+    // The frame has an encoding that stays as it came.
+    #[cold]
+    #[inline(never)]
+    fn put_as_it_came(
+        &mut self,
+        alloc: Global,
+        octets: &[u8],
+        items: &mut FrameBlocks,
+        inside: bool,
+        attempt: Attempt,
+        start: usize,
+        end: usize,
+    ) -> Result<(), AllocError>
+        requires order { start ≤ end }
+        requires within { end ≤ length octets.now }
+        ensures { OnOk result (IsKept octets.now self.old items.old attempt start end self.new items.new) }
+    {
+        if inside && end - start > COPIED_AT_ONCE {
+            return self.owe(items, Owed::Kept(attempt, start, end));
         }
+        let block = kept_block(alloc, attempt, &octets[start..end])?;
+        self.put(items, block)
     }
 }
 
@@ -544,68 +410,4 @@ fn leave(outermost: &mut Option<usize>, depth: usize) -> bool {
     }
     *outermost = None;
     false
-}
-
-// Puts an encoding that stays as it came at the end of the innermost frame, and goes on after it.
-#[cold]
-#[inline(never)]
-fn keep(
-    alloc: Global,
-    octets: &[u8],
-    reader: &mut Reader,
-    inside: bool,
-    attempt: Attempt,
-    start: usize,
-    end: usize,
-) -> Result<(), AllocError>
-    requires order { start ≤ end }
-    requires within { end ≤ length octets.now }
-    ensures kept { OnOk result (IsKept octets.now reader.old attempt start end reader.new) }
-    ensures index { OnOk result (reader.new.index ≡ end) }
-{
-    if inside && end - start > COPIED_AT_ONCE {
-        return owe(reader, end, Owed::Kept(attempt, start, end));
-    }
-    let block = kept_block(alloc, attempt, &octets[start..end])?;
-    put(reader, end, block)
-}
-
-// A fault in the innermost frame drops the frames inside the innermost attempt, and that one stays as it came. Outside
-// all attempts it is the answer.
-fn refuse(alloc: Global, octets: &[u8], reader: &mut Reader, e: ASN1DecodeErr) -> Turn
-    requires small { length octets.now < 2 ^ 64 }
-    requires faulty { (n most : ℕ) × IsFaulty octets.now reader.old (fault_of e) n most }
-    ensures turned { (n most : ℕ) → IsFaulty octets.now reader.old (fault_of e) n most
-        → HasTurned octets.now result reader.new n most }
-{
-    while let Some(parent) = reader.outer.pop() {
-        let OpenFrame {
-            extent: Extent { kind, start, end },
-            begin,
-            ..
-        } = mem::replace(&mut reader.inner, parent);
-        if let Some(attempt) = as_attempt(kind) {
-            let depth = reader.outer.len();
-            let inside = leave(&mut reader.outermost, depth);
-            reader.owed.truncate(begin);
-            let Ok(()) = keep(alloc, octets, reader, inside, attempt, start, end) else {
-                reader.fault = ASN1DecodeErr::OutOfMemory;
-                return Turn::Stop;
-            };
-            return Turn::More;
-        }
-    }
-    reader.fault = e;
-    Turn::Stop
-}
-
-// The attempt that the frame is, where a fault inside ends.
-#[inline(always)]
-fn as_attempt(kind: FrameKind) -> Option<Attempt>
-    ensures { result ≡ attempt_of kind }
-{
-    match kind {
-        FrameKind::Attempt(attempt) => Some(attempt),
-        FrameKind::Whole | FrameKind::Group(_, _) => None,
-    }
 }

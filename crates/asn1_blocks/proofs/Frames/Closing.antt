@@ -1,20 +1,22 @@
 -- A frame has ended: it is a block of the frame around it, or the document.
-use Rattle.std.proofs.Common.{◌≡◌, ◌≢◌, ℕ, ◌+◌, ◌-◌, true, List, [], ◌∷◌, inl, inr, refl, sym, subst, arith}
+use Rattle.std.proofs.Common.{◌≡◌, ◌≢◌, ℕ, suc, ◌+◌, ◌-◌, true, List, [], ◌∷◌, inl, inr, length, refl, sym, ap, ◌∙◌, subst, arith}
 use Rattle.std.specs.List.{slice_range}
 use Rattle.asn1_blocks.specs.declared.block.GroupKind.{GroupKind}
 use Rattle.asn1_headers.specs.declared.header.ASN1Class.TheVariants.{Universal}
-use Rattle.asn1_blocks.specs.declared.owed.Attempt as owed
-use Rattle.asn1_blocks.specs.declared.read.FrameKind.TheVariants.{Group, Attempt}
+use Rattle.asn1_blocks.specs.declared.reading.Attempt as other
+use Rattle.asn1_blocks.specs.declared.reading.FrameKind.{FrameKind}
+use Rattle.asn1_blocks.specs.declared.reading.FrameKind.TheVariants.{Attempt, Group, Whole}
 use Rattle.asn1_blocks.specs.Contents.{group_tag}
-use Rattle.asn1_blocks.specs.Grammar.{of_other_class, of_group, Encodes, EncodesAll}
+use Rattle.asn1_blocks.specs.Grammar.{Encodes, EncodesAll, IsBlock, of_group, of_other_class}
 use Rattle.asn1_headers.specs.Header.{Encoding}
 use Rattle.asn1_blocks.specs.HeadersBegun.{HeadersBegun}
-use Rattle.asn1_blocks.specs.Inner.OpenFrames.{Frame, IsHeaded, AreOpen}
+use Rattle.asn1_blocks.specs.Inner.OpenFrames.{AreOpen, Frame, IsEnded, IsHeaded, around, as_it_came, attempted}
 use Rattle.asn1_blocks.specs.Tree.{Tree, group, trees_of}
+use Rattle.asn1_blocks.proofs.Faults.{one_block, tree_count}
 use Rattle.asn1_blocks.proofs.Frames.Stopping.{IsClosed, whole_document}
 use Rattle.asn1_blocks.proofs.HeaderCounts.{begun_opened}
 use Rattle.asn1_blocks.proofs.Leaves.{group_tag_is}
-use Rattle.asn1_blocks.proofs.OneReading.{encodes_blocks}
+use Rattle.asn1_blocks.proofs.OneReading.{encodes_blocks, only_tree}
 
 -- the document has ended
 pub record IsDocumentRead (octets : List ℕ) (f : Frame) (n : ℕ) : Type 0 where
@@ -65,13 +67,13 @@ close_group octets f g gs n x y k o =
     }
 
 -- around contents octets that are these trees, the encoding of an attempt encodes the tree
-abbrev pub Means : owed.Attempt → List ℕ → List (Tree ℕ) → Tree ℕ → Type 0
+abbrev pub Means : other.Attempt → List ℕ → List (Tree ℕ) → Tree ℕ → Type 0
 Means a contents ts t =
     (all : List ℕ) (h : ℕ) → a.class ≢ Universal → Encoding all a.class true a.tag contents h → EncodesAll (a.offset + h) contents (trees_of ts)
     → Encodes a.offset all t
 
 -- an attempt
-pub close_attempt : (octets : List ℕ) (f g : Frame) (gs : List Frame) (n : ℕ) (a : owed.Attempt) (t : Tree ℕ) → f.extent.kind ≡ Attempt a
+pub close_attempt : (octets : List ℕ) (f g : Frame) (gs : List Frame) (n : ℕ) (a : other.Attempt) (t : Tree ℕ) → f.extent.kind ≡ Attempt a
     → Means a (slice_range octets f.extent.start f.extent.end) f.trees t → AreOpen octets f (g ∷ gs) f.extent.end n
     → IsClosed octets g gs f.extent.end t n
 close_attempt octets f g gs n a t k means o =
@@ -95,3 +97,49 @@ close_attempt octets f g gs n a t k means o =
       };
       total = o.total;
     }
+
+-- the encoding around one tree, and around any other number
+one_means : (a : other.Attempt) (contents : List ℕ) (t : Tree ℕ) → Means a contents (t ∷ []) (around a t)
+one_means a contents t all h ne F s =
+    record { contents = contents; header = h; encoding = F; place = refl; other = ne; means = only_tree (a.offset + h) contents t s }
+
+count_trees : (ts : List (Tree ℕ)) → tree_count (trees_of ts) ≡ length ts
+count_trees [] = refl
+count_trees (t ∷ ts) = ap suc (count_trees ts)
+
+other_means : (octets : List ℕ) (a : other.Attempt) (s e : ℕ) (ts : List (Tree ℕ)) → (length ts ≡ 1 → ⊥)
+    → Means a (slice_range octets s e) ts (as_it_came octets a s e)
+other_means octets a s e ts many all h ne F r =
+    let no_block : IsBlock (slice_range octets s e) → ⊥ =
+    λ z. many (sym (count_trees ts) ∙ one_block (a.offset + h) (slice_range octets s e) (trees_of ts) r z) in
+    record { header = h; encoding = F; place = refl; stays = inr (ne, λ z. no_block z.1) }
+
+attempt_means : (octets : List ℕ) (a : other.Attempt) (s e : ℕ) (ts : List (Tree ℕ)) → Means a (slice_range octets s e) ts (attempted octets a s e ts)
+attempt_means octets a s e [] = other_means octets a s e [] (λ z. absurd (omega (arith, z)))
+attempt_means octets a s e (t ∷ []) = one_means a (slice_range octets s e) t
+attempt_means octets a s e (t ∷ u ∷ ts) = other_means octets a s e (t ∷ u ∷ ts) (λ z. absurd (omega (arith, z)))
+
+-- the tree of a frame that is not the document
+pub ended : (octets : List ℕ) (kind : FrameKind) (s e : ℕ) (ts : List (Tree ℕ)) → kind ≢ Whole → (t : Tree ℕ) × IsEnded octets kind s e ts t
+ended octets Whole s e ts other_kind = absurd (other_kind refl)
+ended octets (Group g o) s e ts other_kind = (group o g (trees_of ts), refl)
+ended octets (Attempt a) s e ts other_kind = (attempted octets a s e ts, refl)
+
+pub inside_other : (octets : List ℕ) (f g : Frame) (gs : List Frame) (p n : ℕ) → AreOpen octets f (g ∷ gs) p n → f.extent.kind ≢ Whole
+inside_other octets f g gs p n o is = absurd (subst (λ z. IsHeaded octets z o.offset f.extent.start f.extent.end) is o.headed)
+
+-- follows in the frame around it
+pub close_frame : (octets : List ℕ) (f g : Frame) (gs : List Frame) (n : ℕ) (t : Tree ℕ) → IsEnded octets f.extent.kind f.extent.start f.extent.end f.trees t
+    → AreOpen octets f (g ∷ gs) f.extent.end n → IsClosed octets g gs f.extent.end t n
+close_frame octets f g gs n t is o = go f.extent.kind refl
+  where
+    go : (kind : FrameKind) → f.extent.kind ≡ kind → IsClosed octets g gs f.extent.end t n
+    go Whole d = absurd (inside_other octets f g gs f.extent.end n o d)
+    go (Group y x) d =
+        let this = subst (λ z. IsEnded octets z f.extent.start f.extent.end f.trees t) d is in
+        subst (λ z. IsClosed octets g gs f.extent.end z n) (sym this) (close_group octets f g gs n x y d o)
+    go (Attempt a) d =
+        let this = subst (λ z. IsEnded octets z f.extent.start f.extent.end f.trees t) d is in
+        let means = attempt_means octets a f.extent.start f.extent.end f.trees in
+        subst (λ z. IsClosed octets g gs f.extent.end z n) (sym this)
+        (close_attempt octets f g gs n a (attempted octets a f.extent.start f.extent.end f.trees) d means o)

@@ -28,8 +28,8 @@ use Rattle.asn1_headers.specs.declared.error.ASN1DecodeErr.TheVariants.{OutOfMem
 use Rattle.asn1_headers.specs.declared.header.ASN1Class.{ASN1Class}
 use Rattle.asn1_headers.specs.declared.header.ASN1Class.TheVariants.{Universal}
 use Rattle.asn1_blocks.specs.declared.parsed.Header.{Header}
-use Rattle.asn1_blocks.specs.declared.read.FrameKind.{FrameKind}
-use Rattle.asn1_blocks.specs.declared.read.FrameKind.TheVariants.{Whole, Group, Attempt}
+use Rattle.asn1_blocks.specs.declared.reading.FrameKind.{FrameKind}
+use Rattle.asn1_blocks.specs.declared.reading.FrameKind.TheVariants.{Whole, Group, Attempt}
 use Rattle.asn1_headers.specs.Fault.{DecodeFault, OutOfMemoryOr, fault_of}
 use Rattle.asn1_blocks.specs.Contents.{group_tag, is_group_tag, LeafFault}
 use Rattle.asn1_headers.specs.HeaderFault.{HeaderFault}
@@ -39,7 +39,7 @@ use Rattle.asn1_headers.specs.Header.{Encoding}
 use Rattle.asn1_blocks.specs.HeadersBegun.{IsReadInside, begun_none, begun_some, nothing_inside, nothing_after}
 use Rattle.asn1_blocks.specs.Inner.OpenFrames.{Frame, IsHeaded, AreOpen, IsStopping}
 use Rattle.asn1_blocks.specs.Inner.HeaderPlaces.{IsEncodingBetween, HeaderFound}
-use Rattle.asn1_blocks.specs.Inner.ReaderSteps.{IsKindOf}
+use Rattle.asn1_blocks.specs.Inner.OpenFrames.{IsKindOf}
 use Rattle.asn1_blocks.specs.Tree.{Tree, trees_of}
 use Rattle.asn1_blocks.proofs.Faults.{block_fault_no_block, header_no_encoding}
 use Rattle.asn1_blocks.proofs.Frames.Advances.{Follows, opened_places}

@@ -24,15 +24,14 @@ use Rattle.std.proofs.Common.{
 }
 use Rattle.std.specs.List.{slice_range}
 use Rattle.asn1_blocks.specs.declared.block.GroupKind.{GroupKind}
-use Rattle.asn1_blocks.specs.declared.owed.Attempt as owed
-use Rattle.asn1_blocks.specs.declared.read.FrameKind.{FrameKind}
-use Rattle.asn1_blocks.specs.declared.read.FrameKind.TheVariants.{Whole, Group, Attempt}
+use Rattle.asn1_blocks.specs.declared.reading.Attempt as owed
+use Rattle.asn1_blocks.specs.declared.reading.FrameKind.{FrameKind}
+use Rattle.asn1_blocks.specs.declared.reading.FrameKind.TheVariants.{Whole, Group, Attempt}
 use Rattle.asn1_headers.specs.Fault.{DecodeFault}
 use Rattle.asn1_blocks.specs.FaultPlace.{BlockFaultAt, at_item, BlocksFaultAt, at_block}
-use Rattle.asn1_blocks.specs.Grammar.{IsBlock, of_other_class}
+use Rattle.asn1_blocks.specs.Grammar.{AreBlocks, IsBlock, of_other_class}
 use Rattle.asn1_blocks.specs.HeadersBegun.{HeadersBegun, begun_some, inside_first, nothing_after}
-use Rattle.asn1_blocks.specs.Inner.OpenFrames.{Frame, IsReadTo, IsGroupAt, IsHeaded, AreOpen, StopsAt, IsStopping}
-use Rattle.asn1_blocks.specs.Inner.Owed.{as_it_came}
+use Rattle.asn1_blocks.specs.Inner.OpenFrames.{AreOpen, Frame, IsGroupAt, IsHeaded, IsReadTo, IsStopping, StopsAt, as_it_came}
 use Rattle.asn1_blocks.specs.Inner.ReaderSteps.{IsFaultyDocument}
 use Rattle.asn1_blocks.specs.Tree.{Tree, trees_of}
 use Rattle.asn1_blocks.proofs.Faults.{block_is_blocks, block_fault_no_block, blocks_fault_no_blocks}
@@ -133,6 +132,17 @@ pub record IsClosed (octets : List ℕ) (g : Frame) (gs : List Frame) (end : ℕ
   pub follows : Follows octets g place end t own
   pub total : n ≡ before + own
 
+-- contents octets with a fault are no blocks
+pub stop_no_blocks : (octets : List ℕ) (f g : Frame) (gs : List Frame) (e : DecodeFault) (offset n : ℕ) → length octets < 2 ^ 64
+    → IsStopping octets f (g ∷ gs) e offset n → AreBlocks (slice_range octets f.extent.start f.extent.end) → ⊥
+stop_no_blocks octets f g gs e offset n small w =
+    let o = w.opened in
+    let contents = slice_range octets f.extent.start f.extent.end in
+    let r = refused_read octets f w.place e offset o.own w.own o.read w.stops in
+    let l = slice_length octets f.extent.start f.extent.end (omega (arith, o.read.from, o.read.to)) o.read.within in
+    let short : length contents < 2 ^ 64 = omega (arith, l, small, o.read.within) in
+    blocks_fault_no_blocks contents e (blocks_placed contents e r.after r.fault) short
+
 -- a fault closes an attempt
 pub stop_attempt : (octets : List ℕ) (f g : Frame) (gs : List Frame) (e : DecodeFault) (offset n : ℕ) (a : owed.Attempt) → length octets < 2 ^ 64
     → f.extent.kind ≡ Attempt a → IsStopping octets f (g ∷ gs) e offset n
@@ -145,10 +155,7 @@ stop_attempt octets f g gs e offset n a small k w =
     let H = subst (λ i. IsHeaded octets i o.offset s z) k o.headed in
     let F = H.1.encoding in
     let r = refused_read octets f w.place e offset o.own w.own o.read w.stops in
-    let l = slice_length octets s z (omega (arith, o.read.from, o.read.to)) o.read.within in
-    let short : length contents < 2 ^ 64 = omega (arith, l, small, o.read.within) in
-    let fault = blocks_placed contents e r.after r.fault in
-    let no_block = λ (i : (true ≡ true) × IsBlock contents). blocks_fault_no_blocks contents e fault short (block_is_blocks contents i.1) in
+    let no_block = λ (i : (true ≡ true) × IsBlock contents). stop_no_blocks octets f g gs e offset n small w (block_is_blocks contents i.1) in
     let m = o.own + w.own in
     record {
       place = a.offset;

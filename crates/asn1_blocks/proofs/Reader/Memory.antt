@@ -2,11 +2,11 @@
 use Rattle.std.proofs.Common.{◌≡◌, ℕ, List, Result, Ok, Err, IsErr, IsErrAnd, inl}
 use Rattle.asn1_headers.specs.declared.error.ASN1DecodeErr.{ASN1DecodeErr}
 use Rattle.asn1_headers.specs.declared.error.ASN1DecodeErr.TheVariants.{OutOfMemory}
-use Rattle.asn1_blocks.specs.declared.read.Reader.{Reader}
-use Rattle.asn1_blocks.specs.Inner.ReaderSteps.{HasStepped}
+use Rattle.asn1_blocks.specs.declared.reading.Reader.{Reader}
+use Rattle.asn1_blocks.specs.Inner.ReaderSteps.{HasStepped, Holding}
 
-pub stepped_memory : {A : Type 0} (octets : List ℕ) (t : Result A ASN1DecodeErr) (r : Reader) (n most : ℕ)
+pub stepped_memory : {A B I : Type 0} (Holds : Holding B I) (octets : List ℕ) (t : Result A ASN1DecodeErr) (r : Reader B I) (n most : ℕ)
     → IsErr t × IsErrAnd t (λ e. e ≡ OutOfMemory)
-    → HasStepped octets t r n most
-stepped_memory octets (Ok x) r n most h = absurd h.1
-stepped_memory octets (Err e) r n most h = inl h.1
+    → HasStepped Holds octets t r n most
+stepped_memory Holds octets (Ok x) r n most h = absurd h.1
+stepped_memory Holds octets (Err e) r n most h = inl h.1

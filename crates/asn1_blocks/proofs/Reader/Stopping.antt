@@ -9,107 +9,111 @@ use Rattle.std.proofs.Common.{
   [],
   ◌∷◌,
   ◌++◌,
+  Global,
+  Vec,
+  is_some,
   length,
-  take,
-  drop,
   reverse,
+  true,
+  refl,
   sym,
   ap,
-  ◌∙◌,
   subst,
   arith,
   append_assoc,
   length-append,
-  Some,
 }
-use Rattle.std.proofs.lemmas.List.{take-append-drop, take-append-le}
-use Rattle.asn1_blocks.specs.declared.owed.Attempt as owed
-use Rattle.asn1_blocks.specs.declared.owed.Owed.{Owed}
-use Rattle.asn1_blocks.specs.declared.read.FrameKind.{FrameKind}
-use Rattle.asn1_blocks.specs.declared.read.FrameKind.TheVariants.{Whole, Group, Attempt}
-use Rattle.asn1_blocks.specs.declared.read.OpenFrame.{OpenFrame}
+use Rattle.std.proofs.lemmas.List.{length-reverse}
+use Rattle.asn1_headers.specs.declared.error.ASN1DecodeErr.{ASN1DecodeErr}
 use Rattle.asn1_headers.specs.Fault.{DecodeFault}
-use Rattle.asn1_blocks.specs.Inner.OpenFrames.{IsStopping}
-use Rattle.asn1_blocks.specs.Inner.Owed.{as_it_came}
-use Rattle.asn1_blocks.specs.Inner.ReaderSteps.{AllHold, frame, frames, IsRefused, IsFaultyDocument, attempt_of, left}
-use Rattle.asn1_blocks.proofs.Frames.Stopping.{StoppingPlaces, stop_attempt, stop_document, stop_pop, stopping_places}
-use Rattle.asn1_blocks.proofs.Reader.Adding.{IsReady}
-use Rattle.asn1_blocks.proofs.Reader.Popping.{reverse_push, reverse_none}
-use Rattle.asn1_blocks.proofs.Reader.Holding.{IsNested, nested}
+use Rattle.asn1_blocks.specs.declared.reading.Attempt as other
+use Rattle.asn1_blocks.specs.declared.reading.FrameKind.{FrameKind}
+use Rattle.asn1_blocks.specs.declared.reading.FrameKind.TheVariants.{Whole, Group, Attempt}
+use Rattle.asn1_blocks.specs.declared.reading.OpenFrame.{OpenFrame}
+use Rattle.asn1_blocks.specs.Inner.OpenFrames.{IsStopping, attempt_of}
+use Rattle.asn1_blocks.specs.Inner.ReaderSteps.{CanBeKept, GoesOn, HasKept, Holding, IsFaultyDocument, IsRefused, frame, frames, left}
+use Rattle.asn1_blocks.specs.Tree.{Tree}
+use Rattle.asn1_blocks.proofs.Frames.Stopping.{StoppingPlaces, stop_attempt, stop_document, stop_no_blocks, stop_pop, stopping_places}
+use Rattle.asn1_blocks.proofs.Reader.Closing.{IsNested, goes_on, nested}
+use Rattle.asn1_blocks.proofs.Reader.Popping.{reverse_none, reverse_push}
 
--- where the frame is in which a fault is
-pub refused_places : (octets : List ℕ) (es : List Owed) (f : OpenFrame) (gs : List OpenFrame) (e : DecodeFault) (offset n : ℕ)
-    (r : IsRefused octets es f gs e offset n) → StoppingPlaces octets (frame f r.trees) n
-refused_places octets es f gs e offset n r = stopping_places octets (frame f r.trees) (frames gs r.outer) e offset n r.stopping
+-- an attempt is one
+pub attempt_is : (kind : FrameKind) → is_some (attempt_of kind) ≡ true → (a : other.Attempt) × (kind ≡ Attempt a)
+attempt_is Whole e = absurd (cc)
+attempt_is (Group y p) e = absurd (cc)
+attempt_is (Attempt a) e = (a, refl)
 
--- a fault in no attempt
-pub refused_document : (octets : List ℕ) (es : List Owed) (f : OpenFrame) (e : DecodeFault) (offset n : ℕ)
-    → IsRefused octets es f [] e offset n → IsFaultyDocument octets e offset n
-refused_document octets es f e offset n r = stop_document octets (frame f r.trees) e offset n r.stopping
-
--- a fault in the frame k inside the frame h
-module _ (octets : List ℕ) (es : List Owed) (k h : OpenFrame) (gs : List OpenFrame) (e : DecodeFault) (offset n : ℕ) (small : length octets < 2 ^ 64)
-    (r : IsRefused octets es k (h ∷ gs) e offset n) where
-  N : IsNested octets r.front k h gs r.trees r.outer
-  N = nested octets r.front k h gs r.trees r.outer r.holds
-
-  stops : IsStopping octets (frame k r.trees) (frame h N.next ∷ frames gs N.others) e offset n
-  stops = subst (λ z. IsStopping octets (frame k r.trees) (frames (h ∷ gs) z) e offset n) N.are r.stopping
-
-  pub fits : k.extent.end ≤ h.extent.end
-  fits = stops.opened.fits
-
-  -- goes on to that one, if k is no attempt
-  pub refused_pop : ((a : owed.Attempt) → k.extent.kind ≡ Attempt a → ⊥) → IsRefused octets es h gs e offset n
-  refused_pop other =
-      let joined = append_assoc (take k.begin r.front) (drop k.begin r.front) r.more in
-      let split = ap (λ z. z ++ r.more) (sym (take-append-drop k.begin r.front)) in
-      record {
-        trees = N.next;
-        outer = N.others;
-        front = take k.begin r.front;
-        more = drop k.begin r.front ++ r.more;
-        whole = r.whole ∙ (split ∙ joined);
-        holds = N.around;
-        stopping = stop_pop octets (frame k r.trees) (frame h N.next) (frames gs N.others) e offset n small other stops;
-      }
-
-  -- and ends it, if it is one
-  pub refused_attempt : (a : owed.Attempt) → k.extent.kind ≡ Attempt a
-      → IsReady octets (take k.begin es) h gs k.extent.end (as_it_came octets a k.extent.start k.extent.end) n
-  refused_attempt a kind =
-      let front : take k.begin es ≡ take k.begin r.front = ap (take k.begin) r.whole ∙ take-append-le k.begin r.front r.more N.own.begin in
-      record {
-        trees = N.next;
-        outer = N.others;
-        holds = subst (λ z. AllHold octets z h gs N.next N.others) (sym front) N.around;
-        closed = stop_attempt octets (frame k r.trees) (frame h N.next) (frames gs N.others) e offset n a small kind stops;
-      }
-
--- the frame around was taken out of the list
-pub refused_taken : (octets : List ℕ) (es : List Owed) (f k g h : OpenFrame) (before after : List OpenFrame) (e : DecodeFault) (offset n : ℕ)
-    → k ≡ f → h ≡ g
-    → before ≡ after ++ g ∷ [] → IsRefused octets es f (reverse before) e offset n → IsRefused octets es k (h ∷ reverse after) e offset n
-refused_taken octets es f k g h before after e offset n own new is r =
-    subst (λ z. IsRefused octets es k (z ∷ reverse after) e offset n) (sym new)
-    (subst (λ z. IsRefused octets es z (g ∷ reverse after) e offset n) (sym own)
-    (subst (λ z. IsRefused octets es f z e offset n) (reverse_push before after g is) r))
-
--- so there is less left to do
-pub taken_nearer : (size : ℕ) (f k g : OpenFrame) (before after : List OpenFrame) → k ≡ f → before ≡ after ++ g ∷ []
+-- there is less left to do when the frame around was taken out of the list
+pub taken_nearer : {I : Type 0} (size : ℕ) (f k g : OpenFrame I) (before after : List (OpenFrame I)) → k ≡ f → before ≡ after ++ g ∷ []
     → left size k.extent.end after < left size f.extent.end before
-taken_nearer size f k g before after own is =
-    let e : k.extent.end ≡ f.extent.end = ap (λ (z : OpenFrame). z.extent.end) own in
+taken_nearer {I} size f k g before after own is =
+    let e : k.extent.end ≡ f.extent.end = ap (λ (z : OpenFrame I). z.extent.end) own in
     omega (arith, e, ap length is, length-append after (g ∷ []))
 
--- no others are left
-pub refused_outermost : (octets : List ℕ) (es : List Owed) (f : OpenFrame) (outer : List OpenFrame) (e : DecodeFault) (offset n : ℕ) → length outer ≡ 0
-    → IsRefused octets es f (reverse outer) e offset n → IsFaultyDocument octets e offset n
-refused_outermost octets es f outer e offset n none r =
-    refused_document octets es f e offset n (subst (λ z. IsRefused octets es f z e offset n) (reverse_none outer none) r)
+module _ {B I : Type 0} (Holds : Holding B I) (octets : List ℕ) (b : B) where
+  -- the frame around was taken out of the list
+  pub refused_taken : (f k g h : OpenFrame I) (before after : List (OpenFrame I)) (e : DecodeFault) (offset n : ℕ) → k ≡ f → h ≡ g
+      → before ≡ after ++ g ∷ [] → IsRefused Holds octets b f (reverse before) e offset n → IsRefused Holds octets b k (h ∷ reverse after) e offset n
+  refused_taken f k g h before after e offset n own new is r =
+      subst (λ z. IsRefused Holds octets b k (z ∷ reverse after) e offset n) (sym new)
+      (subst (λ z. IsRefused Holds octets b z (g ∷ reverse after) e offset n) (sym own)
+      (subst (λ z. IsRefused Holds octets b f z e offset n) (reverse_push before after g is) r))
 
--- the attempt that a frame is
-pub attempt_is : (kind : FrameKind) (a : owed.Attempt) → Some a ≡ attempt_of kind → kind ≡ Attempt a
-attempt_is Whole a e = cc
-attempt_is (Group g o) a e = cc
-attempt_is (Attempt b) a e = cc
+  -- no others are left: the fault is that of the document
+  pub refused_outermost : (f : OpenFrame I) (outer : List (OpenFrame I)) (e : DecodeFault) (offset n : ℕ) → length outer ≡ 0
+      → IsRefused Holds octets b f (reverse outer) e offset n → IsFaultyDocument octets e offset n
+  refused_outermost f outer e offset n none r =
+      let alone = subst (λ z. IsStopping octets (frame f r.trees) (frames z r.outer) e offset n) (reverse_none outer none) r.stopping in
+      stop_document octets (frame f r.trees) e offset n alone
+
+  -- a fault in the frame k inside the frame h
+  module _ (k h : OpenFrame I) (outer : Vec (OpenFrame I) Global) (e : DecodeFault) (offset n : ℕ) (small : length octets < 2 ^ 64)
+      (r : IsRefused Holds octets b k (h ∷ reverse outer.items) e offset n) where
+    N : IsNested r.outer (length (reverse outer.items))
+    N = nested r.outer (length (reverse outer.items)) r.matched
+
+    stops : IsStopping octets (frame k r.trees) (frame h N.next ∷ frames (reverse outer.items) N.others) e offset n
+    stops = subst (λ z. IsStopping octets (frame k r.trees) (frames (h ∷ reverse outer.items) z) e offset n) N.are r.stopping
+
+    held : Holds octets b (r.inside ++ k ∷ h ∷ reverse outer.items) (r.lost ++ r.trees ∷ N.next ∷ N.others)
+    held = subst (λ z. Holds octets b (r.inside ++ k ∷ h ∷ reverse outer.items) (r.lost ++ r.trees ∷ z)) N.are r.holds
+
+    pub fits : k.extent.end ≤ h.extent.end
+    fits = stops.opened.fits
+
+    -- goes on to that one, if k is no attempt
+    pub refused_pop : ((a : other.Attempt) → k.extent.kind ≡ Attempt a → ⊥) → IsRefused Holds octets b h (reverse outer.items) e offset n
+    refused_pop other_kind =
+        let gs = reverse outer.items in
+        let joined = append_assoc r.inside (k ∷ []) (h ∷ gs) in
+        let lost = append_assoc r.lost (r.trees ∷ []) (N.next ∷ N.others) in
+        record {
+          trees = N.next;
+          outer = N.others;
+          inside = r.inside ++ k ∷ [];
+          lost = r.lost ++ r.trees ∷ [];
+          matched = N.count;
+          dropped = omega (arith, r.dropped, length-append r.inside (k ∷ []), length-append r.lost (r.trees ∷ []));
+          holds = subst (λ z. Holds octets b z ((r.lost ++ r.trees ∷ []) ++ N.next ∷ N.others)) (sym joined)
+              (subst (λ z. Holds octets b (r.inside ++ k ∷ h ∷ gs) z) (sym lost) held);
+          stopping = stop_pop octets (frame k r.trees) (frame h N.next) (frames gs N.others) e offset n small other_kind stops;
+        }
+
+    -- which can be kept, if it is one
+    pub can_be_kept : (a : other.Attempt) → k.extent.kind ≡ Attempt a → CanBeKept octets k.extent
+    can_be_kept a is =
+        let p : StoppingPlaces octets (frame k r.trees) n = stopping_places octets (frame k r.trees)
+        (frame h N.next ∷ frames (reverse outer.items) N.others) e offset n stops in
+        record { attempt = a; kind = is; order = p.order; within = p.within }
+
+    -- and then reading goes on
+    pub kept_goes_on : (a : other.Attempt) → k.extent.kind ≡ Attempt a → (depth : ℕ) (c : B) (j : I) (fault : ASN1DecodeErr) (most : ℕ) →
+        depth ≡ length outer.items → HasKept Holds octets k depth b h.items c j → left (length octets) k.extent.end outer.items < most →
+        GoesOn Holds octets
+        (record { inner = record { extent = h.extent; items = j }; outer = outer; index = k.extent.end; builder = c; fault = fault }) n most
+    kept_goes_on a is depth c j fault most d kept near =
+        let gs = reverse outer.items in
+        let none = stop_no_blocks octets (frame k r.trees) (frame h N.next) (frames gs N.others) e offset n small stops in
+        let after = kept.holds r.inside r.lost h.extent gs r.trees N.next N.others a (omega (arith, d, length-reverse outer.items)) r.dropped is none held in
+        let closed = stop_attempt octets (frame k r.trees) (frame h N.next) (frames gs N.others) e offset n a small is stops in
+        goes_on Holds octets h.extent j outer k.extent.end c fault N.next N.others _ n most near N.count after closed

@@ -1,18 +1,51 @@
 -- The frames that are open while a document is read.
-use Rattle.std.specs.Prelude.{◌≡◌, ◌≢◌, ℕ, ◌+◌, ◌-◌, ◌<◌, ◌≤◌, Bool, true, List, [], ◌∷◌, length, slice_range}
+use Rattle.std.specs.Prelude.{◌≡◌, ◌≢◌, ℕ, ◌+◌, ◌-◌, ◌<◌, ◌≤◌, Bool, true, List, [], ◌∷◌, Option, Some, None, length, slice_range}
 use Rattle.asn1_blocks.specs.declared.block.GroupKind.{GroupKind}
 use Rattle.asn1_headers.specs.declared.header.ASN1Class.TheVariants.{Universal}
-use Rattle.asn1_blocks.specs.declared.owed.Attempt as owed
-use Rattle.asn1_blocks.specs.declared.read.Extent.{Extent}
-use Rattle.asn1_blocks.specs.declared.read.FrameKind.{FrameKind}
-use Rattle.asn1_blocks.specs.declared.read.FrameKind.TheVariants.{Whole, Group, Attempt}
+use Rattle.asn1_blocks.specs.declared.reading.Attempt as other
+use Rattle.asn1_blocks.specs.declared.parsed.Header.{Header}
+use Rattle.asn1_blocks.specs.declared.reading.Extent.{Extent}
+use Rattle.asn1_blocks.specs.declared.reading.FrameKind.{FrameKind}
+use Rattle.asn1_blocks.specs.declared.reading.FrameKind.TheVariants.{Whole, Group, Attempt}
 use Rattle.asn1_headers.specs.Fault.{DecodeFault}
-use Rattle.asn1_blocks.specs.Tree.{Tree, trees_of}
+use Rattle.asn1_blocks.specs.Tree.{Tree, explicit, group, trees_of, unknown}
 use Rattle.asn1_blocks.specs.Contents.{group_tag}
 use Rattle.asn1_blocks.specs.Grammar.{EncodesAll}
 use Rattle.asn1_blocks.specs.FaultPlace.{BlockFaultAt}
 use Rattle.asn1_blocks.specs.HeadersBegun.{HeadersBegun}
 use Rattle.asn1_blocks.specs.Inner.HeaderPlaces.{IsEncodingBetween}
+
+-- the frame is of an encoding with this header, whose first octet is at the offset
+abbrev pub IsKindOf : FrameKind → Header → ℕ → Type 0
+IsKindOf Whole h offset = ⊥
+IsKindOf (Group g o) h offset = (h.class ≡ Universal) × (h.tag ≡ group_tag g) × (o ≡ offset)
+IsKindOf (Attempt a) h offset =
+    (h.class ≢ Universal) × (h.constructed ≡ true) ×
+    (a ≡ record { class = h.class; offset = offset; tag = h.tag })
+
+-- which attempt the frame is
+abbrev pub attempt_of : FrameKind → Option other.Attempt
+attempt_of Whole = None
+attempt_of (Group g o) = None
+attempt_of (Attempt a) = Some a
+
+-- an attempt that ended with one block, and one that stays as it came
+abbrev pub around : other.Attempt → Tree ℕ → Tree ℕ
+around a item = explicit a.class a.offset a.tag item
+
+abbrev pub as_it_came : List ℕ → other.Attempt → ℕ → ℕ → Tree ℕ
+as_it_came octets a start end = unknown a.class true a.offset a.tag (slice_range octets start end)
+
+abbrev pub attempted : List ℕ → other.Attempt → ℕ → ℕ → List (Tree ℕ) → Tree ℕ
+attempted octets a start end [] = as_it_came octets a start end
+attempted octets a start end (t ∷ []) = around a t
+attempted octets a start end (t ∷ u ∷ ts) = as_it_came octets a start end
+
+-- a frame that ended with these trees is this tree
+abbrev pub IsEnded : List ℕ → FrameKind → ℕ → ℕ → List (Tree ℕ) → Tree ℕ → Type 0
+IsEnded octets Whole start end ts t = ⊥
+IsEnded octets (Group g o) start end ts t = t ≡ group o g (trees_of ts)
+IsEnded octets (Attempt a) start end ts t = t ≡ attempted octets a start end ts
 
 -- contents octets that are being read, and the trees so far
 pub record Frame : Type 0 where
@@ -34,7 +67,7 @@ pub record IsGroupAt (octets : List ℕ) (g : GroupKind) (offset start end : ℕ
   pub encoding : IsEncodingBetween octets Universal constructed (group_tag g) offset start end
 
 -- and so has a constructed encoding of another class
-pub record IsAttemptAt (octets : List ℕ) (a : owed.Attempt) (start end : ℕ) : Type 0 where
+pub record IsAttemptAt (octets : List ℕ) (a : other.Attempt) (start end : ℕ) : Type 0 where
   pub other : a.class ≢ Universal
   pub encoding : IsEncodingBetween octets a.class true a.tag a.offset start end
 

@@ -1,17 +1,11 @@
 -- What is owed, and what it leads to. Only private contracts name these.
-use Rattle.std.specs.Prelude.{◌≡◌, ℕ, ◌-◌, true, List, [], ◌∷◌, ◌++◌, length, map, take, drop, slice_range}
-use Rattle.asn1_blocks.specs.declared.owed.Attempt.{Attempt}
+use Rattle.std.specs.Prelude.{◌≡◌, ℕ, ◌-◌, List, [], ◌∷◌, ◌++◌, length, map, take, drop}
+use Rattle.asn1_blocks.specs.declared.reading.Attempt.{Attempt}
 use Rattle.asn1_blocks.specs.declared.owed.Owed.{Owed}
 use Rattle.asn1_blocks.specs.declared.owed.Owed.TheVariants.{Ready, Group, Explicit, Kept}
-use Rattle.asn1_blocks.specs.Tree.{Tree, group, explicit, unknown, trees_of}
+use Rattle.asn1_blocks.specs.Inner.OpenFrames.{around, as_it_came}
+use Rattle.asn1_blocks.specs.Tree.{Tree, group, trees_of}
 use Rattle.asn1_blocks.specs.View.{view}
-
--- an attempt that ended with one block, and one that stays as it came
-abbrev pub around : Attempt → Tree ℕ → Tree ℕ
-around a item = explicit a.class a.offset a.tag item
-
-abbrev pub as_it_came : List ℕ → Attempt → ℕ → ℕ → Tree ℕ
-as_it_came octets a start end = unknown a.class true a.offset a.tag (slice_range octets start end)
 
 -- the last tree goes inside an explicit one
 abbrev pub around_last : Attempt → List (Tree ℕ) → List (Tree ℕ)

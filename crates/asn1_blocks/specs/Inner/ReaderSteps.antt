@@ -1,116 +1,153 @@
--- The reader, and what its steps do.
-use Rattle.std.specs.Prelude.{◌≡◌, ◌≢◌, ℕ, ◌+◌, ◌*◌, ◌-◌, ◌<◌, ◌≤◌, ◌⊎◌, ◌++◌, true, List, [], ◌∷◌, length, reverse, map, take, drop, Result, Ok, Err, Option, Some, None}
+-- The reader, and what its steps do, whatever is built of the blocks.
+use Rattle.std.specs.Prelude.{◌≡◌, ◌≢◌, ℕ, ◌+◌, ◌*◌, ◌-◌, ◌<◌, ◌≤◌, ◌++◌, List, [], ◌∷◌, length, reverse, slice_range, Result, Ok, Err}
 use Rattle.asn1_headers.specs.declared.header.ASN1Class.TheVariants.{Universal}
 use Rattle.asn1_blocks.specs.declared.parsed.Header.{Header}
 use Rattle.asn1_headers.specs.declared.error.ASN1DecodeErr.{ASN1DecodeErr}
-use Rattle.asn1_blocks.specs.declared.block.ASN1Block.{ASN1Block}
-use Rattle.asn1_blocks.specs.declared.owed.Attempt as owed
-use Rattle.asn1_blocks.specs.declared.owed.Owed.{Owed}
-use Rattle.asn1_blocks.specs.declared.owed.Owed.TheVariants.{Ready, Kept}
-use Rattle.asn1_blocks.specs.declared.read.ReadAs.{ReadAs}
-use Rattle.asn1_blocks.specs.declared.read.ReadAs.TheVariants.{Blocks, Leaf}
-use Rattle.asn1_blocks.specs.declared.read.FrameKind.{FrameKind}
-use Rattle.asn1_blocks.specs.declared.read.FrameKind.TheVariants.{Whole, Group, Attempt}
-use Rattle.asn1_blocks.specs.declared.read.OpenFrame.{OpenFrame}
-use Rattle.asn1_blocks.specs.declared.read.Reader.{Reader}
-use Rattle.asn1_blocks.specs.declared.read.Turn.{Turn}
-use Rattle.asn1_blocks.specs.declared.read.Turn.TheVariants.{More, End, Stop}
-use Rattle.asn1_blocks.specs.Contents.{group_tag}
+use Rattle.asn1_blocks.specs.declared.reading.Attempt as other
+use Rattle.asn1_blocks.specs.declared.reading.Extent.{Extent}
+use Rattle.asn1_blocks.specs.declared.reading.FrameKind.{FrameKind}
+use Rattle.asn1_blocks.specs.declared.reading.FrameKind.TheVariants.{Whole, Attempt}
+use Rattle.asn1_blocks.specs.declared.reading.OpenFrame.{OpenFrame}
+use Rattle.asn1_blocks.specs.declared.reading.Reader.{Reader}
+use Rattle.asn1_blocks.specs.declared.reading.Turn.{Turn}
+use Rattle.asn1_blocks.specs.declared.reading.Turn.TheVariants.{More, End, Stop}
 use Rattle.asn1_headers.specs.Fault.{DecodeFault, OutOfMemoryOr}
-use Rattle.asn1_blocks.specs.Grammar.{EncodesAll}
+use Rattle.asn1_blocks.specs.Grammar.{AreBlocks, ContentsFault, Encodes, EncodesAll, IsDocument}
 use Rattle.asn1_blocks.specs.FaultPlace.{BlocksFaultAt}
-use Rattle.asn1_blocks.specs.HeadersBegun.{HeadersBegun, IsReadInside}
-use Rattle.asn1_blocks.specs.Inner.OpenFrames.{Frame, AreOpen, IsStopping}
-use Rattle.asn1_blocks.specs.Inner.Owed.{Leads, after_all, as_it_came}
+use Rattle.asn1_blocks.specs.HeadersBegun.{HeadersBegun}
+use Rattle.asn1_blocks.specs.Inner.OpenFrames.{AreOpen, Frame, IsEnded, IsHeaded, IsKindOf, IsStopping, as_it_came}
 use Rattle.asn1_blocks.specs.Tree.{Tree, trees_of}
-use Rattle.asn1_blocks.specs.View.{view}
 
--- the frame is of an encoding with this header, whose first octet is at the offset
-abbrev pub IsKindOf : FrameKind → Header → ℕ → Type 0
-IsKindOf Whole h offset = ⊥
-IsKindOf (Group g o) h offset = (h.class ≡ Universal) × (h.tag ≡ group_tag g) × (o ≡ offset)
-IsKindOf (Attempt a) h offset =
-    (h.class ≢ Universal) × (h.constructed ≡ true) ×
-    (a ≡ record { class = h.class; offset = offset; tag = h.tag })
+-- what a builder was given: these trees in the frames that are open, the innermost first
+abbrev pub Holding : Type 0 → Type 0 → Type 1
+Holding B I = List ℕ → B → List (OpenFrame I) → List (List (Tree ℕ)) → Type 0
 
--- what the contents octets of such an encoding are read as
-abbrev pub IsReadAs : Header → ℕ → ReadAs → Type 0
-IsReadAs h offset (Blocks kind) = IsKindOf kind h offset
-IsReadAs h offset (Leaf same) = (same ≡ h) × (IsReadInside h.class h.constructed h.tag → ⊥)
+abbrev pub in_frame : {I : Type 0} → Extent → I → OpenFrame I
+in_frame e items = record { extent = e; items = items }
 
--- which attempt the frame is
-abbrev pub attempt_of : FrameKind → Option owed.Attempt
-attempt_of Whole = None
-attempt_of (Group g o) = None
-attempt_of (Attempt a) = Some a
+-- the builder a became b, and has a new frame with these items, for an encoding with this header
+pub record HasOpened {B I : Type 0} (Holds : Holding B I) (octets : List ℕ) (h : Header) (offset depth : ℕ) (a : B) (items : I) (b : B)
+    : Type 0 where
+  pub holds : (kind : FrameKind) (f : OpenFrame I) (fs : List (OpenFrame I)) (trees : List (List (Tree ℕ))) → depth ≡ length fs →
+      IsKindOf kind h offset → Holds octets a (f ∷ fs) trees →
+      Holds octets b (in_frame (record { kind = kind; start = h.start; end = h.end }) items ∷ f ∷ fs) ([] ∷ trees)
 
--- the frame, which owes the last of these, has read these trees: its blocks, and those that what it owes leads to
-pub record Holds (octets : List ℕ) (es : List Owed) (f : OpenFrame)
-    (ts : List (Tree ℕ)) : Type 0 where
-  pub begin : f.begin ≤ length es
-  pub owed : List (Tree ℕ)
-  pub leads : Leads octets (drop f.begin es) owed
-  pub owes : f.owes ≡ length owed
-  pub trees : ts ≡ map view f.blocks ++ owed
+-- the innermost frame, whose items were i and are j, has one tree more
+pub record HasMore {B I : Type 0} (Holds : Holding B I) (octets : List ℕ) (t : Tree ℕ) (depth : ℕ) (a : B) (i : I) (b : B) (j : I)
+    : Type 0 where
+  pub holds : (e : Extent) (fs : List (OpenFrame I)) (ts : List (Tree ℕ)) (rest : List (List (Tree ℕ))) → depth ≡ length fs →
+      Holds octets a (in_frame e i ∷ fs) (ts ∷ rest) →
+      Holds octets b (in_frame e j ∷ fs) ((ts ++ t ∷ []) ∷ rest)
 
--- and so do the frames around it, the innermost first, which owe those before
-abbrev pub AllHold : List ℕ → List Owed → OpenFrame → List OpenFrame → List (Tree ℕ)
-    → List (List (Tree ℕ)) → Type 0
-AllHold octets es f [] ts [] = Holds octets es f ts × (f.begin ≡ 0)
-AllHold octets es f [] ts (us ∷ rest) = ⊥
-AllHold octets es f (g ∷ gs) ts [] = ⊥
-AllHold octets es f (g ∷ gs) ts (us ∷ rest) =
-    Holds octets es f ts × AllHold octets (take f.begin es) g gs us rest
+-- and that is one which the octets from the offset to the end encode
+pub record HasLeaf {B I : Type 0} (Holds : Holding B I) (octets : List ℕ) (offset end depth : ℕ) (a : B) (i : I) (b : B) (j : I)
+    : Type 0 where
+  pub tree : Tree ℕ
+  pub encoded : Encodes offset (slice_range octets offset end) tree
+  pub more : HasMore Holds octets tree depth a i b j
 
-abbrev pub frame : OpenFrame → List (Tree ℕ) → Frame
+-- the contents octets of the leaf are at fault, and all is as it was
+pub record IsLeafFault {B I : Type 0} (octets : List ℕ) (h : Header) (a : B) (i : I) (b : B) (j : I) (e : DecodeFault) : Type 0 where
+  pub builder : b ≡ a
+  pub items : j ≡ i
+  pub class : h.class ≡ Universal
+  pub fault : ContentsFault h.tag (slice_range octets h.start h.end) e
+
+-- a frame can end in another one
+pub record CanEnd {B I : Type 0} (Holds : Holding B I) (octets : List ℕ) (f : OpenFrame I) (depth : ℕ) (a : B) (i : I) : Type 0 where
+  pub kind : f.extent.kind ≢ Whole
+  pub order : f.extent.start ≤ f.extent.end
+  pub within : f.extent.end ≤ length octets
+  pub extent : Extent
+  pub outer : List (OpenFrame I)
+  pub deep : depth ≡ length outer
+  pub trees : List (List (Tree ℕ))
+  pub holds : Holds octets a (f ∷ in_frame extent i ∷ outer) trees
+
+-- contents octets that were read to their end, where these trees stand, are those of this one
+pub record EndsAs (octets : List ℕ) (e : Extent) (ts : List (Tree ℕ)) (t : Tree ℕ) : Type 0 where
+  pub tree : IsEnded octets e.kind e.start e.end ts t
+  pub offset : ℕ
+  pub headed : IsHeaded octets e.kind offset e.start e.end
+  pub after : offset < e.start
+  pub order : e.start ≤ e.end
+  pub encoded : EncodesAll e.start (slice_range octets e.start e.end) (trees_of ts)
+
+-- the frame ended: the one around it, whose items were i and are j, has its tree
+pub record HasEndedIn {B I : Type 0} (Holds : Holding B I) (octets : List ℕ) (f : OpenFrame I) (depth : ℕ) (a : B) (i : I) (b : B) (j : I)
+    : Type 0 where
+  pub holds : (e : Extent) (fs : List (OpenFrame I)) (ts us : List (Tree ℕ)) (rest : List (List (Tree ℕ))) (t : Tree ℕ) → depth ≡ length fs →
+      EndsAs octets f.extent ts t →
+      Holds octets a (f ∷ in_frame e i ∷ fs) (ts ∷ us ∷ rest) →
+      Holds octets b (in_frame e j ∷ fs) ((us ++ t ∷ []) ∷ rest)
+
+-- the frame is an attempt that can be kept
+pub record CanBeKept (octets : List ℕ) (e : Extent) : Type 0 where
+  pub attempt : other.Attempt
+  pub kind : e.kind ≡ Attempt attempt
+  pub order : e.start ≤ e.end
+  pub within : e.end ≤ length octets
+
+-- a fault ended the attempt, and the frames inside it are gone: the frame around it, whose items were i and are j, has
+-- the encoding as it came
+pub record HasKept {B I : Type 0} (Holds : Holding B I) (octets : List ℕ) (f : OpenFrame I) (depth : ℕ) (a : B) (i : I) (b : B) (j : I)
+    : Type 0 where
+  pub holds : (inside : List (OpenFrame I)) (lost : List (List (Tree ℕ))) (e : Extent) (fs : List (OpenFrame I)) (ts us : List (Tree ℕ))
+      (rest : List (List (Tree ℕ))) (k : other.Attempt) → depth ≡ length fs → length inside ≡ length lost →
+      f.extent.kind ≡ Attempt k → (AreBlocks (slice_range octets f.extent.start f.extent.end) → ⊥) →
+      Holds octets a (inside ++ f ∷ in_frame e i ∷ fs) (lost ++ ts ∷ us ∷ rest) →
+      Holds octets b (in_frame e j ∷ fs) ((us ++ as_it_came octets k f.extent.start f.extent.end ∷ []) ∷ rest)
+
+abbrev pub frame : {I : Type 0} → OpenFrame I → List (Tree ℕ) → Frame
 frame f ts = record { extent = f.extent; trees = ts }
 
-abbrev pub frames : List OpenFrame → List (List (Tree ℕ)) → List Frame
+abbrev pub frames : {I : Type 0} → List (OpenFrame I) → List (List (Tree ℕ)) → List Frame
 frames [] rest = []
 frames (f ∷ fs) [] = []
 frames (f ∷ fs) (ts ∷ rest) = frame f ts ∷ frames fs rest
 
 -- the frames are open and all is read up to the place; n headers were begun
-pub record Reads (octets : List ℕ) (es : List Owed) (f : OpenFrame) (gs : List OpenFrame)
+pub record Reads {B I : Type 0} (Holds : Holding B I) (octets : List ℕ) (b : B) (f : OpenFrame I) (gs : List (OpenFrame I))
     (place n : ℕ) : Type 0 where
   pub trees : List (Tree ℕ)
   pub outer : List (List (Tree ℕ))
-  pub holds : AllHold octets es f gs trees outer
+  pub matched : length gs ≡ length outer
+  pub holds : Holds octets b (f ∷ gs) (trees ∷ outer)
   pub opened : AreOpen octets (frame f trees) (frames gs outer) place n
 
-abbrev pub IsReading : List ℕ → Reader → ℕ → Type 0
-IsReading octets r n = Reads octets r.owed.items r.inner (reverse r.outer.items) r.index n
+abbrev pub IsReading : {B I : Type 0} → Holding B I → List ℕ → Reader B I → ℕ → Type 0
+IsReading Holds octets r n = Reads Holds octets r.builder r.inner (reverse r.outer.items) r.index n
 
--- a fault is in the frame, of a block at the offset; of what this frame and those around owe, some at the end is left
--- over
-pub record IsRefused (octets : List ℕ) (es : List Owed) (f : OpenFrame) (gs : List OpenFrame)
+-- a fault is in the frame, of a block at the offset; frames inside it were dropped
+pub record IsRefused {B I : Type 0} (Holds : Holding B I) (octets : List ℕ) (b : B) (f : OpenFrame I) (gs : List (OpenFrame I))
     (e : DecodeFault) (offset n : ℕ) : Type 0 where
   pub trees : List (Tree ℕ)
   pub outer : List (List (Tree ℕ))
-  pub front : List Owed
-  pub more : List Owed
-  pub whole : es ≡ front ++ more
-  pub holds : AllHold octets front f gs trees outer
+  pub inside : List (OpenFrame I)
+  pub lost : List (List (Tree ℕ))
+  pub matched : length gs ≡ length outer
+  pub dropped : length inside ≡ length lost
+  pub holds : Holds octets b (inside ++ f ∷ gs) (lost ++ trees ∷ outer)
   pub stopping : IsStopping octets (frame f trees) (frames gs outer) e offset n
 
 -- how much is left to do: each turn goes on in the octets, or closes a frame
-abbrev pub left : ℕ → ℕ → List OpenFrame → ℕ
+abbrev pub left : {I : Type 0} → ℕ → ℕ → List (OpenFrame I) → ℕ
 left size index outer = 2 * (size - index) + length outer
 
 -- a fault in the innermost frame, of the block that the reader has come to, with less left to do behind it
-pub record IsFaulty (octets : List ℕ) (r : Reader) (e : DecodeFault) (n most : ℕ) : Type 0 where
-  pub refused : IsRefused octets r.owed.items r.inner (reverse r.outer.items) e r.index n
+pub record IsFaulty {B I : Type 0} (Holds : Holding B I) (octets : List ℕ) (r : Reader B I) (e : DecodeFault) (n most : ℕ) : Type 0 where
+  pub refused : IsRefused Holds octets r.builder r.inner (reverse r.outer.items) e r.index n
   pub nearer : left (length octets) r.inner.extent.end r.outer.items ≤ most
 
 -- reading goes on, with less left to do
-pub record GoesOn (octets : List ℕ) (r : Reader) (n most : ℕ) : Type 0 where
-  pub reading : IsReading octets r n
+pub record GoesOn {B I : Type 0} (Holds : Holding B I) (octets : List ℕ) (r : Reader B I) (n most : ℕ) : Type 0 where
+  pub reading : IsReading Holds octets r n
   pub nearer : left (length octets) r.index r.outer.items < most
 
 -- where a step leads: reading goes on, memory ran out, or there is a fault in the innermost frame
-abbrev pub HasStepped : {A : Type 0} → List ℕ → Result A ASN1DecodeErr → Reader → ℕ → ℕ → Type 0
-HasStepped octets (Ok x) r n most = GoesOn octets r n most
-HasStepped octets (Err e) r n most = OutOfMemoryOr (λ fault. IsFaulty octets r fault n most) e
+abbrev pub HasStepped : {A B I : Type 0} → Holding B I → List ℕ → Result A ASN1DecodeErr → Reader B I → ℕ → ℕ → Type 0
+HasStepped Holds octets (Ok x) r n most = GoesOn Holds octets r n most
+HasStepped Holds octets (Err e) r n most = OutOfMemoryOr (λ fault. IsFaulty Holds octets r fault n most) e
 
 -- the fault is that of the document, of a block at the offset
 pub record IsFaultyDocument (octets : List ℕ) (e : DecodeFault) (offset n : ℕ) : Type 0 where
@@ -118,56 +155,41 @@ pub record IsFaultyDocument (octets : List ℕ) (e : DecodeFault) (offset n : �
   pub begun : HeadersBegun octets n
 
 -- the whole document was read
-pub record HasEnded (octets : List ℕ) (r : Reader) (n : ℕ) : Type 0 where
+pub record HasEnded {B I : Type 0} (Holds : Holding B I) (octets : List ℕ) (r : Reader B I) (n : ℕ) : Type 0 where
   pub trees : List (Tree ℕ)
-  pub are : map view r.inner.blocks ++ after_all octets r.owed.items [] ≡ trees
+  pub holds : Holds octets r.builder (r.inner ∷ []) (trees ∷ [])
   pub encoded : EncodesAll 0 octets (trees_of trees)
   pub begun : HeadersBegun octets n
 
 -- where a turn leads
-abbrev pub HasTurned : List ℕ → Turn → Reader → ℕ → ℕ → Type 0
-HasTurned octets More r n most = GoesOn octets r n most
-HasTurned octets End r n most = HasEnded octets r n
-HasTurned octets Stop r n most = OutOfMemoryOr (λ fault. IsFaultyDocument octets fault r.index n) r.fault
+abbrev pub HasTurned : {B I : Type 0} → Holding B I → List ℕ → Turn → Reader B I → ℕ → ℕ → Type 0
+HasTurned Holds octets More r n most = GoesOn Holds octets r n most
+HasTurned Holds octets End r n most = HasEnded Holds octets r n
+HasTurned Holds octets Stop r n most = OutOfMemoryOr (λ fault. IsFaultyDocument octets fault r.index n) r.fault
 
 -- and how many headers were begun since the count was at the base
-pub record HasTakenTurn (octets : List ℕ) (t : Turn) (r : Reader) (count base most : ℕ) : Type 0 where
+pub record HasTakenTurn {B I : Type 0} (Holds : Holding B I) (octets : List ℕ) (t : Turn) (r : Reader B I) (count base most : ℕ)
+    : Type 0 where
   pub begun : ℕ
   pub counted : count ≡ base + begun
   pub bounded : begun ≤ length octets
-  pub turned : HasTurned octets t r begun most
-
--- the innermost frame has one block more
-pub record IsPushed (a : Reader) (b : ASN1Block) (r : Reader) : Type 0 where
-  pub extent : r.inner.extent ≡ a.inner.extent
-  pub begin : r.inner.begin ≡ a.inner.begin
-  pub owes : r.inner.owes ≡ a.inner.owes
-  pub none : a.inner.owes ≡ 0
-  pub blocks : r.inner.blocks ≡ a.inner.blocks ++ b ∷ []
-  pub owed : r.owed.items ≡ a.owed.items
-  pub outer : r.outer.items ≡ a.outer.items
-
--- the innermost frame has one tree more, which is owed
-pub record IsOwed (a : Reader) (e : Owed) (r : Reader) : Type 0 where
-  pub extent : r.inner.extent ≡ a.inner.extent
-  pub begin : r.inner.begin ≡ a.inner.begin
-  pub owes : r.inner.owes ≡ a.inner.owes + 1
-  pub blocks : r.inner.blocks ≡ a.inner.blocks
-  pub owed : r.owed.items ≡ a.owed.items ++ e ∷ []
-  pub outer : r.outer.items ≡ a.outer.items
-
--- a block was put there, in one way or the other
-abbrev pub IsPut : Reader → ASN1Block → Reader → Type 0
-IsPut a b r = IsPushed a b r ⊎ IsOwed a (Ready b) r
-
--- an encoding that stays as it came was put there, as a block or owed
-abbrev pub IsKept : List ℕ → Reader → owed.Attempt → ℕ → ℕ → Reader → Type 0
-IsKept octets a k start end r =
-    ((b : ASN1Block) × (view b ≡ as_it_came octets k start end) × IsPut a b r) ⊎ IsOwed a
-    (Kept k start end) r
+  pub turned : HasTurned Holds octets t r begun most
 
 -- reading goes on inside a new frame, the innermost from now on
-pub record IsOpened (a : Reader) (f : OpenFrame) (r : Reader) : Type 0 where
+pub record IsEntered {B I : Type 0} (a : Reader B I) (f : OpenFrame I) (r : Reader B I) : Type 0 where
   pub inner : r.inner ≡ f
   pub outer : r.outer.items ≡ a.outer.items ++ a.inner ∷ []
-  pub owed : r.owed.items ≡ a.owed.items
+  pub builder : r.builder ≡ a.builder
+  pub index : r.index ≡ f.extent.start
+
+-- nothing is read yet
+abbrev pub StartsEmpty : {B I : Type 0} → Holding B I → List ℕ → B → I → Type 0
+StartsEmpty Holds octets b items =
+    Holds octets b (in_frame (record { kind = Whole; start = 0; end = length octets }) items ∷ []) ([] ∷ [])
+
+-- and these are the trees of the document
+pub record HasDocument {B I : Type 0} (Holds : Holding B I) (octets : List ℕ) (b : B) (items : I) : Type 0 where
+  pub trees : List (Tree ℕ)
+  pub extent : Extent
+  pub document : IsDocument octets (trees_of trees)
+  pub holds : Holds octets b (in_frame extent items ∷ []) (trees ∷ [])

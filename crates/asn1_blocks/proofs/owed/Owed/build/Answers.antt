@@ -1,7 +1,8 @@
 use Rattle.std.proofs.Common.{◌≡◌, ◌-◌, true, [], ◌∷◌, ◌++◌, map, length, ap, sym, ◌∙◌}
 use Rattle.std.proofs.Common.{arith}
 use Rattle.std.proofs.lemmas.Grind.{common_steps}
-use Rattle.asn1_blocks.specs.Inner.Owed.{after, as_it_came, around_last}
+use Rattle.asn1_blocks.specs.Inner.OpenFrames.{as_it_came}
+use Rattle.asn1_blocks.specs.Inner.Owed.{after, around_last}
 use Rattle.asn1_blocks.specs.Tree.{unknown}
 use Rattle.asn1_blocks.specs.View.{view}
 use Rattle.asn1_blocks.proofs.OwedBlocks.{pushed, group_built, around_built}

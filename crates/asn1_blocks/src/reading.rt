@@ -1,0 +1,417 @@
+// Reading, whatever is built of the blocks: one loop over the frames that are open, so that no function calls itself.
+ghost use Rattle.std.specs.Prelude.{◌≡◌, ◌≢◌, ◌↔◌, ℕ, ◌+◌, ◌-◌, ◌<◌, ◌≤◌, ◌^◌, ◌⊎◌, ◌++◌, ◌∷◌, [], List, is_some, length, reverse, IfOk, IfErr, IsTrue, MatchResult, OnOk};
+ghost use Rattle.asn1_headers.specs.declared.error.ASN1DecodeErr.TheVariants.{OutOfMemory};
+ghost use Rattle.asn1_headers.specs.Fault.{OutOfMemoryOr, fault_of};
+ghost use Rattle.asn1_blocks.specs.FaultPlace.{FirstFaultAt};
+ghost use Rattle.asn1_blocks.specs.HeadersBegun.{HeadersBegun, IsReadInside};
+ghost use Rattle.asn1_blocks.specs.Inner.HeaderPlaces.{HeaderFound};
+ghost use Rattle.asn1_blocks.specs.Inner.OpenFrames.{IsKindOf, attempt_of};
+ghost use Rattle.asn1_blocks.specs.Inner.ReaderSteps.{CanBeKept, CanEnd, HasDocument, HasEndedIn, HasKept, HasLeaf, HasOpened, HasStepped, HasTakenTurn, HasTurned, IsEntered, IsFaulty, IsLeafFault, IsReading, Reads, StartsEmpty, in_frame, left};
+ghost use Rattle.asn1_blocks.specs.Tree.{Tree};
+ghost use Rattle.asn1_blocks.specs.declared.reading.OpenFrame.{OpenFrame};
+
+use crate::block::GroupKind;
+use crate::parsed::{Header, header_within};
+use asn1_headers::error::{ASN1DecodeErr, LocatedErr};
+use asn1_headers::header::{ASN1Class, HeaderCount};
+use asn1_numbers::number::big_uint::BigUint;
+use std::alloc::{AllocError, Global};
+use std::mem;
+
+// A constructed encoding of another class than Universal. Its contents octets are read as blocks; where that fails, or
+// gives any other number than one, it stays as it came.
+#[derive(Drop)]
+pub struct Attempt {
+    pub class: ASN1Class,
+    pub offset: usize,
+    pub tag: BigUint,
+}
+
+// What the contents octets of a frame are.
+#[derive(Drop)]
+pub enum FrameKind {
+    // The whole document.
+    Whole,
+    // Those of a SEQUENCE or SET at the offset.
+    Group(GroupKind, usize),
+    Attempt(Attempt),
+}
+
+// Contents octets, and where they begin and end in the document.
+#[derive(Drop)]
+pub struct Extent {
+    pub kind: FrameKind,
+    pub start: usize,
+    pub end: usize,
+}
+
+// Contents octets that are being read, and what a builder keeps of the items so far.
+#[derive(Drop)]
+pub struct OpenFrame<I> {
+    pub extent: Extent,
+    pub items: I,
+}
+
+// What is built of the blocks, while they are read: each call adds one to the innermost frame, or opens one in it.
+// `depth` is how many frames stand around that frame.
+pub trait Builder: Drop {
+    type Items: Drop;
+
+    // It was given these trees in these frames, the innermost first, of the document.
+    ghost holds: { List ℕ → Self → List (OpenFrame Self.Items) → List (List (Tree ℕ)) → Type 0 };
+
+    // The items of a new frame in the innermost one, of the encoding with the header.
+    fn open(
+        &mut self,
+        alloc: Global,
+        octets: &[u8],
+        header: &Header,
+        offset: usize,
+        depth: usize,
+    ) -> Result<Self::Items, AllocError>
+        requires found { (limit : ℕ) × HeaderFound octets.now offset limit header.now
+            × (limit ≤ length octets.now) }
+        requires inside { IsReadInside header.now.class header.now.constructed header.now.tag }
+        ensures { IfOk result (λ items. HasOpened holds octets.now header.now offset depth self.old items self.new) };
+
+    // The innermost frame has the block with the header, whose contents octets are not read as blocks.
+    fn leaf(
+        &mut self,
+        alloc: Global,
+        octets: &[u8],
+        items: &mut Self::Items,
+        header: Header,
+        offset: usize,
+        depth: usize,
+    ) -> Result<(), ASN1DecodeErr>
+        requires found { (limit : ℕ) × HeaderFound octets.now offset limit header
+            × (limit ≤ length octets.now) }
+        requires leaf { IsReadInside header.class header.constructed header.tag → ⊥ }
+        ensures built { OnOk result
+            (HasLeaf holds octets.now offset header.end depth self.old items.old self.new items.new) }
+        ensures refused { IfErr result
+            (OutOfMemoryOr (IsLeafFault octets.now header self.old items.old self.new items.new)) };
+
+    // The frame has ended, and the one around it, whose items are `parent`, has its block.
+    fn close(
+        &mut self,
+        alloc: Global,
+        octets: &[u8],
+        extent: Extent,
+        items: Self::Items,
+        parent: &mut Self::Items,
+        depth: usize,
+    ) -> Result<(), AllocError>
+        requires { CanEnd holds octets.now (in_frame extent items) depth self.old parent.old }
+        ensures { OnOk result (HasEndedIn holds octets.now (in_frame extent items) depth self.old parent.old self.new parent.new) };
+
+    // A fault inside ended the frame, an attempt: the frame around it has the encoding as it came.
+    fn keep(
+        &mut self,
+        alloc: Global,
+        octets: &[u8],
+        extent: Extent,
+        items: Self::Items,
+        parent: &mut Self::Items,
+        depth: usize,
+    ) -> Result<(), AllocError>
+        requires { CanBeKept octets.now extent }
+        ensures { OnOk result (HasKept holds octets.now (in_frame extent items) depth self.old parent.old self.new parent.new) };
+}
+
+// The innermost frame, those around it, the place reached, and what is built.
+#[derive(Drop)]
+struct Reader<B, I> {
+    inner: OpenFrame<I>,
+    outer: Vec<OpenFrame<I>>,
+    index: usize,
+    builder: B,
+    // Why reading stopped.
+    fault: ASN1DecodeErr,
+}
+
+// Where a turn leads: there is more to read, the document has ended, or the reader has a fault.
+#[derive(Clone, Copy)]
+enum Turn {
+    More,
+    End,
+    Stop,
+}
+
+// Reads a document: gives the builder back, and the document's items.
+pub fn read_into<B: Builder>(
+    alloc: Global,
+    octets: &[u8],
+    builder: B,
+    items: B::Items,
+    count: &mut HeaderCount,
+) -> Result<(B, B::Items), LocatedErr>
+    requires room { count.old + length octets.now < 2 ^ 64 }
+    requires empty { StartsEmpty B.holds octets.now builder items }
+    ensures document { IfOk result (λ built. HasDocument B.holds octets.now built.0 built.1) }
+    ensures refused { IfErr result
+        (λ e. OutOfMemoryOr (λ fault. FirstFaultAt octets.now fault e.offset) e.error) }
+    ensures counted { MatchResult result
+        (λ _. (n : ℕ) × HeadersBegun octets.now n × (count.new ≡ count.old + n))
+        (λ e. (e.error ≡ OutOfMemory)
+        ⊎ ((n : ℕ) × HeadersBegun octets.now n × (count.new ≡ count.old + n))) }
+    ensures grown { count.old ≤ count.new }
+    ensures bounded { count.new ≤ count.old + length octets.now }
+{
+    if octets.is_empty() {
+        return Err(LocatedErr {
+            error: ASN1DecodeErr::EmptyBuffer,
+            offset: 0,
+        });
+    }
+    let mut reader = Reader {
+        inner: OpenFrame {
+            extent: Extent {
+                kind: FrameKind::Whole,
+                start: 0,
+                end: octets.len(),
+            },
+            items,
+        },
+        outer: Vec::new(alloc),
+        index: 0,
+        builder,
+        fault: ASN1DecodeErr::OutOfMemory,
+    };
+    'turns: loop {
+        match take_turn(alloc, octets, &mut reader, count) {
+            Turn::More => {}
+            Turn::End => {
+                let Reader { inner, builder, .. } = reader;
+                let OpenFrame { items, .. } = inner;
+                return Ok((builder, items));
+            }
+            Turn::Stop => {
+                return Err(LocatedErr {
+                    error: reader.fault,
+                    offset: reader.index,
+                });
+            }
+        }
+    }
+}
+
+// Reads one header and what it leads, or closes a frame at its end.
+#[inline(always)]
+fn take_turn<B: Builder>(
+    alloc: Global,
+    octets: &[u8],
+    reader: &mut Reader<B, B::Items>,
+    count: &mut HeaderCount,
+) -> Turn
+    requires small { length octets.now < 2 ^ 64 }
+    requires reading { (n : ℕ) × IsReading B.holds octets.now reader.old n
+        × (count.old + (length octets.now - n) < 2 ^ 64) }
+    ensures turned { (n base : ℕ) → IsReading B.holds octets.now reader.old n → count.old ≡ base + n
+        → HasTakenTurn B.holds octets.now result reader.new count.new base
+        (left (length octets.now) reader.old.index reader.old.outer.items) }
+{
+    if reader.index != reader.inner.extent.end {
+        let step = read_next(alloc, octets, reader, count);
+        return turn_of(alloc, octets, reader, step);
+    }
+    match reader.outer.pop() {
+        Some(parent) => {
+            let step = close(alloc, octets, reader, parent);
+            turn_of(alloc, octets, reader, step)
+        }
+        None => Turn::End,
+    }
+}
+
+// Where a step leads. Memory that ran out ends reading; a fault goes to the innermost attempt.
+#[inline(always)]
+fn turn_of<B: Builder>(
+    alloc: Global,
+    octets: &[u8],
+    reader: &mut Reader<B, B::Items>,
+    step: Result<(), ASN1DecodeErr>,
+) -> Turn
+    requires small { length octets.now < 2 ^ 64 }
+    requires stepped { (n most : ℕ) × HasStepped B.holds octets.now step reader.old n most }
+    ensures turned { (n most : ℕ) → HasStepped B.holds octets.now step reader.old n most
+        → HasTurned B.holds octets.now result reader.new n most }
+{
+    match step {
+        Ok(()) => Turn::More,
+        Err(e) => fail(alloc, octets, reader, e),
+    }
+}
+
+#[cold]
+#[inline(never)]
+fn fail<B: Builder>(
+    alloc: Global,
+    octets: &[u8],
+    reader: &mut Reader<B, B::Items>,
+    e: ASN1DecodeErr,
+) -> Turn
+    requires small { length octets.now < 2 ^ 64 }
+    requires failed { (n most : ℕ)
+        × OutOfMemoryOr (λ fault. IsFaulty B.holds octets.now reader.old fault n most) e }
+    ensures turned { (n most : ℕ)
+        → OutOfMemoryOr (λ fault. IsFaulty B.holds octets.now reader.old fault n most) e
+        → HasTurned B.holds octets.now result reader.new n most }
+{
+    if is_out_of_memory(&e) {
+        reader.fault = e;
+        return Turn::Stop;
+    }
+    refuse(alloc, octets, reader, e)
+}
+
+fn is_out_of_memory(e: &ASN1DecodeErr) -> bool
+    ensures { IsTrue result ↔ (e.now ≡ OutOfMemory) }
+{
+    matches!(e, ASN1DecodeErr::OutOfMemory)
+}
+
+// Reads one header of the innermost frame, and what it leads.
+#[inline(always)]
+fn read_next<B: Builder>(
+    alloc: Global,
+    octets: &[u8],
+    reader: &mut Reader<B, B::Items>,
+    count: &mut HeaderCount,
+) -> Result<(), ASN1DecodeErr>
+    requires room { count.old + 1 < 2 ^ 64 }
+    requires small { length octets.now < 2 ^ 64 }
+    requires more { reader.old.index ≢ reader.old.inner.extent.end }
+    requires reading { (n : ℕ) × IsReading B.holds octets.now reader.old n }
+    ensures counted { count.new ≡ count.old + 1 }
+    ensures stepped { (n : ℕ) → IsReading B.holds octets.now reader.old n
+        → HasStepped B.holds octets.now result reader.new (n + 1)
+        (left (length octets.now) reader.old.index reader.old.outer.items) }
+{
+    let offset = reader.index;
+    let depth = reader.outer.len();
+    let Extent { start, end, .. } = reader.inner.extent;
+    let header = header_within(alloc, octets, start, end, offset, count)?;
+    let (start, end) = (header.start, header.end);
+    if is_read_inside(&header) {
+        let items = reader.builder.open(alloc, octets, &header, offset, depth)?;
+        let kind = kind_of(header, offset);
+        let extent = Extent { kind, start, end };
+        return Ok(enter(reader, OpenFrame { extent, items })?);
+    }
+    let items = &mut reader.inner.items;
+    reader
+        .builder
+        .leaf(alloc, octets, items, header, offset, depth)?;
+    reader.index = end;
+    Ok(())
+}
+
+// Whether the contents octets are read as blocks.
+#[inline(always)]
+fn is_read_inside(header: &Header) -> bool
+    ensures { IsTrue result ↔ IsReadInside header.now.class header.now.constructed header.now.tag }
+{
+    match header.class {
+        ASN1Class::Universal => matches!(header.tag.to_u64(), Some(16 | 17)),
+        _ => header.constructed,
+    }
+}
+
+// The frame of contents octets that are read as blocks, in an encoding at the offset.
+#[inline(always)]
+fn kind_of(header: Header, offset: usize) -> FrameKind
+    requires { IsReadInside header.class header.constructed header.tag }
+    ensures { IsKindOf result header offset }
+{
+    let Header { class, tag, .. } = header;
+    match class {
+        ASN1Class::Universal => match tag.to_u64() {
+            Some(16) => FrameKind::Group(GroupKind::Sequence, offset),
+            _ => FrameKind::Group(GroupKind::Set, offset),
+        },
+        _ => FrameKind::Attempt(Attempt { class, offset, tag }),
+    }
+}
+
+// Goes on inside a new frame, the innermost from now on.
+#[inline(always)]
+fn enter<B, I: Drop>(reader: &mut Reader<B, I>, frame: OpenFrame<I>) -> Result<(), AllocError>
+    ensures { OnOk result (IsEntered reader.old frame reader.new) }
+{
+    reader.outer.reserve(1)?;
+    reader.index = frame.extent.start;
+    let parent = mem::replace(&mut reader.inner, frame);
+    reader.outer.push_reserved(parent);
+    Ok(())
+}
+
+// The innermost frame has ended: it becomes a block of the frame around it.
+#[inline(always)]
+fn close<B: Builder>(
+    alloc: Global,
+    octets: &[u8],
+    reader: &mut Reader<B, B::Items>,
+    parent: OpenFrame<B::Items>,
+) -> Result<(), ASN1DecodeErr>
+    requires small { length octets.now < 2 ^ 64 }
+    requires reading { (n : ℕ) × Reads B.holds octets.now reader.old.builder reader.old.inner
+        (parent ∷ reverse reader.old.outer.items) reader.old.inner.extent.end n }
+    ensures stepped { (n : ℕ) → Reads B.holds octets.now reader.old.builder reader.old.inner
+        (parent ∷ reverse reader.old.outer.items) reader.old.inner.extent.end n
+        → HasStepped B.holds octets.now result reader.new n
+        (left (length octets.now) reader.old.inner.extent.end (parent ∷ reader.old.outer.items)) }
+{
+    let depth = reader.outer.len();
+    let OpenFrame { extent, items } = mem::replace(&mut reader.inner, parent);
+    let end = extent.end;
+    let parent = &mut reader.inner.items;
+    reader
+        .builder
+        .close(alloc, octets, extent, items, parent, depth)?;
+    reader.index = end;
+    Ok(())
+}
+
+// A fault in the innermost frame drops the frames inside the innermost attempt, and that one stays as it came. Outside
+// all attempts it is the answer.
+fn refuse<B: Builder>(
+    alloc: Global,
+    octets: &[u8],
+    reader: &mut Reader<B, B::Items>,
+    e: ASN1DecodeErr,
+) -> Turn
+    requires small { length octets.now < 2 ^ 64 }
+    requires faulty { (n most : ℕ) × IsFaulty B.holds octets.now reader.old (fault_of e) n most }
+    ensures turned { (n most : ℕ) → IsFaulty B.holds octets.now reader.old (fault_of e) n most
+        → HasTurned B.holds octets.now result reader.new n most }
+{
+    while let Some(parent) = reader.outer.pop() {
+        let depth = reader.outer.len();
+        let OpenFrame { extent, items } = mem::replace(&mut reader.inner, parent);
+        if !is_attempt(&extent.kind) {
+            continue;
+        }
+        let end = extent.end;
+        let parent = &mut reader.inner.items;
+        let Ok(()) = reader
+            .builder
+            .keep(alloc, octets, extent, items, parent, depth)
+        else {
+            reader.fault = ASN1DecodeErr::OutOfMemory;
+            return Turn::Stop;
+        };
+        reader.index = end;
+        return Turn::More;
+    }
+    reader.fault = e;
+    Turn::Stop
+}
+
+// Whether a fault inside the frame ends there.
+#[inline(always)]
+fn is_attempt(kind: &FrameKind) -> bool
+    ensures { result ≡ is_some (attempt_of kind.now) }
+{
+    matches!(kind, FrameKind::Attempt(_))
+}

@@ -1,0 +1,20 @@
+use Rattle.std.proofs.Common.{subst, sym}
+use Rattle.asn1_blocks.specs.Inner.ReaderSteps.{HasEndedIn, in_frame}
+use Rattle.asn1_outline.specs.Listing.{builder_holds}
+use Rattle.asn1_outline.proofs.Listed.{ended, entry_within, if_ok}
+use Rattle.asn1_outline.proofs.listing.EntryBuilderBuilder.close.Goals as goal
+
+pub seal-requires : goal.seal-requires
+seal-requires c =
+    entry_within c.args._octets.now c.args.self.now.entries.items (in_frame c.args._extent c.args.items) (in_frame c.requires.extent c.args.parent.now)
+    c.requires.outer c.requires.trees c.requires.holds
+
+pub returns : goal.returns
+returns c =
+    let x = c.args._octets.now in
+    let f = in_frame c.args._extent c.args.items in
+    let a = c.args.self.now in
+    let b = c.seal.new.self in
+    let i = c.args.parent.now in
+    if_ok c.add.result (λ u. subst (λ z. HasEndedIn builder_holds x f c.args._depth a i b z) (sym u) (ended x a b f i c.args._depth c.seal.ensures))
+    c.add.ensures
