@@ -7,10 +7,10 @@ use mathlib.Core.Logic.{∥∥₁_elim}
 use Rattle.asn1_blocks.specs.Grammar.{IsDocument}
 use Rattle.asn1_blocks.specs.Tree.{Trees}
 use Rattle.asn1_outline.specs.Entries.{AreEntries, AreEntriesOf, IsOutline, no_entry}
-use Rattle.asn1_outline.specs.Structure.{IsStructure, Nodes, no_node, no_tree, node_tree, nodes_depths, nodes_in_order, tree_at}
+use Rattle.asn1_outline.specs.Structure.{IsStructure, Nodes, no_node, no_tree, node_at, node_count, node_items, node_tree, nodes_depths, nodes_in_order, tree_at}
 use Rattle.asn1_outline.specs.Values.{IsEntryOf}
 use Rattle.asn1_outline.specs.declared.entry.Entry.{Entry}
-use Rattle.asn1_outline.proofs.Entries.{entries_length}
+use Rattle.asn1_outline.proofs.Entries.{entries_length, entry_at}
 use Rattle.asn1_outline.proofs.Structures.{structure_alone}
 use Rattle.asn1_outline.proofs.Values.{entry_of_node}
 
@@ -35,6 +35,14 @@ module _ (octets : List ℕ) (es : List Entry) (ns : Nodes) (k : ℕ) (lent : �
       let prop : IsProp (k < length (nodes_in_order ns)) = hlevel props in
       ∥∥₁_elim lent prop (λ x. let (cs, e, are) = x in omega (arith, h, as_many (entries_of cs e are)))
 
+  items_at : k < length es → (get_or es k no_entry).items ≡ node_count (node_items (node_at ns k))
+  items_at h =
+      let prop : IsProp ((get_or es k no_entry).items ≡ node_count (node_items (node_at ns k))) = hlevel props in
+      ∥∥₁_elim lent prop (λ x.
+      let (cs, e, are) = x in
+      let own = entries_of cs e are in
+      (entry_at octets 0 (nodes_in_order ns) (nodes_depths 0 ns) es own k (omega (arith, h, as_many own))).items)
+
   -- and past the end no block stands
   pub past_nodes : length es ≤ k → length (nodes_in_order ns) ≤ k
   past_nodes h =
@@ -50,6 +58,11 @@ module _ (octets : List ℕ) (es : List Entry) (ns : Nodes) (k : ℕ) (lent : �
   found_entry items entry same (h, is) Q prop f =
       at_entry Q prop (subst (λ z. k < length z) same h)
       (λ e. f (subst (IsEntryOf octets (tree_at ns k)) (sym (is no_entry ∙ ap (λ z. get_or z k no_entry) same)) e))
+
+  pub found_items : (items : List Entry) (entry : Entry) → items ≡ es → (k < length items) × ((r : Entry) → entry ≡ get_or items k r)
+      → entry.items ≡ node_count (node_items (node_at ns k))
+  found_items items entry same (h, is) =
+      ap (λ (z : Entry). z.items) (is no_entry ∙ ap (λ z. get_or z k no_entry) same) ∙ items_at (subst (λ z. k < length z) same h)
 
   pub none_there : (items : List Entry) → items ≡ es → length items ≤ k → tree_at ns k ≡ no_tree
   none_there items same h = no_tree_there (subst (λ z. length z ≤ k) same h)

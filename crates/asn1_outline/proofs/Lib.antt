@@ -5,4 +5,5 @@ pub mod Standing
 mod Listed
 mod Answered
 mod Values
+mod Fields
 mod Lent

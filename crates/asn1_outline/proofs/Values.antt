@@ -40,7 +40,7 @@ pub record Contents (x : List ℕ) (b : Tree ℕ) (r : Entry) : Type 0 where
   pub are : slice_range x (r.offset + r.header) (r.offset + r.header + r.contents) ≡ contents
 
 -- the slice where octets stand
-slice_at : (x v rest : List ℕ) (s e : ℕ) → drop s x ≡ v ++ rest → length v ≡ e - s → slice_range x s e ≡ v
+pub slice_at : (x v rest : List ℕ) (s e : ℕ) → drop s x ≡ v ++ rest → length v ≡ e - s → slice_range x s e ≡ v
 slice_at x v rest s e st l = ap (take (e - s)) st ∙ take_at v rest (e - s) l
 
 pub contents_of : (x : List ℕ) (b : Tree ℕ) (r : Entry) → IsEntryOf x b r → Contents x b r

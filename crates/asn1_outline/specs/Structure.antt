@@ -1,6 +1,6 @@
 -- The structure of a document: its blocks at all depths. A constructed encoding of another class (X.690 8.14) holds the
 -- blocks that its contents octets are, however many. Its tree has one of them, or stays as it came.
-use Rattle.std.specs.Prelude.{◌≡◌, ◌≢◌, ℕ, suc, ◌+◌, ◌⊎◌, ◌++◌, Bool, true, List, [], ◌∷◌, drop, get_or}
+use Rattle.std.specs.Prelude.{◌≡◌, ◌≢◌, ℕ, suc, ◌+◌, ◌⊎◌, ◌++◌, Bool, true, false, List, [], ◌∷◌, drop, get_or}
 use Rattle.asn1_headers.specs.declared.header.ASN1Class.{ASN1Class}
 use Rattle.asn1_headers.specs.declared.header.ASN1Class.TheVariants.{Universal}
 use Rattle.asn1_headers.specs.Header.{Encoding}
@@ -100,8 +100,25 @@ node_at ns index = get_or (nodes_in_order ns) index no_node
 abbrev pub tree_at : Nodes → ℕ → Tree ℕ
 tree_at ns index = node_tree (node_at ns index)
 
+-- one block in explicit tagging
+abbrev pub is_explicit : Tree ℕ → Bool
+is_explicit (leaf o l) = false
+is_explicit (group o g bs) = false
+is_explicit (explicit c o n b) = true
+is_explicit (unknown c k o n v) = false
+
 -- at the tree's offset in the document stand octets that encode it
 pub record IsEncodedIn (document : List ℕ) (b : Tree ℕ) (octets : List ℕ) : Type 0 where
   pub rest : List ℕ
   pub stands : drop (tree_offset b) document ≡ octets ++ rest
   pub encoded : Encodes (tree_offset b) octets b
+
+-- and they have these contents octets
+pub record HasContents (document : List ℕ) (b : Tree ℕ) (contents : List ℕ) : Type 0 where
+  pub octets : List ℕ
+  pub encoded : IsEncodedIn document b octets
+  pub class : ASN1Class
+  pub constructed : Bool
+  pub tag : ℕ
+  pub header : ℕ
+  pub encoding : Encoding octets class constructed tag contents header

@@ -4,7 +4,7 @@ ghost use Rattle.std.specs.Str.{chars};
 ghost use Rattle.asn1_leaves.specs.Contents.Moment.{moment_of};
 ghost use Rattle.asn1_blocks.specs.BlockParts.{tree_bits, tree_boolean, tree_integer, tree_moment, tree_oid, tree_text};
 ghost use Rattle.asn1_outline.specs.Outlines.{entries_in, octets_in};
-ghost use Rattle.asn1_outline.specs.Structure.{IsEncodedIn, IsStructure, Nodes, tree_at};
+ghost use Rattle.asn1_outline.specs.Structure.{HasContents, IsEncodedIn, IsStructure, Nodes, is_explicit, tree_at};
 
 use crate::outline::Outline;
 use asn1_blocks::encoding::encoding_at;
@@ -25,6 +25,30 @@ impl<'a> Outline<'a> {
             return None;
         };
         encoding_at(self.octets, entry.offset)
+    }
+
+    /// The contents octets of the block at the index; `None` past the end.
+    pub fn contents(&self, index: usize) -> Option<&'a [u8]>
+        ensures found { (ns : Nodes) → IsStructure (octets_in self.now) ns
+            → index < length (entries_in self.now)
+            → IsSomeAnd result (λ found. HasContents (octets_in self.now) (tree_at ns index) found.now) }
+        ensures none { length (entries_in self.now) ≤ index → IsNone result }
+    {
+        let Some(entry) = self.entries.get(index) else {
+            return None;
+        };
+        entry.contents_in(self.octets)
+    }
+
+    /// Whether the block at the index is `Explicit`: a constructed encoding of another class around exactly one block
+    /// (X.690 8.14). False past the end.
+    pub fn is_explicit(&self, index: usize) -> bool
+        ensures { (ns : Nodes) → IsStructure (octets_in self.now) ns → result ≡ is_explicit (tree_at ns index) }
+    {
+        let Some(entry) = self.entries.get(index) else {
+            return false;
+        };
+        entry.is_explicit()
     }
 
     /// The number of the INTEGER at the index; `None` of any other block, and past the end.

@@ -1,5 +1,5 @@
 // What is read of an entry alone: the leaf readers of its contents octets.
-ghost use Rattle.std.specs.Prelude.{◌≡◌, ◌⊎◌, ◌↔◌, ℕ, ◌+◌, ◌<◌, List, length, slice_range, None, Some, true, IfErr, IfOk, IsOkAnd, IsTrue, MatchOption, MatchResult};
+ghost use Rattle.std.specs.Prelude.{◌≡◌, ◌≢◌, ◌⊎◌, ◌↔◌, ℕ, ◌+◌, ◌<◌, List, length, slice_range, None, Some, true, IfErr, IfOk, IsOkAnd, IsTrue, MatchOption, MatchResult};
 ghost use Rattle.asn1_headers.specs.Fault.{OutOfMemoryOr};
 ghost use Rattle.asn1_leaves.specs.Contents.GeneralizedTime.{GeneralizedTimeContents, GeneralizedTimeFault};
 ghost use Rattle.asn1_leaves.specs.Contents.Moment.{moment_of};
@@ -29,7 +29,7 @@ use std::alloc::{AllocError, Global};
 
 impl Entry {
     // Its contents octets, if they lie in the document.
-    fn contents_in<'a>(&self, document: &'a [u8]) -> Option<&'a [u8]>
+    pub(crate) fn contents_in<'a>(&self, document: &'a [u8]) -> Option<&'a [u8]>
         ensures { MatchOption result
             (length document.now < self.now.offset + self.now.header + self.now.contents)
             (λ found. found.now ≡ slice_range document.now (self.now.offset + self.now.header)
@@ -54,6 +54,16 @@ impl Entry {
         match self.class {
             ASN1Class::Universal => self.tag == tag,
             _ => false,
+        }
+    }
+
+    /// Whether its block is `Explicit`: of another class than Universal, around exactly one block.
+    pub fn is_explicit(&self) -> bool
+        ensures { IsTrue result ↔ ((self.now.class ≢ Universal) × (self.now.items ≡ 1)) }
+    {
+        match self.class {
+            ASN1Class::Universal => false,
+            _ => self.items == 1,
         }
     }
 

@@ -28,6 +28,32 @@ fn an_entry_says_where_its_block_is(rt: HostRuntime) -> Result<(), Fail> {
     Ok(())
 }
 
+// What `openssl req` made of two attributes: [0] { SEQUENCE { challengePassword, SET { "secret" } }, SEQUENCE {
+// extensionRequest, .. } }.
+const ATTRIBUTES: &str =
+    "A0 33 30 15 06 09 2A 86 48 86 F7 0D 01 09 07 31 08 0C 06 73 65 63 72 65 74 \
+    30 1A 06 09 2A 86 48 86 F7 0D 01 09 0E 31 0D 30 0B 30 09 06 03 55 1D 13 04 02 30 00";
+
+#[test]
+fn a_block_of_another_class_holds_several(rt: HostRuntime) -> Result<(), Fail> {
+    let alloc = rt.alloc();
+    let document = octets(alloc, ATTRIBUTES)?;
+    let outline = Outline::from_der(alloc, &document)?;
+    assert_eq!(rt; outline.entries().len(), 12);
+    let (Some(attributes), Some(second)) = (outline.entries().get(0), outline.entries().get(5))
+    else {
+        return Err("no entries".into());
+    };
+    assert_eq!(rt; (attributes.items, attributes.next), (2, 12));
+    assert_eq!(rt; (second.offset, second.items, second.depth), (25, 2, 1));
+    assert!(rt;
+        outline
+            .text(alloc, 4)?
+            .is_some_and(|text| text.as_str() == "secret")
+    );
+    Ok(())
+}
+
 #[test]
 fn strictly_a_block_that_is_not_canonical_is_named(rt: HostRuntime) -> Result<(), Fail> {
     let alloc = rt.alloc();
