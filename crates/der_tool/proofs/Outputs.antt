@@ -31,7 +31,7 @@ use Rattle.hex.specs.declared.error.FromHexError.{FromHexError}
 use Rattle.hex.specs.Hex.{decode_of, encode_upper}
 use Rattle.hex.proofs.HexLemmas.{decode_of-ok}
 use Rattle.simple_asn1.specs.Canonical.{all_canonical}
-use Rattle.simple_asn1.specs.Laws.OneReading.{OneReading}
+use Rattle.simple_asn1.specs.Laws.Unambiguous.{Unambiguous}
 use Rattle.simple_asn1.specs.Laws.Strict.{StrictReading}
 use Rattle.simple_asn1.specs.Fault.{DecodeFault}
 use Rattle.der_io.specs.Lines.{lines_of, onto_first_line}
@@ -76,7 +76,7 @@ record Settled (reading : Reading) : Type 0 where
   one : (octets a b : List ℕ) → IsAccepted reading octets a → IsAccepted reading octets b → a ≡ b
   one_fault : (octets : List ℕ) (e d : DecodeFault) → length octets < 2 ^ 64 → IsRefused reading octets e → IsRefused reading octets d → e ≡ d
 
-settled : OneReading → StrictReading → (reading : Reading) → Settled reading
+settled : Unambiguous → StrictReading → (reading : Reading) → Settled reading
 settled law strict Lenient = record {
   either = λ octets small. elim (law.either octets small) [ inl d ↦ inl (all_canonical d.0, (d.0, d.1, refl)) | inr f ↦ inr f ];
   not_both = λ octets a e small d f. law.not_both octets d.0 e small d.1 f;
@@ -146,14 +146,14 @@ some_of_lines reading law (line ∷ lines) n all small =
 
 -- an input has an output that answers it
 pub some_output :
-    OneReading → StrictReading → (reading : Reading) (input : List ℕ) → length input < 2 ^ 64 →
+    Unambiguous → StrictReading → (reading : Reading) (input : List ℕ) → length input < 2 ^ 64 →
     (output : List ℕ) × AreLineAnswers reading (lines_of input) output
 some_output law strict reading input small =
     some_of_lines reading (settled law strict reading) (lines_of input) (length input) (lines_within input (length input) (omega arith)) small
 
 -- and no other
 pub one_output :
-    OneReading → StrictReading → (reading : Reading) (input a b : List ℕ) → length input < 2 ^ 64 →
+    Unambiguous → StrictReading → (reading : Reading) (input a b : List ℕ) → length input < 2 ^ 64 →
     AreLineAnswers reading (lines_of input) a → AreLineAnswers reading (lines_of input) b → a ≡ b
 one_output law strict reading input a b small u v =
     one_of_lines reading (settled law strict reading) (lines_of input) a b (length input) (lines_within input (length input) (omega arith)) small u v

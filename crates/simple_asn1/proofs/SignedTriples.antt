@@ -37,8 +37,8 @@ use Rattle.asn1_headers.specs.declared.error.ASN1DecodeErr.TheVariants.{OutOfMem
 use Rattle.simple_asn1.specs.Conversions.{Decodes, DecodeFails}
 use Rattle.asn1_headers.specs.Fault.{fault_of}
 use Rattle.asn1_blocks.specs.Grammar.{IsDocument}
-use Rattle.simple_asn1.specs.Laws.OneReading.{OneReading}
-use Rattle.simple_asn1.specs.Laws.Parts.{Slices}
+use Rattle.simple_asn1.specs.Laws.Unambiguous.{Unambiguous}
+use Rattle.simple_asn1.specs.Laws.Parts.{BlockAlone}
 use Rattle.asn1_numbers.specs.Octets.{FitInSlice}
 use Rattle.asn1_blocks.specs.Places.{HasOctets, rebased, in_first, in_later, in_group, itself}
 use Rattle.simple_asn1.specs.SignedTrees.{
@@ -123,7 +123,7 @@ has_algorithm octets p rest =
     record { end = p.signature_offset; stands = in_first (in_group (in_later (in_first itself))); are = refl }
 
 -- in a document the offsets of a triple stand in their order
-begins : Slices → (octets : List ℕ) (p : SignedParts) (rest : Trees ℕ) (bs : Trees ℕ) → IsDocument octets bs →
+begins : BlockAlone → (octets : List ℕ) (p : SignedParts) (rest : Trees ℕ) (bs : Trees ℕ) → IsDocument octets bs →
     bs ≡ signed_trees p rest → BeginWithSigned bs octets p rest
 begins law octets p rest bs d e =
     let t = subst (IsDocument octets) e d in
@@ -165,12 +165,12 @@ IsRead octets t = Decodes (λ bs r. ReadsSigned bs octets r) octets t
 abbrev pub IsRefused : List ℕ → TripleErr → Type 0
 IsRefused octets e = DecodeFails (λ bs r. ReadsSigned bs octets r) (λ f e. e ≡ Codec f) octets e
 
-fields_of : OneReading → (octets : List ℕ) (t : SignedTriple) → IsRead octets t → (p : SignedParts) → IsSigned octets p → HasFields octets p t
+fields_of : Unambiguous → (octets : List ℕ) (t : SignedTriple) → IsRead octets t → (p : SignedParts) → IsSigned octets p → HasFields octets p t
 fields_of law octets t is p (xs, e) =
     let (q, begin, fields) = is.is_read in
     same_fields octets t p q xs is.rest (law.one_document octets (signed_trees p xs) is.trees e is.document ∙ begin.trees) fields
 
-only_memory : OneReading → Slices → (octets : List ℕ) → FitInSlice octets → (e : TripleErr) → IsRefused octets e →
+only_memory : Unambiguous → BlockAlone → (octets : List ℕ) → FitInSlice octets → (e : TripleErr) → IsRefused octets e →
     (p : SignedParts) → IsSigned octets p →
     e ≡ Codec OutOfMemory
 only_memory law parts octets small e (inl (bs, d, inl g)) p s = g
@@ -180,30 +180,30 @@ only_memory law parts octets small e (inr (f, inl m, g)) p s = g ∙ ap Codec m
 only_memory law parts octets small e (inr (f, inr at, g)) p (xs, s) =
     absurd (law.not_both octets (signed_trees p xs) (fault_of f) small s at)
 
-another_shape : Slices → (octets : List ℕ) → IsRefused octets Shape → IsOfAnotherShape octets
+another_shape : BlockAlone → (octets : List ℕ) → IsRefused octets Shape → IsOfAnotherShape octets
 another_shape law octets (inl (bs, d, inl e)) = cc
 another_shape law octets (inl (bs, d, inr (e, other))) = (bs, d, λ p rest e. other p rest (begins law octets p rest bs d e))
 another_shape law octets (inr (f, _, e)) = cc
 
-pub kept_content : OneReading → (octets : List ℕ) (r : Result SignedTriple TripleErr) → IfOk r (IsRead octets) →
+pub kept_content : Unambiguous → (octets : List ℕ) (r : Result SignedTriple TripleErr) → IfOk r (IsRead octets) →
     IfOk r (λ t. (p : SignedParts) (rest : Trees ℕ) → IsDocument octets (signed_trees p rest) →
     HasOctets octets (signed_trees p rest) p.content t.content.items)
 kept_content law octets (Ok t) is = λ p rest d. has_content octets p rest t.content.items (fields_of law octets t is p (rest, d)).content
 kept_content law octets (Err e) is = tt
 
-pub content_alone : OneReading → Slices → (octets : List ℕ) (r : Result SignedTriple TripleErr) → IfOk r (IsRead octets) →
+pub content_alone : Unambiguous → BlockAlone → (octets : List ℕ) (r : Result SignedTriple TripleErr) → IfOk r (IsRead octets) →
     IfOk r (λ t. (p : SignedParts) → IsSigned octets p → IsDocument t.content.items (more_trees (rebased p.content) no_trees))
 content_alone law parts octets (Ok t) is = λ p s.
     parts.alone octets (signed_trees p s.0) p.content t.content.items s.1
     (has_content octets p s.0 t.content.items (fields_of law octets t is p s).content)
 content_alone law parts octets (Err e) is = tt
 
-pub shape_is_another : Slices → (octets : List ℕ) (r : Result SignedTriple TripleErr) → IfErr r (IsRefused octets) →
+pub shape_is_another : BlockAlone → (octets : List ℕ) (r : Result SignedTriple TripleErr) → IfErr r (IsRefused octets) →
     IfErr r (λ e. e ≡ Shape → IsOfAnotherShape octets)
 shape_is_another law octets (Ok t) is = tt
 shape_is_another law octets (Err e) is = λ s. another_shape law octets (subst (IsRefused octets) s is)
 
-pub accepted : OneReading → Slices → (octets : List ℕ) → FitInSlice octets → (r : Result SignedTriple TripleErr) → IfOk r (IsRead octets) →
+pub accepted : Unambiguous → BlockAlone → (octets : List ℕ) → FitInSlice octets → (r : Result SignedTriple TripleErr) → IfOk r (IsRead octets) →
     IfErr r (IsRefused octets) → (p : SignedParts) → IsSigned octets p → MatchResult r (HasFields octets p) (λ e. e ≡ Codec OutOfMemory)
 accepted law parts octets small (Ok t) is _ p s = fields_of law octets t is p s
 accepted law parts octets small (Err e) _ is p s = only_memory law parts octets small e is p s

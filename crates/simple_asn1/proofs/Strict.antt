@@ -60,7 +60,7 @@ use Rattle.simple_asn1.specs.Canonical.{shortest_encoding, canonical, all_canoni
 use Rattle.asn1_blocks.specs.Grammar.{EncodesAll, IsDocument}
 use Rattle.asn1_blocks.specs.Places.{end_before}
 use Rattle.simple_asn1.specs.ReadBack.{CanonicalDocument}
-use Rattle.simple_asn1.specs.Strict.{EqualByOctets, FirstNotCanonical, StandCanonical, StrictFault, top_octets}
+use Rattle.simple_asn1.specs.Strict.{EqualByOctets, FirstNotCanonical, EachIsCanonical, StrictFault, top_octets}
 use Rattle.asn1_leaves.proofs.Leaves.Known.{octets_known}
 use Rattle.asn1_headers.proofs.Prefixes.{encoding_alone, same_split}
 use Rattle.asn1_blocks.proofs.OneReading.{encodes_block, all_alone}
@@ -180,7 +180,7 @@ compared_whole a b xs (front, whole, size, same) n s =
 
 -- what is written of trees is, of each, where it stands
 written_stand : (bs : Trees ℕ) (i u x : List ℕ) → i ≡ u ++ x → length x < 2 ^ 64 → EncodesAll (length u) x bs
-    → x ≡ all_canonical bs → StandCanonical i bs
+    → x ≡ all_canonical bs → EachIsCanonical i bs
 written_stand no_trees i u x w small s e = tt
 written_stand (more_trees b bs) i u x w small s e =
     let p = octets_here i u x b bs w s in
@@ -194,14 +194,14 @@ written_stand (more_trees b bs) i u x w small s e =
     )
 
 -- and the other way round
-stand_written : (bs : Trees ℕ) (i u x : List ℕ) → i ≡ u ++ x → EncodesAll (length u) x bs → StandCanonical i bs → x ≡ all_canonical bs
+stand_written : (bs : Trees ℕ) (i u x : List ℕ) → i ≡ u ++ x → EncodesAll (length u) x bs → EachIsCanonical i bs → x ≡ all_canonical bs
 stand_written no_trees i u x w s c = s
 stand_written (more_trees b bs) i u x w s c =
     let p = octets_here i u x b bs w s in
     s.whole ∙ (ap (λ z. z ++ s.rest) (sym p.octets ∙ c.0) ∙ ap (λ z. canonical b ++ z) (stand_written bs i (u ++ s.first) s.rest p.whole p.after c.1))
 
 -- each stands so, or one is the first that does not
-stand_or_first : (i : List ℕ) (bs : Trees ℕ) → StandCanonical i bs ⊎ ((n : ℕ) × FirstNotCanonical i bs n)
+stand_or_first : (i : List ℕ) (bs : Trees ℕ) → EachIsCanonical i bs ⊎ ((n : ℕ) × FirstNotCanonical i bs n)
 stand_or_first i no_trees = inl tt
 stand_or_first i (more_trees b bs) = elim (octets_known (top_octets i b bs) (canonical b)) [
   | inr ne ↦ inr (tree_offset b, inl (ne, refl))
@@ -209,7 +209,7 @@ stand_or_first i (more_trees b bs) = elim (octets_known (top_octets i b bs) (can
 ]
 
 -- not both
-stand_no_first : (i : List ℕ) (bs : Trees ℕ) (n : ℕ) → StandCanonical i bs → FirstNotCanonical i bs n → ⊥
+stand_no_first : (i : List ℕ) (bs : Trees ℕ) (n : ℕ) → EachIsCanonical i bs → FirstNotCanonical i bs n → ⊥
 stand_no_first i no_trees n s f = f
 stand_no_first i (more_trees b bs) n s (inl f) = f.0 s.0
 stand_no_first i (more_trees b bs) n s (inr f) = stand_no_first i bs n s.1 f.1
@@ -222,7 +222,7 @@ first_alone i (more_trees b bs) m n (inl p) (inr q) = absurd (p.0 q.0)
 first_alone i (more_trees b bs) m n (inr p) (inl q) = absurd (q.0 p.0)
 first_alone i (more_trees b bs) m n (inr p) (inr q) = first_alone i bs m n p.1 q.1
 
-pub stand_exactly : (i : List ℕ) (bs : Trees ℕ) → length i < 2 ^ 64 → IsDocument i bs → (i ≡ all_canonical bs) ↔ StandCanonical i bs
+pub stand_exactly : (i : List ℕ) (bs : Trees ℕ) → length i < 2 ^ 64 → IsDocument i bs → (i ≡ all_canonical bs) ↔ EachIsCanonical i bs
 stand_exactly i bs small d = (λ e. written_stand bs i [] i refl small d.blocks e, λ s. stand_written bs i [] i refl d.blocks s)
 
 -- a canonical document has no tree that is not canonical

@@ -23,7 +23,7 @@ use Rattle.std.proofs.Common.{
 use Rattle.asn1_headers.specs.declared.error.ASN1DecodeErr.{ASN1DecodeErr}
 use Rattle.asn1_headers.specs.declared.error.ASN1EncodeErr.{ASN1EncodeErr}
 use Rattle.simple_asn1.specs.Canonical.{canonical, all_canonical, first_write_fault}
-use Rattle.simple_asn1.specs.Conversions.{ComeBack, Decodes, DecodeFails, Encodes, EncodeFails, OwnDecodeFault, OwnEncodeFault}
+use Rattle.simple_asn1.specs.Conversions.{AreReadAgain, Decodes, DecodeFails, Encodes, EncodeFails, OwnDecodeFault, OwnEncodeFault}
 use Rattle.asn1_blocks.specs.Faithful.{AreFaithful}
 use Rattle.asn1_headers.specs.Fault.{fault_of}
 use Rattle.asn1_blocks.specs.Grammar.{IsDocument}
@@ -52,7 +52,7 @@ mutual
   shapes_of_shapes (more_trees b bs) = ap (λ z. more_trees z (shapes bs)) (shape_of_shape b) ∙ ap (more_trees b) (shapes_of_shapes bs)
 
 -- the canonical octets of faithful trees are a document of these trees, placed where they stand
-document_of : (ss : Trees (Unit {0})) → ComeBack ss → length (all_canonical ss) < 2 ^ 64 → IsDocument (all_canonical ss) (all_placed 0 ss)
+document_of : (ss : Trees (Unit {0})) → AreReadAgain ss → length (all_canonical ss) < 2 ^ 64 → IsDocument (all_canonical ss) (all_placed 0 ss)
 document_of no_trees k small = absurd (k.0 refl)
 document_of (more_trees b bs) k small = record {
   some = omega (arith, canonical_some b, length-append (canonical b) (all_canonical bs));
@@ -74,7 +74,7 @@ module _ {E : Type 0} (writes : Result (Trees ℕ) E → Type 0) (ss : Trees (Un
   pub trip_octets : (octets : List ℕ) → Encodes writes octets → octets ≡ all_canonical ss
   trip_octets octets e = e.canonical ∙ (sym (canonical_shapes e.trees) ∙ ap all_canonical (written e.trees e.are_written))
 
-  pub trip_encode : (from : ASN1EncodeErr → E → Type 0) (e : E) → ComeBack ss → EncodeFails writes from e → OwnEncodeFault writes from e
+  pub trip_encode : (from : ASN1EncodeErr → E → Type 0) (e : E) → AreReadAgain ss → EncodeFails writes from e → OwnEncodeFault writes from e
   trip_encode from e k (inl w) = inl w
   trip_encode from e k (inr (bs, f, w, inl m, g)) = inr (subst (λ z. from z e) m g)
   trip_encode from e k (inr (bs, f, w, inr r, g)) =
@@ -86,7 +86,7 @@ module _ {T D : Type 0} (reads : Trees ℕ → Result (T × Trees ℕ) D → Typ
       (y : T) → AreFaithful ss → Decodes reads (all_canonical ss) y → y ≡ x
   trip_same back y f d = (back y d.trees d.rest (read_shapes ss d.trees f small d.document) d.is_read).0
 
-  pub trip_decode : (from : ASN1DecodeErr → D → Type 0) (e : D) → ComeBack ss → DecodeFails reads from (all_canonical ss) e
+  pub trip_decode : (from : ASN1DecodeErr → D → Type 0) (e : D) → AreReadAgain ss → DecodeFails reads from (all_canonical ss) e
       → OwnDecodeFault reads from ss e
   trip_decode from e k (inl (bs, d, r)) = inl (bs, read_shapes ss bs k.1 small d, r)
   trip_decode from e k (inr (f, inl m, g)) = inr (subst (λ z. from z e) m g)

@@ -54,8 +54,8 @@ TripFails encode decode (Encode e) = encode e
 TripFails encode decode (Decode e) = decode e
 
 -- one tree or more, each faithful: written, they are read again
-abbrev pub ComeBack : {O : Type 0} → Trees O → Type 0
-ComeBack bs = (bs ≢ no_trees) × AreFaithful bs
+abbrev pub AreReadAgain : {O : Type 0} → Trees O → Type 0
+AreReadAgain bs = (bs ≢ no_trees) × AreFaithful bs
 
 -- writing trees that come back fails by the type alone, or by what it makes of memory that ran out
 abbrev pub OwnEncodeFault : {E : Type 0} →

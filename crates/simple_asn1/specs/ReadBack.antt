@@ -29,8 +29,8 @@ AreEqualNormalized bs cs = shapes (all_normalized bs) ≡ shapes (all_normalized
 
 -- these octets, which are written of a document, are written of another exactly if the trees of both are equal when
 -- normalized
-abbrev pub SharedByEquals : List ℕ → List ℕ → Type 0
-SharedByEquals document written =
+abbrev pub WrittenOfEqualsAlone : List ℕ → List ℕ → Type 0
+WrittenOfEqualsAlone document written =
     (other : List ℕ) (bs cs : Trees ℕ) →
     AreOctets other → IsDocument document bs → IsDocument other cs →
     (written ≡ all_canonical cs) ↔ AreEqualNormalized bs cs

@@ -13,10 +13,10 @@ abbrev pub top_octets : List ℕ → Tree ℕ → Trees ℕ → List ℕ
 top_octets document b after = slice_range document (tree_offset b) (end_before after (length document))
 
 -- each of these trees, which end with the document, stands there in its canonical octets
-abbrev pub StandCanonical : List ℕ → Trees ℕ → Type 0
-StandCanonical document no_trees = Unit {0}
-StandCanonical document (more_trees b bs) =
-    (top_octets document b bs ≡ canonical b) × StandCanonical document bs
+abbrev pub EachIsCanonical : List ℕ → Trees ℕ → Type 0
+EachIsCanonical document no_trees = Unit {0}
+EachIsCanonical document (more_trees b bs) =
+    (top_octets document b bs ≡ canonical b) × EachIsCanonical document bs
 
 -- the first of them that does not has this offset
 abbrev pub FirstNotCanonical : List ℕ → Trees ℕ → ℕ → Type 0

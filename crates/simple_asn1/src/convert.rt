@@ -4,7 +4,7 @@
 // once, for all types, by these relations alone.
 ghost use Rattle.std.specs.Prelude.{◌≡◌, ◌≢◌, ℕ, List, Result, Ok, Err, IfOk, IfErr};
 ghost use Rattle.std.specs.Prelude.{MatchOption, MatchResult};
-ghost use Rattle.simple_asn1.specs.Conversions.{ComeBack, Decodes, DecodeFails, Encodes, EncodeFails, OwnDecodeFault, OwnEncodeFault, TripFails};
+ghost use Rattle.simple_asn1.specs.Conversions.{AreReadAgain, Decodes, DecodeFails, Encodes, EncodeFails, OwnDecodeFault, OwnEncodeFault, TripFails};
 ghost use Rattle.simple_asn1.specs.Canonical.{all_canonical};
 ghost use Rattle.asn1_blocks.specs.Faithful.{AreFaithful};
 ghost use Rattle.asn1_blocks.specs.Tree.{Trees, group, no_trees, shape, shapes};
@@ -212,7 +212,7 @@ pub fn round_trip<T: RoundTrip>(
         (EncodeFails (T.writes x.now Universal) ⟦<<T as ToASN1>::Error as From<ASN1EncodeErr>>⟧.from_gives)
         (DecodeFails T.reads ⟦<<T as FromASN1>::Error as From<ASN1DecodeErr>>⟧.from_gives
         (all_canonical (T.trees_of x.now)))) }
-    ensures own { ComeBack (T.trees_of x.now) → IfErr result (TripFails
+    ensures own { AreReadAgain (T.trees_of x.now) → IfErr result (TripFails
         (OwnEncodeFault (T.writes x.now Universal) ⟦<<T as ToASN1>::Error as From<ASN1EncodeErr>>⟧.from_gives)
         (OwnDecodeFault T.reads ⟦<<T as FromASN1>::Error as From<ASN1DecodeErr>>⟧.from_gives (T.trees_of x.now))) }
 {

@@ -36,7 +36,7 @@ mutual
         octets ≡ x ++ rest → IsFullBlock x → AreFullBlocks rest → AreFullBlocks octets
 
 -- the wider grammar reads all that the narrower reads
-pub record Wider : Type 0 where
+pub record AcceptsAllOfTheRustCrate : Type 0 where
   pub block : (octets : List ℕ) → IsFullBlock octets → IsBlock octets
   pub blocks : (octets : List ℕ) → AreFullBlocks octets → AreBlocks octets
   -- so every document of the narrower grammar is one

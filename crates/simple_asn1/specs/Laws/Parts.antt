@@ -8,7 +8,7 @@ use Rattle.asn1_blocks.specs.Grammar.{IsDocument, FirstFault}
 use Rattle.asn1_blocks.specs.Places.{rebased, all_later, joined, BeginAt, HasOctets, EncodingAt}
 
 -- two documents one after another
-pub record Joined : Type 0 where
+pub record Concatenation : Type 0 where
   -- are one, with the trees of the first, and then those of the second with offsets greater by the first's length
   pub both :
       (first second : List ℕ) (xs ys : Trees ℕ) →
@@ -16,7 +16,7 @@ pub record Joined : Type 0 where
       IsDocument (first ++ second) (joined xs (all_later (length first) ys))
 
 -- the proper fronts of a document
-pub record Fronts : Type 0 where
+pub record Truncation : Type 0 where
   -- a proper front is a document of the trees xs exactly where xs are the document's first trees, one or more, and the
   -- tree after them begins where the front ends
   pub accepted :
@@ -34,7 +34,7 @@ pub record Fronts : Type 0 where
       FirstFault front incomplete
 
 -- the octets of a tree of a document, at any depth
-pub record Slices : Type 0 where
+pub record BlockAlone : Type 0 where
   -- are a document of that one tree, with all offsets less by its own
   pub alone :
       (document : List ℕ) (bs : Trees ℕ) (b : Tree ℕ) (octets : List ℕ) →

@@ -8,7 +8,7 @@ use Rattle.asn1_blocks.specs.Faithful.{all_normalized, IsFaithful, AreFaithful}
 use Rattle.simple_asn1.specs.ReadBack.{ReadsBackAs, AllReadBackAs, AreEqualNormalized}
 
 -- what rewriting keeps
-pub record Rewriting : Type 0 where
+pub record RewritingIsCanonical : Type 0 where
   -- trees that were read are faithful when normalized
   pub faithful :
       (document : List ℕ) (bs : Trees ℕ) →
@@ -33,7 +33,7 @@ pub record Rewriting : Type 0 where
       (all_canonical bs ≡ all_canonical cs) ↔ AreEqualNormalized bs cs
 
 -- a tree is faithful exactly if it can be written and is read back as it is
-pub record Survival : Type 0 where
+pub record FaithfulIffSurvives : Type 0 where
   pub survives :
       (b : Tree ℕ) →
       FitInSlice (canonical b) →

@@ -6,14 +6,14 @@ use Rattle.asn1_blocks.specs.Tree.{Trees}
 use Rattle.asn1_blocks.specs.Grammar.{IsDocument}
 use Rattle.simple_asn1.specs.Canonical.{all_canonical}
 use Rattle.simple_asn1.specs.ReadBack.{CanonicalDocument}
-use Rattle.simple_asn1.specs.Strict.{EqualByOctets, StandCanonical, StrictFault}
+use Rattle.simple_asn1.specs.Strict.{EqualByOctets, EachIsCanonical, StrictFault}
 
 pub record StrictReading : Type 0 where
   -- a document is the canonical octets of its trees exactly if each tree of the top level stands in its own
   pub canonical :
       (document : List ℕ) (bs : Trees ℕ) →
       FitInSlice document → IsDocument document bs →
-      (document ≡ all_canonical bs) ↔ StandCanonical document bs
+      (document ≡ all_canonical bs) ↔ EachIsCanonical document bs
   -- all octets are a canonical document or have a strict fault
   pub either :
       (octets : List ℕ) →

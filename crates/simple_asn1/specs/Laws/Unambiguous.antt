@@ -8,7 +8,7 @@ use Rattle.asn1_blocks.specs.Grammar.{IsBlock, Encodes, IsDocument, FirstFault}
 use Rattle.asn1_blocks.specs.HeadersBegun.{HeadersBegun, all_blocks_in}
 
 -- all octets have one reading
-pub record OneReading : Type 0 where
+pub record Unambiguous : Type 0 where
   -- octets at an offset encode at most one tree
   pub one_tree :
       (offset : ℕ) (octets : List ℕ) (a b : Tree ℕ) →
@@ -53,7 +53,7 @@ pub record OneReading : Type 0 where
       IsDocument octets bs → HeadersBegun octets n → all_blocks_in bs ≤ n
 
 -- the first fault has one place
-pub record OnePlace : Type 0 where
+pub record OneFaultPlace : Type 0 where
   -- it has a place, and what has one is a first fault
   pub placed :
       (octets : List ℕ) (e : DecodeFault) →
