@@ -20,12 +20,11 @@ pub enum GroupKind {
     Set,
 }
 
-/// A block. The first `usize` of each variant is its offset, in octets: where its first octet stands from the start of
-/// the document. It plays no part in equality or in writing.
+/// A block. The first `usize` of each variant is its offset, in bytes from the start of the document to its first
+/// byte. It plays no part in equality or in writing.
 ///
-/// A block that goes out of scope is dropped by recursion, with a call on the stack for each level of nesting, and so
-/// is its `Debug` text made. [`discard`](crate::discard) drops blocks with no call for a level, and
-/// [`Document`](crate::Document) does so with those of a document.
+/// Dropping a block recurses, with stack for each level of nesting, and so does making its `Debug` text.
+/// [`discard`](crate::discard) drops blocks by a loop, and so does a [`Document`](crate::Document).
 #[derive(Debug, Drop)]
 pub enum ASN1Block {
     /// BOOLEAN (X.690 8.2): its value.
@@ -93,7 +92,7 @@ impl ASN1Block {
         }
     }
 
-    /// The offset of the block's first octet from the start of the document that it was read from, in octets.
+    /// The offset of the block's first byte from the start of the document that it was read from, in bytes.
     ///
     /// ```rust
     /// use simple_asn1::{ASN1Block, encoding_at};

@@ -13,9 +13,8 @@ use crate::read::{from_der, from_der_located};
 use asn1_headers::error::{ASN1DecodeErr, LocatedErr};
 use std::alloc::Global;
 
-/// The blocks of a document, for octets that nobody vouches for: however deeply they are nested, dropping a `Document`
-/// takes no memory and a few calls on the stack, where dropping the blocks themselves takes a call for each level of
-/// nesting.
+/// Owns the blocks of a document of untrusted input: dropping a `Document` takes no memory and does not recurse,
+/// however deeply the blocks nest. Dropping the blocks themselves uses stack for each level of nesting.
 ///
 /// ```rust
 /// use simple_asn1::{ASN1DecodeErr, Document};
@@ -33,7 +32,7 @@ pub struct Document {
 }
 
 impl Document {
-    /// Reads a document as the function [`from_der`] does, with its answers.
+    /// Reads a document as the function [`from_der`] does.
     ///
     /// # Errors
     /// Those of [`from_der`].
@@ -64,7 +63,7 @@ impl Document {
         })
     }
 
-    /// Reads a document as the function [`from_der_located`] does, with its answers.
+    /// Reads a document as the function [`from_der_located`] does.
     ///
     /// # Errors
     /// Those of [`from_der`], each with the offset of the innermost block at fault.
@@ -101,7 +100,7 @@ impl Document {
         }
     }
 
-    /// Lends the blocks at the top, in order.
+    /// The blocks at the top level, in order.
     ///
     /// ```rust
     /// use simple_asn1::{ASN1Block, Document};
@@ -120,8 +119,8 @@ impl Document {
         self.blocks.as_slice()
     }
 
-    /// Gives up the blocks at the top, in order. From then on dropping them takes a call on the stack for each level of
-    /// nesting, unless [`discard`](crate::discard) does it.
+    /// Returns the blocks at the top level, in order. Dropping them then uses stack for each level of nesting, unless
+    /// [`discard`](crate::discard) does it.
     ///
     /// ```rust
     /// use simple_asn1::{ASN1Block, ASN1DecodeErr, Document};

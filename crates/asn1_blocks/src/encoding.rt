@@ -28,11 +28,10 @@ fn encoding_size(octets: &[u8]) -> Option<usize>
     }
 }
 
-/// The octets of the encoding that stands at the offset (X.690 8.1.1), by its header alone: the contents octets are not
-/// looked into. Where the offset is that of a block that was read from the document, at any depth, they are the octets
-/// of that block.
+/// The octets of the encoding at the offset (X.690 8.1.1), by its header: the contents octets are not looked into. At
+/// the offset of a block that was read from the document, at any depth, they are the octets of that block.
 ///
-/// `None` where no encoding stands at the offset, also past the end. It takes no memory.
+/// `None` if there is no encoding at the offset, also past the end. It takes no memory.
 ///
 /// ```rust
 /// use simple_asn1::{ASN1Block, encoding_at};

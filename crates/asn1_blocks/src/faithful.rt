@@ -17,12 +17,12 @@ use std::alloc::{AllocError, Global};
 use std::slice;
 
 impl ASN1Block {
-    /// Whether the block can be written and is then read back as it is, but for its offsets. Each block that was read
-    /// is, unless it holds a bit string of no bits that has octets. Of blocks made by hand an `Unknown` of class
-    /// `ContextSpecific` is not, if it is constructed and its octets are `02 01 05`: it is read back as `Explicit`.
+    /// Whether the block can be written and reads back as it is, but for its offsets. A block that was read does,
+    /// unless it holds a bit string of no bits that has octets. Made by hand, a constructed `Unknown` of class
+    /// `ContextSpecific` whose octets are `02 01 05` does not: it reads back as `Explicit`.
     ///
-    /// Memory is taken for the lists of blocks that are begun, and to look into the octets of a constructed `Unknown`.
-    /// The only error is that it ran out.
+    /// It takes memory for lists of blocks, and to look into the octets of a constructed `Unknown`. The only error is
+    /// that it ran out.
     ///
     /// ```rust
     /// use simple_asn1::ASN1Block;

@@ -30,18 +30,18 @@ const COPIED_AT_ONCE: usize = 256;
 
 /// Reads a document: blocks one after another to the end of `i`, at least one.
 ///
-/// Each block has the offset of its first octet in `i`. Longer forms of tags and lengths than the shortest are read. A
-/// constructed encoding of another class than Universal gives `Explicit` where its contents are exactly one block, and
-/// `Unknown` otherwise (X.690 8.1.1, 8.14): a fault inside refuses nothing.
+/// Each block has the offset of its first byte in `i`. Longer forms of tags and lengths than the shortest are read. A
+/// constructed encoding of a class other than Universal is `Explicit` if its contents are exactly one block, and
+/// `Unknown` otherwise (X.690 8.1.1, 8.14): an error inside it rejects nothing.
 ///
-/// Memory is taken for the blocks, for a frame for each level of nesting that is open, and for each block that is owed
-/// until it is known whether an encoding around it stays `Unknown`. Room for the blocks of a frame is reserved before
-/// they are read: for as many as its headers announce, at most one for two octets.
+/// It takes memory for the blocks, for each open level of nesting, and for each block that is postponed until it is
+/// known whether an encoding around it stays `Unknown`. Room for the blocks of a frame is reserved before they are
+/// read: for as many as its headers announce, at most one for two bytes.
 ///
 /// # Errors
 /// The first fault from the left: `EmptyBuffer`, `LengthTooLarge`, `Incomplete`, `BadBooleanLength`,
-/// `InvalidBitStringLength`, `UTF8DecodeFailure`, `PrintableStringDecodeFailure`, `InvalidDateValue`; or `OutOfMemory`,
-/// which says nothing of the octets.
+/// `InvalidBitStringLength`, `UTF8DecodeFailure`, `PrintableStringDecodeFailure`, `InvalidDateValue`; or
+/// `OutOfMemory`, which says nothing about the input.
 ///
 /// ```rust
 /// use simple_asn1::{ASN1DecodeErr, from_der};
@@ -70,8 +70,8 @@ pub fn from_der(alloc: Global, i: &[u8]) -> Result<Vec<ASN1Block>, ASN1DecodeErr
 }
 
 /// Reads a document as [`from_der`] does, and adds one to the count for each header that is begun, those of failed
-/// attempts too. The count never falls, and rises by at most the number of octets, also where memory runs out. It asks
-/// that the count has room for the number of octets.
+/// attempts too. The count never falls, and rises by at most the number of bytes, also if memory runs out. It asks
+/// that the count has room for the number of bytes.
 ///
 /// # Errors
 /// Those of [`from_der`].
@@ -113,11 +113,11 @@ pub fn from_der_counted(
     }
 }
 
-/// Reads a document as [`from_der`] does, and says of a fault where it is.
+/// Reads a document as [`from_der`] does, and says where an error is.
 ///
 /// # Errors
-/// Those of [`from_der`], each with the offset of the innermost block that the fault belongs to: the block whose header
-/// or contents octets are at fault, and not the SEQUENCE or SET around it. No octets are at fault at 0.
+/// Those of [`from_der`], each with the offset of the innermost block that the fault belongs to: the block whose
+/// header or contents octets are at fault, and not the SEQUENCE or SET around it. For an empty input it is 0.
 ///
 /// ```rust
 /// use simple_asn1::from_der_located;

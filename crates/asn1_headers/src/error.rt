@@ -6,54 +6,52 @@ use std::alloc::{AllocError, AllocFailed, Global};
 use std::str::Utf8Error;
 use thiserror::Error;
 
-/// Why octets were not read.
+/// Why input was not read.
 #[derive(Debug, Drop, Error, PartialEq)]
 pub enum ASN1DecodeErr {
     /// The document is empty.
     #[error("Encountered an empty buffer decoding ASN1 block.")]
     EmptyBuffer,
-    /// The contents octets of a BOOLEAN are not one; their number.
+    /// A BOOLEAN does not have one contents octet; how many it has.
     #[error("Bad length field in boolean block: {0}")]
     BadBooleanLength(usize),
-    /// A length that passes a `usize`: the number of octets that follow the initial length octet, if that is more than
-    /// 8; the length, if the contents octets would end past a `usize`; for a BIT STRING the number of contents octets
-    /// whose bits a `usize` can't count.
+    /// A length exceeds a `usize`: the number of octets after the initial length octet, if that is above 8; the
+    /// length, if the contents octets would end past a `usize`; for a BIT STRING the number of contents octets whose
+    /// bits a `usize` cannot count.
     #[error("Length field too large for object type: {0}")]
     LengthTooLarge(usize),
-    /// Contents octets of a UTF8String, TeletexString, UniversalString, BMPString or GeneralizedTime
-    /// are no UTF-8.
+    /// Contents octets of a UTF8String, TeletexString, UniversalString, BMPString or GeneralizedTime are not UTF-8.
     #[error("UTF8 string failed to properly decode: {0}")]
     UTF8DecodeFailure(Utf8Error),
-    /// A contents octet of a PrintableString is none of its 74 characters (X.680 table 10).
+    /// A contents octet of a PrintableString is not one of its 74 characters (X.680 table 10).
     #[error("Printable string failed to properly decode.")]
     PrintableStringDecodeFailure,
-    /// Contents octets of a UTCTime or GeneralizedTime are no valid moment; their text, or their
-    /// number in decimal.
+    /// Contents octets of a UTCTime or GeneralizedTime are not a valid moment; their text, or their number in decimal.
     #[error("Invalid date value: {0}")]
     InvalidDateValue(String),
     /// The initial contents octet of a BIT STRING counts more unused bits than the octets after it have; the number of
     /// those bits less the count, which is below 0.
     #[error("Invalid length of bit string: {0}")]
     InvalidBitStringLength(isize),
-    /// A class that does not exist. Never answered.
+    /// A class that does not exist. Never returned.
     #[error("Invalid class value: {0}")]
     InvalidClass(u8),
-    /// More octets were expected. Octets that mean something else can lead to it.
+    /// The input is truncated. Octets that mean something else can lead to it.
     #[error("Incomplete data or invalid ASN1")]
     Incomplete,
     /// A component of an object identifier does not fit the type that was asked for.
     #[error("Value overflow")]
     Overflow,
-    /// Memory ran out. Nothing is said of the octets.
+    /// Memory ran out, which says nothing about the input.
     #[error("Out of memory")]
     OutOfMemory,
-    /// The octets of a block at the top level of the document are not its canonical ones, which `to_der` writes; the
-    /// offset of the first such block. Answered by `from_der_strict` alone.
+    /// The octets of a top-level block are not its canonical ones, which `to_der` writes; the offset of the first such
+    /// block. Returned by strict reading only.
     #[error("Block is not in canonical form: {0}")]
     NotCanonical(usize),
 }
 
-/// Makes `OutOfMemory` of what a copy, a text or a reserved size answers where memory runs out.
+/// Makes `OutOfMemory` of the error of a copy, a text or a reserved size.
 impl From<AllocError> for ASN1DecodeErr {
     ghost use Rattle.asn1_headers.specs.declared.error.ASN1DecodeErr.TheVariants.{OutOfMemory};
 
@@ -64,7 +62,7 @@ impl From<AllocError> for ASN1DecodeErr {
     }
 }
 
-/// Makes `OutOfMemory` of what a `push` and a `Box` answer there, which hand back what they could not keep.
+/// Makes `OutOfMemory` of the error of a `push` or a `Box`, which hand back what they could not keep.
 impl<T: Drop> From<AllocFailed<T>> for ASN1DecodeErr {
     ghost use Rattle.asn1_headers.specs.declared.error.ASN1DecodeErr.TheVariants.{OutOfMemory};
 
@@ -113,19 +111,18 @@ impl ASN1DecodeErr {
     }
 }
 
-/// Why octets were not read, and where: an error of reading with its place.
+/// Why input was not read, and where.
 #[derive(Debug, Drop, Error, PartialEq)]
 #[error("{error} at offset {offset}")]
 pub struct LocatedErr {
     /// The first fault, or that memory ran out.
     pub error: ASN1DecodeErr,
-    /// The offset of the block at fault, the innermost that the fault belongs to, in octets from the start of the
-    /// document; 0 where there are no octets. Where memory ran out, how far reading had come, and nothing is said of
-    /// the octets.
+    /// The offset of the innermost block at fault, in bytes from the start of the document; 0 for an empty input. If
+    /// memory ran out, how far reading had come, which says nothing about the input.
     pub offset: usize,
 }
 
-/// Makes the error of reading of it, and drops the place.
+/// The error without its place.
 impl From<LocatedErr> for ASN1DecodeErr {
     ghost from_gives = { λ located e. e ≡ located.error };
 
@@ -173,18 +170,18 @@ pub enum ASN1EncodeErr {
     /// A bit string has more bits than 8 for each of its octets, or some bits and more than 255 unused ones.
     #[error("Bit count does not fit the bytes of the bit string")]
     BitStringLength,
-    /// A PrintableString or IA5String, of one octet a character, holds a character past 255.
+    /// A PrintableString or IA5String, of one octet a character, has a character above 255.
     #[error("Character does not fit one byte")]
     CharacterTooLarge,
     /// The year of a time is below 0.
     #[error("Year is below 0")]
     YearOutOfRange,
-    /// Memory ran out. Nothing is said of the block.
+    /// Memory ran out, which says nothing about the block.
     #[error("Out of memory")]
     OutOfMemory,
 }
 
-/// Makes `OutOfMemory` of what a copy, a text or a reserved size answers where memory runs out.
+/// Makes `OutOfMemory` of the error of a copy, a text or a reserved size.
 impl From<AllocError> for ASN1EncodeErr {
     ghost use Rattle.asn1_headers.specs.declared.error.ASN1EncodeErr.TheVariants.{OutOfMemory as no_memory};
 
@@ -195,7 +192,7 @@ impl From<AllocError> for ASN1EncodeErr {
     }
 }
 
-/// Makes `OutOfMemory` of what a `push` and a `Box` answer there, which hand back what they could not keep.
+/// Makes `OutOfMemory` of the error of a `push` or a `Box`, which hand back what they could not keep.
 impl<T: Drop> From<AllocFailed<T>> for ASN1EncodeErr {
     ghost use Rattle.asn1_headers.specs.declared.error.ASN1EncodeErr.TheVariants.{OutOfMemory as no_memory};
 

@@ -26,7 +26,7 @@ pub enum ASN1Class {
     Private,
 }
 
-/// How many headers were begun. [`decode_tag`] alone raises it.
+/// The number of headers begun. Only [`decode_tag`] raises it.
 #[derive(Debug, Drop)]
 pub struct HeaderCount {
     begun: u64,
@@ -41,7 +41,7 @@ impl Model for HeaderCount {
 }
 
 impl HeaderCount {
-    /// No header yet.
+    /// A count of no headers.
     ///
     /// ```rust
     /// use simple_asn1::{ASN1DecodeErr, HeaderCount, discard, from_der_counted};
@@ -123,15 +123,15 @@ fn tag_at(
     Ok(((n, constructed, class), 1 + size))
 }
 
-/// Reads identifier octets (X.690 8.1.2) at `index`, and moves the index past them. Adds one to the count, whatever the
-/// answer. It asks that the count is below the greatest `u64`.
+/// Reads identifier octets (X.690 8.1.2) at `index`, and moves the index past them. Adds one to the count, also after
+/// an error. It asks that the count is below `u64::MAX`.
 ///
-/// Gives the tag number, whether the encoding is constructed, and the class. The long form is read for any number, and
-/// with leading octets 80. After a refusal the index stands where it stood. A tag number below 2^64 takes no memory; a
+/// Returns the tag number, whether the encoding is constructed, and the class. The long form is read for any number,
+/// and with leading octets 80. After an error the index has not moved. A tag number below 2^64 takes no memory; a
 /// greater one takes one allocation, which may grow.
 ///
 /// # Errors
-/// `Incomplete` where the octets run out, also for an index past the end; `OutOfMemory`.
+/// `Incomplete` if the octets run out, also for an index past the end; `OutOfMemory`.
 ///
 /// ```rust
 /// use simple_asn1::{ASN1Class, ASN1DecodeErr, HeaderCount, decode_tag};
@@ -168,12 +168,12 @@ pub fn decode_tag(
     Ok(tag)
 }
 
-/// Reads a base-128 number (X.690 8.1.2.4.2) at `index`, and moves the index past it. Leading octets 80 are read. After
-/// a refusal the index stands where it stood. A number below 2^64 takes no memory; a greater one takes one allocation,
+/// Reads a base-128 number (X.690 8.1.2.4.2) at `index`, and moves the index past it. Leading octets 80 are read.
+/// After an error the index has not moved. A number below 2^64 takes no memory; a greater one takes one allocation,
 /// which may grow. The name is that of the Rust crate: the greatest digit is 127, and the base is 128.
 ///
 /// # Errors
-/// `Incomplete` where the octets run out, also for an index past the end; `OutOfMemory`.
+/// `Incomplete` if the octets run out, also for an index past the end; `OutOfMemory`.
 ///
 /// ```rust
 /// use simple_asn1::{ASN1DecodeErr, BigUint, decode_base127};
@@ -236,10 +236,10 @@ pub fn length_at(octets: &[u8]) -> Result<(usize, usize), ASN1DecodeErr>
 }
 
 /// Reads length octets of the definite form (X.690 8.1.3) at `index`, and moves the index past them. Longer forms than
-/// the shortest are read, and 80 is the length 0. After a refusal the index stands where it stood.
+/// the shortest are read, and 80 is the length 0. After an error the index has not moved.
 ///
 /// # Errors
-/// `LengthTooLarge` where more than 8 octets follow the first, with their number; else `Incomplete` where the octets
+/// `LengthTooLarge` if more than 8 octets follow the first, with their number; otherwise `Incomplete` if the octets
 /// run out, also for an index past the end.
 ///
 /// ```rust

@@ -5,8 +5,7 @@ use asn1_numbers::number::big_uint::BigUint;
 
 /// A type of numbers that a [`BigUint`] may fit.
 ///
-/// It is implemented for the integer types of the language. Those with a sign take numbers up to
-/// their greatest one.
+/// It is implemented for the integer types of the language. Signed ones take numbers up to their greatest.
 pub trait FromBigUint: Sized + Drop {
     // The type has this number.
     ghost has: { ℕ → Type 0 };
@@ -14,8 +13,7 @@ pub trait FromBigUint: Sized + Drop {
     // The value is this number.
     ghost is_number: { Self → ℕ → Type 0 };
 
-    /// The number as a value of the type; `None` exactly where the type does not have it. It takes
-    /// no memory.
+    /// The number as a value of the type; `None` exactly if the type does not have it. It takes no memory.
     fn from_big(v: &BigUint) -> Option<Self>
         ensures { MatchOption result (has v.now → ⊥) (λ x. has v.now × is_number x v.now) };
 }

@@ -40,11 +40,11 @@ use std::marker::Model;
 
 /// An object identifier (X.660): its components, natural numbers of any size.
 ///
-/// Any list of numbers makes one. Which of them have contents octets, [`OID::as_raw`] says.
+/// Any list of numbers makes one. [`OID::as_raw`] says which of them have contents octets.
 ///
-/// `{}` and `{:?}` write the components in decimal with a point between two of them, as in `1.2.840`,
-/// and [`OID::from_text`] reads that. It takes no memory where all components are below 2^64; where
-/// there is none for others, the answer is `fmt::Error`.
+/// `{}` and `{:?}` write the components in decimal with a point between two of them, as in `1.2.840`, and
+/// [`OID::from_text`] reads that. It takes no memory if all components are below 2^64; if memory runs out for others,
+/// the result is `fmt::Error`.
 ///
 /// ```rust
 /// use simple_asn1::OID;
@@ -331,8 +331,8 @@ impl OID {
         }
     }
 
-    /// The object identifier of these components, in one allocation, which is given back where there
-    /// are at most 24 contents octets. The only error is that memory ran out.
+    /// The object identifier of these components, in one allocation, which is freed if there are at most 24 contents
+    /// octets. The only error is that memory ran out.
     ///
     /// `simple_asn1::oid!` is the same with the components written one by one.
     ///
@@ -355,11 +355,10 @@ impl OID {
         Ok(OID::new(numbers))
     }
 
-    /// The object identifier of a text that is decimal numerals, at least one, with a point between two
-    /// of them, as `{}` writes it: `1.2.840`. No numeral has a leading zero but `0` itself, or a sign.
-    /// Which components have contents octets is not asked. The components are put into a vector first,
-    /// as by [`OID::new`]; a numeral is read as by [`BigUint::from_text`]. The only error is that memory
-    /// ran out.
+    /// The object identifier of a text that is decimal numerals, at least one, with a point between two of them, as
+    /// `{}` writes it: `1.2.840`. No numeral has a sign, or a leading zero but `0` itself. The components need not
+    /// have contents octets. They are put into a vector first, as by [`OID::new`]; a numeral is read as by
+    /// [`BigUint::from_text`]. The only error is that memory ran out.
     ///
     /// ```rust
     /// use simple_asn1::OID;
@@ -396,9 +395,9 @@ impl OID {
     /// `2A 86 48`.
     ///
     /// # Errors
-    /// In this order: `ObjectIdentHasTooFewFields` where there are fewer than two components;
-    /// `ObjectIdentVal1TooLarge` where the first is above 2; `ObjectIdentVal2TooLarge` where the
-    /// second is above 39, or above 175 where the first is 2; `OutOfMemory`.
+    /// In this order: `ObjectIdentHasTooFewFields` if there are fewer than two components; `ObjectIdentVal1TooLarge`
+    /// if the first is above 2; `ObjectIdentVal2TooLarge` if the second is above 39, or above 175 if the first is 2;
+    /// `OutOfMemory`.
     ///
     /// ```rust
     /// use simple_asn1::{ASN1EncodeErr, OID};
@@ -426,7 +425,7 @@ impl OID {
     /// two others for a while.
     ///
     /// # Errors
-    /// `Overflow` exactly where the type does not have one of them; `OutOfMemory`.
+    /// `Overflow` exactly if the type does not have one of them; `OutOfMemory`.
     ///
     /// ```rust
     /// use simple_asn1::{ASN1DecodeErr, OID};
@@ -449,8 +448,8 @@ impl OID {
         }
     }
 
-    /// The same object identifier: of at most 24 contents octets without memory, and else in one
-    /// allocation where all components are below 2^64. The only error is that memory ran out.
+    /// The same object identifier: of at most 24 contents octets without memory, otherwise in one allocation if all
+    /// components are below 2^64. The only error is that memory ran out.
     ///
     /// ```rust
     /// use simple_asn1::{ASN1Block, OID};

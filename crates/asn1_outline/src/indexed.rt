@@ -51,7 +51,7 @@ impl<'a> Outline<'a> {
         entry.is_explicit()
     }
 
-    /// The number of the INTEGER at the index; `None` of any other block, and past the end.
+    /// The number of the INTEGER at the index; `None` for any other block, and past the end.
     pub fn integer(&self, alloc: Global, index: usize) -> Result<Option<BigInt>, AllocError>
         ensures { (ns : Nodes) → IsStructure (octets_in self.now) ns → IfOk result
             (λ found. MatchOption found
@@ -67,7 +67,7 @@ impl<'a> Outline<'a> {
         }
     }
 
-    /// The text of the string of characters at the index, of any of the six kinds; `None` of any other block, and past
+    /// The text of the string of characters at the index, of any of the six kinds; `None` for any other block, and past
     /// the end.
     pub fn text(&self, alloc: Global, index: usize) -> Result<Option<String>, AllocError>
         ensures { (ns : Nodes) → IsStructure (octets_in self.now) ns → IfOk result
@@ -84,7 +84,7 @@ impl<'a> Outline<'a> {
         }
     }
 
-    /// The components of the OBJECT IDENTIFIER at the index; `None` of any other block, and past the end.
+    /// The components of the OBJECT IDENTIFIER at the index; `None` for any other block, and past the end.
     pub fn oid(&self, alloc: Global, index: usize) -> Result<Option<OID>, AllocError>
         ensures { (ns : Nodes) → IsStructure (octets_in self.now) ns → IfOk result
             (λ found. MatchOption found
@@ -100,7 +100,7 @@ impl<'a> Outline<'a> {
         }
     }
 
-    /// The moment of the UTCTime or GeneralizedTime at the index; `None` of any other block, and past the end.
+    /// The moment of the UTCTime or GeneralizedTime at the index; `None` for any other block, and past the end.
     pub fn moment(&self, alloc: Global, index: usize) -> Result<Option<DateTime>, AllocError>
         ensures { (ns : Nodes) → IsStructure (octets_in self.now) ns → IfOk result
             (λ found. MatchOption found
@@ -133,7 +133,7 @@ impl<'a> Outline<'a> {
         }
     }
 
-    /// The value of the BOOLEAN at the index; `None` of any other block, and past the end.
+    /// The value of the BOOLEAN at the index; `None` for any other block, and past the end.
     pub fn boolean(&self, index: usize) -> Option<bool>
         ensures { (ns : Nodes) → IsStructure (octets_in self.now) ns → MatchOption result
             (tree_boolean (tree_at ns index) ≡ None)

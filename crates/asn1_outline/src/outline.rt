@@ -3,9 +3,8 @@ ghost use Rattle.asn1_outline.specs.Entries.{IsOutline};
 
 use crate::entry::Entry;
 
-/// The blocks of a document as a flat list of entries: one for each block, each before those that it holds. It borrows
-/// the document's octets. No block is made, so contents octets are checked and not copied, and dropping an `Outline`
-/// takes no call for a level of nesting.
+/// The blocks of a document as a flat list of entries, each before those inside it. It borrows the document's octets
+/// and builds no blocks: contents octets are checked and not copied, and dropping an `Outline` does not recurse.
 ///
 /// It shows the blocks in each constructed encoding of another class (X.690 8.14), however many, where [`ASN1Block`] has
 /// one as `Explicit` and keeps several as `Unknown`: the attributes of a certification request, for example. Where

@@ -17,7 +17,7 @@ use asn1_headers::header::HeaderCount;
 use std::alloc::Global;
 
 impl<'a> Outline<'a> {
-    /// Reads a document into entries, with the answers of `from_der`.
+    /// Reads a document into entries, one for each block that `from_der` reads.
     ///
     /// # Errors
     /// Those of `from_der`.
@@ -41,7 +41,7 @@ impl<'a> Outline<'a> {
         }
     }
 
-    /// Reads a document into entries, and says of a fault where it is, with the answers of `from_der_located`.
+    /// Reads a document into entries, and says where an error is, as `from_der_located` does.
     ///
     /// # Errors
     /// Those of `from_der`, each with the offset of the innermost block at fault.
@@ -100,7 +100,7 @@ impl<'a> Outline<'a> {
         }
     }
 
-    /// Lends the entries, in order.
+    /// The entries, in order.
     pub fn entries(&self) -> &[Entry]
         ensures { result.now ≡ entries_in self.now }
     {

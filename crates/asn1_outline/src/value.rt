@@ -84,7 +84,7 @@ impl Entry {
         }
     }
 
-    /// The value of a BOOLEAN of the document whose entry this is; `None` of any other block.
+    /// The value of a BOOLEAN of the document whose entry this is; `None` for any other block.
     ///
     /// # Errors
     /// Only with an entry of another document.
@@ -101,7 +101,7 @@ impl Entry {
         }
     }
 
-    /// The components of an OBJECT IDENTIFIER of the document whose entry this is; `None` of any other block.
+    /// The components of an OBJECT IDENTIFIER of the document whose entry this is; `None` for any other block.
     ///
     /// # Errors
     /// `OutOfMemory`; with an entry of another document also others.
@@ -144,7 +144,7 @@ impl Entry {
         }
     }
 
-    /// The moment of a UTCTime or GeneralizedTime of the document whose entry this is; `None` of any other block.
+    /// The moment of a UTCTime or GeneralizedTime of the document whose entry this is; `None` for any other block.
     ///
     /// # Errors
     /// `OutOfMemory`; with an entry of another document also others.
@@ -170,7 +170,7 @@ impl Entry {
         }
     }
 
-    /// The number of an INTEGER of the document whose entry this is; `None` of any other block.
+    /// The number of an INTEGER of the document whose entry this is; `None` for any other block.
     pub fn integer(&self, alloc: Global, document: &[u8]) -> Result<Option<BigInt>, AllocError>
         ensures { (b : Tree ℕ) → IsEntryOf document.now b self.now → IfOk result
             (λ found. MatchOption found (tree_integer b ≡ None) (λ n. tree_integer b ≡ Some n)) }
@@ -187,10 +187,10 @@ impl Entry {
         }
     }
 
-    /// The text of a string of any of the six kinds, of the document whose entry this is; `None` of any other block.
+    /// The text of a string of any of the six kinds, of the document whose entry this is; `None` for any other block.
     ///
     /// # Errors
-    /// `OutOfMemory`; with an entry of another document also that of contents octets that are no text.
+    /// `OutOfMemory`; with an entry of another document also an error of contents octets that are not text.
     pub fn text(&self, alloc: Global, document: &[u8]) -> Result<Option<String>, ASN1DecodeErr>
         ensures { (b : Tree ℕ) → IsEntryOf document.now b self.now → MatchResult result
             (λ found. MatchOption found
@@ -258,7 +258,8 @@ pub fn time_of(alloc: Global, tag: u64, contents: &[u8]) -> Result<Option<DateTi
     }
 }
 
-/// Says that each entry of a document is of the tree at its index, so that what is read of an entry is that tree's.
+/// A law, with no code. Each entry of a document is that of the tree at its index, so what is read of an entry is that
+/// tree's.
 pub fn law_entries()
     ensures { EachIsOfItsTree }
 {}

@@ -24,17 +24,17 @@ use asn1_headers::error::{ASN1DecodeErr, ASN1EncodeErr};
 use asn1_headers::header::ASN1Class;
 use std::alloc::Global;
 
-/// A type that is read from the blocks of a document and from the document's own octets, as the place of a signature's
-/// content wants them. A type that has no use for the octets implements [`FromASN1`] instead.
+/// A type that is read from the blocks of a document and from the document's own octets, as the content of a signature
+/// needs. A type that does not need the octets implements [`FromASN1`] instead.
 pub trait FromASN1WithBody: Sized {
-    /// Why blocks are not read, or why octets are no document.
+    /// Why blocks are not a value of the type, or the input is not a document.
     type Error: From<ASN1DecodeErr>;
 
     /// What is read of trees and octets: a value with the trees after it, or an error.
     ghost reads_with: { Trees ℕ → List ℕ → Result (Self × Trees ℕ) Self.Error → Type 0 };
 
-    /// Reads a value from the first of the blocks `v`, whose document is `b`, and gives it with the blocks after those
-    /// that it has taken.
+    /// Reads a value from the front of the blocks `v` of the document `b`, and returns it with the blocks that it
+    /// left.
     fn from_asn1_with_body<'a>(
         alloc: Global,
         v: &'a [ASN1Block],
@@ -47,13 +47,13 @@ pub trait FromASN1WithBody: Sized {
 
 /// A type that is read from blocks.
 pub trait FromASN1: Sized {
-    /// Why blocks are not read, or why octets are no document.
+    /// Why blocks are not a value of the type, or the input is not a document.
     type Error: From<ASN1DecodeErr>;
 
     /// What is read of trees: a value with the trees after it, or an error.
     ghost reads: { Trees ℕ → Result (Self × Trees ℕ) Self.Error → Type 0 };
 
-    /// Reads a value from the first of the blocks, and gives it with the blocks after those that it has taken.
+    /// Reads a value from the front of the blocks, and returns it with the blocks that it left.
     fn from_asn1<'a>(
         alloc: Global,
         v: &'a [ASN1Block],
@@ -80,7 +80,7 @@ impl<T: FromASN1> FromASN1WithBody for T {
 
 /// A type that is written as blocks.
 pub trait ToASN1 {
-    /// Why a value has no blocks, or why blocks can't be written.
+    /// Why a value has no blocks, or blocks cannot be written.
     type Error: From<ASN1EncodeErr>;
 
     /// What is written of a value where this class is asked for: trees, or an error.
@@ -95,7 +95,7 @@ pub trait ToASN1 {
         self.to_asn1_class(alloc, ASN1Class::Universal)
     }
 
-    /// The blocks of the value, where `c` is the class of those that the value itself doesn't settle.
+    /// The blocks of the value; `c` is the class of those for which the value does not decide it.
     fn to_asn1_class(&self, alloc: Global, c: ASN1Class) -> Result<Vec<ASN1Block>, Self::Error>
         ensures { MatchResult result
             (λ v. writes self.now c (Ok (views v.items)))
@@ -183,12 +183,12 @@ pub enum TripFault<E, D> {
     Decode(D),
 }
 
-/// Writes the value as [`der_encode`] does, and reads the octets as [`der_decode`] does. Where the value has trees and
-/// each is faithful, what is read is the value.
+/// Writes the value as [`der_encode`] does, and reads the octets as [`der_decode`] does. If the value has trees and
+/// each is faithful, the value comes back.
 ///
 /// # Errors
-/// `Encode` with an error of [`der_encode`], `Decode` with one of [`der_decode`]. Where the value has trees and each is
-/// faithful, they are those of the type, or memory ran out.
+/// `Encode` with an error of [`der_encode`], `Decode` with one of [`der_decode`]. If the value has trees and each is
+/// faithful, an error is one of the type, or memory ran out.
 ///
 /// ```rust
 /// use simple_asn1::{Point, round_trip};
@@ -226,9 +226,8 @@ pub fn round_trip<T: RoundTrip>(
     }
 }
 
-/// The items of a `Sequence`; `None` of any other block. For types of one's own that are a SEQUENCE:
-/// unlike [`ASN1Block::items`] it has none of a `Set` or an `Explicit`, and its contract says what the
-/// tree of the block is.
+/// The items of a `Sequence`; `None` for any other block. Unlike [`ASN1Block::items`] it returns none of a `Set` or an
+/// `Explicit`, and its contract says what the tree of the block is.
 ///
 /// ```rust
 /// use simple_asn1::{ASN1Block, sequence_items};

@@ -17,8 +17,8 @@ use asn1_headers::error::ASN1DecodeErr;
 use asn1_outline::outline::Outline;
 use std::alloc::Global;
 
-/// Reads a document in canonical form into its outline, as [`from_der_strict`] reads it into blocks. No block is made,
-/// unless a quick look at the octets leaves open whether they are canonical.
+/// Reads a document in canonical form into its outline, as [`from_der_strict`] reads it into blocks. It builds no
+/// blocks, unless a quick pass over the octets cannot tell whether they are canonical.
 ///
 /// # Errors
 /// Those of [`from_der_strict`].

@@ -41,13 +41,13 @@ use crate::text::text_at;
 use simple_asn1::{ASN1DecodeErr, rewrite};
 use std::alloc::Global;
 
-/// Reads a document into records: one for each block, each before those that it holds.
+/// Reads a document into records: one for each block, each before those inside it.
 ///
-/// Answers their number; `NO_ROOM` with the number that is needed, where there is less room, and then nothing is
-/// written; or the number of the first fault, with the offset of the block at fault, and then nothing is written
-/// either. Records behind those that are written stay as they are. Memory is taken for the records, which are put there
-/// when all are known, and 64 octets for each level of nesting that is open, and all of it is given back; room for both
-/// is doubled as they grow. The stack that is taken does not grow with the nesting.
+/// Returns their number; `NO_ROOM` with the number that is needed, if there is less room; or the number of the first
+/// fault, with the offset of the block at fault. After an error nothing is written. Records after those that are
+/// written stay as they are. It takes memory for the records, which are put there when all are known, and 64 bytes for
+/// each open level of nesting; all of it is given back. Room for both is doubled as they grow. Stack use does not grow
+/// with nesting.
 #[unsafe(no_mangle)]
 pub extern "C" fn simple_asn1_read(alloc: Global, octets: &[u8], blocks: &mut [Block]) -> Outcome
     ensures answer { AnswersRead octets.now blocks.old blocks.new result }
@@ -61,8 +61,8 @@ pub extern "C" fn simple_asn1_read(alloc: Global, octets: &[u8], blocks: &mut [B
     }
 }
 
-/// Reads a document in canonical form (X.690 10, 11) into records, as [`simple_asn1_read`] does. Of another document it
-/// answers `NOT_CANONICAL`, with the offset of the first block at the top level that is not in its canonical octets.
+/// Reads a document in canonical form (X.690 10, 11) into records, as [`simple_asn1_read`] does. For another document
+/// it returns `NOT_CANONICAL`, with the offset of the first top-level block that is not in its canonical octets.
 #[unsafe(no_mangle)]
 pub extern "C" fn simple_asn1_read_strict(
     alloc: Global,
@@ -77,8 +77,8 @@ pub extern "C" fn simple_asn1_read_strict(
     }
 }
 
-/// Puts the canonical octets of a document at the front of the room, and answers their number; or `NO_ROOM` with that
-/// number, where there is less room, or the first fault, as [`simple_asn1_read`] does: then nothing is written.
+/// Writes the canonical octets of a document at the front of the room, and returns their number; or `NO_ROOM` with
+/// that number, if there is less room, or the first fault, as [`simple_asn1_read`] does: then nothing is written.
 #[unsafe(no_mangle)]
 pub extern "C" fn simple_asn1_rewrite(alloc: Global, octets: &[u8], room: &mut [u8]) -> Outcome
     ensures { AnswersRewrite octets.now room.old room.new result }
@@ -110,9 +110,9 @@ fn rewrite_fault(alloc: Global, octets: &[u8], e: &ASN1DecodeErr) -> Fault
     }
 }
 
-/// The number of the INTEGER at an offset (X.690 8.3). `OUT_OF_RANGE` where it fits no `i64`; `NO_SUCH_VALUE` where no
-/// encoding stands there, or one of another kind; the fault of one that is no block. The block there is read alone, in
-/// memory that is given back.
+/// The number of the INTEGER at an offset (X.690 8.3). `OUT_OF_RANGE` if it does not fit an `i64`; `NO_SUCH_VALUE` if
+/// there is no encoding, or one of another kind; otherwise the fault of the block. It is read alone, in memory that is
+/// given back.
 #[unsafe(no_mangle)]
 pub extern "C" fn simple_asn1_int64(alloc: Global, octets: &[u8], offset: usize) -> IntegerAnswer
     ensures { AnswersInteger octets.now offset result }
@@ -120,8 +120,7 @@ pub extern "C" fn simple_asn1_int64(alloc: Global, octets: &[u8], offset: usize)
     integer_at(alloc, octets, offset)
 }
 
-/// The moment of the UTCTime or GeneralizedTime at an offset (X.690 8.25), in UTC; what else it answers is as with
-/// [`simple_asn1_int64`].
+/// The moment of the UTCTime or GeneralizedTime at an offset (X.690 8.25), in UTC; otherwise as [`simple_asn1_int64`].
 #[unsafe(no_mangle)]
 pub extern "C" fn simple_asn1_time(alloc: Global, octets: &[u8], offset: usize) -> MomentAnswer
     ensures { AnswersMoment octets.now offset result }
@@ -129,9 +128,9 @@ pub extern "C" fn simple_asn1_time(alloc: Global, octets: &[u8], offset: usize) 
     moment_at(alloc, octets, offset)
 }
 
-/// Puts the text of the string at an offset (X.690 8.23), of whatever kind, in UTF-8 at the front of the room, and
-/// answers how many octets it has; `NO_ROOM` with that number, where there is less room. What else it answers is as
-/// with [`simple_asn1_int64`], and then nothing is written.
+/// Writes the text of the string at an offset (X.690 8.23), of any kind, in UTF-8 at the front of the room, and
+/// returns its number of octets; `NO_ROOM` with that number, if there is less room. Otherwise as
+/// [`simple_asn1_int64`], and nothing is written.
 #[unsafe(no_mangle)]
 pub extern "C" fn simple_asn1_text(
     alloc: Global,
@@ -144,8 +143,8 @@ pub extern "C" fn simple_asn1_text(
     text_at(alloc, octets, offset, room)
 }
 
-/// Puts the components of the OBJECT IDENTIFIER at an offset (X.690 8.19) in decimal, with a point between two of them,
-/// as [`simple_asn1_text`] does. `OUT_OF_RANGE` where one of them is 2^128 or more.
+/// Writes the components of the OBJECT IDENTIFIER at an offset (X.690 8.19) in decimal, with a point between two of
+/// them, as [`simple_asn1_text`] does. `OUT_OF_RANGE` if one of them is 2^128 or more.
 #[unsafe(no_mangle)]
 pub extern "C" fn simple_asn1_oid(
     alloc: Global,
@@ -158,9 +157,9 @@ pub extern "C" fn simple_asn1_oid(
     identifier_at(alloc, octets, offset, room)
 }
 
-/// The records of the content, the algorithm's OBJECT IDENTIFIER and the signature of the signed triple that a document
-/// begins with; `next` and `depth` are 0 in them. `NOT_SIGNED` where it begins with another block; of other octets the
-/// first fault, as [`simple_asn1_read`] has it.
+/// The records of the content, the algorithm's OBJECT IDENTIFIER and the signature of the signed triple that a
+/// document begins with; `next` and `depth` are 0 in them. `NOT_SIGNED` if it begins with another block; for any other
+/// input the first fault, as [`simple_asn1_read`].
 #[unsafe(no_mangle)]
 pub extern "C" fn simple_asn1_signed(alloc: Global, octets: &[u8]) -> SignedAnswer
     ensures { AnswersSigned octets.now result }
@@ -168,10 +167,11 @@ pub extern "C" fn simple_asn1_signed(alloc: Global, octets: &[u8]) -> SignedAnsw
     signed_in(alloc, octets)
 }
 
-/// Puts the canonical octets of the document that records spell: one with items holds the next of them, any other has
-/// contents octets of these. Answers as [`simple_asn1_rewrite`] does; the offset of a fault is that in what is spelled.
-/// `BAD_RECORD` with the index of the last record that can't be put: its class is none, its tag is the greatest `u64`,
-/// which also stands for each greater number, it holds more than there are, or its contents octets are not within these.
+/// Writes the canonical octets of the document that records describe: one with items holds the records after it, any
+/// other has its contents octets among these. Returns what [`simple_asn1_rewrite`] does; the offset of a fault is that
+/// in what is described. `BAD_RECORD` with the index of the last record that cannot be written: its class does not
+/// exist, its tag is `u64::MAX`, which also stands for each greater number, it holds more than there are, or its
+/// contents octets are not within these.
 #[unsafe(no_mangle)]
 pub extern "C" fn simple_asn1_write(
     alloc: Global,

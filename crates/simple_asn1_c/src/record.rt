@@ -9,7 +9,7 @@ use simple_asn1::{ASN1Block, encoding_at};
 use std::alloc::{AllocError, Global};
 use std::mem::size_of;
 
-/// A block as C sees it. `simple_asn1.h` says what the fields are.
+/// A block as C sees it. `simple_asn1.h` describes the fields.
 #[repr(C)]
 #[derive(Clone, Copy)]
 pub struct Block {
@@ -24,7 +24,7 @@ pub struct Block {
     pub constructed: u8,
 }
 
-/// What a call answers: a status, the offset of the block at fault, and how many records or octets were written, or
+/// What a call returns: a status, the offset of the block at fault, and how many records or octets were written, or
 /// are needed.
 #[repr(C)]
 #[derive(Clone, Copy)]

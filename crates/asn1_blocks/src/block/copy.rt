@@ -77,10 +77,10 @@ fn copy(alloc: Global, b: &ASN1Block) -> Result<ASN1Block, AllocError>
 impl ASN1Block {
     /// The same block, offsets too. The only error is that memory ran out.
     ///
-    /// Memory is taken for each box of the tree, each vector and text that is not empty, each integer of more than 16
-    /// octets, and each tag number from 2^64 on: one allocation each. While it is made, a list of references to all
-    /// blocks is kept, 8 octets for each, and the copies that wait for the block that holds them. The stack that is
-    /// taken does not grow with the nesting, also where memory runs out and what was copied is dropped.
+    /// It takes memory for each box of the tree, each vector and text that is not empty, each integer of more than 16
+    /// octets, and each tag number from 2^64 on: one allocation each. While the copy is made, it also holds a list of
+    /// references to all blocks, 8 bytes for each, and the copies that wait for the block around them. Stack use does
+    /// not grow with nesting, also when memory runs out and what was copied is dropped.
     ///
     /// ```rust
     /// use simple_asn1::ASN1Block;

@@ -6,8 +6,8 @@ ghost use Rattle.asn1_blocks.specs.View.{view, views};
 use crate::block::ASN1Block;
 use std::mem;
 
-/// Drops blocks that may be nested deeply: in time linear in their number, with no memory, and with no call on the
-/// stack for a level of nesting, as dropping an [`ASN1Block`] has it.
+/// Drops blocks by a loop, however deeply they nest: in linear time, and without memory. Dropping an [`ASN1Block`] in
+/// any other way uses stack for each level of nesting.
 ///
 /// ```rust
 /// use simple_asn1::{ASN1DecodeErr, discard, from_der};

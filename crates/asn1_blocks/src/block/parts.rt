@@ -26,7 +26,7 @@ use std::slice;
 
 impl ASN1Block {
     /// The tag number (X.690 8.1.2.2): the one of X.680 table 1, or the field of an `Explicit` or `Unknown` block.
-    /// `None` only of a field of 2^64 or more.
+    /// `None` only for a field of 2^64 or more.
     ///
     /// ```rust
     /// use simple_asn1::{ASN1Block, ASN1Class};
@@ -60,7 +60,7 @@ impl ASN1Block {
         }
     }
 
-    /// The items of a `Sequence` or `Set`, and the one block in an `Explicit`; `None` of any other block.
+    /// The items of a `Sequence` or `Set`, and the one block in an `Explicit`; `None` for any other block.
     ///
     /// ```rust
     /// use simple_asn1::ASN1Block;
@@ -82,7 +82,7 @@ impl ASN1Block {
         }
     }
 
-    /// The characters of a string of any of the six kinds; `None` of any other block.
+    /// The characters of a string of any of the six kinds; `None` for any other block.
     ///
     /// ```rust
     /// use simple_asn1::ASN1Block;
@@ -108,7 +108,7 @@ impl ASN1Block {
         }
     }
 
-    /// The number of an `Integer`; `None` of any other block.
+    /// The number of an `Integer`; `None` for any other block.
     ///
     /// ```rust
     /// use simple_asn1::ASN1Block;
@@ -129,7 +129,7 @@ impl ASN1Block {
         }
     }
 
-    /// The octets of an `OctetString`; `None` of any other block, also of a `BitString` and an `Unknown`, whose octets
+    /// The octets of an `OctetString`; `None` for any other block, also of a `BitString` and an `Unknown`, whose octets
     /// mean nothing without their other fields.
     ///
     /// ```rust
@@ -151,7 +151,7 @@ impl ASN1Block {
         }
     }
 
-    /// The value of a `Boolean`; `None` of any other block.
+    /// The value of a `Boolean`; `None` for any other block.
     ///
     /// ```rust
     /// use simple_asn1::ASN1Block;
@@ -171,7 +171,7 @@ impl ASN1Block {
     }
 
     /// The number of bits of a `BitString`, and the octets that hold them, the first bit the most
-    /// significant of the first octet; `None` of any other block. The other bits of these octets
+    /// significant of the first octet; `None` for any other block. The other bits of these octets
     /// are unused.
     ///
     /// ```rust
@@ -194,7 +194,7 @@ impl ASN1Block {
         }
     }
 
-    /// The object identifier of an `ObjectIdentifier`; `None` of any other block.
+    /// The object identifier of an `ObjectIdentifier`; `None` for any other block.
     ///
     /// ```rust
     /// use simple_asn1::{ASN1Block, OID, oid};
@@ -217,7 +217,7 @@ impl ASN1Block {
         }
     }
 
-    /// The moment of a `UTCTime` or a `GeneralizedTime`; `None` of any other block. It is one of
+    /// The moment of a `UTCTime` or a `GeneralizedTime`; `None` for any other block. It is one of
     /// UTC.
     ///
     /// ```rust
@@ -240,11 +240,11 @@ impl ASN1Block {
     }
 }
 
-/// The blocks at all depths, in the order in which their first octets stand in a document: each before those that it
-/// holds, and these before what follows it. What an `Unknown` holds are octets, and not looked into.
+/// The blocks at all depths, in the order of their first octets in a document: each before those inside it. The octets
+/// of an `Unknown` are not looked into.
 ///
-/// The list takes 8 octets for each block, and while it is made 16 for each level of nesting that is open. The stack
-/// that is taken does not grow with the nesting. The only error is that memory ran out.
+/// The list takes 8 bytes for each block, and while it is made 16 for each open level of nesting. Stack use does not
+/// grow with nesting. The only error is that memory ran out.
 ///
 /// ```rust
 /// use simple_asn1::{ASN1Block, Document, all_blocks};

@@ -101,10 +101,10 @@ fn same(a: &ASN1Block, b: &ASN1Block) -> bool
     same_all(slice::from_ref(a), slice::from_ref(b))
 }
 
-/// Two blocks are equal where their variants and fields are; offsets are ignored at every depth.
+/// Two blocks are equal if their variants and fields are; offsets are ignored at every depth.
 ///
-/// Comparing takes no memory. It takes a call on the stack for each level of nesting, but for blocks that are the last
-/// of their list, and those in an `Explicit`: chains of these take none.
+/// It takes no memory. It uses stack for each level of nesting, except for blocks that are the last of their list or
+/// in an `Explicit`: chains of these use none.
 impl PartialEq for ASN1Block {
     ghost use Rattle.asn1_blocks.specs.Inner.Equality.{same_block};
     ghost use Rattle.asn1_blocks.specs.Inner.EqualityLaws.{same_block_laws};

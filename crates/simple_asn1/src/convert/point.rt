@@ -23,14 +23,14 @@ pub struct Point {
     pub y: i64,
 }
 
-/// Why octets are no point, or why a point has no octets.
+/// Why a document is not a point, or a point cannot be written.
 #[derive(Debug, Drop, PartialEq)]
 pub enum PointErr {
-    /// The octets are no document, or memory ran out in reading.
+    /// The input is not a document, or memory ran out while reading.
     Decode(ASN1DecodeErr),
-    /// Memory ran out in writing.
+    /// Memory ran out while writing.
     Encode(ASN1EncodeErr),
-    /// The first block is no SEQUENCE of exactly two INTEGERs that fit an `i64`.
+    /// The first block is not a SEQUENCE of exactly two INTEGERs that fit an `i64`.
     Shape,
 }
 

@@ -27,7 +27,7 @@ use std::alloc::{AllocError, Global};
 /// STRING.
 #[derive(Debug, Drop, PartialEq)]
 pub struct SignedTriple {
-    /// The octets of the first of the three as they stand in the document, canonical or not: those that were signed.
+    /// The octets of the first of the three as they are in the document, canonical or not: what was signed.
     pub content: Vec<u8>,
     /// The OBJECT IDENTIFIER of the algorithm. What follows it, its parameters, is not kept.
     pub algorithm: OID,
@@ -37,10 +37,10 @@ pub struct SignedTriple {
     pub signature: Vec<u8>,
 }
 
-/// Why octets are no signed triple.
+/// Why a document is not a signed triple.
 #[derive(Debug, Drop, PartialEq)]
 pub enum TripleErr {
-    /// The octets are no document, or memory ran out.
+    /// The input is not a document, or memory ran out.
     Codec(ASN1DecodeErr),
     /// The first block has another shape.
     Shape,
@@ -55,7 +55,7 @@ impl From<ASN1DecodeErr> for TripleErr {
     }
 }
 
-/// Memory that ran out, wrapped.
+/// Wraps `OutOfMemory`.
 impl From<AllocError> for TripleErr {
     ghost from_gives = { λ f e. e ≡ Codec OutOfMemory };
 
@@ -164,8 +164,8 @@ impl FromASN1WithBody for SignedTriple {
     }
 }
 
-/// Reads the signed triple that the first block of a document is: [`der_decode`] at this type. Blocks after it are
-/// ignored. Content, object identifier and signature are copied, while the blocks of the document are kept.
+/// Reads the signed triple at the front of a document: [`der_decode`] at this type. Blocks after it are ignored.
+/// Content, object identifier and signature are copied while the blocks of the document are kept.
 ///
 /// ```rust
 /// use simple_asn1::{TripleErr, read_signed};
@@ -179,8 +179,8 @@ impl FromASN1WithBody for SignedTriple {
 /// ```
 ///
 /// # Errors
-/// `Codec` with the first fault of octets that are no document, or with `OutOfMemory`; `Shape` where the first block of
-/// a document is no signed triple.
+/// `Codec` with the first fault of an input that is not a document, or with `OutOfMemory`; `Shape` if the first block
+/// of a document is not a signed triple.
 pub fn read_signed(alloc: Global, v: &[u8]) -> Result<SignedTriple, TripleErr>
     ensures fields { IfOk result (λ t. (p : SignedParts) × IsSigned v.now p × HasFields v.now p t) }
     ensures content { IfOk result (λ t. (p : SignedParts) (rest : Trees ℕ) → IsDocument v.now (signed_trees p rest)

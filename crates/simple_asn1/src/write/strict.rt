@@ -37,15 +37,14 @@ use asn1_numbers::sink::Comparison;
 use std::alloc::Global;
 use std::slice;
 
-/// Reads a document as [`from_der`](crate::from_der) does, where its octets are the canonical ones of its blocks, which
-/// [`to_der`](crate::to_der) writes. Whoever demands one form of each document reads with it: two documents that it
-/// accepts have equal blocks exactly if their octets are the same.
+/// Reads a document in canonical form, such as [`to_der`](crate::to_der) writes, and rejects any other. Two documents
+/// that it accepts have equal blocks exactly if their octets are the same.
 ///
-/// Memory is taken as reading takes it, and then where more than four constructed encodings of other classes than
-/// Universal stand inside one another; where the octets are not canonical, also for the lists of blocks that are begun
-/// and for a list of all blocks, as [`to_der`](crate::to_der) has it. The octets are compared in place, and
-/// none are written. What was read of a document that is refused is dropped by a loop; the blocks that are answered are
-/// dropped as those of [`from_der`](crate::from_der) are, by a loop where [`discard`](crate::discard) is called.
+/// It takes the memory that reading takes; more if more than four constructed encodings of classes other than
+/// Universal are nested; and if the octets are not canonical, lists of blocks as [`to_der`](crate::to_der) takes them.
+/// The octets are compared in place, and none are written. The blocks of a rejected document are dropped by a loop;
+/// those that are returned are dropped as those of [`from_der`](crate::from_der) are, by a loop if
+/// [`discard`](crate::discard) is called.
 ///
 /// ```rust
 /// use simple_asn1::{ASN1DecodeErr, discard, from_der_strict};
@@ -65,8 +64,8 @@ use std::slice;
 /// ```
 ///
 /// # Errors
-/// Those of [`from_der`](crate::from_der). With none, `NotCanonical` with the offset of the first block at the top
-/// level whose octets are not its canonical ones.
+/// Those of [`from_der`](crate::from_der). For a document, `NotCanonical` with the offset of the first top-level block
+/// whose octets are not its canonical ones.
 pub fn from_der_strict(alloc: Global, i: &[u8]) -> Result<Vec<ASN1Block>, ASN1DecodeErr>
     ensures document { IfOk result (λ blocks. CanonicalDocument i.now (views blocks.items)) }
     ensures fault { IfErr result (OutOfMemoryOr (StrictFault i.now)) }
