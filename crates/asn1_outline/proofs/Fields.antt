@@ -81,11 +81,11 @@ module _ (x : List ℕ) (r : Entry) where
       absurd (elim s.stays [
         | inl known ↦ other (sym z.class ∙ known.0)
         | inr rest ↦ elim holds [
-            | inl (bit, q, t, f) ↦
-                let (b, is) = the_node_in ns (sym count ∙ one) in
-                rest.1 (bit, encodes_block q v b (only_tree q v b (subst (EncodesAll q v) is f)))
-            | inr (none, o) ↦ omega (arith, one, count, no_nodes_in ns none)
-          ]
+          | inl (bit, q, t, f) ↦
+              let (b, is) = the_node_in ns (sym count ∙ one) in
+              rest.1 (bit, encodes_block q v b (only_tree q v b (subst (EncodesAll q v) is f)))
+          | inr (none, o) ↦ omega (arith, one, count, no_nodes_in ns none)
+        ]
       ])
 
   pub explicit_to : (b : Tree ℕ) (ns : Nodes) → Holds x b (nodes_trees ns) → IsEntryOf x b r → r.items ≡ node_count ns

@@ -1,39 +1,5 @@
 -- The entries of frames that are open, and of those that end.
-use Rattle.std.proofs.Common.{
-  ◌≡◌,
-  ℕ,
-  suc,
-  ◌+◌,
-  ◌-◌,
-  ◌<◌,
-  ◌≤◌,
-  ◌++◌,
-  ◌⊎◌,
-  List,
-  [],
-  ◌∷◌,
-  Err,
-  None,
-  Ok,
-  OnOk,
-  Result,
-  drop,
-  inl,
-  inr,
-  length,
-  map,
-  set,
-  take,
-  refl,
-  sym,
-  ap,
-  ◌∙◌,
-  subst,
-  arith,
-  append_assoc,
-  append-nil,
-  length-append,
-}
+use Rattle.std.proofs.Common.{◌≡◌, ℕ, suc, ◌+◌, ◌-◌, ◌<◌, ◌≤◌, ◌++◌, List, [], ◌∷◌, Err, None, Ok, OnOk, Result, drop, inl, inr, length, set, take, refl, sym, ap, ◌∙◌, subst, arith, append_assoc, append-nil, length-append}
 use Rattle.std.specs.List.{slice_range}
 use Rattle.std.proofs.lemmas.List.{length-map, map-append}
 use Rattle.std.proofs.Math.Seq.{get_or-append_seam, set-append_seam}
@@ -51,13 +17,13 @@ use Rattle.asn1_blocks.specs.Grammar.{Encodes, EncodesAll, IsDocument}
 use Rattle.asn1_blocks.specs.HeadersBegun.{IsReadInside}
 use Rattle.asn1_blocks.specs.Inner.HeaderPlaces.{HeaderFound}
 use Rattle.asn1_blocks.specs.Inner.LeafBlocks.{IsSingleAt}
-use Rattle.asn1_blocks.specs.Inner.OpenFrames.{IsAttemptAt, IsEnded, IsHeaded, IsKindOf, around, as_it_came, attempted}
-use Rattle.asn1_blocks.specs.Inner.ReaderSteps.{CanEnd, EndsAs, HasEndedIn, HasKept, HasLeaf, HasOpened, in_frame}
+use Rattle.asn1_blocks.specs.Inner.OpenFrames.{IsAttemptAt, IsEnded, IsHeaded, IsKindOf, as_it_came, attempted}
+use Rattle.asn1_blocks.specs.Inner.ReaderSteps.{EndsAs, HasEndedIn, HasKept, HasLeaf, HasOpened, in_frame}
 use Rattle.asn1_blocks.specs.Tree.{Tree, Trees, explicit, group, leaf, no_trees, trees_of, unknown}
 use Rattle.asn1_blocks.specs.View.{tree_offset}
 use Rattle.asn1_blocks.proofs.Slices.{encodes_offset}
 use Rattle.asn1_outline.specs.Entries.{AreEntries, AreEntriesOf, no_entry}
-use Rattle.asn1_outline.specs.Listing.{AllHold, AreOfTrees, IsBegun, IsHeld, all_hold, builder_holds, offset_of, sealed, with_items}
+use Rattle.asn1_outline.specs.Listing.{AllHold, AreOfTrees, IsBegun, all_hold, builder_holds, offset_of, sealed, with_items}
 use Rattle.asn1_outline.specs.Structure.{Holds, IsNode, IsTaggedAt, Node, no_nodes, node, node_depths, node_in_order, node_tree, nodes_depths, nodes_in_order, nodes_of, nodes_trees}
 use Rattle.asn1_outline.specs.declared.entry.Entry.{Entry}
 use Rattle.asn1_outline.specs.declared.listing.EntryBuilder.{EntryBuilder}

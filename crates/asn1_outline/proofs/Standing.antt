@@ -1,11 +1,11 @@
 -- Where the blocks of a document's structure stand.
-use Rattle.std.proofs.Common.{◌≡◌, ℕ, zero, suc, ◌+◌, ◌-◌, ◌*◌, ◌<◌, ◌≤◌, ◌++◌, Bool, List, [], ◌∷◌, inl, inr, drop, length, get_or, refl, sym, ap, ◌∙◌, subst, arith, append_assoc, append-nil, length-append, drop-drop}
+use Rattle.std.proofs.Common.{◌≡◌, ℕ, zero, suc, ◌+◌, ◌-◌, ◌<◌, ◌≤◌, ◌++◌, Bool, List, [], ◌∷◌, inl, inr, drop, length, get_or, refl, sym, ap, ◌∙◌, subst, arith, append_assoc, append-nil, length-append, drop-drop}
 use Rattle.std.proofs.lemmas.Bool.{cases_lt}
 use Rattle.std.proofs.lemmas.List.{drop_at, get_or_append_left, get_or-append_right}
-use Rattle.asn1_headers.specs.Header.{Encoding, IsIdentifier, IsLength}
+use Rattle.asn1_headers.specs.Header.{Encoding, IsLength}
 use Rattle.asn1_headers.specs.declared.header.ASN1Class.{ASN1Class}
 use Rattle.asn1_headers.proofs.Prefixes.{identifier_some}
-use Rattle.asn1_blocks.specs.Grammar.{Encodes, EncodesAll, IsDocument}
+use Rattle.asn1_blocks.specs.Grammar.{Encodes, EncodesAll}
 use Rattle.asn1_blocks.specs.Tree.{Tree, Trees, explicit, group, leaf, no_trees, unknown}
 use Rattle.asn1_blocks.specs.View.{tree_offset}
 use Rattle.asn1_blocks.specs.Places.{EncodingAt}

@@ -4,7 +4,7 @@ use Rattle.asn1_headers.proofs.Prefixes.{encoding_alone}
 use Rattle.asn1_blocks.specs.Grammar.{EncodesAll}
 use Rattle.asn1_blocks.specs.Tree.{Tree, Trees, explicit, group, leaf, more_trees, no_trees, trees_of, unknown}
 use Rattle.asn1_blocks.proofs.OneReading.{all_alone, encodes_blocks}
-use Rattle.asn1_outline.specs.Structure.{AreNodes, Holds, IsNode, IsStructure, Node, Nodes, more_nodes, no_nodes, node, node_count, node_items, node_tree, nodes_of, nodes_trees}
+use Rattle.asn1_outline.specs.Structure.{AreNodes, Holds, IsNode, IsStructure, Node, Nodes, more_nodes, no_nodes, node, node_count, node_tree, nodes_of, nodes_trees}
 
 -- the trees of nodes in a list
 pub trees_nodes : (ns : List Node) → trees_of (map node_tree ns) ≡ nodes_trees (nodes_of ns)

@@ -23,7 +23,6 @@ use Rattle.std.proofs.Common.{
 }
 use Rattle.std.specs.List.{slice_range}
 use Rattle.std.proofs.lemmas.List.{length-reverse, reverse-append}
-use Rattle.asn1_headers.specs.declared.header.ASN1Class.TheVariants.{Universal}
 use Rattle.asn1_headers.specs.Fault.{DecodeFault}
 use Rattle.asn1_headers.specs.HeaderFault.{HeaderFault}
 use Rattle.asn1_blocks.specs.declared.reading.FrameKind.{FrameKind}

@@ -32,7 +32,6 @@ use Rattle.asn1_blocks.specs.declared.reading.FrameKind.TheVariants.{Whole, Grou
 use Rattle.asn1_blocks.specs.declared.reading.OpenFrame.{OpenFrame}
 use Rattle.asn1_blocks.specs.Inner.OpenFrames.{IsStopping, attempt_of}
 use Rattle.asn1_blocks.specs.Inner.ReaderSteps.{CanBeKept, GoesOn, HasKept, Holding, IsFaultyDocument, IsRefused, frame, frames, left}
-use Rattle.asn1_blocks.specs.Tree.{Tree}
 use Rattle.asn1_blocks.proofs.Frames.Stopping.{StoppingPlaces, stop_attempt, stop_document, stop_no_blocks, stop_pop, stopping_places}
 use Rattle.asn1_blocks.proofs.Reader.Closing.{IsNested, goes_on, nested}
 use Rattle.asn1_blocks.proofs.Reader.Popping.{reverse_none, reverse_push}

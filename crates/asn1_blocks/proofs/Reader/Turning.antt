@@ -1,5 +1,5 @@
 -- The first turn, and what each kind of turn says.
-use Rattle.std.proofs.Common.{◌≡◌, ℕ, List, [], ◌∷◌, length, reverse, refl, sym, subst, arith}
+use Rattle.std.proofs.Common.{◌≡◌, ℕ, List, [], length, reverse, refl, sym, subst, arith}
 use Rattle.asn1_headers.specs.Fault.{OutOfMemoryOr}
 use Rattle.asn1_blocks.specs.declared.reading.FrameKind.TheVariants.{Whole}
 use Rattle.asn1_blocks.specs.declared.reading.OpenFrame.{OpenFrame}

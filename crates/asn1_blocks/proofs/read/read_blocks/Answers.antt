@@ -1,8 +1,6 @@
-use Rattle.std.proofs.Common.{◌∙◌, None, length, refl, sym, subst}
+use Rattle.std.proofs.Common.{None, length, refl}
 use Rattle.asn1_blocks.specs.declared.reading.FrameKind.TheVariants.{Whole}
-use Rattle.asn1_blocks.specs.Grammar.{IsDocument}
-use Rattle.asn1_blocks.specs.Tree.{trees_of}
-use Rattle.asn1_blocks.proofs.TreeBuilding.Ending.{document_blocks, starts_empty}
+use Rattle.asn1_blocks.proofs.TreeBuilding.Ending.{starts_empty}
 use Rattle.asn1_blocks.proofs.read.read_blocks.Goals as goal
 
 pub read_into-requires-clause-empty : goal.read_into-requires-clause-empty

@@ -1,6 +1,5 @@
-use Rattle.std.proofs.Common.{◌≡◌, true, inr, is_some, length, reverse, ap, arith}
+use Rattle.std.proofs.Common.{◌≡◌, true, inr, is_some, length, ap, arith}
 use Rattle.std.proofs.lemmas.Grind.{common_steps}
-use Rattle.asn1_blocks.specs.declared.reading.OpenFrame.{OpenFrame}
 use Rattle.asn1_blocks.specs.Inner.OpenFrames.{attempt_of}
 use Rattle.asn1_blocks.proofs.Reader.Stopping.{
   attempt_is,

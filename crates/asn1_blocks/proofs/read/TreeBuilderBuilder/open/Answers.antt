@@ -1,7 +1,6 @@
-use Rattle.std.proofs.Common.{◌≡◌, length, refl, ap, subst, sym, arith}
+use Rattle.std.proofs.Common.{◌≡◌, length, refl, ap, arith}
 use Rattle.std.proofs.lemmas.Grind.{common_steps}
 use Rattle.asn1_blocks.specs.declared.read.TreeBuilder.{TreeBuilder}
-use Rattle.asn1_blocks.specs.Inner.ReaderSteps.{in_frame}
 use Rattle.asn1_blocks.proofs.TreeBuilding.Ending.{opened}
 use Rattle.asn1_blocks.proofs.read.TreeBuilderBuilder.open.Goals as goal
 use Rattle.asn1_blocks.proofs.read.TreeBuilderBuilder.open.Goals.{else-not-matches, then-not-matches+then-is_none}

@@ -1,9 +1,7 @@
-use Rattle.std.proofs.Common.{◌≡◌, ◌+◌, ◌-◌, ◌<◌, ◌≤◌, ℕ, Bor, List, Option, Some, None, ◌++◌, drop, length, ap, sym, subst, ◌∙◌, arith}
+use Rattle.std.proofs.Common.{◌≡◌, ◌+◌, ◌<◌, ◌≤◌, ℕ, Bor, List, Option, Some, None, ◌++◌, drop, length, ap, sym, subst, ◌∙◌, arith}
 use Rattle.std.proofs.Props.{props}
 use Rattle.std.specs.List.{slice_range}
 use Rattle.std.specs.Prelude.{IsSomeAnd, MatchOption}
-use Rattle.asn1_headers.specs.Header.{Encoding}
-use Rattle.asn1_headers.specs.declared.header.ASN1Class.{ASN1Class}
 use Rattle.asn1_blocks.specs.Tree.{Tree}
 use Rattle.asn1_blocks.specs.View.{tree_offset}
 use Rattle.asn1_outline.specs.Structure.{HasContents, IsEncodedIn, tree_at}

@@ -5,7 +5,7 @@ use Rattle.asn1_blocks.specs.Places.{EncodingAt, HasNoEncodingAt}
 use Rattle.asn1_blocks.specs.Tree.{Tree}
 use Rattle.asn1_blocks.specs.View.{tree_offset}
 use Rattle.asn1_blocks.proofs.Slices.{encoding_at_alone}
-use Rattle.asn1_outline.specs.Structure.{IsEncodedIn, nodes_in_order, tree_at}
+use Rattle.asn1_outline.specs.Structure.{IsEncodedIn, tree_at}
 use Rattle.asn1_outline.proofs.Lent.{found_entry, found_within}
 use Rattle.asn1_outline.proofs.Standing.{encoding_of, structure_stands}
 use Rattle.asn1_outline.proofs.outline.Outline.encoding.Goals as goal

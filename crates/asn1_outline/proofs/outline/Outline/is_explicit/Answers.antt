@@ -1,4 +1,4 @@
-use Rattle.std.proofs.Common.{◌≡◌, ◌<◌, Bool, length, sym, ap, subst}
+use Rattle.std.proofs.Common.{◌≡◌, ◌<◌, length, sym, ap, subst}
 use Rattle.std.proofs.Props.{props}
 use Rattle.asn1_outline.specs.Structure.{is_explicit, node_at, tree_at}
 use Rattle.asn1_outline.proofs.Fields.{explicit_is}
