@@ -94,6 +94,9 @@ typedef struct simple_asn1_signed_parts { /* next and depth of the records are 0
     simple_asn1_block signature; /* BIT STRING */
 } simple_asn1_signed_parts;
 
+/* SIMPLE_ASN1_VERSION of the library that the program runs with. */
+uint32_t simple_asn1_version(void);
+
 /* Writes the record of each block of a document, in order. At most size / 2 are needed. Records after those that are
  * written stay as they are; with any other status than SIMPLE_ASN1_OK all do. */
 simple_asn1_outcome simple_asn1_read(const uint8_t *octets, size_t size, simple_asn1_block *blocks, size_t room);

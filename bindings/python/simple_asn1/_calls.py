@@ -89,6 +89,10 @@ def _path() -> str:
     return os.environ.get("SIMPLE_ASN1_LIBRARY") or (found + ["libsimple_asn1.so.1"])[0]
 
 
+# of the calls and records below: SIMPLE_ASN1_VERSION of simple_asn1.h
+_VERSION = 1
+
+
 def _library() -> Any:
     path = _path()
     try:
@@ -97,6 +101,8 @@ def _library() -> Any:
         raise ImportError(
             f"{path} can't be loaded: {why}. bindings/c/build makes it; SIMPLE_ASN1_LIBRARY can say where it is."
         ) from why
+    if not hasattr(library, "simple_asn1_version") or library.simple_asn1_version() != _VERSION:
+        raise ImportError(f"{path} has calls of another version than {_VERSION}. bindings/c/build makes it.")
     octets, records = [ctypes.c_char_p, ctypes.c_size_t], [ctypes.POINTER(Block), ctypes.c_size_t]
     offset = [ctypes.c_size_t]
     for name, answer, arguments in (

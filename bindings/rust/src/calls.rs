@@ -64,6 +64,7 @@ pub struct SignedRecords {
 }
 
 extern "C" {
+    fn simple_asn1_version() -> u32;
     fn simple_asn1_read(octets: *const u8, size: usize, blocks: *mut Record, room: usize) -> Outcome;
     fn simple_asn1_read_strict(octets: *const u8, size: usize, blocks: *mut Record, room: usize) -> Outcome;
     fn simple_asn1_rewrite(octets: *const u8, size: usize, out: *mut u8, room: usize) -> Outcome;
@@ -121,6 +122,10 @@ fn records(octets: &[u8], call: impl Fn(*mut Record, usize) -> Outcome) -> Resul
     records.truncate(answer.count);
     records.shrink_to_fit();
     Ok(records)
+}
+
+pub fn version() -> u32 {
+    unsafe { simple_asn1_version() }
 }
 
 pub fn read(octets: &[u8]) -> Result<Vec<Record>, Fault> {

@@ -22,6 +22,11 @@ pub use fault::{Fault, FaultKind};
 use std::fmt;
 use std::iter::FusedIterator;
 
+/// The version of the library's calls and records: `SIMPLE_ASN1_VERSION` of `simple_asn1.h`.
+pub fn version() -> u32 {
+    calls::version()
+}
+
 /// A document, with the record of each of its blocks.
 #[derive(Clone, Debug)]
 pub struct Document<'a> {

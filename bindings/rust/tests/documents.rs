@@ -23,6 +23,11 @@ fn blocks_are_walked_over_in_order() -> Result<(), Fault> {
 }
 
 #[test]
+fn the_version_is_that_of_the_header() {
+    assert_eq!(simple_asn1_records::version(), 1);
+}
+
+#[test]
 fn faults_say_what_and_where() {
     let fault = Document::read(&[0x30, 0x04, 0x02, 0x01, 0x05, 0x01]).unwrap_err();
     assert_eq!(fault, Fault { kind: FaultKind::Incomplete, offset: 5 });

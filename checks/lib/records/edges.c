@@ -3,6 +3,7 @@
 
 static void check_nothing(void)
 {
+    CHECK(simple_asn1_version() == SIMPLE_ASN1_VERSION);
     simple_asn1_outcome o = simple_asn1_read(NULL, 0, NULL, 0);
     CHECK(o.status == SIMPLE_ASN1_EMPTY && o.offset == 0);
     CHECK(simple_asn1_read_strict(NULL, 0, NULL, 0).status == SIMPLE_ASN1_EMPTY);

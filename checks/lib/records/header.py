@@ -22,7 +22,7 @@ def same(what, first, second):
 
 
 code = header[header.index('extern "C"') :]
-declared = set(re.findall(r"^simple_asn1_\w+ (simple_asn1_\w+)\(", code, re.M))
+declared = set(re.findall(r"^(?:simple_asn1_\w+|uint32_t) (simple_asn1_\w+)\(", code, re.M))
 listed = subprocess.run(
     ["nm", "-D", "--defined-only", str(top / "bindings/c/out/lib/libsimple_asn1.so")],
     capture_output=True, text=True, check=True,
@@ -30,6 +30,10 @@ listed = subprocess.run(
 same("the header and the library's names", declared, {line.split()[-1] for line in listed.splitlines()})
 calls = (top / "bindings/rust/src/calls.rs").read_text()
 same("the header and Rust's names", declared, set(re.findall(r"^    fn (simple_asn1_\w+)", calls, re.M)))
+
+version = int(re.search(r"^#define SIMPLE_ASN1_VERSION (\d+)", header, re.M)[1])
+same("the header's and Python's versions", version, _calls._VERSION)
+same("the header's and the library's versions", version, _calls._LIBRARY.simple_asn1_version())
 
 page = (top / "bindings/c/simple_asn1.3").read_text()
 inline = set(re.findall(r"^static inline .*?(simple_asn1_\w+)\(", code, re.M))

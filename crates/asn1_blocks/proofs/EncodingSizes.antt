@@ -105,9 +105,9 @@ encoding_here octets i l m tag (c, k, t) le u few fits =
 -- no encoding stands past the end
 pub none_past_end : (document : List ℕ) (offset : ℕ) → length document < offset → (octets : List ℕ) → EncodingAt document offset octets → ⊥
 none_past_end document offset h octets p =
-    let x = p.are in
+    let x = p.encoding in
     let e : drop offset document ≡ [] = drop_of_length-le document (omega (arith, h)) in
-    omega (arith, encoding_some octets _ _ _ _ _ x.encoding, ap length (sym e ∙ p.stands), length-append octets p.rest)
+    omega (arith, encoding_some octets _ _ _ _ _ x.encoding, ap length (sym e ∙ p.at_offset), length-append octets p.rest)
 
 -- an encoding has two octets or more
 pub encoding_two : (octets : List ℕ) → IsEncoding octets → 2 ≤ length octets
@@ -126,4 +126,4 @@ encoding_two octets p =
 -- what stands at the offset of a tree of a document
 pub encoding_of : (document : List ℕ) (offset : ℕ) (octets : List ℕ) → TreeAt document offset octets → EncodingAt document offset octets
 encoding_of document offset octets t =
-    subst (λ z. EncodingAt document z octets) t.stands (octets_encoding document t.all t.tree octets t.read t.has)
+    subst (λ z. EncodingAt document z octets) t.offset_is (octets_encoding document t.all t.tree octets t.read t.own_octets)

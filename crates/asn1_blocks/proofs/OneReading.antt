@@ -30,11 +30,11 @@ use Rattle.asn1_headers.proofs.Prefixes.{encoding_alone, encoding_some}
 mutual
   -- octets that encode a tree are a block
   pub encodes_block : (o : ℕ) (octets : List ℕ) (b : Tree ℕ) → Encodes o octets b → IsBlock octets
-  encodes_block o octets (leaf p l) s = of_leaf s.encoding l refl s.means
-  encodes_block o octets (group p g bs) s = of_group s.encoding g refl (encodes_blocks (o + s.header) s.contents bs s.means)
+  encodes_block o octets (leaf p l) s = of_leaf s.encoding l refl s.meaning
+  encodes_block o octets (group p g bs) s = of_group s.encoding g refl (encodes_blocks (o + s.header) s.contents bs s.meaning)
   encodes_block o octets (explicit c p n b) s = of_other_class s.encoding s.other
   encodes_block o octets (unknown c k p n v) s =
-      elim s.stays [ inl u ↦ of_unknown_tag (subst (λ d. Encoding octets d k n v s.header) u.0 s.encoding) u.1 | inr u ↦ of_other_class s.encoding u.0 ]
+      elim s.as_it_came [ inl u ↦ of_unknown_tag (subst (λ d. Encoding octets d k n v s.header) u.0 s.encoding) u.1 | inr u ↦ of_other_class s.encoding u.0 ]
 
   -- and those that encode trees are blocks
   pub encodes_blocks : (o : ℕ) (octets : List ℕ) (bs : Trees ℕ) → EncodesAll o octets bs → AreBlocks octets
@@ -64,7 +64,7 @@ mutual
       → (xs ≡ ys) × (a ≡ b) × (r ≡ q)
   encodes_alone o xs ys r q (leaf p l) (leaf p' m) s t e =
       let f = encoding_alone _ _ _ _ _ _ _ _ _ _ _ _ r q s.encoding t.encoding e in
-      let g = leaf_alone l m s.contents f.tag s.means (subst (LeafContents m) (sym f.contents) t.means) in
+      let g = leaf_alone l m s.contents f.tag s.meaning (subst (LeafContents m) (sym f.contents) t.meaning) in
       let h : p ≡ p' = s.place ∙ sym t.place in
       (f.octets, cc, f.rest)
   encodes_alone o xs ys r q (leaf p l) (group p' g bs) s t e =
@@ -75,15 +75,15 @@ mutual
       absurd (t.other (sym f.class))
   encodes_alone o xs ys r q (leaf p l) (unknown c k p' n v) s t e =
       let f = encoding_alone _ _ _ _ _ _ _ _ _ _ _ _ r q s.encoding t.encoding e in
-      absurd (elim t.stays [ inl u ↦ false≢true (sym u.1 ∙ ap is_known_tag (sym f.tag) ∙ leaf_known l) | inr u ↦ u.0 (sym f.class) ])
+      absurd (elim t.as_it_came [ inl u ↦ false≢true (sym u.1 ∙ ap is_known_tag (sym f.tag) ∙ leaf_known l) | inr u ↦ u.0 (sym f.class) ])
   encodes_alone o xs ys r q (group p g bs) (leaf p' m) s t e =
       let f = encoding_alone _ _ _ _ _ _ _ _ _ _ _ _ r q s.encoding t.encoding e in
       absurd (leaf_no_group m g (sym f.tag))
   encodes_alone o xs ys r q (group p g bs) (group p' g' cs) s t e =
       let f = encoding_alone _ _ _ _ _ _ _ _ _ _ _ _ r q s.encoding t.encoding e in
       let i : g ≡ g' = group_alone g g' f.tag in
-      let b = all_alone (o + s.header) s.contents bs cs s.means
-      (subst (λ z. EncodesAll (o + z) s.contents cs) (sym f.header) (subst (λ z. EncodesAll (o + t.header) z cs) (sym f.contents) t.means)) in
+      let b = all_alone (o + s.header) s.contents bs cs s.meaning
+      (subst (λ z. EncodesAll (o + z) s.contents cs) (sym f.header) (subst (λ z. EncodesAll (o + t.header) z cs) (sym f.contents) t.meaning)) in
       let h : p ≡ p' = s.place ∙ sym t.place in
       (f.octets, cc, f.rest)
   encodes_alone o xs ys r q (group p g bs) (explicit c p' n b) s t e =
@@ -91,7 +91,7 @@ mutual
       absurd (t.other (sym f.class))
   encodes_alone o xs ys r q (group p g bs) (unknown c k p' n v) s t e =
       let f = encoding_alone _ _ _ _ _ _ _ _ _ _ _ _ r q s.encoding t.encoding e in
-      absurd (elim t.stays [ inl u ↦ false≢true (sym u.1 ∙ ap is_known_tag (sym f.tag) ∙ group_known g) | inr u ↦ u.0 (sym f.class) ])
+      absurd (elim t.as_it_came [ inl u ↦ false≢true (sym u.1 ∙ ap is_known_tag (sym f.tag) ∙ group_known g) | inr u ↦ u.0 (sym f.class) ])
   encodes_alone o xs ys r q (explicit c p n a) (leaf p' m) s t e =
       let f = encoding_alone _ _ _ _ _ _ _ _ _ _ _ _ r q s.encoding t.encoding e in
       absurd (s.other f.class)
@@ -100,8 +100,8 @@ mutual
       absurd (s.other f.class)
   encodes_alone o xs ys r q (explicit c p n a) (explicit d p' m b) s t e =
       let f = encoding_alone _ _ _ _ _ _ _ _ _ _ _ _ r q s.encoding t.encoding e in
-      let g = encodes_alone (o + s.header) s.contents s.contents [] [] a b s.means
-      (subst (λ z. Encodes (o + z) s.contents b) (sym f.header) (subst (λ z. Encodes (o + t.header) z b) (sym f.contents) t.means)) refl in
+      let g = encodes_alone (o + s.header) s.contents s.contents [] [] a b s.meaning
+      (subst (λ z. Encodes (o + z) s.contents b) (sym f.header) (subst (λ z. Encodes (o + t.header) z b) (sym f.contents) t.meaning)) refl in
       let h : p ≡ p' = s.place ∙ sym t.place in
       let i : a ≡ b = g.1 in
       let j = f.class in
@@ -109,23 +109,23 @@ mutual
       (f.octets, cc, f.rest)
   encodes_alone o xs ys r q (explicit c p n a) (unknown d k p' m v) s t e =
       let f = encoding_alone _ _ _ _ _ _ _ _ _ _ _ _ r q s.encoding t.encoding e in
-      absurd (elim t.stays [
+      absurd (elim t.as_it_came [
         | inl u ↦ s.other (f.class ∙ u.0)
         | inr u ↦ u.1
-            (sym f.constructed, subst IsBlock f.contents (encodes_block (o + s.header) s.contents a s.means))
+            (sym f.constructed, subst IsBlock f.contents (encodes_block (o + s.header) s.contents a s.meaning))
       ])
   encodes_alone o xs ys r q (unknown c k p n v) (leaf p' m) s t e =
       let f = encoding_alone _ _ _ _ _ _ _ _ _ _ _ _ r q s.encoding t.encoding e in
-      absurd (elim s.stays [ inl u ↦ false≢true (sym u.1 ∙ ap is_known_tag f.tag ∙ leaf_known m) | inr u ↦ u.0 f.class ])
+      absurd (elim s.as_it_came [ inl u ↦ false≢true (sym u.1 ∙ ap is_known_tag f.tag ∙ leaf_known m) | inr u ↦ u.0 f.class ])
   encodes_alone o xs ys r q (unknown c k p n v) (group p' g bs) s t e =
       let f = encoding_alone _ _ _ _ _ _ _ _ _ _ _ _ r q s.encoding t.encoding e in
-      absurd (elim s.stays [ inl u ↦ false≢true (sym u.1 ∙ ap is_known_tag f.tag ∙ group_known g) | inr u ↦ u.0 f.class ])
+      absurd (elim s.as_it_came [ inl u ↦ false≢true (sym u.1 ∙ ap is_known_tag f.tag ∙ group_known g) | inr u ↦ u.0 f.class ])
   encodes_alone o xs ys r q (unknown c k p n v) (explicit d p' m b) s t e =
       let f = encoding_alone _ _ _ _ _ _ _ _ _ _ _ _ r q s.encoding t.encoding e in
-      absurd (elim s.stays [
+      absurd (elim s.as_it_came [
         | inl u ↦ t.other (sym f.class ∙ u.0)
         | inr u ↦ u.1
-            (f.constructed, subst IsBlock (sym f.contents) (encodes_block (o + t.header) t.contents b t.means))
+            (f.constructed, subst IsBlock (sym f.contents) (encodes_block (o + t.header) t.contents b t.meaning))
       ])
   encodes_alone o xs ys r q (unknown c k p n v) (unknown d j p' m w) s t e =
       let f = encoding_alone _ _ _ _ _ _ _ _ _ _ _ _ r q s.encoding t.encoding e in

@@ -75,7 +75,7 @@ mutual
     header = s.header;
     encoding = s.encoding;
     place = ap f s.place ∙ first_at f o q h;
-    means = s.means;
+    meaning = s.meaning;
   }
   encodes_at f o q x (group p g bs) h s = record {
     constructed = s.constructed;
@@ -83,7 +83,7 @@ mutual
     header = s.header;
     encoding = s.encoding;
     place = ap f s.place ∙ first_at f o q h;
-    means = encodes_all_at f (o + s.header) (q + s.header) s.contents bs (further f o q s.header h) s.means;
+    meaning = encodes_all_at f (o + s.header) (q + s.header) s.contents bs (further f o q s.header h) s.meaning;
   }
   encodes_at f o q x (explicit c p n b) h s = record {
     contents = s.contents;
@@ -91,10 +91,10 @@ mutual
     encoding = s.encoding;
     place = ap f s.place ∙ first_at f o q h;
     other = s.other;
-    means = encodes_at f (o + s.header) (q + s.header) s.contents b (further f o q s.header h) s.means;
+    meaning = encodes_at f (o + s.header) (q + s.header) s.contents b (further f o q s.header h) s.meaning;
   }
   encodes_at f o q x (unknown c k p n v) h s =
-      record { header = s.header; encoding = s.encoding; place = ap f s.place ∙ first_at f o q h; stays = s.stays }
+      record { header = s.header; encoding = s.encoding; place = ap f s.place ∙ first_at f o q h; as_it_came = s.as_it_came }
 
   pub encodes_all_at :
       (f : ℕ → ℕ) (o q : ℕ) (x : List ℕ) (bs : Trees ℕ) → ((d : ℕ) → f (o + d) ≡ q + d) →
@@ -145,14 +145,14 @@ mutual
       (arith, f.size, length-append u (f.identifier ++ f.len), length-append f.identifier f.len) in
       found_among bs e b j i (u ++ (f.identifier ++ f.len)) s.contents v (open_contents i u x v w f.identifier f.len s.contents f.whole)
       (omega (arith, n, h, f.size, ap length f.whole, length-append f.identifier (f.len ++ s.contents), length-append f.len s.contents))
-      (subst (λ z. EncodesAll z s.contents bs) h s.means) t
+      (subst (λ z. EncodesAll z s.contents bs) h s.meaning) t
   found_in a e b j i u x v w n s (in_explicit {a = y} t) =
       let f = s.encoding in
       let h : length u + s.header ≡ length (u ++ (f.identifier ++ f.len)) = omega
       (arith, f.size, length-append u (f.identifier ++ f.len), length-append f.identifier f.len) in
       found_in y e b j i (u ++ (f.identifier ++ f.len)) s.contents v (open_contents i u x v w f.identifier f.len s.contents f.whole)
       (omega (arith, n, h, f.size, ap length f.whole, length-append f.identifier (f.len ++ s.contents), length-append f.len s.contents))
-      (subst (λ z. Encodes z s.contents y) h s.means) t
+      (subst (λ z. Encodes z s.contents y) h s.meaning) t
 
   pub found_among :
       (bs : Trees ℕ) (e : ℕ) (b : Tree ℕ) (j : ℕ) (i u x v : List ℕ) → i ≡ u ++ (x ++ v) →
@@ -194,9 +194,9 @@ pub found_octets :
     (i : List ℕ) (bs : Trees ℕ) (b : Tree ℕ) (octets : List ℕ) → IsDocument i bs →
     HasOctets i bs b octets → Standing i b octets
 found_octets i bs b octets d h =
-    let f = found_among bs (length i) b h.end i [] i [] (sym (append-nil i)) (omega arith) d.blocks h.stands in
+    let f = found_among bs (length i) b h.end i [] i [] (sym (append-nil i)) (omega arith) d.blocks h.place in
     let o = encodes_offset (length f.before) f.octets b f.encoded in
-    let e : octets ≡ f.octets = h.are ∙ slice_here i f.before f.octets f.behind (tree_offset b) h.end f.whole o f.ends in
+    let e : octets ≡ f.octets = h.octets_are ∙ slice_here i f.before f.octets f.behind (tree_offset b) h.end f.whole o f.ends in
     record {
       before = f.before;
       behind = f.behind;
@@ -212,14 +212,14 @@ octets_encoding i bs b octets d h =
     let f = found_octets i bs b octets d h in
     record {
       rest = f.behind;
-      stands = ap (drop (tree_offset b)) f.whole ∙ drop_at f.before (octets ++ f.behind) (tree_offset b) f.at;
-      are = block_encoding octets (encodes_block (tree_offset b) octets b f.encoded);
+      at_offset = ap (drop (tree_offset b)) f.whole ∙ drop_at f.before (octets ++ f.behind) (tree_offset b) f.at;
+      encoding = block_encoding octets (encodes_block (tree_offset b) octets b f.encoded);
     }
 
 -- one encoding stands at an offset
 pub encoding_at_alone : (i : List ℕ) (o : ℕ) (x y : List ℕ) → EncodingAt i o x → EncodingAt i o y → x ≡ y
 encoding_at_alone i o x y p q =
-    (encoding_alone _ _ _ _ _ _ _ _ _ _ _ _ p.rest q.rest p.are.encoding q.are.encoding (sym p.stands ∙ q.stands)).octets
+    (encoding_alone _ _ _ _ _ _ _ _ _ _ _ _ p.rest q.rest p.encoding.encoding q.encoding.encoding (sym p.at_offset ∙ q.at_offset)).octets
 
 -- so it is that of the tree
 pub encoding_at_octets :

@@ -19,8 +19,8 @@ abbrev mutual
   pub normalized : {O : Type 0} → Tree O → Tree O
   normalized (leaf o l) = leaf o (normalized_leaf l)
   normalized (group o g bs) = group o g (all_normalized bs)
-  normalized (explicit c o n b) = explicit c o n (normalized b)
-  normalized (unknown c k o n v) = unknown c k o n v
+  normalized (explicit class o tag b) = explicit class o tag (normalized b)
+  normalized (unknown class constructed o tag contents) = unknown class constructed o tag contents
 
   pub all_normalized : {O : Type 0} → Trees O → Trees O
   all_normalized no_trees = no_trees
@@ -31,8 +31,8 @@ abbrev mutual
   pub IsFaithful : {O : Type 0} → Tree O → Type 0
   IsFaithful (leaf o l) = IsFaithfulLeaf l
   IsFaithful (group o g bs) = AreFaithful bs
-  IsFaithful (explicit c o n b) = (c ≢ Universal) × IsFaithful b
-  IsFaithful (unknown c k o n v) = StaysAsItCame c k n v
+  IsFaithful (explicit class o tag b) = (class ≢ Universal) × IsFaithful b
+  IsFaithful (unknown class constructed o tag contents) = StaysAsItCame class constructed tag contents
 
   pub AreFaithful : {O : Type 0} → Trees O → Type 0
   AreFaithful no_trees = Unit {0}

@@ -18,14 +18,14 @@ mutual
         HeaderFault place octets e → BlockFaultAt place octets e 0
     at_leaf :
         {place : ℕ} {octets : List ℕ} {e : DecodeFault}
-        (x rest : List ℕ) {k : Bool} {n : ℕ} {contents : List ℕ} {h : ℕ} →
-        octets ≡ x ++ rest → Encoding x Universal k n contents h → LeafFault n contents e →
+        (x rest : List ℕ) {constructed : Bool} {tag : ℕ} {contents : List ℕ} {header : ℕ} →
+        octets ≡ x ++ rest → Encoding x Universal constructed tag contents header → LeafFault tag contents e →
         BlockFaultAt place octets e 0
     at_item :
         {place : ℕ} {octets : List ℕ} {e : DecodeFault} {after : ℕ}
-        (x rest : List ℕ) {k : Bool} {n : ℕ} {contents : List ℕ} {h : ℕ} →
-        octets ≡ x ++ rest → Encoding x Universal k n contents h →
-        (g : GroupKind) → n ≡ group_tag g →
+        (x rest : List ℕ) {constructed : Bool} {tag : ℕ} {contents : List ℕ} {header : ℕ} →
+        octets ≡ x ++ rest → Encoding x Universal constructed tag contents header →
+        (g : GroupKind) → tag ≡ group_tag g →
         (inside : ℕ) → BlocksFaultAt contents e inside → after ≡ h + inside →
         BlockFaultAt place octets e after
 

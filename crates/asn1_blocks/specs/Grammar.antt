@@ -13,17 +13,18 @@ use Rattle.asn1_blocks.specs.Contents.{leaf_tag, group_tag, is_known_tag, LeafCo
 mutual
   -- the octets are a block
   pub data IsBlock : List ℕ → Type 0 where
-    of_other_class : {octets : List ℕ} {c : ASN1Class} {k : Bool} {n : ℕ} {contents : List ℕ} {h : ℕ}
-        → Encoding octets c k n contents h → c ≢ Universal → IsBlock octets
-    of_unknown_tag : {octets : List ℕ} {k : Bool} {n : ℕ} {contents : List ℕ} {h : ℕ}
-        → Encoding octets Universal k n contents h → is_known_tag n ≡ false → IsBlock octets
-    of_leaf : {octets : List ℕ} {k : Bool} {n : ℕ} {contents : List ℕ} {h : ℕ}
-        → Encoding octets Universal k n contents h → (l : Leaf) → n ≡ leaf_tag l → LeafContents l contents
-        → IsBlock octets
+    of_other_class :
+        {octets : List ℕ} {class : ASN1Class} {constructed : Bool} {tag : ℕ} {contents : List ℕ} {header : ℕ}
+        → Encoding octets class constructed tag contents header → class ≢ Universal → IsBlock octets
+    of_unknown_tag : {octets : List ℕ} {constructed : Bool} {tag : ℕ} {contents : List ℕ} {header : ℕ}
+        → Encoding octets Universal constructed tag contents header → is_known_tag tag ≡ false → IsBlock octets
+    of_leaf : {octets : List ℕ} {constructed : Bool} {tag : ℕ} {contents : List ℕ} {header : ℕ}
+        → Encoding octets Universal constructed tag contents header → (l : Leaf) → tag ≡ leaf_tag l
+        → LeafContents l contents → IsBlock octets
     of_group :
-        {octets : List ℕ} {k : Bool} {n : ℕ} {contents : List ℕ} {h : ℕ} →
-        Encoding octets Universal k n contents h →
-        (g : GroupKind) → n ≡ group_tag g → AreBlocks contents → IsBlock octets
+        {octets : List ℕ} {constructed : Bool} {tag : ℕ} {contents : List ℕ} {header : ℕ} →
+        Encoding octets Universal constructed tag contents header →
+        (g : GroupKind) → tag ≡ group_tag g → AreBlocks contents → IsBlock octets
 
   -- the octets are blocks one after another, also none
   pub data AreBlocks : List ℕ → Type 0 where
@@ -34,9 +35,9 @@ mutual
 -- contents octets with these fields are not read as more: their tag has no rule, or they are of another class and are
 -- not one block in a constructed encoding
 abbrev pub StaysAsItCame : ASN1Class → Bool → ℕ → List ℕ → Type 0
-StaysAsItCame c k n v =
-    ((c ≡ Universal) × (is_known_tag n ≡ false))
-    ⊎ ((c ≢ Universal) × (((k ≡ true) × IsBlock v) → ⊥))
+StaysAsItCame class constructed tag contents =
+    ((class ≡ Universal) × (is_known_tag tag ≡ false))
+    ⊎ ((class ≢ Universal) × (((constructed ≡ true) × IsBlock contents) → ⊥))
 
 -- the octets at the offset, which is o, are an encoding of class Universal with this tag, and its contents octets, at
 -- the place where they begin, have the meaning. The constructed bit of a known tag may be any, where DER has it set for
@@ -48,7 +49,7 @@ pub record EncodedAs (offset : ℕ) (octets : List ℕ) (o tag : ℕ) (Means : �
   pub header : ℕ
   pub encoding : Encoding octets Universal constructed tag contents header
   pub place : o ≡ offset
-  pub means : Means (offset + header) contents
+  pub meaning : Means (offset + header) contents
 
 -- they are a constructed encoding of another class, and its contents octets have the meaning (8.14)
 pub record EncodedAround (offset : ℕ) (octets : List ℕ) (class : ASN1Class) (o tag : ℕ)
@@ -58,7 +59,7 @@ pub record EncodedAround (offset : ℕ) (octets : List ℕ) (class : ASN1Class) 
   pub encoding : Encoding octets class true tag contents header
   pub place : o ≡ offset
   pub other : class ≢ Universal
-  pub means : Means (offset + header) contents
+  pub meaning : Means (offset + header) contents
 
 -- they are an encoding that stays as it came
 pub record EncodedAsItCame (offset : ℕ) (octets : List ℕ) (class : ASN1Class) (constructed : Bool) (o tag : ℕ)
@@ -66,7 +67,7 @@ pub record EncodedAsItCame (offset : ℕ) (octets : List ℕ) (class : ASN1Class
   pub header : ℕ
   pub encoding : Encoding octets class constructed tag contents header
   pub place : o ≡ offset
-  pub stays : StaysAsItCame class constructed tag contents
+  pub as_it_came : StaysAsItCame class constructed tag contents
 
 -- the octets are those of a first item, and then the rest, which begins after as many octets
 pub record EncodedFirst (octets : List ℕ) (First : List ℕ → Type 0) (Rest : ℕ → List ℕ → Type 0)
@@ -84,9 +85,10 @@ abbrev mutual
   Encodes offset octets (leaf o l) = EncodedAs offset octets o (leaf_tag l) (λ place contents. LeafContents l contents)
   Encodes offset octets (group o g bs) =
       EncodedAs offset octets o (group_tag g) (λ place contents. EncodesAll place contents bs)
-  Encodes offset octets (explicit c o n b) =
-      EncodedAround offset octets c o n (λ place contents. Encodes place contents b)
-  Encodes offset octets (unknown c k o n v) = EncodedAsItCame offset octets c k o n v
+  Encodes offset octets (explicit class o tag b) =
+      EncodedAround offset octets class o tag (λ place contents. Encodes place contents b)
+  Encodes offset octets (unknown class constructed o tag contents) =
+      EncodedAsItCame offset octets class constructed o tag contents
 
   -- the octets from the offset on encode the trees, one after another
   pub EncodesAll : ℕ → List ℕ → Trees ℕ → Type 0
@@ -105,16 +107,16 @@ mutual
     in_header : {place : ℕ} {octets : List ℕ} {e : DecodeFault} → HeaderFault place octets e
         → BlockFault place octets e
     in_contents : {place : ℕ} {octets : List ℕ} {e : DecodeFault} (x rest : List ℕ)
-        {k : Bool} {n : ℕ} {contents : List ℕ} {h : ℕ}
-        → octets ≡ x ++ rest → Encoding x Universal k n contents h
-        → ContentsFault n contents e → BlockFault place octets e
+        {constructed : Bool} {tag : ℕ} {contents : List ℕ} {header : ℕ}
+        → octets ≡ x ++ rest → Encoding x Universal constructed tag contents header
+        → ContentsFault tag contents e → BlockFault place octets e
 
   -- contents octets of class Universal are at fault. A fault inside another class is none
   pub data ContentsFault : ℕ → List ℕ → DecodeFault → Type 0 where
-    of_leaf_contents : {n : ℕ} {contents : List ℕ} {e : DecodeFault} → LeafFault n contents e
-        → ContentsFault n contents e
-    of_item : {n : ℕ} {contents : List ℕ} {e : DecodeFault} (g : GroupKind) → n ≡ group_tag g
-        → BlocksFault contents e → ContentsFault n contents e
+    of_leaf_contents : {tag : ℕ} {contents : List ℕ} {e : DecodeFault} → LeafFault tag contents e
+        → ContentsFault tag contents e
+    of_item : {tag : ℕ} {contents : List ℕ} {e : DecodeFault} (g : GroupKind) → tag ≡ group_tag g
+        → BlocksFault contents e → ContentsFault tag contents e
 
   -- the octets are blocks one after another, and then one at fault
   pub data BlocksFault : List ℕ → DecodeFault → Type 0 where

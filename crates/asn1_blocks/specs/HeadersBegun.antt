@@ -10,7 +10,8 @@ use Rattle.asn1_blocks.specs.Grammar.{IsBlock}
 -- contents octets with these fields are read as blocks: those of a SEQUENCE or SET, and those of a constructed encoding
 -- of another class
 abbrev pub IsReadInside : ASN1Class → Bool → ℕ → Type 0
-IsReadInside c k n = ((c ≡ Universal) × (is_group_tag n ≡ true)) ⊎ ((c ≢ Universal) × (k ≡ true))
+IsReadInside class constructed tag =
+    ((class ≡ Universal) × (is_group_tag tag ≡ true)) ⊎ ((class ≢ Universal) × (constructed ≡ true))
 
 mutual
   -- reading the octets begins n headers: of no octets none, else one, those inside the first encoding and those after
@@ -22,12 +23,13 @@ mutual
 
   pub data BegunInside : List ℕ → ℕ → Type 0 where
     inside_first : {octets : List ℕ} {a : ℕ} (x rest : List ℕ)
-        {c : ASN1Class} {k : Bool} {n : ℕ} {contents : List ℕ} {h : ℕ}
-        → octets ≡ x ++ rest → Encoding x c k n contents h → IsReadInside c k n
+        {class : ASN1Class} {constructed : Bool} {tag : ℕ} {contents : List ℕ} {header : ℕ}
+        → octets ≡ x ++ rest → Encoding x class constructed tag contents header → IsReadInside class constructed tag
         → HeadersBegun contents a → BegunInside octets a
     nothing_inside : {octets : List ℕ}
-        → ((x rest : List ℕ) (c : ASN1Class) (k : Bool) (n : ℕ) (contents : List ℕ) (h : ℕ)
-        → octets ≡ x ++ rest → Encoding x c k n contents h → IsReadInside c k n → ⊥)
+        → ((x rest : List ℕ) (class : ASN1Class) (constructed : Bool) (tag : ℕ) (contents : List ℕ) (header : ℕ)
+        → octets ≡ x ++ rest → Encoding x class constructed tag contents header
+        → IsReadInside class constructed tag → ⊥)
         → BegunInside octets 0
 
   pub data BegunAfter : List ℕ → ℕ → Type 0 where
@@ -41,8 +43,8 @@ abbrev mutual
   pub blocks_in : {O : Type 0} → Tree O → ℕ
   blocks_in (leaf o l) = 1
   blocks_in (group o g bs) = 1 + all_blocks_in bs
-  blocks_in (explicit c o n b) = 1 + blocks_in b
-  blocks_in (unknown c k o n v) = 1
+  blocks_in (explicit class o tag b) = 1 + blocks_in b
+  blocks_in (unknown class constructed o tag contents) = 1
 
   pub all_blocks_in : {O : Type 0} → Trees O → ℕ
   all_blocks_in no_trees = 0

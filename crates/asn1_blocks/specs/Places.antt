@@ -12,8 +12,8 @@ abbrev mutual
   pub with_offsets : (ℕ → ℕ) → Tree ℕ → Tree ℕ
   with_offsets f (leaf o l) = leaf (f o) l
   with_offsets f (group o g bs) = group (f o) g (all_with_offsets f bs)
-  with_offsets f (explicit c o n b) = explicit c (f o) n (with_offsets f b)
-  with_offsets f (unknown c k o n v) = unknown c k (f o) n v
+  with_offsets f (explicit class o tag b) = explicit class (f o) tag (with_offsets f b)
+  with_offsets f (unknown class constructed o tag contents) = unknown class constructed (f o) tag contents
 
   pub all_with_offsets : (ℕ → ℕ) → Trees ℕ → Trees ℕ
   all_with_offsets f no_trees = no_trees
@@ -50,8 +50,8 @@ mutual
         {o : ℕ} {g : GroupKind} {bs : Trees ℕ} {end : ℕ} {b : Tree ℕ} {stop : ℕ} →
         StandsAmong bs end b stop → StandsIn (group o g bs) end b stop
     in_explicit :
-        {c : ASN1Class} {o n : ℕ} {a : Tree ℕ} {end : ℕ} {b : Tree ℕ} {stop : ℕ} →
-        StandsIn a end b stop → StandsIn (explicit c o n a) end b stop
+        {class : ASN1Class} {o tag : ℕ} {a : Tree ℕ} {end : ℕ} {b : Tree ℕ} {stop : ℕ} →
+        StandsIn a end b stop → StandsIn (explicit class o tag a) end b stop
 
   -- so in one of trees one after another, the last of which ends at an offset
   pub data StandsAmong : Trees ℕ → ℕ → Tree ℕ → ℕ → Type 0 where
@@ -65,8 +65,8 @@ mutual
 -- a tree of the document, at any depth, has these octets: from its offset to where it ends
 pub record HasOctets (document : List ℕ) (bs : Trees ℕ) (b : Tree ℕ) (octets : List ℕ) : Type 0 where
   pub end : ℕ
-  pub stands : StandsAmong bs (length document) b end
-  pub are : octets ≡ slice_range document (tree_offset b) end
+  pub place : StandsAmong bs (length document) b end
+  pub octets_are : octets ≡ slice_range document (tree_offset b) end
 
 -- the octets are an encoding, of whatever fields
 pub record IsEncoding (octets : List ℕ) : Type 0 where
@@ -80,8 +80,8 @@ pub record IsEncoding (octets : List ℕ) : Type 0 where
 -- the octets are an encoding, and stand at the offset
 pub record EncodingAt (document : List ℕ) (offset : ℕ) (octets : List ℕ) : Type 0 where
   pub rest : List ℕ
-  pub stands : drop offset document ≡ octets ++ rest
-  pub are : IsEncoding octets
+  pub at_offset : drop offset document ≡ octets ++ rest
+  pub encoding : IsEncoding octets
 
 -- none stand there
 abbrev pub HasNoEncodingAt : List ℕ → ℕ → Type 0
@@ -92,5 +92,5 @@ pub record TreeAt (document : List ℕ) (offset : ℕ) (octets : List ℕ) : Typ
   pub all : Trees ℕ
   pub tree : Tree ℕ
   pub read : IsDocument document all
-  pub has : HasOctets document all tree octets
-  pub stands : tree_offset tree ≡ offset
+  pub own_octets : HasOctets document all tree octets
+  pub offset_is : tree_offset tree ≡ offset

@@ -43,8 +43,8 @@ abbrev mutual
   pub shape : {O : Type 0} → Tree O → Tree (Unit {0})
   shape (leaf o l) = leaf tt l
   shape (group o g bs) = group tt g (shapes bs)
-  shape (explicit c o n b) = explicit c tt n (shape b)
-  shape (unknown c k o n v) = unknown c k tt n v
+  shape (explicit class o tag b) = explicit class tt tag (shape b)
+  shape (unknown class constructed o tag contents) = unknown class constructed tt tag contents
 
   pub shapes : {O : Type 0} → Trees O → Trees (Unit {0})
   shapes no_trees = no_trees

@@ -46,12 +46,12 @@ document_trees document = views document.blocks
 abbrev pub tree_class : {O : Type 0} → Tree O → ASN1Class
 tree_class (leaf o l) = Universal
 tree_class (group o g bs) = Universal
-tree_class (explicit c o n b) = c
-tree_class (unknown c k o n v) = c
+tree_class (explicit class o tag b) = class
+tree_class (unknown class constructed o tag contents) = class
 
 -- what stands at a block: its offset
 abbrev pub tree_offset : {O : Type 0} → Tree O → O
 tree_offset (leaf o l) = o
 tree_offset (group o g bs) = o
-tree_offset (explicit c o n b) = o
-tree_offset (unknown c k o n v) = o
+tree_offset (explicit class o tag b) = o
+tree_offset (unknown class constructed o tag contents) = o

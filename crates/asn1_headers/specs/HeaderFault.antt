@@ -9,22 +9,24 @@ use Rattle.asn1_headers.specs.Fault.{DecodeFault, length_too_large, incomplete}
 pub data HeaderFault : ℕ → List ℕ → DecodeFault → Type 0 where
   -- the identifier octets run out, or the first length octet is missing
   no_identifier : {place : ℕ} {octets : List ℕ}
-      → ((s rest : List ℕ) (c : ASN1Class) (k : Bool) (n b : ℕ)
-      → IsIdentifier s c k n → octets ≡ s ++ b ∷ rest → ⊥)
+      → ((identifier rest : List ℕ) (class : ASN1Class) (constructed : Bool) (tag b : ℕ)
+      → IsIdentifier identifier class constructed tag → octets ≡ identifier ++ b ∷ rest → ⊥)
       → HeaderFault place octets incomplete
   -- the length has more octets than a usize, or they run out
-  no_length : {place : ℕ} {octets : List ℕ} {e : DecodeFault} (s : List ℕ) (b : ℕ) (rest : List ℕ)
-      (c : ASN1Class) (k : Bool) (n : ℕ)
-      → IsIdentifier s c k n → octets ≡ s ++ b ∷ rest
-      → ((l r : List ℕ) (m : ℕ) → IsLength l m → b ∷ rest ≡ l ++ r → ⊥)
+  no_length : {place : ℕ} {octets : List ℕ} {e : DecodeFault} (identifier : List ℕ) (b : ℕ) (rest : List ℕ)
+      (class : ASN1Class) (constructed : Bool) (tag : ℕ)
+      → IsIdentifier identifier class constructed tag → octets ≡ identifier ++ b ∷ rest
+      → ((len r : List ℕ) (size : ℕ) → IsLength len size → b ∷ rest ≡ len ++ r → ⊥)
       → e ≡ length_fault (b ∷ rest) → HeaderFault place octets e
   -- the end of the contents passes a usize
-  too_far : {place : ℕ} {octets : List ℕ} {e : DecodeFault} (s l rest : List ℕ)
-      (c : ASN1Class) (k : Bool) (n m : ℕ)
-      → IsIdentifier s c k n → IsLength l m → octets ≡ s ++ (l ++ rest)
-      → 2 ^ 64 ≤ place + (length s + length l) + m
-      → e ≡ length_too_large m → HeaderFault place octets e
+  too_far : {place : ℕ} {octets : List ℕ} {e : DecodeFault} (identifier len rest : List ℕ)
+      (class : ASN1Class) (constructed : Bool) (tag size : ℕ)
+      → IsIdentifier identifier class constructed tag → IsLength len size → octets ≡ identifier ++ (len ++ rest)
+      → 2 ^ 64 ≤ place + (length identifier + length len) + size
+      → e ≡ length_too_large size → HeaderFault place octets e
   -- the contents are longer than what is left
-  too_long : {place : ℕ} {octets : List ℕ} (s l rest : List ℕ) (c : ASN1Class) (k : Bool) (n m : ℕ)
-      → IsIdentifier s c k n → IsLength l m → octets ≡ s ++ (l ++ rest)
-      → place + (length s + length l) + m < 2 ^ 64 → length rest < m → HeaderFault place octets incomplete
+  too_long : {place : ℕ} {octets : List ℕ} (identifier len rest : List ℕ)
+      (class : ASN1Class) (constructed : Bool) (tag size : ℕ)
+      → IsIdentifier identifier class constructed tag → IsLength len size → octets ≡ identifier ++ (len ++ rest)
+      → place + (length identifier + length len) + size < 2 ^ 64 → length rest < size
+      → HeaderFault place octets incomplete

@@ -29,8 +29,8 @@ begun_header x offset limit h tag items next depth found within is =
       octets,
       record {
         rest = drop h.end x;
-        stands = w;
-        are = record {
+        at_offset = w;
+        encoding = record {
           class = h.class;
           constructed = h.constructed;
           tag = h.tag;

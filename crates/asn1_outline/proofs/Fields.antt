@@ -24,7 +24,7 @@ module _ (x : List ℕ) (b : Tree ℕ) (r : Entry) (y : List ℕ) (c : ASN1Class
   same_fields : (octets : List ℕ) (at : EncodingAt x r.offset octets) (own : HasHeader octets r)
       → SameEncoding octets y r.class c r.constructed k own.tag n own.contents v r.header h [] []
   same_fields octets at own =
-      let same = encoding_at_alone x (tree_offset b) octets y (subst (λ o. EncodingAt x o octets) e.stands at) (encoding_of x b y s) in
+      let same = encoding_at_alone x (tree_offset b) octets y (subst (λ o. EncodingAt x o octets) e.offset_is at) (encoding_of x b y s) in
       encoding_alone octets y r.class c r.constructed k own.tag n own.contents v r.header h [] [] own.encoding f (ap (λ z. z ++ []) same)
 
   pub header_is : r.header ≡ h
@@ -78,7 +78,7 @@ module _ (x : List ℕ) (r : Entry) where
       let c = contents_of x (unknown class k p m v) r e in
       let s = c.encoded in
       let z = same_encoding c.octets class r.class k r.constructed m c.tag v c.contents s.header r.header s.encoding c.encoding in
-      absurd (elim s.stays [
+      absurd (elim s.as_it_came [
         | inl known ↦ other (sym z.class ∙ known.0)
         | inr rest ↦ elim holds [
           | inl (bit, q, t, f) ↦

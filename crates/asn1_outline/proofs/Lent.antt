@@ -17,7 +17,7 @@ use Rattle.asn1_outline.proofs.Values.{entry_of_node}
 module _ (octets : List ℕ) (es : List Entry) (ns : Nodes) (k : ℕ) (lent : ∥ IsOutline octets es ∥₁) (d : IsStructure octets ns) where
   entries_of : (cs : Trees ℕ) → IsDocument octets cs → AreEntriesOf octets cs es → AreEntries octets 0 (nodes_in_order ns) (nodes_depths 0 ns) es
   entries_of cs e are =
-      let own : IsStructure octets are.nodes = (subst (IsDocument octets) (sym are.trees) e, are.are) in
+      let own : IsStructure octets are.nodes = (subst (IsDocument octets) (sym are.trees) e, are.structure) in
       subst (λ z. AreEntries octets 0 (nodes_in_order z) (nodes_depths 0 z) es) (structure_alone octets are.nodes ns own d) are.entries
 
   as_many : AreEntries octets 0 (nodes_in_order ns) (nodes_depths 0 ns) es → length es ≡ length (nodes_in_order ns)

@@ -47,7 +47,7 @@ more_trees_of :
 more_trees_of x i j d ts n rs ss at is a e = record {
   nodes = a.nodes ++ n ∷ [];
   trees = map-append node_tree a.nodes (n ∷ []) ∙ ap (λ z. z ++ node_tree n ∷ []) a.trees;
-  are = are_more x a.nodes n a.are is;
+  structure = are_more x a.nodes n a.structure is;
   entries = entries_more x i j d a.nodes n rs ss at a.entries e;
 }
 
@@ -88,7 +88,7 @@ all_opened x rs r f g gs (us ∷ rest) b at none a = record {
   entry = at;
   count = none;
   begun = b;
-  blocks = record { nodes = []; trees = refl; are = tt; entries = tt };
+  blocks = record { nodes = []; trees = refl; structure = tt; entries = tt };
   around = a;
 }
 
@@ -160,9 +160,9 @@ tagged x a start end lt le at = record {
   rest = drop end x;
   header = start - a.offset;
   other = at.other;
-  stands = slice_split x a.offset end (omega (arith, lt, le));
+  at_offset = slice_split x a.offset end (omega (arith, lt, le));
   encoding = at.encoding;
-  begins = omega (arith, lt);
+  place_is = omega (arith, lt);
 }
 
 -- a frame that ended holds the blocks that it has
@@ -224,7 +224,7 @@ ended x a b f i depth is = record {
       ∙ sealed_after w.front w.head w.own f.items.count
       ∙ ap (λ z. w.front ++ with_items f.items.count (length z) w.head ∷ w.own) (sym w.whole) in
       subst (λ z. AllHold x z (in_frame e (one_more i)) fs (us ++ t ∷ []) rest) (sym (is ∙ made))
-      (all_added x w.front new e i fs us rest n (holds, blocks.are) entries w.around);
+      (all_added x w.front new e i fs us rest n (holds, blocks.structure) entries w.around);
 }
 
 -- frames that were dropped leave what those around hold
@@ -283,4 +283,4 @@ pub document_entries : (x : List ℕ) (rs : List Entry) (ts : List (Tree ℕ)) �
     → (bs : Trees ℕ) × IsDocument x bs × AreEntriesOf x bs rs
 document_entries x rs ts d a =
     let trees : nodes_trees (nodes_of a.nodes) ≡ trees_of ts = sym (trees_nodes a.nodes) ∙ ap trees_of a.trees in
-    (trees_of ts, d, record { nodes = nodes_of a.nodes; trees = trees; are = a.are; entries = a.entries })
+    (trees_of ts, d, record { nodes = nodes_of a.nodes; trees = trees; structure = a.structure; entries = a.entries })

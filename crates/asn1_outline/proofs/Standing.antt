@@ -42,7 +42,7 @@ pub record HeldIn (x y : List ℕ) (bs : Trees ℕ) : Type 0 where
   pub place : ℕ
   pub contents : List ℕ
   pub rest : List ℕ
-  pub stands : drop place x ≡ contents ++ rest
+  pub at_offset : drop place x ≡ contents ++ rest
   pub encoded : EncodesAll place contents bs
   pub shorter : 2 + length contents ≤ length y
 
@@ -51,7 +51,7 @@ none_held x y c k n v h bs e none = record {
   place = 0;
   contents = [];
   rest = x;
-  stands = refl;
+  at_offset = refl;
   encoded = subst (λ z. EncodesAll 0 [] z) (sym none) refl;
   shorter = omega (arith, two_more y c k n v h e);
 }
@@ -62,23 +62,23 @@ held_in x o (group p g items) y rest bs s e h = record {
   place = o + e.header;
   contents = e.contents;
   rest = rest;
-  stands = contents_stand x y rest _ e.constructed _ e.contents o e.header s e.encoding;
-  encoded = subst (λ z. EncodesAll (o + e.header) e.contents z) (sym h) e.means;
+  at_offset = contents_stand x y rest _ e.constructed _ e.contents o e.header s e.encoding;
+  encoded = subst (λ z. EncodesAll (o + e.header) e.contents z) (sym h) e.meaning;
   shorter = two_more y _ e.constructed _ e.contents e.header e.encoding;
 }
 held_in x o (explicit c p n b) y rest bs s e h = record {
   place = o + e.header;
   contents = e.contents;
   rest = rest;
-  stands = contents_stand x y rest c _ n e.contents o e.header s e.encoding;
-  encoded = subst (λ z. EncodesAll (o + e.header) e.contents z) (sym h) (only (o + e.header) e.contents b e.means);
+  at_offset = contents_stand x y rest c _ n e.contents o e.header s e.encoding;
+  encoded = subst (λ z. EncodesAll (o + e.header) e.contents z) (sym h) (only (o + e.header) e.contents b e.meaning);
   shorter = two_more y c _ n e.contents e.header e.encoding;
 }
 held_in x o (unknown c k p n v) y rest bs s e (inl (i, q, t, f)) = record {
   place = q;
   contents = v;
   rest = t.rest;
-  stands = subst (λ z. drop z x ≡ v ++ t.rest) (sym t.begins) (contents_stand x t.octets t.rest c _ n v p t.header t.stands t.encoding);
+  at_offset = subst (λ z. drop z x ≡ v ++ t.rest) (sym t.place_is) (contents_stand x t.octets t.rest c _ n v p t.header t.at_offset t.encoding);
   encoded = f;
   shorter = two_more y c k n v e.header e.encoding;
 }
@@ -105,8 +105,8 @@ mutual
       → IsStanding x (get_or (node_in_order n) k no_node)
   node_stands x (node b ns) y s is zero h = (y, s, is)
   node_stands x (node b ns) y s is (suc k) h =
-      let i = held_in x (tree_offset b) b y s.rest (nodes_trees ns) s.stands s.encoded is.0 in
-      nodes_stand x ns i.place i.contents i.rest i.stands i.encoded is.1 k (omega (arith, h))
+      let i = held_in x (tree_offset b) b y s.rest (nodes_trees ns) s.at_offset s.encoded is.0 in
+      nodes_stand x ns i.place i.contents i.rest i.at_offset i.encoded is.1 k (omega (arith, h))
 
   nodes_stand : (x : List ℕ) (ns : Nodes) (place : ℕ) (v rest : List ℕ) → drop place x ≡ v ++ rest → EncodesAll place v (nodes_trees ns) → AreNodes x ns
       → (k : ℕ) → k < length (nodes_in_order ns) → IsStanding x (get_or (nodes_in_order ns) k no_node)
@@ -120,7 +120,7 @@ mutual
         | inl lt ↦
             let own : IsEncodedIn x (node_tree n) e.first = record {
               rest = e.rest ++ rest;
-              stands = subst (λ z. drop z x ≡ e.first ++ (e.rest ++ rest)) (sym at) whole;
+              at_offset = subst (λ z. drop z x ≡ e.first ++ (e.rest ++ rest)) (sym at) whole;
               encoded = subst (λ z. Encodes z e.first (node_tree n)) (sym at) e.item;
             } in
             subst (IsStanding x) (sym (get_or_append_left front behind no_node k lt)) (node_stands x n e.first own are.0 k lt)
@@ -139,4 +139,4 @@ structure_stands x ns (d, are) k h = nodes_stand x ns 0 x [] (sym (append-nil x)
 -- the octets of a tree are an encoding
 pub encoding_of : (x : List ℕ) (b : Tree ℕ) (octets : List ℕ) → IsEncodedIn x b octets → EncodingAt x (tree_offset b) octets
 encoding_of x b octets s =
-    record { rest = s.rest; stands = s.stands; are = block_encoding octets (encodes_block (tree_offset b) octets b s.encoded) }
+    record { rest = s.rest; at_offset = s.at_offset; encoding = block_encoding octets (encodes_block (tree_offset b) octets b s.encoded) }

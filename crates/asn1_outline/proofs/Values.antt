@@ -48,8 +48,8 @@ contents_of x b r e =
     let (y, at, h) = e.header in
     let own = e.encoded in
     let there = encoding_of x b e.octets own in
-    let same : y ≡ e.octets = encoding_at_alone x (tree_offset b) y e.octets (subst (λ n. EncodingAt x n y) e.stands at) there in
-    let stands : drop r.offset x ≡ y ++ at.rest = at.stands in
+    let same : y ≡ e.octets = encoding_at_alone x (tree_offset b) y e.octets (subst (λ n. EncodingAt x n y) e.offset_is at) there in
+    let stands : drop r.offset x ≡ y ++ at.rest = at.at_offset in
     let size : length y ≡ r.header + r.contents = omega (
       arith,
       h.encoding.size,
@@ -104,7 +104,7 @@ integer_tree : (o : ℕ) (y : List ℕ) (b : Tree ℕ) (k : Bool) (w : List ℕ)
     → tree_integer b ≡ Some (signed_number w)
 integer_tree o y (leaf p l) k w h s e =
     let z = one y Universal Universal s.constructed k (leaf_tag l) 2 s.contents w s.header h s.encoding e in
-    integer_leaf l s.contents w z.tag z.contents s.means
+    integer_leaf l s.contents w z.tag z.contents s.meaning
 integer_tree o y (group p Sequence bs) k w h s e =
     let z = one y Universal Universal s.constructed k 16 2 s.contents w s.header h s.encoding e in
     absurd (omega (arith, z.tag))
@@ -116,7 +116,7 @@ integer_tree o y (explicit c p n b) k w h s e =
     absurd (s.other z.class)
 integer_tree o y (unknown c j p n v) k w h s e =
     let z = one y c Universal j k n 2 v w s.header h s.encoding e in
-    elim s.stays [
+    elim s.as_it_came [
       | inl known ↦ absurd (known_two n z.tag known.1)
       | inr other ↦ absurd (other.0 z.class)
     ]
@@ -169,7 +169,7 @@ leaf_encoded : (o : ℕ) (y : List ℕ) (b : Tree ℕ) (k : Bool) (n : ℕ) (w :
     → IsLeafOf o n w b
 leaf_encoded o y (leaf p l) k n w h t s e =
     let z = one y Universal Universal s.constructed k (leaf_tag l) n s.contents w s.header h s.encoding e in
-    (s.place, sym z.tag, subst (LeafContents l) z.contents s.means)
+    (s.place, sym z.tag, subst (LeafContents l) z.contents s.meaning)
 leaf_encoded o y (group p g bs) k n w h t s e =
     let z = one y Universal Universal s.constructed k (group_tag g) n s.contents w s.header h s.encoding e in
     leaf_tag_no_group n g t (sym z.tag)
@@ -178,7 +178,7 @@ leaf_encoded o y (explicit c p m b) k n w h t s e =
     s.other z.class
 leaf_encoded o y (unknown c j p m v) k n w h t s e =
     let z = one y c Universal j k m n v w s.header h s.encoding e in
-    elim s.stays [
+    elim s.as_it_came [
       | inl known ↦ not_known (sym (leaf_tag_known n t) ∙ ap is_known_tag (sym z.tag) ∙ known.1)
       | inr other ↦ other.0 z.class
     ]
@@ -263,12 +263,12 @@ pub entry_of_node : (x : List ℕ) (ns : Nodes) (rs : List Entry) → IsStructur
 entry_of_node x ns rs d are k h =
     let w = entry_at x 0 (nodes_in_order ns) (nodes_depths 0 ns) rs are k h in
     let (y, s, is) = structure_stands x ns d k h in
-    record { octets = y; encoded = s; stands = w.offset; header = w.header }
+    record { octets = y; encoded = s; offset_is = w.offset; header = w.header }
 
 pub each_of_its_tree : EachIsOfItsTree
 each_of_its_tree x bs rs d all k h =
     let ns = all.nodes in
-    let own : IsStructure x ns = (subst (IsDocument x) (sym all.trees) d, all.are) in
+    let own : IsStructure x ns = (subst (IsDocument x) (sym all.trees) d, all.structure) in
     let l = entries_length x 0 (nodes_in_order ns) (nodes_depths 0 ns) rs all.entries in
     entry_of_node x ns rs own all.entries k (omega (arith, h, l))
 

@@ -62,7 +62,7 @@ no_entry = record {
 pub record AreEntriesOf (document : List ℕ) (bs : Trees ℕ) (rs : List Entry) : Type 0 where
   pub nodes : Nodes
   pub trees : nodes_trees nodes ≡ bs
-  pub are : AreNodes document nodes
+  pub structure : AreNodes document nodes
   pub entries : AreEntries document 0 (nodes_in_order nodes) (nodes_depths 0 nodes) rs
 
 -- the octets are a document, and the entries are its

@@ -28,7 +28,7 @@ offset_of (Attempt a) = a.offset
 pub record AreOfTrees (document : List ℕ) (index deep : ℕ) (ts : List (Tree ℕ)) (rs : List Entry) : Type 0 where
   pub nodes : List Node
   pub trees : map node_tree nodes ≡ ts
-  pub are : AreNodes document (nodes_of nodes)
+  pub structure : AreNodes document (nodes_of nodes)
   pub entries : AreEntries document index (nodes_in_order (nodes_of nodes)) (nodes_depths deep (nodes_of nodes)) rs
 
 -- the entries are those around a frame, its own, and those of its blocks

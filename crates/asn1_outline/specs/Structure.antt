@@ -42,18 +42,18 @@ pub record IsTaggedAt (document : List ℕ) (class : ASN1Class) (offset tag : �
   pub rest : List ℕ
   pub header : ℕ
   pub other : class ≢ Universal
-  pub stands : drop offset document ≡ octets ++ rest
+  pub at_offset : drop offset document ≡ octets ++ rest
   pub encoding : Encoding octets class true tag contents header
-  pub begins : place ≡ offset + header
+  pub place_is : place ≡ offset + header
 
 -- the blocks that a tree of the document holds: those in its contents octets, if these are blocks
 abbrev pub Holds : List ℕ → Tree ℕ → Trees ℕ → Type 0
 Holds document (leaf o l) bs = bs ≡ no_trees
 Holds document (group o g items) bs = bs ≡ items
-Holds document (explicit c o n b) bs = bs ≡ more_trees b no_trees
-Holds document (unknown c k o n v) bs =
-    ((k ≡ true) × (place : ℕ) × IsTaggedAt document c o n v place × EncodesAll place v bs)
-    ⊎ ((bs ≡ no_trees) × ((c ≢ Universal) × (k ≡ true) × AreBlocks v → ⊥))
+Holds document (explicit class o tag b) bs = bs ≡ more_trees b no_trees
+Holds document (unknown class constructed o tag contents) bs =
+    ((constructed ≡ true) × (place : ℕ) × IsTaggedAt document class o tag contents place × EncodesAll place contents bs)
+    ⊎ ((bs ≡ no_trees) × ((class ≢ Universal) × (constructed ≡ true) × AreBlocks contents → ⊥))
 
 abbrev mutual
   -- each node has the blocks that its tree holds
@@ -104,13 +104,13 @@ tree_at ns index = node_tree (node_at ns index)
 abbrev pub is_explicit : Tree ℕ → Bool
 is_explicit (leaf o l) = false
 is_explicit (group o g bs) = false
-is_explicit (explicit c o n b) = true
-is_explicit (unknown c k o n v) = false
+is_explicit (explicit class o tag b) = true
+is_explicit (unknown class constructed o tag contents) = false
 
 -- at the tree's offset in the document stand octets that encode it
 pub record IsEncodedIn (document : List ℕ) (b : Tree ℕ) (octets : List ℕ) : Type 0 where
   pub rest : List ℕ
-  pub stands : drop (tree_offset b) document ≡ octets ++ rest
+  pub at_offset : drop (tree_offset b) document ≡ octets ++ rest
   pub encoded : Encodes (tree_offset b) octets b
 
 -- and they have these contents octets

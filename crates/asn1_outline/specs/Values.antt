@@ -12,7 +12,7 @@ use Rattle.asn1_outline.specs.declared.entry.Entry.{Entry}
 pub record IsEntryOf (document : List ℕ) (b : Tree ℕ) (r : Entry) : Type 0 where
   pub octets : List ℕ
   pub encoded : IsEncodedIn document b octets
-  pub stands : r.offset ≡ tree_offset b
+  pub offset_is : r.offset ≡ tree_offset b
   pub header : HasHeaderAt document r
 
 -- the tree is no leaf with this tag number

@@ -109,14 +109,14 @@ mutual
       (arith, f.size, length-append u (f.identifier ++ f.len), length-append f.identifier f.len) in
       All-cons (HeaderThere octets) o (all_offsets bs) (header_there octets u x v o _ _ _ _ _ w s.place f)
       (headers_among octets (u ++ (f.identifier ++ f.len)) s.contents v bs (open_contents octets u x v w f.identifier f.len s.contents f.whole)
-      (subst (λ z. EncodesAll z s.contents bs) h s.means))
+      (subst (λ z. EncodesAll z s.contents bs) h s.meaning))
   headers_in octets u x v (explicit c o n b) w s =
       let f = s.encoding in
       let h : length u + s.header ≡ length (u ++ (f.identifier ++ f.len)) = omega
       (arith, f.size, length-append u (f.identifier ++ f.len), length-append f.identifier f.len) in
       All-cons (HeaderThere octets) o (offsets_in b) (header_there octets u x v o _ _ _ _ _ w s.place f)
       (headers_in octets (u ++ (f.identifier ++ f.len)) s.contents v b (open_contents octets u x v w f.identifier f.len s.contents f.whole)
-      (subst (λ z. Encodes z s.contents b) h s.means))
+      (subst (λ z. Encodes z s.contents b) h s.meaning))
   headers_in octets u x v (unknown c k o n t) w s =
       All-cons (HeaderThere octets) o [] (header_there octets u x v o _ _ _ _ _ w s.place s.encoding) (All-nil (HeaderThere octets))
 
@@ -237,7 +237,7 @@ module _ (octets : List ℕ) (header : Header) (there : IsAtFront octets header)
     encoding = subst (λ z. Encoding octets Universal header.constructed z behind header.size) t
         (subst (λ z. Encoding octets z header.constructed header.tag behind header.size) c encoding_here);
     place = refl;
-    means = encodes_all_at (λ o. o + header.size) 0 (0 + header.size) behind bs (λ d. omega arith) s;
+    meaning = encodes_all_at (λ o. o + header.size) 0 (0 + header.size) behind bs (λ d. omega arith) s;
   }
 
 -- the lines of a part, as lines of all
@@ -392,22 +392,22 @@ part_there octets left part later next size e front back =
 -- an encoding that has all octets is they
 pub whole_encoding : (octets encoding : List ℕ) → EncodingAt octets 0 encoding → length encoding ≡ length octets → IsEncoding octets
 whole_encoding octets encoding at same =
-    let sum : length octets ≡ length encoding + length at.rest = ap length at.stands ∙ length-append encoding at.rest in
+    let sum : length octets ≡ length encoding + length at.rest = ap length at.at_offset ∙ length-append encoding at.rest in
     let none : at.rest ≡ [] = nil_from_length at.rest (omega (arith, same, sum)) in
-    let whole : octets ≡ encoding = at.stands ∙ (ap (λ z. encoding ++ z) none ∙ append-nil encoding) in
-    subst IsEncoding (sym whole) at.are
+    let whole : octets ≡ encoding = at.at_offset ∙ (ap (λ z. encoding ++ z) none ∙ append-nil encoding) in
+    subst IsEncoding (sym whole) at.encoding
 
 -- an encoding ends inside the octets
 pub encoding_fits : (octets encoding : List ℕ) (o : ℕ) → EncodingAt octets o encoding → o ≤ length octets → o + length encoding ≤ length octets
 encoding_fits octets encoding o at fits =
     let left : length octets - o ≡ length encoding + length at.rest =
-    sym (length-drop o octets) ∙ (ap length at.stands ∙ length-append encoding at.rest) in
+    sym (length-drop o octets) ∙ (ap length at.at_offset ∙ length-append encoding at.rest) in
     omega (arith, left, fits)
 
 -- an encoding takes octets
 pub encoding_takes : (octets part : List ℕ) (next : ℕ) → EncodingAt octets next part → 0 < length part
 encoding_takes octets part next at =
-    let f = at.are.encoding in some part f.identifier (f.len ++ at.are.contents) at.are.class at.are.constructed at.are.tag f.identifier_octets f.whole
+    let f = at.encoding.encoding in some part f.identifier (f.len ++ at.encoding.contents) at.encoding.class at.encoding.constructed at.encoding.tag f.identifier_octets f.whole
   where
     some : (x identifier rest : List ℕ) (c : ASN1Class) (k : Bool) (n : ℕ) → IsIdentifier identifier c k n → x ≡ identifier ++ rest → 0 < length x
     some x [] rest c k n i e = absurd i

@@ -398,15 +398,15 @@ over_header left part from first last at e there f =
       take size part,
       drop size part,
       e.rest,
-      e.stands ∙ ap (λ z. z ++ e.rest) whole,
+      e.at_offset ∙ ap (λ z. z ++ e.rest) whole,
       header,
-      subst IsEncoding whole e.are,
+      subst IsEncoding whole e.encoding,
       f ∙ ap (λ m. from + m) (sym (length-take-le size part fits)),
     )
 
 -- an encoding at the front
 pub over_encoding : (left part : List ℕ) (from next : ℕ) → EncodingAt left 0 part → next ≡ from + length part → PassesOver from left (Leaf next)
-over_encoding left part from next e n = (part, e.rest, e.stands, e.are, n)
+over_encoding left part from next e n = (part, e.rest, e.at_offset, e.encoding, n)
 
 pub headers_more :
     (octets left after : List ℕ) (from next : ℕ) (step : Step) → drop from octets ≡ left ++ after → PassesOver from left step →

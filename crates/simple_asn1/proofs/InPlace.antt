@@ -146,7 +146,7 @@ past x own rest c k n few keeps e after o (more_trees (leaf p l) bs) s =
     let f = front x s.first s.rest one.contents own rest Universal c one.constructed k (leaf_tag l) n one.header (length own) s.whole one.encoding
     (own_small x own rest c k n few e) e in
     let q = same_split one.contents own s.rest rest f.size f.whole in
-    let written = keeps.leaf (sym f.class) l (sym f.tag) (subst (LeafContents l) q.0 one.means) in
+    let written = keeps.leaf (sym f.class) l (sym f.tag) (subst (LeafContents l) q.0 one.meaning) in
     let here = f.encoding ∙ same_encoding c Universal k false n (leaf_tag l) one.contents (leaf_contents l) (sym f.class)
     (keeps.primitive (sym f.class) l (sym f.tag)) (sym f.tag) (q.0 ∙ written) in
     both (o + length s.first) x s.first s.rest rest (canonical (leaf p l)) bs s.whole s.items here q.1 after
@@ -162,7 +162,7 @@ past x own rest c k n few keeps e after o (more_trees (explicit d p m b) bs) s =
     let q = same_split one.contents own s.rest rest f.size f.whole in
     let within = keeps.within (λ u. one.other (f.class ∙ u)) (sym f.constructed) in
     let place = o + one.header in
-    let item : EncodesAll place own (more_trees b no_trees) = only place own b (subst (λ z. Encodes place z b) q.0 one.means) in
+    let item : EncodesAll place own (more_trees b no_trees) = only place own b (subst (λ z. Encodes place z b) q.0 one.meaning) in
     let written : own ≡ canonical b = within place (more_trees b no_trees) item ∙ append-nil (canonical b) in
     let here = f.encoding ∙ same_encoding c d k true n m one.contents (canonical b) (sym f.class) (sym f.constructed) (sym f.tag) (q.0 ∙ written) in
     both (o + length s.first) x s.first s.rest rest (canonical (explicit d p m b)) bs s.whole s.items here q.1 after
@@ -190,7 +190,7 @@ into x rest g m few small e after o (more_trees (explicit d p n b) bs) s =
 into x rest g m few small e after o (more_trees (unknown d j p n v) bs) s =
     let one = s.item in
     let f = front x s.first s.rest v [] rest d Universal j true n (group_tag g) one.header m s.whole one.encoding small e in
-    absurd (elim one.stays [ inl u ↦ false≢true (sym u.1 ∙ ap is_known_tag f.tag ∙ group_known g) | inr u ↦ u.0 f.class ])
+    absurd (elim one.as_it_came [ inl u ↦ false≢true (sym u.1 ∙ ap is_known_tag f.tag ∙ group_known g) | inr u ↦ u.0 f.class ])
 into x rest g m few small e after o (more_trees (group p h held) bs) s =
     let one = s.item in
     let contents = one.contents in
@@ -208,9 +208,9 @@ into x rest g m few small e after o (more_trees (group p h held) bs) s =
     ) in
     let fits : length (contents ++ r) < 2 ^ 64 = omega (arith, few, size, ap length s.whole, length-append s.first r, length-append contents r) in
     let all : EncodesAll place (contents ++ r) (joined held bs) =
-    encodes_joined place contents r held bs one.means (subst (λ z. EncodesAll z r bs) size s.items) in
+    encodes_joined place contents r held bs one.meaning (subst (λ z. EncodesAll z r bs) size s.items) in
     let written = f.whole ∙ (after place (joined held bs) (subst (λ z. EncodesAll place z (joined held bs)) f.whole all) ∙ joined_canonical held bs) in
-    let v = all_front place contents r (all_canonical bs) held fits one.means written in
+    let v = all_front place contents r (all_canonical bs) held fits one.meaning written in
     let here = f.encoding ∙ same_encoding Universal Universal true true (group_tag g) (group_tag h) contents (all_canonical held) refl refl (sym f.tag) v.0 in
     s.whole ∙ (ap (λ z. z ++ r) here ∙ ap (λ z. canonical (group p h held) ++ z) v.1)
 

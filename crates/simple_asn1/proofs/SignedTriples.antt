@@ -115,12 +115,12 @@ parts_of_three t o (l ∷ m ∷ s ∷ d ∷ items) x y z algorithm n v h i j k e
 has_content : (octets : List ℕ) (p : SignedParts) (rest : Trees ℕ) (content : List ℕ) →
     content ≡ slice_range octets (tree_offset p.content) p.algorithm_offset → HasOctets octets (signed_trees p rest) p.content content
 has_content octets p rest content e =
-    record { end = p.algorithm_offset; stands = in_first (in_group (in_first itself)); are = e }
+    record { end = p.algorithm_offset; place = in_first (in_group (in_first itself)); octets_are = e }
 
 has_algorithm : (octets : List ℕ) (p : SignedParts) (rest : Trees ℕ) →
     HasOctets octets (signed_trees p rest) (algorithm_tree p) (slice_range octets p.algorithm_offset p.signature_offset)
 has_algorithm octets p rest =
-    record { end = p.signature_offset; stands = in_first (in_group (in_later (in_first itself))); are = refl }
+    record { end = p.signature_offset; place = in_first (in_group (in_later (in_first itself))); octets_are = refl }
 
 -- in a document the offsets of a triple stand in their order
 begins : BlockAlone → (octets : List ℕ) (p : SignedParts) (rest : Trees ℕ) (bs : Trees ℕ) → IsDocument octets bs →

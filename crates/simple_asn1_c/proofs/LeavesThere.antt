@@ -32,7 +32,7 @@ module _ (octets : List ℕ) (offset : ℕ) where
         header = u.header;
         encoding = u.encoding;
         place = refl;
-        means = means;
+        meaning = means;
       } in
       let some = block_some u.whole (encodes_block 0 u.whole (leaf 0 l) s) in
       (0, (u.whole, u.at, record { some = some; blocks = only 0 u.whole (leaf 0 l) s }))
@@ -48,7 +48,7 @@ module _ (octets : List ℕ) (offset : ℕ) where
       let s = only_tree 0 x (leaf o l) d.blocks in record {
         contents = s.contents;
         universal = record { whole = x; at = at; constructed = s.constructed; header = s.header; encoding = s.encoding };
-        means = s.means;
+        meaning = s.meaning;
       }
 
   -- one encoding stands there
@@ -98,6 +98,6 @@ module _ (octets : List ℕ) (offset : ℕ) where
           let (l, tl, is) = leaf_of value in
           let w = leaf_there l is in
           let (tag, contents) = one_universal (leaf_tag l) n w.contents v w.universal u in
-          leaf_no_fault n v fault l (sym tag) (subst (LeafContents l) contents w.means) f),
+          leaf_no_fault n v fault l (sym tag) (subst (LeafContents l) contents w.meaning) f),
       is_at_fault n t v u fault (first_fault n v u fault f) e,
     )

@@ -78,7 +78,7 @@ read_answer octets bs es found before after o e d are put = go put
     ns = are.nodes
 
     own : IsStructure octets ns
-    own = (subst (IsDocument octets) (sym are.trees) d, are.are)
+    own = (subst (IsDocument octets) (sym are.trees) d, are.structure)
 
     count : length (map block_of es) ≡ length (nodes_in_order ns)
     count = put_count octets ns es are.entries
@@ -102,7 +102,7 @@ read_strict_answer octets bs es found before after o e d are put = go put
     ns = are.nodes
 
     own : IsCanonicalStructure octets ns
-    own = (subst (CanonicalDocument octets) (sym are.trees) d, are.are)
+    own = (subst (CanonicalDocument octets) (sym are.trees) d, are.structure)
 
     count : length (map block_of es) ≡ length (nodes_in_order ns)
     count = put_count octets ns es are.entries

@@ -15,16 +15,16 @@ begins_signed whole bs rest t p d e f = subst (IsDocument whole) (e ∙ ap (λ z
 module _ (whole : List ℕ) (p : SignedParts) (rest : Trees ℕ) (d : IsDocument whole (signed_trees p rest)) (t : Tree ℕ) where
   pub content_stands : t ≡ p.content → Stands whole t
   content_stands e = subst (Stands whole) (sym e)
-      (signed_trees p rest, _, d, record { end = _; stands = in_first (in_group (in_first itself)); are = refl })
+      (signed_trees p rest, _, d, record { end = _; place = in_first (in_group (in_first itself)); octets_are = refl })
 
   pub identifier_stands : t ≡ identifier_tree p → Stands whole t
   identifier_stands e = subst (Stands whole) (sym e) (
     signed_trees p rest,
     _,
     d,
-    record { end = _; stands = in_first (in_group (in_later (in_first (in_group (in_first itself))))); are = refl },
+    record { end = _; place = in_first (in_group (in_later (in_first (in_group (in_first itself))))); octets_are = refl },
   )
 
   pub signature_stands : t ≡ signature_tree p → Stands whole t
   signature_stands e = subst (Stands whole) (sym e)
-      (signed_trees p rest, _, d, record { end = _; stands = in_first (in_group (in_later (in_later (in_first itself)))); are = refl })
+      (signed_trees p rest, _, d, record { end = _; place = in_first (in_group (in_later (in_later (in_first itself)))); octets_are = refl })

@@ -9,7 +9,7 @@ mutual
       → 2 * length (node_in_order n) ≤ length y
   two_in x (node b ns) place y rest s e is =
       let h = held_in x place b y rest (nodes_trees ns) s e is.0 in
-      let more = two_among x ns h.place h.contents h.rest h.stands h.encoded is.1 in
+      let more = two_among x ns h.place h.contents h.rest h.at_offset h.encoded is.1 in
       omega (arith, more, h.shorter)
 
   two_among : (x : List ℕ) (ns : Nodes) (place : ℕ) (v rest : List ℕ) → drop place x ≡ v ++ rest → EncodesAll place v (nodes_trees ns) → AreNodes x ns

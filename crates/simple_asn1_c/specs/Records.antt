@@ -56,7 +56,7 @@ pub record IsRecord (whole : List ℕ) (b : Tree ℕ) (r : Block) : Type 0 where
   pub bs : Trees ℕ
   pub octets : List ℕ
   pub document : IsDocument whole bs
-  pub stands : HasOctets whole bs b octets
+  pub own_octets : HasOctets whole bs b octets
   pub header : HasHeader octets (header_of r)
   pub offset : r.offset ≡ tree_offset b
   pub items : r.items ≡ items_in b

@@ -41,6 +41,17 @@ use crate::text::text_at;
 use simple_asn1::{ASN1DecodeErr, rewrite};
 use std::alloc::Global;
 
+// Of the calls and records.
+const VERSION: u32 = 1;
+
+/// The version of the calls and records: `SIMPLE_ASN1_VERSION` of the header that they belong to.
+#[unsafe(no_mangle)]
+pub extern "C" fn simple_asn1_version() -> u32
+    ensures { result ≡ 1 }
+{
+    VERSION
+}
+
 /// Reads a document into records: one for each block, each before those inside it.
 ///
 /// Returns their number; `NO_ROOM` with the number that is needed, if there is less room; or the number of the first

@@ -59,7 +59,7 @@ close_group octets f g gs n x y k o =
           header = s - x;
           encoding = F;
           place = refl;
-          means = subst (λ i. EncodesAll i contents trees) at o.read.encoded;
+          meaning = subst (λ i. EncodesAll i contents trees) at o.read.encoded;
         };
         begun = begun_opened (slice_range octets x z) Universal bit (group_tag y) contents (s - x) o.own F (inl (refl, group_tag_is y)) is_block o.read.begun;
       };
@@ -101,7 +101,7 @@ close_attempt octets f g gs n a t k means o =
 -- the encoding around one tree, and around any other number
 one_means : (a : other.Attempt) (contents : List ℕ) (t : Tree ℕ) → Means a contents (t ∷ []) (around a t)
 one_means a contents t all h ne F s =
-    record { contents = contents; header = h; encoding = F; place = refl; other = ne; means = only_tree (a.offset + h) contents t s }
+    record { contents = contents; header = h; encoding = F; place = refl; other = ne; meaning = only_tree (a.offset + h) contents t s }
 
 count_trees : (ts : List (Tree ℕ)) → tree_count (trees_of ts) ≡ length ts
 count_trees [] = refl
@@ -112,7 +112,7 @@ other_means : (octets : List ℕ) (a : other.Attempt) (s e : ℕ) (ts : List (Tr
 other_means octets a s e ts many all h ne F r =
     let no_block : IsBlock (slice_range octets s e) → ⊥ =
     λ z. many (sym (count_trees ts) ∙ one_block (a.offset + h) (slice_range octets s e) (trees_of ts) r z) in
-    record { header = h; encoding = F; place = refl; stays = inr (ne, λ z. no_block z.1) }
+    record { header = h; encoding = F; place = refl; as_it_came = inr (ne, λ z. no_block z.1) }
 
 attempt_means : (octets : List ℕ) (a : other.Attempt) (s e : ℕ) (ts : List (Tree ℕ)) → Means a (slice_range octets s e) ts (attempted octets a s e ts)
 attempt_means octets a s e [] = other_means octets a s e [] (λ z. absurd (omega (arith, z)))
@@ -140,6 +140,6 @@ close_frame octets f g gs n t is o = go f.extent.kind refl
         subst (λ z. IsClosed octets g gs f.extent.end z n) (sym this) (close_group octets f g gs n x y d o)
     go (Attempt a) d =
         let this = subst (λ z. IsEnded octets z f.extent.start f.extent.end f.trees t) d is in
-        let means = attempt_means octets a f.extent.start f.extent.end f.trees in
+        let meaning = attempt_means octets a f.extent.start f.extent.end f.trees in
         subst (λ z. IsClosed octets g gs f.extent.end z n) (sym this)
         (close_attempt octets f g gs n a (attempted octets a f.extent.start f.extent.end f.trees) d means o)

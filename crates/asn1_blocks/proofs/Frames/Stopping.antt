@@ -165,7 +165,7 @@ stop_attempt octets f g gs e offset n a small k w =
       follows = record {
         from = omega (arith, H.0, o.after, o.read.from, o.read.to);
         to = o.fits;
-        encoded = record { header = s - a.offset; encoding = F; place = refl; stays = inr (H.1.other, no_block) };
+        encoded = record { header = s - a.offset; encoding = F; place = refl; as_it_came = inr (H.1.other, no_block) };
         begun = begun_opened (slice_range octets a.offset z) a.class true a.tag contents (s - a.offset) m F (inr (H.1.other, refl)) (of_other_class F H.1.other)
             r.begun;
       };

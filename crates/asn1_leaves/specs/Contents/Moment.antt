@@ -1,6 +1,6 @@
--- Moments, of which UTCTime and GeneralizedTime are two notations (X.680 46, 47), and what both share. In texts 43 is
--- +, 46 a point, 48 to 57 are the digits, and 90 is Z.
+-- Moments, of which UTCTime and GeneralizedTime are two notations (X.680 46, 47), and what both share.
 use Rattle.std.specs.Prelude.{ℕ, ◌+◌, ◌/◌, ◌%◌, ◌<◌, ◌≤ℤ◌, ◌++◌, ℤ, pos, negsuc, List, [], ◌∷◌, Option, Some, None}
+use Rattle.asn1_numbers.specs.Octets.{digit}
 use Rattle.std.specs.Int.{IsInRange}
 use Rattle.jiff_core.specs.Calendar.{days_in_month}
 use Rattle.jiff_core.specs.declared.civil.datetime.DateTime.{DateTime}
@@ -43,7 +43,7 @@ pub record IsValid (m : Moment) : Type 0 where
 
 -- a number below 100 in two digits
 abbrev pub two_digits : ℕ → List ℕ
-two_digits n = (48 + n / 10) ∷ (48 + n % 10) ∷ []
+two_digits n = digit (n / 10) ∷ digit (n % 10) ∷ []
 
 -- month, day, hour, minute and second: MMDDhhmmss
 abbrev pub from_month : Moment → List ℕ

@@ -1,5 +1,6 @@
 -- Contents octets of the strings of characters (X.690 8.23): six tags, three forms.
-use Rattle.std.specs.Prelude.{◌≡◌, ◌==◌, ◌||◌, ◌&&◌, ℕ, Bool, true, List, nat_lt, nat_le, if◌then◌else◌, codes, Option, Some, None, IsUtf8, encode_utf8_all}
+use Rattle.std.specs.Prelude.{◌≡◌, ◌==◌, ◌||◌, ℕ, Bool, true, List, nat_lt, if◌then◌else◌, codes, Option, Some, None, IsUtf8, encode_utf8_all}
+use Rattle.std.specs.Char.{is_ascii_alphanumeric}
 use Rattle.std.specs.Str.{all_scalars}
 use Rattle.std.specs.List.{list_all, list_any}
 use Rattle.asn1_leaves.specs.declared.contents.text.TextForm.{TextForm}
@@ -21,8 +22,7 @@ text_form bmp = Utf8
 -- the characters of a PrintableString (X.680 table 10)
 abbrev pub is_printable : ℕ → Bool
 is_printable c =
-    (nat_le 65 c && nat_le c 90) || (nat_le 97 c && nat_le c 122) || (nat_le 48 c && nat_le c 57)
-    || list_any (λ d. c == d) (codes " '()+,-./:=?")
+    is_ascii_alphanumeric c || list_any (λ d. c == d) (codes " '()+,-./:=?")
 
 -- the characters in UTF-8, or an octet for each, its number
 abbrev pub TextContents : TextForm → List ℕ → List ℕ → Type 0

@@ -1,5 +1,6 @@
 -- Contents octets of a UTCTime (X.690 8.25 and 11.8, X.680 47).
-use Rattle.std.specs.Prelude.{◌≡◌, ℕ, ◌%◌, ◌≤ℤ◌, ◌&&◌, ◌||◌, ◌==◌, ◌++◌, if◌then◌else◌, pos, unsigned_abs, nat_lt, List, [], ◌∷◌, length, slice_index, decimal, codes, encode_utf8_all}
+use Rattle.std.specs.Prelude.{◌≡◌, ℕ, ◌%◌, ◌≤ℤ◌, ◌&&◌, ◌||◌, ◌==◌, ◌++◌, if◌then◌else◌, pos, unsigned_abs, nat_lt, List, [], length, slice_index, decimal, codes, encode_utf8_all}
+use Rattle.std.specs.Str.{byte}
 use Rattle.std.specs.Char.{is_ascii_digit}
 use Rattle.asn1_leaves.specs.Contents.Moment.{Moment, IsValid, two_digits, from_month}
 use Rattle.asn1_headers.specs.Fault.{DecodeFault, invalid_date_value}
@@ -14,7 +15,7 @@ pub record IsFaithfulUtcTime (m : Moment) : Type 0 where
 
 -- the contents octets that are written: YYMMDDhhmmssZ (11.8.1, 11.8.2), without the century and the fraction
 abbrev pub utc_time_contents : Moment → List ℕ
-utc_time_contents m = two_digits (unsigned_abs m.year % 100) ++ (from_month m ++ (90 ∷ []))
+utc_time_contents m = two_digits (unsigned_abs m.year % 100) ++ (from_month m ++ codes "Z")
 
 -- the contents octets mean the moment. Each moment has one form
 abbrev pub UtcTimeContents : Moment → List ℕ → Type 0
@@ -23,8 +24,8 @@ UtcTimeContents m contents = IsFaithfulUtcTime m × (contents ≡ utc_time_conte
 -- the century that a text which begins with a and b is shown with, where they are two digits, or + and a digit
 abbrev pub century_shown : ℕ → ℕ → List ℕ
 century_shown a b =
-    if (is_ascii_digit a || (a == 43)) && is_ascii_digit b
-    then (if nat_lt a 53 then codes "20" else codes "19")
+    if (is_ascii_digit a || (a == byte "+")) && is_ascii_digit b
+    then (if nat_lt a (byte "5") then codes "20" else codes "19")
     else []
 
 -- the text of a fault: the number of octets, or each octet as the character of its number

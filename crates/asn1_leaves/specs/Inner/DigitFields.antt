@@ -1,13 +1,14 @@
 -- The fields of a moment by the places of their digits. Private contracts of `contents` alone name these.
-use Rattle.std.specs.Prelude.{◌≡◌, ◌⊎◌, ◌∷◌, ℕ, ◌+◌, ◌/◌, ◌%◌, ◌<◌, pos, List, slice_index}
+use Rattle.std.specs.Prelude.{◌≡◌, ◌⊎◌, ◌∷◌, ℕ, ◌+◌, ◌/◌, ◌%◌, ◌<◌, pos, List, slice_index, codes, ◌++◌}
+use Rattle.asn1_numbers.specs.Octets.{digit}
 use Rattle.asn1_leaves.specs.Contents.GeneralizedTime.{IsEnd, fraction_number, tenth}
 use Rattle.asn1_leaves.specs.Contents.Moment.{Moment, IsValid}
 
 -- the octets are the two digits of the number
 pub record IsPair (a b n : ℕ) : Type 0 where
   pub small : n < 100
-  pub tens : a ≡ 48 + n / 10
-  pub units : b ≡ 48 + n % 10
+  pub tens : a ≡ digit (n / 10)
+  pub units : b ≡ digit (n % 10)
 
 -- and so are those at the place
 abbrev pub PairAt : List ℕ → ℕ → ℕ → Type 0
@@ -41,4 +42,4 @@ IsFractionOf end n = (digits : List ℕ) × IsEnd digits end × (n ≡ fraction_
 -- the rest is what follows the point that the text begins with, or the text if it begins with none
 abbrev pub FollowsPoint : List ℕ → List ℕ → Type 0
 FollowsPoint text rest =
-    (text ≡ 46 ∷ rest) ⊎ ((rest ≡ text) × ((r : List ℕ) → text ≡ 46 ∷ r → ⊥))
+    (text ≡ codes "." ++ rest) ⊎ ((rest ≡ text) × ((r : List ℕ) → text ≡ codes "." ++ r → ⊥))

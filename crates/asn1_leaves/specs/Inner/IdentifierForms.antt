@@ -1,5 +1,5 @@
 -- How an `OID` is kept, the components that it has, and how each is written.
-use Rattle.std.specs.Prelude.{◌≡◌, ℕ, ◌+◌, ◌-◌, ◌*◌, ◌%◌, ◌≤◌, List, [], ◌∷◌, length, nat_lt, if◌then◌else◌, None}
+use Rattle.std.specs.Prelude.{◌≡◌, ℕ, ◌+◌, ◌-◌, ◌*◌, ◌%◌, ◌≤◌, List, [], ◌∷◌, length, nat_lt, if◌then◌else◌, None, codes, ◌++◌}
 use Rattle.asn1_numbers.specs.Decimal.{natural_numeral}
 use Rattle.asn1_leaves.specs.declared.oid.Kept.{Kept}
 use Rattle.asn1_leaves.specs.declared.oid.Kept.TheVariants.{Octets, Components}
@@ -46,4 +46,4 @@ IsKeptOnce (Components components) = HaveShortContents components.items → ⊥
 
 -- a number in decimal, after a point
 abbrev pub pointed : ℕ → List ℕ
-pointed n = 46 ∷ natural_numeral n
+pointed n = codes "." ++ natural_numeral n

@@ -17,9 +17,9 @@ universal_single : (k : Bool) (n : ℕ) (contents : List ℕ) → (IsReadInside 
     → (offset : ℕ) (octets : List ℕ) (h : ℕ) → Encoding octets Universal k n contents h → IsSingleAt offset octets
 universal_single k n contents shut (inr (l, t, m)) offset octets h F =
     let own = subst (λ z. Encoding octets Universal k z contents h) t F in
-    (leaf offset l, refl, record { constructed = k; contents = contents; header = h; encoding = own; place = refl; means = m })
+    (leaf offset l, refl, record { constructed = k; contents = contents; header = h; encoding = own; place = refl; meaning = m })
 universal_single k n contents shut (inl none) offset octets h F = elim (tag_kind n) [
-  | unknown_tag e ↦ (unknown Universal k offset n contents, refl, record { header = h; encoding = F; place = refl; stays = inl (refl, e) })
+  | unknown_tag e ↦ (unknown Universal k offset n contents, refl, record { header = h; encoding = F; place = refl; as_it_came = inl (refl, e) })
   | group_tag_of g e ↦ absurd (shut (inl (refl, subst (λ z. is_group_tag z ≡ true) (sym e) (group_tag_is g))))
   | leaf_tag_of e ↦ absurd (cc)
 ]
@@ -52,7 +52,7 @@ returns-in_default c =
       encoded = λ offset octets i F. (
         unknown h.class h.constructed offset h.tag c.args.contents.now,
         refl,
-        record { header = i; encoding = F; place = refl; stays = inr (other, λ z. c.requires.closed (inr (other, z.0))) },
+        record { header = i; encoding = F; place = refl; as_it_came = inr (other, λ z. c.requires.closed (inr (other, z.0))) },
       );
       refused = tt;
     }

@@ -18,7 +18,7 @@ stays : (c : ASN1Class) (k : Bool) (n : ℕ) (contents : List ℕ) (o : ℕ) (r 
     → IfOk r (λ b. (octets : List ℕ) (h : ℕ) → Encoding octets c k n contents h → Encodes o octets (view b))
 stays c k n contents o (Ok b) other shut kept =
     λ octets h f. subst (Encodes o octets) (sym kept)
-    (record { header = h; encoding = f; place = refl; stays = inr (other, λ z. shut (inr (other, z.0))) })
+    (record { header = h; encoding = f; place = refl; as_it_came = inr (other, λ z. shut (inr (other, z.0))) })
 stays c k n contents o (Err e) other shut kept = tt
 
 pub returns-in_default-clause-encoded : goal.returns-in_default-clause-encoded

@@ -12,15 +12,15 @@ returns-then-offset-document-clause-block c octets t =
 pub returns-in_default-clause-block : goal.returns-in_default-clause-block
 returns-in_default-clause-block c octets t =
     let p = encoding_of c.args.document.now c.args.offset octets t in
-    c.in_default.ensures.none octets p.rest (c.split_at.ensures.back ∙ p.stands) p.are
+    c.in_default.ensures.none octets p.rest (c.split_at.ensures.back ∙ p.at_offset) p.encoding
 
 -- the front of what stands at the offset, as long as its header says
 stands_here : (document : List ℕ) (o n : ℕ) (rest front : List ℕ) → rest ≡ drop o document → front ≡ take n rest → IsEncoding (take n rest)
     → EncodingAt document o front
 stands_here document o n rest front r f are = record {
   rest = drop n (drop o document);
-  stands = sym (take-append-drop n (drop o document)) ∙ ap (λ z. z ++ drop n (drop o document)) (sym (f ∙ ap (take n) r));
-  are = subst IsEncoding (sym f) are;
+  at_offset = sym (take-append-drop n (drop o document)) ∙ ap (λ z. z ++ drop n (drop o document)) (sym (f ∙ ap (take n) r));
+  encoding = subst IsEncoding (sym f) are;
 }
 
 pub returns-clause-found : goal.returns-clause-found

@@ -7,7 +7,7 @@ pub read_into-requires-clause-empty : goal.read_into-requires-clause-empty
 read_into-requires-clause-empty c = (
   refl,
   subst (λ z. AreOfTrees c.args.octets.now 0 0 [] z) (sym c.in-Ok.ensures.items)
-      (record { nodes = []; trees = refl; are = tt; entries = tt }),
+      (record { nodes = []; trees = refl; structure = tt; entries = tt }),
 )
 
 pub returns-in-Ok-read_into-clause-document : goal.returns-in-Ok-read_into-clause-document

@@ -63,7 +63,7 @@ push_step-returns-in-Ok t c =
     let adds = subst (λ os. Adds (PlacedInside inner.base octets) (shown_at inner.is_inside inner.base os)
     c.args.out.now.items c.push_blocks.new.out.items) all c.in_ok-push_blocks-in-Ok.ensures in
     put_document c.args.place.is_inside inner.is_inside c.args.place.base inner.base c.args.left.now octets (document_trees c.in-Ok.document)
-    c.args.offset c.in_ok-end.end _ _ (there.rest, there.stands) c.in-Ok.ensures.document c.in_ok-end.ensures
+    c.args.offset c.in_ok-end.end _ _ (there.rest, there.at_offset) c.in-Ok.ensures.document c.in_ok-end.ensures
     (c.in_ok-inner-in-Ok.ensures.same ∙ c.unlimited.ensures.same) (c.in_ok-inner-in-Ok.ensures.base ∙ ap (λ n. n + c.args.offset) c.unlimited.ensures.base) adds
 
 pub push_step-returns : goal.push_step-returns
@@ -72,7 +72,7 @@ push_step-returns t c =
     let there = c.in-Some.ensures.found in
     let fault = fault_first (FirstFault octets) c.in-Err.fault c.in-Err.ensures.fault c.in_ok-push_faulty-in-Err.ensures.memory in
     put_leaf c.args.place.is_inside c.args.place.base c.args.left.now octets (fault_of c.in-Err.fault) c.args.offset c.in_ok-end.end _ _
-    (there.rest, there.stands) there.are fault c.in_ok-end.ensures c.in_ok-push_faulty-in-Err.ensures.line
+    (there.rest, there.at_offset) there.encoding fault c.in_ok-end.ensures c.in_ok-push_faulty-in-Err.ensures.line
 
 pub push_blocks-loop-walk-init : goal.push_blocks-loop-walk-init
 push_blocks-loop-walk-init t c = progress_none _ _ _ _ _ _ c.in_ok-walk.ensures

@@ -9,7 +9,7 @@ unreachable-requires c =
     let b = view c.args.block.now in
     let (bs, octets, d, s) = c.requires in
     let at : TreeAt c.args.document.now c.offset-offset.result octets =
-    record { all = bs; tree = b; read = d; has = s; stands = sym c.offset-offset.ensures } in
+    record { all = bs; tree = b; read = d; own_octets = s; offset_is = sym c.offset-offset.ensures } in
     c.in_default.ensures.block octets at
 
 pub returns-clause-fields : goal.returns-clause-fields
@@ -17,13 +17,13 @@ returns-clause-fields c =
     let b = view c.args.block.now in
     let (bs, octets, d, s) = c.requires in
     let at : TreeAt c.args.document.now c.offset-offset.result octets =
-    record { all = bs; tree = b; read = d; has = s; stands = sym c.offset-offset.ensures } in
+    record { all = bs; tree = b; read = d; own_octets = s; offset_is = sym c.offset-offset.ensures } in
     let e : c.in-Some.encoding.now ≡ octets = c.in-Some.ensures.block octets at in
     record {
       bs = bs;
       octets = octets;
       document = d;
-      stands = s;
+      own_octets = s;
       header = subst (λ z. HasHeader z c.in_ok-header.header) e c.in_ok-header.ensures;
       offset = c.offset-offset.ensures;
       items = c.item_count.ensures;

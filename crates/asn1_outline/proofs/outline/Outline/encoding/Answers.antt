@@ -29,7 +29,7 @@ returns-clause-found c ns d h =
     let prop : IsProp (tree_offset t ≡ c.in-Some.entry.now.offset) = hlevel props in
     let at : tree_offset t ≡ c.in-Some.entry.now.offset =
     found_entry o.octets.now o.entries.items ns k o.document d c.deref.result.now c.in-Some.entry.now c.deref.ensures.value
-    c.in-Some.ensures.lookup.3 (tree_offset t ≡ c.in-Some.entry.now.offset) prop (λ e. sym e.stands) in
+    c.in-Some.ensures.lookup.3 (tree_offset t ≡ c.in-Some.entry.now.offset) prop (λ e. sym e.offset_is) in
     let (octets, s, is) = structure_stands o.octets.now ns d k (found_within o.octets.now o.entries.items ns k o.document d h) in
     encoded_found o.octets.now c.in-Some.entry.now.offset t octets c.encoding_at.result c.encoding_at.ensures.found c.encoding_at.ensures.none at s
 
