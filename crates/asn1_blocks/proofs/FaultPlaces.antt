@@ -42,7 +42,7 @@ mutual
   block_place : (place : ℕ) (octets : List ℕ) (e : DecodeFault) → BlockFault place octets e → (o : ℕ) × BlockFaultAt place octets e o
   block_place place octets e (in_header w) = (0, at_header w)
   block_place place octets e (in_contents x rest g f (of_leaf_contents p)) = (0, at_leaf x rest g f p)
-  block_place place octets e (in_contents x rest {contents = v} {h = h} g f (of_item y t p)) =
+  block_place place octets e (in_contents x rest {contents = v} {header = h} g f (of_item y t p)) =
       let r = blocks_place v e p in
       (h + r.0, at_item x rest g f y t r.0 r.1 refl)
 
@@ -69,17 +69,17 @@ mutual
       BlockFaultAt place octets d p → place + length octets < 2 ^ 64 → o ≡ p
   block_place_alone place octets e d o p (at_item x rest g f y t i r q) (at_header w) small =
       absurd (header_no_encoding place octets x rest d _ _ _ _ _ w small g f)
-  block_place_alone place octets e d o p (at_item x rest g f y t i r q) (at_leaf x' rest' {n = n'} {contents = v'} g' f' l) small =
+  block_place_alone place octets e d o p (at_item x rest g f y t i r q) (at_leaf x' rest' {tag = n'} {contents = v'} g' f' l) small =
       let s = encoding_alone _ _ _ _ _ _ _ _ _ _ _ _ rest rest' f f' (sym g ∙ g') in
       absurd (leaf_tag_no_group n' y (leaf_fault_tag n' v' d l) (sym s.tag ∙ t))
-  block_place_alone place octets e d o p (at_item x rest {k = k} {n = n} {contents = v} {h = h} g f y t i r q) (at_item x' rest' g' f' y' t' i' r' q') small =
+  block_place_alone place octets e d o p (at_item x rest {constructed = k} {tag = n} {contents = v} {header = h} g f y t i r q) (at_item x' rest' g' f' y' t' i' r' q') small =
       let s = encoding_alone _ _ _ _ _ _ _ _ _ _ _ _ rest rest' f f' (sym g ∙ g') in
       let a = blocks_place_alone v e d i i' r (subst (λ z. BlocksFaultAt z d i') (sym s.contents) r')
       (omega (arith, small, encoding_within octets x rest Universal k n v h f g)) in
       omega (arith, q, q', a, s.header)
   block_place_alone place octets e d o p (at_header w) (at_item x rest g f y t i r q) small =
       absurd (header_no_encoding place octets x rest e _ _ _ _ _ w small g f)
-  block_place_alone place octets e d o p (at_leaf x' rest' {n = n'} {contents = v'} g' f' l) (at_item x rest g f y t i r q) small =
+  block_place_alone place octets e d o p (at_leaf x' rest' {tag = n'} {contents = v'} g' f' l) (at_item x rest g f y t i r q) small =
       let s = encoding_alone _ _ _ _ _ _ _ _ _ _ _ _ rest rest' f f' (sym g ∙ g') in
       absurd (leaf_tag_no_group n' y (leaf_fault_tag n' v' e l) (sym s.tag ∙ t))
   block_place_alone place octets e d o p (at_header w) (at_header w') small = refl

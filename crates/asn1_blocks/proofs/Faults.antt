@@ -175,7 +175,7 @@ mutual
   block_fault_no_block place octets x rest e (in_header w) small d b =
       let F = block_encoding x b in
       header_no_encoding place octets x rest e F.class F.constructed F.tag F.contents F.header w small d F.encoding
-  block_fault_no_block place octets x rest e (in_contents y r {k = k} {n = n} {contents = contents} {h = h} g f fault) small d b =
+  block_fault_no_block place octets x rest e (in_contents y r {constructed = k} {tag = n} {contents = contents} {header = h} g f fault) small d b =
       let F = block_encoding x b in
       let q = encoding_alone _ _ _ _ _ _ _ _ _ _ _ _ r rest f F.encoding (sym g ∙ d) in
       contents_fault_no_block n contents e fault (omega (

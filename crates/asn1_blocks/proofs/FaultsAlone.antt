@@ -132,8 +132,8 @@ mutual
       absurd (header_no_encoding place octets x rest e _ _ _ _ _ p small g f)
   block_fault_alone place octets e d (in_contents x rest g f fault) (in_header q) small =
       absurd (header_no_encoding place octets x rest d _ _ _ _ _ q small g f)
-  block_fault_alone place octets e d (in_contents x rest {k = k} {n = n} {contents = v} {h = h} g f p)
-      (in_contents y rest' {k = k'} {n = m} {contents = w} {h = h'} g' f' q) small =
+  block_fault_alone place octets e d (in_contents x rest {constructed = k} {tag = n} {contents = v} {header = h} g f p)
+      (in_contents y rest' {constructed = k'} {tag = m} {contents = w} {header = h'} g' f' q) small =
       let s = encoding_alone _ _ _ _ _ _ _ _ _ _ _ _ rest rest' f f' (sym g ∙ g') in
       contents_fault_alone n v e d p (subst (λ z. ContentsFault n z d) (sym s.contents) (subst (λ z. ContentsFault z w d) (sym s.tag) q))
       (omega (arith, small, encoding_within octets x rest Universal k n v h f g))

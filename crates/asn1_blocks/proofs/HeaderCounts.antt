@@ -82,10 +82,10 @@ begun_le octets n (begun_none e) = omega arith
 begun_le octets n (begun_some some a b (nothing_inside shut) (nothing_after shut') g) = omega (arith, g, some)
 begun_le octets n (begun_some some a b (nothing_inside shut) (after_first x r e B C) g) =
     omega (arith, g, begun_le r b C, block_some x B, ap length e, length-append x r)
-begun_le octets n (begun_some some a b (inside_first x r {c = c} {k = k} {n = t} {contents = contents} {h = h} e F o B) (nothing_after shut) g) =
+begun_le octets n (begun_some some a b (inside_first x r {class = c} {constructed = k} {tag = t} {contents = contents} {header = h} e F o B) (nothing_after shut) g) =
     let l = encoding_length x c k t contents h F in
     omega (arith, g, begun_le contents a B, l.0, l.1, ap length e, length-append x r)
-begun_le octets n (begun_some some a b (inside_first x r {c = c} {k = k} {n = t} {contents = contents} {h = h} e F o B) (after_first y q d A C) g) =
+begun_le octets n (begun_some some a b (inside_first x r {class = c} {constructed = k} {tag = t} {contents = contents} {header = h} e F o B) (after_first y q d A C) g) =
     let l = encoding_length x c k t contents h F in
     let G = block_encoding y A in
     let s = encoding_alone _ _ _ _ _ _ _ _ _ _ _ _ r q F G.encoding (sym e ∙ d) in

@@ -29,6 +29,8 @@ use Rattle.std.proofs.Common.{
   arith,
 }
 use Rattle.std.specs.Prelude.{nat_lt, nat_le, All, IsAscii, IsUtf8, codes, encode_utf8_all, if◌then◌else◌}
+use Rattle.std.specs.Char.{is_ascii_alphanumeric}
+use Rattle.std.specs.Int.{is_in_range}
 use Rattle.std.specs.List.{list_all, list_any}
 use Rattle.std.specs.Str.{all_scalars, chars}
 use Rattle.std.specs.Str.Lossy.{utf8_error_len, utf8_valid_len}
@@ -67,18 +69,15 @@ below_if_any c (d ∷ ds) all e =
       | inr later ↦ below_if_any c ds p.1 later
     ]
 
-abbrev is_letter_or_digit : ℕ → Bool
-is_letter_or_digit c = (nat_le 65 c && nat_le c 90) || (nat_le 97 c && nat_le c 122) || (nat_le 48 c && nat_le c 57)
-
 -- a character of a PrintableString is ASCII
 pub printable_below : (c : ℕ) → is_printable c ≡ true → c < 128
-printable_below c e = elim (or_cases (is_letter_or_digit c) (list_any (λ d. c == d) (codes " '()+,-./:=?")) e) [
+printable_below c e = elim (or_cases (is_ascii_alphanumeric c) (list_any (λ d. c == d) (codes " '()+,-./:=?")) e) [
   | inr a ↦ below_if_any c (codes " '()+,-./:=?") refl a
-  | inl a ↦ elim (or_cases ((nat_le 65 c && nat_le c 90) || (nat_le 97 c && nat_le c 122)) (nat_le 48 c && nat_le c 57) a) [
-    | inr b ↦ let p = and_parts (nat_le 48 c) (nat_le c 57) b in grind (arith, nat_tests, p.1)
-    | inl b ↦ elim (or_cases (nat_le 65 c && nat_le c 90) (nat_le 97 c && nat_le c 122) b) [
-      | inl d ↦ let p = and_parts (nat_le 65 c) (nat_le c 90) d in grind (arith, nat_tests, p.1)
-      | inr d ↦ let p = and_parts (nat_le 97 c) (nat_le c 122) d in grind (arith, nat_tests, p.1)
+  | inl a ↦ elim (or_cases (is_in_range 48 57 c || is_in_range 65 90 c) (is_in_range 97 122 c) a) [
+    | inr b ↦ let p = and_parts (nat_le 97 c) (nat_le c 122) b in grind (arith, nat_tests, p.1)
+    | inl b ↦ elim (or_cases (is_in_range 48 57 c) (is_in_range 65 90 c) b) [
+      | inl d ↦ let p = and_parts (nat_le 48 c) (nat_le c 57) d in grind (arith, nat_tests, p.1)
+      | inr d ↦ let p = and_parts (nat_le 65 c) (nat_le c 90) d in grind (arith, nat_tests, p.1)
     ]
   ]
 ]
