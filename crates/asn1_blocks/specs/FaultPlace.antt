@@ -26,7 +26,7 @@ mutual
         (x rest : List ℕ) {constructed : Bool} {tag : ℕ} {contents : List ℕ} {header : ℕ} →
         octets ≡ x ++ rest → Encoding x Universal constructed tag contents header →
         (g : GroupKind) → tag ≡ group_tag g →
-        (inside : ℕ) → BlocksFaultAt contents e inside → after ≡ h + inside →
+        (inside : ℕ) → BlocksFaultAt contents e inside → after ≡ header + inside →
         BlockFaultAt place octets e after
 
   -- the octets are blocks one after another, and then one at fault; the innermost block at fault begins so many octets

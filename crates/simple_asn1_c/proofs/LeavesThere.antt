@@ -41,7 +41,7 @@ module _ (octets : List ℕ) (offset : ℕ) where
   record LeafThere (l : Leaf) : Type 0 where
     contents : List ℕ
     universal : UniversalAt octets offset (leaf_tag l) contents
-    means : LeafContents l contents
+    meaning : LeafContents l contents
 
   leaf_there : (l : Leaf) → IsLeafAt octets offset l → LeafThere l
   leaf_there l (o, (x, at, d)) =

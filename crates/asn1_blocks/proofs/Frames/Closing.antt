@@ -140,6 +140,6 @@ close_frame octets f g gs n t is o = go f.extent.kind refl
         subst (λ z. IsClosed octets g gs f.extent.end z n) (sym this) (close_group octets f g gs n x y d o)
     go (Attempt a) d =
         let this = subst (λ z. IsEnded octets z f.extent.start f.extent.end f.trees t) d is in
-        let meaning = attempt_means octets a f.extent.start f.extent.end f.trees in
+        let means = attempt_means octets a f.extent.start f.extent.end f.trees in
         subst (λ z. IsClosed octets g gs f.extent.end z n) (sym this)
         (close_attempt octets f g gs n a (attempted octets a f.extent.start f.extent.end f.trees) d means o)

@@ -61,7 +61,7 @@ returns-in-Ok-read c =
     let (n, u, number) = c.in-Ok.ensures.found in
     let (kind, tag, form) = c.in-Some.ensures in
     let same : n ≡ string_tag kind = small_tag n c.in-Ok.found.0 (string_tag kind) number tag (small_string kind) in
-    let meaning = subst (λ z. TextContents z (chars s) v) form c.in-Ok-read.ensures.found in
+    let means = subst (λ z. TextContents z (chars s) v) form c.in-Ok-read.ensures.found in
     let is = leaf_here octets offset (text kind (chars s)) v (subst (λ z. UniversalAt octets offset z v) same u) means in
     let bytes : c.as_bytes.result.now ≡ s = c.as_bytes.ensures.value ∙ c.as_str.ensures.value in
     text_was_found s (subst IsUtf8 bytes c.as_bytes.ensures.utf8) (kind, is)
