@@ -1,11 +1,11 @@
 /* simple_asn1.h: reads and writes DER (ITU-T X.690) as flat records.
  *
- * Link libsimple_asn1, which calls the program's malloc, realloc and free. No call keeps memory or gives memory away,
+ * Link libsimple_asn1, which calls the program's malloc, realloc and free. No call keeps memory or hands memory out,
  * and calls may run in several threads at once. Every call returns for all octets, offsets and records. The caller must
  * ensure that each pointer has as many octets or records behind it as the number after it says (it may be null if that
  * is 0), and that no output overlaps an input.
  *
- * Differences from X.690's BER, and what strict reading accepts though DER forbids it:
+ * Where it is not X.690's BER, and what strict reading accepts though DER forbids it:
  *
  * - OBJECT IDENTIFIER: the first subidentifier is one octet. 88 37 is 2.56.55, where X.690 has 2.999.
  * - BMPString, UniversalString and TeletexString hold UTF-8, where X.690 has other codes.
@@ -16,8 +16,8 @@
  *   (NumericString, VisibleString, GeneralString ..) have none, and any contents octets.
  * - Times: those with an offset, a comma, second 60 or no seconds are rejected.
  * - A value beyond int64_t, and a component of an OBJECT IDENTIFIER beyond 128 bits, are SIMPLE_ASN1_RANGE.
- * - Other classes: a constructed block has items if its contents octets are valid blocks. Strict reading looks at one
- *   item, and at no other contents octets.
+ * - Other classes: a constructed block has items if its contents octets are valid blocks. Strict reading checks an item
+ *   that is the only one, and no other contents octets.
  * - Strict reading accepts unused bits that are not 0, and more than 7 of them; octets of an IA5String above 7F; a SET
  *   in any order; DEFAULT values; any contents octets of tags of class Universal without a type here, such as
  *   ENUMERATED and REAL. */
@@ -57,7 +57,7 @@ typedef struct simple_asn1_block {
     size_t offset;      /* of its first octet from the start of the document */
     size_t header;      /* number of identifier and length octets */
     size_t contents;    /* number of contents octets after them */
-    size_t items;       /* number of blocks directly inside it, also of another class than 0 */
+    size_t items;       /* number of blocks directly inside it; other classes than 0 have them too */
     size_t next;        /* index of the record after it and all that it holds */
     size_t depth;       /* number of blocks around it */
     uint8_t tag_class;  /* 0 universal, 1 application, 2 context-specific, 3 private */
@@ -122,9 +122,9 @@ simple_asn1_moment simple_asn1_time(const uint8_t *octets, size_t size, size_t o
 simple_asn1_outcome simple_asn1_text(const uint8_t *octets, size_t size, size_t offset, uint8_t *out, size_t room);
 simple_asn1_outcome simple_asn1_oid(const uint8_t *octets, size_t size, size_t offset, uint8_t *out, size_t room);
 
-/* The parts of a certificate, request or revocation list that verify its signature (RFC 5280, section 4.1). The
- * algorithm's parameters are the octets from the end of its OBJECT IDENTIFIER to the offset of the signature; the first
- * contents octet of the signature is the number of its unused bits. */
+/* The parts of a certificate, request or revocation list with which its signature is verified (RFC 5280, section 4.1).
+ * The algorithm's parameters are the octets from the end of its OBJECT IDENTIFIER to the offset of the signature; the
+ * first contents octet of the signature is the number of its unused bits. */
 simple_asn1_signed_parts simple_asn1_signed(const uint8_t *octets, size_t size);
 
 /* The contents octets of a block of this document: the value of an OCTET STRING; the number of an INTEGER, of any size,

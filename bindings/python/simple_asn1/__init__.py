@@ -1,11 +1,11 @@
 """Reads and writes DER (ITU-T X.690) by the proved library simple_asn1.
 
-    document = read(octets)                 # or read_strict, of canonical documents alone; or read_pem
-    for block in document:                  # those at the top level; all_blocks has those inside them too
+    document = read(octets)                 # or read_strict, for canonical documents only; or read_pem
+    for block in document:                  # those at the top level; document.all_blocks has those inside them too
         print(block.tag, list(block))
 
-Octets that are no document raise Refused, with the fault and the offset of the block at fault. The library is in the
-package, or where bindings/c/build puts it, or at the path in SIMPLE_ASN1_LIBRARY.
+Invalid input raises Refused, with the status and the offset of the block at fault. The library is the one at the path
+in SIMPLE_ASN1_LIBRARY, or else in the package, or where bindings/c/build puts it, or installed.
 """
 from ._calls import Octets, Record
 from ._document import Bits, Block, Document, Moment, Signed, read, read_pem, read_strict, rewrite, write

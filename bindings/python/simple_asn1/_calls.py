@@ -1,4 +1,4 @@
-"""The calls of simple_asn1.h, by ctypes. Only here are octets handed to C: each call takes the `bytes` of octets_of."""
+"""The calls of simple_asn1.h, by ctypes. Octets are passed to C only here: each call takes the `bytes` of octets_of."""
 import ctypes
 import os
 import pathlib
@@ -62,9 +62,9 @@ def record_of(block: Any) -> Record:
 
 
 def octets_of(source: Octets) -> bytes:
-    """These octets as `bytes` of no subclass, whose length is true whatever class the source is of.
+    """These octets as plain `bytes`, whose length can be trusted whatever the class of the source.
 
-    A number is no octets, though `bytes` takes it as a count of zeros.
+    A number is rejected: `bytes` would take it as a count of zeros.
     """
     if type(source) is bytes:
         return source
@@ -82,7 +82,7 @@ def _no_number(source: Any) -> Any:
 
 
 def _path() -> str:
-    """Of the library: as the environment says, in this package, where bindings/c/build puts it, or as installed."""
+    """The library's path: as the environment says, in this package, where bindings/c/build puts it, or as installed."""
     here = pathlib.Path(__file__).resolve().parent
     places = [here / "libsimple_asn1.so", here.parents[1] / "c" / "out" / "lib" / "libsimple_asn1.so"]
     found = [str(place) for place in places if place.exists()]
@@ -123,7 +123,7 @@ def _library() -> Any:
 
 _LIBRARY = _library()
 
-# so many records are tried first; a document with more is read again with room for as many as it has
+# the first call has room for so many records; a document with more is read again with room for as many as it has
 _FIRST_ROOM = 1024
 
 
@@ -148,7 +148,7 @@ def read_strict(octets: bytes) -> "ctypes.Array[Block]":
 
 
 def _sized(call: Callable[..., Any], *arguments: Any) -> bytes:
-    """The octets that a call writes, which is asked for their number first."""
+    """The octets that a call writes. It is asked for their number first."""
     answer = call(*arguments, None, 0)
     out = ctypes.create_string_buffer(0)
     if answer.status == Status.NO_ROOM:

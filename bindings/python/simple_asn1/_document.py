@@ -1,4 +1,4 @@
-"""Documents, their blocks, and the values of these."""
+"""Documents, their blocks, and the values of the blocks."""
 from datetime import datetime as DateTime, timezone
 from typing import Iterable, Iterator, List, NamedTuple, Tuple, Union, overload
 
@@ -250,7 +250,7 @@ def read_strict(octets: Octets) -> Document:
 
 
 def read_pem(text: Union[str, bytes]) -> Document:
-    """Reads the first object of PEM. ValueError if there is none."""
+    """Reads the first object of PEM. Raises Refused, and ValueError if there is no object or one is malformed."""
     return Document(pem_objects(text)[0].octets)
 
 
@@ -265,7 +265,7 @@ def write(octets: Octets, records: Iterable[Record]) -> bytes:
 
 
 class Signed:
-    """The parts of a certificate, request or revocation list that its signature is checked by."""
+    """The parts of a certificate, request or revocation list with which its signature is verified."""
 
     content: bytes
     """The octets that were signed."""
@@ -274,11 +274,11 @@ class Signed:
     algorithm_identifier: bytes
     """The octets of the AlgorithmIdentifier: the SEQUENCE of that OBJECT IDENTIFIER and the parameters."""
     parameters: bytes
-    """The octets of the algorithm's parameters; none, where there are none. RSASSA-PSS can't be checked without."""
+    """The octets of the algorithm's parameters, if any. RSASSA-PSS cannot be verified without them."""
     signature: bytes
     """The octets that hold the bits of the signature."""
     unused_bits: int
-    """How many bits of the last of these are not of the signature: 0 with all usual algorithms."""
+    """The number of unused bits in the last of these: 0 with all usual algorithms."""
 
     def __init__(self, source: Octets) -> None:
         octets = octets_of(source)

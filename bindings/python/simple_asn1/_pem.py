@@ -6,7 +6,7 @@ from typing import List, NamedTuple, Union
 
 
 class PemObject(NamedTuple):
-    """What stands between a BEGIN and an END line: its label, as CERTIFICATE, and its octets."""
+    """What is between a BEGIN and an END line: its label, such as CERTIFICATE, and its octets."""
 
     label: str
     octets: bytes
@@ -16,7 +16,7 @@ _BEGIN = re.compile(r"^-----BEGIN ([^\r\n]*)-----[ \t]*\r?$", re.MULTILINE)
 
 
 def pem_objects(text: Union[str, bytes]) -> List[PemObject]:
-    """The objects of PEM, in order. What stands around them is passed over. ValueError, where one is malformed."""
+    """The objects of PEM, in order. Text around them is skipped. ValueError if there is none, or one is malformed."""
     if not isinstance(text, str):
         text = bytes(text).decode("latin-1")
     found, at = [], 0

@@ -1,10 +1,10 @@
-"""What the library answers, and the errors that are raised of it."""
+"""The statuses that the library returns, and the errors that are raised for them."""
 import enum
 from typing import Tuple
 
 
 class Status(enum.IntEnum):
-    """What the library answers."""
+    """What the library returns."""
 
     OK = 0
     EMPTY = 1
@@ -45,9 +45,9 @@ TEXTS = {
 
 
 class Refused(ValueError):
-    """Octets are no document, or a block has no value of a kind: `status` says why.
+    """Octets are not a document, or a block has no value of a kind: `status` says why.
 
-    `offset` says where, in bytes from the start. For a record that can't be written it is the record's index.
+    `offset` says where, in bytes from the start. For a record that cannot be written it is the record's index.
     """
 
     status: Status
@@ -63,7 +63,7 @@ class Refused(ValueError):
 
 
 class NoSuchValue(Refused, AttributeError):
-    """A block is of another kind. It is an AttributeError, so that `getattr(block, "text", None)` is None then."""
+    """A block is of another kind. It is also an AttributeError, so that `getattr(block, "text", None)` is None."""
 
 
 def refusal(status: int, offset: int) -> Refused:

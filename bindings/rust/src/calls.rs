@@ -1,8 +1,8 @@
-//! The calls of simple_asn1.h. All that is unsafe stands here.
+//! The calls of simple_asn1.h. All unsafe code is in this file.
 
 use crate::Fault;
 
-/// A block as the library has it. `simple_asn1.h` says what the fields are.
+/// A block as the library has it. `simple_asn1.h` describes the fields.
 #[repr(C)]
 #[derive(Clone, Copy, Debug, Default, PartialEq, Eq)]
 pub struct Record {
@@ -101,14 +101,14 @@ fn sized<T: Clone + Default>(call: impl Fn(*mut T, usize) -> Outcome) -> Result<
 }
 
 // SAFETY, of each call below: the declarations are those of simple_asn1.h, which checks/bindings compares; each pointer
-// comes with the length of what is behind it; `out` is of its own, so that it overlaps nothing; no call keeps a
+// comes with the length of what is behind it; `out` is memory of its own, so it overlaps nothing; no call keeps a
 // pointer.
 
-/// So many records are tried first. Most documents have fewer, and are read by one call.
+/// The first call has room for so many records. Most documents have fewer, and are read by one call.
 const FIRST_ROOM: usize = 1024;
 
-/// Room for as many records as any document of so many octets needs would be 32 octets for each of them. So a document
-/// with more than are tried first is read again, with room for as many as it has.
+/// Room for the most records that the octets can need would be 32 octets for each octet. So a document with more
+/// records than the first room is read again, with room for as many as it has.
 fn records(octets: &[u8], call: impl Fn(*mut Record, usize) -> Outcome) -> Result<Vec<Record>, Fault> {
     let mut records = vec![Record::default(); FIRST_ROOM.min(octets.len() / 2)];
     let mut answer = call(records.as_mut_ptr(), records.len());

@@ -1,4 +1,4 @@
-//! Why octets are not read, why a block has no value of a kind, and why records are not written.
+//! Why octets cannot be read, why a block has no value of a kind, and why records cannot be written.
 
 use std::error::Error;
 use std::fmt;
@@ -7,7 +7,7 @@ use std::fmt;
 #[derive(Clone, Copy, Debug, PartialEq, Eq, Hash)]
 pub struct Fault {
     pub kind: FaultKind,
-    /// The offset of the block at fault, in octets from the start; of [`FaultKind::BadRecord`] the index of the record.
+    /// The offset of the block at fault, in octets from the start; for [`FaultKind::BadRecord`] the record's index.
     pub offset: usize,
 }
 
@@ -31,8 +31,9 @@ pub enum FaultKind {
     BitStringLength,
     /// The input is truncated.
     Incomplete,
-    /// A block is not in canonical form: of [`Document::read_strict`](crate::Document::read_strict) alone.
+    /// A block is not in canonical form: only from [`Document::read_strict`](crate::Document::read_strict).
     NotCanonical,
+    /// Out of memory.
     NoMemory,
     /// The block is of another kind.
     NoSuchValue,

@@ -166,7 +166,7 @@ impl<'d, 'a> Block<'d, 'a> {
         &self.octets()[self.record().header..]
     }
 
-    /// The number of an INTEGER, if it fits.
+    /// The number of an INTEGER, if it fits an `i64`.
     pub fn int64(&self) -> Result<i64, Fault> {
         calls::int64(self.document.octets, self.offset())
     }
@@ -186,8 +186,8 @@ impl<'d, 'a> Block<'d, 'a> {
         text_of(calls::oid(self.document.octets, self.offset())?, self.offset())
     }
 
-    /// The octets that hold the bits of a BIT STRING, and the number of bits, the first of them the most
-    /// significant of the first octet.
+    /// The octets that hold the bits of a BIT STRING, and the number of bits. The first bit is the most significant of
+    /// the first octet.
     pub fn bits(&self) -> Result<(&'a [u8], usize), Fault> {
         if self.class() != Class::Universal || self.tag() != 3 {
             return Err(Fault { kind: FaultKind::NoSuchValue, offset: self.offset() });
@@ -205,7 +205,7 @@ impl fmt::Debug for Block<'_, '_> {
     }
 }
 
-/// As in `2026-11-23T07:03:22Z`, with nine digits of the fraction, if any.
+/// As in `2026-11-23T07:03:22Z`; a fraction has nine digits.
 impl fmt::Display for Moment {
     fn fmt(&self, f: &mut fmt::Formatter<'_>) -> fmt::Result {
         let Moment { year, month, day, hour, minute, second, nanosecond } = self;
@@ -226,13 +226,13 @@ pub fn rewrite(octets: &[u8]) -> Result<Vec<u8>, Fault> {
     calls::rewrite(octets)
 }
 
-/// The canonical octets of what records describe: one with items holds the records after it, any other has its contents
-/// octets among these. `next` and `depth` are ignored.
+/// The canonical octets (DER) of what records describe: one with items holds the records after it, any other has its
+/// contents octets in `octets`. `next` and `depth` are ignored.
 pub fn write(octets: &[u8], records: &[Record]) -> Result<Vec<u8>, Fault> {
     calls::write(octets, records)
 }
 
-/// The parts of a certificate, request or revocation list that verify its signature (RFC 5280, section 4.1).
+/// The parts of a certificate, request or revocation list with which its signature is verified (RFC 5280, section 4.1).
 #[derive(Clone, Debug, PartialEq, Eq)]
 #[non_exhaustive]
 pub struct Signed<'a> {
