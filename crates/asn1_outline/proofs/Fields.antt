@@ -34,7 +34,7 @@ module _ (x : List ℕ) (b : Tree ℕ) (r : Entry) (y : List ℕ) (c : ASN1Class
   contents_are = let (octets, at, own) = e.header in own.contents_field ∙ ap length (same_fields octets at own).contents
 
 -- octets are an encoding in one way
-same_encoding : (y : List ℕ) (c d : ASN1Class) (j k : Bool) (m n : ℕ) (v w : List ℕ) (g h : ℕ) → Encoding y c j m v g → Encoding y d k n w h
+pub same_encoding : (y : List ℕ) (c d : ASN1Class) (j k : Bool) (m n : ℕ) (v w : List ℕ) (g h : ℕ) → Encoding y c j m v g → Encoding y d k n w h
     → SameEncoding y y c d j k m n v w g h [] []
 same_encoding y c d j k m n v w g h p q = encoding_alone y y c d j k m n v w g h [] [] p q refl
 

@@ -1,16 +1,17 @@
 -- What holds of an outline's document holds of the entry at an index.
-use Rattle.std.proofs.Common.{◌≡◌, ℕ, ◌<◌, ◌≤◌, List, Option, Some, None, length, get_or, ap, sym, subst, ◌∙◌, arith}
+use Rattle.std.proofs.Common.{◌≡◌, ℕ, ◌+◌, ◌<◌, ◌≤◌, List, Option, Some, None, length, get_or, ap, sym, subst, ◌∙◌, arith, length-append}
 use Rattle.std.proofs.Props.{props}
-use Rattle.std.proofs.lemmas.List.{get_or_past}
+use Rattle.std.proofs.lemmas.List.{get_or_past, length-drop}
 use Rattle.std.specs.Prelude.{MatchOption}
 use mathlib.Core.Logic.{∥∥₁_elim}
 use Rattle.asn1_blocks.specs.Grammar.{IsDocument}
 use Rattle.asn1_blocks.specs.Tree.{Trees}
 use Rattle.asn1_outline.specs.Entries.{AreEntries, AreEntriesOf, IsOutline, no_entry}
-use Rattle.asn1_outline.specs.Structure.{IsStructure, Nodes, no_node, no_tree, node_at, node_count, node_items, node_tree, nodes_depths, nodes_in_order, tree_at}
+use Rattle.asn1_outline.specs.Structure.{IsStructure, Nodes, no_node, no_tree, node_at, node_count, node_in_order, node_items, node_tree, nodes_depths, nodes_in_order, tree_at}
 use Rattle.asn1_outline.specs.Values.{IsEntryOf}
 use Rattle.asn1_outline.specs.declared.entry.Entry.{Entry}
 use Rattle.asn1_outline.proofs.Entries.{entries_length, entry_at}
+use Rattle.asn1_outline.proofs.Iterating.{nodes_go_on, order_of}
 use Rattle.asn1_outline.proofs.Structures.{structure_alone}
 use Rattle.asn1_outline.proofs.Values.{entry_of_node}
 
@@ -35,7 +36,7 @@ module _ (octets : List ℕ) (es : List Entry) (ns : Nodes) (k : ℕ) (lent : �
       let prop : IsProp (k < length (nodes_in_order ns)) = hlevel props in
       ∥∥₁_elim lent prop (λ x. let (cs, e, are) = x in omega (arith, h, as_many (entries_of cs e are)))
 
-  items_at : k < length es → (get_or es k no_entry).items ≡ node_count (node_items (node_at ns k))
+  pub items_at : k < length es → (get_or es k no_entry).items ≡ node_count (node_items (node_at ns k))
   items_at h =
       let prop : IsProp ((get_or es k no_entry).items ≡ node_count (node_items (node_at ns k))) = hlevel props in
       ∥∥₁_elim lent prop (λ x.
@@ -43,14 +44,32 @@ module _ (octets : List ℕ) (es : List Entry) (ns : Nodes) (k : ℕ) (lent : �
       let own = entries_of cs e are in
       (entry_at octets 0 (nodes_in_order ns) (nodes_depths 0 ns) es own k (omega (arith, h, as_many own))).items)
 
+  pub next_at : k < length es → (get_or es k no_entry).next ≡ k + length (node_in_order (node_at ns k))
+  next_at h =
+      let prop : IsProp ((get_or es k no_entry).next ≡ k + length (node_in_order (node_at ns k))) = hlevel props in
+      ∥∥₁_elim lent prop (λ x.
+      let (cs, e, are) = x in
+      let own = entries_of cs e are in
+      let many = length (node_in_order (node_at ns k)) in
+      let from : 0 + k + many ≡ k + many = omega arith in
+      (entry_at octets 0 (nodes_in_order ns) (nodes_depths 0 ns) es own k (omega (arith, h, as_many own))).next ∙ from)
+
+  pub many_nodes : length es ≡ length (nodes_in_order ns)
+  many_nodes =
+      let prop : IsProp (length es ≡ length (nodes_in_order ns)) = hlevel props in
+      ∥∥₁_elim lent prop (λ x. let (cs, e, are) = x in as_many (entries_of cs e are))
+
   -- and past the end no block stands
   pub past_nodes : length es ≤ k → length (nodes_in_order ns) ≤ k
   past_nodes h =
       let prop : IsProp (length (nodes_in_order ns) ≤ k) = hlevel props in
       ∥∥₁_elim lent prop (λ x. let (cs, e, are) = x in omega (arith, h, as_many (entries_of cs e are)))
 
+  pub no_node_there : length es ≤ k → node_at ns k ≡ no_node
+  no_node_there h = get_or_past (nodes_in_order ns) k no_node (past_nodes h)
+
   pub no_tree_there : length es ≤ k → tree_at ns k ≡ no_tree
-  no_tree_there h = ap node_tree (get_or_past (nodes_in_order ns) k no_node (past_nodes h))
+  no_tree_there h = ap node_tree (no_node_there h)
 
   -- so of what was looked up
   pub found_entry : (items : List Entry) (entry : Entry) → items ≡ es → (k < length items) × ((r : Entry) → entry ≡ get_or items k r)
@@ -72,3 +91,26 @@ pub option_prop : {A B : Type 0} (o : Option A) (x : Option B) (f : A → B) →
     → IsProp (MatchOption o (x ≡ None) (λ a. x ≡ Some (f a)))
 option_prop None x f set = set x None
 option_prop (Some a) x f set = set x (Some (f a))
+
+-- what was looked up is the entry at the index
+pub looked_up : (es items : List Entry) (k : ℕ) (entry : Entry) → items ≡ es → (k < length items) × ((r : Entry) → entry ≡ get_or items k r)
+    → (k < length es) × (entry ≡ get_or es k no_entry)
+looked_up es items k entry same (h, is) = (subst (λ z. k < length z) same h, is no_entry ∙ ap (λ z. get_or z k no_entry) same)
+
+-- the index after an entry and those inside it is one of the list, or its end
+module _ (octets : List ℕ) (es : List Entry) (k : ℕ) (lent : ∥ IsOutline octets es ∥₁) (h : k < length es) where
+  pub next_within : (k + 1 ≤ (get_or es k no_entry).next) × ((get_or es k no_entry).next ≤ length es)
+  next_within =
+      let prop : IsProp ((k + 1 ≤ (get_or es k no_entry).next) × ((get_or es k no_entry).next ≤ length es)) = hlevel props in
+      ∥∥₁_elim lent prop (λ x.
+      let (cs, e, are) = x in
+      let ns = are.nodes in
+      let own : IsStructure octets ns = (subst (IsDocument octets) (sym are.trees) e, are.structure) in
+      let many = many_nodes octets es ns k lent own in
+      let next = next_at octets es ns k lent own h in
+      let (rest, on) = nodes_go_on ns k (omega (arith, h, many)) in
+      let whole = ap length on ∙ length-append (node_in_order (node_at ns k)) rest in
+      let some = ap length (order_of (node_at ns k)) in
+      let first : k + 1 ≤ (get_or es k no_entry).next = omega (arith, next, some) in
+      let last : (get_or es k no_entry).next ≤ length es = omega (arith, next, whole, many, h, length-drop k (nodes_in_order ns)) in
+      (first, last))

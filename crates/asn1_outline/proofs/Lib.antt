@@ -3,7 +3,12 @@ pub mod Entries
 pub mod Begun
 pub mod Standing
 mod Listed
+mod Iterating
 mod Answered
 mod Values
 mod Fields
 mod Lent
+mod Inside
+mod Roots
+mod Built
+mod BuildSteps

@@ -1,15 +1,15 @@
 -- What an entry's contents octets mean.
-use Rattle.std.proofs.Common.{◌≡◌, ℕ, ◌+◌, ◌<◌, ◌≤◌, ◌^◌, ◌++◌, Bool, true, false, ◌-◌, List, [], Some, None, lit<, inl, inr, drop, get_or, length, take, refl, sym, ap, subst, ◌∙◌, arith, length-append}
+use Rattle.std.proofs.Common.{◌≡◌, ℕ, ◌+◌, ◌<◌, ◌≤◌, ◌^◌, ◌++◌, Bool, true, false, ◌-◌, List, [], Some, None, lit<, inl, inr, drop, get_or, length, take, refl, sym, ap, subst, ◌∙◌, arith, append_assoc, length-append}
 use Rattle.std.specs.List.{slice_range}
 use Rattle.std.proofs.lemmas.Bool.{cases_lt}
-use Rattle.std.proofs.lemmas.List.{length-drop, take_at}
+use Rattle.std.proofs.lemmas.List.{length-drop, take-append-drop, take_at}
 use Rattle.asn1_numbers.specs.TwosComplement.{signed_number}
-use Rattle.asn1_headers.specs.Header.{Encoding}
+use Rattle.asn1_headers.specs.Header.{BeginsWithNo, Encoding, IsIdentifier, IsSomeIdentifier}
 use Rattle.asn1_headers.specs.declared.header.ASN1Class.{ASN1Class}
 use Rattle.asn1_headers.specs.declared.header.ASN1Class.TheVariants.{Universal}
-use Rattle.asn1_headers.proofs.Prefixes.{SameEncoding, encoding_alone, encoding_some}
+use Rattle.asn1_headers.proofs.Prefixes.{SameEncoding, encoding_alone, encoding_some, identifier_alone}
 use Rattle.asn1_leaves.specs.StringKind.{StringKind, utf8, printable, teletex, ia5, universal, bmp}
-use Rattle.asn1_blocks.specs.BlockParts.{leaf_integer, tree_bits, tree_boolean, tree_integer, tree_moment, tree_oid, tree_text}
+use Rattle.asn1_blocks.specs.BlockParts.{leaf_integer, tree_bits, tree_boolean, tree_integer, tree_moment, tree_oid, tree_tag, tree_text}
 use Rattle.asn1_blocks.specs.Contents.{LeafContents, LeafFault, group_tag, is_known_tag, is_leaf_tag, leaf_tag, of_text, string_tag}
 use Rattle.asn1_blocks.specs.Inner.LeafBlocks.{IsLeafOf}
 use Rattle.asn1_blocks.proofs.Leaves.{leaf_alone, leaf_no_fault, leaf_tag_known, leaf_tag_no_group}
@@ -310,3 +310,54 @@ no_moment (leaf o l) other more = refl
 no_moment (group o g bs) other more = refl
 no_moment (explicit c o n b) other more = refl
 no_moment (unknown c k o n v) other more = refl
+
+-- a tree has the tag number of its octets
+tag_encoded : (o : ℕ) (y : List ℕ) (b : Tree ℕ) (c : ASN1Class) (k : Bool) (n : ℕ) (w : List ℕ) (h : ℕ) → Encodes o y b → Encoding y c k n w h
+    → tree_tag b ≡ n
+tag_encoded o y (leaf p l) c k n w h s e = (one y Universal c s.constructed k (leaf_tag l) n s.contents w s.header h s.encoding e).tag
+tag_encoded o y (group p g bs) c k n w h s e = (one y Universal c s.constructed k (group_tag g) n s.contents w s.header h s.encoding e).tag
+tag_encoded o y (explicit d p m b) c k n w h s e = (one y d c true k m n s.contents w s.header h s.encoding e).tag
+tag_encoded o y (unknown d j p m v) c k n w h s e = (one y d c j k m n v w s.header h s.encoding e).tag
+
+-- the identifier octets at an entry's offset, and what follows them
+record Identified (x : List ℕ) (b : Tree ℕ) (o : ℕ) : Type 0 where
+  identifier : List ℕ
+  after : List ℕ
+  class : ASN1Class
+  constructed : Bool
+  stands : drop o x ≡ identifier ++ after
+  are : IsIdentifier identifier class constructed (tree_tag b)
+
+identified : (x : List ℕ) (b : Tree ℕ) (r : Entry) → IsEntryOf x b r → Identified x b r.offset
+identified x b r e =
+    let s = e.encoded in
+    let y = e.octets in
+    let own = (encoding_of x b y s).encoding in
+    let f = own.encoding in
+    let there : drop r.offset x ≡ y ++ s.rest = subst (λ z. drop z x ≡ y ++ s.rest) (sym e.offset_is) s.at_offset in
+    let tag = tag_encoded (tree_offset b) y b own.class own.constructed own.tag own.contents own.header s.encoded f in
+    record {
+      identifier = f.identifier;
+      after = (f.len ++ own.contents) ++ s.rest;
+      class = own.class;
+      constructed = own.constructed;
+      stands = there ∙ ap (λ z. z ++ s.rest) f.whole ∙ append_assoc f.identifier (f.len ++ own.contents) s.rest;
+      are = subst (IsIdentifier f.identifier own.class own.constructed) (sym tag) f.identifier_octets;
+    }
+
+-- which no others are
+pub tag_is : (x : List ℕ) (b : Tree ℕ) (r : Entry) (end : ℕ) (c : ASN1Class) (k : Bool) (n : ℕ) → IsEntryOf x b r
+    → IsIdentifier (slice_range x r.offset end) c k n → n ≡ tree_tag b
+tag_is x b r end c k n e own =
+    let i = identified x b r e in
+    let rest = drop (end - r.offset) (drop r.offset x) in
+    let whole : slice_range x r.offset end ++ rest ≡ i.identifier ++ i.after = take-append-drop (end - r.offset) (drop r.offset x) ∙ i.stands in
+    (identifier_alone (slice_range x r.offset end) i.identifier rest i.after c i.class k i.constructed n (tree_tag b) own i.are whole).tag
+
+pub tag_stands : (x : List ℕ) (b : Tree ℕ) (r : Entry) → IsEntryOf x b r → BeginsWithNo IsSomeIdentifier (drop r.offset x) → ⊥
+tag_stands x b r e none =
+    let i = identified x b r e in
+    let front : take (length i.identifier) (drop r.offset x) ≡ i.identifier =
+    ap (take (length i.identifier)) i.stands ∙ take_at i.identifier i.after (length i.identifier) refl in
+    none (tree_tag b) (length i.identifier)
+    (i.class, i.constructed, subst (λ z. IsIdentifier z i.class i.constructed (tree_tag b)) (sym front) i.are)

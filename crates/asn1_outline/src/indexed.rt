@@ -2,7 +2,7 @@
 ghost use Rattle.std.specs.Prelude.{◌≡◌, ◌<◌, ◌≤◌, length, string_bytes, None, Some, IfOk, IsNone, IsSomeAnd, MatchOption};
 ghost use Rattle.std.specs.Str.{chars};
 ghost use Rattle.asn1_leaves.specs.Contents.Moment.{moment_of};
-ghost use Rattle.asn1_blocks.specs.BlockParts.{tree_bits, tree_boolean, tree_integer, tree_moment, tree_oid, tree_text};
+ghost use Rattle.asn1_blocks.specs.BlockParts.{tree_bits, tree_boolean, tree_integer, tree_moment, tree_oid, tree_tag, tree_text};
 ghost use Rattle.asn1_outline.specs.Outlines.{entries_in, octets_in};
 ghost use Rattle.asn1_outline.specs.Structure.{HasContents, IsEncodedIn, IsStructure, Nodes, is_explicit, tree_at};
 
@@ -10,6 +10,7 @@ use crate::outline::Outline;
 use asn1_blocks::encoding::encoding_at;
 use asn1_leaves::oid::OID;
 use asn1_numbers::number::big_int::BigInt;
+use asn1_numbers::number::big_uint::BigUint;
 use jiff::civil::DateTime;
 use std::alloc::{AllocError, Global};
 
@@ -49,6 +50,23 @@ impl<'a> Outline<'a> {
             return false;
         };
         entry.is_explicit()
+    }
+
+    /// The tag number of the block at the index, also one from 2^64 on, where the entry has `u64::MAX`; `None` past the
+    /// end.
+    pub fn tag(&self, alloc: Global, index: usize) -> Result<Option<BigUint>, AllocError>
+        ensures found { (ns : Nodes) → IsStructure (octets_in self.now) ns
+            → index < length (entries_in self.now)
+            → IfOk result (λ found. found ≡ Some (tree_tag (tree_at ns index))) }
+        ensures none { length (entries_in self.now) ≤ index → IfOk result (λ found. found ≡ None) }
+    {
+        let Some(entry) = self.entries.get(index) else {
+            return Ok(None);
+        };
+        match entry.tag_in(alloc, self.octets) {
+            Ok(tag) => Ok(Some(tag)),
+            Err(_) => Err(AllocError),
+        }
     }
 
     /// The number of the INTEGER at the index; `None` for any other block, and past the end.

@@ -5,8 +5,10 @@
 //! them.
 #![tactic(auto)]
 
+mod building;
 pub mod entry;
 mod indexed;
+pub mod iter;
 mod listing;
 pub mod outline;
 mod reading;

@@ -6,7 +6,7 @@ ghost use Rattle.asn1_leaves.specs.Contents.Moment.{moment_of};
 ghost use Rattle.asn1_leaves.specs.Contents.UtcTime.{UtcTimeContents, UtcTimeFault};
 ghost use Rattle.asn1_headers.specs.declared.error.ASN1DecodeErr.TheVariants.{OutOfMemory};
 ghost use Rattle.asn1_headers.specs.declared.header.ASN1Class.TheVariants.{Universal};
-ghost use Rattle.asn1_blocks.specs.BlockParts.{tree_bits, tree_boolean, tree_integer, tree_moment, tree_oid, tree_text};
+ghost use Rattle.asn1_blocks.specs.BlockParts.{tree_bits, tree_boolean, tree_integer, tree_moment, tree_oid, tree_tag, tree_text};
 ghost use Rattle.asn1_blocks.specs.Contents.{is_leaf_tag, string_tag};
 ghost use Rattle.asn1_blocks.specs.Inner.LeafBlocks.{IsLeafOf};
 ghost use Rattle.asn1_blocks.specs.View.{tree_offset};
@@ -19,11 +19,12 @@ ghost use Rattle.asn1_outline.specs.Values.{EachIsOfItsTree, IsEntryOf, IsNoLeaf
 
 use crate::entry::Entry;
 use asn1_headers::error::ASN1DecodeErr;
-use asn1_headers::header::ASN1Class;
+use asn1_headers::header::{ASN1Class, HeaderCount, decode_tag};
 use asn1_leaves::contents::text::TextForm;
 use asn1_leaves::contents::{bit_string, boolean, generalized_time, integer, text, utc_time};
 use asn1_leaves::oid::{self, OID};
 use asn1_numbers::number::big_int::BigInt;
+use asn1_numbers::number::big_uint::BigUint;
 use jiff::civil::DateTime;
 use std::alloc::{AllocError, Global};
 
@@ -45,6 +46,20 @@ impl Entry {
             return None;
         }
         Some(&document[start..end])
+    }
+
+    // The tag number of the block of the document whose entry this is, by its identifier octets.
+    pub(crate) fn tag_in(&self, alloc: Global, document: &[u8]) -> Result<BigUint, ASN1DecodeErr>
+        ensures { (b : Tree ℕ) → IsEntryOf document.now b self.now → MatchResult result
+            (λ tag. tag ≡ tree_tag b)
+            (λ e. e ≡ OutOfMemory) }
+    {
+        let mut index = self.offset;
+        let mut count = HeaderCount::new();
+        match decode_tag(alloc, document, &mut index, &mut count) {
+            Ok((tag, _, _)) => Ok(tag),
+            Err(e) => Err(e),
+        }
     }
 
     // Whether it is of class Universal with the tag number.

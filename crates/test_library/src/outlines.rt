@@ -1,7 +1,9 @@
 // Outlines: the entry of each block of a document.
 use crate::helpers::octets;
-use simple_asn1::{ASN1DecodeErr, Outline, outline_strict};
+use simple_asn1::{ASN1Block, ASN1DecodeErr, Entries, Outline, all_blocks, outline_strict, to_der};
+use std::alloc::Global;
 use std::process::Abort;
+use std::slice;
 use std::test::Fail;
 
 // SEQUENCE { BOOLEAN, INTEGER, OBJECT IDENTIFIER, BIT STRING, UTF8String, UTCTime, [0] { NULL } }
@@ -51,6 +53,71 @@ fn a_block_of_another_class_holds_several(rt: HostRuntime) -> Result<(), Fail> {
             .text(alloc, 4)?
             .is_some_and(|text| text.as_str() == "secret")
     );
+    Ok(())
+}
+
+// The offsets of blocks that are side by side, and the indices that their entries have.
+fn places(alloc: Global, entries: Entries<'_>) -> Result<Vec<(usize, usize)>, Fail> {
+    let mut places = Vec::new(alloc);
+    for (index, entry) in entries {
+        places.push((index, entry.offset))?;
+    }
+    Ok(places)
+}
+
+// `openssl asn1parse` says at which offsets they are.
+#[test]
+fn items_are_those_directly_inside(rt: HostRuntime) -> Result<(), Fail> {
+    let alloc = rt.alloc();
+    let document = octets(alloc, ATTRIBUTES)?;
+    let outline = Outline::from_der(alloc, &document)?;
+    assert!(rt; places(alloc, outline.blocks())?.as_slice() == [(0, 0)].as_slice());
+    assert!(rt; places(alloc, outline.items(0))?.as_slice() == [(1, 2), (5, 25)].as_slice());
+    assert!(rt; places(alloc, outline.items(5))?.as_slice() == [(6, 27), (7, 38)].as_slice());
+    assert!(rt; places(alloc, outline.items(12))?.is_empty());
+    assert!(rt;
+        outline
+            .all()
+            .last()
+            .is_some_and(|(index, entry)| index == 11 && entry.offset == 49)
+    );
+    Ok(())
+}
+
+#[test]
+fn a_block_is_built_with_the_offsets_of_the_document(rt: HostRuntime) -> Result<(), Fail> {
+    let alloc = rt.alloc();
+    let document = octets(alloc, ATTRIBUTES)?;
+    let outline = Outline::from_der(alloc, &document)?;
+    let Some(extensions) = outline.to_block(alloc, 5)? else {
+        return Err("no block".into());
+    };
+    let mut offsets = Vec::new(alloc);
+    for block in all_blocks(alloc, slice::from_ref(&extensions))? {
+        offsets.push(block.offset())?;
+    }
+    assert!(rt; offsets.as_slice() == [25, 27, 38, 40, 42, 44, 49].as_slice());
+    assert!(rt; outline.encoding(5) == Some(to_der(alloc, &extensions)?.as_slice()));
+    let attributes = outline.to_block(alloc, 0)?;
+    assert!(rt; attributes.is_some_and(|block| matches!(block, ASN1Block::Unknown(..))));
+    assert!(rt; outline.to_block(alloc, 12)?.is_none());
+    Ok(())
+}
+
+// [2^64] without contents octets, and then the VisibleString "Jones" as X.690 8.14 tags it: [APPLICATION 3] IMPLICIT.
+const TAGGED: &str = "9F 82 80 80 80 80 80 80 80 80 00 00 43 05 4A 6F 6E 65 73";
+
+#[test]
+fn tag_numbers_are_exact(rt: HostRuntime) -> Result<(), Fail> {
+    let alloc = rt.alloc();
+    let document = octets(alloc, TAGGED)?;
+    let outline = Outline::from_der(alloc, &document)?;
+    let (Some(great), Some(small)) = (outline.tag(alloc, 0)?, outline.tag(alloc, 1)?) else {
+        return Err("no tags".into());
+    };
+    let text = format!(in alloc; "{great} {small}")?;
+    assert_eq!(rt; text.as_str(), "18446744073709551616 3");
+    assert!(rt; outline.tag(alloc, 2)?.is_none());
     Ok(())
 }
 

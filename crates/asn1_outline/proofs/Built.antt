@@ -1,0 +1,173 @@
+-- The block of an entry is that of its node.
+use Rattle.std.proofs.Common.{◌≡◌, ◌≢◌, ℕ, ◌-◌, ◌++◌, Bool, true, List, [], ◌∷◌, drop, take, inl, inr, length, map, Result, Ok, Err, refl, sym, ap, ◌∙◌, subst, arith}
+use Rattle.std.specs.Prelude.{IfOk, reverse, slice_range}
+use Rattle.std.proofs.lemmas.Bool.{false≢true}
+use Rattle.std.proofs.lemmas.List.{drop_at, map-append, reverse-append, take_at}
+use Rattle.asn1_headers.specs.Header.{Encoding}
+use Rattle.asn1_headers.specs.declared.header.ASN1Class.{ASN1Class}
+use Rattle.asn1_headers.specs.declared.header.ASN1Class.TheVariants.{Universal}
+use Rattle.asn1_leaves.proofs.SliceSplit.{slice_split}
+use Rattle.asn1_blocks.specs.declared.block.ASN1Block.{ASN1Block}
+use Rattle.asn1_blocks.specs.declared.block.GroupKind.{GroupKind}
+use Rattle.asn1_blocks.specs.declared.parsed.Header.{Header}
+use Rattle.asn1_blocks.specs.Contents.{group_tag, is_known_tag}
+use Rattle.asn1_blocks.specs.Grammar.{Encodes, EncodesAll}
+use Rattle.asn1_blocks.specs.Inner.HeaderPlaces.{HeaderFound}
+use Rattle.asn1_blocks.specs.Places.{EncodingAt}
+use Rattle.asn1_blocks.specs.Tree.{Tree, Trees, explicit, group, leaf, more_trees, no_trees, trees_of, unknown}
+use Rattle.asn1_blocks.specs.View.{tree_offset, view}
+use Rattle.asn1_blocks.proofs.Leaves.{group_alone, group_known, leaf_no_group}
+use Rattle.asn1_blocks.proofs.OneReading.{encodes_alone, encodes_block, only_tree}
+use Rattle.asn1_blocks.proofs.Slices.{encoding_at_alone}
+use Rattle.asn1_outline.specs.Building.{IsNodeAt, items_of, listed}
+use Rattle.asn1_outline.specs.Structure.{Holds, IsEncodedIn, Node, node_items, node_tree, nodes_trees}
+use Rattle.asn1_outline.proofs.Fields.{same_encoding}
+use Rattle.asn1_outline.proofs.Roots.{trees_listed}
+use Rattle.asn1_outline.proofs.Standing.{encoding_of}
+
+-- the octets behind a header that was found are those of the tree there
+pub encoded_here :
+    (x : List ℕ) (b : Tree ℕ) (octets : List ℕ) (o : ℕ) (g : Header) → IsEncodedIn x b octets → o ≡ tree_offset b → HeaderFound x o (length x) g →
+    Encodes o (slice_range x o g.end) b
+encoded_here x b octets o g s at found =
+    let y = slice_range x o g.end in
+    let there : EncodingAt x o y = record {
+      rest = drop g.end x;
+      at_offset = slice_split x o g.end (omega (arith, found.past, found.order));
+      encoding = record {
+        class = g.class;
+        constructed = g.constructed;
+        tag = g.tag;
+        contents = slice_range x g.start g.end;
+        header = g.start - o;
+        encoding = found.encoding;
+      };
+    } in
+    let own = subst (λ z. EncodingAt x z octets) (sym at) (encoding_of x b octets s) in
+    let same = encoding_at_alone x o octets y own there in
+    subst (λ z. Encodes o z b) same (subst (λ z. Encodes z octets b) (sym at) s.encoded)
+
+module _ (x : List ℕ) (o : ℕ) (y : List ℕ) (n : ℕ) (v : List ℕ) (h : ℕ) (bs : Trees ℕ) where
+  -- a SEQUENCE or SET
+  pub group_there : (k : Bool) (g : GroupKind) (b : Tree ℕ) → Encoding y Universal k (group_tag g) v h → Encodes o y b → Holds x b bs
+      → b ≡ group o g bs
+  group_there k g (leaf p l) e s q =
+      absurd (leaf_no_group l g (same_encoding y _ _ _ _ _ _ _ _ _ _ s.encoding e).tag)
+  group_there k g (group p i items) e s q =
+      let kind : i ≡ g = group_alone i g (same_encoding y _ _ _ _ _ _ _ _ _ _ s.encoding e).tag in
+      let at : p ≡ o = s.place in
+      let own : bs ≡ items = q in
+      cc
+  group_there k g (explicit c p m b) e s q = absurd (s.other (same_encoding y _ _ _ _ _ _ _ _ _ _ s.encoding e).class)
+  group_there k g (unknown c j p m w) e s q =
+      let z = same_encoding y _ _ _ _ _ _ _ _ _ _ s.encoding e in
+      absurd (elim s.as_it_came [
+        | inl known ↦ false≢true (sym known.1 ∙ ap is_known_tag z.tag ∙ group_known g)
+        | inr other ↦ other.0 z.class
+      ])
+
+  module _ (c : ASN1Class) (other : c ≢ Universal) (e : Encoding y c true n v h) where
+    -- an encoding of another class around one block
+    pub explicit_there : (b t : Tree ℕ) → Encodes o y b → Holds x b bs → bs ≡ more_trees t no_trees → b ≡ explicit c o n t
+    explicit_there (leaf p l) t s q one = absurd (other (sym (same_encoding y _ _ _ _ _ _ _ _ _ _ s.encoding e).class))
+    explicit_there (group p i items) t s q one = absurd (other (sym (same_encoding y _ _ _ _ _ _ _ _ _ _ s.encoding e).class))
+    explicit_there (explicit d p m a) t s q one =
+        let z = same_encoding y _ _ _ _ _ _ _ _ _ _ s.encoding e in
+        let class : d ≡ c = z.class in
+        let tag : m ≡ n = z.tag in
+        let at : p ≡ o = s.place in
+        let all : more_trees a no_trees ≡ more_trees t no_trees = sym q ∙ one in
+        let own : a ≡ t = cc in
+        cc
+    explicit_there (unknown d j p m w) t s q one =
+        let z = same_encoding y _ _ _ _ _ _ _ _ _ _ s.encoding e in
+        absurd (elim s.as_it_came [
+          | inl known ↦ other (sym z.class ∙ known.0)
+          | inr rest ↦ elim q [
+            | inl (bit, place, u, f) ↦ rest.1 (bit, encodes_block place w t (only_tree place w t (subst (EncodesAll place w) one f)))
+            | inr (none, held) ↦ no_more t (sym one ∙ none)
+          ]
+        ])
+      where
+        no_more : (t : Tree ℕ) → more_trees t no_trees ≡ no_trees → ⊥
+        no_more t r = absurd (cc)
+
+    -- and one that stays as it came
+    pub kept_there : (b : Tree ℕ) → Encodes o y b → Holds x b bs → ((t : Tree ℕ) → bs ≡ more_trees t no_trees → ⊥) → b ≡ unknown c true o n v
+    kept_there (leaf p l) s q none = absurd (other (sym (same_encoding y _ _ _ _ _ _ _ _ _ _ s.encoding e).class))
+    kept_there (group p i items) s q none = absurd (other (sym (same_encoding y _ _ _ _ _ _ _ _ _ _ s.encoding e).class))
+    kept_there (explicit d p m a) s q none = absurd (none a q)
+    kept_there (unknown d j p m w) s q none =
+        let z = same_encoding y _ _ _ _ _ _ _ _ _ _ s.encoding e in
+        let class : d ≡ c = z.class in
+        let bit : j ≡ true = z.constructed in
+        let tag : m ≡ n = z.tag in
+        let own : w ≡ v = z.contents in
+        let at : p ≡ o = s.place in
+        cc
+
+-- the tree of a node at the offset where a header was found
+module _ (x : List ℕ) (o : ℕ) (n : Node) (g : Header) (found : HeaderFound x o (length x) g) (at : IsNodeAt x o n) where
+  here : Encodes o (slice_range x o g.end) (node_tree n)
+  here = encoded_here x (node_tree n) at.octets o g at.encoded at.offset found
+
+  pub group_at : (kind : GroupKind) → g.class ≡ Universal → g.tag ≡ group_tag kind → node_tree n ≡ group o kind (nodes_trees (node_items n))
+  group_at kind class tag =
+      let y = slice_range x o g.end in
+      let v = slice_range x g.start g.end in
+      let e = subst (λ z. Encoding y z g.constructed (group_tag kind) v (g.start - o)) class
+      (subst (λ z. Encoding y g.class g.constructed z v (g.start - o)) tag found.encoding) in
+      group_there x o y 0 v (g.start - o) (nodes_trees (node_items n)) g.constructed kind (node_tree n) e here at.holds
+
+  pub leaf_at : (b : Tree ℕ) → ((octets : List ℕ) (h : ℕ) → Encoding octets g.class g.constructed g.tag (slice_range x g.start g.end) h → Encodes o octets b)
+      → b ≡ node_tree n
+  leaf_at b means =
+      let y = slice_range x o g.end in
+      let (_, same, _) = encodes_alone o y y [] [] b (node_tree n) (means y (g.start - o) found.encoding) here refl in
+      same
+
+  module _ (other : g.class ≢ Universal) (set : g.constructed ≡ true) where
+    around_it : Encoding (slice_range x o g.end) g.class true g.tag (slice_range x g.start g.end) (g.start - o)
+    around_it = subst (λ z. Encoding (slice_range x o g.end) g.class z g.tag (slice_range x g.start g.end) (g.start - o)) set found.encoding
+
+    pub explicit_at : (t : Tree ℕ) → items_of n ≡ t ∷ [] → node_tree n ≡ explicit g.class o g.tag t
+    explicit_at t one =
+        let bs = nodes_trees (node_items n) in
+        let only : bs ≡ more_trees t no_trees = sym (trees_listed bs) ∙ ap trees_of one in
+        explicit_there x o (slice_range x o g.end) g.tag (slice_range x g.start g.end) (g.start - o) bs g.class other around_it
+        (node_tree n) t here at.holds only
+
+    pub kept_at : length (items_of n) ≢ 1 → node_tree n ≡ unknown g.class true o g.tag (slice_range x g.start g.end)
+    kept_at many =
+        let bs = nodes_trees (node_items n) in
+        kept_there x o (slice_range x o g.end) g.tag (slice_range x g.start g.end) (g.start - o) bs g.class other around_it
+        (node_tree n) here at.holds (λ t only. many (ap (λ z. length (listed z)) only))
+
+-- what holds of a value holds of it otherwise
+pub for_ok : {A E : Type 0} (r : Result A E) (P Q : A → Type 0) → IfOk r P → ((a : A) → P a → Q a) → IfOk r Q
+for_ok (Ok a) P Q h f = f a h
+for_ok (Err e) P Q h f = tt
+
+pub map_reverse : {A B : Type 0} (f : A → B) (xs : List A) → map f (reverse xs) ≡ reverse (map f xs)
+map_reverse f [] = refl
+map_reverse f (x ∷ xs) =
+    ap (map f) (reverse-append (x ∷ []) xs) ∙ map-append f (reverse xs) (x ∷ []) ∙ ap (λ z. z ++ f x ∷ []) (map_reverse f xs)
+    ∙ sym (reverse-append (f x ∷ []) (map f xs))
+
+-- lists of one length in equal lists
+pub split_same : {A : Type 0} (s t x y : List A) → length s ≡ length t → s ++ x ≡ t ++ y → (s ≡ t) × (x ≡ y)
+split_same s t x y l e =
+    let n = length s in
+    (sym (take_at s x n refl) ∙ ap (take n) e ∙ take_at t y n (sym l), sym (drop_at s x n refl) ∙ ap (drop n) e ∙ drop_at t y n (sym l))
+
+-- a constructed encoding of another class, whatever is inside
+pub tagged_is :
+    (x : List ℕ) (o : ℕ) (n : Node) (g : Header) (found : HeaderFound x o (length x) g) (at : IsNodeAt x o n) (inside : List ASN1Block) (t : Tree ℕ) →
+    g.class ≢ Universal → g.constructed ≡ true → map view inside ≡ items_of n →
+    ((item : ASN1Block) → inside ≡ item ∷ [] → t ≡ explicit g.class o g.tag (view item)) →
+    (length inside ≢ 1 → t ≡ unknown g.class true o g.tag (slice_range x g.start g.end)) → t ≡ node_tree n
+tagged_is x o n g found at [] t other set own one kept =
+    kept (λ e. omega (arith, e)) ∙ sym (kept_at x o n g found at other set (λ e. omega (arith, e, ap length own)))
+tagged_is x o n g found at (b ∷ []) t other set own one kept = one b refl ∙ sym (explicit_at x o n g found at other set (view b) (sym own))
+tagged_is x o n g found at (a ∷ b ∷ bs) t other set own one kept =
+    kept (λ e. omega (arith, e)) ∙ sym (kept_at x o n g found at other set (λ e. omega (arith, e, ap length own)))
