@@ -2,9 +2,17 @@
 ghost use Rattle.std.specs.Prelude.{IfOk};
 ghost use Rattle.std.specs.Counts.{IsPrefixLen};
 
+use der_io::escaped;
 use std::fs::File;
 use std::io;
 use std::io::{ErrorKind, Read, Write};
+
+// Says what is wrong, with what is no printed character escaped, on a line of standard error.
+pub fn tell_error(rt: &HostRuntime, words: &str) {
+    if let Ok(text) = escaped(rt.alloc(), words.as_bytes()) {
+        let _ = eprintln!(rt; "{text}");
+    }
+}
 
 // Reads standard input, where the name is `-`, or the file that has the name.
 #[derive(Drop)]
@@ -42,7 +50,9 @@ impl<'r, 'a> HostReader<'r, 'a> {
 
     // Says on standard error why nothing more can be read.
     fn tell(&self, fault: &io::Error) {
-        let _ = eprintln!(self.rt; "error: {}: {fault}", self.name);
+        if let Ok(why) = format!(in self.rt.alloc(); "error: {}: {fault}", self.name) {
+            tell_error(self.rt, &why);
+        }
     }
 }
 

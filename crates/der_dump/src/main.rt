@@ -3,8 +3,8 @@
 
 mod host;
 
-use crate::host::{HostReader, HostWriter};
-use der_inputs::{Source, run, status};
+use crate::host::{HostReader, HostWriter, tell_error};
+use der_inputs::{Outcome, Source, run, status};
 use der_io::{StreamFault, fault_text};
 use der_options::{Options, OptionsFault, options_of};
 use std::alloc::AllocError;
@@ -38,7 +38,7 @@ fn words(rt: &HostRuntime) -> io::Result<Vec<String>> {
 fn words_fault(e: &io::Error) -> &'static str {
     match e.kind() {
         io::ErrorKind::OutOfMemory => fault_text(&StreamFault::Memory),
-        _ => "error: the arguments are no text",
+        _ => "error: arguments are not UTF-8",
     }
 }
 
@@ -61,7 +61,7 @@ fn tell(rt: &HostRuntime, fault: &OptionsFault<'_>) -> u8 {
             Err(_) => WRONG_WORDS,
         }
     } else {
-        let _ = eprintln!(rt; "{text}");
+        tell_error(rt, &text);
         WRONG_WORDS
     }
 }
@@ -74,12 +74,25 @@ fn answer(rt: &HostRuntime, options: &Options<'_>) -> u8 {
         Err(_) => Err(StreamFault::Memory),
     };
     match &outcome {
+        Ok(outcomes) => tell_lacking(rt, options, outcomes),
         Err(fault) if !output.is_closed => {
             let _ = eprintln!(rt; "{}", fault_text(fault));
         }
-        _ => {}
+        Err(_) => {}
     }
     status(&outcome)
+}
+
+// Says on standard error of which inputs nothing was written, and why.
+fn tell_lacking(rt: &HostRuntime, options: &Options<'_>, outcomes: &[Outcome]) {
+    for (name, outcome) in options.inputs.iter().zip(outcomes) {
+        let Outcome::Lacking(why) = outcome else {
+            continue;
+        };
+        if let Ok(words) = format!(in rt.alloc(); "error: {name}: {why}") {
+            tell_error(rt, &words);
+        }
+    }
 }
 
 // The inputs, none of them open yet.

@@ -1,5 +1,5 @@
 -- The forms in which an input has its documents, told apart by its octets.
-use Rattle.std.specs.Prelude.{ℕ, Bool, true, false, ◌==◌, ◌||◌, ◌&&◌, nat_le, List, [], ◌∷◌, ◌++◌, if◌then◌else◌, codes}
+use Rattle.std.specs.Prelude.{ℕ, Bool, true, false, not, ◌==◌, ◌||◌, ◌&&◌, nat_le, List, [], ◌∷◌, ◌++◌, if◌then◌else◌, codes}
 use Rattle.std.specs.Prelude.{drop, take, Option, Some, None, Result, Ok, Err}
 use Rattle.std.specs.Char.{is_ascii_hexdigit, is_ascii_whitespace}
 use Rattle.std.specs.List.{list_all, list_any, prefix_len, starts_with}
@@ -59,31 +59,54 @@ abbrev pub all_of_some : (ℕ → Bool) → List ℕ → Bool
 all_of_some test [] = false
 all_of_some test (b ∷ octets) = list_all test (b ∷ octets)
 
--- it may stand between hex digits: white space, `:` and `,`
+-- it may stand between hex digits: white space, `:`, `,`, `-`, `{` and `}`
 abbrev pub is_separator : ℕ → Bool
-is_separator b = is_ascii_whitespace b || (b == 58 || b == 44)
+is_separator b = is_ascii_whitespace b || (b == 58 || b == 44 || b == 45 || b == 123 || b == 125)
 
--- what is left of the text without separators and without each `0x`
+-- it begins with what may stand before two hex digits, `0x` or `\x`
+abbrev pub begins_prefix : List ℕ → Bool
+begins_prefix text = begins (codes "0x") text || begins (codes "\\x") text
+
+-- what is left of the text without separators and without each `0x` and `\x`
 abbrev pub but_separators : List ℕ → List ℕ
 but_separators [] = []
 but_separators (b ∷ text) =
-    if begins (codes "0x") (b ∷ text) then drop 1 (but_separators text)
+    if begins_prefix (b ∷ text) then drop 1 (but_separators text)
     else if is_separator b then but_separators text
     else b ∷ but_separators text
 
--- the text comes in columns, as `xxd` and `hexdump -C` print them: offset, digits, characters
+-- no text, or text that begins with white space
+abbrev pub begins_space : List ℕ → Bool
+begins_space [] = true
+begins_space (b ∷ text) = is_ascii_whitespace b
+
+-- the text comes in columns as `od -t x1` prints them: an offset of seven digits, and pairs of hex digits
+abbrev pub has_octets : List ℕ → Bool
+has_octets text = begins (codes "0000000 ") text && begins_space (drop 10 text)
+
+-- the text comes in columns, as `xxd`, `hexdump -C` and `od -t x1` print them: offset, digits, and maybe characters
 abbrev pub has_columns : List ℕ → Bool
 has_columns text =
     begins (codes "00000000: ") text
     || (begins (codes "00000000  ") text && list_any (λ b. b == 124) text)
+    || has_octets text
+
+-- the text begins with an offset, and then comes in another way, as that of `hexdump` and `od`: in words whose octets
+-- are turned round, or in octal digits
+abbrev pub has_other_columns : List ℕ → Bool
+has_other_columns text = (begins (codes "0000000 ") text && not (has_octets text)) || begins (codes "000000 ") text
 
 -- what stands before these words, or all where they do not stand there
 abbrev pub up_to : List ℕ → List ℕ → List ℕ
 up_to words [] = []
 up_to words (b ∷ text) = if begins words (b ∷ text) then [] else b ∷ up_to words text
 
+-- the column of digits in a line after seven digits of an offset
+abbrev pub octets_column : List ℕ → List ℕ
+octets_column line = if list_all is_ascii_hexdigit (take 7 line) then drop 7 line else line
+
 -- the column of digits in a line: after eight digits of an offset, up to two spaces where `:` ends the offset, and else
--- up to a `|`
+-- up to a `|`; or after seven
 abbrev pub column_of : List ℕ → List ℕ
 column_of line =
     if list_all is_ascii_hexdigit (take 8 line)
@@ -91,7 +114,7 @@ column_of line =
     (if begins (codes ":") (drop 8 line)
     then up_to (codes "  ") (drop 9 line)
     else up_to (codes "|") (drop 8 line))
-    else line
+    else octets_column line
 
 -- what may be the digits of the lines, which come in columns or do not
 abbrev pub digits_of : Bool → List (List ℕ) → List ℕ
@@ -120,7 +143,9 @@ form_of_symbols digits symbols =
     else of_base64 (decode_base64 standard symbols)
 
 abbrev pub form_of_text : List ℕ → InputForm
-form_of_text text = form_of_symbols (digits_of (has_columns text) (lines_of text)) (but_spaces text)
+form_of_text text =
+    if has_other_columns text then other_text
+    else form_of_symbols (digits_of (has_columns text) (lines_of text)) (but_spaces text)
 
 abbrev pub form_but_mark : List ℕ → InputForm
 form_but_mark text =

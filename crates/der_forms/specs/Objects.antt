@@ -1,18 +1,22 @@
 -- The objects of PEM (RFC 7468), one after another.
-use Rattle.std.specs.Prelude.{ℕ, Bool, true, false, ◌==◌, List, [], ◌∷◌, ◌++◌, drop, if◌then◌else◌, codes}
+use Rattle.std.specs.Prelude.{ℕ, Bool, true, false, ◌==◌, nat_lt, List, [], ◌∷◌, ◌++◌, drop, length, if◌then◌else◌, codes}
 use Rattle.std.specs.Prelude.{Option, Some, None}
 use Rattle.std.specs.List.{list_any}
 use Rattle.std.specs.Result.{result_ok}
+use Rattle.std.specs.Str.{bytes_eq}
 use Rattle.base64.specs.Engines.{standard}
 use Rattle.base64.specs.GeneralPurpose.{decode_of as decode_base64}
+use Rattle.der_forms.specs.declared.objects.Ending.{Ending}
+use Rattle.der_forms.specs.declared.objects.Ending.TheVariants.{Closed, Joined, Missing, OtherLabel}
 use Rattle.der_io.specs.Lines.{lines_of}
 use Rattle.der_forms.specs.Forms.{InputForm, begins, begins_object, but_indent, but_mark, but_spaces, form_is}
 use Rattle.der_forms.specs.Forms.{objects, odd_digits, other_text, plain_octets, spelled, up_to}
 
--- an object: its label, and its octets, or none where it is encrypted or no base 64
+-- an object: its label, its octets, or none where it is encrypted or no base 64, and how it ends
 pub record Object : Type 0 where
   pub label : List ℕ
   pub octets : Option (List ℕ)
+  pub ending : Ending
 
 -- the label in a line that begins an object: what stands between `-----BEGIN ` and `-----`
 abbrev pub label_in : List ℕ → List ℕ
@@ -42,9 +46,28 @@ symbols_in (line ∷ lines) = if ends_object line then [] else symbols_of line +
 abbrev pub octets_in : List (List ℕ) → Option (List ℕ)
 octets_in lines = if is_encrypted lines then None else result_ok (decode_base64 standard (symbols_in lines))
 
+-- the label in a line that ends an object: what stands between `-----END ` and `-----`
+abbrev pub end_label_in : List ℕ → List ℕ
+end_label_in line = up_to (codes "-----") (drop 9 (but_indent line))
+
+-- the words stand in the text
+abbrev pub has_words : List ℕ → List ℕ → Bool
+has_words words text = nat_lt (length (up_to words text)) (length text)
+
+-- how a line ends an object with this label
+abbrev pub ending_by : List ℕ → List ℕ → Ending
+ending_by label line =
+    if has_words (codes "-----BEGIN ") line then Joined
+    else if bytes_eq (end_label_in line) label then Closed else OtherLabel
+
+-- how an object ends that begins before the lines with this label
+abbrev pub ending_in : List ℕ → List (List ℕ) → Ending
+ending_in label [] = Missing
+ending_in label (line ∷ lines) = if ends_object line then ending_by label line else ending_in label lines
+
 -- the object that begins before the lines with this label
 abbrev pub object_in : List ℕ → List (List ℕ) → Object
-object_in label lines = record { label = label; octets = octets_in lines }
+object_in label lines = record { label = label; octets = octets_in lines; ending = ending_in label lines }
 
 -- each object that begins in the lines, which stand inside an object or do not
 abbrev pub objects_in : Bool → List (List ℕ) → List Object
@@ -52,16 +75,6 @@ objects_in inside [] = []
 objects_in true (line ∷ lines) = if ends_object line then objects_in false lines else objects_in true lines
 objects_in false (line ∷ lines) =
     if begins_object line then object_in (label_in line) lines ∷ objects_in true lines else objects_in false lines
-
--- no line ends the last object, of lines that stand inside an object or do not
-abbrev pub is_cut_in : Bool → List (List ℕ) → Bool
-is_cut_in inside [] = inside
-is_cut_in true (line ∷ lines) = if ends_object line then is_cut_in false lines else is_cut_in true lines
-is_cut_in false (line ∷ lines) = if begins_object line then is_cut_in true lines else is_cut_in false lines
-
--- no line ends the last object of an input
-abbrev pub is_cut : List ℕ → Bool
-is_cut input = is_cut_in false (lines_of (but_mark input))
 
 -- each object of an input
 abbrev pub objects_of : List ℕ → List Object

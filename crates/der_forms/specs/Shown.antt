@@ -18,4 +18,5 @@ abbrev pub shown_object : PemObject → Object
 shown_object object = record {
   label = object.label.now;
   octets = option_map (λ v. v.items) (result_ok object.octets);
+  ending = object.ending;
 }

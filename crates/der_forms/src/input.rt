@@ -43,6 +43,9 @@ pub fn form_of(alloc: Global, input: &[u8]) -> Result<Form, AllocError>
 fn text_form(alloc: Global, text: &[u8]) -> Result<Form, AllocError>
     ensures { IfOk result (λ form. shown form ≡ form_of_text text.now) }
 {
+    if hex_text::has_other_columns(text) {
+        return Ok(Form::Text);
+    }
     let digits = hex_text::digits_in(alloc, text)?;
     if hex_text::are_digits(&digits) {
         return match hex_text::decode(alloc, &digits)? {
@@ -81,16 +84,16 @@ pub enum FormFault {
     #[error("out of memory")]
     OutOfMemory,
     /// It is hex digits, of which one is left over.
-    #[error("an odd number of hex digits")]
+    #[error("odd number of hex digits")]
     OddDigits,
     /// It is text in no form that is known.
-    #[error("this looks like text; DER, PEM and hex digits are read")]
+    #[error("unknown text: DER, PEM, padded base64 and hex digits (plain, xxd, hexdump -C, od -t x1) are read")]
     Text,
     /// Its first object is encrypted.
     #[error("encrypted, not read")]
     Encrypted,
     /// A line of its first object is no base 64: its number, the first being 1.
-    #[error("line {0}: this is no base 64")]
+    #[error("line {0}: invalid base64")]
     NoBase64(usize),
 }
 

@@ -10,10 +10,13 @@ ghost use Rattle.der_forms.specs.Forms.{
   is_text_octet,
   up_to,
 };
-ghost use Rattle.der_forms.specs.Objects.{ends_object, label_in};
+ghost use Rattle.der_forms.specs.Objects.{end_label_in, ends_object, has_words, label_in};
 ghost use Rattle.der_io.specs.Lines.{lines_of};
 
 use der_io::split_line;
+
+// How many characters `-----END ` has.
+const END_MARK: usize = 9;
 
 /// Lines that are still to be read.
 #[derive(Clone, Copy, Drop)]
@@ -103,6 +106,22 @@ pub fn label_of(line: &[u8]) -> Option<&[u8]>
     } else {
         None
     }
+}
+
+// The label in a line that ends an object.
+pub fn end_label_of(line: &[u8]) -> &[u8]
+    ensures { result.now ≡ end_label_in line.now }
+{
+    let text = without_indent(line);
+    let (_, after) = text.split_at(text.len().min(END_MARK));
+    part_before(b"-----", after)
+}
+
+// Whether the words stand in the text.
+pub fn has_words(words: &[u8], text: &[u8]) -> bool
+    ensures { result ≡ has_words words.now text.now }
+{
+    part_before(words, text).len() < text.len()
 }
 
 // What stands before the words.

@@ -1,16 +1,16 @@
 // The objects of PEM, one after another.
-ghost use Rattle.std.specs.Prelude.{◌≡◌, ◌∷◌, ◌++◌, ◌<◌, ◌≤◌, [], true, false, not, length};
-ghost use Rattle.std.specs.Prelude.{IfOk, IfSome, MatchOption, OnOk, Option};
+ghost use Rattle.std.specs.Prelude.{◌≡◌, ◌∷◌, ◌++◌, ◌<◌, ◌≤◌, [], true, false, length};
+ghost use Rattle.std.specs.Prelude.{IfOk, MatchOption, OnOk, Option};
 ghost use Rattle.std.specs.List.{list_any};
 ghost use Rattle.std.specs.Option.{option_map};
 ghost use Rattle.std.specs.Result.{result_ok};
-ghost use Rattle.der_forms.specs.Objects.{is_cut_in, is_encrypted, object_in, objects_in, octets_in, symbols_in};
-ghost use Rattle.der_forms.specs.Objects.{symbols_of};
+ghost use Rattle.der_forms.specs.Objects.{ending_by, ending_in, is_encrypted, object_in, objects_in, octets_in};
+ghost use Rattle.der_forms.specs.Objects.{symbols_in, symbols_of};
 ghost use Rattle.der_forms.specs.Shown.{shown_object};
 ghost use Rattle.der_io.specs.Lines.{lines_of};
 
 use crate::base64_text::decode;
-use crate::lines::{Lines, is_end, label_of, tells_encryption};
+use crate::lines::{Lines, end_label_of, has_words, is_end, label_of, tells_encryption};
 use base64::DecodeError;
 use der_io::split_line;
 use std::alloc::{AllocError, Global};
@@ -24,6 +24,19 @@ pub enum PemFault {
     NoBase64(usize),
 }
 
+/// How an object ends.
+#[derive(Clone, Copy, Debug, Drop, PartialEq)]
+pub enum Ending {
+    /// A line ends it, with its own label.
+    Closed,
+    /// No line ends it.
+    Missing,
+    /// The line that ends it has another label.
+    OtherLabel,
+    /// Another object begins in the line that ends it, and is passed over.
+    Joined,
+}
+
 /// An object of PEM.
 #[derive(Debug, Drop)]
 pub struct PemObject<'a> {
@@ -33,8 +46,8 @@ pub struct PemObject<'a> {
     pub line: usize,
     /// What its symbols spell.
     pub octets: Result<Vec<u8>, PemFault>,
-    /// Whether a line ends it.
-    pub is_ended: bool,
+    /// How it ends.
+    pub ending: Ending,
 }
 
 /// The next object, and the lines after it. The only error is that memory ran out.
@@ -42,42 +55,33 @@ pub fn next_object<'a>(
     alloc: Global,
     lines: Lines<'a>,
 ) -> Result<Option<(PemObject<'a>, Lines<'a>)>, AllocError>
-    ensures found { IfOk result (λ next. MatchOption next
+    ensures { IfOk result (λ next. MatchOption next
         (objects_in false (lines_of lines.entry.rest.now) ≡ [])
         (λ found. (objects_in false (lines_of lines.entry.rest.now)
         ≡ shown_object found.0 ∷ objects_in false (lines_of found.1.rest.now))
         × (length found.1.rest.now < length lines.entry.rest.now))) }
-    ensures cut { IfOk result (λ next. MatchOption next
-        (is_cut_in false (lines_of lines.entry.rest.now) ≡ false)
-        (λ found. is_cut_in false (lines_of lines.entry.rest.now)
-        ≡ is_cut_in (not found.0.is_ended) (lines_of found.1.rest.now))) }
-    ensures last { IfOk result (λ next. IfSome next (λ found.
-        found.0.is_ended ≡ false → found.1.rest.now ≡ [])) }
 {
     let Some((label, after)) = find_object(lines) else {
         return Ok(None);
     };
-    let body = read_body(alloc, after)?;
+    let body = read_body(alloc, label, after)?;
     let octets = octets_of(alloc, &body, after)?;
     let object = PemObject {
         label,
         line: after.before,
         octets,
-        is_ended: body.is_ended,
+        ending: body.ending,
     };
     Ok(Some((object, body.after)))
 }
 
 // The label of the next object, and the lines after the one that begins it.
 fn find_object<'a>(lines: Lines<'a>) -> Option<(&'a [u8], Lines<'a>)>
-    ensures found { MatchOption result
+    ensures { MatchOption result
         (objects_in false (lines_of lines.entry.rest.now) ≡ [])
         (λ found. (objects_in false (lines_of lines.entry.rest.now)
         ≡ object_in found.0.now (lines_of found.1.rest.now) ∷ objects_in true (lines_of found.1.rest.now))
         × (length found.1.rest.now < length lines.entry.rest.now)) }
-    ensures cut { MatchOption result
-        (is_cut_in false (lines_of lines.entry.rest.now) ≡ false)
-        (λ found. is_cut_in false (lines_of lines.entry.rest.now) ≡ is_cut_in true (lines_of found.1.rest.now)) }
 {
     let mut rest = lines.rest;
     let mut before = lines.before;
@@ -97,23 +101,22 @@ fn find_object<'a>(lines: Lines<'a>) -> Option<(&'a [u8], Lines<'a>)>
 struct Body<'a> {
     symbols: Vec<u8>,
     is_encrypted: bool,
-    is_ended: bool,
+    ending: Ending,
     after: Lines<'a>,
 }
 
-fn read_body<'a>(alloc: Global, lines: Lines<'a>) -> Result<Body<'a>, AllocError>
+fn read_body<'a>(alloc: Global, label: &[u8], lines: Lines<'a>) -> Result<Body<'a>, AllocError>
     ensures symbols { IfOk result (λ body. body.symbols.items ≡ symbols_in (lines_of lines.entry.rest.now)) }
     ensures encrypted { IfOk result (λ body. body.is_encrypted ≡ is_encrypted (lines_of lines.entry.rest.now)) }
     ensures after { IfOk result (λ body. objects_in true (lines_of lines.entry.rest.now)
         ≡ objects_in false (lines_of body.after.rest.now)) }
     ensures shorter { IfOk result (λ body. length body.after.rest.now ≤ length lines.entry.rest.now) }
-    ensures cut { IfOk result (λ body. is_cut_in true (lines_of lines.entry.rest.now)
-        ≡ is_cut_in (not body.is_ended) (lines_of body.after.rest.now)) }
-    ensures last { IfOk result (λ body. body.is_ended ≡ false → body.after.rest.now ≡ []) }
+    ensures ending { IfOk result (λ body. body.ending ≡ ending_in label.now (lines_of lines.entry.rest.now)) }
 {
     let mut symbols = Vec::new(alloc);
     let mut is_encrypted = false;
     let mut is_ended = false;
+    let mut ending = Ending::Missing;
     let mut rest = lines.rest;
     let mut before = lines.before;
     while !is_ended && !rest.is_empty() {
@@ -122,6 +125,7 @@ fn read_body<'a>(alloc: Global, lines: Lines<'a>) -> Result<Body<'a>, AllocError
         before = before.saturating_add(1);
         if is_end(line) {
             is_ended = true;
+            ending = ending_of(label, line);
         } else {
             is_encrypted = is_encrypted || tells_encryption(line);
             push_symbols(line, &mut symbols)?;
@@ -130,9 +134,22 @@ fn read_body<'a>(alloc: Global, lines: Lines<'a>) -> Result<Body<'a>, AllocError
     Ok(Body {
         symbols,
         is_encrypted,
-        is_ended,
+        ending,
         after: Lines { rest, before },
     })
+}
+
+// How a line ends an object with this label.
+fn ending_of(label: &[u8], line: &[u8]) -> Ending
+    ensures { result ≡ ending_by label.now line.now }
+{
+    if has_words(b"-----BEGIN ", line) {
+        Ending::Joined
+    } else if end_label_of(line) == label {
+        Ending::Closed
+    } else {
+        Ending::OtherLabel
+    }
 }
 
 // Puts the symbols of a line. One with a colon is a header of the object (RFC 1421).

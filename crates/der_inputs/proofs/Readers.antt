@@ -6,13 +6,13 @@ use Rattle.std.proofs.lemmas.List.{drop-set-lt, map-append, take_more}
 use Rattle.std.proofs.lemmas.Grind.{take-set_at}
 use Rattle.std.proofs.Math.Seq.{drop-cons}
 use Rattle.der_inputs.specs.Inputs.{AddsSource, AddsSources, AreReadToEnds, Input, IsReadToEnd}
-use Rattle.der_lines.specs.declared.document.Verdict.{Verdict}
+use Rattle.der_inputs.specs.declared.outcome.Outcome.{Outcome}
 use Rattle.der_options.specs.declared.options.Options.{Options}
 
 -- one input more
 one_more :
-    (named : Bool) (options : Options) (inputs : List Input) (came : List (Option Verdict)) (input : Input)
-    (last : Option Verdict) (a b c : List ℕ) →
+    (named : Bool) (options : Options) (inputs : List Input) (came : List Outcome) (input : Input)
+    (last : Outcome) (a b c : List ℕ) →
     AddsSources named options inputs came a b → AddsSource named options input last b c →
     AddsSources named options (inputs ++ input ∷ []) (came ++ last ∷ []) a c
 one_more named options [] [] input last a b c e h = (c, rw (← e) h, refl)
@@ -23,7 +23,7 @@ one_more named options (x ∷ xs) [] input last a b c e h = absurd e
 
 -- one reader more
 one_more_read :
-    (came : List (Option Verdict)) (left : List (Option (List ℕ))) (last : Option Verdict) (its : Option (List ℕ)) →
+    (came : List Outcome) (left : List (Option (List ℕ))) (last : Outcome) (its : Option (List ℕ)) →
     AreReadToEnds came left → IsReadToEnd last its → AreReadToEnds (came ++ last ∷ []) (left ++ its ∷ [])
 one_more_read [] [] last its h e = (e, tt)
 one_more_read (v ∷ vs) (x ∷ xs) last its (first, rest) e = (first, one_more_read vs xs last its rest e)
@@ -31,14 +31,14 @@ one_more_read [] (x ∷ xs) last its h e = absurd h
 one_more_read (v ∷ vs) [] last its h e = absurd h
 
 pushed :
-    {T E : Type 0} (r : Result T E) (was now : List (Option Verdict)) (last : Option Verdict) → is_err r ≡ false →
+    {T E : Type 0} (r : Result T E) (was now : List Outcome) (last : Outcome) → is_err r ≡ false →
     now ≡ (if is_ok r then was ++ last ∷ [] else was) → now ≡ was ++ last ∷ []
 pushed (Ok x) was now last e p = p
 pushed (Err x) was now last e p = absurd (cc e)
 
 -- a loop has come to the source at a place: those from there on are as they were
 module _ {S T E : Type 0} (i : ℕ) (all now : List S) (l : i < length all) (n : length now ≡ length all)
-    (left : drop i now ≡ drop i all) (r : Result T E) (were are : List (Option Verdict)) (last : Option Verdict)
+    (left : drop i now ≡ drop i all) (r : Result T E) (were are : List Outcome) (last : Outcome)
     (e : is_err r ≡ false) (p : are ≡ (if is_ok r then were ++ last ∷ [] else were)) where
   from_here : (d : S) → get_or now i d ∷ drop (i + 1) now ≡ get_or all i d ∷ drop (i + 1) all
   from_here d =

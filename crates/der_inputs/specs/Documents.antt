@@ -3,6 +3,7 @@ use Rattle.std.specs.Prelude.{◌≡◌, ◌⊎◌, ℕ, Bool, true, false, List
 use Rattle.std.specs.Str.Lossy.{utf8_lossy}
 use Rattle.serde_json.specs.Data.{Members}
 use Rattle.serde_json.specs.Written.{compact_text}
+use Rattle.der_io.specs.Escaped.{escaped}
 use Rattle.der_json.specs.Json.{AddsJsonOf, origin_members, refusal_json}
 use Rattle.der_lines.specs.Dump.{AddsDumpOf, AddsLine, AreDefinite, IsFirstIndefinite, IsNote, all_offsets}
 use Rattle.der_inputs.specs.Strict.{AddsStrictDumpOf}
@@ -25,10 +26,10 @@ AddsDump strict most (Some octets) verdict before after = AddsReading strict mos
 AddsDump strict most None verdict before after =
     (verdict ≡ Refused) × ((why : List ℕ) × AddsLine (IsNote 33 why) before after)
 
--- the line `=` and a label, where there is one
+-- the line `=` and a label, escaped, where there is one
 abbrev pub AddsLabel : Option (List ℕ) → List ℕ → List ℕ → Type 0
 AddsLabel None before after = after ≡ before
-AddsLabel (Some label) before after = AddsLine (IsNote 61 label) before after
+AddsLabel (Some label) before after = AddsLine (IsNote 61 (escaped label)) before after
 
 -- a dump under the line of its label
 abbrev pub PutsDump :

@@ -1,40 +1,54 @@
 -- What is put of inputs: of each in its form, as the options want it, and of one after another.
-use Rattle.std.specs.Prelude.{◌≡◌, ℕ, Bool, true, false, List, [], ◌∷◌, ◌++◌, fold, max, nat_lt}
+use Rattle.std.specs.Prelude.{◌≡◌, ◌≢◌, ◌⊎◌, ℕ, Bool, true, false, List, [], ◌∷◌, ◌++◌, nat_lt}
 use Rattle.std.specs.Prelude.{Option, Some, None, IfSome}
 use Rattle.std.specs.Io.KnownBytes.{IsAtEnd}
 use Rattle.der_forms.specs.Forms.{form_is, objects, odd_digits, other_text, plain_octets, spelled}
-use Rattle.der_forms.specs.Objects.{Object, document_of, is_cut, objects_of}
+use Rattle.der_forms.specs.Objects.{Object, document_of, objects_of}
+use Rattle.der_forms.specs.declared.objects.Ending.{Ending}
+use Rattle.der_forms.specs.declared.objects.Ending.TheVariants.{Closed}
+use Rattle.der_io.specs.Escaped.{escaped}
 use Rattle.der_lines.specs.Dump.{AddsLine, IsHeader, IsNote}
+use Rattle.der_lines.specs.Seek.{BeginsAt, HasNoBlockAt}
 use Rattle.der_lines.specs.declared.document.Verdict.{Verdict}
 use Rattle.der_lines.specs.declared.document.Verdict.TheVariants.{AllRead, Refused}
 use Rattle.der_inputs.specs.Documents.{Puts}
+use Rattle.der_inputs.specs.Outcomes.{Writes, WritesNothing}
+use Rattle.der_inputs.specs.declared.outcome.Outcome.{Outcome}
+use Rattle.der_inputs.specs.declared.outcome.Outcome.TheVariants.{Unread}
 use Rattle.der_options.specs.declared.options.Options.{Options}
 use Rattle.der_options.specs.declared.options.Task.{Task}
 use Rattle.der_options.specs.declared.options.Task.TheVariants.{At, Contents, Dump, Extract}
-use Rattle.simple_asn1.specs.Fault.{DecodeFault}
-use Rattle.simple_asn1.specs.Grammar.{FirstFault, IsDocument}
-use Rattle.simple_asn1.specs.Places.{EncodingAt, HasNoEncodingAt}
-use Rattle.simple_asn1.specs.Tree.{Trees}
 
 -- what is put after a text, and to which verdict it comes: of a label, if there is one, and of octets, or of what has
 -- none that can be read
-abbrev pub Putting : Type 1
-Putting = Option (List ℕ) → Option (List ℕ) → Verdict → List ℕ → List ℕ → Type 0
+abbrev pub OutputRelation : Type 1
+OutputRelation = Option (List ℕ) → Option (List ℕ) → Verdict → List ℕ → List ℕ → Type 0
 
 -- where one and then another were read, all was
 abbrev pub both_read : Verdict → Verdict → Verdict
 both_read AllRead verdict = verdict
 both_read Refused verdict = Refused
 
--- so of objects of PEM one after another, each with its label, all of which are read, or not
-abbrev pub AddsObjects : Putting → List Object → Verdict → List ℕ → List ℕ → Type 0
+-- what is put of the end of an object of PEM: why it is no good one, if it is none
+abbrev pub AddsEnding : OutputRelation → Ending → Verdict → List ℕ → List ℕ → Type 0
+AddsEnding Put Closed verdict before after = (verdict ≡ AllRead) × (after ≡ before)
+AddsEnding Put _ verdict before after = Put None None verdict before after
+
+-- what is put of an object: its octets under its label, and its end
+abbrev pub AddsObject : OutputRelation → Object → Verdict → List ℕ → List ℕ → Type 0
+AddsObject Put object verdict before after =
+    (read ended : Verdict) × (between : List ℕ) × (verdict ≡ both_read read ended)
+    × Put (Some object.label) object.octets read before between × AddsEnding Put object.ending ended between after
+
+-- so of objects one after another, all of which are read, or not
+abbrev pub AddsObjects : OutputRelation → List Object → Verdict → List ℕ → List ℕ → Type 0
 AddsObjects Put [] verdict before after = (verdict ≡ AllRead) × (after ≡ before)
 AddsObjects Put (object ∷ others) verdict before after =
     (first later : Verdict) × (between : List ℕ) × (verdict ≡ both_read first later)
-    × Put (Some object.label) object.octets first before between × AddsObjects Put others later between after
+    × AddsObject Put object first before between × AddsObjects Put others later between after
 
 -- so of an input, which has its documents in one of the forms
-pub data AddsAnswer (Put : Putting) (input : List ℕ) (verdict : Verdict) (before after : List ℕ) : Type 0 where
+pub data AddsAnswer (Put : OutputRelation) (input : List ℕ) (verdict : Verdict) (before after : List ℕ) : Type 0 where
   of_octets :
       form_is input ≡ plain_octets → Put None (Some input) verdict before after →
       AddsAnswer Put input verdict before after
@@ -43,59 +57,49 @@ pub data AddsAnswer (Put : Putting) (input : List ℕ) (verdict : Verdict) (befo
       AddsAnswer Put input verdict before after
   of_odd_digits :
       form_is input ≡ odd_digits → Put None None verdict before after → AddsAnswer Put input verdict before after
-  -- text may be the octets of a document all the same
-  of_read_text :
-      (bs : Trees ℕ) → form_is input ≡ other_text → IsDocument input bs → Put None (Some input) verdict before after →
-      AddsAnswer Put input verdict before after
   of_text :
-      (fault : DecodeFault) → form_is input ≡ other_text → FirstFault input fault → Put None None verdict before after →
-      AddsAnswer Put input verdict before after
+      form_is input ≡ other_text → Put None None verdict before after → AddsAnswer Put input verdict before after
   of_objects :
-      form_is input ≡ objects → is_cut input ≡ false → AddsObjects Put (objects_of input) verdict before after →
+      form_is input ≡ objects → AddsObjects Put (objects_of input) verdict before after →
       AddsAnswer Put input verdict before after
-  -- no line ends the last object, which is told after it
-  of_cut_objects :
-      (read : Verdict) (shown : List ℕ) →
-      form_is input ≡ objects → is_cut input ≡ true → AddsObjects Put (objects_of input) read before shown →
-      Put None None verdict shown after → AddsAnswer Put input verdict before after
 
--- so of the block that stands at the offset in the document of an input, the first one of PEM; or where there is none
-pub data AddsBlock (Put : Option (List ℕ) → Verdict → List ℕ → List ℕ → Type 0) (offset : ℕ) (input : List ℕ)
-    (verdict : Verdict) (before after : List ℕ) : Type 0 where
+-- so of the block that begins at the offset in the document of an input, the first one of PEM; or where none does
+pub data AddsBlock (Put : Option (List ℕ) → Outcome → List ℕ → List ℕ → Type 0) (offset : ℕ) (input : List ℕ)
+    (outcome : Outcome) (before after : List ℕ) : Type 0 where
   of_block :
-      (document block : List ℕ) → document_of input ≡ Some document → EncodingAt document offset block →
-      Put (Some block) verdict before after → AddsBlock Put offset input verdict before after
+      (document block : List ℕ) → document_of input ≡ Some document → BeginsAt document offset block →
+      Put (Some block) outcome before after → AddsBlock Put offset input outcome before after
   of_no_block :
-      (document : List ℕ) → document_of input ≡ Some document → HasNoEncodingAt document offset →
-      Put None verdict before after → AddsBlock Put offset input verdict before after
+      (document : List ℕ) → document_of input ≡ Some document → HasNoBlockAt document offset →
+      Put None outcome before after → AddsBlock Put offset input outcome before after
   of_no_document :
-      document_of input ≡ None → Put None verdict before after → AddsBlock Put offset input verdict before after
+      document_of input ≡ None → Put None outcome before after → AddsBlock Put offset input outcome before after
 
 -- the octets as they stand
-abbrev pub AddsOctets : List ℕ → Verdict → List ℕ → List ℕ → Type 0
-AddsOctets octets verdict before after = (verdict ≡ AllRead) × (after ≡ before ++ octets)
+abbrev pub AddsOctets : List ℕ → Outcome → List ℕ → List ℕ → Type 0
+AddsOctets octets = Writes (λ verdict before after. (verdict ≡ AllRead) × (after ≡ before ++ octets))
 
 -- the contents octets of an encoding, which are those behind its header
-abbrev pub AddsContents : List ℕ → Verdict → List ℕ → List ℕ → Type 0
-AddsContents octets verdict before after =
+abbrev pub AddsContents : List ℕ → Outcome → List ℕ → List ℕ → Type 0
+AddsContents octets outcome before after =
     (header contents : List ℕ) × (octets ≡ header ++ contents) × IsHeader header
-    × AddsOctets contents verdict before after
+    × AddsOctets contents outcome before after
 
--- octets are added as they are wanted, and what has none is put
-abbrev pub AddsOr :
-    Putting → (List ℕ → Verdict → List ℕ → List ℕ → Type 0) → Option (List ℕ) → Verdict → List ℕ → List ℕ → Type 0
-AddsOr Put Adds (Some octets) verdict before after = Adds octets verdict before after
-AddsOr Put Adds None verdict before after = Put None None verdict before after
+-- octets are added as they are wanted, and nothing where there are none
+abbrev pub AddsThese :
+    (List ℕ → Outcome → List ℕ → List ℕ → Type 0) → Option (List ℕ) → Outcome → List ℕ → List ℕ → Type 0
+AddsThese Adds (Some octets) = Adds octets
+AddsThese Adds None = WritesNothing
 
 -- what is put of an input by the task
-abbrev pub AddsTask : Putting → Task → List ℕ → Verdict → List ℕ → List ℕ → Type 0
-AddsTask Put Dump = AddsAnswer Put
-AddsTask Put (At offset) = AddsBlock (Put None) offset
-AddsTask Put (Extract offset) = AddsBlock (AddsOr Put AddsOctets) offset
-AddsTask Put (Contents offset) = AddsBlock (AddsOr Put AddsContents) offset
+abbrev pub AddsTask : OutputRelation → Task → List ℕ → Outcome → List ℕ → List ℕ → Type 0
+AddsTask Put Dump input = Writes (AddsAnswer Put input)
+AddsTask Put (At offset) input = AddsBlock (λ octets. Writes (Put None octets)) offset input
+AddsTask Put (Extract offset) input = AddsBlock (AddsThese AddsOctets) offset input
+AddsTask Put (Contents offset) input = AddsBlock (AddsThese AddsContents) offset input
 
 -- what the options want to be put of an input in the file of this name, if it is told
-abbrev pub AddsInput : Options → Option (List ℕ) → List ℕ → Verdict → List ℕ → List ℕ → Type 0
+abbrev pub AddsInput : Options → Option (List ℕ) → List ℕ → Outcome → List ℕ → List ℕ → Type 0
 AddsInput options file = AddsTask (Puts options file) options.task
 
 -- names are told where there are several inputs, and not beside octets as they stand
@@ -104,17 +108,17 @@ names_shown (Extract offset) count = false
 names_shown (Contents offset) count = false
 names_shown _ count = nat_lt 1 count
 
--- the line `=` and a name, above dumps: JSON tells it in each line
+-- the line `=` and a name, escaped, above dumps: JSON tells it in each line
 abbrev pub AddsName : Bool → List ℕ → List ℕ → List ℕ → Type 0
 AddsName true name before after = after ≡ before
-AddsName false name before after = AddsLine (IsNote 61 name) before after
+AddsName false name before after = AddsLine (IsNote 61 (escaped name)) before after
 
 -- what is put of octets in the file of this name, which is told or not
-abbrev pub AddsNamed : Bool → Options → List ℕ → List ℕ → Verdict → List ℕ → List ℕ → Type 0
-AddsNamed false options name octets verdict before after = AddsInput options None octets verdict before after
-AddsNamed true options name octets verdict before after =
+abbrev pub AddsNamed : Bool → Options → List ℕ → List ℕ → Outcome → List ℕ → List ℕ → Type 0
+AddsNamed false options name octets outcome before after = AddsInput options None octets outcome before after
+AddsNamed true options name octets outcome before after =
     (named : List ℕ) × AddsName options.is_json name before named
-    × AddsInput options (Some name) octets verdict named after
+    × AddsInput options (Some name) octets outcome named after
 
 -- an input: its name, and its octets, where they are known
 pub record Input : Type 0 where
@@ -125,38 +129,26 @@ abbrev pub input_of : List ℕ → Option (List ℕ) → Input
 input_of name octets = record { name = name; octets = octets }
 
 -- what is put of an input: nothing where it can't be read
-abbrev pub AddsSource : Bool → Options → Input → Option Verdict → List ℕ → List ℕ → Type 0
-AddsSource named options input (Some verdict) before after =
-    (octets : List ℕ) × IfSome input.octets (λ known. octets ≡ known)
-    × AddsNamed named options input.name octets verdict before after
-AddsSource named options input None before after = after ≡ before
+abbrev pub AddsSource : Bool → Options → Input → Outcome → List ℕ → List ℕ → Type 0
+AddsSource named options input outcome before after =
+    ((outcome ≡ Unread) × (after ≡ before))
+    ⊎ ((octets : List ℕ) × IfSome input.octets (λ known. octets ≡ known)
+    × AddsNamed named options input.name octets outcome before after)
 
--- so of inputs one after another, each of which came to this
-abbrev pub AddsSources : Bool → Options → List Input → List (Option Verdict) → List ℕ → List ℕ → Type 0
+-- so of inputs one after another, of each of which this came
+abbrev pub AddsSources : Bool → Options → List Input → List Outcome → List ℕ → List ℕ → Type 0
 AddsSources named options [] [] before after = after ≡ before
 AddsSources named options (input ∷ inputs) (came ∷ later) before after =
     (between : List ℕ) × AddsSource named options input came before between
     × AddsSources named options inputs later between after
 AddsSources named options _ _ before after = ⊥
 
--- what a reader has left after an input that came to this: nothing, unless it could not be read
-abbrev pub IsReadToEnd : Option Verdict → Option (List ℕ) → Type 0
-IsReadToEnd (Some verdict) left = IsAtEnd left
-IsReadToEnd None left = Unit {0}
+-- what a reader has left after an input of which this came: nothing, unless it could not be read
+abbrev pub IsReadToEnd : Outcome → Option (List ℕ) → Type 0
+IsReadToEnd outcome left = outcome ≢ Unread → IsAtEnd left
 
 -- so of all inputs
-abbrev pub AreReadToEnds : List (Option Verdict) → List (Option (List ℕ)) → Type 0
+abbrev pub AreReadToEnds : List Outcome → List (Option (List ℕ)) → Type 0
 AreReadToEnds [] [] = Unit {0}
 AreReadToEnds (came ∷ later) (left ∷ others) = IsReadToEnd came left × AreReadToEnds later others
 AreReadToEnds _ _ = ⊥
-
--- the exit status that an input asks for: 0 where all of it was read, 1 where some is no document, 2 where it can't be
--- read
-abbrev pub status_of : Option Verdict → ℕ
-status_of (Some AllRead) = 0
-status_of (Some Refused) = 1
-status_of None = 2
-
--- the greatest of all
-abbrev pub greatest_status : List (Option Verdict) → ℕ
-greatest_status came = fold (λ most one. max most (status_of one)) 0 came

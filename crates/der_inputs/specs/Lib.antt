@@ -1,4 +1,5 @@
 pub mod Documents
 pub mod Inputs
+pub mod Outcomes
 pub mod Parts
 pub mod Strict

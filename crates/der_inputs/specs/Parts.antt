@@ -2,7 +2,9 @@
 use Rattle.std.specs.Prelude.{ℕ, Bool, true, false, List, Option, None}
 use Rattle.std.specs.Option.{option_map}
 use Rattle.der_inputs.specs.Documents.{PutsAs}
-use Rattle.der_inputs.specs.Inputs.{AddsContents, AddsOctets, AddsOr, Putting}
+use Rattle.der_inputs.specs.Inputs.{AddsContents, AddsOctets, AddsThese, OutputRelation}
+use Rattle.der_inputs.specs.Outcomes.{Writes}
+use Rattle.der_inputs.specs.declared.outcome.Outcome.{Outcome}
 use Rattle.der_inputs.specs.declared.manner.Manner.{Manner}
 use Rattle.der_lines.specs.declared.document.Verdict.{Verdict}
 use Rattle.der_lines.specs.declared.document.Verdict.TheVariants.{AllRead, Refused}
@@ -14,12 +16,12 @@ is_all_read AllRead = true
 is_all_read Refused = false
 
 -- what is put in this manner
-abbrev pub PutsIn : Manner → Putting
+abbrev pub PutsIn : Manner → OutputRelation
 PutsIn manner =
     PutsAs manner.is_json manner.is_strict manner.style.most_depth (option_map (λ name. name.now) manner.file)
 
 -- what the task wants of a block, or of none
-abbrev pub AddsPart : Manner → Task → Option (List ℕ) → Verdict → List ℕ → List ℕ → Type 0
-AddsPart manner (Extract offset) = AddsOr (PutsIn manner) AddsOctets
-AddsPart manner (Contents offset) = AddsOr (PutsIn manner) AddsContents
-AddsPart manner _ = PutsIn manner None
+abbrev pub AddsPart : Manner → Task → Option (List ℕ) → Outcome → List ℕ → List ℕ → Type 0
+AddsPart manner (Extract offset) octets = AddsThese AddsOctets octets
+AddsPart manner (Contents offset) octets = AddsThese AddsContents octets
+AddsPart manner _ octets = Writes (PutsIn manner None octets)

@@ -1,15 +1,14 @@
 // What is written of an input in each of the forms.
-ghost use Rattle.std.specs.Prelude.{◌≡◌, ◌≢◌, IfOk, MatchOption, None, Some, false, true};
-ghost use Rattle.der_inputs.specs.Inputs.{AddsAnswer, both_read};
+ghost use Rattle.std.specs.Prelude.{◌≡◌, ◌≢◌, IfOk, MatchOption, None, Some};
+ghost use Rattle.der_inputs.specs.Inputs.{AddsAnswer, AddsEnding, AddsObject, both_read};
 ghost use Rattle.der_inputs.specs.Parts.{PutsIn};
-ghost use Rattle.der_forms.specs.Forms.{form_is, objects, other_text};
+ghost use Rattle.der_forms.specs.Forms.{form_is, objects};
 ghost use Rattle.der_forms.specs.Shown.{shown_object};
-ghost use Rattle.simple_asn1.specs.Types.{OutOfMemory};
+ghost use Rattle.der_forms.specs.declared.objects.Ending.TheVariants.{Closed};
 
 use crate::manner::{Manner, put};
-use der_forms::{Form, Lines, PemFault, PemObject, form_of, next_object};
+use der_forms::{Ending, Form, FormFault, Lines, PemFault, PemObject, form_of, next_object};
 use der_lines::Verdict;
-use simple_asn1::{ASN1DecodeErr, Document};
 use std::alloc::{AllocError, Global};
 
 // Puts what is said of an input.
@@ -25,49 +24,23 @@ pub fn push_answer(
     match form_of(alloc, input)? {
         Form::Pem => push_pem(alloc, manner, input, out),
         Form::Spelled(octets) => put(alloc, manner, None, Ok(&octets), out),
-        Form::OddDigits => {
-            let why = "refused: an odd number of hex digits";
-            put(alloc, manner, None, Err(why), out)
-        }
-        Form::Text => push_text(alloc, manner, input, out),
+        Form::OddDigits => push_fault(alloc, manner, &FormFault::OddDigits, out),
+        Form::Text => push_fault(alloc, manner, &FormFault::Text, out),
         Form::Der => put(alloc, manner, None, Ok(input), out),
     }
 }
 
-// A document may be text, if it has no more than application tags and printed characters.
-fn push_text(
+// Puts why an input has no document.
+fn push_fault(
     alloc: Global,
     manner: &Manner<'_>,
-    text: &[u8],
+    fault: &FormFault,
     out: &mut Vec<u8>,
 ) -> Result<Verdict, AllocError>
-    requires { form_is text.now ≡ other_text }
-    ensures { IfOk result (λ verdict. AddsAnswer (PutsIn manner.now) text.now verdict
-        out.old.items out.new.items) }
+    ensures { IfOk result (λ verdict. PutsIn manner.now None None verdict out.old.items out.new.items) }
 {
-    match Document::from_der(alloc, text) {
-        Ok(_) => put(alloc, manner, None, Ok(text), out),
-        Err(fault) => push_no_document(alloc, manner, &fault, out),
-    }
-}
-
-// Puts that text is no document, if it was not memory that ran out.
-fn push_no_document(
-    alloc: Global,
-    manner: &Manner<'_>,
-    fault: &ASN1DecodeErr,
-    out: &mut Vec<u8>,
-) -> Result<Verdict, AllocError>
-    ensures memory { IfOk result (λ _. fault.now ≢ OutOfMemory) }
-    ensures put { IfOk result (λ verdict. PutsIn manner.now None None verdict out.old.items out.new.items) }
-{
-    match fault {
-        ASN1DecodeErr::OutOfMemory => Err(AllocError),
-        _ => {
-            let why = "this looks like text; DER, PEM and hex digits are read";
-            put(alloc, manner, None, Err(why), out)
-        }
-    }
+    let why = format!(in alloc; "{fault}")?;
+    put(alloc, manner, None, Err(&why), out)
 }
 
 fn push_pem(
@@ -81,36 +54,68 @@ fn push_pem(
         out.old.items out.new.items) }
 {
     let mut verdict = Verdict::AllRead;
-    let mut cut_line = None;
     let mut lines = Lines::of(input);
     while let Some((object, after)) = next_object(alloc, lines)? {
-        let read = push_object(alloc, manner, &object, out)?;
+        let read = push_object(alloc, manner, &object, after.before, out)?;
         verdict = both(verdict, read);
-        cut_line = line_if_cut(&object);
         lines = after;
     }
-    match cut_line {
-        Some(line) => {
-            let why = format!(in alloc; "line {line}: no line ends this object")?;
+    Ok(verdict)
+}
+
+// Puts an object under its label, and what is wrong with its end, up to which so many lines were read.
+fn push_object(
+    alloc: Global,
+    manner: &Manner<'_>,
+    object: &PemObject<'_>,
+    last: usize,
+    out: &mut Vec<u8>,
+) -> Result<Verdict, AllocError>
+    ensures { IfOk result (λ verdict. AddsObject (PutsIn manner.now) (shown_object object.now) verdict
+        out.old.items out.new.items) }
+{
+    let read = push_octets(alloc, manner, object, out)?;
+    let ended = push_ending(alloc, manner, object, last, out)?;
+    Ok(both(read, ended))
+}
+
+// Puts what is wrong with the end of an object, if anything is.
+fn push_ending(
+    alloc: Global,
+    manner: &Manner<'_>,
+    object: &PemObject<'_>,
+    last: usize,
+    out: &mut Vec<u8>,
+) -> Result<Verdict, AllocError>
+    ensures { IfOk result (λ verdict. AddsEnding (PutsIn manner.now) object.now.ending verdict
+        out.old.items out.new.items) }
+{
+    match fault_of_end(object, last) {
+        Some((line, what)) => {
+            let why = format!(in alloc; "line {line}: {what}")?;
             put(alloc, manner, None, Err(&why), out)
         }
-        None => Ok(verdict),
+        None => Ok(Verdict::AllRead),
     }
 }
 
-// The number of the line that begins an object which no line ends.
-fn line_if_cut(object: &PemObject<'_>) -> Option<usize>
-    ensures { MatchOption result (object.now.is_ended ≡ true) (λ line. object.now.is_ended ≡ false) }
+// The line in which an object does not end as it should, and why, where so many lines were read.
+fn fault_of_end(object: &PemObject<'_>, last: usize) -> Option<(usize, &'static str)>
+    ensures { MatchOption result (object.now.ending ≡ Closed) (λ _. object.now.ending ≢ Closed) }
 {
-    if object.is_ended {
-        None
-    } else {
-        Some(object.line)
+    match object.ending {
+        Ending::Closed => None,
+        Ending::Missing => Some((object.line, "this object has no END line")),
+        Ending::OtherLabel => Some((last, "the label of END is not that of BEGIN")),
+        Ending::Joined => Some((
+            last,
+            "another object begins in the END line, and is not read",
+        )),
     }
 }
 
-// Puts an object under its label.
-fn push_object(
+// Puts the octets of an object under its label.
+fn push_octets(
     alloc: Global,
     manner: &Manner<'_>,
     object: &PemObject<'_>,
@@ -124,7 +129,7 @@ fn push_object(
         Ok(octets) => put(alloc, manner, label, Ok(octets), out),
         Err(PemFault::Encrypted) => put(alloc, manner, label, Err("encrypted, not read"), out),
         Err(PemFault::NoBase64(line)) => {
-            let why = format!(in alloc; "line {line}: this is no base 64")?;
+            let why = format!(in alloc; "line {line}: invalid base64")?;
             put(alloc, manner, label, Err(&why), out)
         }
     }

@@ -51,16 +51,16 @@ fn push_dump(
         (option_map (λ l. l.now) label.entry) (option_map (λ o. o.now) (result_ok found.entry))
         verdict out.old.items out.new.items) }
 {
-    push_label_of(label, out)?;
+    push_label_of(alloc, label, out)?;
     push_lines(alloc, manner, found, out)
 }
 
 // Puts the line of a label, if there is one.
-fn push_label_of(label: Option<&[u8]>, out: &mut Vec<u8>) -> Result<(), AllocError>
+fn push_label_of(alloc: Global, label: Option<&[u8]>, out: &mut Vec<u8>) -> Result<(), AllocError>
     ensures { OnOk result (AddsLabel (option_map (λ l. l.now) label.entry) out.old.items out.new.items) }
 {
     match label {
-        Some(label) => push_label(label, out),
+        Some(label) => push_label(alloc, label, out),
         None => Ok(()),
     }
 }

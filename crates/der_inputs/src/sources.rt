@@ -1,15 +1,17 @@
 // A run over inputs: all of them are read before anything is written.
-ghost use Rattle.std.specs.Prelude.{◌≡◌, ◌⊎◌, List, ℕ, [], IfOk, IfErr, IfSome, IsErr, IsSome, OnOk, length, map, max};
+ghost use Rattle.std.specs.Prelude.{◌≡◌, ◌⊎◌, List, ℕ, [], IfOk, IfErr, IfSome, IsErr, IsSome, OnOk, length, map};
 ghost use Rattle.std.specs.Io.KnownBytes.{Appends, IsAtEnd, Keeps};
 ghost use Rattle.std.specs.Option.{option_map};
 ghost use Rattle.der_inputs.specs.Inputs.{AddsName, AddsNamed, AddsSource, AddsSources, AreReadToEnds, IsReadToEnd};
-ghost use Rattle.der_inputs.specs.Inputs.{greatest_status, input_of, names_shown, status_of};
+ghost use Rattle.der_inputs.specs.Inputs.{input_of, names_shown};
+ghost use Rattle.der_inputs.specs.Outcomes.{greatest_status};
 ghost use Rattle.der_io.specs.declared.StreamFault.TheVariants.{Memory as memory_fault, Write as write_fault};
 
 use crate::manner::Manner;
+use crate::outcome::{Outcome, greatest};
 use crate::tasks::push_input;
 use der_io::{StreamFault, read_all, write_all};
-use der_lines::{Names, Style, Verdict, push_label};
+use der_lines::{Names, Style, push_label};
 use der_options::{Options, Task};
 use std::alloc::{AllocError, Global};
 use std::io::{Read, Write};
@@ -21,8 +23,8 @@ pub struct Source<'a, R> {
     pub reader: R,
 }
 
-/// Reads all of each input, in order, and writes to `w` what the options want of each; answers what each came to,
-/// `None` where it could not be read, of which nothing is written. The readers of the others are at their ends.
+/// Reads all of each input, in order, and writes to `w` what the options want of each; returns what came of each. The
+/// readers of those that could be read are at their ends.
 ///
 /// An input is a document, or documents in PEM, or a document in hex digits, told apart by its octets. A document is
 /// put as a dump, or as a line of JSON. All of the output is kept in memory, and one input at a time.
@@ -34,7 +36,7 @@ pub fn run<R: Read + Drop, W: Write>(
     options: &Options<'_>,
     sources: &mut [Source<'_, R>],
     w: &mut W,
-) -> Result<Vec<Option<Verdict>>, StreamFault>
+) -> Result<Vec<Outcome>, StreamFault>
     ensures answered { IfOk result (λ came. (output : List ℕ)
         × AddsSources (names_shown options.now.task (length sources.old)) options.now
         (map (λ source. input_of source.name.now (R.remaining source.reader)) sources.old) came.items [] output
@@ -61,7 +63,7 @@ fn push_sources<R: Read + Drop>(
     is_named: bool,
     sources: &mut [Source<'_, R>],
     out: &mut Vec<u8>,
-) -> Result<Vec<Option<Verdict>>, StreamFault>
+) -> Result<Vec<Outcome>, StreamFault>
     ensures put { IfOk result (λ came. AddsSources is_named options.now
         (map (λ source. input_of source.name.now (R.remaining source.reader)) sources.old) came.items
         out.old.items out.new.items) }
@@ -97,17 +99,17 @@ fn push_source<R: Read + Drop>(
     is_named: bool,
     source: &mut Source<'_, R>,
     out: &mut Vec<u8>,
-) -> Result<Option<Verdict>, StreamFault>
+) -> Result<Outcome, StreamFault>
     ensures put { IfOk result (λ came. AddsSource is_named options.now
         (input_of source.old.name.now (R.remaining source.old.reader)) came out.old.items out.new.items) }
     ensures read { IfOk result (λ came. IsReadToEnd came (R.remaining source.new.reader)) }
     ensures fault { IfErr result (λ e. e ≡ memory_fault) }
 {
     let Some(input) = read_source(alloc, &mut source.reader)? else {
-        return Ok(None);
+        return Ok(Outcome::Unread);
     };
     match push_named(alloc, names, options, is_named, source.name, input, out) {
-        Ok(verdict) => Ok(Some(verdict)),
+        Ok(outcome) => Ok(outcome),
         Err(_) => Err(StreamFault::Memory),
     }
 }
@@ -135,12 +137,12 @@ fn push_named(
     name: &str,
     input: Vec<u8>,
     out: &mut Vec<u8>,
-) -> Result<Verdict, AllocError>
-    ensures { IfOk result (λ verdict. AddsNamed is_named options.now name.now input.items verdict
+) -> Result<Outcome, AllocError>
+    ensures { IfOk result (λ outcome. AddsNamed is_named options.now name.now input.items outcome
         out.old.items out.new.items) }
 {
     if is_named {
-        push_name(options.is_json, name, out)?;
+        push_name(alloc, options.is_json, name, out)?;
         let manner = manner_of(names, options, Some(name));
         push_input(alloc, &manner, options.task, input, out)
     } else {
@@ -150,13 +152,13 @@ fn push_named(
 }
 
 // Puts the line of a name, above a dump.
-fn push_name(is_json: bool, name: &str, out: &mut Vec<u8>) -> Result<(), AllocError>
+fn push_name(alloc: Global, is_json: bool, name: &str, out: &mut Vec<u8>) -> Result<(), AllocError>
     ensures { OnOk result (AddsName is_json name.now out.old.items out.new.items) }
 {
     if is_json {
         Ok(())
     } else {
-        push_label(name.as_bytes(), out)
+        push_label(alloc, name.as_bytes(), out)
     }
 }
 
@@ -182,37 +184,14 @@ fn manner_of<'a>(names: &'a Names, options: &Options<'_>, file: Option<&'a str>)
     }
 }
 
-/// The exit status after a run: 0 where all was read, 1 where some of the input is no document, 2 where some could not
-/// be read, after a fault of writing and where memory ran out.
-pub fn status(outcome: &Result<Vec<Option<Verdict>>, StreamFault>) -> u8
+/// The exit status after a run: 0 where all that is wanted was written, 1 where some of the input is rejected or has no
+/// such block, 2 where some cannot be read, after a fault of writing and where memory ran out.
+pub fn status(outcome: &Result<Vec<Outcome>, StreamFault>) -> u8
     ensures greatest { IfOk outcome.now (λ came. result ≡ greatest_status came.items) }
     ensures fault { IsErr outcome.now → result ≡ 2 }
 {
     match outcome {
         Ok(came) => greatest(came),
         Err(_) => 2,
-    }
-}
-
-fn greatest(came: &[Option<Verdict>]) -> u8
-    ensures { result ≡ greatest_status came.now }
-{
-    came.iter()
-        .fold(0, |most, outcome| larger(most, status_after(*outcome)))
-}
-
-fn larger(a: u8, b: u8) -> u8
-    ensures { result ≡ max a b }
-{
-    if a < b { b } else { a }
-}
-
-fn status_after(outcome: Option<Verdict>) -> u8
-    ensures { result ≡ status_of outcome }
-{
-    match outcome {
-        Some(Verdict::AllRead) => 0,
-        Some(Verdict::Refused) => 1,
-        None => 2,
     }
 }

@@ -7,10 +7,10 @@ ghost use Rattle.simple_asn1.specs.Places.{IsEncoding};
 
 use crate::answers::push_answer;
 use crate::manner::{Manner, put};
+use crate::outcome::Outcome;
 use der_forms::{FormFault, document_of};
-use der_lines::{Verdict, behind_header};
+use der_lines::{Verdict, behind_header, block_at};
 use der_options::Task;
-use simple_asn1::encoding_at;
 use std::alloc::{AllocError, Global};
 
 // Puts what the task wants of an input.
@@ -20,12 +20,12 @@ pub fn push_input(
     task: Task,
     input: Vec<u8>,
     out: &mut Vec<u8>,
-) -> Result<Verdict, AllocError>
-    ensures { IfOk result (λ verdict. AddsTask (PutsIn manner.now) task input.items verdict
+) -> Result<Outcome, AllocError>
+    ensures { IfOk result (λ outcome. AddsTask (PutsIn manner.now) task input.items outcome
         out.old.items out.new.items) }
 {
     match task {
-        Task::Dump => push_answer(alloc, manner, &input, out),
+        Task::Dump => Ok(Outcome::Written(push_answer(alloc, manner, &input, out)?)),
         Task::At(offset) => push_block(alloc, manner, task, offset, input, out),
         Task::Extract(offset) => push_block(alloc, manner, task, offset, input, out),
         Task::Contents(offset) => push_block(alloc, manner, task, offset, input, out),
@@ -40,19 +40,20 @@ fn push_block(
     offset: usize,
     input: Vec<u8>,
     out: &mut Vec<u8>,
-) -> Result<Verdict, AllocError>
-    ensures { IfOk result (λ verdict. AddsBlock (AddsPart manner.now task) offset input.items verdict
+) -> Result<Outcome, AllocError>
+    ensures { IfOk result (λ outcome. AddsBlock (AddsPart manner.now task) offset input.items outcome
         out.old.items out.new.items) }
 {
     let document = match document_of(alloc, input) {
         Ok(document) => document,
         Err(fault) => return push_no_document(alloc, manner, task, &fault, out),
     };
-    match encoding_at(&document, offset) {
+    let found = block_at(alloc, &document, offset)?;
+    match found {
         Some(block) => push_part(alloc, manner, task, block, out),
         None => {
-            let why = format!(in alloc; "no block stands at offset {offset}")?;
-            push_no_part(alloc, manner, task, &why, out)
+            let why = format!(in alloc; "no block begins at offset {offset}")?;
+            push_no_part(alloc, manner, task, why, out)
         }
     }
 }
@@ -64,30 +65,33 @@ fn push_no_document(
     task: Task,
     fault: &FormFault,
     out: &mut Vec<u8>,
-) -> Result<Verdict, AllocError>
+) -> Result<Outcome, AllocError>
     ensures memory { IfOk result (λ _. fault.now ≢ OutOfMemory) }
-    ensures put { IfOk result (λ verdict. AddsPart manner.now task None verdict out.old.items out.new.items) }
+    ensures put { IfOk result (λ outcome. AddsPart manner.now task None outcome out.old.items out.new.items) }
 {
     match fault {
         FormFault::OutOfMemory => Err(AllocError),
         _ => {
             let why = format!(in alloc; "{fault}")?;
-            push_no_part(alloc, manner, task, &why, out)
+            push_no_part(alloc, manner, task, why, out)
         }
     }
 }
 
-// Puts why there is no block.
+// Puts why there is no block, where a dump is wanted of it. Beside octets as they stand nothing is put.
 fn push_no_part(
     alloc: Global,
     manner: &Manner<'_>,
     task: Task,
-    why: &str,
+    why: String,
     out: &mut Vec<u8>,
-) -> Result<Verdict, AllocError>
-    ensures { IfOk result (λ verdict. AddsPart manner.now task None verdict out.old.items out.new.items) }
+) -> Result<Outcome, AllocError>
+    ensures { IfOk result (λ outcome. AddsPart manner.now task None outcome out.old.items out.new.items) }
 {
-    put(alloc, manner, None, Err(why), out)
+    match task {
+        Task::Extract(_) | Task::Contents(_) => Ok(Outcome::Lacking(why)),
+        _ => Ok(Outcome::Written(put(alloc, manner, None, Err(&why), out)?)),
+    }
 }
 
 // Puts what the task wants of a block.
@@ -97,22 +101,22 @@ fn push_part(
     task: Task,
     block: &[u8],
     out: &mut Vec<u8>,
-) -> Result<Verdict, AllocError>
+) -> Result<Outcome, AllocError>
     requires { IsEncoding block.now }
-    ensures { IfOk result (λ verdict. AddsPart manner.now task (Some block.now) verdict
+    ensures { IfOk result (λ outcome. AddsPart manner.now task (Some block.now) outcome
         out.old.items out.new.items) }
 {
     match task {
         Task::Extract(_) => push_octets(block, out),
         Task::Contents(_) => push_contents(alloc, block, out),
-        _ => put(alloc, manner, None, Ok(block), out),
+        _ => Ok(Outcome::Written(put(alloc, manner, None, Ok(block), out)?)),
     }
 }
 
 // Puts the octets of an encoding that stand behind its header.
-fn push_contents(alloc: Global, block: &[u8], out: &mut Vec<u8>) -> Result<Verdict, AllocError>
+fn push_contents(alloc: Global, block: &[u8], out: &mut Vec<u8>) -> Result<Outcome, AllocError>
     requires { IsEncoding block.now }
-    ensures { IfOk result (λ verdict. AddsContents block.now verdict out.old.items out.new.items) }
+    ensures { IfOk result (λ outcome. AddsContents block.now outcome out.old.items out.new.items) }
 {
     match behind_header(alloc, block)? {
         Some(contents) => push_octets(contents, out),
@@ -121,9 +125,9 @@ fn push_contents(alloc: Global, block: &[u8], out: &mut Vec<u8>) -> Result<Verdi
 }
 
 // Puts octets as they stand.
-fn push_octets(octets: &[u8], out: &mut Vec<u8>) -> Result<Verdict, AllocError>
-    ensures { IfOk result (λ verdict. AddsOctets octets.now verdict out.old.items out.new.items) }
+fn push_octets(octets: &[u8], out: &mut Vec<u8>) -> Result<Outcome, AllocError>
+    ensures { IfOk result (λ outcome. AddsOctets octets.now outcome out.old.items out.new.items) }
 {
     out.extend_from_slice(octets)?;
-    Ok(Verdict::AllRead)
+    Ok(Outcome::Written(Verdict::AllRead))
 }

@@ -3,7 +3,7 @@
 //!
 //! A program reads its input by [`read_all`], takes it apart by [`split_line`] where it comes in lines, answers it in
 //! memory, and writes the answer by [`write_all`]. What ends a run early is a [`StreamFault`]: its [`fault_text`] goes
-//! to standard error, and [`status`] is the exit status of the program.
+//! to standard error, and [`status`] is the exit status of the program. Words from an input are shown by [`escaped`].
 #![tactic(auto)]
 
 ghost use Rattle.std.specs.Prelude.{◌≡◌, ◌⊎◌, ◌<◌, ◌∷◌, ◌++◌, length, IfOk, IfErr, IfSome, OnOk, IsOk, codes};
@@ -13,8 +13,10 @@ ghost use Rattle.der_io.specs.declared.StreamFault.TheVariants.{Read as read_fau
 ghost use Rattle.der_io.specs.declared.StreamFault.TheVariants.{Write as write_fault};
 ghost use Rattle.der_io.specs.declared.StreamFault.TheVariants.{Memory as memory_fault};
 
+mod escape;
 pub mod failing;
 
+pub use escape::{escaped, push_escaped};
 use memchr::memchr;
 use std::alloc::Global;
 use std::io::{Read, Write};
@@ -110,13 +112,13 @@ pub fn fault_status(fault: &StreamFault) -> u8
 
 /// What is said of a fault on standard error.
 pub fn fault_text(fault: &StreamFault) -> &'static str
-    ensures reading { fault.now ≡ read_fault → result.now ≡ codes "read fault" }
-    ensures writing { fault.now ≡ write_fault → result.now ≡ codes "write fault" }
+    ensures reading { fault.now ≡ read_fault → result.now ≡ codes "read error" }
+    ensures writing { fault.now ≡ write_fault → result.now ≡ codes "write error" }
     ensures memory { fault.now ≡ memory_fault → result.now ≡ codes "out of memory" }
 {
     match fault {
-        StreamFault::Read => "read fault",
-        StreamFault::Write => "write fault",
+        StreamFault::Read => "read error",
+        StreamFault::Write => "write error",
         StreamFault::Memory => "out of memory",
     }
 }

@@ -42,7 +42,7 @@ array_is (d ∷ ds) =
     ∙ sym (append_assoc (compact_text d) (rows_text true ds) (93 ∷ []))
 
 pub no_rows : (document before : List ℕ) → AddsRows document false [] before before
-no_rows document before = record { rows = []; told = tt; some = refl; is = sym (append-nil before) }
+no_rows document before = record { rows = []; told = tt; some = refl; after_is = sym (append-nil before) }
 
 pub one_row : (document : List ℕ) (later : Bool) (trees : List (Tree ℕ)) (tree : Tree ℕ) (row : Data) (before middle comma after : List ℕ)
     → AddsRows document later trees before middle → comma ≡ middle ++ comma_if later → IsRow document tree row
@@ -52,8 +52,8 @@ one_row document later trees tree row before middle comma after h c o e =
       rows = h.rows ++ row ∷ [];
       told = all_zipped_more (IsRow document) trees h.rows tree row h.told o;
       some = some_more h.rows row;
-      is =
-          e ∙ (ap (λ z. z ++ compact_text row) (c ∙ (ap (λ z. z ++ comma_if later) h.is))
+      after_is =
+          e ∙ (ap (λ z. z ++ compact_text row) (c ∙ (ap (λ z. z ++ comma_if later) h.after_is))
           ∙ (append_assoc (before ++ rows_text false h.rows) (comma_if later) (compact_text row)
           ∙ append_assoc before (rows_text false h.rows) (comma_if later ++ compact_text row)
           ∙ ap (λ z. before ++ z) (ap (λ z. rows_text false h.rows ++ (comma_if z ++ compact_text row)) h.some ∙ sym (rows_more h.rows row))));
@@ -64,7 +64,7 @@ pub all_rows : (document : List ℕ) (later : Bool) (trees : List (Tree ℕ)) (b
 all_rows document later trees before middle after h e = (
   h.rows,
   h.told,
-  e ∙ (ap (λ z. z ++ 93 ∷ []) h.is ∙ (append_assoc before (rows_text false h.rows) (93 ∷ [])
+  e ∙ (ap (λ z. z ++ 93 ∷ []) h.after_is ∙ (append_assoc before (rows_text false h.rows) (93 ∷ [])
       ∙ ap (λ z. before ++ z) (sym (array_is h.rows)))),
 )
 

@@ -168,7 +168,7 @@ pub record IsDocumentJson (octets : List ℕ) (origin : Members) (json : Data) :
   pub rows : List Data
   pub document : IsDocument octets trees
   pub told : AllZip (IsRow octets) (all_in_order trees) rows
-  pub is : json ≡ object (member (codes "blocks") (array (items_of rows)) origin)
+  pub json_is : json ≡ object (member (codes "blocks") (array (items_of rows)) origin)
 
 -- words that say why octets are not read, and perhaps the offset of what is at fault
 abbrev pub words_json : Option ℕ → List ℕ → Data
@@ -185,7 +185,7 @@ pub record IsFaultJson (octets : List ℕ) (origin : Members) (json : Data) : Ty
   pub offset : ℕ
   pub words : List ℕ
   pub first : FirstFaultAt octets fault offset
-  pub is : json ≡ refusal_json (Some offset) words origin
+  pub json_is : json ≡ refusal_json (Some offset) words origin
 
 -- the text of JSON of some kind was put after the text, and the end of a line
 abbrev pub AddsJson : (Data → Type 0) → List ℕ → List ℕ → Type 0

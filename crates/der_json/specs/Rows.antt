@@ -21,7 +21,7 @@ pub record AddsRows (document : List ℕ) (later : Bool) (trees : List (Tree ℕ
   pub rows : List Data
   pub told : AllZip (IsRow document) trees rows
   pub some : later ≡ are_some rows
-  pub is : after ≡ before ++ rows_text false rows
+  pub after_is : after ≡ before ++ rows_text false rows
 
 -- so the array of them, with its closing bracket
 abbrev pub AddsArray : List ℕ → List (Tree ℕ) → List ℕ → List ℕ → Type 0

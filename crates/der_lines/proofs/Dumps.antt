@@ -72,14 +72,14 @@ line_put a b c d e f text n offset p q r s t =
     let said = on_one_line text in
     let line : List ℕ = replicate n 32 ++ (decimal offset ++ 32 ∷ said) in
     let whole : f ≡ a ++ (line ++ 10 ∷ []) = rw (t, s, r, q, p) (simp append_assoc) in
-    (line, whole, record { spaces = n; said = said; is = refl; one = has_one_line text })
+    (line, whole, record { spaces = n; said = said; line_is = refl; one = has_one_line text })
 
 -- the line of a block after its mark
 pub inside_put : (a b c : List ℕ) (offset : ℕ) → b ≡ a ++ 62 ∷ [] → AddsLine (IsBlockLine offset) b c → AddsLine (IsInsideLine offset) a c
 inside_put a b c offset p (line, is, l) = (
   62 ∷ line,
   is ∙ (ap (λ z. z ++ (line ++ 10 ∷ [])) p ∙ append_assoc a (62 ∷ []) (line ++ 10 ∷ [])),
-  record { shown = line; is = refl; block = l },
+  record { shown = line; line_is = refl; block = l },
 )
 
 pub line_inside :
@@ -97,13 +97,13 @@ note_put a b c d e text mark p q r s =
     (line, whole, refl)
 
 -- the parts of the line of a fault
-pub fault_put : (a b c d e f g text : List ℕ) (offset : ℕ) → b ≡ a ++ codes "! refused at offset " → c ≡ b ++ decimal offset
+pub fault_put : (a b c d e f g text : List ℕ) (offset : ℕ) → b ≡ a ++ codes "! error at offset " → c ≡ b ++ decimal offset
     → d ≡ c ++ 58 ∷ [] → e ≡ d ++ 32 ∷ [] → f ≡ e ++ on_one_line text → g ≡ f ++ 10 ∷ [] → AddsLine (IsFaultLine offset) a g
 fault_put a b c d e f g text offset p q r s t u =
     let said = on_one_line text in
-    let line : List ℕ = codes "! refused at offset " ++ decimal offset ++ 58 ∷ 32 ∷ said in
+    let line : List ℕ = codes "! error at offset " ++ decimal offset ++ 58 ∷ 32 ∷ said in
     let whole : g ≡ a ++ (line ++ 10 ∷ []) = rw (u, t, s, r, q, p) (simp append_assoc) in
-    (line, whole, record { said = said; is = refl; one = has_one_line text })
+    (line, whole, record { said = said; line_is = refl; one = has_one_line text })
 
 pub shown_join : (inside : Bool) (base : ℕ) (xs ys : List ℕ) → shown_at inside base (xs ++ ys) ≡ shown_at inside base xs ++ shown_at inside base ys
 shown_join true base xs ys = refl
@@ -127,7 +127,7 @@ inside_deeper octets part m o at s = record {
   place = s.place;
   stand = stand_deeper octets part s.part m s.before at s.stand;
   shown = s.shown;
-  is = let e : o ≡ s.before + s.place = s.is in omega (arith, e);
+  offset_is = let e : o ≡ s.before + s.place = s.offset_is in omega (arith, e);
 }
 
 -- offsets in octets that stand at a place are offsets in the whole
@@ -152,7 +152,7 @@ at_start octets o shown = record {
   place = o;
   stand = ([], sym (append-nil octets));
   shown = shown;
-  is = omega arith;
+  offset_is = omega arith;
 }
 
 pub one_line :

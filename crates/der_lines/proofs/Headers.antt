@@ -46,7 +46,7 @@ pub front_header : (octets : List ℕ) (header : Header) → IsAtFront octets he
 front_header octets header h = (
   h.identifier,
   h.len,
-  h.is,
+  h.front_is,
   (header.tag, (header.class, header.constructed, h.fields)),
   (header.announced, h.announces),
 )

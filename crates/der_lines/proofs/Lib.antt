@@ -3,5 +3,6 @@ mod Dumps
 mod Headers
 mod IndefiniteForms
 mod PartsOfBlocks
+mod Seeking
 mod Shown
 mod Walks

@@ -183,12 +183,12 @@ module _ (octets : List ℕ) (header : Header) (there : IsAtFront octets header)
   whole : octets ≡ there.identifier ++ (there.len ++ behind)
   whole =
       sym (take-append-drop header.size octets)
-      ∙ (ap (λ z. z ++ behind) there.is ∙ append_assoc there.identifier there.len behind)
+      ∙ (ap (λ z. z ++ behind) there.front_is ∙ append_assoc there.identifier there.len behind)
 
   size : header.size ≡ length there.identifier + length there.len
   size =
       sym (length-take-le header.size octets there.fits)
-      ∙ (ap length there.is ∙ length-append there.identifier there.len)
+      ∙ (ap length there.front_is ∙ length-append there.identifier there.len)
 
   -- the contents octets that it announces are all that stands behind it
   announced : header.announced ≡ length behind

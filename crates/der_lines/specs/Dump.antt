@@ -55,13 +55,13 @@ IsOneLine text = All (λ b. b ≢ 10) text
 pub record IsBlockLine (offset : ℕ) (line : List ℕ) : Type 0 where
   pub spaces : ℕ
   pub said : List ℕ
-  pub is : line ≡ replicate spaces 32 ++ (decimal offset ++ 32 ∷ said)
+  pub line_is : line ≡ replicate spaces 32 ++ (decimal offset ++ 32 ∷ said)
   pub one : IsOneLine said
 
 -- the line of a block that stands inside octets of another: `>`, and then as that of a block
 pub record IsInsideLine (offset : ℕ) (line : List ℕ) : Type 0 where
   pub shown : List ℕ
-  pub is : line ≡ 62 ∷ shown
+  pub line_is : line ≡ 62 ∷ shown
   pub block : IsBlockLine offset shown
 
 -- the text with a space in the place of each octet 0A
@@ -73,10 +73,10 @@ on_one_line text = map (λ b. if b == 10 then 32 else b) text
 abbrev pub IsNote : ℕ → List ℕ → List ℕ → Type 0
 IsNote mark said line = line ≡ mark ∷ 32 ∷ on_one_line said
 
--- the line of a fault: `! refused at offset`, the offset in decimal, a colon, a space, and words
+-- the line of a fault: `! error at offset`, the offset in decimal, a colon, a space, and words
 pub record IsFaultLine (offset : ℕ) (line : List ℕ) : Type 0 where
   pub said : List ℕ
-  pub is : line ≡ codes "! refused at offset " ++ decimal offset ++ 58 ∷ 32 ∷ said
+  pub line_is : line ≡ codes "! error at offset " ++ decimal offset ++ 58 ∷ 32 ∷ said
   pub one : IsOneLine said
 
 -- octets stand in others, after so many of them
@@ -145,7 +145,7 @@ pub record StandsInside (octets : List ℕ) (offset : ℕ) : Type 0 where
   pub place : ℕ
   pub stand : StandAt octets before part
   pub shown : HasBlockAt part place ⊎ HasHeaderAt part place
-  pub is : offset ≡ before + place
+  pub offset_is : offset ≡ before + place
 
 -- the text is lines, each ended by octet 0A: those of blocks, which have these offsets, in order, and those of blocks
 -- inside octets, at offsets of which something holds

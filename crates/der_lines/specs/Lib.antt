@@ -1,2 +1,3 @@
 pub mod Dump
+pub mod Seek
 pub mod Steps

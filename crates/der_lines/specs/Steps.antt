@@ -31,7 +31,7 @@ pub record IsAtFront (octets : List ℕ) (header : Header) : Type 0 where
   pub fits : header.size ≤ length octets
   pub identifier : List ℕ
   pub len : List ℕ
-  pub is : take header.size octets ≡ identifier ++ len
+  pub front_is : take header.size octets ≡ identifier ++ len
   pub fields : IsIdentifier identifier header.class header.constructed header.tag
   pub announces : IsLength len header.announced
 

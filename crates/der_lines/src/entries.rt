@@ -32,7 +32,7 @@ pub fn push_cut(
     };
     let there = left.len().saturating_sub(header.size);
     let announced = header.announced;
-    let cut = format!(in alloc; ", of whose {announced} octets {there} are there")?;
+    let cut = format!(in alloc; " (truncated: {there} of {announced} bytes)")?;
     if is_group(&header) || header.constructed {
         let first = sum_of(offset, header.size)?;
         push_header(alloc, &header, offset, place, &cut, out)?;

@@ -70,7 +70,7 @@ pub fn leaf_words(
         (Some(24), ASN1DecodeErr::InvalidDateValue(_)) => time_words(
             alloc,
             "GeneralizedTime",
-            "YYYYMMDDhhmmss, with a fraction or none, and Z",
+            "YYYYMMDDhhmmssZ, with or without a fraction",
             contents,
         ),
         (_, ASN1DecodeErr::UTF8DecodeFailure(failure)) => utf8_words(alloc, failure),
@@ -80,14 +80,11 @@ pub fn leaf_words(
 
 fn identifier_words(alloc: Global, contents: &[u8]) -> Result<String, AllocError> {
     if contents.is_empty() {
-        return String::from_str(
-            alloc,
-            "an OBJECT IDENTIFIER has no contents octets (Incomplete)",
-        );
+        return String::from_str(alloc, "OBJECT IDENTIFIER has no content bytes (Incomplete)");
     }
     String::from_str(
         alloc,
-        "the last subidentifier of an OBJECT IDENTIFIER is cut off (Incomplete)",
+        "OBJECT IDENTIFIER ends inside a component (Incomplete)",
     )
 }
 
@@ -98,7 +95,7 @@ fn time_words(
     form: &str,
     contents: &[u8],
 ) -> Result<String, AllocError> {
-    let mut words = format!(in alloc; "this is no {name}:")?;
+    let mut words = format!(in alloc; "not a {name}:")?;
     match str::from_utf8(contents) {
         Ok(text) => {
             words.push_str(" ")?;
@@ -108,7 +105,7 @@ fn time_words(
     }
     write!(
         words,
-        "; one is {form}, of a moment that exists (InvalidDateValue)"
+        "; expected {form}, of an existing moment (InvalidDateValue)"
     )?;
     Ok(words)
 }
@@ -116,9 +113,7 @@ fn time_words(
 // Where the octets begin that are no character, counted from the first of the contents octets.
 fn utf8_words(alloc: Global, failure: &Utf8Error) -> Result<String, AllocError> {
     let place = failure.valid_up_to();
-    format!(in alloc;
-        "the contents octets of a string are no UTF-8 from octet {place} of them on (UTF8DecodeFailure)"
-    )
+    format!(in alloc; "string is not UTF-8 from content byte {place} on (UTF8DecodeFailure)")
 }
 
 // So of any fault. That memory ran out is none.
@@ -126,43 +121,36 @@ pub fn fault_words(alloc: Global, fault: &ASN1DecodeErr) -> Result<String, Alloc
     ensures { IfOk result (λ _. fault.now ≢ OutOfMemory) }
 {
     match fault {
-        ASN1DecodeErr::EmptyBuffer => String::from_str(alloc, "there are no octets (EmptyBuffer)"),
+        ASN1DecodeErr::EmptyBuffer => String::from_str(alloc, "there are no bytes (EmptyBuffer)"),
         ASN1DecodeErr::BadBooleanLength(n) => {
-            format!(in alloc;
-                "a BOOLEAN has {n} contents octets in the place of one (BadBooleanLength)"
-            )
+            format!(in alloc; "BOOLEAN must have 1 content byte, has {n} (BadBooleanLength)")
         }
         ASN1DecodeErr::LengthTooLarge(n) => {
-            format!(in alloc;
-                "a length, or the number of its octets, is too large: {n} (LengthTooLarge)"
-            )
+            format!(in alloc; "length too large: {n} (LengthTooLarge)")
         }
         ASN1DecodeErr::UTF8DecodeFailure(_) => {
-            String::from_str(
-                alloc,
-                "the contents octets of a string are no UTF-8 (UTF8DecodeFailure)",
-            )
+            String::from_str(alloc, "string is not UTF-8 (UTF8DecodeFailure)")
         }
         ASN1DecodeErr::PrintableStringDecodeFailure => {
             String::from_str(
                 alloc,
-                "a character is none of a PrintableString (PrintableStringDecodeFailure)",
+                "character not allowed in PrintableString (PrintableStringDecodeFailure)",
             )
         }
         ASN1DecodeErr::InvalidDateValue(text) => format!(in alloc;
-            "this is no time: {text:?} (InvalidDateValue)"
+            "not a time: {text:?} (InvalidDateValue)"
         ),
         ASN1DecodeErr::InvalidBitStringLength(n) => {
             format!(in alloc;
-                "a BIT STRING has more unused bits than bits: {n} are left (InvalidBitStringLength)"
+                "BIT STRING has more unused bits than bits: {n} left (InvalidBitStringLength)"
             )
         }
-        ASN1DecodeErr::InvalidClass(n) => format!(in alloc; "there is no class {n} (InvalidClass)"),
-        ASN1DecodeErr::Incomplete => String::from_str(alloc, "the octets run out (Incomplete)"),
-        ASN1DecodeErr::Overflow => String::from_str(alloc, "a number is too large (Overflow)"),
+        ASN1DecodeErr::InvalidClass(n) => format!(in alloc; "invalid class {n} (InvalidClass)"),
+        ASN1DecodeErr::Incomplete => String::from_str(alloc, "unexpected end of data (Incomplete)"),
+        ASN1DecodeErr::Overflow => String::from_str(alloc, "number too large (Overflow)"),
         ASN1DecodeErr::OutOfMemory => Err(AllocError),
         ASN1DecodeErr::NotCanonical(n) => {
-            format!(in alloc; "the block at {n} is not in canonical form (NotCanonical)")
+            format!(in alloc; "block at {n} is not canonical DER (NotCanonical)")
         }
     }
 }

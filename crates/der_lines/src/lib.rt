@@ -4,7 +4,7 @@
 //!
 //! ```text
 //!       0  2       6  SEQUENCE
-//!       2  2       4    OCTET STRING, which holds
+//!       2  2       4    OCTET STRING, containing
 //! >     4  2       2      SEQUENCE
 //! >     6  2       0        NULL
 //! ```
@@ -17,7 +17,7 @@
 //! who ask more of it; [`push_fault_line`] puts the line of a fault that they find.
 //!
 //! [`push_label`] and [`push_refusal`] put the other lines of what is written: `=` and the label of a document, `!` and
-//! why there is none. [`behind_header`] gives the contents octets of an encoding. [`first_indefinite`] finds the
+//! why there is none. [`block_at`] finds a block by its offset, and [`behind_header`] its contents octets. [`first_indefinite`] finds the
 //! indefinite form of BER, for those who say [`INDEFINITE`] in lines of another kind.
 //!
 //! The only error is that memory ran out. What was put until then stays where it was put.
@@ -36,6 +36,7 @@ mod notes;
 mod parts;
 mod place;
 mod scalars;
+mod seek;
 mod style;
 mod tree;
 mod values;
@@ -47,5 +48,6 @@ pub use header::behind_header;
 pub use indefinite::first_indefinite;
 pub use names::Names;
 pub use notes::{push_label, push_refusal};
+pub use seek::block_at;
 pub use style::Style;
 pub use values::INDEFINITE;

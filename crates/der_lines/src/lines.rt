@@ -88,7 +88,7 @@ pub fn push_fault(offset: usize, said: &[u8], out: &mut Vec<u8>) -> Result<(), A
     ensures { OnOk result (AddsLine (IsFaultLine offset) out.old.items out.new.items) }
 {
     let mut digits = Buffer::new();
-    out.extend_from_slice(b"! refused at offset ")?;
+    out.extend_from_slice(b"! error at offset ")?;
     out.extend_from_slice(digits.format(offset).as_bytes())?;
     out.push(b':')?;
     out.push(b' ')?;

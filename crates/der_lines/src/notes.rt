@@ -1,20 +1,23 @@
 // Lines about documents, which are no lines of their blocks.
 ghost use Rattle.std.specs.Prelude.{◌≡◌, IfOk, OnOk};
 ghost use Rattle.der_lines.specs.Dump.{AddsLine, IsNote};
+ghost use Rattle.der_io.specs.Escaped.{escaped as escaped_is};
 ghost use Rattle.der_lines.specs.declared.document.Verdict.TheVariants.{Refused};
 
 use crate::document::Verdict;
 use crate::lines::{Mark, push_note};
-use std::alloc::AllocError;
+use der_io::escaped;
+use std::alloc::{AllocError, Global};
 
-/// Puts the line of a document's label: `=`, a space, and the label, with a space in the place of each octet 0A.
+/// Puts the line of a document's label: `=`, a space, and the label, escaped.
 ///
 /// # Errors
 /// Memory ran out.
-pub fn push_label(label: &[u8], out: &mut Vec<u8>) -> Result<(), AllocError>
-    ensures { OnOk result (AddsLine (IsNote 61 label.now) out.old.items out.new.items) }
+pub fn push_label(alloc: Global, label: &[u8], out: &mut Vec<u8>) -> Result<(), AllocError>
+    ensures { OnOk result (AddsLine (IsNote 61 (escaped_is label.now)) out.old.items out.new.items) }
 {
-    push_note(Mark::Object, label, out)
+    let text = escaped(alloc, label)?;
+    push_note(Mark::Object, text.as_bytes(), out)
 }
 
 /// Puts a line that says why something is not read: `!`, a space, and the words, with a space in the place of each

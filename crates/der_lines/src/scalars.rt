@@ -1,4 +1,5 @@
 // Octets, characters and numbers.
+use der_io::push_escaped;
 use der_values::{Characters, text_in_form};
 use std::alloc::{AllocError, Global};
 
@@ -22,7 +23,7 @@ pub fn write_hex(out: &mut String, octets: &[u8], is_full: bool) -> Result<(), A
     let (first, _) = octets.split_at(MOST_OCTETS);
     write_pairs(out, first)?;
     let n = octets.len();
-    write!(out, ".. ({n} octets)")
+    write!(out, ".. ({n} bytes)")
 }
 
 fn write_pairs(out: &mut String, octets: &[u8]) -> Result<(), AllocError> {
@@ -32,44 +33,11 @@ fn write_pairs(out: &mut String, octets: &[u8]) -> Result<(), AllocError> {
     Ok(())
 }
 
-// Puts the text at the end in quotation marks, with what is no printable character escaped.
+// Puts the text at the end in quotation marks, with what is no printed character escaped.
 pub fn write_quoted(out: &mut String, text: &str) -> Result<(), AllocError> {
     out.push_str("\"")?;
-    for c in text.chars() {
-        write_character(out, c)?;
-    }
+    push_escaped(text, out)?;
     out.push_str("\"")
-}
-
-fn write_character(out: &mut String, c: char) -> Result<(), AllocError> {
-    match c {
-        '\n' => out.push_str("\\n"),
-        '\r' => out.push_str("\\r"),
-        '\t' => out.push_str("\\t"),
-        '"' => out.push_str("\\\""),
-        '\\' => out.push_str("\\\\"),
-        _ => {
-            let number = c as u32;
-            if is_printable(number) {
-                out.push(c)
-            } else {
-                write!(out, "\\u{{{number:x}}}")
-            }
-        }
-    }
-}
-
-// Whether a character is shown as it is: no control character, and none that changes how those around it are shown.
-fn is_printable(number: u32) -> bool {
-    !(number < 0x20
-        || (0x7F <= number && number < 0xA0)
-        || number == 0xAD
-        || (0x200B <= number && number < 0x2010)
-        || (0x2028 <= number && number < 0x2030)
-        || (0x2060 <= number && number < 0x2070)
-        || number == 0xFEFF
-        || (0xFFF0 <= number && number < 0xFFFC)
-        || 0xE0000 <= number)
 }
 
 // Puts the name of the form and the octets as characters at the end, if they are at least one. Whether that was done.

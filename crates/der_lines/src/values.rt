@@ -19,6 +19,9 @@ const MOST_LEVELS: usize = 40;
 // How many octets most lines fit.
 const LINE_ROOM: usize = 112;
 
+// How many octets of another class are shown as text at least: fewer may well be a number.
+const LEAST_TEXT: usize = 5;
+
 /// What is said of a length of the indefinite form: blocks that stand inside in BER are shown behind.
 pub const INDEFINITE: &str = "indefinite length (BER): levels are lost from here";
 
@@ -179,7 +182,7 @@ fn write_octets(
 ) -> Result<(), AllocError> {
     out.push_str(name)?;
     if manner.is_opened {
-        return out.push_str(", which holds");
+        return out.push_str(", containing");
     }
     write_after_space(out, octets, manner.is_full)
 }
@@ -193,7 +196,7 @@ fn write_bit_string(
     let ending = if bits == 1 { "" } else { "s" };
     write!(out, "BIT STRING {bits} bit{ending}")?;
     if manner.is_opened {
-        return out.push_str(", which holds");
+        return out.push_str(", containing");
     }
     let unused = octets.len().saturating_mul(8).saturating_sub(bits);
     if unused > 0 {
@@ -215,7 +218,7 @@ fn write_identifier(
     let number = match oid.as_vec::<u128>(alloc) {
         Ok(_) => format!(in alloc; "{oid}")?,
         Err(ASN1DecodeErr::OutOfMemory) => return Err(AllocError),
-        Err(_) => return out.push_str("OBJECT IDENTIFIER of components past 2^128"),
+        Err(_) => return out.push_str("OBJECT IDENTIFIER with components beyond 2^128"),
     };
     write!(out, "OBJECT IDENTIFIER {number}")?;
     match names.of(&number) {
@@ -246,7 +249,7 @@ pub fn write_tag(
 fn tag_number(alloc: Global, tag: &BigUint) -> Result<String, AllocError> {
     match tag.to_u128() {
         Some(n) => format!(in alloc; "{n}"),
-        None => String::from_str(alloc, "past 2^128"),
+        None => String::from_str(alloc, "beyond 2^128"),
     }
 }
 
@@ -303,22 +306,26 @@ fn write_unknown(
     manner: Manner,
 ) -> Result<(), AllocError> {
     if manner.is_opened {
-        return out.push_str(", which holds");
+        return out.push_str(", containing");
     }
     if is_enumerated(class, tag) && !constructed {
         let number = BigInt::from_signed_bytes_be(alloc, octets)?;
         return write_integer(alloc, out, "", &number, manner);
     }
     write_after_space(out, octets, manner.is_full)?;
-    if is_text(octets) {
+    let least = match class {
+        ASN1Class::Universal => 1,
+        _ => LEAST_TEXT,
+    };
+    if octets.len() >= least && is_text(octets) {
         write_ascii(out, octets)?;
     }
     Ok(())
 }
 
-// Whether the octets are printable characters of ASCII, at least one.
+// Whether the octets are printable characters of ASCII.
 fn is_text(octets: &[u8]) -> bool {
-    !octets.is_empty() && octets.iter().all(|b| *b >= b' ' && *b < 127)
+    octets.iter().all(|b| *b >= b' ' && *b < 127)
 }
 
 fn write_ascii(out: &mut String, octets: &[u8]) -> Result<(), AllocError> {

@@ -1,5 +1,5 @@
 -- Which words of a command line give which options, by what `clap` makes of the words.
-use Rattle.std.specs.Prelude.{◌≡◌, ◌≢◌, ◌⊎◌, ◌&&◌, ℕ, ◌<◌, ◌^◌, Bool, true, false, not, List, [], ◌∷◌, codes, fold, map}
+use Rattle.std.specs.Prelude.{◌≡◌, ◌≢◌, ◌⊎◌, ◌&&◌, ℕ, ◌<◌, ◌^◌, Bool, true, false, not, List, [], ◌∷◌, codes, drop, fold, map, take}
 use Rattle.std.specs.Prelude.{Option, Some, None, is_some, if◌then◌else◌}
 use Rattle.std.specs.List.{All, list_all, list_any}
 use Rattle.std.specs.Str.{bytes_eq}
@@ -54,10 +54,22 @@ abbrev pub is_true : Option Text → Bool
 is_true None = false
 is_true (Some text) = bytes_eq text (codes "true")
 
--- the text is a number in decimal digits, perhaps with a plus before them, which 64 bits hold
+-- the text begins with `0x`
+abbrev pub begins_hex : Text → Bool
+begins_hex text = bytes_eq (take 2 text) (codes "0x")
+
+-- the text is a number in digits of the base, perhaps with a plus before them, which 64 bits hold
+abbrev pub IsNumberIn : ℕ → Text → ℕ → Type 0
+IsNumberIn base text n =
+    IsNumeral base (without_leading_plus text) × (n ≡ digits_value base (without_leading_plus text)) × (n < 2 ^ 64)
+
+-- so in hex digits behind `0x`, or in decimal digits
+abbrev pub IsNumberBy : Bool → Text → ℕ → Type 0
+IsNumberBy true text n = IsNumberIn 16 (drop 2 text) n
+IsNumberBy false text n = IsNumberIn 10 text n
+
 abbrev pub IsNumber : Text → ℕ → Type 0
-IsNumber text n =
-    IsNumeral 10 (without_leading_plus text) × (n ≡ digits_value 10 (without_leading_plus text)) × (n < 2 ^ 64)
+IsNumber text n = IsNumberBy (begins_hex text) text n
 
 -- the names of the inputs: standard input alone where none is given
 abbrev pub names_of : Option (List Text) → List Text

@@ -11,7 +11,7 @@ use std::alloc::{AllocError, Global};
 const VERSION: &str = "1.0.0";
 
 const ABOUT: &str =
-    "Shows DER documents, such as certificates and keys, given as DER, PEM, hex digits or base 64.";
+    "Shows DER documents, such as certificates and keys, given as DER, PEM, hex digits or base64.";
 
 // The command with all of its arguments.
 #[tactic(auto, unfolding(crate::specs::Options::command))]
@@ -44,19 +44,19 @@ fn with_tasks<'a>(alloc: Global, command: Command<'a>) -> Result<Command<'a>, Al
         alloc,
         "at",
         "OFFSET",
-        "Show only the block at the offset, in bytes from the start",
+        "Show only the block that begins at the offset, in bytes, also as 0x1a",
     );
     let extract = valued(
         alloc,
         "extract",
         "OFFSET",
-        "Write the bytes of the block at the offset",
+        "Write the bytes of the block that begins at the offset",
     );
     let contents = valued(
         alloc,
         "contents",
         "OFFSET",
-        "Write the contents of the block at the offset",
+        "Write the contents of the block that begins at the offset",
     );
     let strict = flag(
         alloc,

@@ -73,7 +73,7 @@ impl fmt::Display for OptionsFault<'_> {
             OptionsFault::NoNumber(name, value) => {
                 write!(
                     f,
-                    "error: invalid value '{value}' for '--{name}': no number of 64 bits"
+                    "error: invalid value '{value}' for '--{name}': not a 64-bit number"
                 )
             }
             OptionsFault::NotTogether(first, second) => {

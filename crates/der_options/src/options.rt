@@ -1,9 +1,9 @@
 // The options, and how the matches of `clap` give them.
-ghost use Rattle.std.specs.Prelude.{◌≡◌, IfOk, IfErr, OnOk, codes, map, option_map, true, false};
+ghost use Rattle.std.specs.Prelude.{◌≡◌, ℕ, IfOk, IfErr, MatchOption, OnOk, codes, drop, map, option_map, true, false};
 ghost use Rattle.clap.specs.Words.{all_of, first_of, found_of, rows_of};
 ghost use Rattle.der_options.specs.Options.{AsksFor, AsksForNothing, IsNumberOf, IsRefused, IsTask, Means};
 ghost use Rattle.der_options.specs.Options.{are_both_given, are_exclusive, go_together, is_given as is_given_by};
-ghost use Rattle.der_options.specs.Options.{is_true, names_of, takes_number};
+ghost use Rattle.der_options.specs.Options.{IsNumber, begins_hex, is_true, names_of, takes_number};
 ghost use Rattle.der_options.specs.Steps.{IsMatched, IsUnmatched, LacksOptions};
 
 use crate::command::command;
@@ -175,10 +175,28 @@ fn number_of<'a>(
     let Some(text) = value(matches, name) else {
         return Ok(None);
     };
-    match text.parse::<usize>() {
-        Ok(n) => Ok(Some(n)),
-        Err(_) => Err(OptionsFault::NoNumber(name, text)),
+    match number_in(text) {
+        Some(n) => Ok(Some(n)),
+        None => Err(OptionsFault::NoNumber(name, text)),
     }
+}
+
+// The number that a text is, in hex digits behind `0x`, or in decimal digits.
+fn number_in(text: &str) -> Option<usize>
+    ensures { MatchOption result ((n : ℕ) → IsNumber text.now n → ⊥) (IsNumber text.now) }
+{
+    match hex_digits(text) {
+        Some(digits) => usize::from_str_radix(digits, 16).ok(),
+        None => text.parse::<usize>().ok(),
+    }
+}
+
+// What stands behind `0x`, if the text begins so.
+fn hex_digits(text: &str) -> Option<&str>
+    ensures { MatchOption result (begins_hex text.now ≡ false)
+        (λ digits. (begins_hex text.now ≡ true) × (digits.now ≡ drop 2 text.now)) }
+{
+    text.strip_prefix("0x")
 }
 
 // The value of an argument.

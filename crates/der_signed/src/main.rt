@@ -12,17 +12,28 @@ mod run;
 mod tests;
 
 use crate::run::{RunFault, fault_text, run, status};
+use der_io::escaped;
+use std::alloc::{AllocError, Global};
 use std::process::ExitCode;
 
 fn main(rt: HostRuntime) -> ExitCode {
     let outcome = run(rt.alloc(), &mut rt.stdin(), &mut rt.stdout());
     if let Err(fault) = &outcome {
-        let text = fault_text(fault);
-        let _ = match fault {
-            RunFault::NoDocument(why) => eprintln!(rt; "{text}: {why}"),
-            RunFault::Refused(why) => eprintln!(rt; "{text}: {why}"),
-            _ => eprintln!(rt; "{text}"),
+        let _ = match words(rt.alloc(), fault) {
+            Ok(words) => eprintln!(rt; "{words}"),
+            Err(_) => eprintln!(rt; "{}", fault_text(fault)),
         };
     }
     ExitCode::from(status(&outcome))
+}
+
+// What is said of a fault, with what is no printed character escaped.
+fn words(alloc: Global, fault: &RunFault) -> Result<String, AllocError> {
+    let text = fault_text(fault);
+    let words = match fault {
+        RunFault::NoDocument(why) => format!(in alloc; "{text}: {why}")?,
+        RunFault::Refused(why) => format!(in alloc; "{text}: {why}")?,
+        _ => String::from_str(alloc, text)?,
+    };
+    escaped(alloc, words.as_bytes())
 }

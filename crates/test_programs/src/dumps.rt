@@ -26,7 +26,7 @@ const LAST_NULL: &[u8] = b"
 
 const LAST_LOST: &[u8] = b"
   66003  2       0    SEQUENCE, indefinite length (BER): levels are lost from here
-! refused at offset 66003: indefinite length (BER): levels are lost from here
+! error at offset 66003: indefinite length (BER): levels are lost from here
 ";
 
 #[test]
@@ -39,7 +39,7 @@ fn a_long_sequence_is_shown_once(rt: HostRuntime) -> Result<(), Fail> {
     ] {
         let octets = sequence_of_nulls(alloc, last)?;
         let mut out = Vec::new(alloc);
-        push_label(b"A", &mut out)?;
+        push_label(alloc, b"A", &mut out)?;
         push_document(alloc, &names, Style::default(), &octets, &mut out)?;
         assert!(rt; out.starts_with(FIRST_NULLS));
         assert!(rt; out.ends_with(ending));
@@ -50,9 +50,10 @@ fn a_long_sequence_is_shown_once(rt: HostRuntime) -> Result<(), Fail> {
 
 #[test]
 fn a_label_is_one_line(rt: HostRuntime) -> Result<(), Fail> {
-    let mut out = Vec::new(rt.alloc());
-    push_label(b"A\nB", &mut out)?;
-    assert_eq!(rt; out.as_slice(), b"= A B\n".as_slice());
-    assert_eq!(rt; behind_header(rt.alloc(), &[0x30])?, None);
+    let alloc = rt.alloc();
+    let mut out = Vec::new(alloc);
+    push_label(alloc, b"A\nB", &mut out)?;
+    assert_eq!(rt; out.as_slice(), b"= A\\nB\n".as_slice());
+    assert_eq!(rt; behind_header(alloc, &[0x30])?, None);
     Ok(())
 }

@@ -1,5 +1,5 @@
 // Runs of the dump whose streams fail.
-use der_inputs::{Source, run, status};
+use der_inputs::{Outcome, Source, run, status};
 use der_io::StreamFault;
 use der_io::failing::{FailingReader, FailingWriter};
 use der_lines::Verdict;
@@ -49,11 +49,15 @@ fn what_cannot_be_read_is_left_out(rt: HostRuntime) -> Result<(), Fail> {
         let mut writer = Vec::new(alloc);
         let outcome = run(alloc, &options, &mut sources, &mut writer);
         let (middle, number, shown) = if reads == 5 {
-            (Some(Verdict::AllRead), 0, 3)
+            (Outcome::Written(Verdict::AllRead), 0, 3)
         } else {
-            (None, 2, 2)
+            (Outcome::Unread, 2, 2)
         };
-        let came = [Some(Verdict::AllRead), middle, Some(Verdict::AllRead)];
+        let came = [
+            Outcome::Written(Verdict::AllRead),
+            middle,
+            Outcome::Written(Verdict::AllRead),
+        ];
         assert_eq!(rt; status(&outcome), number);
         assert!(rt; outcome.is_ok_and(|outcome| outcome.as_slice() == came.as_slice()));
         assert_eq!(rt; writer.len(), shown * SHOWN.len());

@@ -6,16 +6,6 @@ use Rattle.der_inputs.specs.Parts.{PutsIn}
 use Rattle.der_options.specs.declared.options.Task.TheVariants.{At, Contents, Dump, Extract}
 use Rattle.der_inputs.proofs.tasks.push_input.Goals as goal
 
-pub returns-in-Dump : goal.returns-in-Dump
-returns-in-Dump c =
-    let Put = PutsIn c.args.manner.now in
-    let a = c.args.out.now.items in
-    let put =
-    subst (λ z. IfOk c.push_answer.result (λ v. AddsAnswer Put z v a c.push_answer.new.out.items)) c.deref.ensures.value
-    c.push_answer.ensures
-    in
-    by_task Put c.push_answer.result c.args.task Dump c.args.input.items a _ c.in-Dump.is put
-
 pub returns-in-At : goal.returns-in-At
 returns-in-At c =
     by_task (PutsIn c.args.manner.now) c.push_block.result c.args.task (At c.in-At.offset) c.args.input.items

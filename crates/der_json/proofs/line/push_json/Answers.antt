@@ -28,7 +28,7 @@ returns-in_ok-push_end-in-Ok c =
       rows = rows;
       document = document;
       told = told;
-      is = refl;
+      json_is = refl;
     }
     in
     (_, json, line)
@@ -44,7 +44,7 @@ returns-in_ok-push_refusal-in-Err c =
       offset = c.in-Err.located.offset;
       words = c.deref.result.now;
       first = first;
-      is = refl;
+      json_is = refl;
     }
     in
     (_, json, c.in_ok-push_refusal-in-Err.ensures)

@@ -1,8 +1,8 @@
-use Rattle.std.proofs.Common.{◌≡◌, ◌∙◌, ap, rules, subst, sym, ℕ}
+use Rattle.std.proofs.Common.{◌≡◌, ◌∙◌, List, ap, rules, subst, sym, ℕ}
 use Rattle.std.specs.Prelude.{IfOk}
-use Rattle.asn1_blocks.specs.Tree.{generalized_time, leaf, utc_time}
+use Rattle.asn1_blocks.specs.Tree.{generalized_time, leaf, object_identifier, utc_time}
 use Rattle.asn1_blocks.specs.View.{view as view_block}
-use Rattle.asn1_blocks.specs.declared.block.ASN1Block.{GeneralizedTime, UTCTime, the_lemmas}
+use Rattle.asn1_blocks.specs.declared.block.ASN1Block.{GeneralizedTime, ObjectIdentifier, UTCTime, the_lemmas}
 use Rattle.asn1_leaves.specs.Contents.Moment.{moment_of}
 use Rattle.der_json.specs.Json.{IsValue}
 use Rattle.jiff_core.specs.declared.civil.datetime.DateTime.{DateTime}
@@ -14,6 +14,14 @@ utc_time_is o d = search (rules, the_lemmas)
 
 generalized_time_is : (o : ℕ) (d : DateTime) → view_block (GeneralizedTime o d) ≡ leaf o (generalized_time (moment_of d))
 generalized_time_is o d = search (rules, the_lemmas)
+
+identifier_is : (o : ℕ) (components : List ℕ) → view_block (ObjectIdentifier o components) ≡ leaf o (object_identifier components)
+identifier_is o components = search (rules, the_lemmas)
+
+pub returns-in-ObjectIdentifier-clause-told : goal.returns-in-ObjectIdentifier-clause-told
+returns-in-ObjectIdentifier-clause-told c =
+    let is = ap view_block c.in-ObjectIdentifier.is ∙ identifier_is c.in-ObjectIdentifier.field-0 c.in-ObjectIdentifier.oid in
+    subst (λ t. IfOk c.identifier_value.result (λ v. IsValue t (view v))) (sym is) c.identifier_value.ensures.told
 
 pub returns-in-UTCTime-clause-told : goal.returns-in-UTCTime-clause-told
 returns-in-UTCTime-clause-told c =

@@ -18,7 +18,7 @@ returns-in-Ok-decode_length c =
       fits = c.in-Ok-decode_length.ensures.moved.1;
       identifier = slice_range octets 0 behind;
       len = slice_range octets behind size;
-      is = front_parted octets behind size c.in-Ok-decode_length.ensures.moved.0;
+      front_is = front_parted octets behind size c.in-Ok-decode_length.ensures.moved.0;
       fields = c.in-Ok.ensures.found;
       announces = c.in-Ok-decode_length.ensures.found;
     }

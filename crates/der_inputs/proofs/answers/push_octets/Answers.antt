@@ -1,5 +1,5 @@
 use Rattle.std.proofs.Common.{rules}
-use Rattle.der_inputs.proofs.answers.push_object.Goals as goal
+use Rattle.der_inputs.proofs.answers.push_octets.Goals as goal
 
 pub returns-in-Ok : goal.returns-in-Ok
 returns-in-Ok c = search rules

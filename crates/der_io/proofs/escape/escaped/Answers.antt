@@ -1,0 +1,38 @@
+use Rattle.std.proofs.Common.{◌≡◌, Bool, true, false, List, ℕ, refl, subst, sym, ◌∙◌, string_bytes}
+use Rattle.std.proofs.lemmas.Str.{IsUtf8-from_is_utf8, is_utf8-from_IsUtf8}
+use Rattle.std.specs.Prelude.{IfOk, Result, Ok, Err}
+use Rattle.std.specs.Str.{chars, is_utf8}
+use Rattle.der_io.specs.Escaped.{all_escaped, escape_of, escape_of_octet, escaped}
+use Rattle.der_io.proofs.escape.escaped.Goals as goal
+
+not_so : (b : Bool) → (b ≡ true → ⊥) → b ≡ false
+not_so true h = absurd (h refl)
+not_so false h = refl
+
+-- text in UTF-8
+of_text : (octets : List ℕ) → is_utf8 octets ≡ true → all_escaped escape_of (chars octets) ≡ escaped octets
+of_text octets h = rw h refl
+
+of_octets : (octets : List ℕ) → is_utf8 octets ≡ false → all_escaped escape_of_octet octets ≡ escaped octets
+of_octets octets h = rw h refl
+
+spelled :
+    {S E : Type 0} (bytes : S → List ℕ) (r : Result S E) (xs ys : List ℕ) → xs ≡ ys → IfOk r (λ out. bytes out ≡ xs) →
+    IfOk r (λ out. bytes out ≡ ys)
+spelled bytes (Ok out) xs ys e h = h ∙ e
+spelled bytes (Err x) xs ys e h = tt
+
+pub returns-in-Ok : goal.returns-in-Ok
+returns-in-Ok c =
+    let octets = c.args.octets.now in
+    let text = c.in-Ok.ensures.cases in
+    spelled string_bytes c.escaped_text.result _ _
+    (of_text octets (is_utf8-from_IsUtf8 octets text.1))
+    (subst (λ z. IfOk c.escaped_text.result (λ out. string_bytes out ≡ all_escaped escape_of (chars z))) text.0 c.escaped_text.ensures)
+
+pub returns-in-Err : goal.returns-in-Err
+returns-in-Err c =
+    let octets = c.args.octets.now in
+    spelled string_bytes c.escaped_octets.result _ _
+    (of_octets octets (not_so (is_utf8 octets) (λ h. c.in-Err.ensures.cases.0 (IsUtf8-from_is_utf8 octets h))))
+    c.escaped_octets.ensures

@@ -1,0 +1,141 @@
+// Text for a terminal, in which what is no printed character is escaped.
+ghost use Rattle.std.specs.Prelude.{◌≡◌, ◌++◌, IfOk, OnOk, string_bytes};
+ghost use Rattle.std.specs.Int.{is_in_range};
+ghost use Rattle.std.specs.Str.{chars};
+ghost use Rattle.der_io.specs.Escaped.{
+  all_escaped,
+  escape_of,
+  escape_of_octet,
+  escape_of_other,
+  escaped as escaped_is,
+  is_control as is_control_by,
+  is_mark as is_mark_by,
+  is_shown as is_shown_by,
+  is_special as is_special_by,
+};
+
+use std::alloc::{AllocError, Global};
+use std::str;
+
+/// The text that the octets are, with what is no printed character escaped; of octets that are no UTF-8, each past
+/// ASCII. A terminal that shows it obeys none of its characters.
+///
+/// # Errors
+/// Memory ran out.
+pub fn escaped(alloc: Global, octets: &[u8]) -> Result<String, AllocError>
+    ensures { IfOk result (λ text. string_bytes text ≡ escaped_is octets.now) }
+{
+    match str::from_utf8(octets) {
+        Ok(text) => escaped_text(alloc, text),
+        Err(_) => escaped_octets(alloc, octets),
+    }
+}
+
+fn escaped_text(alloc: Global, text: &str) -> Result<String, AllocError>
+    ensures { IfOk result (λ out. string_bytes out ≡ all_escaped escape_of (chars text.now)) }
+{
+    let mut out = String::new(alloc);
+    push_escaped(text, &mut out)?;
+    Ok(out)
+}
+
+fn escaped_octets(alloc: Global, octets: &[u8]) -> Result<String, AllocError>
+    ensures { IfOk result (λ out. string_bytes out ≡ all_escaped escape_of_octet octets.now) }
+{
+    let mut out = String::new(alloc);
+    push_octets(octets, &mut out)?;
+    Ok(out)
+}
+
+/// Puts the text at the end, with what is no printed character escaped.
+///
+/// # Errors
+/// Memory ran out.
+pub fn push_escaped(text: &str, out: &mut String) -> Result<(), AllocError>
+    ensures { OnOk result (string_bytes out.new ≡ string_bytes out.old ++ all_escaped escape_of (chars text.now)) }
+{
+    for c in text.chars() {
+        push_character(c, out)?;
+    }
+    Ok(())
+}
+
+fn push_octets(octets: &[u8], out: &mut String) -> Result<(), AllocError>
+    ensures { OnOk result (string_bytes out.new ≡ string_bytes out.old ++ all_escaped escape_of_octet octets.now) }
+{
+    for b in octets {
+        push_octet(*b, out)?;
+    }
+    Ok(())
+}
+
+fn push_octet(b: u8, out: &mut String) -> Result<(), AllocError>
+    ensures { OnOk result (string_bytes out.new ≡ string_bytes out.old ++ escape_of_octet b) }
+{
+    if b < 128 {
+        return push_character(char::from(b), out);
+    }
+    let high = b / 16;
+    let low = b % 16;
+    write!(out, "\\x{high:x}{low:x}")
+}
+
+fn push_character(c: char, out: &mut String) -> Result<(), AllocError>
+    ensures { OnOk result (string_bytes out.new ≡ string_bytes out.old ++ escape_of c) }
+{
+    match c {
+        '\n' => out.push_str("\\n"),
+        '\r' => out.push_str("\\r"),
+        '\t' => out.push_str("\\t"),
+        '"' => out.push_str("\\\""),
+        '\\' => out.push_str("\\\\"),
+        _ => push_plain(c, out),
+    }
+}
+
+// A character that has no letter of its own behind a backslash.
+fn push_plain(c: char, out: &mut String) -> Result<(), AllocError>
+    ensures { OnOk result (string_bytes out.new ≡ string_bytes out.old ++ escape_of_other c) }
+{
+    let number = c as u32;
+    if is_shown(number) {
+        out.push(c)
+    } else {
+        write!(out, "\\u{{{number:x}}}")
+    }
+}
+
+fn is_shown(number: u32) -> bool
+    ensures { result ≡ is_shown_by number }
+{
+    !(is_control(number) || is_mark(number) || is_special(number))
+}
+
+// Whether it is a control character, or a hyphen that is shown at the end of a line alone.
+fn is_control(number: u32) -> bool
+    ensures { result ≡ is_control_by number }
+{
+    number < 0x20 || is_within(0x7F, 0x9F, number) || number == 0xAD
+}
+
+// Whether it has no width, or changes the direction of those around it, or ends a line.
+fn is_mark(number: u32) -> bool
+    ensures { result ≡ is_mark_by number }
+{
+    is_within(0x200B, 0x200F, number)
+        || is_within(0x2028, 0x202F, number)
+        || is_within(0x2060, 0x206F, number)
+}
+
+// Whether it is a byte order mark, or one that notes of text or tags have.
+fn is_special(number: u32) -> bool
+    ensures { result ≡ is_special_by number }
+{
+    number == 0xFEFF || is_within(0xFFF0, 0xFFFB, number) || 0xE0000 <= number
+}
+
+fn is_within(least: u32, most: u32, number: u32) -> bool
+    ensures { result ≡ is_in_range least most number }
+{
+    least <= number && number <= most
+}

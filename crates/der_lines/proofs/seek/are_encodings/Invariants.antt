@@ -1,0 +1,10 @@
+use Rattle.std.proofs.Common.{length}
+use Rattle.std.specs.Prelude.{◌↔◌}
+use Rattle.der_lines.specs.Seek.{AreEncodings}
+use Rattle.der_lines.proofs.seek.are_encodings.Given as goal
+
+abbrev pub invariant-loop-encoding : goal.invariant-loop-encoding
+invariant-loop-encoding l = AreEncodings l.octets ↔ AreEncodings l.rest
+
+abbrev pub decreases-loop-encoding : goal.decreases-loop-encoding
+decreases-loop-encoding l = length l.rest
