@@ -24,12 +24,12 @@ mutual
   pub data BegunInside : List ℕ → ℕ → Type 0 where
     inside_first : {octets : List ℕ} {a : ℕ} (x rest : List ℕ)
         {class : ASN1Class} {constructed : Bool} {tag : ℕ} {contents : List ℕ} {header : ℕ}
-        → octets ≡ x ++ rest → Encoding x class constructed tag contents header → IsReadInside class constructed tag
-        → HeadersBegun contents a → BegunInside octets a
-    nothing_inside : {octets : List ℕ}
-        → ((x rest : List ℕ) (class : ASN1Class) (constructed : Bool) (tag : ℕ) (contents : List ℕ) (header : ℕ)
         → octets ≡ x ++ rest → Encoding x class constructed tag contents header
-        → IsReadInside class constructed tag → ⊥)
+        → IsReadInside class constructed tag → HeadersBegun contents a → BegunInside octets a
+    nothing_inside : {octets : List ℕ}
+        → ((x rest : List ℕ) (class : ASN1Class) (constructed : Bool) (tag : ℕ)
+        (contents : List ℕ) (header : ℕ) → octets ≡ x ++ rest
+        → Encoding x class constructed tag contents header → IsReadInside class constructed tag → ⊥)
         → BegunInside octets 0
 
   pub data BegunAfter : List ℕ → ℕ → Type 0 where

@@ -103,7 +103,8 @@ pub trait Builder: Drop {
         depth: usize,
     ) -> Result<(), AllocError>
         requires { CanEnd holds octets.now (in_frame extent items) depth self.old parent.old }
-        ensures { OnOk result (HasEndedIn holds octets.now (in_frame extent items) depth self.old parent.old self.new parent.new) };
+        ensures { OnOk result
+            (HasEndedIn holds octets.now (in_frame extent items) depth self.old parent.old self.new parent.new) };
 
     // A fault inside ended the frame, an attempt: the frame around it has the encoding as it came.
     fn keep(
@@ -116,7 +117,8 @@ pub trait Builder: Drop {
         depth: usize,
     ) -> Result<(), AllocError>
         requires { CanBeKept octets.now extent }
-        ensures { OnOk result (HasKept holds octets.now (in_frame extent items) depth self.old parent.old self.new parent.new) };
+        ensures { OnOk result
+            (HasKept holds octets.now (in_frame extent items) depth self.old parent.old self.new parent.new) };
 }
 
 // The innermost frame, those around it, the place reached, and what is built.

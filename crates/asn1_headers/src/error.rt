@@ -36,7 +36,7 @@ pub enum ASN1DecodeErr {
     /// A class that does not exist. Never returned.
     #[error("Invalid class value: {0}")]
     InvalidClass(u8),
-    /// The input is truncated. Octets that mean something else can lead to it.
+    /// The input is truncated. Other malformed input can look truncated too.
     #[error("Incomplete data or invalid ASN1")]
     Incomplete,
     /// A component of an object identifier does not fit the type that was asked for.

@@ -26,7 +26,7 @@ pub enum ASN1Class {
     Private,
 }
 
-/// The number of headers begun. Only [`decode_tag`] raises it.
+/// The number of headers begun. [`decode_tag`] raises it, and so does what reads a document with a count.
 #[derive(Debug, Drop)]
 pub struct HeaderCount {
     begun: u64,

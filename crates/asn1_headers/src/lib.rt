@@ -6,7 +6,8 @@
 //!
 //! `simple_asn1` hands on the errors, `ASN1Class`, `HeaderCount`, and the calls whose names begin with `decode_` and
 //! `encode_`. All else is public for the crates above alone, and may change with them: what looks at octets
-//! (`length_at`, `identifier_at`), what is put (`put_length`, `put_identifier`), and sizes (`length_size`, `identifier_size`).
+//! (`length_at`, `identifier_at`), what is put (`put_length`, `put_identifier`), and sizes (`length_size`,
+//! `identifier_size`).
 #![tactic(auto)]
 
 pub mod error;

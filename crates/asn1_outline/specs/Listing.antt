@@ -45,8 +45,8 @@ pub record IsHeld (document : List ℕ) (f : OpenFrame EntryItems) (deep : ℕ) 
   pub around : Around front
 
 -- the entries are those of the blocks that the frames have, the innermost first
-abbrev pub AllHold : List ℕ → List Entry → OpenFrame EntryItems → List (OpenFrame EntryItems) → List (Tree ℕ)
-    → List (List (Tree ℕ)) → Type 0
+abbrev pub AllHold : List ℕ → List Entry → OpenFrame EntryItems → List (OpenFrame EntryItems)
+    → List (Tree ℕ) → List (List (Tree ℕ)) → Type 0
 AllHold document rs f [] ts [] = (f.items.count ≡ length ts) × AreOfTrees document 0 0 ts rs
 AllHold document rs f [] ts (us ∷ rest) = ⊥
 AllHold document rs f (g ∷ gs) ts [] = ⊥
@@ -58,7 +58,8 @@ all_hold document rs [] trees = ⊥
 all_hold document rs (f ∷ gs) [] = ⊥
 all_hold document rs (f ∷ gs) (ts ∷ rest) = AllHold document rs f gs ts rest
 
-abbrev pub builder_holds : List ℕ → EntryBuilder → List (OpenFrame EntryItems) → List (List (Tree ℕ)) → Type 0
+abbrev pub builder_holds : List ℕ → EntryBuilder → List (OpenFrame EntryItems) → List (List (Tree ℕ))
+    → Type 0
 builder_holds document b fs trees = all_hold document b.entries.items fs trees
 
 -- the entry with so many items, and the index after it and them

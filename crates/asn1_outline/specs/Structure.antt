@@ -35,7 +35,8 @@ abbrev pub node_count : Nodes → ℕ
 node_count no_nodes = 0
 node_count (more_nodes n ns) = suc (node_count ns)
 
--- at the offset in the document stands a constructed encoding of another class, whose contents octets begin at the place
+-- at the offset in the document stands a constructed encoding of another class, whose contents octets begin at the
+-- place
 pub record IsTaggedAt (document : List ℕ) (class : ASN1Class) (offset tag : ℕ) (contents : List ℕ) (place : ℕ)
     : Type 0 where
   pub octets : List ℕ
@@ -52,7 +53,8 @@ Holds document (leaf o l) bs = bs ≡ no_trees
 Holds document (group o g items) bs = bs ≡ items
 Holds document (explicit class o tag b) bs = bs ≡ more_trees b no_trees
 Holds document (unknown class constructed o tag contents) bs =
-    ((constructed ≡ true) × (place : ℕ) × IsTaggedAt document class o tag contents place × EncodesAll place contents bs)
+    ((constructed ≡ true) × (place : ℕ) × IsTaggedAt document class o tag contents place
+    × EncodesAll place contents bs)
     ⊎ ((bs ≡ no_trees) × ((class ≢ Universal) × (constructed ≡ true) × AreBlocks contents → ⊥))
 
 abbrev mutual

@@ -23,8 +23,9 @@ use std::alloc::{AllocError, Global};
 impl<'a> Outline<'a> {
     /// The block at the index as `from_der` reads it from the document, with the same offsets; `None` past the end.
     ///
-    /// It takes the memory that `from_der` takes for this block, and no stack, however deep it nests. Give it to
-    /// [`discard`], in a `Vec`, where it may nest deeply.
+    /// It takes memory for this block and those inside it; while it is built, also for the blocks inside one that stays
+    /// `Unknown`. Stack use does not grow with nesting. A block that may nest deeply is dropped by [`discard`], in a
+    /// `Vec`.
     ///
     /// [`discard`]: asn1_blocks::block::discard::discard
     pub fn to_block(&self, alloc: Global, index: usize) -> Result<Option<ASN1Block>, AllocError>

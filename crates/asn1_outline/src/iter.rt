@@ -12,7 +12,7 @@ use crate::outline::Outline;
 use std::iter::FusedIterator;
 use std::marker::Model;
 
-/// Entries in order, each with its index: of [`Outline::blocks`], [`Outline::items`] and [`Outline::all`].
+/// Entries in order, each with its index, as [`Outline::blocks`], [`Outline::items`] and [`Outline::all`] return them.
 #[derive(Drop)]
 pub struct Entries<'a> {
     // The next entry, and those after it.

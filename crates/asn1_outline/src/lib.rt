@@ -1,5 +1,5 @@
-//! Documents as flat lists of entries, one for each block, of which none is made: a layer of `simple_asn1`, which is the
-//! crate for users.
+//! Documents as flat lists of entries, one for each block, of which none is made: a layer of `simple_asn1`, which is
+//! the crate for users.
 //!
 //! `simple_asn1` hands on `Outline` and `Entry`. All else is public for the crates above alone, and may change with
 //! them.

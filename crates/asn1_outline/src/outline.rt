@@ -6,9 +6,9 @@ use crate::entry::Entry;
 /// The blocks of a document as a flat list of entries, each before those inside it. It borrows the document's octets
 /// and builds no blocks: contents octets are checked and not copied, and dropping an `Outline` does not recurse.
 ///
-/// It shows the blocks in each constructed encoding of another class (X.690 8.14), however many, where [`ASN1Block`] has
-/// one as `Explicit` and keeps several as `Unknown`: the attributes of a certification request, for example. Where
-/// contents octets of another class have a fault, they stay as they came, without items.
+/// It shows the blocks in each constructed encoding of another class (X.690 8.14), however many, where [`ASN1Block`]
+/// has one as `Explicit` and keeps several as `Unknown`: the attributes of a certification request, for example.
+/// Where contents octets of another class have a fault, they stay as they came, without items.
 ///
 /// [`ASN1Block`]: asn1_blocks::block::ASN1Block
 ///

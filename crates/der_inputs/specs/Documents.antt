@@ -58,8 +58,8 @@ AddsDefiniteJsonOf octets origin AllRead before after =
     IsDefiniteDocument octets × AddsJsonOf octets origin true before after
 AddsDefiniteJsonOf octets origin Refused before after =
     AddsJsonOf octets origin false before after
-    ⊎ ((offset : ℕ) × (shown : List ℕ) × IsIndefiniteAt octets offset × AddsJsonOf octets origin true before shown
-    × AddsRefusal (Some offset) origin shown after)
+    ⊎ ((offset : ℕ) × (shown : List ℕ) × IsIndefiniteAt octets offset
+    × AddsJsonOf octets origin true before shown × AddsRefusal (Some offset) origin shown after)
 
 -- the line of JSON of octets, where no document is read but a canonical one: of another, that of a refusal at its first
 -- block at the top level that is not canonical
@@ -84,17 +84,20 @@ AddsJsonLine strict None origin verdict before after = (verdict ≡ Refused) × 
 -- a line of JSON that tells its file and its label, of each that there is. Where a label is no UTF-8, U+FFFD stands in
 -- place of the octets that are none
 abbrev pub PutsJson :
-    Bool → Option (List ℕ) → Option (List ℕ) → Option (List ℕ) → Verdict → List ℕ → List ℕ → Type 0
+    Bool → Option (List ℕ) → Option (List ℕ) → Option (List ℕ) → Verdict → List ℕ → List ℕ
+    → Type 0
 PutsJson strict file label octets = AddsJsonLine strict octets (origin_members file (option_map utf8_lossy label))
 
 -- as JSON, which has all blocks, or as a dump
 abbrev pub PutsAs :
-    Bool → Bool → Option ℕ → Option (List ℕ) → Option (List ℕ) → Option (List ℕ) → Verdict → List ℕ → List ℕ → Type 0
+    Bool → Bool → Option ℕ → Option (List ℕ) → Option (List ℕ) → Option (List ℕ) → Verdict
+    → List ℕ → List ℕ → Type 0
 PutsAs true strict most file = PutsJson strict file
 PutsAs false strict most file = PutsDump strict most
 
 -- what the options want to be put of octets that have this label, if any, in the file of this name, if it is told; or
 -- of what has no octets that can be read
 abbrev pub Puts :
-    Options → Option (List ℕ) → Option (List ℕ) → Option (List ℕ) → Verdict → List ℕ → List ℕ → Type 0
+    Options → Option (List ℕ) → Option (List ℕ) → Option (List ℕ) → Verdict → List ℕ → List ℕ
+    → Type 0
 Puts options file = PutsAs options.is_json options.is_strict options.most_depth file

@@ -48,7 +48,8 @@ AddsObjects Put (object ∷ others) verdict before after =
     × AddsObject Put object first before between × AddsObjects Put others later between after
 
 -- so of an input, which has its documents in one of the forms
-pub data AddsAnswer (Put : OutputRelation) (input : List ℕ) (verdict : Verdict) (before after : List ℕ) : Type 0 where
+pub data AddsAnswer (Put : OutputRelation) (input : List ℕ) (verdict : Verdict) (before after : List ℕ)
+    : Type 0 where
   of_octets :
       form_is input ≡ plain_octets → Put None (Some input) verdict before after →
       AddsAnswer Put input verdict before after
@@ -64,8 +65,8 @@ pub data AddsAnswer (Put : OutputRelation) (input : List ℕ) (verdict : Verdict
       AddsAnswer Put input verdict before after
 
 -- so of the block that begins at the offset in the document of an input, the first one of PEM; or where none does
-pub data AddsBlock (Put : Option (List ℕ) → Outcome → List ℕ → List ℕ → Type 0) (offset : ℕ) (input : List ℕ)
-    (outcome : Outcome) (before after : List ℕ) : Type 0 where
+pub data AddsBlock (Put : Option (List ℕ) → Outcome → List ℕ → List ℕ → Type 0) (offset : ℕ)
+    (input : List ℕ) (outcome : Outcome) (before after : List ℕ) : Type 0 where
   of_block :
       (document block : List ℕ) → document_of input ≡ Some document → BeginsAt document offset block →
       Put (Some block) outcome before after → AddsBlock Put offset input outcome before after
@@ -87,7 +88,8 @@ AddsContents octets outcome before after =
 
 -- octets are added as they are wanted, and nothing where there are none
 abbrev pub AddsThese :
-    (List ℕ → Outcome → List ℕ → List ℕ → Type 0) → Option (List ℕ) → Outcome → List ℕ → List ℕ → Type 0
+    (List ℕ → Outcome → List ℕ → List ℕ → Type 0) → Option (List ℕ) → Outcome
+    → List ℕ → List ℕ → Type 0
 AddsThese Adds (Some octets) = Adds octets
 AddsThese Adds None = WritesNothing
 

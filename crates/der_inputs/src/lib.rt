@@ -3,8 +3,8 @@
 //! [`run`] reads inputs, each a [`Source`] with a name, and writes what the options of `der_options` want of each: a
 //! dump, a line of JSON, or octets as they stand. An input is a document in one of the forms of `der_forms`, told
 //! apart by its octets; a dump has the lines of `der_lines`, and a line of JSON is that of `der_json`. What comes of an
-//! input is an [`Outcome`], and [`status`] is the exit status after a run. [`push_document_strictly`] puts the lines of a
-//! document and rejects one that is not canonical.
+//! input is an [`Outcome`], and [`status`] is the exit status after a run. [`push_document_strictly`] puts the lines of
+//! a document and rejects one that is not canonical.
 //!
 //! It opens nothing by itself: `der_dump` gives it files and standard input, and tests give it octets.
 #![tactic(auto)]

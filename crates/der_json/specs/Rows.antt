@@ -17,7 +17,8 @@ are_some [] = false
 are_some (d ∷ ds) = true
 
 -- rows of these trees were put after the text, and whether any
-pub record AddsRows (document : List ℕ) (later : Bool) (trees : List (Tree ℕ)) (before after : List ℕ) : Type 0 where
+pub record AddsRows (document : List ℕ) (later : Bool) (trees : List (Tree ℕ)) (before after : List ℕ)
+    : Type 0 where
   pub rows : List Data
   pub told : AllZip (IsRow document) trees rows
   pub some : later ≡ are_some rows

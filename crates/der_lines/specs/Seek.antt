@@ -6,8 +6,8 @@ use Rattle.asn1_headers.specs.declared.header.ASN1Class.TheVariants.{Universal}
 use Rattle.asn1_blocks.specs.Places.{EncodingAt, IsEncoding}
 
 -- the octets begin with a header of so many octets
-pub record BeginsWithHeader (octets : List ℕ) (size announced : ℕ) (class : ASN1Class) (constructed : Bool) (tag : ℕ)
-    : Type 0 where
+pub record BeginsWithHeader (octets : List ℕ) (size announced : ℕ) (class : ASN1Class) (constructed : Bool)
+    (tag : ℕ) : Type 0 where
   pub fits : size ≤ length octets
   pub identifier : List ℕ
   pub len : List ℕ
@@ -30,16 +30,18 @@ is_gone_into class false tag = false
 
 -- in contents octets others begin, behind so many of them: in those of a constructed encoding, of an OCTET STRING that
 -- holds encodings, and of a BIT STRING without unused bits that does
-pub data Holds (class : ASN1Class) (constructed : Bool) (tag : ℕ) (contents : List ℕ) (before : ℕ) (inside : List ℕ)
-    : Type 0 where
+pub data Holds (class : ASN1Class) (constructed : Bool) (tag : ℕ) (contents : List ℕ) (before : ℕ)
+    (inside : List ℕ) : Type 0 where
   holds_blocks :
       is_gone_into class constructed tag ≡ true → before ≡ 0 → inside ≡ contents →
       Holds class constructed tag contents before inside
   holds_octets :
-      class ≡ Universal → constructed ≡ false → tag ≡ 4 → before ≡ 0 → inside ≡ contents → AreEncodings inside →
+      class ≡ Universal → constructed ≡ false → tag ≡ 4 → before ≡ 0 → inside ≡ contents →
+      AreEncodings inside →
       Holds class constructed tag contents before inside
   holds_bits :
-      class ≡ Universal → constructed ≡ false → tag ≡ 3 → before ≡ 1 → contents ≡ 0 ∷ inside → AreEncodings inside →
+      class ≡ Universal → constructed ≡ false → tag ≡ 3 → before ≡ 1 → contents ≡ 0 ∷ inside →
+      AreEncodings inside →
       Holds class constructed tag contents before inside
 
 -- this encoding begins at the offset: at the front, behind the encoding there, or in its contents octets, which may be

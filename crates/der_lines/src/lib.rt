@@ -13,12 +13,12 @@
 //! many contents octets it announces, its type, and its value. What stands inside octets of a block has lines that
 //! begin with `>`. Of octets that are no document, the encodings that can be read are shown, and then the first fault,
 //! on a line that begins with `!`; what came of it is the [`Verdict`]. A document with a length of the indefinite form
-//! of BER is refused, too, after all its lines. [`push_octets`] puts the lines alone and returns the document, for those
-//! who ask more of it; [`push_fault_line`] puts the line of a fault that they find.
+//! of BER is refused, too, after all its lines. [`push_octets`] puts the lines alone and returns the document, for
+//! those who ask more of it; [`push_fault_line`] puts the line of a fault that they find.
 //!
 //! [`push_label`] and [`push_refusal`] put the other lines of what is written: `=` and the label of a document, `!` and
-//! why there is none. [`block_at`] finds a block by its offset, and [`behind_header`] its contents octets. [`first_indefinite`] finds the
-//! indefinite form of BER, for those who say [`INDEFINITE`] in lines of another kind.
+//! why there is none. [`block_at`] finds a block by its offset, and [`behind_header`] its contents octets.
+//! [`first_indefinite`] finds the indefinite form of BER, for those who say [`INDEFINITE`] in lines of another kind.
 //!
 //! The only error is that memory ran out. What was put until then stays where it was put.
 #![tactic(auto)]

@@ -138,7 +138,8 @@ fn push_group_line(
 ) -> Result<(), AllocError>
     ensures shown { OnOk result (is_too_deep place.most_depth place.depth ≡ false →
         AddsLine (IsLineOf place.is_inside (place.base + 0)) out.old.items out.new.items) }
-    ensures hidden { OnOk result (is_too_deep place.most_depth place.depth ≡ true → out.new.items ≡ out.old.items) }
+    ensures hidden { OnOk result (is_too_deep place.most_depth place.depth ≡ true →
+        out.new.items ≡ out.old.items) }
 {
     if place.is_too_deep() {
         return Ok(());

@@ -32,7 +32,8 @@ impl<'a> Walk<'a> {
         blocks: &'a [ASN1Block],
         place: Place,
     ) -> Result<Walk<'a>, AllocError>
-        ensures { IfOk result (λ walk. ahead walk ≡ offsets_down_to place.most_depth place.depth (views blocks.now)) }
+        ensures { IfOk result
+            (λ walk. ahead walk ≡ offsets_down_to place.most_depth place.depth (views blocks.now)) }
     {
         let mut lists = Vec::new(alloc);
         lists.push(blocks)?;

@@ -112,7 +112,8 @@ IsNumberOf name rows (Some n) = (text : Text) × (first_of name rows ≡ Some te
 -- what is done with each input
 abbrev pub IsTask : List Row → Task → Type 0
 IsTask rows Dump =
-    IsNumberOf (codes "at") rows None × IsNumberOf (codes "extract") rows None × IsNumberOf (codes "contents") rows None
+    IsNumberOf (codes "at") rows None × IsNumberOf (codes "extract") rows None
+    × IsNumberOf (codes "contents") rows None
 IsTask rows (At n) = IsNumberOf (codes "at") rows (Some n)
 IsTask rows (Extract n) = IsNumberOf (codes "extract") rows (Some n)
 IsTask rows (Contents n) = IsNumberOf (codes "contents") rows (Some n)
@@ -137,7 +138,8 @@ Means words options = (fault_of command words ≡ []) × AsksFor (matches_of com
 abbrev pub AsksForNothing : List Row → OptionsFault → Type 0
 AsksForNothing rows (Command e) = ⊥
 AsksForNothing rows (NoNumber name text) =
-    (takes_number name.now ≡ true) × (first_of name.now rows ≡ Some text.now) × ((n : ℕ) → IsNumber text.now n → ⊥)
+    (takes_number name.now ≡ true) × (first_of name.now rows ≡ Some text.now)
+    × ((n : ℕ) → IsNumber text.now n → ⊥)
 AsksForNothing rows (NotTogether first second) =
     (are_exclusive first.now second.now ≡ true) × (are_both_given first.now second.now rows ≡ true)
 

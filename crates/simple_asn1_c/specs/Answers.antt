@@ -32,19 +32,21 @@ abbrev pub IsNoMemory : ℕ → ℕ → Type 0
 IsNoMemory status offset = (status ≡ no_memory) × (offset ≡ 0)
 
 -- reading into records: the records of all blocks of a document, at the front of what is written to, and those behind
--- are as before; their number, where there is no room for so many, and then nothing was written; the first fault and its
--- place; or memory ran out
+-- are as before; their number, where there is no room for so many, and then nothing was written; the first fault and
+-- its place; or memory ran out
 pub data AnswersRead (octets : List ℕ) (before after : List Block) (o : Outcome) : Type 0 where
   was_read :
-      o.status ≡ done → o.offset ≡ 0 → (ns : Nodes) → IsStructure octets ns → o.count ≡ length (nodes_in_order ns) →
-      AreRecords octets ns after → AreKeptBehind o.count before after → AnswersRead octets before after o
+      o.status ≡ done → o.offset ≡ 0 → (ns : Nodes) → IsStructure octets ns →
+      o.count ≡ length (nodes_in_order ns) → AreRecords octets ns after → AreKeptBehind o.count before after →
+      AnswersRead octets before after o
   had_no_room :
       o.status ≡ no_room → o.offset ≡ 0 → (ns : Nodes) → IsStructure octets ns →
       o.count ≡ length (nodes_in_order ns) → length before < o.count → after ≡ before →
       AnswersRead octets before after o
   was_refused :
       IsRefused octets o.status o.offset → o.count ≡ 0 → after ≡ before → AnswersRead octets before after o
-  had_no_memory : IsNoMemory o.status o.offset → o.count ≡ 0 → after ≡ before → AnswersRead octets before after o
+  had_no_memory :
+      IsNoMemory o.status o.offset → o.count ≡ 0 → after ≡ before → AnswersRead octets before after o
 
 -- the octets are a document in canonical form with this structure
 abbrev pub IsCanonicalStructure : List ℕ → Nodes → Type 0
@@ -70,8 +72,9 @@ pub data AnswersReadStrict (octets : List ℕ) (before after : List Block) (o : 
 -- number, where there is no room for so many; the first fault and its place; or memory ran out
 pub data AnswersRewrite (octets before after : List ℕ) (o : Outcome) : Type 0 where
   was_written :
-      o.status ≡ done → o.offset ≡ 0 → (bs : Trees ℕ) → IsDocument octets bs → o.count ≡ length (all_canonical bs) →
-      AreFront (all_canonical bs) before after → AnswersRewrite octets before after o
+      o.status ≡ done → o.offset ≡ 0 → (bs : Trees ℕ) → IsDocument octets bs →
+      o.count ≡ length (all_canonical bs) → AreFront (all_canonical bs) before after →
+      AnswersRewrite octets before after o
   had_no_room_to_write :
       o.status ≡ no_room → o.offset ≡ 0 → (bs : Trees ℕ) → IsDocument octets bs →
       o.count ≡ length (all_canonical bs) → length before < o.count → after ≡ before →

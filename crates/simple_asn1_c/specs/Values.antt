@@ -77,11 +77,13 @@ pub record UniversalAt (octets : List ℕ) (offset tag : ℕ) (contents : List �
 -- octets are at fault
 pub data IsReason (IsTag : ℕ → Type 0) (octets : List ℕ) (offset status : ℕ) : Type 0 where
   is_of_another_kind :
-      status ≡ no_such_value → ((tag : ℕ) (contents : List ℕ) → IsTag tag → UniversalAt octets offset tag contents → ⊥) →
+      status ≡ no_such_value →
+      ((tag : ℕ) (contents : List ℕ) → IsTag tag → UniversalAt octets offset tag contents → ⊥) →
       IsReason IsTag octets offset status
   is_at_fault :
-      (tag : ℕ) → IsTag tag → (contents : List ℕ) → (u : UniversalAt octets offset tag contents) → (fault : DecodeFault) →
-      FirstFault u.whole fault → status ≡ status_of fault → IsReason IsTag octets offset status
+      (tag : ℕ) → IsTag tag → (contents : List ℕ) → (u : UniversalAt octets offset tag contents) →
+      (fault : DecodeFault) → FirstFault u.whole fault → status ≡ status_of fault →
+      IsReason IsTag octets offset status
 
 -- no value of a kind is answered: memory ran out, or there is none at the offset
 abbrev pub IsMissing : Type 0 → (ℕ → Type 0) → List ℕ → ℕ → ℕ → Type 0
@@ -151,4 +153,5 @@ pub data AnswersIdentifier (octets : List ℕ) (offset : ℕ) (before after : Li
       AnswersIdentifier octets offset before after o
   identifier_is_missing :
       IsMissing ((components : List ℕ) × IsIdentifierAt octets offset components) IsIdentifierTag octets offset
-      o.status → o.offset ≡ offset → o.count ≡ 0 → after ≡ before → AnswersIdentifier octets offset before after o
+      o.status → o.offset ≡ offset → o.count ≡ 0 → after ≡ before →
+      AnswersIdentifier octets offset before after o

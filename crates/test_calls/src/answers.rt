@@ -15,8 +15,8 @@
 //     read 04 89              refused LengthTooLarge 9
 //     signed 05 00            refused Shape
 //
-// `read` is answered by the blocks in the notation of `test_notation`, `count` by the number of headers that were begun,
-// and whether the octets were read, `place` by whether they were read, and at which offset they are at fault,
+// `read` is answered by the blocks in the notation of `test_notation`, `count` by the number of headers that were
+// begun, and whether the octets were read, `place` by whether they were read, and at which offset they are at fault,
 // `rewrite` by the canonical octets, `strict` as `read`, of canonical documents alone, and `signed` by the content,
 // the algorithm, the number of bits and the octets of the signature: `content 30 00, algorithm 1.2, 8 bits, AB`. A
 // call that refuses its octets is answered by `refused`, the name of the fault, and after a space what the fault

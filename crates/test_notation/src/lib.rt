@@ -39,8 +39,9 @@
 //! | explicit tagging | `Explicit(CLASS, OFFSET, TAG, BLOCK)` |
 //! | any other encoding | `Unknown(CLASS, CONSTRUCTED, OFFSET, TAG, [OCTETS])`, `CONSTRUCTED` being `true` or `false` |
 //!
-//! A class is `Universal`, `Application`, `CS` (for `ContextSpecific`) or `Private`. Between two blocks of a list stands
-//! `, `: `Sequence(0, [Integer(2, 5), Null(5)])`. A document is written as the list of its blocks, without brackets.
+//! A class is `Universal`, `Application`, `CS` (for `ContextSpecific`) or `Private`. Between two blocks of a list
+//! stands `, `: `Sequence(0, [Integer(2, 5), Null(5)])`. A document is written as the list of its blocks, without
+//! brackets.
 #![tactic(auto)]
 
 mod blocks;

@@ -26,35 +26,37 @@ abbrev pub in_frame : {I : Type 0} → Extent → I → OpenFrame I
 in_frame e items = record { extent = e; items = items }
 
 -- the builder a became b, and has a new frame with these items, for an encoding with this header
-pub record HasOpened {B I : Type 0} (Holds : Holding B I) (octets : List ℕ) (h : Header) (offset depth : ℕ) (a : B) (items : I) (b : B)
-    : Type 0 where
-  pub holds : (kind : FrameKind) (f : OpenFrame I) (fs : List (OpenFrame I)) (trees : List (List (Tree ℕ))) → depth ≡ length fs →
-      IsKindOf kind h offset → Holds octets a (f ∷ fs) trees →
+pub record HasOpened {B I : Type 0} (Holds : Holding B I) (octets : List ℕ) (h : Header) (offset depth : ℕ)
+    (a : B) (items : I) (b : B) : Type 0 where
+  pub holds : (kind : FrameKind) (f : OpenFrame I) (fs : List (OpenFrame I)) (trees : List (List (Tree ℕ))) →
+      depth ≡ length fs → IsKindOf kind h offset → Holds octets a (f ∷ fs) trees →
       Holds octets b (in_frame (record { kind = kind; start = h.start; end = h.end }) items ∷ f ∷ fs) ([] ∷ trees)
 
 -- the innermost frame, whose items were i and are j, has one tree more
-pub record HasMore {B I : Type 0} (Holds : Holding B I) (octets : List ℕ) (t : Tree ℕ) (depth : ℕ) (a : B) (i : I) (b : B) (j : I)
-    : Type 0 where
-  pub holds : (e : Extent) (fs : List (OpenFrame I)) (ts : List (Tree ℕ)) (rest : List (List (Tree ℕ))) → depth ≡ length fs →
-      Holds octets a (in_frame e i ∷ fs) (ts ∷ rest) →
+pub record HasMore {B I : Type 0} (Holds : Holding B I) (octets : List ℕ) (t : Tree ℕ) (depth : ℕ)
+    (a : B) (i : I) (b : B) (j : I) : Type 0 where
+  pub holds : (e : Extent) (fs : List (OpenFrame I)) (ts : List (Tree ℕ)) (rest : List (List (Tree ℕ))) →
+      depth ≡ length fs → Holds octets a (in_frame e i ∷ fs) (ts ∷ rest) →
       Holds octets b (in_frame e j ∷ fs) ((ts ++ t ∷ []) ∷ rest)
 
 -- and that is one which the octets from the offset to the end encode
-pub record HasLeaf {B I : Type 0} (Holds : Holding B I) (octets : List ℕ) (offset end depth : ℕ) (a : B) (i : I) (b : B) (j : I)
-    : Type 0 where
+pub record HasLeaf {B I : Type 0} (Holds : Holding B I) (octets : List ℕ) (offset end depth : ℕ)
+    (a : B) (i : I) (b : B) (j : I) : Type 0 where
   pub tree : Tree ℕ
   pub encoded : Encodes offset (slice_range octets offset end) tree
   pub more : HasMore Holds octets tree depth a i b j
 
 -- the contents octets of the leaf are at fault, and all is as it was
-pub record IsLeafFault {B I : Type 0} (octets : List ℕ) (h : Header) (a : B) (i : I) (b : B) (j : I) (e : DecodeFault) : Type 0 where
+pub record IsLeafFault {B I : Type 0} (octets : List ℕ) (h : Header) (a : B) (i : I) (b : B) (j : I)
+    (e : DecodeFault) : Type 0 where
   pub builder : b ≡ a
   pub items : j ≡ i
   pub class : h.class ≡ Universal
   pub fault : ContentsFault h.tag (slice_range octets h.start h.end) e
 
 -- a frame can end in another one
-pub record CanEnd {B I : Type 0} (Holds : Holding B I) (octets : List ℕ) (f : OpenFrame I) (depth : ℕ) (a : B) (i : I) : Type 0 where
+pub record CanEnd {B I : Type 0} (Holds : Holding B I) (octets : List ℕ) (f : OpenFrame I) (depth : ℕ)
+    (a : B) (i : I) : Type 0 where
   pub kind : f.extent.kind ≢ Whole
   pub order : f.extent.start ≤ f.extent.end
   pub within : f.extent.end ≤ length octets
@@ -74,10 +76,10 @@ pub record EndsAs (octets : List ℕ) (e : Extent) (ts : List (Tree ℕ)) (t : T
   pub encoded : EncodesAll e.start (slice_range octets e.start e.end) (trees_of ts)
 
 -- the frame ended: the one around it, whose items were i and are j, has its tree
-pub record HasEndedIn {B I : Type 0} (Holds : Holding B I) (octets : List ℕ) (f : OpenFrame I) (depth : ℕ) (a : B) (i : I) (b : B) (j : I)
-    : Type 0 where
-  pub holds : (e : Extent) (fs : List (OpenFrame I)) (ts us : List (Tree ℕ)) (rest : List (List (Tree ℕ))) (t : Tree ℕ) → depth ≡ length fs →
-      EndsAs octets f.extent ts t →
+pub record HasEndedIn {B I : Type 0} (Holds : Holding B I) (octets : List ℕ) (f : OpenFrame I) (depth : ℕ)
+    (a : B) (i : I) (b : B) (j : I) : Type 0 where
+  pub holds : (e : Extent) (fs : List (OpenFrame I)) (ts us : List (Tree ℕ)) (rest : List (List (Tree ℕ)))
+      (t : Tree ℕ) → depth ≡ length fs → EndsAs octets f.extent ts t →
       Holds octets a (f ∷ in_frame e i ∷ fs) (ts ∷ us ∷ rest) →
       Holds octets b (in_frame e j ∷ fs) ((us ++ t ∷ []) ∷ rest)
 
@@ -90,11 +92,12 @@ pub record CanBeKept (octets : List ℕ) (e : Extent) : Type 0 where
 
 -- a fault ended the attempt, and the frames inside it are gone: the frame around it, whose items were i and are j, has
 -- the encoding as it came
-pub record HasKept {B I : Type 0} (Holds : Holding B I) (octets : List ℕ) (f : OpenFrame I) (depth : ℕ) (a : B) (i : I) (b : B) (j : I)
-    : Type 0 where
-  pub holds : (inside : List (OpenFrame I)) (lost : List (List (Tree ℕ))) (e : Extent) (fs : List (OpenFrame I)) (ts us : List (Tree ℕ))
-      (rest : List (List (Tree ℕ))) (k : other.Attempt) → depth ≡ length fs → length inside ≡ length lost →
-      f.extent.kind ≡ Attempt k → (AreBlocks (slice_range octets f.extent.start f.extent.end) → ⊥) →
+pub record HasKept {B I : Type 0} (Holds : Holding B I) (octets : List ℕ) (f : OpenFrame I) (depth : ℕ)
+    (a : B) (i : I) (b : B) (j : I) : Type 0 where
+  pub holds : (inside : List (OpenFrame I)) (lost : List (List (Tree ℕ))) (e : Extent) (fs : List (OpenFrame I))
+      (ts us : List (Tree ℕ)) (rest : List (List (Tree ℕ))) (k : other.Attempt) → depth ≡ length fs →
+      length inside ≡ length lost → f.extent.kind ≡ Attempt k →
+      (AreBlocks (slice_range octets f.extent.start f.extent.end) → ⊥) →
       Holds octets a (inside ++ f ∷ in_frame e i ∷ fs) (lost ++ ts ∷ us ∷ rest) →
       Holds octets b (in_frame e j ∷ fs) ((us ++ as_it_came octets k f.extent.start f.extent.end ∷ []) ∷ rest)
 
@@ -107,8 +110,8 @@ frames (f ∷ fs) [] = []
 frames (f ∷ fs) (ts ∷ rest) = frame f ts ∷ frames fs rest
 
 -- the frames are open and all is read up to the place; n headers were begun
-pub record Reads {B I : Type 0} (Holds : Holding B I) (octets : List ℕ) (b : B) (f : OpenFrame I) (gs : List (OpenFrame I))
-    (place n : ℕ) : Type 0 where
+pub record Reads {B I : Type 0} (Holds : Holding B I) (octets : List ℕ)
+    (b : B) (f : OpenFrame I) (gs : List (OpenFrame I)) (place n : ℕ) : Type 0 where
   pub trees : List (Tree ℕ)
   pub outer : List (List (Tree ℕ))
   pub matched : length gs ≡ length outer
@@ -119,8 +122,8 @@ abbrev pub IsReading : {B I : Type 0} → Holding B I → List ℕ → Reader B 
 IsReading Holds octets r n = Reads Holds octets r.builder r.inner (reverse r.outer.items) r.index n
 
 -- a fault is in the frame, of a block at the offset; frames inside it were dropped
-pub record IsRefused {B I : Type 0} (Holds : Holding B I) (octets : List ℕ) (b : B) (f : OpenFrame I) (gs : List (OpenFrame I))
-    (e : DecodeFault) (offset n : ℕ) : Type 0 where
+pub record IsRefused {B I : Type 0} (Holds : Holding B I) (octets : List ℕ)
+    (b : B) (f : OpenFrame I) (gs : List (OpenFrame I)) (e : DecodeFault) (offset n : ℕ) : Type 0 where
   pub trees : List (Tree ℕ)
   pub outer : List (List (Tree ℕ))
   pub inside : List (OpenFrame I)
@@ -135,17 +138,20 @@ abbrev pub left : {I : Type 0} → ℕ → ℕ → List (OpenFrame I) → ℕ
 left size index outer = 2 * (size - index) + length outer
 
 -- a fault in the innermost frame, of the block that the reader has come to, with less left to do behind it
-pub record IsFaulty {B I : Type 0} (Holds : Holding B I) (octets : List ℕ) (r : Reader B I) (e : DecodeFault) (n most : ℕ) : Type 0 where
+pub record IsFaulty {B I : Type 0} (Holds : Holding B I) (octets : List ℕ) (r : Reader B I)
+    (e : DecodeFault) (n most : ℕ) : Type 0 where
   pub refused : IsRefused Holds octets r.builder r.inner (reverse r.outer.items) e r.index n
   pub nearer : left (length octets) r.inner.extent.end r.outer.items ≤ most
 
 -- reading goes on, with less left to do
-pub record GoesOn {B I : Type 0} (Holds : Holding B I) (octets : List ℕ) (r : Reader B I) (n most : ℕ) : Type 0 where
+pub record GoesOn {B I : Type 0} (Holds : Holding B I) (octets : List ℕ) (r : Reader B I)
+    (n most : ℕ) : Type 0 where
   pub reading : IsReading Holds octets r n
   pub nearer : left (length octets) r.index r.outer.items < most
 
 -- where a step leads: reading goes on, memory ran out, or there is a fault in the innermost frame
-abbrev pub HasStepped : {A B I : Type 0} → Holding B I → List ℕ → Result A ASN1DecodeErr → Reader B I → ℕ → ℕ → Type 0
+abbrev pub HasStepped : {A B I : Type 0} → Holding B I → List ℕ → Result A ASN1DecodeErr → Reader B I
+    → ℕ → ℕ → Type 0
 HasStepped Holds octets (Ok x) r n most = GoesOn Holds octets r n most
 HasStepped Holds octets (Err e) r n most = OutOfMemoryOr (λ fault. IsFaulty Holds octets r fault n most) e
 
@@ -168,8 +174,8 @@ HasTurned Holds octets End r n most = HasEnded Holds octets r n
 HasTurned Holds octets Stop r n most = OutOfMemoryOr (λ fault. IsFaultyDocument octets fault r.index n) r.fault
 
 -- and how many headers were begun since the count was at the base
-pub record HasTakenTurn {B I : Type 0} (Holds : Holding B I) (octets : List ℕ) (t : Turn) (r : Reader B I) (count base most : ℕ)
-    : Type 0 where
+pub record HasTakenTurn {B I : Type 0} (Holds : Holding B I) (octets : List ℕ) (t : Turn) (r : Reader B I)
+    (count base most : ℕ) : Type 0 where
   pub begun : ℕ
   pub counted : count ≡ base + begun
   pub bounded : begun ≤ length octets

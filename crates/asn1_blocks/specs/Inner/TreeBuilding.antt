@@ -21,8 +21,8 @@ pub record Holds (octets : List ℕ) (es : List Owed) (f : OpenFrame FrameBlocks
   pub trees : ts ≡ map view f.items.first ++ owed
 
 -- and so do the frames around it, the innermost first, which owe those before
-abbrev pub AllHold : List ℕ → List Owed → OpenFrame FrameBlocks → List (OpenFrame FrameBlocks) → List (Tree ℕ)
-    → List (List (Tree ℕ)) → Type 0
+abbrev pub AllHold : List ℕ → List Owed → OpenFrame FrameBlocks → List (OpenFrame FrameBlocks)
+    → List (Tree ℕ) → List (List (Tree ℕ)) → Type 0
 AllHold octets es f [] ts [] = Holds octets es f ts × (f.items.owed_before ≡ 0)
 AllHold octets es f [] ts (us ∷ rest) = ⊥
 AllHold octets es f (g ∷ gs) ts [] = ⊥
@@ -34,11 +34,13 @@ all_hold octets es [] trees = ⊥
 all_hold octets es (f ∷ gs) [] = ⊥
 all_hold octets es (f ∷ gs) (ts ∷ rest) = AllHold octets es f gs ts rest
 
-abbrev pub builder_holds : List ℕ → TreeBuilder → List (OpenFrame FrameBlocks) → List (List (Tree ℕ)) → Type 0
+abbrev pub builder_holds : List ℕ → TreeBuilder → List (OpenFrame FrameBlocks) → List (List (Tree ℕ))
+    → Type 0
 builder_holds octets b fs trees = all_hold octets b.owed.items fs trees
 
 -- the frame has one block more
-pub record IsPushed (a : TreeBuilder) (i : FrameBlocks) (b : ASN1Block) (r : TreeBuilder) (j : FrameBlocks) : Type 0 where
+pub record IsPushed (a : TreeBuilder) (i : FrameBlocks) (b : ASN1Block) (r : TreeBuilder) (j : FrameBlocks)
+    : Type 0 where
   pub before : j.owed_before ≡ i.owed_before
   pub count : j.owed_count ≡ i.owed_count
   pub none : i.owed_count ≡ 0
@@ -57,7 +59,8 @@ abbrev pub IsPut : TreeBuilder → FrameBlocks → ASN1Block → TreeBuilder →
 IsPut a i b r j = IsPushed a i b r j ⊎ IsOwed a i (Ready b) r j
 
 -- an encoding that stays as it came was put there, as a block or owed
-abbrev pub IsKept : List ℕ → TreeBuilder → FrameBlocks → Attempt → ℕ → ℕ → TreeBuilder → FrameBlocks → Type 0
+abbrev pub IsKept : List ℕ → TreeBuilder → FrameBlocks → Attempt → ℕ → ℕ → TreeBuilder → FrameBlocks
+    → Type 0
 IsKept octets a i k start end r j =
     ((b : ASN1Block) × (view b ≡ as_it_came octets k start end) × IsPut a i b r j)
     ⊎ IsOwed a i (Kept k start end) r j

@@ -20,7 +20,8 @@ pub record AreCanonicalContents (class : ASN1Class) (constructed : Bool) (tag : 
   pub no_group : class ≡ Universal → (g : GroupKind) → tag ≡ group_tag g → ⊥
   pub primitive : class ≡ Universal → (l : Leaf) → tag ≡ leaf_tag l → constructed ≡ false
   pub leaf :
-      class ≡ Universal → (l : Leaf) → tag ≡ leaf_tag l → LeafContents l contents → contents ≡ leaf_contents l
+      class ≡ Universal → (l : Leaf) → tag ≡ leaf_tag l → LeafContents l contents →
+      contents ≡ leaf_contents l
   pub within : class ≢ Universal → constructed ≡ true → AreCanonical contents
 
 -- the octets begin with the shortest identifier octets of a tag without a rule, and then come the rest. It is one of
