@@ -25,6 +25,7 @@
 #define SIMPLE_ASN1_H
 #include <stddef.h>
 #include <stdint.h>
+#include <string.h>
 #ifdef __cplusplus
 extern "C" {
 #endif
@@ -48,7 +49,8 @@ enum { /* what calls return */
     SIMPLE_ASN1_NO_SUCH_VALUE = 12,    /* there is no block of this kind at the offset */
     SIMPLE_ASN1_RANGE = 13,            /* the value does not fit */
     SIMPLE_ASN1_NOT_SIGNED = 14,       /* the first block is not a signed triple */
-    SIMPLE_ASN1_BAD_RECORD = 15        /* write: the record at index `offset` cannot be written */
+    SIMPLE_ASN1_BAD_RECORD = 15,       /* write: the record at index `offset` cannot be written */
+    SIMPLE_ASN1_NOT_OID = 16           /* put: the text is not an OBJECT IDENTIFIER's, as 1.2.840 is */
 };
 
 /* A block. The blocks that it holds come right after it. */
@@ -127,6 +129,23 @@ simple_asn1_outcome simple_asn1_oid(const uint8_t *octets, size_t size, size_t o
  * first contents octet of the signature is the number of its unused bits. */
 simple_asn1_signed_parts simple_asn1_signed(const uint8_t *octets, size_t size);
 
+/* Writes the contents octets of a value, at which a record for simple_asn1_write can point: of a BOOLEAN, true but for
+ * 0; an INTEGER; a BIT STRING, whose bits are the first of these octets (unused ones stay as they are; in DER they are
+ * 0); an OBJECT IDENTIFIER, with its components in decimal, as in 1.2.840; a string with this tag number, of text in
+ * UTF-8; a UTCTime (tag 23) or GeneralizedTime (tag 24), whatever the status of the moment. What is not such a value,
+ * or would not be read back, is rejected:
+ *
+ * - NOT_OID: another text. RANGE: components that cannot be written, a character above 7F in an IA5String, octets that
+ *   are not the fewest for so many bits.
+ * - UTF8, PRINTABLE and DATE, as in reading; DATE also for a UTCTime of another year than 1950 to 2049, or with a
+ *   fraction of a second. NO_SUCH_VALUE: the tag number is not that of a string, or of a time. */
+simple_asn1_outcome simple_asn1_put_boolean(uint8_t value, uint8_t *out, size_t room);
+simple_asn1_outcome simple_asn1_put_int64(int64_t value, uint8_t *out, size_t room);
+simple_asn1_outcome simple_asn1_put_bits(const uint8_t *octets, size_t size, size_t bits, uint8_t *out, size_t room);
+simple_asn1_outcome simple_asn1_put_oid(const uint8_t *text, size_t size, uint8_t *out, size_t room);
+simple_asn1_outcome simple_asn1_put_text(uint64_t tag, const uint8_t *text, size_t size, uint8_t *out, size_t room);
+simple_asn1_outcome simple_asn1_put_time(uint64_t tag, const simple_asn1_moment *moment, uint8_t *out, size_t room);
+
 /* The contents octets of a block of this document: the value of an OCTET STRING; the number of an INTEGER, of any size,
  * in two's complement, most significant octet first; of a BIT STRING the number of unused bits in the last octet, and
  * then the bits, most significant first:
@@ -160,8 +179,171 @@ static inline const char *simple_asn1_status_text(uint32_t status)
     case SIMPLE_ASN1_RANGE: return "the value does not fit";
     case SIMPLE_ASN1_NOT_SIGNED: return "the first block is not a signed triple";
     case SIMPLE_ASN1_BAD_RECORD: return "a record cannot be written";
+    case SIMPLE_ASN1_NOT_OID: return "the text is not an OBJECT IDENTIFIER";
     default: return "unknown status";
     }
+}
+
+/* A document that is made of values, in arrays of the caller:
+ *
+ *     uint8_t octets[64], out[64];
+ *     simple_asn1_block blocks[8];
+ *     simple_asn1_builder builder = simple_asn1_begin(octets, sizeof octets, blocks, 8);
+ *     simple_asn1_open(&builder, 0, 16);
+ *     simple_asn1_add_int64(&builder, 5);
+ *     simple_asn1_add_null(&builder);
+ *     simple_asn1_close(&builder);
+ *     simple_asn1_outcome o = simple_asn1_finish(&builder, out, sizeof out);
+ *
+ * The first error stays, and simple_asn1_finish returns it: a caller looks once. */
+typedef struct simple_asn1_builder {
+    uint8_t *octets;           /* contents octets of the values */
+    uint8_t *front;            /* of the room that is left for them; NULL with none, and after an error */
+    size_t left;
+    size_t used;               /* how many there are; with NO_ROOM how many are needed */
+    simple_asn1_block *blocks;
+    size_t room;               /* for so many */
+    size_t count;              /* how many there are; with NO_ROOM how many are needed */
+    size_t open;               /* 1 more than the index of the innermost open block; 0 if none is open */
+    size_t fault;              /* index of the block at fault */
+    uint32_t status;
+} simple_asn1_builder;
+
+/* An empty document, with room for so many contents octets and blocks. */
+static inline simple_asn1_builder simple_asn1_begin(uint8_t *octets, size_t size, simple_asn1_block *blocks,
+                                                    size_t room)
+{
+    simple_asn1_builder builder = {octets, size ? octets : NULL, size, 0, blocks, room, 0, 0, 0, SIMPLE_ASN1_OK};
+    return builder;
+}
+
+/* Adds a block whose contents octets a call has put at the front, with this outcome; for calls of your own. With too
+ * little room, octets and blocks are still counted. */
+static inline void simple_asn1_add_put(simple_asn1_builder *builder, uint8_t tag_class, uint64_t tag,
+                                       uint8_t constructed, simple_asn1_outcome put)
+{
+    if (put.status == SIMPLE_ASN1_OK && builder->count >= builder->room)
+        put.status = SIMPLE_ASN1_NO_ROOM;
+    if (builder->status != SIMPLE_ASN1_OK && builder->status != SIMPLE_ASN1_NO_ROOM)
+        return;
+    if (put.status != SIMPLE_ASN1_OK) {
+        builder->status = put.status;
+        builder->fault = put.status == SIMPLE_ASN1_NO_ROOM ? 0 : builder->count;
+        builder->front = NULL;
+        builder->left = 0;
+    } else if (builder->status == SIMPLE_ASN1_OK) {
+        simple_asn1_block *around = builder->open ? &builder->blocks[builder->open - 1] : NULL;
+        simple_asn1_block block = {tag, builder->used, 0, put.count, 0, builder->count + 1, 0, tag_class, constructed};
+        if (around) {
+            around->items++;
+            block.depth = around->depth + 1;
+        }
+        builder->blocks[builder->count] = block;
+        builder->left -= put.count;
+        builder->front = builder->left ? builder->front + put.count : NULL;
+    }
+    builder->used += put.count;
+    builder->count++;
+}
+
+/* Begins a constructed block: those that are added until simple_asn1_close are its items. */
+static inline void simple_asn1_open(simple_asn1_builder *builder, uint8_t tag_class, uint64_t tag)
+{
+    simple_asn1_outcome put = {SIMPLE_ASN1_OK, 0, 0};
+    simple_asn1_add_put(builder, tag_class, tag, 1, put);
+    if (builder->status == SIMPLE_ASN1_OK) {
+        builder->blocks[builder->count - 1].next = builder->open; /* until it is closed */
+        builder->open = builder->count;
+    }
+}
+
+/* Ends the innermost open block. If none is open, the error is BAD_RECORD. */
+static inline void simple_asn1_close(simple_asn1_builder *builder)
+{
+    if (builder->status != SIMPLE_ASN1_OK)
+        return;
+    if (builder->open == 0) {
+        simple_asn1_outcome none = {SIMPLE_ASN1_BAD_RECORD, 0, 0};
+        simple_asn1_add_put(builder, 0, 0, 0, none);
+        return;
+    }
+    simple_asn1_block *block = &builder->blocks[builder->open - 1];
+    builder->open = block->next;
+    block->next = builder->count;
+}
+
+/* Adds a primitive block with these contents octets as they are: an OCTET STRING (class 0, tag 4), or an INTEGER (tag
+ * 2) of any size in two's complement. */
+static inline void simple_asn1_add_octets(simple_asn1_builder *builder, uint8_t tag_class, uint64_t tag,
+                                          const uint8_t *octets, size_t size)
+{
+    simple_asn1_outcome put = {size > builder->left ? SIMPLE_ASN1_NO_ROOM : SIMPLE_ASN1_OK, 0, size};
+    if (size > 0 && size <= builder->left)
+        memcpy(builder->front, octets, size);
+    simple_asn1_add_put(builder, tag_class, tag, 0, put);
+}
+
+/* Adds a copy of a block that was read of this document, with all that it holds. */
+static inline void simple_asn1_add_block(simple_asn1_builder *builder, const uint8_t *octets,
+                                         const simple_asn1_block *block)
+{
+    simple_asn1_add_octets(builder, block->tag_class, block->tag, simple_asn1_contents(octets, block), block->contents);
+    if (builder->status == SIMPLE_ASN1_OK)
+        builder->blocks[builder->count - 1].constructed = block->constructed;
+}
+
+/* NULL; and each of the others adds what its simple_asn1_put call writes. */
+static inline void simple_asn1_add_null(simple_asn1_builder *builder)
+{
+    simple_asn1_add_octets(builder, 0, 5, NULL, 0);
+}
+
+static inline void simple_asn1_add_boolean(simple_asn1_builder *builder, uint8_t value)
+{
+    simple_asn1_add_put(builder, 0, 1, 0, simple_asn1_put_boolean(value, builder->front, builder->left));
+}
+
+static inline void simple_asn1_add_int64(simple_asn1_builder *builder, int64_t value)
+{
+    simple_asn1_add_put(builder, 0, 2, 0, simple_asn1_put_int64(value, builder->front, builder->left));
+}
+
+static inline void simple_asn1_add_bits(simple_asn1_builder *builder, const uint8_t *octets, size_t size, size_t bits)
+{
+    simple_asn1_add_put(builder, 0, 3, 0, simple_asn1_put_bits(octets, size, bits, builder->front, builder->left));
+}
+
+/* Texts end with a 0, which is not put. */
+static inline void simple_asn1_add_oid(simple_asn1_builder *builder, const char *text)
+{
+    simple_asn1_add_put(builder, 0, 6, 0,
+                        simple_asn1_put_oid((const uint8_t *)text, strlen(text), builder->front, builder->left));
+}
+
+static inline void simple_asn1_add_text(simple_asn1_builder *builder, uint64_t tag, const char *text)
+{
+    simple_asn1_add_put(builder, 0, tag, 0,
+                        simple_asn1_put_text(tag, (const uint8_t *)text, strlen(text), builder->front, builder->left));
+}
+
+static inline void simple_asn1_add_time(simple_asn1_builder *builder, uint64_t tag, const simple_asn1_moment *moment)
+{
+    simple_asn1_add_put(builder, 0, tag, 0, simple_asn1_put_time(tag, moment, builder->front, builder->left));
+}
+
+/* Writes the document, as simple_asn1_write, or returns the first error: offset is the index of its block. A block that
+ * was not closed is a BAD_RECORD. NO_ROOM with a count of 0 is of the builder's own arrays: used and count say how much
+ * they need. */
+static inline simple_asn1_outcome simple_asn1_finish(const simple_asn1_builder *builder, uint8_t *out, size_t room)
+{
+    simple_asn1_outcome fault = {builder->status, builder->fault, 0};
+    if (fault.status == SIMPLE_ASN1_OK && builder->open != 0) {
+        fault.status = SIMPLE_ASN1_BAD_RECORD;
+        fault.offset = builder->open - 1;
+    }
+    if (fault.status != SIMPLE_ASN1_OK)
+        return fault;
+    return simple_asn1_write(builder->octets, builder->used, builder->blocks, builder->count, out, room);
 }
 
 #ifdef __cplusplus

@@ -4,11 +4,15 @@ import base64
 import copy
 import datetime
 import pickle
+import random
+import shutil
+import subprocess
+import tempfile
 import tracemalloc
 import unittest
 
 import simple_asn1
-from simple_asn1 import Moment, NoSuchValue, PemObject, Refused, Status
+from simple_asn1 import Builder, Moment, NoSuchValue, PemObject, Refused, Status
 
 DOCUMENT = bytes.fromhex("30 09 02 01 05 A0 04 0C 02 C3 A4 05 00")
 
@@ -268,6 +272,118 @@ class Pem(unittest.TestCase):
         for text in ("", "BQA=", "-----BEGIN X-----\nBQA=", "-----BEGIN X-----\nB?A=\n-----END X-----"):
             with self.assertRaises(ValueError):
                 simple_asn1.pem_objects(text)
+
+
+MOMENT = Moment(2026, 11, 25, 9, 8, 7, 0)
+
+
+class Building(unittest.TestCase):
+    """Documents that are made of values."""
+
+    def test_integers_are_in_the_shortest_twos_complement(self):
+        powers = [sign * 2**k + more for k in range(300) for sign in (1, -1) for more in (-1, 0, 1)]
+        source = random.Random(1)
+        wanted = set(range(-70000, 70000, 7)) | set(powers) | {source.getrandbits(64) - 2**63 for _ in range(5000)}
+        for number in wanted:
+            least = (number if number >= 0 else ~number).bit_length() // 8 + 1
+            contents = number.to_bytes(least, "big", signed=True)
+            self.assertEqual(Builder().add_integer(number).finish(), bytes([2, least]) + contents)
+
+    # as `openssl asn1parse -genstr` writes them
+    VALUES = (
+        ("BOOL:TRUE", lambda b: b.add_boolean(True)),
+        ("BOOL:FALSE", lambda b: b.add_boolean(False)),
+        ("NULL", lambda b: b.add_null()),
+        ("INTEGER:-129", lambda b: b.add_integer(-129)),
+        ("INTEGER:0x80", lambda b: b.add_octets(0, 2, bytes.fromhex("000080"))),
+        ("INTEGER:0xFFFFFFFFFFFFFFFFFFFFFFFFFF", lambda b: b.add_integer(2**104 - 1)),
+        ("ENUM:7", lambda b: b.add_octets(0, 10, [7])),
+        ("OID:1.2.840.113549", lambda b: b.add_oid("1.2.840.113549")),
+        ("OID:0.39", lambda b: b.add_oid("0.39")),
+        ("OID:2.5.4.3", lambda b: b.add_oid("2.5.4.3")),
+        ("OID:2.25.340282366920938463463374607431768211455", lambda b: b.add_oid(f"2.25.{2**128 - 1}")),
+        ("UTF8:Test", lambda b: b.add_text(12, "Test")),
+        ("PRINTABLE:Test A-1", lambda b: b.add_text(19, "Test A-1")),
+        ("IA5:a@b", lambda b: b.add_text(22, "a@b")),
+        ("UTCTIME:261125090807Z", lambda b: b.add_time(23, MOMENT)),
+        ("GENTIME:21261125090807Z", lambda b: b.add_time(24, MOMENT._replace(year=2126))),
+        ("FORMAT:HEX,OCT:01FF", lambda b: b.add_octets(0, 4, b"\x01\xff")),
+        ("FORMAT:HEX,BITSTR:B080", lambda b: b.add_bits(b"\xb0\x80", 16)),
+        ("FORMAT:BITLIST,BITSTR:1,3", lambda b: b.add_bits(b"\x50", 4)),
+        ("EXPLICIT:3A,NULL", lambda b: b.open(1, 3).add_null().close()),
+        ("IMPLICIT:40P,FORMAT:HEX,OCT:01", lambda b: b.add_octets(3, 40, b"\1")),
+    )
+
+    @unittest.skipUnless(shutil.which("openssl"), "there is no openssl")
+    def test_values_are_as_openssl_writes_them(self):
+        for text, add in self.VALUES:
+            with tempfile.NamedTemporaryFile() as file:
+                command = ["openssl", "asn1parse", "-genstr", text, "-noout", "-out", file.name]
+                subprocess.run(command, check=True, capture_output=True)
+                self.assertEqual(add(Builder()).finish().hex(), file.read().hex(), text)
+
+    def test_values_are_read_back(self):
+        moment = Moment(9999, 12, 31, 23, 59, 59, 999999999)
+        made = Builder().add_time(24, moment).add_text(30, "ä😀").add_oid("2.175.128").add_bits(b"", 0).finish()
+        time, text, oid, bits = simple_asn1.read_strict(made)
+        self.assertEqual((time.moment, text.text, oid.oid, bits.bits), (moment, "ä😀", "2.175.128", (b"", 0)))
+
+    def test_blocks_are_in_those_that_are_open(self):
+        key = only("31 81 06 A1 04 02 02 00 07")
+        builder = Builder()
+        with builder.open(0, 16):
+            builder.add_block(key)
+            with builder.open(2, 0):
+                pass
+        made = builder.add_null().finish()
+        self.assertEqual(made.hex(), "30093105a103020107a0000500")
+        self.assertEqual([block.depth for block in simple_asn1.read_strict(made).all_blocks], [0, 1, 2, 3, 1, 0])
+
+    REFUSED = (
+        (Status.NOT_OID, lambda b: b.add_oid("")),
+        (Status.NOT_OID, lambda b: b.add_oid("1.02")),
+        (Status.NOT_OID, lambda b: b.add_oid("1.ä")),
+        (Status.RANGE, lambda b: b.add_oid("1")),
+        (Status.RANGE, lambda b: b.add_oid("3.1")),
+        (Status.RANGE, lambda b: b.add_oid("1.40")),
+        (Status.RANGE, lambda b: b.add_oid("2.999")),
+        (Status.RANGE, lambda b: b.add_bits(b"ab", 8)),
+        (Status.RANGE, lambda b: b.add_bits(b"ab", 17)),
+        (Status.RANGE, lambda b: b.add_bits(b"ab", 2**64 + 16)),
+        (Status.RANGE, lambda b: b.add_bits(b"ab", -1)),
+        (Status.PRINTABLE, lambda b: b.add_text(19, "a*")),
+        (Status.RANGE, lambda b: b.add_text(22, "é")),
+        (Status.NO_SUCH_VALUE, lambda b: b.add_text(4, "a")),
+        (Status.NO_SUCH_VALUE, lambda b: b.add_text(2**64 + 12, "a")),
+        (Status.NO_SUCH_VALUE, lambda b: b.add_time(-1, MOMENT)),
+        (Status.DATE, lambda b: b.add_time(23, MOMENT._replace(year=1949))),
+        (Status.DATE, lambda b: b.add_time(23, MOMENT._replace(nanosecond=1))),
+        (Status.DATE, lambda b: b.add_time(24, MOMENT._replace(month=2, day=29))),
+        (Status.DATE, lambda b: b.add_time(24, MOMENT._replace(year=2**32 + 2026))),
+        (Status.DATE, lambda b: b.add_time(24, MOMENT._replace(month=-1))),
+        (Status.BAD_RECORD, lambda b: b.close()),
+        (Status.BAD_RECORD, lambda b: b.open(0, 16).finish()),
+        (Status.BAD_RECORD, lambda b: b.add_octets(0, 2**64 - 1, b"").finish()),
+    )
+
+    def test_what_is_no_value_is_refused(self):
+        for number, (status, add) in enumerate(self.REFUSED):
+            builder = Builder().add_null()
+            with self.assertRaises(Refused, msg=number) as why:
+                add(builder)
+            self.assertEqual((why.exception.status, why.exception.offset), (status, 1), number)
+        with self.assertRaises(Refused) as why:
+            Builder().finish()
+        self.assertEqual(why.exception.status, Status.EMPTY)
+        for source in (4, "30 00", None):
+            with self.assertRaises(TypeError):
+                Builder().add_octets(0, 4, source)
+
+    def test_nothing_is_added_by_what_is_refused(self):
+        builder = Builder().add_null()
+        with self.assertRaises(Refused):
+            builder.add_oid("x")
+        self.assertEqual(builder.add_boolean(False).finish(), b"\5\0\1\1\0")
 
 
 if __name__ == "__main__":

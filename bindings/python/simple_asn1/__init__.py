@@ -4,15 +4,21 @@
     for block in document:                  # those at the top level; document.all_blocks has those inside them too
         print(block.tag, list(block))
 
+    builder = Builder()                     # a document that is made of values
+    with builder.open(0, 16):
+        builder.add_integer(5)
+    octets = builder.finish()
+
 Invalid input raises Refused, with the status and the offset of the block at fault. The library is the one at the path
 in SIMPLE_ASN1_LIBRARY, or else in the package, or where bindings/c/build puts it, or installed.
 """
+from ._builder import Builder
 from ._calls import Octets, Record
 from ._document import Bits, Block, Document, Moment, Signed, read, read_pem, read_strict, rewrite, write
 from ._pem import PemObject, pem_objects
 from ._status import TEXTS, NoSuchValue, Refused, Status
 
 __all__ = [
-    "Bits", "Block", "Document", "Moment", "NoSuchValue", "Octets", "PemObject", "Record", "Refused", "Signed",
-    "Status", "TEXTS", "pem_objects", "read", "read_pem", "read_strict", "rewrite", "write",
+    "Bits", "Block", "Builder", "Document", "Moment", "NoSuchValue", "Octets", "PemObject", "Record", "Refused",
+    "Signed", "Status", "TEXTS", "pem_objects", "read", "read_pem", "read_strict", "rewrite", "write",
 ]  # fmt: skip

@@ -2,7 +2,8 @@
 import ctypes
 import os
 import pathlib
-from typing import Any, Callable, Iterable, List, NamedTuple, Sequence, SupportsBytes, Union
+import struct
+from typing import Any, Callable, Iterable, Iterator, List, NamedTuple, Sequence, SupportsBytes, Union
 
 from ._status import Status, refusal
 
@@ -61,6 +62,36 @@ def record_of(block: Any) -> Record:
     return Record(*(getattr(block, name) for name in Record._fields))
 
 
+# a `Block` in memory: its fields, and what fills it up to its size
+_FIELDS = "@QNNNNNNBB"
+_RECORD = struct.Struct(f"{_FIELDS}{ctypes.sizeof(Block) - struct.calcsize(_FIELDS)}x")
+_INDEX = struct.Struct("@N")
+
+
+class Records:
+    """The records of a document as the library wrote them, each made a `Record` when it is asked for."""
+
+    __slots__ = ("_memory", "_count")
+
+    def __init__(self, memory: bytes, count: int) -> None:
+        self._memory = memory
+        self._count = count
+
+    def __len__(self) -> int:
+        return self._count
+
+    def __getitem__(self, index: int) -> Record:
+        return Record._make(_RECORD.unpack_from(self._memory, index * _RECORD.size))
+
+    def next(self, index: int) -> int:
+        """The field `next` of the record at the index, which is not made for it."""
+        found: int = _INDEX.unpack_from(self._memory, index * _RECORD.size + Block.next.offset)[0]
+        return found
+
+    def __iter__(self) -> Iterator[Record]:
+        return map(Record._make, _RECORD.iter_unpack(self._memory))
+
+
 def octets_of(source: Octets) -> bytes:
     """These octets as plain `bytes`, whose length can be trusted whatever the class of the source.
 
@@ -103,8 +134,8 @@ def _library() -> Any:
         ) from why
     if not hasattr(library, "simple_asn1_version") or library.simple_asn1_version() != _VERSION:
         raise ImportError(f"{path} has calls of another version than {_VERSION}. bindings/c/build makes it.")
-    octets, records = [ctypes.c_char_p, ctypes.c_size_t], [ctypes.POINTER(Block), ctypes.c_size_t]
-    offset = [ctypes.c_size_t]
+    octets, records = [ctypes.c_char_p, ctypes.c_size_t], [ctypes.c_void_p, ctypes.c_size_t]
+    offset, moment = [ctypes.c_size_t], [ctypes.POINTER(MomentAnswer)]
     for name, answer, arguments in (
         ("read", Outcome, octets + records),
         ("read_strict", Outcome, octets + records),
@@ -115,6 +146,12 @@ def _library() -> Any:
         ("text", Outcome, octets + offset + octets),
         ("oid", Outcome, octets + offset + octets),
         ("signed", SignedParts, octets),
+        ("put_boolean", Outcome, [ctypes.c_uint8] + octets),
+        ("put_int64", Outcome, [ctypes.c_int64] + octets),
+        ("put_bits", Outcome, octets + offset + octets),
+        ("put_oid", Outcome, octets + octets),
+        ("put_text", Outcome, [ctypes.c_uint64] + octets + octets),
+        ("put_time", Outcome, [ctypes.c_uint64] + moment + octets),
     ):
         call = getattr(library, "simple_asn1_" + name)
         call.restype, call.argtypes = answer, arguments
@@ -123,44 +160,49 @@ def _library() -> Any:
 
 _LIBRARY = _library()
 
-# the first call has room for so many records; a document with more is read again with room for as many as it has
+# most texts fit so many octets
+_USUAL_TEXT = 256
+
+# the first call has room for so many records, and for fewer where that is one for each eight octets; a document with
+# more is read again with room for as many as it has
 _FIRST_ROOM = 1024
 
 
-def _read(call: Callable[..., Any], octets: bytes) -> "ctypes.Array[Block]":
-    room = min(len(octets) // 2, _FIRST_ROOM)
-    blocks = (Block * room)()
-    answer = call(octets, len(octets), blocks, room)
+def _read(call: Callable[..., Any], octets: bytes) -> Records:
+    room = min(len(octets) // 8 + 16, _FIRST_ROOM)
+    memory = ctypes.create_string_buffer(room * _RECORD.size)
+    answer = call(octets, len(octets), memory, room)
     if answer.status == Status.NO_ROOM:
-        blocks = (Block * answer.count)()
-        answer = call(octets, len(octets), blocks, answer.count)
+        room = answer.count
+        memory = ctypes.create_string_buffer(room * _RECORD.size)
+        answer = call(octets, len(octets), memory, room)
     if answer.status != Status.OK:
         raise refusal(answer.status, answer.offset)
-    return (Block * answer.count).from_buffer_copy(blocks)
+    return Records(ctypes.string_at(memory, answer.count * _RECORD.size), answer.count)
 
 
-def read(octets: bytes) -> "ctypes.Array[Block]":
+def read(octets: bytes) -> Records:
     return _read(_LIBRARY.simple_asn1_read, octets)
 
 
-def read_strict(octets: bytes) -> "ctypes.Array[Block]":
+def read_strict(octets: bytes) -> Records:
     return _read(_LIBRARY.simple_asn1_read_strict, octets)
 
 
-def _sized(call: Callable[..., Any], *arguments: Any) -> bytes:
-    """The octets that a call writes. It is asked for their number first."""
-    answer = call(*arguments, None, 0)
-    out = ctypes.create_string_buffer(0)
+def _sized(call: Callable[..., Any], room: int, *arguments: Any) -> bytes:
+    """The octets that a call writes, which is tried with this room first."""
+    out = ctypes.create_string_buffer(room)
+    answer = call(*arguments, out, room)
     if answer.status == Status.NO_ROOM:
         out = ctypes.create_string_buffer(answer.count)
         answer = call(*arguments, out, answer.count)
     if answer.status != Status.OK:
         raise refusal(answer.status, answer.offset)
-    return out.raw
+    return ctypes.string_at(out, answer.count)
 
 
 def rewrite(octets: bytes) -> bytes:
-    return _sized(_LIBRARY.simple_asn1_rewrite, octets, len(octets))
+    return _sized(_LIBRARY.simple_asn1_rewrite, len(octets), octets, len(octets))
 
 
 def write(octets: bytes, records: Sequence[Record]) -> bytes:
@@ -170,7 +212,7 @@ def write(octets: bytes, records: Sequence[Record]) -> bytes:
         if record_of(blocks[index]) != record:  # ctypes cuts numbers that do not fit
             raise refusal(Status.BAD_RECORD, index)
     array = (Block * len(blocks))(*blocks)
-    return _sized(_LIBRARY.simple_asn1_write, octets, len(octets), array, len(blocks))
+    return _sized(_LIBRARY.simple_asn1_write, len(octets), octets, len(octets), array, len(blocks))
 
 
 def int64(octets: bytes, offset: int) -> int:
@@ -189,11 +231,11 @@ def time(octets: bytes, offset: int) -> List[int]:
 
 
 def text(octets: bytes, offset: int) -> str:
-    return _sized(_LIBRARY.simple_asn1_text, octets, len(octets), offset).decode()
+    return _sized(_LIBRARY.simple_asn1_text, _USUAL_TEXT, octets, len(octets), offset).decode()
 
 
 def oid(octets: bytes, offset: int) -> str:
-    return _sized(_LIBRARY.simple_asn1_oid, octets, len(octets), offset).decode()
+    return _sized(_LIBRARY.simple_asn1_oid, _USUAL_TEXT, octets, len(octets), offset).decode()
 
 
 def signed(octets: bytes) -> List[Record]:
@@ -202,3 +244,44 @@ def signed(octets: bytes) -> List[Record]:
     if answer.status != Status.OK:
         raise refusal(answer.status, answer.offset)
     return [record_of(part) for part in (answer.content, answer.algorithm, answer.signature)]
+
+
+def put_boolean(value: bool) -> bytes:
+    return _sized(_LIBRARY.simple_asn1_put_boolean, 1, int(bool(value)))
+
+
+def put_integer(value: int) -> bytes:
+    """Of any size. What does not fit 64 bits is in two's complement already, in whatever number of octets."""
+    if not -(2**63) <= value < 2**63:
+        return value.to_bytes(value.bit_length() // 8 + 1, "big", signed=True)
+    return _sized(_LIBRARY.simple_asn1_put_int64, 8, value)
+
+
+def put_bits(octets: bytes, length: int) -> bytes:
+    if not 0 <= length <= 8 * len(octets):  # ctypes cuts numbers that do not fit
+        raise refusal(Status.RANGE, 0)
+    return _sized(_LIBRARY.simple_asn1_put_bits, len(octets) + 1, octets, len(octets), length)
+
+
+def put_oid(text: str) -> bytes:
+    octets = text.encode()
+    return _sized(_LIBRARY.simple_asn1_put_oid, _USUAL_TEXT, octets, len(octets))
+
+
+def put_text(tag: int, text: str) -> bytes:
+    octets = text.encode()
+    return _sized(_LIBRARY.simple_asn1_put_text, len(octets), _tag(tag), octets, len(octets))
+
+
+def put_time(tag: int, moment: Sequence[int]) -> bytes:
+    """Of year, month, day, hour, minute, second and nanosecond."""
+    fields = MomentAnswer(Status.OK, *moment)
+    if [getattr(fields, name) for name, *_ in MomentAnswer._fields_[1:]] != list(moment):
+        raise refusal(Status.DATE, 0)
+    return _sized(_LIBRARY.simple_asn1_put_time, _USUAL_TEXT, _tag(tag), ctypes.byref(fields))
+
+
+def _tag(tag: int) -> int:
+    if not 0 <= tag < 2**64:
+        raise refusal(Status.NO_SUCH_VALUE, 0)
+    return tag

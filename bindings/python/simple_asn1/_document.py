@@ -1,9 +1,9 @@
 """Documents, their blocks, and the values of the blocks."""
 from datetime import datetime as DateTime, timezone
-from typing import Iterable, Iterator, List, NamedTuple, Tuple, Union, overload
+from typing import Iterable, Iterator, List, NamedTuple, Optional, Tuple, Union, overload
 
 from . import _calls
-from ._calls import Octets, Record, octets_of, record_of
+from ._calls import Octets, Record, octets_of
 from ._pem import pem_objects
 from ._status import Status, refusal
 
@@ -64,7 +64,7 @@ class Document:
     @property
     def records(self) -> List[Record]:
         """The records of all blocks, as `write` takes them."""
-        return [record_of(block) for block in self._blocks]
+        return list(self._blocks)
 
     @property
     def blocks(self) -> List["Block"]:
@@ -79,7 +79,7 @@ class Document:
     def _among(self, index: int, end: int) -> Iterator["Block"]:
         while index < end:
             yield Block(self, index)
-            index = self._blocks[index].next
+            index = self._blocks.next(index)
 
     def __iter__(self) -> Iterator["Block"]:
         """Over the blocks at the top level."""
@@ -103,12 +103,12 @@ class Document:
 class Block:
     """A block of a document. Two are equal if they are the same block of the same document."""
 
-    __slots__ = ("_document", "_index", "_record")
+    __slots__ = ("_document", "_index", "_made")
 
     def __init__(self, document: Document, index: int) -> None:
         self._document = document
         self._index = index
-        self._record = record_of(document._blocks[index])
+        self._made: Optional[Record] = None
 
     @property
     def document(self) -> Document:
@@ -121,7 +121,9 @@ class Block:
 
     @property
     def record(self) -> Record:
-        return self._record
+        if self._made is None:
+            self._made = self._document._blocks[self._index]
+        return self._made
 
     def __eq__(self, other: object) -> bool:
         return isinstance(other, Block) and self._document is other._document and self._index == other._index
@@ -141,24 +143,24 @@ class Block:
     @property
     def tag_class(self) -> int:
         """0 universal, 1 application, 2 context-specific, 3 private."""
-        return self._record.tag_class
+        return self.record.tag_class
 
     @property
     def tag(self) -> int:
-        return self._record.tag
+        return self.record.tag
 
     @property
     def constructed(self) -> bool:
-        return self._record.constructed != 0
+        return self.record.constructed != 0
 
     @property
     def offset(self) -> int:
-        return self._record.offset
+        return self.record.offset
 
     @property
     def depth(self) -> int:
         """The number of blocks around it."""
-        return self._record.depth
+        return self.record.depth
 
     @property
     def items(self) -> List["Block"]:
@@ -167,11 +169,11 @@ class Block:
 
     def __iter__(self) -> Iterator["Block"]:
         """Over its items."""
-        return self._document._among(self._index + 1, self._record.next)
+        return self._document._among(self._index + 1, self._document._blocks.next(self._index))
 
     def __len__(self) -> int:
         """The number of items."""
-        return self._record.items
+        return self.record.items
 
     def __bool__(self) -> bool:
         """True, also without items."""
@@ -187,14 +189,14 @@ class Block:
     @property
     def octets(self) -> bytes:
         """The octets of the whole block."""
-        start = self._record.offset
-        return self._document.octets[start : start + self._record.header + self._record.contents]
+        record = self.record
+        return self._document.octets[record.offset : _end(record)]
 
     @property
     def contents(self) -> bytes:
         """Its contents octets: the value of an OCTET STRING."""
-        start = self._record.offset + self._record.header
-        return self._document.octets[start : start + self._record.contents]
+        record = self.record
+        return self._document.octets[record.offset + record.header : _end(record)]
 
     @property
     def integer(self) -> int:

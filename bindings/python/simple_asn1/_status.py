@@ -22,6 +22,7 @@ class Status(enum.IntEnum):
     RANGE = 13
     NOT_SIGNED = 14
     BAD_RECORD = 15
+    NOT_OID = 16
 
 
 TEXTS = {
@@ -41,13 +42,15 @@ TEXTS = {
     Status.RANGE: "the value does not fit",
     Status.NOT_SIGNED: "the first block is not a signed triple",
     Status.BAD_RECORD: "a record cannot be written",
+    Status.NOT_OID: "the text is not an OBJECT IDENTIFIER",
 }
 
 
 class Refused(ValueError):
-    """Octets are not a document, or a block has no value of a kind: `status` says why.
+    """Octets are not a document, a block has no value of a kind, or a value is not one of a block: `status` says why.
 
-    `offset` says where, in bytes from the start. For a record that cannot be written it is the record's index.
+    `offset` says where, in bytes from the start. For a record that cannot be written it is the record's index, and for
+    a value that a Builder cannot add the index of its block.
     """
 
     status: Status

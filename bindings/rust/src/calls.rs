@@ -81,6 +81,12 @@ extern "C" {
     fn simple_asn1_text(octets: *const u8, size: usize, offset: usize, out: *mut u8, room: usize) -> Outcome;
     fn simple_asn1_oid(octets: *const u8, size: usize, offset: usize, out: *mut u8, room: usize) -> Outcome;
     fn simple_asn1_signed(octets: *const u8, size: usize) -> SignedAnswer;
+    fn simple_asn1_put_boolean(value: u8, out: *mut u8, room: usize) -> Outcome;
+    fn simple_asn1_put_int64(value: i64, out: *mut u8, room: usize) -> Outcome;
+    fn simple_asn1_put_bits(octets: *const u8, size: usize, bits: usize, out: *mut u8, room: usize) -> Outcome;
+    fn simple_asn1_put_oid(text: *const u8, size: usize, out: *mut u8, room: usize) -> Outcome;
+    fn simple_asn1_put_text(tag: u64, text: *const u8, size: usize, out: *mut u8, room: usize) -> Outcome;
+    fn simple_asn1_put_time(tag: u64, moment: *const MomentAnswer, out: *mut u8, room: usize) -> Outcome;
 }
 
 const OK: u32 = 0;
@@ -176,4 +182,29 @@ pub fn signed(octets: &[u8]) -> Result<SignedRecords, Fault> {
         OK => Ok(answer.parts),
         status => Err(Fault::of_status(status, answer.offset)),
     }
+}
+
+pub fn put_boolean(value: bool) -> Result<Vec<u8>, Fault> {
+    sized(|out, room| unsafe { simple_asn1_put_boolean(u8::from(value), out, room) })
+}
+
+pub fn put_int64(value: i64) -> Result<Vec<u8>, Fault> {
+    sized(|out, room| unsafe { simple_asn1_put_int64(value, out, room) })
+}
+
+pub fn put_bits(octets: &[u8], bits: usize) -> Result<Vec<u8>, Fault> {
+    sized(|out, room| unsafe { simple_asn1_put_bits(octets.as_ptr(), octets.len(), bits, out, room) })
+}
+
+pub fn put_oid(text: &str) -> Result<Vec<u8>, Fault> {
+    sized(|out, room| unsafe { simple_asn1_put_oid(text.as_ptr(), text.len(), out, room) })
+}
+
+pub fn put_text(tag: u64, text: &str) -> Result<Vec<u8>, Fault> {
+    sized(|out, room| unsafe { simple_asn1_put_text(tag, text.as_ptr(), text.len(), out, room) })
+}
+
+pub fn put_time(tag: u64, moment: Moment) -> Result<Vec<u8>, Fault> {
+    let fields = MomentAnswer { status: OK, moment };
+    sized(|out, room| unsafe { simple_asn1_put_time(tag, &fields, out, room) })
 }

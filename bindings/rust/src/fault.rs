@@ -7,7 +7,8 @@ use std::fmt;
 #[derive(Clone, Copy, Debug, PartialEq, Eq, Hash)]
 pub struct Fault {
     pub kind: FaultKind,
-    /// The offset of the block at fault, in octets from the start; for [`FaultKind::BadRecord`] the record's index.
+    /// The offset of the block at fault, in octets from the start; for [`FaultKind::BadRecord`] the record's index, and
+    /// for a value that a [`Builder`](crate::Builder) cannot add the index of its block.
     pub offset: usize,
 }
 
@@ -43,6 +44,8 @@ pub enum FaultKind {
     NotSigned,
     /// A record cannot be written.
     BadRecord,
+    /// The text is not an OBJECT IDENTIFIER's, as `1.2.840` is: only from [`Builder`](crate::Builder).
+    NotOid,
 }
 
 impl Fault {
@@ -62,6 +65,7 @@ impl Fault {
             13 => FaultKind::Range,
             14 => FaultKind::NotSigned,
             15 => FaultKind::BadRecord,
+            16 => FaultKind::NotOid,
             _ => unreachable!("unexpected status {status}"),
         };
         Fault { kind, offset }
@@ -85,6 +89,7 @@ impl fmt::Display for FaultKind {
             FaultKind::Range => "the value does not fit",
             FaultKind::NotSigned => "the first block is not a signed triple",
             FaultKind::BadRecord => "a record cannot be written",
+            FaultKind::NotOid => "the text is not an OBJECT IDENTIFIER",
         })
     }
 }

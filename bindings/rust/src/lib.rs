@@ -12,9 +12,11 @@
 //! }
 //! ```
 
+mod builder;
 mod calls;
 mod fault;
 
+pub use builder::Builder;
 use calls::SignedRecords;
 pub use calls::{Moment, Record};
 pub use fault::{Fault, FaultKind};

@@ -44,6 +44,9 @@ static uint8_t *octets;
 static size_t size, count, text, oid, integer, moment;
 static simple_asn1_block blocks[1 << 13];
 static uint8_t out[1 << 16];
+/* of more contents octets than are kept in place, and a component beyond 64 bits */
+static const char wide[] = "2.25.340282366920938463463374607431768211456.1.2.3.4.5.6.7.8.9.10.11.12.13";
+static const simple_asn1_moment last = {0, 9999, 12, 31, 23, 59, 59, 999999999};
 
 static uint32_t status_of(int call)
 {
@@ -56,6 +59,12 @@ static uint32_t status_of(int call)
     case 5: return simple_asn1_time(octets, size, moment).status;
     case 6: return simple_asn1_text(octets, size, text, out, sizeof out).status;
     case 7: return simple_asn1_oid(octets, size, oid, out, sizeof out).status;
+    case 8: return simple_asn1_put_boolean(1, out, sizeof out).status;
+    case 9: return simple_asn1_put_int64(INT64_MIN, out, sizeof out).status;
+    case 10: return simple_asn1_put_bits(octets, size, 8 * size, out, sizeof out).status;
+    case 11: return simple_asn1_put_oid((const uint8_t *)wide, sizeof wide - 1, out, sizeof out).status;
+    case 12: return simple_asn1_put_text(12, (const uint8_t *)wide, sizeof wide - 1, out, sizeof out).status;
+    case 13: return simple_asn1_put_time(24, &last, out, sizeof out).status;
     default: return simple_asn1_write(octets, size, blocks, count, out, sizeof out).status;
     }
 }
@@ -75,7 +84,7 @@ int main(int argc, char **argv)
             *kind = blocks[i].offset;
     }
     size_t refused = 0;
-    for (int call = 0; call < 9; call++) {
+    for (int call = 0; call < 15; call++) {
         for (long k = 0;; k++) {
             long before = live;
             asked = 0, left = k;

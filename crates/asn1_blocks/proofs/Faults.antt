@@ -31,7 +31,7 @@ use Rattle.asn1_blocks.specs.declared.block.GroupKind.{GroupKind}
 use Rattle.asn1_headers.specs.Fault.{DecodeFault}
 use Rattle.asn1_headers.specs.Header.{Encoding, IsLength}
 use Rattle.asn1_blocks.specs.Tree.{Leaf, Trees, no_trees, more_trees}
-use Rattle.asn1_blocks.specs.Contents.{leaf_tag, group_tag, LeafContents, is_known_tag}
+use Rattle.asn1_blocks.specs.Contents.{leaf_tag, group_tag, IsUnknownTag, LeafContents, LeafFault}
 use Rattle.asn1_blocks.specs.Places.{IsEncoding}
 use Rattle.asn1_headers.specs.HeaderFault.{HeaderFault, no_identifier, no_length, too_far, too_long}
 use Rattle.asn1_blocks.specs.Grammar.{
@@ -44,17 +44,15 @@ use Rattle.asn1_blocks.specs.Grammar.{
   no_blocks,
   more_blocks,
   EncodesAll,
-  BlockFault,
+  BlocksFaultAt,
   in_header,
   in_contents,
-  ContentsFault,
-  of_leaf_contents,
-  of_item,
-  BlocksFault,
-  after_blocks,
+  in_item,
 }
-use Rattle.asn1_blocks.proofs.Leaves.{leaf_no_group, leaf_no_fault, leaf_fault_tag, leaf_tag_known, leaf_tag_no_group, group_known}
+use Rattle.asn1_blocks.specs.Inner.BlockFault.{BlockFaultAt, at_header, at_leaf, at_item}
+use Rattle.asn1_blocks.proofs.Leaves.{leaf_no_group, leaf_no_fault, leaf_fault_tag, leaf_tag_known, leaf_tag_no_group, unknown_known}
 use Rattle.asn1_headers.proofs.Prefixes.{encoding_alone, identifier_alone, length_alone}
+use Rattle.asn1_blocks.proofs.FaultyBlocks.{encoding_first}
 use Rattle.asn1_blocks.proofs.OneReading.{block_some, encodes_block}
 
 -- a block is an encoding
@@ -103,7 +101,7 @@ first_block octets (more_blocks {x = x} {rest = r} d b bs) h = (x, r, d, b)
 
 -- what a block of class Universal holds
 pub data UniversalContents (n : ℕ) (contents : List ℕ) : Type 0 where
-  is_unknown : is_known_tag n ≡ false → UniversalContents n contents
+  is_unknown : IsUnknownTag n → UniversalContents n contents
   is_leaf : (l : Leaf) → n ≡ leaf_tag l → LeafContents l contents → UniversalContents n contents
   is_group : (g : GroupKind) → n ≡ group_tag g → AreBlocks contents → UniversalContents n contents
 
@@ -115,7 +113,7 @@ universal_contents x k n contents h f (of_other_class g ne) =
     absurd (ne (sym s.class))
 universal_contents x k n contents h f (of_unknown_tag g u) =
     let s = encoding_alone _ _ _ _ _ _ _ _ _ _ _ _ [] [] f g refl in
-    is_unknown (ap is_known_tag s.tag ∙ u)
+    is_unknown (subst IsUnknownTag (sym s.tag) u)
 universal_contents x k n contents h f (of_leaf g l t p) =
     let s = encoding_alone _ _ _ _ _ _ _ _ _ _ _ _ [] [] f g refl in
     is_leaf l (s.tag ∙ t) (subst (LeafContents l) (sym s.contents) p)
@@ -168,38 +166,61 @@ header_no_encoding place octets x rest e c' k' n' contents h' (too_long s l r c 
     let v = length_alone l f.len r (contents ++ rest) m (length contents) u f.length_octets q.rest in
     omega (arith, long, v.number, ap length v.rest, length-append contents rest)
 
-mutual
-  -- where the first block is at fault, no block stands
-  pub block_fault_no_block : (place : ℕ) (octets x rest : List ℕ) (e : DecodeFault) → BlockFault place octets e → place + length octets < 2 ^ 64
-      → octets ≡ x ++ rest → IsBlock x → ⊥
-  block_fault_no_block place octets x rest e (in_header w) small d b =
-      let F = block_encoding x b in
-      header_no_encoding place octets x rest e F.class F.constructed F.tag F.contents F.header w small d F.encoding
-  block_fault_no_block place octets x rest e (in_contents y r {constructed = k} {tag = n} {contents = contents} {header = h} g f fault) small d b =
-      let F = block_encoding x b in
-      let q = encoding_alone _ _ _ _ _ _ _ _ _ _ _ _ r rest f F.encoding (sym g ∙ d) in
-      contents_fault_no_block n contents e fault (omega (
-        arith,
-        small,
-        encoding_within octets y r Universal k n contents h f g,
-      )) (universal_contents y k n contents h f (subst IsBlock (sym q.octets) b))
+-- no block stands where a header is at fault
+header_no_block : (place : ℕ) (octets x rest : List ℕ) (e : DecodeFault) → HeaderFault place octets e → place + length octets < 2 ^ 64
+    → octets ≡ x ++ rest → IsBlock x → ⊥
+header_no_block place octets x rest e w small d b =
+    let F = block_encoding x b in
+    header_no_encoding place octets x rest e F.class F.constructed F.tag F.contents F.header w small d F.encoding
 
-  -- contents octets at fault are those of no block
-  pub contents_fault_no_block : (n : ℕ) (contents : List ℕ) (e : DecodeFault) → ContentsFault n contents e → length contents < 2 ^ 64
-      → UniversalContents n contents → ⊥
-  contents_fault_no_block n contents e (of_leaf_contents p) small (is_unknown u) = false≢true (sym u ∙ leaf_tag_known n (leaf_fault_tag n contents e p))
-  contents_fault_no_block n contents e (of_leaf_contents p) small (is_leaf l t q) = leaf_no_fault n contents e l t q p
-  contents_fault_no_block n contents e (of_leaf_contents p) small (is_group g t bs) = leaf_tag_no_group n g (leaf_fault_tag n contents e p) t
-  contents_fault_no_block n contents e (of_item j t r) small (is_unknown u) = false≢true (sym u ∙ ap is_known_tag t ∙ group_known j)
-  contents_fault_no_block n contents e (of_item j t r) small (is_leaf l u p) = leaf_no_group l j (sym u ∙ t)
-  contents_fault_no_block n contents e (of_item j t r) small (is_group g u bs) = blocks_fault_no_blocks contents e r small bs
+-- a block of class Universal has the contents octets of the encoding that begins with it
+contents_there : (octets y r x rest : List ℕ) (k : Bool) (n : ℕ) (contents : List ℕ) (h : ℕ) → octets ≡ y ++ r
+    → Encoding y Universal k n contents h → octets ≡ x ++ rest → IsBlock x → UniversalContents n contents
+contents_there octets y r x rest k n contents h g f d b =
+    let F = block_encoding x b in
+    let q = encoding_alone _ _ _ _ _ _ _ _ _ _ _ _ r rest f F.encoding (sym g ∙ d) in
+    universal_contents y k n contents h f (subst IsBlock (sym q.octets) b)
 
-  -- octets at fault are no blocks
-  pub blocks_fault_no_blocks : (octets : List ℕ) (e : DecodeFault) → BlocksFault octets e → length octets < 2 ^ 64 → AreBlocks octets → ⊥
-  blocks_fault_no_blocks octets e (after_blocks front rest d fs some stop) small bs =
-      let left = blocks_after octets front rest d fs bs in
-      let (x, r, g, b) = first_block rest left some in
-      block_fault_no_block (length front) rest x r e stop (omega (arith, small, ap length d, length-append front rest)) g b
+-- those of a leaf are not at fault
+leaf_no_block : (n : ℕ) (contents : List ℕ) (e : DecodeFault) → LeafFault n contents e → UniversalContents n contents → ⊥
+leaf_no_block n contents e p (is_unknown u) = false≢true (sym (unknown_known n u) ∙ leaf_tag_known n (leaf_fault_tag n contents e p))
+leaf_no_block n contents e p (is_leaf l t q) = leaf_no_fault n contents e l t q p
+leaf_no_block n contents e p (is_group g t bs) = leaf_tag_no_group n g (leaf_fault_tag n contents e p) t
+
+-- and those of a group are blocks
+group_holds : (g : GroupKind) (contents : List ℕ) → UniversalContents (group_tag g) contents → AreBlocks contents
+group_holds g contents (is_unknown u) = absurd (u.1 g refl)
+group_holds g contents (is_leaf l t p) = absurd (leaf_no_group l g (sym t))
+group_holds g contents (is_group i t bs) = bs
+
+-- octets at fault are no blocks
+pub blocks_fault_no_blocks : (octets : List ℕ) (e : DecodeFault) (o : ℕ) → BlocksFaultAt octets e o → length octets < 2 ^ 64
+    → AreBlocks octets → ⊥
+blocks_fault_no_blocks octets e o (in_header front rest d fs some w) small bs =
+    let (x, r, g, b) = first_block rest (blocks_after octets front rest d fs bs) some in
+    header_no_block (length front) rest x r e w (omega (arith, small, ap length d, length-append front rest)) g b
+blocks_fault_no_blocks octets e o (in_contents {contents = v} {constructed = k} {tag = n} {header = h} front y rest d fs f l) small bs =
+    let all = y ++ rest in
+    let (x, r, g, b) = first_block all (blocks_after octets front all d fs bs) (encoding_first y rest Universal k n v h f) in
+    leaf_no_block n v e l (contents_there all y rest x r k n v h refl f g b)
+blocks_fault_no_blocks octets e o (in_item {contents = v} {constructed = k} {header = h} {inside = i} front y rest d fs j f p) small bs =
+    let all = y ++ rest in
+    let n = group_tag j in
+    let (x, r, g, b) = first_block all (blocks_after octets front all d fs bs) (encoding_first y rest Universal k n v h f) in
+    let within = encoding_within all y rest Universal k n v h f refl in
+    blocks_fault_no_blocks v e i p (omega (arith, small, ap length d, length-append front all, within))
+    (group_holds j v (contents_there all y rest x r k n v h refl f g b))
+
+-- where the first block is at fault, no block stands
+pub block_fault_no_block : (place : ℕ) (octets x rest : List ℕ) (e : DecodeFault) (o : ℕ) → BlockFaultAt place octets e o
+    → place + length octets < 2 ^ 64 → octets ≡ x ++ rest → IsBlock x → ⊥
+block_fault_no_block place octets x rest e o (at_header w) small d b = header_no_block place octets x rest e w small d b
+block_fault_no_block place octets x rest e o (at_leaf y r {constructed = k} {tag = n} {contents = v} {header = h} g f l) small d b =
+    leaf_no_block n v e l (contents_there octets y r x rest k n v h g f d b)
+block_fault_no_block place octets x rest e o (at_item y r {constructed = k} {contents = v} {header = h} {inside = i} g j f p) small d b =
+    let n = group_tag j in
+    blocks_fault_no_blocks v e i p (omega (arith, small, encoding_within octets y r Universal k n v h f g))
+    (group_holds j v (contents_there octets y r x rest k n v h g f d b))
 
 -- one block is blocks one after another
 pub block_is_blocks : (octets : List ℕ) → IsBlock octets → AreBlocks octets

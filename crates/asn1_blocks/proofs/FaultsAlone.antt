@@ -25,25 +25,26 @@ use Rattle.std.proofs.Common.{
 use Rattle.asn1_headers.specs.declared.header.ASN1Class.{ASN1Class}
 use Rattle.asn1_headers.specs.declared.header.ASN1Class.TheVariants.{Universal}
 use Rattle.asn1_headers.specs.Fault.{DecodeFault, length_too_large}
-use Rattle.asn1_headers.specs.Header.{IsIdentifier, IsLength, length_fault}
+use Rattle.asn1_headers.specs.Header.{Encoding, IsIdentifier, IsLength, length_fault}
 use Rattle.asn1_headers.specs.HeaderFault.{HeaderFault, no_identifier, no_length, too_far, too_long}
 use Rattle.asn1_blocks.specs.Grammar.{
   IsBlock,
   AreBlocks,
   no_blocks,
   more_blocks,
-  BlockFault,
+  BlocksFaultAt,
   in_header,
   in_contents,
-  ContentsFault,
-  of_leaf_contents,
-  of_item,
-  BlocksFault,
-  after_blocks,
+  in_item,
+  FirstFaultAt,
   FirstFault,
 }
+use Rattle.asn1_blocks.specs.Inner.BlockFault.{BlockFaultAt, at_header, at_leaf, at_item}
+use Rattle.asn1_blocks.specs.Contents.{LeafFault, group_tag}
+use Rattle.asn1_blocks.specs.declared.block.GroupKind.{GroupKind}
 use Rattle.asn1_blocks.proofs.Leaves.{leaf_fault_tag, leaf_fault_alone, leaf_tag_no_group}
 use Rattle.asn1_headers.proofs.Prefixes.{encoding_alone, identifier_alone, length_alone}
+use Rattle.asn1_blocks.proofs.FaultyBlocks.{faulty_block}
 use Rattle.asn1_blocks.proofs.Faults.{block_alone, encoding_within, header_no_encoding, block_fault_no_block, length_first}
 
 -- no identifier and length octets stand where an octet after the identifier octets is missing
@@ -104,8 +105,10 @@ header_fault_alone place octets e d (too_long s l r c k n m t u g near long) (to
 header_fault_alone place octets e d (too_long s l r c k n m t u g near long) (too_long s' l' r' c' k' n' m' t' u' g' near' long') = refl
 
 -- no octets, no block and no fault
-pub blocks_fault_some : (octets : List ℕ) (e : DecodeFault) → BlocksFault octets e → octets ≡ [] → ⊥
-blocks_fault_some octets e (after_blocks front rest d fs some stop) h = omega (arith, some, ap length d, ap length h, length-append front rest)
+pub blocks_fault_some : (octets : List ℕ) (e : DecodeFault) (o : ℕ) → BlocksFaultAt octets e o → octets ≡ [] → ⊥
+blocks_fault_some octets e o p h =
+    let v = faulty_block octets e o p in
+    omega (arith, v.some, ap length v.whole, ap length h, length-append v.front v.rest)
 
 -- the blocks up to where none follows are the same
 pub same_fronts : (octets front rest front' rest' : List ℕ) → AreBlocks front → AreBlocks front' → octets ≡ front ++ rest
@@ -123,42 +126,78 @@ same_fronts octets front rest front' rest' (more_blocks {x = x} {rest = r} g b b
     let i = same_fronts (r ++ rest) r rest q rest' bs cs refl f.1 none none' in
     (g ∙ ap (λ z. z ++ r) f.0 ∙ ap (λ z. y ++ z) i.0 ∙ sym h, i.1)
 
-mutual
-  -- so has the first block
-  pub block_fault_alone : (place : ℕ) (octets : List ℕ) (e d : DecodeFault) → BlockFault place octets e → BlockFault place octets d
-      → place + length octets < 2 ^ 64 → e ≡ d
-  block_fault_alone place octets e d (in_header p) (in_header q) small = header_fault_alone place octets e d p q
-  block_fault_alone place octets e d (in_header p) (in_contents x rest g f fault) small =
-      absurd (header_no_encoding place octets x rest e _ _ _ _ _ p small g f)
-  block_fault_alone place octets e d (in_contents x rest g f fault) (in_header q) small =
-      absurd (header_no_encoding place octets x rest d _ _ _ _ _ q small g f)
-  block_fault_alone place octets e d (in_contents x rest {constructed = k} {tag = n} {contents = v} {header = h} g f p)
-      (in_contents y rest' {constructed = k'} {tag = m} {contents = w} {header = h'} g' f' q) small =
-      let s = encoding_alone _ _ _ _ _ _ _ _ _ _ _ _ rest rest' f f' (sym g ∙ g') in
-      contents_fault_alone n v e d p (subst (λ z. ContentsFault n z d) (sym s.contents) (subst (λ z. ContentsFault z w d) (sym s.tag) q))
-      (omega (arith, small, encoding_within octets x rest Universal k n v h f g))
+-- the faults of one block are one fault: of its header
+header_alone : (place : ℕ) (octets : List ℕ) (e d : DecodeFault) (j : ℕ) → HeaderFault place octets e → BlockFaultAt place octets d j
+    → place + length octets < 2 ^ 64 → (e ≡ d) × (0 ≡ j)
+header_alone place octets e d j w (at_header v) small = (header_fault_alone place octets e d w v, refl)
+header_alone place octets e d j w (at_leaf x rest g f l) small = absurd (header_no_encoding place octets x rest e _ _ _ _ _ w small g f)
+header_alone place octets e d j w (at_item x rest g y f p) small = absurd (header_no_encoding place octets x rest e _ _ _ _ _ w small g f)
 
-  -- and contents octets
-  pub contents_fault_alone : (n : ℕ) (contents : List ℕ) (e d : DecodeFault) → ContentsFault n contents e → ContentsFault n contents d
-      → length contents < 2 ^ 64 → e ≡ d
-  contents_fault_alone n contents e d (of_leaf_contents p) (of_leaf_contents q) small = leaf_fault_alone n contents e d p q
-  contents_fault_alone n contents e d (of_leaf_contents p) (of_item g t q) small = absurd (leaf_tag_no_group n g (leaf_fault_tag n contents e p) t)
-  contents_fault_alone n contents e d (of_item g t p) (of_leaf_contents q) small = absurd (leaf_tag_no_group n g (leaf_fault_tag n contents d q) t)
-  contents_fault_alone n contents e d (of_item g t p) (of_item g' t' q) small = blocks_fault_alone contents e d p q small
+module _ (place : ℕ) (octets x rest : List ℕ) (k : Bool) (n : ℕ) (contents : List ℕ) (h : ℕ) (whole : octets ≡ x ++ rest) (f : Encoding x Universal k n contents h) (small : place + length octets < 2 ^ 64) where
+  -- of the contents octets of a leaf
+  contents_alone : (e d : DecodeFault) (j : ℕ) → LeafFault n contents e → BlockFaultAt place octets d j → (e ≡ d) × (0 ≡ j)
+  contents_alone e d j l (at_header w) = absurd (header_no_encoding place octets x rest d _ _ _ _ _ w small whole f)
+  contents_alone e d j l (at_leaf x' rest' {tag = m} {contents = v} g f' l') =
+      let s = encoding_alone _ _ _ _ _ _ _ _ _ _ _ _ rest rest' f f' (sym whole ∙ g) in
+      let there = subst (λ z. LeafFault n z d) (sym s.contents) (subst (λ z. LeafFault z v d) (sym s.tag) l') in
+      (leaf_fault_alone n contents e d l there, refl)
+  contents_alone e d j l (at_item x' rest' g y f' p) =
+      let s = encoding_alone _ _ _ _ _ _ _ _ _ _ _ _ rest rest' f f' (sym whole ∙ g) in
+      absurd (leaf_tag_no_group n y (leaf_fault_tag n contents e l) s.tag)
 
-  -- and blocks one after another
-  pub blocks_fault_alone : (octets : List ℕ) (e d : DecodeFault) → BlocksFault octets e → BlocksFault octets d → length octets < 2 ^ 64 → e ≡ d
-  blocks_fault_alone octets e d (after_blocks front rest g bs some p) (after_blocks front' rest' g' bs' some' q) small =
-      let fits : length front + length rest < 2 ^ 64 = omega (arith, small, ap length g, length-append front rest) in
-      let fits' : length front' + length rest' < 2 ^ 64 = omega (arith, small, ap length g', length-append front' rest') in
-      let s = same_fronts octets front rest front' rest' bs bs' g g' (λ x r h b. block_fault_no_block (length front) rest x r e p fits h b)
-      (λ x r h b. block_fault_no_block (length front') rest' x r d q fits' h b) in
-      block_fault_alone (length front) rest e d p
-      (subst (λ z. BlockFault (length front) z d) (sym s.1) (subst (λ z. BlockFault (length z) rest' d) (sym s.0) q)) fits
+  -- or of an item of a group
+  item_there : (i : GroupKind) (d : DecodeFault) (j : ℕ) → n ≡ group_tag i → BlockFaultAt place octets d j
+      → (inside : ℕ) × BlocksFaultAt contents d inside × (j ≡ h + inside)
+  item_there i d j t (at_header w) = absurd (header_no_encoding place octets x rest d _ _ _ _ _ w small whole f)
+  item_there i d j t (at_leaf x' rest' {tag = m} {contents = v} g f' l) =
+      let s = encoding_alone _ _ _ _ _ _ _ _ _ _ _ _ rest rest' f f' (sym whole ∙ g) in
+      absurd (leaf_tag_no_group m i (leaf_fault_tag m v d l) (sym s.tag ∙ t))
+  item_there i d j t (at_item x' rest' {header = h'} {inside = o} g y f' p) =
+      let s = encoding_alone _ _ _ _ _ _ _ _ _ _ _ _ rest rest' f f' (sym whole ∙ g) in
+      (o, subst (λ z. BlocksFaultAt z d o) (sym s.contents) p, ap (λ z. z + o) (sym s.header))
 
--- the first fault is one
+-- where blocks end and one is at fault, any fault is of that block
+same_block : (octets front rest : List ℕ) (e d : DecodeFault) (i p : ℕ) → octets ≡ front ++ rest → AreBlocks front
+    → BlockFaultAt (length front) rest e i → BlocksFaultAt octets d p → length octets < 2 ^ 64
+    → (length front + length rest < 2 ^ 64) × (j : ℕ) × BlockFaultAt (length front) rest d j × (p ≡ length front + j)
+same_block octets front rest e d i p g fs a b small =
+    let v = faulty_block octets d p b in
+    let fits : length front + length rest < 2 ^ 64 = omega (arith, small, ap length g, length-append front rest) in
+    let fits' : length v.front + length v.rest < 2 ^ 64 = omega (arith, small, ap length v.whole, length-append v.front v.rest) in
+    let s = same_fronts octets front rest v.front v.rest fs v.blocks g v.whole
+    (λ x r h c. block_fault_no_block (length front) rest x r e i a fits h c)
+    (λ x r h c. block_fault_no_block (length v.front) v.rest x r d v.inside v.fault fits' h c) in
+    let there = subst (λ z. BlockFaultAt (length front) z d v.inside) (sym s.1)
+    (subst (λ z. BlockFaultAt (length z) v.rest d v.inside) (sym s.0) v.fault) in
+    (fits, v.inside, there, omega (arith, v.offset_is, ap length s.0))
+
+-- octets that are read as blocks have one fault, at one place
+blocks_fault_alone : (octets : List ℕ) (e d : DecodeFault) (o p : ℕ) → BlocksFaultAt octets e o → BlocksFaultAt octets d p
+    → length octets < 2 ^ 64 → (e ≡ d) × (o ≡ p)
+blocks_fault_alone octets e d o p (in_header front rest g fs some w) b small =
+    let (fits, j, v, at) = same_block octets front rest e d 0 p g fs (at_header w) b small in
+    let a = header_alone (length front) rest e d j w v fits in
+    (a.0, omega (arith, a.1, at))
+blocks_fault_alone octets e d o p (in_contents {contents = c} {constructed = k} {tag = n} {header = h} front x rest g fs f l) b small =
+    let (fits, j, v, at) = same_block octets front (x ++ rest) e d 0 p g fs (at_leaf x rest refl f l) b small in
+    let a = contents_alone (length front) (x ++ rest) x rest k n c h refl f fits e d j l v in
+    (a.0, omega (arith, a.1, at))
+blocks_fault_alone octets e d o p (in_item {contents = c} {constructed = k} {header = h} {inside = i} front x rest g fs y f q) b small =
+    let n = group_tag y in
+    let (fits, j, v, at) = same_block octets front (x ++ rest) e d (h + i) p g fs (at_item x rest refl y f q) b small in
+    let (m, r, inside) = item_there (length front) (x ++ rest) x rest k n c h refl f fits y d j refl v in
+    let within = encoding_within (x ++ rest) x rest Universal k n c h f refl in
+    let a = blocks_fault_alone c e d i m q r (omega (arith, fits, within)) in
+    (a.0, omega (arith, a.1, inside, at))
+
+-- the first fault is one, and has one place
+pub first_place_alone :
+    (octets : List ℕ) (e d : DecodeFault) (o p : ℕ) → length octets < 2 ^ 64 →
+    FirstFaultAt octets e o → FirstFaultAt octets d p → (e ≡ d) × (o ≡ p)
+first_place_alone octets e d o p small (inl a) (inl b) = (a.1 ∙ sym b.1, a.2 ∙ sym b.2)
+first_place_alone octets e d o p small (inl a) (inr b) = absurd (blocks_fault_some octets d p b a.0)
+first_place_alone octets e d o p small (inr a) (inl b) = absurd (blocks_fault_some octets e o a b.0)
+first_place_alone octets e d o p small (inr a) (inr b) = blocks_fault_alone octets e d o p a b small
+
 pub first_fault_alone : (octets : List ℕ) (e d : DecodeFault) → FirstFault octets e → FirstFault octets d → length octets < 2 ^ 64 → e ≡ d
-first_fault_alone octets e d (inl p) (inl q) small = p.1 ∙ sym q.1
-first_fault_alone octets e d (inl p) (inr q) small = absurd (blocks_fault_some octets d q p.0)
-first_fault_alone octets e d (inr p) (inl q) small = absurd (blocks_fault_some octets e p q.0)
-first_fault_alone octets e d (inr p) (inr q) small = blocks_fault_alone octets e d p q small
+first_fault_alone octets e d (o, a) (p, b) small = (first_place_alone octets e d o p small a b).0

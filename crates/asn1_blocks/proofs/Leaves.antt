@@ -7,6 +7,9 @@ use Rattle.std.proofs.Common.{
   ◌^◌,
   ◌==◌,
   ◌||◌,
+  ◌↔◌,
+  Bool,
+  not,
   true,
   false,
   List,
@@ -40,6 +43,7 @@ use Rattle.asn1_blocks.specs.Contents.{
   is_leaf_tag,
   is_group_tag,
   is_known_tag,
+  IsUnknownTag,
   IsFaithfulLeaf,
   LeafContents,
   LeafFault,
@@ -172,6 +176,10 @@ leaf_known l = leaf_tag_known (leaf_tag l) (leaf_tag_is l)
 pub group_known : (g : GroupKind) → is_known_tag (group_tag g) ≡ true
 group_known Sequence = refl
 group_known Set = refl
+
+-- any other tag is unknown
+unknown_of : (n : ℕ) → is_known_tag n ≡ false → IsUnknownTag n
+unknown_of n e = (λ l t. false≢true (sym e ∙ (ap is_known_tag t ∙ leaf_known l)), λ g t. false≢true (sym e ∙ (ap is_known_tag t ∙ group_known g)))
 
 -- no tag is that of a leaf and of a group
 pub leaf_tag_no_group : (n : ℕ) (g : GroupKind) → is_leaf_tag n ≡ true → n ≡ group_tag g → ⊥
@@ -393,19 +401,34 @@ leaf_total n contents e small = let l = leaf_of_tag n e in meaning l.0 n content
 
 -- each tag is unknown, of a group or of a leaf
 pub data TagKind (n : ℕ) : Type 0 where
-  unknown_tag : is_known_tag n ≡ false → TagKind n
+  unknown_tag : IsUnknownTag n → TagKind n
   group_tag_of : (g : GroupKind) → n ≡ group_tag g → TagKind n
   leaf_tag_of : is_leaf_tag n ≡ true → TagKind n
 
 -- it is one of them
 pub tag_kind : (n : ℕ) → TagKind n
 tag_kind n = elim (cases_Bool (is_known_tag n)) [
-  | inr e ↦ unknown_tag e
+  | inr e ↦ unknown_tag (unknown_of n e)
   | inl e ↦ elim (or_cases (is_leaf_tag n) (is_group_tag n) e) [
     | inl a ↦ leaf_tag_of a
     | inr a ↦ elim (or_cases (n == 16) (n == 17) a) [ inl b ↦ group_tag_of Sequence (eqb-true n 16 b) | inr b ↦ group_tag_of Set (eqb-true n 17 b) ]
   ]
 ]
+
+-- an unknown tag is not known
+pub unknown_known : (n : ℕ) → IsUnknownTag n → is_known_tag n ≡ false
+unknown_known n u = elim (cases_Bool (is_known_tag n)) [
+  | inr e ↦ e
+  | inl e ↦ elim (or_cases (is_leaf_tag n) (is_group_tag n) e) [
+    | inl a ↦ let l = leaf_of_tag n a in absurd (u.0 l.0 l.1)
+    | inr a ↦ elim (or_cases (n == 16) (n == 17) a) [ inl b ↦ absurd (u.1 Sequence (eqb-true n 16 b)) | inr b ↦ absurd (u.1 Set (eqb-true n 17 b)) ]
+  ]
+]
+
+-- a test of it says so
+pub unknown_said : (n : ℕ) (known : Bool) → known ≡ is_known_tag n → (not known ≡ true) ↔ IsUnknownTag n
+unknown_said n true e = (λ f. absurd (false≢true f), λ u. absurd (false≢true (sym (unknown_known n u) ∙ sym e)))
+unknown_said n false e = (λ t. unknown_of n (sym e), λ u. refl)
 
 -- a leaf that was read from octets can be written
 pub leaf_writable : (l : Leaf) (contents : List ℕ) → All (λ b. b < 256) contents → LeafContents l contents → leaf_write_fault l ≡ None

@@ -1,6 +1,7 @@
 pub mod BlockLists
 pub mod Leaves
 pub mod OneReading
+pub mod FaultyBlocks
 pub mod Faults
 pub mod FaultsAlone
 pub mod HeaderCounts
@@ -13,7 +14,6 @@ pub mod Readings
 pub mod FaithfulWalk
 pub mod OneBlock
 pub mod Slices
-pub mod FaultPlaces
 pub mod EncodingSizes
 pub mod OwedBlocks
 pub mod Frames

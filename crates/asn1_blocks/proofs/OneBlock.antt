@@ -17,5 +17,5 @@ pub one_if_block : (octets : List ℕ) (blocks : List ASN1Block) → IsDocument 
 one_if_block octets blocks d b = sym (count_views blocks) ∙ one_block 0 octets (views blocks) d.blocks b
 
 pub fault_no_block : (octets : List ℕ) (e : DecodeFault) → length octets < 2 ^ 64 → FirstFault octets e → IsBlock octets → ⊥
-fault_no_block octets e small (inl p) b = omega (arith, block_some octets b, ap length p.0)
-fault_no_block octets e small (inr p) b = blocks_fault_no_blocks octets e p small (block_is_blocks octets b)
+fault_no_block octets e small (o, inl p) b = omega (arith, block_some octets b, ap length p.0)
+fault_no_block octets e small (o, inr p) b = blocks_fault_no_blocks octets e o p small (block_is_blocks octets b)

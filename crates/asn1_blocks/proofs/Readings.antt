@@ -27,18 +27,16 @@ use Rattle.asn1_headers.specs.declared.error.LocatedErr.{LocatedErr}
 use Rattle.asn1_headers.specs.Fault.{DecodeFault, fault_of, OutOfMemoryOr}
 use Rattle.asn1_blocks.specs.Tree.{Trees}
 use Rattle.asn1_blocks.specs.View.{views}
-use Rattle.asn1_blocks.specs.FaultPlace.{FirstFaultAt}
-use Rattle.asn1_blocks.specs.Grammar.{IsDocument, FirstFault}
+use Rattle.asn1_blocks.specs.Grammar.{IsDocument, FirstFault, FirstFaultAt}
 use Rattle.asn1_blocks.proofs.OneReading.{encodes_blocks, all_alone}
 use Rattle.asn1_blocks.proofs.Faults.{blocks_fault_no_blocks}
-use Rattle.asn1_blocks.proofs.FaultsAlone.{first_fault_alone}
-use Rattle.asn1_blocks.proofs.FaultPlaces.{first_fault_placed, first_place_alone}
+use Rattle.asn1_blocks.proofs.FaultsAlone.{first_fault_alone, first_place_alone}
 
 -- no document has a first fault
 pub document_no_fault : (octets : List ℕ) (bs : Trees ℕ) (e : DecodeFault) → length octets < 2 ^ 64 → IsDocument octets bs
     → FirstFault octets e → ⊥
-document_no_fault octets bs e small d (inl empty) = omega (arith, d.some, ap length empty.0)
-document_no_fault octets bs e small d (inr fault) = blocks_fault_no_blocks octets e fault small (encodes_blocks 0 octets bs d.blocks)
+document_no_fault octets bs e small d (o, inl empty) = omega (arith, d.some, ap length empty.0)
+document_no_fault octets bs e small d (o, inr fault) = blocks_fault_no_blocks octets e o fault small (encodes_blocks 0 octets bs d.blocks)
 
 -- a document is accepted, as its trees
 pub document_accepted : (octets : List ℕ) (r : Result (Vec ASN1Block Global) ASN1DecodeErr) → length octets < 2 ^ 64
@@ -60,7 +58,7 @@ fault_refused octets (Err e) small ok (inr first) fault f = inr (first_fault_alo
 pub without_place : (octets : List ℕ) (e : ASN1DecodeErr) (o : ℕ) → OutOfMemoryOr (λ f. FirstFaultAt octets f o) e
     → OutOfMemoryOr (FirstFault octets) e
 without_place octets e o (inl memory) = inl memory
-without_place octets e o (inr p) = inr ((first_fault_placed octets (fault_of e)).1 (o, p))
+without_place octets e o (inr p) = inr (o, p)
 
 -- so where the answer has the place of the fault
 abbrev pub IsPlaced : List ℕ → LocatedErr → Type 0
@@ -70,7 +68,7 @@ memory_or_place : (octets : List ℕ) (bs : Trees ℕ) (e : LocatedErr) → leng
     → e.error ≡ OutOfMemory
 memory_or_place octets bs e small d (inl memory) = memory
 memory_or_place octets bs e small d (inr p) =
-    absurd (document_no_fault octets bs (fault_of e.error) small d ((first_fault_placed octets (fault_of e.error)).1 (e.offset, p)))
+    absurd (document_no_fault octets bs (fault_of e.error) small d (e.offset, p))
 
 pub document_accepted_here : (octets : List ℕ) (r : Result (Vec ASN1Block Global) LocatedErr) → length octets < 2 ^ 64
     → IfOk r (λ v. IsDocument octets (views v.items)) → IfErr r (IsPlaced octets) → (bs : Trees ℕ) → IsDocument octets bs
@@ -88,5 +86,5 @@ pub fault_refused_here : (octets : List ℕ) (r : Result (Vec ASN1Block Global) 
     → IfOk r (λ v. IsDocument octets (views v.items)) → IfErr r (IsPlaced octets) → (fault : DecodeFault) (o : ℕ) → FirstFaultAt octets fault o
     → IsErrAnd r (λ e. OutOfMemoryOr (λ f. (f ≡ fault) × (e.offset ≡ o)) e.error)
 fault_refused_here octets (Ok v) small ok err fault o p =
-    document_no_fault octets (views v.items) fault small ok ((first_fault_placed octets fault).1 (o, p))
+    document_no_fault octets (views v.items) fault small ok (o, p)
 fault_refused_here octets (Err e) small ok err fault o p = same_place octets e fault o small err p

@@ -48,10 +48,10 @@ use Rattle.asn1_blocks.proofs.Faults.{block_encoding}
 
 -- a tree has the offset that it was read at
 pub encodes_offset : (o : ℕ) (x : List ℕ) (b : Tree ℕ) → Encodes o x b → tree_offset b ≡ o
-encodes_offset o x (leaf p l) s = s.place
-encodes_offset o x (group p g bs) s = s.place
-encodes_offset o x (explicit c p n b) s = s.place
-encodes_offset o x (unknown c k p n v) s = s.place
+encodes_offset o x (leaf p l) s = s.0
+encodes_offset o x (group p g bs) s = s.0
+encodes_offset o x (explicit c p n b) s = s.0
+encodes_offset o x (unknown c k p n v) s = s.0
 
 first_at : (f : ℕ → ℕ) (o q : ℕ) → ((d : ℕ) → f (o + d) ≡ q + d) → f o ≡ q
 first_at f o q h =
@@ -69,32 +69,12 @@ mutual
   -- the same octets at another offset
   pub encodes_at : (f : ℕ → ℕ) (o q : ℕ) (x : List ℕ) (b : Tree ℕ) → ((d : ℕ) → f (o + d) ≡ q + d) → Encodes o x b
       → Encodes q x (with_offsets f b)
-  encodes_at f o q x (leaf p l) h s = record {
-    constructed = s.constructed;
-    contents = s.contents;
-    header = s.header;
-    encoding = s.encoding;
-    place = ap f s.place ∙ first_at f o q h;
-    meaning = s.meaning;
-  }
-  encodes_at f o q x (group p g bs) h s = record {
-    constructed = s.constructed;
-    contents = s.contents;
-    header = s.header;
-    encoding = s.encoding;
-    place = ap f s.place ∙ first_at f o q h;
-    meaning = encodes_all_at f (o + s.header) (q + s.header) s.contents bs (further f o q s.header h) s.meaning;
-  }
-  encodes_at f o q x (explicit c p n b) h s = record {
-    contents = s.contents;
-    header = s.header;
-    encoding = s.encoding;
-    place = ap f s.place ∙ first_at f o q h;
-    other = s.other;
-    meaning = encodes_at f (o + s.header) (q + s.header) s.contents b (further f o q s.header h) s.meaning;
-  }
-  encodes_at f o q x (unknown c k p n v) h s =
-      record { header = s.header; encoding = s.encoding; place = ap f s.place ∙ first_at f o q h; as_it_came = s.as_it_came }
+  encodes_at f o q x (leaf p l) h (at, k, v, n, e, means) = (ap f at ∙ first_at f o q h, k, v, n, e, means)
+  encodes_at f o q x (group p g bs) h (at, k, v, n, e, means) =
+      (ap f at ∙ first_at f o q h, k, v, n, e, encodes_all_at f (o + n) (q + n) v bs (further f o q n h) means)
+  encodes_at f o q x (explicit c p t b) h (at, other, v, n, e, means) =
+      (ap f at ∙ first_at f o q h, other, v, n, e, encodes_at f (o + n) (q + n) v b (further f o q n h) means)
+  encodes_at f o q x (unknown c k p t v) h (at, n, e, stays) = (ap f at ∙ first_at f o q h, n, e, stays)
 
   pub encodes_all_at :
       (f : ℕ → ℕ) (o q : ℕ) (x : List ℕ) (bs : Trees ℕ) → ((d : ℕ) → f (o + d) ≡ q + d) →
@@ -140,19 +120,19 @@ mutual
       e ≡ length u + length x → Encodes (length u) x a → StandsIn a e b j → IsFoundIn i b j
   found_in a e b j i u x v w n s itself = record { before = u; octets = x; behind = v; whole = w; ends = n; encoded = s }
   found_in a e b j i u x v w n s (in_group {bs = bs} t) =
-      let f = s.encoding in
-      let h : length u + s.header ≡ length (u ++ (f.identifier ++ f.len)) = omega
+      let f = s.4 in
+      let h : length u + s.3 ≡ length (u ++ (f.identifier ++ f.len)) = omega
       (arith, f.size, length-append u (f.identifier ++ f.len), length-append f.identifier f.len) in
-      found_among bs e b j i (u ++ (f.identifier ++ f.len)) s.contents v (open_contents i u x v w f.identifier f.len s.contents f.whole)
-      (omega (arith, n, h, f.size, ap length f.whole, length-append f.identifier (f.len ++ s.contents), length-append f.len s.contents))
-      (subst (λ z. EncodesAll z s.contents bs) h s.meaning) t
+      found_among bs e b j i (u ++ (f.identifier ++ f.len)) s.2 v (open_contents i u x v w f.identifier f.len s.2 f.whole)
+      (omega (arith, n, h, f.size, ap length f.whole, length-append f.identifier (f.len ++ s.2), length-append f.len s.2))
+      (subst (λ z. EncodesAll z s.2 bs) h s.5) t
   found_in a e b j i u x v w n s (in_explicit {a = y} t) =
-      let f = s.encoding in
-      let h : length u + s.header ≡ length (u ++ (f.identifier ++ f.len)) = omega
+      let f = s.4 in
+      let h : length u + s.3 ≡ length (u ++ (f.identifier ++ f.len)) = omega
       (arith, f.size, length-append u (f.identifier ++ f.len), length-append f.identifier f.len) in
-      found_in y e b j i (u ++ (f.identifier ++ f.len)) s.contents v (open_contents i u x v w f.identifier f.len s.contents f.whole)
-      (omega (arith, n, h, f.size, ap length f.whole, length-append f.identifier (f.len ++ s.contents), length-append f.len s.contents))
-      (subst (λ z. Encodes z s.contents y) h s.meaning) t
+      found_in y e b j i (u ++ (f.identifier ++ f.len)) s.2 v (open_contents i u x v w f.identifier f.len s.2 f.whole)
+      (omega (arith, n, h, f.size, ap length f.whole, length-append f.identifier (f.len ++ s.2), length-append f.len s.2))
+      (subst (λ z. Encodes z s.2 y) h s.5) t
 
   pub found_among :
       (bs : Trees ℕ) (e : ℕ) (b : Tree ℕ) (j : ℕ) (i u x v : List ℕ) → i ≡ u ++ (x ++ v) →

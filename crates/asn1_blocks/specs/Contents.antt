@@ -1,6 +1,6 @@
 -- Contents octets of class Universal: a module for each kind that has a rule says what the octets mean, how they are at
 -- fault, what is written and what can't be; here is which tag has which.
-use Rattle.std.specs.Prelude.{◌≡◌, ◌==◌, ◌||◌, ℕ, Bool, List, [], Option, None}
+use Rattle.std.specs.Prelude.{◌≡◌, ◌≢◌, ◌==◌, ◌||◌, ℕ, Bool, List, [], Option, None}
 use Rattle.asn1_blocks.specs.declared.block.GroupKind.{GroupKind}
 use Rattle.asn1_blocks.specs.declared.block.GroupKind.TheVariants.{Sequence, Set}
 use Rattle.asn1_headers.specs.declared.error.ASN1EncodeErr.{ASN1EncodeErr}
@@ -71,6 +71,10 @@ leaf_tag (generalized_time m) = 24
 abbrev pub group_tag : GroupKind → ℕ
 group_tag Sequence = 16
 group_tag Set = 17
+
+-- the tag number of no leaf, no SEQUENCE and no SET: what has it is read as `Unknown`
+abbrev pub IsUnknownTag : ℕ → Type 0
+IsUnknownTag tag = ((l : Leaf) → tag ≢ leaf_tag l) × ((g : GroupKind) → tag ≢ group_tag g)
 
 abbrev pub is_string_tag : ℕ → Bool
 is_string_tag n = (n == 12) || (n == 19) || (n == 20) || (n == 22) || (n == 28) || (n == 30)

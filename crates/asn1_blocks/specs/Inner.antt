@@ -8,6 +8,7 @@ pub mod FaithfulWalk
 pub mod LeafBlocks
 pub mod HeaderPlaces
 pub mod Owed
+pub mod BlockFault
 pub mod OpenFrames
 pub mod ReaderSteps
 pub mod TreeBuilding

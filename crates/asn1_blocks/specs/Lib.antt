@@ -2,7 +2,6 @@ pub mod Tree
 pub mod View
 pub mod Contents
 pub mod Grammar
-pub mod FaultPlace
 pub mod HeadersBegun
 pub mod Faithful
 pub mod Places

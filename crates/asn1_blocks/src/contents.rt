@@ -5,7 +5,7 @@ ghost use Rattle.asn1_blocks.specs.Contents.{LeafFault, is_known_tag, is_leaf_ta
 ghost use Rattle.asn1_blocks.specs.Inner.LeafBlocks.{IsLeafOf, IsNoLeafOrMeant, IsSingleAt};
 ghost use Rattle.asn1_blocks.specs.Inner.FaithfulWalk.{IsFaithfulIfLeaf};
 ghost use Rattle.asn1_headers.specs.Fault.{OutOfMemoryOr};
-ghost use Rattle.asn1_blocks.specs.Grammar.{ContentsFault, Encodes};
+ghost use Rattle.asn1_blocks.specs.Grammar.{Encodes};
 ghost use Rattle.asn1_headers.specs.Header.{Encoding};
 ghost use Rattle.asn1_blocks.specs.HeadersBegun.{IsReadInside};
 ghost use Rattle.asn1_blocks.specs.Tree.{unknown};
@@ -35,7 +35,7 @@ pub fn leaf_block(
         → Encoding octets header.class header.constructed header.tag contents.now h
         → Encodes offset octets (view b)) }
     ensures refused { IfErr result (OutOfMemoryOr (λ e.
-        (header.class ≡ Universal) × ContentsFault header.tag contents.now e)) }
+        (header.class ≡ Universal) × LeafFault header.tag contents.now e)) }
 {
     match header.class {
         ASN1Class::Universal => match universal_leaf(alloc, &header.tag, contents, offset)? {
@@ -91,7 +91,7 @@ pub fn check_contents(alloc: Global, header: &Header, contents: &[u8]) -> Result
         → Encoding octets header.now.class header.now.constructed header.now.tag contents.now h
         → IsSingleAt offset octets) }
     ensures refused { IfErr result (OutOfMemoryOr (λ e.
-        (header.now.class ≡ Universal) × ContentsFault header.now.tag contents.now e)) }
+        (header.now.class ≡ Universal) × LeafFault header.now.tag contents.now e)) }
 {
     match header.class {
         ASN1Class::Universal => check_leaf(alloc, &header.tag, contents),

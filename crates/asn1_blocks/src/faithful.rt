@@ -1,6 +1,7 @@
 // Which blocks survive being written and read: one loop over the blocks of a tree.
 ghost use Rattle.std.specs.Prelude.{◌≡◌, ◌↔◌, IfOk, IsTrue};
 ghost use Rattle.asn1_headers.specs.declared.header.ASN1Class.TheVariants.{Universal};
+ghost use Rattle.asn1_blocks.specs.Contents.{IsUnknownTag};
 ghost use Rattle.asn1_blocks.specs.Faithful.{AreFaithful, IsFaithful};
 ghost use Rattle.asn1_blocks.specs.Grammar.{IsBlock, StaysAsItCame};
 ghost use Rattle.asn1_blocks.specs.Inner.FaithfulWalk.{IsFaithfulAlone};
@@ -82,12 +83,19 @@ fn stays_as_it_came(
     ensures { IfOk result (λ b. IsTrue b ↔ StaysAsItCame class constructed tag.now contents.now) }
 {
     if is_universal(class) {
-        return Ok(!is_known(tag));
+        return Ok(is_unknown_tag(tag));
     }
     if !constructed {
         return Ok(true);
     }
     Ok(!is_block(alloc, contents)?)
+}
+
+// Whether contents octets of class Universal with this tag number have no rule.
+fn is_unknown_tag(tag: &BigUint) -> bool
+    ensures { IsTrue result ↔ IsUnknownTag tag.now }
+{
+    !is_known(tag)
 }
 
 // Whether the octets are one block.

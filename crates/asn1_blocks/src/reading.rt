@@ -2,7 +2,7 @@
 ghost use Rattle.std.specs.Prelude.{◌≡◌, ◌≢◌, ◌↔◌, ℕ, ◌+◌, ◌-◌, ◌<◌, ◌≤◌, ◌^◌, ◌⊎◌, ◌++◌, ◌∷◌, [], List, is_some, length, reverse, IfOk, IfErr, IsTrue, MatchResult, OnOk};
 ghost use Rattle.asn1_headers.specs.declared.error.ASN1DecodeErr.TheVariants.{OutOfMemory};
 ghost use Rattle.asn1_headers.specs.Fault.{OutOfMemoryOr, fault_of};
-ghost use Rattle.asn1_blocks.specs.FaultPlace.{FirstFaultAt};
+ghost use Rattle.asn1_blocks.specs.Grammar.{FirstFaultAt};
 ghost use Rattle.asn1_blocks.specs.HeadersBegun.{HeadersBegun, IsReadInside};
 ghost use Rattle.asn1_blocks.specs.Inner.HeaderPlaces.{HeaderFound};
 ghost use Rattle.asn1_blocks.specs.Inner.OpenFrames.{IsKindOf, attempt_of};

@@ -1,10 +1,8 @@
 -- An answer that is the entries of a document or a first fault is the only one.
 use Rattle.std.proofs.Common.{ℕ, ◌<◌, ◌^◌, List, length, subst}
 use Rattle.asn1_headers.specs.Fault.{DecodeFault}
-use Rattle.asn1_blocks.specs.FaultPlace.{FirstFaultAt}
-use Rattle.asn1_blocks.specs.Grammar.{IsDocument}
+use Rattle.asn1_blocks.specs.Grammar.{FirstFaultAt, IsDocument}
 use Rattle.asn1_blocks.specs.Tree.{Trees}
-use Rattle.asn1_blocks.proofs.FaultPlaces.{first_fault_placed}
 use Rattle.asn1_blocks.proofs.OneReading.{all_alone}
 use Rattle.asn1_blocks.proofs.Readings.{document_no_fault}
 use Rattle.asn1_outline.specs.Entries.{AreEntriesOf}
@@ -20,4 +18,4 @@ only_entries octets es bs (cs, d, are) e = subst (λ z. AreEntriesOf octets z es
 
 pub none_refused : (octets : List ℕ) (es : List Entry) (fault : DecodeFault) (o : ℕ) → length octets < 2 ^ 64 → AreOfDocument octets es
     → FirstFaultAt octets fault o → ⊥
-none_refused octets es fault o small (bs, d, are) p = document_no_fault octets bs fault small d ((first_fault_placed octets fault).1 (o, p))
+none_refused octets es fault o small (bs, d, are) p = document_no_fault octets bs fault small d (o, p)

@@ -1,7 +1,6 @@
 -- The block of an entry is that of its node.
 use Rattle.std.proofs.Common.{◌≡◌, ◌≢◌, ℕ, ◌-◌, ◌++◌, Bool, true, List, [], ◌∷◌, drop, take, inl, inr, length, map, Result, Ok, Err, refl, sym, ap, ◌∙◌, subst, arith}
 use Rattle.std.specs.Prelude.{IfOk, reverse, slice_range}
-use Rattle.std.proofs.lemmas.Bool.{false≢true}
 use Rattle.std.proofs.lemmas.List.{drop_at, map-append, reverse-append, take_at}
 use Rattle.asn1_headers.specs.Header.{Encoding}
 use Rattle.asn1_headers.specs.declared.header.ASN1Class.{ASN1Class}
@@ -10,13 +9,13 @@ use Rattle.asn1_leaves.proofs.SliceSplit.{slice_split}
 use Rattle.asn1_blocks.specs.declared.block.ASN1Block.{ASN1Block}
 use Rattle.asn1_blocks.specs.declared.block.GroupKind.{GroupKind}
 use Rattle.asn1_blocks.specs.declared.parsed.Header.{Header}
-use Rattle.asn1_blocks.specs.Contents.{group_tag, is_known_tag}
+use Rattle.asn1_blocks.specs.Contents.{group_tag}
 use Rattle.asn1_blocks.specs.Grammar.{Encodes, EncodesAll}
 use Rattle.asn1_blocks.specs.Inner.HeaderPlaces.{HeaderFound}
 use Rattle.asn1_blocks.specs.Places.{EncodingAt}
 use Rattle.asn1_blocks.specs.Tree.{Tree, Trees, explicit, group, leaf, more_trees, no_trees, trees_of, unknown}
 use Rattle.asn1_blocks.specs.View.{tree_offset, view}
-use Rattle.asn1_blocks.proofs.Leaves.{group_alone, group_known, leaf_no_group}
+use Rattle.asn1_blocks.proofs.Leaves.{group_alone, leaf_no_group}
 use Rattle.asn1_blocks.proofs.OneReading.{encodes_alone, encodes_block, only_tree}
 use Rattle.asn1_blocks.proofs.Slices.{encoding_at_alone}
 use Rattle.asn1_outline.specs.Building.{IsNodeAt, items_of, listed}
@@ -52,36 +51,36 @@ module _ (x : List ℕ) (o : ℕ) (y : List ℕ) (n : ℕ) (v : List ℕ) (h : �
   pub group_there : (k : Bool) (g : GroupKind) (b : Tree ℕ) → Encoding y Universal k (group_tag g) v h → Encodes o y b → Holds x b bs
       → b ≡ group o g bs
   group_there k g (leaf p l) e s q =
-      absurd (leaf_no_group l g (same_encoding y _ _ _ _ _ _ _ _ _ _ s.encoding e).tag)
+      absurd (leaf_no_group l g (same_encoding y _ _ _ _ _ _ _ _ _ _ s.4 e).tag)
   group_there k g (group p i items) e s q =
-      let kind : i ≡ g = group_alone i g (same_encoding y _ _ _ _ _ _ _ _ _ _ s.encoding e).tag in
-      let at : p ≡ o = s.place in
+      let kind : i ≡ g = group_alone i g (same_encoding y _ _ _ _ _ _ _ _ _ _ s.4 e).tag in
+      let at : p ≡ o = s.0 in
       let own : bs ≡ items = q in
       cc
-  group_there k g (explicit c p m b) e s q = absurd (s.other (same_encoding y _ _ _ _ _ _ _ _ _ _ s.encoding e).class)
+  group_there k g (explicit c p m b) e s q = absurd (s.1 (same_encoding y _ _ _ _ _ _ _ _ _ _ s.4 e).class)
   group_there k g (unknown c j p m w) e s q =
-      let z = same_encoding y _ _ _ _ _ _ _ _ _ _ s.encoding e in
-      absurd (elim s.as_it_came [
-        | inl known ↦ false≢true (sym known.1 ∙ ap is_known_tag z.tag ∙ group_known g)
+      let z = same_encoding y _ _ _ _ _ _ _ _ _ _ s.2 e in
+      absurd (elim s.3 [
+        | inl known ↦ known.1.1 g z.tag
         | inr other ↦ other.0 z.class
       ])
 
   module _ (c : ASN1Class) (other : c ≢ Universal) (e : Encoding y c true n v h) where
     -- an encoding of another class around one block
     pub explicit_there : (b t : Tree ℕ) → Encodes o y b → Holds x b bs → bs ≡ more_trees t no_trees → b ≡ explicit c o n t
-    explicit_there (leaf p l) t s q one = absurd (other (sym (same_encoding y _ _ _ _ _ _ _ _ _ _ s.encoding e).class))
-    explicit_there (group p i items) t s q one = absurd (other (sym (same_encoding y _ _ _ _ _ _ _ _ _ _ s.encoding e).class))
+    explicit_there (leaf p l) t s q one = absurd (other (sym (same_encoding y _ _ _ _ _ _ _ _ _ _ s.4 e).class))
+    explicit_there (group p i items) t s q one = absurd (other (sym (same_encoding y _ _ _ _ _ _ _ _ _ _ s.4 e).class))
     explicit_there (explicit d p m a) t s q one =
-        let z = same_encoding y _ _ _ _ _ _ _ _ _ _ s.encoding e in
+        let z = same_encoding y _ _ _ _ _ _ _ _ _ _ s.4 e in
         let class : d ≡ c = z.class in
         let tag : m ≡ n = z.tag in
-        let at : p ≡ o = s.place in
+        let at : p ≡ o = s.0 in
         let all : more_trees a no_trees ≡ more_trees t no_trees = sym q ∙ one in
         let own : a ≡ t = cc in
         cc
     explicit_there (unknown d j p m w) t s q one =
-        let z = same_encoding y _ _ _ _ _ _ _ _ _ _ s.encoding e in
-        absurd (elim s.as_it_came [
+        let z = same_encoding y _ _ _ _ _ _ _ _ _ _ s.2 e in
+        absurd (elim s.3 [
           | inl known ↦ other (sym z.class ∙ known.0)
           | inr rest ↦ elim q [
             | inl (bit, place, u, f) ↦ rest.1 (bit, encodes_block place w t (only_tree place w t (subst (EncodesAll place w) one f)))
@@ -94,16 +93,16 @@ module _ (x : List ℕ) (o : ℕ) (y : List ℕ) (n : ℕ) (v : List ℕ) (h : �
 
     -- and one that stays as it came
     pub kept_there : (b : Tree ℕ) → Encodes o y b → Holds x b bs → ((t : Tree ℕ) → bs ≡ more_trees t no_trees → ⊥) → b ≡ unknown c true o n v
-    kept_there (leaf p l) s q none = absurd (other (sym (same_encoding y _ _ _ _ _ _ _ _ _ _ s.encoding e).class))
-    kept_there (group p i items) s q none = absurd (other (sym (same_encoding y _ _ _ _ _ _ _ _ _ _ s.encoding e).class))
+    kept_there (leaf p l) s q none = absurd (other (sym (same_encoding y _ _ _ _ _ _ _ _ _ _ s.4 e).class))
+    kept_there (group p i items) s q none = absurd (other (sym (same_encoding y _ _ _ _ _ _ _ _ _ _ s.4 e).class))
     kept_there (explicit d p m a) s q none = absurd (none a q)
     kept_there (unknown d j p m w) s q none =
-        let z = same_encoding y _ _ _ _ _ _ _ _ _ _ s.encoding e in
+        let z = same_encoding y _ _ _ _ _ _ _ _ _ _ s.2 e in
         let class : d ≡ c = z.class in
         let bit : j ≡ true = z.constructed in
         let tag : m ≡ n = z.tag in
         let own : w ≡ v = z.contents in
-        let at : p ≡ o = s.place in
+        let at : p ≡ o = s.0 in
         cc
 
 -- the tree of a node at the offset where a header was found

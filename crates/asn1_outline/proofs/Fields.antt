@@ -66,19 +66,19 @@ module _ (x : List ℕ) (r : Entry) where
   explicit_from (leaf p l) ns holds e count (other, one) =
       let c = contents_of x (leaf p l) r e in
       let s = c.encoded in
-      let z = same_encoding c.octets _ r.class s.constructed r.constructed _ c.tag s.contents c.contents s.header r.header s.encoding c.encoding in
+      let z = same_encoding c.octets _ r.class s.1 r.constructed _ c.tag s.2 c.contents s.3 r.header s.4 c.encoding in
       absurd (other (sym z.class))
   explicit_from (group p g items) ns holds e count (other, one) =
       let c = contents_of x (group p g items) r e in
       let s = c.encoded in
-      let z = same_encoding c.octets _ r.class s.constructed r.constructed _ c.tag s.contents c.contents s.header r.header s.encoding c.encoding in
+      let z = same_encoding c.octets _ r.class s.1 r.constructed _ c.tag s.2 c.contents s.3 r.header s.4 c.encoding in
       absurd (other (sym z.class))
   explicit_from (explicit class p m b) ns holds e count (other, one) = refl
   explicit_from (unknown class k p m v) ns holds e count (other, one) =
       let c = contents_of x (unknown class k p m v) r e in
       let s = c.encoded in
-      let z = same_encoding c.octets class r.class k r.constructed m c.tag v c.contents s.header r.header s.encoding c.encoding in
-      absurd (elim s.as_it_came [
+      let z = same_encoding c.octets class r.class k r.constructed m c.tag v c.contents s.1 r.header s.2 c.encoding in
+      absurd (elim s.3 [
         | inl known ↦ other (sym z.class ∙ known.0)
         | inr rest ↦ elim holds [
           | inl (bit, q, t, f) ↦
@@ -95,8 +95,8 @@ module _ (x : List ℕ) (r : Entry) where
   explicit_to (explicit class p m b) ns holds e count is =
       let c = contents_of x (explicit class p m b) r e in
       let s = c.encoded in
-      let z = same_encoding c.octets class r.class true r.constructed m c.tag s.contents c.contents s.header r.header s.encoding c.encoding in
-      (λ u. s.other (z.class ∙ u), count ∙ one_node_in ns b holds)
+      let z = same_encoding c.octets class r.class true r.constructed m c.tag s.2 c.contents s.3 r.header s.4 c.encoding in
+      (λ u. s.1 (z.class ∙ u), count ∙ one_node_in ns b holds)
   explicit_to (unknown class k p m v) ns holds e count is = absurd (false≢true is)
 
   pub explicit_is : (n : Node) (said : Bool) → IsNode x n → IsEntryOf x (node_tree n) r → r.items ≡ node_count (node_items n)

@@ -117,7 +117,7 @@ none_held x o e h (group p g bs) v i none s found shut = absurd (cc)
 none_held x o e h (explicit c p n b) v i none s found shut = absurd (cc)
 none_held x o e h (unknown c k p n w) v i none s found shut =
     let y = slice_range x o e in
-    let same = encoding_alone y y c h.class k h.constructed n h.tag w v s.header i [] [] s.encoding found refl in
+    let same = encoding_alone y y c h.class k h.constructed n h.tag w v s.1 i [] [] s.2 found refl in
     inr (refl, λ (other, bit, are). shut (inr (λ z. other (same.class ∙ z), sym same.constructed ∙ bit)))
 
 -- a block that holds none stands at the header

@@ -57,22 +57,22 @@ none_held x y c k n v h bs e none = record {
 }
 
 pub held_in : (x : List ℕ) (o : ℕ) (b : Tree ℕ) (y rest : List ℕ) (bs : Trees ℕ) → drop o x ≡ y ++ rest → Encodes o y b → Holds x b bs → HeldIn x y bs
-held_in x o (leaf p l) y rest bs s e h = none_held x y _ e.constructed _ e.contents e.header bs e.encoding h
+held_in x o (leaf p l) y rest bs s e h = none_held x y _ e.1 _ e.2 e.3 bs e.4 h
 held_in x o (group p g items) y rest bs s e h = record {
-  place = o + e.header;
-  contents = e.contents;
+  place = o + e.3;
+  contents = e.2;
   rest = rest;
-  at_offset = contents_stand x y rest _ e.constructed _ e.contents o e.header s e.encoding;
-  encoded = subst (λ z. EncodesAll (o + e.header) e.contents z) (sym h) e.meaning;
-  shorter = two_more y _ e.constructed _ e.contents e.header e.encoding;
+  at_offset = contents_stand x y rest _ e.1 _ e.2 o e.3 s e.4;
+  encoded = subst (λ z. EncodesAll (o + e.3) e.2 z) (sym h) e.5;
+  shorter = two_more y _ e.1 _ e.2 e.3 e.4;
 }
 held_in x o (explicit c p n b) y rest bs s e h = record {
-  place = o + e.header;
-  contents = e.contents;
+  place = o + e.3;
+  contents = e.2;
   rest = rest;
-  at_offset = contents_stand x y rest c _ n e.contents o e.header s e.encoding;
-  encoded = subst (λ z. EncodesAll (o + e.header) e.contents z) (sym h) (only (o + e.header) e.contents b e.meaning);
-  shorter = two_more y c _ n e.contents e.header e.encoding;
+  at_offset = contents_stand x y rest c _ n e.2 o e.3 s e.4;
+  encoded = subst (λ z. EncodesAll (o + e.3) e.2 z) (sym h) (only (o + e.3) e.2 b e.5);
+  shorter = two_more y c _ n e.2 e.3 e.4;
 }
 held_in x o (unknown c k p n v) y rest bs s e (inl (i, q, t, f)) = record {
   place = q;
@@ -80,9 +80,9 @@ held_in x o (unknown c k p n v) y rest bs s e (inl (i, q, t, f)) = record {
   rest = t.rest;
   at_offset = subst (λ z. drop z x ≡ v ++ t.rest) (sym t.place_is) (contents_stand x t.octets t.rest c _ n v p t.header t.at_offset t.encoding);
   encoded = f;
-  shorter = two_more y c k n v e.header e.encoding;
+  shorter = two_more y c k n v e.1 e.2;
 }
-held_in x o (unknown c k p n v) y rest bs s e (inr (none, other)) = none_held x y c k n v e.header bs e.encoding none
+held_in x o (unknown c k p n v) y rest bs s e (inr (none, other)) = none_held x y c k n v e.1 bs e.2 none
 
 -- the first octets of others, and the rest
 pub first_stands : (x : List ℕ) (place : ℕ) (v first after rest : List ℕ) → drop place x ≡ v ++ rest → v ≡ first ++ after

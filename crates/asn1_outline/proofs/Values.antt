@@ -1,6 +1,7 @@
 -- What an entry's contents octets mean.
 use Rattle.std.proofs.Common.{◌≡◌, ℕ, ◌+◌, ◌<◌, ◌≤◌, ◌^◌, ◌++◌, Bool, true, false, ◌-◌, List, [], Some, None, lit<, inl, inr, drop, get_or, length, take, refl, sym, ap, subst, ◌∙◌, arith, append_assoc, length-append}
 use Rattle.std.specs.List.{slice_range}
+use Rattle.std.specs.Prelude.{pos}
 use Rattle.std.proofs.lemmas.Bool.{cases_lt}
 use Rattle.std.proofs.lemmas.List.{length-drop, take-append-drop, take_at}
 use Rattle.asn1_numbers.specs.TwosComplement.{signed_number}
@@ -12,7 +13,7 @@ use Rattle.asn1_leaves.specs.StringKind.{StringKind, utf8, printable, teletex, i
 use Rattle.asn1_blocks.specs.BlockParts.{leaf_integer, tree_bits, tree_boolean, tree_integer, tree_moment, tree_oid, tree_tag, tree_text}
 use Rattle.asn1_blocks.specs.Contents.{LeafContents, LeafFault, group_tag, is_known_tag, is_leaf_tag, leaf_tag, of_text, string_tag}
 use Rattle.asn1_blocks.specs.Inner.LeafBlocks.{IsLeafOf}
-use Rattle.asn1_blocks.proofs.Leaves.{leaf_alone, leaf_no_fault, leaf_tag_known, leaf_tag_no_group}
+use Rattle.asn1_blocks.proofs.Leaves.{leaf_alone, leaf_no_fault, leaf_tag_known, leaf_tag_no_group, unknown_known}
 use Rattle.asn1_headers.specs.Fault.{DecodeFault}
 use Rattle.asn1_leaves.specs.Contents.Text.{TextContents, TextFault, text_form}
 use Rattle.asn1_blocks.specs.declared.block.GroupKind.TheVariants.{Sequence, Set}
@@ -103,29 +104,23 @@ integer_leaf (generalized_time d) v w t e m = absurd (cc)
 integer_tree : (o : ℕ) (y : List ℕ) (b : Tree ℕ) (k : Bool) (w : List ℕ) (h : ℕ) → Encodes o y b → Encoding y Universal k 2 w h
     → tree_integer b ≡ Some (signed_number w)
 integer_tree o y (leaf p l) k w h s e =
-    let z = one y Universal Universal s.constructed k (leaf_tag l) 2 s.contents w s.header h s.encoding e in
-    integer_leaf l s.contents w z.tag z.contents s.meaning
+    let z = one y Universal Universal s.1 k (leaf_tag l) 2 s.2 w s.3 h s.4 e in
+    integer_leaf l s.2 w z.tag z.contents s.5
 integer_tree o y (group p Sequence bs) k w h s e =
-    let z = one y Universal Universal s.constructed k 16 2 s.contents w s.header h s.encoding e in
+    let z = one y Universal Universal s.1 k 16 2 s.2 w s.3 h s.4 e in
     absurd (omega (arith, z.tag))
 integer_tree o y (group p Set bs) k w h s e =
-    let z = one y Universal Universal s.constructed k 17 2 s.contents w s.header h s.encoding e in
+    let z = one y Universal Universal s.1 k 17 2 s.2 w s.3 h s.4 e in
     absurd (omega (arith, z.tag))
 integer_tree o y (explicit c p n b) k w h s e =
-    let z = one y c Universal true k n 2 s.contents w s.header h s.encoding e in
-    absurd (s.other z.class)
+    let z = one y c Universal true k n 2 s.2 w s.3 h s.4 e in
+    absurd (s.1 z.class)
 integer_tree o y (unknown c j p n v) k w h s e =
-    let z = one y c Universal j k n 2 v w s.header h s.encoding e in
-    elim s.as_it_came [
-      | inl known ↦ absurd (known_two n z.tag known.1)
+    let z = one y c Universal j k n 2 v w s.1 h s.2 e in
+    elim s.3 [
+      | inl known ↦ absurd (known.1.0 (integer (pos 0)) z.tag)
       | inr other ↦ absurd (other.0 z.class)
     ]
-  where
-    known_two : (n : ℕ) → n ≡ 2 → is_known_tag n ≡ false → ⊥
-    known_two n e f = absurd (two (subst (λ z. is_known_tag z ≡ false) e f))
-      where
-        two : true ≡ false → ⊥
-        two q = absurd (cc)
 
 pub is_integer : (x : List ℕ) (b : Tree ℕ) (r : Entry) → IsEntryOf x b r → r.class ≡ Universal → r.tag ≡ 2
     → tree_integer b ≡ Some (signed_number (slice_range x (r.offset + r.header) (r.offset + r.header + r.contents)))
@@ -141,7 +136,7 @@ no_integer_leaf : (o : ℕ) (y : List ℕ) (b : Tree ℕ) (c : ASN1Class) (k : B
     → ((c ≡ Universal) × (n ≡ 2) → ⊥) → tree_integer b ≡ None
 no_integer_leaf o y (leaf p (boolean b)) c k n w h s e other = refl
 no_integer_leaf o y (leaf p (integer m)) c k n w h s e other =
-    let z = one y Universal c s.constructed k 2 n s.contents w s.header h s.encoding e in
+    let z = one y Universal c s.1 k 2 n s.2 w s.3 h s.4 e in
     absurd (other (sym z.class, sym z.tag))
 no_integer_leaf o y (leaf p (bit_string m v)) c k n w h s e other = refl
 no_integer_leaf o y (leaf p (octet_string v)) c k n w h s e other = refl
@@ -168,18 +163,18 @@ is_within x b r e = (contents_of x b r e).within
 leaf_encoded : (o : ℕ) (y : List ℕ) (b : Tree ℕ) (k : Bool) (n : ℕ) (w : List ℕ) (h : ℕ) → is_leaf_tag n ≡ true → Encodes o y b → Encoding y Universal k n w h
     → IsLeafOf o n w b
 leaf_encoded o y (leaf p l) k n w h t s e =
-    let z = one y Universal Universal s.constructed k (leaf_tag l) n s.contents w s.header h s.encoding e in
-    (s.place, sym z.tag, subst (LeafContents l) z.contents s.meaning)
+    let z = one y Universal Universal s.1 k (leaf_tag l) n s.2 w s.3 h s.4 e in
+    (s.0, sym z.tag, subst (LeafContents l) z.contents s.5)
 leaf_encoded o y (group p g bs) k n w h t s e =
-    let z = one y Universal Universal s.constructed k (group_tag g) n s.contents w s.header h s.encoding e in
+    let z = one y Universal Universal s.1 k (group_tag g) n s.2 w s.3 h s.4 e in
     leaf_tag_no_group n g t (sym z.tag)
 leaf_encoded o y (explicit c p m b) k n w h t s e =
-    let z = one y c Universal true k m n s.contents w s.header h s.encoding e in
-    s.other z.class
+    let z = one y c Universal true k m n s.2 w s.3 h s.4 e in
+    s.1 z.class
 leaf_encoded o y (unknown c j p m v) k n w h t s e =
-    let z = one y c Universal j k m n v w s.header h s.encoding e in
-    elim s.as_it_came [
-      | inl known ↦ not_known (sym (leaf_tag_known n t) ∙ ap is_known_tag (sym z.tag) ∙ known.1)
+    let z = one y c Universal j k m n v w s.1 h s.2 e in
+    elim s.3 [
+      | inl known ↦ not_known (sym (leaf_tag_known n t) ∙ ap is_known_tag (sym z.tag) ∙ unknown_known m known.1)
       | inr other ↦ other.0 z.class
     ]
   where
@@ -242,7 +237,7 @@ no_text_leaf o y (leaf p (octet_string v)) c k n w h s e other = refl
 no_text_leaf o y (leaf p null) c k n w h s e other = refl
 no_text_leaf o y (leaf p (object_identifier ns)) c k n w h s e other = refl
 no_text_leaf o y (leaf p (text kind cs)) c k n w h s e other =
-    let z = one y Universal c s.constructed k (string_tag kind) n s.contents w s.header h s.encoding e in
+    let z = one y Universal c s.1 k (string_tag kind) n s.2 w s.3 h s.4 e in
     absurd (other kind (sym z.class, sym z.tag))
 no_text_leaf o y (leaf p (utc_time d)) c k n w h s e other = refl
 no_text_leaf o y (leaf p (generalized_time d)) c k n w h s e other = refl
@@ -278,7 +273,7 @@ pub no_leaf_with : (x : List ℕ) (b : Tree ℕ) (r : Entry) (n : ℕ) → IsEnt
 no_leaf_with x b r n e small other o l is tag =
     let c = contents_of x b r e in
     let s : Encodes (tree_offset b) c.octets (leaf o l) = subst (λ z. Encodes (tree_offset b) c.octets z) is c.encoded in
-    let z = one c.octets Universal r.class s.constructed r.constructed (leaf_tag l) c.tag s.contents c.contents s.header r.header s.encoding c.encoding in
+    let z = one c.octets Universal r.class s.1 r.constructed (leaf_tag l) c.tag s.2 c.contents s.3 r.header s.4 c.encoding in
     let number : c.tag ≡ n = sym z.tag ∙ tag in
     other (sym z.class, c.number.0 (omega (arith, number, small)) ∙ number)
 
@@ -314,10 +309,10 @@ no_moment (unknown c k o n v) other more = refl
 -- a tree has the tag number of its octets
 tag_encoded : (o : ℕ) (y : List ℕ) (b : Tree ℕ) (c : ASN1Class) (k : Bool) (n : ℕ) (w : List ℕ) (h : ℕ) → Encodes o y b → Encoding y c k n w h
     → tree_tag b ≡ n
-tag_encoded o y (leaf p l) c k n w h s e = (one y Universal c s.constructed k (leaf_tag l) n s.contents w s.header h s.encoding e).tag
-tag_encoded o y (group p g bs) c k n w h s e = (one y Universal c s.constructed k (group_tag g) n s.contents w s.header h s.encoding e).tag
-tag_encoded o y (explicit d p m b) c k n w h s e = (one y d c true k m n s.contents w s.header h s.encoding e).tag
-tag_encoded o y (unknown d j p m v) c k n w h s e = (one y d c j k m n v w s.header h s.encoding e).tag
+tag_encoded o y (leaf p l) c k n w h s e = (one y Universal c s.1 k (leaf_tag l) n s.2 w s.3 h s.4 e).tag
+tag_encoded o y (group p g bs) c k n w h s e = (one y Universal c s.1 k (group_tag g) n s.2 w s.3 h s.4 e).tag
+tag_encoded o y (explicit d p m b) c k n w h s e = (one y d c true k m n s.2 w s.3 h s.4 e).tag
+tag_encoded o y (unknown d j p m v) c k n w h s e = (one y d c j k m n v w s.1 h s.2 e).tag
 
 -- the identifier octets at an entry's offset, and what follows them
 record Identified (x : List ℕ) (b : Tree ℕ) (o : ℕ) : Type 0 where

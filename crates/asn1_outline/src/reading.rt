@@ -2,8 +2,7 @@
 ghost use Rattle.std.specs.Prelude.{◌≡◌, ◌+◌, ◌<◌, ◌≤◌, ◌^◌, ◌⊎◌, ℕ, length, IfErr, IfOk, IsErrAnd, MatchResult};
 ghost use Rattle.asn1_headers.specs.Fault.{DecodeFault, OutOfMemoryOr};
 ghost use Rattle.asn1_headers.specs.declared.error.ASN1DecodeErr.TheVariants.{OutOfMemory};
-ghost use Rattle.asn1_blocks.specs.FaultPlace.{FirstFaultAt};
-ghost use Rattle.asn1_blocks.specs.Grammar.{FirstFault, IsDocument};
+ghost use Rattle.asn1_blocks.specs.Grammar.{FirstFault, FirstFaultAt, IsDocument};
 ghost use Rattle.asn1_blocks.specs.HeadersBegun.{HeadersBegun};
 ghost use Rattle.asn1_blocks.specs.Tree.{Trees};
 ghost use Rattle.asn1_outline.specs.Entries.{AreEntriesOf};

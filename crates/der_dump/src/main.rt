@@ -5,11 +5,11 @@ mod host;
 
 use crate::host::{HostReader, HostWriter, tell_error};
 use der_inputs::{Outcome, Source, run, status};
-use der_io::{StreamFault, fault_text};
+use der_io::{StreamFault, fault_text, words};
 use der_options::{Options, OptionsFault, options_of};
 use std::alloc::AllocError;
+use std::io;
 use std::process::ExitCode;
-use std::{env, io};
 
 // The exit status of words that are no command line.
 const WRONG_WORDS: u8 = 2;
@@ -22,16 +22,6 @@ fn main(rt: HostRuntime) -> ExitCode {
             ExitCode::from(WRONG_WORDS)
         }
     }
-}
-
-// The program's name and its arguments. `collect` would go on where it gets no room beforehand.
-fn words(rt: &HostRuntime) -> io::Result<Vec<String>> {
-    let arguments = env::args(rt)?;
-    let mut words = Vec::with_capacity(rt.alloc(), arguments.len())?;
-    for word in arguments {
-        words.push(word)?;
-    }
-    Ok(words)
 }
 
 // Why the arguments are no words.

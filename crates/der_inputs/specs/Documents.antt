@@ -1,19 +1,19 @@
 -- What is put of octets that may have a label, or of what has none that can be read: as a dump, or as a line of JSON.
-use Rattle.std.specs.Prelude.{◌≡◌, ◌⊎◌, ℕ, Bool, true, false, List, [], ◌∷◌, ◌++◌, Option, Some, None, option_map}
+use Rattle.std.specs.Prelude.{◌≡◌, ◌⊎◌, ℕ, Bool, true, false, List, [], ◌∷◌, ◌++◌, map, Option, Some, None, option_map}
 use Rattle.std.specs.Str.Lossy.{utf8_lossy}
 use Rattle.serde_json.specs.Data.{Members}
 use Rattle.serde_json.specs.Written.{compact_text}
 use Rattle.der_io.specs.Escaped.{escaped}
 use Rattle.der_json.specs.Json.{AddsJsonOf, origin_members, refusal_json}
-use Rattle.der_lines.specs.Dump.{AddsDumpOf, AddsLine, AreDefinite, IsFirstIndefinite, IsNote, all_offsets}
+use Rattle.der_lines.specs.Dump.{AddsDumpOf, AddsLine, AreDefinite, IsFirstIndefinite, IsNote}
 use Rattle.der_inputs.specs.Strict.{AddsStrictDumpOf}
 use Rattle.der_lines.specs.declared.document.Verdict.{Verdict}
 use Rattle.der_lines.specs.declared.document.Verdict.TheVariants.{AllRead, Refused}
 use Rattle.der_options.specs.declared.options.Options.{Options}
-use Rattle.simple_asn1.specs.Grammar.{IsDocument}
+use Rattle.asn1_outline.specs.Entries.{IsOutline}
 use Rattle.simple_asn1.specs.ReadBack.{IsCanonicalDocument}
 use Rattle.simple_asn1.specs.Strict.{IsNotCanonicalAt}
-use Rattle.simple_asn1.specs.Tree.{Trees}
+use Rattle.asn1_outline.specs.declared.entry.Entry.{Entry}
 
 -- the dump of octets, read strictly or not, with no more than so many blocks around a block, where there is a most
 abbrev pub AddsReading : Bool → Option ℕ → List ℕ → Verdict → List ℕ → List ℕ → Type 0
@@ -42,14 +42,18 @@ abbrev pub AddsRefusal : Option ℕ → Members → List ℕ → List ℕ → Ty
 AddsRefusal offset origin before after =
     (words : List ℕ) × (after ≡ before ++ (compact_text (refusal_json offset words origin) ++ 10 ∷ []))
 
--- the octets are a document no block of which has the indefinite form of BER
-abbrev pub IsDefiniteDocument : List ℕ → Type 0
-IsDefiniteDocument octets = (bs : Trees ℕ) × IsDocument octets bs × AreDefinite octets (all_offsets bs)
+-- where the blocks of entries begin
+abbrev pub entry_offsets : List Entry → List ℕ
+entry_offsets rs = map (λ r. r.offset) rs
 
--- the octets are a document, and of its blocks, in tree order, the first that has the form stands at the offset
+-- the octets are a document no block of which has the indefinite form of BER, as its entries have them
+abbrev pub IsDefiniteDocument : List ℕ → Type 0
+IsDefiniteDocument octets = (rs : List Entry) × IsOutline octets rs × AreDefinite octets (entry_offsets rs)
+
+-- the octets are a document, and of its entries the first whose block has the form stands at the offset
 abbrev pub IsIndefiniteAt : List ℕ → ℕ → Type 0
 IsIndefiniteAt octets offset =
-    (bs : Trees ℕ) × IsDocument octets bs × IsFirstIndefinite octets (all_offsets bs) offset
+    (rs : List Entry) × IsOutline octets rs × IsFirstIndefinite octets (entry_offsets rs) offset
 
 -- the line of JSON of octets. A document is refused, after its line, where a block of it has the indefinite form, at
 -- the offset of the first that has

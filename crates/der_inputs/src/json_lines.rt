@@ -7,10 +7,11 @@ ghost use Rattle.der_inputs.specs.Documents.{AddsStrictJsonOf, IsDefiniteDocumen
 ghost use Rattle.der_inputs.specs.Parts.{is_all_read};
 ghost use Rattle.der_json.specs.Json.{AddsJsonOf, told_of};
 
+use crate::indefinite::first_indefinite;
 use crate::manner::Manner;
 use der_json::{Origin, push_json, push_refusal};
-use der_lines::{INDEFINITE, Verdict, first_indefinite};
-use simple_asn1::{ASN1DecodeErr, Document, discard, from_der_strict, law_one_reading};
+use der_lines::{INDEFINITE, Verdict};
+use simple_asn1::{ASN1DecodeErr, Outline, discard, from_der_strict, law_one_reading};
 use std::alloc::{AllocError, Global};
 
 // Puts the line of what was found: octets, or why there are none to be read.
@@ -97,14 +98,14 @@ fn push_definite(
     }
 }
 
-// The offset of the first block of a document that has the indefinite form.
+// The offset of the first block of a document that has the indefinite form, of those that its line has.
 fn indefinite_in(alloc: Global, octets: &[u8]) -> Result<Option<usize>, AllocError>
     ensures { IfOk result (λ found. MatchOption found
         (IsDefiniteDocument octets.now)
         (IsIndefiniteAt octets.now)) }
 {
-    match Document::from_der(alloc, octets) {
-        Ok(document) => first_indefinite(alloc, octets, document.blocks()),
+    match Outline::from_der(alloc, octets) {
+        Ok(outline) => Ok(first_indefinite(octets, outline.entries())),
         Err(_) => Err(AllocError),
     }
 }

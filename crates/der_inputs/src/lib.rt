@@ -10,6 +10,7 @@
 #![tactic(auto)]
 
 mod answers;
+mod indefinite;
 mod json_lines;
 mod manner;
 mod outcome;

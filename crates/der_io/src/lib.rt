@@ -4,6 +4,7 @@
 //! A program reads its input by [`read_all`], takes it apart by [`split_line`] where it comes in lines, answers it in
 //! memory, and writes the answer by [`write_all`]. What ends a run early is a [`StreamFault`]: its [`fault_text`] goes
 //! to standard error, and [`status`] is the exit status of the program. Words from an input are shown by [`escaped`].
+//! [`words`] are those of the command line.
 #![tactic(auto)]
 
 ghost use Rattle.std.specs.Prelude.{◌≡◌, ◌⊎◌, ◌<◌, ◌∷◌, ◌++◌, length, IfOk, IfErr, IfSome, OnOk, IsOk, codes};
@@ -13,9 +14,11 @@ ghost use Rattle.der_io.specs.declared.StreamFault.TheVariants.{Read as read_fau
 ghost use Rattle.der_io.specs.declared.StreamFault.TheVariants.{Write as write_fault};
 ghost use Rattle.der_io.specs.declared.StreamFault.TheVariants.{Memory as memory_fault};
 
+mod arguments;
 mod escape;
 pub mod failing;
 
+pub use arguments::words;
 pub use escape::{escaped, push_escaped};
 use memchr::memchr;
 use std::alloc::Global;

@@ -1,14 +1,13 @@
 -- The text of an array, row by row.
-use Rattle.std.proofs.Common.{◌≡◌, ℕ, ◌+◌, ◌<◌, ◌≤◌, List, [], ◌∷◌, ◌++◌, Bool, true, false, length, map, take, get_or}
-use Rattle.std.proofs.Common.{refl, sym, ap, ◌∙◌, Bor}
-use Rattle.std.proofs.lemmas.List.{append_assoc, append-nil, map-append, take_all, take_more}
+use Rattle.std.proofs.Common.{◌≡◌, ℕ, List, [], ◌∷◌, ◌++◌, Bool, true, false, refl, sym, ap, ◌∙◌, Bor}
+use Rattle.std.proofs.lemmas.List.{append_assoc, append-nil}
+use Rattle.std.specs.List.{enumerate_from}
 use Rattle.std.proofs.lemmas.Slice.Zip.{all_zipped_more}
 use Rattle.serde_json.specs.Data.{Data}
 use Rattle.serde_json.specs.Written.{comma_if, compact_text, items_text}
-use Rattle.asn1_blocks.specs.Tree.{Tree}
-use Rattle.asn1_blocks.specs.declared.block.ASN1Block.{ASN1Block}
-use Rattle.asn1_blocks.specs.View.{view}
-use Rattle.der_json.specs.Json.{IsRow, items_of}
+use Rattle.asn1_outline.specs.Structure.{Nodes}
+use Rattle.asn1_outline.specs.declared.entry.Entry.{Entry}
+use Rattle.der_json.specs.Json.{IsRowAt, items_of}
 use Rattle.der_json.specs.Rows.{AddsArray, AddsRows, are_some, rows_text}
 
 -- one more row, behind others
@@ -41,16 +40,17 @@ array_is (d ∷ ds) =
     ap (λ z. compact_text d ++ z) (array_later ds)
     ∙ sym (append_assoc (compact_text d) (rows_text true ds) (93 ∷ []))
 
-pub no_rows : (document before : List ℕ) → AddsRows document false [] before before
-no_rows document before = record { rows = []; told = tt; some = refl; after_is = sym (append-nil before) }
+pub no_rows : (nodes : Nodes) (before : List ℕ) → AddsRows nodes false [] before before
+no_rows nodes before = record { rows = []; told = tt; some = refl; after_is = sym (append-nil before) }
 
-pub one_row : (document : List ℕ) (later : Bool) (trees : List (Tree ℕ)) (tree : Tree ℕ) (row : Data) (before middle comma after : List ℕ)
-    → AddsRows document later trees before middle → comma ≡ middle ++ comma_if later → IsRow document tree row
-    → after ≡ comma ++ compact_text row → AddsRows document true (trees ++ tree ∷ []) before after
-one_row document later trees tree row before middle comma after h c o e =
+pub one_row :
+    (nodes : Nodes) (later : Bool) (entries : List (ℕ × Entry)) (entry : ℕ × Entry) (row : Data) (before middle comma after : List ℕ) →
+    AddsRows nodes later entries before middle → comma ≡ middle ++ comma_if later → IsRowAt nodes entry row →
+    after ≡ comma ++ compact_text row → AddsRows nodes true (entries ++ entry ∷ []) before after
+one_row nodes later entries entry row before middle comma after h c o e =
     record {
       rows = h.rows ++ row ∷ [];
-      told = all_zipped_more (IsRow document) trees h.rows tree row h.told o;
+      told = all_zipped_more (IsRowAt nodes) entries h.rows entry row h.told o;
       some = some_more h.rows row;
       after_is =
           e ∙ (ap (λ z. z ++ compact_text row) (c ∙ (ap (λ z. z ++ comma_if later) h.after_is))
@@ -59,28 +59,18 @@ one_row document later trees tree row before middle comma after h c o e =
           ∙ ap (λ z. before ++ z) (ap (λ z. rows_text false h.rows ++ (comma_if z ++ compact_text row)) h.some ∙ sym (rows_more h.rows row))));
     }
 
-pub all_rows : (document : List ℕ) (later : Bool) (trees : List (Tree ℕ)) (before middle after : List ℕ)
-    → AddsRows document later trees before middle → after ≡ middle ++ 93 ∷ [] → AddsArray document trees before after
-all_rows document later trees before middle after h e = (
+pub all_rows : (nodes : Nodes) (later : Bool) (entries : List Entry) (before middle after : List ℕ)
+    → AddsRows nodes later (enumerate_from 0 entries) before middle → after ≡ middle ++ 93 ∷ [] → AddsArray nodes entries before after
+all_rows nodes later entries before middle after h e = (
   h.rows,
   h.told,
   e ∙ (ap (λ z. z ++ 93 ∷ []) h.after_is ∙ (append_assoc before (rows_text false h.rows) (93 ∷ [])
       ∙ ap (λ z. before ++ z) (sym (array_is h.rows)))),
 )
 
--- blocks of a list, as trees
-abbrev pub trees_at : List (Bor ASN1Block) → List (Tree ℕ)
-trees_at bs = map (λ b. view b.now) bs
-
-pub next_tree : (order : List (Bor ASN1Block)) (i : ℕ) (x : Bor ASN1Block) → i < length order → x ≡ get_or order i x
-    → trees_at (take (i + 1) order) ≡ trees_at (take i order) ++ view x.now ∷ []
-next_tree order i x l e =
-    ap trees_at (take_more order i x l)
-    ∙ (map-append (λ b. view b.now) (take i order) (get_or order i x ∷ [])
-    ∙ ap (λ z. trees_at (take i order) ++ view z.now ∷ []) (sym e))
-
-pub last_tree : (order : List (Bor ASN1Block)) (i : ℕ) → length order ≤ i → trees_at (take i order) ≡ trees_at order
-last_tree order i l = ap trees_at (take_all i order l)
+-- what an item of the entries with their indices shows
+abbrev pub shown : ℕ × Bor Entry → ℕ × Entry
+shown item = (item.0, item.1.now)
 
 -- three texts put one after another
 pub joined : (out x y z a b c : List ℕ) → a ≡ out ++ x → b ≡ a ++ y → c ≡ b ++ z → c ≡ out ++ (x ++ (y ++ z))

@@ -1,2 +1,4 @@
 pub mod Arrays
 pub mod Lines
+pub mod Members
+pub mod Outlined

@@ -1,7 +1,7 @@
 -- What is written of octets as JSON: an object that has the blocks of the document, or its first fault.
-use Rattle.std.specs.Prelude.{◌≡◌, ℕ, ◌<◌, ℤ, unsigned_abs, nat_lt, Bool, true, false, if◌then◌else◌}
-use Rattle.std.specs.Prelude.{List, [], ◌∷◌, ◌++◌, codes, length, Option, None, Some, option_map}
-use Rattle.std.specs.List.{AllZip}
+use Rattle.std.specs.Prelude.{◌≡◌, ℕ, zero, suc, ◌+◌, ◌<◌, ℤ, unsigned_abs, nat_lt, Bool, true, false, if◌then◌else◌}
+use Rattle.std.specs.Prelude.{List, [], ◌∷◌, ◌++◌, codes, get_or, Option, None, Some, option_map}
+use Rattle.std.specs.List.{AllZip, enumerate_from}
 use Rattle.std.specs.Str.{chars}
 use Rattle.hex.specs.Hex.{encode_lower}
 use Rattle.jiff.specs.Names.{iso_datetime_text}
@@ -10,24 +10,22 @@ use Rattle.serde_json.specs.Data.{Data, array, boolean as boolean_json, null, nu
 use Rattle.serde_json.specs.Data.{Items, no_items, item, Members, no_members, member}
 use Rattle.serde_json.specs.Find.{get, of_integer}
 use Rattle.serde_json.specs.Written.{compact_text}
-use Rattle.asn1_blocks.specs.BlockParts.{all_in_order, tree_tag}
+use Rattle.asn1_blocks.specs.BlockParts.{tree_tag}
 use Rattle.asn1_numbers.specs.Decimal.{natural_numeral, whole_numeral}
 use Rattle.asn1_headers.specs.Fault.{DecodeFault}
-use Rattle.asn1_blocks.specs.FaultPlace.{FirstFaultAt}
-use Rattle.asn1_blocks.specs.Grammar.{IsDocument}
-use Rattle.asn1_blocks.specs.Places.{TreeAt}
+use Rattle.asn1_blocks.specs.Grammar.{FirstFaultAt, IsDocument}
 use Rattle.asn1_blocks.specs.Tree.{Leaf, Tree, Trees, leaf, group, explicit, unknown, boolean, integer, bit_string}
 use Rattle.asn1_blocks.specs.Tree.{octet_string, null as null_leaf, object_identifier, text as text_leaf}
 use Rattle.asn1_blocks.specs.Tree.{utc_time, generalized_time}
-use Rattle.asn1_blocks.specs.View.{tree_class, tree_offset}
 use Rattle.asn1_headers.specs.declared.header.ASN1Class.{ASN1Class}
 use Rattle.asn1_headers.specs.declared.header.ASN1Class.TheVariants.{Application, ContextSpecific, Private, Universal}
-use Rattle.asn1_blocks.specs.declared.block.GroupKind.{GroupKind}
-use Rattle.asn1_blocks.specs.declared.block.GroupKind.TheVariants.{Sequence, Set}
 use Rattle.asn1_leaves.specs.Contents.ObjectIdentifier.{object_identifier_contents}
 use Rattle.asn1_leaves.specs.Contents.Moment.{Moment, moment_of}
 use Rattle.asn1_leaves.specs.DottedDecimal.{dotted_decimal}
-use Rattle.asn1_leaves.specs.StringKind.{StringKind, utf8, printable, teletex, ia5, universal, bmp}
+use Rattle.asn1_leaves.specs.StringKind.{StringKind, universal, bmp}
+use Rattle.asn1_outline.specs.Entries.{AreEntriesOf}
+use Rattle.asn1_outline.specs.Structure.{Nodes, tree_at}
+use Rattle.asn1_outline.specs.declared.entry.Entry.{Entry}
 use Rattle.der_json.specs.declared.line.Origin.{Origin}
 
 -- a natural number: greater ones than these are texts, since readers of JSON round them
@@ -46,43 +44,34 @@ class_name Application = codes "application"
 class_name ContextSpecific = codes "context-specific"
 class_name Private = codes "private"
 
--- how types are called
-abbrev pub string_name : StringKind → List ℕ
-string_name utf8 = codes "UTF8String"
-string_name printable = codes "PrintableString"
-string_name teletex = codes "TeletexString"
-string_name ia5 = codes "IA5String"
-string_name universal = codes "UniversalString"
-string_name bmp = codes "BMPString"
+-- how the types of class Universal are called, by their tag numbers from 0 on (X.680 8.4, table 1); 15 is reserved
+abbrev pub universal_names : List (Option (List ℕ))
+universal_names =
+    Some (codes "end-of-contents") ∷ Some (codes "BOOLEAN") ∷ Some (codes "INTEGER") ∷
+    Some (codes "BIT STRING") ∷ Some (codes "OCTET STRING") ∷ Some (codes "NULL") ∷
+    Some (codes "OBJECT IDENTIFIER") ∷ Some (codes "ObjectDescriptor") ∷ Some (codes "EXTERNAL") ∷
+    Some (codes "REAL") ∷ Some (codes "ENUMERATED") ∷ Some (codes "EMBEDDED PDV") ∷
+    Some (codes "UTF8String") ∷ Some (codes "RELATIVE-OID") ∷ Some (codes "TIME") ∷ None ∷
+    Some (codes "SEQUENCE") ∷ Some (codes "SET") ∷ Some (codes "NumericString") ∷
+    Some (codes "PrintableString") ∷ Some (codes "TeletexString") ∷ Some (codes "VideotexString") ∷
+    Some (codes "IA5String") ∷ Some (codes "UTCTime") ∷ Some (codes "GeneralizedTime") ∷
+    Some (codes "GraphicString") ∷ Some (codes "VisibleString") ∷ Some (codes "GeneralString") ∷
+    Some (codes "UniversalString") ∷ Some (codes "CHARACTER STRING") ∷ Some (codes "BMPString") ∷ []
 
-abbrev pub leaf_name : Leaf → List ℕ
-leaf_name (boolean b) = codes "BOOLEAN"
-leaf_name (integer n) = codes "INTEGER"
-leaf_name (bit_string n v) = codes "BIT STRING"
-leaf_name (octet_string v) = codes "OCTET STRING"
-leaf_name null_leaf = codes "NULL"
-leaf_name (object_identifier i) = codes "OBJECT IDENTIFIER"
-leaf_name (text_leaf kind cs) = string_name kind
-leaf_name (utc_time m) = codes "UTCTime"
-leaf_name (generalized_time m) = codes "GeneralizedTime"
-
-abbrev pub group_name : GroupKind → List ℕ
-group_name Sequence = codes "SEQUENCE"
-group_name Set = codes "SET"
-
--- the type of a block, where the library has one for its tag
-abbrev pub type_name : Tree ℕ → Option (List ℕ)
-type_name (leaf o l) = Some (leaf_name l)
-type_name (group o g bs) = Some (group_name g)
-type_name (explicit c o n b) = None
-type_name (unknown c k o n v) = None
+-- how the type with a class and a tag number is called, if it has a name. An entry has a tag number past 2^64 - 1 as
+-- this, and both have none
+abbrev pub type_name : ASN1Class → ℕ → Option (List ℕ)
+type_name Universal tag = get_or universal_names tag None
+type_name Application tag = None
+type_name ContextSpecific tag = None
+type_name Private tag = None
 
 abbrev pub text_or_null : Option (List ℕ) → Data
 text_or_null None = null
 text_or_null (Some name) = string name
 
-abbrev pub type_json : Tree ℕ → Data
-type_json tree = text_or_null (type_name tree)
+abbrev pub type_json : ASN1Class → ℕ → Data
+type_json class tag = text_or_null (type_name class tag)
 
 -- the text of a moment: `2026-11-23T00:43:05Z`
 abbrev pub IsMomentText : Moment → List ℕ → Type 0
@@ -125,24 +114,31 @@ IsLeafValue (text_leaf kind characters) value = IsStringValue kind characters va
 IsLeafValue (utc_time moment) value = (text : List ℕ) × IsMomentText moment text × (value ≡ string text)
 IsLeafValue (generalized_time moment) value = (text : List ℕ) × IsMomentText moment text × (value ≡ string text)
 
--- the value of a block: none of one that holds blocks
-abbrev pub IsValue : Tree ℕ → Data → Type 0
-IsValue (leaf o l) value = IsLeafValue l value
-IsValue (group o g bs) value = value ≡ null
-IsValue (explicit c o n b) value = value ≡ null
-IsValue (unknown c k o n octets) value = value ≡ string (encode_lower octets)
+-- the value of a block that holds so many blocks: none of one that holds any
+abbrev pub IsValue : Tree ℕ → ℕ → Data → Type 0
+IsValue (leaf o l) items value = IsLeafValue l value
+IsValue (group o g bs) items value = value ≡ null
+IsValue (explicit c o n b) items value = value ≡ null
+IsValue (unknown c k o n octets) zero value = value ≡ string (encode_lower octets)
+IsValue (unknown c k o n octets) (suc items) value = value ≡ null
 
--- what an object tells of a block of the document: where it stands, how many octets it has, its class, tag, type and
--- value
-pub record IsRow (document : List ℕ) (tree : Tree ℕ) (row : Data) : Type 0 where
-  pub offset : get (codes "offset") row ≡ Some (number (unsigned (tree_offset tree)))
-  pub size :
-      (octets : List ℕ) →
-      TreeAt document (tree_offset tree) octets → get (codes "size") row ≡ Some (number (unsigned (length octets)))
-  pub class : get (codes "class") row ≡ Some (string (class_name (tree_class tree)))
+-- what an object tells of a block, by its entry and its tree
+pub record IsRow (r : Entry) (tree : Tree ℕ) (row : Data) : Type 0 where
+  -- how many octets stand before the block, how many its identifier and length octets are, and how many it has
+  pub offset : get (codes "offset") row ≡ Some (number (unsigned r.offset))
+  pub header : get (codes "header") row ≡ Some (number (unsigned r.header))
+  pub size : get (codes "size") row ≡ Some (number (unsigned (r.header + r.contents)))
+  -- how many blocks are around it
+  pub depth : get (codes "depth") row ≡ Some (number (unsigned r.depth))
+  pub class : get (codes "class") row ≡ Some (string (class_name r.class))
+  pub constructed : get (codes "constructed") row ≡ Some (boolean_json r.constructed)
   pub tag : get (codes "tag") row ≡ Some (natural_json (tree_tag tree))
-  pub kind : get (codes "type") row ≡ Some (type_json tree)
-  pub value : (value : Data) × (get (codes "value") row ≡ Some value) × IsValue tree value
+  pub kind : get (codes "type") row ≡ Some (type_json r.class r.tag)
+  pub value : (value : Data) × (get (codes "value") row ≡ Some value) × IsValue tree r.items value
+
+-- so of an entry with its index, whose tree is the one there
+abbrev pub IsRowAt : Nodes → ℕ × Entry → Data → Type 0
+IsRowAt nodes entry row = IsRow entry.1 (tree_at nodes entry.0) row
 
 -- an array of these
 abbrev pub items_of : List Data → Items
@@ -162,12 +158,14 @@ origin_members file label = member_if (codes "file") file (member_if (codes "lab
 abbrev pub told_of : Origin → Members
 told_of origin = origin_members (option_map (λ t. t.now) origin.file) (option_map (λ t. t.now) origin.label)
 
--- an object whose blocks are those of the document, in tree order
+-- an object that has a row for each entry of the document, in order
 pub record IsDocumentJson (octets : List ℕ) (origin : Members) (json : Data) : Type 0 where
   pub trees : Trees ℕ
+  pub entries : List Entry
   pub rows : List Data
   pub document : IsDocument octets trees
-  pub told : AllZip (IsRow octets) (all_in_order trees) rows
+  pub outline : AreEntriesOf octets trees entries
+  pub told : AllZip (IsRowAt outline.nodes) (enumerate_from 0 entries) rows
   pub json_is : json ≡ object (member (codes "blocks") (array (items_of rows)) origin)
 
 -- words that say why octets are not read, and perhaps the offset of what is at fault

@@ -1,15 +1,18 @@
 //! Documents as JSON, a line each, for programs.
 //!
-//! [`push_json`] puts an object whose `blocks` are those of the document in tree order, each an object:
+//! [`push_json`] puts an object whose `blocks` are those of the document, each before those inside it, as an `Outline`
+//! of `simple_asn1` has them: also the blocks in a constructed one of another class, however many. Each is an object:
 //!
 //! | Member | What |
 //! |---|---|
 //! | `offset` | how many octets stand before the block |
+//! | `header` | how many identifier and length octets it has |
 //! | `size` | how many octets it has, with its header |
 //! | `depth` | how many blocks are around it |
 //! | `class` | `universal`, `application`, `context-specific` or `private` |
+//! | `constructed` | its constructed bit: `true` or `false` |
 //! | `tag` | its number; as a text of its decimal digits where it is greater than 2^53 - 1 |
-//! | `type` | `SEQUENCE` and its like; `null` where the library has no type for the tag |
+//! | `type` | `SEQUENCE` and its like, by X.680 (8.4, table 1); `null` where the tag has no type there |
 //! | `value` | what it holds: the next table |
 //!
 //! | Block | `value` |
@@ -20,8 +23,8 @@
 //! | strings of characters | their text: of a UniversalString in UTF-32, of a BMPString in UTF-16, where it is so |
 //! | UTCTime, GeneralizedTime | a text, `2026-11-23T00:43:05Z` |
 //! | BIT STRING | an object: `bits`, how many there are, and `octets`, in hex digits |
-//! | OCTET STRING, and what has no type | its octets in hex digits |
-//! | NULL, and what holds blocks | `null` |
+//! | any other that holds no blocks: OCTET STRING, ENUMERATED, `[0]` | its contents octets in hex digits |
+//! | NULL, SEQUENCE, SET, and what holds blocks | `null` |
 //!
 //! An [`Origin`] adds the members `file` and `label`, of each that is known. Where octets are no document, or are not
 //! read, `fault` stands in place of `blocks`: an object with the words `text`, and the `offset` of what is at fault.

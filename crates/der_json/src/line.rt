@@ -4,17 +4,15 @@ ghost use Rattle.std.specs.Option.{option_map};
 ghost use Rattle.serde_json.specs.Data.{string};
 ghost use Rattle.serde_json.specs.View.{view};
 ghost use Rattle.serde_json.specs.Written.{comma_if, compact_text};
-ghost use Rattle.asn1_blocks.specs.BlockParts.{all_in_order};
 ghost use Rattle.asn1_headers.specs.declared.error.ASN1DecodeErr.TheVariants.{OutOfMemory};
-ghost use Rattle.asn1_blocks.specs.View.{views};
+ghost use Rattle.asn1_outline.specs.Outlines.{entries_in};
+ghost use Rattle.asn1_outline.specs.Structure.{Nodes};
 ghost use Rattle.der_json.specs.Json.{AddsJsonOf, origin_members, refusal_json, told_of, words_json};
-ghost use Rattle.der_json.specs.Rows.{AddsArray, AddsRows, end_text, told_text};
+ghost use Rattle.der_json.specs.Rows.{AddsArray, HasStructure, end_text, told_text};
 
-use crate::row::{OpenBlocks, push_row};
-use asn1_blocks::block::ASN1Block;
-use asn1_blocks::block::parts::all_blocks;
-use asn1_blocks::document::Document;
+use crate::row::{push_member, push_row};
 use asn1_headers::error::ASN1DecodeErr;
+use asn1_outline::outline::Outline;
 use serde_json::{Value, json};
 use std::alloc::{AllocError, Global};
 
@@ -32,8 +30,8 @@ pub struct Origin<'a> {
 /// document, and of other octets `{"fault":{"offset":..,"text":".."}}`, where the offset is that of the innermost block
 /// at fault. Where they are from follows, as the members `file` and `label`. Whether the octets are a document.
 ///
-/// It takes memory for the blocks and one row; the only error is that it ran out, after which some of the line may have
-/// been put.
+/// It takes memory for an entry of each block, for the line, and for one row; the only error is that it ran out, after
+/// which some of the line may have been put.
 pub fn push_json(
     alloc: Global,
     origin: Origin<'_>,
@@ -43,10 +41,10 @@ pub fn push_json(
     ensures { IfOk result (λ is_read. AddsJsonOf octets.now (told_of origin.entry) is_read
         out.old.items out.new.items) }
 {
-    match Document::from_der_located(alloc, octets) {
-        Ok(document) => {
+    match Outline::from_der_located(alloc, octets) {
+        Ok(outline) => {
             out.extend_from_slice(b"{\"blocks\":[")?;
-            push_rows(alloc, octets, document.blocks(), out)?;
+            push_rows(alloc, &outline, out)?;
             push_end(alloc, origin, out)?;
             Ok(true)
         }
@@ -74,9 +72,7 @@ pub fn push_refusal(
         ++ (compact_text (refusal_json offset words.now (told_of origin.entry)) ++ 10 ∷ [])) }
 {
     let told = words_value(alloc, offset, words)?;
-    let text = told.to_vec(alloc)?;
-    out.extend_from_slice(b"{\"fault\":")?;
-    out.extend_from_slice(&text)?;
+    push_member(alloc, b"{\"fault\":", &told, out)?;
     push_end(alloc, origin, out)?;
     Ok(())
 }
@@ -100,21 +96,15 @@ fn fault_text(alloc: Global, fault: &ASN1DecodeErr) -> Result<String, AllocError
     }
 }
 
-// Puts the rows of the blocks and of all inside them, and the end of an array.
-fn push_rows(
-    alloc: Global,
-    octets: &[u8],
-    blocks: &[ASN1Block],
-    out: &mut Vec<u8>,
-) -> Result<(), AllocError>
-    ensures { OnOk result (AddsArray octets.now (all_in_order (views blocks.now)) out.old.items out.new.items) }
+// Puts the rows of all blocks, and the end of an array.
+fn push_rows(alloc: Global, outline: &Outline<'_>, out: &mut Vec<u8>) -> Result<(), AllocError>
+    ensures { (nodes : Nodes) → HasStructure outline.now nodes
+        → OnOk result (AddsArray nodes (entries_in outline.now) out.old.items out.new.items) }
 {
-    let order = all_blocks(alloc, blocks)?;
-    let mut open = OpenBlocks::none(alloc);
     let mut is_later = false;
-    for block in &order {
+    for (index, entry) in outline.all() {
         push_comma(is_later, out)?;
-        push_row(alloc, octets, block, &mut open, out)?;
+        push_row(alloc, outline, index, entry, out)?;
         is_later = true;
     }
     out.push(b']')?;
@@ -159,8 +149,6 @@ fn push_told(
 fn push_text(alloc: Global, name: &[u8], told: &str, out: &mut Vec<u8>) -> Result<(), AllocError>
     ensures { OnOk result (out.new.items ≡ out.old.items ++ (name.now ++ compact_text (string told.now))) }
 {
-    let text = Value::try_from_str(alloc, told)?.to_vec(alloc)?;
-    out.extend_from_slice(name)?;
-    out.extend_from_slice(&text)?;
-    Ok(())
+    let text = Value::try_from_str(alloc, told)?;
+    push_member(alloc, name, &text, out)
 }

@@ -1,16 +1,19 @@
 // What is told of a block: its type, its tag, and what it holds. None of it is a float.
-ghost use Rattle.std.specs.Prelude.{◌≡◌, List, ℕ, false, IfOk, IsTrue, option_map};
+ghost use Rattle.std.specs.Prelude.{◌≡◌, ◌<◌, List, ℕ, false, get_or, length, IfOk, IsTrue, None, option_map};
 ghost use Rattle.hex.specs.Hex.{encode_lower};
 ghost use Rattle.asn1_leaves.specs.Contents.Moment.{moment_of};
 ghost use Rattle.serde_json.specs.View.{view};
 ghost use Rattle.serde_json.specs.Written.{has_float};
 ghost use Rattle.asn1_blocks.specs.BlockParts.{tree_tag};
 ghost use Rattle.asn1_blocks.specs.View.{view as view_block};
+ghost use Rattle.asn1_outline.specs.Outlines.{entries_in, octets_in};
+ghost use Rattle.asn1_outline.specs.Structure.{IsStructure, Nodes, tree_at};
 ghost use Rattle.serde_json.specs.Data.{string};
 ghost use Rattle.asn1_leaves.specs.DottedDecimal.{dotted_decimal};
-ghost use Rattle.der_json.specs.Json.{HasShortFront, IsIdentifierValue};
+ghost use Rattle.der_json.specs.Json.{HasShortFront, IsIdentifierValue, universal_names};
 ghost use Rattle.der_json.specs.Json.{IsMomentText, IsValue, bits_json, class_name as name_of, natural_json, type_json};
 ghost use Rattle.der_json.specs.Json.{type_name, whole_json};
+ghost use Rattle.der_json.specs.Rows.{IsEntryAt};
 
 use asn1_blocks::block::ASN1Block;
 use asn1_headers::error::ASN1EncodeErr;
@@ -18,7 +21,9 @@ use asn1_headers::header::ASN1Class;
 use asn1_leaves::oid::OID;
 use asn1_numbers::number::big_int::BigInt;
 use asn1_numbers::number::big_uint::BigUint;
-use der_values::{Characters, contents_of, long_identifier, text_in_form};
+use asn1_outline::entry::Entry;
+use asn1_outline::outline::Outline;
+use der_values::{Characters, long_identifier, text_in_form};
 use jiff::civil::DateTime;
 use serde_json::{Value, json};
 use std::alloc::{AllocError, Global};
@@ -26,44 +31,75 @@ use std::alloc::{AllocError, Global};
 // The greatest number that every reader of JSON takes as it is (RFC 7493, section 2.2): 2^53 - 1.
 const GREATEST_NUMBER: u64 = 9_007_199_254_740_991;
 
-// The type of a block, where the library has one for its tag.
-fn type_of(block: &ASN1Block) -> Option<&'static str>
-    ensures { option_map (λ name. name.now) result ≡ type_name (view_block block.now) }
+// The type of class Universal that has the tag number, if there is one (X.680 8.4, table 1).
+fn universal_name(tag: u64) -> Option<&'static str>
+    ensures { option_map (λ name. name.now) result ≡ get_or universal_names tag None }
 {
-    match block {
-        ASN1Block::Boolean(_, _) => Some("BOOLEAN"),
-        ASN1Block::Integer(_, _) => Some("INTEGER"),
-        ASN1Block::BitString(_, _, _) => Some("BIT STRING"),
-        ASN1Block::OctetString(_, _) => Some("OCTET STRING"),
-        ASN1Block::Null(_) => Some("NULL"),
-        ASN1Block::ObjectIdentifier(_, _) => Some("OBJECT IDENTIFIER"),
-        ASN1Block::UTF8String(_, _) => Some("UTF8String"),
-        ASN1Block::PrintableString(_, _) => Some("PrintableString"),
-        ASN1Block::TeletexString(_, _) => Some("TeletexString"),
-        ASN1Block::IA5String(_, _) => Some("IA5String"),
-        ASN1Block::UTCTime(_, _) => Some("UTCTime"),
-        ASN1Block::GeneralizedTime(_, _) => Some("GeneralizedTime"),
-        ASN1Block::UniversalString(_, _) => Some("UniversalString"),
-        ASN1Block::BMPString(_, _) => Some("BMPString"),
-        ASN1Block::Sequence(_, _) => Some("SEQUENCE"),
-        ASN1Block::Set(_, _) => Some("SET"),
-        ASN1Block::Explicit(_, _, _, _) => None,
-        ASN1Block::Unknown(_, _, _, _, _) => None,
+    match tag {
+        0 => Some("end-of-contents"),
+        1 => Some("BOOLEAN"),
+        2 => Some("INTEGER"),
+        3 => Some("BIT STRING"),
+        4 => Some("OCTET STRING"),
+        5 => Some("NULL"),
+        6 => Some("OBJECT IDENTIFIER"),
+        7 => Some("ObjectDescriptor"),
+        8 => Some("EXTERNAL"),
+        9 => Some("REAL"),
+        10 => Some("ENUMERATED"),
+        11 => Some("EMBEDDED PDV"),
+        12 => Some("UTF8String"),
+        13 => Some("RELATIVE-OID"),
+        14 => Some("TIME"),
+        15 => None,
+        16 => Some("SEQUENCE"),
+        17 => Some("SET"),
+        18 => Some("NumericString"),
+        19 => Some("PrintableString"),
+        20 => Some("TeletexString"),
+        21 => Some("VideotexString"),
+        22 => Some("IA5String"),
+        23 => Some("UTCTime"),
+        24 => Some("GeneralizedTime"),
+        25 => Some("GraphicString"),
+        26 => Some("VisibleString"),
+        27 => Some("GeneralString"),
+        28 => Some("UniversalString"),
+        29 => Some("CHARACTER STRING"),
+        30 => Some("BMPString"),
+        31.. => None,
     }
 }
 
-// Its name, or `null`.
-pub fn type_value(alloc: Global, block: &ASN1Block) -> Result<Value, AllocError>
-    ensures told { IfOk result (λ v. view v ≡ type_json (view_block block.now)) }
+fn type_of(entry: &Entry) -> Option<&'static str>
+    ensures { option_map (λ name. name.now) result ≡ type_name entry.now.class entry.now.tag }
+{
+    match entry.class {
+        ASN1Class::Universal => universal_name(entry.tag),
+        ASN1Class::Application | ASN1Class::ContextSpecific | ASN1Class::Private => None,
+    }
+}
+
+// The name of its type, or `null`.
+pub fn type_value(alloc: Global, entry: &Entry) -> Result<Value, AllocError>
+    ensures told { IfOk result (λ v. view v ≡ type_json entry.now.class entry.now.tag) }
     ensures exact { IfOk result (λ v. has_float (view v) ≡ false) }
 {
-    match type_of(block) {
+    match type_of(entry) {
         Some(name) => text_value(alloc, name),
         None => Ok(Value::Null),
     }
 }
 
-pub fn class_name(class: ASN1Class) -> &'static str
+// How its class is called.
+pub fn class_value(alloc: Global, class: ASN1Class) -> Result<Value, AllocError>
+    ensures told { IfOk result (λ v. view v ≡ string (name_of class)) }
+    ensures exact { IfOk result (λ v. has_float (view v) ≡ false) }
+{
+    text_value(alloc, class_name(class))
+}
+
+fn class_name(class: ASN1Class) -> &'static str
     ensures { result.now ≡ name_of class }
 {
     match class {
@@ -74,15 +110,16 @@ pub fn class_name(class: ASN1Class) -> &'static str
     }
 }
 
-// The tag number of a block.
-pub fn tag_value(alloc: Global, block: &ASN1Block) -> Result<Value, AllocError>
-    ensures told { IfOk result (λ v. view v ≡ natural_json (tree_tag (view_block block.now))) }
+// The tag number of the block at the index.
+pub fn tag_value(alloc: Global, outline: &Outline<'_>, index: usize) -> Result<Value, AllocError>
+    ensures told { (nodes : Nodes) → IsStructure (octets_in outline.now) nodes
+        → index < length (entries_in outline.now)
+        → IfOk result (λ v. view v ≡ natural_json (tree_tag (tree_at nodes index))) }
     ensures exact { IfOk result (λ v. has_float (view v) ≡ false) }
 {
-    match block {
-        ASN1Block::Explicit(_, _, tag, _) => natural_value(alloc, tag),
-        ASN1Block::Unknown(_, _, _, tag, _) => natural_value(alloc, tag),
-        _ => Ok(Value::from(block.tag().unwrap_or(0))),
+    match outline.tag(alloc, index)? {
+        Some(tag) => natural_value(alloc, &tag),
+        None => Ok(Value::Null),
     }
 }
 
@@ -135,15 +172,15 @@ fn dotted_value(alloc: Global, identifier: &OID) -> Result<Value, AllocError>
     Ok(Value::String(format!(in alloc; "{identifier}")?))
 }
 
-// The object identifier that an encoding has, of which the library read this one.
-fn identifier_value(alloc: Global, encoding: &[u8], read: &OID) -> Result<Value, AllocError>
+// The object identifier of contents octets, of which the library read this one.
+fn identifier_value(alloc: Global, contents: &[u8], read: &OID) -> Result<Value, AllocError>
     ensures told { IfOk result (λ v. IsIdentifierValue read.now (view v)) }
     ensures exact { IfOk result (λ v. has_float (view v) ≡ false) }
 {
     if has_short_front(alloc, read)? {
         return dotted_value(alloc, read);
     }
-    match long_identifier(alloc, contents_of(alloc, encoding)?)? {
+    match long_identifier(alloc, contents)? {
         Some(long) => dotted_value(alloc, &long),
         None => dotted_value(alloc, read),
     }
@@ -179,9 +216,29 @@ fn moment_value(alloc: Global, moment: &DateTime) -> Result<Value, AllocError>
     Ok(Value::String(format!(in alloc; "{moment}Z")?))
 }
 
-// What a block with this encoding holds, which is told after its type.
-pub fn value_of(alloc: Global, encoding: &[u8], block: &ASN1Block) -> Result<Value, AllocError>
-    ensures told { IfOk result (λ v. IsValue (view_block block.now) (view v)) }
+// What the block at the index holds: `null` of one that holds blocks.
+pub fn value_at(
+    alloc: Global,
+    outline: &Outline<'_>,
+    index: usize,
+    entry: &Entry,
+) -> Result<Value, AllocError>
+    ensures told { (nodes : Nodes) → IsEntryAt outline.now nodes index entry.now
+        → IfOk result (λ v. IsValue (tree_at nodes index) entry.now.items (view v)) }
+    ensures exact { IfOk result (λ v. has_float (view v) ≡ false) }
+{
+    if entry.items > 0 {
+        return Ok(Value::Null);
+    }
+    match outline.to_block(alloc, index)? {
+        Some(block) => value_of(alloc, outline.contents(index).unwrap_or(&[]), &block),
+        None => Ok(Value::Null),
+    }
+}
+
+// What a block with these contents octets holds, in which no block stands.
+fn value_of(alloc: Global, contents: &[u8], block: &ASN1Block) -> Result<Value, AllocError>
+    ensures told { IfOk result (λ v. IsValue (view_block block.now) 0 (view v)) }
     ensures exact { IfOk result (λ v. has_float (view v) ≡ false) }
 {
     match block {
@@ -189,7 +246,7 @@ pub fn value_of(alloc: Global, encoding: &[u8], block: &ASN1Block) -> Result<Val
         ASN1Block::Integer(_, number) => integer_value(alloc, number),
         ASN1Block::BitString(_, bits, octets) => bits_value(alloc, *bits, octets),
         ASN1Block::OctetString(_, octets) => octets_value(alloc, octets),
-        ASN1Block::ObjectIdentifier(_, oid) => identifier_value(alloc, encoding, oid),
+        ASN1Block::ObjectIdentifier(_, oid) => identifier_value(alloc, contents, oid),
         ASN1Block::UTCTime(_, moment) => moment_value(alloc, moment),
         ASN1Block::GeneralizedTime(_, moment) => moment_value(alloc, moment),
         ASN1Block::Unknown(_, _, _, _, octets) => octets_value(alloc, octets),

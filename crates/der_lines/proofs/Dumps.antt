@@ -125,7 +125,7 @@ inside_deeper octets part m o at s = record {
   before = m + s.before;
   part = s.part;
   place = s.place;
-  stand = stand_deeper octets part s.part m s.before at s.stand;
+  position = stand_deeper octets part s.part m s.before at s.position;
   shown = s.shown;
   offset_is = let e : o ≡ s.before + s.place = s.offset_is in omega (arith, e);
 }
@@ -150,7 +150,7 @@ at_start octets o shown = record {
   before = 0;
   part = octets;
   place = o;
-  stand = ([], sym (append-nil octets));
+  position = ([], sym (append-nil octets));
   shown = shown;
   offset_is = omega arith;
 }

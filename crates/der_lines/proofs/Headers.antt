@@ -48,7 +48,7 @@ front_header octets header h = (
   h.len,
   h.front_is,
   (header.tag, (header.class, header.constructed, h.fields)),
-  (header.announced, h.announces),
+  (header.announced, h.length_octets),
 )
 
 -- what begins with no identifier octets begins with no header

@@ -102,23 +102,23 @@ mutual
   -- so at each offset of a block
   headers_in : (octets u x v : List ℕ) (b : Tree ℕ) → octets ≡ u ++ (x ++ v) → Encodes (length u) x b → All (HeaderThere octets) (offsets_in b)
   headers_in octets u x v (leaf o l) w s =
-      All-cons (HeaderThere octets) o [] (header_there octets u x v o _ _ _ _ _ w s.place s.encoding) (All-nil (HeaderThere octets))
+      All-cons (HeaderThere octets) o [] (header_there octets u x v o _ _ _ _ _ w s.0 s.4) (All-nil (HeaderThere octets))
   headers_in octets u x v (group o g bs) w s =
-      let f = s.encoding in
-      let h : length u + s.header ≡ length (u ++ (f.identifier ++ f.len)) = omega
+      let f = s.4 in
+      let h : length u + s.3 ≡ length (u ++ (f.identifier ++ f.len)) = omega
       (arith, f.size, length-append u (f.identifier ++ f.len), length-append f.identifier f.len) in
-      All-cons (HeaderThere octets) o (all_offsets bs) (header_there octets u x v o _ _ _ _ _ w s.place f)
-      (headers_among octets (u ++ (f.identifier ++ f.len)) s.contents v bs (open_contents octets u x v w f.identifier f.len s.contents f.whole)
-      (subst (λ z. EncodesAll z s.contents bs) h s.meaning))
+      All-cons (HeaderThere octets) o (all_offsets bs) (header_there octets u x v o _ _ _ _ _ w s.0 f)
+      (headers_among octets (u ++ (f.identifier ++ f.len)) s.2 v bs (open_contents octets u x v w f.identifier f.len s.2 f.whole)
+      (subst (λ z. EncodesAll z s.2 bs) h s.5))
   headers_in octets u x v (explicit c o n b) w s =
-      let f = s.encoding in
-      let h : length u + s.header ≡ length (u ++ (f.identifier ++ f.len)) = omega
+      let f = s.4 in
+      let h : length u + s.3 ≡ length (u ++ (f.identifier ++ f.len)) = omega
       (arith, f.size, length-append u (f.identifier ++ f.len), length-append f.identifier f.len) in
-      All-cons (HeaderThere octets) o (offsets_in b) (header_there octets u x v o _ _ _ _ _ w s.place f)
-      (headers_in octets (u ++ (f.identifier ++ f.len)) s.contents v b (open_contents octets u x v w f.identifier f.len s.contents f.whole)
-      (subst (λ z. Encodes z s.contents b) h s.meaning))
+      All-cons (HeaderThere octets) o (offsets_in b) (header_there octets u x v o _ _ _ _ _ w s.0 f)
+      (headers_in octets (u ++ (f.identifier ++ f.len)) s.2 v b (open_contents octets u x v w f.identifier f.len s.2 f.whole)
+      (subst (λ z. Encodes z s.2 b) h s.5))
   headers_in octets u x v (unknown c k o n t) w s =
-      All-cons (HeaderThere octets) o [] (header_there octets u x v o _ _ _ _ _ w s.place s.encoding) (All-nil (HeaderThere octets))
+      All-cons (HeaderThere octets) o [] (header_there octets u x v o _ _ _ _ _ w s.0 s.2) (All-nil (HeaderThere octets))
 
   headers_among : (octets u x v : List ℕ) (bs : Trees ℕ) → octets ≡ u ++ (x ++ v) → EncodesAll (length u) x bs → All (HeaderThere octets) (all_offsets bs)
   headers_among octets u x v no_trees w s = All-nil (HeaderThere octets)
@@ -187,7 +187,7 @@ module _ (octets : List ℕ) (header : Header) (there : IsAtFront octets header)
 
   size : header.size ≡ length there.identifier + length there.len
   size =
-      sym (length-take-le header.size octets there.fits)
+      sym (length-take-le header.size octets there.within)
       ∙ (ap length there.front_is ∙ length-append there.identifier there.len)
 
   -- the contents octets that it announces are all that stands behind it
@@ -200,7 +200,7 @@ module _ (octets : List ℕ) (header : Header) (there : IsAtFront octets header)
       let after : there.len ++ behind ≡ f.len ++ e.contents =
       sym (drop_at there.identifier (there.len ++ behind) (length f.identifier) (ap length same.octets))
       ∙ (ap (drop (length f.identifier)) parted ∙ drop_at f.identifier (f.len ++ e.contents) (length f.identifier) refl) in
-      let lengths = length_alone there.len f.len behind e.contents header.announced (length e.contents) there.announces f.length_octets after in
+      let lengths = length_alone there.len f.len behind e.contents header.announced (length e.contents) there.length_octets f.length_octets after in
       let sum : length there.len + length behind ≡ length f.len + length e.contents =
       sym (length-append there.len behind) ∙ (ap length after ∙ length-append f.len e.contents) in
       omega (arith, lengths.number, ap length lengths.octets, sum)
@@ -210,7 +210,7 @@ module _ (octets : List ℕ) (header : Header) (there : IsAtFront octets header)
     identifier = there.identifier;
     len = there.len;
     identifier_octets = there.fields;
-    length_octets = subst (IsLength there.len) announced there.announces;
+    length_octets = subst (IsLength there.len) announced there.length_octets;
     whole = whole;
     size = size;
   }
@@ -224,21 +224,16 @@ module _ (octets : List ℕ) (header : Header) (there : IsAtFront octets header)
       let after : there.len ++ behind ≡ 128 ∷ rest =
       sym (drop_at there.identifier (there.len ++ behind) (length identifier) (ap length same.octets))
       ∙ (ap (drop (length identifier)) parted ∙ drop_at identifier (128 ∷ rest) (length identifier) refl) in
-      not_80 there.len behind rest header.announced there.announces some after
+      not_80 there.len behind rest header.announced there.length_octets some after
 
   -- the trees that it holds make one
   encodes_group :
       (kind : GroupKind) (bs : Trees ℕ) → header.class ≡ Universal → header.tag ≡ group_tag kind → EncodesAll 0 behind bs →
       Encodes 0 octets (group 0 kind (all_later header.size bs))
-  encodes_group kind bs c t s = record {
-    constructed = header.constructed;
-    contents = behind;
-    header = header.size;
-    encoding = subst (λ z. Encoding octets Universal header.constructed z behind header.size) t
-        (subst (λ z. Encoding octets z header.constructed header.tag behind header.size) c encoding_here);
-    place = refl;
-    meaning = encodes_all_at (λ o. o + header.size) 0 (0 + header.size) behind bs (λ d. omega arith) s;
-  }
+  encodes_group kind bs c t s =
+      let universal = subst (λ z. Encoding octets z header.constructed header.tag behind header.size) c encoding_here in
+      let encoding = subst (λ z. Encoding octets Universal header.constructed z behind header.size) t universal in
+      (refl, header.constructed, behind, header.size, encoding, encodes_all_at (λ o. o + header.size) 0 (0 + header.size) behind bs (λ d. omega arith) s)
 
 -- the lines of a part, as lines of all
 lines_at :

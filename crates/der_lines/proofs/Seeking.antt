@@ -19,12 +19,12 @@ pub header_found :
     (octets : List ℕ) (header : Header) → IsAtFront octets header →
     BeginsWithHeader octets header.size header.announced header.class header.constructed header.tag
 header_found octets header h = record {
-  fits = h.fits;
+  within = h.within;
   identifier = h.identifier;
   len = h.len;
   front_is = h.front_is;
   fields = h.fields;
-  announces = h.announces;
+  length_octets = h.length_octets;
 }
 
 identifier_some : (xs : List ℕ) (c : ASN1Class) (k : Bool) (t : ℕ) → IsIdentifier xs c k t → 0 < length xs
@@ -35,7 +35,7 @@ header_size :
     (octets : List ℕ) (s n : ℕ) (c : ASN1Class) (k : Bool) (t : ℕ) (h : BeginsWithHeader octets s n c k t) →
     s ≡ length h.identifier + length h.len
 header_size octets s n c k t h =
-    sym (length-take-le s octets h.fits) ∙ (ap length h.front_is ∙ length-append h.identifier h.len)
+    sym (length-take-le s octets h.within) ∙ (ap length h.front_is ∙ length-append h.identifier h.len)
 
 -- a header has octets
 pub header_some :
@@ -68,7 +68,7 @@ header_alone octets s n c k t s' n' c' k' t' h g =
     identifier_alone h.identifier g.identifier (h.len ++ drop s octets) (g.len ++ drop s' octets) c c' k k' t t' h.fields
     g.fields whole
     in
-    let l = length_alone h.len g.len (drop s octets) (drop s' octets) n n' h.announces g.announces i.rest in
+    let l = length_alone h.len g.len (drop s octets) (drop s' octets) n n' h.length_octets g.length_octets i.rest in
     let size : s ≡ s' =
     omega (arith, header_size octets s n c k t h, header_size octets s' n' c' k' t' g, ap length i.octets, ap length l.octets)
     in
@@ -79,7 +79,7 @@ pub no_header_begins :
     (octets : List ℕ) (s n : ℕ) (c : ASN1Class) (k : Bool) (t : ℕ) → HasNoHeader octets →
     BeginsWithHeader octets s n c k t → ⊥
 no_header_begins octets s n c k t none h =
-    none (take s octets) (drop s octets) (h.identifier, h.len, h.front_is, (t, (c, k, h.fields)), (n, h.announces))
+    none (take s octets) (drop s octets) (h.identifier, h.len, h.front_is, (t, (c, k, h.fields)), (n, h.length_octets))
     (sym (take-append-drop s octets))
 
 pub nowhere_without_header :

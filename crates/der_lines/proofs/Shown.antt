@@ -300,7 +300,7 @@ pub put_header :
     PutsStep inside base from left step a b
 put_header inside base step left from next at a b n there shows line =
     let size = at.size in
-    let fits = there.fits in
+    let fits = there.within in
     let header = front_header left at there in
     let e : next ≡ from + length (take size left) = n ∙ ap (λ m. from + m) (sym (length-take-le size left fits)) in
     let whole : left ≡ take size left ++ drop size left = sym (take-append-drop size left) in (
@@ -392,7 +392,7 @@ pub over_header :
     first ≡ from + at.size → PassesOver from left (Into first last)
 over_header left part from first last at e there f =
     let size = at.size in
-    let fits = there.fits in
+    let fits = there.within in
     let header = front_header part at there in
     let whole : part ≡ take size part ++ drop size part = sym (take-append-drop size part) in (
       take size part,

@@ -7,8 +7,7 @@ use Rattle.std.specs.List.{All}
 use Rattle.der_lines.specs.declared.document.Verdict.{Verdict}
 use Rattle.der_lines.specs.declared.document.Verdict.TheVariants.{AllRead, Refused}
 use Rattle.asn1_headers.specs.Fault.{DecodeFault}
-use Rattle.asn1_blocks.specs.FaultPlace.{FirstFaultAt}
-use Rattle.asn1_blocks.specs.Grammar.{FirstFault, IsDocument}
+use Rattle.asn1_blocks.specs.Grammar.{FirstFault, FirstFaultAt, IsDocument}
 use Rattle.asn1_headers.specs.Header.{IsIdentifier, IsLength, IsSomeIdentifier}
 use Rattle.asn1_blocks.specs.Places.{IsEncoding}
 use Rattle.asn1_headers.specs.declared.header.ASN1Class.{ASN1Class}
@@ -143,7 +142,7 @@ pub record StandsInside (octets : List ℕ) (offset : ℕ) : Type 0 where
   pub before : ℕ
   pub part : List ℕ
   pub place : ℕ
-  pub stand : StandAt octets before part
+  pub position : StandAt octets before part
   pub shown : HasBlockAt part place ⊎ HasHeaderAt part place
   pub offset_is : offset ≡ before + place
 

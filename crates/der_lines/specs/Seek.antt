@@ -8,12 +8,12 @@ use Rattle.asn1_blocks.specs.Places.{EncodingAt, IsEncoding}
 -- the octets begin with a header of so many octets
 pub record BeginsWithHeader (octets : List ℕ) (size announced : ℕ) (class : ASN1Class) (constructed : Bool)
     (tag : ℕ) : Type 0 where
-  pub fits : size ≤ length octets
+  pub within : size ≤ length octets
   pub identifier : List ℕ
   pub len : List ℕ
   pub front_is : take size octets ≡ identifier ++ len
   pub fields : IsIdentifier identifier class constructed tag
-  pub announces : IsLength len announced
+  pub length_octets : IsLength len announced
 
 -- the octets are encodings, one after another to the end
 pub data AreEncodings : List ℕ → Type 0 where

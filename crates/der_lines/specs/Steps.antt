@@ -28,12 +28,12 @@ use Rattle.der_lines.specs.declared.cursor.Step.TheVariants.{Past, Leaf, Inside 
 
 -- the header stands at the front of the octets
 pub record IsAtFront (octets : List ℕ) (header : Header) : Type 0 where
-  pub fits : header.size ≤ length octets
+  pub within : header.size ≤ length octets
   pub identifier : List ℕ
   pub len : List ℕ
   pub front_is : take header.size octets ≡ identifier ++ len
   pub fields : IsIdentifier identifier header.class header.constructed header.tag
-  pub announces : IsLength len header.announced
+  pub length_octets : IsLength len header.announced
 
 -- the header is of a SEQUENCE or SET
 abbrev pub IsGroupHeader : Header → Type 0

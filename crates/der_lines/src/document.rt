@@ -1,9 +1,8 @@
 // The lines of a document.
 ghost use Rattle.std.specs.Prelude.{IfOk, MatchOption, OnOk};
 ghost use Rattle.der_lines.specs.Dump.{AddsBlocksOf, AddsDumpOf, AddsFaultOf};
-ghost use Rattle.asn1_blocks.specs.FaultPlace.{FirstFaultAt};
 ghost use Rattle.asn1_headers.specs.Fault.{fault_of};
-ghost use Rattle.asn1_blocks.specs.Grammar.{IsDocument};
+ghost use Rattle.asn1_blocks.specs.Grammar.{FirstFaultAt, IsDocument};
 ghost use Rattle.asn1_blocks.specs.View.{document_trees};
 
 use crate::faults::words_at;

@@ -31,6 +31,7 @@ mod header;
 mod held;
 mod indefinite;
 mod lines;
+mod name_table;
 mod names;
 mod notes;
 mod parts;

@@ -3,8 +3,9 @@
 //! Standard input is a document whose first block is a SEQUENCE of exactly three: any block, a SEQUENCE that begins
 //! with an OBJECT IDENTIFIER, and a BIT STRING. It comes as it is, in PEM (its first object), in hex digits or in base
 //! 64. The octets of the first of the three are written to standard output, exactly as they stand in the document, and
-//! nothing else is. The exit status is 0; it is 1 after a fault of reading or writing, 2 where memory ran out, and 3
-//! where the input is no such document, with a line on standard error that says why.
+//! nothing else is. The exit status is 0; it is 1 after a fault of reading or writing, 2 where memory ran out or there
+//! are arguments, and 3 where the input is no such document, with a line on standard error that says why. `--help` and
+//! `--version` are answered.
 #![tactic(auto)]
 
 mod run;
@@ -12,23 +13,68 @@ mod run;
 mod tests;
 
 use crate::run::{RunFault, fault_text, run, status};
-use der_io::escaped;
+use clap::Command;
+use clap::error::ErrorKind;
+use der_io::{escaped, words};
 use std::alloc::{AllocError, Global};
 use std::process::ExitCode;
 
+// The exit status of words that are not understood.
+const WRONG_WORDS: u8 = 2;
+
+// What `--version` prints after the name.
+const VERSION: &str = "1.0.0";
+
+const ABOUT: &str =
+    "Writes the bytes that were signed of a certificate, request or revocation list.\n\n\
+    It is read from standard input, as DER, PEM, hex digits or base64.";
+
 fn main(rt: HostRuntime) -> ExitCode {
+    let Ok(words) = words(&rt) else {
+        let _ = eprintln!(rt; "error: the arguments cannot be read");
+        return ExitCode::from(WRONG_WORDS);
+    };
+    let command = Command::new(rt.alloc(), "der_signed")
+        .version(VERSION)
+        .about(ABOUT);
+    match command.try_get_matches_from(&words) {
+        Ok(_) => ExitCode::from(obey(&rt)),
+        Err(answer) => ExitCode::from(tell(&rt, &answer)),
+    }
+}
+
+// Help and the version go to standard output, and what is wrong with the words, on one line, to standard error.
+fn tell(rt: &HostRuntime, answer: &clap::Error) -> u8 {
+    let Ok(text) = format!(in rt.alloc(); "{answer}") else {
+        return WRONG_WORDS;
+    };
+    if matches!(
+        answer.kind(),
+        ErrorKind::DisplayHelp | ErrorKind::DisplayVersion
+    ) {
+        return match print!(rt; "{text}") {
+            Ok(()) => 0,
+            Err(_) => WRONG_WORDS,
+        };
+    }
+    let _ = eprintln!(rt; "{}", text.lines().next().unwrap_or(""));
+    WRONG_WORDS
+}
+
+// Answers standard input.
+fn obey(rt: &HostRuntime) -> u8 {
     let outcome = run(rt.alloc(), &mut rt.stdin(), &mut rt.stdout());
     if let Err(fault) = &outcome {
-        let _ = match words(rt.alloc(), fault) {
+        let _ = match fault_words(rt.alloc(), fault) {
             Ok(words) => eprintln!(rt; "{words}"),
             Err(_) => eprintln!(rt; "{}", fault_text(fault)),
         };
     }
-    ExitCode::from(status(&outcome))
+    status(&outcome)
 }
 
 // What is said of a fault, with what is no printed character escaped.
-fn words(alloc: Global, fault: &RunFault) -> Result<String, AllocError> {
+fn fault_words(alloc: Global, fault: &RunFault) -> Result<String, AllocError> {
     let text = fault_text(fault);
     let words = match fault {
         RunFault::NoDocument(why) => format!(in alloc; "{text}: {why}")?,

@@ -143,32 +143,32 @@ past : (x own rest : List ℕ) (c : ASN1Class) (k : Bool) (n : ℕ) → length x
 past x own rest c k n few keeps e after o no_trees s = s
 past x own rest c k n few keeps e after o (more_trees (leaf p l) bs) s =
     let one = s.item in
-    let f = front x s.first s.rest one.contents own rest Universal c one.constructed k (leaf_tag l) n one.header (length own) s.whole one.encoding
+    let f = front x s.first s.rest one.2 own rest Universal c one.1 k (leaf_tag l) n one.3 (length own) s.whole one.4
     (own_small x own rest c k n few e) e in
-    let q = same_split one.contents own s.rest rest f.size f.whole in
-    let written = keeps.leaf (sym f.class) l (sym f.tag) (subst (LeafContents l) q.0 one.meaning) in
-    let here = f.encoding ∙ same_encoding c Universal k false n (leaf_tag l) one.contents (leaf_contents l) (sym f.class)
+    let q = same_split one.2 own s.rest rest f.size f.whole in
+    let written = keeps.leaf (sym f.class) l (sym f.tag) (subst (LeafContents l) q.0 one.5) in
+    let here = f.encoding ∙ same_encoding c Universal k false n (leaf_tag l) one.2 (leaf_contents l) (sym f.class)
     (keeps.primitive (sym f.class) l (sym f.tag)) (sym f.tag) (q.0 ∙ written) in
     both (o + length s.first) x s.first s.rest rest (canonical (leaf p l)) bs s.whole s.items here q.1 after
 past x own rest c k n few keeps e after o (more_trees (group p g held) bs) s =
     let one = s.item in
-    let f = front x s.first s.rest one.contents own rest Universal c one.constructed k (group_tag g) n one.header (length own) s.whole one.encoding
+    let f = front x s.first s.rest one.2 own rest Universal c one.1 k (group_tag g) n one.3 (length own) s.whole one.4
     (own_small x own rest c k n few e) e in
     absurd (keeps.no_group (sym f.class) g (sym f.tag))
 past x own rest c k n few keeps e after o (more_trees (explicit d p m b) bs) s =
     let one = s.item in
-    let f = front x s.first s.rest one.contents own rest d c true k m n one.header (length own) s.whole one.encoding
+    let f = front x s.first s.rest one.2 own rest d c true k m n one.3 (length own) s.whole one.4
     (own_small x own rest c k n few e) e in
-    let q = same_split one.contents own s.rest rest f.size f.whole in
-    let within = keeps.within (λ u. one.other (f.class ∙ u)) (sym f.constructed) in
-    let place = o + one.header in
-    let item : EncodesAll place own (more_trees b no_trees) = only place own b (subst (λ z. Encodes place z b) q.0 one.meaning) in
+    let q = same_split one.2 own s.rest rest f.size f.whole in
+    let within = keeps.within (λ u. one.1 (f.class ∙ u)) (sym f.constructed) in
+    let place = o + one.3 in
+    let item : EncodesAll place own (more_trees b no_trees) = only place own b (subst (λ z. Encodes place z b) q.0 one.5) in
     let written : own ≡ canonical b = within place (more_trees b no_trees) item ∙ append-nil (canonical b) in
-    let here = f.encoding ∙ same_encoding c d k true n m one.contents (canonical b) (sym f.class) (sym f.constructed) (sym f.tag) (q.0 ∙ written) in
+    let here = f.encoding ∙ same_encoding c d k true n m one.2 (canonical b) (sym f.class) (sym f.constructed) (sym f.tag) (q.0 ∙ written) in
     both (o + length s.first) x s.first s.rest rest (canonical (explicit d p m b)) bs s.whole s.items here q.1 after
 past x own rest c k n few keeps e after o (more_trees (unknown d j p m v) bs) s =
     let one = s.item in
-    let f = front x s.first s.rest v own rest d c j k m n one.header (length own) s.whole one.encoding
+    let f = front x s.first s.rest v own rest d c j k m n one.1 (length own) s.whole one.2
     (own_small x own rest c k n few e) e in
     let q = same_split v own s.rest rest f.size f.whole in
     let here = f.encoding ∙ same_encoding c d k j n m v v (sym f.class) (sym f.constructed) (sym f.tag) refl in
@@ -180,25 +180,25 @@ into : (x rest : List ℕ) (g : GroupKind) (m : ℕ) → length x < 2 ^ 64 → m
 into x rest g m few small e after o no_trees s = s
 into x rest g m few small e after o (more_trees (leaf p l) bs) s =
     let one = s.item in
-    let f = front x s.first s.rest one.contents [] rest Universal Universal one.constructed true (leaf_tag l) (group_tag g) one.header m s.whole one.encoding
+    let f = front x s.first s.rest one.2 [] rest Universal Universal one.1 true (leaf_tag l) (group_tag g) one.3 m s.whole one.4
     small e in
     absurd (leaf_no_group l g f.tag)
 into x rest g m few small e after o (more_trees (explicit d p n b) bs) s =
     let one = s.item in
-    let f = front x s.first s.rest one.contents [] rest d Universal true true n (group_tag g) one.header m s.whole one.encoding small e in
-    absurd (one.other f.class)
+    let f = front x s.first s.rest one.2 [] rest d Universal true true n (group_tag g) one.3 m s.whole one.4 small e in
+    absurd (one.1 f.class)
 into x rest g m few small e after o (more_trees (unknown d j p n v) bs) s =
     let one = s.item in
-    let f = front x s.first s.rest v [] rest d Universal j true n (group_tag g) one.header m s.whole one.encoding small e in
-    absurd (elim one.as_it_came [ inl u ↦ false≢true (sym u.1 ∙ ap is_known_tag f.tag ∙ group_known g) | inr u ↦ u.0 f.class ])
+    let f = front x s.first s.rest v [] rest d Universal j true n (group_tag g) one.1 m s.whole one.2 small e in
+    absurd (elim one.3 [ inl u ↦ u.1.1 g f.tag | inr u ↦ u.0 f.class ])
 into x rest g m few small e after o (more_trees (group p h held) bs) s =
     let one = s.item in
-    let contents = one.contents in
+    let contents = one.2 in
     let r = s.rest in
-    let place = o + one.header in
-    let f = front x s.first r contents [] rest Universal Universal one.constructed true (group_tag h) (group_tag g) one.header m s.whole one.encoding
+    let place = o + one.3 in
+    let f = front x s.first r contents [] rest Universal Universal one.1 true (group_tag h) (group_tag g) one.3 m s.whole one.4
     small e in
-    let F = one.encoding in
+    let F = one.4 in
     let size : o + length s.first ≡ place + length contents = omega (
       arith,
       F.size,
@@ -208,9 +208,9 @@ into x rest g m few small e after o (more_trees (group p h held) bs) s =
     ) in
     let fits : length (contents ++ r) < 2 ^ 64 = omega (arith, few, size, ap length s.whole, length-append s.first r, length-append contents r) in
     let all : EncodesAll place (contents ++ r) (joined held bs) =
-    encodes_joined place contents r held bs one.meaning (subst (λ z. EncodesAll z r bs) size s.items) in
+    encodes_joined place contents r held bs one.5 (subst (λ z. EncodesAll z r bs) size s.items) in
     let written = f.whole ∙ (after place (joined held bs) (subst (λ z. EncodesAll place z (joined held bs)) f.whole all) ∙ joined_canonical held bs) in
-    let v = all_front place contents r (all_canonical bs) held fits one.meaning written in
+    let v = all_front place contents r (all_canonical bs) held fits one.5 written in
     let here = f.encoding ∙ same_encoding Universal Universal true true (group_tag g) (group_tag h) contents (all_canonical held) refl refl (sym f.tag) v.0 in
     s.whole ∙ (ap (λ z. z ++ r) here ∙ ap (λ z. canonical (group p h held) ++ z) v.1)
 

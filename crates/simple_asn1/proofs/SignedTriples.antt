@@ -26,7 +26,7 @@ use Rattle.std.proofs.Common.{
   Ok,
   Err,
 }
-use Rattle.std.specs.Prelude.{MatchResult, IfOk, IfErr, slice_range}
+use Rattle.std.specs.Prelude.{◌⊎◌, MatchResult, IfOk, IfErr, IsErrAnd, slice_range}
 use Rattle.std.proofs.lemmas.List.{length-take}
 use Rattle.asn1_blocks.specs.declared.block.ASN1Block.{ASN1Block}
 use Rattle.asn1_blocks.specs.declared.block.GroupKind.TheVariants.{Sequence}
@@ -131,7 +131,7 @@ begins law octets p rest bs d e =
     let alone = law.alone octets (signed_trees p rest) p.content (slice_range octets o p.algorithm_offset) t (has_content octets p rest _ refl) in
     let cut : length (slice_range octets o p.algorithm_offset) ≡ min (p.algorithm_offset - o) (length (drop o octets)) =
     length-take (p.algorithm_offset - o) (drop o octets) in
-    let (before, behind, whole, at) = law.stand octets (signed_trees p rest) (algorithm_tree p) _ t (has_algorithm octets p rest) in
+    let (before, behind, whole, at) = law.position octets (signed_trees p rest) (algorithm_tree p) _ t (has_algorithm octets p rest) in
     let some = alone.some in
     let all : length octets ≡ length before + length (slice_range octets p.algorithm_offset p.signature_offset ++ behind) =
     ap length whole ∙ length-append before _ in
@@ -207,3 +207,14 @@ pub accepted : Unambiguous → BlockAlone → (octets : List ℕ) → FitInSlice
     IfErr r (IsRefused octets) → (p : SignedParts) → IsSigned octets p → MatchResult r (HasFields octets p) (λ e. e ≡ Codec OutOfMemory)
 accepted law parts octets small (Ok t) is _ p s = fields_of law octets t is p s
 accepted law parts octets small (Err e) _ is p s = only_memory law parts octets small e is p s
+
+-- a document of another shape is refused for it
+pub another_refused : Unambiguous → (octets : List ℕ) → FitInSlice octets → (r : Result SignedTriple TripleErr) → IfOk r (IsRead octets) →
+    IfErr r (IsRefused octets) → IsOfAnotherShape octets → IsErrAnd r (λ e. (e ≡ Shape) ⊎ (e ≡ Codec OutOfMemory))
+another_refused law octets small (Ok t) is _ (bs, d, other) =
+    let (q, begin, fields) = is.is_read in
+    absurd (other q is.rest (law.one_document octets bs is.trees d is.document ∙ begin.trees))
+another_refused law octets small (Err e) _ (inl (xs, x, inl memory)) s = inr memory
+another_refused law octets small (Err e) _ (inl (xs, x, inr (shape, none))) s = inl shape
+another_refused law octets small (Err e) _ (inr (f, inl memory, from)) s = inr (from ∙ ap Codec memory)
+another_refused law octets small (Err e) _ (inr (f, inr at, from)) (bs, d, other) = absurd (law.not_both octets bs (fault_of f) small d at)

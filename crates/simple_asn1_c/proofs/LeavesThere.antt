@@ -9,12 +9,11 @@ use Rattle.asn1_blocks.proofs.Slices.{encoding_at_alone}
 use Rattle.asn1_outline.specs.Entries.{HasTag}
 use Rattle.simple_asn1.specs.Contents.{LeafContents, LeafFault, leaf_tag}
 use Rattle.simple_asn1.specs.Fault.{DecodeFault}
-use Rattle.simple_asn1.specs.Grammar.{Encodes, FirstFault, after_blocks, in_contents, no_blocks, of_leaf_contents}
+use Rattle.simple_asn1.specs.Grammar.{Encodes, FirstFault, in_contents, no_blocks}
 use Rattle.simple_asn1.specs.Header.{Encoding}
 use Rattle.simple_asn1.specs.Tree.{Leaf, leaf}
 use Rattle.simple_asn1_c.specs.Status.{no_memory, no_such_value, status_of}
 use Rattle.simple_asn1_c.specs.Values.{IsLeafAt, IsMissing, UniversalAt, is_at_fault, is_of_another_kind}
-use Rattle.asn1_outline.proofs.Standing.{two_more}
 
 -- a small number in a record is the tag's
 pub small_tag : (n field m : ℕ) → HasTag n field → field ≡ m → m < 64 → n ≡ m
@@ -26,14 +25,7 @@ small_tag n field m (low, high) e s = elim (cases_lt n (2 ^ 64)) [
 module _ (octets : List ℕ) (offset : ℕ) where
   pub leaf_here : (l : Leaf) (v : List ℕ) → UniversalAt octets offset (leaf_tag l) v → LeafContents l v → IsLeafAt octets offset l
   leaf_here l v u means =
-      let s : Encodes 0 u.whole (leaf 0 l) = record {
-        constructed = u.constructed;
-        contents = v;
-        header = u.header;
-        encoding = u.encoding;
-        place = refl;
-        meaning = means;
-      } in
+      let s : Encodes 0 u.whole (leaf 0 l) = (refl, u.constructed, v, u.header, u.encoding, means) in
       let some = block_some u.whole (encodes_block 0 u.whole (leaf 0 l) s) in
       (0, (u.whole, u.at, record { some = some; blocks = only 0 u.whole (leaf 0 l) s }))
 
@@ -46,9 +38,9 @@ module _ (octets : List ℕ) (offset : ℕ) where
   leaf_there : (l : Leaf) → IsLeafAt octets offset l → LeafThere l
   leaf_there l (o, (x, at, d)) =
       let s = only_tree 0 x (leaf o l) d.blocks in record {
-        contents = s.contents;
-        universal = record { whole = x; at = at; constructed = s.constructed; header = s.header; encoding = s.encoding };
-        meaning = s.meaning;
+        contents = s.2;
+        universal = record { whole = x; at = at; constructed = s.1; header = s.3; encoding = s.4 };
+        meaning = s.5;
       }
 
   -- one encoding stands there
@@ -63,8 +55,7 @@ module _ (octets : List ℕ) (offset : ℕ) where
   first_fault : (n : ℕ) (v : List ℕ) (u : UniversalAt octets offset n v) (fault : DecodeFault) → LeafFault n v fault → FirstFault u.whole fault
   first_fault n v u fault f =
       let x = u.whole in
-      let some : 0 < length x = omega (arith, two_more x Universal u.constructed n v u.header u.encoding) in
-      inr (after_blocks [] x refl no_blocks some (in_contents x [] (sym (append-nil x)) u.encoding (of_leaf_contents f)))
+      (0, inr (in_contents [] x [] (sym (append-nil x)) no_blocks u.encoding f))
 
   -- a kind, whose values are leaves with one of these tags
   module _ (Value : Type 0) (IsTag : ℕ → Type 0) (leaf_of : Value → (l : Leaf) × IsTag (leaf_tag l) × IsLeafAt octets offset l) where

@@ -2,8 +2,7 @@
 use Rattle.std.proofs.Common.{◌≡◌, ◌⊎◌, ℕ, ◌≤◌, ◌++◌, inl, inr, List, drop, get_or, length, map, refl, sym, ap, subst, ◌∙◌, arith}
 use Rattle.std.proofs.lemmas.List.{drop_at, get_or_append_left, length-map}
 use Rattle.simple_asn1.specs.Canonical.{all_canonical}
-use Rattle.simple_asn1.specs.FaultPlace.{FirstFaultAt}
-use Rattle.simple_asn1.specs.Grammar.{IsDocument}
+use Rattle.simple_asn1.specs.Grammar.{FirstFaultAt, IsDocument}
 use Rattle.simple_asn1.specs.Strict.{IsNotCanonicalAt}
 use Rattle.simple_asn1.specs.ReadBack.{CanonicalDocument}
 use Rattle.simple_asn1.specs.Structure.{IsStructure, Nodes, nodes_depths, nodes_in_order}

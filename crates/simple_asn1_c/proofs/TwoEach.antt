@@ -1,5 +1,5 @@
 -- Each block of a document has two octets of its own.
-use Rattle.std.proofs.Common.{◌≡◌, ℕ, ◌+◌, ◌*◌, ◌++◌, ◌≤◌, List, [], drop, length, sym, ap, subst, arith, append-nil, length-append}
+use Rattle.std.proofs.Common.{◌≡◌, ℕ, ◌+◌, ◌*◌, ◌++◌, ◌≤◌, List, [], drop, length, sym, ap, arith, append-nil, length-append}
 use Rattle.simple_asn1.specs.Grammar.{Encodes, EncodesAll}
 use Rattle.simple_asn1.specs.Structure.{AreNodes, IsNode, IsStructure, Node, Nodes, more_nodes, no_nodes, node, node_in_order, node_tree, nodes_in_order, nodes_trees}
 use Rattle.asn1_outline.proofs.Standing.{first_stands, held_in, rest_stands}

@@ -2,8 +2,7 @@
 use Rattle.std.specs.Prelude.{◌≡◌, ◌⊎◌, ℕ, ◌<◌, List, length}
 use Rattle.simple_asn1.specs.Canonical.{all_canonical}
 use Rattle.simple_asn1.specs.Fault.{DecodeFault}
-use Rattle.simple_asn1.specs.FaultPlace.{FirstFaultAt}
-use Rattle.simple_asn1.specs.Grammar.{IsDocument}
+use Rattle.simple_asn1.specs.Grammar.{FirstFaultAt, IsDocument}
 use Rattle.simple_asn1.specs.ReadBack.{CanonicalDocument}
 use Rattle.simple_asn1.specs.Strict.{IsNotCanonicalAt}
 use Rattle.simple_asn1.specs.SignedTrees.{IsOfAnotherShape, IsSigned, SignedParts, signature_tree}

@@ -1,4 +1,4 @@
-// The components of an OBJECT IDENTIFIER at an offset, in decimal with points.
+// The components of an OBJECT IDENTIFIER in decimal with points: of that at an offset, and of one that is put.
 ghost use Rattle.std.specs.Prelude.{
   ◌≡◌,
   ◌≢◌,
@@ -12,19 +12,21 @@ ghost use Rattle.std.specs.Prelude.{
   MatchOption,
   string_bytes,
 };
+ghost use Rattle.asn1_headers.specs.declared.error.ASN1EncodeErr.TheVariants.{OutOfMemory};
 ghost use Rattle.simple_asn1.specs.DottedDecimal.{dotted_decimal};
 ghost use Rattle.simple_asn1.specs.FittingNumbers.{HasNotAll};
 ghost use Rattle.simple_asn1.specs.Tree.{leaf, object_identifier};
 ghost use Rattle.simple_asn1.specs.View.{tree_offset, view};
+ghost use Rattle.simple_asn1_c.specs.Puts.{AnswersPutIdentifier};
 ghost use Rattle.simple_asn1_c.specs.Status.{no_memory, out_of_range};
 ghost use Rattle.simple_asn1_c.specs.Values.{AnswersIdentifier};
 
 use crate::alone::universal_at;
 use crate::putting::{nothing_put, put_octets};
 use crate::record::Outcome;
-use crate::status::{NO_MEMORY, NO_SUCH_VALUE, OUT_OF_RANGE, status_of_fault};
+use crate::status::{NO_MEMORY, NO_SUCH_VALUE, NOT_OID, OUT_OF_RANGE, status_of_fault};
 use asn1_leaves::oid;
-use simple_asn1::{ASN1Block, ASN1DecodeErr, OID};
+use simple_asn1::{ASN1Block, ASN1DecodeErr, ASN1EncodeErr, OID};
 use std::alloc::{AllocError, Global};
 
 pub fn identifier_of(block: &ASN1Block) -> Option<&OID>
@@ -72,5 +74,34 @@ pub fn identifier_at(alloc: Global, octets: &[u8], offset: usize, room: &mut [u8
     match text_of(alloc, &oid) {
         Ok(text) => put_octets(text.as_bytes(), room),
         Err(status) => nothing_put(status, offset),
+    }
+}
+
+// The number of why components have no contents octets.
+fn status_of_unwritten(e: &ASN1EncodeErr) -> u32
+    ensures { ((e.now ≡ OutOfMemory) × (result ≡ no_memory))
+        ⊎ ((e.now ≢ OutOfMemory) × (result ≡ out_of_range)) }
+{
+    match e {
+        ASN1EncodeErr::OutOfMemory => NO_MEMORY,
+        _ => OUT_OF_RANGE,
+    }
+}
+
+// Puts the contents octets of the OBJECT IDENTIFIER that the text is of.
+pub fn put_identifier(alloc: Global, text: &[u8], room: &mut [u8]) -> Outcome
+    ensures { AnswersPutIdentifier text.now room.old room.new result }
+{
+    let Ok(text) = str::from_utf8(text) else {
+        return nothing_put(NOT_OID, 0);
+    };
+    let oid = match OID::from_text(alloc, text) {
+        Ok(Some(oid)) => oid,
+        Ok(None) => return nothing_put(NOT_OID, 0),
+        Err(_) => return nothing_put(NO_MEMORY, 0),
+    };
+    match oid.as_raw(alloc) {
+        Ok(contents) => put_octets(&contents, room),
+        Err(e) => nothing_put(status_of_unwritten(&e), 0),
     }
 }

@@ -1,11 +1,14 @@
-// The number of an INTEGER at an offset.
+// The number of an INTEGER: that at an offset, and one that is put.
 ghost use Rattle.std.specs.Prelude.{◌≡◌, pos};
+ghost use Rattle.simple_asn1_c.specs.Puts.{AnswersPutInteger};
 ghost use Rattle.simple_asn1_c.specs.Values.{AnswersInteger};
 
 use crate::alone::universal_at;
-use crate::record::IntegerAnswer;
+use crate::putting::{nothing_put, put_octets};
+use crate::record::{IntegerAnswer, Outcome};
 use crate::status::{DONE, NO_MEMORY, NO_SUCH_VALUE, OUT_OF_RANGE};
 use asn1_leaves::contents::integer;
+use simple_asn1::BigInt;
 use std::alloc::Global;
 
 fn no_integer(status: u32) -> IntegerAnswer
@@ -33,5 +36,14 @@ pub fn integer_at(alloc: Global, octets: &[u8], offset: usize) -> IntegerAnswer
             value,
         },
         None => no_integer(OUT_OF_RANGE),
+    }
+}
+
+pub fn put_integer(alloc: Global, value: i64, room: &mut [u8]) -> Outcome
+    ensures { AnswersPutInteger value room.old room.new result }
+{
+    match BigInt::from_i64(alloc, value) {
+        Ok(n) => put_octets(n.octets(), room),
+        Err(_) => nothing_put(NO_MEMORY, 0),
     }
 }

@@ -2,6 +2,7 @@
 #![tactic(auto)]
 
 mod alone;
+mod bits;
 mod header;
 mod identifier;
 mod integer;
@@ -27,17 +28,27 @@ ghost use Rattle.simple_asn1_c.specs.Answers.{
   IsNoMemory,
   IsRefused,
 };
+ghost use Rattle.simple_asn1_c.specs.Puts.{
+  AnswersPutBits,
+  AnswersPutBoolean,
+  AnswersPutIdentifier,
+  AnswersPutInteger,
+  AnswersPutMoment,
+  AnswersPutText,
+  moment_in,
+};
 ghost use Rattle.simple_asn1_c.specs.Values.{AnswersIdentifier, AnswersInteger, AnswersMoment, AnswersText};
 
-use crate::identifier::identifier_at;
-use crate::integer::integer_at;
-use crate::moment::moment_at;
+use crate::bits::{put_bits, put_boolean};
+use crate::identifier::{identifier_at, put_identifier};
+use crate::integer::{integer_at, put_integer};
+use crate::moment::{moment_at, put_moment};
 use crate::putting::{put_octets, put_records};
 use crate::reading::{Fault, OUT_OF_MEMORY, fault_of_refused, read_records, read_records_strict};
 use crate::record::{Block, IntegerAnswer, MomentAnswer, Outcome, SignedAnswer};
 use crate::signed::signed_in;
 use crate::spelling::spell;
-use crate::text::text_at;
+use crate::text::{put_text, text_at};
 use simple_asn1::{ASN1DecodeErr, rewrite};
 use std::alloc::Global;
 
@@ -200,4 +211,69 @@ pub extern "C" fn simple_asn1_write(
         Ok(canonical) => put_octets(&canonical, room),
         Err(e) => refused_outcome(rewrite_fault(alloc, &spelled, &e)),
     }
+}
+
+/// Puts the contents octet of a BOOLEAN (X.690 8.2), true but for 0, at the front of the room, and returns how many
+/// octets were put, which is 1; `NO_ROOM` with that number, if there is less room. Then, and after an error of the
+/// calls below, nothing is written. It takes no memory; what those below take is given back.
+#[unsafe(no_mangle)]
+pub extern "C" fn simple_asn1_put_boolean(value: u8, room: &mut [u8]) -> Outcome
+    ensures { AnswersPutBoolean value room.old room.new result }
+{
+    put_boolean(value, room)
+}
+
+/// Puts the contents octets of an INTEGER (X.690 8.3), the fewest that mean the number, as [`simple_asn1_put_boolean`]
+/// does.
+#[unsafe(no_mangle)]
+pub extern "C" fn simple_asn1_put_int64(alloc: Global, value: i64, room: &mut [u8]) -> Outcome
+    ensures { AnswersPutInteger value room.old room.new result }
+{
+    put_integer(alloc, value, room)
+}
+
+/// Puts the contents octets of a BIT STRING (X.690 8.6), as [`simple_asn1_put_boolean`] does: its bits are the first of
+/// these octets. `OUT_OF_RANGE` if these octets are not the fewest that hold so many bits.
+#[unsafe(no_mangle)]
+pub extern "C" fn simple_asn1_put_bits(
+    alloc: Global,
+    octets: &[u8],
+    bits: usize,
+    room: &mut [u8],
+) -> Outcome
+    ensures { AnswersPutBits octets.now bits room.old room.new result }
+{
+    put_bits(alloc, octets, bits, room)
+}
+
+/// Puts the contents octets of the OBJECT IDENTIFIER (X.690 8.19) whose components the text has in decimal, with a
+/// point between two of them, as [`simple_asn1_put_boolean`] does. `NOT_OID` for any other text; `OUT_OF_RANGE` if
+/// there is one component, the first is above 2, or the second above 39, after 2 above 175: the first two take one
+/// octet.
+#[unsafe(no_mangle)]
+pub extern "C" fn simple_asn1_put_oid(alloc: Global, text: &[u8], room: &mut [u8]) -> Outcome
+    ensures { AnswersPutIdentifier text.now room.old room.new result }
+{
+    put_identifier(alloc, text, room)
+}
+
+/// Puts the contents octets of a string (X.690 8.23) with this tag number and text, which is in UTF-8, as
+/// [`simple_asn1_put_boolean`] does, without memory. `NO_SUCH_VALUE` for the tag number of no string; the fault of text
+/// that is no UTF-8, or not that of a PrintableString; `OUT_OF_RANGE` for a character above 7F in an IA5String.
+#[unsafe(no_mangle)]
+pub extern "C" fn simple_asn1_put_text(tag: u64, text: &[u8], room: &mut [u8]) -> Outcome
+    ensures { AnswersPutText tag text.now room.old room.new result }
+{
+    put_text(tag, text, room)
+}
+
+/// Puts the contents octets of a UTCTime (tag 23) or GeneralizedTime (tag 24) of the moment (X.690 11.7, 11.8), as
+/// [`simple_asn1_put_boolean`] does, without memory. `NO_SUCH_VALUE` for another tag number; the fault of a time if it
+/// would not be read back: no such day or time, and in a UTCTime another year than 1950 to 2049 or a fraction of a
+/// second. The status in the moment is ignored.
+#[unsafe(no_mangle)]
+pub extern "C" fn simple_asn1_put_time(tag: u64, moment: &MomentAnswer, room: &mut [u8]) -> Outcome
+    ensures { AnswersPutMoment tag (moment_in moment.now) room.old room.new result }
+{
+    put_moment(tag, moment, room)
 }

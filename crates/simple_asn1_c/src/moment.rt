@@ -1,11 +1,18 @@
-// The moment of a UTCTime or GeneralizedTime at an offset.
-ghost use Rattle.std.specs.Prelude.{◌≡◌};
-ghost use Rattle.asn1_leaves.specs.Contents.Moment.{moment_of};
+// The moment of a UTCTime or GeneralizedTime: of that at an offset, and of one that is put.
+ghost use Rattle.std.specs.Prelude.{◌≡◌, IfNone, IfSome};
+ghost use Rattle.asn1_leaves.specs.Contents.GeneralizedTime.{IsFaithfulGeneralizedTime, generalized_time_contents};
+ghost use Rattle.asn1_leaves.specs.Contents.Moment.{IsValid, moment_of};
+ghost use Rattle.asn1_leaves.specs.Contents.UtcTime.{IsFaithfulUtcTime, utc_time_contents};
+ghost use Rattle.simple_asn1_c.specs.Puts.{AnswersPutMoment, ArePutIf, moment_in};
+ghost use Rattle.simple_asn1_c.specs.Status.{not_a_date};
 ghost use Rattle.simple_asn1_c.specs.Values.{AnswersMoment, HasMoment, no_moment};
 
 use crate::alone::universal_at;
-use crate::record::MomentAnswer;
-use crate::status::{DONE, NO_SUCH_VALUE, status_of_fault};
+use crate::putting::{nothing_put, put_octets};
+use crate::record::{MomentAnswer, Outcome};
+use crate::status::{DATE, DONE, NO_SUCH_VALUE, status_of_fault};
+use arrayvec::ArrayVec;
+use asn1_leaves::contents::{generalized_time, utc_time};
 use asn1_outline::value::time_of;
 use jiff::civil::DateTime;
 use std::alloc::Global;
@@ -53,5 +60,76 @@ pub fn moment_at(alloc: Global, octets: &[u8], offset: usize) -> MomentAnswer
         Ok(Some(d)) => moment_answer(&d),
         Ok(None) => no_moment(NO_SUCH_VALUE),
         Err(e) => no_moment(status_of_fault(&e)),
+    }
+}
+
+// The moment of the fields, if there is such a day and time.
+fn date_time(fields: &MomentAnswer) -> Option<DateTime>
+    ensures found { IfSome result (λ d. moment_of d ≡ moment_in fields.now) }
+    ensures none { IfNone result (IsValid (moment_in fields.now) → ⊥) }
+{
+    if fields.year < 0
+        || fields.year > 9999
+        || fields.month > 12
+        || fields.day > 31
+        || fields.hour > 23
+        || fields.minute > 59
+        || fields.second > 59
+        || fields.nanosecond > 999_999_999
+    {
+        return None;
+    }
+    DateTime::new(
+        fields.year as i16,
+        fields.month as i8,
+        fields.day as i8,
+        fields.hour as i8,
+        fields.minute as i8,
+        fields.second as i8,
+        fields.nanosecond as i32,
+    )
+    .ok()
+}
+
+// Puts the contents octets of a UTCTime.
+fn put_utc_time(d: &DateTime, room: &mut [u8]) -> Outcome
+    ensures { ArePutIf (IsFaithfulUtcTime (moment_of d.now)) (utc_time_contents (moment_of d.now)) not_a_date
+        room.old room.new result }
+{
+    if !utc_time::is_faithful(d) {
+        return nothing_put(DATE, 0);
+    }
+    let mut contents: ArrayVec<u8, 13> = ArrayVec::new();
+    utc_time::put(d, &mut contents);
+    put_octets(contents.as_slice(), room)
+}
+
+// Puts those of a GeneralizedTime: at most 15 without a fraction, and 10 of one.
+fn put_generalized_time(d: &DateTime, room: &mut [u8]) -> Outcome
+    ensures { ArePutIf (IsFaithfulGeneralizedTime (moment_of d.now)) (generalized_time_contents (moment_of d.now))
+        not_a_date room.old room.new result }
+{
+    if !generalized_time::is_faithful(d) {
+        return nothing_put(DATE, 0);
+    }
+    let mut contents: ArrayVec<u8, 25> = ArrayVec::new();
+    generalized_time::put(d, &mut contents);
+    put_octets(contents.as_slice(), room)
+}
+
+// Puts the contents octets of the time with the tag number that is the moment of the fields.
+pub fn put_moment(tag: u64, fields: &MomentAnswer, room: &mut [u8]) -> Outcome
+    ensures { AnswersPutMoment tag (moment_in fields.now) room.old room.new result }
+{
+    if tag != 23 && tag != 24 {
+        return nothing_put(NO_SUCH_VALUE, 0);
+    }
+    let Some(d) = date_time(fields) else {
+        return nothing_put(DATE, 0);
+    };
+    if tag == 23 {
+        put_utc_time(&d, room)
+    } else {
+        put_generalized_time(&d, room)
     }
 }

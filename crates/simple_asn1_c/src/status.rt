@@ -7,6 +7,12 @@ use simple_asn1::ASN1DecodeErr;
 
 pub const DONE: u32 = 0;
 
+pub const UTF8: u32 = 4;
+
+pub const PRINTABLE: u32 = 5;
+
+pub const DATE: u32 = 6;
+
 pub const NOT_CANONICAL: u32 = 9;
 
 pub const NO_MEMORY: u32 = 10;
@@ -21,6 +27,8 @@ pub const NOT_SIGNED: u32 = 14;
 
 pub const BAD_RECORD: u32 = 15;
 
+pub const NOT_OID: u32 = 16;
+
 pub fn status_of_fault(e: &ASN1DecodeErr) -> u32
     ensures { result ≡ status_of (fault_of e.now) }
 {
@@ -28,9 +36,9 @@ pub fn status_of_fault(e: &ASN1DecodeErr) -> u32
         ASN1DecodeErr::EmptyBuffer => 1,
         ASN1DecodeErr::BadBooleanLength(_) => 2,
         ASN1DecodeErr::LengthTooLarge(_) => 3,
-        ASN1DecodeErr::UTF8DecodeFailure(_) => 4,
-        ASN1DecodeErr::PrintableStringDecodeFailure => 5,
-        ASN1DecodeErr::InvalidDateValue(_) => 6,
+        ASN1DecodeErr::UTF8DecodeFailure(_) => UTF8,
+        ASN1DecodeErr::PrintableStringDecodeFailure => PRINTABLE,
+        ASN1DecodeErr::InvalidDateValue(_) => DATE,
         ASN1DecodeErr::InvalidBitStringLength(_) => 7,
         ASN1DecodeErr::Incomplete => 8,
         ASN1DecodeErr::NotCanonical(_) => NOT_CANONICAL,

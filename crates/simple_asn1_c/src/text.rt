@@ -1,11 +1,15 @@
-// The text of a string at an offset.
+// The text of a string: of that at an offset, and of one that is put.
+ghost use Rattle.std.specs.Prelude.{◌≡◌, MatchOption};
+ghost use Rattle.std.specs.Str.{chars};
+ghost use Rattle.simple_asn1_c.specs.Puts.{AnswersPutText, AreAllowed, others_status};
 ghost use Rattle.simple_asn1_c.specs.Values.{AnswersText};
 
 use crate::alone::universal_at;
 use crate::putting::{nothing_put, put_octets};
 use crate::record::Outcome;
-use crate::status::{NO_SUCH_VALUE, status_of_fault};
+use crate::status::{NO_SUCH_VALUE, OUT_OF_RANGE, PRINTABLE, UTF8, status_of_fault};
 use asn1_leaves::contents::text;
+use asn1_leaves::contents::text::TextForm;
 use asn1_outline::value::form_of;
 use std::alloc::Global;
 
@@ -22,5 +26,46 @@ pub fn text_at(alloc: Global, octets: &[u8], offset: usize, room: &mut [u8]) -> 
     match text::read(alloc, form, contents) {
         Ok(text) => put_octets(text.as_str().as_bytes(), room),
         Err(e) => nothing_put(status_of_fault(&e), offset),
+    }
+}
+
+// The number of why the text is not put into a string of the form, if it is not.
+fn status_of_others(form: TextForm, text: &str) -> Option<u32>
+    ensures { MatchOption result
+        (AreAllowed form (chars text.now))
+        (λ status. (status ≡ others_status form) × (AreAllowed form (chars text.now) → ⊥)) }
+{
+    match form {
+        TextForm::Utf8 => None,
+        TextForm::Printable => {
+            if text::is_faithful(TextForm::Printable, text) {
+                None
+            } else {
+                Some(PRINTABLE)
+            }
+        }
+        TextForm::Octets => {
+            if text.is_ascii() {
+                None
+            } else {
+                Some(OUT_OF_RANGE)
+            }
+        }
+    }
+}
+
+// Puts the contents octets of the string with the tag number that has this text: the text's in UTF-8.
+pub fn put_text(tag: u64, text: &[u8], room: &mut [u8]) -> Outcome
+    ensures { AnswersPutText tag text.now room.old room.new result }
+{
+    let Some(form) = form_of(tag) else {
+        return nothing_put(NO_SUCH_VALUE, 0);
+    };
+    let Ok(text) = str::from_utf8(text) else {
+        return nothing_put(UTF8, 0);
+    };
+    match status_of_others(form, text) {
+        None => put_octets(text.as_bytes(), room),
+        Some(status) => nothing_put(status, 0),
     }
 }

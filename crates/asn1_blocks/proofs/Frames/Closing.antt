@@ -53,14 +53,7 @@ close_group octets f g gs n x y k o =
       follows = record {
         from = omega (arith, H.0, o.after, o.read.from, o.read.to);
         to = o.fits;
-        encoded = record {
-          constructed = bit;
-          contents = contents;
-          header = s - x;
-          encoding = F;
-          place = refl;
-          meaning = subst (λ i. EncodesAll i contents trees) at o.read.encoded;
-        };
+        encoded = (refl, bit, contents, s - x, F, subst (λ i. EncodesAll i contents trees) at o.read.encoded);
         begun = begun_opened (slice_range octets x z) Universal bit (group_tag y) contents (s - x) o.own F (inl (refl, group_tag_is y)) is_block o.read.begun;
       };
       total = o.total;
@@ -101,7 +94,7 @@ close_attempt octets f g gs n a t k means o =
 -- the encoding around one tree, and around any other number
 one_means : (a : other.Attempt) (contents : List ℕ) (t : Tree ℕ) → Means a contents (t ∷ []) (around a t)
 one_means a contents t all h ne F s =
-    record { contents = contents; header = h; encoding = F; place = refl; other = ne; meaning = only_tree (a.offset + h) contents t s }
+    (refl, ne, contents, h, F, only_tree (a.offset + h) contents t s)
 
 count_trees : (ts : List (Tree ℕ)) → tree_count (trees_of ts) ≡ length ts
 count_trees [] = refl
@@ -112,7 +105,7 @@ other_means : (octets : List ℕ) (a : other.Attempt) (s e : ℕ) (ts : List (Tr
 other_means octets a s e ts many all h ne F r =
     let no_block : IsBlock (slice_range octets s e) → ⊥ =
     λ z. many (sym (count_trees ts) ∙ one_block (a.offset + h) (slice_range octets s e) (trees_of ts) r z) in
-    record { header = h; encoding = F; place = refl; as_it_came = inr (ne, λ z. no_block z.1) }
+    (refl, h, F, inr (ne, λ z. no_block z.1))
 
 attempt_means : (octets : List ℕ) (a : other.Attempt) (s e : ℕ) (ts : List (Tree ℕ)) → Means a (slice_range octets s e) ts (attempted octets a s e ts)
 attempt_means octets a s e [] = other_means octets a s e [] (λ z. absurd (omega (arith, z)))

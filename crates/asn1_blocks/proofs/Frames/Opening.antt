@@ -22,7 +22,6 @@ use Rattle.std.proofs.Common.{
   arith,
 }
 use Rattle.std.specs.List.{slice_range}
-use Rattle.asn1_blocks.specs.declared.block.GroupKind.{GroupKind}
 use Rattle.asn1_headers.specs.declared.error.ASN1DecodeErr.{ASN1DecodeErr}
 use Rattle.asn1_headers.specs.declared.error.ASN1DecodeErr.TheVariants.{OutOfMemory}
 use Rattle.asn1_headers.specs.declared.header.ASN1Class.{ASN1Class}
@@ -31,10 +30,10 @@ use Rattle.asn1_blocks.specs.declared.parsed.Header.{Header}
 use Rattle.asn1_blocks.specs.declared.reading.FrameKind.{FrameKind}
 use Rattle.asn1_blocks.specs.declared.reading.FrameKind.TheVariants.{Whole, Group, Attempt}
 use Rattle.asn1_headers.specs.Fault.{DecodeFault, OutOfMemoryOr, fault_of}
-use Rattle.asn1_blocks.specs.Contents.{group_tag, is_group_tag, LeafFault}
+use Rattle.asn1_blocks.specs.Contents.{group_tag, LeafFault}
 use Rattle.asn1_headers.specs.HeaderFault.{HeaderFault}
-use Rattle.asn1_blocks.specs.Grammar.{Encodes, EncodesAll, in_header, in_contents, ContentsFault, of_leaf_contents, of_item}
-use Rattle.asn1_blocks.specs.FaultPlace.{BlockFaultAt, at_header, at_leaf}
+use Rattle.asn1_blocks.specs.Grammar.{Encodes, EncodesAll}
+use Rattle.asn1_blocks.specs.Inner.BlockFault.{BlockFaultAt, at_header, at_leaf}
 use Rattle.asn1_headers.specs.Header.{Encoding}
 use Rattle.asn1_blocks.specs.HeadersBegun.{IsReadInside, begun_none, begun_some, nothing_inside, nothing_after}
 use Rattle.asn1_blocks.specs.Inner.OpenFrames.{Frame, IsHeaded, AreOpen, IsStopping}
@@ -45,7 +44,6 @@ use Rattle.asn1_blocks.proofs.Faults.{block_fault_no_block, header_no_encoding}
 use Rattle.asn1_blocks.proofs.Frames.Advances.{Follows, opened_places}
 use Rattle.asn1_blocks.proofs.Frames.Slices.{slice_none, slice_slice}
 use Rattle.asn1_blocks.proofs.HeaderCounts.{begun_leaf}
-use Rattle.asn1_blocks.proofs.Leaves.{group_tag_is}
 use Rattle.asn1_blocks.proofs.OneReading.{encodes_block}
 use Rattle.asn1_headers.proofs.Prefixes.{encoding_alone}
 use Rattle.asn1_blocks.proofs.ReadSteps.{slice_length, slice_join}
@@ -119,7 +117,7 @@ header_stopping octets f gs p n e small here o u =
     let l = slice_length octets p f.extent.end v.to v.within in
     let near : i + length rest < 2 ^ 64 = omega (arith, l, v.from, v.to, v.within, small) in
     let no_header = nothing_inside (λ x r c k t contents h g F op. header_no_encoding i rest x r e c k t contents h u near g F) in
-    let no_block = nothing_after (λ x r g b. block_fault_no_block i rest x r e (in_header u) near g b) in
+    let no_block = nothing_after (λ x r g b. block_fault_no_block i rest x r e 0 (at_header u) near g b) in
     record {
       place = p;
       before = n;
@@ -135,16 +133,10 @@ header_stopping octets f gs p n e small here o u =
       total = refl;
     }
 
--- contents octets at fault that are no group's are a leaf's
-leaf_at_fault : (n : ℕ) (contents : List ℕ) (e : DecodeFault) → ((g : GroupKind) → n ≡ group_tag g → ⊥) → ContentsFault n contents e
-    → LeafFault n contents e
-leaf_at_fault n contents e other (of_leaf_contents p) = p
-leaf_at_fault n contents e other (of_item g t p) = absurd (other g t)
-
 -- the contents octets of a leaf are at fault
 pub leaf_stopping : (octets : List ℕ) (f : Frame) (gs : List Frame) (p n : ℕ) (h : Header) (e : DecodeFault) → length octets < 2 ^ 64
     → HeaderFound octets p f.extent.end h → AreOpen octets f gs p n → (IsReadInside h.class h.constructed h.tag → ⊥) → h.class ≡ Universal
-    → ContentsFault h.tag (slice_range octets h.start h.end) e → IsStopping octets f gs e p (n + 1)
+    → LeafFault h.tag (slice_range octets h.start h.end) e → IsStopping octets f gs e p (n + 1)
 leaf_stopping octets f gs p n h e small found o shut u w =
     let v = opened_places octets f gs p n o in
     let i = p - f.extent.start in
@@ -156,15 +148,14 @@ leaf_stopping octets f gs p n h e small found o shut u w =
     let l = slice_length octets p f.extent.end v.to v.within in
     let near : i + length rest < 2 ^ 64 = omega (arith, l, v.from, v.to, v.within, small) in
     let F = subst (λ z. IsEncodingBetween octets z h.constructed h.tag p h.start h.end) u found.encoding in
-    let no_group = λ (g : GroupKind) (t : h.tag ≡ group_tag g). shut (inl (u, ap is_group_tag t ∙ group_tag_is g)) in
-    let stops : BlockFaultAt i rest e 0 = at_leaf first behind d F (leaf_at_fault h.tag (slice_range octets h.start h.end) e no_group w) in
+    let stops : BlockFaultAt i rest e 0 = at_leaf first behind d F w in
     let here : p < f.extent.end = omega (arith, found.past, found.order, found.fits) in
     let no_header = nothing_inside (λ y r c k t contents m g G op.
     let z = encoding_alone _ _ _ _ _ _ _ _ _ _ _ _ behind r found.encoding G (sym d ∙ g) in
     let tag = subst (λ i. IsReadInside c k i) (sym z.tag) op in
     let bit = subst (λ i. IsReadInside c i h.tag) (sym z.constructed) tag in
     shut (subst (λ i. IsReadInside i h.constructed h.tag) (sym z.class) bit)) in
-    let no_block = nothing_after (λ x r g b. block_fault_no_block i rest x r e (in_contents first behind d F w) near g b) in
+    let no_block = nothing_after (λ x r g b. block_fault_no_block i rest x r e 0 stops near g b) in
     record {
       place = p;
       before = n;

@@ -28,14 +28,14 @@ use Rattle.asn1_blocks.specs.declared.reading.Attempt as owed
 use Rattle.asn1_blocks.specs.declared.reading.FrameKind.{FrameKind}
 use Rattle.asn1_blocks.specs.declared.reading.FrameKind.TheVariants.{Whole, Group, Attempt}
 use Rattle.asn1_headers.specs.Fault.{DecodeFault}
-use Rattle.asn1_blocks.specs.FaultPlace.{BlockFaultAt, at_item, BlocksFaultAt, at_block}
-use Rattle.asn1_blocks.specs.Grammar.{AreBlocks, IsBlock, of_other_class}
+use Rattle.asn1_blocks.specs.Grammar.{AreBlocks, BlocksFaultAt, IsBlock, of_other_class}
+use Rattle.asn1_blocks.specs.Inner.BlockFault.{BlockFaultAt, at_item}
 use Rattle.asn1_blocks.specs.HeadersBegun.{HeadersBegun, begun_some, inside_first, nothing_after}
 use Rattle.asn1_blocks.specs.Inner.OpenFrames.{AreOpen, Frame, IsGroupAt, IsHeaded, IsReadTo, IsStopping, StopsAt, as_it_came}
 use Rattle.asn1_blocks.specs.Inner.ReaderSteps.{IsFaultyDocument}
 use Rattle.asn1_blocks.specs.Tree.{Tree, trees_of}
 use Rattle.asn1_blocks.proofs.Faults.{block_is_blocks, block_fault_no_block, blocks_fault_no_blocks}
-use Rattle.asn1_blocks.proofs.FaultPlaces.{block_placed, blocks_placed}
+use Rattle.asn1_blocks.proofs.FaultyBlocks.{fault_after}
 use Rattle.asn1_blocks.proofs.Frames.Advances.{Follows, opened_places, opened_bound}
 use Rattle.asn1_blocks.proofs.Frames.Slices.{slice_all}
 use Rattle.asn1_blocks.proofs.HeaderCounts.{begun_le, begun_join, begun_opened}
@@ -63,9 +63,9 @@ refused_read octets f p e offset a b r s =
     let l : length front ≡ p - from = slice_length octets from p r.from (omega (arith, r.to, r.within)) in
     let some : 0 < length rest = omega (arith, slice_length octets p to r.to r.within, s.here) in
     record {
-      after = (p - from) + s.inside;
-      fault = at_block front rest whole k some s.inside (subst (λ z. BlockFaultAt z rest e s.inside) (sym l) s.stops) (omega (arith, l));
-      innermost = omega (arith, s.innermost, r.from);
+      after = length front + s.inside;
+      fault = fault_after (slice_range octets from to) front rest e s.inside whole k some (subst (λ z. BlockFaultAt z rest e s.inside) (sym l) s.stops);
+      innermost = omega (arith, s.innermost, r.from, l);
       begun = subst (λ z. HeadersBegun z (a + b)) (sym whole) (begun_join front rest a b k r.begun s.begun);
     }
 
@@ -82,9 +82,8 @@ group_stops octets g o s e y fault offset a small low lt le fits within G r =
     let rest = slice_range octets o end in
     let d = slice_join octets o e end (omega arith) fits in
     let len = slice_length octets o end (omega arith) within in
-    let stops : BlockFaultAt i rest fault ((s - o) + r.after) = at_item first behind d G.encoding y refl r.after r.fault refl in
-    let fault_here = block_placed i rest fault ((s - o) + r.after) stops in
-    let no_block = nothing_after (λ x z c b. block_fault_no_block i rest x z fault fault_here (omega (arith, len, small)) c b) in
+    let stops : BlockFaultAt i rest fault ((s - o) + r.after) = at_item first behind d y G.encoding r.fault in
+    let no_block = nothing_after (λ x z c b. block_fault_no_block i rest x z fault ((s - o) + r.after) stops (omega (arith, len, small)) c b) in
     let inside = inside_first first behind d G.encoding (inl (refl, group_tag_is y)) r.begun in
     record {
       here = omega arith;
@@ -141,7 +140,7 @@ stop_no_blocks octets f g gs e offset n small w =
     let r = refused_read octets f w.place e offset o.own w.own o.read w.stops in
     let l = slice_length octets f.extent.start f.extent.end (omega (arith, o.read.from, o.read.to)) o.read.within in
     let short : length contents < 2 ^ 64 = omega (arith, l, small, o.read.within) in
-    blocks_fault_no_blocks contents e (blocks_placed contents e r.after r.fault) short
+    blocks_fault_no_blocks contents e r.after r.fault short
 
 -- a fault closes an attempt
 pub stop_attempt : (octets : List ℕ) (f g : Frame) (gs : List Frame) (e : DecodeFault) (offset n : ℕ) (a : owed.Attempt) → length octets < 2 ^ 64
@@ -165,7 +164,7 @@ stop_attempt octets f g gs e offset n a small k w =
       follows = record {
         from = omega (arith, H.0, o.after, o.read.from, o.read.to);
         to = o.fits;
-        encoded = record { header = s - a.offset; encoding = F; place = refl; as_it_came = inr (H.1.other, no_block) };
+        encoded = (refl, s - a.offset, F, inr (H.1.other, no_block));
         begun = begun_opened (slice_range octets a.offset z) a.class true a.tag contents (s - a.offset) m F (inr (H.1.other, refl)) (of_other_class F H.1.other)
             r.begun;
       };

@@ -11,7 +11,7 @@ use Rattle.asn1_headers.specs.Fault.{DecodeFault}
 use Rattle.asn1_blocks.specs.Tree.{Tree, explicit, group, trees_of, unknown}
 use Rattle.asn1_blocks.specs.Contents.{group_tag}
 use Rattle.asn1_blocks.specs.Grammar.{EncodesAll}
-use Rattle.asn1_blocks.specs.FaultPlace.{BlockFaultAt}
+use Rattle.asn1_blocks.specs.Inner.BlockFault.{BlockFaultAt}
 use Rattle.asn1_blocks.specs.HeadersBegun.{HeadersBegun}
 use Rattle.asn1_blocks.specs.Inner.HeaderPlaces.{IsEncodingBetween}
 

@@ -12,8 +12,8 @@ use Rattle.asn1_blocks.specs.declared.reading.Reader.{Reader}
 use Rattle.asn1_blocks.specs.declared.reading.Turn.{Turn}
 use Rattle.asn1_blocks.specs.declared.reading.Turn.TheVariants.{More, End, Stop}
 use Rattle.asn1_headers.specs.Fault.{DecodeFault, OutOfMemoryOr}
-use Rattle.asn1_blocks.specs.Grammar.{AreBlocks, ContentsFault, Encodes, EncodesAll, IsDocument}
-use Rattle.asn1_blocks.specs.FaultPlace.{BlocksFaultAt}
+use Rattle.asn1_blocks.specs.Contents.{LeafFault}
+use Rattle.asn1_blocks.specs.Grammar.{AreBlocks, BlocksFaultAt, Encodes, EncodesAll, IsDocument}
 use Rattle.asn1_blocks.specs.HeadersBegun.{HeadersBegun}
 use Rattle.asn1_blocks.specs.Inner.OpenFrames.{AreOpen, Frame, IsEnded, IsHeaded, IsKindOf, IsStopping, as_it_came}
 use Rattle.asn1_blocks.specs.Tree.{Tree, trees_of}
@@ -52,7 +52,7 @@ pub record IsLeafFault {B I : Type 0} (octets : List ℕ) (h : Header) (a : B) (
   pub builder : b ≡ a
   pub items : j ≡ i
   pub class : h.class ≡ Universal
-  pub fault : ContentsFault h.tag (slice_range octets h.start h.end) e
+  pub fault : LeafFault h.tag (slice_range octets h.start h.end) e
 
 -- a frame can end in another one
 pub record CanEnd {B I : Type 0} (Holds : Holding B I) (octets : List ℕ) (f : OpenFrame I) (depth : ℕ)

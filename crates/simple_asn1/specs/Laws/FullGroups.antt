@@ -1,12 +1,12 @@
 -- The narrower grammar of the Rust crate, in which a SEQUENCE or SET has at least one item.
-use Rattle.std.specs.Prelude.{◌≡◌, ◌≢◌, ℕ, ◌<◌, ◌++◌, Bool, false, List, [], length}
+use Rattle.std.specs.Prelude.{◌≡◌, ◌≢◌, ℕ, ◌<◌, ◌++◌, Bool, List, [], length}
 use Rattle.asn1_headers.specs.declared.header.ASN1Class.{ASN1Class}
 use Rattle.asn1_headers.specs.declared.header.ASN1Class.TheVariants.{Universal}
 use Rattle.asn1_blocks.specs.declared.block.GroupKind.{GroupKind}
 use Rattle.asn1_numbers.specs.Octets.{FitInSlice}
 use Rattle.asn1_headers.specs.Header.{Encoding}
 use Rattle.asn1_blocks.specs.Tree.{Leaf, Trees}
-use Rattle.asn1_blocks.specs.Contents.{leaf_tag, group_tag, is_known_tag, LeafContents}
+use Rattle.asn1_blocks.specs.Contents.{leaf_tag, group_tag, IsUnknownTag, LeafContents}
 use Rattle.asn1_blocks.specs.Grammar.{IsBlock, AreBlocks, IsDocument}
 
 mutual
@@ -17,7 +17,7 @@ mutual
         Encoding octets c k n contents h → c ≢ Universal → IsFullBlock octets
     full_unknown_tag :
         {octets : List ℕ} {k : Bool} {n : ℕ} {contents : List ℕ} {h : ℕ} →
-        Encoding octets Universal k n contents h → is_known_tag n ≡ false → IsFullBlock octets
+        Encoding octets Universal k n contents h → IsUnknownTag n → IsFullBlock octets
     full_leaf :
         {octets : List ℕ} {k : Bool} {n : ℕ} {contents : List ℕ} {h : ℕ} →
         Encoding octets Universal k n contents h →

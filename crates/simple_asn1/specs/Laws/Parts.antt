@@ -41,7 +41,7 @@ pub record BlockAlone : Type 0 where
       IsDocument document bs → HasOctets document bs b octets →
       IsDocument octets (more_trees (rebased b) no_trees)
   -- they stand in the document from its offset on
-  pub stand :
+  pub position :
       (document : List ℕ) (bs : Trees ℕ) (b : Tree ℕ) (octets : List ℕ) →
       IsDocument document bs → HasOctets document bs b octets →
       (before : List ℕ) × (behind : List ℕ)

@@ -34,7 +34,7 @@ pub record RewritingIsCanonical : Type 0 where
 
 -- a tree is faithful exactly if it can be written and is read back as it is
 pub record FaithfulIffSurvives : Type 0 where
-  pub survives :
+  pub faithful :
       (b : Tree ℕ) →
       FitInSlice (canonical b) →
       IsFaithful b ↔ ((write_fault b ≡ None) × ReadsBackAs (canonical b) b)

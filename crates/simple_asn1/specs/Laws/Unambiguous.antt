@@ -2,9 +2,8 @@
 use Rattle.std.specs.Prelude.{◌≡◌, ◌↔◌, ◌⊎◌, ℕ, ◌≤◌, ◌++◌, List, length}
 use Rattle.asn1_numbers.specs.Octets.{FitInSlice}
 use Rattle.asn1_headers.specs.Fault.{DecodeFault, IsOfReading}
-use Rattle.asn1_blocks.specs.FaultPlace.{FirstFaultAt}
 use Rattle.asn1_blocks.specs.Tree.{Tree, Trees}
-use Rattle.asn1_blocks.specs.Grammar.{IsBlock, Encodes, IsDocument, FirstFault}
+use Rattle.asn1_blocks.specs.Grammar.{IsBlock, Encodes, IsDocument, FirstFault, FirstFaultAt}
 use Rattle.asn1_blocks.specs.HeadersBegun.{HeadersBegun, all_blocks_in}
 
 -- all octets have one reading

@@ -5,7 +5,6 @@ use Rattle.asn1_headers.specs.declared.header.ASN1Class.{ASN1Class}
 use Rattle.asn1_headers.specs.declared.header.ASN1Class.TheVariants.{Universal}
 use Rattle.asn1_headers.specs.Header.{Encoding}
 use Rattle.asn1_blocks.specs.Contents.{is_group_tag}
-use Rattle.asn1_blocks.specs.Grammar.{of_leaf_contents}
 use Rattle.asn1_blocks.specs.HeadersBegun.{IsReadInside}
 use Rattle.asn1_blocks.specs.Inner.LeafBlocks.{IsNoLeafOrMeant, IsSingleAt}
 use Rattle.asn1_blocks.specs.Tree.{leaf, unknown}
@@ -17,9 +16,9 @@ universal_single : (k : Bool) (n : ℕ) (contents : List ℕ) → (IsReadInside 
     → (offset : ℕ) (octets : List ℕ) (h : ℕ) → Encoding octets Universal k n contents h → IsSingleAt offset octets
 universal_single k n contents shut (inr (l, t, m)) offset octets h F =
     let own = subst (λ z. Encoding octets Universal k z contents h) t F in
-    (leaf offset l, refl, record { constructed = k; contents = contents; header = h; encoding = own; place = refl; meaning = m })
+    (leaf offset l, refl, (refl, k, contents, h, own, m))
 universal_single k n contents shut (inl none) offset octets h F = elim (tag_kind n) [
-  | unknown_tag e ↦ (unknown Universal k offset n contents, refl, record { header = h; encoding = F; place = refl; as_it_came = inl (refl, e) })
+  | unknown_tag e ↦ (unknown Universal k offset n contents, refl, (refl, h, F, inl (refl, e)))
   | group_tag_of g e ↦ absurd (shut (inl (refl, subst (λ z. is_group_tag z ≡ true) (sym e) (group_tag_is g))))
   | leaf_tag_of e ↦ absurd (cc)
 ]
@@ -41,7 +40,7 @@ returns-in-Universal-clause-encoded c =
 
 pub returns-in-Universal-clause-refused : goal.returns-in-Universal-clause-refused
 returns-in-Universal-clause-refused c =
-    IfErr-weaker c.check_leaf.result _ _ (λ e found. elim found [ inl memory ↦ inl memory | inr fault ↦ inr (c.in-Universal.is, of_leaf_contents fault) ])
+    IfErr-weaker c.check_leaf.result _ _ (λ e found. elim found [ inl memory ↦ inl memory | inr fault ↦ inr (c.in-Universal.is, fault) ])
     c.check_leaf.ensures.refused
 
 pub returns-in_default : goal.returns-in_default
@@ -52,7 +51,7 @@ returns-in_default c =
       encoded = λ offset octets i F. (
         unknown h.class h.constructed offset h.tag c.args.contents.now,
         refl,
-        record { header = i; encoding = F; place = refl; as_it_came = inr (other, λ z. c.requires.closed (inr (other, z.0))) },
+        (refl, i, F, inr (other, λ z. c.requires.closed (inr (other, z.0)))),
       );
       refused = tt;
     }

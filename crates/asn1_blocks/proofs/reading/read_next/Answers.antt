@@ -1,4 +1,5 @@
 use Rattle.std.proofs.Common.{◌≡◌, length, inl, inr, arith}
+use Rattle.std.proofs.lemmas.Bool.{false≢true}
 use Rattle.std.proofs.lemmas.Grind.{common_steps}
 use Rattle.std.proofs.lemmas.Result.{err_from_is_err_and}
 use Rattle.asn1_blocks.specs.HeadersBegun.{IsReadInside}
@@ -50,7 +51,7 @@ returns-then-is_read_inside-clause-stepped g c n w =
 pub returns-in_err-leaf-clause-stepped : goal.returns-in_err-leaf-clause-stepped
 returns-in_err-leaf-clause-stepped g c n w =
     let h = c.in_ok-header.header in
-    let leaf : IsReadInside h.class h.constructed h.tag → ⊥ = grind (arith, common_steps) in
+    let leaf : IsReadInside h.class h.constructed h.tag → ⊥ = λ inside. false≢true (c.if-is_read_inside.ensures.1 inside) in
     let p = err_from_is_err_and c.from_residual-in_err-leaf.result c.from_residual-in_err-leaf.ensures.1 in
     rw (p.1, p.2) (elim c.in_err-leaf.ensures.refused [
       | inl memory ↦ inl memory

@@ -1,8 +1,10 @@
-use Rattle.std.proofs.Common.{take}
-use Rattle.der_json.specs.Rows.{AddsRows}
-use Rattle.der_json.proofs.Arrays.{trees_at}
+use Rattle.std.proofs.Common.{map}
+use Rattle.asn1_outline.specs.Structure.{Nodes}
+use Rattle.der_json.specs.Rows.{AddsRows, HasStructure}
+use Rattle.der_json.proofs.Arrays.{shown}
 use Rattle.der_json.proofs.line.push_rows.Given as goal
 
--- the rows of the blocks before this one are put
-abbrev pub invariant-loop-block : goal.invariant-loop-block
-invariant-loop-block l = AddsRows l.fn.octets l.is_later (trees_at (take l.block-index l.block-items)) l.fn.out.items l.out.items
+-- the rows of the entries before this one are put
+abbrev pub invariant-loop-index : goal.invariant-loop-index
+invariant-loop-index l = (nodes : Nodes) → HasStructure l.outline nodes
+    → AddsRows nodes l.is_later (map shown l.yielded) l.fn.out.items l.out.items

@@ -1,4 +1,4 @@
-use Rattle.asn1_blocks.specs.FaultPlace.{FirstFaultAt}
+use Rattle.asn1_blocks.specs.Grammar.{FirstFaultAt}
 use Rattle.der_lines.proofs.Shown.{fault_first}
 use Rattle.der_lines.proofs.document.push_octets.Goals as goal
 

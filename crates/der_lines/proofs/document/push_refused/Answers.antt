@@ -2,7 +2,7 @@ use Rattle.std.specs.Prelude.{Result, Ok, Err, OnOk}
 use Rattle.std.specs.declared.alloc.AllocError.{AllocError}
 use Rattle.std.proofs.Common.{◌≡◌, List, Bool, false, ℕ}
 use Rattle.asn1_headers.specs.Fault.{DecodeFault, fault_of}
-use Rattle.asn1_blocks.specs.FaultPlace.{FirstFaultAt}
+use Rattle.asn1_blocks.specs.Grammar.{FirstFaultAt}
 use Rattle.der_lines.specs.Dump.{AddsFaultOf, AddsLine, IsFaultLine}
 use Rattle.der_lines.proofs.Dumps.{top_adds}
 use Rattle.der_lines.proofs.Shown.{AllShown}

@@ -15,12 +15,12 @@ returns-in-Ok-decode_length c =
     let behind = c.decode_tag.new.index in
     let size = c.decode_length.new.index in
     record {
-      fits = c.in-Ok-decode_length.ensures.moved.1;
+      within = c.in-Ok-decode_length.ensures.moved.1;
       identifier = slice_range octets 0 behind;
       len = slice_range octets behind size;
       front_is = front_parted octets behind size c.in-Ok-decode_length.ensures.moved.0;
       fields = c.in-Ok.ensures.found;
-      announces = c.in-Ok-decode_length.ensures.found;
+      length_octets = c.in-Ok-decode_length.ensures.found;
     }
 
 pub returns-in-Err-decode_length : goal.returns-in-Err-decode_length

@@ -1,4 +1,5 @@
-use Rattle.std.proofs.Common.{◌-◌}
+use Rattle.std.proofs.Common.{◌-◌, inl, inr, refl}
+use Rattle.std.proofs.lemmas.Result.{err_from_is_err_and}
 use Rattle.std.specs.List.{slice_range}
 use Rattle.asn1_blocks.specs.View.{view}
 use Rattle.asn1_blocks.proofs.TreeBuilding.Adding.{put_more}
@@ -21,3 +22,11 @@ returns c =
       };
       refused = tt;
     }
+
+pub returns-in_err-block-clause-refused : goal.returns-in_err-block-clause-refused
+returns-in_err-block-clause-refused c =
+    let p = err_from_is_err_and c.from_residual.result c.from_residual.ensures.1 in
+    rw (p.1, p.2) (elim c.in_err-block.ensures.refused [
+      | inl memory ↦ inl memory
+      | inr fault ↦ inr (record { builder = refl; items = refl; class = fault.0; fault = fault.1 })
+    ])

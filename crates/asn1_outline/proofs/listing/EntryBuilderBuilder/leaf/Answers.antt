@@ -1,4 +1,5 @@
-use Rattle.std.proofs.Common.{◌≡◌, ◌-◌, length, subst, sym, arith}
+use Rattle.std.proofs.Common.{◌≡◌, ◌-◌, inl, inr, length, refl, subst, sym, arith}
+use Rattle.std.proofs.lemmas.Result.{err_from_is_err_and}
 use Rattle.std.specs.List.{slice_range}
 use Rattle.std.proofs.lemmas.Grind.{common_steps}
 use Rattle.asn1_blocks.specs.Inner.ReaderSteps.{HasLeaf}
@@ -20,3 +21,11 @@ returns c =
     let single = c.in_ok-check_contents.ensures.encoded o (slice_range x o h.end) (h.start - o) found.encoding in
     let built = leaf_built x h o limit c.args.depth a b i c.started-block.result found c.requires.leaf single begun c.in_ok-push.ensures in
     record { built = subst (λ z. HasLeaf builder_holds x o h.end c.args.depth a i b z) (sym c.in_ok-add.ensures) built; refused = tt }
+
+pub returns-in_err-check_contents-clause-refused : goal.returns-in_err-check_contents-clause-refused
+returns-in_err-check_contents-clause-refused c =
+    let p = err_from_is_err_and c.from_residual.result c.from_residual.ensures.1 in
+    rw (p.1, p.2) (elim c.in_err-check_contents.ensures.refused [
+      | inl memory ↦ inl memory
+      | inr fault ↦ inr (record { builder = refl; items = refl; class = fault.0; fault = fault.1 })
+    ])

@@ -1,6 +1,6 @@
 use Rattle.std.proofs.Common.{◌<◌, ◌^◌, length, arith}
 use Rattle.std.proofs.lemmas.Grind.{common_steps}
-use Rattle.simple_asn1.proofs.SignedTriples.{accepted, content_alone, kept_content, shape_is_another}
+use Rattle.simple_asn1.proofs.SignedTriples.{accepted, another_refused, content_alone, kept_content, shape_is_another}
 use Rattle.simple_asn1.proofs.convert.signed.read_signed.Goals as goal
 
 pub returns-clause-content : goal.returns-clause-content
@@ -16,3 +16,8 @@ pub returns-clause-accepts : goal.returns-clause-accepts
 returns-clause-accepts c =
     let small : length c.args.v.now < 2 ^ 64 = grind (arith, common_steps) in
     accepted c.law_one_reading.ensures c.law_slices.ensures c.args.v.now small c.der_decode.result c.der_decode.ensures.decoded c.der_decode.ensures.refused
+
+pub returns-clause-refuses : goal.returns-clause-refuses
+returns-clause-refuses c shape =
+    let small : length c.args.v.now < 2 ^ 64 = grind (arith, common_steps) in
+    another_refused c.law_one_reading.ensures c.args.v.now small c.der_decode.result c.der_decode.ensures.decoded c.der_decode.ensures.refused shape

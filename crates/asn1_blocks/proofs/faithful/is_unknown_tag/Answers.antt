@@ -1,0 +1,5 @@
+use Rattle.asn1_blocks.proofs.Leaves.{unknown_said}
+use Rattle.asn1_blocks.proofs.faithful.is_unknown_tag.Goals as goal
+
+pub returns : goal.returns
+returns c = unknown_said c.args.tag.now c.is_known.result c.is_known.ensures

@@ -1,0 +1,80 @@
+-- The object of a row, member by member.
+use Rattle.std.proofs.Common.{◌≡◌, ℕ, List, [], ◌∷◌, ◌++◌, codes, refl, ap, ◌∙◌}
+use Rattle.std.proofs.lemmas.List.{append_assoc}
+use Rattle.serde_json.proofs.OnLiterals.{serde_json_on_literals}
+use Rattle.serde_json.specs.Data.{Data, member, no_members, object}
+use Rattle.serde_json.specs.Written.{compact_text}
+
+-- one text put after another
+pub put_after : (out x y a b : List ℕ) → a ≡ out ++ x → b ≡ a ++ y → b ≡ out ++ (x ++ y)
+put_after out x y a b d e = e ∙ (ap (λ z. z ++ y) d ∙ append_assoc out x y)
+
+module _ (offset header size depth class constructed tag kind value : Data) where
+  abbrev pub row_json : Data
+  row_json =
+      object (member (codes "offset") offset
+      (member (codes "header") header
+      (member (codes "size") size
+      (member (codes "depth") depth
+      (member (codes "class") class
+      (member (codes "constructed") constructed
+      (member (codes "tag") tag
+      (member (codes "type") kind
+      (member (codes "value") value no_members)))))))))
+
+  -- the text of each member, and of those after it
+  abbrev from_value : List ℕ
+  from_value = (codes ",\"value\":" ++ compact_text value) ++ (125 ∷ [])
+
+  abbrev from_kind : List ℕ
+  from_kind = (codes ",\"type\":" ++ compact_text kind) ++ from_value
+
+  abbrev from_tag : List ℕ
+  from_tag = (codes ",\"tag\":" ++ compact_text tag) ++ from_kind
+
+  abbrev from_constructed : List ℕ
+  from_constructed = (codes ",\"constructed\":" ++ compact_text constructed) ++ from_tag
+
+  abbrev from_class : List ℕ
+  from_class = (codes ",\"class\":" ++ compact_text class) ++ from_constructed
+
+  abbrev from_depth : List ℕ
+  from_depth = (codes ",\"depth\":" ++ compact_text depth) ++ from_class
+
+  abbrev from_size : List ℕ
+  from_size = (codes ",\"size\":" ++ compact_text size) ++ from_depth
+
+  abbrev from_header : List ℕ
+  from_header = (codes ",\"header\":" ++ compact_text header) ++ from_size
+
+  abbrev from_offset : List ℕ
+  from_offset = (codes "{\"offset\":" ++ compact_text offset) ++ from_header
+
+  row_text : from_offset ≡ compact_text row_json
+  unfolding serde_json_on_literals
+  row_text = refl
+
+  -- members put one after another, and the closing bracket
+  pub row_put :
+      (out a b c d e f g h i j : List ℕ) →
+      a ≡ out ++ (codes "{\"offset\":" ++ compact_text offset) →
+      b ≡ a ++ (codes ",\"header\":" ++ compact_text header) →
+      c ≡ b ++ (codes ",\"size\":" ++ compact_text size) →
+      d ≡ c ++ (codes ",\"depth\":" ++ compact_text depth) →
+      e ≡ d ++ (codes ",\"class\":" ++ compact_text class) →
+      f ≡ e ++ (codes ",\"constructed\":" ++ compact_text constructed) →
+      g ≡ f ++ (codes ",\"tag\":" ++ compact_text tag) →
+      h ≡ g ++ (codes ",\"type\":" ++ compact_text kind) →
+      i ≡ h ++ (codes ",\"value\":" ++ compact_text value) →
+      j ≡ i ++ 125 ∷ [] → j ≡ out ++ compact_text row_json
+  row_put out a b c d e f g h i j p0 p1 p2 p3 p4 p5 p6 p7 p8 p9 =
+      put_after out (codes "{\"offset\":" ++ compact_text offset) from_header a j p0
+      (put_after a (codes ",\"header\":" ++ compact_text header) from_size b j p1
+      (put_after b (codes ",\"size\":" ++ compact_text size) from_depth c j p2
+      (put_after c (codes ",\"depth\":" ++ compact_text depth) from_class d j p3
+      (put_after d (codes ",\"class\":" ++ compact_text class) from_constructed e j p4
+      (put_after e (codes ",\"constructed\":" ++ compact_text constructed) from_tag f j p5
+      (put_after f (codes ",\"tag\":" ++ compact_text tag) from_kind g j p6
+      (put_after g (codes ",\"type\":" ++ compact_text kind) from_value h j p7
+      (put_after h (codes ",\"value\":" ++ compact_text value) (125 ∷ []) i j p8 p9))))))))
+      ∙ ap (λ z. out ++ z) row_text

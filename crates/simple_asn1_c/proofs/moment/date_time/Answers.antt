@@ -1,0 +1,61 @@
+use Rattle.std.proofs.Common.{◌≡◌, ◌↔◌, ℤ, ◌<◌, ◌≤ℤ◌, Option, Some, None, Result, Ok, Err, pos, negsuc, w8, w16, w32, to_z, of_z, unsigned_abs, ap, ◌∙◌, arith}
+use Rattle.std.specs.Prelude.{IfNone, IsOk}
+use Rattle.std.specs.Result.{result_ok}
+use Rattle.std.proofs.lemmas.Int.{ints, to_z_pos}
+use Rattle.jiff_core.proofs.SignedLemmas.{back_small}
+use Rattle.jiff_core.specs.Calendar.{IsDate}
+use Rattle.jiff_core.specs.Time.{IsTime}
+use Rattle.asn1_leaves.specs.Contents.Moment.{IsValid}
+use Rattle.simple_asn1_c.specs.Puts.{moment_in}
+use Rattle.simple_asn1_c.specs.declared.record.MomentAnswer.{MomentAnswer}
+use Rattle.simple_asn1_c.proofs.moment.date_time.Goals as goal
+
+-- a valid moment is a date and a time
+calendar : (fields : MomentAnswer) → IsValid (moment_in fields)
+    → IsDate fields.year (pos fields.month) (pos fields.day)
+    × IsTime (pos fields.hour) (pos fields.minute) (pos fields.second) (pos fields.nanosecond)
+calendar fields v = (
+  (
+    (omega (arith, ints, v.from_zero), omega (arith, ints, v.four_digits)),
+    (omega (arith, ints, v.month), omega (arith, ints, v.month)),
+    (omega (arith, ints, v.day), omega (arith, ints, v.day)),
+  ),
+  (
+    (omega (arith, ints), omega (arith, ints, v.hour)),
+    (omega (arith, ints), omega (arith, ints, v.minute)),
+    (omega (arith, ints), omega (arith, ints, v.second)),
+    (omega (arith, ints), omega (arith, ints, v.nanosecond)),
+  ),
+)
+
+-- so are the numbers that are the same
+same_calendar : (fields : MomentAnswer) (y mo d h mi s n : ℤ) → IsValid (moment_in fields)
+    → y ≡ fields.year → mo ≡ pos fields.month → d ≡ pos fields.day → h ≡ pos fields.hour → mi ≡ pos fields.minute
+    → s ≡ pos fields.second → n ≡ pos fields.nanosecond → IsDate y mo d × IsTime h mi s n
+same_calendar fields y mo d h mi s n v year month day hour minute second nanosecond =
+    rw (year, month, day, hour, minute, second, nanosecond) (calendar fields v)
+
+year_small : (y : ℤ) → pos 0 ≤ℤ y → y ≤ℤ pos 9999 → unsigned_abs y < 10000
+year_small (pos n) low high = omega (arith, ints, high)
+year_small (negsuc n) low high = omega (arith, ints, low)
+
+-- a year passes through both widths
+same_year : (y : ℤ) → pos 0 ≤ℤ y → y ≤ℤ pos 9999 → to_z w16 (of_z w16 (to_z w32 (of_z w32 y))) ≡ y
+same_year y low high =
+    let small = year_small y low high in
+    ap (λ z. to_z w16 (of_z w16 z)) (back_small w32 y (omega (arith, small))) ∙ back_small w16 y (omega (arith, small))
+
+-- where a call that succeeds exactly if P gives nothing, not Q, from which P follows
+nothing : {T E : Type 0} (r : Result T E) (o : Option T) (P Q : Type 0) → o ≡ result_ok r → (IsOk r ↔ P) → (Q → P) → IfNone o (Q → ⊥)
+nothing r (Some x) P Q e succeeds f = tt
+nothing (Ok x) None P Q e succeeds f = cc
+nothing (Err x) None P Q e succeeds f = λ q. let ok = succeeds.1 (f q) in cc
+
+pub returns-clause-none : goal.returns-clause-none
+returns-clause-none c =
+    let f = c.args.fields.now in
+    nothing c.new.result c.ok.result _ (IsValid (moment_in f)) c.ok.ensures.value c.new.ensures.succeeds
+    (λ v. same_calendar f _ _ _ _ _ _ _ v (same_year f.year v.from_zero v.four_digits)
+    (to_z_pos w8 f.month (omega (arith, v.month))) (to_z_pos w8 f.day (omega arith)) (to_z_pos w8 f.hour (omega (arith, v.hour)))
+    (to_z_pos w8 f.minute (omega (arith, v.minute))) (to_z_pos w8 f.second (omega (arith, v.second)))
+    (to_z_pos w32 f.nanosecond (omega (arith, v.nanosecond))))

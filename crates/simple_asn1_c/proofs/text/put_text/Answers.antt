@@ -1,0 +1,31 @@
+use Rattle.std.proofs.Common.{◌≡◌, inl, inr, refl, sym, ap, subst, ◌∙◌}
+use Rattle.std.specs.Str.{chars}
+use Rattle.asn1_leaves.specs.Contents.Text.{text_contents, text_form}
+use Rattle.simple_asn1_c.specs.Puts.{AreAllowed, has_characters, others_status}
+use Rattle.simple_asn1_c.specs.Room.{ArePut}
+use Rattle.simple_asn1_c.proofs.Puts.{allowed_octets}
+use Rattle.simple_asn1_c.proofs.text.put_text.Goals as goal
+
+pub returns-in-None : goal.returns-in-None
+returns-in-None c =
+    let text = c.args.text.now in
+    let (kind, tag, form) = c.in-Some.ensures in
+    let (same, utf8) = c.in-Ok.ensures.cases in
+    let here : AreAllowed c.in-Some.form (chars text) = subst (λ z. AreAllowed c.in-Some.form (chars z)) same c.in-None.ensures in
+    let allowed : AreAllowed (text_form kind) (chars text) = subst (λ z. AreAllowed z (chars text)) form here in
+    let octets : c.as_bytes.result.now ≡ text_contents (text_form kind) (chars text) =
+    c.as_bytes.ensures.value ∙ same ∙ sym (allowed_octets (text_form kind) text utf8 allowed) in
+    has_characters kind tag utf8
+    (inl (allowed, subst (λ z. ArePut z c.args.room.now c.put_octets.new.room c.put_octets.result) octets c.put_octets.ensures))
+
+pub returns-in-Some-status_of_others : goal.returns-in-Some-status_of_others
+returns-in-Some-status_of_others c =
+    let text = c.args.text.now in
+    let (kind, tag, form) = c.in-Some.ensures in
+    let (same, utf8) = c.in-Ok.ensures.cases in
+    let (told, others) = c.in-Some-status_of_others.ensures in
+    let put = c.nothing_put-in-Some-status_of_others.ensures in
+    let none : AreAllowed (text_form kind) (chars text) → ⊥ = λ allowed.
+    let here : AreAllowed c.in-Some.form (chars text) = subst (λ z. AreAllowed z (chars text)) (sym form) allowed in
+    others (subst (λ z. AreAllowed c.in-Some.form (chars z)) (sym same) here) in
+    has_characters kind tag utf8 (inr (none, (put.status ∙ told ∙ ap others_status form, put.offset, put.count, refl)))
