@@ -31,7 +31,6 @@ mod header;
 mod held;
 mod indefinite;
 mod lines;
-mod name_table;
 mod names;
 mod notes;
 mod parts;

@@ -1,5 +1,17 @@
 // Names of object identifiers, with the standard that each comes from.
-use crate::name_table::NAMES;
+//
+// The texts have a row a name: the number, the name and the standard, with a space between two, in the order of the
+// numbers' texts. Numbers and names are those of the standards named; many of algorithms, of S/MIME and of WAP are as
+// `openssl list -objects` of OpenSSL 3.0 has them.
+mod itu_t;
+mod joint;
+mod member_bodies;
+mod organizations;
+
+use itu_t::ITU_T;
+use joint::JOINT;
+use member_bodies::MEMBER_BODIES;
+use organizations::ORGANIZATIONS;
 use std::alloc::{AllocError, Global};
 
 /// The names of object identifiers, by their numbers: a table, which is made once.
@@ -16,8 +28,10 @@ impl Names {
     /// Memory ran out.
     pub fn new(alloc: Global) -> Result<Names, AllocError> {
         let mut rows = Vec::new(alloc);
-        for row in NAMES.lines() {
-            rows.push(row)?;
+        for text in [ITU_T, MEMBER_BODIES, ORGANIZATIONS, JOINT] {
+            for row in text.lines() {
+                rows.push(row)?;
+            }
         }
         Ok(Names { rows })
     }
