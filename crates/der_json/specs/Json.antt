@@ -18,6 +18,7 @@ use Rattle.asn1_blocks.specs.Tree.{Leaf, Tree, Trees, leaf, group, explicit, unk
 use Rattle.asn1_blocks.specs.Tree.{octet_string, null as null_leaf, object_identifier, text as text_leaf}
 use Rattle.asn1_blocks.specs.Tree.{utc_time, generalized_time}
 use Rattle.asn1_headers.specs.declared.header.ASN1Class.{ASN1Class}
+use Rattle.der_values.specs.Types.{type_name}
 use Rattle.asn1_headers.specs.declared.header.ASN1Class.TheVariants.{Application, ContextSpecific, Private, Universal}
 use Rattle.asn1_leaves.specs.Contents.ObjectIdentifier.{object_identifier_contents}
 use Rattle.asn1_leaves.specs.Contents.Moment.{Moment, moment_of}
@@ -43,28 +44,6 @@ class_name Universal = codes "universal"
 class_name Application = codes "application"
 class_name ContextSpecific = codes "context-specific"
 class_name Private = codes "private"
-
--- how the types of class Universal are called, by their tag numbers from 0 on (X.680 8.4, table 1); 15 is reserved
-abbrev pub universal_names : List (Option (List ℕ))
-universal_names =
-    Some (codes "end-of-contents") ∷ Some (codes "BOOLEAN") ∷ Some (codes "INTEGER") ∷
-    Some (codes "BIT STRING") ∷ Some (codes "OCTET STRING") ∷ Some (codes "NULL") ∷
-    Some (codes "OBJECT IDENTIFIER") ∷ Some (codes "ObjectDescriptor") ∷ Some (codes "EXTERNAL") ∷
-    Some (codes "REAL") ∷ Some (codes "ENUMERATED") ∷ Some (codes "EMBEDDED PDV") ∷
-    Some (codes "UTF8String") ∷ Some (codes "RELATIVE-OID") ∷ Some (codes "TIME") ∷ None ∷
-    Some (codes "SEQUENCE") ∷ Some (codes "SET") ∷ Some (codes "NumericString") ∷
-    Some (codes "PrintableString") ∷ Some (codes "TeletexString") ∷ Some (codes "VideotexString") ∷
-    Some (codes "IA5String") ∷ Some (codes "UTCTime") ∷ Some (codes "GeneralizedTime") ∷
-    Some (codes "GraphicString") ∷ Some (codes "VisibleString") ∷ Some (codes "GeneralString") ∷
-    Some (codes "UniversalString") ∷ Some (codes "CHARACTER STRING") ∷ Some (codes "BMPString") ∷ []
-
--- how the type with a class and a tag number is called, if it has a name. An entry has a tag number past 2^64 - 1 as
--- this, and both have none
-abbrev pub type_name : ASN1Class → ℕ → Option (List ℕ)
-type_name Universal tag = get_or universal_names tag None
-type_name Application tag = None
-type_name ContextSpecific tag = None
-type_name Private tag = None
 
 abbrev pub text_or_null : Option (List ℕ) → Data
 text_or_null None = null

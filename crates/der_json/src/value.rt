@@ -10,9 +10,9 @@ ghost use Rattle.asn1_outline.specs.Outlines.{entries_in, octets_in};
 ghost use Rattle.asn1_outline.specs.Structure.{IsStructure, Nodes, tree_at};
 ghost use Rattle.serde_json.specs.Data.{string};
 ghost use Rattle.asn1_leaves.specs.DottedDecimal.{dotted_decimal};
-ghost use Rattle.der_json.specs.Json.{HasShortFront, IsIdentifierValue, universal_names};
+ghost use Rattle.der_json.specs.Json.{HasShortFront, IsIdentifierValue};
 ghost use Rattle.der_json.specs.Json.{IsMomentText, IsValue, bits_json, class_name as name_of, natural_json, type_json};
-ghost use Rattle.der_json.specs.Json.{type_name, whole_json};
+ghost use Rattle.der_json.specs.Json.{whole_json};
 ghost use Rattle.der_json.specs.Rows.{IsEntryAt};
 
 use asn1_blocks::block::ASN1Block;
@@ -23,7 +23,7 @@ use asn1_numbers::number::big_int::BigInt;
 use asn1_numbers::number::big_uint::BigUint;
 use asn1_outline::entry::Entry;
 use asn1_outline::outline::Outline;
-use der_values::{Characters, long_identifier, text_in_form};
+use der_values::{Characters, long_identifier, text_in_form, type_name};
 use jiff::civil::DateTime;
 use serde_json::{Value, json};
 use std::alloc::{AllocError, Global};
@@ -31,61 +31,12 @@ use std::alloc::{AllocError, Global};
 // The greatest number that every reader of JSON takes as it is (RFC 7493, section 2.2): 2^53 - 1.
 const GREATEST_NUMBER: u64 = 9_007_199_254_740_991;
 
-// The type of class Universal that has the tag number, if there is one (X.680 8.4, table 1).
-fn universal_name(tag: u64) -> Option<&'static str>
-    ensures { option_map (λ name. name.now) result ≡ get_or universal_names tag None }
-{
-    match tag {
-        0 => Some("end-of-contents"),
-        1 => Some("BOOLEAN"),
-        2 => Some("INTEGER"),
-        3 => Some("BIT STRING"),
-        4 => Some("OCTET STRING"),
-        5 => Some("NULL"),
-        6 => Some("OBJECT IDENTIFIER"),
-        7 => Some("ObjectDescriptor"),
-        8 => Some("EXTERNAL"),
-        9 => Some("REAL"),
-        10 => Some("ENUMERATED"),
-        11 => Some("EMBEDDED PDV"),
-        12 => Some("UTF8String"),
-        13 => Some("RELATIVE-OID"),
-        14 => Some("TIME"),
-        15 => None,
-        16 => Some("SEQUENCE"),
-        17 => Some("SET"),
-        18 => Some("NumericString"),
-        19 => Some("PrintableString"),
-        20 => Some("TeletexString"),
-        21 => Some("VideotexString"),
-        22 => Some("IA5String"),
-        23 => Some("UTCTime"),
-        24 => Some("GeneralizedTime"),
-        25 => Some("GraphicString"),
-        26 => Some("VisibleString"),
-        27 => Some("GeneralString"),
-        28 => Some("UniversalString"),
-        29 => Some("CHARACTER STRING"),
-        30 => Some("BMPString"),
-        31.. => None,
-    }
-}
-
-fn type_of(entry: &Entry) -> Option<&'static str>
-    ensures { option_map (λ name. name.now) result ≡ type_name entry.now.class entry.now.tag }
-{
-    match entry.class {
-        ASN1Class::Universal => universal_name(entry.tag),
-        ASN1Class::Application | ASN1Class::ContextSpecific | ASN1Class::Private => None,
-    }
-}
-
 // The name of its type, or `null`.
 pub fn type_value(alloc: Global, entry: &Entry) -> Result<Value, AllocError>
     ensures told { IfOk result (λ v. view v ≡ type_json entry.now.class entry.now.tag) }
     ensures exact { IfOk result (λ v. has_float (view v) ≡ false) }
 {
-    match type_of(entry) {
+    match type_name(entry.class, entry.tag) {
         Some(name) => text_value(alloc, name),
         None => Ok(Value::Null),
     }

@@ -1,50 +1,89 @@
 -- Lines are put after lines.
-use Rattle.std.proofs.Common.{◌≡◌, ◌≢◌, ◌==◌, ◌⊎◌, ℕ, zero, suc, ◌+◌, List, [], ◌∷◌, ◌++◌, codes, drop, if◌then◌else◌, replicate}
-use Rattle.std.proofs.Common.{inl, Bool, true, false, refl, sym, ap, ◌∙◌, subst, map, append_assoc, append-nil, arith}
-use Rattle.std.proofs.lemmas.List.{map-append, drop-drop}
+use Rattle.std.proofs.Common.{◌≡◌, ◌≢◌, ◌==◌, ℕ, zero, suc, ◌+◌, ◌-◌, List, [], ◌∷◌, ◌++◌, codes, drop, if◌then◌else◌, replicate}
+use Rattle.std.proofs.Common.{Bool, true, false, refl, sym, ap, ◌∙◌, subst, map, append_assoc, append-nil, arith, length}
+use Rattle.std.proofs.lemmas.List.{drop-drop}
 use Rattle.std.proofs.lemmas.Bool.{eqb-false, eqb-true}
 use Rattle.std.proofs.lemmas.List.Elements.{All-cons, All-head, All-nil, All-tail}
 use Rattle.std.specs.Fmt.{decimal}
 use Rattle.std.specs.Prelude.{Option, Result, Ok, Err, OnOk}
 use Rattle.std.specs.declared.alloc.AllocError.{AllocError}
-use Rattle.asn1_blocks.specs.Grammar.{IsDocument}
-use Rattle.asn1_blocks.specs.Tree.{Trees}
-use Rattle.der_lines.specs.Dump.{Adds, AddsLine, IsBlockLine, IsDump, IsFaultLine, IsInsideLine, IsNote, IsOneLine, on_one_line}
-use Rattle.der_lines.specs.Dump.{HasBlockAt, HasHeaderAt, StandAt, StandsInside, all_offsets, offsets_down_to, block_line, inside_line, no_lines}
-use Rattle.der_lines.specs.Steps.{IsLineOf, PlacedInside, shown_at}
-use Rattle.der_lines.proofs.Depths.{IsAmong, to_among}
+use Rattle.der_lines.specs.Dump.{Adds, AddsLine, Front, IsBlockLine, IsDump, IsFaultLine, IsInsideLine, IsLater, IsNote, IsOneLine}
+use Rattle.der_lines.specs.Dump.{StandAt, StandsInside, block_line, down_to, inside_line, is_too_deep, no_lines, on_one_line, right_of}
+use Rattle.der_lines.specs.Steps.{AddsUnless, IsLineOf, outer, start_text}
 
 -- a dump after a dump
-pub dump_join : (P : ℕ → Type 0) (os ps a b : List ℕ) → IsDump P os a → IsDump P ps b → IsDump P (os ++ ps) (a ++ b)
-dump_join P os ps a b (no_lines p q) h = rw (p, q) h
-dump_join P os ps a b (block_line o later line rest p q l d) h =
-    block_line o (later ++ ps) line (rest ++ b) (ap (λ z. z ++ ps) p)
-    (ap (λ z. z ++ b) q ∙ append_assoc line (10 ∷ rest) b) l (dump_join P later ps rest b d h)
-dump_join P os ps a b (inside_line o line rest q l i d) h =
-    inside_line o line (rest ++ b) (ap (λ z. z ++ b) q ∙ append_assoc line (10 ∷ rest) b) l i (dump_join P os ps rest b d h)
+pub dump_join : (P : Front → Type 0) (fs gs : List Front) (a b : List ℕ) → IsDump P fs a → IsDump P gs b → IsDump P (fs ++ gs) (a ++ b)
+dump_join P fs gs a b (no_lines p q) h = rw (p, q) h
+dump_join P fs gs a b (block_line f later line rest p q l d) h =
+    block_line f (later ++ gs) line (rest ++ b) (ap (λ z. z ++ gs) p)
+    (ap (λ z. z ++ b) q ∙ append_assoc line (10 ∷ rest) b) l (dump_join P later gs rest b d h)
+dump_join P fs gs a b (inside_line f line rest q l i d) h =
+    inside_line f line (rest ++ b) (ap (λ z. z ++ b) q ∙ append_assoc line (10 ∷ rest) b) l i (dump_join P fs gs rest b d h)
 
--- what holds of the offsets inside may be weaker
-pub dump_map : (P Q : ℕ → Type 0) → ((o : ℕ) → P o → Q o) → (os a : List ℕ) → IsDump P os a → IsDump Q os a
-dump_map P Q f os a (no_lines p q) = no_lines p q
-dump_map P Q f os a (block_line o later line rest p q l d) = block_line o later line rest p q l (dump_map P Q f later rest d)
-dump_map P Q f os a (inside_line o line rest q l i d) = inside_line o line rest q l (f o i) (dump_map P Q f os rest d)
+-- what holds of those inside may be weaker
+pub dump_map : (P Q : Front → Type 0) → ((f : Front) → P f → Q f) → (fs : List Front) (a : List ℕ) → IsDump P fs a → IsDump Q fs a
+dump_map P Q m fs a (no_lines p q) = no_lines p q
+dump_map P Q m fs a (block_line f later line rest p q l d) = block_line f later line rest p q l (dump_map P Q m later rest d)
+dump_map P Q m fs a (inside_line f line rest q l i d) = inside_line f line rest q l (m f i) (dump_map P Q m fs rest d)
 
-pub adds_map : (P Q : ℕ → Type 0) → ((o : ℕ) → P o → Q o) → (os a b : List ℕ) → Adds P os a b → Adds Q os a b
-adds_map P Q f os a b (text, is, d) = (text, is, dump_map P Q f os text d)
+pub adds_map : (P Q : Front → Type 0) → ((f : Front) → P f → Q f) → (fs : List Front) (a b : List ℕ) → Adds P fs a b → Adds Q fs a b
+adds_map P Q m fs a b (text, is, d) = (text, is, dump_map P Q m fs text d)
 
-pub adds_nothing : (P : ℕ → Type 0) (a : List ℕ) → Adds P [] a a
+pub adds_nothing : (P : Front → Type 0) (a : List ℕ) → Adds P [] a a
 adds_nothing P a = ([], sym (append-nil a), no_lines refl refl)
 
-pub adds_join : (P : ℕ → Type 0) (os ps a b c : List ℕ) → Adds P os a b → Adds P ps b c → Adds P (os ++ ps) a c
-adds_join P os ps a b c (x, p, d) (y, q, e) =
-    (x ++ y, q ∙ (ap (λ z. z ++ y) p ∙ append_assoc a x y), dump_join P os ps x y d e)
+pub adds_join : (P : Front → Type 0) (fs gs : List Front) (a b c : List ℕ) → Adds P fs a b → Adds P gs b c → Adds P (fs ++ gs) a c
+adds_join P fs gs a b c (x, p, d) (y, q, e) =
+    (x ++ y, q ∙ (ap (λ z. z ++ y) p ∙ append_assoc a x y), dump_join P fs gs x y d e)
 
 -- one line
-pub adds_block : (P : ℕ → Type 0) (o : ℕ) (a b : List ℕ) → AddsLine (IsBlockLine o) a b → Adds P (o ∷ []) a b
-adds_block P o a b (line, is, l) = (line ++ 10 ∷ [], is, block_line o [] line [] refl refl l (no_lines refl refl))
+pub adds_block : (P : Front → Type 0) (f : Front) (a b : List ℕ) → AddsLine (IsBlockLine f) a b → Adds P (f ∷ []) a b
+adds_block P f a b (line, is, l) = (line ++ 10 ∷ [], is, block_line f [] line [] refl refl l (no_lines refl refl))
 
-pub adds_inside : (P : ℕ → Type 0) (o : ℕ) (a b : List ℕ) → AddsLine (IsInsideLine o) a b → P o → Adds P [] a b
-adds_inside P o a b (line, is, l) i = (line ++ 10 ∷ [], is, inside_line o line [] refl l i (no_lines refl refl))
+pub adds_inside : (P : Front → Type 0) (f : Front) (a b : List ℕ) → AddsLine (IsInsideLine f) a b → P f → Adds P [] a b
+adds_inside P f a b (line, is, l) i = (line ++ 10 ∷ [], is, inside_line f line [] refl l i (no_lines refl refl))
+
+adds_unless :
+    (P : Front → Type 0) (inside q : Bool) (f : Front) (a b : List ℕ) → AddsUnless q inside f a b → P f →
+    Adds P (if inside then [] else if q then [] else f ∷ []) a b
+adds_unless P true true f a b e i = subst (Adds P [] a) (sym e) (adds_nothing P a)
+adds_unless P true false f a b line i = adds_inside P f a b line i
+adds_unless P false true f a b e i = subst (Adds P [] a) (sym e) (adds_nothing P a)
+adds_unless P false false f a b line i = adds_block P f a b line
+
+outer_one :
+    (inside : Bool) (most : Option ℕ) (f : Front) →
+    outer inside most (f ∷ []) ≡ (if inside then [] else if is_too_deep most f.depth then [] else f ∷ [])
+outer_one true most f = refl
+outer_one false most f = refl
+
+-- the line of an encoding, unless it stands too deep
+pub start_adds :
+    (P : Front → Type 0) (inside : Bool) (most : Option ℕ) (f : Front) (a b : List ℕ) →
+    AddsUnless (is_too_deep most f.depth) inside f a b → P f → Adds P (outer inside most (f ∷ [])) a b
+start_adds P inside most f a b put i =
+    subst (λ z. Adds P z a b) (sym (outer_one inside most f)) (adds_unless P inside (is_too_deep most f.depth) f a b put i)
+
+down_to_join_one :
+    (q : Bool) (f : Front) (xs ys zs : List Front) → xs ≡ ys ++ zs →
+    (if q then xs else f ∷ xs) ≡ (if q then ys else f ∷ ys) ++ zs
+down_to_join_one true f xs ys zs e = e
+down_to_join_one false f xs ys zs e = ap (λ z. f ∷ z) e
+
+down_to_join : (most : Option ℕ) (fs gs : List Front) → down_to most (fs ++ gs) ≡ down_to most fs ++ down_to most gs
+down_to_join most [] gs = refl
+down_to_join most (f ∷ fs) gs =
+    down_to_join_one (is_too_deep most f.depth) f (down_to most (fs ++ gs)) (down_to most fs) (down_to most gs) (down_to_join most fs gs)
+
+pub outer_join :
+    (inside : Bool) (most : Option ℕ) (fs gs : List Front) →
+    outer inside most (fs ++ gs) ≡ outer inside most fs ++ outer inside most gs
+outer_join true most fs gs = refl
+outer_join false most fs gs = down_to_join most fs gs
+
+pub outer_none : (inside : Bool) (most : Option ℕ) → outer inside most [] ≡ []
+outer_none true most = refl
+outer_none false most = refl
 
 -- octets 0A become spaces, and no other changes
 is_no_end : (b : ℕ) (q : Bool) → (b == 10) ≡ q → (if q then 32 else b) ≢ 10
@@ -65,28 +104,30 @@ stays_on_one_line [] one = refl
 stays_on_one_line (b ∷ text) one =
     rw (stays b (b == 10) refl (All-head (λ b. b ≢ 10) b text one), stays_on_one_line text (All-tail (λ b. b ≢ 10) b text one)) refl
 
--- the parts of the line of a block
-pub line_put : (a b c d e f text : List ℕ) (n offset : ℕ) → b ≡ a ++ replicate n 32 → c ≡ b ++ decimal offset → d ≡ c ++ 32 ∷ []
-    → e ≡ d ++ on_one_line text → f ≡ e ++ 10 ∷ [] → AddsLine (IsBlockLine offset) a f
-line_put a b c d e f text n offset p q r s t =
+-- the parts of the line of an encoding
+pub line_put :
+    (a b c d e g text : List ℕ) (width : ℕ) (f : Front) → b ≡ a ++ right_of width f.offset → c ≡ b ++ 32 ∷ [] →
+    d ≡ c ++ start_text f → e ≡ d ++ on_one_line text → g ≡ e ++ 10 ∷ [] → AddsLine (IsBlockLine f) a g
+line_put a b c d e g text width f p q r s t =
     let said = on_one_line text in
-    let line : List ℕ = replicate n 32 ++ (decimal offset ++ 32 ∷ said) in
-    let whole : f ≡ a ++ (line ++ 10 ∷ []) = rw (t, s, r, q, p) (simp append_assoc) in
-    (line, whole, record { spaces = n; said = said; line_is = refl; one = has_one_line text })
+    let spaces = width - length (decimal f.offset) in
+    let line : List ℕ = replicate spaces 32 ++ (decimal f.offset ++ (32 ∷ start_text f ++ said)) in
+    let whole : g ≡ a ++ (line ++ 10 ∷ []) = rw (t, s, r, q, p) (simp append_assoc) in
+    (line, whole, record { spaces = spaces; said = said; line_is = simp append_assoc; one = has_one_line text })
 
--- the line of a block after its mark
-pub inside_put : (a b c : List ℕ) (offset : ℕ) → b ≡ a ++ 62 ∷ [] → AddsLine (IsBlockLine offset) b c → AddsLine (IsInsideLine offset) a c
-inside_put a b c offset p (line, is, l) = (
+-- the line of an encoding after its mark
+pub inside_put : (a b c : List ℕ) (f : Front) → b ≡ a ++ 62 ∷ [] → AddsLine (IsBlockLine f) b c → AddsLine (IsInsideLine f) a c
+inside_put a b c f p (line, is, l) = (
   62 ∷ line,
   is ∙ (ap (λ z. z ++ (line ++ 10 ∷ [])) p ∙ append_assoc a (62 ∷ []) (line ++ 10 ∷ [])),
   record { shown = line; line_is = refl; block = l },
 )
 
 pub line_inside :
-    (r : Result (Unit {0}) AllocError) (inside : Bool) (offset : ℕ) (a b c : List ℕ) → inside ≡ true → b ≡ a ++ 62 ∷ [] →
-    OnOk r (AddsLine (IsBlockLine offset) b c) → OnOk r (AddsLine (IsLineOf inside offset) a c)
-line_inside (Ok u) inside offset a b c e p line = subst (λ z. AddsLine (IsLineOf z offset) a c) (sym e) (inside_put a b c offset p line)
-line_inside (Err x) inside offset a b c e p line = tt
+    (r : Result (Unit {0}) AllocError) (inside : Bool) (f : Front) (a b c : List ℕ) → inside ≡ true → b ≡ a ++ 62 ∷ [] →
+    OnOk r (AddsLine (IsBlockLine f) b c) → OnOk r (AddsLine (IsLineOf inside f) a c)
+line_inside (Ok u) inside f a b c e p line = subst (λ z. AddsLine (IsLineOf z f) a c) (sym e) (inside_put a b c f p line)
+line_inside (Err x) inside f a b c e p line = tt
 
 -- the parts of a note
 pub note_put : (a b c d e text : List ℕ) (mark : ℕ) → b ≡ a ++ mark ∷ [] → c ≡ b ++ 32 ∷ [] → d ≡ c ++ on_one_line text
@@ -105,10 +146,6 @@ fault_put a b c d e f g text offset p q r s t u =
     let whole : g ≡ a ++ (line ++ 10 ∷ []) = rw (u, t, s, r, q, p) (simp append_assoc) in
     (line, whole, record { said = said; line_is = refl; one = has_one_line text })
 
-pub shown_join : (inside : Bool) (base : ℕ) (xs ys : List ℕ) → shown_at inside base (xs ++ ys) ≡ shown_at inside base xs ++ shown_at inside base ys
-shown_join true base xs ys = refl
-shown_join false base xs ys = map-append (λ o. base + o) xs ys
-
 -- octets among octets among octets
 drop-append : (n : ℕ) (xs ys : List ℕ) → (zs : List ℕ) × (drop n (xs ++ ys) ≡ drop n xs ++ zs)
 drop-append zero xs ys = (ys, refl)
@@ -120,88 +157,23 @@ stand_deeper octets part inner m n (rest, p) (after, q) =
     let (zs, r) = drop-append n part rest in
     (after ++ zs, sym (drop-drop n m octets) ∙ (ap (drop n) p ∙ (r ∙ (ap (λ z. z ++ zs) q ∙ append_assoc inner after zs))))
 
-pub inside_deeper : (octets part : List ℕ) (m o : ℕ) → StandAt octets m part → StandsInside part o → StandsInside octets (m + o)
-inside_deeper octets part m o at s = record {
-  before = m + s.before;
-  part = s.part;
-  place = s.place;
-  position = stand_deeper octets part s.part m s.before at s.position;
-  shown = s.shown;
-  offset_is = let e : o ≡ s.before + s.place = s.offset_is in omega (arith, e);
-}
-
--- offsets in octets that stand at a place are offsets in the whole
-pub placed_deeper :
-    (octets part : List ℕ) (base m further o : ℕ) → StandAt octets m part → further ≡ base + m →
-    PlacedInside further part o → PlacedInside base octets o
-placed_deeper octets part base m further o at f (place, s, e) = (m + place, inside_deeper octets part m place at s, omega (arith, e, f))
-
--- lines of blocks were put, and these are left
-abbrev pub Progress : Bool → ℕ → List ℕ → List ℕ → List ℕ → List ℕ → List ℕ → Type 0
-Progress inside base octets all left a b = (done : List ℕ) × Adds (PlacedInside base octets) (shown_at inside base done) a b × (all ≡ done ++ left)
-
-pub progress_none : (inside : Bool) (base : ℕ) (octets all left a : List ℕ) → left ≡ all → Progress inside base octets all left a a
-progress_none true base octets all left a e = ([], adds_nothing (PlacedInside base octets) a, sym e)
-progress_none false base octets all left a e = ([], adds_nothing (PlacedInside base octets) a, sym e)
-
--- all of the octets are a document or encodings
-pub at_start : (octets : List ℕ) (o : ℕ) → HasBlockAt octets o ⊎ HasHeaderAt octets o → StandsInside octets o
-at_start octets o shown = record {
-  before = 0;
-  part = octets;
-  place = o;
-  position = ([], sym (append-nil octets));
-  shown = shown;
-  offset_is = omega arith;
-}
-
-pub one_line :
-    (inside : Bool) (base o : ℕ) (octets : List ℕ) (bs : Trees ℕ) (b c : List ℕ) → IsDocument octets bs →
-    IsAmong (all_offsets bs) o → AddsLine (IsLineOf inside (base + o)) b c →
-    Adds (PlacedInside base octets) (shown_at inside base (o ∷ [])) b c
-one_line true base o octets bs b c d (earlier, later, e) line =
-    let s : StandsInside octets o = at_start octets o (inl (bs, earlier, later, d, e)) in
-    adds_inside (PlacedInside base octets) (base + o) b c line (o, s, refl)
-one_line false base o octets bs b c d among line = adds_block (PlacedInside base octets) (base + o) b c line
-
-pub progress_one :
-    (inside : Bool) (base o : ℕ) (octets : List ℕ) (bs : Trees ℕ) (most : Option ℕ) (depth : ℕ) (left after a b c : List ℕ) →
-    IsDocument octets bs → Progress inside base octets (offsets_down_to most depth bs) left a b → left ≡ o ∷ after →
-    AddsLine (IsLineOf inside (base + o)) b c → Progress inside base octets (offsets_down_to most depth bs) after a c
-progress_one inside base o octets bs most depth left after a b c d (done, adds, e) f line =
-    let P = PlacedInside base octets in
-    let among = to_among most depth bs o (done, after, e ∙ ap (λ z. done ++ z) f) in
-    let one = one_line inside base o octets bs b c d among line in (
-      done ++ o ∷ [],
-      subst (λ z. Adds P z a c) (sym (shown_join inside base done (o ∷ []))) (adds_join P _ _ a b c adds one),
-      e ∙ (ap (λ z. done ++ z) f ∙ sym (append_assoc done (o ∷ []) after)),
-    )
-
-pub progress_held :
-    (inside : Bool) (base further m : ℕ) (octets part all left a b c : List ℕ) →
-    Progress inside base octets all left a b → StandAt octets m part → further ≡ base + m →
-    Adds (PlacedInside further part) [] b c → Progress inside base octets all left a c
-progress_held inside base further m octets part all left a b c (done, adds, e) at f more =
-    let P = PlacedInside base octets in
-    let deeper = adds_map (PlacedInside further part) P (λ o. placed_deeper octets part base m further o at f) [] b c more in
-    (done, subst (λ z. Adds P z a c) (append-nil (shown_at inside base done)) (adds_join P _ _ a b c adds deeper), e)
-
-pub progress_all :
-    (inside : Bool) (base : ℕ) (octets all left a b : List ℕ) → Progress inside base octets all left a b → left ≡ [] →
-    Adds (PlacedInside base octets) (shown_at inside base all) a b
-progress_all inside base octets all left a b (done, adds, e) n =
-    subst (λ z. Adds (PlacedInside base octets) (shown_at inside base z) a b) (sym (e ∙ (ap (λ z. done ++ z) n ∙ append-nil done))) adds
-
-later_by_none : (os : List ℕ) → map (λ o. 0 + o) os ≡ os
-later_by_none [] = refl
-later_by_none (o ∷ os) = let h : 0 + o ≡ o = omega arith in ap (λ z. z ∷ map (λ o. 0 + o) os) h ∙ ap (λ z. o ∷ z) (later_by_none os)
-
--- blocks of the document itself
-pub top_adds :
-    (inside : Bool) (base : ℕ) (octets os a b : List ℕ) → inside ≡ false → base ≡ 0 →
-    Adds (PlacedInside base octets) (shown_at inside base os) a b → Adds (StandsInside octets) os a b
-top_adds true base octets os a b e z adds = absurd (cc e)
-top_adds false base octets os a b e z adds =
-    let P = PlacedInside base octets in
-    adds_map P (StandsInside octets) (λ o (place, s, p). let same : place ≡ o = omega (arith, p, z) in subst (StandsInside octets) same s) os a b
-    (subst (λ l. Adds P l a b) (ap (λ n. map (λ o. n + o) os) z ∙ later_by_none os) adds)
+-- what stands inside octets that stand at a place stands inside the whole
+pub inside_deeper :
+    (octets part : List ℕ) (base m further : ℕ) (f : Front) → StandAt octets m part → further ≡ base + m →
+    StandsInside further part f → StandsInside base octets f
+inside_deeper octets part base m further f at e s =
+    let l = s.place in
+    let o : f.offset ≡ (further + s.before) + s.front.offset = l.offset in
+    record {
+      before = m + s.before;
+      part = s.part;
+      position = stand_deeper octets part s.part m s.before at s.position;
+      fronts = s.fronts;
+      faults = s.faults;
+      read = s.read;
+      front = s.front;
+      earlier = s.earlier;
+      others = s.others;
+      among = s.among;
+      place = record { offset = omega (arith, o, e); header = l.header; contents = l.contents; words = l.words };
+    }

@@ -23,12 +23,10 @@ use Rattle.std.proofs.Common.{
   arith,
 }
 use Rattle.std.proofs.Math.Seq.{take-add}
-use Rattle.std.specs.Prelude.{Option, None, Result, Ok, Err, IfOk, MatchOption}
-use Rattle.std.specs.declared.alloc.AllocError.{AllocError}
 use Rattle.std.proofs.lemmas.List.{drop_at, length-take-le, take-append-drop, take_at}
 use Rattle.asn1_headers.specs.Header.{BeginsWithNo, IsIdentifier, IsLength, IsSomeIdentifier}
 use Rattle.asn1_headers.proofs.Prefixes.{identifier_alone}
-use Rattle.der_lines.specs.Dump.{HasNoHeader, IsHeader}
+use Rattle.der_lines.specs.Headers.{HasNoHeader, IsHeader}
 use Rattle.der_lines.specs.Steps.{IsAtFront}
 use Rattle.der_lines.specs.declared.header.Header.{Header}
 
@@ -72,11 +70,3 @@ no_length octets s m fits (c, j, found) none header rest (identifier, len, is, (
     let behind : drop s octets ≡ len ++ rest = ap (drop s) whole ∙ drop_at identifier (len ++ rest) s size in
     let e : take (length len) (drop s octets) ≡ len = ap (take (length len)) behind ∙ take_at len rest (length len) refl in
     none n (length len) (subst (λ z. IsLength z n) (sym e) l)
-
--- memory ran out, or no header was found
-pub none_found :
-    {H : Type 0} (r : Result (Option H) AllocError) (octets : List ℕ) (P : H → Type 0) (M : Type 0) →
-    IfOk r (λ found. (found ≡ None) × (M → ⊥)) → M ⊎ HasNoHeader octets → IfOk r (λ found. MatchOption found (HasNoHeader octets) P)
-none_found (Err e) octets P M f h = tt
-none_found (Ok found) octets P M (none, some) (inl memory) = absurd (some memory)
-none_found (Ok found) octets P M (none, some) (inr no_header) = subst (λ z. MatchOption z (HasNoHeader octets) P) (sym none) no_header

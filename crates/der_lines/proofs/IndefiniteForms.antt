@@ -1,13 +1,11 @@
--- Headers of the indefinite form, and the first of them.
+-- Headers of the indefinite form.
 use Rattle.std.proofs.Common.{◌≡◌, ◌↔◌, ◌⊎◌, inl, inr, ℕ, ◌≤◌, min, Bool, true, false, List, [], ◌∷◌, ◌++◌, drop, length, take}
 use Rattle.std.proofs.Common.{slice_range, refl, sym, ap, ◌∙◌, subst, append_assoc, append-nil}
 use Rattle.std.proofs.lemmas.List.{drop_at, drop_min, length-take-le, take-append-drop, take_at}
-use Rattle.std.proofs.lemmas.List.Elements.{All-push}
 use Rattle.std.specs.Prelude.{Result, Ok, Err, IfOk, IsTrue}
-use Rattle.std.specs.declared.alloc.AllocError.{AllocError}
 use Rattle.asn1_headers.specs.Header.{BeginsWithNo, IsIdentifier, IsSomeIdentifier}
 use Rattle.asn1_headers.proofs.Prefixes.{identifier_alone}
-use Rattle.der_lines.specs.Dump.{AreDefinite, HasIndefiniteForm, IsFirstIndefinite}
+use Rattle.der_lines.specs.Headers.{HasIndefiniteForm}
 use Rattle.der_lines.proofs.Headers.{front}
 
 module _ (octets behind : List ℕ) (s m : ℕ) (class : _) (constructed : Bool) (fits : s ≤ length octets)
@@ -42,48 +40,3 @@ module _ (octets behind : List ℕ) (s m : ℕ) (class : _) (constructed : Bool)
 
   pub form_of_primitive : (r : Bool) → constructed ≡ false → r ≡ false → IsTrue r ↔ HasIndefiniteForm octets
   form_of_primitive r is_not e = (λ t. absurd (cc (t, e)), λ h. let (bits, there) = form_alone h in absurd (cc (bits, is_not)))
-
-no_form : (octets : List ℕ) → BeginsWithNo IsSomeIdentifier octets → HasIndefiniteForm octets → ⊥
-no_form octets none (identifier, rest, whole, (class, tag, is)) =
-    let e : take (length identifier) octets ≡ identifier =
-    ap (take (length identifier)) whole ∙ take_at identifier (128 ∷ rest) (length identifier) refl in
-    none tag (length identifier) (class, true, subst (λ z. IsIdentifier z class true tag) (sym e) is)
-
--- without identifier octets there is none
-pub form_of_none :
-    (r : Result Bool AllocError) (octets : List ℕ) (M : Type 0) → IfOk r (λ has. (has ≡ false) × (M → ⊥)) →
-    M ⊎ BeginsWithNo IsSomeIdentifier octets → IfOk r (λ has. IsTrue has ↔ HasIndefiniteForm octets)
-form_of_none (Err e) octets M h why = tt
-form_of_none (Ok has) octets M (is, some) (inl memory) = absurd (some memory)
-form_of_none (Ok has) octets M (is, some) (inr none) =
-    (λ t. absurd (cc (t, is)), λ h. absurd (no_form octets none h))
-
--- none of the blocks before those that are left has the form
-abbrev pub Searched : List ℕ → List ℕ → List ℕ → Type 0
-Searched octets all left = (done : List ℕ) × AreDefinite octets done × (all ≡ done ++ left)
-
-pub here_is :
-    (octets here : List ℕ) (place offset m : ℕ) → here ≡ drop m octets → m ≡ min offset (length octets) → offset ≡ place →
-    here ≡ drop place octets
-here_is octets here place offset m p q e =
-    p ∙ (ap (λ i. drop i octets) q ∙ (drop_min offset octets ∙ ap (λ i. drop i octets) e))
-
-pub searched_one :
-    (octets all left after here : List ℕ) (place : ℕ) (has : Bool) → Searched octets all left → left ≡ place ∷ after →
-    here ≡ drop place octets → IsTrue has ↔ HasIndefiniteForm here → has ≡ false → Searched octets all after
-searched_one octets all left after here place has (done, definite, e) next is (to, from) is_not = (
-  done ++ place ∷ [],
-  All-push (λ o. HasIndefiniteForm (drop o octets) → ⊥) done place definite (λ h. absurd (cc (from (subst HasIndefiniteForm (sym is) h), is_not))),
-  e ∙ (ap (λ z. done ++ z) next ∙ sym (append_assoc done (place ∷ []) after)),
-)
-
-pub searched_first :
-    (octets all left after here : List ℕ) (place offset : ℕ) (has : Bool) → Searched octets all left → left ≡ place ∷ after →
-    here ≡ drop place octets → IsTrue has ↔ HasIndefiniteForm here → IsTrue has → offset ≡ place → IsFirstIndefinite octets all offset
-searched_first octets all left after here place offset has (done, definite, e) next is (to, from) is_so same =
-    subst (IsFirstIndefinite octets all) (sym same)
-    (done, after, e ∙ ap (λ z. done ++ z) next, definite, subst HasIndefiniteForm is (to is_so))
-
-pub searched_all : (octets all left : List ℕ) → Searched octets all left → left ≡ [] → AreDefinite octets all
-searched_all octets all left (done, definite, e) n =
-    subst (AreDefinite octets) (sym (e ∙ (ap (λ z. done ++ z) n ∙ append-nil done))) definite

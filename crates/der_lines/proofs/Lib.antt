@@ -1,8 +1,7 @@
-mod Depths
+mod Cursors
 mod Dumps
+mod Firsts
+mod Fronts
 mod Headers
 mod IndefiniteForms
-mod PartsOfBlocks
 mod Seeking
-mod Shown
-mod Walks

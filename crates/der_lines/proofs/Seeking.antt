@@ -8,30 +8,15 @@ use Rattle.asn1_headers.specs.declared.header.ASN1Class.{ASN1Class}
 use Rattle.asn1_headers.specs.declared.header.ASN1Class.TheVariants.{Universal}
 use Rattle.asn1_headers.proofs.Prefixes.{encoding_alone, identifier_alone, length_alone}
 use Rattle.asn1_blocks.specs.Places.{EncodingAt, HasNoEncodingAt, IsEncoding}
-use Rattle.der_lines.specs.Dump.{HasNoHeader}
-use Rattle.der_lines.specs.Seek.{AreEncodings, BeginsAt, BeginsWithHeader, HasNoBlockAt, Holds, begins_behind, begins_first}
-use Rattle.der_lines.specs.Seek.{begins_inside, holds_bits, holds_blocks, holds_octets, is_gone_into, none_left, one_first}
-use Rattle.der_lines.specs.Steps.{IsAtFront}
-use Rattle.der_lines.specs.declared.header.Header.{Header}
-
--- a header that was read
-pub header_found :
-    (octets : List ℕ) (header : Header) → IsAtFront octets header →
-    BeginsWithHeader octets header.size header.announced header.class header.constructed header.tag
-header_found octets header h = record {
-  within = h.within;
-  identifier = h.identifier;
-  len = h.len;
-  front_is = h.front_is;
-  fields = h.fields;
-  length_octets = h.length_octets;
-}
+use Rattle.der_lines.specs.Headers.{BeginsWithHeader, HasNoHeader, is_gone_into}
+use Rattle.der_lines.specs.Seek.{AreEncodings, BeginsAt, HasNoBlockAt, Holds, begins_behind, begins_first}
+use Rattle.der_lines.specs.Seek.{begins_inside, holds_bits, holds_blocks, holds_octets, none_left, one_first}
 
 identifier_some : (xs : List ℕ) (c : ASN1Class) (k : Bool) (t : ℕ) → IsIdentifier xs c k t → 0 < length xs
 identifier_some [] c k t h = absurd h
 identifier_some (x ∷ xs) c k t h = omega arith
 
-header_size :
+pub header_size :
     (octets : List ℕ) (s n : ℕ) (c : ASN1Class) (k : Bool) (t : ℕ) (h : BeginsWithHeader octets s n c k t) →
     s ≡ length h.identifier + length h.len
 header_size octets s n c k t h =

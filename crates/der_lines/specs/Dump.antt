@@ -1,67 +1,169 @@
--- What is written of a document: lines, one for each block in tree order, with its offset.
-use Rattle.std.specs.Prelude.{◌≡◌, ◌≢◌, ◌⊎◌, ◌==◌, ℕ, suc, ◌+◌, nat_lt, Bool, true, false, if◌then◌else◌}
-use Rattle.std.specs.Prelude.{Option, None}
-use Rattle.std.specs.Prelude.{Some, List, [], ◌∷◌, ◌++◌}
-use Rattle.std.specs.Prelude.{drop, length, map, replicate, codes, decimal}
+-- What is written of octets: lines, one for each encoding in order, by their headers. The contents octets of constructed
+-- encodings, and of each SEQUENCE and SET, are gone into; those of others are looked at alone.
+use Rattle.std.specs.Prelude.{◌≡◌, ◌≢◌, ◌⊎◌, ◌==◌, ◌||◌, ℕ, ◌+◌, ◌-◌, ◌*◌, ◌^◌, ◌<◌, ◌≤◌, min, nat_lt, Bool, true, false}
+use Rattle.std.specs.Prelude.{if◌then◌else◌, Option, None, Some, unwrap_or, List, [], ◌∷◌, ◌++◌, drop, length, map, take}
+use Rattle.std.specs.Prelude.{get_or, replicate, slice_range, codes, decimal}
 use Rattle.std.specs.List.{All}
+use Rattle.asn1_headers.specs.Fault.{DecodeFault}
+use Rattle.asn1_headers.specs.declared.header.ASN1Class.{ASN1Class}
+use Rattle.asn1_headers.specs.declared.header.ASN1Class.TheVariants.{Universal, Application, ContextSpecific, Private}
+use Rattle.asn1_blocks.specs.Contents.{LeafFault}
+use Rattle.asn1_blocks.specs.Grammar.{Encodes}
+use Rattle.asn1_blocks.specs.Tree.{Tree}
+use Rattle.der_lines.specs.Headers.{BeginsWithHeader, HasIndefiniteForm, HasNoHeader, is_gone_into}
 use Rattle.der_lines.specs.declared.document.Verdict.{Verdict}
 use Rattle.der_lines.specs.declared.document.Verdict.TheVariants.{AllRead, Refused}
-use Rattle.asn1_headers.specs.Fault.{DecodeFault}
-use Rattle.asn1_blocks.specs.Grammar.{FirstFault, FirstFaultAt, IsDocument}
-use Rattle.asn1_headers.specs.Header.{IsIdentifier, IsLength, IsSomeIdentifier}
-use Rattle.asn1_blocks.specs.Places.{IsEncoding}
-use Rattle.asn1_headers.specs.declared.header.ASN1Class.{ASN1Class}
-use Rattle.asn1_blocks.specs.Tree.{Tree, Trees, leaf, group, explicit, unknown, no_trees, more_trees}
+use Rattle.der_values.specs.Types.{type_name}
 
-abbrev mutual
-  -- the offsets of a tree and of all inside it, each before those that it holds
-  pub offsets_in : Tree ℕ → List ℕ
-  offsets_in (leaf o l) = o ∷ []
-  offsets_in (group o g bs) = o ∷ all_offsets bs
-  offsets_in (explicit c o n b) = o ∷ offsets_in b
-  offsets_in (unknown c k o n v) = o ∷ []
+-- a tag number in words: in decimal below 2^128
+abbrev pub tag_number : ℕ → List ℕ
+tag_number tag = if nat_lt tag (2 ^ 128) then decimal tag else codes "beyond 2^128"
 
-  -- so of trees one after another
-  pub all_offsets : Trees ℕ → List ℕ
-  all_offsets no_trees = []
-  all_offsets (more_trees b bs) = offsets_in b ++ all_offsets bs
+-- a tag: the type of class Universal that has it (X.680 8.4, table 1), or its class and number as X.680 writes them
+abbrev pub tag_words : ASN1Class → ℕ → List ℕ
+tag_words Universal tag =
+    unwrap_or (type_name Universal tag) (codes "[UNIVERSAL " ++ (tag_number tag ++ codes "]"))
+tag_words Application tag = codes "[APPLICATION " ++ (tag_number tag ++ codes "]")
+tag_words ContextSpecific tag = codes "[" ++ (tag_number tag ++ codes "]")
+tag_words Private tag = codes "[PRIVATE " ++ (tag_number tag ++ codes "]")
 
--- what stands inside so many blocks stands inside more than the most, where there is a most
+-- what the line of an encoding begins with: its offset, the sizes of its header and of the contents octets that it
+-- announces, how many encodings are around it, and its tag in words
+pub record Front : Type 0 where
+  pub offset : ℕ
+  pub header : ℕ
+  pub contents : ℕ
+  pub depth : ℕ
+  pub words : List ℕ
+
+-- that of octets at the offset which begin with no header: there are so many
+abbrev pub unreadable : ℕ → ℕ → ℕ → Front
+unreadable offset size depth = record {
+  offset = offset;
+  header = 0;
+  contents = size;
+  depth = depth;
+  words = codes "unreadable";
+}
+
+-- strings that the library takes for UTF-8 where X.690 has other characters: TeletexString, UniversalString, BMPString
+abbrev pub is_wide : ASN1Class → ℕ → Bool
+is_wide Universal tag = (tag == 20) || (tag == 28) || (tag == 30)
+is_wide class tag = false
+
+-- what is wrong with an encoding that begins the octets, nothing or something at its offset
+pub data IsJudged (octets : List ℕ) (front : Front) (class : ASN1Class) (constructed : Bool) (tag : ℕ)
+    (faults : List ℕ) : Type 0 where
+  cut_short :
+      length octets < front.header + front.contents → faults ≡ front.offset ∷ [] →
+      IsJudged octets front class constructed tag faults
+  of_indefinite_form :
+      HasIndefiniteForm octets → faults ≡ front.offset ∷ [] → IsJudged octets front class constructed tag faults
+  with_encodings :
+      front.header + front.contents ≤ length octets → is_gone_into class constructed tag ≡ true →
+      (HasIndefiniteForm octets → ⊥) → faults ≡ [] → IsJudged octets front class constructed tag faults
+  with_value :
+      front.header + front.contents ≤ length octets → is_gone_into class constructed tag ≡ false →
+      (is_wide class tag ≡ true) ⊎ ((b : Tree ℕ) × Encodes 0 (take (front.header + front.contents) octets) b) →
+      faults ≡ [] → IsJudged octets front class constructed tag faults
+  with_no_value :
+      front.header + front.contents ≤ length octets → is_gone_into class constructed tag ≡ false →
+      class ≡ Universal → (fault : DecodeFault) →
+      LeafFault tag (slice_range octets front.header (front.header + front.contents)) fault →
+      faults ≡ front.offset ∷ [] → IsJudged octets front class constructed tag faults
+
+-- an encoding begins the octets, which stand at the offset, inside so many others. Its contents octets may be cut short
+pub record IsFirst (octets : List ℕ) (offset depth : ℕ) (front : Front) (opened : Bool) (faults : List ℕ)
+    : Type 0 where
+  pub class : ASN1Class
+  pub constructed : Bool
+  pub tag : ℕ
+  pub header : BeginsWithHeader octets front.header front.contents class constructed tag
+  pub offset_is : front.offset ≡ offset
+  pub depth_is : front.depth ≡ depth
+  pub words_are : front.words ≡ tag_words class tag
+  pub opened_is : opened ≡ is_gone_into class constructed tag
+  pub judged : IsJudged octets front class constructed tag faults
+
+-- how many of the octets the encoding takes that begins them
+abbrev pub size_in : List ℕ → Front → ℕ
+size_in octets front = min (front.header + front.contents) (length octets)
+
+-- lines begin with these, and these are the offsets of faults, from an offset of the octets on, where contents octets
+-- that end at these offsets are open, the innermost first. What is left of them begins with an encoding, which is gone
+-- into or passed over; or with no header: then all of it is unreadable
+pub data AreFronts (octets : List ℕ) : ℕ → List ℕ → List Front → List ℕ → Type 0 where
+  all_ended :
+      {offset : ℕ} {ends : List ℕ} {fronts : List Front} {faults : List ℕ} →
+      ends ≡ [] → fronts ≡ [] → faults ≡ [] → AreFronts octets offset ends fronts faults
+  one_ended :
+      {offset : ℕ} {ends : List ℕ} {fronts : List Front} {faults : List ℕ} (end : ℕ) (around : List ℕ) →
+      ends ≡ end ∷ around → slice_range octets offset end ≡ [] → AreFronts octets offset around fronts faults →
+      AreFronts octets offset ends fronts faults
+  no_header :
+      {offset : ℕ} {ends : List ℕ} {fronts : List Front} {faults : List ℕ} (left : List ℕ) (end : ℕ)
+      (around : List ℕ) (later_fronts : List Front) (later_faults : List ℕ) →
+      ends ≡ end ∷ around → left ≡ slice_range octets offset end → 0 < length left → HasNoHeader left →
+      AreFronts octets (offset + length left) ends later_fronts later_faults →
+      fronts ≡ unreadable offset (length left) (length around) ∷ later_fronts → faults ≡ offset ∷ later_faults →
+      AreFronts octets offset ends fronts faults
+  gone_into :
+      {offset : ℕ} {ends : List ℕ} {fronts : List Front} {faults : List ℕ} (left : List ℕ) (end : ℕ)
+      (around : List ℕ) (first : Front) (own : List ℕ) (later_fronts : List Front) (later_faults : List ℕ) →
+      ends ≡ end ∷ around → left ≡ slice_range octets offset end →
+      IsFirst left offset (length around) first true own →
+      AreFronts octets (offset + first.header) ((offset + size_in left first) ∷ ends) later_fronts later_faults →
+      fronts ≡ first ∷ later_fronts → faults ≡ own ++ later_faults → AreFronts octets offset ends fronts faults
+  passed_over :
+      {offset : ℕ} {ends : List ℕ} {fronts : List Front} {faults : List ℕ} (left : List ℕ) (end : ℕ)
+      (around : List ℕ) (first : Front) (own : List ℕ) (later_fronts : List Front) (later_faults : List ℕ) →
+      ends ≡ end ∷ around → left ≡ slice_range octets offset end →
+      IsFirst left offset (length around) first false own →
+      AreFronts octets (offset + size_in left first) ends later_fronts later_faults →
+      fronts ≡ first ∷ later_fronts → faults ≡ own ++ later_faults → AreFronts octets offset ends fronts faults
+
+-- so of all octets
+abbrev pub AreFrontsOf : List ℕ → List Front → List ℕ → Type 0
+AreFrontsOf octets = AreFronts octets 0 (length octets ∷ [])
+
+-- what stands inside so many others stands inside more than the most, where there is a most
 abbrev pub is_too_deep : Option ℕ → ℕ → Bool
 is_too_deep None depth = false
 is_too_deep (Some most) depth = nat_lt most depth
 
-abbrev mutual
-  -- the offsets of a tree, which stands inside so many others, and of all inside it, but of none that stands too deep
-  pub offsets_in_down_to : Option ℕ → ℕ → Tree ℕ → List ℕ
-  offsets_in_down_to most depth (leaf o l) = if is_too_deep most depth then [] else o ∷ []
-  offsets_in_down_to most depth (group o g bs) =
-      if is_too_deep most depth then [] else o ∷ offsets_down_to most (suc depth) bs
-  offsets_in_down_to most depth (explicit c o n b) =
-      if is_too_deep most depth then [] else o ∷ offsets_in_down_to most (suc depth) b
-  offsets_in_down_to most depth (unknown c k o n v) = if is_too_deep most depth then [] else o ∷ []
-
-  -- so of trees one after another
-  pub offsets_down_to : Option ℕ → ℕ → Trees ℕ → List ℕ
-  offsets_down_to most depth no_trees = []
-  offsets_down_to most depth (more_trees b bs) = offsets_in_down_to most depth b ++ offsets_down_to most depth bs
+-- those that stand inside no more than the most
+abbrev pub down_to : Option ℕ → List Front → List Front
+down_to most [] = []
+down_to most (front ∷ fronts) =
+    if is_too_deep most front.depth then down_to most fronts else front ∷ down_to most fronts
 
 -- no octet 0A, which ends a line
 abbrev pub IsOneLine : List ℕ → Type 0
 IsOneLine text = All (λ b. b ≢ 10) text
 
--- the line of a block: spaces, its offset in decimal, a space, and what is said of the block
-pub record IsBlockLine (offset : ℕ) (line : List ℕ) : Type 0 where
+-- a number in decimal, with spaces before it where it has fewer digits than the width
+abbrev pub right_of : ℕ → ℕ → List ℕ
+right_of width n = replicate (width - length (decimal n)) 32 ++ decimal n
+
+-- two spaces a level, for 40 levels at most
+abbrev pub indentation : ℕ → List ℕ
+indentation depth = replicate (2 * min depth 40) 32
+
+-- a line of an encoding: spaces, the offset, the sizes of header and contents in columns, spaces for the depth, the
+-- words, and what else is said of it
+pub record IsBlockLine (front : Front) (line : List ℕ) : Type 0 where
   pub spaces : ℕ
   pub said : List ℕ
-  pub line_is : line ≡ replicate spaces 32 ++ (decimal offset ++ 32 ∷ said)
+  pub line_is : line ≡
+      replicate spaces 32 ++ (decimal front.offset ++ (32 ∷ [] ++ (right_of 2 front.header ++ (32 ∷ []
+      ++ (right_of 7 front.contents ++ (32 ∷ 32 ∷ [] ++ (indentation front.depth ++ (front.words ++ said))))))))
   pub one : IsOneLine said
 
--- the line of a block that stands inside octets of another: `>`, and then as that of a block
-pub record IsInsideLine (offset : ℕ) (line : List ℕ) : Type 0 where
+-- the line of one that stands inside octets of another: `>`, and then as any
+pub record IsInsideLine (front : Front) (line : List ℕ) : Type 0 where
   pub shown : List ℕ
   pub line_is : line ≡ 62 ∷ shown
-  pub block : IsBlockLine offset shown
+  pub block : IsBlockLine front shown
 
 -- the text with a space in the place of each octet 0A
 abbrev pub on_one_line : List ℕ → List ℕ
@@ -82,129 +184,64 @@ pub record IsFaultLine (offset : ℕ) (line : List ℕ) : Type 0 where
 abbrev pub StandAt : List ℕ → ℕ → List ℕ → Type 0
 StandAt octets before part = (rest : List ℕ) × (drop before octets ≡ part ++ rest)
 
--- the octets are a header: identifier and length octets
-abbrev pub IsHeader : List ℕ → Type 0
-IsHeader header =
-    (identifier : List ℕ) × (len : List ℕ) × (header ≡ identifier ++ len)
-    × ((tag : ℕ) × IsSomeIdentifier identifier tag) × ((announced : ℕ) × IsLength len announced)
+-- the same at an offset greater by so much, inside however many
+pub record IsLater (base : ℕ) (front later : Front) : Type 0 where
+  pub offset : later.offset ≡ base + front.offset
+  pub header : later.header ≡ front.header
+  pub contents : later.contents ≡ front.contents
+  pub words : later.words ≡ front.words
 
--- the octets do not begin with a header
-abbrev pub HasNoHeader : List ℕ → Type 0
-HasNoHeader octets = (header : List ℕ) (rest : List ℕ) → IsHeader header → octets ≡ header ++ rest → ⊥
-
--- the octets are a header, and then these
-abbrev pub StandsBehindHeader : List ℕ → List ℕ → Type 0
-StandsBehindHeader octets behind = (header : List ℕ) × (octets ≡ header ++ behind) × IsHeader header
-
--- lines of octets that are no document, which stand at the offset: one at each header, from the first on, whose
--- contents octets are then gone into, or passed over where the encoding alone is at fault; and those of whole
--- documents, as far as it goes. Each begins where the one before it ends
-pub data AreShown : ℕ → List ℕ → List ℕ → Type 0 where
-  no_more : {from : ℕ} {octets offsets : List ℕ} → offsets ≡ [] → AreShown from octets offsets
-  header_line :
-      {from : ℕ} {octets offsets : List ℕ} (header rest later : List ℕ) →
-      octets ≡ header ++ rest → IsHeader header → offsets ≡ from ∷ later →
-      AreShown (from + length header) rest later → AreShown from octets offsets
-  leaf_line :
-      {from : ℕ} {octets offsets : List ℕ} (part rest later : List ℕ) (fault : DecodeFault) →
-      octets ≡ part ++ rest → IsEncoding part → FirstFault part fault → offsets ≡ from ∷ later →
-      AreShown (from + length part) rest later → AreShown from octets offsets
-  document_lines :
-      {from : ℕ} {octets offsets : List ℕ} (part rest later : List ℕ) (bs : Trees ℕ) →
-      octets ≡ part ++ rest → IsDocument part bs → offsets ≡ map (λ o. from + o) (all_offsets bs) ++ later →
-      AreShown (from + length part) rest later → AreShown from octets offsets
-
--- the octets are encodings one after another to the end, by their headers: the contents octets of each are gone into,
--- and are so too, or are passed over
-pub data AreHeaders : List ℕ → Type 0 where
-  no_headers : {octets : List ℕ} → octets ≡ [] → AreHeaders octets
-  gone_into :
-      {octets : List ℕ} (header contents rest : List ℕ) →
-      octets ≡ (header ++ contents) ++ rest → IsHeader header → IsEncoding (header ++ contents) →
-      AreHeaders (contents ++ rest) → AreHeaders octets
-  passed_over :
-      {octets : List ℕ} (part rest : List ℕ) →
-      octets ≡ part ++ rest → IsEncoding part → AreHeaders rest → AreHeaders octets
-
--- the octets are a document, and one of its blocks has the offset
-abbrev pub HasBlockAt : List ℕ → ℕ → Type 0
-HasBlockAt octets offset =
-    (blocks : Trees ℕ) × (earlier later : List ℕ) × IsDocument octets blocks
-    × (all_offsets blocks ≡ earlier ++ offset ∷ later)
-
--- the octets are encodings by their headers, and one of those that are shown has the offset
-abbrev pub HasHeaderAt : List ℕ → ℕ → Type 0
-HasHeaderAt octets offset = AreHeaders octets × ((earlier : List ℕ) × AreShown 0 octets (earlier ++ offset ∷ []))
-
--- a document, or encodings by their headers, stand in the octets, and one of the blocks or encodings has the offset,
--- counted from the first of the octets
-pub record StandsInside (octets : List ℕ) (offset : ℕ) : Type 0 where
+-- it is of an encoding in octets among these, which stand so many octets later than these
+pub record StandsInside (base : ℕ) (octets : List ℕ) (later : Front) : Type 0 where
   pub before : ℕ
   pub part : List ℕ
-  pub place : ℕ
   pub position : StandAt octets before part
-  pub shown : HasBlockAt part place ⊎ HasHeaderAt part place
-  pub offset_is : offset ≡ before + place
+  pub fronts : List Front
+  pub faults : List ℕ
+  pub read : AreFrontsOf part fronts faults
+  pub front : Front
+  pub earlier : List Front
+  pub others : List Front
+  pub among : fronts ≡ earlier ++ front ∷ others
+  pub place : IsLater (base + before) front later
 
--- the text is lines, each ended by octet 0A: those of blocks, which have these offsets, in order, and those of blocks
--- inside octets, at offsets of which something holds
-pub data IsDump (Inside : ℕ → Type 0) : List ℕ → List ℕ → Type 0 where
-  no_lines : {offsets text : List ℕ} → offsets ≡ [] → text ≡ [] → IsDump Inside offsets text
+-- the text is lines, each ended by octet 0A: those that begin so, in order, and those of encodings inside octets, for
+-- which something holds
+pub data IsDump (Inside : Front → Type 0) : List Front → List ℕ → Type 0 where
+  no_lines : {fronts : List Front} {text : List ℕ} → fronts ≡ [] → text ≡ [] → IsDump Inside fronts text
   block_line :
-      {offsets text : List ℕ} (offset : ℕ) (later line rest : List ℕ) →
-      offsets ≡ offset ∷ later → text ≡ line ++ 10 ∷ rest →
-      IsBlockLine offset line → IsDump Inside later rest → IsDump Inside offsets text
+      {fronts : List Front} {text : List ℕ} (front : Front) (later : List Front) (line rest : List ℕ) →
+      fronts ≡ front ∷ later → text ≡ line ++ 10 ∷ rest →
+      IsBlockLine front line → IsDump Inside later rest → IsDump Inside fronts text
   inside_line :
-      {offsets text : List ℕ} (offset : ℕ) (line rest : List ℕ) →
-      text ≡ line ++ 10 ∷ rest → IsInsideLine offset line → Inside offset →
-      IsDump Inside offsets rest → IsDump Inside offsets text
+      {fronts : List Front} {text : List ℕ} (front : Front) (line rest : List ℕ) →
+      text ≡ line ++ 10 ∷ rest → IsInsideLine front line → Inside front →
+      IsDump Inside fronts rest → IsDump Inside fronts text
 
 -- such lines were put after the text
-abbrev pub Adds : (ℕ → Type 0) → List ℕ → List ℕ → List ℕ → Type 0
-Adds Inside offsets before after =
-    (text : List ℕ) × (after ≡ before ++ text) × IsDump Inside offsets text
+abbrev pub Adds : (Front → Type 0) → List Front → List ℕ → List ℕ → Type 0
+Adds Inside fronts before after =
+    (text : List ℕ) × (after ≡ before ++ text) × IsDump Inside fronts text
 
 -- a line of some kind was put after the text
 abbrev pub AddsLine : (List ℕ → Type 0) → List ℕ → List ℕ → Type 0
 AddsLine Is before after = (line : List ℕ) × (after ≡ before ++ (line ++ 10 ∷ [])) × Is line
 
--- the octets begin with identifier octets of a constructed encoding and the one length octet 80, which in BER is the
--- indefinite form (X.690 8.1.3.6). It is read as a length of 0
-abbrev pub HasIndefiniteForm : List ℕ → Type 0
-HasIndefiniteForm octets =
-    (identifier behind : List ℕ) × (octets ≡ identifier ++ 128 ∷ behind)
-    × ((class : ASN1Class) × (tag : ℕ) × IsIdentifier identifier class true tag)
+-- the lines of octets were put, down to the most depth, where these are the offsets of faults
+abbrev pub AddsBlocksOf : Option ℕ → List ℕ → List ℕ → List ℕ → List ℕ → Type 0
+AddsBlocksOf most octets faults before after =
+    (fronts : List Front) × AreFrontsOf octets fronts faults
+    × Adds (StandsInside 0 octets) (down_to most fronts) before after
 
--- nothing that stands at the offsets has it
-abbrev pub AreDefinite : List ℕ → List ℕ → Type 0
-AreDefinite octets offsets = All (λ o. HasIndefiniteForm (drop o octets) → ⊥) offsets
+-- so, and then the line of the first fault
+abbrev pub AddsFaultOf : Option ℕ → List ℕ → List ℕ → List ℕ → Type 0
+AddsFaultOf most octets before after =
+    (offset : ℕ) × (later shown : List ℕ) × AddsBlocksOf most octets (offset ∷ later) before shown
+    × AddsLine (IsFaultLine offset) shown after
 
--- of what stands at the offsets, the first that has it stands at this one
-abbrev pub IsFirstIndefinite : List ℕ → List ℕ → ℕ → Type 0
-IsFirstIndefinite octets offsets offset =
-    (earlier later : List ℕ) × (offsets ≡ earlier ++ offset ∷ later) × AreDefinite octets earlier
-    × HasIndefiniteForm (drop offset octets)
-
--- the octets are a document, and its lines were put: one for each block in tree order that stands inside no more than
--- the most others, and those of blocks inside octets
-abbrev pub AddsBlocksOf : Option ℕ → List ℕ → Trees ℕ → List ℕ → List ℕ → Type 0
-AddsBlocksOf most octets bs before after =
-    IsDocument octets bs × Adds (StandsInside octets) (offsets_down_to most 0 bs) before after
-
--- the octets are no document: the lines were put of what can be read, at least of a header at the front, and then their
--- first fault, at the offset of the innermost block at fault
-abbrev pub AddsFaultOf : List ℕ → List ℕ → List ℕ → Type 0
-AddsFaultOf octets before after =
-    (fault : DecodeFault) × (offset : ℕ) × FirstFaultAt octets fault offset
-    × (offsets shown : List ℕ) × AreShown 0 octets offsets × (offsets ≡ [] → HasNoHeader octets)
-    × Adds (StandsInside octets) offsets before shown × AddsLine (IsFaultLine offset) shown after
-
--- what is put after the text of octets. A document is refused, after all its lines, where a block of it has the
--- indefinite form, at the offset of the first that has
+-- what is put after the text of octets: their lines, where nothing is wrong with them; lines and the first fault, where
+-- something is; of no octets, that there are none
 abbrev pub AddsDumpOf : Option ℕ → List ℕ → Verdict → List ℕ → List ℕ → Type 0
-AddsDumpOf most octets AllRead before after =
-    (bs : Trees ℕ) × AddsBlocksOf most octets bs before after × AreDefinite octets (all_offsets bs)
+AddsDumpOf most octets AllRead before after = (0 < length octets) × AddsBlocksOf most octets [] before after
 AddsDumpOf most octets Refused before after =
-    AddsFaultOf octets before after
-    ⊎ ((bs : Trees ℕ) × (offset : ℕ) × (shown : List ℕ) × AddsBlocksOf most octets bs before shown
-    × IsFirstIndefinite octets (all_offsets bs) offset × AddsLine (IsFaultLine offset) shown after)
+    AddsFaultOf most octets before after ⊎ ((octets ≡ []) × AddsLine (IsFaultLine 0) before after)

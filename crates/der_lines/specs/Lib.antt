@@ -1,3 +1,4 @@
 pub mod Dump
+pub mod Headers
 pub mod Seek
 pub mod Steps

@@ -1,19 +1,9 @@
 -- At which offsets of a document encodings begin, by headers that follow one another from its front.
-use Rattle.std.specs.Prelude.{◌≡◌, ◌==◌, ◌||◌, ℕ, ◌+◌, ◌<◌, ◌≤◌, Bool, true, false, List, [], ◌∷◌, ◌++◌, drop, length, take}
-use Rattle.asn1_headers.specs.Header.{IsIdentifier, IsLength}
+use Rattle.std.specs.Prelude.{◌≡◌, ℕ, ◌+◌, ◌<◌, Bool, true, false, List, [], ◌∷◌, ◌++◌, drop, take}
 use Rattle.asn1_headers.specs.declared.header.ASN1Class.{ASN1Class}
 use Rattle.asn1_headers.specs.declared.header.ASN1Class.TheVariants.{Universal}
 use Rattle.asn1_blocks.specs.Places.{EncodingAt, IsEncoding}
-
--- the octets begin with a header of so many octets
-pub record BeginsWithHeader (octets : List ℕ) (size announced : ℕ) (class : ASN1Class) (constructed : Bool)
-    (tag : ℕ) : Type 0 where
-  pub within : size ≤ length octets
-  pub identifier : List ℕ
-  pub len : List ℕ
-  pub front_is : take size octets ≡ identifier ++ len
-  pub fields : IsIdentifier identifier class constructed tag
-  pub length_octets : IsLength len announced
+use Rattle.der_lines.specs.Headers.{BeginsWithHeader, is_gone_into}
 
 -- the octets are encodings, one after another to the end
 pub data AreEncodings : List ℕ → Type 0 where
@@ -21,12 +11,6 @@ pub data AreEncodings : List ℕ → Type 0 where
   one_first :
       {octets : List ℕ} (part rest : List ℕ) →
       octets ≡ part ++ rest → IsEncoding part → AreEncodings rest → AreEncodings octets
-
--- the contents octets are blocks: the encoding is constructed, or a SEQUENCE or SET
-abbrev pub is_gone_into : ASN1Class → Bool → ℕ → Bool
-is_gone_into class true tag = true
-is_gone_into Universal false tag = tag == 16 || tag == 17
-is_gone_into class false tag = false
 
 -- in contents octets others begin, behind so many of them: in those of a constructed encoding, of an OCTET STRING that
 -- holds encodings, and of a BIT STRING without unused bits that does

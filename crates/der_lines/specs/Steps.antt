@@ -1,161 +1,156 @@
 -- What is put step by step. Private contracts alone name these.
-use Rattle.std.specs.Prelude.{◌≡◌, ◌⊎◌, ℕ, suc, ◌+◌, ◌<◌, ◌≤◌, Option, Bool, true, false, List, [], ◌∷◌, ◌++◌, length}
-use Rattle.std.specs.Prelude.{map, take, unwrap_or}
+use Rattle.std.specs.Prelude.{◌≡◌, ◌⊎◌, ℕ, ◌+◌, Option, Bool, true, false, List, [], ◌∷◌, ◌++◌, length, reverse}
+use Rattle.std.specs.Prelude.{MatchOption, None, Some}
 use Rattle.asn1_headers.specs.Fault.{DecodeFault}
-use Rattle.asn1_blocks.specs.Grammar.{EncodesAll, FirstFault, IsDocument}
-use Rattle.asn1_headers.specs.Header.{IsIdentifier, IsLength}
-use Rattle.asn1_blocks.specs.Contents.{group_tag}
-use Rattle.asn1_blocks.specs.declared.block.GroupKind.{GroupKind}
+use Rattle.asn1_headers.specs.Header.{Encoding}
+use Rattle.asn1_headers.specs.declared.header.ASN1Class.{ASN1Class}
 use Rattle.asn1_headers.specs.declared.header.ASN1Class.TheVariants.{Universal}
-use Rattle.asn1_blocks.specs.Places.{IsEncoding}
-use Rattle.asn1_blocks.specs.BlockParts.{tree_items}
-use Rattle.asn1_blocks.specs.Tree.{Tree, Trees, no_trees}
-use Rattle.der_lines.specs.Dump.{Adds, AreDefinite, AreHeaders, AreShown, HasNoHeader, IsBlockLine, IsHeader}
-use Rattle.der_lines.specs.Dump.{IsInsideLine}
-use Rattle.der_lines.specs.Dump.{StandAt, StandsInside, all_offsets, offsets_down_to}
-use Rattle.asn1_blocks.specs.declared.block.ASN1Block.{ASN1Block}
-use Rattle.asn1_blocks.specs.View.{document_trees, views}
-use Rattle.der_lines.specs.declared.held.Held.{Held}
-use Rattle.der_lines.specs.declared.held.Inside.{Inside}
-use Rattle.der_lines.specs.declared.held.Inside.TheVariants.{Blocks, Headers}
+use Rattle.asn1_blocks.specs.Contents.{LeafFault}
+use Rattle.asn1_blocks.specs.Grammar.{Encodes}
+use Rattle.asn1_blocks.specs.Tree.{Tree}
+use Rattle.der_lines.specs.Dump.{Adds, AddsLine, AreFronts, AreFrontsOf, Front, IsBlockLine, IsFirst, IsInsideLine, IsLater}
+use Rattle.der_lines.specs.Dump.{StandsInside, down_to, indentation, is_too_deep, is_wide, right_of, size_in, tag_words}
+use Rattle.der_lines.specs.Dump.{unreadable}
+use Rattle.der_lines.specs.Headers.{BeginsWithHeader, HasNoHeader, is_gone_into}
+use Rattle.der_lines.specs.declared.cursor.Cursor.{Cursor}
+use Rattle.der_lines.specs.declared.cursor.Step.{Step}
+use Rattle.der_lines.specs.declared.cursor.Step.TheVariants.{Into, Past}
+use Rattle.der_lines.specs.declared.encodings.Passed.{Passed}
+use Rattle.der_lines.specs.declared.faults.Fault.{Fault}
 use Rattle.der_lines.specs.declared.header.Header.{Header}
-use Rattle.der_lines.specs.declared.place.Place.{Place}
-use Rattle.der_lines.specs.declared.walk.Walk.{Walk}
+use Rattle.der_lines.specs.declared.lines.LineStart.{LineStart}
 use Rattle.der_lines.specs.declared.lines.Mark.{Mark}
 use Rattle.der_lines.specs.declared.lines.Mark.TheVariants.{Fault as fault_mark, Object as object_mark}
-use Rattle.der_lines.specs.declared.cursor.Step.{Step}
-use Rattle.der_lines.specs.declared.cursor.Step.TheVariants.{Past, Leaf, Inside as Into, Cut, Fault}
+use Rattle.der_lines.specs.declared.place.Place.{Place}
 
 -- the header stands at the front of the octets
-pub record IsAtFront (octets : List ℕ) (header : Header) : Type 0 where
-  pub within : header.size ≤ length octets
-  pub identifier : List ℕ
-  pub len : List ℕ
-  pub front_is : take header.size octets ≡ identifier ++ len
-  pub fields : IsIdentifier identifier header.class header.constructed header.tag
-  pub length_octets : IsLength len header.announced
+abbrev pub IsAtFront : List ℕ → Header → Type 0
+IsAtFront octets header =
+    BeginsWithHeader octets header.size header.announced header.class header.constructed header.tag
 
--- the header is of a SEQUENCE or SET
-abbrev pub IsGroupHeader : Header → Type 0
-IsGroupHeader header = (header.class ≡ Universal) × ((kind : GroupKind) × (header.tag ≡ group_tag kind))
+-- the contents octets of an encoding with these fields have a value
+abbrev pub IsRight : ASN1Class → Bool → ℕ → List ℕ → Type 0
+IsRight class constructed tag contents =
+    (is_wide class tag ≡ true)
+    ⊎ ((octets : List ℕ) (header : ℕ) → Encoding octets class constructed tag contents header
+    → (b : Tree ℕ) × Encodes 0 octets b)
 
--- the octets are one SEQUENCE or SET, whose header announces contents octets
-pub record IsLongGroup (octets : List ℕ) (header : Header) : Type 0 where
-  pub encoding : IsEncoding octets
-  pub front : IsAtFront octets header
-  pub group : IsGroupHeader header
-  pub some : 0 < header.announced
+-- they have none
+abbrev pub HasNoValue : ASN1Class → ℕ → List ℕ → Type 0
+HasNoValue class tag contents = (class ≡ Universal) × ((fault : DecodeFault) × LeafFault tag contents fault)
 
 -- the octet that a line begins with
 abbrev pub mark_of : Mark → ℕ
 mark_of fault_mark = 33
 mark_of object_mark = 61
 
--- the line of a block, inside octets of another or not
-abbrev pub IsLineOf : Bool → ℕ → List ℕ → Type 0
-IsLineOf true offset line = IsInsideLine offset line
-IsLineOf false offset line = IsBlockLine offset line
+abbrev pub front_of : LineStart → Front
+front_of start = record {
+  offset = start.offset;
+  header = start.header;
+  contents = start.contents;
+  depth = start.depth;
+  words = start.words.now;
+}
 
--- the offsets of the lines of blocks, where all stand so many octets later; inside octets there are none
-abbrev pub shown_at : Bool → ℕ → List ℕ → List ℕ
-shown_at true base offsets = []
-shown_at false base offsets = map (λ o. base + o) offsets
+-- that of an encoding with the header
+abbrev pub header_front : ℕ → ℕ → Header → Front
+header_front offset depth header = record {
+  offset = offset;
+  header = header.size;
+  contents = header.announced;
+  depth = depth;
+  words = tag_words header.class header.tag;
+}
 
--- the offset is one of a block inside octets that stand so many octets later
-abbrev pub PlacedInside : ℕ → List ℕ → ℕ → Type 0
-PlacedInside base octets offset = (place : ℕ) × StandsInside octets place × (offset ≡ base + place)
+-- what a line has behind its offset and a space
+abbrev pub start_text : Front → List ℕ
+start_text front =
+    right_of 2 front.header ++ (32 ∷ [] ++ (right_of 7 front.contents ++ (32 ∷ 32 ∷ []
+    ++ (indentation front.depth ++ front.words))))
 
--- what was put stands behind the text
-abbrev pub Keeps : List ℕ → List ℕ → Type 0
-Keeps before after = (text : List ℕ) × (after ≡ before ++ text)
+-- a line, inside octets of a string or not
+abbrev pub IsLineOf : Bool → Front → List ℕ → Type 0
+IsLineOf true front line = IsInsideLine front line
+IsLineOf false front line = IsBlockLine front line
 
--- the octets are blocks one after another, of which none has the indefinite form, and their lines were put
-pub record PutsBlocks (place : Place) (octets : List ℕ) (before : List ℕ) (after : List ℕ) : Type 0 where
-  pub trees : Trees ℕ
-  pub blocks : EncodesAll 0 octets trees
-  pub definite : AreDefinite octets (all_offsets trees)
-  pub lines : Adds (PlacedInside place.base octets)
-      (shown_at place.is_inside place.base (offsets_down_to place.most_depth place.depth trees)) before after
+-- the line was put, or stands too deep
+abbrev pub AddsUnless : Bool → Bool → Front → List ℕ → List ℕ → Type 0
+AddsUnless true inside front before after = after ≡ before
+AddsUnless false inside front before after = AddsLine (IsLineOf inside front) before after
 
--- octets that are shown inside others are a document, or encodings by their headers
-abbrev pub IsInside : List ℕ → Inside → Type 0
-IsInside octets (Blocks document) = IsDocument octets (document_trees document)
-IsInside octets Headers = AreHeaders octets
+abbrev pub AddsStart : Place → Front → List ℕ → List ℕ → Type 0
+AddsStart place front = AddsUnless (is_too_deep place.most_depth front.depth) place.is_inside front
 
--- what is shown inside octets stands in them, and its offsets are counted from where it does
-abbrev pub IsHeldIn : List ℕ → ℕ → Held → Type 0
-IsHeldIn octets base held =
-    (before : ℕ) × StandAt octets before held.octets.now × (held.place.base ≡ base + before)
-    × IsInside held.octets.now held.inside × (held.place.is_inside ≡ true)
+-- the lines of encodings that are no lines inside octets of a string
+abbrev pub outer : Bool → Option ℕ → List Front → List Front
+outer true most fronts = []
+outer false most fronts = down_to most fronts
 
--- the lines of a document at the front, and where it ends
-abbrev pub ShowsDocument : ℕ → List ℕ → List ℕ → ℕ → Type 0
-ShowsDocument from octets offsets next =
-    (part rest : List ℕ) × (bs : Trees ℕ) × (octets ≡ part ++ rest) × IsDocument part bs
-    × (offsets ≡ map (λ o. from + o) (all_offsets bs)) × (next ≡ from + length part)
+-- where the contents octets end that are open, the innermost first
+abbrev pub ends_of : Cursor → List ℕ
+ends_of cursor = cursor.end ∷ reverse cursor.ends.items
 
--- the line of an encoding at the front that is at fault, and where it ends
-abbrev pub ShowsLeaf : ℕ → List ℕ → List ℕ → ℕ → Type 0
-ShowsLeaf from octets offsets next =
-    (part rest : List ℕ) × (fault : DecodeFault) × (octets ≡ part ++ rest) × IsEncoding part
-    × FirstFault part fault × (offsets ≡ from ∷ []) × (next ≡ from + length part)
+-- what a cursor has yet to come to
+abbrev pub IsAhead : Cursor → List Front → List ℕ → Type 0
+IsAhead cursor fronts faults = AreFronts cursor.octets.now cursor.offset (ends_of cursor) fronts faults
 
--- the line of a header at the front, and where it ends
-abbrev pub ShowsHeader : ℕ → List ℕ → List ℕ → ℕ → Type 0
-ShowsHeader from octets offsets next =
-    (header rest : List ℕ) × (octets ≡ header ++ rest) × IsHeader header
-    × (offsets ≡ from ∷ []) × (next ≡ from + length header)
+-- the cursor after a step
+abbrev pub Goes : Step → Cursor → Cursor → Type 0
+Goes (Into header size) old new =
+    (new.octets.now ≡ old.octets.now) × (new.offset ≡ old.offset + header)
+    × (ends_of new ≡ (old.offset + size) ∷ ends_of old)
+Goes (Past size) old new =
+    (new.octets.now ≡ old.octets.now) × (new.offset ≡ old.offset + size) × (ends_of new ≡ ends_of old)
 
--- a step puts lines at these offsets, of octets that stand at one
-abbrev pub Shows : ℕ → List ℕ → List ℕ → Step → Type 0
-Shows from octets offsets (Past next) = ShowsDocument from octets offsets next
-Shows from octets offsets (Leaf next) = ShowsLeaf from octets offsets next
-Shows from octets offsets (Into first last) = ShowsHeader from octets offsets first
-Shows from octets offsets (Cut first) = ShowsHeader from octets offsets first
-Shows from octets offsets Fault =
-    ((offsets ≡ []) × HasNoHeader octets) ⊎ ((next : ℕ) × ShowsHeader from octets offsets next)
+-- the step goes on after an encoding with the header that takes so many octets
+abbrev pub IsTaken : Header → ℕ → Step → Type 0
+IsTaken header size (Into first all) =
+    (is_gone_into header.class header.constructed header.tag ≡ true) × (first ≡ header.size) × (all ≡ size)
+IsTaken header size (Past all) =
+    (is_gone_into header.class header.constructed header.tag ≡ false) × (all ≡ size)
 
--- the offset is that of octets inside others, of which a line is shown at their front, or of what stands inside them
-abbrev pub PlacedFrom : Bool → ℕ → ℕ → List ℕ → ℕ → Type 0
-PlacedFrom inside base from octets offset =
-    ((inside ≡ true) × (offset ≡ base + from) × AreShown from octets (from ∷ []))
-    ⊎ PlacedInside (base + from) octets offset
+-- the octets begin with an encoding, or with no header, and it is gone on by the step
+abbrev pub StartsWith : List ℕ → ℕ → ℕ → Front → Step → List ℕ → Type 0
+StartsWith left offset depth front (Into header size) faults =
+    (header ≡ front.header) × (size ≡ size_in left front) × IsFirst left offset depth front true faults
+StartsWith left offset depth front (Past size) faults =
+    ((size ≡ size_in left front) × IsFirst left offset depth front false faults)
+    ⊎ ((size ≡ length left) × HasNoHeader left × (front ≡ unreadable offset (length left) depth)
+    × (faults ≡ offset ∷ []))
 
--- and puts them after a text
-abbrev pub PutsStep : Bool → ℕ → ℕ → List ℕ → Step → List ℕ → List ℕ → Type 0
-PutsStep inside base from octets step before after =
-    (offsets : List ℕ) × Adds (PlacedFrom inside base from octets) (shown_at inside base offsets) before after
-    × Shows from octets offsets step
+-- what is told is the first of the faults, where there is one
+abbrev pub IsFirstFault : List ℕ → Option Fault → Type 0
+IsFirstFault faults told =
+    MatchOption told (faults ≡ []) (λ fault. (later : List ℕ) × (faults ≡ fault.offset ∷ later))
 
--- a step passes an encoding, or the header of one
-abbrev pub PassesOver : ℕ → List ℕ → Step → Type 0
-PassesOver from octets (Past next) = ⊥
-PassesOver from octets (Leaf next) =
-    (part rest : List ℕ) × (octets ≡ part ++ rest) × IsEncoding part × (next ≡ from + length part)
-PassesOver from octets (Into first last) =
-    (header contents rest : List ℕ) × (octets ≡ (header ++ contents) ++ rest) × IsHeader header
-    × IsEncoding (header ++ contents) × (first ≡ from + length header)
-PassesOver from octets (Cut first) = ⊥
-PassesOver from octets Fault = Unit {0}
+-- the first of two
+abbrev pub earlier_fault : Option Fault → Option Fault → Option Fault
+earlier_fault None next = next
+earlier_fault (Some fault) next = Some fault
 
--- after the step it is gone on at the offset
-abbrev pub GoesTo : Step → ℕ → Type 0
-GoesTo (Past next) offset = offset ≡ next
-GoesTo (Leaf next) offset = offset ≡ next
-GoesTo (Into first last) offset = offset ≡ first
-GoesTo (Cut first) offset = offset ≡ first
-GoesTo Fault offset = ⊥
+-- the line is of the encoding that begins the octets, or of one inside them
+abbrev pub IsNear : ℕ → List ℕ → Front → Front → Type 0
+IsNear base left front later = IsLater base front later ⊎ StandsInside (base + front.offset) left later
 
--- the trees that a tree holds
-abbrev pub trees_in : Tree ℕ → Trees ℕ
-trees_in b = unwrap_or (tree_items b) no_trees
+-- the lines were put of what stands at the front of octets, which stand at the offset
+pub record PutsFirst (place : Place) (offset : ℕ) (left : List ℕ) (passed : Passed) (before after : List ℕ)
+    : Type 0 where
+  pub front : Front
+  pub shown : Front
+  pub faults : List ℕ
+  pub starts : StartsWith left offset place.depth front passed.step faults
+  pub same_offset : front.offset ≡ offset
+  pub same_depth : shown.depth ≡ place.depth
+  pub later : IsLater place.base front shown
+  pub told : IsFirstFault faults passed.fault
+  pub adds : Adds (IsNear place.base left front) (outer place.is_inside place.most_depth (shown ∷ [])) before after
 
--- the offsets of what is left of lists of blocks inside one another, the innermost last, the first of which stands so
--- deep
-abbrev pub left_of : Option ℕ → ℕ → List (List ASN1Block) → List ℕ
-left_of most depth [] = []
-left_of most depth (blocks ∷ inner) = left_of most (suc depth) inner ++ offsets_down_to most depth (views blocks)
-
--- the offsets of what a walk has yet to come to
-abbrev pub ahead : Walk → List ℕ
-ahead walk = left_of walk.most_depth walk.depth (map (λ blocks. blocks.now) walk.lists.items)
+-- the lines of octets were put
+pub record PutsEncodings (place : Place) (octets : List ℕ) (first : Option Fault) (before after : List ℕ)
+    : Type 0 where
+  pub fronts : List Front
+  pub faults : List ℕ
+  pub read : AreFrontsOf octets fronts faults
+  pub told : IsFirstFault faults first
+  pub adds : Adds (StandsInside place.base octets) (outer place.is_inside place.most_depth fronts) before after

@@ -1,28 +1,25 @@
-// Going over the headers of octets: which encoding comes next, and in which contents octets it stands.
-ghost use Rattle.std.specs.Prelude.{◌≡◌, ◌≤◌, ◌<◌, ◌^◌, ◌++◌, [], List, ℕ, false};
-ghost use Rattle.std.specs.Prelude.{IfOk, IsTrue, drop, length};
-ghost use Rattle.der_lines.specs.Steps.{GoesTo};
+// Going over the headers of octets: which encoding comes next, and inside which contents octets.
+ghost use Rattle.std.specs.Prelude.{◌≡◌, ◌<◌, [], List, ℕ};
+ghost use Rattle.std.specs.Prelude.{IfOk, IfSome, MatchOption, OnOk, length, slice_range};
+ghost use Rattle.der_lines.specs.Dump.{Front};
+ghost use Rattle.der_lines.specs.Steps.{Goes, IsAhead};
 
+use crate::place::sum_of;
 use std::alloc::{AllocError, Global};
 
-// What was found at an offset.
-#[derive(Drop)]
+// How it is gone on after the encoding at the front of what is left.
+#[derive(Clone, Copy, Drop)]
 pub enum Step {
-    // encodings that are read, all of a document, which ends here
+    // into its contents octets: how many octets the header has, and how many the encoding
+    Into(usize, usize),
+    // to what stands behind it: how many octets it has
     Past(usize),
-    // an encoding whose contents octets are at fault, which ends here
-    Leaf(usize),
-    // a header whose contents octets are gone into: where they begin and end
-    Inside(usize, usize),
-    // a header whose contents octets are cut short: where they begin
-    Cut(usize),
-    // nothing can be read from here on
-    Fault,
 }
 
 // How far octets were gone over.
 #[derive(Drop)]
-pub struct Cursor {
+pub struct Cursor<'a> {
+    octets: &'a [u8],
     pub offset: usize,
     // where the innermost contents octets end that are open
     end: usize,
@@ -30,71 +27,74 @@ pub struct Cursor {
     ends: Vec<usize>,
 }
 
-impl Cursor {
-    // At the first of so many octets.
-    pub fn over(alloc: Global, size: usize) -> Cursor
+impl<'a> Cursor<'a> {
+    // At the first of octets.
+    pub fn over(alloc: Global, octets: &'a [u8]) -> Cursor<'a>
+        ensures octets { result.octets.now ≡ octets.now }
         ensures offset { result.offset ≡ 0 }
-        ensures end { result.end ≡ size }
+        ensures end { result.end ≡ length octets.now }
+        ensures ends { result.ends.items ≡ [] }
     {
         Cursor {
+            octets,
             offset: 0,
-            end: size,
+            end: octets.len(),
             ends: Vec::new(alloc),
         }
     }
 
-    // How many contents octets are open.
-    pub fn depth(&self) -> usize {
+    // Inside how many encodings it is.
+    pub fn depth(&self) -> usize
+        ensures { result ≡ length self.now.ends.items }
+    {
         self.ends.len()
     }
 
-    // Leaves the contents octets that have ended. Whether any are left.
-    pub fn leave_ended(&mut self) -> bool
-        ensures offset { self.new.offset ≡ self.old.offset }
-        ensures open { self.old.offset < self.old.end → self.new.end ≡ self.old.end }
-        ensures ended { result ≡ false → self.old.end ≤ self.old.offset }
-    {
-        while self.offset >= self.end {
-            match self.ends.pop() {
-                Some(end) => self.end = end,
-                None => return false,
-            }
-        }
-        true
-    }
-
     // What is left of the innermost contents octets that are open.
-    pub fn left<'a>(&self, octets: &'a [u8]) -> &'a [u8]
-        ensures { (after : List ℕ) × (drop self.now.offset octets.now ≡ result.now ++ after)
-            × (length octets.now ≤ self.now.end → after ≡ []) }
+    fn left(&self) -> &'a [u8]
+        ensures { result.now ≡ slice_range self.now.octets.now self.now.offset self.now.end }
     {
-        let (_, rest) = octets.split_at(self.offset.min(octets.len()));
+        let (_, rest) = self.octets.split_at(self.offset.min(self.octets.len()));
         let size = self.end.saturating_sub(self.offset);
         let (left, _) = rest.split_at(size.min(rest.len()));
         left
     }
 
-    // Goes on after a step. Whether there is more.
-    pub fn take(&mut self, step: Step) -> Result<bool, AllocError>
-        ensures { IfOk result (λ more. IsTrue more →
-            (self.old.offset < self.new.offset) × (self.new.offset < 2 ^ 64)
-            × GoesTo step self.new.offset) }
+    // What is left of the innermost contents octets that have not ended. It leaves those that have.
+    pub fn next(&mut self) -> Option<&'a [u8]>
+        ensures left { IfSome result (λ left.
+            left.now ≡ slice_range self.new.octets.now self.new.offset self.new.end) }
+        ensures some { IfSome result (λ left. 0 < length left.now) }
+        ensures offset { self.new.offset ≡ self.old.offset }
+        ensures octets { self.new.octets.now ≡ self.old.octets.now }
+        ensures back { MatchOption result
+            (IsAhead self.old [] [])
+            (λ _. (fronts : List Front) (faults : List ℕ)
+            → IsAhead self.new fronts faults → IsAhead self.old fronts faults) }
     {
-        let next = match step {
-            Step::Past(next) | Step::Leaf(next) => next,
-            Step::Inside(first, last) => {
-                self.ends.push(self.end)?;
-                self.end = last;
-                first
+        let mut left = self.left();
+        while left.is_empty() {
+            match self.ends.pop() {
+                Some(end) => self.end = end,
+                None => return None,
             }
-            Step::Cut(first) => {
+            left = self.left();
+        }
+        Some(left)
+    }
+
+    // Goes on.
+    pub fn go(&mut self, step: Step) -> Result<(), AllocError>
+        ensures { OnOk result (Goes step self.old self.new) }
+    {
+        match step {
+            Step::Into(header, size) => {
                 self.ends.push(self.end)?;
-                first
+                self.end = sum_of(self.offset, size)?;
+                self.offset = sum_of(self.offset, header)?;
             }
-            Step::Fault => return Ok(false),
-        };
-        let is_later = self.offset < next;
-        self.offset = next;
-        Ok(is_later)
+            Step::Past(size) => self.offset = sum_of(self.offset, size)?,
+        }
+        Ok(())
     }
 }

@@ -1,17 +1,20 @@
 // What is said of faults.
-ghost use Rattle.std.specs.Prelude.{◌≡◌, ◌≢◌, IfOk, OnOk};
+ghost use Rattle.std.specs.Prelude.{OnOk};
 ghost use Rattle.der_lines.specs.Dump.{AddsLine, IsFaultLine};
-ghost use Rattle.asn1_headers.specs.declared.error.ASN1DecodeErr.TheVariants.{OutOfMemory};
 
-use crate::header::{Header, read_header};
 use crate::lines::push_fault;
 use crate::scalars::{write_after_space, write_quoted};
-use asn1_blocks::encoding::encoding_at;
 use asn1_headers::error::ASN1DecodeErr;
-use asn1_headers::header::ASN1Class;
 use std::alloc::{AllocError, Global};
 use std::str;
 use std::str::Utf8Error;
+
+// What is wrong, in words, and at which offset.
+#[derive(Drop)]
+pub struct Fault {
+    pub offset: usize,
+    pub words: String,
+}
 
 /// Puts the line of a fault: its offset, and what it is in words.
 ///
@@ -29,40 +32,14 @@ pub fn push_fault_line(
     push_fault(offset, words.as_bytes(), out)
 }
 
-// Why octets are no document, in words, and the name of the fault, which the block at an offset has.
-pub fn words_at(
-    alloc: Global,
-    octets: &[u8],
-    offset: usize,
-    fault: &ASN1DecodeErr,
-) -> Result<String, AllocError> {
-    let Some(encoding) = encoding_at(octets, offset) else {
-        return fault_words(alloc, fault);
-    };
-    match read_header(alloc, encoding)? {
-        Some(header) => leaf_words(alloc, &header, encoding, fault),
-        None => fault_words(alloc, fault),
-    }
-}
-
-fn is_universal(header: &Header) -> bool {
-    matches!(header.class, ASN1Class::Universal)
-}
-
-// So of an encoding that is there whole: of a leaf also what its contents octets are, and what they should be.
+// What is wrong with contents octets of a type of class Universal, in words, and the name of the fault.
 pub fn leaf_words(
     alloc: Global,
-    header: &Header,
-    encoding: &[u8],
+    universal: Option<u8>,
+    contents: &[u8],
     fault: &ASN1DecodeErr,
-) -> Result<String, AllocError>
-    ensures { IfOk result (λ _. fault.now ≢ OutOfMemory) }
-{
-    if !is_universal(header) {
-        return fault_words(alloc, fault);
-    }
-    let (_, contents) = encoding.split_at(header.size.min(encoding.len()));
-    match (header.tag.to_u8(), fault) {
+) -> Result<String, AllocError> {
+    match (universal, fault) {
         (Some(6), ASN1DecodeErr::Incomplete) => identifier_words(alloc, contents),
         (Some(23), ASN1DecodeErr::InvalidDateValue(_)) => {
             time_words(alloc, "UTCTime", "YYMMDDhhmmssZ", contents)
@@ -116,10 +93,8 @@ fn utf8_words(alloc: Global, failure: &Utf8Error) -> Result<String, AllocError> 
     format!(in alloc; "string is not UTF-8 from content byte {place} on (UTF8DecodeFailure)")
 }
 
-// So of any fault. That memory ran out is none.
-pub fn fault_words(alloc: Global, fault: &ASN1DecodeErr) -> Result<String, AllocError>
-    ensures { IfOk result (λ _. fault.now ≢ OutOfMemory) }
-{
+// What a fault is, in words. That memory ran out is none.
+pub fn fault_words(alloc: Global, fault: &ASN1DecodeErr) -> Result<String, AllocError> {
     match fault {
         ASN1DecodeErr::EmptyBuffer => String::from_str(alloc, "there are no bytes (EmptyBuffer)"),
         ASN1DecodeErr::BadBooleanLength(n) => {

@@ -1,136 +1,80 @@
-// What stands inside octets of a block: a document, or encodings that are none by a fault of one of them.
-ghost use Rattle.std.specs.Prelude.{◌≡◌, ◌<◌, IfOk, IfSome, IsTrue, length, true};
-ghost use Rattle.der_lines.specs.Dump.{AreHeaders, StandAt};
-ghost use Rattle.der_lines.specs.Steps.{IsHeldIn, IsInside, PassesOver};
-ghost use Rattle.asn1_blocks.specs.Grammar.{IsDocument};
-ghost use Rattle.asn1_blocks.specs.View.{document_trees};
+// Encodings inside octets of strings.
+ghost use Rattle.std.specs.Prelude.{◌≡◌, ◌<◌, IfOk, IfSome, length, true};
+ghost use Rattle.der_lines.specs.Dump.{StandAt};
 
 use crate::cursor::{Cursor, Step};
-use crate::header::{is_group, read_header};
-use crate::place::{Place, sum_of};
-use asn1_blocks::block::ASN1Block;
-use asn1_blocks::document::Document;
+use crate::header::{Header, find_header};
+use crate::leaf::is_right;
+use crate::place::Place;
 use asn1_blocks::encoding::encoding_at;
-use asn1_headers::error::ASN1DecodeErr;
-use asn1_headers::header::ASN1Class;
 use std::alloc::{AllocError, Global};
 
-// What octets of a block hold.
-#[derive(Drop)]
-pub enum Inside {
-    // a document
-    Blocks(Document),
-    // encodings by their headers, one after another
-    Headers,
-}
-
-// Octets of a block that are shown.
-#[derive(Drop)]
+// Octets of a string which are encodings, and how many contents octets stand before them.
+#[derive(Clone, Copy)]
 pub struct Held<'a> {
     pub octets: &'a [u8],
-    pub inside: Inside,
-    pub place: Place,
+    pub before: usize,
 }
 
-// Octets among others.
-#[derive(Clone, Copy, Drop)]
-struct Part<'a> {
-    // how many octets stand before them
-    before: usize,
-    octets: &'a [u8],
-}
-
-// What stands inside octets of a block at a depth, if it may be shown. The header of the block has so many octets.
+// The encodings inside contents octets of a string that stands at the place, if they are to be shown.
 pub fn held_in<'a>(
     alloc: Global,
-    octets: &'a [u8],
-    block: &ASN1Block,
-    header: usize,
+    header: &Header,
+    contents: &'a [u8],
     place: Place,
-    depth: usize,
 ) -> Result<Option<Held<'a>>, AllocError>
-    ensures held { IfOk result (λ held. IfSome held (IsHeldIn octets.now place.base)) }
-    ensures fewer { IfOk result (λ held. IfSome held (λ h. h.place.documents < place.documents)) }
+    ensures stand { IfOk result (λ held. IfSome held (λ h. StandAt contents.now h.before h.octets.now)) }
+    ensures fewer { IfOk result (λ held. IfSome held (λ _. 0 < place.documents)) }
 {
-    if place.documents == 0 || !place.goes_into(depth) {
+    if !place.shows_inside() {
         return Ok(None);
     }
-    let Some(part) = octets_inside(octets, block, header) else {
-        return Ok(None);
-    };
-    let Some(inside) = inside_of(alloc, block, part.octets)? else {
-        return Ok(None);
-    };
-    Ok(Some(Held {
-        octets: part.octets,
-        inside,
-        place: place.inside(part.before, depth)?,
-    }))
+    match octets_inside(header, contents) {
+        Some(held) if hold_encodings(alloc, held.octets)? => Ok(Some(held)),
+        _ => Ok(None),
+    }
 }
 
-// The octets inside a block in which a document may stand.
-fn octets_inside<'a>(octets: &'a [u8], block: &ASN1Block, header: usize) -> Option<Part<'a>>
-    ensures { IfSome result (λ p. StandAt octets.now p.before p.octets.now) }
+// The octets of a string in which encodings may stand: those of an OCTET STRING, and of a BIT STRING without unused bits.
+fn octets_inside<'a>(header: &Header, contents: &'a [u8]) -> Option<Held<'a>>
+    ensures { IfSome result (λ h. StandAt contents.now h.before h.octets.now) }
 {
-    let skipped = header.saturating_add(octets_before(block)?);
-    let encoding = encoding_at(octets, block.offset())?;
-    let size = encoding.len().saturating_sub(skipped);
-    let before = block.offset().saturating_add(skipped).min(octets.len());
-    let (_, rest) = octets.split_at(before);
-    let (inside, _) = rest.split_at(size.min(rest.len()));
-    Some(Part {
-        before,
-        octets: inside,
-    })
-}
-
-// How many contents octets of a block stand before those in which a document may stand.
-fn octets_before(block: &ASN1Block) -> Option<usize> {
-    match block {
-        ASN1Block::OctetString(_, _) => Some(0),
-        ASN1Block::BitString(_, bits, octets) => {
-            if octets.len().checked_mul(8) == Some(*bits) {
-                Some(1)
-            } else {
-                None
-            }
-        }
-        ASN1Block::Unknown(_, true, _, _, _) => Some(0),
+    match (header.universal(), contents) {
+        (Some(4), octets) => Some(Held { octets, before: 0 }),
+        (Some(3), [0, octets @ ..]) => Some(Held { octets, before: 1 }),
         _ => None,
     }
 }
 
-// What the octets inside a block are, if they are shown. In strings they are not where an encoding at the top is of no
-// known type, since octets that are no document may be read as such by chance.
-fn inside_of(alloc: Global, block: &ASN1Block, octets: &[u8]) -> Result<Option<Inside>, AllocError>
-    ensures { IfOk result (λ found. IfSome found (IsInside octets.now)) }
-{
-    let is_any = matches!(block, ASN1Block::Unknown(_, _, _, _, _));
-    if !is_any && !may_be_known(octets) {
-        return Ok(None);
+// Whether octets are encodings to their end, by their headers, each of which may be of a known type; and one of them is
+// gone into, or all have a value: octets that are no encodings may look like some by chance.
+fn hold_encodings(alloc: Global, octets: &[u8]) -> Result<bool, AllocError> {
+    if octets.is_empty() || !may_be_known(octets) {
+        return Ok(false);
     }
-    match Document::from_der(alloc, octets) {
-        Ok(document) => {
-            if is_any || document.blocks().iter().all(is_known) {
-                Ok(Some(Inside::Blocks(document)))
-            } else {
-                Ok(None)
-            }
+    let mut hold_more = false;
+    let mut are_right = true;
+    let mut cursor = Cursor::over(alloc, octets);
+    while let Some(left) = cursor.next() {
+        let Some(header) = find_header(alloc, left)? else {
+            return Ok(false);
+        };
+        let (_, behind) = left.split_at(header.size);
+        if header.announced > behind.len() {
+            return Ok(false);
         }
-        Err(ASN1DecodeErr::OutOfMemory) => Err(AllocError),
-        Err(_) => headers_in(alloc, octets),
+        let size = header.size + header.announced;
+        let step = if header.is_gone_into() {
+            hold_more = true;
+            Step::Into(header.size, size)
+        } else {
+            let (contents, _) = behind.split_at(header.announced);
+            are_right = are_right && (hold_more || is_right(alloc, header, contents)?);
+            Step::Past(size)
+        };
+        cursor.go(step)?;
     }
-}
-
-// Whether a block is of a known type, also of one that the library does not know (X.680 8.4, table 1).
-fn is_known(block: &ASN1Block) -> bool {
-    match block {
-        ASN1Block::Unknown(class, _, _, tag, _) => {
-            matches!(class, ASN1Class::Universal)
-                && matches!(tag.to_u8(), Some(1..=14) | Some(16..=30))
-        }
-        _ => true,
-    }
+    Ok(hold_more || are_right)
 }
 
 // Whether encodings stand one after another, by their headers, and each may be of a known type by its leading octet.
@@ -146,64 +90,15 @@ fn may_be_known(octets: &[u8]) -> bool {
     rest.is_empty()
 }
 
-// Whether a leading octet is of class Universal and of none of the tags 0 and 15, or of a constructed encoding.
+// Whether a leading octet is of class Universal and of a type that has a name (X.680 8.4, table 1), or of a constructed
+// encoding of another class that holds octets.
 fn may_begin_known(encoding: &[u8]) -> bool
     ensures { result ≡ true → 0 < length encoding.now }
 {
     match encoding.first() {
-        Some(0x00 | 0x0F | 0x20 | 0x2F) => false,
-        Some(b) => *b < 0x40 || *b & 0x20 != 0,
+        Some(0x00 | 0x0F | 0x1F | 0x20 | 0x2F | 0x3F) => false,
+        Some(b) if *b < 0x40 => true,
+        Some(b) => *b & 0x20 != 0 && encoding.len() > 2,
         None => false,
     }
-}
-
-fn headers_in(alloc: Global, octets: &[u8]) -> Result<Option<Inside>, AllocError>
-    ensures { IfOk result (λ found. IfSome found (IsInside octets.now)) }
-{
-    if are_headers(alloc, octets)? {
-        Ok(Some(Inside::Headers))
-    } else {
-        Ok(None)
-    }
-}
-
-// Whether the octets are encodings by their headers, one after another, at least one of which holds more. Those inside
-// an encoding fill its contents octets.
-fn are_headers(alloc: Global, octets: &[u8]) -> Result<bool, AllocError>
-    ensures { IfOk result (λ are. IsTrue are → AreHeaders octets.now) }
-{
-    let mut holds_more = false;
-    let mut cursor = Cursor::over(alloc, octets.len());
-    while cursor.leave_ended() {
-        let left = cursor.left(octets);
-        let step = step_over(alloc, left, cursor.offset)?;
-        if matches!(step, Step::Inside(_, _)) {
-            holds_more = true;
-        }
-        if !cursor.take(step)? {
-            return Ok(false);
-        }
-    }
-    if cursor.offset < octets.len() {
-        return Ok(false);
-    }
-    Ok(holds_more)
-}
-
-// What stands at the front of octets that stand at an offset, by its header alone.
-fn step_over(alloc: Global, left: &[u8], offset: usize) -> Result<Step, AllocError>
-    ensures { IfOk result (PassesOver offset left.now) }
-{
-    let Some(encoding) = encoding_at(left, 0) else {
-        return Ok(Step::Fault);
-    };
-    let Some(header) = read_header(alloc, encoding)? else {
-        return Ok(Step::Fault);
-    };
-    let end = sum_of(offset, encoding.len())?;
-    if header.constructed || is_group(&header) {
-        let first = sum_of(offset, header.size)?;
-        return Ok(Step::Inside(first, end));
-    }
-    Ok(Step::Leaf(end))
 }

@@ -9,43 +9,38 @@
 //! >     6  2       0        NULL
 //! ```
 //!
-//! A line has the offset of its block, in octets from the first of the document, how many octets its header has, how
-//! many contents octets it announces, its type, and its value. What stands inside octets of a block has lines that
-//! begin with `>`. Of octets that are no document, the encodings that can be read are shown, and then the first fault,
-//! on a line that begins with `!`; what came of it is the [`Verdict`]. A document with a length of the indefinite form
-//! of BER is refused, too, after all its lines. [`push_octets`] puts the lines alone and returns the document, for
-//! those who ask more of it; [`push_fault_line`] puts the line of a fault that they find.
+//! A line has the offset of its encoding, in octets from the first of the document, how many octets its header has, how
+//! many contents octets it announces, its type, and its value. What stands inside octets of a string has lines that
+//! begin with `>`. What is wrong with an encoding is said on its line, and the first fault again on the last line, which
+//! begins with `!`; what came of it is the [`Verdict`]. Where the library reads otherwise than X.690, on purpose, lines
+//! show what X.690 has. [`push_fault_line`] puts the line of a fault that others find.
 //!
 //! [`push_label`] and [`push_refusal`] put the other lines of what is written: `=` and the label of a document, `!` and
 //! why there is none. [`block_at`] finds a block by its offset, and [`behind_header`] its contents octets.
-//! [`first_indefinite`] finds the indefinite form of BER, for those who say [`INDEFINITE`] in lines of another kind.
+//! [`INDEFINITE`] is what is said of the indefinite form of BER.
 //!
 //! The only error is that memory ran out. What was put until then stays where it was put.
 #![tactic(auto)]
 
 mod cursor;
 mod document;
-mod entries;
+mod encodings;
 mod faults;
 mod header;
 mod held;
-mod indefinite;
+mod leaf;
 mod lines;
 mod names;
 mod notes;
-mod parts;
 mod place;
 mod scalars;
 mod seek;
 mod style;
-mod tree;
 mod values;
-mod walk;
 
-pub use document::{Verdict, push_document, push_octets};
+pub use document::{Verdict, push_document};
 pub use faults::push_fault_line;
 pub use header::behind_header;
-pub use indefinite::first_indefinite;
 pub use names::Names;
 pub use notes::{push_label, push_refusal};
 pub use seek::block_at;

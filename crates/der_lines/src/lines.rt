@@ -1,7 +1,7 @@
 // Lines, each put at the end of what is written.
 ghost use Rattle.std.specs.Prelude.{◌≡◌, ◌==◌, ◌++◌, OnOk, if◌then◌else◌, replicate, true};
-ghost use Rattle.der_lines.specs.Dump.{AddsLine, IsBlockLine, IsFaultLine, IsNote, IsOneLine, on_one_line};
-ghost use Rattle.der_lines.specs.Steps.{IsLineOf, mark_of};
+ghost use Rattle.der_lines.specs.Dump.{AddsLine, IsBlockLine, IsFaultLine, IsNote, IsOneLine, on_one_line, right_of};
+ghost use Rattle.der_lines.specs.Steps.{IsLineOf, front_of, mark_of, start_text};
 
 use itoa::Buffer;
 use memchr::memchr;
@@ -16,8 +16,15 @@ pub enum Mark {
     Object,
 }
 
-// How many characters an offset takes, with the spaces before it.
+// How many characters an offset takes, with the spaces before it, and the sizes of header and contents.
 const OFFSET_WIDTH: usize = 7;
+
+const HEADER_WIDTH: usize = 2;
+
+const CONTENTS_WIDTH: usize = 7;
+
+// How many levels are shown by spaces; deeper ones stand where the last of them does.
+const MOST_LEVELS: usize = 40;
 
 fn push_spaces(n: usize, out: &mut Vec<u8>) -> Result<(), AllocError>
     ensures { OnOk result (out.new.items ≡ out.old.items ++ replicate n 32) }
@@ -53,21 +60,54 @@ fn plain(b: u8) -> u8
     if b == b'\n' { b' ' } else { b }
 }
 
-// The line of a block: its offset, which takes so many characters with the spaces before it, and what is said of it.
-fn push_block_line(
-    width: usize,
-    offset: usize,
-    said: &[u8],
-    out: &mut Vec<u8>,
-) -> Result<(), AllocError>
-    ensures { OnOk result (AddsLine (IsBlockLine offset) out.old.items out.new.items) }
+// What the line of an encoding begins with: its offset, the sizes of its header and of the contents octets that it
+// announces, how many encodings are around it, and its tag in words.
+#[derive(Clone, Copy)]
+pub struct LineStart<'a> {
+    pub offset: usize,
+    pub header: usize,
+    pub contents: usize,
+    pub depth: usize,
+    pub words: &'a str,
+}
+
+// Puts a number, with spaces before it where it has fewer digits than the width.
+fn push_right(width: usize, number: usize, out: &mut Vec<u8>) -> Result<(), AllocError>
+    ensures { OnOk result (out.new.items ≡ out.old.items ++ right_of width number) }
 {
     let mut digits = Buffer::new();
-    let number = digits.format(offset);
-    push_spaces(width.saturating_sub(number.len()), out)?;
-    out.extend_from_slice(number.as_bytes())?;
+    let text = digits.format(number);
+    push_spaces(width.saturating_sub(text.len()), out)?;
+    out.extend_from_slice(text.as_bytes())?;
+    Ok(())
+}
+
+// Puts the sizes of header and contents, the spaces for the depth, and the words.
+fn push_start(start: LineStart<'_>, out: &mut Vec<u8>) -> Result<(), AllocError>
+    ensures { OnOk result (out.new.items ≡ out.old.items ++ start_text (front_of start.entry)) }
+{
+    push_right(HEADER_WIDTH, start.header, out)?;
     out.push(b' ')?;
-    push_plain(said, out)?;
+    push_right(CONTENTS_WIDTH, start.contents, out)?;
+    out.extend_from_slice(b"  ")?;
+    push_spaces(2 * start.depth.min(MOST_LEVELS), out)?;
+    out.extend_from_slice(start.words.as_bytes())?;
+    Ok(())
+}
+
+// The line of an encoding. Its offset takes so many characters with the spaces before it.
+fn push_block_line(
+    width: usize,
+    start: LineStart<'_>,
+    said: &str,
+    out: &mut Vec<u8>,
+) -> Result<(), AllocError>
+    ensures { OnOk result (AddsLine (IsBlockLine (front_of start.entry)) out.old.items out.new.items) }
+{
+    push_right(width, start.offset, out)?;
+    out.push(b' ')?;
+    push_start(start, out)?;
+    push_plain(said.as_bytes(), out)?;
     out.push(b'\n')?;
     Ok(())
 }
@@ -106,18 +146,18 @@ fn mark_octet(mark: Mark) -> u8
     }
 }
 
-// The line of a block, which begins with `>` where the block stands inside octets of another.
+// The line of an encoding, which begins with `>` where it stands inside octets of another.
 pub fn push_line(
     is_inside: bool,
-    offset: usize,
-    said: &[u8],
+    start: LineStart<'_>,
+    said: &str,
     out: &mut Vec<u8>,
 ) -> Result<(), AllocError>
-    ensures { OnOk result (AddsLine (IsLineOf is_inside offset) out.old.items out.new.items) }
+    ensures { OnOk result (AddsLine (IsLineOf is_inside (front_of start.entry)) out.old.items out.new.items) }
 {
     if !is_inside {
-        return push_block_line(OFFSET_WIDTH, offset, said, out);
+        return push_block_line(OFFSET_WIDTH, start, said, out);
     }
     out.push(b'>')?;
-    push_block_line(OFFSET_WIDTH - 1, offset, said, out)
+    push_block_line(OFFSET_WIDTH - 1, start, said, out)
 }

@@ -1,5 +1,5 @@
 // Where lines stand that are put.
-ghost use Rattle.std.specs.Prelude.{◌≡◌, ◌+◌, ◌<◌, IfOk, None, false, suc, true};
+ghost use Rattle.std.specs.Prelude.{◌≡◌, ◌+◌, ◌<◌, IfOk, false, true};
 ghost use Rattle.der_lines.specs.Dump.{is_too_deep};
 
 use crate::style::Style;
@@ -43,76 +43,33 @@ pub fn outermost(style: Style) -> Place
 }
 
 impl Place {
-    // That of which all is shown.
-    pub fn unlimited(self) -> Place
-        ensures same { result.is_inside ≡ self.is_inside }
-        ensures base { result.base ≡ self.base }
-        ensures documents { result.documents ≡ self.documents }
-        ensures most { result.most_depth ≡ None }
+    // Whether what octets of strings hold that stand here may be shown.
+    pub fn shows_inside(self) -> bool
+        ensures { result ≡ true → 0 < self.documents }
     {
-        Place {
-            most_depth: None,
-            ..self
-        }
+        let is_deep = match self.most_depth {
+            Some(most) => most <= self.depth,
+            None => false,
+        };
+        self.documents > 0 && !is_deep
     }
 
-    // Whether blocks that stand here are not shown, since there are too many around them.
-    pub fn is_too_deep(self) -> bool
-        ensures { result ≡ is_too_deep self.most_depth self.depth }
-    {
-        is_too_deep(self.most_depth, self.depth)
-    }
-
-    // Whether blocks at a depth may hold what is shown.
-    pub fn goes_into(self, depth: usize) -> bool {
-        match self.most_depth {
-            Some(most) => depth < most,
-            None => true,
-        }
-    }
-
-    // That of octets which stand so many octets further on.
-    pub fn further(self, before: usize) -> Result<Place, AllocError>
+    // That of encodings which stand so many levels further in.
+    pub fn deeper(self, levels: usize) -> Result<Place, AllocError>
         ensures same { IfOk result (λ p. p.is_inside ≡ self.is_inside) }
-        ensures base { IfOk result (λ p. p.base ≡ self.base + before) }
-        ensures depth { IfOk result (λ p. p.depth ≡ self.depth) }
+        ensures base { IfOk result (λ p. p.base ≡ self.base) }
+        ensures depth { IfOk result (λ p. p.depth ≡ self.depth + levels) }
         ensures documents { IfOk result (λ p. p.documents ≡ self.documents) }
         ensures most { IfOk result (λ p. p.most_depth ≡ self.most_depth) }
     {
         Ok(Place {
-            base: sum_of(self.base, before)?,
+            depth: sum_of(self.depth, levels)?,
             ..self
         })
     }
 
-    // That of contents octets behind a header of so many octets.
-    pub fn behind(self, header: usize) -> Result<Place, AllocError>
-        ensures same { IfOk result (λ p. p.is_inside ≡ self.is_inside) }
-        ensures base { IfOk result (λ p. p.base ≡ self.base + header) }
-        ensures depth { IfOk result (λ p. p.depth ≡ suc self.depth) }
-        ensures most { IfOk result (λ p. p.most_depth ≡ self.most_depth) }
-    {
-        Ok(Place {
-            base: sum_of(self.base, header)?,
-            depth: sum_of(self.depth, 1)?,
-            ..self
-        })
-    }
-
-    // That of octets which stand so many levels further in.
-    pub fn deeper(self, levels: usize) -> Place
-        ensures same { result.is_inside ≡ self.is_inside }
-        ensures base { result.base ≡ self.base }
-        ensures documents { result.documents ≡ self.documents }
-    {
-        Place {
-            depth: self.depth.saturating_add(levels),
-            ..self
-        }
-    }
-
-    // That of octets inside a block at a depth, so many octets further on. One document fewer is shown in them.
-    pub fn inside(self, before: usize, depth: usize) -> Result<Place, AllocError>
+    // That of octets inside a string which stands here, so many octets further on. One document fewer is shown in them.
+    pub fn inside(self, before: usize) -> Result<Place, AllocError>
         requires { 0 < self.documents }
         ensures inside { IfOk result (λ p. p.is_inside ≡ true) }
         ensures base { IfOk result (λ p. p.base ≡ self.base + before) }
@@ -121,7 +78,7 @@ impl Place {
         Ok(Place {
             is_inside: true,
             base: sum_of(self.base, before)?,
-            depth: depth.saturating_add(1),
+            depth: self.depth.saturating_add(1),
             documents: self.documents - 1,
             ..self
         })

@@ -1,12 +1,11 @@
 // Blocks by their offsets.
-ghost use Rattle.std.specs.Prelude.{◌≡◌, ◌==◌, ◌↔◌, ◌<◌, ◌∷◌, ℕ, List, false, IfOk, IfSome, IsTrue, MatchOption};
-ghost use Rattle.der_lines.specs.Seek.{AreEncodings, BeginsAt, HasNoBlockAt, Holds, is_gone_into};
+ghost use Rattle.std.specs.Prelude.{◌≡◌, ◌↔◌, ◌<◌, ◌∷◌, ℕ, List, false, IfOk, IfSome, IsTrue, MatchOption};
+ghost use Rattle.der_lines.specs.Seek.{AreEncodings, BeginsAt, HasNoBlockAt, Holds};
 ghost use Rattle.asn1_headers.specs.declared.header.ASN1Class.TheVariants.{Universal};
 
-use crate::header::{Header, read_header};
+use crate::header::{Header, find_header, has_tag};
 use asn1_blocks::encoding::encoding_at;
 use asn1_headers::header::ASN1Class;
-use asn1_numbers::number::big_uint::BigUint;
 use std::alloc::{AllocError, Global};
 
 // The tags of strings that may hold encodings.
@@ -49,7 +48,7 @@ fn go_nearer(
         (λ f. (block : List ℕ) → BeginsAt octets.now distance block ↔ BeginsAt f.0.now f.1 block)) }
     ensures nearer { IfOk result (λ found. IfSome found (λ f. f.1 < distance)) }
 {
-    let Some(header) = read_header(alloc, octets)? else {
+    let Some(header) = find_header(alloc, octets)? else {
         return Ok(None);
     };
     if distance < header.size {
@@ -77,7 +76,7 @@ fn octets_inside<'a>(header: &Header, contents: &'a [u8]) -> Option<(&'a [u8], u
         Holds header.now.class header.now.constructed header.now.tag contents.now before inside → ⊥)
         (λ f. Holds header.now.class header.now.constructed header.now.tag contents.now f.1 f.0.now) }
 {
-    if goes_into(header) {
+    if header.is_gone_into() {
         return Some((contents, 0));
     }
     if is_primitive(header, OCTET_STRING) {
@@ -89,18 +88,6 @@ fn octets_inside<'a>(header: &Header, contents: &'a [u8]) -> Option<(&'a [u8], u
     None
 }
 
-// Whether contents octets are blocks: those of a constructed encoding, and of a SEQUENCE or SET.
-fn goes_into(header: &Header) -> bool
-    ensures { result ≡ is_gone_into header.now.class header.now.constructed header.now.tag }
-{
-    match header.class {
-        ASN1Class::Universal => {
-            header.constructed || has_tag(&header.tag, 16) || has_tag(&header.tag, 17)
-        }
-        _ => header.constructed,
-    }
-}
-
 // Whether it is the header of a primitive encoding of class Universal and this tag.
 fn is_primitive(header: &Header, number: u8) -> bool
     ensures { IsTrue result ↔
@@ -109,15 +96,6 @@ fn is_primitive(header: &Header, number: u8) -> bool
     matches!(header.class, ASN1Class::Universal)
         && !header.constructed
         && has_tag(&header.tag, number)
-}
-
-fn has_tag(tag: &BigUint, number: u8) -> bool
-    ensures { result ≡ (tag.now == number) }
-{
-    match tag.to_u8() {
-        Some(n) => n == number,
-        None => false,
-    }
 }
 
 // The contents octets of an OCTET STRING, if they are encodings.

@@ -1,23 +1,23 @@
-// What is said of a block after its offset: the sizes of its header and contents, its tag, and its value. No contract
-// says anything of it; that it becomes one line is seen to where it is put.
-use crate::header::{Encoding, Header};
+// What is said of encodings behind the sizes: the tag in words, and the values of contents octets.
+ghost use Rattle.std.specs.Prelude.{◌≡◌, IfOk, option_map, string_bytes};
+ghost use Rattle.der_lines.specs.Dump.{tag_number as tag_number_is, tag_words as tag_words_are};
+ghost use Rattle.der_values.specs.Types.{type_name as type_name_is};
+
+use crate::header::Header;
 use crate::names::Names;
-use crate::scalars::{write_after_space, write_as, write_hex, write_quoted};
-use asn1_blocks::block::ASN1Block;
+use crate::scalars::{write_after_space, write_hex, write_quoted};
 use asn1_headers::error::ASN1DecodeErr;
 use asn1_headers::header::ASN1Class;
+use asn1_leaves::contents::text::TextForm;
+use asn1_leaves::contents::{generalized_time, text, utc_time};
+use asn1_leaves::oid;
 use asn1_leaves::oid::OID;
 use asn1_numbers::number::big_int::BigInt;
 use asn1_numbers::number::big_uint::BigUint;
-use der_values::{Characters, long_identifier};
-use itoa::Buffer;
+use der_values::{long_identifier, type_name};
+use jiff::civil::DateTime;
 use std::alloc::{AllocError, Global};
-
-// How many levels are shown by spaces; deeper ones stand where the last of them does.
-const MOST_LEVELS: usize = 40;
-
-// How many octets most lines fit.
-const LINE_ROOM: usize = 112;
+use std::str;
 
 // How many octets of another class are shown as text at least: fewer may well be a number.
 const LEAST_TEXT: usize = 5;
@@ -25,180 +25,157 @@ const LEAST_TEXT: usize = 5;
 /// What is said of a length of the indefinite form: blocks that stand inside in BER are shown behind.
 pub const INDEFINITE: &str = "indefinite length (BER): levels are lost from here";
 
-// How a block is written.
+const INDEFINITE_TEXT: &str = ", indefinite length (BER): levels are lost from here";
+
+// How a value is written.
 #[derive(Clone, Copy, Drop)]
-pub struct Manner {
-    // whether what its octets hold is shown below it, and they are not written
+pub struct ValueStyle {
+    // whether what the octets hold is shown below it, and they are not written
     pub is_opened: bool,
     // whether octets are written whole
     pub is_full: bool,
 }
 
-// What is said of a block at a depth.
-pub fn block_text(
-    alloc: Global,
-    names: &Names,
-    encoding: &Encoding<'_>,
-    depth: usize,
-    block: &ASN1Block,
-    manner: Manner,
-) -> Result<String, AllocError> {
-    let mut text = String::with_capacity(alloc, LINE_ROOM)?;
-    match &encoding.header {
-        Some(header) => write_sizes(&mut text, header.size, header.announced, depth)?,
-        None => write_sizes(&mut text, 0, 0, depth)?,
+// The tag in words.
+pub fn tag_words(alloc: Global, class: ASN1Class, tag: &BigUint) -> Result<String, AllocError>
+    ensures { IfOk result (λ words. string_bytes words ≡ tag_words_are class tag.now) }
+{
+    if let Some(name) = name_of(class, tag) {
+        return String::from_str(alloc, name);
     }
-    write_block(alloc, &mut text, names, encoding, block, manner)?;
-    if let Some(header) = &encoding.header {
-        write_form(&mut text, header)?;
+    let number = tag_number(alloc, tag)?;
+    match class {
+        ASN1Class::Universal => format!(in alloc; "[UNIVERSAL {number}]"),
+        ASN1Class::Application => format!(in alloc; "[APPLICATION {number}]"),
+        ASN1Class::ContextSpecific => format!(in alloc; "[{number}]"),
+        ASN1Class::Private => format!(in alloc; "[PRIVATE {number}]"),
     }
-    Ok(text)
 }
 
-// What is said of a length of the indefinite form, if the header has it.
-pub fn write_form(out: &mut String, header: &Header) -> Result<(), AllocError> {
+fn tag_number(alloc: Global, tag: &BigUint) -> Result<String, AllocError>
+    ensures { IfOk result (λ words. string_bytes words ≡ tag_number_is tag.now) }
+{
+    match tag.to_u128() {
+        Some(n) => format!(in alloc; "{n}"),
+        None => String::from_str(alloc, "beyond 2^128"),
+    }
+}
+
+// What is said of an encoding that is gone into, behind its tag. That it is constructed is said where neither its tag
+// nor what stands inside it tells so.
+pub fn opened_text(header: &Header) -> &'static str {
     if header.is_indefinite {
-        out.push_str(", ")?;
-        out.push_str(INDEFINITE)?;
+        return INDEFINITE_TEXT;
     }
-    Ok(())
+    let is_told = match header.universal() {
+        Some(tag) => matches!(tag, 8 | 11 | 16 | 17 | 29),
+        None => header.announced > 0,
+    };
+    if is_told { "" } else { ", constructed" }
 }
 
-// The sizes of header and contents, and the spaces of the depth.
-pub fn write_sizes(
-    out: &mut String,
-    header: usize,
-    contents: usize,
-    depth: usize,
-) -> Result<(), AllocError> {
-    write_right(out, 2, header)?;
-    out.push_str(" ")?;
-    write_right(out, 7, contents)?;
-    out.push_str("  ")?;
-    for _i in 0..depth.min(MOST_LEVELS) {
-        out.push_str("  ")?;
-    }
-    Ok(())
-}
-
-// A number with spaces before it, where it takes fewer characters than these.
-fn write_right(out: &mut String, width: usize, n: usize) -> Result<(), AllocError> {
-    let mut digits = Buffer::new();
-    let number = digits.format(n);
-    for _i in number.len()..width {
-        out.push_str(" ")?;
-    }
-    out.push_str(number)
-}
-
-fn write_block(
+// The value of contents octets, behind the tag.
+pub fn value_text(
     alloc: Global,
-    out: &mut String,
     names: &Names,
-    encoding: &Encoding<'_>,
-    block: &ASN1Block,
-    manner: Manner,
-) -> Result<(), AllocError> {
-    match block {
-        ASN1Block::Boolean(_, value) => write!(out, "BOOLEAN {value}"),
-        ASN1Block::Null(_) => out.push_str("NULL"),
-        ASN1Block::Sequence(_, _) => out.push_str("SEQUENCE"),
-        ASN1Block::Set(_, _) => out.push_str("SET"),
-        ASN1Block::Integer(_, n) => write_integer(alloc, out, "INTEGER", n, manner),
-        ASN1Block::BitString(_, bits, octets) => write_bit_string(out, *bits, octets, manner),
-        ASN1Block::OctetString(_, octets) => write_octets(out, "OCTET STRING", octets, manner),
-        ASN1Block::ObjectIdentifier(_, oid) => {
-            match long_identifier(alloc, encoding.contents())? {
-                Some(long) => write_identifier(alloc, out, names, &long),
-                None => write_identifier(alloc, out, names, oid),
-            }
+    universal: Option<u8>,
+    contents: &[u8],
+    style: ValueStyle,
+) -> Result<String, AllocError> {
+    let mut out = String::new(alloc);
+    match universal {
+        Some(1) => write!(out, " {}", contents.first() != Some(&0))?,
+        Some(2 | 10) => write_integer(alloc, &mut out, contents, style)?,
+        Some(3) => write_bit_string(&mut out, contents, style)?,
+        Some(4) => write_octets(&mut out, contents, style)?,
+        Some(5) => {}
+        Some(6) => write_identifier(alloc, &mut out, names, contents)?,
+        Some(12 | 19 | 20 | 28 | 30) => write_utf8(&mut out, contents)?,
+        Some(22) => write_text(alloc, &mut out, contents)?,
+        Some(23) => write_moment(&mut out, utc_time::read(alloc, contents))?,
+        Some(24) => write_moment(&mut out, generalized_time::read(alloc, contents))?,
+        _ => write_unknown(&mut out, universal, contents, style)?,
+    }
+    Ok(out)
+}
+
+fn write_utf8(out: &mut String, contents: &[u8]) -> Result<(), AllocError> {
+    match str::from_utf8(contents) {
+        Ok(text) => {
+            out.push_str(" ")?;
+            write_quoted(out, text)
         }
-        ASN1Block::UTCTime(_, moment) => write!(out, "UTCTime {moment}Z"),
-        ASN1Block::GeneralizedTime(_, moment) => write!(out, "GeneralizedTime {moment}Z"),
-        ASN1Block::UTF8String(_, s) => write_string(out, "UTF8String", s),
-        ASN1Block::PrintableString(_, s) => write_string(out, "PrintableString", s),
-        ASN1Block::TeletexString(_, s) => write_string(out, "TeletexString", s),
-        ASN1Block::IA5String(_, s) => write_string(out, "IA5String", s),
-        ASN1Block::UniversalString(_, s) => {
-            write_wide(alloc, out, "UniversalString", Characters::Utf32, s)
-        }
-        ASN1Block::BMPString(_, s) => write_wide(alloc, out, "BMPString", Characters::Utf16, s),
-        ASN1Block::Explicit(class, _, tag, _) => write_tag(alloc, out, *class, tag),
-        ASN1Block::Unknown(class, constructed, _, tag, octets) => {
-            write_tag(alloc, out, *class, tag)?;
-            if *constructed && !manner.is_opened && !encoding.is_indefinite() {
-                out.push_str(", constructed")?;
-            }
-            write_unknown(alloc, out, *class, *constructed, tag, octets, manner)
-        }
+        Err(_) => write_after_space(out, contents, true),
     }
 }
 
-fn write_string(out: &mut String, name: &str, text: &str) -> Result<(), AllocError> {
-    out.push_str(name)?;
-    out.push_str(" ")?;
-    write_quoted(out, text)
+// The characters of an IA5String, an octet each.
+fn write_text(alloc: Global, out: &mut String, contents: &[u8]) -> Result<(), AllocError> {
+    if let Some(text) = found(text::read(alloc, TextForm::Octets, contents))? {
+        out.push_str(" ")?;
+        write_quoted(out, &text)?;
+    }
+    Ok(())
 }
 
-// A string that the library reads as UTF-8, in the form that its type has, where the octets are so.
-fn write_wide(
-    alloc: Global,
+fn write_moment(
     out: &mut String,
-    name: &str,
-    form: Characters,
-    text: &str,
+    moment: Result<DateTime, ASN1DecodeErr>,
 ) -> Result<(), AllocError> {
-    out.push_str(name)?;
-    if write_as(alloc, out, form, text.as_bytes())? {
-        return Ok(());
+    match found(moment)? {
+        Some(moment) => write!(out, " {moment}Z"),
+        None => Ok(()),
     }
-    out.push_str(" ")?;
-    write_quoted(out, text)
+}
+
+// What was read, if it was not memory that ran out.
+fn found<T: Drop>(read: Result<T, ASN1DecodeErr>) -> Result<Option<T>, AllocError> {
+    match read {
+        Ok(value) => Ok(Some(value)),
+        Err(ASN1DecodeErr::OutOfMemory) => Err(AllocError),
+        Err(_) => Ok(None),
+    }
 }
 
 // An integer in decimal where it fits an `i128`, else its two's complement octets.
 fn write_integer(
     alloc: Global,
     out: &mut String,
-    name: &str,
-    number: &BigInt,
-    manner: Manner,
+    contents: &[u8],
+    style: ValueStyle,
 ) -> Result<(), AllocError> {
-    out.push_str(name)?;
+    let number = BigInt::from_signed_bytes_be(alloc, contents)?;
     match number.to_i128() {
         Some(n) => write!(out, " {n}"),
         None => {
             out.push_str(" hex ")?;
-            write_hex(out, &number.to_signed_bytes_be(alloc)?, manner.is_full)
+            write_hex(out, &number.to_signed_bytes_be(alloc)?, style.is_full)
         }
     }
 }
 
-fn write_octets(
-    out: &mut String,
-    name: &str,
-    octets: &[u8],
-    manner: Manner,
-) -> Result<(), AllocError> {
-    out.push_str(name)?;
-    if manner.is_opened {
+fn write_octets(out: &mut String, octets: &[u8], style: ValueStyle) -> Result<(), AllocError> {
+    if style.is_opened {
         return out.push_str(", containing");
     }
-    write_after_space(out, octets, manner.is_full)
+    write_after_space(out, octets, style.is_full)
 }
 
 fn write_bit_string(
     out: &mut String,
-    bits: usize,
-    octets: &[u8],
-    manner: Manner,
+    contents: &[u8],
+    style: ValueStyle,
 ) -> Result<(), AllocError> {
+    let (unused, octets) = match contents {
+        [unused, octets @ ..] => (usize::from(*unused), octets),
+        [] => (0, contents),
+    };
+    let bits = octets.len().saturating_mul(8).saturating_sub(unused);
     let ending = if bits == 1 { "" } else { "s" };
-    write!(out, "BIT STRING {bits} bit{ending}")?;
-    if manner.is_opened {
+    write!(out, " {bits} bit{ending}")?;
+    if style.is_opened {
         return out.push_str(", containing");
     }
-    let unused = octets.len().saturating_mul(8).saturating_sub(bits);
     if unused > 0 {
         write!(out, ", {unused} unused")?;
     }
@@ -206,117 +183,61 @@ fn write_bit_string(
         return Ok(());
     }
     out.push_str(":")?;
-    write_after_space(out, octets, manner.is_full)
+    write_after_space(out, octets, style.is_full)
 }
 
 fn write_identifier(
     alloc: Global,
     out: &mut String,
     names: &Names,
-    oid: &OID,
+    contents: &[u8],
 ) -> Result<(), AllocError> {
-    let number = match oid.as_vec::<u128>(alloc) {
-        Ok(_) => format!(in alloc; "{oid}")?,
+    if let Some(long) = long_identifier(alloc, contents)? {
+        return write_components(alloc, out, names, &long);
+    }
+    match found(oid::read(alloc, contents))? {
+        Some(identifier) => write_components(alloc, out, names, &identifier),
+        None => Ok(()),
+    }
+}
+
+fn write_components(
+    alloc: Global,
+    out: &mut String,
+    names: &Names,
+    identifier: &OID,
+) -> Result<(), AllocError> {
+    let number = match identifier.as_vec::<u128>(alloc) {
+        Ok(_) => format!(in alloc; "{identifier}")?,
         Err(ASN1DecodeErr::OutOfMemory) => return Err(AllocError),
-        Err(_) => return out.push_str("OBJECT IDENTIFIER with components beyond 2^128"),
+        Err(_) => return out.push_str(" with components beyond 2^128"),
     };
-    write!(out, "OBJECT IDENTIFIER {number}")?;
+    write!(out, " {number}")?;
     match names.of(&number) {
         Some((name, standard)) => write!(out, " {name} ({standard})"),
         None => Ok(()),
     }
 }
 
-// The tag of a block that is none of the known.
-pub fn write_tag(
-    alloc: Global,
-    out: &mut String,
-    class: ASN1Class,
-    tag: &BigUint,
-) -> Result<(), AllocError> {
-    let number = tag_number(alloc, tag)?;
-    match class {
-        ASN1Class::ContextSpecific => write!(out, "[{number}]"),
-        ASN1Class::Application => write!(out, "[APPLICATION {number}]"),
-        ASN1Class::Private => write!(out, "[PRIVATE {number}]"),
-        ASN1Class::Universal => match universal_name(tag) {
-            Some(name) => out.push_str(name),
-            None => write!(out, "[UNIVERSAL {number}]"),
-        },
-    }
-}
-
-fn tag_number(alloc: Global, tag: &BigUint) -> Result<String, AllocError> {
-    match tag.to_u128() {
-        Some(n) => format!(in alloc; "{n}"),
-        None => String::from_str(alloc, "beyond 2^128"),
-    }
-}
-
-// The types of class Universal (X.680 8.4, table 1).
-fn universal_name(tag: &BigUint) -> Option<&'static str> {
-    match tag.to_u8() {
-        Some(0) => Some("end-of-contents"),
-        Some(1) => Some("BOOLEAN"),
-        Some(2) => Some("INTEGER"),
-        Some(3) => Some("BIT STRING"),
-        Some(4) => Some("OCTET STRING"),
-        Some(5) => Some("NULL"),
-        Some(6) => Some("OBJECT IDENTIFIER"),
-        Some(7) => Some("ObjectDescriptor"),
-        Some(8) => Some("EXTERNAL"),
-        Some(9) => Some("REAL"),
-        Some(10) => Some("ENUMERATED"),
-        Some(11) => Some("EMBEDDED PDV"),
-        Some(12) => Some("UTF8String"),
-        Some(13) => Some("RELATIVE-OID"),
-        Some(14) => Some("TIME"),
-        Some(16) => Some("SEQUENCE"),
-        Some(17) => Some("SET"),
-        Some(18) => Some("NumericString"),
-        Some(19) => Some("PrintableString"),
-        Some(20) => Some("TeletexString"),
-        Some(21) => Some("VideotexString"),
-        Some(22) => Some("IA5String"),
-        Some(23) => Some("UTCTime"),
-        Some(24) => Some("GeneralizedTime"),
-        Some(25) => Some("GraphicString"),
-        Some(26) => Some("VisibleString"),
-        Some(27) => Some("GeneralString"),
-        Some(28) => Some("UniversalString"),
-        Some(29) => Some("CHARACTER STRING"),
-        Some(30) => Some("BMPString"),
-        Some(_) => None,
+// The name of a type that has one.
+fn name_of(class: ASN1Class, tag: &BigUint) -> Option<&'static str>
+    ensures { option_map (λ name. name.now) result ≡ type_name_is class tag.now }
+{
+    match tag.to_u64() {
+        Some(n) => type_name(class, n),
         None => None,
     }
 }
 
-fn is_enumerated(class: ASN1Class, tag: &BigUint) -> bool {
-    matches!(class, ASN1Class::Universal) && tag.to_u8() == Some(10)
-}
-
-// What stands after the tag of a block that is none of the known.
+// The contents octets of a type that the library does not read, or of another class.
 fn write_unknown(
-    alloc: Global,
     out: &mut String,
-    class: ASN1Class,
-    constructed: bool,
-    tag: &BigUint,
+    universal: Option<u8>,
     octets: &[u8],
-    manner: Manner,
+    style: ValueStyle,
 ) -> Result<(), AllocError> {
-    if manner.is_opened {
-        return out.push_str(", containing");
-    }
-    if is_enumerated(class, tag) && !constructed {
-        let number = BigInt::from_signed_bytes_be(alloc, octets)?;
-        return write_integer(alloc, out, "", &number, manner);
-    }
-    write_after_space(out, octets, manner.is_full)?;
-    let least = match class {
-        ASN1Class::Universal => 1,
-        _ => LEAST_TEXT,
-    };
+    write_after_space(out, octets, style.is_full)?;
+    let least = if universal.is_some() { 1 } else { LEAST_TEXT };
     if octets.len() >= least && is_text(octets) {
         write_ascii(out, octets)?;
     }

@@ -2,7 +2,7 @@ use Rattle.std.proofs.Common.{◌≡◌, ℕ, List, ◌+◌, ◌-◌, drop, subs
 use Rattle.std.specs.Prelude.{◌↔◌}
 use Rattle.der_lines.specs.Seek.{BeginsAt, Holds}
 use Rattle.der_lines.specs.Steps.{IsAtFront}
-use Rattle.der_lines.proofs.Seeking.{behind_it, contents_of, header_found, holds_alone, in_header, inside_it, not_inside_it}
+use Rattle.der_lines.proofs.Seeking.{behind_it, contents_of, holds_alone, in_header, inside_it, not_inside_it}
 use Rattle.der_lines.proofs.Seeking.{nowhere_without_header, rest_of}
 use Rattle.der_lines.proofs.seek.go_nearer.Goals as goal
 
@@ -16,7 +16,7 @@ returns-then-distance-header-clause-found c =
     let header = c.in-Some.header in
     let front : IsAtFront octets header = rw c.in-Some.is at c.in_ok-header.ensures in
     in_header octets header.size header.announced header.class header.constructed header.tag c.args.distance c.requires
-    (header_found octets header front) c.if-distance-header.true
+    front c.if-distance-header.true
 
 pub returns-then-place-header-clause-found : goal.returns-then-place-header-clause-found
 returns-then-place-header-clause-found c block =
@@ -31,7 +31,7 @@ returns-then-place-header-clause-found c block =
     let far : c.args.distance ≡ (header.size + header.announced) + less = omega arith in
     subst (λ z. BeginsAt octets c.args.distance block ↔ BeginsAt z less block) (sym after)
     (behind_it octets header.size header.announced header.class header.constructed header.tag c.args.distance c.requires
-    (header_found octets header front) less far block)
+    front less far block)
 
 pub returns-in_default-octets_inside-clause-found : goal.returns-in_default-octets_inside-clause-found
 returns-in_default-octets_inside-clause-found c =
@@ -43,7 +43,7 @@ returns-in_default-octets_inside-clause-found c =
     c.split_at.ensures.back c.min.ensures c.split_at-2.ensures.front
     in
     not_inside_it octets header.size header.announced header.class header.constructed header.tag c.args.distance c.requires
-    (header_found octets header front) c.if-distance-header.false (omega arith)
+    front c.if-distance-header.false (omega arith)
     (λ before inside held. absurd (c.in_default-octets_inside.ensures before inside
     (subst (λ z. Holds header.class header.constructed header.tag z before inside) (sym contents) held)))
 
@@ -59,7 +59,7 @@ returns-then-place-before-clause-found c =
     c.split_at.ensures.back c.min.ensures c.split_at-2.ensures.front
     in
     not_inside_it octets header.size header.announced header.class header.constructed header.tag c.args.distance c.requires
-    (header_found octets header front) c.if-distance-header.false (omega arith)
+    front c.if-distance-header.false (omega arith)
     (λ before inside held.
     let one =
     holds_alone header.class header.constructed header.tag (take header.announced (drop header.size octets)) before
@@ -80,5 +80,5 @@ returns-clause-found c block =
     in
     let less = c.args.distance - header.size - found.before in
     inside_it octets header.size header.announced header.class header.constructed header.tag c.args.distance c.requires
-    (header_found octets header front) found.before less found.inside.now (omega arith) (omega arith)
+    front found.before less found.inside.now (omega arith) (omega arith)
     (subst Inside contents found.ensures) block

@@ -1,0 +1,185 @@
+-- How far the lines of octets were put.
+use Rattle.std.proofs.Common.{◌≡◌, ◌⊎◌, inl, inr, ℕ, ◌+◌, ◌-◌, ◌<◌, ◌≤◌, min, Bool, true, false, List, [], ◌∷◌, ◌++◌}
+use Rattle.std.proofs.Common.{drop, length, take, reverse, slice_range, refl, sym, ap, ◌∙◌, subst, append_assoc, append-nil, arith}
+use Rattle.std.proofs.Math.Seq.{take-add}
+use Rattle.std.proofs.lemmas.List.{length-append, length-reverse, length-take-le, take-append-drop}
+use Rattle.std.specs.Prelude.{Option, None, Some}
+use Rattle.asn1_headers.specs.Header.{Encoding}
+use Rattle.der_lines.specs.Dump.{Adds, AreFrontsOf, Front, IsLater, StandAt, StandsInside}
+use Rattle.der_lines.specs.Headers.{BeginsWithHeader}
+use Rattle.der_lines.specs.Steps.{Goes, IsAhead, IsFirstFault, IsNear, PutsEncodings, PutsFirst, earlier_fault, outer}
+use Rattle.der_lines.specs.declared.cursor.Cursor.{Cursor}
+use Rattle.der_lines.specs.declared.encodings.Passed.{Passed}
+use Rattle.der_lines.specs.declared.faults.Fault.{Fault}
+use Rattle.der_lines.specs.declared.place.Place.{Place}
+use Rattle.der_lines.proofs.Cursors.{ahead_is, starts_again, step_goes, with_depth}
+use Rattle.der_lines.proofs.Dumps.{adds_join, adds_map, adds_nothing, inside_deeper, outer_join, outer_none}
+
+abbrev pub IsAmong : List Front → Front → Type 0
+IsAmong fronts f = (earlier others : List Front) × (fronts ≡ earlier ++ f ∷ others)
+
+-- the line is of one of these, or of one inside the octets
+abbrev pub IsSoFar : ℕ → List ℕ → List Front → Front → Type 0
+IsSoFar base octets fronts p = ((f : Front) × IsAmong fronts f × IsLater base f p) ⊎ StandsInside base octets p
+
+-- what was put up to where the cursor stands
+pub record ShownTo (place : Place) (octets : List ℕ) (cursor : Cursor) (first : Option Fault) (a b : List ℕ) : Type 0 where
+  pub fronts : List Front
+  pub faults : List ℕ
+  pub same_octets : cursor.octets.now ≡ octets
+  pub goes_on : (later : List Front) (more : List ℕ) → IsAhead cursor later more → AreFrontsOf octets (fronts ++ later) (faults ++ more)
+  pub told : IsFirstFault faults first
+  pub adds : Adds (IsSoFar place.base octets fronts) (outer place.is_inside place.most_depth fronts) a b
+
+pub shown_none :
+    (place : Place) (octets : List ℕ) (cursor : Cursor) (a : List ℕ) → cursor.octets.now ≡ octets → cursor.offset ≡ 0 →
+    cursor.end ≡ length octets → cursor.ends.items ≡ [] → ShownTo place octets cursor None a a
+shown_none place octets cursor a o z e n = record {
+  fronts = [];
+  faults = [];
+  same_octets = o;
+  goes_on = λ later more h.
+      ahead_is cursor octets 0 (length octets ∷ []) later more o z
+      (ap (λ x. x ∷ reverse cursor.ends.items) e ∙ ap (λ x. length octets ∷ reverse x) n) h;
+  told = refl;
+  adds = subst (λ l. Adds (IsSoFar place.base octets []) l a a) (sym (outer_none place.is_inside place.most_depth))
+      (adds_nothing (IsSoFar place.base octets []) a);
+}
+
+make : ℕ → ℕ → ℕ → ℕ → List ℕ → Front
+make o h c d w = record { offset = o; header = h; contents = c; depth = d; words = w }
+
+front_is :
+    (f g : Front) → f.offset ≡ g.offset → f.header ≡ g.header → f.contents ≡ g.contents → f.depth ≡ g.depth →
+    f.words ≡ g.words → f ≡ g
+unfolding make
+front_is f g o h c d w =
+    ap (λ z. make z f.header f.contents f.depth f.words) o
+    ∙ (ap (λ z. make g.offset z f.contents f.depth f.words) h
+    ∙ (ap (λ z. make g.offset g.header z f.depth f.words) c
+    ∙ (ap (λ z. make g.offset g.header g.contents z f.words) d ∙ ap (make g.offset g.header g.contents g.depth) w)))
+
+-- the first line
+line_is :
+    (P : Front → Type 0) (inside : Bool) (most : Option ℕ) (f g : Front) (b c : List ℕ) → (inside ≡ false → f ≡ g) →
+    Adds P (outer inside most (f ∷ [])) b c → Adds P (outer inside most (g ∷ [])) b c
+line_is P true most f g b c e adds = adds
+line_is P false most f g b c e adds = subst (λ z. Adds P (outer false most (z ∷ [])) b c) (e refl) adds
+
+later_again : (base depth : ℕ) (f p : Front) → IsLater base f p → IsLater base (with_depth depth f) p
+later_again base depth f p l = record { offset = l.offset; header = l.header; contents = l.contents; words = l.words }
+
+near_so_far :
+    (base depth offset : ℕ) (octets left : List ℕ) (fronts : List Front) (f p : Front) → StandAt octets offset left → f.offset ≡ offset →
+    IsNear base left f p → IsSoFar base octets (fronts ++ with_depth depth f ∷ []) p
+near_so_far base depth offset octets left fronts f p at e (inl l) =
+    inl (with_depth depth f, (fronts, [], refl), later_again base depth f p l)
+near_so_far base depth offset octets left fronts f p at e (inr inside) =
+    inr (inside_deeper octets left base offset (base + f.offset) p at (ap (λ z. base + z) e) inside)
+
+so_far_more :
+    (base : ℕ) (octets : List ℕ) (fronts : List Front) (g p : Front) → IsSoFar base octets fronts p →
+    IsSoFar base octets (fronts ++ g ∷ []) p
+so_far_more base octets fronts g p (inl (f, (earlier, others, e), l)) =
+    inl (f, (earlier, others ++ g ∷ [], ap (λ z. z ++ g ∷ []) e ∙ append_assoc earlier (f ∷ others) (g ∷ [])), l)
+so_far_more base octets fronts g p (inr inside) = inr inside
+
+-- what is left stands at the offset
+left_stands : (octets left : List ℕ) (offset end : ℕ) → left ≡ slice_range octets offset end → StandAt octets offset left
+left_stands octets left offset end e =
+    let rest = drop offset octets in
+    (drop (end - offset) rest, sym (take-append-drop (end - offset) rest) ∙ ap (λ z. z ++ drop (end - offset) rest) (sym e))
+
+told_more :
+    (faults own : List ℕ) (first told : Option Fault) → IsFirstFault faults first → IsFirstFault own told →
+    IsFirstFault (faults ++ own) (earlier_fault first told)
+told_more faults own None told none t = subst (λ z. IsFirstFault (z ++ own) told) (sym none) t
+told_more faults own (Some fault) told (later, e) t = (later ++ own, ap (λ z. z ++ own) e)
+
+pub shown_more :
+    (place here : Place) (octets left : List ℕ) (k m n : Cursor) (passed : Passed) (first : Option Fault) (a b c : List ℕ) →
+    (place.is_inside ≡ false → (place.base ≡ 0) × (place.depth ≡ 0)) → ShownTo place octets k first a b →
+    m.octets.now ≡ k.octets.now → ((fs : List Front) (es : List ℕ) → IsAhead m fs es → IsAhead k fs es) →
+    left ≡ slice_range m.octets.now m.offset m.end → 0 < length left → here.is_inside ≡ place.is_inside → here.base ≡ place.base →
+    here.depth ≡ place.depth + length m.ends.items → here.most_depth ≡ place.most_depth →
+    PutsFirst here m.offset left passed b c → Goes passed.step m n → n.octets.now ≡ m.octets.now →
+    ShownTo place octets n (earlier_fault first passed.fault) a c
+shown_more place here octets left k m n passed first a b c outside s same back at some i z d most put goes kept =
+    let depth = length (reverse m.ends.items) in
+    let f = put.front in
+    let g = with_depth depth f in
+    let P = IsSoFar place.base octets (s.fronts ++ g ∷ []) in
+    let stands : StandAt octets m.offset left =
+    subst (λ o. StandAt o m.offset left) (same ∙ s.same_octets) (left_stands m.octets.now left m.offset m.end at) in
+    let near : Adds P (outer here.is_inside here.most_depth (put.shown ∷ [])) b c =
+    adds_map (IsNear here.base left f) P
+    (λ p h. near_so_far place.base depth m.offset octets left s.fronts f p stands put.same_offset (subst (λ x. IsNear x left f p) z h))
+    (outer here.is_inside here.most_depth (put.shown ∷ [])) b c put.adds
+    in
+    let mine : Adds P (outer place.is_inside place.most_depth (put.shown ∷ [])) b c =
+    subst (λ x. Adds P (outer x place.most_depth (put.shown ∷ [])) b c) i
+    (subst (λ x. Adds P (outer here.is_inside x (put.shown ∷ [])) b c) most near)
+    in
+    let l = put.later in
+    let o : put.shown.offset ≡ here.base + f.offset = l.offset in
+    let e : put.shown.depth ≡ here.depth = put.same_depth in
+    let one = line_is P place.is_inside place.most_depth put.shown g b c
+    (λ out. let (no_base, no_depth) = outside out in
+    front_is put.shown g (omega (arith, o, z, no_base)) l.header l.contents (omega (arith, e, d, no_depth, length-reverse m.ends.items)) l.words)
+    mine
+    in
+    let before = adds_map (IsSoFar place.base octets s.fronts) P (λ p h. so_far_more place.base octets s.fronts g p h)
+    (outer place.is_inside place.most_depth s.fronts) a b s.adds
+    in
+    record {
+      fronts = s.fronts ++ g ∷ [];
+      faults = s.faults ++ put.faults;
+      same_octets = kept ∙ (same ∙ s.same_octets);
+      goes_on = λ later more ahead.
+          subst (λ x. AreFrontsOf octets x ((s.faults ++ put.faults) ++ more)) (sym (append_assoc s.fronts (g ∷ []) later))
+          (subst (AreFrontsOf octets (s.fronts ++ g ∷ later)) (sym (append_assoc s.faults put.faults more))
+          (s.goes_on (g ∷ later) (put.faults ++ more)
+          (back (g ∷ later) (put.faults ++ more)
+          (step_goes m n left g passed.step put.faults later more at some
+          (starts_again m.offset here.depth depth left f passed.step put.faults put.starts) goes ahead))));
+      told = told_more s.faults put.faults first passed.fault s.told put.told;
+      adds = subst (λ x. Adds P x a c) (sym (outer_join place.is_inside place.most_depth s.fronts (g ∷ [])))
+          (adds_join P _ _ a b c before one);
+    }
+
+closed :
+    (base : ℕ) (octets : List ℕ) (fronts : List Front) (faults : List ℕ) (p : Front) → AreFrontsOf octets fronts faults →
+    IsSoFar base octets fronts p → StandsInside base octets p
+closed base octets fronts faults p read (inl (f, (earlier, others, e), l)) =
+    let o : p.offset ≡ base + f.offset = l.offset in
+    record {
+      before = 0;
+      part = octets;
+      position = ([], sym (append-nil octets));
+      fronts = fronts;
+      faults = faults;
+      read = read;
+      front = f;
+      earlier = earlier;
+      others = others;
+      among = e;
+      place = record { offset = omega (arith, o); header = l.header; contents = l.contents; words = l.words };
+    }
+closed base octets fronts faults p read (inr inside) = inside
+
+pub shown_all :
+    (place : Place) (octets : List ℕ) (cursor : Cursor) (first : Option Fault) (a b : List ℕ) →
+    ShownTo place octets cursor first a b → IsAhead cursor [] [] → PutsEncodings place octets first a b
+shown_all place octets cursor first a b s ended =
+    let all : AreFrontsOf octets s.fronts s.faults =
+    subst (λ x. AreFrontsOf octets x s.faults) (append-nil s.fronts)
+    (subst (AreFrontsOf octets (s.fronts ++ [])) (append-nil s.faults) (s.goes_on [] [] ended))
+    in
+    record {
+      fronts = s.fronts;
+      faults = s.faults;
+      read = all;
+      told = s.told;
+      adds = adds_map (IsSoFar place.base octets s.fronts) (StandsInside place.base octets)
+          (λ p h. closed place.base octets s.fronts s.faults p all h) (outer place.is_inside place.most_depth s.fronts) a b s.adds;
+    }

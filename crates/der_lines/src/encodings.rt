@@ -1,0 +1,298 @@
+// The lines of encodings, by their headers, and of what stands inside octets of strings.
+ghost use Rattle.std.specs.Prelude.{◌≡◌, ◌↔◌, ◌+◌, ◌≤◌, ◌<◌, false, length, true};
+ghost use Rattle.std.specs.Prelude.{[], IfOk, IfSome, IsTrue, OnOk, option_map};
+ghost use Rattle.der_lines.specs.Dump.{Adds, StandAt, StandsInside};
+ghost use Rattle.der_lines.specs.Headers.{HasIndefiniteForm, HasNoHeader, is_gone_into};
+ghost use Rattle.der_lines.specs.Steps.{AddsStart, IsAtFront, IsTaken, PutsEncodings, PutsFirst, front_of};
+ghost use Rattle.der_lines.specs.Steps.{earlier_fault, header_front};
+
+use crate::cursor::{Cursor, Step};
+use crate::faults::{Fault, fault_words};
+use crate::header::{Header, read_header};
+use crate::held::{Held, held_in};
+use crate::leaf::read_value;
+use crate::lines::{LineStart, push_line};
+use crate::names::Names;
+use crate::place::{Place, is_too_deep, sum_of};
+use crate::scalars::write_after_space;
+use crate::values::{INDEFINITE, ValueStyle, opened_text, tag_words};
+use asn1_headers::error::ASN1DecodeErr;
+use std::alloc::{AllocError, Global};
+
+// What came of what is left of octets: how it is gone on, and what is wrong with the encoding at the front.
+#[derive(Drop)]
+struct Passed {
+    step: Step,
+    fault: Option<Fault>,
+}
+
+// Puts the lines of octets, and gives the first fault.
+#[cycle(encodings)]
+pub fn push_encodings(
+    alloc: Global,
+    names: &Names,
+    octets: &[u8],
+    place: Place,
+    out: &mut Vec<u8>,
+) -> Result<Option<Fault>, AllocError>
+    requires { place.is_inside ≡ false → (place.base ≡ 0) × (place.depth ≡ 0) }
+    ensures { IfOk result (λ first. PutsEncodings place octets.now first out.old.items out.new.items) }
+{
+    let mut first = None;
+    let mut cursor = Cursor::over(alloc, octets);
+    while let Some(left) = cursor.next() {
+        let here = place.deeper(cursor.depth())?;
+        let passed = push_first(alloc, names, left, cursor.offset, here, out)?;
+        cursor.go(passed.step)?;
+        first = earlier(first, passed.fault);
+    }
+    Ok(first)
+}
+
+// Puts the lines of what stands at the front of octets, which stand at the offset.
+#[cycle(encodings)]
+fn push_first(
+    alloc: Global,
+    names: &Names,
+    left: &[u8],
+    offset: usize,
+    place: Place,
+    out: &mut Vec<u8>,
+) -> Result<Passed, AllocError>
+    requires { 0 < length left.now }
+    ensures { IfOk result (λ passed. PutsFirst place offset left.now passed out.old.items out.new.items) }
+{
+    let header = match read_header(alloc, left) {
+        Ok(header) => header,
+        Err(ASN1DecodeErr::OutOfMemory) => return Err(AllocError),
+        Err(fault) => return push_unreadable(alloc, left, &fault, offset, place, out),
+    };
+    if header.announced > left.len() - header.size {
+        return push_cut(alloc, left, &header, offset, place, out);
+    }
+    if header.is_gone_into() {
+        return push_opened(alloc, left, &header, offset, place, out);
+    }
+    push_leaf(alloc, names, left, header, offset, place, out)
+}
+
+// Puts the line of octets that begin with no header.
+fn push_unreadable(
+    alloc: Global,
+    left: &[u8],
+    fault: &ASN1DecodeErr,
+    offset: usize,
+    place: Place,
+    out: &mut Vec<u8>,
+) -> Result<Passed, AllocError>
+    requires some { 0 < length left.now }
+    requires none { HasNoHeader left.now }
+    ensures { IfOk result (λ passed. PutsFirst place offset left.now passed out.old.items out.new.items) }
+{
+    let words = fault_words(alloc, fault)?;
+    let mut said = String::new(alloc);
+    write_after_space(&mut said, left, place.is_full)?;
+    write!(said, ": {words}")?;
+    let start = LineStart {
+        offset: sum_of(place.base, offset)?,
+        header: 0,
+        contents: left.len(),
+        depth: place.depth,
+        words: "unreadable",
+    };
+    push_start(place, start, &said, out)?;
+    let fault = Some(Fault { offset, words });
+    Ok(Passed {
+        step: Step::Past(left.len()),
+        fault,
+    })
+}
+
+// Puts the line of an encoding that is cut short.
+fn push_cut(
+    alloc: Global,
+    left: &[u8],
+    header: &Header,
+    offset: usize,
+    place: Place,
+    out: &mut Vec<u8>,
+) -> Result<Passed, AllocError>
+    requires front { IsAtFront left.now header.now }
+    requires cut { length left.now < header.now.size + header.now.announced }
+    ensures { IfOk result (λ passed. PutsFirst place offset left.now passed out.old.items out.new.items) }
+{
+    let (_, contents) = left.split_at(header.size);
+    let there = contents.len();
+    let announced = header.announced;
+    let mut said = format!(in alloc; " (truncated: {there} of {announced} bytes)")?;
+    if !header.is_gone_into() && there > 0 {
+        said.push_str(":")?;
+        write_after_space(&mut said, contents, place.is_full)?;
+    }
+    push_header(alloc, header, offset, place, &said, out)?;
+    let words = fault_words(alloc, &ASN1DecodeErr::Incomplete)?;
+    let fault = Some(Fault { offset, words });
+    Ok(Passed {
+        step: step_of(header, left.len()),
+        fault,
+    })
+}
+
+// How it is gone on after an encoding that takes so many octets.
+fn step_of(header: &Header, size: usize) -> Step
+    ensures { IsTaken header.now size result }
+{
+    if header.is_gone_into() {
+        Step::Into(header.size, size)
+    } else {
+        Step::Past(size)
+    }
+}
+
+// Puts the line of a whole encoding that is gone into.
+fn push_opened(
+    alloc: Global,
+    left: &[u8],
+    header: &Header,
+    offset: usize,
+    place: Place,
+    out: &mut Vec<u8>,
+) -> Result<Passed, AllocError>
+    requires front { IsAtFront left.now header.now }
+    requires whole { header.now.size + header.now.announced ≤ length left.now }
+    requires opened { is_gone_into header.now.class header.now.constructed header.now.tag ≡ true }
+    requires form { IsTrue header.now.is_indefinite ↔ HasIndefiniteForm left.now }
+    ensures { IfOk result (λ passed. PutsFirst place offset left.now passed out.old.items out.new.items) }
+{
+    push_header(alloc, header, offset, place, opened_text(header), out)?;
+    let fault = if header.is_indefinite {
+        let words = String::from_str(alloc, INDEFINITE)?;
+        Some(Fault { offset, words })
+    } else {
+        None
+    };
+    Ok(Passed {
+        step: Step::Into(header.size, header.size + header.announced),
+        fault,
+    })
+}
+
+// Puts the line of a whole primitive encoding, and those of what stands inside its octets.
+#[cycle(encodings)]
+fn push_leaf(
+    alloc: Global,
+    names: &Names,
+    left: &[u8],
+    header: Header,
+    offset: usize,
+    place: Place,
+    out: &mut Vec<u8>,
+) -> Result<Passed, AllocError>
+    requires front { IsAtFront left.now header }
+    requires whole { header.size + header.announced ≤ length left.now }
+    requires closed { is_gone_into header.class header.constructed header.tag ≡ false }
+    ensures { IfOk result (λ passed. PutsFirst place offset left.now passed out.old.items out.new.items) }
+{
+    let size = header.size + header.announced;
+    let contents = &left[header.size..size];
+    let words = tag_words(alloc, header.class, &header.tag)?;
+    let start = LineStart {
+        offset: sum_of(place.base, offset)?,
+        header: header.size,
+        contents: header.announced,
+        depth: place.depth,
+        words: &words,
+    };
+    let held = held_in(alloc, &header, contents, place)?;
+    let style = ValueStyle {
+        is_opened: held.is_some(),
+        is_full: place.is_full,
+    };
+    let value = read_value(alloc, names, header, contents, style)?;
+    push_start(place, start, &value.text, out)?;
+    let before = sum_of(offset, start.header)?;
+    push_held(alloc, names, contents, held, before, place, out)?;
+    Ok(Passed {
+        step: Step::Past(size),
+        fault: fault_at(offset, value.fault),
+    })
+}
+
+// Puts the lines of encodings inside contents octets, which stand at the offset, if there are any.
+#[cycle(encodings)]
+fn push_held(
+    alloc: Global,
+    names: &Names,
+    _contents: &[u8],
+    held: Option<Held<'_>>,
+    offset: usize,
+    place: Place,
+    out: &mut Vec<u8>,
+) -> Result<(), AllocError>
+    requires stand { IfSome held (λ h. StandAt _contents.now h.before h.octets.now) }
+    requires more { IfSome held (λ _. 0 < place.documents) }
+    ensures { OnOk result (Adds (StandsInside (place.base + offset) _contents.now) []
+        out.old.items out.new.items) }
+{
+    let Some(held) = held else {
+        return Ok(());
+    };
+    let inside = place.inside(sum_of(offset, held.before)?)?;
+    push_encodings(alloc, names, held.octets, inside, out)?;
+    Ok(())
+}
+
+// The first of two faults.
+fn earlier(first: Option<Fault>, next: Option<Fault>) -> Option<Fault>
+    ensures { result ≡ earlier_fault first next }
+{
+    match first {
+        Some(fault) => Some(fault),
+        None => next,
+    }
+}
+
+fn fault_at(offset: usize, words: Option<String>) -> Option<Fault>
+    ensures { option_map (λ fault. fault.offset) result ≡ option_map (λ _. offset) words }
+{
+    let words = words?;
+    Some(Fault { offset, words })
+}
+
+// Puts the line of the encoding with the header.
+fn push_header(
+    alloc: Global,
+    header: &Header,
+    offset: usize,
+    place: Place,
+    said: &str,
+    out: &mut Vec<u8>,
+) -> Result<(), AllocError>
+    ensures { OnOk result (AddsStart place (header_front (place.base + offset) place.depth header.now)
+        out.old.items out.new.items) }
+{
+    let words = tag_words(alloc, header.class, &header.tag)?;
+    let start = LineStart {
+        offset: sum_of(place.base, offset)?,
+        header: header.size,
+        contents: header.announced,
+        depth: place.depth,
+        words: &words,
+    };
+    push_start(place, start, said, out)
+}
+
+// Puts a line, unless it stands too deep.
+fn push_start(
+    place: Place,
+    start: LineStart<'_>,
+    said: &str,
+    out: &mut Vec<u8>,
+) -> Result<(), AllocError>
+    ensures { OnOk result (AddsStart place (front_of start.entry) out.old.items out.new.items) }
+{
+    if is_too_deep(place.most_depth, start.depth) {
+        return Ok(());
+    }
+    push_line(place.is_inside, start, said, out)
+}
