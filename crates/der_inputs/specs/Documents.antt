@@ -1,11 +1,13 @@
 -- What is put of octets that may have a label, or of what has none that can be read: as a dump, or as a line of JSON.
-use Rattle.std.specs.Prelude.{◌≡◌, ◌⊎◌, ℕ, Bool, true, false, List, [], ◌∷◌, ◌++◌, map, Option, Some, None, option_map}
+use Rattle.std.specs.Prelude.{◌≡◌, ◌⊎◌, ℕ, Bool, true, false, List, [], ◌∷◌, ◌++◌, drop, map, Option, Some, None, option_map}
+use Rattle.std.specs.List.{All}
 use Rattle.std.specs.Str.Lossy.{utf8_lossy}
 use Rattle.serde_json.specs.Data.{Members}
 use Rattle.serde_json.specs.Written.{compact_text}
 use Rattle.der_io.specs.Escaped.{escaped}
 use Rattle.der_json.specs.Json.{AddsJsonOf, origin_members, refusal_json}
-use Rattle.der_lines.specs.Dump.{AddsDumpOf, AddsLine, AreDefinite, IsFirstIndefinite, IsNote}
+use Rattle.der_lines.specs.Dump.{AddsDumpOf, AddsLine, IsNote}
+use Rattle.der_lines.specs.Headers.{HasIndefiniteForm}
 use Rattle.der_inputs.specs.Strict.{AddsStrictDumpOf}
 use Rattle.der_lines.specs.declared.document.Verdict.{Verdict}
 use Rattle.der_lines.specs.declared.document.Verdict.TheVariants.{AllRead, Refused}
@@ -46,7 +48,17 @@ AddsRefusal offset origin before after =
 abbrev pub entry_offsets : List Entry → List ℕ
 entry_offsets rs = map (λ r. r.offset) rs
 
--- the octets are a document no block of which has the indefinite form of BER, as its entries have them
+-- nothing that stands at the offsets has the indefinite form of BER
+abbrev pub AreDefinite : List ℕ → List ℕ → Type 0
+AreDefinite octets offsets = All (λ o. HasIndefiniteForm (drop o octets) → ⊥) offsets
+
+-- of what stands at the offsets, the first that has it stands at this one
+abbrev pub IsFirstIndefinite : List ℕ → List ℕ → ℕ → Type 0
+IsFirstIndefinite octets offsets offset =
+    (earlier later : List ℕ) × (offsets ≡ earlier ++ offset ∷ later) × AreDefinite octets earlier
+    × HasIndefiniteForm (drop offset octets)
+
+-- the octets are a document no block of which has the indefinite form, as its entries have them
 abbrev pub IsDefiniteDocument : List ℕ → Type 0
 IsDefiniteDocument octets = (rs : List Entry) × IsOutline octets rs × AreDefinite octets (entry_offsets rs)
 

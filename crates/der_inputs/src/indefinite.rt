@@ -1,8 +1,8 @@
 // Lengths of the indefinite form of BER, by entries.
 ghost use Rattle.std.specs.Prelude.{◌↔◌, All, IsTrue, MatchOption, drop};
-ghost use Rattle.der_lines.specs.Dump.{AreDefinite, HasIndefiniteForm, IsFirstIndefinite};
+ghost use Rattle.der_lines.specs.Headers.{HasIndefiniteForm};
 ghost use Rattle.asn1_outline.specs.Entries.{HasHeaderAt};
-ghost use Rattle.der_inputs.specs.Documents.{entry_offsets};
+ghost use Rattle.der_inputs.specs.Documents.{AreDefinite, IsFirstIndefinite, entry_offsets};
 
 use simple_asn1::Entry;
 

@@ -1,13 +1,13 @@
 // Dumps of which only canonical documents are read.
 ghost use Rattle.std.specs.Prelude.{IfOk};
-ghost use Rattle.der_inputs.specs.Strict.{AddsStrictDumpOf};
+ghost use Rattle.der_inputs.specs.Strict.{AddsRejection, AddsStrictDumpOf};
 
-use der_lines::{Names, Style, Verdict, push_fault_line, push_octets};
-use simple_asn1::{ASN1DecodeErr, discard, from_der_strict, law_one_reading};
+use der_lines::{Names, Style, Verdict, push_document, push_fault_line};
+use simple_asn1::{ASN1DecodeErr, LocatedErr, Outline, discard, from_der_strict, law_one_reading};
 use std::alloc::{AllocError, Global};
 
-/// Puts the lines of a document, and then the fault of one that is not canonical, at the offset of its first block at
-/// the top level that is not; an indefinite form is told so, too.
+/// Puts the lines of a document, and then, where it is not canonical, the fault of its first block at the top level that
+/// is not; or the first fault of what the library does not read, such as a BMPString that is no UTF-8.
 ///
 /// # Errors
 /// Memory ran out.
@@ -21,10 +21,40 @@ pub fn push_document_strictly(
     ensures { IfOk result (λ verdict.
         AddsStrictDumpOf style.most_depth octets.now verdict out.old.items out.new.items) }
 {
+    match push_document(alloc, names, style, octets, out)? {
+        Verdict::Refused => Ok(Verdict::Refused),
+        Verdict::AllRead => push_rejection(alloc, octets, out),
+    }
+}
+
+// Puts the line of where octets are rejected, if they are.
+fn push_rejection(alloc: Global, octets: &[u8], out: &mut Vec<u8>) -> Result<Verdict, AllocError>
+    ensures { IfOk result (λ verdict. AddsRejection octets.now verdict out.old.items out.new.items) }
+{
+    match Outline::from_der_located(alloc, octets) {
+        Ok(_) => push_not_canonical(alloc, octets, out),
+        Err(
+            LocatedErr {
+                error: ASN1DecodeErr::OutOfMemory,
+                ..
+            },
+        ) => Err(AllocError),
+        Err(located) => {
+            push_fault_line(alloc, located.offset, &located.error, out)?;
+            Ok(Verdict::Refused)
+        }
+    }
+}
+
+// Puts the line of the first block of a document that is not canonical, if one is not.
+fn push_not_canonical(
+    alloc: Global,
+    octets: &[u8],
+    out: &mut Vec<u8>,
+) -> Result<Verdict, AllocError>
+    ensures { IfOk result (λ verdict. AddsRejection octets.now verdict out.old.items out.new.items) }
+{
     law_one_reading();
-    let Some(_) = push_octets(alloc, names, style, octets, out)? else {
-        return Ok(Verdict::Refused);
-    };
     match from_der_strict(alloc, octets) {
         Ok(blocks) => {
             discard(blocks);

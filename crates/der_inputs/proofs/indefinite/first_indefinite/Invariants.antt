@@ -1,7 +1,7 @@
 use Rattle.std.proofs.Common.{take}
 use Rattle.std.specs.Prelude.{All}
 use Rattle.asn1_outline.specs.Entries.{HasHeaderAt}
-use Rattle.der_lines.specs.Dump.{AreDefinite}
+use Rattle.der_inputs.specs.Documents.{AreDefinite}
 use Rattle.der_inputs.specs.Documents.{entry_offsets}
 use Rattle.der_inputs.proofs.indefinite.first_indefinite.Given as goal
 
