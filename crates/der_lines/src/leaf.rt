@@ -15,6 +15,7 @@ use asn1_headers::error::ASN1DecodeErr;
 use asn1_headers::header::ASN1Class;
 use der_values::{Characters, text_in_form};
 use std::alloc::{AllocError, Global};
+use std::str;
 
 // What is said of contents octets behind the tag, and what is wrong with them in words, if anything is.
 #[derive(Drop)]
@@ -37,7 +38,7 @@ pub fn read_value(
         (λ _. HasNoValue header.class header.tag contents.now)) }
 {
     let universal = header.universal();
-    if let Some(form) = form_of(&header) {
+    if let Some(form) = form_of(&header, contents) {
         let mut text = String::new(alloc);
         if write_as(alloc, &mut text, form, contents)? {
             return Ok(Value { text, fault: None });
@@ -65,7 +66,7 @@ pub fn read_value(
 pub fn is_right(alloc: Global, header: Header, contents: &[u8]) -> Result<bool, AllocError>
     requires { is_gone_into header.class header.constructed header.tag ≡ false }
 {
-    if let Some(form) = form_of(&header) {
+    if let Some(form) = form_of(&header, contents) {
         if text_in_form(alloc, form, contents)?.is_some() {
             return Ok(true);
         }
@@ -98,14 +99,15 @@ fn check(
     }
 }
 
-// The form of characters of a string that the library takes for UTF-8 where X.690 has others.
-fn form_of(header: &Header) -> Option<Characters>
+// The form of characters of a string that the library takes for UTF-8 where X.690 has others. In a TeletexString they are
+// Latin-1 where they are no UTF-8.
+fn form_of(header: &Header, contents: &[u8]) -> Option<Characters>
     ensures { IfSome result (λ _. is_wide header.now.class header.now.tag ≡ true) }
 {
     if !matches!(header.class, ASN1Class::Universal) {
         return None;
     }
-    if has_tag(&header.tag, 20) {
+    if has_tag(&header.tag, 20) && str::from_utf8(contents).is_err() {
         return Some(Characters::Latin1);
     }
     if has_tag(&header.tag, 28) {

@@ -14,16 +14,6 @@ pub enum Characters {
     Latin1,
 }
 
-/// The form of the strings with a tag of class Universal, if it is one that the library does not read.
-pub fn characters_of(tag: Option<u8>) -> Option<Characters> {
-    match tag {
-        Some(20) => Some(Characters::Latin1),
-        Some(28) => Some(Characters::Utf32),
-        Some(30) => Some(Characters::Utf16),
-        _ => None,
-    }
-}
-
 /// The characters that the octets are in the form, if all of them are.
 ///
 /// # Errors

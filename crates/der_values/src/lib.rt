@@ -9,6 +9,6 @@ mod characters;
 mod identifier;
 mod types;
 
-pub use characters::{Characters, characters_of, text_in_form};
-pub use identifier::{contents_of, long_identifier};
+pub use characters::{Characters, text_in_form};
+pub use identifier::long_identifier;
 pub use types::type_name;

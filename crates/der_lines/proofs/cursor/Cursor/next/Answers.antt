@@ -20,8 +20,7 @@ pub loop-left-preserved : goal.loop-left-preserved
 loop-left-preserved c =
     let self = c.loop-left.self in
     let (left, offset, octets, back) = c.loop-left.invariant in
-    let none : length c.loop-left.left.now ≡ 0 = grind (arith, common_steps) in
-    (
+    let none : length c.loop-left.left.now ≡ 0 = grind (arith, common_steps) in (
       c.left-left-in-loop-left.ensures,
       offset,
       octets,
