@@ -8,9 +8,10 @@ from ._status import Refused, Status, refusal
 
 
 class Builder:
-    """A document that is made of values, block by block. Each method raises Refused for what cannot be added.
+    """A document that is made of values, block by block. A method that adds a value raises Refused for what is none.
 
-    Then nothing is added, and `offset` is the index of the block that was refused.
+    Then nothing is added, and `offset` is the index of its block. Classes and tags of `open`, and all that `add_octets`
+    and `add_block` are given, are looked at by `finish`.
     """
 
     def __init__(self) -> None:

@@ -36,7 +36,7 @@ pub enum FaultKind {
     NotCanonical,
     /// Out of memory.
     NoMemory,
-    /// The block is of another kind.
+    /// The block is of another kind; of a [`Builder`](crate::Builder): no string or time has the tag number.
     NoSuchValue,
     /// The value does not fit.
     Range,
