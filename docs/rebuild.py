@@ -1,0 +1,166 @@
+#!/usr/bin/env python3
+"""Writes documents back from the lines of `der_dump --json`, one after another: rebuild.py < LINES > FILE
+
+Canonical DER (X.690) comes back byte for byte. JSON does not keep everything of other documents. If the value of a
+block makes more or fewer bytes than the block has, it is an error that names the block's offset. So are:
+
+- identifier and length octets, INTEGERs and OBJECT IDENTIFIERs in longer forms than the shortest
+- contents of a NULL, and none of an INTEGER
+- fractions of a second that end with 0, have no digits, or more than nine
+- lines with a `fault`, such as the second line of a document with an indefinite length
+
+After an error nothing is written, and the exit status is 1. What JSON does not tell is written as DER has it, without
+an error, where it is as long:
+
+- a BOOLEAN other than 00 is FF, and the length 80 of a primitive block is 00
+- a BMPString is UTF-16 and a UniversalString UTF-32, also of text that was UTF-8
+- the fraction of a GeneralizedTime has its point
+"""
+import json
+import re
+import sys
+
+CLASSES = {"universal": 0x00, "application": 0x40, "context-specific": 0x80, "private": 0xC0}
+# how the characters of a string may be encoded: as X.690 has it, then as the library reads it
+ENCODINGS = {
+    "UTF8String": ["utf-8"],
+    "PrintableString": ["latin-1"],
+    "TeletexString": ["utf-8"],
+    "IA5String": ["latin-1"],
+    "UniversalString": ["utf-32-be", "utf-8"],
+    "BMPString": ["utf-16-be", "utf-8"],
+}
+
+
+class Different(Exception):
+    """The row of a block does not have the block's bytes."""
+
+    def __init__(self, row, why):
+        super().__init__(f"offset {row['offset']}: {why}")
+
+
+def base128(number):
+    digits = [number % 128]
+    while number := number // 128:
+        digits.append(128 + number % 128)
+    return bytes(reversed(digits))
+
+
+def length_octets(length):
+    if length < 128:
+        return bytes([length])
+    octets = length.to_bytes((length.bit_length() + 7) // 8, "big")
+    return bytes([128 + len(octets)]) + octets
+
+
+def header_of(row):
+    tag = int(row["tag"])
+    front = CLASSES[row["class"]] + (0x20 if row["constructed"] else 0)
+    identifier = bytes([front + tag]) if tag < 31 else bytes([front + 31]) + base128(tag)
+    return identifier + length_octets(row["size"] - row["header"])
+
+
+def integer_forms(value):
+    number = int(value)
+    size = (number if number >= 0 else ~number).bit_length() // 8 + 1
+    yield number.to_bytes(size, "big", signed=True)
+
+
+def bit_string_forms(value):
+    octets = bytes.fromhex(value["octets"])
+    yield bytes([8 * len(octets) - value["bits"]]) + octets
+    if not octets:
+        yield b""
+
+
+def identifier_forms(value):
+    first, second, *others = map(int, value.split("."))
+    front = 40 * first + second
+    yield b"".join(map(base128, [front, *others]))
+    if front < 256 and not others:
+        yield bytes([front])  # the library reads one octet from 80 on so, which X.690 does not have
+
+
+def time_forms(value):
+    """Both types: 2026-11-23T00:43:05.5Z without the marks, of a UTCTime without the century."""
+    yield re.sub("[-T:]", "", value).encode()
+
+
+def forms(row):
+    """The contents octets that the value of a block without blocks inside may be, the likeliest first."""
+    kind, value = row["type"], row["value"]
+    if kind in ENCODINGS:
+        yield from (value.encode(it) for it in ENCODINGS[kind])
+    elif kind == "BOOLEAN":
+        yield b"\xff" if value else b"\x00"
+    elif kind == "INTEGER":
+        yield from integer_forms(value)
+    elif kind == "BIT STRING":
+        yield from bit_string_forms(value)
+    elif kind == "OBJECT IDENTIFIER":
+        yield from identifier_forms(value)
+    elif kind == "UTCTime":
+        yield from time_forms(value[2:])
+    elif kind == "GeneralizedTime":
+        yield from time_forms(value)
+    elif kind == "NULL":
+        yield b""
+    else:
+        yield bytes.fromhex(value)
+
+
+def contents_of(row):
+    wanted, made = row["size"] - row["header"], []
+    for octets in forms(row):
+        if len(octets) == wanted:
+            return octets
+        made.append(len(octets))
+    sizes = " or ".join(map(str, made))
+    raise Different(row, f"{row['type'] or 'the block'} has {wanted} bytes of contents, its value makes {sizes}")
+
+
+def rebuild(rows):
+    """The document of these rows, which are the `blocks` of a line."""
+    parts, offset, open_blocks = [], 0, []
+    for row in rows:
+        while open_blocks and open_blocks[-1] == offset:
+            open_blocks.pop()
+        if row["offset"] != offset or row["depth"] != len(open_blocks):
+            raise Different(row, f"a block at offset {offset}, depth {len(open_blocks)} comes next")
+        header = header_of(row)
+        if len(header) != row["header"]:
+            raise Different(row, f"the header has {row['header']} bytes, the shortest has {len(header)}")
+        parts.append(header)
+        if row["value"] is None and row["type"] != "NULL":
+            open_blocks.append(offset + row["size"])
+            offset += row["header"]
+        else:
+            parts.append(contents_of(row))
+            offset += row["size"]
+    if any(end != offset for end in open_blocks):
+        raise Different(rows[-1], "blocks are missing behind this one")
+    return b"".join(parts)
+
+
+def main():
+    if len(sys.argv) > 1:
+        print(__doc__.strip())
+        sys.exit(0 if sys.argv[1:] == ["--help"] else 2)
+    if hasattr(sys, "set_int_max_str_digits"):
+        sys.set_int_max_str_digits(0)
+    documents = []
+    for number, line in enumerate(sys.stdin.buffer, 1):
+        try:
+            read = json.loads(line)
+            if "fault" in read:
+                sys.exit(f"line {number}: no document: {read['fault']['text']}")
+            documents.append(rebuild(read["blocks"]))
+        except Different as why:
+            sys.exit(f"line {number}: {why}")
+        except (AttributeError, KeyError, OverflowError, TypeError, ValueError):
+            sys.exit(f"line {number}: not a line of der_dump --json")
+    sys.stdout.buffer.write(b"".join(documents))
+
+
+if __name__ == "__main__":
+    main()
