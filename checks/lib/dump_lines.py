@@ -1,0 +1,344 @@
+"""What der_dump writes with --json: dump_lines.py PROGRAM WORK FOLDER
+
+Each line keeps to docs/dump.schema.json, docs/rebuild.py makes documents of lines, and the examples of docs/DUMP.md for
+jq show what openssl shows, of each certificate of the folder. `checks/json` runs it.
+"""
+import copy
+import json
+import os
+import pathlib
+import re
+import shutil
+import subprocess
+import sys
+import textwrap
+from certificates import certificates
+
+TOP = pathlib.Path(__file__).resolve().parent.parent.parent
+sys.path.insert(0, str(TOP / "docs"))
+import rebuild  # noqa: E402
+
+try:
+    import jsonschema
+except ImportError:
+    jsonschema = None
+
+LEVELS = 100000
+LONG_INTEGER = bytes.fromhex("02 82 13 88") + 5000 * b"\x5a"
+PARTS = {"hex": bytes.fromhex, "text": lambda text: text.encode() + b"\n", "text-": lambda text: text.encode()}
+wrong = 0
+
+
+def tell(*words):
+    print("json:", *words)
+
+
+def fail(*words):
+    global wrong
+    wrong += 1
+    tell(*words)
+
+
+def rows_inputs():
+    """The standard inputs of the rows of der_dump."""
+    for path in sorted((TOP / "crates/der_dump/rows").glob("*.rows")):
+        for row in path.read_text().split("\n\n"):
+            lines = (line.partition(" ") for line in row.splitlines())
+            yield b"".join(PARTS[word](rest) for word, _, rest in lines if word in PARTS)
+
+
+def calls_inputs():
+    """The octets that lines of test_calls read."""
+    for line in (TOP / "crates/test_calls/stdin").read_text().splitlines():
+        if found := re.fullmatch(r"(?:read|rewrite|strict|count|parts) ((?:[0-9A-F]{2} ?)+)", line):
+            yield bytes.fromhex(found[1])
+
+
+def nested(first, levels):
+    parts, size = [b"\x05\x00"], 2
+    for _ in range(levels):
+        parts.append(bytes([first]) + rebuild.length_octets(size))
+        size += len(parts[-1])
+    return b"".join(reversed(parts))
+
+
+class Dump:
+    """The program, which runs in a folder of its inputs."""
+
+    def __init__(self, program, folder):
+        self.program, self.folder = program, folder
+        folder.mkdir()
+
+    def text(self, words, given=None):
+        ran = subprocess.run([self.program, "--json", *words], cwd=self.folder, input=given, capture_output=True)
+        return ran.stdout
+
+    def lines(self, words, given=None):
+        return [json.loads(line) for line in self.text(words, given).split(b"\n")[:-1]]
+
+    def lines_of(self, documents, *words):
+        """The lines of each of these octets, without its file."""
+        lines = {f"{number:05}.hex": [] for number in range(len(documents))}
+        for name, octets in zip(lines, documents):
+            (self.folder / name).write_text(octets.hex() + "\n")
+        for line in self.lines([*words, *lines]):
+            lines[line.pop("file")].append(line)
+        return list(lines.values())
+
+
+# what the schema must refuse of the line of a SEQUENCE of these blocks: where, and what stands there then, or nothing
+BLOCKS = ("01 01 FF", "02 01 05", "03 02 04 B0", "04 02 0A BC", "05 00", "06 02 88 37", "0C 01 41", "80 01 41",
+          "17 0D 32 36 31 31 32 33 30 30 34 33 30 35 5A", "18 0F 32 30 32 36 31 31 32 33 30 30 34 33 30 35 5A",
+          "A0 02 05 00")
+MISSING = object()
+MEMBERS = ("offset", "header", "size", "depth", "class", "constructed", "tag", "type", "value")
+REFUSED = [
+    *(((3, name), MISSING) for name in MEMBERS),
+    ((3, "other"), 1),
+    *(((3, name), it) for name in ("offset", "header", "size", "depth") for it in ("3", -1, 1.5, None, True)),
+    ((3, "class"), "Universal"), ((3, "class"), None), ((3, "class"), "private"),
+    ((3, "constructed"), 0),
+    ((3, "tag"), -1), ((3, "tag"), "3"), ((3, "tag"), 4), ((8, "tag"), "0"), ((8, "tag"), 2**53),
+    ((3, "type"), "BITSTRING"), ((3, "type"), "NULL"), ((3, "type"), None), ((8, "type"), "INTEGER"),
+    ((0, "value"), ""), ((0, "offset"), 1), ((0, "depth"), 1),
+    ((1, "value"), 1), ((2, "value"), "5"), ((2, "value"), 2**53), ((2, "value"), 1.5), ((2, "value"), True),
+    ((3, "value"), "b0"), ((3, "value", "bits"), MISSING), ((3, "value", "octets"), "b"), ((3, "value", "unused"), 4),
+    ((4, "value"), "0ABC"), ((4, "value"), "0ab"), ((4, "value"), None), ((5, "value"), ""),
+    ((6, "value"), "3.1"), ((6, "value"), "2.01"), ((6, "value"), "2"), ((7, "value"), 1), ((8, "value"), None),
+    ((9, "value"), "2050-11-23T00:43:05Z"), ((9, "value"), "2026-11-23 00:43:05"),
+    ((10, "value"), "2026-11-23T00:43:05.50Z"), ((11, "constructed"), False), ((11, "value"), "g0"),
+]
+REFUSED_LINES = [
+    {}, [], None, {"blocks": []}, {"blocks": {}}, {"file": "a"}, {"fault": {}}, {"fault": ""}, {"fault": {"offset": 1}},
+    {"fault": {"text": 1}}, {"fault": {"text": "", "offset": "1"}}, {"fault": {"text": "", "other": 1}},
+    {"fault": {"text": ""}, "file": None}, {"fault": {"text": ""}, "label": 1}, {"fault": {"text": ""}, "other": 1},
+]
+
+
+def refused_lines(line):
+    yield from REFUSED_LINES
+    yield line | {"fault": {"text": ""}}
+    for path, value in REFUSED:
+        changed = copy.deepcopy(line)
+        place = changed["blocks"]
+        for name in path[:-1]:
+            place = place[name]
+        if value is MISSING:
+            del place[path[-1]]
+        else:
+            place[path[-1]] = value
+        yield changed
+
+
+def check_schema(dump, lines):
+    """Each line keeps to the schema, which refuses what is none."""
+    if jsonschema is None:
+        tell("NOT CHECKED against the schema, python3 has no jsonschema (Debian's package python3-jsonschema)")
+        return
+    schema = json.loads((TOP / "docs/dump.schema.json").read_text())
+    jsonschema.Draft202012Validator.check_schema(schema)
+    validator = jsonschema.Draft202012Validator(schema)
+    good = 0
+    for line in lines:
+        if error := jsonschema.exceptions.best_match(validator.iter_errors(line)):
+            fail("not by the schema:", error.json_path, error.message[:200])
+        else:
+            good += 1
+    rows = sum(len(line.get("blocks", "")) for line in lines)
+    tell(f"{good} of {len(lines)} lines, {rows} blocks, keep to the schema")
+    octets = bytes.fromhex("".join(BLOCKS))
+    [line] = dump.lines([], (b"\x30" + rebuild.length_octets(len(octets)) + octets).hex().encode())
+    if not validator.is_valid(line) or len(line["blocks"]) != len(BLOCKS) + 2:
+        fail("the line that is to be changed is not by the schema")
+    changed = list(refused_lines(line))
+    for each in filter(validator.is_valid, changed):
+        fail("the schema lets through", json.dumps(each)[:2000])
+    tell(f"{len(changed)} wrong lines, {sum(not validator.is_valid(it) for it in changed)} refused by the schema")
+
+
+def is_canonical(dump, octets, rows):
+    """Each block of the document reads strictly, also those that a block of another class keeps as they came."""
+    lines = (dump.lines(["--strict", "--at", str(row["offset"])], octets.hex().encode()) for row in rows)
+    return all("blocks" in line for [line] in lines)
+
+
+def check_rebuilt(dump, documents, lines):
+    """Canonical documents are made again of their lines. Of others it is told which block's octets are lost, or no line
+    tells them from what is made."""
+    strict = dump.lines_of(documents, "--strict")
+    counts = dict.fromkeys(("canonical", "same", "told", "alike"), 0)
+    alike = []
+    for octets, read, strictly in zip(documents, lines, strict):
+        if "blocks" not in read[0]:
+            continue
+        rows = read[0]["blocks"]
+        try:
+            made = rebuild.rebuild(rows)
+            told = ""
+        except rebuild.Different as why:
+            made, told = None, str(why)
+        is_strict = "blocks" in strictly[0]
+        if made == octets:
+            counts["canonical" if is_strict else "same"] += 1
+        elif is_strict and is_canonical(dump, octets, rows):
+            fail(f"{octets.hex()[:80]} is canonical and not made again: {told or made.hex()[:80]}")
+        elif told or len(read) > 1:
+            counts["told"] += 1
+        else:
+            alike.append((octets, made, rows))
+    for (octets, made, rows), again in zip(alike, dump.lines_of([made for _, made, _ in alike])):
+        if again[0].get("blocks") == rows:
+            counts["alike"] += 1
+        else:
+            fail(f"{octets.hex()[:80]} is made {made.hex()[:80]}, whose line is another")
+    tell(f"{counts['canonical']} canonical documents made again; of others {counts['same']} made again, "
+         f"{counts['told']} told, {counts['alike']} made to one with the same line")
+
+
+def check_program(dump, roots):
+    """docs/rebuild.py as a program: what it writes and says, and how it ends."""
+    def rebuilt(lines):
+        ran = subprocess.run([sys.executable, TOP / "docs/rebuild.py"], input=lines, capture_output=True)
+        return ran.returncode, ran.stdout, ran.stderr.decode()
+
+    for number, octets in enumerate(roots):
+        (dump.folder / f"{number:05}.der").write_bytes(octets)
+    names = [f"{number:05}.der" for number in range(len(roots))]
+    if rebuilt(dump.text(names)) != (0, b"".join(roots), ""):
+        fail("rebuild.py does not write the certificates of the folder again")
+    for octets in (nested(0x30, LEVELS), nested(0xA0, LEVELS), LONG_INTEGER):
+        if rebuilt(dump.text([], octets.hex().encode())) != (0, octets, ""):
+            fail(f"rebuild.py does not write {octets[:10].hex()}.. of {len(octets)} octets again")
+    for given, says in TOLD:
+        status, made, said = rebuilt(given if given[:1] == b"-" else dump.text([], given))
+        if status != 1 or made or says not in said or said.count("\n") != 1:
+            fail(f"{given.decode()}: rebuild.py ends with {status}, says {said!r}")
+    tell(f"rebuild.py was run on {len(roots)} certificates, {LEVELS} levels, and {len(TOLD)} lines that it has to tell")
+
+
+# what rebuild.py does not make documents of, and what it says then
+TOLD = [
+    (b"05 00 30 03 02 01 05 02 02 00 05", "line 1: offset 7: INTEGER has 2 bytes of contents, its value makes 1"),
+    (b"30 04 05 00 02 00", "line 1: offset 4: INTEGER"),
+    (b"30 81 02 05 00", "line 1: offset 0: the header has 3 bytes, the shortest has 2"),
+    (b"05 00 9F 1E 00", "line 1: offset 2: the header has 3 bytes, the shortest has 2"),
+    (b"30 03 05 01 00", "line 1: offset 2: NULL has 1 bytes"),
+    (b"A0 04 06 02 80 01", "line 1: offset 2: OBJECT IDENTIFIER"),
+    (b"18 11 32 30 32 36 31 31 32 33 30 30 34 33 30 35 2E 30 5A", "line 1: offset 0: GeneralizedTime"),
+    (b"18 10 32 30 32 36 31 31 32 33 30 30 34 33 30 35 2E 5A", "line 1: offset 0: GeneralizedTime"),
+    (b"30 80 05 00", "line 2: no document: indefinite length"),
+    (b"A0 04 05 00 30 80", "line 2: no document: indefinite length"),
+    (b"30 03 05", "line 1: no document: "),
+    (b"-", "line 1: not a line of der_dump --json"),
+]
+
+# certificates whose issuers are others, and what Debian's do not have: dates from 2050 on, several names or none, no
+# version, and names of other kinds
+MADE = r"""
+names=critical,DNS:a.example.org,DNS:*.example.org,email:a@example.org,URI:https://example.org/?a=b,IP:127.0.0.1
+names="$names,RID:1.2.3,otherName:1.2.3.4;UTF8:x"
+openssl req -x509 -newkey ed25519 -nodes -keyout root.key -out made_root.pem -days 20000 -utf8 \
+    -subj '/O=Made/CN=Würzel & 李/CN=Second, 2.5.4.3'
+openssl req -x509 -newkey ed25519 -nodes -keyout leaf.key -out made_leaf.pem -CA made_root.pem -CAkey root.key \
+    -days 9 -subj '/CN=a.example.org/O=Leaf' -addext "subjectAltName=$names"
+openssl req -new -newkey ed25519 -nodes -keyout old.key -out old.csr -subj '/O=Old'
+openssl x509 -req -in old.csr -out made_old.pem -days 30000 -CA made_root.pem -CAkey root.key -set_serial 1
+"""
+
+
+def openssl(*words, given=None):
+    return subprocess.run(["openssl", *words], input=given, capture_output=True).stdout.decode()
+
+
+def certificate_facts(path):
+    """What openssl shows of a certificate: names, times, places of object identifiers, and other names."""
+    text = openssl("x509", "-in", path, "-noout", "-subject", "-issuer", "-nameopt", "utf8,sep_multiline,lname",
+                   "-startdate", "-enddate", "-dateopt", "iso_8601", "-ext", "subjectAltName")
+    facts = {"file": path.name}
+    for name in ("issuer", "subject"):
+        lines = re.search(rf"^{name}=\n((?:    .*\n)*)", text, re.M)[1].splitlines()
+        facts[name] = [it.partition("=")[2] for it in lines if it.startswith("    commonName=")]
+    facts["validity"] = [it.replace(" ", "T") for it in re.findall(r"^not(?:Before|After)=(.*)$", text, re.M)]
+    others = re.search(r"Alternative Name:.*\n +(.*)", text)
+    others = re.findall(r"(?:^|, )(?:DNS|email|URI):([^,]*)", others[1]) if others else []
+    return facts, others
+
+
+class Identifiers:
+    """The names that openssl has for object identifiers."""
+
+    def __init__(self):
+        self.names = {}
+
+    def name(self, dotted):
+        if dotted not in self.names:
+            made = openssl("asn1parse", "-genstr", "OID:" + dotted)
+            self.names[dotted] = re.search(r"OBJECT *:(.*)", made)[1]
+        return self.names[dotted]
+
+    def shown(self, text):
+        pairs = (line.split(" ") for line in text.splitlines())
+        return [(offset, self.name(dotted)) for offset, dotted in pairs]
+
+    @staticmethod
+    def wanted(path):
+        return re.findall(r"^ *(\d+):d=.* OBJECT *:(.*)$", openssl("asn1parse", "-in", path), re.M)
+
+
+def check_examples(program, work, roots):
+    """The examples of docs/DUMP.md for jq, each as it stands there."""
+    missing = [it for it in ("jq", "openssl", "xxd", "xargs") if not shutil.which(it)]
+    if missing:
+        tell(f"the examples of docs/DUMP.md are NOT CHECKED, there is no {', '.join(missing)}")
+        return
+    paragraphs = re.findall(r"^(?:    .*\n)+", (TOP / "docs/DUMP.md").read_text(), re.M)
+    examples = [textwrap.dedent(it) for it in paragraphs if "jq -" in it]
+    if len(examples) != 3:
+        fail(f"docs/DUMP.md has {len(examples)} examples for jq in place of 3")
+        return
+    folder, each, tools = work / "certificates", work / "each", work / "tools"
+    for it in (folder, each, tools):
+        it.mkdir()
+    (tools / "der_dump").symlink_to(pathlib.Path(program).resolve())
+    for number, octets in enumerate(roots):
+        (folder / f"{number:05}.pem").write_text(openssl("x509", "-inform", "DER", given=octets))
+    subprocess.run(["sh", "-ec", MADE], cwd=folder, capture_output=True, check=True)
+
+    def run(example, place):
+        path = os.pathsep.join([str(tools), os.environ["PATH"]])
+        ran = subprocess.run(["sh", "-c", example], cwd=place, capture_output=True, env={**os.environ, "PATH": path})
+        return ran.stdout.decode()
+
+    paths = sorted(folder.glob("*.pem"))
+    lines = {line["file"]: line for line in map(json.loads, run(examples[0], folder).splitlines())}
+    identifiers, right, named = Identifiers(), [0, 0, 0], 0
+    for path in paths:
+        facts, others = certificate_facts(path)
+        named += bool(others)
+        shutil.copy(path, each / "certificate.pem")
+        shown = (lines.get(path.name), identifiers.shown(run(examples[1], each)), run(examples[2], each).splitlines())
+        wanted = (facts, identifiers.wanted(path), others)
+        for place, (given, it) in enumerate(zip(shown, wanted)):
+            right[place] += given == it
+            if given != it:
+                fail(f"example {place + 1} of docs/DUMP.md: {given} in place of {it}, of {path.name}")
+    tell(f"examples show what openssl shows of {' and '.join(map(str, right))} of {len(paths)} certificates; "
+         f"{named} have alternative names")
+
+
+def main():
+    program, work, folder = sys.argv[1], pathlib.Path(sys.argv[2]), sys.argv[3]
+    dump = Dump(program, work / "inputs")
+    roots = certificates(folder)
+    documents = list(dict.fromkeys([*rows_inputs(), *calls_inputs(), *roots, nested(0x30, 50), nested(0xA0, 50)]))
+    lines = dump.lines_of(documents)
+    files = sorted(str(it) for it in (TOP / "checks/data/dumps").iterdir() if it.suffix != ".dump")
+    check_schema(dump, [*sum(lines, []), *dump.lines(files), *dump.lines(["--strict", *files])])
+    check_rebuilt(dump, documents, lines)
+    check_program(dump, roots)
+    check_examples(program, work, roots)
+    tell(f"{len(documents)} inputs, {wrong} wrong")
+    sys.exit(1 if wrong or not roots else 0)
+
+
+main()
