@@ -12,3 +12,6 @@ mod Inside
 mod Roots
 mod Built
 mod BuildSteps
+mod ShapesAlone
+mod Walks
+mod ShapesWithin

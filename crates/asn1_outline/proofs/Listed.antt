@@ -142,11 +142,11 @@ leaf_built x h offset limit depth a b i r found shut (t, none, encoded) begun is
     }
 
 -- the entries up to one that stands after some
-take_after : (front : List Entry) (r : Entry) (own : List Entry) → take (suc (length front)) (front ++ r ∷ own) ≡ front ++ r ∷ []
+pub take_after : (front : List Entry) (r : Entry) (own : List Entry) → take (suc (length front)) (front ++ r ∷ own) ≡ front ++ r ∷ []
 take_after [] r own = refl
 take_after (y ∷ front) r own = ap (λ z. y ∷ z) (take_after front r own)
 
-sealed_after : (front : List Entry) (r : Entry) (own : List Entry) (items : ℕ)
+pub sealed_after : (front : List Entry) (r : Entry) (own : List Entry) (items : ℕ)
     → sealed (front ++ r ∷ own) (length front) items ≡ front ++ with_items items (length (front ++ r ∷ own)) r ∷ own
 sealed_after front r own items =
     ap (λ z. set (front ++ r ∷ own) (length front) (with_items items (length (front ++ r ∷ own)) z)) (get_or-append_seam front r own no_entry)

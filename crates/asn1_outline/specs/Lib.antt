@@ -2,6 +2,9 @@ pub mod Structure
 pub mod Entries
 pub mod Outlines
 pub mod Values
+pub mod Shapes
 pub mod Listing
+pub mod Walked
+pub mod Walking
 pub mod Iterated
 pub mod Building

@@ -8,6 +8,7 @@ ghost use Rattle.asn1_blocks.specs.Inner.HeaderPlaces.{HeaderFound};
 ghost use Rattle.asn1_blocks.specs.Tree.{Trees};
 ghost use Rattle.asn1_outline.specs.Entries.{AreEntriesOf, HasTag};
 ghost use Rattle.asn1_outline.specs.Listing.{IsBegun, builder_holds, sealed};
+ghost use Rattle.asn1_outline.specs.Shapes.{shape_entry};
 
 use crate::entry::Entry;
 use asn1_blocks::contents::check_contents;
@@ -51,15 +52,15 @@ pub fn list(alloc: Global, octets: &[u8], count: &mut HeaderCount) -> Result<Vec
 
 // The items of a frame: the index of the entry of its encoding, and how many blocks it has so far.
 #[derive(Clone, Copy)]
-struct EntryItems {
-    entry: usize,
-    count: usize,
+pub struct EntryItems {
+    pub entry: usize,
+    pub count: usize,
 }
 
 impl EntryItems {
     // The frame has one block more.
     #[inline(always)]
-    fn add(&mut self) -> Result<(), AllocError>
+    pub fn add(&mut self) -> Result<(), AllocError>
         ensures { OnOk result (self.new ≡ record self.old { count = self.old.count + 1 }) }
     {
         let Some(count) = self.count.checked_add(1) else {
@@ -72,8 +73,8 @@ impl EntryItems {
 
 // Builds entries: those so far.
 #[derive(Drop)]
-struct EntryBuilder {
-    entries: Vec<Entry>,
+pub struct EntryBuilder {
+    pub entries: Vec<Entry>,
 }
 
 impl Builder for EntryBuilder {
@@ -143,7 +144,7 @@ impl Builder for EntryBuilder {
 
 impl EntryBuilder {
     #[inline(always)]
-    fn push(&mut self, block: Entry) -> Result<(), AllocError>
+    pub fn push(&mut self, block: Entry) -> Result<(), AllocError>
         ensures { OnOk result (self.new.entries.items ≡ self.old.entries.items ++ block ∷ []) }
     {
         self.entries.push(block)?;
@@ -152,7 +153,7 @@ impl EntryBuilder {
 
     // The entry of a frame holds its blocks, whose entries are all those after it.
     #[inline(always)]
-    fn seal(&mut self, items: EntryItems)
+    pub fn seal(&mut self, items: EntryItems)
         requires { items.entry < length self.old.entries.items }
         ensures { self.new.entries.items ≡ sealed self.old.entries.items items.entry items.count }
     {
@@ -166,7 +167,7 @@ impl EntryBuilder {
     }
 
     // There are no entries after this one.
-    fn cut(&mut self, entry: usize)
+    pub fn cut(&mut self, entry: usize)
         ensures { self.new.entries.items ≡ take (suc entry) self.old.entries.items }
     {
         self.entries.truncate(entry.saturating_add(1));
@@ -180,6 +181,17 @@ fn started(_octets: &[u8], header: &Header, offset: usize, entry: usize, depth: 
         × (limit ≤ length _octets.now) }
     requires next { suc entry < 2 ^ 64 }
     ensures { IsBegun _octets.now offset entry depth result }
+{
+    begun(header, offset, entry, depth)
+}
+
+// The same, whatever octets the header was found in.
+#[inline(always)]
+pub fn begun(header: &Header, offset: usize, entry: usize, depth: usize) -> Entry
+    requires after { offset ≤ header.now.start }
+    requires order { header.now.start ≤ header.now.end }
+    requires next { suc entry < 2 ^ 64 }
+    ensures { result ≡ shape_entry offset header.now 0 (suc entry) depth }
 {
     Entry {
         class: header.class,

@@ -48,6 +48,25 @@ impl Entry {
         Some(&document[start..end])
     }
 
+    // The octets of its encoding, if they lie in the document.
+    pub(crate) fn encoding_in<'a>(&self, document: &'a [u8]) -> Option<&'a [u8]>
+        ensures { MatchOption result
+            (length document.now < self.now.offset + self.now.header + self.now.contents)
+            (λ found. found.now ≡ slice_range document.now self.now.offset
+            (self.now.offset + self.now.header + self.now.contents)) }
+    {
+        let Some(start) = self.offset.checked_add(self.header) else {
+            return None;
+        };
+        let Some(end) = start.checked_add(self.contents) else {
+            return None;
+        };
+        if end > document.len() {
+            return None;
+        }
+        Some(&document[self.offset..end])
+    }
+
     // The tag number of the block of the document whose entry this is, by its identifier octets.
     pub(crate) fn tag_in(&self, alloc: Global, document: &[u8]) -> Result<BigUint, ASN1DecodeErr>
         ensures { (b : Tree ℕ) → IsEntryOf document.now b self.now → MatchResult result

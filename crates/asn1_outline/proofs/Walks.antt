@@ -1,0 +1,364 @@
+-- The steps of a walk over headers.
+use Rattle.std.proofs.Common.{◌≡◌, ◌≢◌, ℕ, suc, ◌+◌, ◌<◌, ◌≤◌, ◌++◌, Bool, true, false, List, [], ◌∷◌, Err, Global, MatchResult, Ok, OnOk, Result, Vec, inl, inr, length, reverse, take, refl, sym, ap, ◌∙◌, subst, arith, append_assoc, append-nil, length-append}
+use Rattle.std.specs.Prelude.{IsErrAnd}
+use Rattle.std.specs.declared.alloc.AllocError.{AllocError}
+use Rattle.std.proofs.lemmas.List.{length-reverse, reverse-append}
+use Rattle.asn1_headers.specs.Fault.{DecodeFault}
+use Rattle.asn1_headers.specs.declared.error.ASN1DecodeErr.TheVariants.{OutOfMemory}
+use Rattle.asn1_headers.specs.declared.error.LocatedErr.{LocatedErr}
+use Rattle.asn1_headers.specs.declared.header.ASN1Class.TheVariants.{Universal}
+use Rattle.asn1_blocks.specs.HeadersBegun.{IsReadInside}
+use Rattle.asn1_blocks.specs.Inner.HeaderPlaces.{HeaderFound}
+use Rattle.asn1_blocks.specs.declared.parsed.Header.{Header}
+use Rattle.asn1_outline.specs.Listing.{sealed, with_items}
+use Rattle.asn1_outline.specs.Shapes.{AreShapes, HasItems, HeadersFaultAt, Shapes, as_it_came, entries_of, in_item, in_later, more_shapes, no_more, no_shapes, one_more, read_inside, shape_count, shape_entry}
+use Rattle.asn1_outline.specs.Walking.{AreOpen, GoesOn, HasTurned, IsEntered, IsFaulty, IsReadTo, IsWalking, left}
+use Rattle.asn1_outline.specs.declared.entry.Entry.{Entry}
+use Rattle.asn1_outline.specs.declared.listing.EntryBuilder.{EntryBuilder}
+use Rattle.asn1_outline.specs.declared.listing.EntryItems.{EntryItems}
+use Rattle.asn1_outline.specs.declared.walk.Frame.{Frame}
+use Rattle.asn1_outline.specs.declared.walk.Turn.{Turn}
+use Rattle.asn1_outline.specs.declared.walk.Turn.TheVariants.{More}
+use Rattle.asn1_outline.specs.declared.walk.Walk.{Walk}
+use Rattle.asn1_outline.proofs.Listed.{sealed_after, take_after}
+
+-- the entry of an encoding, and those of what is inside it
+abbrev pub with_inside : ℕ → Header → Shapes → ℕ → ℕ → List Entry
+with_inside offset h items at depth =
+    shape_entry offset h (shape_count items) (suc at + length (entries_of (suc at) (suc depth) items)) depth ∷ entries_of (suc at) (suc depth) items
+
+-- nothing is read yet
+pub read_none : (x : List ℕ) (s e i d : ℕ) → s ≤ e → e ≤ length x → IsReadTo x s e s i d 0 []
+read_none x s e i d order within = record {
+  from = omega arith;
+  to = order;
+  within = within;
+  and_then = λ rest. rest;
+  shapes = λ rest are. are;
+  fault = λ fault o p. p;
+  entries = λ rest. ap (λ z. entries_of z d rest) (omega arith);
+  counted = λ rest. omega arith;
+}
+
+-- one encoding more
+read_more : (x : List ℕ) (s e p i d n at : ℕ) (own : List Entry) (h : Header) (items : Shapes) → at ≡ i + length own → IsReadTo x s e p i d n own
+    → HeaderFound x p e h → HasItems x h items → IsReadTo x s e h.end i d (n + 1) (own ++ with_inside p h items at d)
+read_more x s e p i d n at own h items here w f inside =
+    let new = with_inside p h items at d in
+    let next : suc at + length (entries_of (suc at) (suc d) items) ≡ i + length (own ++ new) =
+    omega (arith, here, length-append own new) in
+    record {
+      from = omega (arith, w.from, f.past, f.order);
+      to = f.fits;
+      within = w.within;
+      and_then = λ rest. w.and_then (more_shapes p h items rest);
+      shapes = λ rest are. w.shapes (more_shapes p h items rest) (one_more f inside are);
+      fault = λ fault o q. w.fault fault o (in_later f inside q);
+      entries = λ rest.
+          w.entries (more_shapes p h items rest)
+          ∙ ap (λ z. own ++ entries_of z d (more_shapes p h items rest)) (sym here)
+          ∙ sym (append_assoc own new (entries_of (suc at + length (entries_of (suc at) (suc d) items)) d rest))
+          ∙ ap (λ z. (own ++ new) ++ entries_of z d rest) next;
+      counted = λ rest. omega (arith, w.counted (more_shapes p h items rest));
+    }
+
+abbrev pub counted : Frame → Frame
+counted f = record f { items = record f.items { count = f.items.count + 1 } }
+
+-- the places of the innermost frame
+pub record Places (x : List ℕ) (f : Frame) (p : ℕ) : Type 0 where
+  pub from : f.start ≤ p
+  pub to : p ≤ f.end
+  pub within : f.end ≤ length x
+
+pub places : (x : List ℕ) (f : Frame) (gs : List Frame) (p : ℕ) (rs : List Entry) → AreOpen x f gs p rs → Places x f p
+places x f [] p rs w = record { from = w.read.from; to = w.read.to; within = w.read.within }
+places x f (g ∷ gs) p rs w = record { from = w.read.from; to = w.read.to; within = w.read.within }
+
+-- the innermost frame has one encoding more
+pub taken : (x : List ℕ) (f : Frame) (gs : List Frame) (p : ℕ) (rs : List Entry) (h : Header) (items : Shapes) → AreOpen x f gs p rs
+    → HeaderFound x p f.end h → HasItems x h items → AreOpen x (counted f) gs h.end (rs ++ with_inside p h items (length rs) (length gs))
+taken x f [] p rs h items w found inside = record {
+  start = w.start;
+  end = w.end;
+  read = read_more x f.start f.end p 0 0 f.items.count (length rs) rs h items (omega arith) w.read found inside;
+}
+taken x f (g ∷ gs) p rs h items w found inside =
+    let new = with_inside p h items (length rs) (length (g ∷ gs)) in
+    let at : length rs ≡ suc f.items.entry + length w.own =
+    omega (arith, ap length w.whole, w.entry, length-append w.front (shape_entry w.offset w.header 0 (suc f.items.entry) (length gs) ∷ w.own)) in
+    record {
+      offset = w.offset;
+      header = w.header;
+      front = w.front;
+      own = w.own ++ new;
+      whole = ap (λ z. z ++ new) w.whole ∙ append_assoc w.front _ new;
+      entry = w.entry;
+      found = w.found;
+      inside = w.inside;
+      start = w.start;
+      end = w.end;
+      attempt = w.attempt;
+      group = w.group;
+      read = read_more x f.start f.end p (suc f.items.entry) (suc (length gs)) f.items.count (length rs) w.own h items at w.read found inside;
+      around = w.around;
+    }
+
+-- a frame begins in it
+pub entered : (x : List ℕ) (f g : Frame) (gs : List Frame) (p : ℕ) (rs : List Entry) (h : Header) → AreOpen x g gs p rs → HeaderFound x p g.end h
+    → IsReadInside h.class h.constructed h.tag → f.start ≡ h.start → f.end ≡ h.end → f.items.entry ≡ length rs → f.items.count ≡ 0
+    → (f.attempt ≡ true → h.class ≢ Universal) → (f.attempt ≡ false → h.class ≡ Universal)
+    → AreOpen x f (g ∷ gs) h.start (rs ++ shape_entry p h 0 (suc (length rs)) (length gs) ∷ [])
+entered x f g gs p rs h w found inside start end entry none attempt group =
+    let v = places x g gs p rs w in
+    let read = read_none x h.start h.end (suc f.items.entry) (suc (length gs)) found.order (omega (arith, found.fits, v.within)) in
+    record {
+      offset = p;
+      header = h;
+      front = rs;
+      own = [];
+      whole = ap (λ z. rs ++ shape_entry p h 0 (suc z) (length gs) ∷ []) (sym entry);
+      entry = entry;
+      found = found;
+      inside = inside;
+      start = start;
+      end = end;
+      attempt = attempt;
+      group = group;
+      read = subst (λ z. IsReadTo x f.start f.end h.start (suc f.items.entry) (suc (length gs)) z []) (sym none)
+          (subst (λ z. IsReadTo x z f.end h.start (suc f.items.entry) (suc (length gs)) 0 []) (sym start)
+          (subst (λ z. IsReadTo x h.start z h.start (suc f.items.entry) (suc (length gs)) 0 []) (sym end) read));
+      around = w;
+    }
+
+-- the innermost frame ended
+pub closed : (x : List ℕ) (f g : Frame) (gs : List Frame) (p : ℕ) (rs : List Entry) → p ≡ f.end → AreOpen x f (g ∷ gs) p rs
+    → AreOpen x (counted g) gs p (sealed rs f.items.entry f.items.count)
+closed x f g gs p rs ended w =
+    let h = w.header in
+    let n = f.items.count in
+    let d = length gs in
+    let all = w.read.and_then no_shapes in
+    let are : AreShapes x f.start f.end all = w.read.shapes no_shapes (no_more ended) in
+    let inside : HasItems x h all = read_inside w.inside
+    (subst (λ z. AreShapes x z h.end all) w.start (subst (λ z. AreShapes x f.start z all) w.end are)) in
+    let made = taken x g gs w.offset w.front h all w.around w.found inside in
+    let at : AreOpen x (counted g) gs p (w.front ++ with_inside w.offset h all (length w.front) d) =
+    subst (λ z. AreOpen x (counted g) gs z (w.front ++ with_inside w.offset h all (length w.front) d)) (sym w.end ∙ sym ended) made in
+    let size : length rs ≡ length w.front + suc (length w.own) =
+    ap length w.whole ∙ length-append w.front (shape_entry w.offset h 0 (suc f.items.entry) d ∷ w.own) in
+    let own : entries_of (suc (length w.front)) (suc d) all ≡ w.own =
+    ap (λ z. entries_of (suc z) (suc d) all) (sym w.entry) ∙ w.read.entries no_shapes ∙ append-nil w.own in
+    let count : shape_count all ≡ n = omega (arith, w.read.counted no_shapes) in
+    let next : suc (length w.front) + length (entries_of (suc (length w.front)) (suc d) all) ≡ length rs = omega (arith, ap length own, size) in
+    let same : w.front ++ with_inside w.offset h all (length w.front) d ≡ w.front ++ shape_entry w.offset h n (length rs) d ∷ w.own =
+    ap (λ z. w.front ++ shape_entry w.offset h z (suc (length w.front) + length (entries_of (suc (length w.front)) (suc d) all)) d
+    ∷ entries_of (suc (length w.front)) (suc d) all) count
+    ∙ ap (λ z. w.front ++ shape_entry w.offset h n z d ∷ entries_of (suc (length w.front)) (suc d) all) next
+    ∙ ap (λ z. w.front ++ shape_entry w.offset h n (length rs) d ∷ z) own in
+    let head = shape_entry w.offset h 0 (suc f.items.entry) d in
+    let seal : sealed rs f.items.entry n ≡ w.front ++ shape_entry w.offset h n (length rs) d ∷ w.own =
+    ap (λ z. sealed z f.items.entry n) w.whole
+    ∙ ap (λ z. sealed (w.front ++ head ∷ w.own) z n) w.entry
+    ∙ sealed_after w.front head w.own n
+    ∙ ap (λ z. w.front ++ with_items n (length z) head ∷ w.own) (sym w.whole) in
+    subst (AreOpen x (counted g) gs p) (same ∙ sym seal) at
+
+-- there is an entry of the innermost frame
+pub entry_within : (x : List ℕ) (f g : Frame) (gs : List Frame) (p : ℕ) (rs : List Entry) → AreOpen x f (g ∷ gs) p rs → f.items.entry < length rs
+entry_within x f g gs p rs w =
+    omega (arith, ap length w.whole, w.entry, length-append w.front (shape_entry w.offset w.header 0 (suc f.items.entry) (length gs) ∷ w.own))
+
+-- a fault in the innermost frame, an attempt, which stays as it came
+pub kept : (x : List ℕ) (f g : Frame) (gs : List Frame) (p : ℕ) (rs front more : List Entry) (fault : DecodeFault) (o : ℕ) → rs ≡ front ++ more
+    → AreOpen x f (g ∷ gs) p front → HeadersFaultAt x f.start p f.end fault o → f.attempt ≡ true
+    → AreOpen x (counted g) gs f.end (take (suc f.items.entry) rs)
+kept x f g gs p rs front more fault o whole w q tries =
+    let h = w.header in
+    let d = length gs in
+    let q' : HeadersFaultAt x h.start h.start h.end fault o =
+    subst (λ z. HeadersFaultAt x z z h.end fault o) w.start (subst (λ z. HeadersFaultAt x f.start f.start z fault o) w.end (w.read.fault fault o q)) in
+    let bit : h.constructed ≡ true = elim w.inside [ inl u ↦ absurd (w.attempt tries u.0) | inr u ↦ u.1 ] in
+    let made = taken x g gs w.offset w.front h no_shapes w.around w.found (as_it_came (w.attempt tries) bit q') in
+    let head = shape_entry w.offset h 0 (suc f.items.entry) d in
+    let own : w.front ++ with_inside w.offset h no_shapes (length w.front) d ≡ w.front ++ head ∷ [] =
+    ap (λ z. w.front ++ shape_entry w.offset h 0 z d ∷ []) (omega (arith, w.entry)) in
+    let all : rs ≡ w.front ++ head ∷ (w.own ++ more) = whole ∙ ap (λ z. z ++ more) w.whole ∙ append_assoc w.front (head ∷ w.own) more in
+    let cut : take (suc f.items.entry) rs ≡ w.front ++ head ∷ [] =
+    ap (take (suc f.items.entry)) all
+    ∙ ap (λ z. take (suc z) (w.front ++ head ∷ (w.own ++ more))) w.entry
+    ∙ take_after w.front head (w.own ++ more) in
+    subst (λ z. AreOpen x (counted g) gs z (take (suc f.items.entry) rs)) (sym w.end)
+    (subst (AreOpen x (counted g) gs h.end) (own ∙ sym cut) made)
+
+-- or a group, whose fault is one of the frame around it
+pub record IsOut (x : List ℕ) (g : Frame) (gs : List Frame) (rs : List Entry) (fault : DecodeFault) (o : ℕ) : Type 0 where
+  pub place : ℕ
+  pub front : List Entry
+  pub more : List Entry
+  pub whole : rs ≡ front ++ more
+  pub opened : AreOpen x g gs place front
+  pub stops : HeadersFaultAt x g.start place g.end fault o
+
+pub out : (x : List ℕ) (f g : Frame) (gs : List Frame) (p : ℕ) (rs front more : List Entry) (fault : DecodeFault) (o : ℕ) → rs ≡ front ++ more
+    → AreOpen x f (g ∷ gs) p front → HeadersFaultAt x f.start p f.end fault o → f.attempt ≡ false → IsOut x g gs rs fault o
+out x f g gs p rs front more fault o whole w q group =
+    let h = w.header in
+    let head = shape_entry w.offset h 0 (suc f.items.entry) (length gs) in
+    let q' : HeadersFaultAt x h.start h.start h.end fault o =
+    subst (λ z. HeadersFaultAt x z z h.end fault o) w.start (subst (λ z. HeadersFaultAt x f.start f.start z fault o) w.end (w.read.fault fault o q)) in
+    record {
+      place = w.offset;
+      front = w.front;
+      more = head ∷ (w.own ++ more);
+      whole = whole ∙ ap (λ z. z ++ more) w.whole ∙ append_assoc w.front (head ∷ w.own) more;
+      opened = w.around;
+      stops = in_item w.found (w.group group) w.inside q';
+    }
+
+-- the frame around it ends behind it
+pub end_after : (x : List ℕ) (f g : Frame) (gs : List Frame) (p : ℕ) (rs : List Entry) → AreOpen x f (g ∷ gs) p rs → f.end ≤ g.end
+end_after x f g gs p rs w = omega (arith, w.end, w.found.fits)
+
+-- with no frame open but the document's
+pub whole_read : (x : List ℕ) (f : Frame) (p : ℕ) (rs : List Entry) → p ≡ f.end → AreOpen x f [] p rs
+    → (all : Shapes) × AreShapes x 0 (length x) all × (rs ≡ entries_of 0 0 all)
+whole_read x f p rs ended w =
+    let all = w.read.and_then no_shapes in
+    let are = w.read.shapes no_shapes (no_more ended) in
+    let own : entries_of 0 0 all ≡ rs = w.read.entries no_shapes ∙ append-nil rs in
+    (all, subst (λ z. AreShapes x z (length x) all) w.start (subst (λ z. AreShapes x f.start z all) w.end are), sym own)
+
+pub whole_fault : (x : List ℕ) (f : Frame) (p : ℕ) (rs : List Entry) (fault : DecodeFault) (o : ℕ) → AreOpen x f [] p rs
+    → HeadersFaultAt x f.start p f.end fault o → HeadersFaultAt x 0 0 (length x) fault o
+whole_fault x f p rs fault o w q =
+    subst (λ z. HeadersFaultAt x z z (length x) fault o) w.start
+    (subst (λ z. HeadersFaultAt x f.start f.start z fault o) w.end (w.read.fault fault o q))
+
+-- the same frames, place and entries
+pub same_open : (x : List ℕ) (f f' : Frame) (gs gs' : List Frame) (p p' : ℕ) (rs rs' : List Entry) → f' ≡ f → gs' ≡ gs → p' ≡ p → rs' ≡ rs
+    → AreOpen x f gs p rs → AreOpen x f' gs' p' rs'
+same_open x f f' gs gs' p p' rs rs' a b c d w =
+    subst (AreOpen x f' gs' p') (sym d)
+    (subst (λ z. AreOpen x f' gs' z rs) (sym c) (subst (λ z. AreOpen x f' z p rs) (sym b) (subst (λ z. AreOpen x z gs p rs) (sym a) w)))
+
+-- the last frame of a list is the first of those from the innermost on
+pub turned_round : (xs ys : List Frame) (g : Frame) → xs ≡ ys ++ g ∷ [] → reverse xs ≡ g ∷ reverse ys
+turned_round xs ys g e = ap reverse e ∙ reverse-append ys (g ∷ [])
+
+-- the frame's items are one more
+abbrev pub one_item_more : EntryItems → EntryItems
+one_item_more i = record { entry = i.entry; count = i.count + 1 }
+
+module _ (x : List ℕ) (w : Walk) where
+  -- a leaf is taken
+  pub leaf_taken :
+      (h : Header) (b : EntryBuilder) (i : EntryItems) → IsWalking x w → HeaderFound x w.index w.inner.end h →
+      HasItems x h no_shapes →
+      b.entries.items ≡ w.builder.entries.items
+      ++ shape_entry w.index h 0 (suc (length w.builder.entries.items)) (length w.outer.items) ∷ [] →
+      i ≡ one_item_more w.inner.items →
+      GoesOn x (record { inner = record w.inner { items = i }; outer = w.outer; index = h.end; builder = b }) (left (length x) w.index w.outer.items)
+  leaf_taken h b i walking found inside pushed more =
+      let rs = w.builder.entries.items in
+      let gs = reverse w.outer.items in
+      let v = places x w.inner gs w.index rs walking in
+      let now = taken x w.inner gs w.index rs h no_shapes walking found inside in
+      let same : b.entries.items ≡ rs ++ with_inside w.index h no_shapes (length rs) (length gs) =
+      pushed
+      ∙ ap (λ z. rs ++ shape_entry w.index h 0 z (length w.outer.items) ∷ []) (omega arith)
+      ∙ ap (λ z. rs ++ shape_entry w.index h 0 (suc (length rs) + 0) z ∷ []) (sym (length-reverse w.outer.items)) in
+      record {
+        walking = same_open x (counted w.inner) (record w.inner { items = i }) gs gs h.end h.end _ b.entries.items
+            (ap (λ (z : EntryItems). record w.inner { items = z }) more) refl refl same now;
+        nearer = omega (arith, found.past, found.order, found.fits, v.within);
+      }
+
+  -- a frame is entered
+  pub frame_entered :
+      (h : Header) (b : EntryBuilder) (n : ℕ) (attempt : Bool) (r : Walk) → IsWalking x w → HeaderFound x w.index w.inner.end h →
+      IsReadInside h.class h.constructed h.tag → (attempt ≡ true → h.class ≢ Universal) → (attempt ≡ false → h.class ≡ Universal) →
+      n ≡ length w.builder.entries.items →
+      b.entries.items ≡ w.builder.entries.items
+      ++ shape_entry w.index h 0 (suc (length w.builder.entries.items)) (length w.outer.items) ∷ [] →
+      IsEntered (record w { builder = b }) h n attempt r →
+      GoesOn x r (left (length x) w.index w.outer.items)
+  frame_entered h b n attempt r walking found inside is_attempt is_group at pushed e =
+      let rs = w.builder.entries.items in
+      let gs = reverse w.outer.items in
+      let f : Frame = record { start = h.start; end = h.end; items = record { entry = n; count = 0 }; attempt = attempt } in
+      let v = places x w.inner gs w.index rs walking in
+      let now = entered x f w.inner gs w.index rs h walking found inside refl refl at refl is_attempt is_group in
+      let same : r.builder.entries.items ≡ rs ++ shape_entry w.index h 0 (suc (length rs)) (length gs) ∷ [] =
+      ap (λ (z : EntryBuilder). z.entries.items) e.builder
+      ∙ pushed
+      ∙ ap (λ z. rs ++ shape_entry w.index h 0 (suc (length rs)) z ∷ []) (sym (length-reverse w.outer.items)) in
+      record {
+        walking = same_open x f r.inner (w.inner ∷ gs) (reverse r.outer.items) h.start r.index _ r.builder.entries.items
+            e.inner (turned_round r.outer.items w.outer.items w.inner e.outer) e.index same now;
+        nearer = omega (
+          arith,
+          e.index,
+          ap length e.outer,
+          length-append w.outer.items (w.inner ∷ []),
+          found.past,
+          found.order,
+          found.fits,
+          v.within,
+        );
+      }
+
+  module _ (g : Frame) (outer : Vec Frame Global) (fault : DecodeFault) (o most : ℕ) (faulty : IsFaulty x w fault o most) (popped : w.outer.items ≡ outer.items ++ g ∷ []) where
+    inside_it : AreOpen x w.inner (g ∷ reverse outer.items) faulty.place faulty.front
+    inside_it = subst (λ z. AreOpen x w.inner z faulty.place faulty.front) (turned_round w.outer.items outer.items g popped) faulty.opened
+
+    -- an attempt stays as it came
+    pub faulty_kept :
+        (b : EntryBuilder) (i : EntryItems) → w.inner.attempt ≡ true →
+        b.entries.items ≡ take (suc w.inner.items.entry) w.builder.entries.items → i ≡ one_item_more g.items →
+        GoesOn x (record { inner = record g { items = i }; outer = outer; index = w.inner.end; builder = b }) most
+    faulty_kept b i tries cut more =
+        let gs = reverse outer.items in
+        let rs = w.builder.entries.items in
+        let now = kept x w.inner g gs faulty.place rs faulty.front faulty.more fault o faulty.whole inside_it faulty.stops tries in
+        record {
+          walking = same_open x (counted g) (record g { items = i }) gs gs w.inner.end w.inner.end _ b.entries.items
+              (ap (λ (z : EntryItems). record g { items = z }) more) refl refl cut now;
+          nearer = omega (arith, faulty.nearer, ap length popped, length-append outer.items (g ∷ []));
+        }
+
+    -- a group hands the fault on
+    pub faulty_out : w.inner.attempt ≡ false
+        → IsFaulty x (record { inner = g; outer = outer; index = w.index; builder = w.builder }) fault o most
+    faulty_out group =
+        let gs = reverse outer.items in
+        let rs = w.builder.entries.items in
+        let on = out x w.inner g gs faulty.place rs faulty.front faulty.more fault o faulty.whole inside_it faulty.stops group in
+        let after = end_after x w.inner g gs faulty.place faulty.front inside_it in
+        record {
+          place = on.place;
+          front = on.front;
+          more = on.more;
+          whole = on.whole;
+          opened = on.opened;
+          stops = on.stops;
+          nearer = omega (arith, after, faulty.nearer, ap length popped, length-append outer.items (g ∷ []));
+        }
+
+  -- with no frame around, it is the fault of all
+  pub faulty_whole : (fault : DecodeFault) (o most : ℕ) → IsFaulty x w fault o most → w.outer.items ≡ []
+      → HeadersFaultAt x 0 0 (length x) fault o
+  faulty_whole fault o most faulty none =
+      whole_fault x w.inner faulty.place faulty.front fault o
+      (subst (λ z. AreOpen x w.inner (reverse z) faulty.place faulty.front) none faulty.opened) faulty.stops
+
+  -- where a step leads
+  pub turned : (most : ℕ) (step : Result (Unit {0}) AllocError) (r : Result Turn LocatedErr)
+      → MatchResult step (λ _. r ≡ Ok More) (λ _. IsErrAnd r (λ e. e.error ≡ OutOfMemory)) → OnOk step (GoesOn x w most) → HasTurned x r w most
+  turned most (Ok u) r is on = subst (λ z. HasTurned x z w most) (sym is) on
+  turned most (Err a) (Ok t) is on = absurd is
+  turned most (Err a) (Err e) is on = inl is
+
+  pub turned_memory : (most : ℕ) (r : Result Turn LocatedErr) → IsErrAnd r (λ e. e.error ≡ OutOfMemory) → HasTurned x r w most
+  turned_memory most (Ok t) is = absurd is
+  turned_memory most (Err e) is = inl is

@@ -1,0 +1,11 @@
+use Rattle.std.proofs.Common.{[], length, refl, reverse, ap, arith}
+use Rattle.asn1_outline.proofs.Walks.{read_none, same_open}
+use Rattle.asn1_outline.proofs.walk.list_headers.Goals as goal
+
+pub turns-init : goal.turns-init
+turns-init c =
+    let x = c.args.octets.now in
+    record {
+      walking = same_open x _ _ [] (reverse c.new.result.items) 0 0 [] c.new-2.result.items refl (ap reverse c.new.ensures.items) refl c.new-2.ensures.items
+          (record { start = refl; end = refl; read = read_none x 0 (length x) 0 0 (omega arith) (omega arith) });
+    }

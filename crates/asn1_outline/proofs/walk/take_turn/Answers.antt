@@ -1,0 +1,50 @@
+use Rattle.std.proofs.Common.{◌≡◌, ◌≢◌, [], inl, inr, reverse, sym, subst, append-nil, arith}
+use Rattle.std.proofs.lemmas.Grind.{common_steps}
+use Rattle.asn1_outline.specs.Shapes.{in_header}
+use Rattle.asn1_outline.specs.Walking.{AreOpen}
+use Rattle.asn1_outline.proofs.Walks.{places, whole_read}
+use Rattle.asn1_outline.proofs.walk.take_turn.Goals as goal
+
+pub returns-in-None : goal.returns-in-None
+returns-in-None c =
+    let w = c.args.walk.now in
+    let none : w.outer.items ≡ [] = grind (arith, common_steps) in
+    whole_read c.args.octets.now w.inner w.index w.builder.entries.items c.if-walk.true
+    (subst (λ z. AreOpen c.args.octets.now w.inner (reverse z) w.index w.builder.entries.items) none c.requires.walking)
+
+pub header_within-requires-clause-from : goal.header_within-requires-clause-from
+header_within-requires-clause-from c =
+    let w = c.args.walk.now in
+    (places c.args.octets.now w.inner (reverse w.outer.items) w.index w.builder.entries.items c.requires.walking).from
+
+pub header_within-requires-clause-more : goal.header_within-requires-clause-more
+header_within-requires-clause-more c =
+    let w = c.args.walk.now in
+    let v = places c.args.octets.now w.inner (reverse w.outer.items) w.index w.builder.entries.items c.requires.walking in
+    let other : w.index ≢ w.inner.end = c.if-walk.false in
+    omega (arith, v.to, other)
+
+pub header_within-requires-clause-within : goal.header_within-requires-clause-within
+header_within-requires-clause-within c =
+    let w = c.args.walk.now in
+    (places c.args.octets.now w.inner (reverse w.outer.items) w.index w.builder.entries.items c.requires.walking).within
+
+pub fail-requires : goal.fail-requires
+fail-requires c =
+    let w = c.args.walk.now in
+    let v = places c.args.octets.now w.inner (reverse w.outer.items) w.index w.builder.entries.items c.requires.walking in
+    let other : w.index ≢ w.inner.end = c.if-walk.false in
+    elim c.in-Err.ensures.refused [
+      | inl memory ↦ record { failed = inl memory }
+      | inr fault ↦ record {
+        failed = inr (record {
+          place = w.index;
+          front = w.builder.entries.items;
+          more = [];
+          whole = sym (append-nil w.builder.entries.items);
+          opened = c.requires.walking;
+          stops = in_header (omega (arith, v.to, other)) fault;
+          nearer = omega (arith, v.to);
+        });
+      }
+    ]

@@ -1,0 +1,32 @@
+// A document as a flat list of entries by its headers alone, with the octets that it was read from.
+ghost use Rattle.asn1_outline.specs.Shapes.{AreEntriesOfShapes};
+
+use crate::entry::Entry;
+
+/// The encodings of a document as a flat list of entries by their headers, each before those inside it. The contents
+/// octets of leaves are not looked into, so that a document can be walked in which some are at fault.
+///
+/// It goes into what [`Outline`] goes into: the contents octets of each SEQUENCE and SET (X.690 8.9 to 8.12), which
+/// must be encodings, and those of a constructed encoding of another class (8.14) where they are encodings. Otherwise
+/// these stay as they came, without items.
+///
+/// ```rust
+/// use simple_asn1::Headers;
+/// use std::alloc::Global;
+///
+/// // How many encodings a document has: three in `30 07 1E 02 00 E4 02 01 05`, of which one is no text.
+/// fn count(alloc: Global, octets: &[u8]) -> Option<usize> {
+///     let Ok(headers) = Headers::read(alloc, octets) else {
+///         return None;
+///     };
+///     Some(headers.entries().len())
+/// }
+/// ```
+///
+/// [`Outline`]: crate::outline::Outline
+#[derive(Drop)]
+pub struct Headers<'a> {
+    pub(crate) octets: &'a [u8],
+    pub(crate) entries: Vec<Entry>,
+    ghost walked: { ∥ AreEntriesOfShapes octets.now entries.items ∥₁ },
+}
