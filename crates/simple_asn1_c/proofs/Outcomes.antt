@@ -5,22 +5,28 @@ use Rattle.simple_asn1.specs.Canonical.{all_canonical}
 use Rattle.simple_asn1.specs.Grammar.{FirstFaultAt, IsDocument}
 use Rattle.simple_asn1.specs.Strict.{IsNotCanonicalAt}
 use Rattle.simple_asn1.specs.ReadBack.{CanonicalDocument}
+use Rattle.simple_asn1.specs.Shapes.{FirstHeaderFaultAt, HasShapes, Shapes, entries_of}
 use Rattle.simple_asn1.specs.Structure.{IsStructure, Nodes, nodes_depths, nodes_in_order}
 use Rattle.simple_asn1.specs.Tree.{Trees}
 use Rattle.simple_asn1_c.specs.Answers.{
+  AnswersOutline,
   AnswersRead,
   AnswersReadStrict,
   AnswersRewrite,
   IsCanonicalStructure,
   IsNoMemory,
   IsRefused,
+  IsRefusedByHeader,
   IsRefusedStrict,
+  had_header_fault,
   had_no_memory,
   had_no_memory_strict,
+  had_no_memory_to_outline,
   had_no_memory_to_write,
   had_no_room,
   had_no_room_strict,
   had_no_room_to_write,
+  was_outlined,
   was_read,
   was_read_strict,
   was_refused,
@@ -143,3 +149,15 @@ pub rewrite_refused : (octets before : List ℕ) (o : Outcome) (status offset : 
     → IsNoMemory status offset ⊎ IsRefused octets status offset → AnswersRewrite octets before before o
 rewrite_refused octets before o status offset told (inl m) = had_no_memory_to_write (no_memory_told o status offset told m) told.2 refl
 rewrite_refused octets before o status offset told (inr f) = was_refused_to_write (refusal_told octets o status offset told f) told.2 refl
+
+pub outline_answer :
+    (octets : List ℕ) (all : Shapes) (es found : List Entry) (before after : List Block) (o : Outcome) → found ≡ es → HasShapes octets all →
+    es ≡ entries_of 0 0 all → ArePut (map block_of found) before after o → AnswersOutline octets before after o
+outline_answer octets all es found before after o e has are put =
+    was_outlined all has (subst (λ z. ArePut (map block_of z) before after o) (e ∙ are) put)
+
+pub outline_refused : (octets : List ℕ) (before : List Block) (o : Outcome) (status offset : ℕ) → Tells o status offset
+    → IsNoMemory status offset ⊎ IsRefusedByHeader octets status offset → AnswersOutline octets before before o
+outline_refused octets before o status offset told (inl m) = had_no_memory_to_outline (no_memory_told o status offset told m) told.2 refl
+outline_refused octets before o status offset (s, p, c) (inr (fault, first, e)) =
+    had_header_fault (fault, subst (FirstHeaderFaultAt octets fault) (sym p) first, s ∙ e) c refl

@@ -1,15 +1,16 @@
 -- What each call answers.
-use Rattle.std.specs.Prelude.{◌≡◌, ◌⊎◌, ℕ, ◌<◌, List, length}
+use Rattle.std.specs.Prelude.{◌≡◌, ◌⊎◌, ℕ, ◌<◌, List, length, map}
 use Rattle.simple_asn1.specs.Canonical.{all_canonical}
 use Rattle.simple_asn1.specs.Fault.{DecodeFault}
 use Rattle.simple_asn1.specs.Grammar.{FirstFaultAt, IsDocument}
 use Rattle.simple_asn1.specs.ReadBack.{CanonicalDocument}
 use Rattle.simple_asn1.specs.Strict.{IsNotCanonicalAt}
 use Rattle.simple_asn1.specs.SignedTrees.{IsOfAnotherShape, IsSigned, SignedParts, signature_tree}
+use Rattle.simple_asn1.specs.Shapes.{FirstHeaderFaultAt, HasShapes, Shapes, entries_of}
 use Rattle.simple_asn1.specs.Structure.{AreNodes, IsStructure, Nodes, nodes_in_order, nodes_trees}
 use Rattle.simple_asn1.specs.Tree.{Tree, Trees, leaf, object_identifier}
 use Rattle.simple_asn1_c.specs.Room.{AreFront, AreKeptBehind, ArePut}
-use Rattle.simple_asn1_c.specs.Records.{AreRecords, HasNoLinks, IsRecord, no_record}
+use Rattle.simple_asn1_c.specs.Records.{AreRecords, HasNoLinks, IsRecord, block_of, no_record}
 use Rattle.simple_asn1_c.specs.Spelled.{IsBadAt, IsSpelled}
 use Rattle.simple_asn1_c.specs.Status.{bad_record, done, is_not_canonical, no_memory, no_room, not_signed, status_of}
 use Rattle.simple_asn1_c.specs.declared.record.Block.{Block}
@@ -66,6 +67,23 @@ pub data AnswersReadStrict (octets : List ℕ) (before after : List Block) (o : 
       AnswersReadStrict octets before after o
   had_no_memory_strict :
       IsNoMemory o.status o.offset → o.count ≡ 0 → after ≡ before → AnswersReadStrict octets before after o
+
+-- the octets are refused for their first header fault, which is at the offset
+abbrev pub IsRefusedByHeader : List ℕ → ℕ → ℕ → Type 0
+IsRefusedByHeader octets status offset =
+    (fault : DecodeFault) × FirstHeaderFaultAt octets fault offset × (status ≡ status_of fault)
+
+-- reading headers alone: the records of all encodings, at the front of what is written to, or their number, where there
+-- is no room for so many; the first header fault and its place; or memory ran out
+pub data AnswersOutline (octets : List ℕ) (before after : List Block) (o : Outcome) : Type 0 where
+  was_outlined :
+      (all : Shapes) → HasShapes octets all → ArePut (map block_of (entries_of 0 0 all)) before after o →
+      AnswersOutline octets before after o
+  had_header_fault :
+      IsRefusedByHeader octets o.status o.offset → o.count ≡ 0 → after ≡ before →
+      AnswersOutline octets before after o
+  had_no_memory_to_outline :
+      IsNoMemory o.status o.offset → o.count ≡ 0 → after ≡ before → AnswersOutline octets before after o
 
 -- rewriting: the canonical octets of a document at the front of what is written to, and nothing else is changed; their
 -- number, where there is no room for so many; the first fault and its place; or memory ran out

@@ -18,8 +18,10 @@ mod text;
 ghost use Rattle.std.specs.Prelude.{◌≡◌, ◌⊎◌, ◌*◌, ◌≤◌, ℕ, length};
 ghost use Rattle.simple_asn1.specs.Fault.{OutOfMemoryOr};
 ghost use Rattle.simple_asn1.specs.Grammar.{FirstFault};
+ghost use Rattle.simple_asn1.specs.Shapes.{HasShapes, Shapes, entries_of};
 ghost use Rattle.simple_asn1.specs.Structure.{IsStructure, Nodes, nodes_in_order};
 ghost use Rattle.simple_asn1_c.specs.Answers.{
+  AnswersOutline,
   AnswersRead,
   AnswersReadStrict,
   AnswersRewrite,
@@ -44,7 +46,9 @@ use crate::identifier::{identifier_at, put_identifier};
 use crate::integer::{integer_at, put_integer};
 use crate::moment::{moment_at, put_moment};
 use crate::putting::{put_octets, put_records};
-use crate::reading::{Fault, OUT_OF_MEMORY, fault_of_refused, read_records, read_records_strict};
+use crate::reading::{
+    Fault, OUT_OF_MEMORY, fault_of_refused, read_headers, read_records, read_records_strict,
+};
 use crate::record::{Block, IntegerAnswer, MomentAnswer, Outcome, SignedAnswer};
 use crate::signed::signed_in;
 use crate::spelling::spell;
@@ -95,6 +99,21 @@ pub extern "C" fn simple_asn1_read_strict(
 {
     match read_records_strict(alloc, octets) {
         Ok(outline) => put_records(outline.entries(), blocks),
+        Err(fault) => refused_outcome(fault),
+    }
+}
+
+/// Reads the encodings of a document by their headers alone (X.690 8.1.1) into records, as [`simple_asn1_read`] does.
+/// The contents octets of leaves are not looked into. SEQUENCE and SET (8.9 to 8.12) hold encodings; so do constructed
+/// encodings of another class (8.14), or they stay as they came, without items. The error is the first fault of a
+/// header, with the offset of its encoding.
+#[unsafe(no_mangle)]
+pub extern "C" fn simple_asn1_outline(alloc: Global, octets: &[u8], blocks: &mut [Block]) -> Outcome
+    ensures answer { AnswersOutline octets.now blocks.old blocks.new result }
+    ensures few { (all : Shapes) → HasShapes octets.now all → 2 * length (entries_of 0 0 all) ≤ length octets.now }
+{
+    match read_headers(alloc, octets) {
+        Ok(headers) => put_records(headers.entries(), blocks),
         Err(fault) => refused_outcome(fault),
     }
 }

@@ -8,14 +8,16 @@ ghost use Rattle.simple_asn1.specs.Tree.{Trees};
 ghost use Rattle.simple_asn1.specs.View.{views};
 ghost use Rattle.asn1_outline.specs.Entries.{AreEntriesOf};
 ghost use Rattle.asn1_outline.specs.Outlines.{entries_in};
-ghost use Rattle.simple_asn1_c.specs.Answers.{IsNoMemory, IsRefused, IsRefusedStrict};
+ghost use Rattle.simple_asn1.specs.Shapes.{HasShapes, Shapes, entries_of};
+ghost use Rattle.simple_asn1.specs.Walked.{walked_entries};
+ghost use Rattle.simple_asn1_c.specs.Answers.{IsNoMemory, IsRefused, IsRefusedByHeader, IsRefusedStrict};
 ghost use Rattle.simple_asn1_c.specs.Status.{status_of};
 ghost use Rattle.asn1_headers.specs.declared.error.ASN1DecodeErr.TheVariants.{OutOfMemory};
 
 use crate::status::{NO_MEMORY, NOT_CANONICAL, status_of_fault};
 use asn1_outline::outline::Outline;
 use simple_asn1::{
-    ASN1Block, ASN1DecodeErr, LocatedErr, discard, from_der_located, law_one_reading,
+    ASN1Block, ASN1DecodeErr, Headers, LocatedErr, discard, from_der_located, law_one_reading,
     outline_strict,
 };
 use std::alloc::Global;
@@ -79,6 +81,19 @@ pub fn read_records<'a>(alloc: Global, octets: &'a [u8]) -> Result<Outline<'a>, 
 {
     match Outline::from_der_located(alloc, octets) {
         Ok(outline) => Ok(outline),
+        Err(located) => Err(fault_at(&located)),
+    }
+}
+
+// Those of encodings by their headers alone.
+pub fn read_headers<'a>(alloc: Global, octets: &'a [u8]) -> Result<Headers<'a>, Fault>
+    ensures document { IfOk result (λ headers. (all : Shapes) × HasShapes octets.now all
+        × (walked_entries headers ≡ entries_of 0 0 all)) }
+    ensures fault { IfErr result
+        (λ f. IsNoMemory f.status f.offset ⊎ IsRefusedByHeader octets.now f.status f.offset) }
+{
+    match Headers::read(alloc, octets) {
+        Ok(headers) => Ok(headers),
         Err(located) => Err(fault_at(&located)),
     }
 }

@@ -1,0 +1,35 @@
+-- Each encoding has two octets at least that are in no other.
+use Rattle.std.proofs.Common.{ℕ, suc, ◌+◌, ◌-◌, ◌*◌, ◌≤◌, List, length, arith, length-append}
+use Rattle.std.specs.List.{slice_range}
+use Rattle.simple_asn1.specs.Shapes.{AreShapes, HasItems, HasShapes, Shapes, as_it_came, entries_of, no_more, not_read, one_more, read_inside}
+use Rattle.asn1_blocks.specs.Inner.HeaderPlaces.{HeaderFound}
+use Rattle.asn1_blocks.specs.declared.parsed.Header.{Header}
+use Rattle.asn1_blocks.proofs.ReadSteps.{slice_length}
+use Rattle.asn1_outline.proofs.Standing.{two_more}
+
+-- a header has two octets
+two_octets : (x : List ℕ) (p e : ℕ) (h : Header) → e ≤ length x → HeaderFound x p e h → p + 2 ≤ h.start
+two_octets x p e h within f =
+    let more = two_more (slice_range x p h.end) h.class h.constructed h.tag (slice_range x h.start h.end) (h.start - p) f.encoding in
+    let all = slice_length x p h.end (omega (arith, f.past, f.order)) (omega (arith, f.fits, within)) in
+    let contents = slice_length x h.start h.end f.order (omega (arith, f.fits, within)) in
+    omega (arith, more, all, contents, f.past, f.order)
+
+mutual
+  two_each_shape : (x : List ℕ) (p e i d : ℕ) (all : Shapes) → e ≤ length x → AreShapes x p e all → 2 * length (entries_of i d all) + p ≤ e
+  two_each_shape x p e i d all within (no_more end) = omega (arith, end)
+  two_each_shape x p e i d all within (one_more {header = h} {items = items} {rest = rest} f has are) =
+      let next = suc i + length (entries_of (suc i) (suc d) items) in
+      let own = two_octets x p e h within f in
+      let inside = two_each_item x h (suc i) (suc d) items (omega (arith, f.fits, within)) f.order has in
+      let after = two_each_shape x h.end e next d rest within are in
+      omega (arith, own, inside, after, f.order, length-append (entries_of (suc i) (suc d) items) (entries_of next d rest))
+
+  two_each_item : (x : List ℕ) (h : Header) (i d : ℕ) (all : Shapes) → h.end ≤ length x → h.start ≤ h.end → HasItems x h all
+      → 2 * length (entries_of i d all) + h.start ≤ h.end
+  two_each_item x h i d all within order (read_inside is are) = two_each_shape x h.start h.end i d all within are
+  two_each_item x h i d all within order (as_it_came other bit fault) = omega (arith, order)
+  two_each_item x h i d all within order (not_read shut) = omega (arith, order)
+
+pub two_each_header : (x : List ℕ) (all : Shapes) → HasShapes x all → 2 * length (entries_of 0 0 all) ≤ length x
+two_each_header x all has = omega (arith, two_each_shape x 0 (length x) 0 0 all (omega arith) has.shapes)
