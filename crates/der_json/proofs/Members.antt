@@ -78,3 +78,12 @@ module _ (offset header size depth class constructed tag kind value : Data) wher
       (put_after g (codes ",\"type\":" ++ compact_text kind) from_value h j p7
       (put_after h (codes ",\"value\":" ++ compact_text value) (125 ∷ []) i j p8 p9))))))))
       ∙ ap (λ z. out ++ z) row_text
+
+-- the same members make the same object
+pub row_same :
+    (offset header size depth class constructed tag kind value offset' header' size' depth' class' constructed' tag' kind' : Data) →
+    offset ≡ offset' → header ≡ header' → size ≡ size' → depth ≡ depth' → class ≡ class' → constructed ≡ constructed' →
+    tag ≡ tag' → kind ≡ kind' →
+    row_json offset header size depth class constructed tag kind value
+    ≡ row_json offset' header' size' depth' class' constructed' tag' kind' value
+row_same o h s d c b t k v o' h' s' d' c' b' t' k' p0 p1 p2 p3 p4 p5 p6 p7 = rw (p0, p1, p2, p3, p4, p5, p6, p7) refl

@@ -8,7 +8,7 @@ use Rattle.jiff.specs.Names.{iso_datetime_text}
 use Rattle.jiff_core.specs.declared.civil.datetime.DateTime.{DateTime}
 use Rattle.serde_json.specs.Data.{Data, array, boolean as boolean_json, null, number, object, string, unsigned}
 use Rattle.serde_json.specs.Data.{Items, no_items, item, Members, no_members, member}
-use Rattle.serde_json.specs.Find.{get, of_integer}
+use Rattle.serde_json.specs.Find.{of_integer}
 use Rattle.serde_json.specs.Written.{compact_text}
 use Rattle.asn1_blocks.specs.BlockParts.{tree_tag}
 use Rattle.asn1_numbers.specs.Decimal.{natural_numeral, whole_numeral}
@@ -101,19 +101,22 @@ IsValue (explicit c o n b) items value = value ≡ null
 IsValue (unknown c k o n octets) zero value = value ≡ string (encode_lower octets)
 IsValue (unknown c k o n octets) (suc items) value = value ≡ null
 
--- what an object tells of a block, by its entry and its tree
+-- the object of a block, by its entry and its tree
 pub record IsRow (r : Entry) (tree : Tree ℕ) (row : Data) : Type 0 where
-  -- how many octets stand before the block, how many its identifier and length octets are, and how many it has
-  pub offset : get (codes "offset") row ≡ Some (number (unsigned r.offset))
-  pub header : get (codes "header") row ≡ Some (number (unsigned r.header))
-  pub size : get (codes "size") row ≡ Some (number (unsigned (r.header + r.contents)))
-  -- how many blocks are around it
-  pub depth : get (codes "depth") row ≡ Some (number (unsigned r.depth))
-  pub class : get (codes "class") row ≡ Some (string (class_name r.class))
-  pub constructed : get (codes "constructed") row ≡ Some (boolean_json r.constructed)
-  pub tag : get (codes "tag") row ≡ Some (natural_json (tree_tag tree))
-  pub kind : get (codes "type") row ≡ Some (type_json r.class r.tag)
-  pub value : (value : Data) × (get (codes "value") row ≡ Some value) × IsValue tree r.items value
+  pub value : Data
+  pub is_value : IsValue tree r.items value
+  -- how many octets stand before the block, how many its identifier and length octets are, how many it has, and how
+  -- many blocks are around it; its class, its constructed bit, its tag and its type; and its value
+  pub members : row ≡
+      object (member (codes "offset") (number (unsigned r.offset))
+      (member (codes "header") (number (unsigned r.header))
+      (member (codes "size") (number (unsigned (r.header + r.contents)))
+      (member (codes "depth") (number (unsigned r.depth))
+      (member (codes "class") (string (class_name r.class))
+      (member (codes "constructed") (boolean_json r.constructed)
+      (member (codes "tag") (natural_json (tree_tag tree))
+      (member (codes "type") (type_json r.class r.tag)
+      (member (codes "value") value no_members)))))))))
 
 -- so of an entry with its index, whose tree is the one there
 abbrev pub IsRowAt : Nodes → ℕ × Entry → Data → Type 0

@@ -1,11 +1,11 @@
 //! Writes the octets that were signed of a signed triple, as a certificate (X.509) is one.
 //!
 //! Standard input is a document whose first block is a SEQUENCE of exactly three: any block, a SEQUENCE that begins
-//! with an OBJECT IDENTIFIER, and a BIT STRING. It comes as it is, in PEM (its first object), in hex digits or in base
-//! 64. The octets of the first of the three are written to standard output, exactly as they stand in the document, and
-//! nothing else is. The exit status is 0; it is 1 after a fault of reading or writing, 2 where memory ran out or there
-//! are arguments, and 3 where the input is no such document, with a line on standard error that says why. `--help` and
-//! `--version` are answered.
+//! with an OBJECT IDENTIFIER, and a BIT STRING. It comes as it is, in PEM (its first object), in hex digits or in
+//! base64. The octets of the first of the three are written to standard output, exactly as they stand in the document,
+//! and nothing else is. The exit status is 0; it is 1 after a fault of reading or writing, 2 where memory ran out or
+//! there are arguments, and 3 where the input is no such document, with a line on standard error that says why.
+//! `--help` and `--version` are answered.
 #![tactic(auto)]
 
 mod run;
@@ -15,7 +15,7 @@ mod tests;
 use crate::run::{RunFault, fault_text, run, status};
 use clap::Command;
 use clap::error::ErrorKind;
-use der_io::{escaped, words};
+use der_io::{StreamFault, escaped, fault_status, words};
 use std::alloc::{AllocError, Global};
 use std::process::ExitCode;
 
@@ -54,10 +54,13 @@ fn tell(rt: &HostRuntime, answer: &clap::Error) -> u8 {
     ) {
         return match print!(rt; "{text}") {
             Ok(()) => 0,
-            Err(_) => WRONG_WORDS,
+            Err(_) => fault_status(&StreamFault::Write),
         };
     }
-    let _ = eprintln!(rt; "{}", text.lines().next().unwrap_or(""));
+    let line = text.lines().next().unwrap_or("");
+    if let Ok(shown) = escaped(rt.alloc(), line.as_bytes()) {
+        let _ = eprintln!(rt; "{shown}");
+    }
     WRONG_WORDS
 }
 

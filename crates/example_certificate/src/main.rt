@@ -156,7 +156,11 @@ fn tell(rt: &HostRuntime, answer: &Answer) -> io::Result<ExitCode> {
             Ok(ExitCode::SUCCESS)
         }
         _ => {
-            eprint!(rt; "{answer}")?;
+            let text = format!(in rt.alloc(); "{answer}")?;
+            eprintln!(rt;
+                "{}",
+                escaped(rt.alloc(), text.lines().next().unwrap_or("").as_bytes())?
+            )?;
             Ok(ExitCode::from(2))
         }
     }

@@ -1,10 +1,9 @@
 use Rattle.std.proofs.Common.{◌≡◌, ◌+◌, ◌∙◌, ap, refl, arith}
-use Rattle.std.specs.Prelude.{Some}
 use Rattle.serde_json.specs.Data.{Data, number, unsigned}
 use Rattle.serde_json.specs.View.{view}
 use Rattle.asn1_outline.specs.Structure.{tree_at}
 use Rattle.der_json.specs.Json.{IsRow}
-use Rattle.der_json.proofs.Members.{row_json, row_put}
+use Rattle.der_json.proofs.Members.{row_json, row_put, row_same}
 use Rattle.der_json.proofs.row.push_row.Goals as goal
 
 pub returns : goal.returns
@@ -16,15 +15,11 @@ returns c = λ nodes at.
     row_json (view c.from.result) (view c.from-2.result) (view c.from-3.result) (view c.from-4.result) (view c.in_ok-class.class)
     (view c.from-5.result) (view c.in_ok-tag.tag) (view c.in_ok-kind.kind) (view c.in_ok-value.value) in
     let is : IsRow r (tree_at nodes c.args.index) row = record {
-      offset = ap Some c.from.ensures;
-      header = ap Some c.from-2.ensures;
-      size = ap Some (c.from-3.ensures ∙ ap (λ n. number (unsigned n)) size);
-      depth = ap Some c.from-4.ensures;
-      class = ap Some c.in_ok-class.ensures.told;
-      constructed = ap Some c.from-5.ensures;
-      tag = ap Some (c.in_ok-tag.ensures.told nodes at.structure at.within);
-      kind = ap Some c.in_ok-kind.ensures.told;
-      value = (view c.in_ok-value.value, refl, c.in_ok-value.ensures.told nodes at);
+      value = view c.in_ok-value.value;
+      is_value = c.in_ok-value.ensures.told nodes at;
+      members = row_same _ _ _ _ _ _ _ _ _ _ _ _ _ _ _ _ _ c.from.ensures c.from-2.ensures
+          (c.from-3.ensures ∙ ap (λ n. number (unsigned n)) size) c.from-4.ensures c.in_ok-class.ensures.told c.from-5.ensures
+          (c.in_ok-tag.ensures.told nodes at.structure at.within) c.in_ok-kind.ensures.told;
     } in
     let text =
     row_put (view c.from.result) (view c.from-2.result) (view c.from-3.result) (view c.from-4.result) (view c.in_ok-class.class)
