@@ -1,6 +1,6 @@
 -- What is written of octets as JSON: an object that has the blocks of the document, or its first fault.
 use Rattle.std.specs.Prelude.{◌≡◌, ℕ, zero, suc, ◌+◌, ◌<◌, ℤ, unsigned_abs, nat_lt, Bool, true, false, if◌then◌else◌}
-use Rattle.std.specs.Prelude.{List, [], ◌∷◌, ◌++◌, codes, get_or, Option, None, Some, option_map}
+use Rattle.std.specs.Prelude.{List, [], ◌∷◌, ◌++◌, codes, Option, None, Some, option_map}
 use Rattle.std.specs.List.{AllZip, enumerate_from}
 use Rattle.std.specs.Str.{chars}
 use Rattle.hex.specs.Hex.{encode_lower}

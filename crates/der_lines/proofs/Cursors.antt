@@ -1,10 +1,9 @@
 -- Going over octets by their headers.
-use Rattle.std.proofs.Common.{◌≡◌, ◌⊎◌, inl, inr, ℕ, zero, suc, ◌+◌, ◌-◌, ◌<◌, ◌≤◌, min, Bool, true, false, List, [], ◌∷◌, ◌++◌}
-use Rattle.std.proofs.Common.{drop, length, take, reverse, slice_range, refl, sym, ap, ◌∙◌, subst, append_assoc, append-nil, arith}
+use Rattle.std.proofs.Common.{◌≡◌, inl, inr, ℕ, ◌+◌, ◌-◌, ◌<◌, min, Bool, true, false, List, [], ◌∷◌, ◌++◌}
+use Rattle.std.proofs.Common.{drop, length, reverse, slice_range, refl, sym, ap, ◌∙◌, subst, arith}
 use Rattle.std.proofs.lemmas.List.{length-drop, length-take, reverse-append}
 use Rattle.der_lines.specs.Dump.{AreFronts, Front, IsFirst, IsJudged, cut_short, gone_into, no_header, of_indefinite_form}
-use Rattle.der_lines.specs.Dump.{one_ended, passed_over, size_in, unreadable, with_encodings, with_no_value, with_value}
-use Rattle.der_lines.specs.Headers.{BeginsWithHeader, HasNoHeader}
+use Rattle.der_lines.specs.Dump.{one_ended, passed_over, size_in, with_encodings, with_no_value, with_value}
 use Rattle.der_lines.specs.Steps.{Goes, IsAhead, StartsWith, ends_of}
 use Rattle.der_lines.specs.declared.cursor.Cursor.{Cursor}
 use Rattle.der_lines.specs.declared.cursor.Step.{Step}

@@ -1,13 +1,13 @@
 -- Lines are put after lines.
 use Rattle.std.proofs.Common.{◌≡◌, ◌≢◌, ◌==◌, ℕ, zero, suc, ◌+◌, ◌-◌, List, [], ◌∷◌, ◌++◌, codes, drop, if◌then◌else◌, replicate}
-use Rattle.std.proofs.Common.{Bool, true, false, refl, sym, ap, ◌∙◌, subst, map, append_assoc, append-nil, arith, length}
+use Rattle.std.proofs.Common.{Bool, true, false, refl, sym, ap, ◌∙◌, subst, append_assoc, append-nil, arith, length}
 use Rattle.std.proofs.lemmas.List.{drop-drop}
 use Rattle.std.proofs.lemmas.Bool.{eqb-false, eqb-true}
 use Rattle.std.proofs.lemmas.List.Elements.{All-cons, All-head, All-nil, All-tail}
 use Rattle.std.specs.Fmt.{decimal}
 use Rattle.std.specs.Prelude.{Option, Result, Ok, Err, OnOk}
 use Rattle.std.specs.declared.alloc.AllocError.{AllocError}
-use Rattle.der_lines.specs.Dump.{Adds, AddsLine, Front, IsBlockLine, IsDump, IsFaultLine, IsInsideLine, IsLater, IsNote, IsOneLine}
+use Rattle.der_lines.specs.Dump.{Adds, AddsLine, Front, IsBlockLine, IsDump, IsFaultLine, IsInsideLine, IsNote, IsOneLine}
 use Rattle.der_lines.specs.Dump.{StandAt, StandsInside, block_line, down_to, inside_line, is_too_deep, no_lines, on_one_line, right_of}
 use Rattle.der_lines.specs.Steps.{AddsUnless, IsLineOf, outer, start_text}
 

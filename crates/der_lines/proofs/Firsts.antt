@@ -1,17 +1,17 @@
 -- What was put of the encoding that begins octets.
-use Rattle.std.proofs.Common.{◌≡◌, ◌⊎◌, inl, inr, ℕ, ◌+◌, ◌-◌, ◌<◌, ◌≤◌, min, Bool, true, false, List, [], ◌∷◌, ◌++◌}
+use Rattle.std.proofs.Common.{◌≡◌, ◌⊎◌, inl, inr, ℕ, ◌+◌, ◌-◌, ◌<◌, ◌≤◌, Bool, true, false, List, [], ◌∷◌, ◌++◌}
 use Rattle.std.proofs.Common.{codes, drop, length, take, slice_range, refl, sym, ap, ◌∙◌, subst, append_assoc, append-nil, arith}
 use Rattle.std.proofs.Math.Seq.{take-add}
 use Rattle.std.proofs.lemmas.List.{length-drop, length-take-le, take-append-drop}
-use Rattle.std.specs.Prelude.{Option, None, Some, MatchOption, ◌↔◌, IsTrue, option_map}
+use Rattle.std.specs.Prelude.{Option, None, Some, MatchOption, option_map}
 use Rattle.asn1_headers.specs.Header.{Encoding, IsLength}
 use Rattle.asn1_headers.specs.declared.header.ASN1Class.{ASN1Class}
 use Rattle.asn1_blocks.specs.Contents.{LeafFault}
 use Rattle.asn1_blocks.specs.Grammar.{Encodes}
 use Rattle.asn1_blocks.specs.Tree.{Tree}
-use Rattle.der_lines.specs.Dump.{Adds, Front, IsFirst, IsJudged, IsLater, StandAt, StandsInside, cut_short, is_too_deep, is_wide}
-use Rattle.der_lines.specs.Dump.{of_indefinite_form, size_in, tag_words, unreadable, with_encodings, with_no_value, with_value}
-use Rattle.der_lines.specs.Headers.{BeginsWithHeader, HasIndefiniteForm, HasNoHeader, is_gone_into}
+use Rattle.der_lines.specs.Dump.{Adds, Front, IsFirst, IsJudged, IsLater, StandAt, StandsInside, cut_short, is_wide}
+use Rattle.der_lines.specs.Dump.{tag_words, unreadable, with_no_value, with_value}
+use Rattle.der_lines.specs.Headers.{BeginsWithHeader, HasNoHeader, is_gone_into}
 use Rattle.der_lines.specs.Steps.{AddsStart, HasNoValue, IsAtFront, IsFirstFault, IsNear, IsRight, IsTaken, PutsEncodings, PutsFirst, StartsWith}
 use Rattle.der_lines.specs.Steps.{header_front, outer}
 use Rattle.der_lines.specs.declared.cursor.Step.{Step}
@@ -20,7 +20,7 @@ use Rattle.der_lines.specs.declared.encodings.Passed.{Passed}
 use Rattle.der_lines.specs.declared.faults.Fault.{Fault}
 use Rattle.der_lines.specs.declared.header.Header.{Header}
 use Rattle.der_lines.specs.declared.place.Place.{Place}
-use Rattle.der_lines.proofs.Dumps.{adds_join, adds_map, inside_deeper, stand_deeper, start_adds}
+use Rattle.der_lines.proofs.Dumps.{adds_join, adds_map, inside_deeper, start_adds}
 use Rattle.der_lines.proofs.Seeking.{header_size}
 
 pub puts_first :

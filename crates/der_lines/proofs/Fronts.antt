@@ -1,12 +1,9 @@
 -- How far the lines of octets were put.
-use Rattle.std.proofs.Common.{◌≡◌, ◌⊎◌, inl, inr, ℕ, ◌+◌, ◌-◌, ◌<◌, ◌≤◌, min, Bool, true, false, List, [], ◌∷◌, ◌++◌}
-use Rattle.std.proofs.Common.{drop, length, take, reverse, slice_range, refl, sym, ap, ◌∙◌, subst, append_assoc, append-nil, arith}
-use Rattle.std.proofs.Math.Seq.{take-add}
-use Rattle.std.proofs.lemmas.List.{length-append, length-reverse, length-take-le, take-append-drop}
+use Rattle.std.proofs.Common.{◌≡◌, ◌⊎◌, inl, inr, ℕ, ◌+◌, ◌-◌, ◌<◌, Bool, true, false, List, [], ◌∷◌, ◌++◌}
+use Rattle.std.proofs.Common.{drop, length, reverse, slice_range, refl, sym, ap, ◌∙◌, subst, append_assoc, append-nil, arith}
+use Rattle.std.proofs.lemmas.List.{length-reverse, take-append-drop}
 use Rattle.std.specs.Prelude.{Option, None, Some}
-use Rattle.asn1_headers.specs.Header.{Encoding}
 use Rattle.der_lines.specs.Dump.{Adds, AreFrontsOf, Front, IsLater, StandAt, StandsInside}
-use Rattle.der_lines.specs.Headers.{BeginsWithHeader}
 use Rattle.der_lines.specs.Steps.{Goes, IsAhead, IsFirstFault, IsNear, PutsEncodings, PutsFirst, earlier_fault, outer}
 use Rattle.der_lines.specs.declared.cursor.Cursor.{Cursor}
 use Rattle.der_lines.specs.declared.encodings.Passed.{Passed}

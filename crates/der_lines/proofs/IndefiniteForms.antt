@@ -1,9 +1,9 @@
 -- Headers of the indefinite form.
-use Rattle.std.proofs.Common.{◌≡◌, ◌↔◌, ◌⊎◌, inl, inr, ℕ, ◌≤◌, min, Bool, true, false, List, [], ◌∷◌, ◌++◌, drop, length, take}
-use Rattle.std.proofs.Common.{slice_range, refl, sym, ap, ◌∙◌, subst, append_assoc, append-nil}
-use Rattle.std.proofs.lemmas.List.{drop_at, drop_min, length-take-le, take-append-drop, take_at}
-use Rattle.std.specs.Prelude.{Result, Ok, Err, IfOk, IsTrue}
-use Rattle.asn1_headers.specs.Header.{BeginsWithNo, IsIdentifier, IsSomeIdentifier}
+use Rattle.std.proofs.Common.{◌≡◌, ◌↔◌, ℕ, ◌≤◌, Bool, true, false, List, ◌∷◌, ◌++◌, drop, length, take}
+use Rattle.std.proofs.Common.{slice_range, sym, ap, ◌∙◌, subst}
+use Rattle.std.proofs.lemmas.List.{drop_at, length-take-le, take-append-drop}
+use Rattle.std.specs.Prelude.{IsTrue}
+use Rattle.asn1_headers.specs.Header.{IsIdentifier}
 use Rattle.asn1_headers.proofs.Prefixes.{identifier_alone}
 use Rattle.der_lines.specs.Headers.{HasIndefiniteForm}
 use Rattle.der_lines.proofs.Headers.{front}

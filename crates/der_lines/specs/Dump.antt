@@ -2,7 +2,7 @@
 -- encodings, and of each SEQUENCE and SET, are gone into; those of others are looked at alone.
 use Rattle.std.specs.Prelude.{◌≡◌, ◌≢◌, ◌⊎◌, ◌==◌, ◌||◌, ℕ, ◌+◌, ◌-◌, ◌*◌, ◌^◌, ◌<◌, ◌≤◌, min, nat_lt, Bool, true, false}
 use Rattle.std.specs.Prelude.{if◌then◌else◌, Option, None, Some, unwrap_or, List, [], ◌∷◌, ◌++◌, drop, length, map, take}
-use Rattle.std.specs.Prelude.{get_or, replicate, slice_range, codes, decimal}
+use Rattle.std.specs.Prelude.{replicate, slice_range, codes, decimal}
 use Rattle.std.specs.List.{All}
 use Rattle.asn1_headers.specs.Fault.{DecodeFault}
 use Rattle.asn1_headers.specs.declared.header.ASN1Class.{ASN1Class}

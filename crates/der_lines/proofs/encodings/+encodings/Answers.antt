@@ -1,4 +1,4 @@
-use Rattle.std.proofs.Common.{◌≡◌, ◌∙◌, ◌+◌, ◌-◌, ◌<◌, ◌≤◌, [], length, refl, sym, ap, subst, true, slice_range, arith}
+use Rattle.std.proofs.Common.{◌≡◌, ◌∙◌, ◌+◌, ◌-◌, ◌<◌, [], length, refl, ap, subst, slice_range, arith}
 use Rattle.der_lines.specs.Dump.{Adds, StandAt, StandsInside}
 use Rattle.der_lines.proofs.Cursors.{before_end, step_further, step_kept}
 use Rattle.der_lines.proofs.Dumps.{adds_nothing}

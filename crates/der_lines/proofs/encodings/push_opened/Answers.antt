@@ -1,4 +1,4 @@
-use Rattle.std.proofs.Common.{[], ◌∷◌, ◌+◌, ◌≡◌, refl, subst, sym}
+use Rattle.std.proofs.Common.{[], ◌∷◌, ◌+◌, refl, subst, sym}
 use Rattle.der_lines.specs.Dump.{of_indefinite_form, with_encodings}
 use Rattle.der_lines.specs.Steps.{IsFirstFault, header_front}
 use Rattle.der_lines.proofs.Firsts.{header_later, opened_starts, puts_first}

@@ -1,5 +1,4 @@
-use Rattle.std.proofs.Common.{[], refl, ap, ◌+◌, ◌≡◌}
-use Rattle.der_lines.specs.Steps.{front_of}
+use Rattle.std.proofs.Common.{[], refl}
 use Rattle.der_lines.proofs.Firsts.{puts_unreadable}
 use Rattle.der_lines.proofs.encodings.push_unreadable.Goals as goal
 

@@ -1,4 +1,4 @@
-use Rattle.std.proofs.Common.{◌∙◌, inl, inr, slice_range, ◌⊎◌, ◌≡◌}
+use Rattle.std.proofs.Common.{◌∙◌, inl, inr, slice_range}
 use Rattle.std.proofs.lemmas.Result.{err_from_is_err_and}
 use Rattle.der_lines.proofs.Headers.{front_parted, no_identifier, no_length}
 use Rattle.der_lines.proofs.IndefiniteForms.{form_of_constructed, form_of_primitive}

@@ -1,9 +1,8 @@
-use Rattle.std.proofs.Common.{◌≡◌, ◌∙◌, [], ℕ, List, length, reverse, slice_range, refl, sym, arith}
+use Rattle.std.proofs.Common.{◌≡◌, ◌∙◌, [], length, reverse, refl, sym, arith}
 use Rattle.std.proofs.lemmas.Grind.{common_steps}
 use Rattle.std.proofs.lemmas.List.{nil_from_length}
-use Rattle.asn1_blocks.proofs.Reader.Popping.{reverse_none, reverse_push}
-use Rattle.der_lines.specs.Dump.{Front, all_ended, one_ended}
-use Rattle.der_lines.specs.Steps.{IsAhead}
+use Rattle.asn1_blocks.proofs.Reader.Popping.{reverse_none}
+use Rattle.der_lines.specs.Dump.{all_ended, one_ended}
 use Rattle.der_lines.proofs.Cursors.{one_left}
 use Rattle.der_lines.proofs.cursor.Cursor.next.Goals as goal
 
