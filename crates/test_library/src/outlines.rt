@@ -1,6 +1,8 @@
 // Outlines: the entry of each block of a document.
 use crate::helpers::octets;
-use simple_asn1::{ASN1Block, ASN1DecodeErr, Entries, Outline, all_blocks, outline_strict, to_der};
+use simple_asn1::{
+    ASN1Block, ASN1DecodeErr, Entries, Headers, Outline, all_blocks, outline_strict, to_der,
+};
 use std::alloc::Global;
 use std::process::Abort;
 use std::slice;
@@ -131,5 +133,28 @@ fn strictly_a_block_that_is_not_canonical_is_named(rt: HostRuntime) -> Result<()
         ASN1DecodeErr::NotCanonical(2)
     ));
     assert!(rt; refused);
+    Ok(())
+}
+
+// SEQUENCE { BMPString "\u{E4}", INTEGER 5 }: two octets a character (X.690 8.23.8), and no UTF-8.
+const ODD: &str = "30 07 1E 02 00 E4 02 01 05";
+
+#[test]
+fn by_headers_an_odd_string_is_walked(rt: HostRuntime) -> Result<(), Fail> {
+    let alloc = rt.alloc();
+    let document = octets(alloc, ODD)?;
+    assert!(rt; Outline::from_der(alloc, &document).is_err());
+    let headers = Headers::read(alloc, &document)?;
+    assert_eq!(rt; headers.octets().len(), 9);
+    let places = headers
+        .entries()
+        .iter()
+        .map(|entry| (entry.offset, entry.depth));
+    assert!(rt; places.eq([(0, 0), (2, 1), (6, 1)]));
+    assert!(rt; headers.contents(1) == Some(b"\x00\xE4"));
+    assert!(rt; headers.encoding(2) == Some(b"\x02\x01\x05"));
+    assert!(rt; headers.encoding(3).is_none());
+    let cut = Headers::read(alloc, b"\x30\x03\x02\x02\x05");
+    assert!(rt; cut.is_err_and(|located| located.offset == 2));
     Ok(())
 }
