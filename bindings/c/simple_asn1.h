@@ -106,6 +106,10 @@ simple_asn1_outcome simple_asn1_read(const uint8_t *octets, size_t size, simple_
 /* The same, for documents in canonical form (DER) only. */
 simple_asn1_outcome simple_asn1_read_strict(const uint8_t *octets, size_t size, simple_asn1_block *blocks, size_t room);
 
+/* The same for each encoding by its header alone: contents octets of leaves are not looked into, so that a document can
+ * be walked of which some are at fault. The error is that of the first header at fault. */
+simple_asn1_outcome simple_asn1_outline(const uint8_t *octets, size_t size, simple_asn1_block *blocks, size_t room);
+
 /* Writes the canonical octets (DER) of a document. */
 simple_asn1_outcome simple_asn1_rewrite(const uint8_t *octets, size_t size, uint8_t *out, size_t room);
 

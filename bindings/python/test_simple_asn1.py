@@ -45,6 +45,15 @@ class Reading(unittest.TestCase):
         self.assertEqual(self.refused(lambda: only("05 00").text), (Status.NO_SUCH_VALUE, 0))
         self.assertEqual(self.refused(simple_asn1.Signed, DOCUMENT)[0], Status.NOT_SIGNED)
 
+    def test_an_outline_is_walked_past_a_leaf_at_fault(self):
+        octets = bytes.fromhex("30 07 1E 02 00 E4 02 01 05")
+        self.assertEqual(self.refused(simple_asn1.read, octets), (Status.UTF8, 2))
+        document = pickle.loads(pickle.dumps(simple_asn1.outline(octets)))
+        text, number = document[0]
+        self.assertEqual((text.tag, text.contents, number.integer), (30, b"\x00\xe4", 5))
+        self.assertEqual(self.refused(lambda: text.text), (Status.UTF8, 2))
+        self.assertEqual(self.refused(simple_asn1.outline, bytes.fromhex("30 04 02 01 05 01")), (Status.INCOMPLETE, 5))
+
     def test_values_are_those_of_their_blocks(self):
         self.assertEqual(only("03 02 04 B0").bits, (b"\xb0", 4))
         self.assertEqual(only("03 00").bits, (b"", 0))

@@ -139,6 +139,7 @@ def _library() -> Any:
     for name, answer, arguments in (
         ("read", Outcome, octets + records),
         ("read_strict", Outcome, octets + records),
+        ("outline", Outcome, octets + records),
         ("rewrite", Outcome, octets + octets),
         ("write", Outcome, octets + records + octets),
         ("int64", Integer, octets + offset),
@@ -187,6 +188,10 @@ def read(octets: bytes) -> Records:
 
 def read_strict(octets: bytes) -> Records:
     return _read(_LIBRARY.simple_asn1_read_strict, octets)
+
+
+def outline(octets: bytes) -> Records:
+    return _read(_LIBRARY.simple_asn1_outline, octets)
 
 
 def _sized(call: Callable[..., Any], room: int, *arguments: Any) -> bytes:

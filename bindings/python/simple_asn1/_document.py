@@ -1,6 +1,6 @@
 """Documents, their blocks, and the values of the blocks."""
 from datetime import datetime as DateTime, timezone
-from typing import Iterable, Iterator, List, NamedTuple, Optional, Tuple, Union, overload
+from typing import Callable, Iterable, Iterator, List, NamedTuple, Optional, Tuple, Union, overload
 
 from . import _calls
 from ._calls import Octets, Record, octets_of
@@ -47,15 +47,17 @@ class Bits(NamedTuple):
 
 
 class Document:
-    """A document and the record of each of its blocks. `read`, `read_strict` and `read_pem` make it."""
+    """A document and the record of each of its blocks. `read`, `read_strict`, `outline` and `read_pem` make it."""
 
-    def __init__(self, octets: Octets, *, strict: bool = False) -> None:
+    def __init__(self, octets: Octets, *, strict: bool = False, by_headers: bool = False) -> None:
         self._octets = octets_of(octets)
-        self._blocks = (_calls.read_strict if strict else _calls.read)(self._octets)
+        self._by_headers = by_headers
+        call = _calls.outline if by_headers else _calls.read_strict if strict else _calls.read
+        self._blocks = call(self._octets)
 
-    def __reduce__(self) -> Tuple[type, Tuple[bytes]]:
+    def __reduce__(self) -> Tuple[Callable[[Octets], "Document"], Tuple[bytes]]:
         """A pickled document is read again where it is loaded."""
-        return Document, (self._octets,)
+        return (outline if self._by_headers else read), (self._octets,)
 
     @property
     def octets(self) -> bytes:
@@ -249,6 +251,11 @@ def read(octets: Octets) -> Document:
 def read_strict(octets: Octets) -> Document:
     """Reads a document in canonical form (DER). Raises Refused for any other."""
     return Document(octets, strict=True)
+
+
+def outline(octets: Octets) -> Document:
+    """Reads a document by its headers alone: contents octets of leaves are not looked into. Raises Refused."""
+    return Document(octets, by_headers=True)
 
 
 def read_pem(text: Union[str, bytes]) -> Document:

@@ -67,6 +67,7 @@ extern "C" {
     fn simple_asn1_version() -> u32;
     fn simple_asn1_read(octets: *const u8, size: usize, blocks: *mut Record, room: usize) -> Outcome;
     fn simple_asn1_read_strict(octets: *const u8, size: usize, blocks: *mut Record, room: usize) -> Outcome;
+    fn simple_asn1_outline(octets: *const u8, size: usize, blocks: *mut Record, room: usize) -> Outcome;
     fn simple_asn1_rewrite(octets: *const u8, size: usize, out: *mut u8, room: usize) -> Outcome;
     fn simple_asn1_write(
         octets: *const u8,
@@ -140,6 +141,10 @@ pub fn read(octets: &[u8]) -> Result<Vec<Record>, Fault> {
 
 pub fn read_strict(octets: &[u8]) -> Result<Vec<Record>, Fault> {
     records(octets, |out, room| unsafe { simple_asn1_read_strict(octets.as_ptr(), octets.len(), out, room) })
+}
+
+pub fn outline(octets: &[u8]) -> Result<Vec<Record>, Fault> {
+    records(octets, |out, room| unsafe { simple_asn1_outline(octets.as_ptr(), octets.len(), out, room) })
 }
 
 pub fn rewrite(octets: &[u8]) -> Result<Vec<u8>, Fault> {

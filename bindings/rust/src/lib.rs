@@ -47,6 +47,12 @@ impl<'a> Document<'a> {
         Ok(Document { octets, records: calls::read_strict(octets)? })
     }
 
+    /// Reads a document by its headers alone: contents octets of leaves are not looked into, so that a document can be
+    /// walked of which some are at fault. Their calls return the fault.
+    pub fn outline(octets: &'a [u8]) -> Result<Document<'a>, Fault> {
+        Ok(Document { octets, records: calls::outline(octets)? })
+    }
+
     /// The blocks at the top level.
     pub fn blocks(&self) -> Blocks<'_, 'a> {
         Blocks { document: self, index: 0, end: self.records.len() }

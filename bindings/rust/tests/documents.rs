@@ -42,6 +42,22 @@ fn faults_say_what_and_where() {
 }
 
 #[test]
+fn an_outline_is_walked_past_a_leaf_at_fault() -> Result<(), Fault> {
+    let octets = [0x30, 7, 0x1E, 2, 0, 0xE4, 2, 1, 5];
+    assert_eq!(Document::read(&octets).unwrap_err(), Fault { kind: FaultKind::Utf8, offset: 2 });
+    let document = Document::outline(&octets)?;
+    let sequence = document.blocks().next().unwrap();
+    let items: Vec<_> = sequence.items().collect();
+    assert_eq!(items.len(), 2);
+    assert_eq!(items[0].contents(), &octets[4..6]);
+    assert_eq!(items[0].text().unwrap_err().kind, FaultKind::Utf8);
+    assert_eq!(items[1].int64()?, 5);
+    let fault = Document::outline(&[0x30, 0x04, 0x02, 0x01, 0x05, 0x01]).unwrap_err();
+    assert_eq!(fault, Fault { kind: FaultKind::Incomplete, offset: 5 });
+    Ok(())
+}
+
+#[test]
 fn values_are_those_of_their_blocks() -> Result<(), Fault> {
     let bits = [0x03, 0x02, 0x04, 0xB0];
     assert_eq!(Document::read(&bits)?.blocks().next().unwrap().bits()?, (&[0xB0][..], 4));

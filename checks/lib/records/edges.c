@@ -37,6 +37,18 @@ static void check_answers(void)
     o = simple_asn1_read_strict(loose, 5, NULL, 0);
     CHECK(o.status == SIMPLE_ASN1_NOT_CANONICAL && o.offset == 2);
     CHECK(simple_asn1_read(loose, 5, NULL, 0).count == 2);
+    const uint8_t odd[] = {0x30, 7, 0x1E, 2, 0, 0xE4, 2, 1, 5};
+    simple_asn1_block found[4] = {{0}};
+    o = simple_asn1_read(odd, 9, NULL, 0);
+    CHECK(o.status == SIMPLE_ASN1_UTF8 && o.offset == 2);
+    o = simple_asn1_outline(odd, 9, found, 2);
+    CHECK(o.status == SIMPLE_ASN1_NO_ROOM && o.count == 3 && found[0].next == 0);
+    o = simple_asn1_outline(odd, 9, found, 4);
+    CHECK(o.status == SIMPLE_ASN1_OK && o.count == 3 && found[0].items == 2 && found[0].next == 3 && found[3].next == 0);
+    CHECK(found[1].tag == 30 && found[1].offset == 2 && found[1].contents == 2 && found[1].next == 2);
+    CHECK(found[2].tag == 2 && found[2].offset == 6 && found[2].depth == 1);
+    o = simple_asn1_outline(cut, 6, found, 4);
+    CHECK(o.status == SIMPLE_ASN1_INCOMPLETE && o.offset == 5 && o.count == 0 && found[0].items == 2);
     const uint8_t wide[] = {2, 9, 1, 0, 0, 0, 0, 0, 0, 0, 0};
     CHECK(simple_asn1_int64(wide, 11, 0).status == SIMPLE_ASN1_RANGE);
     const uint8_t bad[] = {1, 2, 0, 0};

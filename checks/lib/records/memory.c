@@ -65,6 +65,7 @@ static uint32_t status_of(int call)
     case 11: return simple_asn1_put_oid((const uint8_t *)wide, sizeof wide - 1, out, sizeof out).status;
     case 12: return simple_asn1_put_text(12, (const uint8_t *)wide, sizeof wide - 1, out, sizeof out).status;
     case 13: return simple_asn1_put_time(24, &last, out, sizeof out).status;
+    case 14: return simple_asn1_outline(octets, size, blocks, 1 << 13).status;
     default: return simple_asn1_write(octets, size, blocks, count, out, sizeof out).status;
     }
 }
@@ -84,7 +85,7 @@ int main(int argc, char **argv)
             *kind = blocks[i].offset;
     }
     size_t refused = 0;
-    for (int call = 0; call < 15; call++) {
+    for (int call = 0; call < 16; call++) {
         for (long k = 0;; k++) {
             long before = live;
             asked = 0, left = k;
