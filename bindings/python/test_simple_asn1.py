@@ -5,6 +5,7 @@ import copy
 import datetime
 import pickle
 import random
+import re
 import shutil
 import subprocess
 import tempfile
@@ -53,6 +54,21 @@ class Reading(unittest.TestCase):
         self.assertEqual((text.tag, text.contents, number.integer), (30, b"\x00\xe4", 5))
         self.assertEqual(self.refused(lambda: text.text), (Status.UTF8, 2))
         self.assertEqual(self.refused(simple_asn1.outline, bytes.fromhex("30 04 02 01 05 01")), (Status.INCOMPLETE, 5))
+
+    @unittest.skipUnless(shutil.which("openssl"), "there is no openssl")
+    def test_the_outline_of_a_certificate_with_an_odd_name_is_that_of_openssl(self):
+        config = "[req]\ndistinguished_name=dn\nstring_mask=MASK:0x0800\nprompt=no\nutf8=yes\n[dn]\nCN=ä\n"
+        make = "openssl req -x509 -newkey ec -pkeyopt ec_paramgen_curve:P-256 -nodes -keyout k -utf8 -config c -outform DER"
+        with tempfile.TemporaryDirectory() as folder:
+            with open(f"{folder}/c", "w", encoding="utf-8") as file:
+                file.write(config)
+            octets = subprocess.run(make.split(), cwd=folder, check=True, capture_output=True).stdout
+        listed = subprocess.run(["openssl", "asn1parse", "-inform", "DER"], input=octets, check=True, capture_output=True)
+        rows = re.findall(rb"^ *(\d+):d=(\d+) +hl=(\d+) +l= *(\d+)", listed.stdout, re.M)
+        self.assertEqual(self.refused(simple_asn1.read, octets)[0], Status.UTF8)
+        records = [block.record for block in simple_asn1.outline(octets).all_blocks]
+        found = [(record.offset, record.depth, record.header, record.contents) for record in records]
+        self.assertEqual(found, [tuple(map(int, row)) for row in rows])
 
     def test_values_are_those_of_their_blocks(self):
         self.assertEqual(only("03 02 04 B0").bits, (b"\xb0", 4))
