@@ -58,12 +58,14 @@ class Reading(unittest.TestCase):
     @unittest.skipUnless(shutil.which("openssl"), "there is no openssl")
     def test_the_outline_of_a_certificate_with_an_odd_name_is_that_of_openssl(self):
         config = "[req]\ndistinguished_name=dn\nstring_mask=MASK:0x0800\nprompt=no\nutf8=yes\n[dn]\nCN=ä\n"
-        make = "openssl req -x509 -newkey ec -pkeyopt ec_paramgen_curve:P-256 -nodes -keyout k -utf8 -config c -outform DER"
+        make = "openssl req -x509 -newkey ec -pkeyopt ec_paramgen_curve:P-256 -nodes -keyout k"
+        written = "-utf8 -config c -outform DER"
         with tempfile.TemporaryDirectory() as folder:
             with open(f"{folder}/c", "w", encoding="utf-8") as file:
                 file.write(config)
-            octets = subprocess.run(make.split(), cwd=folder, check=True, capture_output=True).stdout
-        listed = subprocess.run(["openssl", "asn1parse", "-inform", "DER"], input=octets, check=True, capture_output=True)
+            octets = subprocess.run([*make.split(), *written.split()], cwd=folder, check=True, capture_output=True).stdout
+        command = ["openssl", "asn1parse", "-inform", "DER"]
+        listed = subprocess.run(command, input=octets, check=True, capture_output=True)
         rows = re.findall(rb"^ *(\d+):d=(\d+) +hl=(\d+) +l= *(\d+)", listed.stdout, re.M)
         self.assertEqual(self.refused(simple_asn1.read, octets)[0], Status.UTF8)
         records = [block.record for block in simple_asn1.outline(octets).all_blocks]
