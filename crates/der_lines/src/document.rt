@@ -20,9 +20,9 @@ pub enum Verdict {
     Refused,
 }
 
-/// Puts the lines of octets: one for each encoding in order, by their headers. The contents octets of constructed
-/// encodings, and of each SEQUENCE and SET, are gone into; of others the value is shown, or what is wrong with it. Where
-/// contents octets are left that begin with no header, these have one line, and it goes on behind them.
+/// Puts the lines of octets: one for each encoding in order, by their headers. It goes into the contents octets of
+/// constructed encodings, and of each SEQUENCE and SET; of others it shows the value, or what is wrong with it. Octets
+/// that begin with no header have one line, up to the end of the contents octets around them, and it goes on there.
 ///
 /// Where something is wrong the verdict is `Refused`, and the last line is that of the first fault: no header, contents
 /// octets that are cut short, those of no value, or a length of the indefinite form of BER (X.690 8.1.3.6), which is

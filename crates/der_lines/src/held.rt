@@ -35,7 +35,8 @@ pub fn held_in<'a>(
     }
 }
 
-// The octets of a string in which encodings may stand: those of an OCTET STRING, and of a BIT STRING without unused bits.
+// The octets of a string in which encodings may stand: those of an OCTET STRING, and of a BIT STRING without unused
+// bits.
 fn octets_inside<'a>(header: &Header, contents: &'a [u8]) -> Option<Held<'a>>
     ensures { IfSome result (λ h. StandAt contents.now h.before h.octets.now) }
 {
