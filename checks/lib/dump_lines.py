@@ -157,7 +157,11 @@ def check_schema(dump, lines):
 
 
 def is_canonical(dump, octets, rows):
-    """Each block of the document reads strictly, also those that a block of another class keeps as they came."""
+    """Each block of the document reads strictly, also those that a block of another class keeps as they came; and no
+    OBJECT IDENTIFIER begins with an octet 80 (X.690 8.19.2), which the library reads as a number."""
+    firsts = (octets[row["offset"] + row["header"]] for row in rows if row["type"] == "OBJECT IDENTIFIER")
+    if 0x80 in firsts:
+        return False
     lines = (dump.lines(["--strict", "--at", str(row["offset"])], octets.hex().encode()) for row in rows)
     return all("blocks" in line for [line] in lines)
 
