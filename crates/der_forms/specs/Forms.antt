@@ -1,6 +1,6 @@
 -- The forms in which an input has its documents, told apart by its octets.
 use Rattle.std.specs.Prelude.{ℕ, Bool, true, false, not, ◌==◌, ◌||◌, ◌&&◌, nat_le, List, [], ◌∷◌, ◌++◌, if◌then◌else◌, codes}
-use Rattle.std.specs.Prelude.{drop, take, Option, Some, None, Result, Ok, Err}
+use Rattle.std.specs.Prelude.{drop, take, Result, Ok, Err}
 use Rattle.std.specs.Char.{is_ascii_hexdigit, is_ascii_whitespace}
 use Rattle.std.specs.List.{list_all, list_any, prefix_len, starts_with}
 use Rattle.base64.specs.Engines.{standard}
@@ -9,6 +9,7 @@ use Rattle.base64.specs.declared.decode.DecodeError.{DecodeError}
 use Rattle.hex.specs.Hex.{decode_of as decode_hex}
 use Rattle.hex.specs.declared.error.FromHexError.{FromHexError}
 use Rattle.der_io.specs.Lines.{lines_of}
+use Rattle.der_io.specs.Characters.{colon, comma, hyphen, left_brace, right_brace, space, tilde, vertical_bar}
 
 -- what an input is
 pub data InputForm : Type 0 where
@@ -41,7 +42,7 @@ begins_object line = begins (codes "-----BEGIN ") (but_indent line)
 
 -- the octet may stand in a line above an object
 abbrev pub is_text_octet : ℕ → Bool
-is_text_octet b = nat_le 32 b || is_ascii_whitespace b
+is_text_octet b = nat_le space b || is_ascii_whitespace b
 
 -- a line begins an object, and those above it are lines of text
 abbrev pub has_object : List (List ℕ) → Bool
@@ -52,7 +53,7 @@ has_object (line ∷ lines) =
 
 -- a character of ASCII that is printed, or white space
 abbrev pub is_printed : ℕ → Bool
-is_printed b = (nat_le 32 b && nat_le b 126) || is_ascii_whitespace b
+is_printed b = (nat_le space b && nat_le b tilde) || is_ascii_whitespace b
 
 -- there is an octet, and each passes the test
 abbrev pub all_of_some : (ℕ → Bool) → List ℕ → Bool
@@ -61,7 +62,9 @@ all_of_some test (b ∷ octets) = list_all test (b ∷ octets)
 
 -- it may stand between hex digits: white space, `:`, `,`, `-`, `{` and `}`
 abbrev pub is_separator : ℕ → Bool
-is_separator b = is_ascii_whitespace b || (b == 58 || b == 44 || b == 45 || b == 123 || b == 125)
+is_separator b =
+    is_ascii_whitespace b
+    || (b == colon || b == comma || b == hyphen || b == left_brace || b == right_brace)
 
 -- it begins with what may stand before two hex digits, `0x` or `\x`
 abbrev pub begins_prefix : List ℕ → Bool
@@ -88,7 +91,7 @@ has_octets text = begins (codes "0000000 ") text && begins_space (drop 10 text)
 abbrev pub has_columns : List ℕ → Bool
 has_columns text =
     begins (codes "00000000: ") text
-    || (begins (codes "00000000  ") text && list_any (λ b. b == 124) text)
+    || (begins (codes "00000000  ") text && list_any (λ b. b == vertical_bar) text)
     || has_octets text
 
 -- the text begins with an offset, and then comes in another way, as that of `hexdump` and `od`: in words whose octets

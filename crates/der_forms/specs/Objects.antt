@@ -11,6 +11,7 @@ use Rattle.der_forms.specs.declared.objects.Ending.TheVariants.{Closed, Joined, 
 use Rattle.der_io.specs.Lines.{lines_of}
 use Rattle.der_forms.specs.Forms.{InputForm, begins, begins_object, but_indent, but_mark, but_spaces, form_is}
 use Rattle.der_forms.specs.Forms.{objects, odd_digits, other_text, plain_octets, spelled, up_to}
+use Rattle.der_io.specs.Characters.{colon}
 
 -- an object: its label, its octets, or none where it is encrypted or no base 64, and how it ends
 pub record Object : Type 0 where
@@ -35,7 +36,7 @@ is_encrypted (line ∷ lines) =
 
 -- the symbols of base 64 in a line. One with a colon is a header of the object, and has none
 abbrev pub symbols_of : List ℕ → List ℕ
-symbols_of line = if list_any (λ b. b == 58) line then [] else but_spaces line
+symbols_of line = if list_any (λ b. b == colon) line then [] else but_spaces line
 
 -- the symbols in the lines up to the end of an object
 abbrev pub symbols_in : List (List ℕ) → List ℕ
@@ -80,10 +81,17 @@ objects_in false (line ∷ lines) =
 abbrev pub objects_of : List ℕ → List Object
 objects_of input = objects_in false (lines_of (but_mark input))
 
--- the octets of the first
+-- the octets of an object with this ending, or none where its own line does not end it
+abbrev pub if_closed : Ending → Option (List ℕ) → Option (List ℕ)
+if_closed Closed octets = octets
+if_closed Missing octets = None
+if_closed OtherLabel octets = None
+if_closed Joined octets = None
+
+-- the octets of the first, or none where it does not end as it should
 abbrev pub first_of : List Object → Option (List ℕ)
 first_of [] = None
-first_of (object ∷ later) = object.octets
+first_of (object ∷ later) = if_closed object.ending object.octets
 
 abbrev pub document_in : InputForm → List ℕ → Option (List ℕ)
 document_in objects input = first_of (objects_of input)

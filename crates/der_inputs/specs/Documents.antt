@@ -16,6 +16,7 @@ use Rattle.asn1_outline.specs.Entries.{IsOutline}
 use Rattle.simple_asn1.specs.ReadBack.{IsCanonicalDocument}
 use Rattle.simple_asn1.specs.Strict.{IsNotCanonicalAt}
 use Rattle.asn1_outline.specs.declared.entry.Entry.{Entry}
+use Rattle.der_io.specs.Characters.{equals_sign, exclamation_mark}
 
 -- the dump of octets, read strictly or not, with no more than so many blocks around a block, where there is a most
 abbrev pub AddsReading : Bool → Option ℕ → List ℕ → Verdict → List ℕ → List ℕ → Type 0
@@ -26,12 +27,12 @@ AddsReading true = AddsStrictDumpOf
 abbrev pub AddsDump : Bool → Option ℕ → Option (List ℕ) → Verdict → List ℕ → List ℕ → Type 0
 AddsDump strict most (Some octets) verdict before after = AddsReading strict most octets verdict before after
 AddsDump strict most None verdict before after =
-    (verdict ≡ Refused) × ((why : List ℕ) × AddsLine (IsNote 33 why) before after)
+    (verdict ≡ Refused) × ((why : List ℕ) × AddsLine (IsNote exclamation_mark why) before after)
 
 -- the line `=` and a label, escaped, where there is one
 abbrev pub AddsLabel : Option (List ℕ) → List ℕ → List ℕ → Type 0
 AddsLabel None before after = after ≡ before
-AddsLabel (Some label) before after = AddsLine (IsNote 61 (escaped label)) before after
+AddsLabel (Some label) before after = AddsLine (IsNote equals_sign (escaped label)) before after
 
 -- a dump under the line of its label
 abbrev pub PutsDump :

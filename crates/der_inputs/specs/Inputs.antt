@@ -19,6 +19,7 @@ use Rattle.der_inputs.specs.declared.outcome.Outcome.TheVariants.{Unread}
 use Rattle.der_options.specs.declared.options.Options.{Options}
 use Rattle.der_options.specs.declared.options.Task.{Task}
 use Rattle.der_options.specs.declared.options.Task.TheVariants.{At, Contents, Dump, Extract}
+use Rattle.der_io.specs.Characters.{equals_sign}
 
 -- what is put after a text, and to which verdict it comes: of a label, if there is one, and of octets, or of what has
 -- none that can be read
@@ -114,7 +115,7 @@ names_shown _ count = nat_lt 1 count
 -- the line `=` and a name, escaped, above dumps: JSON tells it in each line
 abbrev pub AddsName : Bool → List ℕ → List ℕ → List ℕ → Type 0
 AddsName true name before after = after ≡ before
-AddsName false name before after = AddsLine (IsNote 61 (escaped name)) before after
+AddsName false name before after = AddsLine (IsNote equals_sign (escaped name)) before after
 
 -- what is put of octets in the file of this name, which is told or not
 abbrev pub AddsNamed : Bool → Options → List ℕ → List ℕ → Outcome → List ℕ → List ℕ → Type 0

@@ -5,6 +5,7 @@ use Rattle.std.specs.Char.{encode_utf8}
 use Rattle.std.specs.Fmt.{digits}
 use Rattle.std.specs.Int.{is_in_range}
 use Rattle.std.specs.Str.{chars, is_utf8}
+use Rattle.der_io.specs.Characters.{backslash, carriage_return, line_feed, quotation_mark, tab}
 
 -- a control character, or a hyphen that is shown at the end of a line alone
 abbrev pub is_control : ℕ → Bool
@@ -29,11 +30,11 @@ escape_of_other c = if is_shown c then encode_utf8 c else codes "\\u{" ++ (digit
 -- what is written for a character
 abbrev pub escape_of : ℕ → List ℕ
 escape_of c =
-    if c == 10 then codes "\\n"
-    else if c == 13 then codes "\\r"
-    else if c == 9 then codes "\\t"
-    else if c == 34 then codes "\\\""
-    else if c == 92 then codes "\\\\"
+    if c == line_feed then codes "\\n"
+    else if c == carriage_return then codes "\\r"
+    else if c == tab then codes "\\t"
+    else if c == quotation_mark then codes "\\\""
+    else if c == backslash then codes "\\\\"
     else escape_of_other c
 
 -- so for an octet of what is no text: a character of ASCII, or `\x..`

@@ -83,7 +83,7 @@ IsStringValue kind characters value = (text : List ℕ) × (chars text ≡ chara
 
 -- the value of a leaf
 abbrev pub IsLeafValue : Leaf → Data → Type 0
-IsLeafValue (boolean b) value = value ≡ boolean_json b
+IsLeafValue (boolean is_true) value = value ≡ boolean_json is_true
 IsLeafValue (integer n) value = value ≡ whole_json n
 IsLeafValue (bit_string bits octets) value = value ≡ bits_json bits octets
 IsLeafValue (octet_string octets) value = value ≡ string (encode_lower octets)
@@ -95,27 +95,27 @@ IsLeafValue (generalized_time moment) value = (text : List ℕ) × IsMomentText 
 
 -- the value of a block that holds so many blocks: none of one that holds any
 abbrev pub IsValue : Tree ℕ → ℕ → Data → Type 0
-IsValue (leaf o l) items value = IsLeafValue l value
-IsValue (group o g bs) items value = value ≡ null
-IsValue (explicit c o n b) items value = value ≡ null
-IsValue (unknown c k o n octets) zero value = value ≡ string (encode_lower octets)
-IsValue (unknown c k o n octets) (suc items) value = value ≡ null
+IsValue (leaf offset contents) items value = IsLeafValue contents value
+IsValue (group offset kind blocks) items value = value ≡ null
+IsValue (explicit class offset tag block) items value = value ≡ null
+IsValue (unknown class constructed offset tag octets) zero value = value ≡ string (encode_lower octets)
+IsValue (unknown class constructed offset tag octets) (suc items) value = value ≡ null
 
 -- the object of a block, by its entry and its tree
-pub record IsRow (r : Entry) (tree : Tree ℕ) (row : Data) : Type 0 where
+pub record IsRow (entry : Entry) (tree : Tree ℕ) (row : Data) : Type 0 where
   pub value : Data
-  pub is_value : IsValue tree r.items value
+  pub is_value : IsValue tree entry.items value
   -- how many octets stand before the block, how many its identifier and length octets are, how many it has, and how
   -- many blocks are around it; its class, its constructed bit, its tag and its type; and its value
   pub members : row ≡
-      object (member (codes "offset") (number (unsigned r.offset))
-      (member (codes "header") (number (unsigned r.header))
-      (member (codes "size") (number (unsigned (r.header + r.contents)))
-      (member (codes "depth") (number (unsigned r.depth))
-      (member (codes "class") (string (class_name r.class))
-      (member (codes "constructed") (boolean_json r.constructed)
+      object (member (codes "offset") (number (unsigned entry.offset))
+      (member (codes "header") (number (unsigned entry.header))
+      (member (codes "size") (number (unsigned (entry.header + entry.contents)))
+      (member (codes "depth") (number (unsigned entry.depth))
+      (member (codes "class") (string (class_name entry.class))
+      (member (codes "constructed") (boolean_json entry.constructed)
       (member (codes "tag") (natural_json (tree_tag tree))
-      (member (codes "type") (type_json r.class r.tag)
+      (member (codes "type") (type_json entry.class entry.tag)
       (member (codes "value") value no_members)))))))))
 
 -- so of an entry with its index, whose tree is the one there
@@ -125,7 +125,7 @@ IsRowAt nodes entry row = IsRow entry.1 (tree_at nodes entry.0) row
 -- an array of these
 abbrev pub items_of : List Data → Items
 items_of [] = no_items
-items_of (d ∷ ds) = item d (items_of ds)
+items_of (json ∷ later) = item json (items_of later)
 
 -- a member with a text, before others, where there is one
 abbrev pub member_if : List ℕ → Option (List ℕ) → Members → Members

@@ -19,21 +19,22 @@ pub record HasStructure (outline : Outline) (nodes : Nodes) : Type 0 where
   pub room : length (octets_in outline) < 2 ^ 64
 
 -- the entry is the one at the index of such an outline
-pub record IsEntryAt (outline : Outline) (nodes : Nodes) (index : ℕ) (r : Entry) : Type 0 where
+pub record IsEntryAt (outline : Outline) (nodes : Nodes) (index : ℕ) (entry : Entry) : Type 0 where
   pub structure : IsStructure (octets_in outline) nodes
   pub within : index < length (entries_in outline)
-  pub fits : r.header + r.contents < 2 ^ 64
-  pub leaf_holds_none : (o : ℕ) (l : Leaf) → tree_at nodes index ≡ leaf o l → r.items ≡ 0
+  pub fits : entry.header + entry.contents < 2 ^ 64
+  pub leaf_holds_none : (offset : ℕ) (contents : Leaf)
+      → tree_at nodes index ≡ leaf offset contents → entry.items ≡ 0
 
 -- the texts of these, with a comma between two of them
 abbrev pub rows_text : Bool → List Data → List ℕ
 rows_text later [] = []
-rows_text later (d ∷ ds) = comma_if later ++ (compact_text d ++ rows_text true ds)
+rows_text later (row ∷ rows) = comma_if later ++ (compact_text row ++ rows_text true rows)
 
 -- whether there are any
 abbrev pub are_some : List Data → Bool
 are_some [] = false
-are_some (d ∷ ds) = true
+are_some (row ∷ rows) = true
 
 -- rows of these entries, each with its index, were put after the text, and whether any
 pub record AddsRows (nodes : Nodes) (later : Bool) (entries : List (ℕ × Entry)) (before after : List ℕ)

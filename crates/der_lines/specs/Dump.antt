@@ -14,6 +14,7 @@ use Rattle.der_lines.specs.Headers.{BeginsWithHeader, HasIndefiniteForm, HasNoHe
 use Rattle.der_lines.specs.declared.document.Verdict.{Verdict}
 use Rattle.der_lines.specs.declared.document.Verdict.TheVariants.{AllRead, Refused}
 use Rattle.der_values.specs.Types.{type_name}
+use Rattle.der_io.specs.Characters.{colon, greater_than_sign, line_feed, space}
 
 -- a tag number in words: in decimal below 2^128
 abbrev pub tag_number : ℕ → List ℕ
@@ -137,17 +138,17 @@ down_to most [] = []
 down_to most (front ∷ fronts) =
     if is_too_deep most front.depth then down_to most fronts else front ∷ down_to most fronts
 
--- no octet 0A, which ends a line
+-- no line feed, which ends a line
 abbrev pub IsOneLine : List ℕ → Type 0
-IsOneLine text = All (λ b. b ≢ 10) text
+IsOneLine text = All (λ b. b ≢ line_feed) text
 
 -- a number in decimal, with spaces before it where it has fewer digits than the width
 abbrev pub right_of : ℕ → ℕ → List ℕ
-right_of width n = replicate (width - length (decimal n)) 32 ++ decimal n
+right_of width n = replicate (width - length (decimal n)) space ++ decimal n
 
 -- two spaces a level, for 40 levels at most
 abbrev pub indentation : ℕ → List ℕ
-indentation depth = replicate (2 * min depth 40) 32
+indentation depth = replicate (2 * min depth 40) space
 
 -- a line of an encoding: spaces, the offset, the sizes of header and contents in columns, spaces for the depth, the
 -- words, and what else is said of it
@@ -155,29 +156,29 @@ pub record IsBlockLine (front : Front) (line : List ℕ) : Type 0 where
   pub spaces : ℕ
   pub said : List ℕ
   pub line_is : line ≡
-      replicate spaces 32 ++ (decimal front.offset ++ (32 ∷ [] ++ (right_of 2 front.header ++ (32 ∷ []
-      ++ (right_of 7 front.contents ++ (32 ∷ 32 ∷ [] ++ (indentation front.depth ++ (front.words ++ said))))))))
+      replicate spaces space ++ (decimal front.offset ++ (space ∷ [] ++ (right_of 2 front.header ++ (space ∷ []
+      ++ (right_of 7 front.contents ++ (space ∷ space ∷ [] ++ (indentation front.depth ++ (front.words ++ said))))))))
   pub one : IsOneLine said
 
 -- the line of one that stands inside octets of another: `>`, and then as any
 pub record IsInsideLine (front : Front) (line : List ℕ) : Type 0 where
   pub shown : List ℕ
-  pub line_is : line ≡ 62 ∷ shown
+  pub line_is : line ≡ greater_than_sign ∷ shown
   pub block : IsBlockLine front shown
 
--- the text with a space in the place of each octet 0A
+-- the text with a space in the place of each line feed
 abbrev pub on_one_line : List ℕ → List ℕ
-on_one_line text = map (λ b. if b == 10 then 32 else b) text
+on_one_line text = map (λ b. if b == line_feed then space else b) text
 
 -- any other line but that of a first fault: `=`, a space and the label of an object, or `!`, a space and what is wrong
 -- with one, on one line
 abbrev pub IsNote : ℕ → List ℕ → List ℕ → Type 0
-IsNote mark said line = line ≡ mark ∷ 32 ∷ on_one_line said
+IsNote mark said line = line ≡ mark ∷ space ∷ on_one_line said
 
 -- the line of a fault: `! error at offset`, the offset in decimal, a colon, a space, and words
 pub record IsFaultLine (offset : ℕ) (line : List ℕ) : Type 0 where
   pub said : List ℕ
-  pub line_is : line ≡ codes "! error at offset " ++ decimal offset ++ 58 ∷ 32 ∷ said
+  pub line_is : line ≡ codes "! error at offset " ++ decimal offset ++ colon ∷ space ∷ said
   pub one : IsOneLine said
 
 -- octets stand in others, after so many of them
@@ -211,11 +212,11 @@ pub data IsDump (Inside : Front → Type 0) : List Front → List ℕ → Type 0
   no_lines : {fronts : List Front} {text : List ℕ} → fronts ≡ [] → text ≡ [] → IsDump Inside fronts text
   block_line :
       {fronts : List Front} {text : List ℕ} (front : Front) (later : List Front) (line rest : List ℕ) →
-      fronts ≡ front ∷ later → text ≡ line ++ 10 ∷ rest →
+      fronts ≡ front ∷ later → text ≡ line ++ line_feed ∷ rest →
       IsBlockLine front line → IsDump Inside later rest → IsDump Inside fronts text
   inside_line :
       {fronts : List Front} {text : List ℕ} (front : Front) (line rest : List ℕ) →
-      text ≡ line ++ 10 ∷ rest → IsInsideLine front line → Inside front →
+      text ≡ line ++ line_feed ∷ rest → IsInsideLine front line → Inside front →
       IsDump Inside fronts rest → IsDump Inside fronts text
 
 -- such lines were put after the text
@@ -225,7 +226,7 @@ Adds Inside fronts before after =
 
 -- a line of some kind was put after the text
 abbrev pub AddsLine : (List ℕ → Type 0) → List ℕ → List ℕ → Type 0
-AddsLine Is before after = (line : List ℕ) × (after ≡ before ++ (line ++ 10 ∷ [])) × Is line
+AddsLine Is before after = (line : List ℕ) × (after ≡ before ++ (line ++ line_feed ∷ [])) × Is line
 
 -- the lines of octets were put, down to the most depth, where these are the offsets of faults
 abbrev pub AddsBlocksOf : Option ℕ → List ℕ → List ℕ → List ℕ → List ℕ → Type 0

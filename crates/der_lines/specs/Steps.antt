@@ -22,6 +22,7 @@ use Rattle.der_lines.specs.declared.lines.LineStart.{LineStart}
 use Rattle.der_lines.specs.declared.lines.Mark.{Mark}
 use Rattle.der_lines.specs.declared.lines.Mark.TheVariants.{Fault as fault_mark, Object as object_mark}
 use Rattle.der_lines.specs.declared.place.Place.{Place}
+use Rattle.der_io.specs.Characters.{equals_sign, exclamation_mark, space}
 
 -- the header stands at the front of the octets
 abbrev pub IsAtFront : List ℕ → Header → Type 0
@@ -41,8 +42,8 @@ HasNoValue class tag contents = (class ≡ Universal) × ((fault : DecodeFault) 
 
 -- the octet that a line begins with
 abbrev pub mark_of : Mark → ℕ
-mark_of fault_mark = 33
-mark_of object_mark = 61
+mark_of fault_mark = exclamation_mark
+mark_of object_mark = equals_sign
 
 abbrev pub front_of : LineStart → Front
 front_of start = record {
@@ -66,7 +67,7 @@ header_front offset depth header = record {
 -- what a line has behind its offset and a space
 abbrev pub start_text : Front → List ℕ
 start_text front =
-    right_of 2 front.header ++ (32 ∷ [] ++ (right_of 7 front.contents ++ (32 ∷ 32 ∷ []
+    right_of 2 front.header ++ (space ∷ [] ++ (right_of 7 front.contents ++ (space ∷ space ∷ []
     ++ (indentation front.depth ++ front.words))))
 
 -- a line, inside octets of a string or not

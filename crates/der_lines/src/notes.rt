@@ -3,6 +3,7 @@ ghost use Rattle.std.specs.Prelude.{◌≡◌, IfOk, OnOk};
 ghost use Rattle.der_lines.specs.Dump.{AddsLine, IsNote};
 ghost use Rattle.der_io.specs.Escaped.{escaped as escaped_is};
 ghost use Rattle.der_lines.specs.declared.document.Verdict.TheVariants.{Refused};
+ghost use Rattle.der_io.specs.Characters.{equals_sign, exclamation_mark};
 
 use crate::document::Verdict;
 use crate::lines::{Mark, push_note};
@@ -14,7 +15,7 @@ use std::alloc::{AllocError, Global};
 /// # Errors
 /// Memory ran out.
 pub fn push_label(alloc: Global, label: &[u8], out: &mut Vec<u8>) -> Result<(), AllocError>
-    ensures { OnOk result (AddsLine (IsNote 61 (escaped_is label.now)) out.old.items out.new.items) }
+    ensures { OnOk result (AddsLine (IsNote equals_sign (escaped_is label.now)) out.old.items out.new.items) }
 {
     let text = escaped(alloc, label)?;
     push_note(Mark::Object, text.as_bytes(), out)
@@ -27,7 +28,7 @@ pub fn push_label(alloc: Global, label: &[u8], out: &mut Vec<u8>) -> Result<(), 
 /// Memory ran out.
 pub fn push_refusal(why: &str, out: &mut Vec<u8>) -> Result<Verdict, AllocError>
     ensures { IfOk result (λ verdict.
-        (verdict ≡ Refused) × AddsLine (IsNote 33 why.now) out.old.items out.new.items) }
+        (verdict ≡ Refused) × AddsLine (IsNote exclamation_mark why.now) out.old.items out.new.items) }
 {
     push_note(Mark::Fault, why.as_bytes(), out)?;
     Ok(Verdict::Refused)

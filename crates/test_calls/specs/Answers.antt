@@ -1,11 +1,12 @@
 -- Which lines are answered. What the answers are is tested.
 use Rattle.std.specs.Prelude.{◌≡◌, ◌==◌, ◌++◌, ℕ, Bool, false, List, [], ◌∷◌, if◌then◌else◌}
 use Rattle.der_io.specs.Lines.{lines_of}
+use Rattle.der_io.specs.Characters.{number_sign}
 
--- a line that begins with byte 23, which is `#`, is a comment
+-- a line that begins with `#` is a comment
 abbrev pub is_comment : List ℕ → Bool
 is_comment [] = false
-is_comment (b ∷ line) = b == 35
+is_comment (b ∷ line) = b == number_sign
 
 -- the lines that are no comments
 abbrev pub calls_of : List (List ℕ) → List (List ℕ)

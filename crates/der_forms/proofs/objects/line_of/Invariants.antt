@@ -1,5 +1,4 @@
 use Rattle.std.proofs.Common.{length}
-use Rattle.std.specs.Prelude.{⊤}
 use Rattle.der_forms.proofs.objects.line_of.Given as goal
 
 abbrev pub decreases-loop-rest : goal.decreases-loop-rest

@@ -1,4 +1,4 @@
-use Rattle.std.proofs.Common.{inl, inr, refl}
+use Rattle.std.proofs.Common.{inr, refl}
 use Rattle.der_inputs.proofs.sources.push_source.Goals as goal
 
 pub returns-in-Ok-clause-put : goal.returns-in-Ok-clause-put

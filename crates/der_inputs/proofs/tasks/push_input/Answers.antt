@@ -1,9 +1,6 @@
-use Rattle.std.proofs.Common.{subst}
-use Rattle.std.specs.Prelude.{IfOk}
 use Rattle.der_inputs.proofs.Inputs.{by_task}
-use Rattle.der_inputs.specs.Inputs.{AddsAnswer}
 use Rattle.der_inputs.specs.Parts.{PutsIn}
-use Rattle.der_options.specs.declared.options.Task.TheVariants.{At, Contents, Dump, Extract}
+use Rattle.der_options.specs.declared.options.Task.TheVariants.{At, Contents, Extract}
 use Rattle.der_inputs.proofs.tasks.push_input.Goals as goal
 
 pub returns-in-At : goal.returns-in-At
