@@ -6,7 +6,7 @@ ghost use Rattle.der_forms.specs.Shown.{shown};
 ghost use Rattle.der_forms.specs.declared.input.FormFault.TheVariants.{OutOfMemory};
 
 use crate::lines::{Lines, is_pem, without_mark};
-use crate::objects::{PemFault, next_object};
+use crate::objects::{PemFault, fault_of_end, next_object};
 use crate::{base64_text, hex_text};
 use std::alloc::{AllocError, Global};
 use thiserror::Error;
@@ -95,6 +95,9 @@ pub enum FormFault {
     /// A line of its first object is no base 64: its number, the first being 1.
     #[error("line {0}: invalid base64")]
     NoBase64(usize),
+    /// Its first object does not end as it should: the number of a line, and what is wrong.
+    #[error("line {0}: {1}")]
+    BadEnd(usize, &'static str),
 }
 
 impl From<AllocError> for FormFault {
@@ -103,7 +106,8 @@ impl From<AllocError> for FormFault {
     }
 }
 
-/// The octets of the document that an input has: its own, those that it spells, or those of the first object of PEM.
+/// The octets of the document that an input has: its own, those that it spells, or those of the first object of PEM,
+/// where its own END line ends it.
 ///
 /// # Errors
 /// `OutOfMemory`, and why there is no document.
@@ -128,11 +132,15 @@ fn first_object(alloc: Global, input: &[u8]) -> Result<Vec<u8>, FormFault>
     let Ok(next) = next_object(alloc, Lines::of(input)) else {
         return Err(FormFault::OutOfMemory);
     };
-    let Some((object, _after)) = next else {
+    let Some((object, after)) = next else {
         return Err(FormFault::Text);
     };
+    let bad_end = fault_of_end(&object, after.before);
     match object.octets {
-        Ok(octets) => Ok(octets),
+        Ok(octets) => match bad_end {
+            Some((line, what)) => Err(FormFault::BadEnd(line, what)),
+            None => Ok(octets),
+        },
         Err(PemFault::Encrypted) => Err(FormFault::Encrypted),
         Err(PemFault::NoBase64(line)) => Err(FormFault::NoBase64(line)),
     }

@@ -12,4 +12,4 @@ mod objects;
 
 pub use input::{Form, FormFault, document_of, form_of};
 pub use lines::Lines;
-pub use objects::{Ending, PemFault, PemObject, next_object};
+pub use objects::{Ending, PemFault, PemObject, fault_of_end, next_object};

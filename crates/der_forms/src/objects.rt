@@ -1,5 +1,5 @@
 // The objects of PEM, one after another.
-ghost use Rattle.std.specs.Prelude.{◌≡◌, ◌∷◌, ◌++◌, ◌<◌, ◌≤◌, [], true, false, length};
+ghost use Rattle.std.specs.Prelude.{◌≡◌, ◌≢◌, ◌∷◌, ◌++◌, ◌<◌, ◌≤◌, [], true, false, length};
 ghost use Rattle.std.specs.Prelude.{IfOk, MatchOption, OnOk, Option};
 ghost use Rattle.std.specs.List.{list_any};
 ghost use Rattle.std.specs.Option.{option_map};
@@ -7,6 +7,7 @@ ghost use Rattle.std.specs.Result.{result_ok};
 ghost use Rattle.der_forms.specs.Objects.{ending_by, ending_in, is_encrypted, object_in, objects_in, octets_in};
 ghost use Rattle.der_forms.specs.Objects.{symbols_in, symbols_of};
 ghost use Rattle.der_forms.specs.Shown.{shown_object};
+ghost use Rattle.der_forms.specs.declared.objects.Ending.TheVariants.{Closed};
 ghost use Rattle.der_io.specs.Lines.{lines_of};
 
 use crate::base64_text::decode;
@@ -73,6 +74,21 @@ pub fn next_object<'a>(
         ending: body.ending,
     };
     Ok(Some((object, body.after)))
+}
+
+/// The line in which an object does not end as it should, and why, where so many lines were read.
+pub fn fault_of_end(object: &PemObject<'_>, last: usize) -> Option<(usize, &'static str)>
+    ensures { MatchOption result (object.now.ending ≡ Closed) (λ _. object.now.ending ≢ Closed) }
+{
+    match object.ending {
+        Ending::Closed => None,
+        Ending::Missing => Some((object.line, "this object has no END line")),
+        Ending::OtherLabel => Some((last, "the label of END is not that of BEGIN")),
+        Ending::Joined => Some((
+            last,
+            "another object begins in the END line, and is not read",
+        )),
+    }
 }
 
 // The label of the next object, and the lines after the one that begins it.

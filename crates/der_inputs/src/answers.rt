@@ -1,13 +1,12 @@
 // What is written of an input in each of the forms.
-ghost use Rattle.std.specs.Prelude.{◌≡◌, ◌≢◌, IfOk, MatchOption, None, Some};
+ghost use Rattle.std.specs.Prelude.{◌≡◌, IfOk, None, Some};
 ghost use Rattle.der_inputs.specs.Inputs.{AddsAnswer, AddsEnding, AddsObject, both_read};
 ghost use Rattle.der_inputs.specs.Parts.{PutsIn};
 ghost use Rattle.der_forms.specs.Forms.{form_is, objects};
 ghost use Rattle.der_forms.specs.Shown.{shown_object};
-ghost use Rattle.der_forms.specs.declared.objects.Ending.TheVariants.{Closed};
 
 use crate::manner::{Manner, put};
-use der_forms::{Ending, Form, FormFault, Lines, PemFault, PemObject, form_of, next_object};
+use der_forms::{Form, FormFault, Lines, PemFault, PemObject, fault_of_end, form_of, next_object};
 use der_lines::Verdict;
 use std::alloc::{AllocError, Global};
 
@@ -96,21 +95,6 @@ fn push_ending(
             put(alloc, manner, None, Err(&why), out)
         }
         None => Ok(Verdict::AllRead),
-    }
-}
-
-// The line in which an object does not end as it should, and why, where so many lines were read.
-fn fault_of_end(object: &PemObject<'_>, last: usize) -> Option<(usize, &'static str)>
-    ensures { MatchOption result (object.now.ending ≡ Closed) (λ _. object.now.ending ≢ Closed) }
-{
-    match object.ending {
-        Ending::Closed => None,
-        Ending::Missing => Some((object.line, "this object has no END line")),
-        Ending::OtherLabel => Some((last, "the label of END is not that of BEGIN")),
-        Ending::Joined => Some((
-            last,
-            "another object begins in the END line, and is not read",
-        )),
     }
 }
 
