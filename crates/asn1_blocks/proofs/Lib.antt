@@ -6,6 +6,7 @@ pub mod Faults
 pub mod FaultsAlone
 pub mod HeaderCounts
 pub mod ReadSteps
+pub mod PlacedHeaders
 pub mod TreeOrders
 pub mod Unnesting
 pub mod CopySteps

@@ -6,7 +6,6 @@ pub mod EqualityLaws
 pub mod TreeOrder
 pub mod FaithfulWalk
 pub mod LeafBlocks
-pub mod HeaderPlaces
 pub mod Owed
 pub mod BlockFault
 pub mod OpenFrames

@@ -1,7 +1,8 @@
 -- Where the blocks of a document stand, and which octets they have.
-use Rattle.std.specs.Prelude.{◌≡◌, ℕ, ◌+◌, ◌-◌, ◌++◌, Bool, List, length, drop, slice_range}
+use Rattle.std.specs.Prelude.{◌≡◌, ℕ, ◌+◌, ◌-◌, ◌<◌, ◌≤◌, ◌++◌, Bool, List, length, drop, slice_range}
 use Rattle.asn1_headers.specs.declared.header.ASN1Class.{ASN1Class}
 use Rattle.asn1_blocks.specs.declared.block.GroupKind.{GroupKind}
+use Rattle.asn1_blocks.specs.declared.parsed.PlacedHeader.{PlacedHeader}
 use Rattle.asn1_headers.specs.Header.{Encoding}
 use Rattle.asn1_blocks.specs.Tree.{Tree, Trees, leaf, group, explicit, unknown, no_trees, more_trees}
 use Rattle.asn1_blocks.specs.View.{tree_offset}
@@ -94,3 +95,16 @@ pub record TreeAt (document : List ℕ) (offset : ℕ) (octets : List ℕ) : Typ
   pub read : IsDocument document all
   pub own_octets : HasOctets document all tree octets
   pub offset_is : tree_offset tree ≡ offset
+
+-- an encoding stands from the offset to the end, and its contents octets begin at the start
+abbrev pub IsEncodingBetween : List ℕ → ASN1Class → Bool → ℕ → ℕ → ℕ → ℕ → Type 0
+IsEncodingBetween octets class constructed tag offset start end =
+    Encoding (slice_range octets offset end) class constructed tag (slice_range octets start end)
+    (start - offset)
+
+-- the encoding at the place has this header, and ends before the limit
+pub record HeaderFound (octets : List ℕ) (place limit : ℕ) (h : PlacedHeader) : Type 0 where
+  pub encoding : IsEncodingBetween octets h.class h.constructed h.tag place h.start h.end
+  pub past : place < h.start
+  pub order : h.start ≤ h.end
+  pub fits : h.end ≤ limit

@@ -13,7 +13,7 @@ ghost use Rattle.asn1_blocks.specs.View.{view};
 ghost use Rattle.asn1_headers.specs.declared.error.ASN1DecodeErr.TheVariants.{OutOfMemory};
 
 use crate::block::ASN1Block;
-use crate::parsed::Header;
+use crate::parsed::PlacedHeader;
 use asn1_headers::error::ASN1DecodeErr;
 use asn1_headers::header::ASN1Class;
 use asn1_leaves::contents::text::TextForm;
@@ -26,7 +26,7 @@ use std::alloc::Global;
 // The block of an encoding whose contents are not read as blocks.
 pub fn leaf_block(
     alloc: Global,
-    header: Header,
+    header: PlacedHeader,
     contents: &[u8],
     offset: usize,
 ) -> Result<ASN1Block, ASN1DecodeErr>
@@ -85,7 +85,7 @@ fn universal_leaf(
 }
 
 // Whether the contents octets of an encoding that are not read as blocks are those of a block, of which none is made.
-pub fn check_contents(alloc: Global, header: &Header, contents: &[u8]) -> Result<(), ASN1DecodeErr>
+pub fn check_contents(alloc: Global, header: &PlacedHeader, contents: &[u8]) -> Result<(), ASN1DecodeErr>
     requires closed { IsReadInside header.now.class header.now.constructed header.now.tag → ⊥ }
     ensures encoded { OnOk result ((offset : ℕ) (octets : List ℕ) (h : ℕ)
         → Encoding octets header.now.class header.now.constructed header.now.tag contents.now h
@@ -134,7 +134,7 @@ fn check_leaf(alloc: Global, tag: &BigUint, contents: &[u8]) -> Result<(), ASN1D
 
 fn unknown_block(
     alloc: Global,
-    header: Header,
+    header: PlacedHeader,
     contents: &[u8],
     offset: usize,
 ) -> Result<ASN1Block, ASN1DecodeErr>
@@ -143,7 +143,7 @@ fn unknown_block(
     ensures refused { IfErr result (λ e. e ≡ OutOfMemory) }
 {
     let octets = copy_of(alloc, contents)?;
-    let Header {
+    let PlacedHeader {
         class,
         constructed,
         tag,

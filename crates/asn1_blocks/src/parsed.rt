@@ -1,17 +1,18 @@
 // The header of an encoding that stands in the contents octets of another, or in the document.
-ghost use Rattle.std.specs.Prelude.{◌≡◌, ◌+◌, ◌-◌, ◌<◌, ◌≤◌, ◌^◌, length, drop, slice_range, IfOk, IfErr};
-ghost use Rattle.asn1_headers.specs.Fault.{OutOfMemoryOr};
+ghost use Rattle.std.specs.Prelude.{◌≡◌, ◌+◌, ◌-◌, ◌<◌, ◌≤◌, ◌^◌, length, slice_range, IfOk, IfErr};
+ghost use Rattle.asn1_headers.specs.Fault.{OutOfMemoryOr, fault_of, incomplete, length_too_large};
 ghost use Rattle.asn1_headers.specs.HeaderFault.{HeaderFault};
-ghost use Rattle.asn1_blocks.specs.Inner.HeaderPlaces.{HeaderFound};
+ghost use Rattle.asn1_blocks.specs.Places.{HeaderFound};
 
 use asn1_headers::error::ASN1DecodeErr;
-use asn1_headers::header::{ASN1Class, HeaderCount, decode_length, decode_tag};
+use asn1_headers::front::{Header, read_header};
+use asn1_headers::header::{ASN1Class, HeaderCount};
 use asn1_numbers::number::big_uint::BigUint;
 use std::alloc::Global;
 
-// The fields of a header, and where the contents octets begin and end.
+// The fields of a header, and where the contents octets begin and end in the document.
 #[derive(Drop)]
-pub struct Header {
+pub struct PlacedHeader {
     pub class: ASN1Class,
     pub constructed: bool,
     pub tag: BigUint,
@@ -29,7 +30,7 @@ pub fn header_within(
     end: usize,
     place: usize,
     count: &mut HeaderCount,
-) -> Result<Header, ASN1DecodeErr>
+) -> Result<PlacedHeader, ASN1DecodeErr>
     requires room { count.old + 1 < 2 ^ 64 }
     requires from { start ≤ place }
     requires more { place < end }
@@ -39,41 +40,37 @@ pub fn header_within(
         (HeaderFault (place - start) (slice_range octets.now place end))) }
     ensures counted { count.new ≡ count.old + 1 }
 {
-    let contents = &octets[start..end];
-    let mut header = header_at(alloc, contents, place - start, count)?;
-    header.start += start;
-    header.end += start;
-    Ok(header)
-}
-
-// The header at a place of the octets.
-#[inline(always)]
-fn header_at(
-    alloc: Global,
-    octets: &[u8],
-    place: usize,
-    count: &mut HeaderCount,
-) -> Result<Header, ASN1DecodeErr>
-    requires room { count.old + 1 < 2 ^ 64 }
-    requires more { place < length octets.now }
-    ensures found { IfOk result (HeaderFound octets.now place (length octets.now)) }
-    ensures refused { IfErr result (OutOfMemoryOr (HeaderFault place (drop place octets.now))) }
-    ensures counted { count.new ≡ count.old + 1 }
-{
-    let mut index = place;
-    let (tag, constructed, class) = decode_tag(alloc, octets, &mut index, count)?;
-    let len = decode_length(octets, &mut index)?;
-    let Some(end) = index.checked_add(len) else {
-        return Err(ASN1DecodeErr::LengthTooLarge(len));
-    };
-    if end > octets.len() {
-        return Err(ASN1DecodeErr::Incomplete);
-    }
-    Ok(Header {
+    let rest = &octets[place..end];
+    let header = read_header(alloc, rest, count)?;
+    let Header {
         class,
         constructed,
         tag,
-        start: index,
-        end,
+        size,
+        announced,
+        ..
+    } = header;
+    if announced > rest.len() - size {
+        return Err(too_long(place - start + size, announced));
+    }
+    let contents = place + size;
+    Ok(PlacedHeader {
+        class,
+        constructed,
+        tag,
+        start: contents,
+        end: contents + announced,
     })
+}
+
+// The fault of contents octets that do not fit, which begin behind so many octets of those around them.
+#[cold]
+fn too_long(before: usize, announced: usize) -> ASN1DecodeErr
+    ensures far { 2 ^ 64 ≤ before + announced → fault_of result ≡ length_too_large announced }
+    ensures near { before + announced < 2 ^ 64 → fault_of result ≡ incomplete }
+{
+    match before.checked_add(announced) {
+        None => ASN1DecodeErr::LengthTooLarge(announced),
+        Some(_) => ASN1DecodeErr::Incomplete,
+    }
 }

@@ -16,7 +16,7 @@ use crate::contents::leaf_block;
 use crate::encoding::encoding_count;
 use crate::held::HeldBlocks;
 use crate::owed::{Owed, build, explicit_block, group_block, kept_block};
-use crate::parsed::Header;
+use crate::parsed::PlacedHeader;
 use crate::reading::{Attempt, Builder, Extent, FrameKind, read_into};
 use asn1_headers::error::{ASN1DecodeErr, LocatedErr};
 use asn1_headers::header::{ASN1Class, HeaderCount};
@@ -243,7 +243,7 @@ impl Builder for TreeBuilder {
         &mut self,
         alloc: Global,
         octets: &[u8],
-        header: &Header,
+        header: &PlacedHeader,
         _offset: usize,
         depth: usize,
     ) -> Result<FrameBlocks, AllocError> {
@@ -265,7 +265,7 @@ impl Builder for TreeBuilder {
         alloc: Global,
         octets: &[u8],
         items: &mut FrameBlocks,
-        header: Header,
+        header: PlacedHeader,
         offset: usize,
         _depth: usize,
     ) -> Result<(), ASN1DecodeErr> {

@@ -4,14 +4,14 @@ ghost use Rattle.asn1_headers.specs.declared.error.ASN1DecodeErr.TheVariants.{Ou
 ghost use Rattle.asn1_headers.specs.Fault.{OutOfMemoryOr, fault_of};
 ghost use Rattle.asn1_blocks.specs.Grammar.{FirstFaultAt};
 ghost use Rattle.asn1_blocks.specs.HeadersBegun.{HeadersBegun, IsReadInside};
-ghost use Rattle.asn1_blocks.specs.Inner.HeaderPlaces.{HeaderFound};
+ghost use Rattle.asn1_blocks.specs.Places.{HeaderFound};
 ghost use Rattle.asn1_blocks.specs.Inner.OpenFrames.{IsKindOf, attempt_of};
 ghost use Rattle.asn1_blocks.specs.Inner.ReaderSteps.{CanBeKept, CanEnd, HasDocument, HasEndedIn, HasKept, HasLeaf, HasOpened, HasStepped, HasTakenTurn, HasTurned, IsEntered, IsFaulty, IsLeafFault, IsReading, Reads, StartsEmpty, in_frame, left};
 ghost use Rattle.asn1_blocks.specs.Tree.{Tree};
 ghost use Rattle.asn1_blocks.specs.declared.reading.OpenFrame.{OpenFrame};
 
 use crate::block::GroupKind;
-use crate::parsed::{Header, header_within};
+use crate::parsed::{PlacedHeader, header_within};
 use asn1_headers::error::{ASN1DecodeErr, LocatedErr};
 use asn1_headers::header::{ASN1Class, HeaderCount};
 use asn1_numbers::number::big_uint::BigUint;
@@ -65,7 +65,7 @@ pub trait Builder: Drop {
         &mut self,
         alloc: Global,
         octets: &[u8],
-        header: &Header,
+        header: &PlacedHeader,
         offset: usize,
         depth: usize,
     ) -> Result<Self::Items, AllocError>
@@ -80,7 +80,7 @@ pub trait Builder: Drop {
         alloc: Global,
         octets: &[u8],
         items: &mut Self::Items,
-        header: Header,
+        header: PlacedHeader,
         offset: usize,
         depth: usize,
     ) -> Result<(), ASN1DecodeErr>
@@ -311,7 +311,7 @@ fn read_next<B: Builder>(
 
 // Whether the contents octets are read as blocks.
 #[inline(always)]
-fn is_read_inside(header: &Header) -> bool
+fn is_read_inside(header: &PlacedHeader) -> bool
     ensures { IsTrue result ↔ IsReadInside header.now.class header.now.constructed header.now.tag }
 {
     match header.class {
@@ -322,11 +322,11 @@ fn is_read_inside(header: &Header) -> bool
 
 // The frame of contents octets that are read as blocks, in an encoding at the offset.
 #[inline(always)]
-fn kind_of(header: Header, offset: usize) -> FrameKind
+fn kind_of(header: PlacedHeader, offset: usize) -> FrameKind
     requires { IsReadInside header.class header.constructed header.tag }
     ensures { IsKindOf result header offset }
 {
-    let Header { class, tag, .. } = header;
+    let PlacedHeader { class, tag, .. } = header;
     match class {
         ASN1Class::Universal => match tag.to_u64() {
             Some(16) => FrameKind::Group(GroupKind::Sequence, offset),

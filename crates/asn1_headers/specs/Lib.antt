@@ -1,3 +1,4 @@
 pub mod Fault
+pub mod Front
 pub mod Header
 pub mod HeaderFault

@@ -75,6 +75,17 @@ impl HeaderCount {
     {
         self.begun
     }
+
+    // One header more is begun.
+    #[inline(always)]
+    pub fn add_one(&mut self)
+        requires { self.old + 1 < 2 ^ 64 }
+        ensures { self.new ≡ self.old + 1 }
+    {
+        *self = HeaderCount {
+            begun: self.begun + 1,
+        };
+    }
 }
 
 // The place of the first octet whose bit 8 is clear.
@@ -87,7 +98,7 @@ fn last_octet_at(octets: &[u8]) -> Option<usize>
 }
 
 // The base-128 number at the front, and how many octets it has.
-#[inline(always)]
+#[inline(never)]
 fn base128_at(alloc: Global, octets: &[u8]) -> Result<(BigUint, usize), ASN1DecodeErr>
     ensures found { IfOk result (λ x. (x.1 ≤ length octets.now) × IsBase128 (take x.1 octets.now) x.0) }
     ensures refused { IfErr result (OutOfMemoryOr (IsIncomplete IsBase128 octets.now)) }
@@ -101,7 +112,8 @@ fn base128_at(alloc: Global, octets: &[u8]) -> Result<(BigUint, usize), ASN1Deco
 }
 
 // The identifier octets at the front, and how many they are.
-fn tag_at(
+#[inline(always)]
+pub fn tag_at(
     alloc: Global,
     octets: &[u8],
 ) -> Result<((BigUint, bool, ASN1Class), usize), ASN1DecodeErr>
@@ -158,7 +170,7 @@ pub fn decode_tag(
     ensures unmoved { OnErr result (index.new ≡ index.old) }
     ensures counted { count.new ≡ count.old + 1 }
 {
-    count.begun += 1;
+    count.add_one();
     if *index > i.len() {
         return Err(ASN1DecodeErr::Incomplete);
     }
@@ -213,6 +225,7 @@ fn big_endian(octets: &[u8]) -> usize
 }
 
 // The length octets at the front: the length, and how many they are.
+#[inline(always)]
 pub fn length_at(octets: &[u8]) -> Result<(usize, usize), ASN1DecodeErr>
     ensures found { IfOk result (λ x. (x.1 ≤ length octets.now) × IsLength (take x.1 octets.now) x.0) }
     ensures refused { OnErr result (BeginsWithNo IsLength octets.now) }

@@ -2,6 +2,7 @@
 //! layer of `simple_asn1`, which is the crate for users.
 //!
 //! - [`header`]: identifier octets and length octets, read, sized and put; the classes; the count of headers;
+//! - [`front`]: the header at the front of octets;
 //! - [`error`]: why octets were not read, why a block was not written.
 //!
 //! `simple_asn1` hands on the errors, `ASN1Class`, `HeaderCount`, and the calls whose names begin with `decode_` and
@@ -11,4 +12,5 @@
 #![tactic(auto)]
 
 pub mod error;
+pub mod front;
 pub mod header;

@@ -2,14 +2,14 @@
 use Rattle.std.proofs.Common.{◌≡◌, ℕ, ◌-◌, ◌≤◌, ◌++◌, List, drop, length, sym, arith}
 use Rattle.std.specs.List.{slice_range}
 use Rattle.asn1_leaves.proofs.SliceSplit.{slice_split}
-use Rattle.asn1_blocks.specs.Inner.HeaderPlaces.{HeaderFound}
-use Rattle.asn1_blocks.specs.declared.parsed.Header.{Header}
+use Rattle.asn1_blocks.specs.Places.{HeaderFound}
+use Rattle.asn1_blocks.specs.declared.parsed.PlacedHeader.{PlacedHeader}
 use Rattle.asn1_blocks.proofs.ReadSteps.{slice_length}
 use Rattle.asn1_outline.specs.Entries.{HasHeaderAt, HasTag}
 
 -- it says what stands at its offset
 pub begun_header :
-    (x : List ℕ) (offset limit : ℕ) (h : Header) (tag items next depth : ℕ) → HeaderFound x offset limit h → limit ≤ length x → HasTag h.tag tag →
+    (x : List ℕ) (offset limit : ℕ) (h : PlacedHeader) (tag items next depth : ℕ) → HeaderFound x offset limit h → limit ≤ length x → HasTag h.tag tag →
     HasHeaderAt x (record {
       class = h.class;
       constructed = h.constructed;

@@ -8,10 +8,10 @@ use Rattle.asn1_headers.specs.declared.header.ASN1Class.TheVariants.{Universal}
 use Rattle.asn1_leaves.proofs.SliceSplit.{slice_split}
 use Rattle.asn1_blocks.specs.declared.block.ASN1Block.{ASN1Block}
 use Rattle.asn1_blocks.specs.declared.block.GroupKind.{GroupKind}
-use Rattle.asn1_blocks.specs.declared.parsed.Header.{Header}
+use Rattle.asn1_blocks.specs.declared.parsed.PlacedHeader.{PlacedHeader}
 use Rattle.asn1_blocks.specs.Contents.{group_tag}
 use Rattle.asn1_blocks.specs.Grammar.{Encodes, EncodesAll}
-use Rattle.asn1_blocks.specs.Inner.HeaderPlaces.{HeaderFound}
+use Rattle.asn1_blocks.specs.Places.{HeaderFound}
 use Rattle.asn1_blocks.specs.Places.{EncodingAt}
 use Rattle.asn1_blocks.specs.Tree.{Tree, Trees, explicit, group, leaf, more_trees, no_trees, trees_of, unknown}
 use Rattle.asn1_blocks.specs.View.{tree_offset, view}
@@ -26,7 +26,7 @@ use Rattle.asn1_outline.proofs.Standing.{encoding_of}
 
 -- the octets behind a header that was found are those of the tree there
 pub encoded_here :
-    (x : List ℕ) (b : Tree ℕ) (octets : List ℕ) (o : ℕ) (g : Header) → IsEncodedIn x b octets → o ≡ tree_offset b → HeaderFound x o (length x) g →
+    (x : List ℕ) (b : Tree ℕ) (octets : List ℕ) (o : ℕ) (g : PlacedHeader) → IsEncodedIn x b octets → o ≡ tree_offset b → HeaderFound x o (length x) g →
     Encodes o (slice_range x o g.end) b
 encoded_here x b octets o g s at found =
     let y = slice_range x o g.end in
@@ -106,7 +106,7 @@ module _ (x : List ℕ) (o : ℕ) (y : List ℕ) (n : ℕ) (v : List ℕ) (h : �
         cc
 
 -- the tree of a node at the offset where a header was found
-module _ (x : List ℕ) (o : ℕ) (n : Node) (g : Header) (found : HeaderFound x o (length x) g) (at : IsNodeAt x o n) where
+module _ (x : List ℕ) (o : ℕ) (n : Node) (g : PlacedHeader) (found : HeaderFound x o (length x) g) (at : IsNodeAt x o n) where
   here : Encodes o (slice_range x o g.end) (node_tree n)
   here = encoded_here x (node_tree n) at.octets o g at.encoded at.offset found
 
@@ -161,7 +161,7 @@ split_same s t x y l e =
 
 -- a constructed encoding of another class, whatever is inside
 pub tagged_is :
-    (x : List ℕ) (o : ℕ) (n : Node) (g : Header) (found : HeaderFound x o (length x) g) (at : IsNodeAt x o n) (inside : List ASN1Block) (t : Tree ℕ) →
+    (x : List ℕ) (o : ℕ) (n : Node) (g : PlacedHeader) (found : HeaderFound x o (length x) g) (at : IsNodeAt x o n) (inside : List ASN1Block) (t : Tree ℕ) →
     g.class ≢ Universal → g.constructed ≡ true → map view inside ≡ items_of n →
     ((item : ASN1Block) → inside ≡ item ∷ [] → t ≡ explicit g.class o g.tag (view item)) →
     (length inside ≢ 1 → t ≡ unknown g.class true o g.tag (slice_range x g.start g.end)) → t ≡ node_tree n

@@ -6,7 +6,7 @@ use Rattle.std.proofs.Math.Seq.{get_or-append_seam, set-append_seam}
 use Rattle.asn1_headers.specs.Header.{Encoding}
 use Rattle.asn1_headers.proofs.Prefixes.{encoding_alone}
 use Rattle.asn1_leaves.proofs.SliceSplit.{slice_split}
-use Rattle.asn1_blocks.specs.declared.parsed.Header.{Header}
+use Rattle.asn1_blocks.specs.declared.parsed.PlacedHeader.{PlacedHeader}
 use Rattle.asn1_blocks.specs.declared.reading.Attempt as other
 use Rattle.asn1_blocks.specs.declared.reading.Extent.{Extent}
 use Rattle.asn1_blocks.specs.declared.reading.FrameKind.{FrameKind}
@@ -15,7 +15,7 @@ use Rattle.asn1_blocks.specs.declared.reading.OpenFrame.{OpenFrame}
 use Rattle.asn1_blocks.specs.BlockParts.{tree_items}
 use Rattle.asn1_blocks.specs.Grammar.{Encodes, EncodesAll, IsDocument}
 use Rattle.asn1_blocks.specs.HeadersBegun.{IsReadInside}
-use Rattle.asn1_blocks.specs.Inner.HeaderPlaces.{HeaderFound}
+use Rattle.asn1_blocks.specs.Places.{HeaderFound}
 use Rattle.asn1_blocks.specs.Inner.LeafBlocks.{IsSingleAt}
 use Rattle.asn1_blocks.specs.Inner.OpenFrames.{IsAttemptAt, IsEnded, IsHeaded, IsKindOf, as_it_came, attempted}
 use Rattle.asn1_blocks.specs.Inner.ReaderSteps.{EndsAs, HasEndedIn, HasKept, HasLeaf, HasOpened, in_frame}
@@ -92,13 +92,13 @@ all_opened x rs r f g gs (us ∷ rest) b at none a = record {
   around = a;
 }
 
-kind_offset : (kind : FrameKind) (h : Header) (o : ℕ) → IsKindOf kind h o → offset_of kind ≡ o
+kind_offset : (kind : FrameKind) (h : PlacedHeader) (o : ℕ) → IsKindOf kind h o → offset_of kind ≡ o
 kind_offset Whole h o k = absurd k
 kind_offset (Group g p) h o k = k.2
 kind_offset (Attempt a) h o k = ap (λ (z : other.Attempt). z.offset) k.2
 
 pub opened :
-    (x : List ℕ) (h : Header) (offset depth : ℕ) (a b : EntryBuilder) (i : EntryItems) (r : Entry) → IsBegun x offset i.entry depth r →
+    (x : List ℕ) (h : PlacedHeader) (offset depth : ℕ) (a b : EntryBuilder) (i : EntryItems) (r : Entry) → IsBegun x offset i.entry depth r →
     i.entry ≡ length a.entries.items → i.count ≡ 0 → b.entries.items ≡ a.entries.items ++ r ∷ [] → HasOpened builder_holds x h offset depth a i b
 opened x h offset depth a b i r begun at none is = record {
   holds = λ kind f fs trees d k w.
@@ -110,7 +110,7 @@ opened x h offset depth a b i r begun at none is = record {
 }
 
 -- a leaf, or an encoding that is not read inside, holds none
-none_held : (x : List ℕ) (o e : ℕ) (h : Header) (t : Tree ℕ) (v : List ℕ) (i : ℕ) → tree_items t ≡ None → Encodes o (slice_range x o e) t
+none_held : (x : List ℕ) (o e : ℕ) (h : PlacedHeader) (t : Tree ℕ) (v : List ℕ) (i : ℕ) → tree_items t ≡ None → Encodes o (slice_range x o e) t
     → Encoding (slice_range x o e) h.class h.constructed h.tag v i → (IsReadInside h.class h.constructed h.tag → ⊥) → Holds x t no_trees
 none_held x o e h (leaf p l) v i none s found shut = refl
 none_held x o e h (group p g bs) v i none s found shut = absurd (cc)
@@ -122,7 +122,7 @@ none_held x o e h (unknown c k p n w) v i none s found shut =
 
 -- a block that holds none stands at the header
 pub leaf_built :
-    (x : List ℕ) (h : Header) (offset limit depth : ℕ) (a b : EntryBuilder) (i : EntryItems) (r : Entry) → HeaderFound x offset limit h →
+    (x : List ℕ) (h : PlacedHeader) (offset limit depth : ℕ) (a b : EntryBuilder) (i : EntryItems) (r : Entry) → HeaderFound x offset limit h →
     (IsReadInside h.class h.constructed h.tag → ⊥) → IsSingleAt offset (slice_range x offset h.end) →
     IsBegun x offset (length a.entries.items) depth r → b.entries.items ≡ a.entries.items ++ r ∷ [] →
     HasLeaf builder_holds x offset h.end depth a i b (one_more i)

@@ -7,15 +7,15 @@ use Rattle.asn1_headers.specs.declared.header.ASN1Class.TheVariants.{Universal}
 use Rattle.asn1_headers.proofs.Prefixes.{encoding_alone}
 use Rattle.asn1_leaves.proofs.SliceSplit.{slice_split}
 use Rattle.asn1_blocks.specs.HeadersBegun.{IsReadInside}
-use Rattle.asn1_blocks.specs.Inner.HeaderPlaces.{HeaderFound}
-use Rattle.asn1_blocks.specs.declared.parsed.Header.{Header}
+use Rattle.asn1_blocks.specs.Places.{HeaderFound}
+use Rattle.asn1_blocks.specs.declared.parsed.PlacedHeader.{PlacedHeader}
 use Rattle.asn1_blocks.proofs.Faults.{header_no_encoding}
 use Rattle.asn1_blocks.proofs.FaultsAlone.{header_fault_alone}
 use Rattle.asn1_blocks.proofs.ReadSteps.{slice_join, slice_length}
 use Rattle.asn1_outline.specs.Shapes.{AreShapes, FirstHeaderFaultAt, HasItems, HasShapes, HeadersFaultAt, Shapes, as_it_came, in_header, in_item, in_later, more_shapes, no_more, not_read, one_more, read_inside}
 
 -- at a place there is one header
-header_alone : (x : List ℕ) (p e : ℕ) (h g : Header) → e ≤ length x → HeaderFound x p e h → HeaderFound x p e g → h ≡ g
+header_alone : (x : List ℕ) (p e : ℕ) (h g : PlacedHeader) → e ≤ length x → HeaderFound x p e h → HeaderFound x p e g → h ≡ g
 header_alone x p e h g within f f' =
     let y = slice_range x p h.end in
     let z = slice_range x p g.end in
@@ -38,7 +38,7 @@ header_alone x p e h g within f f' =
     same
 
 -- and none where one is at fault
-header_no_fault : (x : List ℕ) (s p e : ℕ) (h : Header) (fault : DecodeFault) → length x < 2 ^ 64 → e ≤ length x → HeaderFound x p e h
+header_no_fault : (x : List ℕ) (s p e : ℕ) (h : PlacedHeader) (fault : DecodeFault) → length x < 2 ^ 64 → e ≤ length x → HeaderFound x p e h
     → HeaderFault (p - s) (slice_range x p e) fault → ⊥
 header_no_fault x s p e h fault small within f w =
     let before : p ≤ h.end = omega (arith, f.past, f.order) in
@@ -56,13 +56,13 @@ module _ (x : List ℕ) (small : length x < 2 ^ 64) where
     shapes_no_fault s p e a fault o within (one_more {header = h} {items = items} f i r) (in_item {header = g} f' u j q) =
         let same : g ≡ h = header_alone x p e g h within f' f in
         let q' = subst (λ z. HeadersFaultAt x z.start z.start z.end fault o) same q in
-        items_no_fault h items fault o (omega (arith, f.fits, within)) i (ap (λ (z : Header). z.class) (sym same) ∙ u)
+        items_no_fault h items fault o (omega (arith, f.fits, within)) i (ap (λ (z : PlacedHeader). z.class) (sym same) ∙ u)
         (subst (λ z. IsReadInside z.class z.constructed z.tag) same j) q'
     shapes_no_fault s p e a fault o within (one_more {header = h} {rest = rest} f i r) (in_later {header = g} f' j q) =
         let same : g ≡ h = header_alone x p e g h within f' f in
         shapes_no_fault s h.end e rest fault o within r (subst (λ z. HeadersFaultAt x s z.end e fault o) same q)
 
-    items_no_fault : (h : Header) (a : Shapes) (fault : DecodeFault) (o : ℕ) → h.end ≤ length x → HasItems x h a → h.class ≡ Universal
+    items_no_fault : (h : PlacedHeader) (a : Shapes) (fault : DecodeFault) (o : ℕ) → h.end ≤ length x → HasItems x h a → h.class ≡ Universal
         → IsReadInside h.class h.constructed h.tag → HeadersFaultAt x h.start h.start h.end fault o → ⊥
     items_no_fault h a fault o within (read_inside i are) u j q = shapes_no_fault h.start h.start h.end a fault o within are q
     items_no_fault h a fault o within (as_it_came other c p) u j q = other u
@@ -79,7 +79,7 @@ module _ (x : List ℕ) (small : length x < 2 ^ 64) where
         let after : rest ≡ rest' = shapes_alone h.end e rest rest' within r (subst (λ z. AreShapes x z.end e rest') same r') in
         ap (λ z. more_shapes p z items rest) (sym same) ∙ ap (λ z. more_shapes p g z rest) inside ∙ ap (λ z. more_shapes p g items' z) after
 
-    items_alone : (h : Header) (a b : Shapes) → h.end ≤ length x → HasItems x h a → HasItems x h b → a ≡ b
+    items_alone : (h : PlacedHeader) (a b : Shapes) → h.end ≤ length x → HasItems x h a → HasItems x h b → a ≡ b
     items_alone h a b within (read_inside i are) (read_inside i' are') = shapes_alone h.start h.end a b within are are'
     items_alone h a b within (read_inside i are) (as_it_came {fault = fault} {offset = o} other c p) =
         absurd (shapes_no_fault h.start h.start h.end a fault o within are p)

@@ -3,7 +3,7 @@ use Rattle.std.proofs.Common.{◌≡◌, ℕ, Bor, None, Option, Some, zero, suc
 use Rattle.std.proofs.Props.{props}
 use Rattle.std.specs.Prelude.{IsSomeAnd, MatchOption}
 use mathlib.Core.Logic.{∥∥₁_elim}
-use Rattle.asn1_blocks.specs.declared.parsed.Header.{Header}
+use Rattle.asn1_blocks.specs.declared.parsed.PlacedHeader.{PlacedHeader}
 use Rattle.asn1_outline.specs.Entries.{no_entry}
 use Rattle.asn1_outline.specs.Shapes.{AreEntriesOfShapes, AreShapes, HasItems, Shapes, as_it_came, entries_of, no_more, not_read, one_more, read_inside}
 use Rattle.asn1_outline.specs.declared.entry.Entry.{Entry}
@@ -35,7 +35,7 @@ mutual
             (items_within x h items (suc i) (suc d) (omega (arith, f.fits, within)) has) (shapes_within x h.end e rest next d within are),
       )
 
-  items_within : (x : List ℕ) (h : Header) (all : Shapes) (i d : ℕ) → h.end ≤ length x → HasItems x h all → AreWithin x (entries_of i d all)
+  items_within : (x : List ℕ) (h : PlacedHeader) (all : Shapes) (i d : ℕ) → h.end ≤ length x → HasItems x h all → AreWithin x (entries_of i d all)
   items_within x h all i d within (read_inside is are) = shapes_within x h.start h.end all i d within are
   items_within x h all i d within (as_it_came other bit fault) = tt
   items_within x h all i d within (not_read shut) = tt

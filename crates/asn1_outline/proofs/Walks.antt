@@ -8,8 +8,8 @@ use Rattle.asn1_headers.specs.declared.error.ASN1DecodeErr.TheVariants.{OutOfMem
 use Rattle.asn1_headers.specs.declared.error.LocatedErr.{LocatedErr}
 use Rattle.asn1_headers.specs.declared.header.ASN1Class.TheVariants.{Universal}
 use Rattle.asn1_blocks.specs.HeadersBegun.{IsReadInside}
-use Rattle.asn1_blocks.specs.Inner.HeaderPlaces.{HeaderFound}
-use Rattle.asn1_blocks.specs.declared.parsed.Header.{Header}
+use Rattle.asn1_blocks.specs.Places.{HeaderFound}
+use Rattle.asn1_blocks.specs.declared.parsed.PlacedHeader.{PlacedHeader}
 use Rattle.asn1_outline.specs.Listing.{sealed, with_items}
 use Rattle.asn1_outline.specs.Shapes.{AreShapes, HasItems, HeadersFaultAt, Shapes, as_it_came, entries_of, in_item, in_later, more_shapes, no_more, no_shapes, one_more, read_inside, shape_count, shape_entry}
 use Rattle.asn1_outline.specs.Walking.{AreOpen, GoesOn, HasTurned, IsEntered, IsFaulty, IsReadTo, IsWalking, left}
@@ -23,7 +23,7 @@ use Rattle.asn1_outline.specs.declared.walk.Walk.{Walk}
 use Rattle.asn1_outline.proofs.Listed.{sealed_after, take_after}
 
 -- the entry of an encoding, and those of what is inside it
-abbrev pub with_inside : ℕ → Header → Shapes → ℕ → ℕ → List Entry
+abbrev pub with_inside : ℕ → PlacedHeader → Shapes → ℕ → ℕ → List Entry
 with_inside offset h items at depth =
     shape_entry offset h (shape_count items) (suc at + length (entries_of (suc at) (suc depth) items)) depth ∷ entries_of (suc at) (suc depth) items
 
@@ -41,7 +41,7 @@ read_none x s e i d order within = record {
 }
 
 -- one encoding more
-read_more : (x : List ℕ) (s e p i d n at : ℕ) (own : List Entry) (h : Header) (items : Shapes) → at ≡ i + length own → IsReadTo x s e p i d n own
+read_more : (x : List ℕ) (s e p i d n at : ℕ) (own : List Entry) (h : PlacedHeader) (items : Shapes) → at ≡ i + length own → IsReadTo x s e p i d n own
     → HeaderFound x p e h → HasItems x h items → IsReadTo x s e h.end i d (n + 1) (own ++ with_inside p h items at d)
 read_more x s e p i d n at own h items here w f inside =
     let new = with_inside p h items at d in
@@ -76,7 +76,7 @@ places x f [] p rs w = record { from = w.read.from; to = w.read.to; within = w.r
 places x f (g ∷ gs) p rs w = record { from = w.read.from; to = w.read.to; within = w.read.within }
 
 -- the innermost frame has one encoding more
-pub taken : (x : List ℕ) (f : Frame) (gs : List Frame) (p : ℕ) (rs : List Entry) (h : Header) (items : Shapes) → AreOpen x f gs p rs
+pub taken : (x : List ℕ) (f : Frame) (gs : List Frame) (p : ℕ) (rs : List Entry) (h : PlacedHeader) (items : Shapes) → AreOpen x f gs p rs
     → HeaderFound x p f.end h → HasItems x h items → AreOpen x (counted f) gs h.end (rs ++ with_inside p h items (length rs) (length gs))
 taken x f [] p rs h items w found inside = record {
   start = w.start;
@@ -105,7 +105,7 @@ taken x f (g ∷ gs) p rs h items w found inside =
     }
 
 -- a frame begins in it
-pub entered : (x : List ℕ) (f g : Frame) (gs : List Frame) (p : ℕ) (rs : List Entry) (h : Header) → AreOpen x g gs p rs → HeaderFound x p g.end h
+pub entered : (x : List ℕ) (f g : Frame) (gs : List Frame) (p : ℕ) (rs : List Entry) (h : PlacedHeader) → AreOpen x g gs p rs → HeaderFound x p g.end h
     → IsReadInside h.class h.constructed h.tag → f.start ≡ h.start → f.end ≡ h.end → f.items.entry ≡ length rs → f.items.count ≡ 0
     → (f.attempt ≡ true → h.class ≢ Universal) → (f.attempt ≡ false → h.class ≡ Universal)
     → AreOpen x f (g ∷ gs) h.start (rs ++ shape_entry p h 0 (suc (length rs)) (length gs) ∷ [])
@@ -253,7 +253,7 @@ one_item_more i = record { entry = i.entry; count = i.count + 1 }
 module _ (x : List ℕ) (w : Walk) where
   -- a leaf is taken
   pub leaf_taken :
-      (h : Header) (b : EntryBuilder) (i : EntryItems) → IsWalking x w → HeaderFound x w.index w.inner.end h →
+      (h : PlacedHeader) (b : EntryBuilder) (i : EntryItems) → IsWalking x w → HeaderFound x w.index w.inner.end h →
       HasItems x h no_shapes →
       b.entries.items ≡ w.builder.entries.items
       ++ shape_entry w.index h 0 (suc (length w.builder.entries.items)) (length w.outer.items) ∷ [] →
@@ -276,7 +276,7 @@ module _ (x : List ℕ) (w : Walk) where
 
   -- a frame is entered
   pub frame_entered :
-      (h : Header) (b : EntryBuilder) (n : ℕ) (attempt : Bool) (r : Walk) → IsWalking x w → HeaderFound x w.index w.inner.end h →
+      (h : PlacedHeader) (b : EntryBuilder) (n : ℕ) (attempt : Bool) (r : Walk) → IsWalking x w → HeaderFound x w.index w.inner.end h →
       IsReadInside h.class h.constructed h.tag → (attempt ≡ true → h.class ≢ Universal) → (attempt ≡ false → h.class ≡ Universal) →
       n ≡ length w.builder.entries.items →
       b.entries.items ≡ w.builder.entries.items

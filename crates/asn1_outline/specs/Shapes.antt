@@ -5,33 +5,33 @@ use Rattle.asn1_headers.specs.Fault.{DecodeFault, empty_buffer}
 use Rattle.asn1_headers.specs.HeaderFault.{HeaderFault}
 use Rattle.asn1_headers.specs.declared.header.ASN1Class.TheVariants.{Universal}
 use Rattle.asn1_blocks.specs.HeadersBegun.{IsReadInside}
-use Rattle.asn1_blocks.specs.Inner.HeaderPlaces.{HeaderFound}
-use Rattle.asn1_blocks.specs.declared.parsed.Header.{Header}
+use Rattle.asn1_blocks.specs.Places.{HeaderFound}
+use Rattle.asn1_blocks.specs.declared.parsed.PlacedHeader.{PlacedHeader}
 use Rattle.asn1_outline.specs.declared.entry.Entry.{Entry}
 
 -- encodings one after another: the offset and the header of the first, those inside it, and those after it
 pub data Shapes : Type 0 where
   no_shapes : Shapes
-  more_shapes : ℕ → Header → Shapes → Shapes → Shapes
+  more_shapes : ℕ → PlacedHeader → Shapes → Shapes → Shapes
 
 mutual
   -- the octets of the document from the place to the end are encodings with these shapes
   pub data AreShapes (document : List ℕ) : ℕ → ℕ → Shapes → Type 0 where
     no_more : {place end : ℕ} → place ≡ end → AreShapes document place end no_shapes
-    one_more : {place end : ℕ} {header : Header} {items rest : Shapes} → HeaderFound document place end header
+    one_more : {place end : ℕ} {header : PlacedHeader} {items rest : Shapes} → HeaderFound document place end header
         → HasItems document header items → AreShapes document header.end end rest
         → AreShapes document place end (more_shapes place header items rest)
 
   -- these stand inside the encoding with the header
-  pub data HasItems (document : List ℕ) : Header → Shapes → Type 0 where
-    read_inside : {header : Header} {items : Shapes}
+  pub data HasItems (document : List ℕ) : PlacedHeader → Shapes → Type 0 where
+    read_inside : {header : PlacedHeader} {items : Shapes}
         → IsReadInside header.class header.constructed header.tag
         → AreShapes document header.start header.end items → HasItems document header items
-    as_it_came : {header : Header} {fault : DecodeFault} {offset : ℕ}
+    as_it_came : {header : PlacedHeader} {fault : DecodeFault} {offset : ℕ}
         → header.class ≢ Universal → header.constructed ≡ true
         → HeadersFaultAt document header.start header.start header.end fault offset
         → HasItems document header no_shapes
-    not_read : {header : Header} → (IsReadInside header.class header.constructed header.tag → ⊥)
+    not_read : {header : PlacedHeader} → (IsReadInside header.class header.constructed header.tag → ⊥)
         → HasItems document header no_shapes
 
   -- the octets from the place to the end, in contents octets from the start on, are encodings and then one at fault by
@@ -40,12 +40,12 @@ mutual
     in_header : {start place end : ℕ} {fault : DecodeFault} → place < end
         → HeaderFault (place - start) (slice_range document place end) fault
         → HeadersFaultAt document start place end fault place
-    in_item : {start place end : ℕ} {header : Header} {fault : DecodeFault} {offset : ℕ}
+    in_item : {start place end : ℕ} {header : PlacedHeader} {fault : DecodeFault} {offset : ℕ}
         → HeaderFound document place end header → header.class ≡ Universal
         → IsReadInside header.class header.constructed header.tag
         → HeadersFaultAt document header.start header.start header.end fault offset
         → HeadersFaultAt document start place end fault offset
-    in_later : {start place end : ℕ} {header : Header} {items : Shapes} {fault : DecodeFault} {offset : ℕ}
+    in_later : {start place end : ℕ} {header : PlacedHeader} {items : Shapes} {fault : DecodeFault} {offset : ℕ}
         → HeaderFound document place end header → HasItems document header items
         → HeadersFaultAt document start header.end end fault offset
         → HeadersFaultAt document start place end fault offset
@@ -66,7 +66,7 @@ shape_count no_shapes = 0
 shape_count (more_shapes offset header items rest) = suc (shape_count rest)
 
 -- the entry of the encoding at an offset. Its tag field is the tag number, or the greatest that the field can be
-abbrev pub shape_entry : ℕ → Header → ℕ → ℕ → ℕ → Entry
+abbrev pub shape_entry : ℕ → PlacedHeader → ℕ → ℕ → ℕ → Entry
 shape_entry offset header items next depth = record {
   class = header.class;
   constructed = header.constructed;

@@ -4,8 +4,8 @@ use Rattle.asn1_headers.specs.Fault.{DecodeFault, OutOfMemoryOr}
 use Rattle.asn1_headers.specs.declared.error.LocatedErr.{LocatedErr}
 use Rattle.asn1_headers.specs.declared.header.ASN1Class.TheVariants.{Universal}
 use Rattle.asn1_blocks.specs.HeadersBegun.{IsReadInside}
-use Rattle.asn1_blocks.specs.Inner.HeaderPlaces.{HeaderFound}
-use Rattle.asn1_blocks.specs.declared.parsed.Header.{Header}
+use Rattle.asn1_blocks.specs.Places.{HeaderFound}
+use Rattle.asn1_blocks.specs.declared.parsed.PlacedHeader.{PlacedHeader}
 use Rattle.asn1_outline.specs.Shapes.{AreShapes, HeadersFaultAt, Shapes, entries_of, shape_count, shape_entry}
 use Rattle.asn1_outline.specs.declared.entry.Entry.{Entry}
 use Rattle.asn1_outline.specs.declared.walk.Contents.{Contents}
@@ -39,7 +39,7 @@ pub record IsWhole (document : List ℕ) (f : Frame) (place : ℕ) (rs : List En
 pub record IsInside (document : List ℕ) (f g : Frame) (depth : ℕ) (Around : ℕ → List Entry → Type 0) (place : ℕ)
     (rs : List Entry) : Type 0 where
   pub offset : ℕ
-  pub header : Header
+  pub header : PlacedHeader
   pub front : List Entry
   pub own : List Entry
   pub whole : rs ≡ front ++ shape_entry offset header 0 (suc f.items.entry) depth ∷ own
@@ -88,13 +88,13 @@ HasTurned document (Ok End) w most = HasEnded document w
 HasTurned document (Err e) w most = IsRefused document e
 
 -- what contents octets are by their header
-abbrev pub HasContents : Contents → Header → Type 0
+abbrev pub HasContents : Contents → PlacedHeader → Type 0
 HasContents Leaf h = IsReadInside h.class h.constructed h.tag → ⊥
 HasContents Items h = (h.class ≡ Universal) × IsReadInside h.class h.constructed h.tag
 HasContents Attempt h = (h.class ≢ Universal) × IsReadInside h.class h.constructed h.tag
 
 -- reading goes on inside the encoding with the header, whose entry has the index
-pub record IsEntered (a : Walk) (h : Header) (entry : ℕ) (attempt : Bool) (b : Walk) : Type 0 where
+pub record IsEntered (a : Walk) (h : PlacedHeader) (entry : ℕ) (attempt : Bool) (b : Walk) : Type 0 where
   pub inner : b.inner ≡ record {
     start = h.start;
     end = h.end;

@@ -1,7 +1,7 @@
 // Blocks out of entries, from the last entry to the first: those inside a block are built before it.
 ghost use Rattle.std.specs.Prelude.{◌≡◌, ◌≢◌, ◌∷◌, ◌<◌, ◌≤◌, [], true, None, IfOk, IsSomeAnd, OnOk, drop, length, map};
 ghost use Rattle.asn1_blocks.specs.declared.block.ASN1Block.{ASN1Block};
-ghost use Rattle.asn1_blocks.specs.Inner.HeaderPlaces.{HeaderFound};
+ghost use Rattle.asn1_blocks.specs.Places.{HeaderFound};
 ghost use Rattle.asn1_blocks.specs.Tree.{explicit, unknown};
 ghost use Rattle.asn1_blocks.specs.View.{view};
 ghost use Rattle.asn1_outline.specs.Building.{IsNext, IsNodeAt, IsTaken, built_trees, items_of};
@@ -14,7 +14,7 @@ use asn1_blocks::block::{ASN1Block, GroupKind};
 use asn1_blocks::contents::leaf_block;
 use asn1_blocks::held::HeldBlocks;
 use asn1_blocks::owed::{explicit_block, group_block, kept_block};
-use asn1_blocks::parsed::{Header, header_within};
+use asn1_blocks::parsed::{PlacedHeader, header_within};
 use asn1_blocks::reading::Attempt;
 use asn1_headers::error::ASN1DecodeErr;
 use asn1_headers::header::{ASN1Class, HeaderCount};
@@ -72,7 +72,7 @@ fn block_of(
 }
 
 // The header at the offset.
-fn header_at(alloc: Global, octets: &[u8], offset: usize) -> Result<Header, ASN1DecodeErr>
+fn header_at(alloc: Global, octets: &[u8], offset: usize) -> Result<PlacedHeader, ASN1DecodeErr>
     ensures { IfOk result (HeaderFound octets.now offset (length octets.now)) }
 {
     if offset >= octets.len() {
@@ -96,7 +96,7 @@ fn take_built(built: &mut HeldBlocks, count: usize) -> Result<HeldBlocks, AllocE
 fn block_around(
     alloc: Global,
     octets: &[u8],
-    header: Header,
+    header: PlacedHeader,
     offset: usize,
     inside: HeldBlocks,
 ) -> Result<ASN1Block, ASN1DecodeErr>
@@ -123,7 +123,7 @@ fn block_around(
 // A constructed encoding of another class: around one block, or as it came.
 fn tagged_block(
     alloc: Global,
-    header: Header,
+    header: PlacedHeader,
     contents: &[u8],
     offset: usize,
     inside: HeldBlocks,
@@ -133,7 +133,7 @@ fn tagged_block(
     ensures other { length inside ≢ 1
         → IfOk result (λ block. view block ≡ unknown header.class true offset header.tag contents.now) }
 {
-    let Header { class, tag, .. } = header;
+    let PlacedHeader { class, tag, .. } = header;
     let attempt = Attempt { class, offset, tag };
     if inside.len() == 1 {
         return explicit_block(alloc, attempt, inside.into_only());

@@ -4,7 +4,7 @@ ghost use Rattle.asn1_headers.specs.Fault.{OutOfMemoryOr};
 ghost use Rattle.asn1_headers.specs.declared.error.ASN1DecodeErr.TheVariants.{OutOfMemory};
 ghost use Rattle.asn1_blocks.specs.Grammar.{FirstFaultAt, IsDocument};
 ghost use Rattle.asn1_blocks.specs.HeadersBegun.{HeadersBegun};
-ghost use Rattle.asn1_blocks.specs.Inner.HeaderPlaces.{HeaderFound};
+ghost use Rattle.asn1_blocks.specs.Places.{HeaderFound};
 ghost use Rattle.asn1_blocks.specs.Tree.{Trees};
 ghost use Rattle.asn1_outline.specs.Entries.{AreEntriesOf, HasTag};
 ghost use Rattle.asn1_outline.specs.Listing.{IsBegun, builder_holds, sealed};
@@ -12,7 +12,7 @@ ghost use Rattle.asn1_outline.specs.Shapes.{shape_entry};
 
 use crate::entry::Entry;
 use asn1_blocks::contents::check_contents;
-use asn1_blocks::parsed::Header;
+use asn1_blocks::parsed::PlacedHeader;
 use asn1_blocks::reading::{Builder, Extent, read_into};
 use asn1_headers::error::{ASN1DecodeErr, LocatedErr};
 use asn1_headers::header::HeaderCount;
@@ -87,7 +87,7 @@ impl Builder for EntryBuilder {
         &mut self,
         _alloc: Global,
         octets: &[u8],
-        header: &Header,
+        header: &PlacedHeader,
         offset: usize,
         depth: usize,
     ) -> Result<EntryItems, AllocError> {
@@ -103,7 +103,7 @@ impl Builder for EntryBuilder {
         alloc: Global,
         octets: &[u8],
         items: &mut EntryItems,
-        header: Header,
+        header: PlacedHeader,
         offset: usize,
         depth: usize,
     ) -> Result<(), ASN1DecodeErr> {
@@ -176,7 +176,7 @@ impl EntryBuilder {
 
 // The entry of an encoding, which holds no blocks so far.
 #[inline(always)]
-fn started(_octets: &[u8], header: &Header, offset: usize, entry: usize, depth: usize) -> Entry
+fn started(_octets: &[u8], header: &PlacedHeader, offset: usize, entry: usize, depth: usize) -> Entry
     requires found { (limit : ℕ) × (HeaderFound _octets.now offset limit header.now)
         × (limit ≤ length _octets.now) }
     requires next { suc entry < 2 ^ 64 }
@@ -187,7 +187,7 @@ fn started(_octets: &[u8], header: &Header, offset: usize, entry: usize, depth: 
 
 // The same, whatever octets the header was found in.
 #[inline(always)]
-pub fn begun(header: &Header, offset: usize, entry: usize, depth: usize) -> Entry
+pub fn begun(header: &PlacedHeader, offset: usize, entry: usize, depth: usize) -> Entry
     requires after { offset ≤ header.now.start }
     requires order { header.now.start ≤ header.now.end }
     requires next { suc entry < 2 ^ 64 }

@@ -2,14 +2,14 @@
 ghost use Rattle.std.specs.Prelude.{◌≡◌, ◌↔◌, ◌∷◌, IfErr, IfOk, IsErrAnd, IsTrue, MatchResult, Ok, OnOk, length, reverse};
 ghost use Rattle.asn1_headers.specs.Fault.{OutOfMemoryOr, fault_of};
 ghost use Rattle.asn1_headers.specs.declared.error.ASN1DecodeErr.TheVariants.{OutOfMemory};
-ghost use Rattle.asn1_blocks.specs.Inner.HeaderPlaces.{HeaderFound};
+ghost use Rattle.asn1_blocks.specs.Places.{HeaderFound};
 ghost use Rattle.asn1_outline.specs.Shapes.{AreEntriesOfShapes, FirstHeaderFaultAt};
 ghost use Rattle.asn1_outline.specs.Walking.{AreOpen, GoesOn, HasContents, HasTurned, IsEntered, IsFaulty, IsWalking, left};
 ghost use Rattle.asn1_outline.specs.declared.walk.Turn.TheVariants.{More};
 
 use crate::entry::Entry;
 use crate::listing::{EntryBuilder, EntryItems, begun};
-use asn1_blocks::parsed::{Header, header_within};
+use asn1_blocks::parsed::{PlacedHeader, header_within};
 use asn1_headers::error::{ASN1DecodeErr, LocatedErr};
 use asn1_headers::header::{ASN1Class, HeaderCount};
 use std::alloc::{AllocError, Global};
@@ -101,7 +101,7 @@ enum Contents {
     Attempt,
 }
 
-fn contents_of(header: &Header) -> Contents
+fn contents_of(header: &PlacedHeader) -> Contents
     ensures { HasContents result header.now }
 {
     match header.class {
@@ -120,7 +120,7 @@ fn contents_of(header: &Header) -> Contents
 }
 
 // Takes the encoding with the header, at the place reached.
-fn take(_octets: &[u8], walk: &mut Walk, header: Header) -> Result<(), AllocError>
+fn take(_octets: &[u8], walk: &mut Walk, header: PlacedHeader) -> Result<(), AllocError>
     requires walking { IsWalking _octets.now walk.old }
     requires found { HeaderFound _octets.now walk.old.index walk.old.inner.end header }
     ensures { OnOk result (GoesOn _octets.now walk.new
@@ -141,7 +141,7 @@ fn take(_octets: &[u8], walk: &mut Walk, header: Header) -> Result<(), AllocErro
 }
 
 // Goes on inside the encoding with the header, whose entry has the index.
-fn enter(walk: &mut Walk, header: &Header, entry: usize, attempt: bool) -> Result<(), AllocError>
+fn enter(walk: &mut Walk, header: &PlacedHeader, entry: usize, attempt: bool) -> Result<(), AllocError>
     ensures { OnOk result (IsEntered walk.old header.now entry attempt walk.new) }
 {
     let inner = walk.inner;

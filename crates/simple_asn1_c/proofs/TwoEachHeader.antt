@@ -2,7 +2,7 @@
 use Rattle.std.proofs.Common.{ℕ, suc, ◌+◌, ◌-◌, ◌*◌, ◌≤◌, List, length, arith, length-append}
 use Rattle.std.specs.List.{slice_range}
 use Rattle.simple_asn1.specs.Shapes.{AreShapes, HasItems, HasShapes, Shapes, as_it_came, entries_of, no_more, not_read, one_more, read_inside}
-use Rattle.asn1_blocks.specs.Inner.HeaderPlaces.{HeaderFound}
+use Rattle.asn1_blocks.specs.Places.{HeaderFound}
 use Rattle.asn1_blocks.specs.declared.parsed.Header.{Header}
 use Rattle.asn1_blocks.proofs.ReadSteps.{slice_length}
 use Rattle.asn1_outline.proofs.Standing.{two_more}

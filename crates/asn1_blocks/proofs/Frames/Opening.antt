@@ -26,7 +26,7 @@ use Rattle.asn1_headers.specs.declared.error.ASN1DecodeErr.{ASN1DecodeErr}
 use Rattle.asn1_headers.specs.declared.error.ASN1DecodeErr.TheVariants.{OutOfMemory}
 use Rattle.asn1_headers.specs.declared.header.ASN1Class.{ASN1Class}
 use Rattle.asn1_headers.specs.declared.header.ASN1Class.TheVariants.{Universal}
-use Rattle.asn1_blocks.specs.declared.parsed.Header.{Header}
+use Rattle.asn1_blocks.specs.declared.parsed.PlacedHeader.{PlacedHeader}
 use Rattle.asn1_blocks.specs.declared.reading.FrameKind.{FrameKind}
 use Rattle.asn1_blocks.specs.declared.reading.FrameKind.TheVariants.{Whole, Group, Attempt}
 use Rattle.asn1_headers.specs.Fault.{DecodeFault, OutOfMemoryOr, fault_of}
@@ -37,7 +37,7 @@ use Rattle.asn1_blocks.specs.Inner.BlockFault.{BlockFaultAt, at_header, at_leaf}
 use Rattle.asn1_headers.specs.Header.{Encoding}
 use Rattle.asn1_blocks.specs.HeadersBegun.{IsReadInside, begun_none, begun_some, nothing_inside, nothing_after}
 use Rattle.asn1_blocks.specs.Inner.OpenFrames.{Frame, IsHeaded, AreOpen, IsStopping}
-use Rattle.asn1_blocks.specs.Inner.HeaderPlaces.{IsEncodingBetween, HeaderFound}
+use Rattle.asn1_blocks.specs.Places.{IsEncodingBetween, HeaderFound}
 use Rattle.asn1_blocks.specs.Inner.OpenFrames.{IsKindOf}
 use Rattle.asn1_blocks.specs.Tree.{Tree, trees_of}
 use Rattle.asn1_blocks.proofs.Faults.{block_fault_no_block, header_no_encoding}
@@ -69,7 +69,7 @@ EncodingAt_moved octets i j a b y z c k n e f g F =
     (subst (λ w. IsEncodingBetween octets c k n j w y) f (subst (λ w. IsEncodingBetween octets c k n w a y) e F))
 
 -- the frame of contents octets that are read as blocks
-pub headed_by : (octets : List ℕ) (kind : FrameKind) (place limit : ℕ) (h : Header) → IsKindOf kind h place → HeaderFound octets place limit h
+pub headed_by : (octets : List ℕ) (kind : FrameKind) (place limit : ℕ) (h : PlacedHeader) → IsKindOf kind h place → HeaderFound octets place limit h
     → IsHeaded octets kind place h.start h.end
 headed_by octets Whole place limit h k w = absurd k
 headed_by octets (Group g o) place limit h k w =
@@ -134,7 +134,7 @@ header_stopping octets f gs p n e small here o u =
     }
 
 -- the contents octets of a leaf are at fault
-pub leaf_stopping : (octets : List ℕ) (f : Frame) (gs : List Frame) (p n : ℕ) (h : Header) (e : DecodeFault) → length octets < 2 ^ 64
+pub leaf_stopping : (octets : List ℕ) (f : Frame) (gs : List Frame) (p n : ℕ) (h : PlacedHeader) (e : DecodeFault) → length octets < 2 ^ 64
     → HeaderFound octets p f.extent.end h → AreOpen octets f gs p n → (IsReadInside h.class h.constructed h.tag → ⊥) → h.class ≡ Universal
     → LeafFault h.tag (slice_range octets h.start h.end) e → IsStopping octets f gs e p (n + 1)
 leaf_stopping octets f gs p n h e small found o shut u w =
@@ -172,7 +172,7 @@ leaf_stopping octets f gs p n h e small found o shut u w =
     }
 
 -- a leaf is read
-pub leaf_follows : (octets : List ℕ) (f : Frame) (p : ℕ) (h : Header) (t : Tree ℕ) → HeaderFound octets p f.extent.end h
+pub leaf_follows : (octets : List ℕ) (f : Frame) (p : ℕ) (h : PlacedHeader) (t : Tree ℕ) → HeaderFound octets p f.extent.end h
     → (IsReadInside h.class h.constructed h.tag → ⊥) → Encodes p (slice_range octets p h.end) t → Follows octets f p h.end t 1
 leaf_follows octets f p h t found shut w =
     let all = slice_range octets p h.end in

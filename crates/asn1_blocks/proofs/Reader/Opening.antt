@@ -28,10 +28,10 @@ use Rattle.asn1_headers.specs.HeaderFault.{HeaderFault}
 use Rattle.asn1_blocks.specs.declared.reading.FrameKind.{FrameKind}
 use Rattle.asn1_blocks.specs.declared.reading.OpenFrame.{OpenFrame}
 use Rattle.asn1_blocks.specs.declared.reading.Reader.{Reader}
-use Rattle.asn1_blocks.specs.declared.parsed.Header.{Header}
+use Rattle.asn1_blocks.specs.declared.parsed.PlacedHeader.{PlacedHeader}
 use Rattle.asn1_blocks.specs.HeadersBegun.{IsReadInside}
 use Rattle.asn1_blocks.specs.Inner.OpenFrames.{AreOpen, IsKindOf, IsStopping}
-use Rattle.asn1_blocks.specs.Inner.HeaderPlaces.{HeaderFound}
+use Rattle.asn1_blocks.specs.Places.{HeaderFound}
 use Rattle.asn1_blocks.specs.Inner.ReaderSteps.{GoesOn, HasLeaf, HasOpened, Holding, IsEntered, IsFaulty, IsLeafFault, IsReading, frame, frames, left}
 use Rattle.asn1_blocks.proofs.Frames.Advances.{opened_bound, opened_places}
 use Rattle.asn1_blocks.proofs.Frames.Opening.{header_stopping, headed_by, leaf_follows, leaf_stopping, opened_open}
@@ -54,7 +54,7 @@ module _ {B I : Type 0} (Holds : Holding B I) (octets : List ℕ) where
 
   -- a frame was opened at the header
   pub open_goes_on :
-      (a r : Reader B I) (h : Header) (n depth : ℕ) (kind : FrameKind) (items : I) (b : B) → depth ≡ length a.outer.items → IsKindOf kind h a.index →
+      (a r : Reader B I) (h : PlacedHeader) (n depth : ℕ) (kind : FrameKind) (items : I) (b : B) → depth ≡ length a.outer.items → IsKindOf kind h a.index →
       HasOpened Holds octets h a.index depth a.builder items b →
       IsEntered (record { inner = a.inner; outer = a.outer; index = a.index; builder = b; fault = a.fault })
       (record { extent = record { kind = kind; start = h.start; end = h.end }; items = items }) r →
@@ -88,7 +88,7 @@ module _ {B I : Type 0} (Holds : Holding B I) (octets : List ℕ) where
 
   -- a leaf stands at the header
   pub leaf_goes_on :
-      (a : Reader B I) (h : Header) (n depth : ℕ) (b : B) (j : I) → depth ≡ length a.outer.items → HeaderFound octets a.index a.inner.extent.end h →
+      (a : Reader B I) (h : PlacedHeader) (n depth : ℕ) (b : B) (j : I) → depth ≡ length a.outer.items → HeaderFound octets a.index a.inner.extent.end h →
       (IsReadInside h.class h.constructed h.tag → ⊥) → HasLeaf Holds octets a.index h.end depth a.builder a.inner.items b j →
       IsReading Holds octets a n →
       GoesOn Holds octets
@@ -141,7 +141,7 @@ module _ {B I : Type 0} (Holds : Holding B I) (octets : List ℕ) where
       (header_stopping octets (frame a.inner w.trees) (frames (reverse a.outer.items) w.outer) a.index n e small here w.opened u)
 
   -- the contents octets of a leaf are
-  pub leaf_faulty : (a : Reader B I) (h : Header) (e : DecodeFault) (n : ℕ) (b : B) (j : I) → length octets < 2 ^ 64
+  pub leaf_faulty : (a : Reader B I) (h : PlacedHeader) (e : DecodeFault) (n : ℕ) (b : B) (j : I) → length octets < 2 ^ 64
       → HeaderFound octets a.index a.inner.extent.end h → (IsReadInside h.class h.constructed h.tag → ⊥)
       → IsLeafFault octets h a.builder a.inner.items b j e → IsReading Holds octets a n
       → IsFaulty Holds octets

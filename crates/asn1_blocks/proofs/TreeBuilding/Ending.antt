@@ -5,7 +5,7 @@ use Rattle.asn1_blocks.specs.declared.block.ASN1Block.{ASN1Block}
 use Rattle.asn1_blocks.specs.declared.block.GroupKind.{GroupKind}
 use Rattle.asn1_blocks.specs.declared.owed.Owed.{Owed}
 use Rattle.asn1_blocks.specs.declared.owed.Owed.TheVariants as OwedAs
-use Rattle.asn1_blocks.specs.declared.parsed.Header.{Header}
+use Rattle.asn1_blocks.specs.declared.parsed.PlacedHeader.{PlacedHeader}
 use Rattle.asn1_blocks.specs.declared.read.FrameBlocks.{FrameBlocks}
 use Rattle.asn1_blocks.specs.declared.read.TreeBuilder.{TreeBuilder}
 use Rattle.asn1_blocks.specs.declared.reading.Attempt as other
@@ -136,7 +136,7 @@ all_opened octets es f g gs [] before count first h = absurd h
 all_opened octets es f g gs (ts ∷ rest) before count first h = all_open octets es f g gs ts rest before count first h
 
 pub opened :
-    (octets : List ℕ) (h : Header) (offset depth : ℕ) (a b : TreeBuilder) (i : FrameBlocks) → b.owed ≡ a.owed → i.owed_before ≡ length b.owed.items →
+    (octets : List ℕ) (h : PlacedHeader) (offset depth : ℕ) (a b : TreeBuilder) (i : FrameBlocks) → b.owed ≡ a.owed → i.owed_before ≡ length b.owed.items →
     i.owed_count ≡ 0 → i.first ≡ [] → HasOpened builder_holds octets h offset depth a i b
 opened octets h offset depth a b i same before count first = record {
   holds = λ kind f fs trees d is w.

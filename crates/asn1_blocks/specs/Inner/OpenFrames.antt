@@ -3,7 +3,7 @@ use Rattle.std.specs.Prelude.{◌≡◌, ◌≢◌, ℕ, ◌+◌, ◌-◌, ◌<�
 use Rattle.asn1_blocks.specs.declared.block.GroupKind.{GroupKind}
 use Rattle.asn1_headers.specs.declared.header.ASN1Class.TheVariants.{Universal}
 use Rattle.asn1_blocks.specs.declared.reading.Attempt as other
-use Rattle.asn1_blocks.specs.declared.parsed.Header.{Header}
+use Rattle.asn1_blocks.specs.declared.parsed.PlacedHeader.{PlacedHeader}
 use Rattle.asn1_blocks.specs.declared.reading.Extent.{Extent}
 use Rattle.asn1_blocks.specs.declared.reading.FrameKind.{FrameKind}
 use Rattle.asn1_blocks.specs.declared.reading.FrameKind.TheVariants.{Whole, Group, Attempt}
@@ -13,10 +13,10 @@ use Rattle.asn1_blocks.specs.Contents.{group_tag}
 use Rattle.asn1_blocks.specs.Grammar.{EncodesAll}
 use Rattle.asn1_blocks.specs.Inner.BlockFault.{BlockFaultAt}
 use Rattle.asn1_blocks.specs.HeadersBegun.{HeadersBegun}
-use Rattle.asn1_blocks.specs.Inner.HeaderPlaces.{IsEncodingBetween}
+use Rattle.asn1_blocks.specs.Places.{IsEncodingBetween}
 
 -- the frame is of an encoding with this header, whose first octet is at the offset
-abbrev pub IsKindOf : FrameKind → Header → ℕ → Type 0
+abbrev pub IsKindOf : FrameKind → PlacedHeader → ℕ → Type 0
 IsKindOf Whole h offset = ⊥
 IsKindOf (Group g o) h offset = (h.class ≡ Universal) × (h.tag ≡ group_tag g) × (o ≡ offset)
 IsKindOf (Attempt a) h offset =

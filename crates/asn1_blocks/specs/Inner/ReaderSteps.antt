@@ -1,7 +1,7 @@
 -- The reader, and what its steps do, whatever is built of the blocks.
 use Rattle.std.specs.Prelude.{◌≡◌, ◌≢◌, ℕ, ◌+◌, ◌*◌, ◌-◌, ◌<◌, ◌≤◌, ◌++◌, List, [], ◌∷◌, length, reverse, slice_range, Result, Ok, Err}
 use Rattle.asn1_headers.specs.declared.header.ASN1Class.TheVariants.{Universal}
-use Rattle.asn1_blocks.specs.declared.parsed.Header.{Header}
+use Rattle.asn1_blocks.specs.declared.parsed.PlacedHeader.{PlacedHeader}
 use Rattle.asn1_headers.specs.declared.error.ASN1DecodeErr.{ASN1DecodeErr}
 use Rattle.asn1_blocks.specs.declared.reading.Attempt as other
 use Rattle.asn1_blocks.specs.declared.reading.Extent.{Extent}
@@ -26,7 +26,7 @@ abbrev pub in_frame : {I : Type 0} → Extent → I → OpenFrame I
 in_frame e items = record { extent = e; items = items }
 
 -- the builder a became b, and has a new frame with these items, for an encoding with this header
-pub record HasOpened {B I : Type 0} (Holds : Holding B I) (octets : List ℕ) (h : Header) (offset depth : ℕ)
+pub record HasOpened {B I : Type 0} (Holds : Holding B I) (octets : List ℕ) (h : PlacedHeader) (offset depth : ℕ)
     (a : B) (items : I) (b : B) : Type 0 where
   pub holds : (kind : FrameKind) (f : OpenFrame I) (fs : List (OpenFrame I)) (trees : List (List (Tree ℕ))) →
       depth ≡ length fs → IsKindOf kind h offset → Holds octets a (f ∷ fs) trees →
@@ -47,7 +47,7 @@ pub record HasLeaf {B I : Type 0} (Holds : Holding B I) (octets : List ℕ) (off
   pub more : HasMore Holds octets tree depth a i b j
 
 -- the contents octets of the leaf are at fault, and all is as it was
-pub record IsLeafFault {B I : Type 0} (octets : List ℕ) (h : Header) (a : B) (i : I) (b : B) (j : I)
+pub record IsLeafFault {B I : Type 0} (octets : List ℕ) (h : PlacedHeader) (a : B) (i : I) (b : B) (j : I)
     (e : DecodeFault) : Type 0 where
   pub builder : b ≡ a
   pub items : j ≡ i

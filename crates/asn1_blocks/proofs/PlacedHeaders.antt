@@ -1,0 +1,103 @@
+-- A header at the front of what is left of contents octets, and its place in the document.
+use Rattle.std.proofs.Common.{
+  ◌≡◌,
+  ℕ,
+  ◌+◌,
+  ◌-◌,
+  ◌<◌,
+  ◌≤◌,
+  ◌^◌,
+  Bool,
+  List,
+  ◌++◌,
+  length,
+  take,
+  drop,
+  length-drop,
+  refl,
+  sym,
+  ap,
+  ◌∙◌,
+  subst,
+  arith,
+  length-append,
+  append_assoc,
+}
+use Rattle.std.proofs.lemmas.List.{length-take-le, take-append-drop, take-take}
+use Rattle.std.specs.List.{slice_range}
+use Rattle.asn1_headers.specs.declared.header.ASN1Class.{ASN1Class}
+use Rattle.asn1_headers.specs.Fault.{incomplete, length_too_large}
+use Rattle.asn1_headers.specs.Front.{BeginsWithHeader}
+use Rattle.asn1_headers.specs.Header.{IsLength}
+use Rattle.asn1_headers.specs.HeaderFault.{HeaderFault, too_far, too_long}
+use Rattle.asn1_headers.proofs.Prefixes.{identifier_some}
+use Rattle.asn1_blocks.specs.Places.{HeaderFound}
+use Rattle.asn1_blocks.proofs.ReadSteps.{slice_join, slice_length}
+
+module _ (rest : List ℕ) (size announced : ℕ) (class : ASN1Class) (constructed : Bool) (tag : ℕ)
+    (front : BeginsWithHeader rest size announced class constructed tag) where
+  -- it has the octets of both its parts
+  header_size : length front.identifier + length front.len ≡ size
+  header_size = omega (
+    arith,
+    ap length front.front_is,
+    length-append front.identifier front.len,
+    length-take-le size rest front.within,
+  )
+
+  parts : rest ≡ front.identifier ++ (front.len ++ drop size rest)
+  parts =
+      sym (take-append-drop size rest)
+      ∙ (ap (λ z. z ++ drop size rest) front.front_is ∙ append_assoc front.identifier front.len (drop size rest))
+
+  -- its contents octets would end past a usize
+  pub far_at : (before place : ℕ) → before ≡ place + size → 2 ^ 64 ≤ before + announced → HeaderFault place rest (length_too_large announced)
+  far_at before place e far =
+      too_far front.identifier front.len (drop size rest) class constructed tag announced front.fields front.length_octets parts
+      (omega (arith, e, header_size, far)) refl
+
+  -- they are more than what is left
+  pub long_at : (before place : ℕ) → before ≡ place + size → before + announced < 2 ^ 64 → length rest - size < announced
+      → HeaderFault place rest incomplete
+  long_at before place e near long =
+      too_long front.identifier front.len (drop size rest) class constructed tag announced front.fields front.length_octets parts
+      (omega (arith, e, header_size, near)) (omega (arith, length-drop size rest, long))
+
+-- a header whose contents octets fit
+pub placed : (octets : List ℕ) (place limit size announced : ℕ) (class : ASN1Class) (constructed : Bool) (tag : ℕ)
+    → BeginsWithHeader (slice_range octets place limit) size announced class constructed tag
+    → place < limit → limit ≤ length octets → announced ≤ length (slice_range octets place limit) - size
+    → HeaderFound octets place limit (record {
+      class = class;
+      constructed = constructed;
+      tag = tag;
+      start = place + size;
+      end = (place + size) + announced;
+    })
+placed octets place limit size announced class constructed tag front more within fits =
+    let rest = slice_range octets place limit in
+    let start = place + size in
+    let end = start + announced in
+    let contents = slice_range octets start end in
+    let l : length rest ≡ limit - place = slice_length octets place limit (omega (arith, more)) within in
+    let w = front.within in
+    let some = header_size rest size announced class constructed tag front in
+    let ends : end ≤ limit = omega (arith, l, w, fits, more) in
+    let header : slice_range octets place start ≡ front.identifier ++ front.len =
+    ap (λ n. take n (drop place octets)) (omega arith) ∙ (sym (take-take size (limit - place) (drop place octets) (omega (arith, l, w))) ∙ front.front_is) in
+    record {
+      encoding = record {
+        identifier = front.identifier;
+        len = front.len;
+        identifier_octets = front.fields;
+        length_octets =
+            subst (IsLength front.len) (omega (arith, slice_length octets start end (omega arith) (omega (arith, ends, within)))) front.length_octets;
+        whole =
+            slice_join octets place start end (omega arith) (omega arith)
+            ∙ (ap (λ z. z ++ contents) header ∙ append_assoc front.identifier front.len contents);
+        size = omega (arith, some);
+      };
+      past = omega (arith, some, identifier_some front.identifier class constructed tag front.fields);
+      order = omega arith;
+      fits = ends;
+    }

@@ -1,0 +1,37 @@
+-- Headers of the indefinite form.
+use Rattle.std.proofs.Common.{◌≡◌, ◌↔◌, ℕ, ◌≤◌, Bool, true, false, List, ◌∷◌, ◌++◌, drop, length, take, sym, ap, ◌∙◌, subst}
+use Rattle.std.proofs.lemmas.List.{drop_at, length-take-le, take-append-drop}
+use Rattle.std.specs.Prelude.{IsTrue}
+use Rattle.asn1_headers.specs.Front.{HasIndefiniteForm}
+use Rattle.asn1_headers.specs.Header.{IsIdentifier}
+use Rattle.asn1_headers.proofs.Prefixes.{identifier_alone}
+
+module _ (octets behind : List ℕ) (s m : ℕ) (class : _) (constructed : Bool) (fits : s ≤ length octets)
+    (found : IsIdentifier (take s octets) class constructed m) (back : behind ≡ drop s octets) where
+  -- a header of the form has these identifier octets
+  form_alone : HasIndefiniteForm octets → (constructed ≡ true) × ((rest : List ℕ) × (behind ≡ 128 ∷ rest))
+  form_alone (identifier, rest, whole, (other, tag, is)) =
+      let same = identifier_alone (take s octets) identifier (drop s octets) (128 ∷ rest)
+      class other constructed true m tag found is (take-append-drop s octets ∙ whole) in
+      let size : length identifier ≡ s = sym (ap length same.octets) ∙ length-take-le s octets fits in
+      (same.constructed, (rest, back ∙ (ap (drop s) whole ∙ drop_at identifier (128 ∷ rest) s size)))
+
+  form_there : (rest : List ℕ) → constructed ≡ true → behind ≡ 128 ∷ rest → HasIndefiniteForm octets
+  form_there rest is_so is = (
+    take s octets,
+    rest,
+    sym (take-append-drop s octets) ∙ ap (λ z. take s octets ++ z) (sym back ∙ is),
+    (class, m, subst (λ z. IsIdentifier (take s octets) class z m) is_so found),
+  )
+
+  -- whether the octet behind them is 80
+  pub form_of_constructed :
+      (has r : Bool) → constructed ≡ true → IsTrue has ↔ ((rest : List ℕ) × (behind ≡ 128 ∷ rest)) → r ≡ has →
+      IsTrue r ↔ HasIndefiniteForm octets
+  form_of_constructed has r is_so (to, from) e = (
+    λ t. let (rest, is) = to (sym e ∙ t) in form_there rest is_so is,
+    λ h. let (bits, there) = form_alone h in e ∙ from there,
+  )
+
+  pub form_of_primitive : (r : Bool) → constructed ≡ false → r ≡ false → IsTrue r ↔ HasIndefiniteForm octets
+  form_of_primitive r is_not e = (λ t. absurd (cc (t, e)), λ h. let (bits, there) = form_alone h in absurd (cc (bits, is_not)))

@@ -1,0 +1,69 @@
+use Rattle.std.proofs.Common.{◌∙◌, inl, inr, take, drop, sym, arith}
+use Rattle.std.proofs.Math.Seq.{take-add}
+use Rattle.std.proofs.lemmas.List.{take-append-drop}
+use Rattle.std.proofs.lemmas.Result.{err_from_is_err_and}
+use Rattle.asn1_headers.specs.Fault.{fault_of}
+use Rattle.asn1_headers.proofs.FrontHeaders.{identifier_missed, length_missed, none_without_identifier, none_without_length}
+use Rattle.asn1_headers.proofs.IndefiniteForms.{form_of_constructed, form_of_primitive}
+use Rattle.asn1_headers.proofs.front.header_at.Goals as goal
+use Rattle.asn1_headers.proofs.front.header_at.Goals.{then-constructed, else-constructed}
+
+pub returns-in_err-tag-clause-none : goal.returns-in_err-tag-clause-none
+returns-in_err-tag-clause-none c =
+    let p = err_from_is_err_and c.from_residual.result c.from_residual.ensures.1 in
+    rw (p.1, p.2) (elim c.in_err-tag.ensures.refused [
+      | inl memory ↦ inl memory
+      | inr none ↦ inr (none_without_identifier c.args.octets.now none.1)
+    ])
+
+pub returns-in_err-tag-clause-fault : goal.returns-in_err-tag-clause-fault
+returns-in_err-tag-clause-fault c place =
+    let p = err_from_is_err_and c.from_residual.result c.from_residual.ensures.1 in
+    rw (p.1, p.2) (identifier_missed place c.args.octets.now c.in_err-tag.field-0.0 c.in_err-tag.ensures.refused)
+
+pub returns-in_err-announced-clause-none : goal.returns-in_err-announced-clause-none
+returns-in_err-announced-clause-none c =
+    let found = c.in_ok-tag in
+    let p = err_from_is_err_and c.from_residual-in_err-announced.result c.from_residual-in_err-announced.ensures.1 in
+    rw (p.1, p.2) (inr (none_without_length c.args.octets.now found.identifier found.tag found.ensures.found.1
+    (found.class, found.constructed, found.ensures.found.2) (rw (sym c.split_at.ensures.back) c.in_err-announced.ensures.refused)))
+
+pub returns-in_err-announced-clause-fault : goal.returns-in_err-announced-clause-fault
+returns-in_err-announced-clause-fault c place =
+    let octets = c.args.octets.now in
+    let found = c.in_ok-tag in
+    let p = err_from_is_err_and c.from_residual-in_err-announced.result c.from_residual-in_err-announced.ensures.1 in
+    rw (p.1, p.2) (inr (length_missed place octets (take found.identifier octets) (drop found.identifier octets) found.class
+    found.constructed found.tag (fault_of c.in_err-announced.field-0.0) found.ensures.found.2
+    (sym (take-append-drop found.identifier octets)) (rw (sym c.split_at.ensures.back) c.in_err-announced.ensures.refused)
+    (rw (sym c.split_at.ensures.back) c.in_err-announced.ensures.fault)))
+
+pub returns-clause-found : goal.returns-clause-found
+returns-clause-found c =
+    let octets = c.args.octets.now in
+    let found = c.in_ok-tag in
+    let size = found.identifier in
+    let l = c.in_ok-announced.length in
+    record {
+      within = omega (arith, found.ensures.found.1, c.in_ok-announced.ensures.found.0, c.split_at.ensures.back_len);
+      identifier = take size octets;
+      len = take l (drop size octets);
+      front_is = take-add size l octets;
+      fields = found.ensures.found.2;
+      length_octets = rw (sym c.split_at.ensures.back) c.in_ok-announced.ensures.found.1;
+    }
+
+pub returns-clause-form : goal.returns-clause-form
+returns-clause-form c =
+    let octets = c.args.octets.now in
+    let found = c.in_ok-tag in
+    elim c.if-constructed.branch [
+      | then-constructed w ↦
+          form_of_constructed octets c.split_at.result.1.now found.identifier found.tag found.class found.constructed
+          found.ensures.found.1 found.ensures.found.2 c.split_at.ensures.back w.begins_with_80.result
+          c.if-constructed.result w.if-constructed.true w.begins_with_80.ensures w.result-is
+      | else-constructed w ↦
+          form_of_primitive octets c.split_at.result.1.now found.identifier found.tag found.class found.constructed
+          found.ensures.found.1 found.ensures.found.2 c.split_at.ensures.back c.if-constructed.result
+          w.if-constructed.false (w.result-is ∙ w.if-constructed.false)
+    ]

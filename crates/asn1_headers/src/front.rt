@@ -1,0 +1,91 @@
+// The header at the front of octets.
+ghost use Rattle.std.specs.Prelude.{◌≡◌, ◌↔◌, ◌+◌, ◌<◌, ◌≤◌, ◌^◌, ◌⊎◌, ◌∷◌, List, ℕ, IfErr, IfOk, IsTrue};
+ghost use Rattle.asn1_headers.specs.declared.error.ASN1DecodeErr.TheVariants.{OutOfMemory};
+ghost use Rattle.asn1_headers.specs.Fault.{OutOfMemoryOr};
+ghost use Rattle.asn1_headers.specs.Front.{HasIndefiniteForm, HasNoHeader, IsAtFront};
+ghost use Rattle.asn1_headers.specs.HeaderFault.{HeaderFault};
+
+use crate::error::ASN1DecodeErr;
+use crate::header::{ASN1Class, HeaderCount, length_at, tag_at};
+use asn1_numbers::number::big_uint::BigUint;
+use std::alloc::Global;
+
+// The header of an encoding: the fields of its identifier octets, how many octets it has, and how many contents octets
+// it announces.
+#[derive(Drop)]
+pub struct Header {
+    pub class: ASN1Class,
+    pub constructed: bool,
+    pub tag: BigUint,
+    pub size: usize,
+    pub announced: usize,
+    // whether it has the indefinite form of BER, which is read as a length of 0
+    pub is_indefinite: bool,
+}
+
+// The header at the front, whether or not the contents octets that it announces are there. Adds one to the count.
+#[inline(always)]
+pub fn read_header(
+    alloc: Global,
+    octets: &[u8],
+    count: &mut HeaderCount,
+) -> Result<Header, ASN1DecodeErr>
+    requires room { count.old + 1 < 2 ^ 64 }
+    ensures found { IfOk result (IsAtFront octets.now) }
+    ensures form { IfOk result (λ header. IsTrue header.is_indefinite ↔ HasIndefiniteForm octets.now) }
+    ensures none { IfErr result (λ e. (e ≡ OutOfMemory) ⊎ HasNoHeader octets.now) }
+    ensures fault { (place : ℕ) → IfErr result (OutOfMemoryOr (HeaderFault place octets.now)) }
+    ensures counted { count.new ≡ count.old + 1 }
+{
+    count.add_one();
+    if is_short(octets) {
+        return header_at(alloc, octets);
+    }
+    long_header(alloc, octets)
+}
+
+// Whether the header has two octets, as most have. Reading these is compiled on its own, into a few instructions; no
+// answer depends on it.
+#[inline(always)]
+fn is_short(octets: &[u8]) -> bool {
+    match octets {
+        [leading, length, ..] => *leading % 32 != 31 && *length < 128,
+        _ => false,
+    }
+}
+
+#[inline(never)]
+fn long_header(alloc: Global, octets: &[u8]) -> Result<Header, ASN1DecodeErr>
+    ensures found { IfOk result (IsAtFront octets.now) }
+    ensures form { IfOk result (λ header. IsTrue header.is_indefinite ↔ HasIndefiniteForm octets.now) }
+    ensures none { IfErr result (λ e. (e ≡ OutOfMemory) ⊎ HasNoHeader octets.now) }
+    ensures fault { (place : ℕ) → IfErr result (OutOfMemoryOr (HeaderFault place octets.now)) }
+{
+    header_at(alloc, octets)
+}
+
+#[inline(always)]
+fn header_at(alloc: Global, octets: &[u8]) -> Result<Header, ASN1DecodeErr>
+    ensures found { IfOk result (IsAtFront octets.now) }
+    ensures form { IfOk result (λ header. IsTrue header.is_indefinite ↔ HasIndefiniteForm octets.now) }
+    ensures none { IfErr result (λ e. (e ≡ OutOfMemory) ⊎ HasNoHeader octets.now) }
+    ensures fault { (place : ℕ) → IfErr result (OutOfMemoryOr (HeaderFault place octets.now)) }
+{
+    let ((tag, constructed, class), identifier) = tag_at(alloc, octets)?;
+    let (_, behind) = octets.split_at(identifier);
+    let (announced, length) = length_at(behind)?;
+    Ok(Header {
+        class,
+        constructed,
+        tag,
+        size: identifier + length,
+        announced,
+        is_indefinite: constructed && begins_with_80(behind),
+    })
+}
+
+fn begins_with_80(octets: &[u8]) -> bool
+    ensures { IsTrue result ↔ ((rest : List ℕ) × (octets.now ≡ 128 ∷ rest)) }
+{
+    matches!(octets, [0x80, ..])
+}
