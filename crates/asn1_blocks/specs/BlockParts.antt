@@ -8,51 +8,51 @@ use Rattle.asn1_blocks.specs.Tree.{Leaf, Tree, Trees, bit_string, boolean, expli
 abbrev pub tree_tag : {O : Type 0} → Tree O → ℕ
 tree_tag (leaf o l) = leaf_tag l
 tree_tag (group o g bs) = group_tag g
-tree_tag (explicit c o n b) = n
-tree_tag (unknown c k o n v) = n
+tree_tag (explicit class o tag b) = tag
+tree_tag (unknown class constructed o tag contents) = tag
 
 -- the trees that a SEQUENCE, SET or explicit tagging holds
 abbrev pub tree_items : {O : Type 0} → Tree O → Option (Trees O)
 tree_items (leaf o l) = None
 tree_items (group o g bs) = Some bs
-tree_items (explicit c o n b) = Some (more_trees b no_trees)
-tree_items (unknown c k o n v) = None
+tree_items (explicit class o tag b) = Some (more_trees b no_trees)
+tree_items (unknown class constructed o tag contents) = None
 
 abbrev pub leaf_text : Leaf → Option (List ℕ)
-leaf_text (text kind cs) = Some cs
+leaf_text (text kind characters) = Some characters
 leaf_text l = None
 
 -- the characters of a string, of whatever kind
 abbrev pub tree_text : {O : Type 0} → Tree O → Option (List ℕ)
 tree_text (leaf o l) = leaf_text l
 tree_text (group o g bs) = None
-tree_text (explicit c o n b) = None
-tree_text (unknown c k o n v) = None
+tree_text (explicit class o tag b) = None
+tree_text (unknown class constructed o tag contents) = None
 
 abbrev pub leaf_integer : Leaf → Option ℤ
-leaf_integer (integer n) = Some n
+leaf_integer (integer number) = Some number
 leaf_integer l = None
 
 -- the number of an INTEGER
 abbrev pub tree_integer : {O : Type 0} → Tree O → Option ℤ
 tree_integer (leaf o l) = leaf_integer l
 tree_integer (group o g bs) = None
-tree_integer (explicit c o n b) = None
-tree_integer (unknown c k o n v) = None
+tree_integer (explicit class o tag b) = None
+tree_integer (unknown class constructed o tag contents) = None
 
 abbrev pub leaf_octets : Leaf → Option (List ℕ)
-leaf_octets (octet_string v) = Some v
+leaf_octets (octet_string octets) = Some octets
 leaf_octets l = None
 
 -- the octets of an OCTET STRING
 abbrev pub tree_octets : {O : Type 0} → Tree O → Option (List ℕ)
 tree_octets (leaf o l) = leaf_octets l
 tree_octets (group o g bs) = None
-tree_octets (explicit c o n b) = None
-tree_octets (unknown c k o n v) = None
+tree_octets (explicit class o tag b) = None
+tree_octets (unknown class constructed o tag contents) = None
 
 abbrev pub leaf_boolean : Leaf → Option Bool
-leaf_boolean (boolean b) = Some b
+leaf_boolean (boolean value) = Some value
 leaf_boolean _ = None
 
 -- the value of a BOOLEAN
@@ -61,7 +61,7 @@ tree_boolean (leaf o l) = leaf_boolean l
 tree_boolean _ = None
 
 abbrev pub leaf_bits : Leaf → Option (ℕ × List ℕ)
-leaf_bits (bit_string n v) = Some (n, v)
+leaf_bits (bit_string count octets) = Some (count, octets)
 leaf_bits _ = None
 
 -- the number of bits of a BIT STRING, and the octets that hold them
@@ -70,7 +70,7 @@ tree_bits (leaf o l) = leaf_bits l
 tree_bits _ = None
 
 abbrev pub leaf_oid : Leaf → Option (List ℕ)
-leaf_oid (object_identifier ns) = Some ns
+leaf_oid (object_identifier components) = Some components
 leaf_oid _ = None
 
 -- the components of an OBJECT IDENTIFIER
@@ -79,8 +79,8 @@ tree_oid (leaf o l) = leaf_oid l
 tree_oid _ = None
 
 abbrev pub leaf_moment : Leaf → Option Moment
-leaf_moment (utc_time m) = Some m
-leaf_moment (generalized_time m) = Some m
+leaf_moment (utc_time moment) = Some moment
+leaf_moment (generalized_time moment) = Some moment
 leaf_moment _ = None
 
 -- the moment of a UTCTime or GeneralizedTime
@@ -93,8 +93,8 @@ abbrev mutual
   pub in_order : {O : Type 0} → Tree O → List (Tree O)
   in_order (leaf o l) = leaf o l ∷ []
   in_order (group o g bs) = group o g bs ∷ all_in_order bs
-  in_order (explicit c o n b) = explicit c o n b ∷ in_order b
-  in_order (unknown c k o n v) = unknown c k o n v ∷ []
+  in_order (explicit class o tag b) = explicit class o tag b ∷ in_order b
+  in_order (unknown class constructed o tag contents) = unknown class constructed o tag contents ∷ []
 
   -- so the trees of a list, one after another
   pub all_in_order : {O : Type 0} → Trees O → List (Tree O)

@@ -29,8 +29,8 @@ view_step (ASN1Block-F.UTCTime o d) = leaf o (utc_time (moment_of d))
 view_step (ASN1Block-F.GeneralizedTime o d) = leaf o (generalized_time (moment_of d))
 view_step (ASN1Block-F.Sequence o v) = group o Sequence (trees_of v.items)
 view_step (ASN1Block-F.Set o v) = group o Set (trees_of v.items)
-view_step (ASN1Block-F.Explicit c o n b) = explicit c o n b.value
-view_step (ASN1Block-F.Unknown c k o n v) = unknown c k o n v.items
+view_step (ASN1Block-F.Explicit class o tag b) = explicit class o tag b.value
+view_step (ASN1Block-F.Unknown class constructed o tag contents) = unknown class constructed o tag contents.items
 
 abbrev pub view : ASN1Block → Tree ℕ
 view = fold-ASN1Block (Tree ℕ) view_step

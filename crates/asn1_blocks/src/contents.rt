@@ -85,7 +85,11 @@ fn universal_leaf(
 }
 
 // Whether the contents octets of an encoding that are not read as blocks are those of a block, of which none is made.
-pub fn check_contents(alloc: Global, header: &PlacedHeader, contents: &[u8]) -> Result<(), ASN1DecodeErr>
+pub fn check_contents(
+    alloc: Global,
+    header: &PlacedHeader,
+    contents: &[u8],
+) -> Result<(), ASN1DecodeErr>
     requires closed { IsReadInside header.now.class header.now.constructed header.now.tag → ⊥ }
     ensures encoded { OnOk result ((offset : ℕ) (octets : List ℕ) (h : ℕ)
         → Encoding octets header.now.class header.now.constructed header.now.tag contents.now h

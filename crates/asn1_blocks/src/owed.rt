@@ -85,8 +85,8 @@ impl Owed {
     {
         let block = match self {
             Owed::Ready(block) => block,
-            Owed::Group(kind, offset, first, owes) => {
-                let others = blocks.split_off(blocks.len().saturating_sub(owes))?;
+            Owed::Group(kind, offset, first, behind) => {
+                let others = blocks.split_off(blocks.len().saturating_sub(behind))?;
                 let mut items = first;
                 items.append(others)?;
                 group_block(kind, offset, items)

@@ -9,7 +9,7 @@ use Rattle.asn1_headers.proofs.Prefixes.{identifier_alone}
 module _ (octets behind : List ℕ) (s m : ℕ) (class : _) (constructed : Bool) (fits : s ≤ length octets)
     (found : IsIdentifier (take s octets) class constructed m) (back : behind ≡ drop s octets) where
   -- a header of the form has these identifier octets
-  form_alone : HasIndefiniteForm octets → (constructed ≡ true) × ((rest : List ℕ) × (behind ≡ 128 ∷ rest))
+  pub form_alone : HasIndefiniteForm octets → (constructed ≡ true) × ((rest : List ℕ) × (behind ≡ 128 ∷ rest))
   form_alone (identifier, rest, whole, (other, tag, is)) =
       let same = identifier_alone (take s octets) identifier (drop s octets) (128 ∷ rest)
       class other constructed true m tag found is (take-append-drop s octets ∙ whole) in

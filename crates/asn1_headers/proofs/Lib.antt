@@ -5,3 +5,4 @@ pub mod Fronts
 pub mod FrontHeaders
 pub mod Identifiers
 pub mod IndefiniteForms
+pub mod Names

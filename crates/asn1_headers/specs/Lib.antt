@@ -2,3 +2,4 @@ pub mod Fault
 pub mod Front
 pub mod Header
 pub mod HeaderFault
+pub mod Names

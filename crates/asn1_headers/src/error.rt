@@ -1,6 +1,7 @@
 // Why octets are no document, and why a block can't be written.
 ghost use Rattle.std.specs.Prelude.{◌≡◌, IfOk};
 ghost use Rattle.asn1_headers.specs.Fault.{fault_of};
+ghost use Rattle.asn1_headers.specs.Names.{fault_name};
 
 use std::alloc::{AllocError, AllocFailed, Global};
 use std::str::Utf8Error;
@@ -74,6 +75,39 @@ impl<T: Drop> From<AllocFailed<T>> for ASN1DecodeErr {
 }
 
 impl ASN1DecodeErr {
+    /// The name of its variant, for messages that programs read.
+    ///
+    /// ```rust
+    /// use simple_asn1::from_der;
+    /// use std::alloc::Global;
+    ///
+    /// // Why octets are no document, in a word: of `30 05 02 01` `Incomplete`.
+    /// fn refusal(alloc: Global, octets: &[u8]) -> &'static str {
+    ///     match from_der(alloc, octets) {
+    ///         Ok(_) => "",
+    ///         Err(error) => error.name(),
+    ///     }
+    /// }
+    /// ```
+    pub fn name(&self) -> &'static str
+        ensures { result.now ≡ fault_name (fault_of self.now) }
+    {
+        match self {
+            ASN1DecodeErr::EmptyBuffer => "EmptyBuffer",
+            ASN1DecodeErr::BadBooleanLength(_) => "BadBooleanLength",
+            ASN1DecodeErr::LengthTooLarge(_) => "LengthTooLarge",
+            ASN1DecodeErr::UTF8DecodeFailure(_) => "UTF8DecodeFailure",
+            ASN1DecodeErr::PrintableStringDecodeFailure => "PrintableStringDecodeFailure",
+            ASN1DecodeErr::InvalidDateValue(_) => "InvalidDateValue",
+            ASN1DecodeErr::InvalidBitStringLength(_) => "InvalidBitStringLength",
+            ASN1DecodeErr::InvalidClass(_) => "InvalidClass",
+            ASN1DecodeErr::Incomplete => "Incomplete",
+            ASN1DecodeErr::Overflow => "Overflow",
+            ASN1DecodeErr::OutOfMemory => "OutOfMemory",
+            ASN1DecodeErr::NotCanonical(_) => "NotCanonical",
+        }
+    }
+
     /// The same error. The only error of the call is that memory ran out.
     ///
     /// ```rust

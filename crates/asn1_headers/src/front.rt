@@ -1,12 +1,12 @@
 // The header at the front of octets.
-ghost use Rattle.std.specs.Prelude.{◌≡◌, ◌↔◌, ◌+◌, ◌<◌, ◌≤◌, ◌^◌, ◌⊎◌, ◌∷◌, List, ℕ, IfErr, IfOk, IsTrue};
+ghost use Rattle.std.specs.Prelude.{◌≡◌, ◌↔◌, ◌+◌, ◌%◌, ◌<◌, ◌≤◌, ◌^◌, ◌⊎◌, ◌∷◌, List, ℕ, IfErr, IfOk, IsTrue};
 ghost use Rattle.asn1_headers.specs.declared.error.ASN1DecodeErr.TheVariants.{OutOfMemory};
 ghost use Rattle.asn1_headers.specs.Fault.{OutOfMemoryOr};
 ghost use Rattle.asn1_headers.specs.Front.{HasIndefiniteForm, HasNoHeader, IsAtFront};
 ghost use Rattle.asn1_headers.specs.HeaderFault.{HeaderFault};
 
 use crate::error::ASN1DecodeErr;
-use crate::header::{ASN1Class, HeaderCount, length_at, tag_at};
+use crate::header::{ASN1Class, HeaderCount, class_of, length_at, tag_at};
 use asn1_numbers::number::big_uint::BigUint;
 use std::alloc::Global;
 
@@ -38,32 +38,41 @@ pub fn read_header(
     ensures counted { count.new ≡ count.old + 1 }
 {
     count.add_one();
-    if is_short(octets) {
-        return header_at(alloc, octets);
-    }
-    long_header(alloc, octets)
-}
-
-// Whether the header has two octets, as most have. Reading these is compiled on its own, into a few instructions; no
-// answer depends on it.
-#[inline(always)]
-fn is_short(octets: &[u8]) -> bool {
     match octets {
-        [leading, length, ..] => *leading % 32 != 31 && *length < 128,
-        _ => false,
+        [leading, length, ..] if *leading % 32 != 31 && *length < 128 => {
+            short_header(alloc, octets, *leading, *length)
+        }
+        _ => header_at(alloc, octets),
     }
 }
 
-#[inline(never)]
-fn long_header(alloc: Global, octets: &[u8]) -> Result<Header, ASN1DecodeErr>
-    ensures found { IfOk result (IsAtFront octets.now) }
-    ensures form { IfOk result (λ header. IsTrue header.is_indefinite ↔ HasIndefiniteForm octets.now) }
-    ensures none { IfErr result (λ e. (e ≡ OutOfMemory) ⊎ HasNoHeader octets.now) }
-    ensures fault { (place : ℕ) → IfErr result (OutOfMemoryOr (HeaderFault place octets.now)) }
+// The header of one identifier octet and one length octet of the short form, as most are. It has code of its own so
+// that it takes a few instructions.
+#[inline(always)]
+fn short_header(
+    alloc: Global,
+    _octets: &[u8],
+    leading: u8,
+    length: u8,
+) -> Result<Header, ASN1DecodeErr>
+    requires front { (rest : List ℕ) × (_octets.now ≡ leading ∷ length ∷ rest) }
+    requires low { leading % 32 < 31 }
+    requires short { length < 128 }
+    ensures found { IfOk result (IsAtFront _octets.now) }
+    ensures form { IfOk result (λ header. IsTrue header.is_indefinite ↔ HasIndefiniteForm _octets.now) }
+    ensures refused { IfErr result (λ e. e ≡ OutOfMemory) }
 {
-    header_at(alloc, octets)
+    Ok(Header {
+        class: class_of(leading),
+        constructed: leading % 64 / 32 == 1,
+        tag: BigUint::from_u64(alloc, (leading % 32) as u64)?,
+        size: 2,
+        announced: length as usize,
+        is_indefinite: false,
+    })
 }
 
+// Any header.
 #[inline(always)]
 fn header_at(alloc: Global, octets: &[u8]) -> Result<Header, ASN1DecodeErr>
     ensures found { IfOk result (IsAtFront octets.now) }

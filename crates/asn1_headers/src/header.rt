@@ -5,6 +5,7 @@ ghost use Rattle.std.specs.Prelude.{◌≡◌, ℕ, ◌+◌, ◌*◌, ◌/◌, �
 ghost use Rattle.std.specs.Int.Digits.{number_from_digits, digits_of};
 ghost use Rattle.asn1_numbers.specs.Base128.{IsBase128, shortest_base128};
 ghost use Rattle.asn1_headers.specs.Fault.{OutOfMemoryOr, fault_of};
+ghost use Rattle.asn1_headers.specs.Names.{class_name};
 ghost use Rattle.asn1_headers.specs.Header.{BeginsWithNo, IsIdentifier, IsIncomplete, IsLength, IsSomeIdentifier, class_number, leading_octet, length_fault, shortest_identifier, shortest_length};
 
 use crate::error::ASN1DecodeErr;
@@ -24,6 +25,29 @@ pub enum ASN1Class {
     ContextSpecific,
     /// Bits 8 and 7 of the leading octet are 11 (X.690 table 1).
     Private,
+}
+
+impl ASN1Class {
+    /// Its name, as X.690 table 1 has it, in small letters.
+    ///
+    /// ```rust
+    /// use simple_asn1::ASN1Block;
+    ///
+    /// // Of the block `[0] 05 00` "context-specific".
+    /// fn class_of(block: &ASN1Block) -> &'static str {
+    ///     block.class().name()
+    /// }
+    /// ```
+    pub fn name(self) -> &'static str
+        ensures { result.now ≡ class_name self }
+    {
+        match self {
+            ASN1Class::Universal => "universal",
+            ASN1Class::Application => "application",
+            ASN1Class::ContextSpecific => "context-specific",
+            ASN1Class::Private => "private",
+        }
+    }
 }
 
 /// The number of headers begun. [`decode_tag`] raises it, and so does what reads a document with a count.
@@ -98,7 +122,7 @@ fn last_octet_at(octets: &[u8]) -> Option<usize>
 }
 
 // The base-128 number at the front, and how many octets it has.
-#[inline(never)]
+#[inline(always)]
 fn base128_at(alloc: Global, octets: &[u8]) -> Result<(BigUint, usize), ASN1DecodeErr>
     ensures found { IfOk result (λ x. (x.1 ≤ length octets.now) × IsBase128 (take x.1 octets.now) x.0) }
     ensures refused { IfErr result (OutOfMemoryOr (IsIncomplete IsBase128 octets.now)) }
@@ -300,7 +324,7 @@ pub fn identifier_at(octets: &[u8]) -> Option<usize>
 }
 
 // The class of a leading octet.
-fn class_of(leading: u8) -> ASN1Class
+pub fn class_of(leading: u8) -> ASN1Class
     ensures { class_number result ≡ leading / 64 }
 {
     match leading >> 6 {

@@ -3,6 +3,7 @@
 //!
 //! - [`header`]: identifier octets and length octets, read, sized and put; the classes; the count of headers;
 //! - [`front`]: the header at the front of octets;
+//! - [`types`]: the names of types;
 //! - [`error`]: why octets were not read, why a block was not written.
 //!
 //! `simple_asn1` hands on the errors, `ASN1Class`, `HeaderCount`, and the calls whose names begin with `decode_` and
@@ -14,3 +15,4 @@
 pub mod error;
 pub mod front;
 pub mod header;
+pub mod types;

@@ -11,7 +11,7 @@ mod header_reading;
 pub mod headers;
 mod indexed;
 pub mod iter;
-mod listing;
+pub mod listing;
 pub mod outline;
 mod reading;
 pub mod value;

@@ -176,7 +176,13 @@ impl EntryBuilder {
 
 // The entry of an encoding, which holds no blocks so far.
 #[inline(always)]
-fn started(_octets: &[u8], header: &PlacedHeader, offset: usize, entry: usize, depth: usize) -> Entry
+fn started(
+    _octets: &[u8],
+    header: &PlacedHeader,
+    offset: usize,
+    entry: usize,
+    depth: usize,
+) -> Entry
     requires found { (limit : ℕ) × (HeaderFound _octets.now offset limit header.now)
         × (limit ≤ length _octets.now) }
     requires next { suc entry < 2 ^ 64 }
@@ -207,7 +213,7 @@ pub fn begun(header: &PlacedHeader, offset: usize, entry: usize, depth: usize) -
 }
 
 // The number, or the greatest u64.
-fn capped(tag: &BigUint) -> u64
+pub fn capped(tag: &BigUint) -> u64
     ensures { HasTag tag.now result }
 {
     match tag.to_u64() {

@@ -1,6 +1,7 @@
 // What is read of an entry alone: the leaf readers of its contents octets.
-ghost use Rattle.std.specs.Prelude.{◌≡◌, ◌≢◌, ◌⊎◌, ◌↔◌, ℕ, ◌+◌, ◌<◌, List, length, slice_range, None, Some, true, IfErr, IfOk, IsOkAnd, IsTrue, MatchOption, MatchResult};
+ghost use Rattle.std.specs.Prelude.{◌≡◌, ◌≢◌, ◌⊎◌, ◌↔◌, ℕ, ◌+◌, ◌<◌, List, length, slice_range, None, Some, true, IfErr, IfOk, IsOkAnd, IsTrue, MatchOption, MatchResult, option_map};
 ghost use Rattle.asn1_headers.specs.Fault.{OutOfMemoryOr};
+ghost use Rattle.asn1_headers.specs.Names.{type_name as name_of_type};
 ghost use Rattle.asn1_leaves.specs.Contents.GeneralizedTime.{GeneralizedTimeContents, GeneralizedTimeFault};
 ghost use Rattle.asn1_leaves.specs.Contents.Moment.{moment_of};
 ghost use Rattle.asn1_leaves.specs.Contents.UtcTime.{UtcTimeContents, UtcTimeFault};
@@ -20,6 +21,7 @@ ghost use Rattle.asn1_outline.specs.Values.{EachIsOfItsTree, IsEntryOf, IsNoLeaf
 use crate::entry::Entry;
 use asn1_headers::error::ASN1DecodeErr;
 use asn1_headers::header::{ASN1Class, HeaderCount, decode_tag};
+use asn1_headers::types::type_name;
 use asn1_leaves::contents::text::TextForm;
 use asn1_leaves::contents::{bit_string, boolean, generalized_time, integer, text, utc_time};
 use asn1_leaves::oid::{self, OID};
@@ -89,6 +91,13 @@ impl Entry {
             ASN1Class::Universal => self.tag == tag,
             _ => false,
         }
+    }
+
+    /// The name of its type, if its tag is of class Universal and has one (X.680 8.4, table 1).
+    pub fn type_name(&self) -> Option<&'static str>
+        ensures { option_map (λ name. name.now) result ≡ name_of_type self.now.class self.now.tag }
+    {
+        type_name(self.class, self.tag)
     }
 
     /// Whether its block is `Explicit`: of another class than Universal, around exactly one block.

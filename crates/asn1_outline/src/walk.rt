@@ -141,7 +141,12 @@ fn take(_octets: &[u8], walk: &mut Walk, header: PlacedHeader) -> Result<(), All
 }
 
 // Goes on inside the encoding with the header, whose entry has the index.
-fn enter(walk: &mut Walk, header: &PlacedHeader, entry: usize, attempt: bool) -> Result<(), AllocError>
+fn enter(
+    walk: &mut Walk,
+    header: &PlacedHeader,
+    entry: usize,
+    attempt: bool,
+) -> Result<(), AllocError>
     ensures { OnOk result (IsEntered walk.old header.now entry attempt walk.new) }
 {
     let inner = walk.inner;

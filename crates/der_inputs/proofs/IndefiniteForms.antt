@@ -13,7 +13,7 @@ use Rattle.asn1_outline.specs.declared.entry.Entry.{Entry}
 use Rattle.asn1_outline.proofs.Entries.{entries_length, entry_at}
 use Rattle.simple_asn1.specs.Grammar.{IsDocument}
 use Rattle.simple_asn1.specs.Tree.{Trees}
-use Rattle.der_lines.specs.Headers.{HasIndefiniteForm}
+use Rattle.asn1_headers.specs.Front.{HasIndefiniteForm}
 use Rattle.der_inputs.specs.Documents.{AreDefinite, IsDefiniteDocument, IsFirstIndefinite, IsIndefiniteAt, entry_offsets}
 
 -- each entry of a document has its header there

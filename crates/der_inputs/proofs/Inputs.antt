@@ -4,7 +4,8 @@ use Rattle.std.specs.Prelude.{Option, Some, None, Result, Ok, Err, IfOk}
 use Rattle.std.specs.declared.alloc.AllocError.{AllocError}
 use Rattle.simple_asn1.specs.Places.{IsEncoding}
 use Rattle.der_inputs.specs.declared.outcome.Outcome.{Outcome}
-use Rattle.der_lines.specs.Headers.{HasNoHeader, StandsBehindHeader}
+use Rattle.asn1_headers.specs.Front.{HasNoHeader}
+use Rattle.der_lines.specs.Headers.{StandsBehindHeader}
 use Rattle.der_lines.specs.Seek.{BeginsAt, HasNoBlockAt, begins_behind, begins_first, begins_inside}
 use Rattle.der_inputs.specs.Inputs.{AddsBlock, AddsContents, AddsOctets, AddsTask, OutputRelation, of_block, of_no_block}
 use Rattle.der_forms.specs.Objects.{document_of}

@@ -7,7 +7,7 @@ use Rattle.serde_json.specs.Written.{compact_text}
 use Rattle.der_io.specs.Escaped.{escaped}
 use Rattle.der_json.specs.Json.{AddsJsonOf, origin_members, refusal_json}
 use Rattle.der_lines.specs.Dump.{AddsDumpOf, AddsLine, IsNote}
-use Rattle.der_lines.specs.Headers.{HasIndefiniteForm}
+use Rattle.asn1_headers.specs.Front.{HasIndefiniteForm}
 use Rattle.der_inputs.specs.Strict.{AddsStrictDumpOf}
 use Rattle.der_lines.specs.declared.document.Verdict.{Verdict}
 use Rattle.der_lines.specs.declared.document.Verdict.TheVariants.{AllRead, Refused}

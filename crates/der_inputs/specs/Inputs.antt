@@ -8,7 +8,7 @@ use Rattle.der_forms.specs.declared.objects.Ending.{Ending}
 use Rattle.der_forms.specs.declared.objects.Ending.TheVariants.{Closed}
 use Rattle.der_io.specs.Escaped.{escaped}
 use Rattle.der_lines.specs.Dump.{AddsLine, IsNote}
-use Rattle.der_lines.specs.Headers.{IsHeader}
+use Rattle.asn1_headers.specs.Front.{IsHeader}
 use Rattle.der_lines.specs.Seek.{BeginsAt, HasNoBlockAt}
 use Rattle.der_lines.specs.declared.document.Verdict.{Verdict}
 use Rattle.der_lines.specs.declared.document.Verdict.TheVariants.{AllRead, Refused}

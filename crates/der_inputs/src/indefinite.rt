@@ -1,6 +1,6 @@
 // Lengths of the indefinite form of BER, by entries.
 ghost use Rattle.std.specs.Prelude.{◌↔◌, All, IsTrue, MatchOption, drop};
-ghost use Rattle.der_lines.specs.Headers.{HasIndefiniteForm};
+ghost use Rattle.asn1_headers.specs.Front.{HasIndefiniteForm};
 ghost use Rattle.asn1_outline.specs.Entries.{HasHeaderAt};
 ghost use Rattle.der_inputs.specs.Documents.{AreDefinite, IsFirstIndefinite, entry_offsets};
 

@@ -18,7 +18,7 @@ use Rattle.asn1_blocks.specs.Tree.{Leaf, Tree, Trees, leaf, group, explicit, unk
 use Rattle.asn1_blocks.specs.Tree.{octet_string, null as null_leaf, object_identifier, text as text_leaf}
 use Rattle.asn1_blocks.specs.Tree.{utc_time, generalized_time}
 use Rattle.asn1_headers.specs.declared.header.ASN1Class.{ASN1Class}
-use Rattle.der_values.specs.Types.{type_name}
+use Rattle.asn1_headers.specs.Names.{class_name, type_name}
 use Rattle.asn1_headers.specs.declared.header.ASN1Class.TheVariants.{Application, ContextSpecific, Private, Universal}
 use Rattle.asn1_leaves.specs.Contents.ObjectIdentifier.{object_identifier_contents}
 use Rattle.asn1_leaves.specs.Contents.Moment.{Moment, moment_of}
@@ -37,13 +37,6 @@ natural_json n = if nat_lt 9007199254740991 n then string (natural_numeral n) el
 abbrev pub whole_json : ℤ → Data
 whole_json n =
     if nat_lt 9007199254740991 (unsigned_abs n) then string (whole_numeral n) else number (of_integer n)
-
--- how a class is called
-abbrev pub class_name : ASN1Class → List ℕ
-class_name Universal = codes "universal"
-class_name Application = codes "application"
-class_name ContextSpecific = codes "context-specific"
-class_name Private = codes "private"
 
 abbrev pub text_or_null : Option (List ℕ) → Data
 text_or_null None = null

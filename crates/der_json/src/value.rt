@@ -1,6 +1,7 @@
 // What is told of a block: its type, its tag, and what it holds. None of it is a float.
 ghost use Rattle.std.specs.Prelude.{◌≡◌, ◌<◌, List, ℕ, false, get_or, length, IfOk, IsTrue, None, option_map};
 ghost use Rattle.hex.specs.Hex.{encode_lower};
+ghost use Rattle.asn1_headers.specs.Names.{class_name};
 ghost use Rattle.asn1_leaves.specs.Contents.Moment.{moment_of};
 ghost use Rattle.serde_json.specs.View.{view};
 ghost use Rattle.serde_json.specs.Written.{has_float};
@@ -11,7 +12,7 @@ ghost use Rattle.asn1_outline.specs.Structure.{IsStructure, Nodes, tree_at};
 ghost use Rattle.serde_json.specs.Data.{string};
 ghost use Rattle.asn1_leaves.specs.DottedDecimal.{dotted_decimal};
 ghost use Rattle.der_json.specs.Json.{HasShortFront, IsIdentifierValue};
-ghost use Rattle.der_json.specs.Json.{IsMomentText, IsValue, bits_json, class_name as name_of, natural_json, type_json};
+ghost use Rattle.der_json.specs.Json.{IsMomentText, IsValue, bits_json, natural_json, type_json};
 ghost use Rattle.der_json.specs.Json.{whole_json};
 ghost use Rattle.der_json.specs.Rows.{IsEntryAt};
 
@@ -23,7 +24,7 @@ use asn1_numbers::number::big_int::BigInt;
 use asn1_numbers::number::big_uint::BigUint;
 use asn1_outline::entry::Entry;
 use asn1_outline::outline::Outline;
-use der_values::{Characters, long_identifier, text_in_form, type_name};
+use der_values::{Characters, long_identifier, text_in_form};
 use jiff::civil::DateTime;
 use serde_json::{Value, json};
 use std::alloc::{AllocError, Global};
@@ -36,7 +37,7 @@ pub fn type_value(alloc: Global, entry: &Entry) -> Result<Value, AllocError>
     ensures told { IfOk result (λ v. view v ≡ type_json entry.now.class entry.now.tag) }
     ensures exact { IfOk result (λ v. has_float (view v) ≡ false) }
 {
-    match type_name(entry.class, entry.tag) {
+    match entry.type_name() {
         Some(name) => text_value(alloc, name),
         None => Ok(Value::Null),
     }
@@ -47,18 +48,7 @@ pub fn class_value(alloc: Global, class: ASN1Class) -> Result<Value, AllocError>
     ensures told { IfOk result (λ v. view v ≡ string (name_of class)) }
     ensures exact { IfOk result (λ v. has_float (view v) ≡ false) }
 {
-    text_value(alloc, class_name(class))
-}
-
-fn class_name(class: ASN1Class) -> &'static str
-    ensures { result.now ≡ name_of class }
-{
-    match class {
-        ASN1Class::Universal => "universal",
-        ASN1Class::Application => "application",
-        ASN1Class::ContextSpecific => "context-specific",
-        ASN1Class::Private => "private",
-    }
+    text_value(alloc, class.name())
 }
 
 // The tag number of the block at the index.

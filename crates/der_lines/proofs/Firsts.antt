@@ -11,14 +11,16 @@ use Rattle.asn1_blocks.specs.Grammar.{Encodes}
 use Rattle.asn1_blocks.specs.Tree.{Tree}
 use Rattle.der_lines.specs.Dump.{Adds, Front, IsFirst, IsJudged, IsLater, StandAt, StandsInside, cut_short, is_wide}
 use Rattle.der_lines.specs.Dump.{tag_words, unreadable, with_no_value, with_value}
-use Rattle.der_lines.specs.Headers.{BeginsWithHeader, HasNoHeader, is_gone_into}
-use Rattle.der_lines.specs.Steps.{AddsStart, HasNoValue, IsAtFront, IsFirstFault, IsNear, IsRight, IsTaken, PutsEncodings, PutsFirst, StartsWith}
+use Rattle.asn1_headers.specs.Front.{BeginsWithHeader, HasNoHeader}
+use Rattle.der_lines.specs.Headers.{is_gone_into}
+use Rattle.asn1_headers.specs.Front.{IsAtFront}
+use Rattle.der_lines.specs.Steps.{AddsStart, HasNoValue, IsFirstFault, IsNear, IsRight, IsTaken, PutsEncodings, PutsFirst, StartsWith}
 use Rattle.der_lines.specs.Steps.{header_front, outer}
 use Rattle.der_lines.specs.declared.cursor.Step.{Step}
 use Rattle.der_lines.specs.declared.cursor.Step.TheVariants.{Into, Past}
 use Rattle.der_lines.specs.declared.encodings.Passed.{Passed}
 use Rattle.der_lines.specs.declared.faults.Fault.{Fault}
-use Rattle.der_lines.specs.declared.header.Header.{Header}
+use Rattle.asn1_headers.specs.declared.front.Header.{Header}
 use Rattle.der_lines.specs.declared.place.Place.{Place}
 use Rattle.der_lines.proofs.Dumps.{adds_join, adds_map, inside_deeper, start_adds}
 use Rattle.der_lines.proofs.Seeking.{header_size}

@@ -3,5 +3,4 @@ mod Dumps
 mod Firsts
 mod Fronts
 mod Headers
-mod IndefiniteForms
 mod Seeking

@@ -8,7 +8,8 @@ use Rattle.asn1_headers.specs.declared.header.ASN1Class.{ASN1Class}
 use Rattle.asn1_headers.specs.declared.header.ASN1Class.TheVariants.{Universal}
 use Rattle.asn1_headers.proofs.Prefixes.{encoding_alone, identifier_alone, length_alone}
 use Rattle.asn1_blocks.specs.Places.{EncodingAt, HasNoEncodingAt, IsEncoding}
-use Rattle.der_lines.specs.Headers.{BeginsWithHeader, HasNoHeader, is_gone_into}
+use Rattle.asn1_headers.specs.Front.{BeginsWithHeader, HasNoHeader}
+use Rattle.der_lines.specs.Headers.{is_gone_into}
 use Rattle.der_lines.specs.Seek.{AreEncodings, BeginsAt, HasNoBlockAt, Holds, begins_behind, begins_first}
 use Rattle.der_lines.specs.Seek.{begins_inside, holds_bits, holds_blocks, holds_octets, none_left, one_first}
 

@@ -10,10 +10,11 @@ use Rattle.asn1_headers.specs.declared.header.ASN1Class.TheVariants.{Universal, 
 use Rattle.asn1_blocks.specs.Contents.{LeafFault}
 use Rattle.asn1_blocks.specs.Grammar.{Encodes}
 use Rattle.asn1_blocks.specs.Tree.{Tree}
-use Rattle.der_lines.specs.Headers.{BeginsWithHeader, HasIndefiniteForm, HasNoHeader, is_gone_into}
+use Rattle.asn1_headers.specs.Front.{BeginsWithHeader, HasIndefiniteForm, HasNoHeader}
+use Rattle.der_lines.specs.Headers.{is_gone_into}
 use Rattle.der_lines.specs.declared.document.Verdict.{Verdict}
 use Rattle.der_lines.specs.declared.document.Verdict.TheVariants.{AllRead, Refused}
-use Rattle.der_values.specs.Types.{type_name}
+use Rattle.asn1_headers.specs.Names.{type_name}
 use Rattle.der_io.specs.Characters.{colon, greater_than_sign, line_feed, space}
 
 -- a tag number in words: in decimal below 2^128

@@ -3,7 +3,8 @@ use Rattle.std.specs.Prelude.{◌≡◌, ℕ, ◌+◌, ◌<◌, Bool, true, fals
 use Rattle.asn1_headers.specs.declared.header.ASN1Class.{ASN1Class}
 use Rattle.asn1_headers.specs.declared.header.ASN1Class.TheVariants.{Universal}
 use Rattle.asn1_blocks.specs.Places.{EncodingAt, IsEncoding}
-use Rattle.der_lines.specs.Headers.{BeginsWithHeader, is_gone_into}
+use Rattle.asn1_headers.specs.Front.{BeginsWithHeader}
+use Rattle.der_lines.specs.Headers.{is_gone_into}
 
 -- the octets are encodings, one after another to the end
 pub data AreEncodings : List ℕ → Type 0 where

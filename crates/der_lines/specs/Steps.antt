@@ -11,23 +11,19 @@ use Rattle.asn1_blocks.specs.Tree.{Tree}
 use Rattle.der_lines.specs.Dump.{Adds, AddsLine, AreFronts, AreFrontsOf, Front, IsBlockLine, IsFirst, IsInsideLine, IsLater}
 use Rattle.der_lines.specs.Dump.{StandsInside, down_to, indentation, is_too_deep, is_wide, right_of, size_in, tag_words}
 use Rattle.der_lines.specs.Dump.{unreadable}
-use Rattle.der_lines.specs.Headers.{BeginsWithHeader, HasNoHeader, is_gone_into}
+use Rattle.asn1_headers.specs.Front.{BeginsWithHeader, HasNoHeader}
+use Rattle.der_lines.specs.Headers.{is_gone_into}
 use Rattle.der_lines.specs.declared.cursor.Cursor.{Cursor}
 use Rattle.der_lines.specs.declared.cursor.Step.{Step}
 use Rattle.der_lines.specs.declared.cursor.Step.TheVariants.{Into, Past}
 use Rattle.der_lines.specs.declared.encodings.Passed.{Passed}
 use Rattle.der_lines.specs.declared.faults.Fault.{Fault}
-use Rattle.der_lines.specs.declared.header.Header.{Header}
+use Rattle.asn1_headers.specs.declared.front.Header.{Header}
 use Rattle.der_lines.specs.declared.lines.LineStart.{LineStart}
 use Rattle.der_lines.specs.declared.lines.Mark.{Mark}
 use Rattle.der_lines.specs.declared.lines.Mark.TheVariants.{Fault as fault_mark, Object as object_mark}
 use Rattle.der_lines.specs.declared.place.Place.{Place}
 use Rattle.der_io.specs.Characters.{equals_sign, exclamation_mark, space}
-
--- the header stands at the front of the octets
-abbrev pub IsAtFront : List ℕ → Header → Type 0
-IsAtFront octets header =
-    BeginsWithHeader octets header.size header.announced header.class header.constructed header.tag
 
 -- the contents octets of an encoding with these fields have a value
 abbrev pub IsRight : ASN1Class → Bool → ℕ → List ℕ → Type 0

@@ -2,13 +2,14 @@
 ghost use Rattle.std.specs.Prelude.{◌≡◌, ◌↔◌, ◌+◌, ◌≤◌, ◌<◌, false, length, true};
 ghost use Rattle.std.specs.Prelude.{[], IfOk, IfSome, IsTrue, OnOk, option_map};
 ghost use Rattle.der_lines.specs.Dump.{Adds, StandAt, StandsInside};
-ghost use Rattle.der_lines.specs.Headers.{HasIndefiniteForm, HasNoHeader, is_gone_into};
-ghost use Rattle.der_lines.specs.Steps.{AddsStart, IsAtFront, IsTaken, PutsEncodings, PutsFirst, front_of};
+ghost use Rattle.asn1_headers.specs.Front.{HasIndefiniteForm, HasNoHeader, IsAtFront};
+ghost use Rattle.der_lines.specs.Headers.{is_gone_into};
+ghost use Rattle.der_lines.specs.Steps.{AddsStart, IsTaken, PutsEncodings, PutsFirst, front_of};
 ghost use Rattle.der_lines.specs.Steps.{earlier_fault, header_front};
 
 use crate::cursor::{Cursor, Step};
 use crate::faults::{Fault, fault_words};
-use crate::header::{Header, read_header};
+use crate::header::holds_encodings;
 use crate::held::{Held, held_in};
 use crate::leaf::read_value;
 use crate::lines::{LineStart, push_line};
@@ -17,6 +18,8 @@ use crate::place::{Place, is_too_deep, sum_of};
 use crate::scalars::write_after_space;
 use crate::values::{INDEFINITE, ValueStyle, opened_text, tag_words};
 use asn1_headers::error::ASN1DecodeErr;
+use asn1_headers::front::{Header, read_header};
+use asn1_headers::header::HeaderCount;
 use std::alloc::{AllocError, Global};
 
 // What came of what is left of octets: how it is gone on, and what is wrong with the encoding at the front.
@@ -62,7 +65,7 @@ fn push_first(
     requires { 0 < length left.now }
     ensures { IfOk result (λ passed. PutsFirst place offset left.now passed out.old.items out.new.items) }
 {
-    let header = match read_header(alloc, left) {
+    let header = match read_header(alloc, left, &mut HeaderCount::new()) {
         Ok(header) => header,
         Err(ASN1DecodeErr::OutOfMemory) => return Err(AllocError),
         Err(fault) => return push_unreadable(alloc, left, &fault, offset, place, out),
@@ -70,7 +73,7 @@ fn push_first(
     if header.announced > left.len() - header.size {
         return push_cut(alloc, left, &header, offset, place, out);
     }
-    if header.is_gone_into() {
+    if holds_encodings(&header) {
         return push_opened(alloc, left, &header, offset, place, out);
     }
     push_leaf(alloc, names, left, header, offset, place, out)
@@ -125,7 +128,7 @@ fn push_cut(
     let there = contents.len();
     let announced = header.announced;
     let mut said = format!(in alloc; " (truncated: {there} of {announced} bytes)")?;
-    if !header.is_gone_into() && there > 0 {
+    if !holds_encodings(header) && there > 0 {
         said.push_str(":")?;
         write_after_space(&mut said, contents, place.is_full)?;
     }
@@ -142,7 +145,7 @@ fn push_cut(
 fn step_of(header: &Header, size: usize) -> Step
     ensures { IsTaken header.now size result }
 {
-    if header.is_gone_into() {
+    if holds_encodings(header) {
         Step::Into(header.size, size)
     } else {
         Step::Past(size)

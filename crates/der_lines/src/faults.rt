@@ -39,6 +39,22 @@ pub fn leaf_words(
     contents: &[u8],
     fault: &ASN1DecodeErr,
 ) -> Result<String, AllocError> {
+    let words = contents_words(alloc, universal, contents, fault)?;
+    with_name(words, fault)
+}
+
+// A fault in words, and its name.
+fn with_name(mut words: String, fault: &ASN1DecodeErr) -> Result<String, AllocError> {
+    write!(words, " ({})", fault.name())?;
+    Ok(words)
+}
+
+fn contents_words(
+    alloc: Global,
+    universal: Option<u8>,
+    contents: &[u8],
+    fault: &ASN1DecodeErr,
+) -> Result<String, AllocError> {
     match (universal, fault) {
         (Some(6), ASN1DecodeErr::Incomplete) => identifier_words(alloc, contents),
         (Some(23), ASN1DecodeErr::InvalidDateValue(_)) => {
@@ -51,18 +67,15 @@ pub fn leaf_words(
             contents,
         ),
         (_, ASN1DecodeErr::UTF8DecodeFailure(failure)) => utf8_words(alloc, failure),
-        _ => fault_words(alloc, fault),
+        _ => plain_words(alloc, fault),
     }
 }
 
 fn identifier_words(alloc: Global, contents: &[u8]) -> Result<String, AllocError> {
     if contents.is_empty() {
-        return String::from_str(alloc, "OBJECT IDENTIFIER has no content bytes (Incomplete)");
+        return String::from_str(alloc, "OBJECT IDENTIFIER has no content bytes");
     }
-    String::from_str(
-        alloc,
-        "OBJECT IDENTIFIER ends inside a component (Incomplete)",
-    )
+    String::from_str(alloc, "OBJECT IDENTIFIER ends inside a component")
 }
 
 // The text of a time, and of which form it should be.
@@ -80,52 +93,40 @@ fn time_words(
         }
         Err(_) => write_after_space(&mut words, contents, false)?,
     }
-    write!(
-        words,
-        "; expected {form}, of an existing moment (InvalidDateValue)"
-    )?;
+    write!(words, "; expected {form}, of an existing moment")?;
     Ok(words)
 }
 
 // Where the octets begin that are no character, counted from the first of the contents octets.
 fn utf8_words(alloc: Global, failure: &Utf8Error) -> Result<String, AllocError> {
     let place = failure.valid_up_to();
-    format!(in alloc; "string is not UTF-8 from content byte {place} on (UTF8DecodeFailure)")
+    format!(in alloc; "string is not UTF-8 from content byte {place} on")
 }
 
-// What a fault is, in words. That memory ran out is none.
+// What a fault is, in words, and its name. That memory ran out is none.
 pub fn fault_words(alloc: Global, fault: &ASN1DecodeErr) -> Result<String, AllocError> {
+    with_name(plain_words(alloc, fault)?, fault)
+}
+
+fn plain_words(alloc: Global, fault: &ASN1DecodeErr) -> Result<String, AllocError> {
     match fault {
-        ASN1DecodeErr::EmptyBuffer => String::from_str(alloc, "there are no bytes (EmptyBuffer)"),
+        ASN1DecodeErr::EmptyBuffer => String::from_str(alloc, "there are no bytes"),
         ASN1DecodeErr::BadBooleanLength(n) => {
-            format!(in alloc; "BOOLEAN must have 1 content byte, has {n} (BadBooleanLength)")
+            format!(in alloc; "BOOLEAN must have 1 content byte, has {n}")
         }
-        ASN1DecodeErr::LengthTooLarge(n) => {
-            format!(in alloc; "length too large: {n} (LengthTooLarge)")
-        }
-        ASN1DecodeErr::UTF8DecodeFailure(_) => {
-            String::from_str(alloc, "string is not UTF-8 (UTF8DecodeFailure)")
-        }
+        ASN1DecodeErr::LengthTooLarge(n) => { format!(in alloc; "length too large: {n}") }
+        ASN1DecodeErr::UTF8DecodeFailure(_) => { String::from_str(alloc, "string is not UTF-8") }
         ASN1DecodeErr::PrintableStringDecodeFailure => {
-            String::from_str(
-                alloc,
-                "character not allowed in PrintableString (PrintableStringDecodeFailure)",
-            )
+            String::from_str(alloc, "character not allowed in PrintableString")
         }
-        ASN1DecodeErr::InvalidDateValue(text) => format!(in alloc;
-            "not a time: {text:?} (InvalidDateValue)"
-        ),
+        ASN1DecodeErr::InvalidDateValue(text) => format!(in alloc; "not a time: {text:?}"),
         ASN1DecodeErr::InvalidBitStringLength(n) => {
-            format!(in alloc;
-                "BIT STRING has more unused bits than bits: {n} left (InvalidBitStringLength)"
-            )
+            format!(in alloc; "BIT STRING has more unused bits than bits: {n} left")
         }
-        ASN1DecodeErr::InvalidClass(n) => format!(in alloc; "invalid class {n} (InvalidClass)"),
-        ASN1DecodeErr::Incomplete => String::from_str(alloc, "unexpected end of data (Incomplete)"),
-        ASN1DecodeErr::Overflow => String::from_str(alloc, "number too large (Overflow)"),
+        ASN1DecodeErr::InvalidClass(n) => format!(in alloc; "invalid class {n}"),
+        ASN1DecodeErr::Incomplete => String::from_str(alloc, "unexpected end of data"),
+        ASN1DecodeErr::Overflow => String::from_str(alloc, "number too large"),
         ASN1DecodeErr::OutOfMemory => Err(AllocError),
-        ASN1DecodeErr::NotCanonical(n) => {
-            format!(in alloc; "block at {n} is not canonical DER (NotCanonical)")
-        }
+        ASN1DecodeErr::NotCanonical(n) => { format!(in alloc; "block at {n} is not canonical DER") }
     }
 }

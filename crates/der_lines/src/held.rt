@@ -3,10 +3,11 @@ ghost use Rattle.std.specs.Prelude.{◌≡◌, ◌<◌, IfOk, IfSome, length, tr
 ghost use Rattle.der_lines.specs.Dump.{StandAt};
 
 use crate::cursor::{Cursor, Step};
-use crate::header::{Header, find_header};
+use crate::header::{find_header, holds_encodings, universal_tag};
 use crate::leaf::is_right;
 use crate::place::Place;
 use asn1_blocks::encoding::encoding_at;
+use asn1_headers::front::Header;
 use std::alloc::{AllocError, Global};
 
 // Octets of a string which are encodings, and how many contents octets stand before them.
@@ -40,7 +41,7 @@ pub fn held_in<'a>(
 fn octets_inside<'a>(header: &Header, contents: &'a [u8]) -> Option<Held<'a>>
     ensures { IfSome result (λ h. StandAt contents.now h.before h.octets.now) }
 {
-    match (header.universal(), contents) {
+    match (universal_tag(header), contents) {
         (Some(4), octets) => Some(Held { octets, before: 0 }),
         (Some(3), [0, octets @ ..]) => Some(Held { octets, before: 1 }),
         _ => None,
@@ -65,7 +66,7 @@ fn hold_encodings(alloc: Global, octets: &[u8]) -> Result<bool, AllocError> {
             return Ok(false);
         }
         let size = header.size + header.announced;
-        let step = if header.is_gone_into() {
+        let step = if holds_encodings(&header) {
             hold_more = true;
             Step::Into(header.size, size)
         } else {

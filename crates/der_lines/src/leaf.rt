@@ -5,13 +5,14 @@ ghost use Rattle.der_lines.specs.Headers.{is_gone_into};
 ghost use Rattle.der_lines.specs.Steps.{HasNoValue, IsRight};
 
 use crate::faults::leaf_words;
-use crate::header::{Header, has_tag};
+use crate::header::{has_tag, universal_tag};
 use crate::names::Names;
 use crate::scalars::{write_after_space, write_as};
 use crate::values::{ValueStyle, value_text};
 use asn1_blocks::contents::check_contents;
 use asn1_blocks::parsed;
 use asn1_headers::error::ASN1DecodeErr;
+use asn1_headers::front::Header;
 use asn1_headers::header::ASN1Class;
 use der_values::{Characters, text_in_form};
 use std::alloc::{AllocError, Global};
@@ -37,7 +38,7 @@ pub fn read_value(
         (IsRight header.class header.constructed header.tag contents.now)
         (λ _. HasNoValue header.class header.tag contents.now)) }
 {
-    let universal = header.universal();
+    let universal = universal_tag(&header);
     if let Some(form) = form_of(&header, contents) {
         let mut text = String::new(alloc);
         if write_as(alloc, &mut text, form, contents)? {
@@ -85,7 +86,7 @@ fn check(
         (IsRight header.class header.constructed header.tag contents.now)
         (λ _. HasNoValue header.class header.tag contents.now)) }
 {
-    let header = parsed::Header {
+    let header = parsed::PlacedHeader {
         class: header.class,
         constructed: header.constructed,
         tag: header.tag,

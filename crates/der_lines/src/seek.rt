@@ -3,8 +3,9 @@ ghost use Rattle.std.specs.Prelude.{◌≡◌, ◌↔◌, ◌<◌, ◌∷◌, �
 ghost use Rattle.der_lines.specs.Seek.{AreEncodings, BeginsAt, HasNoBlockAt, Holds};
 ghost use Rattle.asn1_headers.specs.declared.header.ASN1Class.TheVariants.{Universal};
 
-use crate::header::{Header, find_header, has_tag};
+use crate::header::{find_header, has_tag, holds_encodings};
 use asn1_blocks::encoding::encoding_at;
+use asn1_headers::front::Header;
 use asn1_headers::header::ASN1Class;
 use std::alloc::{AllocError, Global};
 
@@ -76,7 +77,7 @@ fn octets_inside<'a>(header: &Header, contents: &'a [u8]) -> Option<(&'a [u8], u
         Holds header.now.class header.now.constructed header.now.tag contents.now before inside → ⊥)
         (λ f. Holds header.now.class header.now.constructed header.now.tag contents.now f.1 f.0.now) }
 {
-    if header.is_gone_into() {
+    if holds_encodings(header) {
         return Some((contents, 0));
     }
     if is_primitive(header, OCTET_STRING) {

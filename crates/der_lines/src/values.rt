@@ -1,20 +1,22 @@
 // What is said of encodings behind the sizes: the tag in words, and the values of contents octets.
 ghost use Rattle.std.specs.Prelude.{◌≡◌, IfOk, option_map, string_bytes};
 ghost use Rattle.der_lines.specs.Dump.{tag_number as tag_number_is, tag_words as tag_words_are};
-ghost use Rattle.der_values.specs.Types.{type_name as type_name_is};
+ghost use Rattle.asn1_headers.specs.Names.{type_name as type_name_is};
 
-use crate::header::Header;
+use crate::header::universal_tag;
 use crate::names::Names;
 use crate::scalars::{write_after_space, write_hex, write_quoted};
 use asn1_headers::error::ASN1DecodeErr;
+use asn1_headers::front::Header;
 use asn1_headers::header::ASN1Class;
+use asn1_headers::types::type_name;
 use asn1_leaves::contents::text::TextForm;
 use asn1_leaves::contents::{generalized_time, text, utc_time};
 use asn1_leaves::oid;
 use asn1_leaves::oid::OID;
 use asn1_numbers::number::big_int::BigInt;
 use asn1_numbers::number::big_uint::BigUint;
-use der_values::{long_identifier, type_name};
+use der_values::long_identifier;
 use jiff::civil::DateTime;
 use std::alloc::{AllocError, Global};
 use std::str;
@@ -67,7 +69,7 @@ pub fn opened_text(header: &Header) -> &'static str {
     if header.is_indefinite {
         return INDEFINITE_TEXT;
     }
-    let is_told = match header.universal() {
+    let is_told = match universal_tag(header) {
         Some(tag) => matches!(tag, 8 | 11 | 16 | 17 | 29),
         None => header.announced > 0,
     };

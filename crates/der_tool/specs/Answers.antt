@@ -6,26 +6,12 @@ use Rattle.der_io.specs.Lines.{lines_of}
 use Rattle.simple_asn1.specs.Tree.{Trees}
 use Rattle.simple_asn1.specs.Grammar.{IsDocument, FirstFault}
 use Rattle.simple_asn1.specs.Canonical.{all_canonical}
-use Rattle.simple_asn1.specs.Fault.{DecodeFault, empty_buffer, bad_boolean_length, length_too_large, utf8_failure, printable_string_failure, invalid_date_value, invalid_bit_string_length, invalid_class, incomplete, overflow, out_of_memory, not_canonical}
+use Rattle.simple_asn1.specs.Fault.{DecodeFault, bad_boolean_length, length_too_large, invalid_bit_string_length, not_canonical}
+use Rattle.simple_asn1.specs.Names.{fault_name}
 use Rattle.simple_asn1.specs.ReadBack.{IsCanonicalDocument}
 use Rattle.simple_asn1.specs.Strict.{StrictFault}
 use Rattle.der_tool.specs.declared.answers.Reading.{Reading}
 use Rattle.der_tool.specs.declared.answers.Reading.TheVariants.{Lenient, Strict}
-
--- the name of a fault
-abbrev pub name_of : DecodeFault → List ℕ
-name_of empty_buffer = codes "EmptyBuffer"
-name_of (bad_boolean_length n) = codes "BadBooleanLength"
-name_of (length_too_large n) = codes "LengthTooLarge"
-name_of (utf8_failure n size) = codes "UTF8DecodeFailure"
-name_of printable_string_failure = codes "PrintableStringDecodeFailure"
-name_of (invalid_date_value text) = codes "InvalidDateValue"
-name_of (invalid_bit_string_length n) = codes "InvalidBitStringLength"
-name_of (invalid_class n) = codes "InvalidClass"
-name_of incomplete = codes "Incomplete"
-name_of overflow = codes "Overflow"
-name_of out_of_memory = codes "OutOfMemory"
-name_of (not_canonical n) = codes "NotCanonical"
 
 -- what follows the name: of four faults a space and their number
 abbrev pub number_after : DecodeFault → List ℕ
@@ -37,7 +23,7 @@ number_after fault = []
 
 -- what is said of a fault
 abbrev pub refusal : DecodeFault → List ℕ
-refusal fault = codes "refused " ++ (name_of fault ++ number_after fault)
+refusal fault = codes "refused " ++ (fault_name fault ++ number_after fault)
 
 -- the octets are accepted, and these are their canonical ones: of any document; strictly, of one that
 -- is its canonical octets

@@ -6,7 +6,6 @@ ghost use Rattle.der_tool.specs.Answers.{
   IsAnswer,
   IsRefused,
   IsVerdict,
-  name_of,
   number_after,
   refusal,
 };
@@ -90,7 +89,7 @@ fn append_refusal(
 {
     let number = number_text(alloc, fault)?;
     output.extend_from_slice(b"refused ")?;
-    output.extend_from_slice(fault_name(fault).as_bytes())?;
+    output.extend_from_slice(fault.name().as_bytes())?;
     output.extend_from_slice(number.as_bytes())
 }
 
@@ -109,25 +108,6 @@ fn canonical_octets(
             discard(from_der_strict(alloc, octets)?);
             Ok(octets.to_vec(alloc)?)
         }
-    }
-}
-
-fn fault_name(fault: &ASN1DecodeErr) -> &'static str
-    ensures { result.now ≡ name_of (fault_of fault.now) }
-{
-    match fault {
-        ASN1DecodeErr::EmptyBuffer => "EmptyBuffer",
-        ASN1DecodeErr::BadBooleanLength(_) => "BadBooleanLength",
-        ASN1DecodeErr::LengthTooLarge(_) => "LengthTooLarge",
-        ASN1DecodeErr::UTF8DecodeFailure(_) => "UTF8DecodeFailure",
-        ASN1DecodeErr::PrintableStringDecodeFailure => "PrintableStringDecodeFailure",
-        ASN1DecodeErr::InvalidDateValue(_) => "InvalidDateValue",
-        ASN1DecodeErr::InvalidBitStringLength(_) => "InvalidBitStringLength",
-        ASN1DecodeErr::InvalidClass(_) => "InvalidClass",
-        ASN1DecodeErr::Incomplete => "Incomplete",
-        ASN1DecodeErr::Overflow => "Overflow",
-        ASN1DecodeErr::OutOfMemory => "OutOfMemory",
-        ASN1DecodeErr::NotCanonical(_) => "NotCanonical",
     }
 }
 

@@ -10,16 +10,16 @@ use Rattle.asn1_outline.proofs.Entries.{entries_length, entry_at}
 use Rattle.asn1_outline.proofs.Standing.{encoding_of, structure_stands}
 use Rattle.asn1_outline.specs.Entries.{AreEntries, HasHeaderAt, no_entry}
 use Rattle.asn1_outline.specs.declared.entry.Entry.{Entry}
-use Rattle.simple_asn1_c.specs.Records.{AreRecords, HasHeader, IsRecordAt, block_of, header_of, no_record}
+use Rattle.simple_asn1_c.specs.Records.{AreRecords, HasHeader, IsRecordAt, block_of, no_record}
 use Rattle.simple_asn1_c.specs.declared.record.Block.{Block}
 
 -- the octets of a tree have the header that stands at its entry
 header_stands : (x : List ℕ) (b : Tree ℕ) (e : Entry) (octets : List ℕ) → HasHeaderAt x e → e.offset ≡ tree_offset b → IsEncodedIn x b octets
-    → HasHeader octets (header_of (block_of e))
+    → HasHeader octets (block_of e)
 header_stands x b e octets (y, at, h) o s =
     let there = encoding_of x b octets s in
     let here = subst (λ n. EncodingAt x n y) o at in
-    let own : HasHeader y (header_of (block_of e)) = record {
+    let own : HasHeader y (block_of e) = record {
       class = e.class;
       constructed = e.constructed;
       tag = h.tag;
@@ -30,7 +30,7 @@ header_stands x b e octets (y, at, h) o s =
       tag_field = h.tag_field;
       contents_field = h.contents_field;
     } in
-    subst (λ w. HasHeader w (header_of (block_of e))) (encoding_at_alone x (tree_offset b) y octets here there) own
+    subst (λ w. HasHeader w (block_of e)) (encoding_at_alone x (tree_offset b) y octets here there) own
 
 -- the records of a document
 pub entries_records : (x : List ℕ) (ns : Nodes) (es : List Entry) → IsStructure x ns → AreEntries x 0 (nodes_in_order ns) (nodes_depths 0 ns) es

@@ -3,12 +3,12 @@ use Rattle.std.proofs.Common.{ℕ, suc, ◌+◌, ◌-◌, ◌*◌, ◌≤◌, Li
 use Rattle.std.specs.List.{slice_range}
 use Rattle.simple_asn1.specs.Shapes.{AreShapes, HasItems, HasShapes, Shapes, as_it_came, entries_of, no_more, not_read, one_more, read_inside}
 use Rattle.asn1_blocks.specs.Places.{HeaderFound}
-use Rattle.asn1_blocks.specs.declared.parsed.Header.{Header}
+use Rattle.asn1_blocks.specs.declared.parsed.PlacedHeader.{PlacedHeader}
 use Rattle.asn1_blocks.proofs.ReadSteps.{slice_length}
 use Rattle.asn1_outline.proofs.Standing.{two_more}
 
 -- a header has two octets
-two_octets : (x : List ℕ) (p e : ℕ) (h : Header) → e ≤ length x → HeaderFound x p e h → p + 2 ≤ h.start
+two_octets : (x : List ℕ) (p e : ℕ) (h : PlacedHeader) → e ≤ length x → HeaderFound x p e h → p + 2 ≤ h.start
 two_octets x p e h within f =
     let more = two_more (slice_range x p h.end) h.class h.constructed h.tag (slice_range x h.start h.end) (h.start - p) f.encoding in
     let all = slice_length x p h.end (omega (arith, f.past, f.order)) (omega (arith, f.fits, within)) in
@@ -25,7 +25,7 @@ mutual
       let after = two_each_shape x h.end e next d rest within are in
       omega (arith, own, inside, after, f.order, length-append (entries_of (suc i) (suc d) items) (entries_of next d rest))
 
-  two_each_item : (x : List ℕ) (h : Header) (i d : ℕ) (all : Shapes) → h.end ≤ length x → h.start ≤ h.end → HasItems x h all
+  two_each_item : (x : List ℕ) (h : PlacedHeader) (i d : ℕ) (all : Shapes) → h.end ≤ length x → h.start ≤ h.end → HasItems x h all
       → 2 * length (entries_of i d all) + h.start ≤ h.end
   two_each_item x h i d all within order (read_inside is are) = two_each_shape x h.start h.end i d all within are
   two_each_item x h i d all within order (as_it_came other bit fault) = omega (arith, order)

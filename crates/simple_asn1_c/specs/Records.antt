@@ -10,33 +10,23 @@ use Rattle.simple_asn1.specs.View.{tree_offset}
 use Rattle.asn1_headers.specs.declared.header.ASN1Class.{ASN1Class}
 use Rattle.asn1_outline.specs.Entries.{HasTag}
 use Rattle.asn1_outline.specs.declared.entry.Entry.{Entry}
-use Rattle.simple_asn1_c.specs.declared.header.Header.{Header}
 use Rattle.simple_asn1_c.specs.declared.record.Block.{Block}
 
--- the octets are an encoding with this header
-pub record HasHeader (octets : List ℕ) (h : Header) : Type 0 where
+-- the octets are an encoding with the header of the record
+pub record HasHeader (octets : List ℕ) (r : Block) : Type 0 where
   pub class : ASN1Class
   pub constructed : Bool
   pub tag : ℕ
   pub contents : List ℕ
-  pub encoding : Encoding octets class constructed tag contents h.size
-  pub class_field : h.tag_class ≡ class_number class
-  pub constructed_field : h.constructed ≡ constructed_bit constructed
-  pub tag_field : HasTag tag h.tag
-  pub contents_field : h.contents ≡ length contents
+  pub encoding : Encoding octets class constructed tag contents r.header
+  pub class_field : r.tag_class ≡ class_number class
+  pub constructed_field : r.constructed ≡ constructed_bit constructed
+  pub tag_field : HasTag tag r.tag
+  pub contents_field : r.contents ≡ length contents
 
 -- the tree stands in a document of these octets
 abbrev pub Stands : List ℕ → Tree ℕ → Type 0
 Stands document b = (bs : Trees ℕ) × (octets : List ℕ) × IsDocument document bs × HasOctets document bs b octets
-
-abbrev pub header_of : Block → Header
-header_of r = record {
-  tag = r.tag;
-  tag_class = r.tag_class;
-  constructed = r.constructed;
-  size = r.header;
-  contents = r.contents;
-}
 
 -- how many trees there are
 abbrev pub count_of : Trees ℕ → ℕ
@@ -57,7 +47,7 @@ pub record IsRecord (whole : List ℕ) (b : Tree ℕ) (r : Block) : Type 0 where
   pub octets : List ℕ
   pub document : IsDocument whole bs
   pub own_octets : HasOctets whole bs b octets
-  pub header : HasHeader octets (header_of r)
+  pub header : HasHeader octets r
   pub offset : r.offset ≡ tree_offset b
   pub items : r.items ≡ items_in b
 
@@ -97,7 +87,7 @@ block_of e = record {
 pub record IsRecordAt (whole : List ℕ) (ns : Nodes) (k : ℕ) (r : Block) : Type 0 where
   pub octets : List ℕ
   pub encoded : IsEncodedIn whole (tree_at ns k) octets
-  pub header : HasHeader octets (header_of r)
+  pub header : HasHeader octets r
   pub offset : r.offset ≡ tree_offset (tree_at ns k)
   pub items : r.items ≡ node_count (node_items (node_at ns k))
   -- the index after it and all that it holds

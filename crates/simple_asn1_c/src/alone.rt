@@ -4,7 +4,7 @@ ghost use Rattle.asn1_outline.specs.Entries.{HasTag};
 ghost use Rattle.simple_asn1_c.specs.Status.{no_memory, no_such_value};
 ghost use Rattle.simple_asn1_c.specs.Values.{UniversalAt};
 
-use crate::header::read_header;
+use crate::header::header_record;
 use crate::status::{NO_MEMORY, NO_SUCH_VALUE};
 use simple_asn1::encoding_at;
 use std::alloc::Global;
@@ -24,12 +24,12 @@ pub fn universal_at<'a>(
     let Some(encoding) = encoding_at(octets, offset) else {
         return Err(NO_SUCH_VALUE);
     };
-    let Ok(header) = read_header(alloc, encoding) else {
+    let Ok(record) = header_record(alloc, encoding) else {
         return Err(NO_MEMORY);
     };
-    if header.tag_class != 0 {
+    if record.tag_class != 0 {
         return Err(NO_SUCH_VALUE);
     }
-    let (_, contents) = encoding.split_at(header.size);
-    Ok((header.tag, contents))
+    let (_, contents) = encoding.split_at(record.header);
+    Ok((record.tag, contents))
 }

@@ -2,59 +2,35 @@
 ghost use Rattle.std.specs.Prelude.{◌≡◌, IfOk};
 ghost use Rattle.simple_asn1.specs.Header.{class_number};
 ghost use Rattle.simple_asn1.specs.Places.{IsEncoding};
-ghost use Rattle.asn1_outline.specs.Entries.{HasTag};
 ghost use Rattle.simple_asn1_c.specs.Records.{HasHeader};
 
-use simple_asn1::{
-    ASN1Class, ASN1DecodeErr, BigUint, HeaderCount, decode_length, decode_tag, encode_class,
-    law_header,
-};
+use crate::record::Block;
+use asn1_headers::front::read_header;
+use asn1_outline::listing::capped;
+use simple_asn1::{ASN1Class, ASN1DecodeErr, HeaderCount, encode_class};
 use std::alloc::{AllocError, Global};
 
-#[derive(Clone, Copy, Drop)]
-pub struct Header {
-    pub tag: u64,
-    pub tag_class: u8,
-    pub constructed: u8,
-    pub size: usize,
-    pub contents: usize,
-}
-
-pub fn read_header(alloc: Global, encoding: &[u8]) -> Result<Header, AllocError>
+// The record of an encoding by its header alone: as if it stood by itself and held no blocks.
+pub fn header_record(alloc: Global, encoding: &[u8]) -> Result<Block, AllocError>
     requires { IsEncoding encoding.now }
     ensures { IfOk result (HasHeader encoding.now) }
 {
-    law_header();
-    let mut index = 0;
-    let mut count = HeaderCount::new();
-    let (tag, constructed, class) = match decode_tag(alloc, encoding, &mut index, &mut count) {
-        Ok(found) => found,
-        Err(e) => match e {
-            ASN1DecodeErr::OutOfMemory => return Err(AllocError),
-            _ => unreachable!(),
-        },
-    };
-    let contents = match decode_length(encoding, &mut index) {
-        Ok(found) => found,
+    let header = match read_header(alloc, encoding, &mut HeaderCount::new()) {
+        Ok(header) => header,
+        Err(ASN1DecodeErr::OutOfMemory) => return Err(AllocError),
         Err(_) => unreachable!(),
     };
-    Ok(Header {
-        tag: capped(&tag),
-        tag_class: class_number_of(class),
-        constructed: if constructed { 1 } else { 0 },
-        size: index,
-        contents,
+    Ok(Block {
+        tag: capped(&header.tag),
+        offset: 0,
+        header: header.size,
+        contents: header.announced,
+        items: 0,
+        next: 1,
+        depth: 0,
+        tag_class: class_number_of(header.class),
+        constructed: if header.constructed { 1 } else { 0 },
     })
-}
-
-// The number, or the greatest u64.
-pub fn capped(tag: &BigUint) -> u64
-    ensures { HasTag tag.now result }
-{
-    match tag.to_u64() {
-        Some(n) => n,
-        None => u64::MAX,
-    }
 }
 
 pub fn class_number_of(class: ASN1Class) -> u8

@@ -1,11 +1,11 @@
-// Blocks under an owner, or the number of their fault with its place.
+// Documents, or the number of their fault with its place.
 ghost use Rattle.std.specs.Prelude.{◌≡◌, ◌≢◌, ◌⊎◌, ℕ, IfErr, IfOk};
 ghost use Rattle.simple_asn1.specs.Fault.{DecodeFault, OutOfMemoryOr, fault_of};
 ghost use Rattle.simple_asn1.specs.Grammar.{IsDocument, FirstFault};
 ghost use Rattle.simple_asn1.specs.ReadBack.{CanonicalDocument};
 ghost use Rattle.simple_asn1.specs.Strict.{StrictFault};
 ghost use Rattle.simple_asn1.specs.Tree.{Trees};
-ghost use Rattle.simple_asn1.specs.View.{views};
+ghost use Rattle.simple_asn1.specs.View.{document_trees};
 ghost use Rattle.asn1_outline.specs.Entries.{AreEntriesOf};
 ghost use Rattle.asn1_outline.specs.Outlines.{entries_in};
 ghost use Rattle.simple_asn1.specs.Shapes.{HasShapes, Shapes, entries_of};
@@ -16,23 +16,8 @@ ghost use Rattle.asn1_headers.specs.declared.error.ASN1DecodeErr.TheVariants.{Ou
 
 use crate::status::{NO_MEMORY, NOT_CANONICAL, status_of_fault};
 use asn1_outline::outline::Outline;
-use simple_asn1::{
-    ASN1Block, ASN1DecodeErr, Headers, LocatedErr, discard, from_der_located, law_one_reading,
-    outline_strict,
-};
+use simple_asn1::{ASN1DecodeErr, Document, Headers, LocatedErr, law_one_reading, outline_strict};
 use std::alloc::Global;
-
-// Blocks that are dropped by a loop.
-pub struct Held {
-    pub blocks: Vec<ASN1Block>,
-}
-
-impl Drop for Held {
-    fn drop(self) {
-        let Held { blocks } = self;
-        discard(blocks);
-    }
-}
 
 // The number of a fault, and its place.
 #[derive(Clone, Copy, Drop)]
@@ -46,13 +31,13 @@ pub const OUT_OF_MEMORY: Fault = Fault {
     offset: 0,
 };
 
-pub fn read(alloc: Global, octets: &[u8]) -> Result<Held, Fault>
-    ensures document { IfOk result (λ held. IsDocument octets.now (views held.blocks.items)) }
+pub fn read(alloc: Global, octets: &[u8]) -> Result<Document, Fault>
+    ensures document { IfOk result (λ document. IsDocument octets.now (document_trees document)) }
     ensures fault { IfErr result
         (λ f. IsNoMemory f.status f.offset ⊎ IsRefused octets.now f.status f.offset) }
 {
-    match from_der_located(alloc, octets) {
-        Ok(blocks) => Ok(Held { blocks }),
+    match Document::from_der_located(alloc, octets) {
+        Ok(document) => Ok(document),
         Err(located) => Err(fault_at(&located)),
     }
 }

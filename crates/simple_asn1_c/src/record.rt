@@ -3,7 +3,7 @@ ghost use Rattle.std.specs.Prelude.{◌≡◌, IfOk};
 ghost use Rattle.simple_asn1.specs.View.{view};
 ghost use Rattle.simple_asn1_c.specs.Records.{IsRecord, Stands, block_of, items_in};
 
-use crate::header::{class_number_of, read_header};
+use crate::header::{class_number_of, header_record};
 use asn1_outline::entry::Entry;
 use simple_asn1::{ASN1Block, encoding_at};
 use std::alloc::{AllocError, Global};
@@ -104,17 +104,13 @@ pub fn record_of(
     let Some(encoding) = encoding_at(document, offset) else {
         unreachable!()
     };
-    let header = read_header(alloc, encoding)?;
+    let header = header_record(alloc, encoding)?;
     Ok(Block {
-        tag: header.tag,
         offset,
-        header: header.size,
-        contents: header.contents,
         items: item_count(block),
         next,
         depth,
-        tag_class: header.tag_class,
-        constructed: header.constructed,
+        ..header
     })
 }
 

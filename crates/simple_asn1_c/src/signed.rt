@@ -16,7 +16,7 @@ use crate::identifier::identifier_of;
 use crate::reading::{Fault, read};
 use crate::record::{Block, SignedAnswer, record_of};
 use crate::status::{DONE, NO_MEMORY, NOT_SIGNED};
-use simple_asn1::ASN1Block;
+use simple_asn1::{ASN1Block, sequence_items};
 use std::alloc::{AllocError, Global};
 
 #[derive(Clone, Copy, Drop)]
@@ -24,18 +24,6 @@ pub struct Parts<'a> {
     pub content: &'a ASN1Block,
     pub identifier: &'a ASN1Block,
     pub signature: &'a ASN1Block,
-}
-
-// The items of a SEQUENCE.
-fn sequence_items(b: &ASN1Block) -> Option<&[ASN1Block]>
-    ensures { MatchOption result
-        ((o : ℕ) (bs : Trees ℕ) → view b.now ≢ group o Sequence bs)
-        (λ items. view b.now ≡ group (tree_offset (view b.now)) Sequence (views items.now)) }
-{
-    match b {
-        ASN1Block::Sequence(_, items) => Some(items),
-        _ => None,
-    }
 }
 
 // The block of the OBJECT IDENTIFIER of an algorithm, the first item of its SEQUENCE.
@@ -135,7 +123,7 @@ pub fn signed_in(alloc: Global, octets: &[u8]) -> SignedAnswer
     ensures { AnswersSigned octets.now result }
 {
     match read(alloc, octets) {
-        Ok(held) => match records_of(alloc, octets, &held.blocks) {
+        Ok(document) => match records_of(alloc, octets, document.blocks()) {
             Ok(signed) => signed,
             Err(AllocError) => no_parts(NO_MEMORY, 0),
         },

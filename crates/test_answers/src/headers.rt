@@ -1,12 +1,11 @@
 // Calls of the parts of headers. They are given octets with such a part at their front.
-use crate::parts::class_name;
 use crate::refusals::{ran_out, refusal};
 use simple_asn1::{
     ASN1Class, ASN1DecodeErr, BigUint, HeaderCount, decode_base127, decode_class, decode_length,
     decode_tag, encode_base127, encode_class, encode_len, encode_tag,
 };
 use std::alloc::{AllocError, Global};
-use test_notation::octets_text;
+use test_notation::{class_name, octets_text};
 
 // A call of a part of a header.
 #[derive(Drop)]

@@ -138,14 +138,8 @@ fn unknown(alloc: Global, fields: &[u8]) -> Result<Option<ASN1Block>, AllocError
     };
     let constructed = *leading & 0x20 != 0;
     let tag = BigUint::from_u64(alloc, *tag as u64)?;
-    let contents = copy_of(alloc, contents)?;
+    let contents = contents.to_vec(alloc)?;
     Ok(Some(ASN1Block::Unknown(class, constructed, OFFSET, tag, contents)))
-}
-
-fn copy_of(alloc: Global, octets: &[u8]) -> Result<Vec<u8>, AllocError> {
-    let mut copy = Vec::with_capacity(alloc, octets.len())?;
-    copy.extend_from_slice(octets)?;
-    Ok(copy)
 }
 
 fn moment_of(fields: &[u8]) -> Option<DateTime> {
@@ -185,9 +179,9 @@ fn other_leaf(alloc: Global, order: u8, fields: &[u8]) -> Result<Option<ASN1Bloc
             Some(ASN1Block::Integer(OFFSET, number))
         }
         (0x03, [bits, octets @ ..]) => {
-            Some(ASN1Block::BitString(OFFSET, *bits as usize, copy_of(alloc, octets)?))
+            Some(ASN1Block::BitString(OFFSET, *bits as usize, octets.to_vec(alloc)?))
         }
-        (0x04, _) => Some(ASN1Block::OctetString(OFFSET, copy_of(alloc, fields)?)),
+        (0x04, _) => Some(ASN1Block::OctetString(OFFSET, fields.to_vec(alloc)?)),
         (0x05, _) => Some(ASN1Block::Null(OFFSET)),
         (0x06, _) => {
             let oid = identifier_of(alloc, fields)?;

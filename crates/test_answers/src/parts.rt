@@ -1,7 +1,7 @@
 // What of blocks stands by itself: their parts, which of them are equal, and all of them.
-use simple_asn1::{ASN1Block, ASN1Class, all_blocks, encoding_at};
+use simple_asn1::{ASN1Block, all_blocks, encoding_at};
 use std::alloc::{AllocError, Global};
-use test_notation::{blocks_text, characters_text, octets_text};
+use test_notation::{blocks_text, characters_text, class_name, octets_text};
 
 // Class, tag number and offset of each block, and its items, text, number and octets where it has them.
 pub fn parts(alloc: Global, blocks: &[ASN1Block]) -> Result<String, AllocError> {
@@ -34,15 +34,6 @@ fn header_parts(alloc: Global, block: &ASN1Block) -> Result<String, AllocError> 
     match block.tag() {
         Some(tag) => format!(in alloc; "{class} {tag} at {offset}"),
         None => format!(in alloc; "{class} - at {offset}"),
-    }
-}
-
-pub fn class_name(class: ASN1Class) -> &'static str {
-    match class {
-        ASN1Class::Universal => "Universal",
-        ASN1Class::Application => "Application",
-        ASN1Class::ContextSpecific => "CS",
-        ASN1Class::Private => "Private",
     }
 }
 

@@ -13,26 +13,23 @@ pub fn ran_out(alloc: Global, is_kept: bool) -> Result<String, AllocError> {
 
 // What is said of a fault. Memory that ran out is no answer.
 pub fn refusal(alloc: Global, fault: &ASN1DecodeErr) -> Result<String, AllocError> {
+    let name = fault.name();
     match fault {
-        ASN1DecodeErr::EmptyBuffer => String::from_str(alloc, "refused EmptyBuffer"),
-        ASN1DecodeErr::BadBooleanLength(n) => format!(in alloc; "refused BadBooleanLength {n}"),
-        ASN1DecodeErr::LengthTooLarge(n) => format!(in alloc; "refused LengthTooLarge {n}"),
-        ASN1DecodeErr::UTF8DecodeFailure(_) => String::from_str(alloc, "refused UTF8DecodeFailure"),
-        ASN1DecodeErr::PrintableStringDecodeFailure => {
-            String::from_str(alloc, "refused PrintableStringDecodeFailure")
-        }
+        ASN1DecodeErr::OutOfMemory => Err(AllocError),
+        ASN1DecodeErr::BadBooleanLength(n)
+        | ASN1DecodeErr::LengthTooLarge(n)
+        | ASN1DecodeErr::NotCanonical(n) => format!(in alloc; "refused {name} {n}"),
+        ASN1DecodeErr::InvalidBitStringLength(n) => format!(in alloc; "refused {name} {n}"),
+        ASN1DecodeErr::InvalidClass(n) => format!(in alloc; "refused {name} {n}"),
         ASN1DecodeErr::InvalidDateValue(text) => {
             let characters = characters_text(alloc, text)?;
-            format!(in alloc; "refused InvalidDateValue {characters}")
+            format!(in alloc; "refused {name} {characters}")
         }
-        ASN1DecodeErr::InvalidBitStringLength(n) => {
-            format!(in alloc; "refused InvalidBitStringLength {n}")
-        }
-        ASN1DecodeErr::InvalidClass(n) => format!(in alloc; "refused InvalidClass {n}"),
-        ASN1DecodeErr::Incomplete => String::from_str(alloc, "refused Incomplete"),
-        ASN1DecodeErr::Overflow => String::from_str(alloc, "refused Overflow"),
-        ASN1DecodeErr::OutOfMemory => Err(AllocError),
-        ASN1DecodeErr::NotCanonical(n) => format!(in alloc; "refused NotCanonical {n}"),
+        ASN1DecodeErr::EmptyBuffer
+        | ASN1DecodeErr::UTF8DecodeFailure(_)
+        | ASN1DecodeErr::PrintableStringDecodeFailure
+        | ASN1DecodeErr::Incomplete
+        | ASN1DecodeErr::Overflow => format!(in alloc; "refused {name}"),
     }
 }
 

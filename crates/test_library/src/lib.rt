@@ -13,6 +13,8 @@ mod errors;
 #[cfg(test)]
 mod helpers;
 #[cfg(test)]
+mod names;
+#[cfg(test)]
 mod numerals;
 #[cfg(test)]
 mod oids;

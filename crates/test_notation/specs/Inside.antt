@@ -9,16 +9,16 @@ use Rattle.test_notation.specs.declared.blocks.OpenList.{OpenList}
 abbrev pub trees_inside : Tree ℕ → Trees ℕ
 trees_inside (leaf o l) = no_trees
 trees_inside (group o g bs) = bs
-trees_inside (explicit c o n b) = more_trees b no_trees
-trees_inside (unknown c k o n v) = no_trees
+trees_inside (explicit class o tag b) = more_trees b no_trees
+trees_inside (unknown class constructed o tag contents) = no_trees
 
 abbrev mutual
   -- the number of trees in a tree, itself too
   pub count_in : Tree ℕ → ℕ
   count_in (leaf o l) = 1
   count_in (group o g bs) = 1 + count_all bs
-  count_in (explicit c o n b) = 1 + count_in b
-  count_in (unknown c k o n v) = 1
+  count_in (explicit class o tag b) = 1 + count_in b
+  count_in (unknown class constructed o tag contents) = 1
 
   pub count_all : Trees ℕ → ℕ
   count_all no_trees = 0

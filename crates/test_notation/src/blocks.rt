@@ -153,7 +153,8 @@ fn write_explicit(
     out.push_str(", ")
 }
 
-fn class_name(class: ASN1Class) -> &'static str {
+// How a class is written.
+pub fn class_name(class: ASN1Class) -> &'static str {
     match class {
         ASN1Class::Universal => "Universal",
         ASN1Class::Application => "Application",

@@ -48,6 +48,6 @@ mod blocks;
 mod octets;
 mod scalars;
 
-pub use crate::blocks::blocks_text;
+pub use crate::blocks::{blocks_text, class_name};
 pub use crate::octets::{octets_of, octets_text};
 pub use crate::scalars::{characters_text, components_text};

@@ -9,12 +9,12 @@ use Rattle.asn1_blocks.specs.Contents.{IsFaithfulLeaf}
 abbrev pub IsFaithfulIfLeaf : Tree ℕ → Type 0
 IsFaithfulIfLeaf (leaf o l) = IsFaithfulLeaf l
 IsFaithfulIfLeaf (group o g bs) = Unit {0}
-IsFaithfulIfLeaf (explicit c o n b) = Unit {0}
-IsFaithfulIfLeaf (unknown c k o n v) = Unit {0}
+IsFaithfulIfLeaf (explicit class o tag b) = Unit {0}
+IsFaithfulIfLeaf (unknown class constructed o tag contents) = Unit {0}
 
 -- the tree is faithful as far as those inside it are
 abbrev pub IsFaithfulAlone : Tree ℕ → Type 0
 IsFaithfulAlone (leaf o l) = IsFaithfulLeaf l
 IsFaithfulAlone (group o g bs) = Unit {0}
-IsFaithfulAlone (explicit c o n b) = c ≢ Universal
-IsFaithfulAlone (unknown c k o n v) = StaysAsItCame c k n v
+IsFaithfulAlone (explicit class o tag b) = class ≢ Universal
+IsFaithfulAlone (unknown class constructed o tag contents) = StaysAsItCame class constructed tag contents

@@ -16,8 +16,8 @@ around_last a (x ∷ y ∷ s) = x ∷ around_last a (y ∷ s)
 -- the trees after one that was owed
 abbrev pub after : List ℕ → Owed → List (Tree ℕ) → List (Tree ℕ)
 after octets (Ready b) s = s ++ view b ∷ []
-after octets (Group g o first owes) s =
-    let n = length s - owes in
+after octets (Group g o first behind) s =
+    let n = length s - behind in
     take n s ++ group o g (trees_of (map view first ++ drop n s)) ∷ []
 after octets (Explicit a) s = around_last a s
 after octets (Kept a start end) s = s ++ as_it_came octets a start end ∷ []

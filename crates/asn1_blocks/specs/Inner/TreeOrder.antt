@@ -10,15 +10,15 @@ use Rattle.asn1_blocks.specs.View.{view, views}
 abbrev pub inside : {O : Type 0} → Tree O → Trees O
 inside (leaf o l) = no_trees
 inside (group o g bs) = bs
-inside (explicit c o n b) = more_trees b no_trees
-inside (unknown c k o n v) = no_trees
+inside (explicit class o tag b) = more_trees b no_trees
+inside (unknown class constructed o tag contents) = no_trees
 
 -- what a tree is beside the trees that it holds, without its offset
 abbrev pub own_shape : {O : Type 0} → Tree O → Tree (Unit {0})
 own_shape (leaf o l) = leaf tt l
 own_shape (group o g bs) = group tt g no_trees
-own_shape (explicit c o n b) = explicit c tt n (leaf tt null)
-own_shape (unknown c k o n v) = unknown c k tt n v
+own_shape (explicit class o tag b) = explicit class tt tag (leaf tt null)
+own_shape (unknown class constructed o tag contents) = unknown class constructed tt tag contents
 
 -- the block is the first, and after it the blocks that it holds take its place
 pub record IsNext (b : ASN1Block) (before after : List ASN1Block) : Type 0 where

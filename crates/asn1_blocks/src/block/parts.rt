@@ -1,5 +1,5 @@
 // What a block is made of, for whoever wants one thing of it and has no use for a `match`.
-ghost use Rattle.std.specs.Prelude.{◌≡◌, ◌<◌, ◌^◌, IfOk, MatchOption, None, Some, SomeIff, map};
+ghost use Rattle.std.specs.Prelude.{◌≡◌, ◌<◌, ◌^◌, IfOk, MatchOption, None, Some, SomeIff, map, option_map};
 ghost use Rattle.std.specs.Str.{chars};
 ghost use Rattle.asn1_blocks.specs.BlockParts.{
   all_in_order,
@@ -13,11 +13,13 @@ ghost use Rattle.asn1_blocks.specs.BlockParts.{
   tree_tag,
   tree_text,
 };
-ghost use Rattle.asn1_blocks.specs.View.{view, views};
+ghost use Rattle.asn1_blocks.specs.View.{tree_class, view, views};
+ghost use Rattle.asn1_headers.specs.Names.{type_name as name_of_type};
 ghost use Rattle.asn1_leaves.specs.Contents.Moment.{moment_of};
 
 use crate::block::ASN1Block;
 use crate::walk::in_tree_order;
+use asn1_headers::types::type_name;
 use asn1_leaves::oid::OID;
 use asn1_numbers::number::big_int::BigInt;
 use jiff::civil::DateTime;
@@ -25,6 +27,26 @@ use std::alloc::{AllocError, Global};
 use std::slice;
 
 impl ASN1Block {
+    /// The name of its type, if its tag is of class Universal and has one (X.680 8.4, table 1).
+    ///
+    /// ```rust
+    /// use simple_asn1::ASN1Block;
+    ///
+    /// // What a block is called: "INTEGER" for `02 01 05`, "ENUMERATED" for `0A 01 05`, and "tagged" for `80 01 05`.
+    /// fn called(block: &ASN1Block) -> &'static str {
+    ///     block.type_name().unwrap_or("tagged")
+    /// }
+    /// ```
+    pub fn type_name(&self) -> Option<&'static str>
+        ensures { option_map (λ name. name.now) result
+            ≡ name_of_type (tree_class (view self.now)) (tree_tag (view self.now)) }
+    {
+        match self.tag() {
+            Some(tag) => type_name(self.class(), tag),
+            None => None,
+        }
+    }
+
     /// The tag number (X.690 8.1.2.2): the one of X.680 table 1, or the field of an `Explicit` or `Unknown` block.
     /// `None` only for a field of 2^64 or more.
     ///

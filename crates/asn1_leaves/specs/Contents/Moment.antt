@@ -1,5 +1,5 @@
 -- Moments, of which UTCTime and GeneralizedTime are two notations (X.680 46, 47), and what both share.
-use Rattle.std.specs.Prelude.{ℕ, ◌+◌, ◌/◌, ◌%◌, ◌<◌, ◌≤ℤ◌, ◌++◌, ℤ, pos, negsuc, List, [], ◌∷◌, Option, Some, None}
+use Rattle.std.specs.Prelude.{ℕ, ◌/◌, ◌%◌, ◌<◌, ◌≤ℤ◌, ◌++◌, ℤ, pos, negsuc, List, [], ◌∷◌, Option, Some, None}
 use Rattle.asn1_numbers.specs.Octets.{digit}
 use Rattle.std.specs.Int.{IsInRange}
 use Rattle.jiff_core.specs.Calendar.{days_in_month}

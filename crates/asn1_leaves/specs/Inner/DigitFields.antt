@@ -1,5 +1,5 @@
 -- The fields of a moment by the places of their digits. Private contracts of `contents` alone name these.
-use Rattle.std.specs.Prelude.{◌≡◌, ◌⊎◌, ◌∷◌, ℕ, ◌+◌, ◌/◌, ◌%◌, ◌<◌, pos, List, slice_index, codes, ◌++◌}
+use Rattle.std.specs.Prelude.{◌≡◌, ◌⊎◌, ℕ, ◌+◌, ◌/◌, ◌%◌, ◌<◌, pos, List, slice_index, codes, ◌++◌}
 use Rattle.asn1_numbers.specs.Octets.{digit}
 use Rattle.asn1_leaves.specs.Contents.GeneralizedTime.{IsEnd, fraction_number, tenth}
 use Rattle.asn1_leaves.specs.Contents.Moment.{Moment, IsValid}

@@ -17,6 +17,7 @@ use std::alloc::{AllocError, Global};
 const TENTH: u32 = 100_000_000;
 
 // The moment that the contents octets mean.
+#[inline(always)]
 pub fn read(alloc: Global, contents: &[u8]) -> Result<DateTime, ASN1DecodeErr>
     ensures found { IfOk result (λ d. GeneralizedTimeContents (moment_of d) contents.now) }
     ensures refused { IfErr result (OutOfMemoryOr (GeneralizedTimeFault contents.now)) }
@@ -27,7 +28,7 @@ pub fn read(alloc: Global, contents: &[u8]) -> Result<DateTime, ASN1DecodeErr>
     }
 }
 
-#[inline(always)]
+#[inline(never)]
 fn moment(contents: &[u8]) -> Option<DateTime>
     ensures found { IfSome result (λ d. GeneralizedTimeContents (moment_of d) contents.now) }
     ensures none { IfNone result ((m : Moment) → GeneralizedTimeContents m contents.now → ⊥) }
@@ -87,6 +88,8 @@ fn nanoseconds(digits: &[u8]) -> Option<u32>
 }
 
 // Why the contents octets mean no moment.
+#[cold]
+#[inline(never)]
 fn fault(alloc: Global, contents: &[u8]) -> Result<ASN1DecodeErr, AllocError>
     ensures { IfOk result (λ e. fault_of e ≡ generalized_time_fault contents.now) }
 {

@@ -79,6 +79,7 @@ pub fn read(alloc: Global, contents: &[u8]) -> Result<Vec<BigUint>, ASN1DecodeEr
 
 // Whether the octets mean components, and no subidentifier begins with 80 (hexadecimal), so that each
 // has its shortest form (X.690 8.19.2).
+#[inline(never)]
 pub fn are_shortest(contents: &[u8]) -> bool
     ensures meant { IsTrue result → (components : List ℕ) × ObjectIdentifierContents components contents.now }
     ensures shortest { IsTrue result → (components : List ℕ)
@@ -90,10 +91,11 @@ pub fn are_shortest(contents: &[u8]) -> bool
     };
     let mut begins = true;
     for octet in rest {
-        if begins && *octet == 128 {
-            return false;
+        match *octet {
+            0..=127 => begins = true,
+            128 if begins => return false,
+            _ => begins = false,
         }
-        begins = *octet < 128;
     }
     begins
 }

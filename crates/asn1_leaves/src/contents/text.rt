@@ -19,6 +19,7 @@ pub enum TextForm {
     Octets,
 }
 
+#[inline(always)]
 pub fn read(alloc: Global, form: TextForm, contents: &[u8]) -> Result<String, ASN1DecodeErr>
     ensures found { IfOk result (λ s. TextContents form (chars (string_bytes s)) contents.now) }
     ensures refused { IfErr result (OutOfMemoryOr (TextFault form contents.now)) }

@@ -11,6 +11,7 @@ use jiff::civil::DateTime;
 use std::alloc::{AllocError, Global};
 
 // The moment that the contents octets mean.
+#[inline(always)]
 pub fn read(alloc: Global, contents: &[u8]) -> Result<DateTime, ASN1DecodeErr>
     ensures found { IfOk result (λ d. UtcTimeContents (moment_of d) contents.now) }
     ensures refused { IfErr result (OutOfMemoryOr (UtcTimeFault contents.now)) }
@@ -21,6 +22,7 @@ pub fn read(alloc: Global, contents: &[u8]) -> Result<DateTime, ASN1DecodeErr>
     }
 }
 
+#[inline(never)]
 fn moment(contents: &[u8]) -> Option<DateTime>
     ensures found { IfSome result (λ d. UtcTimeContents (moment_of d) contents.now) }
     ensures none { IfNone result ((m : Moment) → UtcTimeContents m contents.now → ⊥) }
@@ -46,6 +48,8 @@ fn full_year(short: u8) -> u16
 }
 
 // Why the contents octets mean no moment.
+#[cold]
+#[inline(never)]
 fn fault(alloc: Global, contents: &[u8]) -> Result<ASN1DecodeErr, AllocError>
     ensures { IfOk result (λ e. fault_of e ≡ utc_time_fault contents.now) }
 {

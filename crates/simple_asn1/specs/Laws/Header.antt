@@ -10,27 +10,37 @@ use Rattle.asn1_headers.specs.Header.{IsIdentifier, IsLength, Encoding, shortest
 pub record HeaderLaws : Type 0 where
   -- of two base-128 numbers at the front of the same octets, the octets and the numbers are equal
   pub one_base128 :
-      (s t x y : List ℕ) (m n : ℕ) →
-      IsBase128 s m → IsBase128 t n → s ++ x ≡ t ++ y → (s ≡ t) × (m ≡ n)
+      (first second behind beyond : List ℕ) (number other : ℕ) →
+      IsBase128 first number → IsBase128 second other → first ++ behind ≡ second ++ beyond →
+      (first ≡ second) × (number ≡ other)
   -- so with identifier octets, and their class, constructed bit and tag number
   pub one_identifier :
-      (s t x y : List ℕ) (c d : ASN1Class) (j k : Bool) (m n : ℕ) →
-      IsIdentifier s c j m → IsIdentifier t d k n → s ++ x ≡ t ++ y →
-      (s ≡ t) × (c ≡ d) × (j ≡ k) × (m ≡ n)
+      (first second behind beyond : List ℕ) (class other_class : ASN1Class)
+      (constructed other_constructed : Bool) (tag other_tag : ℕ) →
+      IsIdentifier first class constructed tag → IsIdentifier second other_class other_constructed other_tag →
+      first ++ behind ≡ second ++ beyond →
+      (first ≡ second) × (class ≡ other_class) × (constructed ≡ other_constructed) × (tag ≡ other_tag)
   -- so with length octets, and the length
   pub one_length :
-      (s t x y : List ℕ) (m n : ℕ) →
-      IsLength s m → IsLength t n → s ++ x ≡ t ++ y → (s ≡ t) × (m ≡ n)
+      (first second behind beyond : List ℕ) (size other : ℕ) →
+      IsLength first size → IsLength second other → first ++ behind ≡ second ++ beyond →
+      (first ≡ second) × (size ≡ other)
   -- so with encodings, and their class, constructed bit, tag number, contents octets and size of the header
   pub one_encoding :
-      (s t x y : List ℕ) (c d : ASN1Class) (j k : Bool) (m n : ℕ) (v w : List ℕ) (g h : ℕ) →
-      Encoding s c j m v g → Encoding t d k n w h → s ++ x ≡ t ++ y →
-      (s ≡ t) × (c ≡ d) × (j ≡ k) × (m ≡ n) × (v ≡ w) × (g ≡ h)
+      (first second behind beyond : List ℕ) (class other_class : ASN1Class)
+      (constructed other_constructed : Bool) (tag other_tag : ℕ) (contents other_contents : List ℕ)
+      (header other_header : ℕ) →
+      Encoding first class constructed tag contents header →
+      Encoding second other_class other_constructed other_tag other_contents other_header →
+      first ++ behind ≡ second ++ beyond →
+      (first ≡ second) × (class ≡ other_class) × (constructed ≡ other_constructed) × (tag ≡ other_tag)
+      × (contents ≡ other_contents) × (header ≡ other_header)
   -- the shortest octets of a base-128 number are such octets
-  pub base128_is : (n : ℕ) → IsBase128 (shortest_base128 n) n
+  pub base128_is : (number : ℕ) → IsBase128 (shortest_base128 number) number
   -- so with identifier octets
   pub identifier_is :
-      (c : ASN1Class) (k : Bool) (n : ℕ) → IsIdentifier (shortest_identifier c k n) c k n
+      (class : ASN1Class) (constructed : Bool) (tag : ℕ) →
+      IsIdentifier (shortest_identifier class constructed tag) class constructed tag
   -- so with length octets, up to the greatest usize
   pub length_is : (n : ℕ) → n < 2 ^ 64 → IsLength (shortest_length n) n
   -- no octets of the same base-128 number are fewer
@@ -39,8 +49,9 @@ pub record HeaderLaws : Type 0 where
       IsBase128 octets n → length (shortest_base128 n) ≤ length octets
   -- no identifier octets of the same fields are fewer
   pub identifier_shortest :
-      (octets : List ℕ) (c : ASN1Class) (k : Bool) (n : ℕ) →
-      IsIdentifier octets c k n → length (shortest_identifier c k n) ≤ length octets
+      (octets : List ℕ) (class : ASN1Class) (constructed : Bool) (tag : ℕ) →
+      IsIdentifier octets class constructed tag →
+      length (shortest_identifier class constructed tag) ≤ length octets
   -- no length octets of the same length are fewer
   pub length_shortest :
       (octets : List ℕ) (n : ℕ) →
@@ -52,10 +63,10 @@ pub record HeaderLaws : Type 0 where
       octets ≡ shortest_base128 n
   -- so with identifier octets of the same fields
   pub identifier_only :
-      (octets : List ℕ) (c : ASN1Class) (k : Bool) (n : ℕ) →
-      AreOctets octets → IsIdentifier octets c k n →
-      length octets ≤ length (shortest_identifier c k n) →
-      octets ≡ shortest_identifier c k n
+      (octets : List ℕ) (class : ASN1Class) (constructed : Bool) (tag : ℕ) →
+      AreOctets octets → IsIdentifier octets class constructed tag →
+      length octets ≤ length (shortest_identifier class constructed tag) →
+      octets ≡ shortest_identifier class constructed tag
   -- so with length octets of the same length, but that 80 (hexadecimal) is as short as 00 for the length 0
   pub length_only :
       (octets : List ℕ) (n : ℕ) →

@@ -3,7 +3,7 @@ use Rattle.std.specs.Prelude.{IsTrue}
 use Rattle.std.proofs.lemmas.List.{get_or_default, take_all}
 use Rattle.asn1_outline.specs.Entries.{no_entry}
 use Rattle.asn1_outline.specs.declared.entry.Entry.{Entry}
-use Rattle.der_lines.specs.Headers.{HasIndefiniteForm}
+use Rattle.asn1_headers.specs.Front.{HasIndefiniteForm}
 use Rattle.der_inputs.specs.Documents.{AreDefinite}
 use Rattle.der_inputs.specs.Documents.{entry_offsets}
 use Rattle.der_inputs.proofs.IndefiniteForms.{definite_more, first_here, header_here}

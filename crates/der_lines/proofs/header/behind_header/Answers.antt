@@ -1,6 +1,6 @@
 use Rattle.std.proofs.Common.{◌++◌, ap, sym, take, ◌∙◌}
 use Rattle.std.proofs.lemmas.List.{take-append-drop}
-use Rattle.der_lines.specs.Steps.{IsAtFront}
+use Rattle.asn1_headers.specs.Front.{IsAtFront}
 use Rattle.der_lines.proofs.Headers.{front_header}
 use Rattle.der_lines.proofs.header.behind_header.Goals as goal
 

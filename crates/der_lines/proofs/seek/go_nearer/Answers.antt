@@ -1,7 +1,7 @@
 use Rattle.std.proofs.Common.{◌≡◌, ℕ, List, ◌+◌, ◌-◌, drop, subst, sym, take, arith}
 use Rattle.std.specs.Prelude.{◌↔◌}
 use Rattle.der_lines.specs.Seek.{BeginsAt, Holds}
-use Rattle.der_lines.specs.Steps.{IsAtFront}
+use Rattle.asn1_headers.specs.Front.{IsAtFront}
 use Rattle.der_lines.proofs.Seeking.{behind_it, contents_of, holds_alone, in_header, inside_it, not_inside_it}
 use Rattle.der_lines.proofs.Seeking.{nowhere_without_header, rest_of}
 use Rattle.der_lines.proofs.seek.go_nearer.Goals as goal

@@ -10,19 +10,19 @@ returns-in_default-clause-missing c = inr (refl, λ n v u. c.in_default.ensures.
 pub returns-clause-found : goal.returns-clause-found
 returns-clause-found c =
     let x = c.in-Some.encoding.now in
-    let head = c.in-Ok.header in
+    let head = c.in-Ok.record in
     let h = c.in-Ok.ensures in
-    let class : h.class ≡ Universal = universal_number h.class (sym h.class_field ∙ c.if-header-ne0.false) in
+    let class : h.class ≡ Universal = universal_number h.class (sym h.class_field ∙ c.if-record-ne0.false) in
     let contents : h.contents ≡ c.split_at.result.1.now =
-    sym (contents_behind x h.class h.constructed h.tag h.contents head.size h.encoding) ∙ sym c.split_at.ensures.back in
-    let own = subst (λ z. Encoding x z h.constructed h.tag h.contents head.size) class h.encoding in (
+    sym (contents_behind x h.class h.constructed h.tag h.contents head.header h.encoding) ∙ sym c.split_at.ensures.back in
+    let own = subst (λ z. Encoding x z h.constructed h.tag h.contents head.header) class h.encoding in (
       h.tag,
       record {
         whole = x;
         at = c.in-Some.ensures.found;
         constructed = h.constructed;
-        header = head.size;
-        encoding = subst (λ z. Encoding x Universal h.constructed h.tag z head.size) contents own;
+        header = head.header;
+        encoding = subst (λ z. Encoding x Universal h.constructed h.tag z head.header) contents own;
       },
       h.tag_field,
     )

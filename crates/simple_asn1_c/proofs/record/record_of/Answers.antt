@@ -19,12 +19,23 @@ returns-clause-fields c =
     let at : TreeAt c.args.document.now c.offset-offset.result octets =
     record { all = bs; tree = b; read = d; own_octets = s; offset_is = sym c.offset-offset.ensures } in
     let e : c.in-Some.encoding.now ≡ octets = c.in-Some.ensures.block octets at in
+    let h = subst (λ z. HasHeader z c.in_ok-header.header) e c.in_ok-header.ensures in
     record {
       bs = bs;
       octets = octets;
       document = d;
       own_octets = s;
-      header = subst (λ z. HasHeader z c.in_ok-header.header) e c.in_ok-header.ensures;
+      header = record {
+        class = h.class;
+        constructed = h.constructed;
+        tag = h.tag;
+        contents = h.contents;
+        encoding = h.encoding;
+        class_field = h.class_field;
+        constructed_field = h.constructed_field;
+        tag_field = h.tag_field;
+        contents_field = h.contents_field;
+      };
       offset = c.offset-offset.ensures;
       items = c.item_count.ensures;
     }

@@ -15,10 +15,10 @@ returns-in_default c p f =
     elim c.in_default.branch [
       | in_default-via-then-branch-lt3 w ↦
           let few : length items ≢ 3 = grind arith in
-          no_triple t p (tree_offset t) items few c.in_ok-sequence_items.ensures f
+          no_triple t p (tree_offset t) items few c.in_ok-sequence_items.ensures.items f
       | in_default-via-else-branch-lt3+else-this-lt4 w ↦
           let many : length items ≢ 3 = grind arith in
-          no_triple t p (tree_offset t) items many c.in_ok-sequence_items.ensures f
+          no_triple t p (tree_offset t) items many c.in_ok-sequence_items.ensures.items f
     ]
 
 pub returns : goal.returns
@@ -48,4 +48,4 @@ returns c =
     three_views items x y z three c.content-item.is c.algorithm-item.is c.signature-item.is
     ∙ ap (λ t. more_trees (view x) (more_trees t (more_trees (view z) no_trees))) second
     ∙ ap (λ t. more_trees (view x) (more_trees (algorithm_tree p) (more_trees t no_trees))) sig in
-    (p, c.in_ok-sequence_items.ensures ∙ ap (group o Sequence) inside, refl, id, sig)
+    (p, c.in_ok-sequence_items.ensures.items ∙ ap (group o Sequence) inside, refl, id, sig)

@@ -34,10 +34,10 @@ returns c =
           ap (λ v. map view v ++ view block ∷ []) w.blocks-is ∙ (ap (λ z. s ++ view z ∷ []) w.block-is ∙ sym order)
       | in-Group+in_ok-others-in-Group+in_ok-append-in-Group w ↦
           let order = ap (λ z. after octets z s) w.in-Group.is in
-          let n : w.saturating_sub.result ≡ length old - w.in-Group.owes = grind (arith, common_steps) in
+          let n : w.saturating_sub.result ≡ length old - w.in-Group.behind = grind (arith, common_steps) in
           let split = w.in_ok-others-in-Group.ensures in
           let own = ap view w.block-is ∙ w.group_block-block.ensures in
-          group_built octets old kept w.in_ok-others-in-Group.others w.append.new.self w.in-Group.kind w.in-Group.offset w.in-Group.owes
+          group_built octets old kept w.in_ok-others-in-Group.others w.append.new.self w.in-Group.kind w.in-Group.offset w.in-Group.behind
           w.saturating_sub.result w.in-Group.first block n (w.blocks-is ∙ split.kept) split.parted w.in_ok-append-in-Group.ensures own ∙ sym order
       | in-Explicit+in-Some+in_ok-block-in-Explicit w ↦
           let order = ap (λ z. after octets z s) w.in-Explicit.is in

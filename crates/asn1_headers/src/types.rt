@@ -1,10 +1,10 @@
 // Types by their tags.
 ghost use Rattle.std.specs.Prelude.{◌≡◌, None, get_or, option_map};
-ghost use Rattle.der_values.specs.Types.{type_name as name_of, universal_names};
+ghost use Rattle.asn1_headers.specs.Names.{type_name as name_of, universal_names};
 
-use asn1_headers::header::ASN1Class;
+use crate::header::ASN1Class;
 
-/// The name of the type with the class and the tag number (X.680 8.4, table 1), if there is one.
+// The name of the type with the class and the tag number (X.680 8.4, table 1), if there is one.
 pub fn type_name(class: ASN1Class, tag: u64) -> Option<&'static str>
     ensures { option_map (λ name. name.now) result ≡ name_of class tag }
 {
