@@ -1,49 +1,11 @@
 -- Slices of the document, and what a header in them says.
-use Rattle.asn1_leaves.proofs.SliceSplit.{slice_split}
-use Rattle.std.proofs.Common.{
-  ◌≡◌,
-  ℕ,
-  ◌+◌,
-  ◌-◌,
-  ◌<◌,
-  ◌≤◌,
-  ◌^◌,
-  Bool,
-  List,
-  [],
-  ◌∷◌,
-  ◌++◌,
-  inl,
-  inr,
-  length,
-  take,
-  drop,
-  Vec,
-  Global,
-  drop-drop,
-  length-drop,
-  length-take,
-  refl,
-  sym,
-  ap,
-  ◌∙◌,
-  subst,
-  arith,
-  rules,
-  length-append,
-  append_assoc,
-}
+use Rattle.std.proofs.Common.{◌≡◌, ℕ, ◌+◌, ◌-◌, ◌≤◌, Bool, List, [], ◌∷◌, ◌++◌, length, take, drop, Vec, Global, drop-drop, length-drop, length-take, refl, sym, ap, ◌∙◌, subst, arith, rules, length-append, append_assoc}
 use Rattle.std.specs.List.{slice_range}
 use Rattle.std.proofs.Math.Seq.{take-add}
 use Rattle.asn1_headers.specs.declared.header.ASN1Class.{ASN1Class}
-use Rattle.asn1_headers.specs.declared.error.ASN1DecodeErr.{ASN1DecodeErr}
-use Rattle.asn1_headers.specs.Fault.{DecodeFault, OutOfMemoryOr, incomplete, length_too_large}
-use Rattle.asn1_headers.specs.Header.{IsIdentifier, IsLength, Encoding, IsSomeIdentifier, IsIncomplete, length_fault}
 use Rattle.asn1_blocks.specs.declared.block.ASN1Block.{ASN1Block, Unknown, the_lemmas}
 use Rattle.asn1_blocks.specs.View.{view, views}
-use Rattle.asn1_headers.proofs.Prefixes.{identifier_alone}
 use Rattle.asn1_blocks.specs.Tree.{Tree, Trees, unknown, no_trees, more_trees}
-use Rattle.asn1_headers.specs.HeaderFault.{HeaderFault, no_identifier, no_length, too_far, too_long}
 use Rattle.asn1_blocks.specs.Grammar.{Encodes, EncodesAll}
 use Rattle.asn1_blocks.proofs.OneReading.{only}
 

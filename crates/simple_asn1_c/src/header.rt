@@ -17,8 +17,10 @@ pub fn header_record(alloc: Global, encoding: &[u8]) -> Result<Block, AllocError
 {
     let header = match read_header(alloc, encoding, &mut HeaderCount::new()) {
         Ok(header) => header,
-        Err(ASN1DecodeErr::OutOfMemory) => return Err(AllocError),
-        Err(_) => unreachable!(),
+        Err(e) => match e {
+            ASN1DecodeErr::OutOfMemory => return Err(AllocError),
+            _ => unreachable!(),
+        },
     };
     Ok(Block {
         tag: capped(&header.tag),

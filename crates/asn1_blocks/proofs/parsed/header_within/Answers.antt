@@ -1,7 +1,6 @@
 use Rattle.std.proofs.Common.{◌+◌, ◌-◌, ◌^◌, inl, inr, refl, subst, sym, arith}
 use Rattle.std.proofs.lemmas.Bool.{cases_lt}
 use Rattle.std.specs.List.{slice_range}
-use Rattle.asn1_headers.specs.Fault.{OutOfMemoryOr}
 use Rattle.asn1_headers.specs.HeaderFault.{HeaderFault}
 use Rattle.asn1_blocks.proofs.PlacedHeaders.{far_at, long_at, placed}
 use Rattle.asn1_blocks.proofs.parsed.header_within.Goals as goal
