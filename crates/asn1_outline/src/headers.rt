@@ -14,7 +14,7 @@ use crate::entry::Entry;
 /// use simple_asn1::Headers;
 /// use std::alloc::Global;
 ///
-/// // How many encodings a document has: three in `30 07 1E 02 00 E4 02 01 05`, of which one is no text.
+/// // How many encodings a document has: three in `30 07 1E 02 00 E4 02 01 05`, of which one is not text.
 /// fn count(alloc: Global, octets: &[u8]) -> Option<usize> {
 ///     let Ok(headers) = Headers::read(alloc, octets) else {
 ///         return None;

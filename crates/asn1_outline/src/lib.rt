@@ -1,8 +1,8 @@
 //! Documents as flat lists of entries, one for each block, of which none is made: a layer of `simple_asn1`, which is
 //! the crate for users.
 //!
-//! `simple_asn1` hands on `Outline`, `Headers` and `Entry`. All else is public for the crates above alone, and may
-//! change with them.
+//! `simple_asn1` hands on `Outline`, `Headers`, `Entry`, `Entries` and `law_entries`. All else is public for the crates
+//! above alone, and may change with them.
 #![tactic(auto)]
 
 mod building;

@@ -92,7 +92,7 @@ pub enum FormFault {
     /// Its first object is encrypted.
     #[error("encrypted, not read")]
     Encrypted,
-    /// A line of its first object is no base 64: its number, the first being 1.
+    /// A line of its first object is not base64: its number, from 1.
     #[error("line {0}: invalid base64")]
     NoBase64(usize),
     /// Its first object does not end as it should: the number of a line, and what is wrong.
@@ -106,8 +106,8 @@ impl From<AllocError> for FormFault {
     }
 }
 
-/// The octets of the document that an input has: its own, those that it spells, or those of the first object of PEM,
-/// where its own END line ends it.
+/// The octets of an input's document: its own, those it spells, or those of its first PEM object if that has its own
+/// END line.
 ///
 /// # Errors
 /// `OutOfMemory`, and why there is no document.

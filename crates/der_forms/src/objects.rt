@@ -21,7 +21,7 @@ use std::alloc::{AllocError, Global};
 pub enum PemFault {
     /// It is encrypted.
     Encrypted,
-    /// A line is no base 64: its number, the first being 1.
+    /// A line is not base64: its number, from 1.
     NoBase64(usize),
 }
 
@@ -41,7 +41,7 @@ pub enum Ending {
 /// An object of PEM.
 #[derive(Debug, Drop)]
 pub struct PemObject<'a> {
-    /// What stands in the line that begins it, between `-----BEGIN ` and `-----`: ASCII, by RFC 7468, or any octets.
+    /// The text between `-----BEGIN ` and `-----` in its first line: ASCII by RFC 7468, or any octets.
     pub label: &'a [u8],
     /// The number of that line, the first being 1.
     pub line: usize,
@@ -76,7 +76,7 @@ pub fn next_object<'a>(
     Ok(Some((object, body.after)))
 }
 
-/// The line in which an object does not end as it should, and why, where so many lines were read.
+/// The line at which the object ends wrongly, and why; `last` is the number of lines read.
 pub fn fault_of_end(object: &PemObject<'_>, last: usize) -> Option<(usize, &'static str)>
     ensures { MatchOption result (object.now.ending ≡ Closed) (λ _. object.now.ending ≢ Closed) }
 {

@@ -7,7 +7,7 @@ use simple_asn1::{ASN1DecodeErr, LocatedErr, Outline, discard, from_der_strict, 
 use std::alloc::{AllocError, Global};
 
 /// Puts the lines of a document, and then, where it is not canonical, the fault of its first block at the top level
-/// that is not; or the first fault of what the library does not read, such as a BMPString that is no UTF-8.
+/// that is not; or the first fault of what the library does not read, such as a BMPString that is not UTF-8.
 ///
 /// # Errors
 /// Memory ran out.

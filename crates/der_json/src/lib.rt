@@ -5,7 +5,7 @@
 //!
 //! | Member | What |
 //! |---|---|
-//! | `offset` | how many octets stand before the block |
+//! | `offset` | how many octets are before the block |
 //! | `header` | how many identifier and length octets it has |
 //! | `size` | how many octets it has, with its header |
 //! | `depth` | how many blocks are around it |
@@ -26,8 +26,8 @@
 //! | any other that holds no blocks: OCTET STRING, ENUMERATED, `[0]` | its contents octets in hex digits |
 //! | NULL, SEQUENCE, SET, and what holds blocks | `null` |
 //!
-//! An [`Origin`] adds the members `file` and `label`, of each that is known. Where octets are no document, or are not
-//! read, `fault` stands in place of `blocks`: an object with the words `text`, and the `offset` of what is at fault.
+//! An [`Origin`] adds the members `file` and `label`, of each that is known. If octets are not a document, or are not
+//! read, `fault` replaces `blocks`: an object with `text`, and the `offset` of the fault.
 //!
 //! Numbers beyond 2^53 - 1 are texts since `jq` and JavaScript round them, as RFC 7493 (section 2.2) lets readers do.
 #![tactic(auto)]

@@ -52,8 +52,8 @@ pub fn find_header(alloc: Global, octets: &[u8]) -> Result<Option<Header>, Alloc
     }
 }
 
-/// What stands behind the header at the front of octets, if one stands there: the contents octets of an encoding, where
-/// the octets are one.
+/// The contents octets, where the octets are an encoding; otherwise what follows the header at their front. `None`
+/// without a header.
 ///
 /// # Errors
 /// Memory ran out.

@@ -10,8 +10,8 @@
 //! ```
 //!
 //! A line has the offset of its encoding, in octets from the first of the document, how many octets its header has, how
-//! many contents octets it announces, its type, and its value. What stands inside octets of a string has lines that
-//! begin with `>`. What is wrong with an encoding is said on its line, and the first fault again on the last line,
+//! many contents octets it announces, its type, and its value. Encodings inside the bytes of a string have lines
+//! that begin with `>`. What is wrong with an encoding is said on its line, and the first fault again on the last line,
 //! which begins with `!`; what came of it is the [`Verdict`]. Where the library reads otherwise than X.690, on purpose,
 //! lines show what X.690 has. [`push_fault_line`] puts the line of a fault that others find.
 //!
@@ -19,7 +19,7 @@
 //! why there is none. [`block_at`] finds a block by its offset, and [`behind_header`] its contents octets.
 //! [`INDEFINITE`] is what is said of the indefinite form of BER.
 //!
-//! The only error is that memory ran out. What was put until then stays where it was put.
+//! The only error is that memory ran out; what was pushed before it stays.
 #![tactic(auto)]
 
 mod cursor;

@@ -6,7 +6,7 @@
 pub struct Style {
     /// Values are written whole.
     pub is_full: bool,
-    /// No octets are looked into.
+    /// Nested DER is not expanded.
     pub is_flat: bool,
     /// The most blocks that may be around a block that is shown; an outermost one has none. `None` where all are shown.
     /// Octets that are no document are shown as deep as they can be read.

@@ -24,7 +24,7 @@ use std::str;
 // How many octets of another class are shown as text at least: fewer may well be a number.
 const LEAST_TEXT: usize = 5;
 
-/// What is said of a length of the indefinite form: blocks that stand inside in BER are shown behind.
+/// What is said of BER's indefinite length: the blocks inside are shown after it, not inside.
 pub const INDEFINITE: &str = "indefinite length (BER): levels are lost from here";
 
 const INDEFINITE_TEXT: &str = ", indefinite length (BER): levels are lost from here";

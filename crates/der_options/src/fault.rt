@@ -12,7 +12,7 @@ use std::fmt;
 pub enum OptionsFault<'a> {
     /// What `clap` says of the words: help, the version, a mistake in them, or that memory ran out.
     Command(Error),
-    /// The value of the argument is no number that 64 bits hold.
+    /// The value of the argument is not a 64-bit number.
     NoNumber(&'static str, &'a str),
     /// Two arguments that do not go together.
     NotTogether(&'static str, &'static str),

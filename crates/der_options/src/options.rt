@@ -19,16 +19,15 @@ pub struct Options<'a> {
     pub inputs: Vec<&'a str>,
     /// What is done with each input.
     pub task: Task,
-    /// What is no canonical document is refused.
+    /// Documents that are not canonical are rejected.
     pub is_strict: bool,
     /// Values are written whole, however many octets they have.
     pub is_full: bool,
-    /// No octets are looked into.
+    /// Nested DER is not expanded.
     pub is_flat: bool,
     /// Documents are written as JSON, a line each.
     pub is_json: bool,
-    /// The most blocks that may be around a block that is shown, counted in blocks; the outermost has none around it.
-    /// `None` where all blocks are shown.
+    /// The most blocks around a block that is shown; the outermost has none. `None` shows all blocks.
     pub most_depth: Option<usize>,
 }
 
@@ -37,18 +36,18 @@ pub struct Options<'a> {
 pub enum Task {
     /// It is dumped.
     Dump,
-    /// The block that stands at the offset is dumped, alone.
+    /// The block at the offset is dumped, alone.
     At(usize),
-    /// The octets of the block that stands at the offset are written.
+    /// The bytes of the block at the offset are written.
     Extract(usize),
-    /// The contents octets of the block that stands at the offset are written.
+    /// The contents octets of the block at the offset are written.
     Contents(usize),
 }
 
 /// The options that the words ask for. The first word is the program's name.
 ///
 /// # Errors
-/// What is wrong with the words, which is also what `--help` and `--version` give, or that memory ran out.
+/// What is wrong with the words, or that memory ran out. `--help` and `--version` are returned so too.
 pub fn options_of<'a, S: AsStr>(
     alloc: Global,
     words: &'a [S],

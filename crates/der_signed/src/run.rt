@@ -24,7 +24,7 @@ pub enum RunFault {
     NoDocument(FormFault),
     /// The octets of the document are at fault.
     Refused(ASN1DecodeErr),
-    /// The first block of the document is no signed triple.
+    /// The first block of the document is not a signed triple.
     NotSigned,
 }
 

@@ -17,7 +17,7 @@ pub type ToolFault = StreamFault;
 
 /// Reads all of `r`, and writes the answer to each line to `w`.
 ///
-/// A line is ended by octet 0A, and the last one perhaps by the end of the input. It is a document in hex digits of
+/// Octet 0A ends a line; the last line may end with the input. It is a document in hex digits of
 /// either case. Its answer is a line: `ok` and the canonical octets in upper-case hex; `refused`, the fault's name, and
 /// its number if it has one; or `badhex`, where it isn't an even number of hex digits. The whole input and the whole
 /// output are kept in memory.

@@ -209,10 +209,10 @@ pub extern "C" fn simple_asn1_signed(alloc: Global, octets: &[u8]) -> SignedAnsw
 }
 
 /// Writes the canonical octets of the document that records describe: one with items holds the records after it, any
-/// other has its contents octets among these. Returns what [`simple_asn1_rewrite`] does; the offset of a fault is that
-/// in what is described. `BAD_RECORD` with the index of the last record that cannot be written: its class does not
-/// exist, its tag is `u64::MAX`, which also stands for each greater number, it holds more than there are, or its
-/// contents octets are not within these.
+/// other has its contents octets among these. Returns what [`simple_asn1_rewrite`] does; the offset of a fault is its
+/// offset in the described document. `BAD_RECORD` with the index of the last record that cannot be written: its class
+/// does not exist, its tag is `u64::MAX`, which also stands for each greater number, it holds more than there are, or
+/// its contents octets are not within these.
 #[unsafe(no_mangle)]
 pub extern "C" fn simple_asn1_write(
     alloc: Global,
@@ -277,8 +277,8 @@ pub extern "C" fn simple_asn1_put_oid(alloc: Global, text: &[u8], room: &mut [u8
 }
 
 /// Puts the contents octets of a string (X.690 8.23) with this tag number and text, which is in UTF-8, as
-/// [`simple_asn1_put_boolean`] does, without memory. `NO_SUCH_VALUE` for the tag number of no string; the fault of text
-/// that is no UTF-8, or not that of a PrintableString; `OUT_OF_RANGE` for a character above 7F in an IA5String.
+/// [`simple_asn1_put_boolean`] does, without memory. `NO_SUCH_VALUE` for the tag number of no string; the fault of
+/// text that is not UTF-8, or not a PrintableString's; `OUT_OF_RANGE` for a character above 7F in an IA5String.
 #[unsafe(no_mangle)]
 pub extern "C" fn simple_asn1_put_text(tag: u64, text: &[u8], room: &mut [u8]) -> Outcome
     ensures { AnswersPutText tag text.now room.old room.new result }
