@@ -21,7 +21,8 @@ pub fn push_label(alloc: Global, label: &[u8], out: &mut Vec<u8>) -> Result<(), 
     push_note(Mark::Object, text.as_bytes(), out)
 }
 
-/// Puts a line that says why something is not read: `!`, a space, and the words, with a space for each octet 0A. The verdict is `Refused`.
+/// Puts a line that says why something is not read: `!`, a space, and the words, with a space for each octet 0A. The
+/// verdict is `Refused`.
 ///
 /// # Errors
 /// Memory ran out.
