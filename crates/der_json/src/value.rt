@@ -45,7 +45,7 @@ pub fn type_value(alloc: Global, entry: &Entry) -> Result<Value, AllocError>
 
 // How its class is called.
 pub fn class_value(alloc: Global, class: ASN1Class) -> Result<Value, AllocError>
-    ensures told { IfOk result (λ v. view v ≡ string (name_of class)) }
+    ensures told { IfOk result (λ v. view v ≡ string (class_name class)) }
     ensures exact { IfOk result (λ v. has_float (view v) ≡ false) }
 {
     text_value(alloc, class.name())
