@@ -102,7 +102,7 @@ impl HeaderCount {
 
     // One header more is begun.
     #[inline(always)]
-    pub fn add_one(&mut self)
+    pub(crate) fn add_one(&mut self)
         requires { self.old + 1 < 2 ^ 64 }
         ensures { self.new ≡ self.old + 1 }
     {
@@ -137,7 +137,7 @@ fn base128_at(alloc: Global, octets: &[u8]) -> Result<(BigUint, usize), ASN1Deco
 
 // The identifier octets at the front, and how many they are.
 #[inline(always)]
-pub fn tag_at(
+pub(crate) fn tag_at(
     alloc: Global,
     octets: &[u8],
 ) -> Result<((BigUint, bool, ASN1Class), usize), ASN1DecodeErr>
@@ -324,7 +324,7 @@ pub fn identifier_at(octets: &[u8]) -> Option<usize>
 }
 
 // The class of a leading octet.
-pub fn class_of(leading: u8) -> ASN1Class
+pub(crate) fn class_of(leading: u8) -> ASN1Class
     ensures { class_number result ≡ leading / 64 }
 {
     match leading >> 6 {

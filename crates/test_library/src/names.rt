@@ -9,10 +9,22 @@ const MIXED: &str = "31 00 0A 01 05 1A 00 51 00 A0 02 05 00";
 #[test]
 fn a_type_has_its_name_in_blocks_and_entries(rt: HostRuntime) -> Result<(), Fail> {
     let alloc = rt.alloc();
-    let names = [Some("SET"), Some("ENUMERATED"), Some("VisibleString"), None, None];
+    let names = [
+        Some("SET"),
+        Some("ENUMERATED"),
+        Some("VisibleString"),
+        None,
+        None,
+    ];
     let mixed = octets(alloc, MIXED)?;
     let document = Document::from_der(alloc, &mixed)?;
-    assert!(rt; document.blocks().iter().map(|block| block.type_name()).eq(names));
+    assert!(rt;
+        document
+            .blocks()
+            .iter()
+            .map(|block| block.type_name())
+            .eq(names)
+    );
     let outline = Outline::from_der(alloc, &mixed)?;
     let entries = outline.entries();
     assert!(rt; entries[..5].iter().map(|entry| entry.type_name()).eq(names));
@@ -26,7 +38,13 @@ fn a_class_has_its_name(rt: HostRuntime) -> Result<(), Fail> {
     let tagged = octets(alloc, "05 00 40 00 80 00 C0 00")?;
     let document = Document::from_der(alloc, &tagged)?;
     let names = ["universal", "application", "context-specific", "private"];
-    assert!(rt; document.blocks().iter().map(|block| block.class().name()).eq(names));
+    assert!(rt;
+        document
+            .blocks()
+            .iter()
+            .map(|block| block.class().name())
+            .eq(names)
+    );
     Ok(())
 }
 
