@@ -12,19 +12,16 @@ use Rattle.asn1_blocks.specs.Tree.{
   unknown,
   no_trees,
   more_trees,
+  mapped,
+  all_mapped,
 }
 
-abbrev mutual
-  -- the tree whose bit strings of no bits have no octets
-  pub normalized : {O : Type 0} → Tree O → Tree O
-  normalized (leaf o l) = leaf o (normalized_leaf l)
-  normalized (group o g bs) = group o g (all_normalized bs)
-  normalized (explicit class o tag b) = explicit class o tag (normalized b)
-  normalized (unknown class constructed o tag contents) = unknown class constructed o tag contents
+-- the tree whose bit strings of no bits have no octets
+abbrev pub normalized : {O : Type 0} → Tree O → Tree O
+normalized b = mapped (λ o. o) normalized_leaf b
 
-  pub all_normalized : {O : Type 0} → Trees O → Trees O
-  all_normalized no_trees = no_trees
-  all_normalized (more_trees b bs) = more_trees (normalized b) (all_normalized bs)
+abbrev pub all_normalized : {O : Type 0} → Trees O → Trees O
+all_normalized bs = all_mapped (λ o. o) normalized_leaf bs
 
 abbrev mutual
   -- the tree is read back as it is, once it is written

@@ -4,21 +4,16 @@ use Rattle.asn1_headers.specs.declared.header.ASN1Class.{ASN1Class}
 use Rattle.asn1_blocks.specs.declared.block.GroupKind.{GroupKind}
 use Rattle.asn1_blocks.specs.declared.parsed.PlacedHeader.{PlacedHeader}
 use Rattle.asn1_headers.specs.Header.{Encoding}
-use Rattle.asn1_blocks.specs.Tree.{Tree, Trees, leaf, group, explicit, unknown, no_trees, more_trees}
+use Rattle.asn1_blocks.specs.Tree.{Tree, Trees, group, explicit, no_trees, more_trees, mapped, all_mapped}
 use Rattle.asn1_blocks.specs.View.{tree_offset}
 use Rattle.asn1_blocks.specs.Grammar.{IsDocument}
 
-abbrev mutual
-  -- the tree with each offset changed
-  pub with_offsets : (ℕ → ℕ) → Tree ℕ → Tree ℕ
-  with_offsets f (leaf o l) = leaf (f o) l
-  with_offsets f (group o g bs) = group (f o) g (all_with_offsets f bs)
-  with_offsets f (explicit class o tag b) = explicit class (f o) tag (with_offsets f b)
-  with_offsets f (unknown class constructed o tag contents) = unknown class constructed (f o) tag contents
+-- the tree with each offset changed
+abbrev pub with_offsets : (ℕ → ℕ) → Tree ℕ → Tree ℕ
+with_offsets f b = mapped f (λ l. l) b
 
-  pub all_with_offsets : (ℕ → ℕ) → Trees ℕ → Trees ℕ
-  all_with_offsets f no_trees = no_trees
-  all_with_offsets f (more_trees b bs) = more_trees (with_offsets f b) (all_with_offsets f bs)
+abbrev pub all_with_offsets : (ℕ → ℕ) → Trees ℕ → Trees ℕ
+all_with_offsets f bs = all_mapped f (λ l. l) bs
 
 -- all offsets less by the tree's own
 abbrev pub rebased : Tree ℕ → Tree ℕ

@@ -39,13 +39,20 @@ trees_of [] = no_trees
 trees_of (b ∷ bs) = more_trees b (trees_of bs)
 
 abbrev mutual
-  -- the tree without its offsets
-  pub shape : {O : Type 0} → Tree O → Tree (Unit {0})
-  shape (leaf o l) = leaf tt l
-  shape (group o g bs) = group tt g (shapes bs)
-  shape (explicit class o tag b) = explicit class tt tag (shape b)
-  shape (unknown class constructed o tag contents) = unknown class constructed tt tag contents
+  -- the tree with each offset and each leaf changed
+  pub mapped : {O P : Type 0} → (O → P) → (Leaf → Leaf) → Tree O → Tree P
+  mapped f h (leaf o l) = leaf (f o) (h l)
+  mapped f h (group o g bs) = group (f o) g (all_mapped f h bs)
+  mapped f h (explicit class o tag b) = explicit class (f o) tag (mapped f h b)
+  mapped f h (unknown class constructed o tag contents) = unknown class constructed (f o) tag contents
 
-  pub shapes : {O : Type 0} → Trees O → Trees (Unit {0})
-  shapes no_trees = no_trees
-  shapes (more_trees b bs) = more_trees (shape b) (shapes bs)
+  pub all_mapped : {O P : Type 0} → (O → P) → (Leaf → Leaf) → Trees O → Trees P
+  all_mapped f h no_trees = no_trees
+  all_mapped f h (more_trees b bs) = more_trees (mapped f h b) (all_mapped f h bs)
+
+-- the tree without its offsets
+abbrev pub shape : {O : Type 0} → Tree O → Tree (Unit {0})
+shape b = mapped (λ o. tt) (λ l. l) b
+
+abbrev pub shapes : {O : Type 0} → Trees O → Trees (Unit {0})
+shapes bs = all_mapped (λ o. tt) (λ l. l) bs

@@ -72,7 +72,8 @@ use Rattle.asn1_blocks.proofs.Readings.{document_no_fault}
 use Rattle.asn1_leaves.proofs.SliceSplit.{slice_split}
 use Rattle.asn1_blocks.proofs.Slices.{encodes_offset, end_is, slice_here}
 use Rattle.simple_asn1.proofs.WriteSteps.{none_of_both}
-use Rattle.simple_asn1.proofs.Placed.{canonical_shapes, contents_le, header_size, shortest_encodes}
+use Rattle.simple_asn1.proofs.Placed.{contents_le, header_size, shortest_encodes}
+use Rattle.simple_asn1.proofs.Shapes.{canonical_shapes}
 
 -- what is written of a tree is an encoding
 written_encoding :

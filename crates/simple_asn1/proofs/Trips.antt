@@ -33,11 +33,10 @@ use Rattle.simple_asn1.proofs.Placed.{
   all_placed,
   all_canonical_encodes,
   canonical_some,
-  canonical_shapes,
-  write_fault_shapes,
   shapes_placed,
   all_faithful_writable,
 }
+use Rattle.simple_asn1.proofs.Shapes.{canonical_shapes, write_fault_shapes}
 use Rattle.asn1_blocks.proofs.Readings.{document_no_fault}
 
 mutual
