@@ -38,7 +38,7 @@ use Rattle.simple_asn1.specs.Conversions.{Decodes, DecodeFails}
 use Rattle.asn1_headers.specs.Fault.{fault_of}
 use Rattle.asn1_blocks.specs.Grammar.{IsDocument}
 use Rattle.simple_asn1.specs.Laws.Unambiguous.{Unambiguous}
-use Rattle.simple_asn1.specs.Laws.Parts.{BlockAlone}
+use Rattle.simple_asn1.specs.Laws.Slices.{BlockAlone}
 use Rattle.asn1_numbers.specs.Octets.{FitInSlice}
 use Rattle.asn1_blocks.specs.Places.{HasOctets, rebased, in_first, in_later, in_group, itself}
 use Rattle.simple_asn1.specs.SignedTrees.{

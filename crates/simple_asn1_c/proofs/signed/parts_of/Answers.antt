@@ -4,7 +4,7 @@ use Rattle.simple_asn1.specs.Tree.{group, more_trees, no_trees}
 use Rattle.simple_asn1.specs.View.{tree_offset, view, views}
 use Rattle.simple_asn1.proofs.SignedTriples.{no_triple}
 use Rattle.asn1_blocks.specs.declared.block.GroupKind.TheVariants.{Sequence}
-use Rattle.simple_asn1_c.proofs.Parts.{three_views}
+use Rattle.simple_asn1_c.proofs.Views.{three_views}
 use Rattle.simple_asn1_c.proofs.signed.parts_of.Goals as goal
 use Rattle.simple_asn1_c.proofs.signed.parts_of.Goals.{in_default-via-then-branch-lt3, in_default-via-else-branch-lt3+else-this-lt4}
 

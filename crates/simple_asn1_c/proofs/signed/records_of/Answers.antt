@@ -2,7 +2,7 @@ use Rattle.std.proofs.Common.{refl, subst}
 use Rattle.simple_asn1.specs.View.{view, views}
 use Rattle.simple_asn1_c.specs.Answers.{is_signed}
 use Rattle.simple_asn1_c.specs.Records.{IsRecord}
-use Rattle.simple_asn1_c.proofs.Parts.{first_view}
+use Rattle.simple_asn1_c.proofs.Views.{first_view}
 use Rattle.simple_asn1_c.proofs.Triples.{begins_signed, content_stands, identifier_stands, signature_stands}
 use Rattle.simple_asn1_c.proofs.signed.records_of.Goals as goal
 

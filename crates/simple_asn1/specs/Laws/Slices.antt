@@ -1,4 +1,4 @@
--- Documents and their parts: one after another, cut short, and the octets of one block.
+-- Slices of documents: one after another, cut short, and the octets of one block.
 use Rattle.std.specs.Prelude.{◌≡◌, ◌≢◌, ◌↔◌, ℕ, ◌<◌, ◌++◌, List, [], length}
 use Rattle.asn1_numbers.specs.Octets.{FitInSlice}
 use Rattle.asn1_headers.specs.Fault.{empty_buffer, incomplete}
