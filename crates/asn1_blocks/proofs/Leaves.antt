@@ -16,6 +16,7 @@ use Rattle.std.proofs.Common.{
   [],
   None,
   length,
+  lit<,
   inl,
   inr,
   refl,
@@ -129,7 +130,7 @@ use Rattle.asn1_leaves.proofs.Leaves.Text.{
   text_read,
 }
 
--- the tag of a string of characters is that of one
+-- the tag of a string of characters is that of one, and one of the low ones
 string_tag_is : (kind : StringKind) → is_string_tag (string_tag kind) ≡ true
 string_tag_is utf8 = refl
 string_tag_is printable = refl
@@ -138,7 +139,15 @@ string_tag_is ia5 = refl
 string_tag_is universal = refl
 string_tag_is bmp = refl
 
--- which no other is
+pub string_tag_small : (kind : StringKind) → string_tag kind < 64
+string_tag_small utf8 = lit< tt
+string_tag_small printable = lit< tt
+string_tag_small teletex = lit< tt
+string_tag_small ia5 = lit< tt
+string_tag_small universal = lit< tt
+string_tag_small bmp = lit< tt
+
+-- a tag that is none is not its
 no_string_tag : (n : ℕ) (kind : StringKind) → is_string_tag n ≡ false → n ≡ string_tag kind → ⊥
 no_string_tag n kind other e = false≢true (sym other ∙ (ap is_string_tag e ∙ string_tag_is kind))
 

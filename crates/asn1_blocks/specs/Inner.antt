@@ -6,6 +6,7 @@ pub mod EqualityLaws
 pub mod TreeOrder
 pub mod FaithfulWalk
 pub mod LeafBlocks
+pub mod OwnContents
 pub mod Owed
 pub mod BlockFault
 pub mod OpenFrames

@@ -1,9 +1,12 @@
 // The tree of blocks.
-ghost use Rattle.std.specs.Prelude.{◌≡◌};
+ghost use Rattle.std.specs.Prelude.{◌≡◌, ◌<◌, ◌^◌, SomeIff};
+ghost use Rattle.asn1_blocks.specs.BlockParts.{tree_tag};
+ghost use Rattle.asn1_blocks.specs.Inner.OwnContents.{known_octet};
 ghost use Rattle.asn1_blocks.specs.View.{tree_class, tree_offset, view};
 
 mod copy;
 pub mod discard;
+mod own;
 pub mod parts;
 mod same;
 
@@ -125,5 +128,66 @@ impl ASN1Block {
             ASN1Block::Explicit(_, offset, _, _) => *offset,
             ASN1Block::Unknown(_, _, offset, _, _) => *offset,
         }
+    }
+
+    /// The tag number (X.690 8.1.2.2): the one of X.680 table 1, or the field of an `Explicit` or `Unknown` block.
+    /// `None` only for a field of 2^64 or more.
+    ///
+    /// ```rust
+    /// use simple_asn1::{ASN1Block, ASN1Class};
+    ///
+    /// // Whether the block is tagged [0].
+    /// fn is_tagged_0(block: &ASN1Block) -> bool {
+    ///     block.class() == ASN1Class::ContextSpecific && block.tag() == Some(0)
+    /// }
+    /// ```
+    pub fn tag(&self) -> Option<u64>
+        ensures { SomeIff result (tree_tag (view self.now) < 2 ^ 64) (tree_tag (view self.now)) }
+    {
+        match self {
+            ASN1Block::Boolean(_, _) => Some(1),
+            ASN1Block::Integer(_, _) => Some(2),
+            ASN1Block::BitString(_, _, _) => Some(3),
+            ASN1Block::OctetString(_, _) => Some(4),
+            ASN1Block::Null(_) => Some(5),
+            ASN1Block::ObjectIdentifier(_, _) => Some(6),
+            ASN1Block::UTF8String(_, _) => Some(12),
+            ASN1Block::Sequence(_, _) => Some(16),
+            ASN1Block::Set(_, _) => Some(17),
+            ASN1Block::PrintableString(_, _) => Some(19),
+            ASN1Block::TeletexString(_, _) => Some(20),
+            ASN1Block::IA5String(_, _) => Some(22),
+            ASN1Block::UTCTime(_, _) => Some(23),
+            ASN1Block::GeneralizedTime(_, _) => Some(24),
+            ASN1Block::UniversalString(_, _) => Some(28),
+            ASN1Block::BMPString(_, _) => Some(30),
+            ASN1Block::Explicit(_, _, tag, _) | ASN1Block::Unknown(_, _, _, tag, _) => tag.to_u64(),
+        }
+    }
+}
+
+// The identifier octet of a block whose tag has a rule.
+#[inline(always)]
+pub fn known_octet(b: &ASN1Block) -> u8
+    ensures { result ≡ known_octet (view b.now) }
+{
+    match b {
+        ASN1Block::Boolean(_, _) => 0x01,
+        ASN1Block::Integer(_, _) => 0x02,
+        ASN1Block::BitString(_, _, _) => 0x03,
+        ASN1Block::OctetString(_, _) => 0x04,
+        ASN1Block::Null(_) => 0x05,
+        ASN1Block::ObjectIdentifier(_, _) => 0x06,
+        ASN1Block::UTF8String(_, _) => 0x0C,
+        ASN1Block::PrintableString(_, _) => 0x13,
+        ASN1Block::TeletexString(_, _) => 0x14,
+        ASN1Block::IA5String(_, _) => 0x16,
+        ASN1Block::UTCTime(_, _) => 0x17,
+        ASN1Block::GeneralizedTime(_, _) => 0x18,
+        ASN1Block::UniversalString(_, _) => 0x1C,
+        ASN1Block::BMPString(_, _) => 0x1E,
+        ASN1Block::Sequence(_, _) => 0x30,
+        ASN1Block::Set(_, _) => 0x31,
+        ASN1Block::Explicit(_, _, _, _) | ASN1Block::Unknown(_, _, _, _, _) => 0,
     }
 }

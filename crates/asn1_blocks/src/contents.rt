@@ -1,8 +1,11 @@
 // Contents octets of blocks: which module reads and puts those of a tag. There is one for each kind that has a rule.
-ghost use Rattle.std.specs.Prelude.{◌≡◌, ◌↔◌, ℕ, List, false, None, Some, IfOk, IfErr, IsTrue, MatchOption, OnOk};
+ghost use Rattle.std.specs.Prelude.{◌≡◌, ◌↔◌, ◌⊎◌, ◌≤◌, ℕ, List, length, false, None, Some, IfOk, IfErr, IsTrue, MatchOption, OnOk};
 ghost use Rattle.asn1_headers.specs.declared.header.ASN1Class.TheVariants.{Universal};
-ghost use Rattle.asn1_blocks.specs.Contents.{LeafFault, is_known_tag, is_leaf_tag};
+ghost use Rattle.asn1_blocks.specs.Contents.{LeafFault, is_known_tag, is_leaf_tag, string_tag};
+ghost use Rattle.asn1_leaves.specs.Contents.Text.{text_form};
+ghost use Rattle.asn1_leaves.specs.StringKind.{StringKind};
 ghost use Rattle.asn1_blocks.specs.Inner.LeafBlocks.{IsLeafOf, IsNoLeafOrMeant, IsSingleAt};
+ghost use Rattle.asn1_blocks.specs.Inner.OwnContents.{own_contents, own_fault};
 ghost use Rattle.asn1_blocks.specs.Inner.FaithfulWalk.{IsFaithfulIfLeaf};
 ghost use Rattle.asn1_headers.specs.Fault.{OutOfMemoryOr};
 ghost use Rattle.asn1_blocks.specs.Grammar.{Encodes};
@@ -11,16 +14,17 @@ ghost use Rattle.asn1_blocks.specs.HeadersBegun.{IsReadInside};
 ghost use Rattle.asn1_blocks.specs.Tree.{unknown};
 ghost use Rattle.asn1_blocks.specs.View.{view};
 ghost use Rattle.asn1_headers.specs.declared.error.ASN1DecodeErr.TheVariants.{OutOfMemory};
+ghost use Rattle.asn1_headers.specs.declared.error.ASN1EncodeErr.TheVariants.{OutOfMemory as no_memory};
 
 use crate::block::ASN1Block;
 use crate::parsed::PlacedHeader;
-use asn1_headers::error::ASN1DecodeErr;
+use asn1_headers::error::{ASN1DecodeErr, ASN1EncodeErr};
 use asn1_headers::header::ASN1Class;
 use asn1_leaves::contents::text::TextForm;
 use asn1_leaves::contents::{bit_string, boolean, generalized_time, integer, text, utc_time};
 use asn1_leaves::oid;
 use asn1_numbers::number::big_uint::BigUint;
-use asn1_numbers::octets::copy_of;
+use asn1_numbers::sink::Sink;
 use std::alloc::Global;
 
 // The block of an encoding whose contents are not read as blocks.
@@ -64,7 +68,7 @@ fn universal_leaf(
             let (bits, octets) = bit_string::read(alloc, contents)?;
             ASN1Block::BitString(offset, bits, octets)
         }
-        Some(4) => ASN1Block::OctetString(offset, copy_of(alloc, contents)?),
+        Some(4) => ASN1Block::OctetString(offset, Vec::from_slice(alloc, contents)?),
         Some(5) => ASN1Block::Null(offset),
         Some(6) => ASN1Block::ObjectIdentifier(offset, oid::read(alloc, contents)?),
         Some(12) => ASN1Block::UTF8String(offset, text::read(alloc, TextForm::Utf8, contents)?),
@@ -146,7 +150,7 @@ fn unknown_block(
         view b ≡ unknown header.class header.constructed offset header.tag contents.now) }
     ensures refused { IfErr result (λ e. e ≡ OutOfMemory) }
 {
-    let octets = copy_of(alloc, contents)?;
+    let octets = Vec::from_slice(alloc, contents)?;
     let PlacedHeader {
         class,
         constructed,
@@ -190,4 +194,72 @@ pub fn is_known(tag: &BigUint) -> bool
         tag.to_u64(),
         Some(1..=6 | 12 | 16 | 17 | 19 | 20 | 22 | 23 | 24 | 28 | 30)
     )
+}
+
+// The form of a string with the tag number.
+pub fn form_of(tag: u64) -> Option<TextForm>
+    ensures { MatchOption result
+        ((kind : StringKind) → tag ≡ string_tag kind → ⊥)
+        (λ form. (kind : StringKind) × (tag ≡ string_tag kind) × (form ≡ text_form kind)) }
+{
+    match tag {
+        12 => Some(TextForm::Utf8),
+        19 => Some(TextForm::Printable),
+        20 => Some(TextForm::Utf8),
+        22 => Some(TextForm::Octets),
+        28 => Some(TextForm::Utf8),
+        30 => Some(TextForm::Utf8),
+        _ => None,
+    }
+}
+
+// The number of contents octets that are written of the block itself, without those of the blocks that it holds.
+#[inline(always)]
+pub fn own_size(b: &ASN1Block) -> Result<usize, ASN1EncodeErr>
+    ensures size { IfOk result (λ n. n ≡ length (own_contents (view b.now))) }
+    ensures writable { OnOk result (own_fault (view b.now) ≡ None) }
+    ensures refused { IfErr result (λ e. (e ≡ no_memory) ⊎ (own_fault (view b.now) ≡ Some e)) }
+{
+    match b {
+        ASN1Block::Boolean(_, x) => Ok(boolean::size(*x)),
+        ASN1Block::Integer(_, n) => Ok(integer::size(n)),
+        ASN1Block::BitString(_, bits, v) => bit_string::size(*bits, v),
+        ASN1Block::OctetString(_, v) | ASN1Block::Unknown(_, _, _, _, v) => Ok(v.len()),
+        ASN1Block::UTF8String(_, s)
+        | ASN1Block::TeletexString(_, s)
+        | ASN1Block::UniversalString(_, s)
+        | ASN1Block::BMPString(_, s) => text::size(TextForm::Utf8, s),
+        ASN1Block::PrintableString(_, s) => text::size(TextForm::Printable, s),
+        ASN1Block::IA5String(_, s) => text::size(TextForm::Octets, s),
+        ASN1Block::Null(_) => Ok(0),
+        ASN1Block::ObjectIdentifier(_, identifier) => oid::size(identifier),
+        ASN1Block::UTCTime(_, d) => utc_time::size(d),
+        ASN1Block::GeneralizedTime(_, d) => generalized_time::size(d),
+        ASN1Block::Sequence(_, _) | ASN1Block::Set(_, _) | ASN1Block::Explicit(_, _, _, _) => Ok(0),
+    }
+}
+
+// Puts these contents octets.
+pub fn put_own<S: Sink>(b: &ASN1Block, out: &mut S)
+    requires room { length (own_contents (view b.now)) ≤ S.room out.old }
+    requires writable { own_fault (view b.now) ≡ None }
+    ensures { S.puts out.old (own_contents (view b.now)) out.new }
+{
+    match b {
+        ASN1Block::Boolean(_, x) => boolean::put(*x, out),
+        ASN1Block::Integer(_, n) => integer::put(n, out),
+        ASN1Block::BitString(_, bits, v) => bit_string::put(*bits, v, out),
+        ASN1Block::OctetString(_, v) | ASN1Block::Unknown(_, _, _, _, v) => out.put(v),
+        ASN1Block::UTF8String(_, s)
+        | ASN1Block::TeletexString(_, s)
+        | ASN1Block::UniversalString(_, s)
+        | ASN1Block::BMPString(_, s) => text::put(TextForm::Utf8, s, out),
+        ASN1Block::PrintableString(_, s) => text::put(TextForm::Printable, s, out),
+        ASN1Block::IA5String(_, s) => text::put(TextForm::Octets, s, out),
+        ASN1Block::Null(_) => {}
+        ASN1Block::ObjectIdentifier(_, identifier) => oid::put(identifier, out),
+        ASN1Block::UTCTime(_, d) => utc_time::put(d, out),
+        ASN1Block::GeneralizedTime(_, d) => generalized_time::put(d, out),
+        ASN1Block::Sequence(_, _) | ASN1Block::Set(_, _) | ASN1Block::Explicit(_, _, _, _) => {}
+    }
 }

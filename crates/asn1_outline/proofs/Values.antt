@@ -1,5 +1,5 @@
 -- What an entry's contents octets mean.
-use Rattle.std.proofs.Common.{◌≡◌, ℕ, ◌+◌, ◌<◌, ◌≤◌, ◌^◌, ◌++◌, Bool, true, false, ◌-◌, List, [], Some, None, lit<, inl, inr, drop, get_or, length, take, refl, sym, ap, subst, ◌∙◌, arith, append_assoc, length-append}
+use Rattle.std.proofs.Common.{◌≡◌, ℕ, ◌+◌, ◌<◌, ◌≤◌, ◌^◌, ◌++◌, Bool, true, false, ◌-◌, List, [], Some, None, inl, inr, drop, get_or, length, take, refl, sym, ap, subst, ◌∙◌, arith, append_assoc, length-append}
 use Rattle.std.specs.List.{slice_range}
 use Rattle.std.specs.Prelude.{pos}
 use Rattle.std.proofs.lemmas.Bool.{cases_lt}
@@ -9,17 +9,17 @@ use Rattle.asn1_headers.specs.Header.{BeginsWithNo, Encoding, IsIdentifier, IsSo
 use Rattle.asn1_headers.specs.declared.header.ASN1Class.{ASN1Class}
 use Rattle.asn1_headers.specs.declared.header.ASN1Class.TheVariants.{Universal}
 use Rattle.asn1_headers.proofs.Prefixes.{SameEncoding, encoding_alone, encoding_some, identifier_alone}
-use Rattle.asn1_leaves.specs.StringKind.{StringKind, utf8, printable, teletex, ia5, universal, bmp}
+use Rattle.asn1_leaves.specs.StringKind.{StringKind}
 use Rattle.asn1_blocks.specs.BlockParts.{leaf_integer, tree_bits, tree_boolean, tree_integer, tree_moment, tree_oid, tree_tag, tree_text}
 use Rattle.asn1_blocks.specs.Contents.{LeafContents, LeafFault, group_tag, is_known_tag, is_leaf_tag, leaf_tag, of_text, string_tag}
 use Rattle.asn1_blocks.specs.Inner.LeafBlocks.{IsLeafOf}
-use Rattle.asn1_blocks.proofs.Leaves.{leaf_alone, leaf_no_fault, leaf_tag_known, leaf_tag_no_group, unknown_known}
+use Rattle.asn1_blocks.proofs.Leaves.{leaf_alone, leaf_no_fault, leaf_tag_is, leaf_tag_known, leaf_tag_no_group, string_tag_small, unknown_known}
 use Rattle.asn1_headers.specs.Fault.{DecodeFault}
 use Rattle.asn1_leaves.specs.Contents.Text.{TextContents, TextFault, text_form}
 use Rattle.asn1_blocks.specs.declared.block.GroupKind.TheVariants.{Sequence, Set}
 use Rattle.asn1_blocks.specs.Grammar.{Encodes, IsDocument}
 use Rattle.asn1_blocks.specs.Places.{EncodingAt}
-use Rattle.asn1_blocks.specs.Tree.{Leaf, Tree, bit_string, boolean, explicit, generalized_time, group, integer, leaf, null, object_identifier, octet_string, text, unknown, utc_time}
+use Rattle.asn1_blocks.specs.Tree.{Leaf, Tree, bit_string, boolean, explicit, generalized_time, group, integer, leaf, object_identifier, text, unknown, utc_time}
 use Rattle.asn1_blocks.specs.View.{tree_offset}
 use Rattle.asn1_blocks.proofs.Slices.{encoding_at_alone}
 use Rattle.asn1_outline.specs.Entries.{AreEntries, HasTag, no_entry}
@@ -85,20 +85,7 @@ small_tag n field m (low, high) e s = elim (cases_lt n (2 ^ 64)) [
 ]
 
 integer_leaf : (l : Leaf) (v w : List ℕ) → leaf_tag l ≡ 2 → v ≡ w → LeafContents l v → leaf_integer l ≡ Some (signed_number w)
-integer_leaf (boolean b) v w t e m = absurd (cc)
-integer_leaf (integer n) v w t e m = ap Some (m ∙ ap signed_number e)
-integer_leaf (bit_string n o) v w t e m = absurd (cc)
-integer_leaf (octet_string o) v w t e m = absurd (cc)
-integer_leaf null v w t e m = absurd (cc)
-integer_leaf (object_identifier ns) v w t e m = absurd (cc)
-integer_leaf (text utf8 cs) v w t e m = absurd (cc)
-integer_leaf (text printable cs) v w t e m = absurd (cc)
-integer_leaf (text teletex cs) v w t e m = absurd (cc)
-integer_leaf (text ia5 cs) v w t e m = absurd (cc)
-integer_leaf (text universal cs) v w t e m = absurd (cc)
-integer_leaf (text bmp cs) v w t e m = absurd (cc)
-integer_leaf (utc_time d) v w t e m = absurd (cc)
-integer_leaf (generalized_time d) v w t e m = absurd (cc)
+integer_leaf l v w t e m = ap leaf_integer (leaf_alone l (integer (signed_number w)) v t m (ap signed_number (sym e)))
 
 -- the tree of an INTEGER's contents octets
 integer_tree : (o : ℕ) (y : List ℕ) (b : Tree ℕ) (k : Bool) (w : List ℕ) (h : ℕ) → Encodes o y b → Encoding y Universal k 2 w h
@@ -134,17 +121,10 @@ is_integer x b r e class tag =
 -- any other tree is none
 no_integer_leaf : (o : ℕ) (y : List ℕ) (b : Tree ℕ) (c : ASN1Class) (k : Bool) (n : ℕ) (w : List ℕ) (h : ℕ) → Encodes o y b → Encoding y c k n w h
     → ((c ≡ Universal) × (n ≡ 2) → ⊥) → tree_integer b ≡ None
-no_integer_leaf o y (leaf p (boolean b)) c k n w h s e other = refl
 no_integer_leaf o y (leaf p (integer m)) c k n w h s e other =
     let z = one y Universal c s.1 k 2 n s.2 w s.3 h s.4 e in
     absurd (other (sym z.class, sym z.tag))
-no_integer_leaf o y (leaf p (bit_string m v)) c k n w h s e other = refl
-no_integer_leaf o y (leaf p (octet_string v)) c k n w h s e other = refl
-no_integer_leaf o y (leaf p null) c k n w h s e other = refl
-no_integer_leaf o y (leaf p (object_identifier ns)) c k n w h s e other = refl
-no_integer_leaf o y (leaf p (text kind cs)) c k n w h s e other = refl
-no_integer_leaf o y (leaf p (utc_time d)) c k n w h s e other = refl
-no_integer_leaf o y (leaf p (generalized_time d)) c k n w h s e other = refl
+no_integer_leaf o y (leaf p l) c k n w h s e other = refl
 no_integer_leaf o y (group p g bs) c k n w h s e other = refl
 no_integer_leaf o y (explicit d p m b) c k n w h s e other = refl
 no_integer_leaf o y (unknown d j p m v) c k n w h s e other = refl
@@ -204,12 +184,7 @@ leaf_faultless o n v (explicit c p m b) fault s f = s
 leaf_faultless o n v (unknown c k p m w) fault s f = s
 
 string_leaf : (kind : StringKind) → (string_tag kind < 64) × (is_leaf_tag (string_tag kind) ≡ true)
-string_leaf utf8 = (lit< tt, refl)
-string_leaf printable = (lit< tt, refl)
-string_leaf teletex = (lit< tt, refl)
-string_leaf ia5 = (lit< tt, refl)
-string_leaf universal = (lit< tt, refl)
-string_leaf bmp = (lit< tt, refl)
+string_leaf kind = (string_tag_small kind, leaf_tag_is (text kind []))
 
 pub is_text : (x : List ℕ) (b : Tree ℕ) (r : Entry) (kind : StringKind) (cs : List ℕ) → IsEntryOf x b r → r.class ≡ Universal → r.tag ≡ string_tag kind
     → TextContents (text_form kind) cs (slice_range x (r.offset + r.header) (r.offset + r.header + r.contents)) → tree_text b ≡ Some cs
@@ -230,17 +205,10 @@ is_no_faulty_text x b r kind fault e class tag f =
 -- a tree of no string
 no_text_leaf : (o : ℕ) (y : List ℕ) (b : Tree ℕ) (c : ASN1Class) (k : Bool) (n : ℕ) (w : List ℕ) (h : ℕ) → Encodes o y b → Encoding y c k n w h
     → ((kind : StringKind) → (c ≡ Universal) × (n ≡ string_tag kind) → ⊥) → tree_text b ≡ None
-no_text_leaf o y (leaf p (boolean b)) c k n w h s e other = refl
-no_text_leaf o y (leaf p (integer m)) c k n w h s e other = refl
-no_text_leaf o y (leaf p (bit_string m v)) c k n w h s e other = refl
-no_text_leaf o y (leaf p (octet_string v)) c k n w h s e other = refl
-no_text_leaf o y (leaf p null) c k n w h s e other = refl
-no_text_leaf o y (leaf p (object_identifier ns)) c k n w h s e other = refl
 no_text_leaf o y (leaf p (text kind cs)) c k n w h s e other =
     let z = one y Universal c s.1 k (string_tag kind) n s.2 w s.3 h s.4 e in
     absurd (other kind (sym z.class, sym z.tag))
-no_text_leaf o y (leaf p (utc_time d)) c k n w h s e other = refl
-no_text_leaf o y (leaf p (generalized_time d)) c k n w h s e other = refl
+no_text_leaf o y (leaf p l) c k n w h s e other = refl
 no_text_leaf o y (group p g bs) c k n w h s e other = refl
 no_text_leaf o y (explicit d p m b) c k n w h s e other = refl
 no_text_leaf o y (unknown d j p m v) c k n w h s e other = refl

@@ -19,6 +19,7 @@ ghost use Rattle.asn1_blocks.specs.Tree.{Tree};
 ghost use Rattle.asn1_outline.specs.Values.{EachIsOfItsTree, IsEntryOf, IsNoLeafWith};
 
 use crate::entry::Entry;
+use asn1_blocks::contents::form_of;
 use asn1_headers::error::ASN1DecodeErr;
 use asn1_headers::header::{ASN1Class, HeaderCount, decode_tag};
 use asn1_headers::types::type_name;
@@ -264,23 +265,6 @@ impl Entry {
             ASN1Class::Universal => form_of(self.tag),
             _ => None,
         }
-    }
-}
-
-// The form of a string with the tag number.
-pub fn form_of(tag: u64) -> Option<TextForm>
-    ensures { MatchOption result
-        ((kind : StringKind) → tag ≡ string_tag kind → ⊥)
-        (λ form. (kind : StringKind) × (tag ≡ string_tag kind) × (form ≡ text_form kind)) }
-{
-    match tag {
-        12 => Some(TextForm::Utf8),
-        19 => Some(TextForm::Printable),
-        20 => Some(TextForm::Utf8),
-        22 => Some(TextForm::Octets),
-        28 => Some(TextForm::Utf8),
-        30 => Some(TextForm::Utf8),
-        _ => None,
     }
 }
 

@@ -45,18 +45,8 @@ use Rattle.asn1_blocks.specs.Contents.{leaf_write_fault}
 use Rattle.asn1_blocks.specs.Tree.{Tree, leaf, group, explicit, unknown}
 use Rattle.asn1_blocks.specs.Inner.TreeOrder.{IsInTreeOrder, IsNext, inside}
 use Rattle.asn1_blocks.specs.View.{view, views}
-use Rattle.simple_asn1.specs.Inner.WriteWalk.{
-  all_own_octets,
-  contents_of,
-  contents_size_of,
-  first_own_fault,
-  identifier_of,
-  measured_blocks,
-  measured_sizes,
-  own_contents,
-  own_fault,
-  own_octets,
-}
+use Rattle.asn1_blocks.specs.Inner.OwnContents.{own_contents, own_fault}
+use Rattle.simple_asn1.specs.Inner.WriteWalk.{all_own_octets, contents_of, contents_size_of, first_own_fault, identifier_of, measured_blocks, measured_sizes, own_octets}
 use Rattle.simple_asn1.specs.declared.write.measure.Measured.{Measured}
 use Rattle.asn1_blocks.proofs.BlockLists.{count, count_views}
 use Rattle.asn1_blocks.proofs.TreeOrders.{from_place}

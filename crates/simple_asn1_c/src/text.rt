@@ -8,9 +8,9 @@ use crate::alone::universal_at;
 use crate::putting::{nothing_put, put_octets};
 use crate::record::Outcome;
 use crate::status::{NO_SUCH_VALUE, OUT_OF_RANGE, PRINTABLE, UTF8, status_of_fault};
+use asn1_blocks::contents::form_of;
 use asn1_leaves::contents::text;
 use asn1_leaves::contents::text::TextForm;
-use asn1_outline::value::form_of;
 use std::alloc::Global;
 
 pub fn text_at(alloc: Global, octets: &[u8], offset: usize, room: &mut [u8]) -> Outcome

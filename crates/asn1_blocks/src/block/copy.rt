@@ -1,13 +1,12 @@
 // Copies of blocks by a loop, from the last block in tree order to the first: the copies of what a block holds are made
 // before its own.
 ghost use Rattle.std.specs.Prelude.{◌≡◌, ◌++◌, ◌≤◌, IfOk, length, reverse};
-ghost use Rattle.asn1_blocks.specs.Inner.TreeOrder.{inside};
 ghost use Rattle.asn1_blocks.specs.View.{view, views};
 
 use crate::block::ASN1Block;
-use crate::held::{HeldBlocks, boxed};
+use crate::block::own::copy_over;
+use crate::held::HeldBlocks;
 use crate::walk::{blocks_inside, in_tree_order};
-use asn1_numbers::octets::copy_of;
 use std::alloc::{AllocError, Global};
 use std::slice;
 
@@ -22,40 +21,6 @@ fn take_back(alloc: Global, copies: &mut HeldBlocks, n: usize) -> Result<HeldBlo
         taken.push(copies.take_last())?;
     }
     Ok(taken)
-}
-
-// The same block, where the copies are those of the blocks that it holds, which it takes.
-fn copy_over(alloc: Global, b: &ASN1Block, held: &mut HeldBlocks) -> Result<ASN1Block, AllocError>
-    requires { views held.old ≡ inside (view b.now) }
-    ensures { IfOk result (λ r. view r ≡ view b.now) }
-{
-    match b {
-        ASN1Block::Boolean(o, x) => Ok(ASN1Block::Boolean(*o, *x)),
-        ASN1Block::Integer(o, n) => Ok(ASN1Block::Integer(*o, n.clone(alloc)?)),
-        ASN1Block::BitString(o, n, v) => Ok(ASN1Block::BitString(*o, *n, copy_of(alloc, v)?)),
-        ASN1Block::OctetString(o, v) => Ok(ASN1Block::OctetString(*o, copy_of(alloc, v)?)),
-        ASN1Block::Null(o) => Ok(ASN1Block::Null(*o)),
-        ASN1Block::ObjectIdentifier(o, oid) => {
-            Ok(ASN1Block::ObjectIdentifier(*o, oid.clone(alloc)?))
-        }
-        ASN1Block::UTCTime(o, d) => Ok(ASN1Block::UTCTime(*o, *d)),
-        ASN1Block::GeneralizedTime(o, d) => Ok(ASN1Block::GeneralizedTime(*o, *d)),
-        ASN1Block::UTF8String(o, s) => Ok(ASN1Block::UTF8String(*o, s.clone()?)),
-        ASN1Block::PrintableString(o, s) => Ok(ASN1Block::PrintableString(*o, s.clone()?)),
-        ASN1Block::TeletexString(o, s) => Ok(ASN1Block::TeletexString(*o, s.clone()?)),
-        ASN1Block::IA5String(o, s) => Ok(ASN1Block::IA5String(*o, s.clone()?)),
-        ASN1Block::UniversalString(o, s) => Ok(ASN1Block::UniversalString(*o, s.clone()?)),
-        ASN1Block::BMPString(o, s) => Ok(ASN1Block::BMPString(*o, s.clone()?)),
-        ASN1Block::Sequence(o, _) => Ok(ASN1Block::Sequence(*o, held.take_all(alloc))),
-        ASN1Block::Set(o, _) => Ok(ASN1Block::Set(*o, held.take_all(alloc))),
-        ASN1Block::Explicit(c, o, t, _) => {
-            let tag = t.clone(alloc)?;
-            Ok(ASN1Block::Explicit(*c, *o, tag, boxed(alloc, held.take_last())?))
-        }
-        ASN1Block::Unknown(c, k, o, t, v) => {
-            Ok(ASN1Block::Unknown(*c, *k, *o, t.clone(alloc)?, copy_of(alloc, v)?))
-        }
-    }
 }
 
 fn copy(alloc: Global, b: &ASN1Block) -> Result<ASN1Block, AllocError>

@@ -47,41 +47,6 @@ impl ASN1Block {
         }
     }
 
-    /// The tag number (X.690 8.1.2.2): the one of X.680 table 1, or the field of an `Explicit` or `Unknown` block.
-    /// `None` only for a field of 2^64 or more.
-    ///
-    /// ```rust
-    /// use simple_asn1::{ASN1Block, ASN1Class};
-    ///
-    /// // Whether the block is tagged [0].
-    /// fn is_tagged_0(block: &ASN1Block) -> bool {
-    ///     block.class() == ASN1Class::ContextSpecific && block.tag() == Some(0)
-    /// }
-    /// ```
-    pub fn tag(&self) -> Option<u64>
-        ensures { SomeIff result (tree_tag (view self.now) < 2 ^ 64) (tree_tag (view self.now)) }
-    {
-        match self {
-            ASN1Block::Boolean(_, _) => Some(1),
-            ASN1Block::Integer(_, _) => Some(2),
-            ASN1Block::BitString(_, _, _) => Some(3),
-            ASN1Block::OctetString(_, _) => Some(4),
-            ASN1Block::Null(_) => Some(5),
-            ASN1Block::ObjectIdentifier(_, _) => Some(6),
-            ASN1Block::UTF8String(_, _) => Some(12),
-            ASN1Block::Sequence(_, _) => Some(16),
-            ASN1Block::Set(_, _) => Some(17),
-            ASN1Block::PrintableString(_, _) => Some(19),
-            ASN1Block::TeletexString(_, _) => Some(20),
-            ASN1Block::IA5String(_, _) => Some(22),
-            ASN1Block::UTCTime(_, _) => Some(23),
-            ASN1Block::GeneralizedTime(_, _) => Some(24),
-            ASN1Block::UniversalString(_, _) => Some(28),
-            ASN1Block::BMPString(_, _) => Some(30),
-            ASN1Block::Explicit(_, _, tag, _) | ASN1Block::Unknown(_, _, _, tag, _) => tag.to_u64(),
-        }
-    }
-
     /// The items of a `Sequence` or `Set`, and the one block in an `Explicit`; `None` for any other block.
     ///
     /// ```rust

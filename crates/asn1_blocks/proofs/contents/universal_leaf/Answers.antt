@@ -64,11 +64,11 @@ returns-in_err-bits-in-Some-eq3-clause-found c = grind (arith, common_steps)
 pub returns-in_err-bits-in-Some-eq3-clause-refused : goal.returns-in_err-bits-in-Some-eq3-clause-refused
 returns-in_err-bits-in-Some-eq3-clause-refused c = grind (arith, common_steps)
 
-pub returns-in_err-copy_of-in-Some-eq4-clause-found : goal.returns-in_err-copy_of-in-Some-eq4-clause-found
-returns-in_err-copy_of-in-Some-eq4-clause-found c = grind (arith, common_steps)
+pub returns-in_err-from_slice-in-Some-eq4-clause-found : goal.returns-in_err-from_slice-in-Some-eq4-clause-found
+returns-in_err-from_slice-in-Some-eq4-clause-found c = grind (arith, common_steps)
 
-pub returns-in_err-copy_of-in-Some-eq4-clause-refused : goal.returns-in_err-copy_of-in-Some-eq4-clause-refused
-returns-in_err-copy_of-in-Some-eq4-clause-refused c = grind (arith, common_steps)
+pub returns-in_err-from_slice-in-Some-eq4-clause-refused : goal.returns-in_err-from_slice-in-Some-eq4-clause-refused
+returns-in_err-from_slice-in-Some-eq4-clause-refused c = grind (arith, common_steps)
 
 pub returns-in_err-read-in-Some-eq6-clause-found : goal.returns-in_err-read-in-Some-eq6-clause-found
 returns-in_err-read-in-Some-eq6-clause-found c = grind (arith, common_steps)

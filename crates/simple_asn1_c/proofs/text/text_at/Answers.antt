@@ -1,9 +1,9 @@
-use Rattle.std.proofs.Common.{◌≡◌, ℕ, ◌<◌, ◌^◌, List, inl, inr, lit<, refl, sym, ap, subst, ◌∙◌, string_bytes}
+use Rattle.std.proofs.Common.{◌≡◌, ℕ, ◌<◌, ◌^◌, List, inl, inr, refl, ap, subst, ◌∙◌, string_bytes, arith}
 use Rattle.std.specs.Prelude.{IsUtf8}
 use Rattle.std.specs.Str.{chars}
 use Rattle.asn1_headers.specs.Fault.{fault_of}
 use Rattle.asn1_leaves.specs.Contents.Text.{TextContents, TextFault, text_form}
-use Rattle.asn1_leaves.specs.StringKind.{StringKind, utf8, printable, teletex, ia5, universal, bmp}
+use Rattle.asn1_blocks.proofs.Leaves.{string_tag_small}
 use Rattle.simple_asn1.specs.Contents.{leaf_tag, of_text, string_tag}
 use Rattle.simple_asn1.specs.Tree.{Leaf, text}
 use Rattle.simple_asn1_c.specs.Room.{ArePut}
@@ -15,21 +15,8 @@ use Rattle.simple_asn1_c.proofs.text.text_at.Goals as goal
 leaf_of : (octets : List ℕ) (offset : ℕ) → (utf8 : List ℕ) × IsTextAt octets offset utf8 → (l : Leaf) × IsTextTag (leaf_tag l) × IsLeafAt octets offset l
 leaf_of octets offset (s, (kind, is)) = (text kind (chars s), (kind, refl), is)
 
-small_string : (kind : StringKind) → string_tag kind < 64
-small_string utf8 = lit< tt
-small_string printable = lit< tt
-small_string teletex = lit< tt
-small_string ia5 = lit< tt
-small_string universal = lit< tt
-small_string bmp = lit< tt
-
 small : (tag : ℕ) → IsTextTag tag → tag < 2 ^ 64
-small tag (utf8, e) = subst (λ z. z < 2 ^ 64) (sym e) (lit< tt)
-small tag (printable, e) = subst (λ z. z < 2 ^ 64) (sym e) (lit< tt)
-small tag (teletex, e) = subst (λ z. z < 2 ^ 64) (sym e) (lit< tt)
-small tag (ia5, e) = subst (λ z. z < 2 ^ 64) (sym e) (lit< tt)
-small tag (universal, e) = subst (λ z. z < 2 ^ 64) (sym e) (lit< tt)
-small tag (bmp, e) = subst (λ z. z < 2 ^ 64) (sym e) (lit< tt)
+small tag (kind, e) = omega (arith, e, string_tag_small kind)
 
 pub returns-in-Err : goal.returns-in-Err
 returns-in-Err c =
@@ -60,7 +47,7 @@ returns-in-Ok-read c =
     let s = string_bytes c.in-Ok-read.text in
     let (n, u, number) = c.in-Ok.ensures.found in
     let (kind, tag, form) = c.in-Some.ensures in
-    let same : n ≡ string_tag kind = small_tag n c.in-Ok.found.0 (string_tag kind) number tag (small_string kind) in
+    let same : n ≡ string_tag kind = small_tag n c.in-Ok.found.0 (string_tag kind) number tag (string_tag_small kind) in
     let means = subst (λ z. TextContents z (chars s) v) form c.in-Ok-read.ensures.found in
     let is = leaf_here octets offset (text kind (chars s)) v (subst (λ z. UniversalAt octets offset z v) same u) means in
     let bytes : c.as_bytes.result.now ≡ s = c.as_bytes.ensures.value ∙ c.as_str.ensures.value in
@@ -76,7 +63,7 @@ returns-in-Err-read c =
     let put = c.nothing_put-in-Err-read.ensures in
     let (n, u, number) = c.in-Ok.ensures.found in
     let (kind, tag, form) = c.in-Some.ensures in
-    let same : n ≡ string_tag kind = small_tag n c.in-Ok.found.0 (string_tag kind) number tag (small_string kind) in
+    let same : n ≡ string_tag kind = small_tag n c.in-Ok.found.0 (string_tag kind) number tag (string_tag_small kind) in
     let told = put.status ∙ c.status_of_fault.ensures in
     elim c.in-Err-read.ensures.refused [
       | inl memory ↦ text_is_missing (inl (told ∙ ap (λ z. status_of (fault_of z)) memory)) put.offset put.count refl

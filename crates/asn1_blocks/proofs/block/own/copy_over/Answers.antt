@@ -6,7 +6,7 @@ use Rattle.asn1_blocks.specs.Inner.TreeOrder.{inside}
 use Rattle.asn1_blocks.specs.View.{view, views}
 use Rattle.asn1_blocks.proofs.BlockLists.{count, count_views}
 use Rattle.asn1_blocks.proofs.CopySteps.{explicit_of_copy, sequence_of_copies, set_of_copies, view_explicit}
-use Rattle.asn1_blocks.proofs.block.copy.copy_over.Goals as goal
+use Rattle.asn1_blocks.proofs.block.own.copy_over.Goals as goal
 
 -- what is held for an explicit block is one block
 holds_one : (held : List ASN1Block) (b : ASN1Block) (c : ASN1Class) (o n : ℕ) (inner : Box ASN1Block Global) → b ≡ Explicit c o n inner
@@ -55,11 +55,11 @@ returns-in-Set c =
 pub returns-in_err-clone-in-Integer : goal.returns-in_err-clone-in-Integer
 returns-in_err-clone-in-Integer c = grind (arith, common_steps)
 
-pub returns-in_err-copy_of-in-BitString : goal.returns-in_err-copy_of-in-BitString
-returns-in_err-copy_of-in-BitString c = grind (arith, common_steps)
+pub returns-in_err-from_slice-in-BitString : goal.returns-in_err-from_slice-in-BitString
+returns-in_err-from_slice-in-BitString c = grind (arith, common_steps)
 
-pub returns-in_err-copy_of-in-OctetString : goal.returns-in_err-copy_of-in-OctetString
-returns-in_err-copy_of-in-OctetString c = grind (arith, common_steps)
+pub returns-in_err-from_slice-in-OctetString : goal.returns-in_err-from_slice-in-OctetString
+returns-in_err-from_slice-in-OctetString c = grind (arith, common_steps)
 
 pub returns-in_err-clone-in-ObjectIdentifier : goal.returns-in_err-clone-in-ObjectIdentifier
 returns-in_err-clone-in-ObjectIdentifier c = grind (arith, common_steps)
@@ -91,8 +91,8 @@ returns-in_err-boxed-in-Explicit c = grind (arith, common_steps)
 pub returns-in_err-clone-in-Unknown : goal.returns-in_err-clone-in-Unknown
 returns-in_err-clone-in-Unknown c = grind (arith, common_steps)
 
-pub returns-in_err-copy_of-in-Unknown : goal.returns-in_err-copy_of-in-Unknown
-returns-in_err-copy_of-in-Unknown c = grind (arith, common_steps)
+pub returns-in_err-from_slice-in-Unknown : goal.returns-in_err-from_slice-in-Unknown
+returns-in_err-from_slice-in-Unknown c = grind (arith, common_steps)
 
 pub returns-in-Boolean : goal.returns-in-Boolean
 returns-in-Boolean c = grind (arith, common_steps)
