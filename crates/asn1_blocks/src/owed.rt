@@ -9,7 +9,6 @@ use crate::block::discard::discard_one;
 use crate::block::{ASN1Block, GroupKind};
 use crate::held::{HeldBlocks, boxed};
 use crate::reading::Attempt;
-use asn1_numbers::octets::copy_of;
 use std::alloc::{AllocError, Global};
 
 // A block that is owed: how it is built of those before it, once the encoding has ended.
@@ -64,7 +63,7 @@ pub fn kept_block(alloc: Global, attempt: Attempt, contents: &[u8]) -> Result<AS
     ensures { IfOk result (λ b.
         view b ≡ unknown attempt.class true attempt.offset attempt.tag contents.now) }
 {
-    let octets = copy_of(alloc, contents)?;
+    let octets = Vec::from_slice(alloc, contents)?;
     let Attempt { class, offset, tag } = attempt;
     Ok(ASN1Block::Unknown(class, true, offset, tag, octets))
 }

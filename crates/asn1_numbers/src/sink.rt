@@ -1,8 +1,7 @@
 // Where octets are put, one after another: a vector that takes them, or octets that they are
 // compared with. So that writing and comparing are one code.
-ghost use Rattle.std.specs.Prelude.{◌≡◌, ◌↔◌, ℕ, ◌+◌, ◌++◌, ◌∷◌, ◌≤◌, [], List, length, IsTrue};
+ghost use Rattle.std.specs.Prelude.{◌≡◌, ◌↔◌, ℕ, ◌+◌, ◌++◌, ◌∷◌, ◌≤◌, [], List, length, vec_len, vec_capacity, IsTrue};
 
-use crate::octets::append;
 use arrayvec::ArrayVec;
 
 pub trait Sink {
@@ -26,6 +25,18 @@ pub trait Sink {
     fn put_one(&mut self, octet: u8)
         requires { 1 ≤ room self.old }
         ensures { puts self.old (octet ∷ []) self.new };
+}
+
+// Puts the octets at the end, where there is room for them.
+fn append(octets: &[u8], out: &mut Vec<u8>)
+    requires { vec_len out.old + length octets.now ≤ vec_capacity out.old }
+    ensures appended { out.new.items ≡ out.old.items ++ octets.now }
+    ensures capacity { vec_capacity out.old ≤ vec_capacity out.new }
+{
+    match out.extend_from_slice(octets) {
+        Ok(()) => {}
+        Err(_) => unreachable!(),
+    }
 }
 
 // At its end, without growing.

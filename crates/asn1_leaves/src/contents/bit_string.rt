@@ -4,7 +4,6 @@ ghost use Rattle.asn1_leaves.specs.Contents.BitString.{BitStringContents, BitStr
 ghost use Rattle.asn1_headers.specs.Fault.{OutOfMemoryOr, fault_of};
 
 use asn1_headers::error::{ASN1DecodeErr, ASN1EncodeErr};
-use asn1_numbers::octets::copy_of;
 use asn1_numbers::sink::Sink;
 use std::alloc::Global;
 
@@ -14,7 +13,7 @@ pub fn read(alloc: Global, contents: &[u8]) -> Result<(usize, Vec<u8>), ASN1Deco
     ensures refused { IfErr result (OutOfMemoryOr (BitStringFault contents.now)) }
 {
     let (bits, octets) = bits_in(contents)?;
-    Ok((bits, copy_of(alloc, octets)?))
+    Ok((bits, Vec::from_slice(alloc, octets)?))
 }
 
 // Whether the contents octets mean bits, without a copy of them.

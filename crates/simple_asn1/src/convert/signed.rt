@@ -18,7 +18,6 @@ use crate::laws::{law_one_reading, law_slices};
 use asn1_blocks::block::ASN1Block;
 use asn1_headers::error::ASN1DecodeErr;
 use asn1_leaves::oid::OID;
-use asn1_numbers::octets::copy_of;
 use std::alloc::{AllocError, Global};
 
 /// What was signed, with the algorithm and the signature, as a certificate (X.509) has them.
@@ -130,9 +129,9 @@ fn triple_of(alloc: Global, content: &[u8], parts: &Parts<'_>) -> Result<SignedT
     ensures { IfOk result (λ t. (t.content.items ≡ content.now) × (t.algorithm ≡ parts.now.algorithm.now)
         × (t.bits ≡ parts.now.bits) × (t.signature.items ≡ parts.now.signature.now)) }
 {
-    let content = copy_of(alloc, content)?;
+    let content = Vec::from_slice(alloc, content)?;
     let algorithm = parts.algorithm.clone(alloc)?;
-    let signature = copy_of(alloc, parts.signature)?;
+    let signature = Vec::from_slice(alloc, parts.signature)?;
     Ok(SignedTriple {
         content,
         algorithm,
