@@ -1,56 +1,30 @@
 -- Octets are canonical where each header in them is, and the contents octets of each leaf.
-use Rattle.std.proofs.Common.{
-  ◌≡◌,
-  ◌≢◌,
-  ◌↔◌,
-  IsTrue,
-  ℕ,
-  ◌+◌,
-  ◌%◌,
-  ◌<◌,
-  ◌≤◌,
-  ◌^◌,
-  Bool,
-  true,
-  false,
-  List,
-  [],
-  ◌∷◌,
-  ◌++◌,
-  inl,
-  inr,
-  length,
-  refl,
-  sym,
-  ap,
-  ◌∙◌,
-  subst,
-  ap₂,
-  arith,
-  length-append,
-  append_assoc,
-  append-nil,
-}
+use Rattle.std.proofs.Common.{◌≡◌, ◌≢◌, ℕ, ◌+◌, ◌-◌, ◌<◌, ◌≤◌, ◌^◌, Bool, true, false, List, [], ◌∷◌, ◌++◌, inl, inr, length, take, drop, get_or, refl, sym, ap, ◌∙◌, subst, ap₂, arith, length-append, append_assoc, append-nil}
+use Rattle.std.specs.Prelude.{All}
+use Rattle.std.proofs.Math.Seq.{drop-append_seam, take-append_seam}
+use Rattle.std.proofs.lemmas.List.{get_or_append_left, get_or_push, length-take-le, take-append-drop}
+use Rattle.std.proofs.lemmas.List.Elements.{All-drop, All-take}
 use Rattle.std.proofs.lemmas.Bool.{false≢true, cases_lt, cond_below, cond_above}
 use Rattle.std.specs.Int.Digits.{digits_of}
 use Rattle.asn1_blocks.specs.declared.block.GroupKind.{GroupKind}
+use Rattle.asn1_blocks.specs.declared.block.GroupKind.TheVariants.{Sequence, Set}
+use Rattle.asn1_headers.specs.declared.front.Header.{Header}
 use Rattle.asn1_headers.specs.declared.header.ASN1Class.{ASN1Class}
-use Rattle.asn1_headers.specs.declared.header.ASN1Class.TheVariants.{Universal, Application, ContextSpecific, Private}
-use Rattle.asn1_headers.specs.Header.{Encoding, leading_octet, shortest_identifier, shortest_length}
-use Rattle.asn1_numbers.specs.Base128.{shortest_base128}
+use Rattle.asn1_headers.specs.declared.header.ASN1Class.TheVariants.{Universal}
+use Rattle.asn1_headers.specs.Front.{IsAtFront}
+use Rattle.asn1_headers.specs.Header.{Encoding, IsLength, shortest_identifier, shortest_length}
 use Rattle.asn1_blocks.specs.Tree.{Trees, leaf, group, explicit, unknown, no_trees, more_trees}
 use Rattle.asn1_blocks.specs.Contents.{LeafContents, group_tag, is_known_tag, leaf_contents, leaf_tag}
 use Rattle.simple_asn1.specs.Canonical.{shortest_encoding, canonical, all_canonical}
 use Rattle.asn1_blocks.specs.Grammar.{Encodes, EncodesAll}
 use Rattle.asn1_blocks.specs.Places.{joined}
-use Rattle.simple_asn1.specs.Inner.InPlace.{AreCanonical, AreCanonicalContents, HasPlainTag, LeavesBoth}
+use Rattle.simple_asn1.specs.Inner.InPlace.{AreCanonical, AreCanonicalContents, BeginsShortest, IsOfGroup, LeavesBoth}
 use Rattle.std.proofs.lemmas.Bool.Decides.{nat_tests}
-use Rattle.asn1_headers.proofs.Fronts.{leading_parts}
-use Rattle.asn1_headers.proofs.Prefixes.{bit_small, encoding_alone, identifier_alone, identifier_some, length_alone, same_split}
+use Rattle.asn1_headers.proofs.Prefixes.{encoding_alone, identifier_alone, identifier_some, length_alone, same_split}
 use Rattle.asn1_blocks.proofs.OneReading.{block_some, encodes_block, only}
 use Rattle.asn1_blocks.proofs.Faults.{block_encoding}
 use Rattle.asn1_blocks.proofs.Leaves.{group_known, leaf_known, leaf_no_group}
-use Rattle.asn1_headers.proofs.Shortest.{shortest_identifier_is, shortest_length_is}
+use Rattle.asn1_headers.proofs.Shortest.{shortest_identifier_is, shortest_identifier_le, shortest_identifier_only, shortest_length_is, shortest_length_le, shortest_length_only}
 use Rattle.asn1_blocks.proofs.Slices.{encodes_joined}
 use Rattle.simple_asn1.proofs.Strict.{canonical_encoding}
 
@@ -240,14 +214,8 @@ fewer x own rest c k n m e =
       length-append own rest,
     )
 
--- a tag number below 31 in one octet
-pub low_identifier : (n : ℕ) → n < 31 → shortest_identifier Universal false n ≡ n ∷ []
-low_identifier n low =
-    let same : leading_octet Universal false n ≡ n = omega arith in
-    sym (cond_below n 31 (leading_octet Universal false n ∷ []) (leading_octet Universal false 31 ∷ shortest_base128 n) low) ∙ ap (λ z. z ∷ []) same
-
 -- contents octets of a tag without a rule
-unruled : (c : ASN1Class) (k : Bool) (n : ℕ) (own : List ℕ) → (c ≡ Universal → is_known_tag n ≡ false) → (c ≢ Universal → k ≡ true → ⊥)
+pub unruled : (c : ASN1Class) (k : Bool) (n : ℕ) (own : List ℕ) → (c ≡ Universal → is_known_tag n ≡ false) → (c ≢ Universal → k ≡ true → ⊥)
     → AreCanonicalContents c k n own
 unruled c k n own plain closed = record {
   no_group = λ u g e. false≢true (sym (plain u) ∙ ap is_known_tag e ∙ group_known g);
@@ -257,7 +225,7 @@ unruled c k n own plain closed = record {
 }
 
 -- what an encoding leaves that holds no octets to be gone over
-pub leaves : (x own rest : List ℕ) (c : ASN1Class) (k : Bool) (n : ℕ) → length x < 2 ^ 64
+leaves : (x own rest : List ℕ) (c : ASN1Class) (k : Bool) (n : ℕ) → length x < 2 ^ 64
     → x ≡ shortest_identifier c k n ++ (shortest_length (length own) ++ (own ++ rest)) → AreCanonicalContents c k n own → LeavesBoth x [] rest
 leaves x own rest c k n few e keeps = record {
   canonical = λ none after. past x own rest c k n few keeps e after;
@@ -278,7 +246,7 @@ leaves_within x own rest c k n few e other = record {
 }
 
 -- a SEQUENCE or SET leaves all octets after its header
-pub leaves_group : (x rest : List ℕ) (g : GroupKind) (m : ℕ) → length x < 2 ^ 64 → m < 2 ^ 64
+leaves_group : (x rest : List ℕ) (g : GroupKind) (m : ℕ) → length x < 2 ^ 64 → m < 2 ^ 64
     → x ≡ shortest_identifier Universal true (group_tag g) ++ (shortest_length m ++ rest) → LeavesBoth x [] rest
 leaves_group x rest g m few small e = record {
   canonical = λ none after. into x rest g m few small e after;
@@ -286,71 +254,116 @@ leaves_group x rest g m few small e = record {
 }
 
 -- tag numbers from 31 on have no rule
-high_tag : (n : ℕ) → 31 ≤ n → is_known_tag n ≡ false
+pub high_tag : (n : ℕ) → 31 ≤ n → is_known_tag n ≡ false
 high_tag n high = grind (arith, nat_tests, high)
 
--- the leading octet of another class
-other_class : (b : ℕ) (c : ASN1Class) (k : Bool) → b ≡ leading_octet c k (b % 32) → 64 ≤ b → c ≢ Universal
-other_class b c k p high e =
-    let q : b ≡ leading_octet Universal k (b % 32) = p ∙ ap (λ z. leading_octet z k (b % 32)) e in
-    omega (arith, q, bit_small k, high)
+-- the last octet of a header whose length octets are 80 alone
+last_octet : (x i l : List ℕ) (size : ℕ) → size ≤ length x → take size x ≡ i ++ l → l ≡ 128 ∷ [] → get_or x (size - 1) 0 ≡ 128
+last_octet x i l size within front one =
+    let f : take size x ≡ i ++ 128 ∷ [] = front ∙ ap (λ z. i ++ z) one in
+    let n = length-take-le size x within in
+    let m : length (take size x) ≡ length i + 1 = ap length f ∙ length-append i (128 ∷ []) in
+    ap (λ z. get_or z (size - 1) 0) (sym (take-append-drop size x))
+    ∙ get_or_append_left (take size x) (drop size x) 0 (size - 1) (omega (arith, n, m))
+    ∙ ap (λ z. get_or z (size - 1) 0) f
+    ∙ get_or_push i 128 0 (size - 1) (omega (arith, n, m))
 
--- and the other way round
-not_universal : (b : ℕ) (c : ASN1Class) (k : Bool) → b ≡ leading_octet c k (b % 32) → c ≢ Universal → 64 ≤ b
-not_universal b Universal k p not = absurd (not refl)
-not_universal b Application k p not = omega (arith, p)
-not_universal b ContextSpecific k p not = omega (arith, p)
-not_universal b Private k p not = omega (arith, p)
+-- length octets 80 announce none
+announces_none : (l : List ℕ) (n : ℕ) → IsLength l n → l ≡ 128 ∷ [] → n ≡ 0
+announces_none l n is one =
+    elim (subst (λ z. IsLength z n) one is) [ inl q ↦ absurd (omega (arith, q.0)) | inr q ↦ q.2 ]
 
--- a constructed encoding
-constructed_octet : (b : ℕ) (c : ASN1Class) (k : Bool) → b ≡ leading_octet c k (b % 32) → k ≡ true → 32 ≤ b % 64
-constructed_octet b c k p e =
-    let q : b ≡ leading_octet c true (b % 32) = p ∙ ap (λ z. leading_octet c z (b % 32)) e in
-    omega (arith, q)
+-- the octets of a header, all of them octets
+record Parts (i l : List ℕ) : Type 0 where
+  pub identifier : All (λ b. b < 256) i
+  pub len : All (λ b. b < 256) l
 
--- a tag of another class in one octet
-pub short_plain :
-    (b : ℕ) (rest : List ℕ) (holds : Bool) → b < 256 → b % 32 ≢ 31 → 64 ≤ b → (IsTrue holds ↔ ((64 ≤ b) × (32 ≤ b % 64))) →
-    HasPlainTag (b ∷ rest) holds rest
-short_plain b rest holds small low high is =
-    let (c, k, p) = leading_parts b small in
-    let n = b % 32 in
+parts : (x i l : List ℕ) (size : ℕ) → All (λ b. b < 256) x → take size x ≡ i ++ l → Parts i l
+parts x i l size all whole =
+    let front : All (λ b. b < 256) (i ++ l) = subst (All (λ b. b < 256)) whole (All-take (λ b. b < 256) size x all) in
     record {
-      class = c;
-      constructed = k;
-      tag = n;
-      plain = λ u. absurd (other_class b c k p high u);
-      other = λ h. other_class b c k p high;
-      holds = λ other e. is.1 (high, constructed_octet b c k p e);
-      whole = ap (λ z. z ∷ rest) p ∙ ap (λ z. z ++ rest)
-          (cond_below n 31 (leading_octet c k n ∷ []) (leading_octet c k 31 ∷ shortest_base128 n) (omega (arith, low)));
+      identifier = subst (All (λ b. b < 256)) (take-append_seam i l) (All-take (λ b. b < 256) (length i) (i ++ l) front);
+      len = subst (All (λ b. b < 256)) (drop-append_seam i l) (All-drop (λ b. b < 256) (length i) (i ++ l) front);
     }
 
--- a tag number of 31 or more
-pub long_plain :
-    (b n : ℕ) (rest after : List ℕ) (holds : Bool) → b < 256 → b % 32 ≡ 31 → 31 ≤ n → rest ≡ shortest_base128 n ++ after →
-    (IsTrue holds ↔ ((64 ≤ b) × (32 ≤ b % 64))) → HasPlainTag (b ∷ rest) holds after
-long_plain b n rest after holds small last high e is =
-    let (c, k, p) = leading_parts b small in
-    let long = leading_octet c k 31 ∷ shortest_base128 n in
-    let first : b ≡ leading_octet c k 31 = p ∙ ap (leading_octet c k) last in
-    let whole : b ∷ rest ≡ long ++ after = ap₂ (λ x xs. x ∷ xs) first e in
-    record {
-      class = c;
-      constructed = k;
-      tag = n;
-      plain = λ u. high_tag n high;
-      other = λ h. other_class b c k p (is.0 h).0;
-      holds = λ other f. is.1 (not_universal b c k p other, constructed_octet b c k p f);
-      whole = whole ∙ ap (λ z. z ++ after) (cond_above n 31 (leading_octet c k n ∷ []) long long high refl);
-    }
+header_size : (x i l : List ℕ) (size : ℕ) → size ≤ length x → take size x ≡ i ++ l → size ≡ length i + length l
+header_size x i l size within whole = sym (length-take-le size x within) ∙ (ap length whole ∙ length-append i l)
 
--- what such an encoding leaves
-pub leaves_plain : (x r own rest : List ℕ) (holds : Bool) → length x < 2 ^ 64 → HasPlainTag x holds r
-    → r ≡ shortest_length (length own) ++ (own ++ rest) → (IsTrue holds → LeavesBoth x own rest) × ((IsTrue holds → ⊥) → LeavesBoth x [] rest)
-leaves_plain x r own rest holds few t e =
-    let whole = t.whole ∙ ap (λ z. shortest_identifier t.class t.constructed t.tag ++ z) e in (
-      λ h. leaves_within x own rest t.class t.constructed t.tag few whole (t.other h),
-      λ not. leaves x own rest t.class t.constructed t.tag few whole
-          (unruled t.class t.constructed t.tag own t.plain (λ other k. not (t.holds other k))),
+-- the shortest octets of its fields are no more
+pub shortest_fits : (x : List ℕ) (h : Header) → All (λ b. b < 256) x → IsAtFront x h
+    → length (shortest_identifier h.class h.constructed h.tag) + length (shortest_length h.announced) ≤ h.size
+shortest_fits x h all f =
+    let p = parts x f.identifier f.len h.size all f.front_is in
+    omega (
+      arith,
+      header_size x f.identifier f.len h.size f.within f.front_is,
+      shortest_identifier_le f.identifier h.class h.constructed h.tag f.fields,
+      shortest_length_le f.len h.announced p.len f.length_octets,
     )
+
+-- a header with no more octets than these
+pub shortest_front : (x : List ℕ) (h : Header) → All (λ b. b < 256) x → IsAtFront x h → (h.announced ≡ 0 → get_or x (h.size - 1) 0 ≢ 128)
+    → length (shortest_identifier h.class h.constructed h.tag) + length (shortest_length h.announced) ≡ h.size → BeginsShortest x h
+shortest_front x h all f other same =
+    let i = f.identifier in
+    let l = f.len in
+    let p = parts x i l h.size all f.front_is in
+    let size = header_size x i l h.size f.within f.front_is in
+    let a = shortest_identifier_le i h.class h.constructed h.tag f.fields in
+    let b = shortest_length_le l h.announced p.len f.length_octets in
+    let not : l ≢ 128 ∷ [] = λ one.
+    other (announces_none l h.announced f.length_octets one) (last_octet x i l h.size f.within f.front_is one) in
+    record {
+      within = f.within;
+      shortest = f.front_is ∙ ap₂ (λ s t. s ++ t)
+          (shortest_identifier_only i h.class h.constructed h.tag p.identifier f.fields (omega (arith, size, a, b, same)))
+          (shortest_length_only l h.announced p.len not f.length_octets (omega (arith, size, a, b, same)));
+    }
+
+-- what follows it
+pub shortest_whole : (x rest : List ℕ) (h : Header) → BeginsShortest x h → rest ≡ drop h.size x
+    → x ≡ shortest_identifier h.class h.constructed h.tag ++ (shortest_length h.announced ++ rest)
+shortest_whole x rest h f behind =
+    let i = shortest_identifier h.class h.constructed h.tag in
+    let l = shortest_length h.announced in
+    sym (take-append-drop h.size x)
+    ∙ (ap (λ z. z ++ drop h.size x) f.shortest ∙ (ap (λ z. (i ++ l) ++ z) (sym behind) ∙ append_assoc i l rest))
+
+-- an encoding of it, whose contents octets are there
+pub own_whole : (x rest own after : List ℕ) (h : Header) → BeginsShortest x h → rest ≡ drop h.size x → rest ≡ own ++ after → length own ≡ h.announced
+    → x ≡ shortest_identifier h.class h.constructed h.tag ++ (shortest_length (length own) ++ (own ++ after))
+own_whole x rest own after h f behind whole size =
+    let i = shortest_identifier h.class h.constructed h.tag in
+    shortest_whole x rest h f behind
+    ∙ (ap (λ z. i ++ (shortest_length h.announced ++ z)) whole ∙ ap (λ z. i ++ (shortest_length z ++ (own ++ after))) (sym size))
+
+-- a SEQUENCE or SET leaves all octets after it
+pub past_group : (x rest : List ℕ) (h : Header) → length x < 2 ^ 64 → h.announced < 2 ^ 64 → BeginsShortest x h → rest ≡ drop h.size x
+    → IsOfGroup h → LeavesBoth x [] rest
+past_group x rest h few small f behind is = elim is.2 [ inl tag ↦ of Sequence tag | inr tag ↦ of Set tag ]
+  where
+    of : (g : GroupKind) → h.tag ≡ group_tag g → LeavesBoth x [] rest
+    of g tag = leaves_group x rest g h.announced few small (shortest_whole x rest h f behind ∙ (
+        ap (λ z. shortest_identifier z h.constructed h.tag ++ (shortest_length h.announced ++ rest)) is.0
+        ∙ (ap (λ z. shortest_identifier Universal z h.tag ++ (shortest_length h.announced ++ rest)) is.1
+        ∙ ap (λ z. shortest_identifier Universal true z ++ (shortest_length h.announced ++ rest)) tag)
+        ))
+
+-- an encoding of class Universal whose contents octets are canonical leaves those after it
+pub past_universal : (x rest own after : List ℕ) (h : Header) → length x < 2 ^ 64 → BeginsShortest x h → rest ≡ drop h.size x → rest ≡ own ++ after
+    → length own ≡ h.announced → h.class ≡ Universal → AreCanonicalContents Universal h.constructed h.tag own → LeavesBoth x [] after
+past_universal x rest own after h few f behind whole size class keeps =
+    leaves x own after h.class h.constructed h.tag few (own_whole x rest own after h f behind whole size)
+    (subst (λ z. AreCanonicalContents z h.constructed h.tag own) (sym class) keeps)
+
+-- one of another class leaves its contents octets too, if it is constructed
+pub past_constructed : (x rest own after : List ℕ) (h : Header) → length x < 2 ^ 64 → BeginsShortest x h → rest ≡ drop h.size x → rest ≡ own ++ after
+    → length own ≡ h.announced → h.class ≢ Universal → LeavesBoth x own after
+past_constructed x rest own after h few f behind whole size other =
+    leaves_within x own after h.class h.constructed h.tag few (own_whole x rest own after h f behind whole size) other
+
+pub past_primitive : (x rest own after : List ℕ) (h : Header) → length x < 2 ^ 64 → BeginsShortest x h → rest ≡ drop h.size x → rest ≡ own ++ after
+    → length own ≡ h.announced → h.class ≢ Universal → h.constructed ≡ false → LeavesBoth x [] after
+past_primitive x rest own after h few f behind whole size other primitive =
+    leaves x own after h.class h.constructed h.tag few (own_whole x rest own after h f behind whole size)
+    (unruled h.class h.constructed h.tag own (λ u. absurd (other u)) (λ not k. false≢true (sym primitive ∙ k)))

@@ -1,10 +1,12 @@
 -- What a look at octets in place finds out. Private contracts alone name these.
-use Rattle.std.specs.Prelude.{◌≡◌, ◌≢◌, ℕ, ◌+◌, ◌≤◌, ◌++◌, Bool, true, false, List, length, IsTrue}
+use Rattle.std.specs.Prelude.{◌≡◌, ◌≢◌, ℕ, ◌+◌, ◌≤◌, ◌⊎◌, ◌++◌, Bool, true, false, List, length, take}
 use Rattle.asn1_headers.specs.declared.header.ASN1Class.{ASN1Class}
 use Rattle.asn1_headers.specs.declared.header.ASN1Class.TheVariants.{Universal}
-use Rattle.asn1_headers.specs.Header.{shortest_identifier}
+use Rattle.asn1_headers.specs.declared.front.Header.{Header}
+use Rattle.asn1_headers.specs.Header.{shortest_identifier, shortest_length}
 use Rattle.asn1_blocks.specs.declared.block.GroupKind.{GroupKind}
-use Rattle.asn1_blocks.specs.Contents.{LeafContents, group_tag, is_known_tag, leaf_contents, leaf_tag}
+use Rattle.asn1_blocks.specs.declared.block.GroupKind.TheVariants.{Sequence, Set}
+use Rattle.asn1_blocks.specs.Contents.{LeafContents, group_tag, leaf_contents, leaf_tag}
 use Rattle.asn1_blocks.specs.Grammar.{EncodesAll}
 use Rattle.asn1_blocks.specs.Tree.{Leaf, Trees}
 use Rattle.simple_asn1.specs.Canonical.{all_canonical}
@@ -24,16 +26,17 @@ pub record AreCanonicalContents (class : ASN1Class) (constructed : Bool) (tag : 
       contents ≡ leaf_contents l
   pub within : class ≢ Universal → constructed ≡ true → AreCanonical contents
 
--- the octets begin with the shortest identifier octets of a tag without a rule, and then come the rest. It is one of
--- another class, and constructed, where the contents octets may hold a block
-pub record HasPlainTag (octets : List ℕ) (may_hold : Bool) (rest : List ℕ) : Type 0 where
-  pub class : ASN1Class
-  pub constructed : Bool
-  pub tag : ℕ
-  pub plain : class ≡ Universal → is_known_tag tag ≡ false
-  pub other : IsTrue may_hold → class ≢ Universal
-  pub holds : class ≢ Universal → constructed ≡ true → IsTrue may_hold
-  pub whole : octets ≡ shortest_identifier class constructed tag ++ rest
+-- the octets begin with this header, whose identifier and length octets are the shortest
+pub record BeginsShortest (octets : List ℕ) (header : Header) : Type 0 where
+  pub within : header.size ≤ length octets
+  pub shortest : take header.size octets
+      ≡ shortest_identifier header.class header.constructed header.tag ++ shortest_length header.announced
+
+-- the header is that of a constructed SEQUENCE or SET
+abbrev pub IsOfGroup : Header → Type 0
+IsOfGroup header =
+    (header.class ≡ Universal) × (header.constructed ≡ true)
+    × ((header.tag ≡ group_tag Sequence) ⊎ (header.tag ≡ group_tag Set))
 
 -- the octets are canonical if these inside and these after are, which are fewer
 pub record LeavesBoth (octets within after : List ℕ) : Type 0 where

@@ -1,0 +1,40 @@
+use Rattle.std.proofs.Common.{◌≡◌, ◌++◌, length, drop, sym, subst, refl, ap, ◌∙◌, arith, take}
+use Rattle.std.proofs.lemmas.Bool.{false≢true}
+use Rattle.std.proofs.lemmas.List.{take-append-drop}
+use Rattle.std.proofs.lemmas.Grind.{common_steps}
+use Rattle.simple_asn1.proofs.InPlace.{past_constructed, past_group, past_primitive, past_universal}
+use Rattle.simple_asn1.proofs.write.in_place.past_shortest.Goals as goal
+
+pub returns-then-is_of_group : goal.returns-then-is_of_group
+returns-then-is_of_group c =
+    past_group c.args.octets.now c.split_at.result.1.now c.args.header.now (omega arith) (omega arith) c.requires
+    c.split_at.ensures.back (c.is_of_group.ensures c.if-is_of_group.true)
+
+pub returns-then-header : goal.returns-then-header
+returns-then-header c =
+    let rest = c.split_at.result.1.now in
+    let own = c.split_at-2.result.0.now in
+    let after = c.split_at-2.result.1.now in
+    let whole : rest ≡ own ++ after = grind (arith, common_steps) in
+    let size : length own ≡ c.args.header.now.announced = grind (arith, common_steps) in
+    past_constructed c.args.octets.now rest own after c.args.header.now (omega arith) c.requires c.split_at.ensures.back whole size c.in_default.not-Universal
+
+pub returns-else-not-are_contents_canonical : goal.returns-else-not-are_contents_canonical
+returns-else-not-are_contents_canonical c =
+    let rest = c.split_at.result.1.now in
+    let own = c.split_at-2.result.0.now in
+    let after = c.split_at-2.result.1.now in
+    let whole : rest ≡ own ++ after = grind (arith, common_steps) in
+    let size : length own ≡ c.args.header.now.announced = grind (arith, common_steps) in
+    past_universal c.args.octets.now rest own after c.args.header.now (omega arith) c.requires c.split_at.ensures.back whole size c.in-Universal.is
+    (c.are_contents_canonical.ensures c.if-not-are_contents_canonical.false)
+
+pub returns-else-header : goal.returns-else-header
+returns-else-header c =
+    let rest = c.split_at.result.1.now in
+    let own = c.split_at-2.result.0.now in
+    let after = c.split_at-2.result.1.now in
+    let whole : rest ≡ own ++ after = grind (arith, common_steps) in
+    let size : length own ≡ c.args.header.now.announced = grind (arith, common_steps) in
+    past_primitive c.args.octets.now rest own after c.args.header.now (omega arith) c.requires c.split_at.ensures.back whole size c.in_default.not-Universal
+    c.if-header.false
