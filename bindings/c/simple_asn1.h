@@ -88,6 +88,13 @@ typedef struct simple_asn1_moment { /* in UTC; all 0 unless the status is SIMPLE
     uint32_t nanosecond; /* of the second */
 } simple_asn1_moment;
 
+typedef struct simple_asn1_refusal { /* why octets are no document; SIMPLE_ASN1_OK if they are one */
+    uint32_t status;
+    size_t offset;            /* of the block at fault */
+    uint64_t number;          /* of octets, with BOOLEAN_LENGTH and LENGTH; of missing bits, with BIT_STRING_LENGTH */
+    simple_asn1_outcome text; /* of writing the text of a time, with DATE; otherwise of no octets */
+} simple_asn1_refusal;
+
 typedef struct simple_asn1_signed_parts { /* next and depth of the records are 0 */
     uint32_t status;
     size_t offset;               /* of the block at fault */
@@ -149,6 +156,40 @@ simple_asn1_outcome simple_asn1_put_bits(const uint8_t *octets, size_t size, siz
 simple_asn1_outcome simple_asn1_put_oid(const uint8_t *text, size_t size, uint8_t *out, size_t room);
 simple_asn1_outcome simple_asn1_put_text(uint64_t tag, const uint8_t *text, size_t size, uint8_t *out, size_t room);
 simple_asn1_outcome simple_asn1_put_time(uint64_t tag, const simple_asn1_moment *moment, uint8_t *out, size_t room);
+
+/* For bindings that make values of their own of records and their contents octets.
+ *
+ * The components of contents octets of an OBJECT IDENTIFIER: as numbers, or RANGE if one is 2^64 or more; in decimal, of
+ * any size. The error of other octets is that of reading. */
+simple_asn1_outcome simple_asn1_components(const uint8_t *contents, size_t size, uint64_t *out, size_t room);
+simple_asn1_outcome simple_asn1_dotted(const uint8_t *contents, size_t size, uint8_t *out, size_t room);
+
+/* The record of the encoding at an offset by its header alone, with items, next and depth 0; its tag number in decimal,
+ * of any size. NO_SUCH_VALUE if none stands there. */
+simple_asn1_outcome simple_asn1_header(const uint8_t *octets, size_t size, size_t offset, simple_asn1_block *blocks,
+                                       size_t room);
+simple_asn1_outcome simple_asn1_tag(const uint8_t *octets, size_t size, size_t offset, uint8_t *out, size_t room);
+
+/* Why simple_asn1_read rejects octets, with the number or the text of the error. */
+simple_asn1_refusal simple_asn1_fault(const uint8_t *octets, size_t size, uint8_t *out, size_t room);
+
+/* As simple_asn1_put_bits and the others, of values that would not be read back too: up to 255 unused bits; components
+ * as numbers (NOT_OID: fewer than two; RANGE: the one at index `offset` is too large); any characters of a
+ * PrintableString, and an IA5String's up to FF (RANGE: a greater one); a UTCTime of any year, which loses its century
+ * and the fraction (DATE: no such day or time in the years 0 to 9999). */
+simple_asn1_outcome simple_asn1_raw_bits(const uint8_t *octets, size_t size, size_t bits, uint8_t *out, size_t room);
+simple_asn1_outcome simple_asn1_raw_oid(const uint64_t *components, size_t size, uint8_t *out, size_t room);
+simple_asn1_outcome simple_asn1_raw_text(uint64_t tag, const uint8_t *text, size_t size, uint8_t *out, size_t room);
+simple_asn1_outcome simple_asn1_raw_time(uint64_t tag, const simple_asn1_moment *moment, uint8_t *out, size_t room);
+
+/* As simple_asn1_write, with contents octets as they are: nothing is read, rejected or made canonical. */
+simple_asn1_outcome simple_asn1_spell(const uint8_t *octets, size_t size, const simple_asn1_block *blocks, size_t count,
+                                      uint8_t *out, size_t room);
+
+/* The shortest encoding of contents octets, with the tag number in decimal, of any size. BAD_RECORD: the class is above
+ * 3, or the text is not a numeral. */
+simple_asn1_outcome simple_asn1_encoding(uint8_t tag_class, uint8_t constructed, const uint8_t *tag, size_t tag_size,
+                                         const uint8_t *contents, size_t size, uint8_t *out, size_t room);
 
 /* The contents octets of a block of this document: the value of an OCTET STRING; the number of an INTEGER, of any size,
  * in two's complement, most significant octet first; of a BIT STRING the number of unused bits in the last octet, and

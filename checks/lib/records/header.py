@@ -28,8 +28,8 @@ listed = subprocess.run(
     capture_output=True, text=True, check=True,
 ).stdout
 same("the header and the library's names", declared, {line.split()[-1] for line in listed.splitlines()})
-calls = (top / "bindings/rust/src/calls.rs").read_text()
-same("the header and Rust's names", declared, set(re.findall(r"^    fn (simple_asn1_\w+)", calls, re.M)))
+calls = (top / "bindings/rust/sys/src/lib.rs").read_text()
+same("the header and Rust's names", declared, set(re.findall(r"^    pub fn (simple_asn1_\w+)", calls, re.M)))
 
 version = int(re.search(r"^#define SIMPLE_ASN1_VERSION (\d+)", header, re.M)[1])
 same("the header's and Python's versions", version, _calls._VERSION)
@@ -42,11 +42,13 @@ same("the header's and the man page's names", declared | inline, named)
 
 statuses = {name: int(number) for name, number in re.findall(r"SIMPLE_ASN1_(\w+) = (\d+)", header)}
 same("the header's and Python's statuses", statuses, {s.name: s.value for s in simple_asn1.Status})
+rust = {name: int(number) for name, number in re.findall(r"pub const (\w+): u32 = (\d+)", calls)}
+same("the header's and Rust's statuses", statuses, rust)
 texts = dict(re.findall(r'case SIMPLE_ASN1_(\w+): return "([^"]*)"', header))
 same("the header's and Python's texts", texts, {s.name: t for s, t in simple_asn1.TEXTS.items()})
 told = dict(re.findall(r"^\.B SIMPLE_ASN1_(\w+)\n([^;\n]*)", page, re.M))
 same("the header's and the man page's texts", {k: t for k, t in texts.items() if k != "OK"}, told)
-fault = (top / "bindings/rust/src/fault.rs").read_text()
+fault = (top / "bindings/rust/records/src/fault.rs").read_text()
 kinds = dict(re.findall(r"FaultKind::(\w+) => \"([^\"]*)\"", fault))
 numbers = {int(n): kinds[k] for n, k in re.findall(r"(\d+) => FaultKind::(\w+)", fault)}
 never = {statuses["OK"], statuses["NO_ROOM"]}
@@ -61,12 +63,21 @@ other_names = {
 found = re.findall(r"pub const (\w+): u32 = (\d+)", proved) + re.findall(r"ASN1DecodeErr::(\w+)\S* => (\d+)", proved)
 same("the header's and the library's statuses", statuses, {other_names.get(k, k): int(n) for k, n in found})
 
+
+
+class Refusal(ctypes.Structure):
+    _fields_ = [
+        ("status", ctypes.c_uint32), ("offset", ctypes.c_size_t), ("number", ctypes.c_uint64), ("text", _calls.Outcome)
+    ]
+
+
 records = {
     "block": _calls.Block,
     "outcome": _calls.Outcome,
     "integer": _calls.Integer,
     "moment": _calls.MomentAnswer,
     "signed_parts": _calls.SignedParts,
+    "refusal": Refusal,
 }
 same("Python's records and those it hands out", simple_asn1.Record._fields, tuple(f[0] for f in _calls.Block._fields_))
 moment = tuple(f[0] for f in _calls.MomentAnswer._fields_[1:])
@@ -93,8 +104,10 @@ for name, record in records.items():
         wanted.append(f"{name}.{field[0]} {place.offset} {place.size}")
 same("the header's and Python's records", found, wanted)
 
-source = (top / "crates/simple_asn1_c/src/record.rt").read_text()
-answers = {"IntegerAnswer": "integer", "MomentAnswer": "moment", "SignedAnswer": "signed_parts"}
+source = "".join((top / "crates/simple_asn1_c/src" / name).read_text() for name in ("record.rt", "fault.rt"))
+answers = {
+    "IntegerAnswer": "integer", "MomentAnswer": "moment", "SignedAnswer": "signed_parts", "FaultAnswer": "refusal"
+}
 for kind, size in re.findall(r"size_of::<(\w+)>\(\) == (\d+)", source):
     name = answers.get(kind, kind.lower())
     same(f"the sizes of {name}", int(size), ctypes.sizeof(records[name]))

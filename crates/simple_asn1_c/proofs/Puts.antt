@@ -23,6 +23,9 @@ use Rattle.simple_asn1_c.specs.Puts.{AreAllowed}
 numeral_ascii : (n : ℕ) → IsAscii (natural_numeral n)
 numeral_ascii n = IsAscii-from_digits (natural_numeral n) (numeral_digits n)
 
+pub numeral_utf8 : (text : List ℕ) (n : ℕ) → text ≡ natural_numeral n → IsUtf8 text
+numeral_utf8 text n e = subst IsUtf8 (sym e) (IsUtf8-from_ascii (natural_numeral n) (numeral_ascii n))
+
 dotted_ascii : (ns : List ℕ) → IsAscii (dotted_decimal ns)
 dotted_ascii [] = IsAscii-nil
 dotted_ascii (n ∷ []) = numeral_ascii n

@@ -3,14 +3,19 @@
 
 mod alone;
 mod bits;
+mod components;
+mod encoding;
+mod fault;
 mod header;
 mod identifier;
 mod integer;
 mod moment;
 mod putting;
+mod raw;
 mod reading;
 mod record;
 mod signed;
+mod spelled;
 mod spelling;
 mod status;
 mod text;
@@ -30,6 +35,13 @@ ghost use Rattle.simple_asn1_c.specs.Answers.{
   IsNoMemory,
   IsRefused,
 };
+ghost use Rattle.simple_asn1_c.specs.Contents.{
+  AnswersComponents,
+  AnswersDotted,
+  AnswersFault,
+  AnswersHeader,
+  AnswersTag,
+};
 ghost use Rattle.simple_asn1_c.specs.Puts.{
   AnswersPutBits,
   AnswersPutBoolean,
@@ -39,18 +51,31 @@ ghost use Rattle.simple_asn1_c.specs.Puts.{
   AnswersPutText,
   moment_in,
 };
+ghost use Rattle.simple_asn1_c.specs.Raw.{
+  AnswersEncoding,
+  AnswersRawBits,
+  AnswersRawIdentifier,
+  AnswersRawMoment,
+  AnswersRawText,
+  AnswersSpell,
+};
 ghost use Rattle.simple_asn1_c.specs.Values.{AnswersIdentifier, AnswersInteger, AnswersMoment, AnswersText};
 
 use crate::bits::{put_bits, put_boolean};
+use crate::components::{put_components, put_dotted};
+use crate::encoding::{put_header, put_tag};
+use crate::fault::{FaultAnswer, fault_in};
 use crate::identifier::{identifier_at, put_identifier};
 use crate::integer::{integer_at, put_integer};
 use crate::moment::{moment_at, put_moment};
 use crate::putting::{put_octets, put_records};
+use crate::raw::{put_raw_bits, put_raw_identifier, put_raw_moment, put_raw_text};
 use crate::reading::{
     Fault, OUT_OF_MEMORY, fault_of_refused, read_headers, read_records, read_records_strict,
 };
 use crate::record::{Block, IntegerAnswer, MomentAnswer, Outcome, SignedAnswer};
 use crate::signed::signed_in;
+use crate::spelled::{put_encoding, put_spelled};
 use crate::spelling::spell;
 use crate::text::{put_text, text_at};
 use simple_asn1::{ASN1DecodeErr, rewrite};
@@ -295,4 +320,141 @@ pub extern "C" fn simple_asn1_put_time(tag: u64, moment: &MomentAnswer, room: &m
     ensures { AnswersPutMoment tag (moment_in moment.now) room.old room.new result }
 {
     put_moment(tag, moment, room)
+}
+
+/// Puts the components that contents octets of an OBJECT IDENTIFIER (X.690 8.19) mean at the front of the room, and
+/// returns how many there are; `NO_ROOM` with that number, if there is less room. `OUT_OF_RANGE` if one of them is 2^64
+/// or more; the fault of octets that mean none. Then nothing is written. The memory that it takes is given back.
+#[unsafe(no_mangle)]
+pub extern "C" fn simple_asn1_components(
+    alloc: Global,
+    contents: &[u8],
+    room: &mut [u64],
+) -> Outcome
+    ensures { AnswersComponents contents.now room.old room.new result }
+{
+    put_components(alloc, contents, room)
+}
+
+/// Puts these components in decimal with a point between two of them, of any size, as [`simple_asn1_components`] does.
+#[unsafe(no_mangle)]
+pub extern "C" fn simple_asn1_dotted(alloc: Global, contents: &[u8], room: &mut [u8]) -> Outcome
+    ensures { AnswersDotted contents.now room.old room.new result }
+{
+    put_dotted(alloc, contents, room)
+}
+
+/// Puts the record of the encoding at an offset by its header alone (X.690 8.1.1), which has no items, `next` and
+/// `depth`. `NO_SUCH_VALUE` if none stands there. The document around it is not looked at.
+#[unsafe(no_mangle)]
+pub extern "C" fn simple_asn1_header(
+    alloc: Global,
+    octets: &[u8],
+    offset: usize,
+    blocks: &mut [Block],
+) -> Outcome
+    ensures { AnswersHeader octets.now offset blocks.old blocks.new result }
+{
+    put_header(alloc, octets, offset, blocks)
+}
+
+/// Puts the tag number of the encoding at an offset (X.690 8.1.2) in decimal, of any size; otherwise as
+/// [`simple_asn1_header`].
+#[unsafe(no_mangle)]
+pub extern "C" fn simple_asn1_tag(
+    alloc: Global,
+    octets: &[u8],
+    offset: usize,
+    room: &mut [u8],
+) -> Outcome
+    ensures { AnswersTag octets.now offset room.old room.new result }
+{
+    put_tag(alloc, octets, offset, room)
+}
+
+/// The first fault of octets that are no document, as [`simple_asn1_read`] returns it, with what it says: a length, or
+/// how many bits of a BIT STRING are missing; of a time that is none the text, which is put into the room. A document
+/// has the status `DONE`.
+#[unsafe(no_mangle)]
+pub extern "C" fn simple_asn1_fault(alloc: Global, octets: &[u8], room: &mut [u8]) -> FaultAnswer
+    ensures { AnswersFault octets.now room.old room.new result }
+{
+    fault_in(alloc, octets, room)
+}
+
+/// Puts the contents octets of a BIT STRING of so many bits (X.690 8.6), whether or not these octets are the fewest, as
+/// [`simple_asn1_put_boolean`] does. `OUT_OF_RANGE` if they hold fewer bits, or more than 255 unused ones.
+#[unsafe(no_mangle)]
+pub extern "C" fn simple_asn1_raw_bits(
+    alloc: Global,
+    octets: &[u8],
+    bits: usize,
+    room: &mut [u8],
+) -> Outcome
+    ensures { AnswersRawBits octets.now bits room.old room.new result }
+{
+    put_raw_bits(alloc, octets, bits, room)
+}
+
+/// Puts the contents octets of the OBJECT IDENTIFIER (X.690 8.19) with these components, as [`simple_asn1_put_boolean`]
+/// does. `NOT_OID` if there are fewer than two; `OUT_OF_RANGE` with the index of the first or the second as the offset,
+/// if that is too large.
+#[unsafe(no_mangle)]
+pub extern "C" fn simple_asn1_raw_oid(alloc: Global, components: &[u64], room: &mut [u8]) -> Outcome
+    ensures { AnswersRawIdentifier components.now room.old room.new result }
+{
+    put_raw_identifier(alloc, components, room)
+}
+
+/// Puts the contents octets of a string (X.690 8.23) with this tag number and any text, as [`simple_asn1_put_text`]
+/// does: a PrintableString and an IA5String have an octet for each character. `OUT_OF_RANGE` if one is above FF.
+#[unsafe(no_mangle)]
+pub extern "C" fn simple_asn1_raw_text(
+    alloc: Global,
+    tag: u64,
+    text: &[u8],
+    room: &mut [u8],
+) -> Outcome
+    ensures { AnswersRawText tag text.now room.old room.new result }
+{
+    put_raw_text(alloc, tag, text, room)
+}
+
+/// Puts the contents octets of a UTCTime (tag 23) or GeneralizedTime (tag 24) of any moment of the years 0 to 9999
+/// (X.690 11.7, 11.8), as [`simple_asn1_put_time`] does: a UTCTime keeps neither the century nor the fraction.
+#[unsafe(no_mangle)]
+pub extern "C" fn simple_asn1_raw_time(tag: u64, moment: &MomentAnswer, room: &mut [u8]) -> Outcome
+    ensures { AnswersRawMoment tag (moment_in moment.now) room.old room.new result }
+{
+    put_raw_moment(tag, moment, room)
+}
+
+/// Puts the octets that records describe, as [`simple_asn1_write`] takes them, as they are: contents octets are not
+/// looked into. Otherwise as [`simple_asn1_write`].
+#[unsafe(no_mangle)]
+pub extern "C" fn simple_asn1_spell(
+    alloc: Global,
+    octets: &[u8],
+    blocks: &[Block],
+    room: &mut [u8],
+) -> Outcome
+    ensures { AnswersSpell octets.now blocks.now room.old room.new result }
+{
+    put_spelled(alloc, octets, blocks, room)
+}
+
+/// Puts the shortest encoding (X.690 8.1) of contents octets with this class, constructed unless 0, and the tag number
+/// in decimal, of any size. `BAD_RECORD` if there is no such class, or the text is not a numeral.
+#[unsafe(no_mangle)]
+pub extern "C" fn simple_asn1_encoding(
+    alloc: Global,
+    tag_class: u8,
+    constructed: u8,
+    tag: &[u8],
+    contents: &[u8],
+    room: &mut [u8],
+) -> Outcome
+    ensures { AnswersEncoding tag_class constructed tag.now contents.now room.old room.new result }
+{
+    put_encoding(alloc, tag_class, constructed, tag, contents, room)
 }

@@ -64,7 +64,7 @@ pub fn moment_at(alloc: Global, octets: &[u8], offset: usize) -> MomentAnswer
 }
 
 // The moment of the fields, if there is such a day and time.
-fn date_time(fields: &MomentAnswer) -> Option<DateTime>
+pub fn date_time(fields: &MomentAnswer) -> Option<DateTime>
     ensures found { IfSome result (λ d. moment_of d ≡ moment_in fields.now) }
     ensures none { IfNone result (IsValid (moment_in fields.now) → ⊥) }
 {

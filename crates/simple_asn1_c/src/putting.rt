@@ -33,7 +33,7 @@ pub fn put_records(entries: &[Entry], room: &mut [Block]) -> Outcome
     all_put(count)
 }
 
-fn all_put(count: usize) -> Outcome
+pub fn all_put(count: usize) -> Outcome
     ensures { (result.status ≡ done) × (result.count ≡ count) × (result.offset ≡ 0) }
 {
     Outcome {
@@ -44,7 +44,7 @@ fn all_put(count: usize) -> Outcome
 }
 
 // What a call answers that needs more room.
-fn not_enough(count: usize) -> Outcome
+pub fn not_enough(count: usize) -> Outcome
     ensures { (result.status ≡ no_room) × (result.count ≡ count) × (result.offset ≡ 0) }
 {
     Outcome {

@@ -51,7 +51,7 @@ impl From<AllocError> for SpellErr {
 }
 
 // The class of this number.
-fn class_of(number: u8) -> Option<ASN1Class>
+pub fn class_of(number: u8) -> Option<ASN1Class>
     ensures found { IfSome result (λ class. class_number class ≡ number) }
     ensures none { IfNone result (3 < number) }
 {

@@ -17,7 +17,7 @@ mod calls;
 mod fault;
 
 pub use builder::Builder;
-use calls::SignedRecords;
+use calls::SignedParts;
 pub use calls::{Moment, Record};
 pub use fault::{Fault, FaultKind};
 
@@ -260,7 +260,7 @@ pub struct Signed<'a> {
 
 impl<'a> Signed<'a> {
     pub fn read(octets: &'a [u8]) -> Result<Signed<'a>, Fault> {
-        let SignedRecords { content, algorithm, signature } = calls::signed(octets)?;
+        let SignedParts { content, algorithm, signature, .. } = calls::signed(octets)?;
         let (unused_bits, bits) = match &octets[signature.offset + signature.header..end_of(&signature)] {
             [] => (0, &[][..]),
             [unused, bits @ ..] => (*unused, bits),

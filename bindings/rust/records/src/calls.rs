@@ -1,43 +1,11 @@
 //! The calls of simple_asn1.h. All unsafe code is in this file.
 
 use crate::Fault;
-
-/// A block as the library has it. `simple_asn1.h` describes the fields.
-#[repr(C)]
-#[derive(Clone, Copy, Debug, Default, PartialEq, Eq)]
-pub struct Record {
-    pub tag: u64,
-    pub offset: usize,
-    pub header: usize,
-    pub contents: usize,
-    pub items: usize,
-    pub next: usize,
-    pub depth: usize,
-    pub tag_class: u8,
-    pub constructed: u8,
-}
-
-#[repr(C)]
-struct Outcome {
-    status: u32,
-    offset: usize,
-    count: usize,
-}
-
-#[repr(C)]
-struct Integer {
-    status: u32,
-    value: i64,
-}
-
-#[repr(C)]
-struct MomentAnswer {
-    status: u32,
-    moment: Moment,
-}
+pub use simple_asn1_sys::Block as Record;
+pub use simple_asn1_sys::SignedParts;
+use simple_asn1_sys::*;
 
 /// A moment in UTC, to the nanosecond.
-#[repr(C)]
 #[derive(Clone, Copy, Debug, PartialEq, Eq, PartialOrd, Ord, Hash)]
 pub struct Moment {
     pub year: i32,
@@ -48,50 +16,6 @@ pub struct Moment {
     pub second: u32,
     pub nanosecond: u32,
 }
-
-#[repr(C)]
-struct SignedAnswer {
-    status: u32,
-    offset: usize,
-    parts: SignedRecords,
-}
-
-#[repr(C)]
-pub struct SignedRecords {
-    pub content: Record,
-    pub algorithm: Record,
-    pub signature: Record,
-}
-
-extern "C" {
-    fn simple_asn1_version() -> u32;
-    fn simple_asn1_read(octets: *const u8, size: usize, blocks: *mut Record, room: usize) -> Outcome;
-    fn simple_asn1_read_strict(octets: *const u8, size: usize, blocks: *mut Record, room: usize) -> Outcome;
-    fn simple_asn1_outline(octets: *const u8, size: usize, blocks: *mut Record, room: usize) -> Outcome;
-    fn simple_asn1_rewrite(octets: *const u8, size: usize, out: *mut u8, room: usize) -> Outcome;
-    fn simple_asn1_write(
-        octets: *const u8,
-        size: usize,
-        blocks: *const Record,
-        count: usize,
-        out: *mut u8,
-        room: usize,
-    ) -> Outcome;
-    fn simple_asn1_int64(octets: *const u8, size: usize, offset: usize) -> Integer;
-    fn simple_asn1_time(octets: *const u8, size: usize, offset: usize) -> MomentAnswer;
-    fn simple_asn1_text(octets: *const u8, size: usize, offset: usize, out: *mut u8, room: usize) -> Outcome;
-    fn simple_asn1_oid(octets: *const u8, size: usize, offset: usize, out: *mut u8, room: usize) -> Outcome;
-    fn simple_asn1_signed(octets: *const u8, size: usize) -> SignedAnswer;
-    fn simple_asn1_put_boolean(value: u8, out: *mut u8, room: usize) -> Outcome;
-    fn simple_asn1_put_int64(value: i64, out: *mut u8, room: usize) -> Outcome;
-    fn simple_asn1_put_bits(octets: *const u8, size: usize, bits: usize, out: *mut u8, room: usize) -> Outcome;
-    fn simple_asn1_put_oid(text: *const u8, size: usize, out: *mut u8, room: usize) -> Outcome;
-    fn simple_asn1_put_text(tag: u64, text: *const u8, size: usize, out: *mut u8, room: usize) -> Outcome;
-    fn simple_asn1_put_time(tag: u64, moment: *const MomentAnswer, out: *mut u8, room: usize) -> Outcome;
-}
-
-const OK: u32 = 0;
-const NO_ROOM: u32 = 11;
 
 /// Asks how much is needed, and then for that.
 fn sized<T: Clone + Default>(call: impl Fn(*mut T, usize) -> Outcome) -> Result<Vec<T>, Fault> {
@@ -168,7 +92,15 @@ pub fn int64(octets: &[u8], offset: usize) -> Result<i64, Fault> {
 pub fn time(octets: &[u8], offset: usize) -> Result<Moment, Fault> {
     let answer = unsafe { simple_asn1_time(octets.as_ptr(), octets.len(), offset) };
     match answer.status {
-        OK => Ok(answer.moment),
+        OK => Ok(Moment {
+            year: answer.year,
+            month: answer.month,
+            day: answer.day,
+            hour: answer.hour,
+            minute: answer.minute,
+            second: answer.second,
+            nanosecond: answer.nanosecond,
+        }),
         status => Err(Fault::of_status(status, offset)),
     }
 }
@@ -181,10 +113,10 @@ pub fn oid(octets: &[u8], offset: usize) -> Result<Vec<u8>, Fault> {
     sized(|out, room| unsafe { simple_asn1_oid(octets.as_ptr(), octets.len(), offset, out, room) })
 }
 
-pub fn signed(octets: &[u8]) -> Result<SignedRecords, Fault> {
+pub fn signed(octets: &[u8]) -> Result<SignedParts, Fault> {
     let answer = unsafe { simple_asn1_signed(octets.as_ptr(), octets.len()) };
     match answer.status {
-        OK => Ok(answer.parts),
+        OK => Ok(answer),
         status => Err(Fault::of_status(status, answer.offset)),
     }
 }
@@ -210,6 +142,15 @@ pub fn put_text(tag: u64, text: &str) -> Result<Vec<u8>, Fault> {
 }
 
 pub fn put_time(tag: u64, moment: Moment) -> Result<Vec<u8>, Fault> {
-    let fields = MomentAnswer { status: OK, moment };
+    let fields = simple_asn1_sys::Moment {
+        status: OK,
+        year: moment.year,
+        month: moment.month,
+        day: moment.day,
+        hour: moment.hour,
+        minute: moment.minute,
+        second: moment.second,
+        nanosecond: moment.nanosecond,
+    };
     sized(|out, room| unsafe { simple_asn1_put_time(tag, &fields, out, room) })
 }

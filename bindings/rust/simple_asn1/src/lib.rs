@@ -1,0 +1,30 @@
+#![doc = include_str!("../README.md")]
+
+mod block;
+mod calls;
+mod convert;
+mod error;
+mod oid;
+mod read;
+mod write;
+
+pub use block::{ASN1Block, ASN1Class};
+pub use convert::{der_decode, der_encode, FromASN1, FromASN1WithBody, ToASN1};
+pub use error::{ASN1DecodeErr, ASN1EncodeErr};
+pub use num_bigint::{BigInt, BigUint};
+pub use oid::OID;
+pub use read::from_der;
+pub use write::to_der;
+
+/// The object identifier of these components, each cast to a `u64`.
+///
+/// ```
+/// let common_name = simple_asn1::oid!(2, 5, 4, 3);
+/// assert_eq!(common_name.as_raw(), Ok(vec![0x55, 4, 3]));
+/// ```
+#[macro_export]
+macro_rules! oid {
+    ($($component:expr),*) => {
+        $crate::OID::new(vec![$($crate::BigUint::from($component as u64)),*])
+    };
+}

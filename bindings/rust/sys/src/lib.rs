@@ -1,0 +1,148 @@
+//! The calls and records of `simple_asn1.h`, which describes them, over the proved library `simple_asn1`.
+//!
+//! It links `libsimple_asn1.a`, from the folder `SIMPLE_ASN1_LIB` or from where `bindings/c/build` puts it. Each pointer
+//! must have as many values behind it as the number after it says, and no output may overlap an input.
+//!
+//! ```
+//! let octets = [0x30, 0x02, 0x05, 0x00];
+//! let mut blocks = [simple_asn1_sys::Block::default(); 2];
+//! let outcome = unsafe { simple_asn1_sys::simple_asn1_read(octets.as_ptr(), 4, blocks.as_mut_ptr(), 2) };
+//! assert_eq!((outcome.status, outcome.count), (simple_asn1_sys::OK, 2));
+//! assert_eq!((blocks[0].items, blocks[1].tag), (1, 5));
+//! ```
+
+#![no_std]
+
+pub const OK: u32 = 0;
+pub const EMPTY: u32 = 1;
+pub const BOOLEAN_LENGTH: u32 = 2;
+pub const LENGTH: u32 = 3;
+pub const UTF8: u32 = 4;
+pub const PRINTABLE: u32 = 5;
+pub const DATE: u32 = 6;
+pub const BIT_STRING_LENGTH: u32 = 7;
+pub const INCOMPLETE: u32 = 8;
+pub const NOT_CANONICAL: u32 = 9;
+pub const NO_MEMORY: u32 = 10;
+pub const NO_ROOM: u32 = 11;
+pub const NO_SUCH_VALUE: u32 = 12;
+pub const RANGE: u32 = 13;
+pub const NOT_SIGNED: u32 = 14;
+pub const BAD_RECORD: u32 = 15;
+pub const NOT_OID: u32 = 16;
+
+/// A block as the library has it.
+#[repr(C)]
+#[derive(Clone, Copy, Debug, Default, PartialEq, Eq)]
+pub struct Block {
+    pub tag: u64,
+    pub offset: usize,
+    pub header: usize,
+    pub contents: usize,
+    pub items: usize,
+    pub next: usize,
+    pub depth: usize,
+    pub tag_class: u8,
+    pub constructed: u8,
+}
+
+#[repr(C)]
+#[derive(Clone, Copy, Debug, PartialEq, Eq)]
+pub struct Outcome {
+    pub status: u32,
+    pub offset: usize,
+    pub count: usize,
+}
+
+#[repr(C)]
+#[derive(Clone, Copy, Debug, PartialEq, Eq)]
+pub struct Integer {
+    pub status: u32,
+    pub value: i64,
+}
+
+#[repr(C)]
+#[derive(Clone, Copy, Debug, PartialEq, Eq)]
+pub struct Moment {
+    pub status: u32,
+    pub year: i32,
+    pub month: u32,
+    pub day: u32,
+    pub hour: u32,
+    pub minute: u32,
+    pub second: u32,
+    pub nanosecond: u32,
+}
+
+#[repr(C)]
+#[derive(Clone, Copy, Debug, PartialEq, Eq)]
+pub struct SignedParts {
+    pub status: u32,
+    pub offset: usize,
+    pub content: Block,
+    pub algorithm: Block,
+    pub signature: Block,
+}
+
+#[repr(C)]
+#[derive(Clone, Copy, Debug, PartialEq, Eq)]
+pub struct Fault {
+    pub status: u32,
+    pub offset: usize,
+    pub number: u64,
+    pub text: Outcome,
+}
+
+extern "C" {
+    pub fn simple_asn1_version() -> u32;
+    pub fn simple_asn1_read(octets: *const u8, size: usize, blocks: *mut Block, room: usize) -> Outcome;
+    pub fn simple_asn1_read_strict(octets: *const u8, size: usize, blocks: *mut Block, room: usize) -> Outcome;
+    pub fn simple_asn1_outline(octets: *const u8, size: usize, blocks: *mut Block, room: usize) -> Outcome;
+    pub fn simple_asn1_rewrite(octets: *const u8, size: usize, out: *mut u8, room: usize) -> Outcome;
+    pub fn simple_asn1_write(
+        octets: *const u8,
+        size: usize,
+        blocks: *const Block,
+        count: usize,
+        out: *mut u8,
+        room: usize,
+    ) -> Outcome;
+    pub fn simple_asn1_int64(octets: *const u8, size: usize, offset: usize) -> Integer;
+    pub fn simple_asn1_time(octets: *const u8, size: usize, offset: usize) -> Moment;
+    pub fn simple_asn1_text(octets: *const u8, size: usize, offset: usize, out: *mut u8, room: usize) -> Outcome;
+    pub fn simple_asn1_oid(octets: *const u8, size: usize, offset: usize, out: *mut u8, room: usize) -> Outcome;
+    pub fn simple_asn1_signed(octets: *const u8, size: usize) -> SignedParts;
+    pub fn simple_asn1_put_boolean(value: u8, out: *mut u8, room: usize) -> Outcome;
+    pub fn simple_asn1_put_int64(value: i64, out: *mut u8, room: usize) -> Outcome;
+    pub fn simple_asn1_put_bits(octets: *const u8, size: usize, bits: usize, out: *mut u8, room: usize) -> Outcome;
+    pub fn simple_asn1_put_oid(text: *const u8, size: usize, out: *mut u8, room: usize) -> Outcome;
+    pub fn simple_asn1_put_text(tag: u64, text: *const u8, size: usize, out: *mut u8, room: usize) -> Outcome;
+    pub fn simple_asn1_put_time(tag: u64, moment: *const Moment, out: *mut u8, room: usize) -> Outcome;
+    pub fn simple_asn1_components(contents: *const u8, size: usize, out: *mut u64, room: usize) -> Outcome;
+    pub fn simple_asn1_dotted(contents: *const u8, size: usize, out: *mut u8, room: usize) -> Outcome;
+    pub fn simple_asn1_header(octets: *const u8, size: usize, offset: usize, blocks: *mut Block, room: usize) -> Outcome;
+    pub fn simple_asn1_tag(octets: *const u8, size: usize, offset: usize, out: *mut u8, room: usize) -> Outcome;
+    pub fn simple_asn1_fault(octets: *const u8, size: usize, out: *mut u8, room: usize) -> Fault;
+    pub fn simple_asn1_raw_bits(octets: *const u8, size: usize, bits: usize, out: *mut u8, room: usize) -> Outcome;
+    pub fn simple_asn1_raw_oid(components: *const u64, size: usize, out: *mut u8, room: usize) -> Outcome;
+    pub fn simple_asn1_raw_text(tag: u64, text: *const u8, size: usize, out: *mut u8, room: usize) -> Outcome;
+    pub fn simple_asn1_raw_time(tag: u64, moment: *const Moment, out: *mut u8, room: usize) -> Outcome;
+    pub fn simple_asn1_spell(
+        octets: *const u8,
+        size: usize,
+        blocks: *const Block,
+        count: usize,
+        out: *mut u8,
+        room: usize,
+    ) -> Outcome;
+    pub fn simple_asn1_encoding(
+        tag_class: u8,
+        constructed: u8,
+        tag: *const u8,
+        tag_size: usize,
+        contents: *const u8,
+        size: usize,
+        out: *mut u8,
+        room: usize,
+    ) -> Outcome;
+}

@@ -1,0 +1,104 @@
+/* The calls for bindings that make values of their own: what each puts, and what it refuses. The octets are worked out
+ * by hand from X.690. */
+#include "simple_asn1.h"
+#include <stdio.h>
+#include <stdlib.h>
+
+#define CHECK(condition)                                              \
+    do {                                                              \
+        if (!(condition)) {                                           \
+            fprintf(stderr, "values: line %d: %s\n", __LINE__, #condition); \
+            exit(1);                                                  \
+        }                                                             \
+    } while (0)
+#define OCTETS(...) (const uint8_t[]){__VA_ARGS__}, sizeof((const uint8_t[]){__VA_ARGS__})
+
+static uint8_t out[64];
+
+static int put(simple_asn1_outcome outcome, const void *octets, size_t size)
+{
+    return outcome.status == SIMPLE_ASN1_OK && outcome.offset == 0 && outcome.count == size &&
+           memcmp(out, octets, size) == 0;
+}
+
+static int refused(simple_asn1_outcome outcome, uint32_t status, size_t offset, size_t count)
+{
+    return outcome.status == status && outcome.offset == offset && outcome.count == count;
+}
+
+static int fault(simple_asn1_refusal refusal, uint32_t status, size_t offset, uint64_t number, const char *text)
+{
+    return refusal.status == status && refusal.offset == offset && refusal.number == number &&
+           put(refusal.text, text, strlen(text));
+}
+
+/* a subidentifier or tag number of 2^64 */
+#define LARGE 0x82, 0x80, 0x80, 0x80, 0x80, 0x80, 0x80, 0x80, 0x80, 0x00
+
+static void reading(void)
+{
+    uint64_t numbers[4] = {0, 0, 0, 7};
+    CHECK(refused(simple_asn1_components(OCTETS(0x2A, 0x86, 0x48), numbers, 2), SIMPLE_ASN1_NO_ROOM, 0, 3));
+    CHECK(refused(simple_asn1_components(OCTETS(0x2A, 0x86, 0x48), numbers, 4), SIMPLE_ASN1_OK, 0, 3));
+    CHECK(numbers[0] == 1 && numbers[1] == 2 && numbers[2] == 840 && numbers[3] == 7);
+    CHECK(refused(simple_asn1_components(OCTETS(0x2A, LARGE), numbers, 4), SIMPLE_ASN1_RANGE, 0, 0));
+    CHECK(refused(simple_asn1_components(NULL, 0, numbers, 4), SIMPLE_ASN1_INCOMPLETE, 0, 0));
+    CHECK(put(simple_asn1_dotted(OCTETS(0x2A, LARGE), out, 64), "1.2.18446744073709551616", 24));
+    CHECK(refused(simple_asn1_dotted(OCTETS(0x2A, 0x86), out, 64), SIMPLE_ASN1_INCOMPLETE, 0, 0));
+
+    simple_asn1_block block;
+    CHECK(refused(simple_asn1_header(OCTETS(0x30, 0x03, 0x02, 0x01, 0x05), 2, &block, 1), SIMPLE_ASN1_OK, 0, 1));
+    CHECK(block.tag == 2 && block.offset == 2 && block.header == 2 && block.contents == 1 && block.items == 0);
+    CHECK(block.tag_class == 0 && block.constructed == 0 && block.next == 0 && block.depth == 0);
+    CHECK(refused(simple_asn1_header(OCTETS(0x05, 0x00), 0, NULL, 0), SIMPLE_ASN1_NO_ROOM, 0, 1));
+    CHECK(refused(simple_asn1_header(OCTETS(0x05, 0x00, 0x05), 2, &block, 1), SIMPLE_ASN1_NO_SUCH_VALUE, 2, 0));
+    CHECK(put(simple_asn1_tag(OCTETS(0x05, 0x00, 0x9F, LARGE, 0x00), 2, out, 64), "18446744073709551616", 20));
+    CHECK(refused(simple_asn1_tag(OCTETS(0x05), 0, out, 64), SIMPLE_ASN1_NO_SUCH_VALUE, 0, 0));
+
+    CHECK(fault(simple_asn1_fault(OCTETS(0x05, 0x00), out, 64), SIMPLE_ASN1_OK, 0, 0, ""));
+    CHECK(fault(simple_asn1_fault(OCTETS(0x05, 0x00, 0x01, 0x02, 0x00, 0x00), out, 64), SIMPLE_ASN1_BOOLEAN_LENGTH, 2, 2, ""));
+    CHECK(fault(simple_asn1_fault(OCTETS(0x04, 0x89), out, 64), SIMPLE_ASN1_LENGTH, 0, 9, ""));
+    CHECK(fault(simple_asn1_fault(OCTETS(0x03, 0x02, 0x0A, 0xFF), out, 64), SIMPLE_ASN1_BIT_STRING_LENGTH, 0, 2, ""));
+    CHECK(fault(simple_asn1_fault(OCTETS(0x17, 0x01, 0x41), out, 64), SIMPLE_ASN1_DATE, 0, 0, "1"));
+    CHECK(refused(simple_asn1_fault(OCTETS(0x17, 0x01, 0x41), NULL, 0).text, SIMPLE_ASN1_NO_ROOM, 0, 1));
+}
+
+static void writing(void)
+{
+    CHECK(put(simple_asn1_raw_bits(OCTETS(0xFF), 1, out, 64), "\x07\xFF", 2));
+    CHECK(put(simple_asn1_raw_bits(OCTETS(0xFF, 0xFF), 3, out, 64), "\x0D\xFF\xFF", 3));
+    CHECK(refused(simple_asn1_raw_bits(OCTETS(0xFF), 9, out, 64), SIMPLE_ASN1_RANGE, 0, 0));
+    CHECK(put(simple_asn1_raw_oid((const uint64_t[]){2, 5, 4, 3}, 4, out, 64), "\x55\x04\x03", 3));
+    CHECK(refused(simple_asn1_raw_oid((const uint64_t[]){1}, 1, out, 64), SIMPLE_ASN1_NOT_OID, 0, 0));
+    CHECK(refused(simple_asn1_raw_oid((const uint64_t[]){3, 1}, 2, out, 64), SIMPLE_ASN1_RANGE, 0, 0));
+    CHECK(refused(simple_asn1_raw_oid((const uint64_t[]){1, 40}, 2, out, 64), SIMPLE_ASN1_RANGE, 1, 0));
+    CHECK(put(simple_asn1_raw_text(19, OCTETS('*'), out, 64), "*", 1));
+    CHECK(put(simple_asn1_raw_text(22, OCTETS(0xC3, 0xA9), out, 64), "\xE9", 1));
+    CHECK(put(simple_asn1_raw_text(12, OCTETS(0xC3, 0xA9), out, 64), "\xC3\xA9", 2));
+    CHECK(refused(simple_asn1_raw_text(22, OCTETS(0xC4, 0x80), out, 64), SIMPLE_ASN1_RANGE, 0, 0));
+    CHECK(refused(simple_asn1_raw_text(22, OCTETS(0xC3), out, 64), SIMPLE_ASN1_UTF8, 0, 0));
+    CHECK(refused(simple_asn1_raw_text(16, OCTETS('a'), out, 64), SIMPLE_ASN1_NO_SUCH_VALUE, 0, 0));
+    simple_asn1_moment moment = {0, 2060, 1, 2, 3, 4, 5, 0};
+    CHECK(put(simple_asn1_raw_time(23, &moment, out, 64), "600102030405Z", 13));
+    CHECK(put(simple_asn1_raw_time(24, &moment, out, 64), "20600102030405Z", 15));
+    CHECK(refused(simple_asn1_raw_time(4, &moment, out, 64), SIMPLE_ASN1_NO_SUCH_VALUE, 0, 0));
+    moment.year = -1;
+    CHECK(refused(simple_asn1_raw_time(24, &moment, out, 64), SIMPLE_ASN1_DATE, 0, 0));
+
+    /* contents octets that are not canonical stay as they are */
+    simple_asn1_block block = {0, 0, 0, 4, 0, 0, 0, 2, 1};
+    CHECK(put(simple_asn1_spell(OCTETS(0x02, 0x02, 0x00, 0x05), &block, 1, out, 64), "\xA0\x04\x02\x02\x00\x05", 6));
+    block.tag_class = 4;
+    CHECK(refused(simple_asn1_spell(OCTETS(0x02, 0x02, 0x00, 0x05), &block, 1, out, 64), SIMPLE_ASN1_BAD_RECORD, 0, 0));
+    const uint8_t *number = (const uint8_t *)"31x";
+    CHECK(put(simple_asn1_encoding(1, 1, number, 2, OCTETS(0x05, 0x00), out, 64), "\x7F\x1F\x02\x05\x00", 5));
+    CHECK(refused(simple_asn1_encoding(1, 1, number, 3, OCTETS(0x05, 0x00), out, 64), SIMPLE_ASN1_BAD_RECORD, 0, 0));
+    CHECK(refused(simple_asn1_encoding(4, 1, number, 2, OCTETS(0x05, 0x00), out, 64), SIMPLE_ASN1_BAD_RECORD, 0, 0));
+}
+
+int main(void)
+{
+    reading();
+    writing();
+    puts("values: each call puts what it says");
+}

@@ -1,0 +1,24 @@
+use Rattle.std.proofs.Common.{refl}
+use Rattle.simple_asn1_c.specs.Contents.{header_was_found}
+use Rattle.simple_asn1_c.specs.Records.{HasHeader}
+use Rattle.simple_asn1_c.specs.declared.record.Block.{Block}
+use Rattle.simple_asn1_c.proofs.encoding.put_header.Goals as goal
+
+pub returns : goal.returns
+returns c =
+    let x = c.in-Some.encoding.now in
+    let head = c.in-Ok.header in
+    let h = c.in-Ok.ensures in
+    let r : Block = record head { offset = c.args.offset; items = 0; next = 0; depth = 0 } in
+    let own : HasHeader x r = record {
+      class = h.class;
+      constructed = h.constructed;
+      tag = h.tag;
+      contents = h.contents;
+      encoding = h.encoding;
+      class_field = h.class_field;
+      constructed_field = h.constructed_field;
+      tag_field = h.tag_field;
+      contents_field = h.contents_field;
+    } in
+    header_was_found r (x, c.in-Some.ensures.found, own, refl, refl, (refl, refl)) c.put_record.ensures

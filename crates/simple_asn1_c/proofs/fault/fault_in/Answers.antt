@@ -1,0 +1,21 @@
+use Rattle.std.proofs.Common.{inl, inr, sym, subst}
+use Rattle.asn1_headers.specs.Fault.{fault_of}
+use Rattle.simple_asn1.specs.Grammar.{FirstFaultAt}
+use Rattle.simple_asn1.specs.View.{document_trees}
+use Rattle.simple_asn1_c.specs.Contents.{fault_was_found, has_no_fault}
+use Rattle.simple_asn1_c.proofs.fault.fault_in.Goals as goal
+
+pub returns-in-Ok : goal.returns-in-Ok
+returns-in-Ok c =
+    let (status, offset, number, text) = c.no_fault.ensures in
+    has_no_fault (document_trees c.in-Ok.field-0) c.in-Ok.ensures.document status offset number text
+
+pub returns : goal.returns
+returns c =
+    let e = c.in-Err.located.error in
+    let told = c.fault_answer.ensures in
+    elim c.in-Err.ensures.fault [
+      | inl memory ↦ absurd (c.in_default.not-OutOfMemory memory)
+      | inr fault ↦
+          fault_was_found (fault_of e) (subst (FirstFaultAt c.args.octets.now (fault_of e)) (sym told.offset) fault) told.status told.number told.text
+    ]

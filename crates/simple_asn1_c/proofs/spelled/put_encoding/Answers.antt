@@ -1,0 +1,20 @@
+use Rattle.std.proofs.Common.{◌≡◌, refl, sym, subst, ◌∙◌}
+use Rattle.asn1_numbers.specs.Decimal.{natural_numeral}
+use Rattle.simple_asn1_c.specs.Raw.{is_no_numeral, was_encoded}
+use Rattle.simple_asn1_c.specs.Room.{ArePut}
+use Rattle.simple_asn1_c.proofs.Puts.{numeral_utf8}
+use Rattle.simple_asn1_c.proofs.spelled.put_encoding.Goals as goal
+
+pub returns-in_default-from_utf8 : goal.returns-in_default-from_utf8
+returns-in_default-from_utf8 c =
+    let put = c.nothing_put-in_default-from_utf8.ensures in
+    is_no_numeral (λ tag e. c.in_default-from_utf8.ensures.cases.0 (numeral_utf8 c.args.numeral.now tag e))
+    (put.status, put.offset, put.count, refl)
+
+pub returns-in-Ok-encoding_of : goal.returns-in-Ok-encoding_of
+returns-in-Ok-encoding_of c =
+    let tag = c.in-Ok-Some.tag in
+    let here : c.in-Ok.numeral.now ≡ natural_numeral tag = rw c.in-Ok-Some.field-0-is at c.in-Ok-Some.ensures.number in
+    was_encoded c.in-Some.class c.in-Some.ensures.found tag (sym c.in-Ok.ensures.cases.0 ∙ here)
+    (subst (λ z. ArePut z c.args.room.now c.put_octets.new.room c.put_octets.result) (c.deref.ensures.value ∙ c.in-Ok-encoding_of.ensures)
+    c.put_octets.ensures)

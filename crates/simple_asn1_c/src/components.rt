@@ -1,0 +1,59 @@
+// The components of contents octets of an OBJECT IDENTIFIER, as numbers and in decimal.
+ghost use Rattle.std.specs.Prelude.{◌≡◌, IfOk, string_bytes};
+ghost use Rattle.simple_asn1.specs.DottedDecimal.{dotted_decimal};
+ghost use Rattle.simple_asn1_c.specs.Contents.{AnswersComponents, AnswersDotted};
+ghost use Rattle.simple_asn1_c.specs.Room.{ArePut};
+
+use crate::putting::{all_put, not_enough, nothing_put, put_octets};
+use crate::record::Outcome;
+use crate::status::{NO_MEMORY, OUT_OF_RANGE, status_of_fault};
+use asn1_leaves::oid;
+use simple_asn1::{ASN1DecodeErr, OID};
+use std::alloc::{AllocError, Global};
+
+fn put_numbers(numbers: &[u64], room: &mut [u64]) -> Outcome
+    ensures { ArePut numbers.now room.old room.new result }
+{
+    let count = numbers.len();
+    if count > room.len() {
+        return not_enough(count);
+    }
+    room[..count].copy_from_slice(numbers);
+    all_put(count)
+}
+
+// Puts the components, each of which has to be a u64.
+pub fn put_components(alloc: Global, contents: &[u8], room: &mut [u64]) -> Outcome
+    ensures { AnswersComponents contents.now room.old room.new result }
+{
+    let oid = match oid::read(alloc, contents) {
+        Ok(oid) => oid,
+        Err(e) => return nothing_put(status_of_fault(&e), 0),
+    };
+    match oid.as_vec::<u64>(alloc) {
+        Ok(numbers) => put_numbers(&numbers, room),
+        Err(ASN1DecodeErr::Overflow) => nothing_put(OUT_OF_RANGE, 0),
+        Err(_) => nothing_put(NO_MEMORY, 0),
+    }
+}
+
+// The text of an object identifier.
+fn dotted_of(alloc: Global, oid: &OID) -> Result<String, AllocError>
+    ensures { IfOk result (λ text. string_bytes text ≡ dotted_decimal oid.now) }
+{
+    format!(in alloc; "{oid}")
+}
+
+// Puts them in decimal.
+pub fn put_dotted(alloc: Global, contents: &[u8], room: &mut [u8]) -> Outcome
+    ensures { AnswersDotted contents.now room.old room.new result }
+{
+    let oid = match oid::read(alloc, contents) {
+        Ok(oid) => oid,
+        Err(e) => return nothing_put(status_of_fault(&e), 0),
+    };
+    match dotted_of(alloc, &oid) {
+        Ok(text) => put_octets(text.as_bytes(), room),
+        Err(AllocError) => nothing_put(NO_MEMORY, 0),
+    }
+}

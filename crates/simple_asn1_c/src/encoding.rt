@@ -1,0 +1,85 @@
+// One encoding of a document by its header: its record, and its tag number of any size.
+ghost use Rattle.std.specs.Prelude.{◌≡◌, ◌∷◌, [], IfOk};
+ghost use Rattle.asn1_numbers.specs.Decimal.{natural_numeral};
+ghost use Rattle.simple_asn1.specs.Places.{IsEncoding};
+ghost use Rattle.simple_asn1.specs.Header.{Encoding};
+ghost use Rattle.asn1_headers.specs.declared.header.ASN1Class.{ASN1Class};
+ghost use Rattle.std.specs.Prelude.{Bool, List, ℕ, string_bytes};
+ghost use Rattle.simple_asn1_c.specs.Contents.{AnswersHeader, AnswersTag};
+ghost use Rattle.simple_asn1_c.specs.Room.{ArePut};
+
+use crate::header::header_record;
+use crate::putting::{all_put, not_enough, nothing_put, put_octets};
+use crate::record::{Block, Outcome};
+use crate::status::{NO_MEMORY, NO_SUCH_VALUE};
+use asn1_headers::front::read_header;
+use simple_asn1::{ASN1DecodeErr, BigUint, HeaderCount, encoding_at};
+use std::alloc::{AllocError, Global};
+
+fn put_record(block: Block, room: &mut [Block]) -> Outcome
+    ensures { ArePut (block ∷ []) room.old room.new result }
+{
+    if room.is_empty() {
+        return not_enough(1);
+    }
+    room[0] = block;
+    all_put(1)
+}
+
+// Puts the record of the encoding at the offset.
+pub fn put_header(alloc: Global, octets: &[u8], offset: usize, room: &mut [Block]) -> Outcome
+    ensures { AnswersHeader octets.now offset room.old room.new result }
+{
+    let Some(encoding) = encoding_at(octets, offset) else {
+        return nothing_put(NO_SUCH_VALUE, offset);
+    };
+    let Ok(header) = header_record(alloc, encoding) else {
+        return nothing_put(NO_MEMORY, offset);
+    };
+    let block = Block {
+        offset,
+        items: 0,
+        next: 0,
+        depth: 0,
+        ..header
+    };
+    put_record(block, room)
+}
+
+// The tag number of an encoding.
+fn tag_of(alloc: Global, encoding: &[u8]) -> Result<BigUint, AllocError>
+    requires { IsEncoding encoding.now }
+    ensures { IfOk result (λ tag. (class : ASN1Class) × (constructed : Bool) × (contents : List ℕ) × (header : ℕ)
+        × Encoding encoding.now class constructed tag contents header) }
+{
+    match read_header(alloc, encoding, &mut HeaderCount::new()) {
+        Ok(header) => Ok(header.tag),
+        Err(e) => match e {
+            ASN1DecodeErr::OutOfMemory => Err(AllocError),
+            _ => unreachable!(),
+        },
+    }
+}
+
+// The number in decimal.
+fn numeral_of(alloc: Global, number: &BigUint) -> Result<String, AllocError>
+    ensures { IfOk result (λ text. string_bytes text ≡ natural_numeral number.now) }
+{
+    format!(in alloc; "{number}")
+}
+
+// Puts the tag number of the encoding at the offset.
+pub fn put_tag(alloc: Global, octets: &[u8], offset: usize, room: &mut [u8]) -> Outcome
+    ensures { AnswersTag octets.now offset room.old room.new result }
+{
+    let Some(encoding) = encoding_at(octets, offset) else {
+        return nothing_put(NO_SUCH_VALUE, offset);
+    };
+    let Ok(tag) = tag_of(alloc, encoding) else {
+        return nothing_put(NO_MEMORY, offset);
+    };
+    match numeral_of(alloc, &tag) {
+        Ok(text) => put_octets(text.as_bytes(), room),
+        Err(AllocError) => nothing_put(NO_MEMORY, offset),
+    }
+}
