@@ -121,33 +121,33 @@ length_first [] n p = absurd p
 length_first (b ∷ r) n p = (b, r, refl)
 
 -- no encoding stands where a header is at fault
-pub header_no_encoding : (place : ℕ) (octets x rest : List ℕ) (e : DecodeFault) (c' : ASN1Class) (k' : Bool) (n' : ℕ) (contents : List ℕ) (h' : ℕ)
-    → HeaderFault place octets e → place + length octets < 2 ^ 64 → octets ≡ x ++ rest → Encoding x c' k' n' contents h' → ⊥
-header_no_encoding place octets x rest e c' k' n' contents h' (no_identifier missing) small d f =
+pub header_no_encoding : (offset : ℕ) (octets x rest : List ℕ) (e : DecodeFault) (c' : ASN1Class) (k' : Bool) (n' : ℕ) (contents : List ℕ) (h' : ℕ)
+    → HeaderFault offset octets e → offset + length octets < 2 ^ 64 → octets ≡ x ++ rest → Encoding x c' k' n' contents h' → ⊥
+header_no_encoding offset octets x rest e c' k' n' contents h' (no_identifier missing) small d f =
     let (a, r, l) = length_first f.len (length contents) f.length_octets in
     missing f.identifier (r ++ (contents ++ rest)) c' k' n' a f.identifier_octets
     (split_encoding octets x rest _ _ _ _ _ f d ∙ ap (λ z. f.identifier ++ (z ++ (contents ++ rest))) l)
-header_no_encoding place octets x rest e c' k' n' contents h' (no_length s a r c k n t g missing h) small d f =
+header_no_encoding offset octets x rest e c' k' n' contents h' (no_length s a r c k n t g missing h) small d f =
     let q = identifier_alone s f.identifier (a ∷ r) (f.len ++ (contents ++ rest)) c c' k k' n n' t f.identifier_octets
     (sym g ∙ split_encoding octets x rest _ _ _ _ _ f d) in
     missing f.len (contents ++ rest) (length contents) f.length_octets q.rest
-header_no_encoding place octets x rest e c' k' n' contents h' (too_far s l r c k n m t u g far h) small d f =
+header_no_encoding offset octets x rest e c' k' n' contents h' (too_far s l r c k n m t u g far h) small d f =
     let q = identifier_alone s f.identifier (l ++ r) (f.len ++ (contents ++ rest)) c c' k k' n n' t f.identifier_octets
     (sym g ∙ split_encoding octets x rest _ _ _ _ _ f d) in
     let v = length_alone l f.len r (contents ++ rest) m (length contents) u f.length_octets q.rest in
     omega (arith, far, small, v.number, ap length v.rest, ap length g, length-append s (l ++ r), length-append l r, length-append contents rest)
-header_no_encoding place octets x rest e c' k' n' contents h' (too_long s l r c k n m t u g near long) small d f =
+header_no_encoding offset octets x rest e c' k' n' contents h' (too_long s l r c k n m t u g near long) small d f =
     let q = identifier_alone s f.identifier (l ++ r) (f.len ++ (contents ++ rest)) c c' k k' n n' t f.identifier_octets
     (sym g ∙ split_encoding octets x rest _ _ _ _ _ f d) in
     let v = length_alone l f.len r (contents ++ rest) m (length contents) u f.length_octets q.rest in
     omega (arith, long, v.number, ap length v.rest, length-append contents rest)
 
 -- no block stands where a header is at fault
-header_no_block : (place : ℕ) (octets x rest : List ℕ) (e : DecodeFault) → HeaderFault place octets e → place + length octets < 2 ^ 64
+header_no_block : (offset : ℕ) (octets x rest : List ℕ) (e : DecodeFault) → HeaderFault offset octets e → offset + length octets < 2 ^ 64
     → octets ≡ x ++ rest → IsBlock x → ⊥
-header_no_block place octets x rest e w small d b =
+header_no_block offset octets x rest e w small d b =
     let F = block_encoding x b in
-    header_no_encoding place octets x rest e F.class F.constructed F.tag F.contents F.header w small d F.encoding
+    header_no_encoding offset octets x rest e F.class F.constructed F.tag F.contents F.header w small d F.encoding
 
 -- a block of class Universal has the contents octets of the encoding that begins with it
 contents_there : (octets y r x rest : List ℕ) (k : Bool) (n : ℕ) (contents : List ℕ) (h : ℕ) → octets ≡ y ++ r
@@ -188,12 +188,12 @@ blocks_fault_no_blocks octets e o (in_item {contents = v} {constructed = k} {hea
     (group_holds j v (contents_there all y rest x r k n v h refl f g b))
 
 -- where the first block is at fault, no block stands
-pub block_fault_no_block : (place : ℕ) (octets x rest : List ℕ) (e : DecodeFault) (o : ℕ) → BlockFaultAt place octets e o
-    → place + length octets < 2 ^ 64 → octets ≡ x ++ rest → IsBlock x → ⊥
-block_fault_no_block place octets x rest e o (at_header w) small d b = header_no_block place octets x rest e w small d b
-block_fault_no_block place octets x rest e o (at_leaf y r {constructed = k} {tag = n} {contents = v} {header = h} g f l) small d b =
+pub block_fault_no_block : (offset : ℕ) (octets x rest : List ℕ) (e : DecodeFault) (o : ℕ) → BlockFaultAt offset octets e o
+    → offset + length octets < 2 ^ 64 → octets ≡ x ++ rest → IsBlock x → ⊥
+block_fault_no_block offset octets x rest e o (at_header w) small d b = header_no_block offset octets x rest e w small d b
+block_fault_no_block offset octets x rest e o (at_leaf y r {constructed = k} {tag = n} {contents = v} {header = h} g f l) small d b =
     leaf_no_block n v e l (contents_there octets y r x rest k n v h g f d b)
-block_fault_no_block place octets x rest e o (at_item y r {constructed = k} {contents = v} {header = h} {inside = i} g j f p) small d b =
+block_fault_no_block offset octets x rest e o (at_item y r {constructed = k} {contents = v} {header = h} {inside = i} g j f p) small d b =
     let n = group_tag j in
     blocks_fault_no_blocks v e i p (omega (arith, small, encoding_within octets y r Universal k n v h f g))
     (group_holds j v (contents_there octets y r x rest k n v h g f d b))

@@ -75,34 +75,34 @@ same_header octets s s' l l' rest rest' c c' k k' n n' m m' t u g t' u' g' =
     (omega (arith, ap length q.octets, ap length v.octets), v.number)
 
 -- a header has at most one fault
-pub header_fault_alone : (place : ℕ) (octets : List ℕ) (e d : DecodeFault) → HeaderFault place octets e → HeaderFault place octets d → e ≡ d
-header_fault_alone place octets e d (no_identifier none) (no_identifier none') = refl
-header_fault_alone place octets e d (no_identifier none) (no_length s b r c k n t g shut h) = absurd (none s r c k n b t g)
-header_fault_alone place octets e d (no_identifier none) (too_far s l r c k n m t u g far h) = absurd (header_missing octets s l r c k n m none t u g)
-header_fault_alone place octets e d (no_identifier none) (too_long s l r c k n m t u g near long) = absurd (header_missing octets s l r c k n m none t u g)
-header_fault_alone place octets e d (no_length s b r c k n t g shut h) (no_identifier none) = absurd (none s r c k n b t g)
-header_fault_alone place octets e d (no_length s b r c k n t g shut h) (no_length s' b' r' c' k' n' t' g' shut' h') =
+pub header_fault_alone : (offset : ℕ) (octets : List ℕ) (e d : DecodeFault) → HeaderFault offset octets e → HeaderFault offset octets d → e ≡ d
+header_fault_alone offset octets e d (no_identifier none) (no_identifier none') = refl
+header_fault_alone offset octets e d (no_identifier none) (no_length s b r c k n t g shut h) = absurd (none s r c k n b t g)
+header_fault_alone offset octets e d (no_identifier none) (too_far s l r c k n m t u g far h) = absurd (header_missing octets s l r c k n m none t u g)
+header_fault_alone offset octets e d (no_identifier none) (too_long s l r c k n m t u g near long) = absurd (header_missing octets s l r c k n m none t u g)
+header_fault_alone offset octets e d (no_length s b r c k n t g shut h) (no_identifier none) = absurd (none s r c k n b t g)
+header_fault_alone offset octets e d (no_length s b r c k n t g shut h) (no_length s' b' r' c' k' n' t' g' shut' h') =
     let q = identifier_alone s s' (b ∷ r) (b' ∷ r') c c' k k' n n' t t' (sym g ∙ g') in
     h ∙ ap length_fault q.rest ∙ sym h'
-header_fault_alone place octets e d (no_length s b r c k n t g shut h) (too_far s' l r' c' k' n' m t' u g' far h') =
+header_fault_alone offset octets e d (no_length s b r c k n t g shut h) (too_far s' l r' c' k' n' m t' u g' far h') =
     absurd (length_missing octets s s' l r r' b c c' k k' n n' m t g shut t' u g')
-header_fault_alone place octets e d (no_length s b r c k n t g shut h) (too_long s' l r' c' k' n' m t' u g' near long) =
+header_fault_alone offset octets e d (no_length s b r c k n t g shut h) (too_long s' l r' c' k' n' m t' u g' near long) =
     absurd (length_missing octets s s' l r r' b c c' k k' n n' m t g shut t' u g')
-header_fault_alone place octets e d (too_far s l r c k n m t u g far h) (no_identifier none) = absurd (header_missing octets s l r c k n m none t u g)
-header_fault_alone place octets e d (too_far s' l r' c' k' n' m t' u g' far h') (no_length s b r c k n t g shut h) =
+header_fault_alone offset octets e d (too_far s l r c k n m t u g far h) (no_identifier none) = absurd (header_missing octets s l r c k n m none t u g)
+header_fault_alone offset octets e d (too_far s' l r' c' k' n' m t' u g' far h') (no_length s b r c k n t g shut h) =
     absurd (length_missing octets s s' l r r' b c c' k k' n n' m t g shut t' u g')
-header_fault_alone place octets e d (too_far s l r c k n m t u g far h) (too_far s' l' r' c' k' n' m' t' u' g' far' h') =
+header_fault_alone offset octets e d (too_far s l r c k n m t u g far h) (too_far s' l' r' c' k' n' m' t' u' g' far' h') =
     h ∙ ap length_too_large (same_header octets s s' l l' r r' c c' k k' n n' m m' t u g t' u' g').1 ∙ sym h'
-header_fault_alone place octets e d (too_far s l r c k n m t u g far h) (too_long s' l' r' c' k' n' m' t' u' g' near long) =
+header_fault_alone offset octets e d (too_far s l r c k n m t u g far h) (too_long s' l' r' c' k' n' m' t' u' g' near long) =
     let q = same_header octets s s' l l' r r' c c' k k' n n' m m' t u g t' u' g' in
     absurd (omega (arith, far, near, q.0, q.1))
-header_fault_alone place octets e d (too_long s l r c k n m t u g near long) (no_identifier none) = absurd (header_missing octets s l r c k n m none t u g)
-header_fault_alone place octets e d (too_long s' l r' c' k' n' m t' u g' near long) (no_length s b r c k n t g shut h) =
+header_fault_alone offset octets e d (too_long s l r c k n m t u g near long) (no_identifier none) = absurd (header_missing octets s l r c k n m none t u g)
+header_fault_alone offset octets e d (too_long s' l r' c' k' n' m t' u g' near long) (no_length s b r c k n t g shut h) =
     absurd (length_missing octets s s' l r r' b c c' k k' n n' m t g shut t' u g')
-header_fault_alone place octets e d (too_long s l r c k n m t u g near long) (too_far s' l' r' c' k' n' m' t' u' g' far h) =
+header_fault_alone offset octets e d (too_long s l r c k n m t u g near long) (too_far s' l' r' c' k' n' m' t' u' g' far h) =
     let q = same_header octets s s' l l' r r' c c' k k' n n' m m' t u g t' u' g' in
     absurd (omega (arith, far, near, q.0, q.1))
-header_fault_alone place octets e d (too_long s l r c k n m t u g near long) (too_long s' l' r' c' k' n' m' t' u' g' near' long') = refl
+header_fault_alone offset octets e d (too_long s l r c k n m t u g near long) (too_long s' l' r' c' k' n' m' t' u' g' near' long') = refl
 
 -- no octets, no block and no fault
 pub blocks_fault_some : (octets : List ℕ) (e : DecodeFault) (o : ℕ) → BlocksFaultAt octets e o → octets ≡ [] → ⊥
@@ -127,16 +127,16 @@ same_fronts octets front rest front' rest' (more_blocks {x = x} {rest = r} g b b
     (g ∙ ap (λ z. z ++ r) f.0 ∙ ap (λ z. y ++ z) i.0 ∙ sym h, i.1)
 
 -- the faults of one block are one fault: of its header
-header_alone : (place : ℕ) (octets : List ℕ) (e d : DecodeFault) (j : ℕ) → HeaderFault place octets e → BlockFaultAt place octets d j
-    → place + length octets < 2 ^ 64 → (e ≡ d) × (0 ≡ j)
-header_alone place octets e d j w (at_header v) small = (header_fault_alone place octets e d w v, refl)
-header_alone place octets e d j w (at_leaf x rest g f l) small = absurd (header_no_encoding place octets x rest e _ _ _ _ _ w small g f)
-header_alone place octets e d j w (at_item x rest g y f p) small = absurd (header_no_encoding place octets x rest e _ _ _ _ _ w small g f)
+header_alone : (offset : ℕ) (octets : List ℕ) (e d : DecodeFault) (j : ℕ) → HeaderFault offset octets e → BlockFaultAt offset octets d j
+    → offset + length octets < 2 ^ 64 → (e ≡ d) × (0 ≡ j)
+header_alone offset octets e d j w (at_header v) small = (header_fault_alone offset octets e d w v, refl)
+header_alone offset octets e d j w (at_leaf x rest g f l) small = absurd (header_no_encoding offset octets x rest e _ _ _ _ _ w small g f)
+header_alone offset octets e d j w (at_item x rest g y f p) small = absurd (header_no_encoding offset octets x rest e _ _ _ _ _ w small g f)
 
-module _ (place : ℕ) (octets x rest : List ℕ) (k : Bool) (n : ℕ) (contents : List ℕ) (h : ℕ) (whole : octets ≡ x ++ rest) (f : Encoding x Universal k n contents h) (small : place + length octets < 2 ^ 64) where
+module _ (offset : ℕ) (octets x rest : List ℕ) (k : Bool) (n : ℕ) (contents : List ℕ) (h : ℕ) (whole : octets ≡ x ++ rest) (f : Encoding x Universal k n contents h) (small : offset + length octets < 2 ^ 64) where
   -- of the contents octets of a leaf
-  contents_alone : (e d : DecodeFault) (j : ℕ) → LeafFault n contents e → BlockFaultAt place octets d j → (e ≡ d) × (0 ≡ j)
-  contents_alone e d j l (at_header w) = absurd (header_no_encoding place octets x rest d _ _ _ _ _ w small whole f)
+  contents_alone : (e d : DecodeFault) (j : ℕ) → LeafFault n contents e → BlockFaultAt offset octets d j → (e ≡ d) × (0 ≡ j)
+  contents_alone e d j l (at_header w) = absurd (header_no_encoding offset octets x rest d _ _ _ _ _ w small whole f)
   contents_alone e d j l (at_leaf x' rest' {tag = m} {contents = v} g f' l') =
       let s = encoding_alone _ _ _ _ _ _ _ _ _ _ _ _ rest rest' f f' (sym whole ∙ g) in
       let there = subst (λ z. LeafFault n z d) (sym s.contents) (subst (λ z. LeafFault z v d) (sym s.tag) l') in
@@ -146,9 +146,9 @@ module _ (place : ℕ) (octets x rest : List ℕ) (k : Bool) (n : ℕ) (contents
       absurd (leaf_tag_no_group n y (leaf_fault_tag n contents e l) s.tag)
 
   -- or of an item of a group
-  item_there : (i : GroupKind) (d : DecodeFault) (j : ℕ) → n ≡ group_tag i → BlockFaultAt place octets d j
+  item_there : (i : GroupKind) (d : DecodeFault) (j : ℕ) → n ≡ group_tag i → BlockFaultAt offset octets d j
       → (inside : ℕ) × BlocksFaultAt contents d inside × (j ≡ h + inside)
-  item_there i d j t (at_header w) = absurd (header_no_encoding place octets x rest d _ _ _ _ _ w small whole f)
+  item_there i d j t (at_header w) = absurd (header_no_encoding offset octets x rest d _ _ _ _ _ w small whole f)
   item_there i d j t (at_leaf x' rest' {tag = m} {contents = v} g f' l) =
       let s = encoding_alone _ _ _ _ _ _ _ _ _ _ _ _ rest rest' f f' (sym whole ∙ g) in
       absurd (leaf_tag_no_group m i (leaf_fault_tag m v d l) (sym s.tag ∙ t))

@@ -51,40 +51,40 @@ module _ (rest : List ℕ) (size announced : ℕ) (class : ASN1Class) (construct
       ∙ (ap (λ z. z ++ drop size rest) front.front_is ∙ append_assoc front.identifier front.len (drop size rest))
 
   -- its contents octets would end past a usize
-  pub far_at : (before place : ℕ) → before ≡ place + size → 2 ^ 64 ≤ before + announced → HeaderFault place rest (length_too_large announced)
-  far_at before place e far =
+  pub far_at : (before offset : ℕ) → before ≡ offset + size → 2 ^ 64 ≤ before + announced → HeaderFault offset rest (length_too_large announced)
+  far_at before offset e far =
       too_far front.identifier front.len (drop size rest) class constructed tag announced front.fields front.length_octets parts
       (omega (arith, e, header_size, far)) refl
 
   -- they are more than what is left
-  pub long_at : (before place : ℕ) → before ≡ place + size → before + announced < 2 ^ 64 → length rest - size < announced
-      → HeaderFault place rest incomplete
-  long_at before place e near long =
+  pub long_at : (before offset : ℕ) → before ≡ offset + size → before + announced < 2 ^ 64 → length rest - size < announced
+      → HeaderFault offset rest incomplete
+  long_at before offset e near long =
       too_long front.identifier front.len (drop size rest) class constructed tag announced front.fields front.length_octets parts
       (omega (arith, e, header_size, near)) (omega (arith, length-drop size rest, long))
 
 -- a header whose contents octets fit
-pub placed : (octets : List ℕ) (place limit size announced : ℕ) (class : ASN1Class) (constructed : Bool) (tag : ℕ)
-    → BeginsWithHeader (slice_range octets place limit) size announced class constructed tag
-    → place < limit → limit ≤ length octets → announced ≤ length (slice_range octets place limit) - size
-    → HeaderFound octets place limit (record {
+pub placed : (octets : List ℕ) (offset limit size announced : ℕ) (class : ASN1Class) (constructed : Bool) (tag : ℕ)
+    → BeginsWithHeader (slice_range octets offset limit) size announced class constructed tag
+    → offset < limit → limit ≤ length octets → announced ≤ length (slice_range octets offset limit) - size
+    → HeaderFound octets offset limit (record {
       class = class;
       constructed = constructed;
       tag = tag;
-      start = place + size;
-      end = (place + size) + announced;
+      start = offset + size;
+      end = (offset + size) + announced;
     })
-placed octets place limit size announced class constructed tag front more within fits =
-    let rest = slice_range octets place limit in
-    let start = place + size in
+placed octets offset limit size announced class constructed tag front more within fits =
+    let rest = slice_range octets offset limit in
+    let start = offset + size in
     let end = start + announced in
     let contents = slice_range octets start end in
-    let l : length rest ≡ limit - place = slice_length octets place limit (omega (arith, more)) within in
+    let l : length rest ≡ limit - offset = slice_length octets offset limit (omega (arith, more)) within in
     let w = front.within in
     let some = header_size rest size announced class constructed tag front in
     let ends : end ≤ limit = omega (arith, l, w, fits, more) in
-    let header : slice_range octets place start ≡ front.identifier ++ front.len =
-    ap (λ n. take n (drop place octets)) (omega arith) ∙ (sym (take-take size (limit - place) (drop place octets) (omega (arith, l, w))) ∙ front.front_is) in
+    let header : slice_range octets offset start ≡ front.identifier ++ front.len =
+    ap (λ n. take n (drop offset octets)) (omega arith) ∙ (sym (take-take size (limit - offset) (drop offset octets) (omega (arith, l, w))) ∙ front.front_is) in
     record {
       encoding = record {
         identifier = front.identifier;
@@ -93,11 +93,11 @@ placed octets place limit size announced class constructed tag front more within
         length_octets =
             subst (IsLength front.len) (omega (arith, slice_length octets start end (omega arith) (omega (arith, ends, within)))) front.length_octets;
         whole =
-            slice_join octets place start end (omega arith) (omega arith)
+            slice_join octets offset start end (omega arith) (omega arith)
             ∙ (ap (λ z. z ++ contents) header ∙ append_assoc front.identifier front.len contents);
         size = omega (arith, some);
       };
-      past = omega (arith, some, identifier_some front.identifier class constructed tag front.fields);
+      starts_after = omega (arith, some, identifier_some front.identifier class constructed tag front.fields);
       order = omega arith;
-      fits = ends;
+      ends_within = ends;
     }

@@ -97,9 +97,9 @@ IsEncodingBetween octets class constructed tag offset start end =
     Encoding (slice_range octets offset end) class constructed tag (slice_range octets start end)
     (start - offset)
 
--- the encoding at the place has this header, and ends before the limit
-pub record HeaderFound (octets : List ℕ) (place limit : ℕ) (h : PlacedHeader) : Type 0 where
-  pub encoding : IsEncodingBetween octets h.class h.constructed h.tag place h.start h.end
-  pub past : place < h.start
+-- the encoding at the offset has this header, and ends before the limit
+pub record HeaderFound (octets : List ℕ) (offset limit : ℕ) (h : PlacedHeader) : Type 0 where
+  pub encoding : IsEncodingBetween octets h.class h.constructed h.tag offset h.start h.end
+  pub starts_after : offset < h.start
   pub order : h.start ≤ h.end
-  pub fits : h.end ≤ limit
+  pub ends_within : h.end ≤ limit

@@ -1,4 +1,4 @@
-// Contents octets of blocks: which module reads and puts those of a tag. There is one for each kind that has a rule.
+// Contents octets of blocks: which module reads and pushes those of a tag. There is one for each kind that has a rule.
 ghost use Rattle.std.specs.Prelude.{◌≡◌, ◌↔◌, ◌⊎◌, ◌≤◌, ℕ, List, length, false, None, Some, IfOk, IfErr, IsTrue, MatchOption, OnOk};
 ghost use Rattle.asn1_headers.specs.declared.header.ASN1Class.TheVariants.{Universal};
 ghost use Rattle.asn1_blocks.specs.Contents.{LeafFault, is_known_tag, is_leaf_tag, string_tag};
@@ -240,26 +240,26 @@ pub fn own_size(b: &ASN1Block) -> Result<usize, ASN1EncodeErr>
 }
 
 // Puts these contents octets.
-pub fn put_own<S: Sink>(b: &ASN1Block, out: &mut S)
+pub fn push_own<S: Sink>(b: &ASN1Block, out: &mut S)
     requires room { length (own_contents (view b.now)) ≤ S.room out.old }
     requires writable { own_fault (view b.now) ≡ None }
-    ensures { S.puts out.old (own_contents (view b.now)) out.new }
+    ensures { S.pushes out.old (own_contents (view b.now)) out.new }
 {
     match b {
-        ASN1Block::Boolean(_, x) => boolean::put(*x, out),
-        ASN1Block::Integer(_, n) => integer::put(n, out),
-        ASN1Block::BitString(_, bits, v) => bit_string::put(*bits, v, out),
-        ASN1Block::OctetString(_, v) | ASN1Block::Unknown(_, _, _, _, v) => out.put(v),
+        ASN1Block::Boolean(_, x) => boolean::push(*x, out),
+        ASN1Block::Integer(_, n) => integer::push(n, out),
+        ASN1Block::BitString(_, bits, v) => bit_string::push(*bits, v, out),
+        ASN1Block::OctetString(_, v) | ASN1Block::Unknown(_, _, _, _, v) => out.push_octets(v),
         ASN1Block::UTF8String(_, s)
         | ASN1Block::TeletexString(_, s)
         | ASN1Block::UniversalString(_, s)
-        | ASN1Block::BMPString(_, s) => text::put(TextForm::Utf8, s, out),
-        ASN1Block::PrintableString(_, s) => text::put(TextForm::Printable, s, out),
-        ASN1Block::IA5String(_, s) => text::put(TextForm::Octets, s, out),
+        | ASN1Block::BMPString(_, s) => text::push(TextForm::Utf8, s, out),
+        ASN1Block::PrintableString(_, s) => text::push(TextForm::Printable, s, out),
+        ASN1Block::IA5String(_, s) => text::push(TextForm::Octets, s, out),
         ASN1Block::Null(_) => {}
-        ASN1Block::ObjectIdentifier(_, identifier) => oid::put(identifier, out),
-        ASN1Block::UTCTime(_, d) => utc_time::put(d, out),
-        ASN1Block::GeneralizedTime(_, d) => generalized_time::put(d, out),
+        ASN1Block::ObjectIdentifier(_, identifier) => oid::push(identifier, out),
+        ASN1Block::UTCTime(_, d) => utc_time::push(d, out),
+        ASN1Block::GeneralizedTime(_, d) => generalized_time::push(d, out),
         ASN1Block::Sequence(_, _) | ASN1Block::Set(_, _) | ASN1Block::Explicit(_, _, _, _) => {}
     }
 }

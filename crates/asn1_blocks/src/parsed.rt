@@ -20,7 +20,7 @@ pub struct PlacedHeader {
     pub end: usize,
 }
 
-// The header at a place of the document, inside the contents octets from `start` to `end`. Where its own contents
+// The header at an offset of the document, inside the contents octets from `start` to `end`. Where its own contents
 // octets begin and end is counted from the start of the document.
 #[inline(always)]
 pub fn header_within(
@@ -28,19 +28,19 @@ pub fn header_within(
     octets: &[u8],
     start: usize,
     end: usize,
-    place: usize,
+    offset: usize,
     count: &mut HeaderCount,
 ) -> Result<PlacedHeader, ASN1DecodeErr>
     requires room { count.old + 1 < 2 ^ 64 }
-    requires from { start ≤ place }
-    requires more { place < end }
+    requires from { start ≤ offset }
+    requires more { offset < end }
     requires within { end ≤ length octets.now }
-    ensures found { IfOk result (HeaderFound octets.now place end) }
+    ensures found { IfOk result (HeaderFound octets.now offset end) }
     ensures refused { IfErr result (OutOfMemoryOr
-        (HeaderFault (place - start) (slice_range octets.now place end))) }
+        (HeaderFault (offset - start) (slice_range octets.now offset end))) }
     ensures counted { count.new ≡ count.old + 1 }
 {
-    let rest = &octets[place..end];
+    let rest = &octets[offset..end];
     let header = read_header(alloc, rest, count)?;
     let Header {
         class,
@@ -51,9 +51,9 @@ pub fn header_within(
         ..
     } = header;
     if announced > rest.len() - size {
-        return Err(too_long(place - start + size, announced));
+        return Err(too_long(offset - start + size, announced));
     }
-    let contents = place + size;
+    let contents = offset + size;
     Ok(PlacedHeader {
         class,
         constructed,

@@ -7,7 +7,7 @@ ghost use Rattle.asn1_blocks.specs.Grammar.{IsDocument, FirstFault, FirstFaultAt
 ghost use Rattle.asn1_blocks.specs.HeadersBegun.{HeadersBegun};
 ghost use Rattle.asn1_blocks.specs.Inner.OpenFrames.{around};
 ghost use Rattle.asn1_blocks.specs.Inner.Owed.{after_all};
-ghost use Rattle.asn1_blocks.specs.Inner.TreeBuilding.{IsKept, IsOwed, IsPut, builder_holds};
+ghost use Rattle.asn1_blocks.specs.Inner.TreeBuilding.{IsKept, IsOwed, IsAdded, builder_holds};
 ghost use Rattle.asn1_blocks.specs.Tree.{Trees};
 ghost use Rattle.asn1_blocks.specs.View.{view, views};
 
@@ -271,7 +271,7 @@ impl Builder for TreeBuilder {
     ) -> Result<(), ASN1DecodeErr> {
         let contents = &octets[header.start..header.end];
         let block = leaf_block(alloc, header, contents, offset)?;
-        Ok(self.put(items, block)?)
+        Ok(self.push_block(items, block)?)
     }
 
     #[inline(always)]
@@ -296,7 +296,7 @@ impl Builder for TreeBuilder {
                 if owed_count != 0 {
                     return self.owe(parent, Owed::Group(group, offset, first, owed_count));
                 }
-                self.put(parent, group_block(group, offset, first))
+                self.push_block(parent, group_block(group, offset, first))
             }
             FrameKind::Attempt(attempt) => {
                 let inside = leave(&mut self.outermost, depth);
@@ -305,10 +305,10 @@ impl Builder for TreeBuilder {
                 }
                 if owed_count == 0 && first.len() == 1 {
                     let block = around_block(alloc, attempt, first)?;
-                    return self.put(parent, block);
+                    return self.push_block(parent, block);
                 }
                 self.owed.truncate(owed_before);
-                self.put_as_it_came(alloc, octets, parent, inside, attempt, start, end)
+                self.push_as_it_came(alloc, octets, parent, inside, attempt, start, end)
             }
         }
     }
@@ -329,15 +329,15 @@ impl Builder for TreeBuilder {
         };
         let inside = leave(&mut self.outermost, depth);
         self.owed.truncate(items.owed_before);
-        self.put_as_it_came(alloc, octets, parent, inside, attempt, start, end)
+        self.push_as_it_came(alloc, octets, parent, inside, attempt, start, end)
     }
 }
 
 impl TreeBuilder {
     // The frame has the block.
     #[inline(always)]
-    fn put(&mut self, items: &mut FrameBlocks, block: ASN1Block) -> Result<(), AllocError>
-        ensures { OnOk result (IsPut self.old items.old block self.new items.new) }
+    fn push_block(&mut self, items: &mut FrameBlocks, block: ASN1Block) -> Result<(), AllocError>
+        ensures { OnOk result (IsAdded self.old items.old block self.new items.new) }
     {
         if items.owed_count != 0 {
             return self.owe(items, Owed::Ready(block));
@@ -363,7 +363,7 @@ impl TreeBuilder {
     // The frame has an encoding that stays as it came.
     #[cold]
     #[inline(never)]
-    fn put_as_it_came(
+    fn push_as_it_came(
         &mut self,
         alloc: Global,
         octets: &[u8],
@@ -381,7 +381,7 @@ impl TreeBuilder {
             return self.owe(items, Owed::Kept(attempt, start, end));
         }
         let block = kept_block(alloc, attempt, &octets[start..end])?;
-        self.put(items, block)
+        self.push_block(items, block)
     }
 }
 

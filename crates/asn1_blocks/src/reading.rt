@@ -121,7 +121,7 @@ pub trait Builder: Drop {
             (HasKept holds octets.now (in_frame extent items) depth self.old parent.old self.new parent.new) };
 }
 
-// The innermost frame, those around it, the place reached, and what is built.
+// The innermost frame, those around it, the offset reached, and what is built.
 #[derive(Drop)]
 struct Reader<B, I> {
     inner: OpenFrame<I>,

@@ -8,25 +8,25 @@ use Rattle.asn1_headers.specs.Fault.{DecodeFault, length_too_large, incomplete}
 -- or of the document, stand before it
 pub data HeaderFault : ℕ → List ℕ → DecodeFault → Type 0 where
   -- the identifier octets run out, or the first length octet is missing
-  no_identifier : {place : ℕ} {octets : List ℕ}
+  no_identifier : {offset : ℕ} {octets : List ℕ}
       → ((identifier rest : List ℕ) (class : ASN1Class) (constructed : Bool) (tag b : ℕ)
       → IsIdentifier identifier class constructed tag → octets ≡ identifier ++ b ∷ rest → ⊥)
-      → HeaderFault place octets incomplete
+      → HeaderFault offset octets incomplete
   -- the length has more octets than a usize, or they run out
-  no_length : {place : ℕ} {octets : List ℕ} {e : DecodeFault} (identifier : List ℕ) (b : ℕ) (rest : List ℕ)
+  no_length : {offset : ℕ} {octets : List ℕ} {e : DecodeFault} (identifier : List ℕ) (b : ℕ) (rest : List ℕ)
       (class : ASN1Class) (constructed : Bool) (tag : ℕ)
       → IsIdentifier identifier class constructed tag → octets ≡ identifier ++ b ∷ rest
       → ((len r : List ℕ) (size : ℕ) → IsLength len size → b ∷ rest ≡ len ++ r → ⊥)
-      → e ≡ length_fault (b ∷ rest) → HeaderFault place octets e
+      → e ≡ length_fault (b ∷ rest) → HeaderFault offset octets e
   -- the end of the contents passes a usize
-  too_far : {place : ℕ} {octets : List ℕ} {e : DecodeFault} (identifier len rest : List ℕ)
+  too_far : {offset : ℕ} {octets : List ℕ} {e : DecodeFault} (identifier len rest : List ℕ)
       (class : ASN1Class) (constructed : Bool) (tag size : ℕ)
       → IsIdentifier identifier class constructed tag → IsLength len size → octets ≡ identifier ++ (len ++ rest)
-      → 2 ^ 64 ≤ place + (length identifier + length len) + size
-      → e ≡ length_too_large size → HeaderFault place octets e
+      → 2 ^ 64 ≤ offset + (length identifier + length len) + size
+      → e ≡ length_too_large size → HeaderFault offset octets e
   -- the contents are longer than what is left
-  too_long : {place : ℕ} {octets : List ℕ} (identifier len rest : List ℕ)
+  too_long : {offset : ℕ} {octets : List ℕ} (identifier len rest : List ℕ)
       (class : ASN1Class) (constructed : Bool) (tag size : ℕ)
       → IsIdentifier identifier class constructed tag → IsLength len size → octets ≡ identifier ++ (len ++ rest)
-      → place + (length identifier + length len) + size < 2 ^ 64 → length rest < size
-      → HeaderFault place octets incomplete
+      → offset + (length identifier + length len) + size < 2 ^ 64 → length rest < size
+      → HeaderFault offset octets incomplete

@@ -156,7 +156,7 @@ pub struct LocatedErr {
     pub offset: usize,
 }
 
-/// The error without its place.
+/// The error without its offset.
 impl From<LocatedErr> for ASN1DecodeErr {
     ghost from_gives = { λ located e. e ≡ located.error };
 
@@ -166,7 +166,7 @@ impl From<LocatedErr> for ASN1DecodeErr {
 }
 
 impl LocatedErr {
-    /// The same error at the same place. The only error of the call is that memory ran out.
+    /// The same error at the same offset. The only error of the call is that memory ran out.
     ///
     /// ```rust
     /// use simple_asn1::LocatedErr;

@@ -34,7 +34,7 @@ pub fn read_header(
     ensures found { IfOk result (IsAtFront octets.now) }
     ensures form { IfOk result (λ header. IsTrue header.is_indefinite ↔ HasIndefiniteForm octets.now) }
     ensures none { IfErr result (λ e. (e ≡ OutOfMemory) ⊎ HasNoHeader octets.now) }
-    ensures fault { (place : ℕ) → IfErr result (OutOfMemoryOr (HeaderFault place octets.now)) }
+    ensures fault { (offset : ℕ) → IfErr result (OutOfMemoryOr (HeaderFault offset octets.now)) }
     ensures counted { count.new ≡ count.old + 1 }
 {
     count.add_one();
@@ -78,7 +78,7 @@ fn header_at(alloc: Global, octets: &[u8]) -> Result<Header, ASN1DecodeErr>
     ensures found { IfOk result (IsAtFront octets.now) }
     ensures form { IfOk result (λ header. IsTrue header.is_indefinite ↔ HasIndefiniteForm octets.now) }
     ensures none { IfErr result (λ e. (e ≡ OutOfMemory) ⊎ HasNoHeader octets.now) }
-    ensures fault { (place : ℕ) → IfErr result (OutOfMemoryOr (HeaderFault place octets.now)) }
+    ensures fault { (offset : ℕ) → IfErr result (OutOfMemoryOr (HeaderFault offset octets.now)) }
 {
     let ((tag, constructed, class), identifier) = tag_at(alloc, octets)?;
     let (_, behind) = octets.split_at(identifier);

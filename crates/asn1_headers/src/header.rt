@@ -112,7 +112,7 @@ impl HeaderCount {
     }
 }
 
-// The place of the first octet whose bit 8 is clear.
+// The index of the first octet whose bit 8 is clear.
 fn last_octet_at(octets: &[u8]) -> Option<usize>
     ensures found { IfSome result (λ i. (i < length octets.now) × (slice_index octets.now i < 128)) }
     ensures before { IfSome result (λ i. (j : ℕ) → j < i → 128 ≤ slice_index octets.now j) }
@@ -384,15 +384,15 @@ fn octet_count(n: usize) -> usize
 }
 
 // Puts the octets of the number, the most significant first. A usize has at most 8.
-fn put_big_endian<S: Sink>(n: usize, out: &mut S)
+fn push_big_endian<S: Sink>(n: usize, out: &mut S)
     requires { length (digits_of 256 n) ≤ S.room out.old }
-    ensures { S.puts out.old (digits_of 256 n) out.new }
+    ensures { S.pushes out.old (digits_of 256 n) out.new }
 {
     if n == 0 {
         return;
     }
-    put_big_endian(n / 256, out);
-    out.put_one((n % 256) as u8);
+    push_big_endian(n / 256, out);
+    out.push_octet((n % 256) as u8);
 }
 
 // How many length octets this length has.
@@ -404,16 +404,16 @@ pub fn length_size(n: usize) -> usize
 }
 
 // Puts the length octets.
-pub fn put_length<S: Sink>(n: usize, out: &mut S)
+pub fn push_length<S: Sink>(n: usize, out: &mut S)
     requires { length (shortest_length n) ≤ S.room out.old }
-    ensures { S.puts out.old (shortest_length n) out.new }
+    ensures { S.pushes out.old (shortest_length n) out.new }
 {
     if n < 128 {
-        out.put_one(n as u8);
+        out.push_octet(n as u8);
         return;
     }
-    out.put_one(128 + octet_count(n) as u8);
-    put_big_endian(n, out);
+    out.push_octet(128 + octet_count(n) as u8);
+    push_big_endian(n, out);
 }
 
 // How many identifier octets this tag has.
@@ -435,15 +435,15 @@ fn leading(class: ASN1Class, constructed: bool, low: u8) -> u8
 }
 
 // Puts the identifier octets.
-pub fn put_identifier<S: Sink>(class: ASN1Class, constructed: bool, tag: &BigUint, out: &mut S)
+pub fn push_identifier<S: Sink>(class: ASN1Class, constructed: bool, tag: &BigUint, out: &mut S)
     requires { length (shortest_identifier class constructed tag.now) ≤ S.room out.old }
-    ensures { S.puts out.old (shortest_identifier class constructed tag.now) out.new }
+    ensures { S.pushes out.old (shortest_identifier class constructed tag.now) out.new }
 {
     match tag.to_u64() {
-        Some(n) if n < 31 => out.put_one(leading(class, constructed, n as u8)),
+        Some(n) if n < 31 => out.push_octet(leading(class, constructed, n as u8)),
         _ => {
-            out.put_one(leading(class, constructed, 31));
-            tag.put_base128(out);
+            out.push_octet(leading(class, constructed, 31));
+            tag.push_base128(out);
         }
     }
 }
@@ -470,7 +470,7 @@ pub fn encode_tag(
     ensures { IfOk result (λ v. v.items ≡ shortest_identifier class constructed tag.now) }
 {
     let mut octets = Vec::with_capacity(alloc, identifier_size(class, constructed, tag))?;
-    put_identifier(class, constructed, tag, &mut octets);
+    push_identifier(class, constructed, tag, &mut octets);
     Ok(octets)
 }
 
@@ -490,7 +490,7 @@ pub fn encode_base127(alloc: Global, n: &BigUint) -> Result<Vec<u8>, AllocError>
     ensures { IfOk result (λ v. v.items ≡ shortest_base128 n.now) }
 {
     let mut octets = Vec::with_capacity(alloc, n.base128_size())?;
-    n.put_base128(&mut octets);
+    n.push_base128(&mut octets);
     Ok(octets)
 }
 
@@ -510,6 +510,6 @@ pub fn encode_len(alloc: Global, n: usize) -> Result<Vec<u8>, AllocError>
     ensures { IfOk result (λ v. v.items ≡ shortest_length n) }
 {
     let mut octets = Vec::with_capacity(alloc, length_size(n))?;
-    put_length(n, &mut octets);
+    push_length(n, &mut octets);
     Ok(octets)
 }

@@ -1,14 +1,14 @@
 //! What precedes the contents octets of an encoding (X.690 8.1.2, 8.1.3), and the errors of reading and writing: a
 //! layer of `simple_asn1`, which is the crate for users.
 //!
-//! - [`header`]: identifier octets and length octets, read, sized and put; the classes; the count of headers;
+//! - [`header`]: identifier octets and length octets, read, sized and pushed; the classes; the count of headers;
 //! - [`front`]: the header at the front of octets;
 //! - [`types`]: the names of types;
 //! - [`error`]: why octets were not read, why a block was not written.
 //!
 //! `simple_asn1` hands on the errors, `ASN1Class`, `HeaderCount`, and the calls whose names begin with `decode_` and
 //! `encode_`. All else is public for the crates above alone, and may change with them: what looks at octets
-//! (`read_header`, `length_at`, `identifier_at`), what is put (`put_length`, `put_identifier`), and sizes
+//! (`read_header`, `length_at`, `identifier_at`), what is pushed (`push_length`, `push_identifier`), and sizes
 //! (`length_size`, `identifier_size`).
 #![tactic(auto)]
 

@@ -2,7 +2,7 @@
 //! which is the crate for users.
 //!
 //! - [`contents`]: a module for each kind of contents octets: how they are read, how many are written, how they are
-//!   put, and which values are read back as they are;
+//!   pushed, and which values are read back as they are;
 //! - [`from_big_uint`]: the types that a component of an object identifier is asked for as;
 //! - [`oid`]: the type of object identifiers.
 //!

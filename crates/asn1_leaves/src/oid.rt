@@ -94,7 +94,7 @@ fn short_contents(components: &[BigUint]) -> Option<ArrayVec<u8, 24>>
         return None;
     }
     let mut octets = ArrayVec::new();
-    object_identifier::put(components, &mut octets);
+    object_identifier::push(components, &mut octets);
     Some(octets)
 }
 
@@ -267,14 +267,14 @@ pub fn size(oid: &OID) -> Result<usize, ASN1EncodeErr>
     }
 }
 
-pub fn put<S: Sink>(oid: &OID, out: &mut S)
+pub fn push<S: Sink>(oid: &OID, out: &mut S)
     requires room { length (object_identifier_contents oid.now) ≤ S.room out.old }
     requires writable { object_identifier_write_fault oid.now ≡ None }
-    ensures { S.puts out.old (object_identifier_contents oid.now) out.new }
+    ensures { S.pushes out.old (object_identifier_contents oid.now) out.new }
 {
     match &oid.kept {
-        Kept::Octets(octets) => out.put(octets.as_slice()),
-        Kept::Components(components) => object_identifier::put(components.as_slice(), out),
+        Kept::Octets(octets) => out.push_octets(octets.as_slice()),
+        Kept::Components(components) => object_identifier::push(components.as_slice(), out),
     }
 }
 
@@ -357,7 +357,7 @@ impl OID {
 
     /// The object identifier of a text that is decimal numerals, at least one, with a point between two of them, as
     /// `{}` writes it: `1.2.840`. No numeral has a sign, or a leading zero but `0` itself. The components need not
-    /// have contents octets. They are put into a vector first, as by [`OID::new`]; a numeral is read as by
+    /// have contents octets. They are pushed to a vector first, as by [`OID::new`]; a numeral is read as by
     /// [`BigUint::from_text`]. The only error is that memory ran out.
     ///
     /// ```rust
@@ -417,7 +417,7 @@ impl OID {
     {
         let size = size(self)?;
         let mut octets = Vec::with_capacity(alloc, size)?;
-        put(self, &mut octets);
+        push(self, &mut octets);
         Ok(octets)
     }
 

@@ -1,4 +1,4 @@
-// Where octets are put, one after another: a vector that takes them, or octets that they are
+// Where octets are pushed, one after another: a vector that takes them, or octets that they are
 // compared with. So that writing and comparing are one code.
 ghost use Rattle.std.specs.Prelude.{◌≡◌, ◌↔◌, ℕ, ◌+◌, ◌++◌, ◌∷◌, ◌≤◌, [], List, length, vec_len, vec_capacity, IsTrue};
 
@@ -8,23 +8,23 @@ pub trait Sink {
     // How many octets there is room for.
     ghost room: { Self → ℕ };
 
-    // The octets were put into the first, which has become the second.
-    ghost puts: { Self → List ℕ → Self → Type 0 };
+    // The octets were pushed to the first, which has become the second.
+    ghost pushes: { Self → List ℕ → Self → Type 0 };
 
-    ghost none: { (a : Self) → puts a [] a };
+    ghost none: { (a : Self) → pushes a [] a };
 
     ghost more: { (a b c : Self) (xs ys : List ℕ)
-        → puts a xs b → puts b ys c → puts a (xs ++ ys) c };
+        → pushes a xs b → pushes b ys c → pushes a (xs ++ ys) c };
 
-    ghost room_after: { (a b : Self) (xs : List ℕ) → puts a xs b → room a ≤ room b + length xs };
+    ghost room_after: { (a b : Self) (xs : List ℕ) → pushes a xs b → room a ≤ room b + length xs };
 
-    fn put(&mut self, octets: &[u8])
+    fn push_octets(&mut self, octets: &[u8])
         requires { length octets.now ≤ room self.old }
-        ensures { puts self.old octets.now self.new };
+        ensures { pushes self.old octets.now self.new };
 
-    fn put_one(&mut self, octet: u8)
+    fn push_octet(&mut self, octet: u8)
         requires { 1 ≤ room self.old }
-        ensures { puts self.old (octet ∷ []) self.new };
+        ensures { pushes self.old (octet ∷ []) self.new };
 }
 
 // Puts the octets at the end, where there is room for them.
@@ -42,28 +42,28 @@ fn append(octets: &[u8], out: &mut Vec<u8>)
 // At its end, without growing.
 impl Sink for Vec<u8> {
     ghost use Rattle.asn1_numbers.specs.Inner.Sinks.{
-      vec_puts,
+      vec_pushes,
       vec_room,
-      vec_puts_none,
-      vec_puts_more,
+      vec_pushes_none,
+      vec_pushes_more,
       vec_room_after,
     };
 
     ghost room = { vec_room };
 
-    ghost puts = { vec_puts };
+    ghost pushes = { vec_pushes };
 
-    ghost none = { vec_puts_none };
+    ghost none = { vec_pushes_none };
 
-    ghost more = { vec_puts_more };
+    ghost more = { vec_pushes_more };
 
     ghost room_after = { vec_room_after };
 
-    fn put(&mut self, octets: &[u8]) {
+    fn push_octets(&mut self, octets: &[u8]) {
         append(octets, self);
     }
 
-    fn put_one(&mut self, octet: u8) {
+    fn push_octet(&mut self, octet: u8) {
         self.push_reserved(octet);
     }
 }
@@ -71,34 +71,34 @@ impl Sink for Vec<u8> {
 // At its end, in the room that it has.
 impl<const N: usize> Sink for ArrayVec<u8, N> {
     ghost use Rattle.asn1_numbers.specs.Inner.ArraySinks.{
-      array_puts,
+      array_pushes,
       array_room,
-      array_puts_none,
-      array_puts_more,
+      array_pushes_none,
+      array_pushes_more,
       array_room_after,
     };
 
     ghost room = { array_room N };
 
-    ghost puts = { array_puts };
+    ghost pushes = { array_pushes };
 
-    ghost none = { array_puts_none };
+    ghost none = { array_pushes_none };
 
-    ghost more = { array_puts_more };
+    ghost more = { array_pushes_more };
 
     ghost room_after = { array_room_after N };
 
-    fn put(&mut self, octets: &[u8]) {
+    fn push_octets(&mut self, octets: &[u8]) {
         let _within_capacity = self.len();
         self.try_extend_from_slice(octets).unwrap();
     }
 
-    fn put_one(&mut self, octet: u8) {
+    fn push_octet(&mut self, octet: u8) {
         self.push(octet);
     }
 }
 
-// Octets that are compared with those that are put: what is left of them, and whether all so far
+// Octets that are compared with those that are pushed: what is left of them, and whether all so far
 // were the same.
 #[derive(Drop)]
 pub struct Comparison<'a> {
@@ -117,7 +117,7 @@ impl<'a> Sink for Comparison<'a> {
 
     ghost room = { left };
 
-    ghost puts = { compared };
+    ghost pushes = { compared };
 
     ghost none = { compared_none };
 
@@ -125,13 +125,13 @@ impl<'a> Sink for Comparison<'a> {
 
     ghost room_after = { left_after };
 
-    fn put(&mut self, octets: &[u8]) {
+    fn push_octets(&mut self, octets: &[u8]) {
         let (front, rest) = self.rest.split_at(octets.len());
         self.same = self.same && front == octets;
         self.rest = rest;
     }
 
-    fn put_one(&mut self, octet: u8) {
+    fn push_octet(&mut self, octet: u8) {
         let (front, rest) = self.rest.split_at(1);
         self.same = self.same && is_octet(front, octet);
         self.rest = rest;

@@ -162,7 +162,7 @@ tagged x a start end lt le at = record {
   other = at.other;
   at_offset = slice_split x a.offset end (omega (arith, lt, le));
   encoding = at.encoding;
-  place_is = omega (arith, lt);
+  start_is = omega (arith, lt);
 }
 
 -- a frame that ended holds the blocks that it has

@@ -28,11 +28,11 @@ mutual
   shapes_within : (x : List ℕ) (p e : ℕ) (all : Shapes) (i d : ℕ) → e ≤ length x → AreShapes x p e all → AreWithin x (entries_of i d all)
   shapes_within x p e all i d within (no_more end) = tt
   shapes_within x p e all i d within (one_more {header = h} {items = items} {rest = rest} f has are) =
-      let own : p + (h.start - p) + (h.end - h.start) ≤ length x = omega (arith, f.past, f.order, f.fits, within) in
+      let own : p + (h.start - p) + (h.end - h.start) ≤ length x = omega (arith, f.starts_after, f.order, f.ends_within, within) in
       let next = suc i + length (entries_of (suc i) (suc d) items) in (
         own,
         both_within x (entries_of (suc i) (suc d) items) (entries_of next d rest)
-            (items_within x h items (suc i) (suc d) (omega (arith, f.fits, within)) has) (shapes_within x h.end e rest next d within are),
+            (items_within x h items (suc i) (suc d) (omega (arith, f.ends_within, within)) has) (shapes_within x h.end e rest next d within are),
       )
 
   items_within : (x : List ℕ) (h : PlacedHeader) (all : Shapes) (i d : ℕ) → h.end ≤ length x → HasItems x h all → AreWithin x (entries_of i d all)

@@ -78,7 +78,7 @@ held_in x o (unknown c k p n v) y rest bs s e (inl (i, q, t, f)) = record {
   place = q;
   contents = v;
   rest = t.rest;
-  at_offset = subst (λ z. drop z x ≡ v ++ t.rest) (sym t.place_is) (contents_stand x t.octets t.rest c _ n v p t.header t.at_offset t.encoding);
+  at_offset = subst (λ z. drop z x ≡ v ++ t.rest) (sym t.start_is) (contents_stand x t.octets t.rest c _ n v p t.header t.at_offset t.encoding);
   encoded = f;
   shorter = two_more y c k n v e.1 e.2;
 }

@@ -27,7 +27,7 @@ holds_alone x (group o g items) bs cs p q = p ∙ sym q
 holds_alone x (explicit c o n b) bs cs p q = p ∙ sym q
 holds_alone x (unknown c k o n v) bs cs (inl (i, p, t, e)) (inl (j, q, u, f)) =
     let same = encoding_alone t.octets u.octets c c true true n n v v t.header u.header t.rest u.rest t.encoding u.encoding (sym t.at_offset ∙ u.at_offset) in
-    let place : q ≡ p = u.place_is ∙ ap (λ z. o + z) (sym same.header) ∙ sym t.place_is in
+    let place : q ≡ p = u.start_is ∙ ap (λ z. o + z) (sym same.header) ∙ sym t.start_is in
     all_alone p v bs cs e (subst (λ z. EncodesAll z v cs) place f)
 holds_alone x (unknown c k o n v) bs cs (inl (i, p, t, e)) (inr (none, other)) = absurd (other (t.other, i, encodes_blocks p v bs e))
 holds_alone x (unknown c k o n v) bs cs (inr (none, other)) (inl (i, p, t, e)) = absurd (other (t.other, i, encodes_blocks p v cs e))

@@ -48,8 +48,8 @@ read_more x s e p i d n at own h items here w f inside =
     let next : suc at + length (entries_of (suc at) (suc d) items) ≡ i + length (own ++ new) =
     omega (arith, here, length-append own new) in
     record {
-      from = omega (arith, w.from, f.past, f.order);
-      to = f.fits;
+      from = omega (arith, w.from, f.starts_after, f.order);
+      to = f.ends_within;
       within = w.within;
       and_then = λ rest. w.and_then (more_shapes p h items rest);
       shapes = λ rest are. w.shapes (more_shapes p h items rest) (one_more f inside are);
@@ -111,7 +111,7 @@ pub entered : (x : List ℕ) (f g : Frame) (gs : List Frame) (p : ℕ) (rs : Lis
     → AreOpen x f (g ∷ gs) h.start (rs ++ shape_entry p h 0 (suc (length rs)) (length gs) ∷ [])
 entered x f g gs p rs h w found inside start end entry none attempt group =
     let v = places x g gs p rs w in
-    let read = read_none x h.start h.end (suc f.items.entry) (suc (length gs)) found.order (omega (arith, found.fits, v.within)) in
+    let read = read_none x h.start h.end (suc f.items.entry) (suc (length gs)) found.order (omega (arith, found.ends_within, v.within)) in
     record {
       offset = p;
       header = h;
@@ -193,12 +193,12 @@ kept x f g gs p rs front more fault o whole w q tries =
 
 -- or a group, whose fault is one of the frame around it
 pub record IsOut (x : List ℕ) (g : Frame) (gs : List Frame) (rs : List Entry) (fault : DecodeFault) (o : ℕ) : Type 0 where
-  pub place : ℕ
+  pub reached : ℕ
   pub front : List Entry
   pub more : List Entry
   pub whole : rs ≡ front ++ more
-  pub opened : AreOpen x g gs place front
-  pub stops : HeadersFaultAt x g.start place g.end fault o
+  pub opened : AreOpen x g gs reached front
+  pub stops : HeadersFaultAt x g.start reached g.end fault o
 
 pub out : (x : List ℕ) (f g : Frame) (gs : List Frame) (p : ℕ) (rs front more : List Entry) (fault : DecodeFault) (o : ℕ) → rs ≡ front ++ more
     → AreOpen x f (g ∷ gs) p front → HeadersFaultAt x f.start p f.end fault o → f.attempt ≡ false → IsOut x g gs rs fault o
@@ -208,7 +208,7 @@ out x f g gs p rs front more fault o whole w q group =
     let q' : HeadersFaultAt x h.start h.start h.end fault o =
     subst (λ z. HeadersFaultAt x z z h.end fault o) w.start (subst (λ z. HeadersFaultAt x f.start f.start z fault o) w.end (w.read.fault fault o q)) in
     record {
-      place = w.offset;
+      reached = w.offset;
       front = w.front;
       more = head ∷ (w.own ++ more);
       whole = whole ∙ ap (λ z. z ++ more) w.whole ∙ append_assoc w.front (head ∷ w.own) more;
@@ -218,7 +218,7 @@ out x f g gs p rs front more fault o whole w q group =
 
 -- the frame around it ends behind it
 pub end_after : (x : List ℕ) (f g : Frame) (gs : List Frame) (p : ℕ) (rs : List Entry) → AreOpen x f (g ∷ gs) p rs → f.end ≤ g.end
-end_after x f g gs p rs w = omega (arith, w.end, w.found.fits)
+end_after x f g gs p rs w = omega (arith, w.end, w.found.ends_within)
 
 -- with no frame open but the document's
 pub whole_read : (x : List ℕ) (f : Frame) (p : ℕ) (rs : List Entry) → p ≡ f.end → AreOpen x f [] p rs
@@ -271,7 +271,7 @@ module _ (x : List ℕ) (w : Walk) where
       record {
         walking = same_open x (counted w.inner) (record w.inner { items = i }) gs gs h.end h.end _ b.entries.items
             (ap (λ (z : EntryItems). record w.inner { items = z }) more) refl refl same now;
-        nearer = omega (arith, found.past, found.order, found.fits, v.within);
+        nearer = omega (arith, found.starts_after, found.order, found.ends_within, v.within);
       }
 
   -- a frame is entered
@@ -301,16 +301,16 @@ module _ (x : List ℕ) (w : Walk) where
           e.index,
           ap length e.outer,
           length-append w.outer.items (w.inner ∷ []),
-          found.past,
+          found.starts_after,
           found.order,
-          found.fits,
+          found.ends_within,
           v.within,
         );
       }
 
   module _ (g : Frame) (outer : Vec Frame Global) (fault : DecodeFault) (o most : ℕ) (faulty : IsFaulty x w fault o most) (popped : w.outer.items ≡ outer.items ++ g ∷ []) where
-    inside_it : AreOpen x w.inner (g ∷ reverse outer.items) faulty.place faulty.front
-    inside_it = subst (λ z. AreOpen x w.inner z faulty.place faulty.front) (turned_round w.outer.items outer.items g popped) faulty.opened
+    inside_it : AreOpen x w.inner (g ∷ reverse outer.items) faulty.reached faulty.front
+    inside_it = subst (λ z. AreOpen x w.inner z faulty.reached faulty.front) (turned_round w.outer.items outer.items g popped) faulty.opened
 
     -- an attempt stays as it came
     pub faulty_kept :
@@ -320,7 +320,7 @@ module _ (x : List ℕ) (w : Walk) where
     faulty_kept b i tries cut more =
         let gs = reverse outer.items in
         let rs = w.builder.entries.items in
-        let now = kept x w.inner g gs faulty.place rs faulty.front faulty.more fault o faulty.whole inside_it faulty.stops tries in
+        let now = kept x w.inner g gs faulty.reached rs faulty.front faulty.more fault o faulty.whole inside_it faulty.stops tries in
         record {
           walking = same_open x (counted g) (record g { items = i }) gs gs w.inner.end w.inner.end _ b.entries.items
               (ap (λ (z : EntryItems). record g { items = z }) more) refl refl cut now;
@@ -333,10 +333,10 @@ module _ (x : List ℕ) (w : Walk) where
     faulty_out group =
         let gs = reverse outer.items in
         let rs = w.builder.entries.items in
-        let on = out x w.inner g gs faulty.place rs faulty.front faulty.more fault o faulty.whole inside_it faulty.stops group in
-        let after = end_after x w.inner g gs faulty.place faulty.front inside_it in
+        let on = out x w.inner g gs faulty.reached rs faulty.front faulty.more fault o faulty.whole inside_it faulty.stops group in
+        let after = end_after x w.inner g gs faulty.reached faulty.front inside_it in
         record {
-          place = on.place;
+          reached = on.reached;
           front = on.front;
           more = on.more;
           whole = on.whole;
@@ -349,8 +349,8 @@ module _ (x : List ℕ) (w : Walk) where
   pub faulty_whole : (fault : DecodeFault) (o most : ℕ) → IsFaulty x w fault o most → w.outer.items ≡ []
       → HeadersFaultAt x 0 0 (length x) fault o
   faulty_whole fault o most faulty none =
-      whole_fault x w.inner faulty.place faulty.front fault o
-      (subst (λ z. AreOpen x w.inner (reverse z) faulty.place faulty.front) none faulty.opened) faulty.stops
+      whole_fault x w.inner faulty.reached faulty.front fault o
+      (subst (λ z. AreOpen x w.inner (reverse z) faulty.reached faulty.front) none faulty.opened) faulty.stops
 
   -- where a step leads
   pub turned : (most : ℕ) (step : Result (Unit {0}) AllocError) (r : Result Turn LocatedErr)

@@ -30,10 +30,10 @@ pub record IsTaken (old : List ASN1Block) (count : ℕ) (taken new : List ASN1Bl
   pub split : reverse old ≡ taken ++ reverse new
 
 -- the node's tree stands at the offset
-pub record IsNodeAt (document : List ℕ) (place : ℕ) (n : Node) : Type 0 where
+pub record IsNodeAt (document : List ℕ) (start : ℕ) (n : Node) : Type 0 where
   pub octets : List ℕ
   pub encoded : IsEncodedIn document (node_tree n) octets
-  pub offset : place ≡ tree_offset (node_tree n)
+  pub offset : start ≡ tree_offset (node_tree n)
   pub holds : Holds document (node_tree n) (nodes_trees (node_items n))
 
 -- the entry is of the node, and the trees ahead begin with those of its items

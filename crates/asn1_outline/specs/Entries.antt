@@ -44,7 +44,7 @@ AreEntries document i (n ∷ ns) (d ∷ ds) [] = ⊥
 AreEntries document i (n ∷ ns) (d ∷ ds) (r ∷ rs) =
     IsEntry document n i d r × AreEntries document (suc i) ns ds rs
 
--- what is read of a place past the end
+-- what is read of an index past the end
 abbrev pub no_entry : Entry
 no_entry = record {
   class = Universal;

@@ -11,9 +11,9 @@ use Rattle.asn1_outline.specs.declared.listing.EntryBuilder.{EntryBuilder}
 use Rattle.asn1_outline.specs.declared.listing.EntryItems.{EntryItems}
 
 -- the entry is of an encoding at the offset, which holds nothing so far
-pub record IsBegun (document : List ℕ) (place index deep : ℕ) (r : Entry) : Type 0 where
+pub record IsBegun (document : List ℕ) (start index deep : ℕ) (r : Entry) : Type 0 where
   pub header : HasHeaderAt document r
-  pub offset : r.offset ≡ place
+  pub offset : r.offset ≡ start
   pub items : r.items ≡ 0
   pub next : r.next ≡ suc index
   pub depth : r.depth ≡ deep

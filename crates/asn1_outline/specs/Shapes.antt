@@ -15,12 +15,12 @@ pub data Shapes : Type 0 where
   more_shapes : ℕ → PlacedHeader → Shapes → Shapes → Shapes
 
 mutual
-  -- the octets of the document from the place to the end are encodings with these shapes
+  -- the octets of the document from the offset to the end are encodings with these shapes
   pub data AreShapes (document : List ℕ) : ℕ → ℕ → Shapes → Type 0 where
-    no_more : {place end : ℕ} → place ≡ end → AreShapes document place end no_shapes
-    one_more : {place end : ℕ} {header : PlacedHeader} {items rest : Shapes} → HeaderFound document place end header
+    no_more : {offset end : ℕ} → offset ≡ end → AreShapes document offset end no_shapes
+    one_more : {offset end : ℕ} {header : PlacedHeader} {items rest : Shapes} → HeaderFound document offset end header
         → HasItems document header items → AreShapes document header.end end rest
-        → AreShapes document place end (more_shapes place header items rest)
+        → AreShapes document offset end (more_shapes offset header items rest)
 
   -- these stand inside the encoding with the header
   pub data HasItems (document : List ℕ) : PlacedHeader → Shapes → Type 0 where
@@ -34,21 +34,21 @@ mutual
     not_read : {header : PlacedHeader} → (IsReadInside header.class header.constructed header.tag → ⊥)
         → HasItems document header no_shapes
 
-  -- the octets from the place to the end, in contents octets from the start on, are encodings and then one at fault by
-  -- its header. The innermost encoding at fault begins at the offset
+  -- the octets from the offset reached to the end, in contents octets from the start on, are encodings and then one at
+  -- fault by its header. The innermost encoding at fault begins at the offset
   pub data HeadersFaultAt (document : List ℕ) : ℕ → ℕ → ℕ → DecodeFault → ℕ → Type 0 where
-    in_header : {start place end : ℕ} {fault : DecodeFault} → place < end
-        → HeaderFault (place - start) (slice_range document place end) fault
-        → HeadersFaultAt document start place end fault place
-    in_item : {start place end : ℕ} {header : PlacedHeader} {fault : DecodeFault} {offset : ℕ}
-        → HeaderFound document place end header → header.class ≡ Universal
+    in_header : {start reached end : ℕ} {fault : DecodeFault} → reached < end
+        → HeaderFault (reached - start) (slice_range document reached end) fault
+        → HeadersFaultAt document start reached end fault reached
+    in_item : {start reached end : ℕ} {header : PlacedHeader} {fault : DecodeFault} {offset : ℕ}
+        → HeaderFound document reached end header → header.class ≡ Universal
         → IsReadInside header.class header.constructed header.tag
         → HeadersFaultAt document header.start header.start header.end fault offset
-        → HeadersFaultAt document start place end fault offset
-    in_later : {start place end : ℕ} {header : PlacedHeader} {items : Shapes} {fault : DecodeFault} {offset : ℕ}
-        → HeaderFound document place end header → HasItems document header items
+        → HeadersFaultAt document start reached end fault offset
+    in_later : {start reached end : ℕ} {header : PlacedHeader} {items : Shapes} {fault : DecodeFault} {offset : ℕ}
+        → HeaderFound document reached end header → HasItems document header items
         → HeadersFaultAt document start header.end end fault offset
-        → HeadersFaultAt document start place end fault offset
+        → HeadersFaultAt document start reached end fault offset
 
 -- the octets are encodings with these shapes, one or more
 pub record HasShapes (octets : List ℕ) (all : Shapes) : Type 0 where

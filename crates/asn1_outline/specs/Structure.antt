@@ -36,8 +36,8 @@ node_count no_nodes = 0
 node_count (more_nodes n ns) = suc (node_count ns)
 
 -- at the offset in the document stands a constructed encoding of another class, whose contents octets begin at the
--- place
-pub record IsTaggedAt (document : List ℕ) (class : ASN1Class) (offset tag : ℕ) (contents : List ℕ) (place : ℕ)
+-- start
+pub record IsTaggedAt (document : List ℕ) (class : ASN1Class) (offset tag : ℕ) (contents : List ℕ) (start : ℕ)
     : Type 0 where
   pub octets : List ℕ
   pub rest : List ℕ
@@ -45,7 +45,7 @@ pub record IsTaggedAt (document : List ℕ) (class : ASN1Class) (offset tag : �
   pub other : class ≢ Universal
   pub at_offset : drop offset document ≡ octets ++ rest
   pub encoding : Encoding octets class true tag contents header
-  pub place_is : place ≡ offset + header
+  pub start_is : start ≡ offset + header
 
 -- the blocks that a tree of the document holds: those in its contents octets, if these are blocks
 abbrev pub Holds : List ℕ → Tree ℕ → Trees ℕ → Type 0
@@ -53,8 +53,8 @@ Holds document (leaf o l) bs = bs ≡ no_trees
 Holds document (group o g items) bs = bs ≡ items
 Holds document (explicit class o tag b) bs = bs ≡ more_trees b no_trees
 Holds document (unknown class constructed o tag contents) bs =
-    ((constructed ≡ true) × (place : ℕ) × IsTaggedAt document class o tag contents place
-    × EncodesAll place contents bs)
+    ((constructed ≡ true) × (start : ℕ) × IsTaggedAt document class o tag contents start
+    × EncodesAll start contents bs)
     ⊎ ((bs ≡ no_trees) × ((class ≢ Universal) × (constructed ≡ true) × AreBlocks contents → ⊥))
 
 abbrev mutual
@@ -88,7 +88,7 @@ abbrev mutual
   nodes_depths depth no_nodes = []
   nodes_depths depth (more_nodes n ns) = node_depths depth n ++ nodes_depths depth ns
 
--- what is read of a place past the end
+-- what is read of an index past the end
 abbrev pub no_tree : Tree ℕ
 no_tree = leaf 0 null
 

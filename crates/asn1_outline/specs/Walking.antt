@@ -15,28 +15,28 @@ use Rattle.asn1_outline.specs.declared.walk.Turn.{Turn}
 use Rattle.asn1_outline.specs.declared.walk.Turn.TheVariants.{More, End}
 use Rattle.asn1_outline.specs.declared.walk.Walk.{Walk}
 
--- contents octets from the start to the end are read up to the place: so many encodings with these entries, of which
+-- contents octets from the start to the end are read up to the offset reached: so many encodings with these entries, of which
 -- the first has the index. Whatever the rest is, they are these and the rest
-pub record IsReadTo (document : List ℕ) (start end place index depth count : ℕ) (own : List Entry) : Type 0 where
-  pub from : start ≤ place
-  pub to : place ≤ end
+pub record IsReadTo (document : List ℕ) (start end reached index depth count : ℕ) (own : List Entry) : Type 0 where
+  pub from : start ≤ reached
+  pub to : reached ≤ end
   pub within : end ≤ length document
   pub and_then : Shapes → Shapes
-  pub shapes : (rest : Shapes) → AreShapes document place end rest → AreShapes document start end (and_then rest)
-  pub fault : (fault : DecodeFault) (offset : ℕ) → HeadersFaultAt document start place end fault offset
+  pub shapes : (rest : Shapes) → AreShapes document reached end rest → AreShapes document start end (and_then rest)
+  pub fault : (fault : DecodeFault) (offset : ℕ) → HeadersFaultAt document start reached end fault offset
       → HeadersFaultAt document start start end fault offset
   pub entries : (rest : Shapes)
       → entries_of index depth (and_then rest) ≡ own ++ entries_of (index + length own) depth rest
   pub counted : (rest : Shapes) → shape_count (and_then rest) ≡ count + shape_count rest
 
 -- the outermost frame is that of the document
-pub record IsWhole (document : List ℕ) (f : Frame) (place : ℕ) (rs : List Entry) : Type 0 where
+pub record IsWhole (document : List ℕ) (f : Frame) (reached : ℕ) (rs : List Entry) : Type 0 where
   pub start : f.start ≡ 0
   pub end : f.end ≡ length document
-  pub read : IsReadTo document f.start f.end place 0 0 f.items.count rs
+  pub read : IsReadTo document f.start f.end reached 0 0 f.items.count rs
 
--- a frame is read up to the place inside another one. The entries are those around it, its own, and those inside it
-pub record IsInside (document : List ℕ) (f g : Frame) (depth : ℕ) (Around : ℕ → List Entry → Type 0) (place : ℕ)
+-- a frame is read up to the offset reached inside another one. The entries are those around it, its own, and those inside it
+pub record IsInside (document : List ℕ) (f g : Frame) (depth : ℕ) (Around : ℕ → List Entry → Type 0) (reached : ℕ)
     (rs : List Entry) : Type 0 where
   pub offset : ℕ
   pub header : PlacedHeader
@@ -50,14 +50,14 @@ pub record IsInside (document : List ℕ) (f g : Frame) (depth : ℕ) (Around : 
   pub end : f.end ≡ header.end
   pub attempt : f.attempt ≡ true → header.class ≢ Universal
   pub group : f.attempt ≡ false → header.class ≡ Universal
-  pub read : IsReadTo document f.start f.end place (suc f.items.entry) (suc depth) f.items.count own
+  pub read : IsReadTo document f.start f.end reached (suc f.items.entry) (suc depth) f.items.count own
   pub around : Around offset front
 
--- the frames lie in one another, the innermost first, and all is read up to the place
+-- the frames lie in one another, the innermost first, and all is read up to the offset reached
 abbrev pub AreOpen : List ℕ → Frame → List Frame → ℕ → List Entry → Type 0
-AreOpen document f [] place rs = IsWhole document f place rs
-AreOpen document f (g ∷ gs) place rs =
-    IsInside document f g (length gs) (λ offset front. AreOpen document g gs offset front) place rs
+AreOpen document f [] reached rs = IsWhole document f reached rs
+AreOpen document f (g ∷ gs) reached rs =
+    IsInside document f g (length gs) (λ offset front. AreOpen document g gs offset front) reached rs
 
 abbrev pub IsWalking : List ℕ → Walk → Type 0
 IsWalking document w = AreOpen document w.inner (reverse w.outer.items) w.index w.builder.entries.items
@@ -105,12 +105,12 @@ pub record IsEntered (a : Walk) (h : PlacedHeader) (entry : ℕ) (attempt : Bool
   pub builder : b.builder ≡ a.builder
   pub index : b.index ≡ h.start
 
--- the innermost frame is read up to some place, and there is the fault. Entries of frames that were dropped may follow
+-- the innermost frame is read up to some offset, and there is the fault. Entries of frames that were dropped may follow
 pub record IsFaulty (document : List ℕ) (w : Walk) (fault : DecodeFault) (offset most : ℕ) : Type 0 where
-  pub place : ℕ
+  pub reached : ℕ
   pub front : List Entry
   pub more : List Entry
   pub whole : w.builder.entries.items ≡ front ++ more
-  pub opened : AreOpen document w.inner (reverse w.outer.items) place front
-  pub stops : HeadersFaultAt document w.inner.start place w.inner.end fault offset
+  pub opened : AreOpen document w.inner (reverse w.outer.items) reached front
+  pub stops : HeadersFaultAt document w.inner.start reached w.inner.end fault offset
   pub nearer : left (length document) w.inner.end w.outer.items ≤ most

@@ -24,7 +24,7 @@ struct Frame {
     attempt: bool,
 }
 
-// The innermost frame, those around it, the place reached, and the entries so far.
+// The innermost frame, those around it, the offset reached, and the entries so far.
 #[derive(Drop)]
 struct Walk {
     inner: Frame,
@@ -119,7 +119,7 @@ fn contents_of(header: &PlacedHeader) -> Contents
     }
 }
 
-// Takes the encoding with the header, at the place reached.
+// Takes the encoding with the header, at the offset reached.
 fn take(_octets: &[u8], walk: &mut Walk, header: PlacedHeader) -> Result<(), AllocError>
     requires walking { IsWalking _octets.now walk.old }
     requires found { HeaderFound _octets.now walk.old.index walk.old.inner.end header }

@@ -11,9 +11,9 @@ use Rattle.asn1_outline.proofs.Standing.{two_more}
 two_octets : (x : List ℕ) (p e : ℕ) (h : PlacedHeader) → e ≤ length x → HeaderFound x p e h → p + 2 ≤ h.start
 two_octets x p e h within f =
     let more = two_more (slice_range x p h.end) h.class h.constructed h.tag (slice_range x h.start h.end) (h.start - p) f.encoding in
-    let all = slice_length x p h.end (omega (arith, f.past, f.order)) (omega (arith, f.fits, within)) in
-    let contents = slice_length x h.start h.end f.order (omega (arith, f.fits, within)) in
-    omega (arith, more, all, contents, f.past, f.order)
+    let all = slice_length x p h.end (omega (arith, f.starts_after, f.order)) (omega (arith, f.ends_within, within)) in
+    let contents = slice_length x h.start h.end f.order (omega (arith, f.ends_within, within)) in
+    omega (arith, more, all, contents, f.starts_after, f.order)
 
 mutual
   two_each_shape : (x : List ℕ) (p e i d : ℕ) (all : Shapes) → e ≤ length x → AreShapes x p e all → 2 * length (entries_of i d all) + p ≤ e
@@ -21,7 +21,7 @@ mutual
   two_each_shape x p e i d all within (one_more {header = h} {items = items} {rest = rest} f has are) =
       let next = suc i + length (entries_of (suc i) (suc d) items) in
       let own = two_octets x p e h within f in
-      let inside = two_each_item x h (suc i) (suc d) items (omega (arith, f.fits, within)) f.order has in
+      let inside = two_each_item x h (suc i) (suc d) items (omega (arith, f.ends_within, within)) f.order has in
       let after = two_each_shape x h.end e next d rest within are in
       omega (arith, own, inside, after, f.order, length-append (entries_of (suc i) (suc d) items) (entries_of next d rest))
 

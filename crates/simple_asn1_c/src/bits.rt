@@ -13,7 +13,7 @@ pub fn put_boolean(value: u8, room: &mut [u8]) -> Outcome
     ensures { AnswersPutBoolean value room.old room.new result }
 {
     let mut contents: ArrayVec<u8, 1> = ArrayVec::new();
-    boolean::put(value != 0, &mut contents);
+    boolean::push(value != 0, &mut contents);
     put_octets(contents.as_slice(), room)
 }
 
@@ -30,6 +30,6 @@ pub fn put_bits(alloc: Global, octets: &[u8], bits: usize, room: &mut [u8]) -> O
     let Ok(mut contents) = Vec::with_capacity(alloc, size) else {
         return nothing_put(NO_MEMORY, 0);
     };
-    bit_string::put(bits, octets, &mut contents);
+    bit_string::push(bits, octets, &mut contents);
     put_octets(&contents, room)
 }

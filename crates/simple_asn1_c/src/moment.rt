@@ -100,7 +100,7 @@ fn put_utc_time(d: &DateTime, room: &mut [u8]) -> Outcome
         return nothing_put(DATE, 0);
     }
     let mut contents: ArrayVec<u8, 13> = ArrayVec::new();
-    utc_time::put(d, &mut contents);
+    utc_time::push(d, &mut contents);
     put_octets(contents.as_slice(), room)
 }
 
@@ -113,7 +113,7 @@ fn put_generalized_time(d: &DateTime, room: &mut [u8]) -> Outcome
         return nothing_put(DATE, 0);
     }
     let mut contents: ArrayVec<u8, 25> = ArrayVec::new();
-    generalized_time::put(d, &mut contents);
+    generalized_time::push(d, &mut contents);
     put_octets(contents.as_slice(), room)
 }
 

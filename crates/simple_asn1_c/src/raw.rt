@@ -39,7 +39,7 @@ pub fn put_raw_bits(alloc: Global, octets: &[u8], bits: usize, room: &mut [u8]) 
     let Ok(mut contents) = Vec::with_capacity(alloc, size) else {
         return nothing_put(NO_MEMORY, 0);
     };
-    bit_string::put(bits, octets, &mut contents);
+    bit_string::push(bits, octets, &mut contents);
     put_octets(&contents, room)
 }
 
@@ -95,7 +95,7 @@ fn put_formed(alloc: Global, form: TextForm, text: &str, room: &mut [u8]) -> Out
     let Ok(mut contents) = Vec::with_capacity(alloc, size) else {
         return nothing_put(NO_MEMORY, 0);
     };
-    text::put(form, text, &mut contents);
+    text::push(form, text, &mut contents);
     put_octets(&contents, room)
 }
 
@@ -118,7 +118,7 @@ fn put_raw_utc_time(d: &DateTime, room: &mut [u8]) -> Outcome
     ensures { ArePut (utc_time_contents (moment_of d.now)) room.old room.new result }
 {
     let mut contents: ArrayVec<u8, 13> = ArrayVec::new();
-    utc_time::put(d, &mut contents);
+    utc_time::push(d, &mut contents);
     put_octets(contents.as_slice(), room)
 }
 
@@ -128,7 +128,7 @@ fn put_raw_generalized_time(d: &DateTime, room: &mut [u8]) -> Outcome
     ensures { ArePut (generalized_time_contents (moment_of d.now)) room.old room.new result }
 {
     let mut contents: ArrayVec<u8, 25> = ArrayVec::new();
-    generalized_time::put(d, &mut contents);
+    generalized_time::push(d, &mut contents);
     put_octets(contents.as_slice(), room)
 }
 

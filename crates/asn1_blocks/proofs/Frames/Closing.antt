@@ -46,13 +46,13 @@ close_group octets f g gs n x y k o =
     let at : s ≡ x + (s - x) = omega (arith, H.0, o.after) in
     let is_block = of_group F y refl (encodes_blocks s contents trees o.read.encoded) in
     record {
-      place = x;
+      reached = x;
       before = o.before;
       own = 1 + o.own;
       opened = subst (λ i. AreOpen octets g gs i o.before) (sym H.0) o.around;
       follows = record {
         from = omega (arith, H.0, o.after, o.read.from, o.read.to);
-        to = o.fits;
+        to = o.ends_within;
         encoded = (refl, bit, contents, s - x, F, subst (λ i. EncodesAll i contents trees) at o.read.encoded);
         begun = begun_opened (slice_range octets x z) Universal bit (group_tag y) contents (s - x) o.own F (inl (refl, group_tag_is y)) is_block o.read.begun;
       };
@@ -78,13 +78,13 @@ close_attempt octets f g gs n a t k means o =
     let F = H.1.encoding in
     let at : s ≡ a.offset + (s - a.offset) = omega (arith, H.0, o.after) in
     record {
-      place = a.offset;
+      reached = a.offset;
       before = o.before;
       own = 1 + o.own;
       opened = subst (λ i. AreOpen octets g gs i o.before) (sym H.0) o.around;
       follows = record {
         from = omega (arith, H.0, o.after, o.read.from, o.read.to);
-        to = o.fits;
+        to = o.ends_within;
         encoded = means all (s - a.offset) H.1.other F (subst (λ i. EncodesAll i contents (trees_of f.trees)) at o.read.encoded);
         begun = begun_opened all a.class true a.tag contents (s - a.offset) o.own F (inr (H.1.other, refl)) (of_other_class F H.1.other) o.read.begun;
       };

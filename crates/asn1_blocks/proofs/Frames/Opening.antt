@@ -48,16 +48,16 @@ EncodingAt_moved octets i j a b y z c k n e f g F =
     (subst (λ w. IsEncodingBetween octets c k n j w y) f (subst (λ w. IsEncodingBetween octets c k n w a y) e F))
 
 -- the frame of contents octets that are read as blocks
-pub headed_by : (octets : List ℕ) (kind : FrameKind) (place limit : ℕ) (h : PlacedHeader) → IsKindOf kind h place → HeaderFound octets place limit h
-    → IsHeaded octets kind place h.start h.end
-headed_by octets Whole place limit h k w = absurd k
-headed_by octets (Group g o) place limit h k w =
-    let tag = subst (λ z. IsEncodingBetween octets h.class h.constructed z place h.start h.end) k.1 w.encoding in
-    let own = subst (λ z. IsEncodingBetween octets z h.constructed (group_tag g) place h.start h.end) k.0 tag in
-    subst (λ z. IsHeaded octets (Group g z) place h.start h.end) (sym k.2) (refl, record { constructed = h.constructed; encoding = own })
-headed_by octets (Attempt a) place limit h k w =
-    let bit = subst (λ z. IsEncodingBetween octets h.class z h.tag place h.start h.end) k.1 w.encoding in
-    subst (λ z. IsHeaded octets (Attempt z) place h.start h.end) (sym k.2) (refl, record { other = k.0; encoding = bit })
+pub headed_by : (octets : List ℕ) (kind : FrameKind) (reached limit : ℕ) (h : PlacedHeader) → IsKindOf kind h reached → HeaderFound octets reached limit h
+    → IsHeaded octets kind reached h.start h.end
+headed_by octets Whole reached limit h k w = absurd k
+headed_by octets (Group g o) reached limit h k w =
+    let tag = subst (λ z. IsEncodingBetween octets h.class h.constructed z reached h.start h.end) k.1 w.encoding in
+    let own = subst (λ z. IsEncodingBetween octets z h.constructed (group_tag g) reached h.start h.end) k.0 tag in
+    subst (λ z. IsHeaded octets (Group g z) reached h.start h.end) (sym k.2) (refl, record { constructed = h.constructed; encoding = own })
+headed_by octets (Attempt a) reached limit h k w =
+    let bit = subst (λ z. IsEncodingBetween octets h.class z h.tag reached h.start h.end) k.1 w.encoding in
+    subst (λ z. IsHeaded octets (Attempt z) reached h.start h.end) (sym k.2) (refl, record { other = k.0; encoding = bit })
 
 -- a frame is opened
 pub opened_open : (octets : List ℕ) (f h : Frame) (gs : List Frame) (p n : ℕ) → h.trees ≡ []
@@ -74,7 +74,7 @@ opened_open octets f h gs p n e H lt le fits o =
       own = 0;
       headed = H;
       after = lt;
-      fits = fits;
+      ends_within = fits;
       read = record {
         from = omega arith;
         to = le;
@@ -98,7 +98,7 @@ header_stopping octets f gs p n e small here o u =
     let no_header = nothing_inside (λ x r c k t contents h g F op. header_no_encoding i rest x r e c k t contents h u near g F) in
     let no_block = nothing_after (λ x r g b. block_fault_no_block i rest x r e 0 (at_header u) near g b) in
     record {
-      place = p;
+      reached = p;
       before = n;
       own = 1;
       opened = o;
@@ -123,12 +123,12 @@ leaf_stopping octets f gs p n h e small found o shut u w =
     let rest = slice_range octets p f.extent.end in
     let first = slice_range octets p q in
     let behind = slice_range octets q f.extent.end in
-    let d = slice_join octets p q f.extent.end (omega (arith, found.past, found.order)) found.fits in
+    let d = slice_join octets p q f.extent.end (omega (arith, found.starts_after, found.order)) found.ends_within in
     let l = slice_length octets p f.extent.end v.to v.within in
     let near : i + length rest < 2 ^ 64 = omega (arith, l, v.from, v.to, v.within, small) in
     let F = subst (λ z. IsEncodingBetween octets z h.constructed h.tag p h.start h.end) u found.encoding in
     let stops : BlockFaultAt i rest e 0 = at_leaf first behind d F w in
-    let here : p < f.extent.end = omega (arith, found.past, found.order, found.fits) in
+    let here : p < f.extent.end = omega (arith, found.starts_after, found.order, found.ends_within) in
     let no_header = nothing_inside (λ y r c k t contents m g G op.
     let z = encoding_alone _ _ _ _ _ _ _ _ _ _ _ _ behind r found.encoding G (sym d ∙ g) in
     let tag = subst (λ i. IsReadInside c k i) (sym z.tag) op in
@@ -136,7 +136,7 @@ leaf_stopping octets f gs p n h e small found o shut u w =
     shut (subst (λ i. IsReadInside i h.constructed h.tag) (sym z.class) bit)) in
     let no_block = nothing_after (λ x r g b. block_fault_no_block i rest x r e 0 stops near g b) in
     record {
-      place = p;
+      reached = p;
       before = n;
       own = 1;
       opened = o;
@@ -157,8 +157,8 @@ leaf_follows octets f p h t found shut w =
     let all = slice_range octets p h.end in
     let contents = slice_range octets h.start h.end in
     record {
-      from = omega (arith, found.past, found.order);
-      to = found.fits;
+      from = omega (arith, found.starts_after, found.order);
+      to = found.ends_within;
       encoded = w;
       begun = begun_leaf all h.class h.constructed h.tag contents (h.start - p) found.encoding shut (encodes_block p all t w);
     }

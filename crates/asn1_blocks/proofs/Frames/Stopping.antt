@@ -100,15 +100,15 @@ stop_group octets f g gs e offset n x y small k w =
     let o = w.opened in
     let s = f.extent.start in
     let H = subst (λ z. IsHeaded octets z o.offset s f.extent.end) k o.headed in
-    let r = refused_read octets f w.place e offset o.own w.own o.read w.stops in
+    let r = refused_read octets f w.reached e offset o.own w.own o.read w.stops in
     let v = opened_places octets g gs o.offset o.before o.around in
     record {
-      place = x;
+      reached = x;
       before = o.before;
       own = 1 + (o.own + w.own);
       opened = subst (λ z. AreOpen octets g gs z o.before) (sym H.0) o.around;
       stops = group_stops octets g x s f.extent.end y e offset (o.own + w.own) small (omega (arith, H.0, v.from)) (omega (arith, H.0, o.after))
-          (omega (arith, o.read.from, o.read.to)) o.fits v.within H.1 r;
+          (omega (arith, o.read.from, o.read.to)) o.ends_within v.within H.1 r;
       total = omega (arith, w.total, o.total);
     }
 
@@ -124,11 +124,11 @@ stop_pop octets f g gs e offset n small other w = go f.extent.kind refl
 
 -- what a closed frame is in the frame around it
 pub record IsClosed (octets : List ℕ) (g : Frame) (gs : List Frame) (end : ℕ) (t : Tree ℕ) (n : ℕ) : Type 0 where
-  pub place : ℕ
+  pub reached : ℕ
   pub before : ℕ
   pub own : ℕ
-  pub opened : AreOpen octets g gs place before
-  pub follows : Follows octets g place end t own
+  pub opened : AreOpen octets g gs reached before
+  pub follows : Follows octets g reached end t own
   pub total : n ≡ before + own
 
 -- contents octets with a fault are no blocks
@@ -137,7 +137,7 @@ pub stop_no_blocks : (octets : List ℕ) (f g : Frame) (gs : List Frame) (e : De
 stop_no_blocks octets f g gs e offset n small w =
     let o = w.opened in
     let contents = slice_range octets f.extent.start f.extent.end in
-    let r = refused_read octets f w.place e offset o.own w.own o.read w.stops in
+    let r = refused_read octets f w.reached e offset o.own w.own o.read w.stops in
     let l = slice_length octets f.extent.start f.extent.end (omega (arith, o.read.from, o.read.to)) o.read.within in
     let short : length contents < 2 ^ 64 = omega (arith, l, small, o.read.within) in
     blocks_fault_no_blocks contents e r.after r.fault short
@@ -153,17 +153,17 @@ stop_attempt octets f g gs e offset n a small k w =
     let contents = slice_range octets s z in
     let H = subst (λ i. IsHeaded octets i o.offset s z) k o.headed in
     let F = H.1.encoding in
-    let r = refused_read octets f w.place e offset o.own w.own o.read w.stops in
+    let r = refused_read octets f w.reached e offset o.own w.own o.read w.stops in
     let no_block = λ (i : (true ≡ true) × IsBlock contents). stop_no_blocks octets f g gs e offset n small w (block_is_blocks contents i.1) in
     let m = o.own + w.own in
     record {
-      place = a.offset;
+      reached = a.offset;
       before = o.before;
       own = 1 + m;
       opened = subst (λ i. AreOpen octets g gs i o.before) (sym H.0) o.around;
       follows = record {
         from = omega (arith, H.0, o.after, o.read.from, o.read.to);
-        to = o.fits;
+        to = o.ends_within;
         encoded = (refl, s - a.offset, F, inr (H.1.other, no_block));
         begun = begun_opened (slice_range octets a.offset z) a.class true a.tag contents (s - a.offset) m F (inr (H.1.other, refl)) (of_other_class F H.1.other)
             r.begun;
@@ -180,7 +180,7 @@ whole_document octets f s e = ap (λ z. slice_range octets z f.extent.end) s ∙
 pub stop_document : (octets : List ℕ) (f : Frame) (e : DecodeFault) (offset n : ℕ) → IsStopping octets f [] e offset n
     → IsFaultyDocument octets e offset n
 stop_document octets f e offset n w =
-    let r = refused_read octets f w.place e offset w.before w.own w.opened.read w.stops in
+    let r = refused_read octets f w.reached e offset w.before w.own w.opened.read w.stops in
     let d = whole_document octets f w.opened.whole.start w.opened.whole.end in
     let begun = subst (λ z. HeadersBegun z (w.before + w.own)) d r.begun in
     let whole : BlocksFaultAt octets e r.after = subst (λ z. BlocksFaultAt z e r.after) d r.fault in
@@ -196,7 +196,7 @@ pub record StoppingPlaces (octets : List ℕ) (f : Frame) (n : ℕ) : Type 0 whe
 pub stopping_places : (octets : List ℕ) (f : Frame) (gs : List Frame) (e : DecodeFault) (offset n : ℕ) → IsStopping octets f gs e offset n
     → StoppingPlaces octets f n
 stopping_places octets f gs e offset n w =
-    let p = w.place in
+    let p = w.reached in
     let v = opened_places octets f gs p w.before w.opened in
     let most = begun_le (slice_range octets p f.extent.end) w.own w.stops.begun in
     let l = slice_length octets p f.extent.end v.to v.within in

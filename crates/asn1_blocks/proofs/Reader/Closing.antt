@@ -33,7 +33,7 @@ module _ {B I : Type 0} (Holds : Holding B I) (octets : List ℕ) where
       GoesOn Holds octets (record { inner = record { extent = e; items = j }; outer = outer; index = end; builder = b; fault = fault }) n most
   goes_on e j outer end b fault ts rest t n most near m h c =
       let gs = frames (reverse outer.items) rest in
-      let more = opened_more octets (record { extent = e; trees = ts }) gs c.place end c.before c.own t c.opened c.follows in
+      let more = opened_more octets (record { extent = e; trees = ts }) gs c.reached end c.before c.own t c.opened c.follows in
       record {
         reading = record {
           trees = ts ++ t ∷ [];

@@ -64,7 +64,7 @@ module _ {B I : Type 0} (Holds : Holding B I) (octets : List ℕ) where
       let outer = a.outer.items in
       let f : OpenFrame I = record { extent = record { kind = kind; start = h.start; end = h.end }; items = items } in
       let headed = headed_by octets kind a.index a.inner.extent.end h is found in
-      let o = opened_open octets (frame a.inner w.trees) (frame f []) (frames (reverse outer) w.outer) a.index n refl headed found.past found.order found.fits
+      let o = opened_open octets (frame a.inner w.trees) (frame f []) (frames (reverse outer) w.outer) a.index n refl headed found.starts_after found.order found.ends_within
       w.opened in
       let k = new.holds kind a.inner (reverse outer) (w.trees ∷ w.outer) (omega (arith, d, length-reverse outer)) is w.holds in
       let around : reverse r.outer.items ≡ a.inner ∷ reverse outer = ap reverse u.outer ∙ reverse-append outer (a.inner ∷ []) in
@@ -83,7 +83,7 @@ module _ {B I : Type 0} (Holds : Holding B I) (octets : List ℕ) where
               (subst (λ x. AreOpen octets (frame x []) (frames (a.inner ∷ reverse outer) all) r.index (n + 1)) (sym u.inner)
               (subst (λ x. AreOpen octets (frame f []) (frames (a.inner ∷ reverse outer) all) x (n + 1)) (sym u.index) o));
         };
-        nearer = omega (arith, u.index, l, found.past, found.order, found.fits, v.within);
+        nearer = omega (arith, u.index, l, found.starts_after, found.order, found.ends_within, v.within);
       }
 
   -- a leaf stands at the header
@@ -99,9 +99,9 @@ module _ {B I : Type 0} (Holds : Holding B I) (octets : List ℕ) where
       let v = reader_places a n w in
       let held = leaf.more.holds a.inner.extent gs w.trees w.outer (omega (arith, d, length-reverse a.outer.items)) w.holds in
       goes_on Holds octets a.inner.extent j a.outer h.end b a.fault w.trees w.outer leaf.tree (n + 1) (left (length octets) a.index a.outer.items)
-      (omega (arith, found.past, found.order, found.fits, v.within)) w.matched held
+      (omega (arith, found.starts_after, found.order, found.ends_within, v.within)) w.matched held
       (record {
-        place = a.index;
+        reached = a.index;
         before = n;
         own = 1;
         opened = w.opened;

@@ -77,8 +77,8 @@ module _ {B I : Type 0} (Holds : Holding B I) (octets : List ℕ) (b : B) where
     held : Holds octets b (r.inside ++ k ∷ h ∷ reverse outer.items) (r.lost ++ r.trees ∷ N.next ∷ N.others)
     held = subst (λ z. Holds octets b (r.inside ++ k ∷ h ∷ reverse outer.items) (r.lost ++ r.trees ∷ z)) N.are r.holds
 
-    pub fits : k.extent.end ≤ h.extent.end
-    fits = stops.opened.fits
+    pub ends_within : k.extent.end ≤ h.extent.end
+    ends_within = stops.opened.ends_within
 
     -- goes on to that one, if k is no attempt
     pub refused_pop : ((a : other.Attempt) → k.extent.kind ≡ Attempt a → ⊥) → IsRefused Holds octets b h (reverse outer.items) e offset n

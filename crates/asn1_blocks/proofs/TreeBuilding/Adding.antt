@@ -12,7 +12,7 @@ use Rattle.asn1_blocks.specs.declared.read.FrameBlocks.{FrameBlocks}
 use Rattle.asn1_blocks.specs.declared.read.TreeBuilder.{TreeBuilder}
 use Rattle.asn1_blocks.specs.Inner.OpenFrames.{around, as_it_came}
 use Rattle.asn1_blocks.specs.Inner.Owed.{Leads}
-use Rattle.asn1_blocks.specs.Inner.TreeBuilding.{AllHold, IsKept, IsOwed, IsPut}
+use Rattle.asn1_blocks.specs.Inner.TreeBuilding.{AllHold, IsKept, IsOwed, IsAdded}
 use Rattle.asn1_blocks.specs.Tree.{Tree, group, trees_of}
 use Rattle.asn1_blocks.specs.View.{view}
 use Rattle.asn1_blocks.proofs.OwedBlocks.{leads_around, leads_group, leads_kept, leads_ready}
@@ -59,23 +59,23 @@ module _ (octets : List ℕ) (a r : TreeBuilder) (i j : FrameBlocks) (e : Extent
       subst (λ z. AllHold octets z (of_extent e j) gs (ts ++ t ∷ []) rest) (sym u.owed)
       (all_owed octets es all (of_extent e i) (of_extent e j) gs ts rest t owing h)
 
-  -- a block was put
-  pub put_more : (b : ASN1Block) → IsPut a i b r j
+  -- a block was added
+  pub push_more : (b : ASN1Block) → IsAdded a i b r j
       → AllHold octets a.owed.items (of_extent e i) gs ts rest → AllHold octets r.owed.items (of_extent e j) gs (ts ++ view b ∷ []) rest
-  put_more b (inl u) h =
+  push_more b (inl u) h =
       let pushing : IsPushing (of_extent e i) (of_extent e j) b = record { before = u.before; first = u.first; count = u.count; none = u.none } in
       subst (λ z. AllHold octets z (of_extent e j) gs (ts ++ view b ∷ []) rest) (sym u.owed)
       (all_pushed octets a.owed.items (of_extent e i) (of_extent e j) gs ts rest b pushing h)
-  put_more b (inr u) h = owed_more a.owed.items (OwedAs.Ready b) (view b) u (ready_grown octets a.owed.items b) h
+  push_more b (inr u) h = owed_more a.owed.items (OwedAs.Ready b) (view b) u (ready_grown octets a.owed.items b) h
 
   -- a block with this tree
-  pub tree_more : (b : ASN1Block) (t : Tree ℕ) → view b ≡ t → IsPut a i b r j
+  pub tree_more : (b : ASN1Block) (t : Tree ℕ) → view b ≡ t → IsAdded a i b r j
       → AllHold octets a.owed.items (of_extent e i) gs ts rest → AllHold octets r.owed.items (of_extent e j) gs (ts ++ t ∷ []) rest
-  tree_more b t is u h = subst (λ z. AllHold octets r.owed.items (of_extent e j) gs (ts ++ z ∷ []) rest) is (put_more b u h)
+  tree_more b t is u h = subst (λ z. AllHold octets r.owed.items (of_extent e j) gs (ts ++ z ∷ []) rest) is (push_more b u h)
 
   -- an encoding stays as it came
   pub kept_more : (k : Attempt) (start end : ℕ) → IsKept octets a i k start end r j → AllHold octets a.owed.items (of_extent e i) gs ts rest
       → AllHold octets r.owed.items (of_extent e j) gs (ts ++ as_it_came octets k start end ∷ []) rest
-  kept_more k start end (inl (b, is, put)) h = tree_more b (as_it_came octets k start end) is put h
+  kept_more k start end (inl (b, is, added)) h = tree_more b (as_it_came octets k start end) is added h
   kept_more k start end (inr u) h =
       owed_more a.owed.items (OwedAs.Kept k start end) (as_it_came octets k start end) u (kept_grown octets a.owed.items k start end) h

@@ -16,7 +16,7 @@ use Rattle.asn1_blocks.specs.declared.reading.OpenFrame.{OpenFrame}
 use Rattle.asn1_blocks.specs.Inner.OpenFrames.{IsEnded, around, as_it_came, attempted}
 use Rattle.asn1_blocks.specs.Inner.Owed.{Leads, after_all}
 use Rattle.asn1_blocks.specs.Inner.ReaderSteps.{HasEndedIn, HasKept, HasOpened, in_frame}
-use Rattle.asn1_blocks.specs.Inner.TreeBuilding.{AllHold, Holds, IsKept, IsOwed, IsPut, all_hold, builder_holds}
+use Rattle.asn1_blocks.specs.Inner.TreeBuilding.{AllHold, Holds, IsKept, IsOwed, IsAdded, all_hold, builder_holds}
 use Rattle.asn1_blocks.specs.Tree.{Tree, group, trees_of}
 use Rattle.asn1_blocks.specs.View.{view, views}
 use Rattle.asn1_blocks.proofs.TreeBuilding.Adding.{around_grown, group_grown, kept_more, owed_more, tree_more}
@@ -169,9 +169,9 @@ module _ (octets : List ℕ) (a r : TreeBuilder) (i j : FrameBlocks) (f : OpenFr
           (moved (λ z. IsGrown octets (take n a.owed.items) (z ++ one ∷ []) t) grown) w.1;
     }
 
-    pub group_put : (g : GroupKind) (o : ℕ) (b : ASN1Block) → f.extent.kind ≡ Group g o → f.items.owed_count ≡ 0
-        → view b ≡ group o g (views f.items.first) → IsPut c i b r j → HasEndedIn builder_holds octets f depth a i r j
-    group_put g o b kind none means u = record {
+    pub group_pushed : (g : GroupKind) (o : ℕ) (b : ASN1Block) → f.extent.kind ≡ Group g o → f.items.owed_count ≡ 0
+        → view b ≡ group o g (views f.items.first) → IsAdded c i b r j → HasEndedIn builder_holds octets f depth a i r j
+    group_pushed g o b kind none means u = record {
       holds = λ e fs ts us rest t d is w.
           let clean = left_clean octets a.owed.items f (in_frame e i) fs ts us rest none w.0 w.1 in
           let this = ended_is octets f.extent.kind (Group g o) f.extent.start f.extent.end ts t kind is.tree in
@@ -193,9 +193,9 @@ module _ (octets : List ℕ) (a r : TreeBuilder) (i j : FrameBlocks) (f : OpenFr
           (moved (λ z. IsGrown octets (take n a.owed.items) (z ++ OwedAs.Explicit k ∷ []) t) grown) w.1;
     }
 
-    pub explicit_put : (k : other.Attempt) (b item : ASN1Block) → f.extent.kind ≡ Attempt k → f.items.owed_count ≡ 0 → f.items.first ≡ item ∷ []
-        → view b ≡ around k (view item) → IsPut c i b r j → HasEndedIn builder_holds octets f depth a i r j
-    explicit_put k b item kind none one means u = record {
+    pub explicit_pushed : (k : other.Attempt) (b item : ASN1Block) → f.extent.kind ≡ Attempt k → f.items.owed_count ≡ 0 → f.items.first ≡ item ∷ []
+        → view b ≡ around k (view item) → IsAdded c i b r j → HasEndedIn builder_holds octets f depth a i r j
+    explicit_pushed k b item kind none one means u = record {
       holds = λ e fs ts us rest t d is w.
           let clean = left_clean octets a.owed.items f (in_frame e i) fs ts us rest none w.0 w.1 in
           let are : ts ≡ view item ∷ [] = clean.trees ∙ ap (map view) one in

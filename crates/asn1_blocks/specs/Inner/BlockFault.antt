@@ -12,15 +12,15 @@ use Rattle.asn1_blocks.specs.Grammar.{BlocksFaultAt}
 -- innermost block at fault begins so many octets after it: it is that block itself, or an item of it
 pub data BlockFaultAt : ℕ → List ℕ → DecodeFault → ℕ → Type 0 where
   at_header :
-      {place : ℕ} {octets : List ℕ} {e : DecodeFault} →
-      HeaderFault place octets e → BlockFaultAt place octets e 0
+      {offset : ℕ} {octets : List ℕ} {e : DecodeFault} →
+      HeaderFault offset octets e → BlockFaultAt offset octets e 0
   at_leaf :
-      {place : ℕ} {octets : List ℕ} {e : DecodeFault}
+      {offset : ℕ} {octets : List ℕ} {e : DecodeFault}
       (x rest : List ℕ) {constructed : Bool} {tag : ℕ} {contents : List ℕ} {header : ℕ} →
       octets ≡ x ++ rest → Encoding x Universal constructed tag contents header → LeafFault tag contents e →
-      BlockFaultAt place octets e 0
+      BlockFaultAt offset octets e 0
   at_item :
-      {place : ℕ} {octets : List ℕ} {e : DecodeFault}
+      {offset : ℕ} {octets : List ℕ} {e : DecodeFault}
       (x rest : List ℕ) {constructed : Bool} {contents : List ℕ} {header inside : ℕ} →
       octets ≡ x ++ rest → (g : GroupKind) → Encoding x Universal constructed (group_tag g) contents header →
-      BlocksFaultAt contents e inside → BlockFaultAt place octets e (header + inside)
+      BlocksFaultAt contents e inside → BlockFaultAt offset octets e (header + inside)

@@ -52,14 +52,14 @@ pub record Frame : Type 0 where
   pub extent : Extent
   pub trees : List (Tree ℕ)
 
--- the contents octets up to a place are the trees, with n headers
-pub record IsReadTo (octets : List ℕ) (f : Frame) (place n : ℕ) : Type 0 where
-  pub from : f.extent.start ≤ place
-  pub to : place ≤ f.extent.end
+-- the contents octets up to an offset are the trees, with n headers
+pub record IsReadTo (octets : List ℕ) (f : Frame) (reached n : ℕ) : Type 0 where
+  pub from : f.extent.start ≤ reached
+  pub to : reached ≤ f.extent.end
   pub within : f.extent.end ≤ length octets
-  pub encoded : EncodesAll f.extent.start (slice_range octets f.extent.start place)
+  pub encoded : EncodesAll f.extent.start (slice_range octets f.extent.start reached)
       (trees_of f.trees)
-  pub begun : HeadersBegun (slice_range octets f.extent.start place) n
+  pub begun : HeadersBegun (slice_range octets f.extent.start reached) n
 
 -- a SEQUENCE or SET at the offset has these contents octets
 pub record IsGroupAt (octets : List ℕ) (g : GroupKind) (offset start end : ℕ) : Type 0 where
@@ -83,47 +83,47 @@ pub record IsDocumentFrame (octets : List ℕ) (f : Frame) : Type 0 where
   pub start : f.extent.start ≡ 0
   pub end : f.extent.end ≡ length octets
 
--- a frame is read up to the place inside another one, which is read up to the offset of its header. So n headers were
--- begun: those before it, its own, and those inside
-pub record IsInside (octets : List ℕ) (f g : Frame) (Around : ℕ → ℕ → Type 0) (place n : ℕ) : Type 0
+-- a frame is read up to the offset reached inside another one, which is read up to the offset of its header. So n
+-- headers were begun: those before it, its own, and those inside
+pub record IsInside (octets : List ℕ) (f g : Frame) (Around : ℕ → ℕ → Type 0) (reached n : ℕ) : Type 0
   where
     pub offset : ℕ
     pub before : ℕ
     pub own : ℕ
     pub headed : IsHeaded octets f.extent.kind offset f.extent.start f.extent.end
     pub after : offset < f.extent.start
-    pub fits : f.extent.end ≤ g.extent.end
-    pub read : IsReadTo octets f place own
+    pub ends_within : f.extent.end ≤ g.extent.end
+    pub read : IsReadTo octets f reached own
     pub around : Around offset before
     pub total : n ≡ before + (1 + own)
 
--- the outermost frame is read up to the place
-pub record IsOfDocument (octets : List ℕ) (f : Frame) (place n : ℕ) : Type 0 where
+-- the outermost frame is read up to the offset reached
+pub record IsOfDocument (octets : List ℕ) (f : Frame) (reached n : ℕ) : Type 0 where
   pub whole : IsDocumentFrame octets f
-  pub read : IsReadTo octets f place n
+  pub read : IsReadTo octets f reached n
 
--- the frames lie in one another, the innermost first; all is read up to the place, with n headers
+-- the frames lie in one another, the innermost first; all is read up to the offset reached, with n headers
 abbrev pub AreOpen : List ℕ → Frame → List Frame → ℕ → ℕ → Type 0
-AreOpen octets f [] place n = IsOfDocument octets f place n
-AreOpen octets f (g ∷ gs) place n = IsInside octets f g (λ o b. AreOpen octets g gs o b) place n
+AreOpen octets f [] reached n = IsOfDocument octets f reached n
+AreOpen octets f (g ∷ gs) reached n = IsInside octets f g (λ o b. AreOpen octets g gs o b) reached n
 
--- the block at the place is at fault, and the innermost block at fault begins at the offset
-pub record StopsAt (octets : List ℕ) (f : Frame) (place : ℕ) (e : DecodeFault) (offset n : ℕ)
+-- the block at the offset reached is at fault, and the innermost block at fault begins at the offset
+pub record StopsAt (octets : List ℕ) (f : Frame) (reached : ℕ) (e : DecodeFault) (offset n : ℕ)
     : Type 0 where
-  pub here : place < f.extent.end
+  pub here : reached < f.extent.end
   pub inside : ℕ
   pub stops :
-      BlockFaultAt (place - f.extent.start) (slice_range octets place f.extent.end) e inside
-  pub innermost : offset ≡ place + inside
-  pub begun : HeadersBegun (slice_range octets place f.extent.end) n
+      BlockFaultAt (reached - f.extent.start) (slice_range octets reached f.extent.end) e inside
+  pub innermost : offset ≡ reached + inside
+  pub begun : HeadersBegun (slice_range octets reached f.extent.end) n
 
--- the block at some place of the innermost frame is at fault, the innermost block at fault begins at the offset, and n
+-- the block at some offset of the innermost frame is at fault, the innermost block at fault begins at the offset, and n
 -- headers were begun
 pub record IsStopping (octets : List ℕ) (f : Frame) (gs : List Frame) (e : DecodeFault)
     (offset n : ℕ) : Type 0 where
-  pub place : ℕ
+  pub reached : ℕ
   pub before : ℕ
   pub own : ℕ
-  pub opened : AreOpen octets f gs place before
-  pub stops : StopsAt octets f place e offset own
+  pub opened : AreOpen octets f gs reached before
+  pub stops : StopsAt octets f reached e offset own
   pub total : n ≡ before + own

@@ -27,6 +27,6 @@ abbrev pub after_all : List ℕ → List Owed → List (Tree ℕ) → List (Tree
 after_all octets [] s = s
 after_all octets (e ∷ es) s = after_all octets es (after octets e s)
 
--- what is owed leaves what stands there, and puts these trees at its end
+-- what is owed leaves what stands there, and pushes these trees at its end
 abbrev pub Leads : List ℕ → List Owed → List (Tree ℕ) → Type 0
 Leads octets es ts = (s : List (Tree ℕ)) → after_all octets es s ≡ s ++ ts

@@ -109,14 +109,14 @@ frames [] rest = []
 frames (f ∷ fs) [] = []
 frames (f ∷ fs) (ts ∷ rest) = frame f ts ∷ frames fs rest
 
--- the frames are open and all is read up to the place; n headers were begun
+-- the frames are open and all is read up to the offset reached; n headers were begun
 pub record Reads {B I : Type 0} (Holds : Holding B I) (octets : List ℕ)
-    (b : B) (f : OpenFrame I) (gs : List (OpenFrame I)) (place n : ℕ) : Type 0 where
+    (b : B) (f : OpenFrame I) (gs : List (OpenFrame I)) (reached n : ℕ) : Type 0 where
   pub trees : List (Tree ℕ)
   pub outer : List (List (Tree ℕ))
   pub matched : length gs ≡ length outer
   pub holds : Holds octets b (f ∷ gs) (trees ∷ outer)
-  pub opened : AreOpen octets (frame f trees) (frames gs outer) place n
+  pub opened : AreOpen octets (frame f trees) (frames gs outer) reached n
 
 abbrev pub IsReading : {B I : Type 0} → Holding B I → List ℕ → Reader B I → ℕ → Type 0
 IsReading Holds octets r n = Reads Holds octets r.builder r.inner (reverse r.outer.items) r.index n

@@ -54,13 +54,13 @@ pub record IsOwed (a : TreeBuilder) (i : FrameBlocks) (e : Owed) (r : TreeBuilde
   pub first : j.first ≡ i.first
   pub owed : r.owed.items ≡ a.owed.items ++ e ∷ []
 
--- a block was put there, in one way or the other
-abbrev pub IsPut : TreeBuilder → FrameBlocks → ASN1Block → TreeBuilder → FrameBlocks → Type 0
-IsPut a i b r j = IsPushed a i b r j ⊎ IsOwed a i (Ready b) r j
+-- a block was added, in one way or the other
+abbrev pub IsAdded : TreeBuilder → FrameBlocks → ASN1Block → TreeBuilder → FrameBlocks → Type 0
+IsAdded a i b r j = IsPushed a i b r j ⊎ IsOwed a i (Ready b) r j
 
--- an encoding that stays as it came was put there, as a block or owed
+-- an encoding that stays as it came was added, as a block or owed
 abbrev pub IsKept : List ℕ → TreeBuilder → FrameBlocks → Attempt → ℕ → ℕ → TreeBuilder → FrameBlocks
     → Type 0
 IsKept octets a i k start end r j =
-    ((b : ASN1Block) × (view b ≡ as_it_came octets k start end) × IsPut a i b r j)
+    ((b : ASN1Block) × (view b ≡ as_it_came octets k start end) × IsAdded a i b r j)
     ⊎ IsOwed a i (Kept k start end) r j

@@ -134,14 +134,14 @@ point_ascii text a = elim (list_any (λ c. c == 46) text) as (λ b. IsAscii (if 
       (IsAscii-cons 46 (drop 14 text) (omega arith) (IsAscii-drop text 14 a))
 ]
 
-zeros_put_ascii : (text : List ℕ) → IsAscii text → IsAscii (with_zeros text)
-zeros_put_ascii text a =
+zeros_after_ascii : (text : List ℕ) → IsAscii text → IsAscii (with_zeros text)
+zeros_after_ascii text a =
     let last = length text - 1 in
     let z = IsAscii-append (replicate (25 - length text) 48) (drop last text) (zeros_ascii (25 - length text)) (IsAscii-drop text last a) in
     IsAscii-append (take last text) (replicate (25 - length text) 48 ++ drop last text) (IsAscii-take text last a) z
 
 pub longer_form_utf8 : (text : List ℕ) → list_all is_ascii text ≡ true → IsUtf8 (with_zeros (with_point text))
-longer_form_utf8 text e = IsUtf8-from_ascii (with_zeros (with_point text)) (zeros_put_ascii (with_point text) (point_ascii text (ascii_all text e)))
+longer_form_utf8 text e = IsUtf8-from_ascii (with_zeros (with_point text)) (zeros_after_ascii (with_point text) (point_ascii text (ascii_all text e)))
 
 -- the faults of at least 15 octets
 pub fault_not_utf8 : (contents : List ℕ) → 15 ≤ length contents → (IsUtf8 contents → ⊥) → utf8_fault contents ≡ generalized_time_fault contents

@@ -60,17 +60,17 @@ pub fn size(bits: usize, octets: &[u8]) -> Result<usize, ASN1EncodeErr>
     Ok(1 + octets.len())
 }
 
-pub fn put<S: Sink>(bits: usize, octets: &[u8], out: &mut S)
+pub fn push<S: Sink>(bits: usize, octets: &[u8], out: &mut S)
     requires room { length (bit_string_contents bits octets.now) ≤ S.room out.old }
     requires writable { bit_string_write_fault bits octets.now ≡ None }
-    ensures { S.puts out.old (bit_string_contents bits octets.now) out.new }
+    ensures { S.pushes out.old (bit_string_contents bits octets.now) out.new }
 {
     if bits == 0 {
         return;
     }
     let unused = 8 * octets.len() as u128 - bits as u128;
-    out.put_one(unused as u8);
-    out.put(octets);
+    out.push_octet(unused as u8);
+    out.push_octets(octets);
 }
 
 // Whether the bits are read back as they are, once they are written.

@@ -23,11 +23,11 @@ pub fn size(_value: bool) -> usize
     1
 }
 
-pub fn put<S: Sink>(value: bool, out: &mut S)
+pub fn push<S: Sink>(value: bool, out: &mut S)
     requires { length (boolean_contents value) ≤ S.room out.old }
-    ensures { S.puts out.old (boolean_contents value) out.new }
+    ensures { S.pushes out.old (boolean_contents value) out.new }
 {
-    out.put_one(if value { 0xFF } else { 0 });
+    out.push_octet(if value { 0xFF } else { 0 });
 }
 
 // Whether contents octets are found to be those that are written of what they mean.

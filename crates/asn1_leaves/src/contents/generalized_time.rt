@@ -206,28 +206,28 @@ fn fraction_size(nanosecond: u32) -> usize
 }
 
 // Puts the contents octets.
-pub fn put<S: Sink>(d: &DateTime, out: &mut S)
+pub fn push<S: Sink>(d: &DateTime, out: &mut S)
     requires room { length (generalized_time_contents (moment_of d.now)) ≤ S.room out.old }
     requires writable { moment_write_fault (moment_of d.now) ≡ None }
-    ensures { S.puts out.old (generalized_time_contents (moment_of d.now)) out.new }
+    ensures { S.pushes out.old (generalized_time_contents (moment_of d.now)) out.new }
 {
-    out.put(&second_octets(d));
-    put_fraction(nanosecond(d), out);
-    out.put_one(b'Z');
+    out.push_octets(&second_octets(d));
+    push_fraction(nanosecond(d), out);
+    out.push_octet(b'Z');
 }
 
 // Puts the fraction, if there is one.
-fn put_fraction<S: Sink>(nanosecond: u32, out: &mut S)
+fn push_fraction<S: Sink>(nanosecond: u32, out: &mut S)
     requires small { nanosecond < 1000000000 }
     requires room { length (written_fraction nanosecond) ≤ S.room out.old }
-    ensures { S.puts out.old (written_fraction nanosecond) out.new }
+    ensures { S.pushes out.old (written_fraction nanosecond) out.new }
 {
     if nanosecond == 0 {
         return;
     }
     let (digits, count) = fraction_octets(nanosecond);
-    out.put_one(b'.');
-    out.put(&digits[..count]);
+    out.push_octet(b'.');
+    out.push_octets(&digits[..count]);
 }
 
 fn second_octets(d: &DateTime) -> [u8; 14]
@@ -294,6 +294,6 @@ fn are_written(d: &DateTime, octets: &[u8]) -> bool
         rest: octets,
         same: true,
     };
-    put(d, &mut comparison);
+    push(d, &mut comparison);
     comparison.same
 }

@@ -22,11 +22,11 @@ pub fn size(n: &BigInt) -> usize
     n.octets().len()
 }
 
-pub fn put<S: Sink>(n: &BigInt, out: &mut S)
+pub fn push<S: Sink>(n: &BigInt, out: &mut S)
     requires { length (integer_contents n.now) ≤ S.room out.old }
-    ensures { S.puts out.old (integer_contents n.now) out.new }
+    ensures { S.pushes out.old (integer_contents n.now) out.new }
 {
-    out.put(n.octets());
+    out.push_octets(n.octets());
 }
 
 // Whether contents octets are found to be those that are written of what they mean.

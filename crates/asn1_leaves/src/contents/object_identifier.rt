@@ -150,28 +150,28 @@ pub fn size(components: &[BigUint]) -> Result<usize, ASN1EncodeErr>
     }
 }
 
-// Puts the subidentifiers.
-fn put_subidentifiers<S: Sink>(components: &[BigUint], out: &mut S)
+// Pushes the subidentifiers in their shortest form.
+fn push_shortest<S: Sink>(components: &[BigUint], out: &mut S)
     requires { length (flat_map shortest_base128 components.now) ≤ S.room out.old }
-    ensures { S.puts out.old (flat_map shortest_base128 components.now) out.new }
+    ensures { S.pushes out.old (flat_map shortest_base128 components.now) out.new }
 {
     for component in components {
-        component.put_base128(out);
+        component.push_base128(out);
     }
 }
 
-pub fn put<S: Sink>(components: &[BigUint], out: &mut S)
+pub fn push<S: Sink>(components: &[BigUint], out: &mut S)
     requires room { length (object_identifier_contents components.now) ≤ S.room out.old }
     requires writable { object_identifier_write_fault components.now ≡ None }
-    ensures { S.puts out.old (object_identifier_contents components.now) out.new }
+    ensures { S.pushes out.old (object_identifier_contents components.now) out.new }
 {
     let octet = match first_octet(components) {
         Ok(octet) => octet,
         Err(_) => unreachable!(),
     };
-    out.put_one(octet);
+    out.push_octet(octet);
     let (_, rest) = components.split_at(2);
-    put_subidentifiers(rest, out);
+    push_shortest(rest, out);
 }
 
 // Whether the components are read back as they are, once they are written.

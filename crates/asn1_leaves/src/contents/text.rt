@@ -179,29 +179,29 @@ fn character_count(text: &str) -> Result<usize, ASN1EncodeErr>
     Ok(count)
 }
 
-pub fn put<S: Sink>(form: TextForm, text: &str, out: &mut S)
+pub fn push<S: Sink>(form: TextForm, text: &str, out: &mut S)
     requires room { length (text_contents form (chars text.now)) ≤ S.room out.old }
     requires writable { text_write_fault form (chars text.now) ≡ None }
-    ensures { S.puts out.old (text_contents form (chars text.now)) out.new }
+    ensures { S.pushes out.old (text_contents form (chars text.now)) out.new }
 {
     match form {
-        TextForm::Utf8 => out.put(text.as_bytes()),
-        TextForm::Printable | TextForm::Octets => put_characters(text, out),
+        TextForm::Utf8 => out.push_octets(text.as_bytes()),
+        TextForm::Printable | TextForm::Octets => push_characters(text, out),
     }
 }
 
 // Puts the numbers of the characters, each as an octet.
-fn put_characters<S: Sink>(text: &str, out: &mut S)
+fn push_characters<S: Sink>(text: &str, out: &mut S)
     requires room { length (chars text.now) ≤ S.room out.old }
     requires writable { octet_write_fault (chars text.now) ≡ None }
-    ensures { S.puts out.old (chars text.now) out.new }
+    ensures { S.pushes out.old (chars text.now) out.new }
 {
     if text.is_ascii() {
-        out.put(text.as_bytes());
+        out.push_octets(text.as_bytes());
         return;
     }
     for c in text.chars() {
-        out.put_one(c as u8);
+        out.push_octet(c as u8);
     }
 }
 

@@ -94,12 +94,12 @@ pub fn size(d: &DateTime) -> Result<usize, ASN1EncodeErr>
 }
 
 // Puts the contents octets.
-pub fn put<S: Sink>(d: &DateTime, out: &mut S)
+pub fn push<S: Sink>(d: &DateTime, out: &mut S)
     requires room { length (utc_time_contents (moment_of d.now)) ≤ S.room out.old }
     requires writable { moment_write_fault (moment_of d.now) ≡ None }
-    ensures { S.puts out.old (utc_time_contents (moment_of d.now)) out.new }
+    ensures { S.pushes out.old (utc_time_contents (moment_of d.now)) out.new }
 {
-    out.put(&octets(d));
+    out.push_octets(&octets(d));
 }
 
 fn octets(d: &DateTime) -> [u8; 13]

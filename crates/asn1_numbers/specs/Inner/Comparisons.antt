@@ -1,4 +1,4 @@
--- Octets that are compared with those that are put.
+-- Octets that are compared with those that are pushed.
 use Rattle.std.specs.Prelude.{◌≡◌, ◌↔◌, ℕ, ◌+◌, ◌≤◌, ◌++◌, ◌∷◌, List, [], length, IsTrue}
 use Rattle.std.proofs.Common.{refl, sym, ap, ◌∙◌, arith, append_assoc, length-append}
 use Rattle.asn1_numbers.specs.declared.sink.Comparison.{Comparison}

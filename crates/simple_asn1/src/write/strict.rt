@@ -29,7 +29,7 @@ ghost use Rattle.asn1_headers.specs.declared.error.ASN1DecodeErr.TheVariants.{Ou
 
 use crate::write::in_place::are_canonical_in_place;
 use crate::write::measure::measure;
-use crate::write::put::put_all;
+use crate::write::push::push_all;
 use asn1_blocks::block::ASN1Block;
 use asn1_blocks::document::Document;
 use asn1_headers::error::{ASN1DecodeErr, ASN1EncodeErr};
@@ -155,6 +155,6 @@ fn are_canonical(alloc: Global, blocks: &[ASN1Block], octets: &[u8]) -> Result<b
         rest: octets,
         same: true,
     };
-    put_all(&list, &mut comparison);
+    push_all(&list, &mut comparison);
     Ok(comparison.same)
 }

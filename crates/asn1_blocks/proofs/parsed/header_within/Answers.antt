@@ -7,22 +7,22 @@ use Rattle.asn1_blocks.proofs.parsed.header_within.Goals as goal
 
 pub returns-then-announced-rest-clause-refused : goal.returns-then-announced-rest-clause-refused
 returns-then-announced-rest-clause-refused c =
-    let rest = slice_range c.args.octets.now c.args.place c.args.end in
+    let rest = slice_range c.args.octets.now c.args.offset c.args.end in
     let h = c.in_ok-header.header in
-    let place = c.args.place - c.args.start in
-    let before = place + h.size in
+    let offset = c.args.offset - c.args.start in
+    let before = offset + h.size in
     elim (cases_lt (before + h.announced) (2 ^ 64)) [
       | inl near ↦
-          inr (subst (HeaderFault place rest) (sym (c.too_long.ensures.near near))
-          (long_at rest h.size h.announced h.class h.constructed h.tag c.in_ok-header.ensures.found before place refl near
+          inr (subst (HeaderFault offset rest) (sym (c.too_long.ensures.near near))
+          (long_at rest h.size h.announced h.class h.constructed h.tag c.in_ok-header.ensures.found before offset refl near
           (omega (arith, c.if-announced-rest.true))))
       | inr far ↦
-          inr (subst (HeaderFault place rest) (sym (c.too_long.ensures.far far))
-          (far_at rest h.size h.announced h.class h.constructed h.tag c.in_ok-header.ensures.found before place refl far))
+          inr (subst (HeaderFault offset rest) (sym (c.too_long.ensures.far far))
+          (far_at rest h.size h.announced h.class h.constructed h.tag c.in_ok-header.ensures.found before offset refl far))
     ]
 
 pub returns-clause-found : goal.returns-clause-found
 returns-clause-found c =
     let h = c.in_ok-header.header in
-    placed c.args.octets.now c.args.place c.args.end h.size h.announced h.class h.constructed h.tag c.in_ok-header.ensures.found
+    placed c.args.octets.now c.args.offset c.args.end h.size h.announced h.class h.constructed h.tag c.in_ok-header.ensures.found
     (omega (arith, c.requires.more)) (omega (arith, c.requires.within)) (omega (arith, c.if-announced-rest.false))

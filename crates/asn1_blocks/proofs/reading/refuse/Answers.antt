@@ -4,7 +4,7 @@ use Rattle.asn1_blocks.specs.Inner.OpenFrames.{attempt_of}
 use Rattle.asn1_blocks.proofs.Reader.Stopping.{
   attempt_is,
   can_be_kept,
-  fits,
+  ends_within,
   kept_goes_on,
   refused_outermost,
   refused_pop,
@@ -35,7 +35,7 @@ loop-parent-preserved g c =
               arith,
               before.nearer,
               taken_nearer (length octets) r.inner k c.in-Some.parent r.outer.items after.items own is,
-              fits g.B.Builder.holds octets r.builder k h after _ r.index n c.requires.small taken,
+              ends_within g.B.Builder.holds octets r.builder k h after _ r.index n c.requires.small taken,
             );
           };
     }

@@ -17,9 +17,9 @@ returns-in_err-tag-clause-none c =
     ])
 
 pub returns-in_err-tag-clause-fault : goal.returns-in_err-tag-clause-fault
-returns-in_err-tag-clause-fault c place =
+returns-in_err-tag-clause-fault c offset =
     let p = err_from_is_err_and c.from_residual.result c.from_residual.ensures.1 in
-    rw (p.1, p.2) (identifier_missed place c.args.octets.now c.in_err-tag.field-0.0 c.in_err-tag.ensures.refused)
+    rw (p.1, p.2) (identifier_missed offset c.args.octets.now c.in_err-tag.field-0.0 c.in_err-tag.ensures.refused)
 
 pub returns-in_err-announced-clause-none : goal.returns-in_err-announced-clause-none
 returns-in_err-announced-clause-none c =
@@ -29,11 +29,11 @@ returns-in_err-announced-clause-none c =
     (found.class, found.constructed, found.ensures.found.2) (rw (sym c.split_at.ensures.back) c.in_err-announced.ensures.refused)))
 
 pub returns-in_err-announced-clause-fault : goal.returns-in_err-announced-clause-fault
-returns-in_err-announced-clause-fault c place =
+returns-in_err-announced-clause-fault c offset =
     let octets = c.args.octets.now in
     let found = c.in_ok-tag in
     let p = err_from_is_err_and c.from_residual-in_err-announced.result c.from_residual-in_err-announced.ensures.1 in
-    rw (p.1, p.2) (inr (length_missed place octets (take found.identifier octets) (drop found.identifier octets) found.class
+    rw (p.1, p.2) (inr (length_missed offset octets (take found.identifier octets) (drop found.identifier octets) found.class
     found.constructed found.tag (fault_of c.in_err-announced.field-0.0) found.ensures.found.2
     (sym (take-append-drop found.identifier octets)) (rw (sym c.split_at.ensures.back) c.in_err-announced.ensures.refused)
     (rw (sym c.split_at.ensures.back) c.in_err-announced.ensures.fault)))

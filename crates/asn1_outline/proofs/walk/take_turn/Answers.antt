@@ -38,7 +38,7 @@ fail-requires c =
       | inl memory ↦ record { failed = inl memory }
       | inr fault ↦ record {
         failed = inr (record {
-          place = w.index;
+          reached = w.index;
           front = w.builder.entries.items;
           more = [];
           whole = sym (append-nil w.builder.entries.items);

@@ -3,14 +3,14 @@ use Rattle.simple_asn1.specs.Inner.WriteWalk.{all_own_octets, first_own_fault, m
 use Rattle.simple_asn1.proofs.WriteSteps.{fault_order, own_order}
 use Rattle.simple_asn1.proofs.write.write_all.Goals as goal
 
-pub put_all-requires-clause-room : goal.put_all-requires-clause-room
-put_all-requires-clause-room c =
+pub push_all-requires-clause-room : goal.push_all-requires-clause-room
+push_all-requires-clause-room c =
     let e = ap (λ z. all_own_octets (measured_blocks z)) c.deref.ensures.value ∙
     own_order (measured_blocks c.in_ok-list.list.items) c.args.blocks.now c.in_ok-list.ensures.ordered in
     omega (arith, ap length e, c.in_ok-list.ensures.size, c.in_ok-octets.ensures.len, c.in_ok-octets.ensures.capacity)
 
-pub put_all-requires-clause-writable : goal.put_all-requires-clause-writable
-put_all-requires-clause-writable c =
+pub push_all-requires-clause-writable : goal.push_all-requires-clause-writable
+push_all-requires-clause-writable c =
     ap (λ z. first_own_fault (measured_blocks z)) c.deref.ensures.value
     ∙ (fault_order (measured_blocks c.in_ok-list.list.items) c.args.blocks.now c.in_ok-list.ensures.ordered ∙ c.in_ok-list.ensures.writable)
 
@@ -18,4 +18,4 @@ pub returns-clause-encoded : goal.returns-clause-encoded
 returns-clause-encoded c =
     let e = ap (λ z. all_own_octets (measured_blocks z)) c.deref.ensures.value ∙
     own_order (measured_blocks c.in_ok-list.list.items) c.args.blocks.now c.in_ok-list.ensures.ordered in
-    c.put_all.ensures.0 ∙ (ap (λ z. z ++ all_own_octets (measured_blocks c.deref.result.now)) c.in_ok-octets.ensures.items ∙ e)
+    c.push_all.ensures.0 ∙ (ap (λ z. z ++ all_own_octets (measured_blocks c.deref.result.now)) c.in_ok-octets.ensures.items ∙ e)

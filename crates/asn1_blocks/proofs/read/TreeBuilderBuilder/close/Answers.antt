@@ -1,7 +1,7 @@
 use Rattle.std.proofs.Common.{◌≡◌, ℕ, zero, suc, ◌+◌, length, refl, arith}
 use Rattle.std.proofs.lemmas.Grind.{common_steps}
 use Rattle.asn1_blocks.specs.Inner.ReaderSteps.{in_frame}
-use Rattle.asn1_blocks.proofs.TreeBuilding.Ending.{explicit_owed, explicit_put, group_owed, group_put, if_ok, kept_ended}
+use Rattle.asn1_blocks.proofs.TreeBuilding.Ending.{explicit_owed, explicit_pushed, group_owed, group_pushed, if_ok, kept_ended}
 use Rattle.asn1_blocks.proofs.read.TreeBuilderBuilder.close.Goals as goal
 use Rattle.asn1_blocks.proofs.read.TreeBuilderBuilder.close.Goals.{
   else-owed_count-eq1-via-then-owed_count-eq1+else-len-eq0,
@@ -18,10 +18,10 @@ returns-then-owed_count-ne0 c =
 
 pub returns-else-owed_count-ne0 : goal.returns-else-owed_count-ne0
 returns-else-owed_count-ne0 c =
-    if_ok c.put.result
-    (group_put c.args.octets.now c.args.self.now c.put.new.self c.args.parent.now c.put.new.items (in_frame c.args.extent c.args.items) c.args.depth
+    if_ok c.push_block.result
+    (group_pushed c.args.octets.now c.args.self.now c.push_block.new.self c.args.parent.now c.push_block.new.items (in_frame c.args.extent c.args.items) c.args.depth
     c.args.self.now refl c.in-Group.group c.in-Group.offset c.group_block.result c.in-Group.is c.if-owed_count-ne0.false c.group_block.ensures)
-    c.put.ensures
+    c.push_block.ensures
 
 pub returns-then-len-eq0 : goal.returns-then-len-eq0
 returns-then-len-eq0 c =
@@ -34,10 +34,10 @@ returns-then-len-eq0 c =
 pub returns-then-len-eq1 : goal.returns-then-len-eq1
 returns-then-len-eq1 c =
     let (item, one, means) = c.in_ok-block-in-Attempt.ensures in
-    if_ok c.put-then-len-eq1.result
-    (explicit_put c.args.octets.now c.args.self.now c.put-then-len-eq1.new.self c.args.parent.now c.put-then-len-eq1.new.items
+    if_ok c.push_block-then-len-eq1.result
+    (explicit_pushed c.args.octets.now c.args.self.now c.push_block-then-len-eq1.new.self c.args.parent.now c.push_block-then-len-eq1.new.items
     (in_frame c.args.extent c.args.items) c.args.depth (record { owed = c.args.self.now.owed; outermost = c.leave-inside.new.outermost }) refl
-    c.in-Attempt.attempt c.in_ok-block-in-Attempt.block item c.in-Attempt.is c.if-owed_count-eq0.true one means) c.put-then-len-eq1.ensures
+    c.in-Attempt.attempt c.in_ok-block-in-Attempt.block item c.in-Attempt.is c.if-owed_count-eq0.true one means) c.push_block-then-len-eq1.ensures
 
 -- one item or none, either way
 two_ways : (a b : ℕ) → (b ≡ 1 → a ≡ 0 → ⊥) → (b ≡ 0 → a ≡ 1 → ⊥) → a + b ≡ 1 → ⊥
@@ -58,7 +58,7 @@ returns-else-owed_count-eq0 c =
       | else-owed_count-eq0-via-then-owed_count-eq0+else-len-eq1 u ↦ grind (arith, common_steps)
       | else-owed_count-eq0-via-else-owed_count-eq0 u ↦ grind (arith, common_steps)
     ] in
-    if_ok c.put_as_it_came.result
-    (kept_ended c.args.octets.now c.args.self.now c.put_as_it_came.new.self c.args.parent.now c.put_as_it_came.new.items (in_frame c.args.extent c.args.items)
+    if_ok c.push_as_it_came.result
+    (kept_ended c.args.octets.now c.args.self.now c.push_as_it_came.new.self c.args.parent.now c.push_as_it_came.new.items (in_frame c.args.extent c.args.items)
     c.args.depth (record { owed = c.truncate.new.self; outermost = c.leave-inside.new.outermost }) c.in-Attempt.attempt c.in-Attempt.is
-    c.truncate.ensures.items (two_ways (length k.first) k.owed_count e1 e0)) c.put_as_it_came.ensures
+    c.truncate.ensures.items (two_ways (length k.first) k.owed_count e1 e0)) c.push_as_it_came.ensures

@@ -2,7 +2,7 @@ use Rattle.std.proofs.Common.{◌-◌, inl, inr, refl}
 use Rattle.std.proofs.lemmas.Result.{err_from_is_err_and}
 use Rattle.std.specs.List.{slice_range}
 use Rattle.asn1_blocks.specs.View.{view}
-use Rattle.asn1_blocks.proofs.TreeBuilding.Adding.{put_more}
+use Rattle.asn1_blocks.proofs.TreeBuilding.Adding.{push_more}
 use Rattle.asn1_blocks.proofs.read.TreeBuilderBuilder.leaf.Goals as goal
 
 pub returns : goal.returns
@@ -17,7 +17,7 @@ returns c =
         encoded = c.in_ok-block.ensures.encoded (slice_range octets c.args.offset h.end) (h.start - c.args.offset) found.encoding;
         more = record {
           holds = λ e fs ts rest depth w.
-              put_more octets c.args.self.now c.put.new.self c.args.items.now c.put.new.items e fs ts rest block c.in_ok-put.ensures w;
+              push_more octets c.args.self.now c.push_block.new.self c.args.items.now c.push_block.new.items e fs ts rest block c.in_ok-push_block.ensures w;
         };
       };
       refused = tt;

@@ -7,14 +7,14 @@ use Rattle.simple_asn1.proofs.WriteSteps.{fault_order, own_order}
 use Rattle.simple_asn1.proofs.Strict.{compared_whole}
 use Rattle.simple_asn1.proofs.write.strict.are_canonical.Goals as goal
 
-pub put_all-requires-clause-room : goal.put_all-requires-clause-room
-put_all-requires-clause-room c =
+pub push_all-requires-clause-room : goal.push_all-requires-clause-room
+push_all-requires-clause-room c =
     let e = ap (λ z. all_own_octets (measured_blocks z)) c.deref.ensures.value ∙
     own_order (measured_blocks c.in-Ok.measured.0.items) c.args.blocks.now c.in-Ok.ensures.ordered in
     omega (arith, ap length e, c.in-Ok.ensures.size, c.if-size-octets.false)
 
-pub put_all-requires-clause-writable : goal.put_all-requires-clause-writable
-put_all-requires-clause-writable c =
+pub push_all-requires-clause-writable : goal.push_all-requires-clause-writable
+push_all-requires-clause-writable c =
     ap (λ z. first_own_fault (measured_blocks z)) c.deref.ensures.value
     ∙ (fault_order (measured_blocks c.in-Ok.measured.0.items) c.args.blocks.now c.in-Ok.ensures.ordered ∙ c.in-Ok.ensures.writable)
 
@@ -24,5 +24,5 @@ returns-clause-are c =
     ap (λ z. all_own_octets (measured_blocks z)) c.deref.ensures.value ∙
     own_order (measured_blocks c.in-Ok.measured.0.items) c.args.blocks.now c.in-Ok.ensures.ordered in
     let whole : Comparison = record { rest = c.args.octets; same = true } in
-    let w = compared_whole whole c.put_all.new.out _ c.put_all.ensures (omega (arith, ap length e, c.in-Ok.ensures.size, c.if-size-octets.false)) refl in
+    let w = compared_whole whole c.push_all.new.out _ c.push_all.ensures (omega (arith, ap length e, c.in-Ok.ensures.size, c.if-size-octets.false)) refl in
     (λ h. w.0 h ∙ e, λ h. w.1 (h ∙ sym e))

@@ -1,0 +1,4 @@
+use Rattle.asn1_headers.proofs.header.+push_big_endian.Given as goal
+
+abbrev pub decreases-push_big_endian : goal.decreases-push_big_endian
+decreases-push_big_endian g l = l.n

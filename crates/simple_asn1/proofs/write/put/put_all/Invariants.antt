@@ -1,7 +1,0 @@
-use Rattle.std.proofs.Common.{take}
-use Rattle.simple_asn1.specs.Inner.WriteWalk.{all_own_octets, measured_blocks}
-use Rattle.simple_asn1.proofs.write.put.put_all.Given as goal
-
--- the octets of the blocks up to the place were put
-abbrev pub invariant-loop-m : goal.invariant-loop-m
-invariant-loop-m g l = g.S.Sink.puts l.fn.out (all_own_octets (measured_blocks (take l.m-index l.list))) l.out
