@@ -16,9 +16,9 @@ use thiserror::Error;
 pub enum Form {
     /// Objects of PEM, which [`next_object`] takes.
     Pem,
-    /// Text that spells these octets, in hex digits or in base 64.
+    /// Text that spells these octets, in hex digits or in base64.
     Spelled(Vec<u8>),
-    /// Hex digits, of which one is left over.
+    /// An odd number of hex digits.
     OddDigits,
     /// Any other text of printed characters of ASCII, or of white space.
     Text,
@@ -83,7 +83,7 @@ pub enum FormFault {
     /// Memory ran out.
     #[error("out of memory")]
     OutOfMemory,
-    /// It is hex digits, of which one is left over.
+    /// An odd number of hex digits.
     #[error("odd number of hex digits")]
     OddDigits,
     /// It is text in no form that is known.

@@ -1,4 +1,4 @@
-//! The forms in which documents come: as they are, in PEM, in hex digits or in base 64.
+//! The forms in which documents come: as they are, in PEM, in hex digits or in base64.
 //!
 //! [`form_of`] tells what an input is, by its octets alone. Of PEM, [`next_object`] takes one object after another;
 //! [`document_of`] is for programs that want one document.

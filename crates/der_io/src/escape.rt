@@ -17,8 +17,8 @@ ghost use Rattle.der_io.specs.Escaped.{
 use std::alloc::{AllocError, Global};
 use std::str;
 
-/// The text that the octets are, with what is no printed character escaped; of octets that are no UTF-8, each past
-/// ASCII. A terminal that shows it obeys none of its characters.
+/// The text of the octets, with control and other unprintable characters escaped; of octets that are not UTF-8, each
+/// above 7F. A terminal that shows it obeys none of its characters.
 ///
 /// # Errors
 /// Memory ran out.

@@ -41,8 +41,8 @@ const CHUNK: usize = 8192;
 /// All that the reader has left, which is kept in memory.
 ///
 /// # Errors
-/// `Read` where a read fails, whatever its fault: one that was interrupted is not tried again. So too after `u64::MAX`
-/// reads with no end. `Memory` where memory for what was read is refused.
+/// `Read` if a read fails (an interrupted one is not tried again), or after `u64::MAX` reads. `Memory` if memory runs
+/// out.
 pub fn read_all<R: Read>(alloc: Global, r: &mut R) -> Result<Vec<u8>, StreamFault>
     ensures bytes { IfOk result (λ input. IfSome (R.remaining r.old) (λ bytes. input.items ≡ bytes)) }
     ensures read { OnOk result (IsAtEnd (R.remaining r.new)) }
@@ -126,8 +126,7 @@ pub fn fault_text(fault: &StreamFault) -> &'static str
     }
 }
 
-/// The first line, and what stands after its end. A line is ended by octet 0A, and the last one perhaps by the end of
-/// the input.
+/// The first line and the rest. Octet 0A ends a line; the last line may lack it.
 pub fn split_line(input: &[u8]) -> (&[u8], &[u8])
     requires { 0 < length input.now }
     ensures first { lines_of input.now ≡ result.0.now ∷ lines_of result.1.now }

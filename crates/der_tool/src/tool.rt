@@ -17,10 +17,9 @@ pub type ToolFault = StreamFault;
 
 /// Reads all of `r`, and writes the answer to each line to `w`.
 ///
-/// Octet 0A ends a line; the last line may end with the input. It is a document in hex digits of
-/// either case. Its answer is a line: `ok` and the canonical octets in upper-case hex; `refused`, the fault's name, and
-/// its number if it has one; or `badhex`, where it isn't an even number of hex digits. The whole input and the whole
-/// output are kept in memory.
+/// Octet 0A ends a line; the last line may lack it. A line is a document in hex digits of either case. Its answer is a
+/// line: `ok` and the canonical octets in upper-case hex; `refused`, the fault's name, and its number if it has one; or
+/// `badhex`, where it isn't an even number of hex digits. The whole input and the whole output are kept in memory.
 ///
 /// # Errors
 /// `Read` and `Memory`, after which nothing was written; `Write`, after which nothing is known of what was.
