@@ -1,5 +1,5 @@
 // Documents into entries, straight from their octets: no block is made.
-ghost use Rattle.std.specs.Prelude.{◌≡◌, ◌+◌, ◌⊎◌, ◌++◌, ◌^◌, ◌<◌, ◌≤◌, ◌∷◌, [], ℕ, IfErr, IfOk, MatchResult, OnOk, length, suc, take};
+ghost use Rattle.std.specs.Prelude.{◌≡◌, ◌+◌, ◌⊎◌, ◌++◌, ◌^◌, ◌<◌, ◌≤◌, ◌∷◌, [], ℕ, IfErr, IfOk, MatchResult, OnOk, length, suc, take, vec_capacity, vec_len};
 ghost use Rattle.asn1_headers.specs.Fault.{OutOfMemoryOr};
 ghost use Rattle.asn1_headers.specs.declared.error.ASN1DecodeErr.TheVariants.{OutOfMemory};
 ghost use Rattle.asn1_blocks.specs.Grammar.{FirstFaultAt, IsDocument};
@@ -19,7 +19,7 @@ use asn1_headers::header::HeaderCount;
 use asn1_numbers::number::big_uint::BigUint;
 use std::alloc::{AllocError, Global};
 
-// Of so many octets at most it is guessed how many blocks they hold: one for 16, as in certificates.
+// Of so many octets at most it is guessed how many blocks they hold: one for 8, which few certificates have more than.
 const RESERVED: usize = 4096;
 
 // The entries of a document.
@@ -36,13 +36,12 @@ pub fn list(alloc: Global, octets: &[u8], count: &mut HeaderCount) -> Result<Vec
     ensures grown { count.old ≤ count.new }
     ensures bounded { count.new ≤ count.old + length octets.now }
 {
-    let Ok(entries) = Vec::with_capacity(alloc, octets.len().min(RESERVED) / 16) else {
+    let Ok(builder) = EntryBuilder::with_room(alloc, octets.len()) else {
         return Err(LocatedErr {
             error: ASN1DecodeErr::OutOfMemory,
             offset: 0,
         });
     };
-    let builder = EntryBuilder { entries };
     let items = EntryItems { entry: 0, count: 0 };
     match read_into(alloc, octets, builder, items, count) {
         Ok((builder, _)) => Ok(builder.entries),
@@ -93,7 +92,7 @@ impl Builder for EntryBuilder {
     ) -> Result<EntryItems, AllocError> {
         let entry = self.entries.len();
         let block = started(octets, header, offset, entry, depth);
-        self.push(block)?;
+        self.push(block, octets.len())?;
         Ok(EntryItems { entry, count: 0 })
     }
 
@@ -109,7 +108,7 @@ impl Builder for EntryBuilder {
     ) -> Result<(), ASN1DecodeErr> {
         let block = started(octets, &header, offset, self.entries.len(), depth);
         check_contents(alloc, &header, &octets[header.start..header.end])?;
-        self.push(block)?;
+        self.push(block, octets.len())?;
         Ok(items.add()?)
     }
 
@@ -143,12 +142,51 @@ impl Builder for EntryBuilder {
 }
 
 impl EntryBuilder {
+    // No entries, with room for some of a document of this size.
+    pub fn with_room(alloc: Global, size: usize) -> Result<EntryBuilder, AllocError>
+        ensures { IfOk result (λ builder. builder.entries.items ≡ []) }
+    {
+        let entries = Vec::with_capacity(alloc, size.min(RESERVED) / 8)?;
+        Ok(EntryBuilder { entries })
+    }
+
+    // Adds an entry of a document of this size.
     #[inline(always)]
-    pub fn push(&mut self, block: Entry) -> Result<(), AllocError>
+    pub fn push(&mut self, block: Entry, size: usize) -> Result<(), AllocError>
         ensures { OnOk result (self.new.entries.items ≡ self.old.entries.items ++ block ∷ []) }
     {
-        self.entries.push(block)?;
+        self.make_room(block.offset, size)?;
+        self.entries.push_reserved(block);
         Ok(())
+    }
+
+    // Makes room for one entry more, of a block at the offset in a document of this size.
+    #[inline(always)]
+    fn make_room(&mut self, offset: usize, size: usize) -> Result<(), AllocError>
+        ensures items { self.new.entries.items ≡ self.old.entries.items }
+        ensures room { OnOk result (vec_len self.new.entries < vec_capacity self.new.entries) }
+    {
+        if self.entries.len() < self.entries.capacity() {
+            return Ok(());
+        }
+        self.grow(offset, size)
+    }
+
+    // The same where there is none: for as many blocks in the rest of the document as in what was read, and an eighth
+    // more. So a long list is moved once, and not each time that it has doubled.
+    #[cold]
+    #[inline(never)]
+    fn grow(&mut self, offset: usize, size: usize) -> Result<(), AllocError>
+        ensures items { self.new.entries.items ≡ self.old.entries.items }
+        ensures room { OnOk result (vec_len self.new.entries < vec_capacity self.new.entries) }
+    {
+        let each = (offset / self.entries.len().max(1)).max(1);
+        let rest = size.saturating_sub(offset) / each;
+        let guess = rest.saturating_add(rest / 8).saturating_add(1);
+        match self.entries.reserve(guess) {
+            Ok(()) => Ok(()),
+            Err(_) => self.entries.reserve(1),
+        }
     }
 
     // The entry of a frame holds its blocks, whose entries are all those after it.

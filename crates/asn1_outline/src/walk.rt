@@ -52,6 +52,12 @@ pub fn list_headers(alloc: Global, octets: &[u8]) -> Result<Vec<Entry>, LocatedE
             offset: 0,
         });
     }
+    let Ok(builder) = EntryBuilder::with_room(alloc, octets.len()) else {
+        return Err(LocatedErr {
+            error: ASN1DecodeErr::OutOfMemory,
+            offset: 0,
+        });
+    };
     let mut walk = Walk {
         inner: Frame {
             start: 0,
@@ -61,9 +67,7 @@ pub fn list_headers(alloc: Global, octets: &[u8]) -> Result<Vec<Entry>, LocatedE
         },
         outer: Vec::new(alloc),
         index: 0,
-        builder: EntryBuilder {
-            entries: Vec::new(alloc),
-        },
+        builder,
     };
     'turns: loop {
         match take_turn(alloc, octets, &mut walk) {
@@ -120,15 +124,15 @@ fn contents_of(header: &PlacedHeader) -> Contents
 }
 
 // Takes the encoding with the header, at the offset reached.
-fn take(_octets: &[u8], walk: &mut Walk, header: PlacedHeader) -> Result<(), AllocError>
-    requires walking { IsWalking _octets.now walk.old }
-    requires found { HeaderFound _octets.now walk.old.index walk.old.inner.end header }
-    ensures { OnOk result (GoesOn _octets.now walk.new
-        (left (length _octets.now) walk.old.index walk.old.outer.items)) }
+fn take(octets: &[u8], walk: &mut Walk, header: PlacedHeader) -> Result<(), AllocError>
+    requires walking { IsWalking octets.now walk.old }
+    requires found { HeaderFound octets.now walk.old.index walk.old.inner.end header }
+    ensures { OnOk result (GoesOn octets.now walk.new
+        (left (length octets.now) walk.old.index walk.old.outer.items)) }
 {
     let entry = walk.builder.entries.len();
     let block = begun(&header, walk.index, entry, walk.outer.len());
-    walk.builder.push(block)?;
+    walk.builder.push(block, octets.len())?;
     match contents_of(&header) {
         Contents::Leaf => {
             walk.inner.items.add()?;

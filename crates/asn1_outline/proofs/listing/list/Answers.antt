@@ -6,7 +6,7 @@ use Rattle.asn1_outline.proofs.listing.list.Goals as goal
 pub read_into-requires-clause-empty : goal.read_into-requires-clause-empty
 read_into-requires-clause-empty c = (
   refl,
-  subst (λ z. AreOfTrees c.args.octets.now 0 0 [] z) (sym c.in-Ok.ensures.items)
+  subst (λ z. AreOfTrees c.args.octets.now 0 0 [] z) (sym c.in-Ok.ensures)
       (record { nodes = []; trees = refl; structure = tt; entries = tt }),
 )
 

@@ -15,7 +15,7 @@ returns-in-Leaf c =
     let block = c.begun-block.ensures
     ∙ ap (λ z. shape_entry w.index c.args.header 0 (suc z) c.len.result) n
     ∙ ap (λ z. shape_entry w.index c.args.header 0 (suc (length rs)) z) d in
-    leaf_taken c.args._octets.now w c.args.header c.push.new.self c.add.new.self c.requires.walking c.requires.found (not_read c.in-Leaf.ensures)
+    leaf_taken c.args.octets.now w c.args.header c.push.new.self c.add.new.self c.requires.walking c.requires.found (not_read c.in-Leaf.ensures)
     (c.in_ok-push.ensures ∙ ap (λ z. rs ++ z ∷ []) block) c.in_ok-add-in-Leaf.ensures
 
 pub returns-in-Items : goal.returns-in-Items
@@ -28,7 +28,7 @@ returns-in-Items c =
     ∙ ap (λ z. shape_entry w.index c.args.header 0 (suc z) c.len.result) n
     ∙ ap (λ z. shape_entry w.index c.args.header 0 (suc (length rs)) z) d in
     if_ok c.enter.result
-    (frame_entered c.args._octets.now w c.args.header c.push.new.self c.len-entry.result false c.enter.new.walk c.requires.walking c.requires.found
+    (frame_entered c.args.octets.now w c.args.header c.push.new.self c.len-entry.result false c.enter.new.walk c.requires.walking c.requires.found
     c.in-Items.ensures.1 (λ is. absurd (false≢true is)) (λ is. c.in-Items.ensures.0) n (c.in_ok-push.ensures ∙ ap (λ z. rs ++ z ∷ []) block))
     c.enter.ensures
 
@@ -42,7 +42,7 @@ returns c =
     ∙ ap (λ z. shape_entry w.index c.args.header 0 (suc z) c.len.result) n
     ∙ ap (λ z. shape_entry w.index c.args.header 0 (suc (length rs)) z) d in
     if_ok c.enter-in-Attempt.result
-    (frame_entered c.args._octets.now w c.args.header c.push.new.self c.len-entry.result true c.enter-in-Attempt.new.walk c.requires.walking
+    (frame_entered c.args.octets.now w c.args.header c.push.new.self c.len-entry.result true c.enter-in-Attempt.new.walk c.requires.walking
     c.requires.found c.in-Attempt.ensures.1 (λ is. c.in-Attempt.ensures.0) (λ is. absurd (false≢true (sym is))) n
     (c.in_ok-push.ensures ∙ ap (λ z. rs ++ z ∷ []) block))
     c.enter-in-Attempt.ensures
