@@ -17,7 +17,7 @@ use crate::encoding::encoding_count;
 use crate::held::HeldBlocks;
 use crate::owed::{Owed, build, explicit_block, group_block, kept_block};
 use crate::parsed::PlacedHeader;
-use crate::reading::{Attempt, Builder, Extent, FrameKind, read_into};
+use crate::reading::{Attempt, Builder, Extent, FrameKind, out_of_memory, read_into};
 use asn1_headers::error::{ASN1DecodeErr, LocatedErr};
 use asn1_headers::header::{ASN1Class, HeaderCount};
 use std::alloc::{AllocError, Global};
@@ -187,15 +187,6 @@ fn read_blocks(
             Err(_) => Err(out_of_memory(i.len())),
         },
         Err(located) => Err(located),
-    }
-}
-
-fn out_of_memory(offset: usize) -> LocatedErr
-    ensures { result.error ≡ OutOfMemory }
-{
-    LocatedErr {
-        error: ASN1DecodeErr::OutOfMemory,
-        offset,
     }
 }
 

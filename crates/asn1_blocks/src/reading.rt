@@ -123,18 +123,18 @@ pub trait Builder: Drop {
 
 // The innermost frame, those around it, the offset reached, and what is built.
 #[derive(Drop)]
-struct Reader<B, I> {
-    inner: OpenFrame<I>,
-    outer: Vec<OpenFrame<I>>,
-    index: usize,
-    builder: B,
+pub struct Reader<B, I> {
+    pub inner: OpenFrame<I>,
+    pub outer: Vec<OpenFrame<I>>,
+    pub index: usize,
+    pub builder: B,
     // Why reading stopped.
-    fault: ASN1DecodeErr,
+    pub fault: ASN1DecodeErr,
 }
 
 // Where a turn leads: there is more to read, the document has ended, or the reader has a fault.
 #[derive(Clone, Copy)]
-enum Turn {
+pub enum Turn {
     More,
     End,
     Stop,
@@ -267,7 +267,16 @@ fn fail<B: Builder>(
     refuse(alloc, octets, reader, e)
 }
 
-fn is_out_of_memory(e: &ASN1DecodeErr) -> bool
+pub fn out_of_memory(offset: usize) -> LocatedErr
+    ensures { result.error ≡ OutOfMemory }
+{
+    LocatedErr {
+        error: ASN1DecodeErr::OutOfMemory,
+        offset,
+    }
+}
+
+pub fn is_out_of_memory(e: &ASN1DecodeErr) -> bool
     ensures { IsTrue result ↔ (e.now ≡ OutOfMemory) }
 {
     matches!(e, ASN1DecodeErr::OutOfMemory)
@@ -311,7 +320,7 @@ fn read_next<B: Builder>(
 
 // Whether the contents octets are read as blocks.
 #[inline(always)]
-fn is_read_inside(header: &PlacedHeader) -> bool
+pub fn is_read_inside(header: &PlacedHeader) -> bool
     ensures { IsTrue result ↔ IsReadInside header.now.class header.now.constructed header.now.tag }
 {
     match header.class {
@@ -322,7 +331,7 @@ fn is_read_inside(header: &PlacedHeader) -> bool
 
 // The frame of contents octets that are read as blocks, in an encoding at the offset.
 #[inline(always)]
-fn kind_of(header: PlacedHeader, offset: usize) -> FrameKind
+pub fn kind_of(header: PlacedHeader, offset: usize) -> FrameKind
     requires { IsReadInside header.class header.constructed header.tag }
     ensures { IsKindOf result header offset }
 {
@@ -338,7 +347,7 @@ fn kind_of(header: PlacedHeader, offset: usize) -> FrameKind
 
 // Goes on inside a new frame, the innermost from now on.
 #[inline(always)]
-fn enter<B, I: Drop>(reader: &mut Reader<B, I>, frame: OpenFrame<I>) -> Result<(), AllocError>
+pub fn enter<B, I: Drop>(reader: &mut Reader<B, I>, frame: OpenFrame<I>) -> Result<(), AllocError>
     ensures { OnOk result (IsEntered reader.old frame reader.new) }
 {
     reader.outer.reserve(1)?;
@@ -412,7 +421,7 @@ fn refuse<B: Builder>(
 
 // Whether a fault inside the frame ends there.
 #[inline(always)]
-fn is_attempt(kind: &FrameKind) -> bool
+pub fn is_attempt(kind: &FrameKind) -> bool
     ensures { result ≡ is_some (attempt_of kind.now) }
 {
     matches!(kind, FrameKind::Attempt(_))

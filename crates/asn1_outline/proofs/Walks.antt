@@ -1,26 +1,44 @@
 -- The steps of a walk over headers.
-use Rattle.std.proofs.Common.{◌≡◌, ◌≢◌, ℕ, suc, ◌+◌, ◌<◌, ◌≤◌, ◌++◌, Bool, true, false, List, [], ◌∷◌, Err, Global, MatchResult, Ok, OnOk, Result, Vec, inl, inr, length, reverse, take, refl, sym, ap, ◌∙◌, subst, arith, append_assoc, append-nil, length-append}
-use Rattle.std.specs.Prelude.{IsErrAnd}
+use Rattle.std.proofs.Common.{◌≡◌, ◌≢◌, ℕ, suc, ◌+◌, ◌<◌, ◌≤◌, ◌++◌, true, List, [], ◌∷◌, Err, Global, Ok, OnOk, Result, Vec, inl, inr, is_some, length, reverse, take, refl, sym, ap, ◌∙◌, subst, arith, append_assoc, append-nil, length-append}
+use Rattle.std.proofs.lemmas.Bool.{false≢true}
 use Rattle.std.specs.declared.alloc.AllocError.{AllocError}
 use Rattle.std.proofs.lemmas.List.{length-reverse, reverse-append}
 use Rattle.asn1_headers.specs.Fault.{DecodeFault}
-use Rattle.asn1_headers.specs.declared.error.ASN1DecodeErr.TheVariants.{OutOfMemory}
-use Rattle.asn1_headers.specs.declared.error.LocatedErr.{LocatedErr}
 use Rattle.asn1_headers.specs.declared.header.ASN1Class.TheVariants.{Universal}
 use Rattle.asn1_blocks.specs.HeadersBegun.{IsReadInside}
+use Rattle.asn1_blocks.specs.Inner.OpenFrames.{IsKindOf, attempt_of}
+use Rattle.asn1_blocks.specs.Inner.ReaderSteps.{IsEntered, in_frame, left}
 use Rattle.asn1_blocks.specs.Places.{HeaderFound}
 use Rattle.asn1_blocks.specs.declared.parsed.PlacedHeader.{PlacedHeader}
+use Rattle.asn1_blocks.specs.declared.reading.FrameKind.{FrameKind}
+use Rattle.asn1_blocks.specs.declared.reading.FrameKind.TheVariants.{Whole, Group, Attempt}
+use Rattle.asn1_blocks.specs.declared.reading.OpenFrame.{OpenFrame}
+use Rattle.asn1_blocks.specs.declared.reading.Reader.{Reader}
+use Rattle.asn1_blocks.specs.declared.reading.Turn.{Turn}
 use Rattle.asn1_outline.specs.Listing.{sealed, with_items}
 use Rattle.asn1_outline.specs.Shapes.{AreShapes, HasItems, HeadersFaultAt, Shapes, as_it_came, entries_of, in_item, in_later, more_shapes, no_more, no_shapes, one_more, read_inside, shape_count, shape_entry}
-use Rattle.asn1_outline.specs.Walking.{AreOpen, GoesOn, HasTurned, IsEntered, IsFaulty, IsReadTo, IsWalking, left}
+use Rattle.asn1_outline.specs.Walking.{AreOpen, GoesOn, HasTurned, IsFaulty, IsReadTo, IsReading, Leads}
 use Rattle.asn1_outline.specs.declared.entry.Entry.{Entry}
 use Rattle.asn1_outline.specs.declared.listing.EntryBuilder.{EntryBuilder}
 use Rattle.asn1_outline.specs.declared.listing.EntryItems.{EntryItems}
-use Rattle.asn1_outline.specs.declared.walk.Frame.{Frame}
-use Rattle.asn1_outline.specs.declared.walk.Turn.{Turn}
-use Rattle.asn1_outline.specs.declared.walk.Turn.TheVariants.{More}
-use Rattle.asn1_outline.specs.declared.walk.Walk.{Walk}
 use Rattle.asn1_outline.proofs.Listed.{sealed_after, take_after}
+
+abbrev pub Framed : Type 0
+Framed = OpenFrame EntryItems
+
+abbrev pub Walk : Type 0
+Walk = Reader EntryBuilder EntryItems
+
+-- what a frame is of says whether it is an attempt
+attempt_class : (kind : FrameKind) (h : PlacedHeader) (o : ℕ) → IsKindOf kind h o → is_some (attempt_of kind) ≡ true → h.class ≢ Universal
+attempt_class Whole h o is tries = absurd is
+attempt_class (Group g at) h o is tries = absurd (false≢true tries)
+attempt_class (Attempt a) h o is tries = is.0
+
+group_class : (kind : FrameKind) (h : PlacedHeader) (o : ℕ) → IsKindOf kind h o → (is_some (attempt_of kind) ≡ true → ⊥) → h.class ≡ Universal
+group_class Whole h o is other = absurd is
+group_class (Group g at) h o is other = is.0
+group_class (Attempt a) h o is other = absurd (other refl)
 
 -- the entry of an encoding, and those of what is inside it
 abbrev pub with_inside : ℕ → PlacedHeader → Shapes → ℕ → ℕ → List Entry
@@ -62,26 +80,26 @@ read_more x s e p i d n at own h items here w f inside =
       counted = λ rest. omega (arith, w.counted (more_shapes p h items rest));
     }
 
-abbrev pub counted : Frame → Frame
+abbrev pub counted : Framed → Framed
 counted f = record f { items = record f.items { count = f.items.count + 1 } }
 
 -- the places of the innermost frame
-pub record Places (x : List ℕ) (f : Frame) (p : ℕ) : Type 0 where
-  pub from : f.start ≤ p
-  pub to : p ≤ f.end
-  pub within : f.end ≤ length x
+pub record Places (x : List ℕ) (f : Framed) (p : ℕ) : Type 0 where
+  pub from : f.extent.start ≤ p
+  pub to : p ≤ f.extent.end
+  pub within : f.extent.end ≤ length x
 
-pub places : (x : List ℕ) (f : Frame) (gs : List Frame) (p : ℕ) (rs : List Entry) → AreOpen x f gs p rs → Places x f p
+pub places : (x : List ℕ) (f : Framed) (gs : List Framed) (p : ℕ) (rs : List Entry) → AreOpen x f gs p rs → Places x f p
 places x f [] p rs w = record { from = w.read.from; to = w.read.to; within = w.read.within }
 places x f (g ∷ gs) p rs w = record { from = w.read.from; to = w.read.to; within = w.read.within }
 
 -- the innermost frame has one encoding more
-pub taken : (x : List ℕ) (f : Frame) (gs : List Frame) (p : ℕ) (rs : List Entry) (h : PlacedHeader) (items : Shapes) → AreOpen x f gs p rs
-    → HeaderFound x p f.end h → HasItems x h items → AreOpen x (counted f) gs h.end (rs ++ with_inside p h items (length rs) (length gs))
+pub taken : (x : List ℕ) (f : Framed) (gs : List Framed) (p : ℕ) (rs : List Entry) (h : PlacedHeader) (items : Shapes) → AreOpen x f gs p rs
+    → HeaderFound x p f.extent.end h → HasItems x h items → AreOpen x (counted f) gs h.end (rs ++ with_inside p h items (length rs) (length gs))
 taken x f [] p rs h items w found inside = record {
   start = w.start;
   end = w.end;
-  read = read_more x f.start f.end p 0 0 f.items.count (length rs) rs h items (omega arith) w.read found inside;
+  read = read_more x f.extent.start f.extent.end p 0 0 f.items.count (length rs) rs h items (omega arith) w.read found inside;
 }
 taken x f (g ∷ gs) p rs h items w found inside =
     let new = with_inside p h items (length rs) (length (g ∷ gs)) in
@@ -98,18 +116,17 @@ taken x f (g ∷ gs) p rs h items w found inside =
       inside = w.inside;
       start = w.start;
       end = w.end;
-      attempt = w.attempt;
-      group = w.group;
-      read = read_more x f.start f.end p (suc f.items.entry) (suc (length gs)) f.items.count (length rs) w.own h items at w.read found inside;
+      kind = w.kind;
+      read = read_more x f.extent.start f.extent.end p (suc f.items.entry) (suc (length gs)) f.items.count (length rs) w.own h items at w.read found inside;
       around = w.around;
     }
 
 -- a frame begins in it
-pub entered : (x : List ℕ) (f g : Frame) (gs : List Frame) (p : ℕ) (rs : List Entry) (h : PlacedHeader) → AreOpen x g gs p rs → HeaderFound x p g.end h
-    → IsReadInside h.class h.constructed h.tag → f.start ≡ h.start → f.end ≡ h.end → f.items.entry ≡ length rs → f.items.count ≡ 0
-    → (f.attempt ≡ true → h.class ≢ Universal) → (f.attempt ≡ false → h.class ≡ Universal)
+pub entered : (x : List ℕ) (f g : Framed) (gs : List Framed) (p : ℕ) (rs : List Entry) (h : PlacedHeader) → AreOpen x g gs p rs → HeaderFound x p g.extent.end h
+    → IsReadInside h.class h.constructed h.tag → f.extent.start ≡ h.start → f.extent.end ≡ h.end → f.items.entry ≡ length rs → f.items.count ≡ 0
+    → IsKindOf f.extent.kind h p
     → AreOpen x f (g ∷ gs) h.start (rs ++ shape_entry p h 0 (suc (length rs)) (length gs) ∷ [])
-entered x f g gs p rs h w found inside start end entry none attempt group =
+entered x f g gs p rs h w found inside start end entry none kind =
     let v = places x g gs p rs w in
     let read = read_none x h.start h.end (suc f.items.entry) (suc (length gs)) found.order (omega (arith, found.ends_within, v.within)) in
     record {
@@ -123,25 +140,24 @@ entered x f g gs p rs h w found inside start end entry none attempt group =
       inside = inside;
       start = start;
       end = end;
-      attempt = attempt;
-      group = group;
-      read = subst (λ z. IsReadTo x f.start f.end h.start (suc f.items.entry) (suc (length gs)) z []) (sym none)
-          (subst (λ z. IsReadTo x z f.end h.start (suc f.items.entry) (suc (length gs)) 0 []) (sym start)
+      kind = kind;
+      read = subst (λ z. IsReadTo x f.extent.start f.extent.end h.start (suc f.items.entry) (suc (length gs)) z []) (sym none)
+          (subst (λ z. IsReadTo x z f.extent.end h.start (suc f.items.entry) (suc (length gs)) 0 []) (sym start)
           (subst (λ z. IsReadTo x h.start z h.start (suc f.items.entry) (suc (length gs)) 0 []) (sym end) read));
       around = w;
     }
 
 -- the innermost frame ended
-pub closed : (x : List ℕ) (f g : Frame) (gs : List Frame) (p : ℕ) (rs : List Entry) → p ≡ f.end → AreOpen x f (g ∷ gs) p rs
+pub closed : (x : List ℕ) (f g : Framed) (gs : List Framed) (p : ℕ) (rs : List Entry) → p ≡ f.extent.end → AreOpen x f (g ∷ gs) p rs
     → AreOpen x (counted g) gs p (sealed rs f.items.entry f.items.count)
 closed x f g gs p rs ended w =
     let h = w.header in
     let n = f.items.count in
     let d = length gs in
     let all = w.read.and_then no_shapes in
-    let are : AreShapes x f.start f.end all = w.read.shapes no_shapes (no_more ended) in
+    let are : AreShapes x f.extent.start f.extent.end all = w.read.shapes no_shapes (no_more ended) in
     let inside : HasItems x h all = read_inside w.inside
-    (subst (λ z. AreShapes x z h.end all) w.start (subst (λ z. AreShapes x f.start z all) w.end are)) in
+    (subst (λ z. AreShapes x z h.end all) w.start (subst (λ z. AreShapes x f.extent.start z all) w.end are)) in
     let made = taken x g gs w.offset w.front h all w.around w.found inside in
     let at : AreOpen x (counted g) gs p (w.front ++ with_inside w.offset h all (length w.front) d) =
     subst (λ z. AreOpen x (counted g) gs z (w.front ++ with_inside w.offset h all (length w.front) d)) (sym w.end ∙ sym ended) made in
@@ -165,21 +181,22 @@ closed x f g gs p rs ended w =
     subst (AreOpen x (counted g) gs p) (same ∙ sym seal) at
 
 -- there is an entry of the innermost frame
-pub entry_within : (x : List ℕ) (f g : Frame) (gs : List Frame) (p : ℕ) (rs : List Entry) → AreOpen x f (g ∷ gs) p rs → f.items.entry < length rs
+pub entry_within : (x : List ℕ) (f g : Framed) (gs : List Framed) (p : ℕ) (rs : List Entry) → AreOpen x f (g ∷ gs) p rs → f.items.entry < length rs
 entry_within x f g gs p rs w =
     omega (arith, ap length w.whole, w.entry, length-append w.front (shape_entry w.offset w.header 0 (suc f.items.entry) (length gs) ∷ w.own))
 
 -- a fault in the innermost frame, an attempt, which stays as it came
-pub kept : (x : List ℕ) (f g : Frame) (gs : List Frame) (p : ℕ) (rs front more : List Entry) (fault : DecodeFault) (o : ℕ) → rs ≡ front ++ more
-    → AreOpen x f (g ∷ gs) p front → HeadersFaultAt x f.start p f.end fault o → f.attempt ≡ true
-    → AreOpen x (counted g) gs f.end (take (suc f.items.entry) rs)
+pub kept : (x : List ℕ) (f g : Framed) (gs : List Framed) (p : ℕ) (rs front more : List Entry) (fault : DecodeFault) (o : ℕ) → rs ≡ front ++ more
+    → AreOpen x f (g ∷ gs) p front → HeadersFaultAt x f.extent.start p f.extent.end fault o → is_some (attempt_of f.extent.kind) ≡ true
+    → AreOpen x (counted g) gs f.extent.end (take (suc f.items.entry) rs)
 kept x f g gs p rs front more fault o whole w q tries =
     let h = w.header in
     let d = length gs in
     let q' : HeadersFaultAt x h.start h.start h.end fault o =
-    subst (λ z. HeadersFaultAt x z z h.end fault o) w.start (subst (λ z. HeadersFaultAt x f.start f.start z fault o) w.end (w.read.fault fault o q)) in
-    let bit : h.constructed ≡ true = elim w.inside [ inl u ↦ absurd (w.attempt tries u.0) | inr u ↦ u.1 ] in
-    let made = taken x g gs w.offset w.front h no_shapes w.around w.found (as_it_came (w.attempt tries) bit q') in
+    subst (λ z. HeadersFaultAt x z z h.end fault o) w.start (subst (λ z. HeadersFaultAt x f.extent.start f.extent.start z fault o) w.end (w.read.fault fault o q)) in
+    let other : h.class ≢ Universal = attempt_class f.extent.kind h w.offset w.kind tries in
+    let bit : h.constructed ≡ true = elim w.inside [ inl u ↦ absurd (other u.0) | inr u ↦ u.1 ] in
+    let made = taken x g gs w.offset w.front h no_shapes w.around w.found (as_it_came other bit q') in
     let head = shape_entry w.offset h 0 (suc f.items.entry) d in
     let own : w.front ++ with_inside w.offset h no_shapes (length w.front) d ≡ w.front ++ head ∷ [] =
     ap (λ z. w.front ++ shape_entry w.offset h 0 z d ∷ []) (omega (arith, w.entry)) in
@@ -192,58 +209,58 @@ kept x f g gs p rs front more fault o whole w q tries =
     (subst (AreOpen x (counted g) gs h.end) (own ∙ sym cut) made)
 
 -- or a group, whose fault is one of the frame around it
-pub record IsOut (x : List ℕ) (g : Frame) (gs : List Frame) (rs : List Entry) (fault : DecodeFault) (o : ℕ) : Type 0 where
+pub record IsOut (x : List ℕ) (g : Framed) (gs : List Framed) (rs : List Entry) (fault : DecodeFault) (o : ℕ) : Type 0 where
   pub reached : ℕ
   pub front : List Entry
   pub more : List Entry
   pub whole : rs ≡ front ++ more
   pub opened : AreOpen x g gs reached front
-  pub stops : HeadersFaultAt x g.start reached g.end fault o
+  pub stops : HeadersFaultAt x g.extent.start reached g.extent.end fault o
 
-pub out : (x : List ℕ) (f g : Frame) (gs : List Frame) (p : ℕ) (rs front more : List Entry) (fault : DecodeFault) (o : ℕ) → rs ≡ front ++ more
-    → AreOpen x f (g ∷ gs) p front → HeadersFaultAt x f.start p f.end fault o → f.attempt ≡ false → IsOut x g gs rs fault o
+pub out : (x : List ℕ) (f g : Framed) (gs : List Framed) (p : ℕ) (rs front more : List Entry) (fault : DecodeFault) (o : ℕ) → rs ≡ front ++ more
+    → AreOpen x f (g ∷ gs) p front → HeadersFaultAt x f.extent.start p f.extent.end fault o → (is_some (attempt_of f.extent.kind) ≡ true → ⊥) → IsOut x g gs rs fault o
 out x f g gs p rs front more fault o whole w q group =
     let h = w.header in
     let head = shape_entry w.offset h 0 (suc f.items.entry) (length gs) in
     let q' : HeadersFaultAt x h.start h.start h.end fault o =
-    subst (λ z. HeadersFaultAt x z z h.end fault o) w.start (subst (λ z. HeadersFaultAt x f.start f.start z fault o) w.end (w.read.fault fault o q)) in
+    subst (λ z. HeadersFaultAt x z z h.end fault o) w.start (subst (λ z. HeadersFaultAt x f.extent.start f.extent.start z fault o) w.end (w.read.fault fault o q)) in
     record {
       reached = w.offset;
       front = w.front;
       more = head ∷ (w.own ++ more);
       whole = whole ∙ ap (λ z. z ++ more) w.whole ∙ append_assoc w.front (head ∷ w.own) more;
       opened = w.around;
-      stops = in_item w.found (w.group group) w.inside q';
+      stops = in_item w.found (group_class f.extent.kind h w.offset w.kind group) w.inside q';
     }
 
 -- the frame around it ends behind it
-pub end_after : (x : List ℕ) (f g : Frame) (gs : List Frame) (p : ℕ) (rs : List Entry) → AreOpen x f (g ∷ gs) p rs → f.end ≤ g.end
+pub end_after : (x : List ℕ) (f g : Framed) (gs : List Framed) (p : ℕ) (rs : List Entry) → AreOpen x f (g ∷ gs) p rs → f.extent.end ≤ g.extent.end
 end_after x f g gs p rs w = omega (arith, w.end, w.found.ends_within)
 
 -- with no frame open but the document's
-pub whole_read : (x : List ℕ) (f : Frame) (p : ℕ) (rs : List Entry) → p ≡ f.end → AreOpen x f [] p rs
+pub whole_read : (x : List ℕ) (f : Framed) (p : ℕ) (rs : List Entry) → p ≡ f.extent.end → AreOpen x f [] p rs
     → (all : Shapes) × AreShapes x 0 (length x) all × (rs ≡ entries_of 0 0 all)
 whole_read x f p rs ended w =
     let all = w.read.and_then no_shapes in
     let are = w.read.shapes no_shapes (no_more ended) in
     let own : entries_of 0 0 all ≡ rs = w.read.entries no_shapes ∙ append-nil rs in
-    (all, subst (λ z. AreShapes x z (length x) all) w.start (subst (λ z. AreShapes x f.start z all) w.end are), sym own)
+    (all, subst (λ z. AreShapes x z (length x) all) w.start (subst (λ z. AreShapes x f.extent.start z all) w.end are), sym own)
 
-pub whole_fault : (x : List ℕ) (f : Frame) (p : ℕ) (rs : List Entry) (fault : DecodeFault) (o : ℕ) → AreOpen x f [] p rs
-    → HeadersFaultAt x f.start p f.end fault o → HeadersFaultAt x 0 0 (length x) fault o
+pub whole_fault : (x : List ℕ) (f : Framed) (p : ℕ) (rs : List Entry) (fault : DecodeFault) (o : ℕ) → AreOpen x f [] p rs
+    → HeadersFaultAt x f.extent.start p f.extent.end fault o → HeadersFaultAt x 0 0 (length x) fault o
 whole_fault x f p rs fault o w q =
     subst (λ z. HeadersFaultAt x z z (length x) fault o) w.start
-    (subst (λ z. HeadersFaultAt x f.start f.start z fault o) w.end (w.read.fault fault o q))
+    (subst (λ z. HeadersFaultAt x f.extent.start f.extent.start z fault o) w.end (w.read.fault fault o q))
 
 -- the same frames, place and entries
-pub same_open : (x : List ℕ) (f f' : Frame) (gs gs' : List Frame) (p p' : ℕ) (rs rs' : List Entry) → f' ≡ f → gs' ≡ gs → p' ≡ p → rs' ≡ rs
+pub same_open : (x : List ℕ) (f f' : Framed) (gs gs' : List Framed) (p p' : ℕ) (rs rs' : List Entry) → f' ≡ f → gs' ≡ gs → p' ≡ p → rs' ≡ rs
     → AreOpen x f gs p rs → AreOpen x f' gs' p' rs'
 same_open x f f' gs gs' p p' rs rs' a b c d w =
     subst (AreOpen x f' gs' p') (sym d)
     (subst (λ z. AreOpen x f' gs' z rs) (sym c) (subst (λ z. AreOpen x f' z p rs) (sym b) (subst (λ z. AreOpen x z gs p rs) (sym a) w)))
 
 -- the last frame of a list is the first of those from the innermost on
-pub turned_round : (xs ys : List Frame) (g : Frame) → xs ≡ ys ++ g ∷ [] → reverse xs ≡ g ∷ reverse ys
+pub turned_round : (xs ys : List Framed) (g : Framed) → xs ≡ ys ++ g ∷ [] → reverse xs ≡ g ∷ reverse ys
 turned_round xs ys g e = ap reverse e ∙ reverse-append ys (g ∷ [])
 
 -- the frame's items are one more
@@ -253,12 +270,13 @@ one_item_more i = record { entry = i.entry; count = i.count + 1 }
 module _ (x : List ℕ) (w : Walk) where
   -- a leaf is taken
   pub leaf_taken :
-      (h : PlacedHeader) (b : EntryBuilder) (i : EntryItems) → IsWalking x w → HeaderFound x w.index w.inner.end h →
+      (h : PlacedHeader) (b : EntryBuilder) (i : EntryItems) → IsReading x w → HeaderFound x w.index w.inner.extent.end h →
       HasItems x h no_shapes →
       b.entries.items ≡ w.builder.entries.items
       ++ shape_entry w.index h 0 (suc (length w.builder.entries.items)) (length w.outer.items) ∷ [] →
       i ≡ one_item_more w.inner.items →
-      GoesOn x (record { inner = record w.inner { items = i }; outer = w.outer; index = h.end; builder = b }) (left (length x) w.index w.outer.items)
+      GoesOn x (record { inner = record w.inner { items = i }; outer = w.outer; index = h.end; builder = b; fault = w.fault })
+      (left (length x) w.index w.outer.items)
   leaf_taken h b i walking found inside pushed more =
       let rs = w.builder.entries.items in
       let gs = reverse w.outer.items in
@@ -269,32 +287,32 @@ module _ (x : List ℕ) (w : Walk) where
       ∙ ap (λ z. rs ++ shape_entry w.index h 0 z (length w.outer.items) ∷ []) (omega arith)
       ∙ ap (λ z. rs ++ shape_entry w.index h 0 (suc (length rs) + 0) z ∷ []) (sym (length-reverse w.outer.items)) in
       record {
-        walking = same_open x (counted w.inner) (record w.inner { items = i }) gs gs h.end h.end _ b.entries.items
+        reading = same_open x (counted w.inner) (record w.inner { items = i }) gs gs h.end h.end _ b.entries.items
             (ap (λ (z : EntryItems). record w.inner { items = z }) more) refl refl same now;
         nearer = omega (arith, found.starts_after, found.order, found.ends_within, v.within);
       }
 
   -- a frame is entered
   pub frame_entered :
-      (h : PlacedHeader) (b : EntryBuilder) (n : ℕ) (attempt : Bool) (r : Walk) → IsWalking x w → HeaderFound x w.index w.inner.end h →
-      IsReadInside h.class h.constructed h.tag → (attempt ≡ true → h.class ≢ Universal) → (attempt ≡ false → h.class ≡ Universal) →
+      (h : PlacedHeader) (b : EntryBuilder) (n : ℕ) (kind : FrameKind) (r : Walk) → IsReading x w → HeaderFound x w.index w.inner.extent.end h →
+      IsReadInside h.class h.constructed h.tag → IsKindOf kind h w.index →
       n ≡ length w.builder.entries.items →
       b.entries.items ≡ w.builder.entries.items
       ++ shape_entry w.index h 0 (suc (length w.builder.entries.items)) (length w.outer.items) ∷ [] →
-      IsEntered (record w { builder = b }) h n attempt r →
+      IsEntered (record w { builder = b }) (in_frame (record { kind = kind; start = h.start; end = h.end }) (record { entry = n; count = 0 })) r →
       GoesOn x r (left (length x) w.index w.outer.items)
-  frame_entered h b n attempt r walking found inside is_attempt is_group at pushed e =
+  frame_entered h b n kind r walking found inside is_kind at pushed e =
       let rs = w.builder.entries.items in
       let gs = reverse w.outer.items in
-      let f : Frame = record { start = h.start; end = h.end; items = record { entry = n; count = 0 }; attempt = attempt } in
+      let f : Framed = in_frame (record { kind = kind; start = h.start; end = h.end }) (record { entry = n; count = 0 }) in
       let v = places x w.inner gs w.index rs walking in
-      let now = entered x f w.inner gs w.index rs h walking found inside refl refl at refl is_attempt is_group in
+      let now = entered x f w.inner gs w.index rs h walking found inside refl refl at refl is_kind in
       let same : r.builder.entries.items ≡ rs ++ shape_entry w.index h 0 (suc (length rs)) (length gs) ∷ [] =
       ap (λ (z : EntryBuilder). z.entries.items) e.builder
       ∙ pushed
       ∙ ap (λ z. rs ++ shape_entry w.index h 0 (suc (length rs)) z ∷ []) (sym (length-reverse w.outer.items)) in
       record {
-        walking = same_open x f r.inner (w.inner ∷ gs) (reverse r.outer.items) h.start r.index _ r.builder.entries.items
+        reading = same_open x f r.inner (w.inner ∷ gs) (reverse r.outer.items) h.start r.index _ r.builder.entries.items
             e.inner (turned_round r.outer.items w.outer.items w.inner e.outer) e.index same now;
         nearer = omega (
           arith,
@@ -308,28 +326,28 @@ module _ (x : List ℕ) (w : Walk) where
         );
       }
 
-  module _ (g : Frame) (outer : Vec Frame Global) (fault : DecodeFault) (o most : ℕ) (faulty : IsFaulty x w fault o most) (popped : w.outer.items ≡ outer.items ++ g ∷ []) where
+  module _ (g : Framed) (outer : Vec Framed Global) (fault : DecodeFault) (o most : ℕ) (faulty : IsFaulty x w fault o most) (popped : w.outer.items ≡ outer.items ++ g ∷ []) where
     inside_it : AreOpen x w.inner (g ∷ reverse outer.items) faulty.reached faulty.front
     inside_it = subst (λ z. AreOpen x w.inner z faulty.reached faulty.front) (turned_round w.outer.items outer.items g popped) faulty.opened
 
     -- an attempt stays as it came
     pub faulty_kept :
-        (b : EntryBuilder) (i : EntryItems) → w.inner.attempt ≡ true →
+        (b : EntryBuilder) (i : EntryItems) → is_some (attempt_of w.inner.extent.kind) ≡ true →
         b.entries.items ≡ take (suc w.inner.items.entry) w.builder.entries.items → i ≡ one_item_more g.items →
-        GoesOn x (record { inner = record g { items = i }; outer = outer; index = w.inner.end; builder = b }) most
+        GoesOn x (record { inner = record g { items = i }; outer = outer; index = w.inner.extent.end; builder = b; fault = w.fault }) most
     faulty_kept b i tries cut more =
         let gs = reverse outer.items in
         let rs = w.builder.entries.items in
         let now = kept x w.inner g gs faulty.reached rs faulty.front faulty.more fault o faulty.whole inside_it faulty.stops tries in
         record {
-          walking = same_open x (counted g) (record g { items = i }) gs gs w.inner.end w.inner.end _ b.entries.items
+          reading = same_open x (counted g) (record g { items = i }) gs gs w.inner.extent.end w.inner.extent.end _ b.entries.items
               (ap (λ (z : EntryItems). record g { items = z }) more) refl refl cut now;
           nearer = omega (arith, faulty.nearer, ap length popped, length-append outer.items (g ∷ []));
         }
 
     -- a group hands the fault on
-    pub faulty_out : w.inner.attempt ≡ false
-        → IsFaulty x (record { inner = g; outer = outer; index = w.index; builder = w.builder }) fault o most
+    pub faulty_out : (is_some (attempt_of w.inner.extent.kind) ≡ true → ⊥)
+        → IsFaulty x (record { inner = g; outer = outer; index = w.index; builder = w.builder; fault = w.fault }) fault o most
     faulty_out group =
         let gs = reverse outer.items in
         let rs = w.builder.entries.items in
@@ -353,12 +371,7 @@ module _ (x : List ℕ) (w : Walk) where
       (subst (λ z. AreOpen x w.inner (reverse z) faulty.reached faulty.front) none faulty.opened) faulty.stops
 
   -- where a step leads
-  pub turned : (most : ℕ) (step : Result (Unit {0}) AllocError) (r : Result Turn LocatedErr)
-      → MatchResult step (λ _. r ≡ Ok More) (λ _. IsErrAnd r (λ e. e.error ≡ OutOfMemory)) → OnOk step (GoesOn x w most) → HasTurned x r w most
-  turned most (Ok u) r is on = subst (λ z. HasTurned x z w most) (sym is) on
-  turned most (Err a) (Ok t) is on = absurd is
-  turned most (Err a) (Err e) is on = inl is
-
-  pub turned_memory : (most : ℕ) (r : Result Turn LocatedErr) → IsErrAnd r (λ e. e.error ≡ OutOfMemory) → HasTurned x r w most
-  turned_memory most (Ok t) is = absurd is
-  turned_memory most (Err e) is = inl is
+  pub turned : (most : ℕ) (step : Result (Unit {0}) AllocError) (t : Turn) (r : Walk) → Leads step w t r → OnOk step (GoesOn x w most)
+      → HasTurned x t r most
+  turned most (Ok u) t r is on = subst (λ z. HasTurned x z r most) (sym is.0) (subst (λ z. GoesOn x z most) (sym is.1) on)
+  turned most (Err a) t r is on = subst (λ z. HasTurned x z r most) (sym is.0) (inl is.1)

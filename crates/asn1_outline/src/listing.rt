@@ -13,7 +13,7 @@ ghost use Rattle.asn1_outline.specs.Shapes.{shape_entry};
 use crate::entry::Entry;
 use asn1_blocks::contents::check_contents;
 use asn1_blocks::parsed::PlacedHeader;
-use asn1_blocks::reading::{Builder, Extent, read_into};
+use asn1_blocks::reading::{Builder, Extent, out_of_memory, read_into};
 use asn1_headers::error::{ASN1DecodeErr, LocatedErr};
 use asn1_headers::header::HeaderCount;
 use asn1_numbers::number::big_uint::BigUint;
@@ -37,10 +37,7 @@ pub fn list(alloc: Global, octets: &[u8], count: &mut HeaderCount) -> Result<Vec
     ensures bounded { count.new ≤ count.old + length octets.now }
 {
     let Ok(builder) = EntryBuilder::with_room(alloc, octets.len()) else {
-        return Err(LocatedErr {
-            error: ASN1DecodeErr::OutOfMemory,
-            offset: 0,
-        });
+        return Err(out_of_memory(0));
     };
     let items = EntryItems { entry: 0, count: 0 };
     match read_into(alloc, octets, builder, items, count) {

@@ -1,9 +1,10 @@
 use Rattle.std.proofs.Common.{length}
-use Rattle.asn1_outline.specs.Walking.{IsWalking, left}
+use Rattle.asn1_blocks.specs.Inner.ReaderSteps.{left}
+use Rattle.asn1_outline.specs.Walking.{IsReading}
 use Rattle.asn1_outline.proofs.walk.list_headers.Given as goal
 
 abbrev pub invariant-turns : goal.invariant-turns
-invariant-turns l = record { walking : IsWalking l.octets l.walk }
+invariant-turns l = record { reading : IsReading l.octets l.reader }
 
 abbrev pub decreases-turns : goal.decreases-turns
-decreases-turns l = left (length l.octets) l.walk.index l.walk.outer.items
+decreases-turns l = left (length l.octets) l.reader.index l.reader.outer.items

@@ -1,23 +1,34 @@
+use Rattle.std.proofs.Common.{◌≡◌, [], true, inr, is_some, arith}
+use Rattle.std.proofs.lemmas.Grind.{common_steps}
+use Rattle.asn1_blocks.specs.Inner.OpenFrames.{attempt_of}
 use Rattle.asn1_outline.proofs.Listed.{if_ok}
-use Rattle.asn1_outline.proofs.Walks.{faulty_kept, faulty_out, turned}
+use Rattle.asn1_outline.proofs.Walks.{faulty_kept, faulty_out, faulty_whole, turned}
 use Rattle.asn1_outline.proofs.walk.refuse.Goals as goal
 
-pub returns-then-frame : goal.returns-then-frame
-returns-then-frame c =
+pub returns-then-attempt : goal.returns-then-attempt
+returns-then-attempt c =
     let x = c.args._octets.now in
-    let w = c.loop-parent.walk in
+    let w = c.loop-parent.reader in
     let g = c.in-Some.parent in
-    turned x _ _ c.add.result c.turn_of.result c.turn_of.ensures
-    (if_ok c.add.result
-    (faulty_kept x w g c.pop.new.self _ _ _ c.loop-parent.invariant.faulty c.in-Some.ensures.items c.cut.new.self c.add.new.self c.if-frame.true
+    let tries : is_some (attempt_of w.inner.extent.kind) ≡ true = grind (arith, common_steps) in
+    turned x _ _ c.add-step.result c.turn_of.result c.turn_of.new.reader c.turn_of.ensures
+    (if_ok c.add-step.result
+    (faulty_kept x w g c.pop.new.self _ _ _ c.loop-parent.invariant.faulty c.in-Some.ensures.items c.cut.new.self c.add-step.new.self tries
     c.cut.ensures)
-    c.add.ensures)
+    c.add-step.ensures)
 
 pub loop-parent-preserved : goal.loop-parent-preserved
 loop-parent-preserved c =
     let x = c.args._octets.now in
-    let w = c.loop-parent.walk in
+    let w = c.loop-parent.reader in
     let g = c.in-Some.parent in
+    let group : is_some (attempt_of w.inner.extent.kind) ≡ true → ⊥ = grind (arith, common_steps) in
     record {
-      faulty = faulty_out x w g c.pop.new.self _ _ _ c.loop-parent.invariant.faulty c.in-Some.ensures.items c.if-frame.false;
+      faulty = faulty_out x w g c.pop.new.self _ _ _ c.loop-parent.invariant.faulty c.in-Some.ensures.items group;
     }
+
+pub returns : goal.returns
+returns c =
+    let w = c.loop-parent.reader in
+    let none : w.outer.items ≡ [] = grind (arith, common_steps) in
+    inr (faulty_whole c.args._octets.now w _ _ _ c.loop-parent.invariant.faulty none)

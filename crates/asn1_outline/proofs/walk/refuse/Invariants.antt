@@ -1,13 +1,14 @@
 use Rattle.std.proofs.Common.{length}
 use Rattle.asn1_headers.specs.Fault.{fault_of}
-use Rattle.asn1_outline.specs.Walking.{IsFaulty, left}
+use Rattle.asn1_blocks.specs.Inner.ReaderSteps.{left}
+use Rattle.asn1_outline.specs.Walking.{IsFaulty}
 use Rattle.asn1_outline.proofs.walk.refuse.Given as goal
 
 -- the fault has gone out of the frames that were dropped
 abbrev pub invariant-loop-parent : goal.invariant-loop-parent
 invariant-loop-parent l = record {
-  faulty : IsFaulty l._octets l.walk (fault_of l.error) l.fn.walk.index (left (length l._octets) l.fn.walk.index l.fn.walk.outer.items);
+  faulty : IsFaulty l._octets l.reader (fault_of l.error) l.reader.index (left (length l._octets) l.fn.reader.index l.fn.reader.outer.items);
 }
 
 abbrev pub decreases-loop-parent : goal.decreases-loop-parent
-decreases-loop-parent l = length l.walk.outer.items
+decreases-loop-parent l = length l.reader.outer.items

@@ -7,33 +7,33 @@ use Rattle.asn1_outline.proofs.walk.take_turn.Goals as goal
 
 pub returns-in-None : goal.returns-in-None
 returns-in-None c =
-    let w = c.args.walk.now in
+    let w = c.args.reader.now in
     let none : w.outer.items ≡ [] = grind (arith, common_steps) in
-    whole_read c.args.octets.now w.inner w.index w.builder.entries.items c.if-walk.true
-    (subst (λ z. AreOpen c.args.octets.now w.inner (reverse z) w.index w.builder.entries.items) none c.requires.walking)
+    whole_read c.args.octets.now w.inner w.index w.builder.entries.items c.if-reader.true
+    (subst (λ z. AreOpen c.args.octets.now w.inner (reverse z) w.index w.builder.entries.items) none c.requires.reading)
 
 pub header_within-requires-clause-from : goal.header_within-requires-clause-from
 header_within-requires-clause-from c =
-    let w = c.args.walk.now in
-    (places c.args.octets.now w.inner (reverse w.outer.items) w.index w.builder.entries.items c.requires.walking).from
+    let w = c.args.reader.now in
+    (places c.args.octets.now w.inner (reverse w.outer.items) w.index w.builder.entries.items c.requires.reading).from
 
 pub header_within-requires-clause-more : goal.header_within-requires-clause-more
 header_within-requires-clause-more c =
-    let w = c.args.walk.now in
-    let v = places c.args.octets.now w.inner (reverse w.outer.items) w.index w.builder.entries.items c.requires.walking in
-    let other : w.index ≢ w.inner.end = c.if-walk.false in
+    let w = c.args.reader.now in
+    let v = places c.args.octets.now w.inner (reverse w.outer.items) w.index w.builder.entries.items c.requires.reading in
+    let other : w.index ≢ w.inner.extent.end = c.if-reader.false in
     omega (arith, v.to, other)
 
 pub header_within-requires-clause-within : goal.header_within-requires-clause-within
 header_within-requires-clause-within c =
-    let w = c.args.walk.now in
-    (places c.args.octets.now w.inner (reverse w.outer.items) w.index w.builder.entries.items c.requires.walking).within
+    let w = c.args.reader.now in
+    (places c.args.octets.now w.inner (reverse w.outer.items) w.index w.builder.entries.items c.requires.reading).within
 
 pub fail-requires : goal.fail-requires
 fail-requires c =
-    let w = c.args.walk.now in
-    let v = places c.args.octets.now w.inner (reverse w.outer.items) w.index w.builder.entries.items c.requires.walking in
-    let other : w.index ≢ w.inner.end = c.if-walk.false in
+    let w = c.args.reader.now in
+    let v = places c.args.octets.now w.inner (reverse w.outer.items) w.index w.builder.entries.items c.requires.reading in
+    let other : w.index ≢ w.inner.extent.end = c.if-reader.false in
     elim c.in-Err.ensures.refused [
       | inl memory ↦ record { failed = inl memory }
       | inr fault ↦ record {
@@ -42,7 +42,7 @@ fail-requires c =
           front = w.builder.entries.items;
           more = [];
           whole = sym (append-nil w.builder.entries.items);
-          opened = c.requires.walking;
+          opened = c.requires.reading;
           stops = in_header (omega (arith, v.to, other)) fault;
           nearer = omega (arith, v.to);
         });
