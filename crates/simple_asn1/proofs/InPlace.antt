@@ -1,5 +1,5 @@
 -- Octets are canonical where each header in them is, and the contents octets of each leaf.
-use Rattle.std.proofs.Common.{◌≡◌, ◌≢◌, ℕ, ◌+◌, ◌-◌, ◌<◌, ◌≤◌, ◌^◌, Bool, true, false, List, [], ◌∷◌, ◌++◌, inl, inr, length, take, drop, get_or, refl, sym, ap, ◌∙◌, subst, ap₂, arith, length-append, append_assoc, append-nil}
+use Rattle.std.proofs.Common.{◌≡◌, ◌≢◌, ℕ, ◌+◌, ◌-◌, ◌<◌, ◌≤◌, ◌^◌, Bool, true, false, List, [], ◌∷◌, ◌++◌, ◌⊎◌, inl, inr, length, take, drop, get_or, refl, sym, ap, ◌∙◌, subst, ap₂, arith, length-append, append_assoc, append-nil}
 use Rattle.std.specs.Prelude.{All}
 use Rattle.std.proofs.Math.Seq.{drop-append_seam, take-append_seam}
 use Rattle.std.proofs.lemmas.List.{get_or_append_left, get_or_push, length-take-le, take-append-drop}
@@ -12,7 +12,8 @@ use Rattle.asn1_headers.specs.declared.front.Header.{Header}
 use Rattle.asn1_headers.specs.declared.header.ASN1Class.{ASN1Class}
 use Rattle.asn1_headers.specs.declared.header.ASN1Class.TheVariants.{Universal}
 use Rattle.asn1_headers.specs.Front.{IsAtFront}
-use Rattle.asn1_headers.specs.Header.{Encoding, IsLength, shortest_identifier, shortest_length}
+use Rattle.asn1_headers.specs.Header.{Encoding, IsLength, leading_octet, shortest_identifier, shortest_length}
+use Rattle.asn1_numbers.specs.Base128.{shortest_base128}
 use Rattle.asn1_blocks.specs.Tree.{Trees, leaf, group, explicit, unknown, no_trees, more_trees}
 use Rattle.asn1_blocks.specs.Contents.{LeafContents, group_tag, is_known_tag, leaf_contents, leaf_tag}
 use Rattle.simple_asn1.specs.Canonical.{shortest_encoding, canonical, all_canonical}
@@ -367,3 +368,26 @@ pub past_primitive : (x rest own after : List ℕ) (h : Header) → length x < 2
 past_primitive x rest own after h few f behind whole size other primitive =
     leaves x own after h.class h.constructed h.tag few (own_whole x rest own after h f behind whole size)
     (unruled h.class h.constructed h.tag own (λ u. absurd (other u)) (λ not k. false≢true (sym primitive ∙ k)))
+
+-- octets that begin with a header of class Universal in two octets
+short_whole : (x rest : List ℕ) (k : Bool) (b n m : ℕ) → n < 31 → b ≡ leading_octet Universal k n → m < 128 → x ≡ b ∷ m ∷ rest
+    → x ≡ shortest_identifier Universal k n ++ (shortest_length m ++ rest)
+short_whole x rest k b n m low is short e =
+    let ds = digits_of 256 m in
+    e ∙ (ap (λ z. z ∷ m ∷ rest) is ∙ ap₂ (λ s t. s ++ (t ++ rest))
+    (cond_below n 31 (leading_octet Universal k n ∷ []) (leading_octet Universal k 31 ∷ shortest_base128 n) low)
+    (cond_below m 128 (m ∷ []) ((128 + length ds) ∷ ds) short))
+
+pub short_group : (x rest : List ℕ) (b m : ℕ) → length x < 2 ^ 64 → m < 128 → (b ≡ 48) ⊎ (b ≡ 49) → x ≡ b ∷ m ∷ rest → LeavesBoth x [] rest
+short_group x rest b m few short is e = elim is [
+  | inl at ↦ leaves_group x rest Sequence m few (omega arith) (short_whole x rest true b 16 m (omega arith) at short e)
+  | inr at ↦ leaves_group x rest Set m few (omega arith) (short_whole x rest true b 17 m (omega arith) at short e)
+]
+
+pub short_leaf : (x own after : List ℕ) (b m : ℕ) → length x < 2 ^ 64 → b < 31 → m < 128 → length own ≡ m → x ≡ b ∷ m ∷ (own ++ after)
+    → AreCanonicalContents Universal false b own → LeavesBoth x [] after
+short_leaf x own after b m few low short size e keeps =
+    leaves x own after Universal false b few
+    (short_whole x (own ++ after) false b b m low (omega arith) short e
+    ∙ ap (λ z. shortest_identifier Universal false b ++ (shortest_length z ++ (own ++ after))) (sym size))
+    keeps

@@ -1,7 +1,7 @@
 // A quick look at whether octets that were read are canonical. It goes over the octets, header after header, and not
 // over the blocks: in a SEQUENCE or SET without a look at where it ends, since what was read has each block end where
 // the length before it says.
-ghost use Rattle.std.specs.Prelude.{◌≡◌, false, IfErr, IfOk, IfSome, IsTrue};
+ghost use Rattle.std.specs.Prelude.{◌≡◌, ◌<◌, ◌⊎◌, ◌∷◌, List, ℕ, false, IfErr, IfOk, IfSome, IsTrue};
 ghost use Rattle.asn1_headers.specs.Front.{IsAtFront};
 ghost use Rattle.simple_asn1.specs.Inner.InPlace.{AreCanonical, AreCanonicalContents, BeginsShortest, IsOfGroup, LeavesBoth};
 ghost use Rattle.asn1_headers.specs.declared.header.ASN1Class.TheVariants.{Universal};
@@ -71,9 +71,57 @@ fn are_leaf_contents_canonical(tag: u64, contents: &[u8]) -> bool
 }
 
 // Where octets begin with a header in its shortest form: octets, maybe none, that stand inside, and those that come
-// after. Those before are canonical if both are.
+// after. Those before are canonical if both are. Most headers are of class Universal, in two octets: these have code of
+// their own.
 #[inline(always)]
 fn past_header<'a>(alloc: Global, octets: &'a [u8]) -> Option<(&'a [u8], &'a [u8])>
+    ensures { IfSome result (λ x. LeavesBoth octets.now x.0.now x.1.now) }
+{
+    match octets {
+        [0x30, length, ..] if *length < 128 => past_short_group(octets, 0x30, *length),
+        [0x31, length, ..] if *length < 128 => past_short_group(octets, 0x31, *length),
+        [leading, length, ..] if *leading < 31 && *length < 128 => {
+            past_short_leaf(octets, *leading, *length)
+        }
+        _ => past_any(alloc, octets),
+    }
+}
+
+// The same where a SEQUENCE or SET has a header of two octets.
+#[inline(always)]
+fn past_short_group<'a>(octets: &'a [u8], leading: u8, length: u8) -> Option<(&'a [u8], &'a [u8])>
+    requires front { (rest : List ℕ) × (octets.now ≡ leading ∷ length ∷ rest) }
+    requires group { (leading ≡ 48) ⊎ (leading ≡ 49) }
+    requires short { length < 128 }
+    ensures { IfSome result (λ x. LeavesBoth octets.now x.0.now x.1.now) }
+{
+    let (_, rest) = octets.split_at(2);
+    Some((&[], rest))
+}
+
+// The same where a primitive encoding has one.
+#[inline(always)]
+fn past_short_leaf<'a>(octets: &'a [u8], leading: u8, length: u8) -> Option<(&'a [u8], &'a [u8])>
+    requires front { (rest : List ℕ) × (octets.now ≡ leading ∷ length ∷ rest) }
+    requires low { leading < 31 }
+    requires short { length < 128 }
+    ensures { IfSome result (λ x. LeavesBoth octets.now x.0.now x.1.now) }
+{
+    let (_, rest) = octets.split_at(2);
+    let announced = length as usize;
+    if announced > rest.len() {
+        return None;
+    }
+    let (own, after) = rest.split_at(announced);
+    if !are_leaf_contents_canonical(leading as u64, own) {
+        return None;
+    }
+    Some((&[], after))
+}
+
+// The same of any header.
+#[inline(always)]
+fn past_any<'a>(alloc: Global, octets: &'a [u8]) -> Option<(&'a [u8], &'a [u8])>
     ensures { IfSome result (λ x. LeavesBoth octets.now x.0.now x.1.now) }
 {
     let mut count = HeaderCount::new();
