@@ -1,6 +1,4 @@
-use Rattle.std.proofs.Common.{◌≡◌, ◌++◌, length, drop, sym, subst, refl, ap, ◌∙◌, arith, take}
-use Rattle.std.proofs.lemmas.Bool.{false≢true}
-use Rattle.std.proofs.lemmas.List.{take-append-drop}
+use Rattle.std.proofs.Common.{◌≡◌, ◌++◌, length, arith}
 use Rattle.std.proofs.lemmas.Grind.{common_steps}
 use Rattle.simple_asn1.proofs.InPlace.{past_constructed, past_group, past_primitive, past_universal}
 use Rattle.simple_asn1.proofs.write.in_place.past_shortest.Goals as goal
