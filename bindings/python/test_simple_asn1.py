@@ -63,7 +63,8 @@ class Reading(unittest.TestCase):
         with tempfile.TemporaryDirectory() as folder:
             with open(f"{folder}/c", "w", encoding="utf-8") as file:
                 file.write(config)
-            octets = subprocess.run([*make.split(), *written.split()], cwd=folder, check=True, capture_output=True).stdout
+            made = subprocess.run([*make.split(), *written.split()], cwd=folder, check=True, capture_output=True)
+            octets = made.stdout
         command = ["openssl", "asn1parse", "-inform", "DER"]
         listed = subprocess.run(command, input=octets, check=True, capture_output=True)
         rows = re.findall(rb"^ *(\d+):d=(\d+) +hl=(\d+) +l= *(\d+)", listed.stdout, re.M)

@@ -1,6 +1,6 @@
 """Every one of the allocations refused in turn: of each line of a stored run, or of one test.
 
-PROGRAM CRATE WORK: the program, the folder of its crate, and one for files. PROGRAM CRATE WORK TEST: a program of tests.
+PROGRAM CRATE WORK: the program, the folder of its crate, and one for files. PROGRAM CRATE WORK TEST: one of tests.
 """
 import concurrent.futures
 import os
@@ -12,7 +12,9 @@ program, crate, work = sys.argv[1:4]
 test = sys.argv[4] if len(sys.argv) > 4 else None
 name = pathlib.Path(crate).name
 # what a run ends with where memory ran out: its status, what it wrote, and what stands on standard error
-RAN_OUT = (101, b"", b"error: AllocError\nthe test failed: its result gives status 1\n") if test else (2, b"", b"out of memory\n")
+RAN_OUT = (2, b"", b"out of memory\n")
+if test:
+    RAN_OUT = (101, b"", b"error: AllocError\nthe test failed: its result gives status 1\n")
 
 
 def rows():

@@ -13,7 +13,7 @@ fn main() {
     println!("cargo:rerun-if-changed={archive}");
     if !Path::new(&archive).exists() {
         eprintln!("There is no {archive}.");
-        eprintln!("Run bindings/c/build in a checkout of simple_asn1, and set SIMPLE_ASN1_LIB to its bindings/c/out/lib.");
+        eprintln!("Run bindings/c/build in a checkout of simple_asn1; set SIMPLE_ASN1_LIB to its bindings/c/out/lib.");
         process::exit(1);
     }
     println!("cargo:rustc-link-search=native={folder}");

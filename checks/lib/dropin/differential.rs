@@ -213,7 +213,8 @@ fn number(r: &mut Random) -> BigUint {
 }
 
 fn text(r: &mut Random) -> String {
-    (0..r.below(10)).map(|_| if r.one_in(12) { r.of(&['é', 'ÿ', 'Ā', '😀']) } else { r.of(&['a', '1', '*', ' ']) }).collect()
+    let character = |_| if r.one_in(12) { r.of(&['é', 'ÿ', 'Ā', '😀']) } else { r.of(&['a', '1', '*', ' ']) };
+    (0..r.below(10)).map(character).collect()
 }
 
 fn moment(r: &mut Random) -> PrimitiveDateTime {
@@ -377,7 +378,9 @@ fn write(count: usize) {
             }
         };
         let rule = match &block {
-            dropin::ASN1Block::ObjectIdentifier(_, oid) if oid.as_raw().ok() != contents_of(&here) => "UNEXPLAINED as_raw",
+            dropin::ASN1Block::ObjectIdentifier(_, oid) if oid.as_raw().ok() != contents_of(&here) => {
+                "UNEXPLAINED as_raw"
+            }
             _ => rule,
         };
         tally.count(rule, || format!("{block:?}: {here:?}"));

@@ -1,4 +1,5 @@
-/* The records of documents beside a walker of its own, and what the other calls answer of them: certificates FILE.der .. */
+/* The records of documents beside a walker of its own, and what the other calls answer of them:
+ * certificates FILE.der .. */
 #include "documents.h"
 
 struct document {

@@ -149,7 +149,7 @@ static void check_made(void)
     CHECK(o.status == SIMPLE_ASN1_BOOLEAN_LENGTH);
 }
 
-/* Several blocks in one of another class, and none: a request's two attributes, say. One with a fault in it has none. */
+/* Several blocks in one of another class, and none: a request's two attributes, say. One with a fault has none. */
 static void check_tagged(void)
 {
     const uint8_t several[] = {0xA0, 7, 2, 0x81, 1, 5, 2, 1, 6, 0xA1, 0, 0xA2, 4, 5, 0, 2, 1, 0x80, 2, 5, 0};

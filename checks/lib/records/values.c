@@ -56,7 +56,8 @@ static void reading(void)
     CHECK(refused(simple_asn1_tag(OCTETS(0x05), 0, out, 64), SIMPLE_ASN1_NO_SUCH_VALUE, 0, 0));
 
     CHECK(fault(simple_asn1_fault(OCTETS(0x05, 0x00), out, 64), SIMPLE_ASN1_OK, 0, 0, ""));
-    CHECK(fault(simple_asn1_fault(OCTETS(0x05, 0x00, 0x01, 0x02, 0x00, 0x00), out, 64), SIMPLE_ASN1_BOOLEAN_LENGTH, 2, 2, ""));
+    CHECK(fault(simple_asn1_fault(OCTETS(0x05, 0x00, 0x01, 0x02, 0x00, 0x00), out, 64),
+                SIMPLE_ASN1_BOOLEAN_LENGTH, 2, 2, ""));
     CHECK(fault(simple_asn1_fault(OCTETS(0x04, 0x89), out, 64), SIMPLE_ASN1_LENGTH, 0, 9, ""));
     CHECK(fault(simple_asn1_fault(OCTETS(0x03, 0x02, 0x0A, 0xFF), out, 64), SIMPLE_ASN1_BIT_STRING_LENGTH, 0, 2, ""));
     CHECK(fault(simple_asn1_fault(OCTETS(0x17, 0x01, 0x41), out, 64), SIMPLE_ASN1_DATE, 0, 0, "1"));

@@ -196,8 +196,8 @@ fn moment_of(octets: &[u8], record: &Block) -> PrimitiveDateTime {
     PrimitiveDateTime::new(date, time)
 }
 
-/// Whether a SEQUENCE or SET before the block at fault is empty, outside any attempt. The blocks around the one at fault
-/// are gone through from the outermost: each is cut before it, and what comes before the cut block is read alone.
+/// Whether a SEQUENCE or SET before the block at fault is empty, outside any attempt. The blocks around the one at
+/// fault are gone through from the outermost: each is cut before it, and what comes before the cut block is read alone.
 #[cold]
 fn has_empty_group_before(octets: &[u8], fault: usize) -> bool {
     let mut start = 0;

@@ -1,7 +1,7 @@
 //! The calls and records of `simple_asn1.h`, which describes them, over the proved library `simple_asn1`.
 //!
-//! It links `libsimple_asn1.a`, from the folder `SIMPLE_ASN1_LIB` or from where `bindings/c/build` puts it. Each pointer
-//! must have as many values behind it as the number after it says, and no output may overlap an input.
+//! It links `libsimple_asn1.a`, from the folder `SIMPLE_ASN1_LIB` or from where `bindings/c/build` puts it. Each
+//! pointer must have as many values behind it as the number after it says, and no output may overlap an input.
 //!
 //! ```
 //! let octets = [0x30, 0x02, 0x05, 0x00];
@@ -120,7 +120,7 @@ extern "C" {
     pub fn simple_asn1_put_time(tag: u64, moment: *const Moment, out: *mut u8, room: usize) -> Outcome;
     pub fn simple_asn1_components(contents: *const u8, size: usize, out: *mut u64, room: usize) -> Outcome;
     pub fn simple_asn1_dotted(contents: *const u8, size: usize, out: *mut u8, room: usize) -> Outcome;
-    pub fn simple_asn1_header(octets: *const u8, size: usize, offset: usize, blocks: *mut Block, room: usize) -> Outcome;
+    pub fn simple_asn1_header(octets: *const u8, size: usize, offset: usize, block: *mut Block, room: usize) -> Outcome;
     pub fn simple_asn1_tag(octets: *const u8, size: usize, offset: usize, out: *mut u8, room: usize) -> Outcome;
     pub fn simple_asn1_fault(octets: *const u8, size: usize, out: *mut u8, room: usize) -> Fault;
     pub fn simple_asn1_raw_bits(octets: *const u8, size: usize, bits: usize, out: *mut u8, room: usize) -> Outcome;
