@@ -186,10 +186,16 @@ fn read(count: usize, certificates: &[Vec<u8>]) {
     for _ in 0..count {
         let octets = document(&mut r, certificates);
         let here = dropin::from_der(&octets);
+        // before anybody asks for the components of an object identifier
+        let written: Vec<_> = here.iter().flatten().map(dropin::to_der).collect();
         let there = original::from_der(&octets);
         // a tree with its offsets, or an error with what it says
         let shown = (format!("{here:?}"), here.as_ref().err().map(|e| e.to_string()));
-        let rule = if shown == (format!("{there:?}"), there.as_ref().err().map(|e| e.to_string())) {
+        let rule = if here.iter().flatten().zip(&written).any(|(block, octets)| rule_of(block, octets) == "UNEXPLAINED") {
+            "UNEXPLAINED as written"
+        } else if here.is_ok() && here != dropin::from_der(&octets) {
+            "UNEXPLAINED as another tree"
+        } else if shown == (format!("{there:?}"), there.as_ref().err().map(|e| e.to_string())) {
             if here.is_ok() { "the same tree" } else { "the same error" }
         } else if shown.0 == format!("{:?}", unsigned::from_der(&octets)) {
             "a signed year is not read"
@@ -213,8 +219,9 @@ fn number(r: &mut Random) -> BigUint {
 }
 
 fn text(r: &mut Random) -> String {
+    let size = r.below(10);
     let character = |_| if r.one_in(12) { r.of(&['é', 'ÿ', 'Ā', '😀']) } else { r.of(&['a', '1', '*', ' ']) };
-    (0..r.below(10)).map(character).collect()
+    (0..size).map(character).collect()
 }
 
 fn moment(r: &mut Random) -> PrimitiveDateTime {
@@ -291,19 +298,8 @@ fn same_class(class: dropin::ASN1Class) -> original::ASN1Class {
     }
 }
 
-/// A component, as `as_vec` gives it.
-struct Component(BigUint);
-
-impl TryFrom<&BigUint> for Component {
-    type Error = ();
-
-    fn try_from(number: &BigUint) -> Result<Component, ()> {
-        Ok(Component(number.clone()))
-    }
-}
-
 fn numbers(oid: &dropin::OID) -> Vec<BigUint> {
-    oid.as_vec::<Component>().unwrap().into_iter().map(|component| component.0).collect()
+    oid.as_vec::<&BigUint>().unwrap().into_iter().cloned().collect()
 }
 
 /// The same tree in the original's types.
@@ -357,31 +353,30 @@ fn first_rule(block: &dropin::ASN1Block) -> Option<Option<(&'static str, dropin:
     }
 }
 
+/// Why a block was written so.
+fn rule_of(block: &dropin::ASN1Block, here: &Result<Vec<u8>, dropin::ASN1EncodeErr>) -> &'static str {
+    match first_rule(block) {
+        Some(Some((rule, error))) if *here == Err(error.clone()) => rule,
+        Some(Some(_)) => "UNEXPLAINED",
+        rule => match (here, &original::to_der(&same_tree(block))) {
+            (Ok(here), Ok(there)) if here == there && rule.is_none() => "the same octets",
+            (Err(here), Err(there)) if format!("{here:?} {here}") == format!("{there:?} {there}") => "the same error",
+            _ => "UNEXPLAINED",
+        },
+    }
+}
+
 fn write(count: usize) {
     let mut r = Random(36243606936243607);
     let mut tally = Tally::default();
     for _ in 0..count {
         let block = tree(&mut r, 3);
         let here = dropin::to_der(&block);
-        let rule = match first_rule(&block) {
-            Some(Some((rule, error))) if here == Err(error.clone()) => rule,
-            Some(Some(_)) => "UNEXPLAINED",
-            rule => {
-                let there = original::to_der(&same_tree(&block));
-                match (&here, &there) {
-                    (Ok(here), Ok(there)) if here == there && rule.is_none() => "the same octets",
-                    (Err(here), Err(there)) if format!("{here:?} {here}") == format!("{there:?} {there}") => {
-                        "the same error"
-                    }
-                    _ => "UNEXPLAINED",
-                }
-            }
-        };
         let rule = match &block {
             dropin::ASN1Block::ObjectIdentifier(_, oid) if oid.as_raw().ok() != contents_of(&here) => {
                 "UNEXPLAINED as_raw"
             }
-            _ => rule,
+            _ => rule_of(&block, &here),
         };
         tally.count(rule, || format!("{block:?}: {here:?}"));
     }
@@ -408,20 +403,39 @@ fn nanoseconds(certificates: usize, run: impl FnOnce()) -> f64 {
     begun.elapsed().as_nanos() as f64 / certificates as f64
 }
 
+/// The components of each object identifier, which the crate over the proved library makes when they are asked for.
+fn ask(block: &dropin::ASN1Block) {
+    use dropin::ASN1Block::*;
+    match block {
+        ObjectIdentifier(_, oid) => drop(oid.as_vec::<&BigUint>()),
+        Sequence(_, items) | Set(_, items) => items.iter().for_each(ask),
+        Explicit(_, _, _, item) => ask(item),
+        _ => {}
+    }
+}
+
+fn asked(octets: &[u8]) {
+    let blocks = dropin::from_der(octets).unwrap();
+    blocks.iter().for_each(ask);
+}
+
 fn speed(rounds: usize, certificates: &[Vec<u8>]) {
     let n = certificates.len();
     let there: Vec<_> = certificates.iter().map(|octets| original::from_der(octets).unwrap()).collect();
     let here: Vec<_> = certificates.iter().map(|octets| dropin::from_der(octets).unwrap()).collect();
-    let mut ratios = [Vec::new(), Vec::new()];
+    let mut ratios = [Vec::new(), Vec::new(), Vec::new()];
     for _ in 0..rounds {
         let read_there = nanoseconds(n, || certificates.iter().for_each(|octets| drop(original::from_der(octets))));
         let read_here = nanoseconds(n, || certificates.iter().for_each(|octets| drop(dropin::from_der(octets))));
+        let asked_here = nanoseconds(n, || certificates.iter().for_each(|octets| asked(octets)));
         let write_there = nanoseconds(n, || there.iter().flatten().for_each(|block| drop(original::to_der(block))));
         let write_here = nanoseconds(n, || here.iter().flatten().for_each(|block| drop(dropin::to_der(block))));
         ratios[0].push((read_there / read_here, read_there, read_here));
-        ratios[1].push((write_there / write_here, write_there, write_here));
+        ratios[1].push((read_there / asked_here, read_there, asked_here));
+        ratios[2].push((write_there / write_here, write_there, write_here));
     }
-    for (what, mut all) in ["reading and dropping", "writing"].into_iter().zip(ratios) {
+    let whats = ["reading and dropping", "with the components of each object identifier", "writing"];
+    for (what, mut all) in whats.into_iter().zip(ratios) {
         all.sort_by(|a, b| a.0.total_cmp(&b.0));
         let (ratio, there, here) = all[rounds / 2];
         println!("{what}: {ratio:.2} times as fast as the original ({there:.0} ns, here {here:.0} ns)");
@@ -433,6 +447,7 @@ fn once(what: &str, certificates: &[Vec<u8>]) {
         match what {
             "original" => drop(original::from_der(octets)),
             "dropin" => drop(dropin::from_der(octets)),
+            "dropin-asked" => asked(octets),
             "original-write" => drop(original::to_der(&original::from_der(octets).unwrap()[0])),
             "dropin-write" => drop(dropin::to_der(&dropin::from_der(octets).unwrap()[0])),
             _ => {}

@@ -1,7 +1,7 @@
 //! Records of a tree, and the contents octets of its leaves.
 
 use crate::calls::{self, Block, Moment, Outcome};
-use crate::{ASN1Block, ASN1Class, ASN1EncodeErr, BigUint};
+use crate::{ASN1Block, ASN1Class, ASN1EncodeErr, BigUint, OID};
 use simple_asn1_sys as sys;
 use time::PrimitiveDateTime;
 
@@ -53,7 +53,7 @@ impl Records {
                 Ok(())
             }),
             ASN1Block::Null(_) => self.leaf(5, |_| Ok(())),
-            ASN1Block::ObjectIdentifier(_, oid) => self.leaf(6, |out| identifier(&oid.0, out)),
+            ASN1Block::ObjectIdentifier(_, oid) => self.leaf(6, |out| identifier(oid, out)),
             ASN1Block::UTF8String(_, text) => self.text(12, text),
             ASN1Block::PrintableString(_, text) => self.text(19, text),
             ASN1Block::TeletexString(_, text) => self.text(20, text),
@@ -179,8 +179,16 @@ fn number_of(class: ASN1Class) -> u8 {
     }
 }
 
-/// Puts the contents octets of an object identifier. If the number of a component is cut, the same ones are too large.
-pub(crate) fn identifier(components: &[BigUint], out: &mut Vec<u8>) -> Result<(), ASN1EncodeErr> {
+/// Puts the contents octets of an object identifier.
+pub(crate) fn identifier(oid: &OID, out: &mut Vec<u8>) -> Result<(), ASN1EncodeErr> {
+    match oid.contents().and_then(|contents| calls::components(contents, |few| put_numbers(few, out))) {
+        Some(put) => put,
+        None => put_components(oid.components(), out),
+    }
+}
+
+/// If the number of a component is cut, the same ones are too large.
+fn put_components(components: &[BigUint], out: &mut Vec<u8>) -> Result<(), ASN1EncodeErr> {
     let start = out.len();
     let mut is_cut = false;
     let cut = |component| {
@@ -198,15 +206,19 @@ pub(crate) fn identifier(components: &[BigUint], out: &mut Vec<u8>) -> Result<()
         many = components.iter().map(cut).collect();
         &many
     };
-    calls::raw_oid(numbers, out).map_err(|outcome| match (outcome.status, outcome.offset) {
-        (sys::NOT_OID, _) => ASN1EncodeErr::ObjectIdentHasTooFewFields,
-        (_, 0) => ASN1EncodeErr::ObjectIdentVal1TooLarge,
-        _ => ASN1EncodeErr::ObjectIdentVal2TooLarge,
-    })?;
+    put_numbers(numbers, out)?;
     if is_cut {
         out.truncate(start);
         let numerals: Vec<String> = components.iter().map(BigUint::to_string).collect();
         calls::put_oid(&numerals.join("."), out).expect("the first two components are small");
     }
     Ok(())
+}
+
+fn put_numbers(components: &[u64], out: &mut Vec<u8>) -> Result<(), ASN1EncodeErr> {
+    calls::raw_oid(components, out).map_err(|outcome| match (outcome.status, outcome.offset) {
+        (sys::NOT_OID, _) => ASN1EncodeErr::ObjectIdentHasTooFewFields,
+        (_, 0) => ASN1EncodeErr::ObjectIdentVal1TooLarge,
+        _ => ASN1EncodeErr::ObjectIdentVal2TooLarge,
+    })
 }

@@ -4,6 +4,7 @@ use simple_asn1::{
     der_decode, der_encode, from_der, oid, to_der, ASN1Block, ASN1Class, ASN1DecodeErr, ASN1EncodeErr, BigInt, BigUint,
     FromASN1, ToASN1, OID,
 };
+use std::panic::{RefUnwindSafe, UnwindSafe};
 use time::{Date, Month, PrimitiveDateTime, Time};
 use ASN1Block::*;
 
@@ -50,6 +51,44 @@ fn numbers_of_any_size_are_read_and_written() {
     assert_eq!(from_der(&octets), Ok(vec![block.clone()]));
     assert_eq!(to_der(&block), Ok(octets.clone()));
     assert_eq!(to_der(&Sequence(0, vec![Null(0), block])), Ok([&[0x30, 16, 5, 0][..], &octets].concat()));
+}
+
+#[test]
+fn identifiers_that_were_read_are_as_those_that_were_made() {
+    // the second is not in the shortest form, the last is long
+    for (contents, components) in [
+        (&[0x2A, 0x86, 0x48][..], &[1, 2, 840][..]),
+        (&[0x2A, 0x80, 5, 0x80, 0x80, 6], &[1, 2, 5, 6]),
+        (&[0x88, 0x37], &[2, 56, 55]),
+        (&[0x55; 20], &[2, 5, 85, 85, 85, 85, 85, 85, 85, 85, 85, 85, 85, 85, 85, 85, 85, 85, 85, 85, 85]),
+    ] {
+        let made = OID::new(components.iter().map(|component| BigUint::from(*component)).collect());
+        let octets = [&[6, contents.len() as u8][..], contents].concat();
+        let read = || match from_der(&octets).unwrap().pop() {
+            Some(ObjectIdentifier(0, oid)) => oid,
+            other => panic!("{other:?}"),
+        };
+        assert_eq!(read(), read());
+        assert_eq!(read(), made);
+        assert_eq!(made, read());
+        assert_eq!(&made, read());
+        assert_ne!(read(), oid!(1, 2));
+        assert_eq!(read().as_raw(), made.as_raw());
+        assert_eq!(read().as_vec::<u64>(), made.as_vec());
+        assert_eq!(format!("{:?}", read()), format!("{made:?}"));
+        let asked = read();
+        assert_eq!(asked.as_vec::<u64>().unwrap(), components);
+        assert_eq!((asked.as_raw(), &asked.clone()), (made.as_raw(), &read()));
+    }
+    // equal, though their octets are not
+    assert_eq!(from_der(&[6, 2, 0x2A, 5]), from_der(&[6, 3, 0x2A, 0x80, 5]));
+    assert_ne!(from_der(&[6, 2, 0x2A, 5]), from_der(&[6, 2, 0x2A, 6]));
+}
+
+#[test]
+fn blocks_go_from_thread_to_thread() {
+    fn can_go<T: Send + Sync + Unpin + UnwindSafe + RefUnwindSafe>() {}
+    can_go::<ASN1Block>();
 }
 
 #[test]
