@@ -38,6 +38,22 @@ static void ask_values(const uint8_t *octets, size_t size, const simple_asn1_blo
     }
 }
 
+/* The contents octets of an OBJECT IDENTIFIER in canonical form mean the same components, in no more octets. */
+static void shorten(const uint8_t *contents, size_t size)
+{
+    size_t length = simple_asn1_shortest_oid(contents, size, NULL, 0).count;
+    CHECK(0 < length && length <= size);
+    uint8_t *shortest = room_for(length);
+    CHECK(simple_asn1_shortest_oid(contents, size, shortest, length).status == SIMPLE_ASN1_OK);
+    size_t count = simple_asn1_dotted(contents, size, NULL, 0).count;
+    uint8_t *text = room_for(count), *again = room_for(count);
+    CHECK(simple_asn1_dotted(contents, size, text, count).status == SIMPLE_ASN1_OK);
+    CHECK(simple_asn1_dotted(shortest, length, again, count).count == count && memcmp(text, again, count) == 0);
+    free(shortest);
+    free(text);
+    free(again);
+}
+
 /* The canonical octets are those that the records spell, and are their own canonical octets. Several blocks in one of
  * another class are kept as they came, and spelled with the shortest headers. */
 static void rewrite(const uint8_t *octets, size_t size, const simple_asn1_block *blocks, size_t count,
@@ -89,6 +105,8 @@ int LLVMFuzzerTestOneInput(const uint8_t *octets, size_t size)
         any_tag_is_cut |= block->tag == UINT64_MAX;
         any_is_kept |= block->tag_class != 0 && block->items > 1;
         ask_values(octets, size, block);
+        if (block->tag_class == 0 && block->tag == 6)
+            shorten(simple_asn1_contents(octets, block), block->contents);
     }
     rewrite(octets, size, blocks, asked.count, any_tag_is_cut, any_is_kept);
     look_at_signed(octets, size);

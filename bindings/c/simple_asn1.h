@@ -160,9 +160,10 @@ simple_asn1_outcome simple_asn1_put_time(uint64_t tag, const simple_asn1_moment 
 /* For bindings that make values of their own of records and their contents octets.
  *
  * The components of contents octets of an OBJECT IDENTIFIER: as numbers, or RANGE if one is 2^64 or more; in decimal,
- * of any size. The error of other octets is that of reading. */
+ * of any size; as contents octets again, in canonical form. The error of other octets is that of reading. */
 simple_asn1_outcome simple_asn1_components(const uint8_t *contents, size_t size, uint64_t *out, size_t room);
 simple_asn1_outcome simple_asn1_dotted(const uint8_t *contents, size_t size, uint8_t *out, size_t room);
+simple_asn1_outcome simple_asn1_shortest_oid(const uint8_t *contents, size_t size, uint8_t *out, size_t room);
 
 /* The record of the encoding at an offset by its header alone, with items, next and depth 0; its tag number in decimal,
  * of any size. NO_SUCH_VALUE if none stands there. */

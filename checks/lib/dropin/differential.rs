@@ -403,21 +403,25 @@ fn nanoseconds(certificates: usize, run: impl FnOnce()) -> f64 {
     begun.elapsed().as_nanos() as f64 / certificates as f64
 }
 
-/// The components of each object identifier, which the crate over the proved library makes when they are asked for.
-fn ask(block: &dropin::ASN1Block) {
-    use dropin::ASN1Block::*;
-    match block {
-        ObjectIdentifier(_, oid) => drop(oid.as_vec::<&BigUint>()),
-        Sequence(_, items) | Set(_, items) => items.iter().for_each(ask),
-        Explicit(_, _, _, item) => ask(item),
-        _ => {}
-    }
+/// Reads, and asks each object identifier for its components, which the crate over the proved library makes only then.
+macro_rules! asking {
+    ($name:ident, $from:ident) => {
+        fn $name(octets: &[u8]) {
+            fn ask(block: &$from::ASN1Block) {
+                use $from::ASN1Block::*;
+                match block {
+                    ObjectIdentifier(_, oid) => drop(oid.as_vec::<&BigUint>()),
+                    Sequence(_, items) | Set(_, items) => items.iter().for_each(ask),
+                    Explicit(_, _, _, item) => ask(item),
+                    _ => {}
+                }
+            }
+            $from::from_der(octets).unwrap().iter().for_each(ask);
+        }
+    };
 }
-
-fn asked(octets: &[u8]) {
-    let blocks = dropin::from_der(octets).unwrap();
-    blocks.iter().for_each(ask);
-}
+asking!(ask_there, original);
+asking!(ask_here, dropin);
 
 fn speed(rounds: usize, certificates: &[Vec<u8>]) {
     let n = certificates.len();
@@ -427,14 +431,15 @@ fn speed(rounds: usize, certificates: &[Vec<u8>]) {
     for _ in 0..rounds {
         let read_there = nanoseconds(n, || certificates.iter().for_each(|octets| drop(original::from_der(octets))));
         let read_here = nanoseconds(n, || certificates.iter().for_each(|octets| drop(dropin::from_der(octets))));
-        let asked_here = nanoseconds(n, || certificates.iter().for_each(|octets| asked(octets)));
+        let asked_there = nanoseconds(n, || certificates.iter().for_each(|octets| ask_there(octets)));
+        let asked_here = nanoseconds(n, || certificates.iter().for_each(|octets| ask_here(octets)));
         let write_there = nanoseconds(n, || there.iter().flatten().for_each(|block| drop(original::to_der(block))));
         let write_here = nanoseconds(n, || here.iter().flatten().for_each(|block| drop(dropin::to_der(block))));
         ratios[0].push((read_there / read_here, read_there, read_here));
-        ratios[1].push((read_there / asked_here, read_there, asked_here));
+        ratios[1].push((asked_there / asked_here, asked_there, asked_here));
         ratios[2].push((write_there / write_here, write_there, write_here));
     }
-    let whats = ["reading and dropping", "with the components of each object identifier", "writing"];
+    let whats = ["reading and dropping", "asking each identifier for its components too", "writing"];
     for (what, mut all) in whats.into_iter().zip(ratios) {
         all.sort_by(|a, b| a.0.total_cmp(&b.0));
         let (ratio, there, here) = all[rounds / 2];
@@ -447,7 +452,8 @@ fn once(what: &str, certificates: &[Vec<u8>]) {
         match what {
             "original" => drop(original::from_der(octets)),
             "dropin" => drop(dropin::from_der(octets)),
-            "dropin-asked" => asked(octets),
+            "original-ask" => ask_there(octets),
+            "dropin-ask" => ask_here(octets),
             "original-write" => drop(original::to_der(&original::from_der(octets).unwrap()[0])),
             "dropin-write" => drop(dropin::to_der(&dropin::from_der(octets).unwrap()[0])),
             _ => {}

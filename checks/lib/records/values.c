@@ -45,6 +45,10 @@ static void reading(void)
     CHECK(refused(simple_asn1_components(NULL, 0, numbers, 4), SIMPLE_ASN1_INCOMPLETE, 0, 0));
     CHECK(put(simple_asn1_dotted(OCTETS(0x2A, LARGE), out, 64), "1.2.18446744073709551616", 24));
     CHECK(refused(simple_asn1_dotted(OCTETS(0x2A, 0x86), out, 64), SIMPLE_ASN1_INCOMPLETE, 0, 0));
+    CHECK(put(simple_asn1_shortest_oid(OCTETS(0x2A, 0x86, 0x48), out, 64), "\x2A\x86\x48", 3));
+    CHECK(put(simple_asn1_shortest_oid(OCTETS(0x2A, 0x80, 0x86, 0x48, 0x80, 0x05), out, 64), "\x2A\x86\x48\x05", 4));
+    CHECK(refused(simple_asn1_shortest_oid(OCTETS(0x2A, 0x86), out, 64), SIMPLE_ASN1_INCOMPLETE, 0, 0));
+    CHECK(refused(simple_asn1_shortest_oid(OCTETS(0x2A, 0x80, 0x05), out, 1), SIMPLE_ASN1_NO_ROOM, 0, 2));
 
     simple_asn1_block block;
     CHECK(refused(simple_asn1_header(OCTETS(0x30, 0x03, 0x02, 0x01, 0x05), 2, &block, 1), SIMPLE_ASN1_OK, 0, 1));

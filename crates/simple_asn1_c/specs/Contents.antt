@@ -1,7 +1,11 @@
 -- What calls answer of contents octets alone, of one header, and of a fault.
 use Rattle.std.specs.Prelude.{◌≡◌, ◌<◌, ◌^◌, ℕ, All, Bool, List, [], ◌∷◌, unsigned_abs}
 use Rattle.asn1_headers.specs.declared.header.ASN1Class.{ASN1Class}
-use Rattle.asn1_leaves.specs.Contents.ObjectIdentifier.{ObjectIdentifierContents, ObjectIdentifierFault}
+use Rattle.asn1_leaves.specs.Contents.ObjectIdentifier.{
+  ObjectIdentifierContents,
+  ObjectIdentifierFault,
+  object_identifier_contents,
+}
 use Rattle.asn1_numbers.specs.Decimal.{natural_numeral}
 use Rattle.simple_asn1.specs.DottedDecimal.{dotted_decimal}
 use Rattle.simple_asn1.specs.Fault.{
@@ -54,6 +58,13 @@ abbrev pub AnswersDotted : List ℕ → List ℕ → List ℕ → Outcome → Ty
 AnswersDotted contents before after o =
     AnswersOfComponents contents
     (λ components. ArePut (dotted_decimal components) before after o)
+    (λ status. IsNotPut status before after o)
+
+-- their contents octets, each subidentifier in its shortest form
+abbrev pub AnswersShortest : List ℕ → List ℕ → List ℕ → Outcome → Type 0
+AnswersShortest contents before after o =
+    AnswersOfComponents contents
+    (λ components. ArePut (object_identifier_contents components) before after o)
     (λ status. IsNotPut status before after o)
 
 -- the record has the header of the encoding at the offset, and says nothing of what that holds

@@ -1,12 +1,13 @@
-// The components of contents octets of an OBJECT IDENTIFIER, as numbers and in decimal.
+// The components of contents octets of an OBJECT IDENTIFIER, as numbers, in decimal and in the fewest octets.
 ghost use Rattle.std.specs.Prelude.{◌≡◌, IfOk, string_bytes};
 ghost use Rattle.simple_asn1.specs.DottedDecimal.{dotted_decimal};
-ghost use Rattle.simple_asn1_c.specs.Contents.{AnswersComponents, AnswersDotted};
+ghost use Rattle.simple_asn1_c.specs.Contents.{AnswersComponents, AnswersDotted, AnswersShortest};
 ghost use Rattle.simple_asn1_c.specs.Room.{ArePut};
 
 use crate::putting::{all_put, not_enough, nothing_put, put_octets};
 use crate::record::Outcome;
 use crate::status::{NO_MEMORY, OUT_OF_RANGE, status_of_fault};
+use asn1_leaves::contents::object_identifier::are_shortest;
 use asn1_leaves::oid;
 use simple_asn1::{ASN1DecodeErr, OID};
 use std::alloc::{AllocError, Global};
@@ -56,4 +57,28 @@ pub fn put_dotted(alloc: Global, contents: &[u8], room: &mut [u8]) -> Outcome
         Ok(text) => put_octets(text.as_bytes(), room),
         Err(AllocError) => nothing_put(NO_MEMORY, 0),
     }
+}
+
+// Puts the contents octets of those that are read.
+fn put_shortened(alloc: Global, contents: &[u8], room: &mut [u8]) -> Outcome
+    ensures { AnswersShortest contents.now room.old room.new result }
+{
+    let oid = match oid::read(alloc, contents) {
+        Ok(oid) => oid,
+        Err(e) => return nothing_put(status_of_fault(&e), 0),
+    };
+    match oid.as_raw(alloc) {
+        Ok(octets) => put_octets(&octets, room),
+        Err(_) => nothing_put(NO_MEMORY, 0),
+    }
+}
+
+// Puts their contents octets, each subidentifier in its shortest form. Those that are it take no memory.
+pub fn put_shortest(alloc: Global, contents: &[u8], room: &mut [u8]) -> Outcome
+    ensures { AnswersShortest contents.now room.old room.new result }
+{
+    if are_shortest(contents) {
+        return put_octets(contents, room);
+    }
+    put_shortened(alloc, contents, room)
 }

@@ -40,6 +40,7 @@ ghost use Rattle.simple_asn1_c.specs.Contents.{
   AnswersDotted,
   AnswersFault,
   AnswersHeader,
+  AnswersShortest,
   AnswersTag,
 };
 ghost use Rattle.simple_asn1_c.specs.Puts.{
@@ -62,7 +63,7 @@ ghost use Rattle.simple_asn1_c.specs.Raw.{
 ghost use Rattle.simple_asn1_c.specs.Values.{AnswersIdentifier, AnswersInteger, AnswersMoment, AnswersText};
 
 use crate::bits::{put_bits, put_boolean};
-use crate::components::{put_components, put_dotted};
+use crate::components::{put_components, put_dotted, put_shortest};
 use crate::encoding::{put_header, put_tag};
 use crate::fault::{FaultAnswer, fault_in};
 use crate::identifier::{identifier_at, put_identifier};
@@ -342,6 +343,19 @@ pub extern "C" fn simple_asn1_dotted(alloc: Global, contents: &[u8], room: &mut 
     ensures { AnswersDotted contents.now room.old room.new result }
 {
     put_dotted(alloc, contents, room)
+}
+
+/// Puts the contents octets of these components (X.690 8.19.2), each subidentifier in the fewest octets, as
+/// [`simple_asn1_components`] does. Contents octets that are so already take no memory.
+#[unsafe(no_mangle)]
+pub extern "C" fn simple_asn1_shortest_oid(
+    alloc: Global,
+    contents: &[u8],
+    room: &mut [u8],
+) -> Outcome
+    ensures { AnswersShortest contents.now room.old room.new result }
+{
+    put_shortest(alloc, contents, room)
 }
 
 /// Puts the record of the encoding at an offset by its header alone (X.690 8.1.1), which has no items, `next` and

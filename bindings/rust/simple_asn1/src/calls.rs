@@ -124,6 +124,13 @@ pub fn components<T>(contents: &[u8], make: impl FnOnce(&[u64]) -> T) -> Option<
     }
 }
 
+/// The contents octets of a canonical encoding of what these mean.
+pub fn shortest_oid(contents: &[u8], out: &mut Vec<u8>) -> Result<(), Outcome> {
+    append(out, contents.len(), |out, room| unsafe {
+        sys::simple_asn1_shortest_oid(contents.as_ptr(), contents.len(), out, room)
+    })
+}
+
 pub fn raw_bits(octets: &[u8], bits: usize, out: &mut Vec<u8>) -> Result<(), Outcome> {
     append(out, octets.len() + 1, |out, room| unsafe {
         sys::simple_asn1_raw_bits(octets.as_ptr(), octets.len(), bits, out, room)

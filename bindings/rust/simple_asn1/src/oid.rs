@@ -43,13 +43,11 @@ impl OID {
         OID(Origin::Read { size: contents.len() as u8, octets, components: OnceLock::new() })
     }
 
-    /// The contents octets that were read, if nobody has asked for the components.
+    /// The contents octets that it was read from.
     pub(crate) fn contents(&self) -> Option<&[u8]> {
         match &self.0 {
-            Origin::Read { size, octets, components } if components.get().is_none() => {
-                Some(&octets[..usize::from(*size)])
-            }
-            _ => None,
+            Origin::Made(_) => None,
+            Origin::Read { size, octets, .. } => Some(&octets[..usize::from(*size)]),
         }
     }
 

@@ -181,8 +181,11 @@ fn number_of(class: ASN1Class) -> u8 {
 
 /// Puts the contents octets of an object identifier.
 pub(crate) fn identifier(oid: &OID, out: &mut Vec<u8>) -> Result<(), ASN1EncodeErr> {
-    match oid.contents().and_then(|contents| calls::components(contents, |few| put_numbers(few, out))) {
-        Some(put) => put,
+    match oid.contents() {
+        Some(contents) => {
+            calls::shortest_oid(contents, out).expect("it was read");
+            Ok(())
+        }
         None => put_components(oid.components(), out),
     }
 }
@@ -206,19 +209,15 @@ fn put_components(components: &[BigUint], out: &mut Vec<u8>) -> Result<(), ASN1E
         many = components.iter().map(cut).collect();
         &many
     };
-    put_numbers(numbers, out)?;
+    calls::raw_oid(numbers, out).map_err(|outcome| match (outcome.status, outcome.offset) {
+        (sys::NOT_OID, _) => ASN1EncodeErr::ObjectIdentHasTooFewFields,
+        (_, 0) => ASN1EncodeErr::ObjectIdentVal1TooLarge,
+        _ => ASN1EncodeErr::ObjectIdentVal2TooLarge,
+    })?;
     if is_cut {
         out.truncate(start);
         let numerals: Vec<String> = components.iter().map(BigUint::to_string).collect();
         calls::put_oid(&numerals.join("."), out).expect("the first two components are small");
     }
     Ok(())
-}
-
-fn put_numbers(components: &[u64], out: &mut Vec<u8>) -> Result<(), ASN1EncodeErr> {
-    calls::raw_oid(components, out).map_err(|outcome| match (outcome.status, outcome.offset) {
-        (sys::NOT_OID, _) => ASN1EncodeErr::ObjectIdentHasTooFewFields,
-        (_, 0) => ASN1EncodeErr::ObjectIdentVal1TooLarge,
-        _ => ASN1EncodeErr::ObjectIdentVal2TooLarge,
-    })
 }

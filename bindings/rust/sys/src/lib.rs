@@ -120,6 +120,7 @@ extern "C" {
     pub fn simple_asn1_put_time(tag: u64, moment: *const Moment, out: *mut u8, room: usize) -> Outcome;
     pub fn simple_asn1_components(contents: *const u8, size: usize, out: *mut u64, room: usize) -> Outcome;
     pub fn simple_asn1_dotted(contents: *const u8, size: usize, out: *mut u8, room: usize) -> Outcome;
+    pub fn simple_asn1_shortest_oid(contents: *const u8, size: usize, out: *mut u8, room: usize) -> Outcome;
     pub fn simple_asn1_header(octets: *const u8, size: usize, offset: usize, block: *mut Block, room: usize) -> Outcome;
     pub fn simple_asn1_tag(octets: *const u8, size: usize, offset: usize, out: *mut u8, room: usize) -> Outcome;
     pub fn simple_asn1_fault(octets: *const u8, size: usize, out: *mut u8, room: usize) -> Fault;
