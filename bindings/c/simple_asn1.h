@@ -15,7 +15,7 @@
  * - Text: of UTF8String, PrintableString, TeletexString, IA5String, UniversalString and BMPString only. Other strings
  *   (NumericString, VisibleString, GeneralString ..) have none, and any contents octets.
  * - Times: those with an offset, a comma, second 60 or no seconds are rejected.
- * - A value beyond int64_t, and a component of an OBJECT IDENTIFIER beyond 128 bits, are SIMPLE_ASN1_RANGE.
+ * - An INTEGER beyond int64_t is SIMPLE_ASN1_RANGE.
  * - Other classes: a constructed block has items if its contents octets are valid blocks. Strict reading checks an item
  *   that is the only one, and no other contents octets.
  * - Strict reading accepts unused bits that are not 0, and more than 7 of them; octets of an IA5String above 7F; a SET

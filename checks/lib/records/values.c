@@ -45,6 +45,9 @@ static void reading(void)
     CHECK(refused(simple_asn1_components(NULL, 0, numbers, 4), SIMPLE_ASN1_INCOMPLETE, 0, 0));
     CHECK(put(simple_asn1_dotted(OCTETS(0x2A, LARGE), out, 64), "1.2.18446744073709551616", 24));
     CHECK(refused(simple_asn1_dotted(OCTETS(0x2A, 0x86), out, 64), SIMPLE_ASN1_INCOMPLETE, 0, 0));
+    uint8_t wide[22] = {6, 20, 0x55, 0x90}; /* 2^130 */
+    memset(wide + 4, 0x80, 17);
+    CHECK(put(simple_asn1_oid(wide, 22, 0, out, 64), "2.5.1361129467683753853853498429727072845824", 44));
     CHECK(put(simple_asn1_shortest_oid(OCTETS(0x2A, 0x86, 0x48), out, 64), "\x2A\x86\x48", 3));
     CHECK(put(simple_asn1_shortest_oid(OCTETS(0x2A, 0x80, 0x86, 0x48, 0x80, 0x05), out, 64), "\x2A\x86\x48\x05", 4));
     CHECK(refused(simple_asn1_shortest_oid(OCTETS(0x2A, 0x86), out, 64), SIMPLE_ASN1_INCOMPLETE, 0, 0));

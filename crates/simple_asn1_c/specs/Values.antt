@@ -1,5 +1,5 @@
 -- The value of the leaf at an offset.
-use Rattle.std.specs.Prelude.{◌≡◌, ◌⊎◌, ℕ, ℤ, pos, ◌<◌, ◌^◌, Bool, List, FitsSigned, IsUtf8}
+use Rattle.std.specs.Prelude.{◌≡◌, ◌⊎◌, ℕ, ℤ, pos, Bool, List, FitsSigned, IsUtf8}
 use Rattle.std.specs.Int.{w64}
 use Rattle.std.specs.Str.{chars}
 use Rattle.asn1_headers.specs.declared.header.ASN1Class.TheVariants.{Universal}
@@ -8,7 +8,6 @@ use Rattle.asn1_leaves.specs.StringKind.{StringKind}
 use Rattle.simple_asn1.specs.Contents.{string_tag}
 use Rattle.simple_asn1.specs.DottedDecimal.{dotted_decimal}
 use Rattle.simple_asn1.specs.Fault.{DecodeFault}
-use Rattle.simple_asn1.specs.FittingNumbers.{HasNotAll}
 use Rattle.simple_asn1.specs.Grammar.{IsDocument, FirstFault}
 use Rattle.simple_asn1.specs.Header.{Encoding}
 use Rattle.simple_asn1.specs.Places.{EncodingAt}
@@ -141,15 +140,11 @@ pub data AnswersText (octets : List ℕ) (offset : ℕ) (before after : List ℕ
       IsMissing ((utf8 : List ℕ) × IsTextAt octets offset utf8) IsTextTag octets offset o.status →
       o.offset ≡ offset → o.count ≡ 0 → after ≡ before → AnswersText octets offset before after o
 
--- the components in decimal, or how much room they need; that one of them is too large; or that there is none
+-- the components in decimal, of any size, or how much room they need; or that there is none
 pub data AnswersIdentifier (octets : List ℕ) (offset : ℕ) (before after : List ℕ) (o : Outcome) : Type 0 where
   identifier_was_found :
       (components : List ℕ) → IsIdentifierAt octets offset components →
       ArePut (dotted_decimal components) before after o →
-      AnswersIdentifier octets offset before after o
-  identifier_is_too_large :
-      o.status ≡ out_of_range → (components : List ℕ) → IsIdentifierAt octets offset components →
-      HasNotAll (λ n. n < 2 ^ 128) components → o.offset ≡ offset → o.count ≡ 0 → after ≡ before →
       AnswersIdentifier octets offset before after o
   identifier_is_missing :
       IsMissing ((components : List ℕ) × IsIdentifierAt octets offset components) IsIdentifierTag octets offset

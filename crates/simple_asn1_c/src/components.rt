@@ -39,7 +39,7 @@ pub fn put_components(alloc: Global, contents: &[u8], room: &mut [u64]) -> Outco
 }
 
 // The text of an object identifier.
-fn dotted_of(alloc: Global, oid: &OID) -> Result<String, AllocError>
+pub fn dotted_of(alloc: Global, oid: &OID) -> Result<String, AllocError>
     ensures { IfOk result (λ text. string_bytes text ≡ dotted_decimal oid.now) }
 {
     format!(in alloc; "{oid}")

@@ -1,20 +1,6 @@
 // The components of an OBJECT IDENTIFIER in decimal with points: of that at an offset, and of one that is put.
-ghost use Rattle.std.specs.Prelude.{
-  ◌≡◌,
-  ◌≢◌,
-  ◌⊎◌,
-  ◌<◌,
-  ◌^◌,
-  ℕ,
-  List,
-  IfErr,
-  IfOk,
-  MatchOption,
-  string_bytes,
-};
+ghost use Rattle.std.specs.Prelude.{◌≡◌, ◌≢◌, ◌⊎◌, ℕ, List, MatchOption};
 ghost use Rattle.asn1_headers.specs.declared.error.ASN1EncodeErr.TheVariants.{OutOfMemory};
-ghost use Rattle.simple_asn1.specs.DottedDecimal.{dotted_decimal};
-ghost use Rattle.simple_asn1.specs.FittingNumbers.{HasNotAll};
 ghost use Rattle.simple_asn1.specs.Tree.{leaf, object_identifier};
 ghost use Rattle.simple_asn1.specs.View.{tree_offset, view};
 ghost use Rattle.simple_asn1_c.specs.Puts.{AnswersPutIdentifier};
@@ -22,11 +8,12 @@ ghost use Rattle.simple_asn1_c.specs.Status.{no_memory, out_of_range};
 ghost use Rattle.simple_asn1_c.specs.Values.{AnswersIdentifier};
 
 use crate::alone::universal_at;
+use crate::components::dotted_of;
 use crate::putting::{nothing_put, put_octets};
 use crate::record::Outcome;
 use crate::status::{NO_MEMORY, NO_SUCH_VALUE, NOT_OID, OUT_OF_RANGE, status_of_fault};
 use asn1_leaves::oid;
-use simple_asn1::{ASN1Block, ASN1DecodeErr, ASN1EncodeErr, OID};
+use simple_asn1::{ASN1Block, ASN1EncodeErr, OID};
 use std::alloc::{AllocError, Global};
 
 pub fn identifier_of(block: &ASN1Block) -> Option<&OID>
@@ -37,23 +24,6 @@ pub fn identifier_of(block: &ASN1Block) -> Option<&OID>
     match block {
         ASN1Block::ObjectIdentifier(_, oid) => Some(oid),
         _ => None,
-    }
-}
-
-// The text of an object identifier, or the number of why there is none.
-fn text_of(alloc: Global, oid: &OID) -> Result<String, u32>
-    ensures text { IfOk result (λ text. string_bytes text ≡ dotted_decimal oid.now) }
-    ensures refused { IfErr result (λ status. (status ≡ no_memory)
-        ⊎ ((status ≡ out_of_range) × HasNotAll (λ n. n < 2 ^ 128) oid.now)) }
-{
-    match oid.as_vec::<u128>(alloc) {
-        Ok(_) => (),
-        Err(ASN1DecodeErr::Overflow) => return Err(OUT_OF_RANGE),
-        Err(_) => return Err(NO_MEMORY),
-    }
-    match format!(in alloc; "{oid}") {
-        Ok(text) => Ok(text),
-        Err(AllocError) => Err(NO_MEMORY),
     }
 }
 
@@ -71,9 +41,9 @@ pub fn identifier_at(alloc: Global, octets: &[u8], offset: usize, room: &mut [u8
         Ok(oid) => oid,
         Err(e) => return nothing_put(status_of_fault(&e), offset),
     };
-    match text_of(alloc, &oid) {
+    match dotted_of(alloc, &oid) {
         Ok(text) => put_octets(text.as_bytes(), room),
-        Err(status) => nothing_put(status, offset),
+        Err(AllocError) => nothing_put(NO_MEMORY, offset),
     }
 }
 

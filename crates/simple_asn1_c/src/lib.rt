@@ -211,7 +211,7 @@ pub extern "C" fn simple_asn1_text(
 }
 
 /// Writes the components of the OBJECT IDENTIFIER at an offset (X.690 8.19) in decimal, with a point between two of
-/// them, as [`simple_asn1_text`] does. `OUT_OF_RANGE` if one of them is 2^128 or more.
+/// them, of any size, as [`simple_asn1_text`] does.
 #[unsafe(no_mangle)]
 pub extern "C" fn simple_asn1_oid(
     alloc: Global,

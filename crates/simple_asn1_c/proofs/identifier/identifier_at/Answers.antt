@@ -5,7 +5,7 @@ use Rattle.simple_asn1.specs.Tree.{Leaf, object_identifier}
 use Rattle.simple_asn1_c.specs.Room.{ArePut}
 use Rattle.simple_asn1_c.specs.Status.{status_of}
 use Rattle.simple_asn1_c.specs.Values.{IsIdentifierAt, IsIdentifierTag, IsLeafAt, UniversalAt}
-use Rattle.simple_asn1_c.specs.Values.{identifier_is_missing, identifier_is_too_large, identifier_was_found}
+use Rattle.simple_asn1_c.specs.Values.{identifier_is_missing, identifier_was_found}
 use Rattle.simple_asn1_c.proofs.LeavesThere.{another_there, fault_there, leaf_here, nothing_there, small_tag}
 use Rattle.simple_asn1_c.proofs.identifier.identifier_at.Goals as goal
 
@@ -53,8 +53,8 @@ returns-in-Err-read c =
           put.offset put.count refl
     ]
 
-pub returns-in-Ok-text_of : goal.returns-in-Ok-text_of
-returns-in-Ok-text_of c =
+pub returns-in-Ok-dotted_of : goal.returns-in-Ok-dotted_of
+returns-in-Ok-dotted_of c =
     let octets = c.args.octets.now in
     let offset = c.args.offset in
     let v = c.in-Ok.found.1.now in
@@ -64,19 +64,4 @@ returns-in-Ok-text_of c =
     let is = leaf_here octets offset (object_identifier ns) v (subst (λ z. UniversalAt octets offset z v) six u) c.in-Ok-read.ensures.found in
     identifier_was_found ns is
     (subst (λ z. ArePut z c.args.room.now c.put_octets.new.room c.put_octets.result)
-    (c.as_bytes.ensures.value ∙ c.in-Ok-text_of.ensures.text) c.put_octets.ensures)
-
-pub returns : goal.returns
-returns c =
-    let octets = c.args.octets.now in
-    let offset = c.args.offset in
-    let v = c.in-Ok.found.1.now in
-    let ns = c.in-Ok-read.oid in
-    let (n, u, number) = c.in-Ok.ensures.found in
-    let six : n ≡ 6 = small_tag n c.in-Ok.found.0 6 number c.if-tag-ne6.false (omega arith) in
-    let is = leaf_here octets offset (object_identifier ns) v (subst (λ z. UniversalAt octets offset z v) six u) c.in-Ok-read.ensures.found in
-    let put = c.nothing_put-in-Err-text_of.ensures in
-    elim c.in-Err-text_of.ensures.refused [
-      | inl e ↦ identifier_is_missing (inl (put.status ∙ e)) put.offset put.count refl
-      | inr (e, not_all) ↦ identifier_is_too_large (put.status ∙ e) ns is not_all put.offset put.count refl
-    ]
+    (c.as_bytes.ensures.value ∙ c.in-Ok-dotted_of.ensures) c.put_octets.ensures)
