@@ -95,7 +95,7 @@ class Records:
 def octets_of(source: Octets) -> bytes:
     """These octets as plain `bytes`, whose length can be trusted whatever the class of the source.
 
-    A number is rejected: `bytes` would take it as a count of zeros.
+    A text is rejected, and a number, which `bytes` would take as a count of zeros.
     """
     if type(source) is bytes:
         return source
@@ -107,7 +107,7 @@ def octets_of(source: Octets) -> bytes:
 
 
 def _no_number(source: Any) -> Any:
-    if hasattr(source, "__index__"):
+    if isinstance(source, str) or hasattr(source, "__index__"):
         raise TypeError(f"octets are wanted, not {type(source).__name__}")
     return source
 
