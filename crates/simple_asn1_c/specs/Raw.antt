@@ -92,8 +92,8 @@ pub data AnswersRawText (tag : ℕ) (text before after : List ℕ) (o : Outcome)
   is_no_text : (IsTextTag tag → ⊥) → IsNotPut no_such_value before after o → AnswersRawText tag text before after o
   had_no_memory_for_text : IsNotPut no_memory before after o → AnswersRawText tag text before after o
 
--- the contents octets of a UTCTime or GeneralizedTime of any moment of the years 0 to 9999: a UTCTime has no century and
--- no fraction; or the tag number is that of neither
+-- the contents octets of a UTCTime or GeneralizedTime of any moment of the years 0 to 9999: a UTCTime has no century
+-- and no fraction; or the tag number is that of neither
 pub data AnswersRawMoment (tag : ℕ) (m : Moment) (before after : List ℕ) (o : Outcome) : Type 0 where
   is_raw_utc_time :
       tag ≡ 23 → ArePutIf (IsValid m) (utc_time_contents m) not_a_date before after o →
