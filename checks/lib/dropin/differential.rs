@@ -423,26 +423,34 @@ macro_rules! asking {
 asking!(ask_there, original);
 asking!(ask_here, dropin);
 
+/// The least time of so many rounds, in which both take turns.
 fn speed(rounds: usize, certificates: &[Vec<u8>]) {
     let n = certificates.len();
     let there: Vec<_> = certificates.iter().map(|octets| original::from_der(octets).unwrap()).collect();
     let here: Vec<_> = certificates.iter().map(|octets| dropin::from_der(octets).unwrap()).collect();
-    let mut ratios = [Vec::new(), Vec::new(), Vec::new()];
+    let mut least = [[f64::MAX; 2]; 3];
     for _ in 0..rounds {
-        let read_there = nanoseconds(n, || certificates.iter().for_each(|octets| drop(original::from_der(octets))));
-        let read_here = nanoseconds(n, || certificates.iter().for_each(|octets| drop(dropin::from_der(octets))));
-        let asked_there = nanoseconds(n, || certificates.iter().for_each(|octets| ask_there(octets)));
-        let asked_here = nanoseconds(n, || certificates.iter().for_each(|octets| ask_here(octets)));
-        let write_there = nanoseconds(n, || there.iter().flatten().for_each(|block| drop(original::to_der(block))));
-        let write_here = nanoseconds(n, || here.iter().flatten().for_each(|block| drop(dropin::to_der(block))));
-        ratios[0].push((read_there / read_here, read_there, read_here));
-        ratios[1].push((asked_there / asked_here, asked_there, asked_here));
-        ratios[2].push((write_there / write_here, write_there, write_here));
+        let times = [
+            [
+                nanoseconds(n, || certificates.iter().for_each(|octets| drop(original::from_der(octets)))),
+                nanoseconds(n, || certificates.iter().for_each(|octets| drop(dropin::from_der(octets)))),
+            ],
+            [
+                nanoseconds(n, || certificates.iter().for_each(|octets| ask_there(octets))),
+                nanoseconds(n, || certificates.iter().for_each(|octets| ask_here(octets))),
+            ],
+            [
+                nanoseconds(n, || there.iter().flatten().for_each(|block| drop(original::to_der(block)))),
+                nanoseconds(n, || here.iter().flatten().for_each(|block| drop(dropin::to_der(block)))),
+            ],
+        ];
+        for (least, time) in least.iter_mut().flatten().zip(times.into_iter().flatten()) {
+            *least = least.min(time);
+        }
     }
     let whats = ["reading and dropping", "asking each identifier for its components too", "writing"];
-    for (what, mut all) in whats.into_iter().zip(ratios) {
-        all.sort_by(|a, b| a.0.total_cmp(&b.0));
-        let (ratio, there, here) = all[rounds / 2];
+    for (what, [there, here]) in whats.into_iter().zip(least) {
+        let ratio = there / here;
         println!("{what}: {ratio:.2} times as fast as the original ({there:.0} ns, here {here:.0} ns)");
     }
 }
