@@ -1,0 +1,7 @@
+use Rattle.std.proofs.Common.{◌≡◌, drop}
+use Rattle.der_rules.specs.Rules.{has_padded_component, is_padded_from}
+use Rattle.der_rules.proofs.contents.has_padded_component.Given as goal
+
+-- what is left decides of all
+abbrev pub invariant-loop-octet : goal.invariant-loop-octet
+invariant-loop-octet l = has_padded_component l.contents ≡ is_padded_from l.begins (drop l.octet-index l.contents)
