@@ -1,0 +1,199 @@
+// Values of class Universal that the library does not read.
+use asn1_headers::error::ASN1DecodeErr;
+use asn1_leaves::contents::object_identifier;
+use asn1_numbers::number::big_int::BigInt;
+use std::alloc::{AllocError, Global};
+use std::str;
+
+// The tags of X.680 8.4, table 1.
+const OBJECT_DESCRIPTOR: u64 = 7;
+
+const REAL: u64 = 9;
+
+const RELATIVE_OID: u64 = 13;
+
+const TIME: u64 = 14;
+
+const NUMERIC_STRING: u64 = 18;
+
+const VIDEOTEX_STRING: u64 = 21;
+
+const GRAPHIC_STRING: u64 = 25;
+
+const GENERAL_STRING: u64 = 27;
+
+const DATE: u64 = 31;
+
+const TIME_OF_DAY: u64 = 32;
+
+const DATE_TIME: u64 = 33;
+
+const DURATION: u64 = 34;
+
+const OID_IRI: u64 = 35;
+
+const RELATIVE_OID_IRI: u64 = 36;
+
+/// The characters of contents octets with this tag of class Universal, where it is that of a string that the library
+/// does not read: of an ObjectDescriptor, a VideotexString, a GraphicString, a VisibleString, a GeneralString if all
+/// are printed characters of ASCII, of a NumericString if all are digits and spaces, of an OID-IRI (X.690 8.21) and a
+/// RELATIVE-OID-IRI (X.690 8.22) if they are UTF-8. Else `None`.
+pub fn string_of(tag: u64, contents: &[u8]) -> Option<&str> {
+    let is_string = match tag {
+        NUMERIC_STRING => contents.iter().all(|b| *b == b' ' || b.is_ascii_digit()),
+        OBJECT_DESCRIPTOR | VIDEOTEX_STRING | GRAPHIC_STRING..=GENERAL_STRING => {
+            are_printed(contents)
+        }
+        OID_IRI | RELATIVE_OID_IRI => true,
+        _ => false,
+    };
+    if is_string {
+        str::from_utf8(contents).ok()
+    } else {
+        None
+    }
+}
+
+/// The value of contents octets with this tag of class Universal as text, where it is that of a type that the library
+/// does not read: of a REAL (X.690 8.5) as `5 * 2^-5`, of a RELATIVE-OID (X.690 8.20) as `.8571.3.2`, of a DATE, a
+/// TIME-OF-DAY, a DATE-TIME, a DURATION (X.690 8.26) and a TIME as X.680 writes them. `None` of others, and of contents
+/// octets that have no value or a number beyond 2^128.
+///
+/// # Errors
+/// Memory ran out.
+pub fn value_text(alloc: Global, tag: u64, contents: &[u8]) -> Result<Option<String>, AllocError> {
+    match tag {
+        REAL => real_text(alloc, contents),
+        RELATIVE_OID => relative_text(alloc, contents),
+        TIME | DATE..=DURATION => time_text(alloc, tag, contents),
+        _ => Ok(None),
+    }
+}
+
+// Whether the octets are printed characters of ASCII.
+fn are_printed(octets: &[u8]) -> bool {
+    octets.iter().all(|b| *b >= b' ' && *b < 127)
+}
+
+fn real_text(alloc: Global, contents: &[u8]) -> Result<Option<String>, AllocError> {
+    let name = match contents {
+        [] => "0",
+        [0x40] => "PLUS-INFINITY",
+        [0x41] => "MINUS-INFINITY",
+        [0x42] => "NOT-A-NUMBER",
+        [0x43] => "-0",
+        [form, digits @ ..] if *form < 0x40 => return printed_text(alloc, digits),
+        [form, octets @ ..] if *form >= 0x80 => return binary_text(alloc, *form, octets),
+        _ => return Ok(None),
+    };
+    Ok(Some(String::from_str(alloc, name)?))
+}
+
+fn printed_text(alloc: Global, octets: &[u8]) -> Result<Option<String>, AllocError> {
+    if !are_printed(octets) {
+        return Ok(None);
+    }
+    match str::from_utf8(octets) {
+        Ok(text) => Ok(Some(String::from_str(alloc, text)?)),
+        Err(_) => Ok(None),
+    }
+}
+
+// A binary REAL behind its first octet (X.690 8.5.7).
+fn binary_text(alloc: Global, form: u8, octets: &[u8]) -> Result<Option<String>, AllocError> {
+    let Some(bits) = bits_of_base(form) else {
+        return Ok(None);
+    };
+    let Some((exponent, mantissa)) = exponent_of(form, octets) else {
+        return Ok(None);
+    };
+    let exponent = BigInt::from_signed_bytes_be(alloc, exponent)?.to_i64();
+    let Some(exponent) = power_of(exponent, bits, form / 4 % 4) else {
+        return Ok(None);
+    };
+    let Some(number) = natural(alloc, mantissa)? else {
+        return Ok(None);
+    };
+    let sign = if form & 0x40 != 0 { "-" } else { "" };
+    let mut text = format!(in alloc; "{sign}{number}")?;
+    if exponent != 0 {
+        write!(text, " * 2^{exponent}")?;
+    }
+    Ok(Some(text))
+}
+
+// How many bits of a binary exponent one of the base counts: the base is 2, 8 or 16 (X.690 8.5.7.2).
+fn bits_of_base(form: u8) -> Option<i64> {
+    match form / 16 % 4 {
+        0 => Some(1),
+        1 => Some(3),
+        2 => Some(4),
+        _ => None,
+    }
+}
+
+// The octets of the exponent, and those of the mantissa (X.690 8.5.7.4).
+fn exponent_of(form: u8, octets: &[u8]) -> Option<(&[u8], &[u8])> {
+    let (size, octets) = match (form % 4, octets) {
+        (3, [size, octets @ ..]) => (usize::from(*size), octets),
+        (less, octets) => (usize::from(less) + 1, octets),
+    };
+    if size <= octets.len() {
+        Some(octets.split_at(size))
+    } else {
+        None
+    }
+}
+
+// The power of 2 of an exponent of the base, and of a scaling factor.
+fn power_of(exponent: Option<i64>, bits: i64, factor: u8) -> Option<i64> {
+    exponent?.checked_mul(bits)?.checked_add(i64::from(factor))
+}
+
+// A number without a sign, if it is below 2^128.
+fn natural(alloc: Global, octets: &[u8]) -> Result<Option<u128>, AllocError> {
+    let mut all = Vec::from_slice(alloc, &[0])?;
+    all.extend_from_slice(octets)?;
+    Ok(BigInt::from_signed_bytes_be(alloc, &all)?.to_u128())
+}
+
+// The components, each behind a point. In front of them two are put, as an object identifier has.
+fn relative_text(alloc: Global, contents: &[u8]) -> Result<Option<String>, AllocError> {
+    let mut all = Vec::from_slice(alloc, &[0])?;
+    all.extend_from_slice(contents)?;
+    match object_identifier::read(alloc, &all) {
+        Ok(components) => {
+            let mut text = String::new(alloc);
+            for component in components.iter().skip(2) {
+                write!(text, ".{component}")?;
+            }
+            Ok(Some(text))
+        }
+        Err(ASN1DecodeErr::OutOfMemory) => Err(AllocError),
+        Err(_) => Ok(None),
+    }
+}
+
+// The characters of a time with what its encoding leaves out.
+fn time_text(alloc: Global, tag: u64, contents: &[u8]) -> Result<Option<String>, AllocError> {
+    if !are_printed(contents) {
+        return Ok(None);
+    }
+    let mut text = String::new(alloc);
+    for (i, octet) in contents.iter().enumerate() {
+        text.push_str(left_out(tag, contents.len(), i))?;
+        text.push(char::from(*octet))?;
+    }
+    Ok(Some(text))
+}
+
+// What stands before the character in the value, and not in its encoding of so many octets.
+fn left_out(tag: u64, size: usize, i: usize) -> &'static str {
+    match (tag, size, i) {
+        (DURATION, _, 0) => "P",
+        (DATE, 8, 4 | 6) | (DATE_TIME, 14, 4 | 6) => "-",
+        (TIME_OF_DAY, 6, 2 | 4) | (DATE_TIME, 14, 10 | 12) => ":",
+        (DATE_TIME, 14, 8) => "T",
+        _ => "",
+    }
+}
