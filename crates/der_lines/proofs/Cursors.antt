@@ -18,6 +18,7 @@ with_depth depth f = record {
   contents = f.contents;
   depth = depth;
   words = f.words;
+  marked = f.marked;
 }
 
 judged_again :
@@ -42,6 +43,7 @@ first_again offset depth deep left f opened faults h = record {
   words_are = h.words_are;
   opened_is = h.opened_is;
   judged = judged_again deep left f h.class h.constructed h.tag faults h.judged;
+  marked = h.marked;
 }
 
 pub starts_again :

@@ -3,13 +3,13 @@ use Rattle.std.proofs.Common.{◌≡◌, ◌≢◌, ◌==◌, ℕ, zero, suc, �
 use Rattle.std.proofs.Common.{Bool, true, false, refl, sym, ap, ◌∙◌, subst, append_assoc, append-nil, arith, length}
 use Rattle.std.proofs.lemmas.List.{drop-drop}
 use Rattle.std.proofs.lemmas.Bool.{eqb-false, eqb-true}
-use Rattle.std.proofs.lemmas.List.Elements.{All-cons, All-head, All-nil, All-tail}
+use Rattle.std.proofs.lemmas.List.Elements.{All-append, All-cons, All-head, All-nil, All-tail}
 use Rattle.std.specs.Fmt.{decimal}
 use Rattle.std.specs.Prelude.{Option, Result, Ok, Err, OnOk}
 use Rattle.std.specs.declared.alloc.AllocError.{AllocError}
-use Rattle.der_lines.specs.Dump.{Adds, AddsLine, Front, IsBlockLine, IsDump, IsFaultLine, IsInsideLine, IsNote, IsOneLine}
+use Rattle.der_lines.specs.Dump.{Adds, AddsFaultLines, AddsLine, Front, IsBlockLine, IsDump, IsFaultLine, IsInsideLine, IsNote, IsOneLine}
 use Rattle.der_lines.specs.Dump.{StandAt, StandsInside, block_line, down_to, inside_line, is_too_deep, no_lines, on_one_line, right_of}
-use Rattle.der_lines.specs.Steps.{AddsUnless, IsLineOf, outer, start_text}
+use Rattle.der_lines.specs.Steps.{AddsMark, AddsUnless, IsLineOf, outer, start_text}
 
 -- a dump after a dump
 pub dump_join : (P : Front → Type 0) (fs gs : List Front) (a b : List ℕ) → IsDump P fs a → IsDump P gs b → IsDump P (fs ++ gs) (a ++ b)
@@ -106,14 +106,26 @@ stays_on_one_line (b ∷ text) one =
 
 -- the parts of the line of an encoding
 pub line_put :
-    (a b c d e g text : List ℕ) (width : ℕ) (f : Front) → b ≡ a ++ right_of width f.offset → c ≡ b ++ 32 ∷ [] →
-    d ≡ c ++ start_text f → e ≡ d ++ on_one_line text → g ≡ e ++ 10 ∷ [] → AddsLine (IsBlockLine f) a g
-line_put a b c d e g text width f p q r s t =
+    (a b c d e k g text : List ℕ) (width : ℕ) (f : Front) → b ≡ a ++ right_of width f.offset → c ≡ b ++ 32 ∷ [] →
+    d ≡ c ++ start_text f → e ≡ d ++ on_one_line text → AddsMark f.marked e k → g ≡ k ++ 10 ∷ [] →
+    AddsLine (IsBlockLine f) a g
+line_put a b c d e k g text width f p q r s (mark, m, is, one) t =
     let said = on_one_line text in
     let spaces = width - length (decimal f.offset) in
-    let line : List ℕ = replicate spaces 32 ++ (decimal f.offset ++ (32 ∷ start_text f ++ said)) in
-    let whole : g ≡ a ++ (line ++ 10 ∷ []) = rw (t, s, r, q, p) (simp append_assoc) in
-    (line, whole, record { spaces = spaces; said = said; line_is = simp append_assoc; one = has_one_line text })
+    let line : List ℕ = replicate spaces 32 ++ (decimal f.offset ++ (32 ∷ start_text f ++ (said ++ mark))) in
+    let whole : g ≡ a ++ (line ++ 10 ∷ []) = rw (t, m, s, r, q, p) (simp append_assoc) in (
+      line,
+      whole,
+      record {
+        spaces = spaces;
+        said = said;
+        mark = mark;
+        line_is = simp append_assoc;
+        one = has_one_line text;
+        mark_is = is;
+        one_mark = one;
+      },
+    )
 
 -- the line of an encoding after its mark
 pub inside_put : (a b c : List ℕ) (f : Front) → b ≡ a ++ 62 ∷ [] → AddsLine (IsBlockLine f) b c → AddsLine (IsInsideLine f) a c
@@ -175,5 +187,24 @@ inside_deeper octets part base m further f at e s =
       earlier = s.earlier;
       others = s.others;
       among = s.among;
-      place = record { offset = omega (arith, o, e); header = l.header; contents = l.contents; words = l.words };
+      place = record { offset = omega (arith, o, e); header = l.header; contents = l.contents; words = l.words; marked = l.marked };
     }
+
+-- a mark
+pub mark_put :
+    (a b c d words : List ℕ) → b ≡ a ++ codes " (not DER: " → c ≡ b ++ on_one_line words → d ≡ c ++ 41 ∷ [] →
+    AddsMark true a d
+mark_put a b c d words p q r =
+    let mark = codes " (not DER: " ++ (on_one_line words ++ codes ")") in
+    let whole : d ≡ a ++ mark = rw (r, q, p) (simp append_assoc) in
+    let one =
+    All-append (λ b. b ≢ 10) (codes " (not DER: ") (on_one_line words ++ codes ")") (has_one_line (codes " (not DER: "))
+    (All-append (λ b. b ≢ 10) (on_one_line words) (codes ")") (has_one_line words) (has_one_line (codes ")")))
+    in
+    (mark, whole, (on_one_line words, refl), one)
+
+-- lines of faults after lines of faults
+pub fault_lines_join :
+    (xs ys a b c : List ℕ) → AddsFaultLines xs a b → AddsFaultLines ys b c → AddsFaultLines (xs ++ ys) a c
+fault_lines_join [] ys a b c e more = subst (λ z. AddsFaultLines ys z c) e more
+fault_lines_join (x ∷ xs) ys a b c (first, line, others) more = (first, line, fault_lines_join xs ys first b c others more)

@@ -1,11 +1,12 @@
 -- How far the lines of octets were put.
-use Rattle.std.proofs.Common.{◌≡◌, ◌⊎◌, inl, inr, ℕ, ◌+◌, ◌-◌, ◌<◌, Bool, true, false, List, [], ◌∷◌, ◌++◌}
+use Rattle.std.proofs.Common.{◌≡◌, ◌⊎◌, inl, inr, ℕ, ◌+◌, ◌-◌, ◌<◌, Bool, true, false, List, [], ◌∷◌, ◌++◌, if◌then◌else◌}
 use Rattle.std.proofs.Common.{drop, length, reverse, slice_range, refl, sym, ap, ◌∙◌, subst, append_assoc, append-nil, arith}
 use Rattle.std.proofs.lemmas.List.{length-reverse, take-append-drop}
 use Rattle.std.specs.Prelude.{Option, None, Some}
-use Rattle.der_lines.specs.Dump.{Adds, AreFrontsOf, Front, IsLater, StandAt, StandsInside}
-use Rattle.der_lines.specs.Steps.{Goes, IsAhead, IsFirstFault, IsNear, PutsEncodings, PutsFirst, earlier_fault, outer}
+use Rattle.der_lines.specs.Dump.{Adds, AreFrontsOf, Front, IsLater, StandAt, StandsInside, marked_offsets}
+use Rattle.der_lines.specs.Steps.{Goes, IsAhead, IsFirstFault, IsNear, PutsEncodings, PutsFirst, earlier_fault, marked_offset, outer}
 use Rattle.der_lines.specs.declared.cursor.Cursor.{Cursor}
+use Rattle.der_lines.specs.declared.encodings.Found.{Found}
 use Rattle.der_lines.specs.declared.encodings.Passed.{Passed}
 use Rattle.der_lines.specs.declared.faults.Fault.{Fault}
 use Rattle.der_lines.specs.declared.place.Place.{Place}
@@ -20,17 +21,19 @@ abbrev pub IsSoFar : ℕ → List ℕ → List Front → Front → Type 0
 IsSoFar base octets fronts p = ((f : Front) × IsAmong fronts f × IsLater base f p) ⊎ StandsInside base octets p
 
 -- what was put up to where the cursor stands
-pub record ShownTo (place : Place) (octets : List ℕ) (cursor : Cursor) (first : Option Fault) (a b : List ℕ) : Type 0 where
+pub record ShownTo (place : Place) (octets : List ℕ) (cursor : Cursor) (first : Option Fault) (marks a b : List ℕ)
+    : Type 0 where
   pub fronts : List Front
   pub faults : List ℕ
   pub same_octets : cursor.octets.now ≡ octets
   pub goes_on : (later : List Front) (more : List ℕ) → IsAhead cursor later more → AreFrontsOf octets (fronts ++ later) (faults ++ more)
   pub told : IsFirstFault faults first
+  pub marks_are : marks ≡ marked_offsets fronts
   pub adds : Adds (IsSoFar place.base octets fronts) (outer place.is_inside place.most_depth fronts) a b
 
 pub shown_none :
     (place : Place) (octets : List ℕ) (cursor : Cursor) (a : List ℕ) → cursor.octets.now ≡ octets → cursor.offset ≡ 0 →
-    cursor.end ≡ length octets → cursor.ends.items ≡ [] → ShownTo place octets cursor None a a
+    cursor.end ≡ length octets → cursor.ends.items ≡ [] → ShownTo place octets cursor None [] a a
 shown_none place octets cursor a o z e n = record {
   fronts = [];
   faults = [];
@@ -39,22 +42,25 @@ shown_none place octets cursor a o z e n = record {
       ahead_is cursor octets 0 (length octets ∷ []) later more o z
       (ap (λ x. x ∷ reverse cursor.ends.items) e ∙ ap (λ x. length octets ∷ reverse x) n) h;
   told = refl;
+  marks_are = refl;
   adds = subst (λ l. Adds (IsSoFar place.base octets []) l a a) (sym (outer_none place.is_inside place.most_depth))
       (adds_nothing (IsSoFar place.base octets []) a);
 }
 
-make : ℕ → ℕ → ℕ → ℕ → List ℕ → Front
-make o h c d w = record { offset = o; header = h; contents = c; depth = d; words = w }
+make : ℕ → ℕ → ℕ → ℕ → List ℕ → Bool → Front
+make o h c d w m = record { offset = o; header = h; contents = c; depth = d; words = w; marked = m }
 
 front_is :
     (f g : Front) → f.offset ≡ g.offset → f.header ≡ g.header → f.contents ≡ g.contents → f.depth ≡ g.depth →
-    f.words ≡ g.words → f ≡ g
+    f.words ≡ g.words → f.marked ≡ g.marked → f ≡ g
 unfolding make
-front_is f g o h c d w =
-    ap (λ z. make z f.header f.contents f.depth f.words) o
-    ∙ (ap (λ z. make g.offset z f.contents f.depth f.words) h
-    ∙ (ap (λ z. make g.offset g.header z f.depth f.words) c
-    ∙ (ap (λ z. make g.offset g.header g.contents z f.words) d ∙ ap (make g.offset g.header g.contents g.depth) w)))
+front_is f g o h c d w m =
+    ap (λ z. make z f.header f.contents f.depth f.words f.marked) o
+    ∙ (ap (λ z. make g.offset z f.contents f.depth f.words f.marked) h
+    ∙ (ap (λ z. make g.offset g.header z f.depth f.words f.marked) c
+    ∙ (ap (λ z. make g.offset g.header g.contents z f.words f.marked) d
+    ∙ (ap (λ z. make g.offset g.header g.contents g.depth z f.marked) w
+    ∙ ap (make g.offset g.header g.contents g.depth g.words) m))))
 
 -- the first line
 line_is :
@@ -64,7 +70,7 @@ line_is P true most f g b c e adds = adds
 line_is P false most f g b c e adds = subst (λ z. Adds P (outer false most (z ∷ [])) b c) (e refl) adds
 
 later_again : (base depth : ℕ) (f p : Front) → IsLater base f p → IsLater base (with_depth depth f) p
-later_again base depth f p l = record { offset = l.offset; header = l.header; contents = l.contents; words = l.words }
+later_again base depth f p l = record { offset = l.offset; header = l.header; contents = l.contents; words = l.words; marked = l.marked }
 
 near_so_far :
     (base depth offset : ℕ) (octets left : List ℕ) (fronts : List Front) (f p : Front) → StandAt octets offset left → f.offset ≡ offset →
@@ -93,15 +99,30 @@ told_more :
 told_more faults own None told none t = subst (λ z. IsFirstFault (z ++ own) told) (sym none) t
 told_more faults own (Some fault) told (later, e) t = (later ++ own, ap (λ z. z ++ own) e)
 
+marked_one : (marked : Bool) (offset : ℕ) → (if marked then offset ∷ [] else []) ≡ marked_offset marked offset
+marked_one true offset = refl
+marked_one false offset = refl
+
+marked_next :
+    (marked : Bool) (offset : ℕ) (xs ys zs : List ℕ) → xs ≡ ys ++ zs →
+    (if marked then offset ∷ xs else xs) ≡ (if marked then offset ∷ ys else ys) ++ zs
+marked_next true offset xs ys zs e = ap (λ z. offset ∷ z) e
+marked_next false offset xs ys zs e = e
+
+marked_more : (fronts : List Front) (g : Front) → marked_offsets (fronts ++ g ∷ []) ≡ marked_offsets fronts ++ marked_offset g.marked g.offset
+marked_more [] g = marked_one g.marked g.offset
+marked_more (f ∷ fronts) g = marked_next f.marked f.offset _ _ _ (marked_more fronts g)
+
 pub shown_more :
-    (place here : Place) (octets left : List ℕ) (k m n : Cursor) (passed : Passed) (first : Option Fault) (a b c : List ℕ) →
-    (place.is_inside ≡ false → (place.base ≡ 0) × (place.depth ≡ 0)) → ShownTo place octets k first a b →
+    (place here : Place) (octets left : List ℕ) (k m n : Cursor) (passed : Passed) (first : Option Fault)
+    (marks more_marks a b c : List ℕ) → more_marks ≡ marks ++ marked_offset passed.is_marked m.offset →
+    (place.is_inside ≡ false → (place.base ≡ 0) × (place.depth ≡ 0)) → ShownTo place octets k first marks a b →
     m.octets.now ≡ k.octets.now → ((fs : List Front) (es : List ℕ) → IsAhead m fs es → IsAhead k fs es) →
     left ≡ slice_range m.octets.now m.offset m.end → 0 < length left → here.is_inside ≡ place.is_inside → here.base ≡ place.base →
     here.depth ≡ place.depth + length m.ends.items → here.most_depth ≡ place.most_depth →
     PutsFirst here m.offset left passed b c → Goes passed.step m n → n.octets.now ≡ m.octets.now →
-    ShownTo place octets n (earlier_fault first passed.fault) a c
-shown_more place here octets left k m n passed first a b c outside s same back at some i z d most put goes kept =
+    ShownTo place octets n (earlier_fault first passed.fault) more_marks a c
+shown_more place here octets left k m n passed first marks more_marks a b c put_marks outside s same back at some i z d most put goes kept =
     let depth = length (reverse m.ends.items) in
     let f = put.front in
     let g = with_depth depth f in
@@ -122,7 +143,7 @@ shown_more place here octets left k m n passed first a b c outside s same back a
     let e : put.shown.depth ≡ here.depth = put.same_depth in
     let one = line_is P place.is_inside place.most_depth put.shown g b c
     (λ out. let (no_base, no_depth) = outside out in
-    front_is put.shown g (omega (arith, o, z, no_base)) l.header l.contents (omega (arith, e, d, no_depth, length-reverse m.ends.items)) l.words)
+    front_is put.shown g (omega (arith, o, z, no_base)) l.header l.contents (omega (arith, e, d, no_depth, length-reverse m.ends.items)) l.words l.marked)
     mine
     in
     let before = adds_map (IsSoFar place.base octets s.fronts) P (λ p h. so_far_more place.base octets s.fronts g p h)
@@ -140,6 +161,10 @@ shown_more place here octets left k m n passed first a b c outside s same back a
           (step_goes m n left g passed.step put.faults later more at some
           (starts_again m.offset here.depth depth left f passed.step put.faults put.starts) goes ahead))));
       told = told_more s.faults put.faults first passed.fault s.told put.told;
+      marks_are = put_marks ∙ (ap (λ z. z ++ marked_offset passed.is_marked m.offset) s.marks_are
+          ∙ (ap (λ z. marked_offsets s.fronts ++ marked_offset z m.offset) put.same_mark
+          ∙ (ap (λ z. marked_offsets s.fronts ++ marked_offset f.marked z) (sym put.same_offset)
+          ∙ sym (marked_more s.fronts g))));
       adds = subst (λ x. Adds P x a c) (sym (outer_join place.is_inside place.most_depth s.fronts (g ∷ [])))
           (adds_join P _ _ a b c before one);
     }
@@ -160,14 +185,15 @@ closed base octets fronts faults p read (inl (f, (earlier, others, e), l)) =
       earlier = earlier;
       others = others;
       among = e;
-      place = record { offset = omega (arith, o); header = l.header; contents = l.contents; words = l.words };
+      place = record { offset = omega (arith, o); header = l.header; contents = l.contents; words = l.words; marked = l.marked };
     }
 closed base octets fronts faults p read (inr inside) = inside
 
 pub shown_all :
-    (place : Place) (octets : List ℕ) (cursor : Cursor) (first : Option Fault) (a b : List ℕ) →
-    ShownTo place octets cursor first a b → IsAhead cursor [] [] → PutsEncodings place octets first a b
-shown_all place octets cursor first a b s ended =
+    (place : Place) (octets : List ℕ) (cursor : Cursor) (found : Found) (a b : List ℕ) →
+    ShownTo place octets cursor found.fault found.marks.items a b → IsAhead cursor [] [] →
+    PutsEncodings place octets found a b
+shown_all place octets cursor found a b s ended =
     let all : AreFrontsOf octets s.fronts s.faults =
     subst (λ x. AreFrontsOf octets x s.faults) (append-nil s.fronts)
     (subst (AreFrontsOf octets (s.fronts ++ [])) (append-nil s.faults) (s.goes_on [] [] ended))
@@ -177,6 +203,7 @@ shown_all place octets cursor first a b s ended =
       faults = s.faults;
       read = all;
       told = s.told;
+      marks = s.marks_are;
       adds = adds_map (IsSoFar place.base octets s.fronts) (StandsInside place.base octets)
           (λ p h. closed place.base octets s.fronts s.faults p all h) (outer place.is_inside place.most_depth s.fronts) a b s.adds;
     }

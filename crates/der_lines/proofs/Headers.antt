@@ -1,10 +1,6 @@
 -- Headers at the front of octets.
-use Rattle.std.proofs.Common.{◌≡◌, ℕ, ◌+◌, ◌-◌, ◌≤◌, List, ◌++◌, drop, length, take, slice_range, refl, sym, ap, ◌∙◌, subst, append_assoc, arith}
-use Rattle.std.proofs.Math.Seq.{take-add}
-use Rattle.std.proofs.lemmas.List.{drop_at, length-take-le, take-append-drop, take_at}
-use Rattle.asn1_headers.specs.Header.{BeginsWithNo, IsIdentifier, IsLength, IsSomeIdentifier}
-use Rattle.asn1_headers.proofs.Prefixes.{identifier_alone}
-use Rattle.asn1_headers.specs.Front.{HasNoHeader, IsHeader}
+use Rattle.std.proofs.Common.{ℕ, List, take}
+use Rattle.asn1_headers.specs.Front.{IsHeader}
 use Rattle.asn1_headers.specs.Front.{IsAtFront}
 use Rattle.asn1_headers.specs.declared.front.Header.{Header}
 

@@ -4,3 +4,4 @@ mod Firsts
 mod Fronts
 mod Headers
 mod Seeking
+mod Stricts

@@ -12,6 +12,8 @@ use Rattle.asn1_blocks.specs.Grammar.{Encodes}
 use Rattle.asn1_blocks.specs.Tree.{Tree}
 use Rattle.asn1_headers.specs.Front.{BeginsWithHeader, HasIndefiniteForm, HasNoHeader}
 use Rattle.der_lines.specs.Headers.{is_gone_into}
+use Rattle.der_rules.specs.Rules.{AreBreaches, is_breach}
+use Rattle.der_rules.specs.declared.breaches.Breaches.{Breaches}
 use Rattle.der_lines.specs.declared.document.Verdict.{Verdict}
 use Rattle.der_lines.specs.declared.document.Verdict.TheVariants.{AllRead, Refused}
 use Rattle.asn1_headers.specs.Names.{type_name}
@@ -30,13 +32,14 @@ tag_words ContextSpecific tag = codes "[" ++ (tag_number tag ++ codes "]")
 tag_words Private tag = codes "[PRIVATE " ++ (tag_number tag ++ codes "]")
 
 -- what the line of an encoding begins with: its offset, the sizes of its header and of the contents octets that it
--- announces, how many encodings are around it, and its tag in words
+-- announces, how many encodings are around it, and its tag in words; and whether it ends with a mark
 pub record Front : Type 0 where
   pub offset : ℕ
   pub header : ℕ
   pub contents : ℕ
   pub depth : ℕ
   pub words : List ℕ
+  pub marked : Bool
 
 -- that of octets at the offset which begin with no header: there are so many
 abbrev pub unreadable : ℕ → ℕ → ℕ → Front
@@ -46,6 +49,7 @@ unreadable offset size depth = record {
   contents = size;
   depth = depth;
   words = codes "unreadable";
+  marked = false;
 }
 
 -- strings that the library takes for UTF-8 where X.690 has other characters: TeletexString, UniversalString, BMPString
@@ -74,6 +78,19 @@ pub data IsJudged (octets : List ℕ) (front : Front) (class : ASN1Class) (const
       LeafFault tag (slice_range octets front.header (front.header + front.contents)) fault →
       faults ≡ front.offset ∷ [] → IsJudged octets front class constructed tag faults
 
+-- an encoding that begins the octets, with these identifier octets, is marked: where it is whole, and breaks a rule of
+-- BER or DER, whether or not it has a value
+pub data IsMarked (octets identifier : List ℕ) (size announced : ℕ) (class : ASN1Class) (constructed : Bool) (tag : ℕ)
+    (marked : Bool) : Type 0 where
+  of_cut :
+      length octets < size + announced → marked ≡ false →
+      IsMarked octets identifier size announced class constructed tag marked
+  of_whole :
+      size + announced ≤ length octets → (found : Breaches) →
+      AreBreaches found octets (drop (length identifier) octets) announced class constructed tag
+      (slice_range octets size (size + announced)) →
+      marked ≡ is_breach found → IsMarked octets identifier size announced class constructed tag marked
+
 -- an encoding begins the octets, which stand at the offset, inside so many others. Its contents octets may be cut short
 pub record IsFirst (octets : List ℕ) (offset depth : ℕ) (front : Front) (opened : Bool) (faults : List ℕ)
     : Type 0 where
@@ -86,6 +103,8 @@ pub record IsFirst (octets : List ℕ) (offset depth : ℕ) (front : Front) (ope
   pub words_are : front.words ≡ tag_words class tag
   pub opened_is : opened ≡ is_gone_into class constructed tag
   pub judged : IsJudged octets front class constructed tag faults
+  pub marked :
+      IsMarked octets header.identifier front.header front.contents class constructed tag front.marked
 
 -- how many of the octets the encoding takes that begins them
 abbrev pub size_in : List ℕ → Front → ℕ
@@ -124,6 +143,12 @@ pub data AreFronts (octets : List ℕ) : ℕ → List ℕ → List Front → Lis
       AreFronts octets (offset + size_in left first) ends later_fronts later_faults →
       fronts ≡ first ∷ later_fronts → faults ≡ own ++ later_faults → AreFronts octets offset ends fronts faults
 
+-- the offsets of those that are marked
+abbrev pub marked_offsets : List Front → List ℕ
+marked_offsets [] = []
+marked_offsets (front ∷ fronts) =
+    if front.marked then front.offset ∷ marked_offsets fronts else marked_offsets fronts
+
 -- so of all octets
 abbrev pub AreFrontsOf : List ℕ → List Front → List ℕ → Type 0
 AreFrontsOf octets = AreFronts octets 0 (length octets ∷ [])
@@ -151,15 +176,24 @@ right_of width n = replicate (width - length (decimal n)) space ++ decimal n
 abbrev pub indentation : ℕ → List ℕ
 indentation depth = replicate (2 * min depth 40) space
 
+-- what a line ends with that is marked: what is wrong; any other with nothing
+abbrev pub IsMark : Bool → List ℕ → Type 0
+IsMark true mark = (words : List ℕ) × (mark ≡ codes " (not DER: " ++ (words ++ codes ")"))
+IsMark false mark = mark ≡ []
+
 -- a line of an encoding: spaces, the offset, the sizes of header and contents in columns, spaces for the depth, the
--- words, and what else is said of it
+-- words, what else is said of it, and the mark
 pub record IsBlockLine (front : Front) (line : List ℕ) : Type 0 where
   pub spaces : ℕ
   pub said : List ℕ
+  pub mark : List ℕ
   pub line_is : line ≡
       replicate spaces space ++ (decimal front.offset ++ (space ∷ [] ++ (right_of 2 front.header ++ (space ∷ []
-      ++ (right_of 7 front.contents ++ (space ∷ space ∷ [] ++ (indentation front.depth ++ (front.words ++ said))))))))
+      ++ (right_of 7 front.contents ++ (space ∷ space ∷ []
+      ++ (indentation front.depth ++ (front.words ++ (said ++ mark)))))))))
   pub one : IsOneLine said
+  pub mark_is : IsMark front.marked mark
+  pub one_mark : IsOneLine mark
 
 -- the line of one that stands inside octets of another: `>`, and then as any
 pub record IsInsideLine (front : Front) (line : List ℕ) : Type 0 where
@@ -192,6 +226,7 @@ pub record IsLater (base : ℕ) (front later : Front) : Type 0 where
   pub header : later.header ≡ front.header
   pub contents : later.contents ≡ front.contents
   pub words : later.words ≡ front.words
+  pub marked : later.marked ≡ front.marked
 
 -- it is of an encoding in octets among these, which stand so many octets later than these
 pub record StandsInside (base : ℕ) (octets : List ℕ) (later : Front) : Type 0 where
@@ -247,3 +282,32 @@ abbrev pub AddsDumpOf : Option ℕ → List ℕ → Verdict → List ℕ → Lis
 AddsDumpOf most octets AllRead before after = (0 < length octets) × AddsBlocksOf most octets [] before after
 AddsDumpOf most octets Refused before after =
     AddsFaultOf most octets before after ⊎ ((octets ≡ []) × AddsLine (IsFaultLine 0) before after)
+
+-- lines of faults were put after the text, at these offsets in order
+abbrev pub AddsFaultLines : List ℕ → List ℕ → List ℕ → Type 0
+AddsFaultLines [] before after = after ≡ before
+AddsFaultLines (offset ∷ offsets) before after =
+    (first : List ℕ) × AddsLine (IsFaultLine offset) before first × AddsFaultLines offsets first after
+
+-- what is wrong with a document that has to be DER: each encoding that is marked, and then the first fault
+abbrev pub wrong_offsets : List Front → List ℕ → List ℕ
+wrong_offsets fronts faults = marked_offsets fronts ++ take 1 faults
+
+-- all was read of a document of which nothing is wrong
+abbrev pub verdict_of : List ℕ → Verdict
+verdict_of [] = AllRead
+verdict_of (offset ∷ offsets) = Refused
+
+-- what is put after the text of octets that have to be DER: their lines, and a line for each that is wrong with them
+abbrev pub AddsStrictDump : Option ℕ → List ℕ → Verdict → List ℕ → List ℕ → Type 0
+AddsStrictDump most octets verdict before after =
+    (fronts : List Front) × (faults shown : List ℕ) × AreFrontsOf octets fronts faults
+    × Adds (StandsInside 0 octets) (down_to most fronts) before shown
+    × AddsFaultLines (wrong_offsets fronts faults) shown after
+    × (verdict ≡ verdict_of (wrong_offsets fronts faults))
+
+-- so, or of no octets that there are none
+abbrev pub AddsStrictDumpOf : Option ℕ → List ℕ → Verdict → List ℕ → List ℕ → Type 0
+AddsStrictDumpOf most octets verdict before after =
+    ((0 < length octets) × AddsStrictDump most octets verdict before after)
+    ⊎ ((octets ≡ []) × (verdict ≡ Refused) × AddsLine (IsFaultLine 0) before after)

@@ -8,14 +8,19 @@ use Rattle.asn1_headers.specs.declared.header.ASN1Class.TheVariants.{Universal}
 use Rattle.asn1_blocks.specs.Contents.{LeafFault}
 use Rattle.asn1_blocks.specs.Grammar.{Encodes}
 use Rattle.asn1_blocks.specs.Tree.{Tree}
+use Rattle.std.specs.Option.{is_some}
 use Rattle.der_lines.specs.Dump.{Adds, AddsLine, AreFronts, AreFrontsOf, Front, IsBlockLine, IsFirst, IsInsideLine, IsLater}
+use Rattle.der_lines.specs.Dump.{IsFaultLine, IsMark, IsMarked, IsOneLine, marked_offsets, verdict_of}
+use Rattle.der_lines.specs.declared.document.Verdict.{Verdict}
+use Rattle.der_lines.specs.declared.document.Verdict.TheVariants.{Refused}
 use Rattle.der_lines.specs.Dump.{StandsInside, down_to, indentation, is_too_deep, is_wide, right_of, size_in, tag_words}
 use Rattle.der_lines.specs.Dump.{unreadable}
-use Rattle.asn1_headers.specs.Front.{BeginsWithHeader, HasNoHeader}
+use Rattle.asn1_headers.specs.Front.{HasNoHeader, IsAtFront}
 use Rattle.der_lines.specs.Headers.{is_gone_into}
 use Rattle.der_lines.specs.declared.cursor.Cursor.{Cursor}
 use Rattle.der_lines.specs.declared.cursor.Step.{Step}
 use Rattle.der_lines.specs.declared.cursor.Step.TheVariants.{Into, Past}
+use Rattle.der_lines.specs.declared.encodings.Found.{Found}
 use Rattle.der_lines.specs.declared.encodings.Passed.{Passed}
 use Rattle.der_lines.specs.declared.faults.Fault.{Fault}
 use Rattle.asn1_headers.specs.declared.front.Header.{Header}
@@ -48,16 +53,18 @@ front_of start = record {
   contents = start.contents;
   depth = start.depth;
   words = start.words.now;
+  marked = is_some start.mark;
 }
 
 -- that of an encoding with the header
-abbrev pub header_front : ℕ → ℕ → Header → Front
-header_front offset depth header = record {
+abbrev pub header_front : ℕ → ℕ → Bool → Header → Front
+header_front offset depth marked header = record {
   offset = offset;
   header = header.size;
   contents = header.announced;
   depth = depth;
   words = tag_words header.class header.tag;
+  marked = marked;
 }
 
 -- what a line has behind its offset and a space
@@ -65,6 +72,16 @@ abbrev pub start_text : Front → List ℕ
 start_text front =
     right_of 2 front.header ++ (space ∷ [] ++ (right_of 7 front.contents ++ (space ∷ space ∷ []
     ++ (indentation front.depth ++ front.words))))
+
+-- a mark was put, or none
+abbrev pub AddsMark : Bool → List ℕ → List ℕ → Type 0
+AddsMark marked before after = (mark : List ℕ) × (after ≡ before ++ mark) × IsMark marked mark × IsOneLine mark
+
+-- the encoding with the header is marked, which begins the octets
+abbrev pub IsMarkedFirst : List ℕ → Header → Bool → Type 0
+IsMarkedFirst left header marked =
+    (front : IsAtFront left header) → IsMarked left front.identifier header.size header.announced header.class
+    header.constructed header.tag marked
 
 -- a line, inside octets of a string or not
 abbrev pub IsLineOf : Bool → Front → List ℕ → Type 0
@@ -126,6 +143,11 @@ abbrev pub earlier_fault : Option Fault → Option Fault → Option Fault
 earlier_fault None next = next
 earlier_fault (Some fault) next = Some fault
 
+-- the offset, if something stands there that is marked
+abbrev pub marked_offset : Bool → ℕ → List ℕ
+marked_offset true offset = offset ∷ []
+marked_offset false offset = []
+
 -- the line is of the encoding that begins the octets, or of one inside them
 abbrev pub IsNear : ℕ → List ℕ → Front → Front → Type 0
 IsNear base left front later = IsLater base front later ⊎ StandsInside (base + front.offset) left later
@@ -141,13 +163,24 @@ pub record PutsFirst (place : Place) (offset : ℕ) (left : List ℕ) (passed : 
   pub same_depth : shown.depth ≡ place.depth
   pub later : IsLater place.base front shown
   pub told : IsFirstFault faults passed.fault
+  pub same_mark : passed.is_marked ≡ front.marked
   pub adds : Adds (IsNear place.base left front) (outer place.is_inside place.most_depth (shown ∷ [])) before after
 
 -- the lines of octets were put
-pub record PutsEncodings (place : Place) (octets : List ℕ) (first : Option Fault) (before after : List ℕ)
+pub record PutsEncodings (place : Place) (octets : List ℕ) (found : Found) (before after : List ℕ)
     : Type 0 where
   pub fronts : List Front
   pub faults : List ℕ
   pub read : AreFrontsOf octets fronts faults
-  pub told : IsFirstFault faults first
+  pub told : IsFirstFault faults found.fault
+  pub marks : found.marks.items ≡ marked_offsets fronts
   pub adds : Adds (StandsInside place.base octets) (outer place.is_inside place.most_depth fronts) before after
+
+-- the first fault was put, if there is one; and the verdict is of the marks and of it
+abbrev pub AddsFound : Option Fault → List ℕ → Verdict → List ℕ → List ℕ → Type 0
+AddsFound None marks verdict before after = (after ≡ before) × (verdict ≡ verdict_of marks)
+AddsFound (Some fault) marks verdict before after =
+    (verdict ≡ Refused) × AddsLine (IsFaultLine fault.offset) before after
+
+abbrev pub AddsLast : Found → Verdict → List ℕ → List ℕ → Type 0
+AddsLast found verdict before after = AddsFound found.fault found.marks.items verdict before after

@@ -45,7 +45,8 @@ pub fn push_document(
         push_fault_line(alloc, 0, &ASN1DecodeErr::EmptyBuffer, out)?;
         return Ok(Verdict::Refused);
     }
-    match push_encodings(alloc, names, octets, outermost(style), out)? {
+    let found = push_encodings(alloc, names, octets, outermost(style), out)?;
+    match &found.fault {
         None => Ok(Verdict::AllRead),
         Some(fault) => {
             push_fault(fault.offset, fault.words.as_bytes(), out)?;

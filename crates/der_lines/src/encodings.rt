@@ -1,11 +1,12 @@
 // The lines of encodings, by their headers, and of what stands inside octets of strings.
-ghost use Rattle.std.specs.Prelude.{◌≡◌, ◌↔◌, ◌+◌, ◌≤◌, ◌<◌, false, length, true};
+ghost use Rattle.std.specs.Prelude.{◌≡◌, ◌↔◌, ◌+◌, ◌≤◌, ◌<◌, ◌++◌, false, length, true};
 ghost use Rattle.std.specs.Prelude.{[], IfOk, IfSome, IsTrue, OnOk, option_map};
+ghost use Rattle.std.specs.Option.{is_some};
 ghost use Rattle.der_lines.specs.Dump.{Adds, StandAt, StandsInside};
 ghost use Rattle.asn1_headers.specs.Front.{HasIndefiniteForm, HasNoHeader, IsAtFront};
 ghost use Rattle.der_lines.specs.Headers.{is_gone_into};
 ghost use Rattle.der_lines.specs.Steps.{AddsStart, IsTaken, PutsEncodings, PutsFirst, front_of};
-ghost use Rattle.der_lines.specs.Steps.{earlier_fault, header_front};
+ghost use Rattle.der_lines.specs.Steps.{earlier_fault, header_front, marked_offset};
 
 use crate::cursor::{Cursor, Step};
 use crate::faults::{Fault, fault_words};
@@ -13,6 +14,7 @@ use crate::header::holds_encodings;
 use crate::held::{Held, held_in};
 use crate::leaf::read_value;
 use crate::lines::{LineStart, push_line};
+use crate::marks::mark_of;
 use crate::names::Names;
 use crate::place::{Place, is_too_deep, sum_of};
 use crate::scalars::write_after_space;
@@ -20,16 +22,27 @@ use crate::values::{INDEFINITE, ValueStyle, opened_text, tag_words};
 use asn1_headers::error::ASN1DecodeErr;
 use asn1_headers::front::{Header, read_header};
 use asn1_headers::header::HeaderCount;
+use der_values::Extension;
 use std::alloc::{AllocError, Global};
 
-// What came of what is left of octets: how it is gone on, and what is wrong with the encoding at the front.
+// What came of what is left of octets: how it is gone on, what is wrong with the encoding at the front, whether it has
+// a mark, and the extension whose value a string is that comes next.
 #[derive(Drop)]
 struct Passed {
     step: Step,
     fault: Option<Fault>,
+    is_marked: bool,
+    next: Extension,
 }
 
-// Puts the lines of octets, and gives the first fault.
+// What is wrong with octets: the first fault, and the offsets of encodings that have a mark.
+#[derive(Drop)]
+pub struct Found {
+    pub fault: Option<Fault>,
+    pub marks: Vec<usize>,
+}
+
+// Puts the lines of octets, and gives what is wrong with them.
 #[cycle(encodings)]
 pub fn push_encodings(
     alloc: Global,
@@ -37,19 +50,37 @@ pub fn push_encodings(
     octets: &[u8],
     place: Place,
     out: &mut Vec<u8>,
-) -> Result<Option<Fault>, AllocError>
+) -> Result<Found, AllocError>
     requires { place.is_inside ≡ false → (place.base ≡ 0) × (place.depth ≡ 0) }
-    ensures { IfOk result (λ first. PutsEncodings place octets.now first out.old.items out.new.items) }
+    ensures { IfOk result (λ found. PutsEncodings place octets.now found out.old.items out.new.items) }
 {
     let mut first = None;
+    let mut marks = Vec::new(alloc);
+    let mut extension = Extension::Other;
     let mut cursor = Cursor::over(alloc, octets);
     while let Some(left) = cursor.next() {
-        let here = place.deeper(cursor.depth())?;
-        let passed = push_first(alloc, names, left, cursor.offset, here, out)?;
+        let here = place.deeper(cursor.depth(), extension)?;
+        let offset = cursor.offset;
+        let passed = push_first(alloc, names, left, offset, here, out)?;
         cursor.go(passed.step)?;
+        extension = passed.next;
         first = earlier(first, passed.fault);
+        keep_mark(passed.is_marked, offset, &mut marks)?;
     }
-    Ok(first)
+    Ok(Found {
+        fault: first,
+        marks,
+    })
+}
+
+// Keeps the offset of an encoding that has a mark.
+fn keep_mark(is_marked: bool, offset: usize, marks: &mut Vec<usize>) -> Result<(), AllocError>
+    ensures { OnOk result (marks.new.items ≡ marks.old.items ++ marked_offset is_marked offset) }
+{
+    if is_marked {
+        marks.push(offset)?;
+    }
+    Ok(())
 }
 
 // Puts the lines of what stands at the front of octets, which stand at the offset.
@@ -102,12 +133,15 @@ fn push_unreadable(
         contents: left.len(),
         depth: place.depth,
         words: "unreadable",
+        mark: None,
     };
     push_start(place, start, &said, out)?;
     let fault = Some(Fault { offset, words });
     Ok(Passed {
         step: Step::Past(left.len()),
         fault,
+        is_marked: false,
+        next: Extension::Other,
     })
 }
 
@@ -132,12 +166,14 @@ fn push_cut(
         said.push_str(":")?;
         write_after_space(&mut said, contents, place.is_full)?;
     }
-    push_header(alloc, header, offset, place, &said, out)?;
+    push_header(alloc, header, offset, place, &said, None, out)?;
     let words = fault_words(alloc, &ASN1DecodeErr::Incomplete)?;
     let fault = Some(Fault { offset, words });
     Ok(Passed {
         step: step_of(header, left.len()),
         fault,
+        is_marked: false,
+        next: Extension::Other,
     })
 }
 
@@ -167,7 +203,9 @@ fn push_opened(
     requires form { IsTrue header.now.is_indefinite ↔ HasIndefiniteForm left.now }
     ensures { IfOk result (λ passed. PutsFirst place offset left.now passed out.old.items out.new.items) }
 {
-    push_header(alloc, header, offset, place, opened_text(header), out)?;
+    let mark = mark_of(alloc, left, header)?;
+    let said = opened_text(alloc, header, place.role(header))?;
+    push_header(alloc, header, offset, place, &said, mark.as_deref(), out)?;
     let fault = if header.is_indefinite {
         let words = String::from_str(alloc, INDEFINITE)?;
         Some(Fault { offset, words })
@@ -177,6 +215,8 @@ fn push_opened(
     Ok(Passed {
         step: Step::Into(header.size, header.size + header.announced),
         fault,
+        is_marked: mark.is_some(),
+        next: Extension::Other,
     })
 }
 
@@ -199,18 +239,22 @@ fn push_leaf(
     let size = header.size + header.announced;
     let contents = &left[header.size..size];
     let words = tag_words(alloc, header.class, &header.tag)?;
+    let mark = mark_of(alloc, left, &header)?;
     let start = LineStart {
         offset: sum_of(place.base, offset)?,
         header: header.size,
         contents: header.announced,
         depth: place.depth,
         words: &words,
+        mark: mark.as_deref(),
     };
     let held = held_in(alloc, &header, contents, place)?;
     let style = ValueStyle {
         is_opened: held.is_some(),
         is_full: place.is_full,
+        role: place.role(&header),
     };
+    let next = place.next_after(&header, contents);
     let value = read_value(alloc, names, header, contents, style)?;
     push_start(place, start, &value.text, out)?;
     let before = sum_of(offset, start.header)?;
@@ -218,6 +262,8 @@ fn push_leaf(
     Ok(Passed {
         step: Step::Past(size),
         fault: fault_at(offset, value.fault),
+        is_marked: mark.is_some(),
+        next,
     })
 }
 
@@ -269,10 +315,11 @@ fn push_header(
     offset: usize,
     place: Place,
     said: &str,
+    mark: Option<&str>,
     out: &mut Vec<u8>,
 ) -> Result<(), AllocError>
-    ensures { OnOk result (AddsStart place (header_front (place.base + offset) place.depth header.now)
-        out.old.items out.new.items) }
+    ensures { OnOk result (AddsStart place
+        (header_front (place.base + offset) place.depth (is_some mark.entry) header.now) out.old.items out.new.items) }
 {
     let words = tag_words(alloc, header.class, &header.tag)?;
     let start = LineStart {
@@ -281,6 +328,7 @@ fn push_header(
         contents: header.announced,
         depth: place.depth,
         words: &words,
+        mark,
     };
     push_start(place, start, said, out)
 }

@@ -13,7 +13,8 @@
 //! many contents octets it announces, its type, and its value. Encodings inside the bytes of a string have lines
 //! that begin with `>`. What is wrong with an encoding is said on its line, and the first fault again on the last line,
 //! which begins with `!`; what came of it is the [`Verdict`]. Where the library reads otherwise than X.690, on purpose,
-//! lines show what X.690 has. [`push_fault_line`] puts the line of a fault that others find.
+//! lines show what X.690 has. What is read and is not DER has a mark at the end of its line, and
+//! [`push_strict_document`] lists it. [`push_fault_line`] puts the line of a fault that others find.
 //!
 //! [`push_label`] and [`push_refusal`] put the other lines of what is written: `=` and the label of a document, `!` and
 //! why there is none. [`block_at`] finds a block by its offset, and [`behind_header`] its contents octets.
@@ -30,11 +31,13 @@ mod header;
 mod held;
 mod leaf;
 mod lines;
+mod marks;
 mod names;
 mod notes;
 mod place;
 mod scalars;
 mod seek;
+mod strict;
 mod style;
 mod values;
 
@@ -44,5 +47,6 @@ pub use header::behind_header;
 pub use names::Names;
 pub use notes::{push_label, push_refusal};
 pub use seek::block_at;
+pub use strict::push_strict_document;
 pub use style::Style;
 pub use values::INDEFINITE;

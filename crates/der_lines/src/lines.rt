@@ -1,7 +1,8 @@
 // Lines, each put at the end of what is written.
 ghost use Rattle.std.specs.Prelude.{◌≡◌, ◌==◌, ◌++◌, OnOk, if◌then◌else◌, replicate, true};
 ghost use Rattle.der_lines.specs.Dump.{AddsLine, IsBlockLine, IsFaultLine, IsNote, IsOneLine, on_one_line, right_of};
-ghost use Rattle.der_lines.specs.Steps.{IsLineOf, front_of, mark_of, start_text};
+ghost use Rattle.std.specs.Option.{is_some};
+ghost use Rattle.der_lines.specs.Steps.{AddsMark, IsLineOf, front_of, mark_of, start_text};
 
 use itoa::Buffer;
 use memchr::memchr;
@@ -61,7 +62,7 @@ fn plain(b: u8) -> u8
 }
 
 // What the line of an encoding begins with: its offset, the sizes of its header and of the contents octets that it
-// announces, how many encodings are around it, and its tag in words.
+// announces, how many encodings are around it, and its tag in words; and what is said in its mark, if it has one.
 #[derive(Clone, Copy)]
 pub struct LineStart<'a> {
     pub offset: usize,
@@ -69,6 +70,7 @@ pub struct LineStart<'a> {
     pub contents: usize,
     pub depth: usize,
     pub words: &'a str,
+    pub mark: Option<&'a str>,
 }
 
 // Puts a number, with spaces before it where it has fewer digits than the width.
@@ -108,7 +110,21 @@ fn push_block_line(
     out.push(b' ')?;
     push_start(start, out)?;
     push_plain(said.as_bytes(), out)?;
+    push_mark(start.mark, out)?;
     out.push(b'\n')?;
+    Ok(())
+}
+
+// Puts the mark of an encoding that is not DER, if it has one.
+fn push_mark(mark: Option<&str>, out: &mut Vec<u8>) -> Result<(), AllocError>
+    ensures { OnOk result (AddsMark (is_some mark.entry) out.old.items out.new.items) }
+{
+    let Some(words) = mark else {
+        return Ok(());
+    };
+    out.extend_from_slice(b" (not DER: ")?;
+    push_plain(words.as_bytes(), out)?;
+    out.push(b')')?;
     Ok(())
 }
 

@@ -2,7 +2,11 @@
 ghost use Rattle.std.specs.Prelude.{◌≡◌, ◌+◌, ◌<◌, IfOk, false, true};
 ghost use Rattle.der_lines.specs.Dump.{is_too_deep};
 
+use crate::header::universal_tag;
 use crate::style::Style;
+use asn1_headers::front::Header;
+use asn1_headers::header::ASN1Class;
+use der_values::{Extension, Role, extension_of, role_in};
 use std::alloc::AllocError;
 
 // How many documents are shown inside one another.
@@ -23,6 +27,11 @@ pub struct Place {
     pub is_full: bool,
     // the most levels that may be around a block that is shown, if there is a most
     pub most_depth: Option<usize>,
+    // the extension whose value they are, and how many levels are around that
+    pub extension: Extension,
+    pub value_depth: usize,
+    // the extension whose value the next string is
+    pub next: Extension,
 }
 
 // The place of the document itself.
@@ -39,6 +48,9 @@ pub fn outermost(style: Style) -> Place
         documents: if style.is_flat { 0 } else { MOST_DOCUMENTS },
         is_full: style.is_full,
         most_depth: style.most_depth,
+        extension: Extension::Other,
+        value_depth: 0,
+        next: Extension::Other,
     }
 }
 
@@ -54,8 +66,8 @@ impl Place {
         self.documents > 0 && !is_deep
     }
 
-    // That of encodings which stand so many levels further in.
-    pub fn deeper(self, levels: usize) -> Result<Place, AllocError>
+    // That of encodings which stand so many levels further in; a string there is the value of the extension.
+    pub fn deeper(self, levels: usize, next: Extension) -> Result<Place, AllocError>
         ensures same { IfOk result (λ p. p.is_inside ≡ self.is_inside) }
         ensures base { IfOk result (λ p. p.base ≡ self.base) }
         ensures depth { IfOk result (λ p. p.depth ≡ self.depth + levels) }
@@ -64,6 +76,7 @@ impl Place {
     {
         Ok(Place {
             depth: sum_of(self.depth, levels)?,
+            next,
             ..self
         })
     }
@@ -80,8 +93,33 @@ impl Place {
             base: sum_of(self.base, before)?,
             depth: self.depth.saturating_add(1),
             documents: self.documents - 1,
+            extension: self.next,
+            value_depth: self.depth.saturating_add(1),
+            next: Extension::Other,
             ..self
         })
+    }
+}
+
+impl Place {
+    // What an encoding with the header is here.
+    pub fn role(self, header: &Header) -> Role {
+        let depth = self.depth.saturating_sub(self.value_depth);
+        match (header.class, header.tag.to_u64()) {
+            (ASN1Class::Universal, Some(tag)) => role_in(self.extension, depth, true, tag),
+            (ASN1Class::ContextSpecific, Some(tag)) => role_in(self.extension, depth, false, tag),
+            _ => Role::Plain,
+        }
+    }
+
+    // The extension whose value a string is that comes after a primitive encoding here: of an object identifier its
+    // own, of a BOOLEAN that of what came before.
+    pub fn next_after(self, header: &Header, contents: &[u8]) -> Extension {
+        match universal_tag(header) {
+            Some(6) => extension_of(contents),
+            Some(1) => self.next,
+            _ => Extension::Other,
+        }
     }
 }
 

@@ -16,18 +16,22 @@ use asn1_leaves::oid;
 use asn1_leaves::oid::OID;
 use asn1_numbers::number::big_int::BigInt;
 use asn1_numbers::number::big_uint::BigUint;
-use der_values::long_identifier;
+use der_values::{
+    Role, address_text, bit_names, general_name, long_identifier, string_of,
+    value_text as other_value,
+};
 use jiff::civil::DateTime;
 use std::alloc::{AllocError, Global};
 use std::str;
 
-// How many octets of another class are shown as text at least: fewer may well be a number.
+// How many octets of a string, or of another class, are shown as text at least: fewer may well be a number.
 const LEAST_TEXT: usize = 5;
+
+// From how many octets on an integer is also shown by them.
+const LEAST_HEX: usize = 5;
 
 /// What is said of BER's indefinite length: the blocks inside are shown after it, not inside.
 pub const INDEFINITE: &str = "indefinite length (BER): levels are lost from here";
-
-const INDEFINITE_TEXT: &str = ", indefinite length (BER): levels are lost from here";
 
 // How a value is written.
 #[derive(Clone, Copy, Drop)]
@@ -36,6 +40,8 @@ pub struct ValueStyle {
     pub is_opened: bool,
     // whether octets are written whole
     pub is_full: bool,
+    // what they are in an extension
+    pub role: Role,
 }
 
 // The tag in words.
@@ -63,17 +69,30 @@ fn tag_number(alloc: Global, tag: &BigUint) -> Result<String, AllocError>
     }
 }
 
-// What is said of an encoding that is gone into, behind its tag. That it is constructed is said where neither its tag
-// nor what stands inside it tells so.
-pub fn opened_text(header: &Header) -> &'static str {
-    if header.is_indefinite {
-        return INDEFINITE_TEXT;
-    }
+// What is said of an encoding that is gone into, behind its tag: what it is in an extension. That it is constructed is
+// said where neither its tag nor what stands inside it tells so.
+pub fn opened_text(alloc: Global, header: &Header, role: Role) -> Result<String, AllocError> {
     let is_told = match universal_tag(header) {
         Some(tag) => matches!(tag, 8 | 11 | 16 | 17 | 29),
         None => header.announced > 0,
     };
-    if is_told { "" } else { ", constructed" }
+    let mut said = String::new(alloc);
+    write_role(&mut said, role)?;
+    if !is_told {
+        said.push_str(", constructed")?;
+    }
+    Ok(said)
+}
+
+// The name of a GeneralName.
+fn write_role(out: &mut String, role: Role) -> Result<(), AllocError> {
+    if let Role::Name(tag) = role {
+        if let Some(name) = general_name(tag) {
+            out.push_str(" ")?;
+            out.push_str(name)?;
+        }
+    }
+    Ok(())
 }
 
 // The value of contents octets, behind the tag.
@@ -88,7 +107,7 @@ pub fn value_text(
     match universal {
         Some(1) => write!(out, " {}", contents.first() != Some(&0))?,
         Some(2 | 10) => write_integer(alloc, &mut out, contents, style)?,
-        Some(3) => write_bit_string(&mut out, contents, style)?,
+        Some(3) => write_bits(alloc, &mut out, contents, style)?,
         Some(4) => write_octets(&mut out, contents, style)?,
         Some(5) => {}
         Some(6) => write_identifier(alloc, &mut out, names, contents)?,
@@ -96,9 +115,78 @@ pub fn value_text(
         Some(22) => write_text(alloc, &mut out, contents)?,
         Some(23) => write_moment(&mut out, utc_time::read(alloc, contents))?,
         Some(24) => write_moment(&mut out, generalized_time::read(alloc, contents))?,
-        _ => write_unknown(&mut out, universal, contents, style)?,
+        Some(tag) => write_other_type(alloc, &mut out, tag, contents, style)?,
+        None => write_tagged(alloc, &mut out, names, contents, style)?,
     }
     Ok(out)
+}
+
+// The contents octets of a type that the library does not read.
+fn write_other_type(
+    alloc: Global,
+    out: &mut String,
+    tag: u8,
+    contents: &[u8],
+    style: ValueStyle,
+) -> Result<(), AllocError> {
+    if contents.is_empty() && tag != 9 {
+        return Ok(());
+    }
+    if let Some(text) = string_of(u64::from(tag), contents) {
+        out.push_str(" ")?;
+        return write_quoted(out, text);
+    }
+    match other_value(alloc, u64::from(tag), contents)? {
+        Some(text) => write!(out, " {text}"),
+        None => write_unknown(out, contents, 1, style),
+    }
+}
+
+// The contents octets of another class.
+fn write_tagged(
+    alloc: Global,
+    out: &mut String,
+    names: &Names,
+    contents: &[u8],
+    style: ValueStyle,
+) -> Result<(), AllocError> {
+    write_role(out, style.role)?;
+    match style.role {
+        Role::Plain => write_unknown(out, contents, LEAST_TEXT, style),
+        Role::Bits(_) => write_bits(alloc, out, contents, style),
+        Role::Name(8) => write_identifier(alloc, out, names, contents),
+        Role::Name(7) => match address_text(alloc, contents)? {
+            Some(address) => write!(out, " {address}"),
+            None => write_unknown(out, contents, LEAST_TEXT, style),
+        },
+        Role::Name(_) => {
+            if is_text(contents) {
+                write_ascii(out, contents)
+            } else {
+                write_unknown(out, contents, LEAST_TEXT, style)
+            }
+        }
+    }
+}
+
+// A BIT STRING, and the names of its bits, if they have any.
+fn write_bits(
+    alloc: Global,
+    out: &mut String,
+    contents: &[u8],
+    style: ValueStyle,
+) -> Result<(), AllocError> {
+    write_bit_string(out, contents, style)?;
+    match (style.role, contents) {
+        (Role::Bits(kind), [_, octets @ ..]) => {
+            let names = bit_names(alloc, kind, octets)?;
+            if names.is_empty() {
+                return Ok(());
+            }
+            write!(out, " ({names})")
+        }
+        _ => Ok(()),
+    }
 }
 
 fn write_utf8(out: &mut String, contents: &[u8]) -> Result<(), AllocError> {
@@ -139,7 +227,7 @@ fn found<T: Drop>(read: Result<T, ASN1DecodeErr>) -> Result<Option<T>, AllocErro
     }
 }
 
-// An integer in decimal where it fits an `i128`, else its two's complement octets.
+// An integer in decimal where it fits an `i128`; and its two's complement octets, if it takes some or does not fit.
 fn write_integer(
     alloc: Global,
     out: &mut String,
@@ -147,11 +235,17 @@ fn write_integer(
     style: ValueStyle,
 ) -> Result<(), AllocError> {
     let number = BigInt::from_signed_bytes_be(alloc, contents)?;
+    let octets = number.to_signed_bytes_be(alloc)?;
     match number.to_i128() {
-        Some(n) => write!(out, " {n}"),
+        Some(n) if octets.len() < LEAST_HEX => write!(out, " {n}"),
+        Some(n) => {
+            write!(out, " {n} (hex ")?;
+            write_hex(out, &octets, style.is_full)?;
+            out.push_str(")")
+        }
         None => {
             out.push_str(" hex ")?;
-            write_hex(out, &number.to_signed_bytes_be(alloc)?, style.is_full)
+            write_hex(out, &octets, style.is_full)
         }
     }
 }
@@ -160,7 +254,7 @@ fn write_octets(out: &mut String, octets: &[u8], style: ValueStyle) -> Result<()
     if style.is_opened {
         return out.push_str(", containing");
     }
-    write_after_space(out, octets, style.is_full)
+    write_unknown(out, octets, LEAST_TEXT, style)
 }
 
 fn write_bit_string(
@@ -231,15 +325,14 @@ fn name_of(class: ASN1Class, tag: &BigUint) -> Option<&'static str>
     }
 }
 
-// The contents octets of a type that the library does not read, or of another class.
+// Octets, and what they are as text, if they are at least so many and may be text.
 fn write_unknown(
     out: &mut String,
-    universal: Option<u8>,
     octets: &[u8],
+    least: usize,
     style: ValueStyle,
 ) -> Result<(), AllocError> {
     write_after_space(out, octets, style.is_full)?;
-    let least = if universal.is_some() { 1 } else { LEAST_TEXT };
     if octets.len() >= least && is_text(octets) {
         write_ascii(out, octets)?;
     }

@@ -25,7 +25,7 @@ const LAST_NULL: &[u8] = b"
 ";
 
 const LAST_LOST: &[u8] = b"
-  66003  2       0    SEQUENCE, indefinite length (BER): levels are lost from here
+  66003  2       0    SEQUENCE (not DER: indefinite length)
 ! error at offset 66003: indefinite length (BER): levels are lost from here
 ";
 

@@ -1,15 +1,20 @@
-use Rattle.std.proofs.Common.{◌≡◌, ◌∙◌, ◌+◌, ◌-◌, ◌<◌, [], length, refl, ap, subst, slice_range, arith}
+use Rattle.std.proofs.Common.{◌≡◌, ◌∙◌, ◌+◌, ◌-◌, ◌<◌, [], length, refl, ap, subst, sym, slice_range, arith}
+use Rattle.std.specs.Option.{is_some}
 use Rattle.der_lines.specs.Dump.{Adds, StandAt, StandsInside}
 use Rattle.der_lines.proofs.Cursors.{before_end, step_further, step_kept}
 use Rattle.der_lines.proofs.Dumps.{adds_nothing}
 use Rattle.der_lines.proofs.Firsts.{held_adds, leaf_puts, leaf_told}
-use Rattle.der_lines.proofs.Fronts.{shown_all, shown_more, shown_none}
+use Rattle.std.specs.Prelude.{None}
+use Rattle.der_lines.specs.Steps.{IsMarkedFirst}
+use Rattle.der_lines.proofs.Fronts.{ShownTo, shown_all, shown_more, shown_none}
 use Rattle.der_lines.proofs.encodings.+encodings.Goals as goal
 
 pub push_encodings-loop-left-init : goal.push_encodings-loop-left-init
 push_encodings-loop-left-init t c =
     let o = c.over-cursor.ensures in
-    shown_none c.args.place c.args.octets.now c.over-cursor.result _ o.octets o.offset o.end o.ends
+    subst (λ m. ShownTo c.args.place c.args.octets.now c.over-cursor.result None m c.args.out.now.items c.args.out.now.items)
+    (sym c.new-marks.ensures.items)
+    (shown_none c.args.place c.args.octets.now c.over-cursor.result c.args.out.now.items o.octets o.offset o.end o.ends)
 
 pub push_encodings-loop-left-smaller : goal.push_encodings-loop-left-smaller
 push_encodings-loop-left-smaller t c =
@@ -38,14 +43,14 @@ push_encodings-loop-left-preserved t c =
     let here = c.in_ok-here.here in
     let d : here.depth ≡ place.depth + length m.ends.items = h.depth ∙ ap (λ z. place.depth + z) c.depth.ensures in
     let all = shown_more place here c.args.octets.now c.in-Some.left.now c.loop-left.cursor m n c.in_ok-passed.passed c.loop-left.first
-    _ _ _ c.requires c.loop-left.invariant e.octets e.back e.left e.some h.same h.base d h.most c.in_ok-passed.ensures
+    _ _ _ _ _ c.in_ok-keep_mark.ensures c.requires c.loop-left.invariant e.octets e.back e.left e.some h.same h.base d h.most c.in_ok-passed.ensures
     c.in_ok-go.ensures (step_kept m n c.in_ok-passed.passed.step c.in_ok-go.ensures)
     in
     rw (c.earlier-first.ensures) all
 
 pub push_encodings-returns : goal.push_encodings-returns
 push_encodings-returns t c =
-    shown_all c.args.place c.args.octets.now c.loop-left.cursor c.loop-left.first _ _ c.loop-left.invariant (rw c.in_default.is at c.next.ensures.back)
+    shown_all c.args.place c.args.octets.now c.loop-left.cursor _ _ _ c.loop-left.invariant (rw c.in_default.is at c.next.ensures.back)
 
 pub push_held-returns-in_default : goal.push_held-returns-in_default
 push_held-returns-in_default t c = adds_nothing (StandsInside (c.args.place.base + c.args.offset) c.args._contents.now) _
@@ -65,8 +70,11 @@ push_leaf-returns t c =
     let left = c.args.left.now in
     let header = c.args.header in
     let contents = slice_range left header.size (header.size + header.announced) in
-    leaf_puts place offset left contents header _ _ _ _ _ c.requires.front c.requires.whole c.requires.closed refl refl
-    (leaf_told left contents offset place.depth header c.in_ok-value.value.fault c.fault_at.result c.requires.front c.requires.whole
+    let marked = is_some c.as_deref.result in
+    let is_marked = subst (IsMarkedFirst left header) (sym c.as_deref.ensures.variant) c.in_ok-mark.ensures in
+    let same = c.is_some-2.ensures ∙ sym c.as_deref.ensures.variant in
+    leaf_puts place offset left contents marked header _ _ _ _ _ is_marked c.requires.front c.requires.whole c.requires.closed refl refl
+    (leaf_told left contents offset place.depth marked header c.in_ok-value.value.fault c.fault_at.result c.requires.front c.requires.whole
     c.requires.closed refl c.in_ok-value.ensures c.fault_at.ensures)
-    c.in_ok-sum_of.ensures refl refl refl (c.deref.ensures ∙ c.in_ok-words.ensures) c.in_ok-push_start.ensures
+    c.in_ok-sum_of.ensures refl refl refl (c.deref.ensures ∙ c.in_ok-words.ensures) refl same c.in_ok-push_start.ensures
     (subst (λ z. Adds (StandsInside (place.base + z) contents) [] c.push_start.new.out.items c.push_held.new.out.items) c.in_ok-before.ensures c.in_ok-push_held.ensures)

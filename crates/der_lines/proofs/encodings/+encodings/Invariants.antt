@@ -16,7 +16,7 @@ decreases-push_encodings l = 4 * l.place.documents + 3
 
 -- the lines of the encodings before the cursor were put
 abbrev pub invariant-push_encodings-loop-left : goal.invariant-push_encodings-loop-left
-invariant-push_encodings-loop-left l = ShownTo l.place l.octets l.cursor l.first l.fn.out.items l.out.items
+invariant-push_encodings-loop-left l = ShownTo l.place l.octets l.cursor l.first l.marks.items l.fn.out.items l.out.items
 
 abbrev pub decreases-push_encodings-loop-left : goal.decreases-push_encodings-loop-left
 decreases-push_encodings-loop-left l = length l.octets - l.cursor.offset
