@@ -7,7 +7,7 @@ block makes more or fewer bytes than the block has, it is an error that names th
 - identifier and length octets, INTEGERs and OBJECT IDENTIFIERs in longer forms than the shortest
 - contents of a NULL, and none of an INTEGER
 - fractions of a second that end with 0, have no digits, or more than nine
-- lines with a `fault`, such as the second line of a document with an indefinite length
+- lines with a `fault`, such as the second line of a document with a malformed block
 
 After an error nothing is written, and the exit status is 1. What JSON does not tell is written as DER has it, without
 an error, where it is as long:
@@ -25,7 +25,7 @@ CLASSES = {"universal": 0x00, "application": 0x40, "context-specific": 0x80, "pr
 ENCODINGS = {
     "UTF8String": ["utf-8"],
     "PrintableString": ["latin-1"],
-    "TeletexString": ["utf-8"],
+    "TeletexString": ["utf-8", "latin-1"],
     "IA5String": ["latin-1"],
     "UniversalString": ["utf-32-be", "utf-8"],
     "BMPString": ["utf-16-be", "utf-8"],
@@ -89,7 +89,9 @@ def time_forms(value):
 def forms(row):
     """The contents octets that the value of a block without blocks inside may be, the likeliest first."""
     kind, value = row["type"], row["value"]
-    if kind in ENCODINGS:
+    if "code" in row.get("fault", {}):
+        yield bytes.fromhex(value)
+    elif kind in ENCODINGS:
         yield from (value.encode(it) for it in ENCODINGS[kind])
     elif kind == "BOOLEAN":
         yield b"\xff" if value else b"\x00"

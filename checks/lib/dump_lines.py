@@ -163,7 +163,7 @@ def is_canonical(dump, octets, rows):
     if 0x80 in firsts:
         return False
     lines = (dump.lines(["--strict", "--at", str(row["offset"])], octets.hex().encode()) for row in rows)
-    return all("blocks" in line for [line] in lines)
+    return all("fault" not in read[-1] for read in lines)
 
 
 def check_rebuilt(dump, documents, lines):
@@ -181,7 +181,7 @@ def check_rebuilt(dump, documents, lines):
             told = ""
         except rebuild.Different as why:
             made, told = None, str(why)
-        is_strict = "blocks" in strictly[0]
+        is_strict = "fault" not in strictly[-1]
         if made == octets:
             counts["canonical" if is_strict else "same"] += 1
         elif is_strict and is_canonical(dump, octets, rows):

@@ -1,5 +1,4 @@
 mod Answered
-mod IndefiniteForms
 mod Inputs
 mod Readers
 mod StrictFaults

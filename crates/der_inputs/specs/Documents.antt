@@ -1,22 +1,21 @@
 -- What is put of octets that may have a label, or of what has none that can be read: as a dump, or as a line of JSON.
-use Rattle.std.specs.Prelude.{◌≡◌, ◌⊎◌, ℕ, Bool, true, false, List, [], ◌∷◌, ◌++◌, drop, map, Option, Some, None, option_map}
-use Rattle.std.specs.List.{All}
+use Rattle.std.specs.Prelude.{◌≡◌, ◌⊎◌, ℕ, Bool, true, false, List, Option, Some, None, option_map}
 use Rattle.std.specs.Str.Lossy.{utf8_lossy}
 use Rattle.serde_json.specs.Data.{Members}
-use Rattle.serde_json.specs.Written.{compact_text}
 use Rattle.der_io.specs.Escaped.{escaped}
-use Rattle.der_json.specs.Json.{AddsJsonOf, origin_members, refusal_json}
+use Rattle.der_json.specs.Json.{AddsJsonOf, AddsLineOf, named_fault, origin_members, refusal_json}
 use Rattle.der_lines.specs.Dump.{AddsDumpOf, AddsLine, IsNote}
-use Rattle.asn1_headers.specs.Front.{HasIndefiniteForm}
-use Rattle.der_inputs.specs.Strict.{AddsStrictDumpOf}
+use Rattle.der_inputs.specs.Strict.{AddsStrictDumpOf, IsRejectedAt}
 use Rattle.der_lines.specs.declared.document.Verdict.{Verdict}
 use Rattle.der_lines.specs.declared.document.Verdict.TheVariants.{AllRead, Refused}
 use Rattle.der_options.specs.declared.options.Options.{Options}
-use Rattle.asn1_outline.specs.Entries.{IsOutline}
+use Rattle.simple_asn1.specs.Fault.{DecodeFault}
 use Rattle.simple_asn1.specs.ReadBack.{IsCanonicalDocument}
-use Rattle.simple_asn1.specs.Strict.{IsNotCanonicalAt}
-use Rattle.asn1_outline.specs.declared.entry.Entry.{Entry}
 use Rattle.der_io.specs.Characters.{equals_sign, exclamation_mark}
+
+abbrev pub is_all_read : Verdict → Bool
+is_all_read AllRead = true
+is_all_read Refused = false
 
 -- the dump of octets, read strictly or not, with no more than so many blocks around a block, where there is a most
 abbrev pub AddsReading : Bool → Option ℕ → List ℕ → Verdict → List ℕ → List ℕ → Type 0
@@ -40,63 +39,39 @@ abbrev pub PutsDump :
 PutsDump strict most label octets verdict before after =
     (named : List ℕ) × AddsLabel label before named × AddsDump strict most octets verdict named after
 
--- a line of JSON that says in words why octets are not read, and perhaps at which offset
-abbrev pub AddsRefusal : Option ℕ → Members → List ℕ → List ℕ → Type 0
-AddsRefusal offset origin before after =
-    (words : List ℕ) × (after ≡ before ++ (compact_text (refusal_json offset words origin) ++ 10 ∷ []))
+-- a line of JSON that says in words why there are no octets
+abbrev pub AddsWords : Members → List ℕ → List ℕ → Type 0
+AddsWords origin before after =
+    (words : List ℕ)
+    × AddsLineOf (refusal_json (record { code = None; offset = None; words = words }) origin) before after
 
--- where the blocks of entries begin
-abbrev pub entry_offsets : List Entry → List ℕ
-entry_offsets rs = map (λ r. r.offset) rs
+-- the line of JSON of where octets are rejected, if they are no canonical document
+abbrev pub AddsJsonRejection : List ℕ → Members → Verdict → List ℕ → List ℕ → Type 0
+AddsJsonRejection octets origin AllRead before after = IsCanonicalDocument octets × (after ≡ before)
+AddsJsonRejection octets origin Refused before after =
+    (offset : ℕ) × (fault : DecodeFault) × (words : List ℕ) × IsRejectedAt octets offset
+    × AddsLineOf (refusal_json (named_fault offset fault words) origin) before after
 
--- nothing that stands at the offsets has the indefinite form of BER
-abbrev pub AreDefinite : List ℕ → List ℕ → Type 0
-AreDefinite octets offsets = All (λ o. HasIndefiniteForm (drop o octets) → ⊥) offsets
-
--- of what stands at the offsets, the first that has it stands at this one
-abbrev pub IsFirstIndefinite : List ℕ → List ℕ → ℕ → Type 0
-IsFirstIndefinite octets offsets offset =
-    (earlier later : List ℕ) × (offsets ≡ earlier ++ offset ∷ later) × AreDefinite octets earlier
-    × HasIndefiniteForm (drop offset octets)
-
--- the octets are a document no block of which has the indefinite form, as its entries have them
-abbrev pub IsDefiniteDocument : List ℕ → Type 0
-IsDefiniteDocument octets = (rs : List Entry) × IsOutline octets rs × AreDefinite octets (entry_offsets rs)
-
--- the octets are a document, and of its entries the first whose block has the form stands at the offset
-abbrev pub IsIndefiniteAt : List ℕ → ℕ → Type 0
-IsIndefiniteAt octets offset =
-    (rs : List Entry) × IsOutline octets rs × IsFirstIndefinite octets (entry_offsets rs) offset
-
--- the line of JSON of octets. A document is refused, after its line, where a block of it has the indefinite form, at
--- the offset of the first that has
-abbrev pub AddsDefiniteJsonOf : List ℕ → Members → Verdict → List ℕ → List ℕ → Type 0
-AddsDefiniteJsonOf octets origin AllRead before after =
-    IsDefiniteDocument octets × AddsJsonOf octets origin true before after
-AddsDefiniteJsonOf octets origin Refused before after =
-    AddsJsonOf octets origin false before after
-    ⊎ ((offset : ℕ) × (shown : List ℕ) × IsIndefiniteAt octets offset
-    × AddsJsonOf octets origin true before shown × AddsRefusal (Some offset) origin shown after)
-
--- the line of JSON of octets, where no document is read but a canonical one: of another, that of a refusal at its first
--- block at the top level that is not canonical
+-- what is put as JSON of octets, where no document is read but a canonical one: of another, after its line, that of
+-- where it is rejected
 abbrev pub AddsStrictJsonOf : List ℕ → Members → Verdict → List ℕ → List ℕ → Type 0
 AddsStrictJsonOf octets origin AllRead before after =
     IsCanonicalDocument octets × AddsJsonOf octets origin true before after
 AddsStrictJsonOf octets origin Refused before after =
     AddsJsonOf octets origin false before after
-    ⊎ ((offset : ℕ) × IsNotCanonicalAt octets offset × AddsRefusal (Some offset) origin before after)
+    ⊎ ((shown : List ℕ) × AddsJsonOf octets origin true before shown
+    × AddsJsonRejection octets origin Refused shown after)
 
--- the line of JSON of octets, read strictly or not
+-- so of octets, read strictly or not
 abbrev pub AddsJsonReading : Bool → List ℕ → Members → Verdict → List ℕ → List ℕ → Type 0
-AddsJsonReading false octets origin verdict = AddsDefiniteJsonOf octets origin verdict
+AddsJsonReading false octets origin verdict = AddsJsonOf octets origin (is_all_read verdict)
 AddsJsonReading true octets origin verdict = AddsStrictJsonOf octets origin verdict
 
 -- the line of JSON of octets, or that of a refusal where there are none to be read
 abbrev pub AddsJsonLine : Bool → Option (List ℕ) → Members → Verdict → List ℕ → List ℕ → Type 0
 AddsJsonLine strict (Some octets) origin verdict before after =
     AddsJsonReading strict octets origin verdict before after
-AddsJsonLine strict None origin verdict before after = (verdict ≡ Refused) × AddsRefusal None origin before after
+AddsJsonLine strict None origin verdict before after = (verdict ≡ Refused) × AddsWords origin before after
 
 -- a line of JSON that tells its file and its label, of each that there is. Where a label is no UTF-8, U+FFFD stands in
 -- place of the octets that are none

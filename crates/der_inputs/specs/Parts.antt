@@ -1,19 +1,13 @@
--- What is put in a manner, and of one block, and whether all was read. Private contracts alone name these.
-use Rattle.std.specs.Prelude.{ℕ, Bool, true, false, List, Option, None}
+-- What is put in a manner, and of one block. Private contracts alone name these.
+use Rattle.std.specs.Prelude.{ℕ, List, Option, None}
 use Rattle.std.specs.Option.{option_map}
 use Rattle.der_inputs.specs.Documents.{PutsAs}
 use Rattle.der_inputs.specs.Inputs.{AddsContents, AddsOctets, AddsThese, OutputRelation}
 use Rattle.der_inputs.specs.Outcomes.{Writes}
 use Rattle.der_inputs.specs.declared.outcome.Outcome.{Outcome}
 use Rattle.der_inputs.specs.declared.manner.Manner.{Manner}
-use Rattle.der_lines.specs.declared.document.Verdict.{Verdict}
-use Rattle.der_lines.specs.declared.document.Verdict.TheVariants.{AllRead, Refused}
 use Rattle.der_options.specs.declared.options.Task.{Task}
 use Rattle.der_options.specs.declared.options.Task.TheVariants.{Contents, Extract}
-
-abbrev pub is_all_read : Verdict → Bool
-is_all_read AllRead = true
-is_all_read Refused = false
 
 -- what is put in this manner
 abbrev pub PutsIn : Manner → OutputRelation

@@ -1,17 +1,15 @@
 // Lines of JSON.
-ghost use Rattle.std.specs.Prelude.{IfOk, MatchOption, OnOk};
+ghost use Rattle.std.specs.Prelude.{◌≡◌, IfOk, OnOk};
 ghost use Rattle.std.specs.Option.{option_map};
 ghost use Rattle.std.specs.Result.{result_ok};
-ghost use Rattle.der_inputs.specs.Documents.{AddsDefiniteJsonOf, AddsJsonLine, AddsJsonReading, AddsRefusal};
-ghost use Rattle.der_inputs.specs.Documents.{AddsStrictJsonOf, IsDefiniteDocument, IsIndefiniteAt, PutsJson};
-ghost use Rattle.der_inputs.specs.Parts.{is_all_read};
+ghost use Rattle.der_inputs.specs.Documents.{AddsJsonLine, AddsJsonReading, AddsJsonRejection};
+ghost use Rattle.der_inputs.specs.Documents.{AddsStrictJsonOf, AddsWords, PutsJson, is_all_read};
 ghost use Rattle.der_json.specs.Json.{AddsJsonOf, told_of};
 
-use crate::indefinite::first_indefinite;
 use crate::manner::Manner;
-use der_json::{Origin, push_json, push_refusal};
-use der_lines::{INDEFINITE, Verdict};
-use simple_asn1::{ASN1DecodeErr, Outline, discard, from_der_strict, law_one_reading};
+use crate::strict::rejection;
+use der_json::{Fault, Origin, fault_at, push_json, push_refusal};
+use der_lines::Verdict;
 use std::alloc::{AllocError, Global};
 
 // Puts the line of what was found: octets, or why there are none to be read.
@@ -53,10 +51,27 @@ fn push_line(
     match found {
         Ok(octets) => push_octets(alloc, is_strict, origin, octets, out),
         Err(why) => {
-            push_refusal(alloc, origin, None, why, out)?;
+            push_words(alloc, origin, why, out)?;
             Ok(Verdict::Refused)
         }
     }
+}
+
+// Puts the line that says in words why there are no octets.
+fn push_words(
+    alloc: Global,
+    origin: Origin<'_>,
+    why: &str,
+    out: &mut Vec<u8>,
+) -> Result<(), AllocError>
+    ensures { OnOk result (AddsWords (told_of origin.entry) out.old.items out.new.items) }
+{
+    let fault = Fault {
+        code: None,
+        offset: None,
+        words: String::from_str(alloc, why)?,
+    };
+    push_refusal(alloc, origin, &fault, out)
 }
 
 fn push_octets(
@@ -72,41 +87,7 @@ fn push_octets(
     if is_strict {
         push_strictly(alloc, origin, octets, out)
     } else {
-        push_definite(alloc, origin, octets, out)
-    }
-}
-
-// Puts the line of octets, and behind that of a document the refusal of its first block that has the indefinite form.
-fn push_definite(
-    alloc: Global,
-    origin: Origin<'_>,
-    octets: &[u8],
-    out: &mut Vec<u8>,
-) -> Result<Verdict, AllocError>
-    ensures { IfOk result (λ verdict. AddsDefiniteJsonOf octets.now (told_of origin.entry) verdict
-        out.old.items out.new.items) }
-{
-    match push_plainly(alloc, origin, octets, out)? {
-        Verdict::Refused => Ok(Verdict::Refused),
-        Verdict::AllRead => match indefinite_in(alloc, octets)? {
-            Some(offset) => {
-                push_refusal(alloc, origin, Some(offset), INDEFINITE, out)?;
-                Ok(Verdict::Refused)
-            }
-            None => Ok(Verdict::AllRead),
-        },
-    }
-}
-
-// The offset of the first block of a document that has the indefinite form, of those that its line has.
-fn indefinite_in(alloc: Global, octets: &[u8]) -> Result<Option<usize>, AllocError>
-    ensures { IfOk result (λ found. MatchOption found
-        (IsDefiniteDocument octets.now)
-        (IsIndefiniteAt octets.now)) }
-{
-    match Outline::from_der(alloc, octets) {
-        Ok(outline) => Ok(first_indefinite(octets, outline.entries())),
-        Err(_) => Err(AllocError),
+        push_plainly(alloc, origin, octets, out)
     }
 }
 
@@ -126,7 +107,8 @@ fn push_plainly(
     }
 }
 
-// Puts the line of a document, and that of a refusal in its place where it is not canonical.
+// Puts the line of octets, and behind it that of where they are rejected, where nothing is at fault, and they are no
+// canonical document.
 fn push_strictly(
     alloc: Global,
     origin: Origin<'_>,
@@ -136,35 +118,28 @@ fn push_strictly(
     ensures { IfOk result (λ verdict. AddsStrictJsonOf octets.now (told_of origin.entry) verdict
         out.old.items out.new.items) }
 {
-    law_one_reading();
-    let before = out.len();
     match push_plainly(alloc, origin, octets, out)? {
         Verdict::Refused => Ok(Verdict::Refused),
-        Verdict::AllRead => match from_der_strict(alloc, octets) {
-            Ok(blocks) => {
-                discard(blocks);
-                Ok(Verdict::AllRead)
-            }
-            Err(ASN1DecodeErr::NotCanonical(offset)) => {
-                out.truncate(before);
-                push_not_canonical(alloc, origin, offset, out)?;
-                Ok(Verdict::Refused)
-            }
-            Err(_) => Err(AllocError),
-        },
+        Verdict::AllRead => push_rejection(alloc, origin, octets, out),
     }
 }
 
-// Puts the line of a document whose first block that is not canonical has the offset.
-fn push_not_canonical(
+// Puts the line of where octets are rejected, if they are.
+fn push_rejection(
     alloc: Global,
     origin: Origin<'_>,
-    offset: usize,
+    octets: &[u8],
     out: &mut Vec<u8>,
-) -> Result<(), AllocError>
-    ensures { OnOk result (AddsRefusal (Some offset) (told_of origin.entry) out.old.items out.new.items) }
+) -> Result<Verdict, AllocError>
+    ensures { IfOk result (λ verdict. AddsJsonRejection octets.now (told_of origin.entry) verdict
+        out.old.items out.new.items) }
 {
-    let fault = ASN1DecodeErr::NotCanonical(offset);
-    let words = format!(in alloc; "{fault}")?;
-    push_refusal(alloc, origin, Some(offset), &words, out)
+    match rejection(alloc, octets)? {
+        Some(located) => {
+            let fault = fault_at(alloc, located.offset, &located.error)?;
+            push_refusal(alloc, origin, &fault, out)?;
+            Ok(Verdict::Refused)
+        }
+        None => Ok(Verdict::AllRead),
+    }
 }

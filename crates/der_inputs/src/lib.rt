@@ -10,7 +10,6 @@
 #![tactic(auto)]
 
 mod answers;
-mod indefinite;
 mod json_lines;
 mod manner;
 mod outcome;

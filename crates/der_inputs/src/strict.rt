@@ -1,6 +1,7 @@
 // Dumps of which only canonical documents are read.
-ghost use Rattle.std.specs.Prelude.{IfOk};
-ghost use Rattle.der_inputs.specs.Strict.{AddsRejection, AddsStrictDumpOf};
+ghost use Rattle.std.specs.Prelude.{IfOk, MatchOption};
+ghost use Rattle.simple_asn1.specs.ReadBack.{IsCanonicalDocument};
+ghost use Rattle.der_inputs.specs.Strict.{AddsRejection, AddsStrictDumpOf, IsRejectedAt};
 
 use der_lines::{Names, Style, Verdict, push_document, push_fault_line};
 use simple_asn1::{ASN1DecodeErr, LocatedErr, Outline, discard, from_der_strict, law_one_reading};
@@ -31,39 +32,49 @@ pub fn push_document_strictly(
 fn push_rejection(alloc: Global, octets: &[u8], out: &mut Vec<u8>) -> Result<Verdict, AllocError>
     ensures { IfOk result (λ verdict. AddsRejection octets.now verdict out.old.items out.new.items) }
 {
+    match rejection(alloc, octets)? {
+        Some(located) => {
+            push_fault_line(alloc, located.offset, &located.error, out)?;
+            Ok(Verdict::Refused)
+        }
+        None => Ok(Verdict::AllRead),
+    }
+}
+
+// Why octets are no canonical document, and where; `None` of one.
+pub fn rejection(alloc: Global, octets: &[u8]) -> Result<Option<LocatedErr>, AllocError>
+    ensures { IfOk result (λ found. MatchOption found
+        (IsCanonicalDocument octets.now)
+        (λ e. IsRejectedAt octets.now e.offset)) }
+{
     match Outline::from_der_located(alloc, octets) {
-        Ok(_) => push_not_canonical(alloc, octets, out),
+        Ok(_) => not_canonical(alloc, octets),
         Err(
             LocatedErr {
                 error: ASN1DecodeErr::OutOfMemory,
                 ..
             },
         ) => Err(AllocError),
-        Err(located) => {
-            push_fault_line(alloc, located.offset, &located.error, out)?;
-            Ok(Verdict::Refused)
-        }
+        Err(located) => Ok(Some(located)),
     }
 }
 
-// Puts the line of the first block of a document that is not canonical, if one is not.
-fn push_not_canonical(
-    alloc: Global,
-    octets: &[u8],
-    out: &mut Vec<u8>,
-) -> Result<Verdict, AllocError>
-    ensures { IfOk result (λ verdict. AddsRejection octets.now verdict out.old.items out.new.items) }
+// The first block of a document that is not canonical, if one is not.
+fn not_canonical(alloc: Global, octets: &[u8]) -> Result<Option<LocatedErr>, AllocError>
+    ensures { IfOk result (λ found. MatchOption found
+        (IsCanonicalDocument octets.now)
+        (λ e. IsRejectedAt octets.now e.offset)) }
 {
     law_one_reading();
     match from_der_strict(alloc, octets) {
         Ok(blocks) => {
             discard(blocks);
-            Ok(Verdict::AllRead)
+            Ok(None)
         }
-        Err(ASN1DecodeErr::NotCanonical(offset)) => {
-            push_fault_line(alloc, offset, &ASN1DecodeErr::NotCanonical(offset), out)?;
-            Ok(Verdict::Refused)
-        }
+        Err(ASN1DecodeErr::NotCanonical(offset)) => Ok(Some(LocatedErr {
+            error: ASN1DecodeErr::NotCanonical(offset),
+            offset,
+        })),
         Err(_) => Err(AllocError),
     }
 }

@@ -1,4 +1,4 @@
 pub mod Arrays
+pub mod Encoded
 pub mod Lines
 pub mod Members
-pub mod Outlined

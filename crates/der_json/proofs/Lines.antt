@@ -5,7 +5,11 @@ use Rattle.std.proofs.lemmas.List.{append_assoc}
 use Rattle.serde_json.proofs.OnLiterals.{serde_json_on_literals}
 use Rattle.serde_json.specs.Data.{Data, Members, array, member, no_members, object, string}
 use Rattle.serde_json.specs.Written.{compact_text, has_float, items_text}
-use Rattle.der_json.specs.Json.{items_of, member_if, refusal_json, words_json}
+use Rattle.std.proofs.Common.{Bool, true, inl}
+use Rattle.std.specs.Prelude.{Result, Ok, Err, IfOk}
+use Rattle.std.specs.declared.alloc.AllocError.{AllocError}
+use Rattle.der_json.specs.Json.{AddsFirst, AddsJsonOf, AddsLineOf, IsDocumentJson}
+use Rattle.der_json.specs.Json.{Row, ToldFault, fault_json, items_of, member_if, number_if, refusal_json}
 use Rattle.der_json.specs.Rows.{end_text, told_text}
 
 -- a text behind its name, and what follows it
@@ -39,7 +43,7 @@ pub origin_end :
     ≡ end_text (member_if (codes "file") file (member_if (codes "label") label no_members)) ++ 10 ∷ []
 origin_end file label = file_end file (member_if (codes "label") label no_members) _ (label_end label)
 
-pub document_line : (origin : Members) (rows : List Data)
+pub document_line : (origin : Members) (rows : List Row)
     → codes "{\"blocks\":[" ++ (items_text false (items_of rows) ++ (end_text origin ++ 10 ∷ []))
     ≡ compact_text (object (member (codes "blocks") (array (items_of rows)) origin)) ++ 10 ∷ []
 unfolding serde_json_on_literals
@@ -47,14 +51,39 @@ document_line origin rows =
     ap (λ z. codes "{\"blocks\":[" ++ z)
     (sym (append_assoc (items_text false (items_of rows)) (end_text origin) (10 ∷ [])))
 
-pub refusal_line : (origin : Members) (offset : Option ℕ) (words : List ℕ)
-    → codes "{\"fault\":" ++ (compact_text (words_json offset words) ++ (end_text origin ++ 10 ∷ []))
-    ≡ compact_text (refusal_json offset words origin) ++ 10 ∷ []
+pub refusal_line : (origin : Members) (fault : ToldFault)
+    → codes "{\"fault\":" ++ (compact_text (fault_json fault) ++ (end_text origin ++ 10 ∷ []))
+    ≡ compact_text (refusal_json fault origin) ++ 10 ∷ []
 unfolding serde_json_on_literals
-refusal_line origin offset words =
+refusal_line origin fault =
     ap (λ z. codes "{\"fault\":" ++ z)
-    (sym (append_assoc (compact_text (words_json offset words)) (end_text origin) (10 ∷ [])))
+    (sym (append_assoc (compact_text (fault_json fault)) (end_text origin) (10 ∷ [])))
 
-pub words_exact : (offset : Option ℕ) (words : List ℕ) → has_float (words_json offset words) ≡ false
-words_exact None words = refl
-words_exact (Some n) words = refl
+fault_exact_of : (code : Option (List ℕ)) (offset : Option ℕ) (words : List ℕ) →
+    has_float (object (member_if (codes "code") code (number_if (codes "offset") offset (member (codes "text") (string words) no_members)))) ≡ false
+fault_exact_of None None words = refl
+fault_exact_of None (Some n) words = refl
+fault_exact_of (Some c) None words = refl
+fault_exact_of (Some c) (Some n) words = refl
+
+pub fault_exact : (fault : ToldFault) → has_float (fault_json fault) ≡ false
+fault_exact fault = fault_exact_of fault.code fault.offset fault.words
+
+-- what is put of encodings, and of their first fault
+encodings_of :
+    (octets : List ℕ) (origin : Members) (first : Option ToldFault) (json : Data) (right : Bool) (before between after : List ℕ) →
+    IsDocumentJson octets origin first json → AddsLineOf json before between → AddsFirst first origin right between after →
+    AddsJsonOf octets origin right before after
+encodings_of octets origin first json true before between after is line fault =
+    record { json = json; first = first; between = between; is_document = is; line = line; fault = fault }
+encodings_of octets origin first json false before between after is line fault =
+    inl (record { json = json; first = first; between = between; is_document = is; line = line; fault = fault })
+
+pub encodings_put :
+    (r : Result Bool AllocError) (octets : List ℕ) (origin : Members) (first : Option ToldFault) (json : Data)
+    (before between after : List ℕ) →
+    IsDocumentJson octets origin first json → AddsLineOf json before between →
+    IfOk r (λ right. AddsFirst first origin right between after) → IfOk r (λ right. AddsJsonOf octets origin right before after)
+encodings_put (Ok right) octets origin first json before between after is line fault =
+    encodings_of octets origin first json right before between after is line fault
+encodings_put (Err e) octets origin first json before between after is line fault = tt

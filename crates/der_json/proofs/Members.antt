@@ -1,15 +1,24 @@
 -- The object of a row, member by member.
-use Rattle.std.proofs.Common.{◌≡◌, ℕ, List, [], ◌∷◌, ◌++◌, codes, refl, ap, ◌∙◌}
+use Rattle.std.proofs.Common.{◌≡◌, ℕ, List, [], ◌∷◌, ◌++◌, codes, refl, true, ap, ◌∙◌}
 use Rattle.std.proofs.lemmas.List.{append_assoc}
 use Rattle.serde_json.proofs.OnLiterals.{serde_json_on_literals}
-use Rattle.serde_json.specs.Data.{Data, member, no_members, object}
-use Rattle.serde_json.specs.Written.{compact_text}
+use Rattle.std.specs.Prelude.{Option, None, Some}
+use Rattle.serde_json.specs.Data.{Data, member, object}
+use Rattle.serde_json.specs.Written.{compact_text, members_text}
+use Rattle.der_json.specs.Json.{ToldFault, fault_members}
+use Rattle.der_json.specs.Rows.{fault_text}
 
 -- one text put after another
 pub put_after : (out x y a b : List ℕ) → a ≡ out ++ x → b ≡ a ++ y → b ≡ out ++ (x ++ y)
 put_after out x y a b d e = e ∙ (ap (λ z. z ++ y) d ∙ append_assoc out x y)
 
-module _ (offset header size depth class constructed tag kind value : Data) where
+-- the member of a fault, and the closing bracket
+fault_end : (fault : Option ToldFault) → fault_text fault ++ 125 ∷ [] ≡ members_text true (fault_members fault)
+unfolding serde_json_on_literals
+fault_end None = refl
+fault_end (Some f) = refl
+
+module _ (offset header size depth class constructed tag kind value : Data) (fault : Option ToldFault) where
   abbrev pub row_json : Data
   row_json =
       object (member (codes "offset") offset
@@ -20,11 +29,11 @@ module _ (offset header size depth class constructed tag kind value : Data) wher
       (member (codes "constructed") constructed
       (member (codes "tag") tag
       (member (codes "type") kind
-      (member (codes "value") value no_members)))))))))
+      (member (codes "value") value (fault_members fault))))))))))
 
   -- the text of each member, and of those after it
   abbrev from_value : List ℕ
-  from_value = (codes ",\"value\":" ++ compact_text value) ++ (125 ∷ [])
+  from_value = (codes ",\"value\":" ++ compact_text value) ++ members_text true (fault_members fault)
 
   abbrev from_kind : List ℕ
   from_kind = (codes ",\"type\":" ++ compact_text kind) ++ from_value
@@ -56,7 +65,7 @@ module _ (offset header size depth class constructed tag kind value : Data) wher
 
   -- members put one after another, and the closing bracket
   pub row_put :
-      (out a b c d e f g h i j : List ℕ) →
+      (out a b c d e f g h i j k : List ℕ) →
       a ≡ out ++ (codes "{\"offset\":" ++ compact_text offset) →
       b ≡ a ++ (codes ",\"header\":" ++ compact_text header) →
       c ≡ b ++ (codes ",\"size\":" ++ compact_text size) →
@@ -66,24 +75,27 @@ module _ (offset header size depth class constructed tag kind value : Data) wher
       g ≡ f ++ (codes ",\"tag\":" ++ compact_text tag) →
       h ≡ g ++ (codes ",\"type\":" ++ compact_text kind) →
       i ≡ h ++ (codes ",\"value\":" ++ compact_text value) →
-      j ≡ i ++ 125 ∷ [] → j ≡ out ++ compact_text row_json
-  row_put out a b c d e f g h i j p0 p1 p2 p3 p4 p5 p6 p7 p8 p9 =
-      put_after out (codes "{\"offset\":" ++ compact_text offset) from_header a j p0
-      (put_after a (codes ",\"header\":" ++ compact_text header) from_size b j p1
-      (put_after b (codes ",\"size\":" ++ compact_text size) from_depth c j p2
-      (put_after c (codes ",\"depth\":" ++ compact_text depth) from_class d j p3
-      (put_after d (codes ",\"class\":" ++ compact_text class) from_constructed e j p4
-      (put_after e (codes ",\"constructed\":" ++ compact_text constructed) from_tag f j p5
-      (put_after f (codes ",\"tag\":" ++ compact_text tag) from_kind g j p6
-      (put_after g (codes ",\"type\":" ++ compact_text kind) from_value h j p7
-      (put_after h (codes ",\"value\":" ++ compact_text value) (125 ∷ []) i j p8 p9))))))))
+      j ≡ i ++ fault_text fault → k ≡ j ++ 125 ∷ [] → k ≡ out ++ compact_text row_json
+  row_put out a b c d e f g h i j k p0 p1 p2 p3 p4 p5 p6 p7 p8 p9 p10 =
+      let last : k ≡ i ++ members_text true (fault_members fault) =
+      put_after i (fault_text fault) (125 ∷ []) j k p9 p10 ∙ ap (λ z. i ++ z) (fault_end fault) in
+      put_after out (codes "{\"offset\":" ++ compact_text offset) from_header a k p0
+      (put_after a (codes ",\"header\":" ++ compact_text header) from_size b k p1
+      (put_after b (codes ",\"size\":" ++ compact_text size) from_depth c k p2
+      (put_after c (codes ",\"depth\":" ++ compact_text depth) from_class d k p3
+      (put_after d (codes ",\"class\":" ++ compact_text class) from_constructed e k p4
+      (put_after e (codes ",\"constructed\":" ++ compact_text constructed) from_tag f k p5
+      (put_after f (codes ",\"tag\":" ++ compact_text tag) from_kind g k p6
+      (put_after g (codes ",\"type\":" ++ compact_text kind) from_value h k p7
+      (put_after h (codes ",\"value\":" ++ compact_text value) (members_text true (fault_members fault)) i k p8 last))))))))
       ∙ ap (λ z. out ++ z) row_text
 
 -- the same members make the same object
 pub row_same :
-    (offset header size depth class constructed tag kind value offset' header' size' depth' class' constructed' tag' kind' : Data) →
+    (offset header size depth class constructed tag kind value offset' header' size' depth' class' constructed' tag' kind' : Data)
+    (fault : Option ToldFault) →
     offset ≡ offset' → header ≡ header' → size ≡ size' → depth ≡ depth' → class ≡ class' → constructed ≡ constructed' →
     tag ≡ tag' → kind ≡ kind' →
-    row_json offset header size depth class constructed tag kind value
-    ≡ row_json offset' header' size' depth' class' constructed' tag' kind' value
-row_same o h s d c b t k v o' h' s' d' c' b' t' k' p0 p1 p2 p3 p4 p5 p6 p7 = rw (p0, p1, p2, p3, p4, p5, p6, p7) refl
+    row_json offset header size depth class constructed tag kind value fault
+    ≡ row_json offset' header' size' depth' class' constructed' tag' kind' value fault
+row_same o h s d c b t k v o' h' s' d' c' b' t' k' f p0 p1 p2 p3 p4 p5 p6 p7 = rw (p0, p1, p2, p3, p4, p5, p6, p7) refl

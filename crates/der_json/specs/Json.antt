@@ -1,7 +1,8 @@
--- What is written of octets as JSON: an object that has the blocks of the document, or its first fault.
-use Rattle.std.specs.Prelude.{◌≡◌, ℕ, zero, suc, ◌+◌, ◌<◌, ℤ, unsigned_abs, nat_lt, Bool, true, false, if◌then◌else◌}
-use Rattle.std.specs.Prelude.{List, [], ◌∷◌, ◌++◌, codes, Option, None, Some, option_map}
-use Rattle.std.specs.List.{AllZip, enumerate_from}
+-- What is written of octets as JSON: an object that has a row for each encoding, by the headers, and the first fault.
+use Rattle.std.specs.Prelude.{◌≡◌, ◌↔◌, ◌⊎◌, ℕ, zero, suc, ◌+◌, ◌<◌, ◌==◌, ◌||◌, ℤ, unsigned_abs, nat_lt}
+use Rattle.std.specs.Prelude.{IsTrue, Bool, true, false}
+use Rattle.std.specs.Prelude.{if◌then◌else◌, List, [], ◌∷◌, ◌++◌, codes, Option, None, Some, option_map, string_bytes}
+use Rattle.std.specs.List.{AllZip}
 use Rattle.std.specs.Str.{chars}
 use Rattle.hex.specs.Hex.{encode_lower}
 use Rattle.jiff.specs.Names.{iso_datetime_text}
@@ -10,23 +11,24 @@ use Rattle.serde_json.specs.Data.{Data, array, boolean as boolean_json, null, nu
 use Rattle.serde_json.specs.Data.{Items, no_items, item, Members, no_members, member}
 use Rattle.serde_json.specs.Find.{of_integer}
 use Rattle.serde_json.specs.Written.{compact_text}
-use Rattle.asn1_blocks.specs.BlockParts.{tree_tag}
 use Rattle.asn1_numbers.specs.Decimal.{natural_numeral, whole_numeral}
 use Rattle.asn1_headers.specs.Fault.{DecodeFault}
-use Rattle.asn1_blocks.specs.Grammar.{FirstFaultAt, IsDocument}
-use Rattle.asn1_blocks.specs.Tree.{Leaf, Tree, Trees, leaf, group, explicit, unknown, boolean, integer, bit_string}
-use Rattle.asn1_blocks.specs.Tree.{octet_string, null as null_leaf, object_identifier, text as text_leaf}
-use Rattle.asn1_blocks.specs.Tree.{utc_time, generalized_time}
+use Rattle.asn1_headers.specs.Front.{HasIndefiniteForm}
+use Rattle.asn1_headers.specs.Header.{Encoding}
 use Rattle.asn1_headers.specs.declared.header.ASN1Class.{ASN1Class}
-use Rattle.asn1_headers.specs.Names.{class_name, type_name}
-use Rattle.asn1_headers.specs.declared.header.ASN1Class.TheVariants.{Application, ContextSpecific, Private, Universal}
+use Rattle.asn1_headers.specs.Names.{class_name, fault_name, type_name}
+use Rattle.asn1_headers.specs.declared.header.ASN1Class.TheVariants.{Universal}
 use Rattle.asn1_leaves.specs.Contents.ObjectIdentifier.{object_identifier_contents}
 use Rattle.asn1_leaves.specs.Contents.Moment.{Moment, moment_of}
 use Rattle.asn1_leaves.specs.DottedDecimal.{dotted_decimal}
-use Rattle.asn1_leaves.specs.StringKind.{StringKind, universal, bmp}
-use Rattle.asn1_outline.specs.Entries.{AreEntriesOf}
-use Rattle.asn1_outline.specs.Structure.{Nodes, tree_at}
+use Rattle.asn1_blocks.specs.Contents.{LeafFault, is_group_tag}
+use Rattle.asn1_blocks.specs.Grammar.{Encodes}
+use Rattle.asn1_blocks.specs.Tree.{Leaf, Tree, leaf, group, explicit, unknown, boolean, integer, bit_string}
+use Rattle.asn1_blocks.specs.Tree.{octet_string, null as null_leaf, object_identifier, text as text_leaf}
+use Rattle.asn1_blocks.specs.Tree.{utc_time, generalized_time}
+use Rattle.asn1_outline.specs.Shapes.{AreEntriesOfShapes, FirstHeaderFaultAt, contents_octets, encoding_octets}
 use Rattle.asn1_outline.specs.declared.entry.Entry.{Entry}
+use Rattle.der_json.specs.declared.fault.Fault.{Fault}
 use Rattle.der_json.specs.declared.line.Origin.{Origin}
 
 -- a natural number: greater ones than these are texts, since readers of JSON round them
@@ -67,13 +69,6 @@ abbrev pub IsIdentifierValue : List ℕ → Data → Type 0
 IsIdentifierValue components value =
     (text : List ℕ) × (value ≡ string text) × (HasShortFront components → text ≡ dotted_decimal components)
 
--- the value of a string, which the library reads as these characters. X.690 has UTF-32 and UTF-16 for the last two
--- kinds, which it reads as UTF-8
-abbrev pub IsStringValue : StringKind → List ℕ → Data → Type 0
-IsStringValue universal characters value = (text : List ℕ) × (value ≡ string text)
-IsStringValue bmp characters value = (text : List ℕ) × (value ≡ string text)
-IsStringValue kind characters value = (text : List ℕ) × (chars text ≡ characters) × (value ≡ string text)
-
 -- the value of a leaf
 abbrev pub IsLeafValue : Leaf → Data → Type 0
 IsLeafValue (boolean is_true) value = value ≡ boolean_json is_true
@@ -82,48 +77,141 @@ IsLeafValue (bit_string bits octets) value = value ≡ bits_json bits octets
 IsLeafValue (octet_string octets) value = value ≡ string (encode_lower octets)
 IsLeafValue null_leaf value = value ≡ null
 IsLeafValue (object_identifier components) value = IsIdentifierValue components value
-IsLeafValue (text_leaf kind characters) value = IsStringValue kind characters value
+IsLeafValue (text_leaf kind characters) value =
+    (text : List ℕ) × (chars text ≡ characters) × (value ≡ string text)
 IsLeafValue (utc_time moment) value = (text : List ℕ) × IsMomentText moment text × (value ≡ string text)
 IsLeafValue (generalized_time moment) value = (text : List ℕ) × IsMomentText moment text × (value ≡ string text)
 
--- the value of a block that holds so many blocks: none of one that holds any
-abbrev pub IsValue : Tree ℕ → ℕ → Data → Type 0
-IsValue (leaf offset contents) items value = IsLeafValue contents value
-IsValue (group offset kind blocks) items value = value ≡ null
-IsValue (explicit class offset tag block) items value = value ≡ null
-IsValue (unknown class constructed offset tag octets) zero value = value ≡ string (encode_lower octets)
-IsValue (unknown class constructed offset tag octets) (suc items) value = value ≡ null
+-- the value of a block in which none stand
+abbrev pub IsValue : Tree ℕ → Data → Type 0
+IsValue (leaf offset contents) value = IsLeafValue contents value
+IsValue (group offset kind blocks) value = value ≡ null
+IsValue (explicit class offset tag block) value = value ≡ null
+IsValue (unknown class constructed offset tag octets) value = value ≡ string (encode_lower octets)
 
--- the object of a block, by its entry and its tree
-pub record IsRow (entry : Entry) (tree : Tree ℕ) (row : Data) : Type 0 where
+-- strings that the library takes for UTF-8 where X.690 has other characters: TeletexString, UniversalString, BMPString
+abbrev pub is_wide_tag : ℕ → Bool
+is_wide_tag tag = (tag == 20) || (tag == 28) || (tag == 30)
+
+-- what is wrong, in words, with its name and its offset, where it has these
+pub record ToldFault : Type 0 where
+  pub code : Option (List ℕ)
+  pub offset : Option ℕ
+  pub words : List ℕ
+
+abbrev pub fault_told : Fault → ToldFault
+fault_told fault = record {
+  code = option_map (λ t. t.now) fault.code;
+  offset = fault.offset;
+  words = string_bytes fault.words;
+}
+
+-- a fault of reading, at the offset
+abbrev pub named_fault : ℕ → DecodeFault → List ℕ → ToldFault
+named_fault offset fault words = record {
+  code = Some (fault_name fault);
+  offset = Some offset;
+  words = words;
+}
+
+-- what is shown of an encoding of class Universal: its value and no fault; or its contents octets, where they have none
+pub data IsShownUniversal (octets contents : List ℕ) (offset tag : ℕ) (value : Data) (fault : Option ToldFault)
+    : Type 0 where
+  of_group :
+      is_group_tag tag ≡ true → value ≡ null → fault ≡ None →
+      IsShownUniversal octets contents offset tag value fault
+  in_its_form :
+      is_wide_tag tag ≡ true → (text : List ℕ) → value ≡ string text → fault ≡ None →
+      IsShownUniversal octets contents offset tag value fault
+  with_value :
+      (tree : Tree ℕ) → Encodes offset octets tree → IsValue tree value → fault ≡ None →
+      IsShownUniversal octets contents offset tag value fault
+  with_no_value :
+      (found : DecodeFault) (words : List ℕ) → LeafFault tag contents found →
+      value ≡ string (encode_lower contents) → fault ≡ Some (named_fault offset found words) →
+      IsShownUniversal octets contents offset tag value fault
+
+-- what is shown of an encoding in which so many stand: of one in which any do, null
+abbrev pub IsShown :
+    ASN1Class → ℕ → List ℕ → List ℕ → ℕ → ℕ → Data → Option ToldFault → Type 0
+IsShown class (suc items) octets contents offset tag value fault = (value ≡ null) × (fault ≡ None)
+IsShown Universal zero octets contents offset tag value fault =
+    IsShownUniversal octets contents offset tag value fault
+IsShown class zero octets contents offset tag value fault =
+    (value ≡ string (encode_lower contents)) × (fault ≡ None)
+
+-- what is wrong with an encoding at the offset that has such a fault of its own, or none: its length, if this has the
+-- indefinite form
+abbrev pub IsJudged : Bool → ℕ → Option ToldFault → Option ToldFault → Type 0
+IsJudged true offset own fault =
+    (words : List ℕ) × (fault ≡ Some (record { code = None; offset = Some offset; words = words }))
+IsJudged false offset own fault = fault ≡ own
+
+-- a member with a text, before others, where there is one; so with a number
+abbrev pub member_if : List ℕ → Option (List ℕ) → Members → Members
+member_if name None others = others
+member_if name (Some text) others = member name (string text) others
+
+abbrev pub number_if : List ℕ → Option ℕ → Members → Members
+number_if name None others = others
+number_if name (Some n) others = member name (number (unsigned n)) others
+
+-- the object of a fault
+abbrev pub fault_json : ToldFault → Data
+fault_json fault =
+    object (member_if (codes "code") fault.code
+    (number_if (codes "offset") fault.offset
+    (member (codes "text") (string fault.words) no_members)))
+
+abbrev pub fault_members : Option ToldFault → Members
+fault_members None = no_members
+fault_members (Some fault) = member (codes "fault") (fault_json fault) no_members
+
+-- the object of an encoding, and its fault
+pub record Row : Type 0 where
+  pub json : Data
+  pub fault : Option ToldFault
+
+-- so of the encoding of the entry
+pub record IsRow (document : List ℕ) (entry : Entry) (row : Row) : Type 0 where
+  pub tag : ℕ
+  pub encoding :
+      Encoding (encoding_octets document entry) entry.class entry.constructed tag
+      (contents_octets document entry) entry.header
   pub value : Data
-  pub is_value : IsValue tree entry.items value
-  -- how many octets stand before the block, how many its identifier and length octets are, how many it has, and how
-  -- many blocks are around it; its class, its constructed bit, its tag and its type; and its value
-  pub members : row ≡
+  pub own : Option ToldFault
+  pub shown :
+      IsShown entry.class entry.items (encoding_octets document entry) (contents_octets document entry)
+      entry.offset tag value own
+  pub indefinite : Bool
+  pub form : IsTrue indefinite ↔ HasIndefiniteForm (encoding_octets document entry)
+  pub judged : IsJudged indefinite entry.offset own row.fault
+  -- how many octets stand before the encoding, how many its identifier and length octets are, how many it has, and how
+  -- many encodings are around it; its class, its constructed bit, its tag and its type; its value, and its fault
+  pub members : row.json ≡
       object (member (codes "offset") (number (unsigned entry.offset))
       (member (codes "header") (number (unsigned entry.header))
       (member (codes "size") (number (unsigned (entry.header + entry.contents)))
       (member (codes "depth") (number (unsigned entry.depth))
       (member (codes "class") (string (class_name entry.class))
       (member (codes "constructed") (boolean_json entry.constructed)
-      (member (codes "tag") (natural_json (tree_tag tree))
+      (member (codes "tag") (natural_json tag)
       (member (codes "type") (type_json entry.class entry.tag)
-      (member (codes "value") value no_members)))))))))
+      (member (codes "value") value (fault_members row.fault))))))))))
 
--- so of an entry with its index, whose tree is the one there
-abbrev pub IsRowAt : Nodes → ℕ × Entry → Data → Type 0
-IsRowAt nodes entry row = IsRow entry.1 (tree_at nodes entry.0) row
-
--- an array of these
-abbrev pub items_of : List Data → Items
+-- an array of the objects
+abbrev pub items_of : List Row → Items
 items_of [] = no_items
-items_of (json ∷ later) = item json (items_of later)
+items_of (row ∷ later) = item row.json (items_of later)
 
--- a member with a text, before others, where there is one
-abbrev pub member_if : List ℕ → Option (List ℕ) → Members → Members
-member_if name None others = others
-member_if name (Some text) others = member name (string text) others
+-- the first of two faults, and of those of rows
+abbrev pub earlier_of : Option ToldFault → Option ToldFault → Option ToldFault
+earlier_of (Some fault) next = Some fault
+earlier_of None next = next
+
+abbrev pub first_fault : List Row → Option ToldFault
+first_fault [] = None
+first_fault (row ∷ later) = earlier_of row.fault (first_fault later)
 
 -- the members that tell where octets are from: the name of the file, and the label in it
 abbrev pub origin_members : Option (List ℕ) → Option (List ℕ) → Members
@@ -133,38 +221,48 @@ origin_members file label = member_if (codes "file") file (member_if (codes "lab
 abbrev pub told_of : Origin → Members
 told_of origin = origin_members (option_map (λ t. t.now) origin.file) (option_map (λ t. t.now) origin.label)
 
--- an object that has a row for each entry of the document, in order
-pub record IsDocumentJson (octets : List ℕ) (origin : Members) (json : Data) : Type 0 where
-  pub trees : Trees ℕ
+-- an object that has a row for each encoding of the octets, in order, of which this is the first fault
+pub record IsDocumentJson (octets : List ℕ) (origin : Members) (first : Option ToldFault) (json : Data) : Type 0 where
   pub entries : List Entry
-  pub rows : List Data
-  pub document : IsDocument octets trees
-  pub outline : AreEntriesOf octets trees entries
-  pub told : AllZip (IsRowAt outline.nodes) (enumerate_from 0 entries) rows
+  pub rows : List Row
+  pub walked : AreEntriesOfShapes octets entries
+  pub told : AllZip (IsRow octets) entries rows
+  pub first_is : first ≡ first_fault rows
   pub json_is : json ≡ object (member (codes "blocks") (array (items_of rows)) origin)
 
--- words that say why octets are not read, and perhaps the offset of what is at fault
-abbrev pub words_json : Option ℕ → List ℕ → Data
-words_json None words = object (member (codes "text") (string words) no_members)
-words_json (Some offset) words =
-    object (member (codes "offset") (number (unsigned offset)) (member (codes "text") (string words) no_members))
+-- an object with a fault
+abbrev pub refusal_json : ToldFault → Members → Data
+refusal_json fault origin = object (member (codes "fault") (fault_json fault) origin)
 
-abbrev pub refusal_json : Option ℕ → List ℕ → Members → Data
-refusal_json offset words origin = object (member (codes "fault") (words_json offset words) origin)
+-- the text of JSON was put after the text, and the end of a line
+abbrev pub AddsLineOf : Data → List ℕ → List ℕ → Type 0
+AddsLineOf json before after = after ≡ before ++ (compact_text json ++ 10 ∷ [])
 
--- an object with the first fault of the octets in words, and its offset
-pub record IsFaultJson (octets : List ℕ) (origin : Members) (json : Data) : Type 0 where
+-- the line of the first fault, where there is one; nothing is at fault where there is none
+abbrev pub AddsFirst : Option ToldFault → Members → Bool → List ℕ → List ℕ → Type 0
+AddsFirst None origin right before after = (right ≡ true) × (after ≡ before)
+AddsFirst (Some fault) origin right before after =
+    (right ≡ false) × AddsLineOf (refusal_json fault origin) before after
+
+-- what is put of octets that are encodings by their headers: a line that has them, and that of the first fault
+pub record AddsEncodings (octets : List ℕ) (origin : Members) (right : Bool) (before after : List ℕ) : Type 0 where
+  pub json : Data
+  pub first : Option ToldFault
+  pub between : List ℕ
+  pub is_document : IsDocumentJson octets origin first json
+  pub line : AddsLineOf json before between
+  pub fault : AddsFirst first origin right between after
+
+-- of others, the line of the first fault of a header
+pub record AddsHeaderFault (octets : List ℕ) (origin : Members) (before after : List ℕ) : Type 0 where
   pub fault : DecodeFault
   pub offset : ℕ
   pub words : List ℕ
-  pub first : FirstFaultAt octets fault offset
-  pub json_is : json ≡ refusal_json (Some offset) words origin
+  pub first : FirstHeaderFaultAt octets fault offset
+  pub line : AddsLineOf (refusal_json (named_fault offset fault words) origin) before after
 
--- the text of JSON of some kind was put after the text, and the end of a line
-abbrev pub AddsJson : (Data → Type 0) → List ℕ → List ℕ → Type 0
-AddsJson Is before after = (json : Data) × Is json × (after ≡ before ++ (compact_text json ++ 10 ∷ []))
-
--- so what is put of octets that are read, or not
+-- what is put of octets in which nothing is at fault, or something is
 abbrev pub AddsJsonOf : List ℕ → Members → Bool → List ℕ → List ℕ → Type 0
-AddsJsonOf octets origin true before after = AddsJson (IsDocumentJson octets origin) before after
-AddsJsonOf octets origin false before after = AddsJson (IsFaultJson octets origin) before after
+AddsJsonOf octets origin true before after = AddsEncodings octets origin true before after
+AddsJsonOf octets origin false before after =
+    AddsEncodings octets origin false before after ⊎ AddsHeaderFault octets origin before after

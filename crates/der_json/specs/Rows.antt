@@ -1,53 +1,46 @@
 -- The text of an array, as far as it is put, and what is known of an entry. Private contracts alone name these.
-use Rattle.std.specs.Prelude.{◌≡◌, ℕ, ◌+◌, ◌<◌, ◌^◌, Bool, true, false, List, [], ◌∷◌, ◌++◌, length, Option, None, Some}
-use Rattle.std.specs.List.{AllZip, enumerate_from}
-use Rattle.serde_json.specs.Data.{Data, Members, string}
+use Rattle.std.specs.Prelude.{◌≡◌, ℕ, ◌+◌, ◌<◌, ◌≤◌, ◌^◌, Bool, true, false, List, [], ◌∷◌, ◌++◌, length, codes}
+use Rattle.std.specs.Prelude.{Option, None, Some}
+use Rattle.std.specs.List.{AllZip}
+use Rattle.serde_json.specs.Data.{Members, string}
 use Rattle.serde_json.specs.Written.{comma_if, compact_text, items_text, members_text}
-use Rattle.asn1_blocks.specs.Tree.{Leaf, leaf}
-use Rattle.asn1_outline.specs.Entries.{AreEntries}
-use Rattle.asn1_outline.specs.Outlines.{entries_in, octets_in}
-use Rattle.asn1_outline.specs.Structure.{IsStructure, Nodes, nodes_depths, nodes_in_order, tree_at}
+use Rattle.asn1_headers.specs.Header.{Encoding}
+use Rattle.asn1_outline.specs.Shapes.{contents_octets, encoding_octets}
 use Rattle.asn1_outline.specs.declared.entry.Entry.{Entry}
-use Rattle.asn1_outline.specs.declared.outline.Outline.{Outline}
-use Rattle.der_json.specs.Json.{IsRowAt, items_of}
+use Rattle.der_json.specs.Json.{IsRow, Row, ToldFault, fault_json, first_fault, items_of}
 
--- the outline is of a document with this structure
-pub record HasStructure (outline : Outline) (nodes : Nodes) : Type 0 where
-  pub structure : IsStructure (octets_in outline) nodes
-  pub entries :
-      AreEntries (octets_in outline) 0 (nodes_in_order nodes) (nodes_depths 0 nodes) (entries_in outline)
-  pub room : length (octets_in outline) < 2 ^ 64
-
--- the entry is the one at the index of such an outline
-pub record IsEntryAt (outline : Outline) (nodes : Nodes) (index : ℕ) (entry : Entry) : Type 0 where
-  pub structure : IsStructure (octets_in outline) nodes
-  pub within : index < length (entries_in outline)
-  pub fits : entry.header + entry.contents < 2 ^ 64
-  pub leaf_holds_none : (offset : ℕ) (contents : Leaf)
-      → tree_at nodes index ≡ leaf offset contents → entry.items ≡ 0
+-- an encoding stands in the document where the entry has it
+pub record IsEncoded (document : List ℕ) (entry : Entry) : Type 0 where
+  pub tag : ℕ
+  pub encoding :
+      Encoding (encoding_octets document entry) entry.class entry.constructed tag
+      (contents_octets document entry) entry.header
+  pub within : entry.offset + entry.header + entry.contents ≤ length document
+  pub room : length document < 2 ^ 64
 
 -- the texts of these, with a comma between two of them
-abbrev pub rows_text : Bool → List Data → List ℕ
+abbrev pub rows_text : Bool → List Row → List ℕ
 rows_text later [] = []
-rows_text later (row ∷ rows) = comma_if later ++ (compact_text row ++ rows_text true rows)
+rows_text later (row ∷ rows) = comma_if later ++ (compact_text row.json ++ rows_text true rows)
 
 -- whether there are any
-abbrev pub are_some : List Data → Bool
+abbrev pub are_some : List Row → Bool
 are_some [] = false
 are_some (row ∷ rows) = true
 
--- rows of these entries, each with its index, were put after the text, and whether any
-pub record AddsRows (nodes : Nodes) (later : Bool) (entries : List (ℕ × Entry)) (before after : List ℕ)
-    : Type 0 where
-  pub rows : List Data
-  pub told : AllZip (IsRowAt nodes) entries rows
+-- rows of these entries were put after the text; whether any, and their first fault
+pub record AddsRows (document : List ℕ) (later : Bool) (entries : List Entry) (first : Option ToldFault)
+    (before after : List ℕ) : Type 0 where
+  pub rows : List Row
+  pub told : AllZip (IsRow document) entries rows
   pub some : later ≡ are_some rows
+  pub first_is : first ≡ first_fault rows
   pub after_is : after ≡ before ++ rows_text false rows
 
 -- so the array of them, with its closing bracket
-abbrev pub AddsArray : Nodes → List Entry → List ℕ → List ℕ → Type 0
-AddsArray nodes entries before after =
-    (rows : List Data) × AllZip (IsRowAt nodes) (enumerate_from 0 entries) rows
+abbrev pub AddsArray : List ℕ → List Entry → Option ToldFault → List ℕ → List ℕ → Type 0
+AddsArray document entries first before after =
+    (rows : List Row) × AllZip (IsRow document) entries rows × (first ≡ first_fault rows)
     × (after ≡ before ++ items_text false (items_of rows))
 
 -- the end of an object that has these members after its first
@@ -58,3 +51,8 @@ end_text origin = members_text true origin
 abbrev pub told_text : List ℕ → Option (List ℕ) → List ℕ
 told_text name None = []
 told_text name (Some told) = name ++ compact_text (string told)
+
+-- the member of a fault, behind others, where there is one
+abbrev pub fault_text : Option ToldFault → List ℕ
+fault_text None = []
+fault_text (Some fault) = codes ",\"fault\":" ++ compact_text (fault_json fault)

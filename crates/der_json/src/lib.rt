@@ -1,7 +1,8 @@
 //! Documents as JSON, a line each, for programs.
 //!
-//! [`push_json`] puts an object whose `blocks` are those of the document, each before those inside it, as an `Outline`
-//! of `simple_asn1` has them: also the blocks in a constructed one of another class, however many. Each is an object:
+//! [`push_json`] puts an object whose `blocks` are the encodings of the octets by their headers, each before those
+//! inside it, as `Headers` of `simple_asn1` has them: also those in a constructed one of another class, however many.
+//! Each is an object:
 //!
 //! | Member | What |
 //! |---|---|
@@ -14,26 +15,31 @@
 //! | `tag` | its number; as a text of its decimal digits where it is greater than 2^53 - 1 |
 //! | `type` | `SEQUENCE` and its like, by X.680 (8.4, table 1); `null` where the tag has no type there |
 //! | `value` | what it holds: the next table |
+//! | `fault` | what is wrong with it, if anything is |
 //!
 //! | Block | `value` |
 //! |---|---|
 //! | BOOLEAN | `true` or `false` |
 //! | INTEGER | a number from -(2^53 - 1) to 2^53 - 1; any other as a text of its decimal digits |
 //! | OBJECT IDENTIFIER | a text, `1.2.840`, as X.690 has it: of `88 37` `2.999` |
-//! | strings of characters | their text: of a UniversalString in UTF-32, of a BMPString in UTF-16, where it is so |
+//! | strings | their text, of a UniversalString also in UTF-32, a BMPString in UTF-16, a TeletexString in Latin-1 |
 //! | UTCTime, GeneralizedTime | a text, `2026-11-23T00:43:05Z` |
 //! | BIT STRING | an object: `bits`, how many there are, and `octets`, in hex digits |
 //! | any other that holds no blocks: OCTET STRING, ENUMERATED, `[0]` | its contents octets in hex digits |
 //! | NULL, SEQUENCE, SET, and what holds blocks | `null` |
 //!
-//! An [`Origin`] adds the members `file` and `label`, of each that is known. If octets are not a document, or are not
-//! read, `fault` replaces `blocks`: an object with `text`, and the `offset` of the fault.
+//! A `fault` is an object with `text`, and `code`, the name of the error, and `offset`, where it has these. A block
+//! whose contents octets have no value shows them in hex digits, with its fault. A length of the indefinite form (BER)
+//! is one. The first fault is a line of its own behind that of the blocks; if a header is at fault, or octets are not
+//! read, it is the only one. An [`Origin`] adds the members `file` and `label` to each line, of each that is known.
 //!
 //! Numbers beyond 2^53 - 1 are texts since `jq` and JavaScript round them, as RFC 7493 (section 2.2) lets readers do.
 #![tactic(auto)]
 
+mod fault;
 mod line;
 mod row;
 mod value;
 
+pub use fault::{Fault, fault_at};
 pub use line::{Origin, push_json, push_refusal};

@@ -1,19 +1,15 @@
 // A document as a line of JSON.
-ghost use Rattle.std.specs.Prelude.{◌≡◌, ◌≢◌, ◌++◌, ◌∷◌, [], IfOk, OnOk};
-ghost use Rattle.std.specs.Option.{option_map};
+ghost use Rattle.std.specs.Prelude.{◌≡◌, ◌++◌, ◌∷◌, [], All, IfOk, OnOk, option_map};
 ghost use Rattle.serde_json.specs.Data.{string};
-ghost use Rattle.serde_json.specs.View.{view};
 ghost use Rattle.serde_json.specs.Written.{comma_if, compact_text};
-ghost use Rattle.asn1_headers.specs.declared.error.ASN1DecodeErr.TheVariants.{OutOfMemory};
-ghost use Rattle.asn1_outline.specs.Outlines.{entries_in};
-ghost use Rattle.asn1_outline.specs.Structure.{Nodes};
-ghost use Rattle.der_json.specs.Json.{AddsJsonOf, origin_members, refusal_json, told_of, words_json};
-ghost use Rattle.der_json.specs.Rows.{AddsArray, HasStructure, end_text, told_text};
+ghost use Rattle.der_json.specs.Json.{AddsFirst, AddsJsonOf, earlier_of, fault_told, refusal_json, told_of};
+ghost use Rattle.der_json.specs.Rows.{AddsArray, IsEncoded, end_text, told_text};
 
-use crate::row::{push_member, push_row};
-use asn1_headers::error::ASN1DecodeErr;
-use asn1_outline::outline::Outline;
-use serde_json::{Value, json};
+use crate::fault::{Fault, fault_at};
+use crate::row::{push_fault_object, push_member, push_row};
+use asn1_outline::entry::Entry;
+use asn1_outline::headers::Headers;
+use serde_json::Value;
 use std::alloc::{AllocError, Global};
 
 /// Where octets are from, as far as a line tells it. Each text that is there is the member of its name, behind the
@@ -26,89 +22,105 @@ pub struct Origin<'a> {
     pub label: Option<&'a str>,
 }
 
-/// Puts the octets at the end as one line of JSON, as the page of this crate describes it: `{"blocks":[..]}` of a
-/// document, and of other octets `{"fault":{"offset":..,"text":".."}}`, where the offset is that of the innermost block
-/// at fault. Where they are from follows, as the members `file` and `label`. Whether the octets are a document.
+/// Puts the octets at the end as a line of JSON, as the page of this crate describes it: `{"blocks":[..]}` of encodings
+/// by their headers. Of others, and in a second line of those of which some are at fault, it is the first fault:
+/// `{"fault":{"code":..,"offset":..,"text":".."}}`. Where the octets are from follows, as the members `file` and
+/// `label`. Whether nothing is at fault.
 ///
-/// It takes memory for an entry of each block, for the line, and for one row; the only error is that it ran out, after
-/// which some of the line may have been put.
+/// It takes memory for an entry of each encoding, for the line, and for one row; the only error is that it ran out,
+/// after which some of the line may have been put.
 pub fn push_json(
     alloc: Global,
     origin: Origin<'_>,
     octets: &[u8],
     out: &mut Vec<u8>,
 ) -> Result<bool, AllocError>
-    ensures { IfOk result (λ is_read. AddsJsonOf octets.now (told_of origin.entry) is_read
+    ensures { IfOk result (λ is_right. AddsJsonOf octets.now (told_of origin.entry) is_right
         out.old.items out.new.items) }
 {
-    match Outline::from_der_located(alloc, octets) {
-        Ok(outline) => {
+    match Headers::read(alloc, octets) {
+        Ok(headers) => {
             out.extend_from_slice(b"{\"blocks\":[")?;
-            push_rows(alloc, &outline, out)?;
+            let first = push_rows(alloc, octets, headers.entries(), out)?;
             push_end(alloc, origin, out)?;
-            Ok(true)
+            push_first(alloc, origin, &first, out)
         }
         Err(located) => {
-            let text = fault_text(alloc, &located.error)?;
-            push_refusal(alloc, origin, Some(located.offset), &text, out)?;
+            let fault = fault_at(alloc, located.offset, &located.error)?;
+            push_refusal(alloc, origin, &fault, out)?;
             Ok(false)
         }
     }
 }
 
-/// Puts a line of JSON at the end that says in words why octets are not read: `{"fault":{"text":".."}}`. Where the
-/// fault has an offset, counted in octets from the first, it is the member `offset` before `text`. Where the octets are
-/// from follows, as the members `file` and `label`.
+// Puts the line of the first fault, if there is one. Whether there is none.
+fn push_first(
+    alloc: Global,
+    origin: Origin<'_>,
+    first: &Option<Fault>,
+    out: &mut Vec<u8>,
+) -> Result<bool, AllocError>
+    ensures { IfOk result (λ is_right. AddsFirst (option_map fault_told first.now) (told_of origin.entry) is_right
+        out.old.items out.new.items) }
+{
+    match first {
+        Some(fault) => {
+            push_refusal(alloc, origin, fault, out)?;
+            Ok(false)
+        }
+        None => Ok(true),
+    }
+}
+
+/// Puts a line of JSON at the end that says why octets are not read: `{"fault":{"text":".."}}`, with the members `code`
+/// and `offset` before `text` where the fault has these. Where the octets are from follows, as the members `file` and
+/// `label`.
 ///
 /// The only error is that memory ran out, after which some of the line may have been put.
 pub fn push_refusal(
     alloc: Global,
     origin: Origin<'_>,
-    offset: Option<usize>,
-    words: &str,
+    fault: &Fault,
     out: &mut Vec<u8>,
 ) -> Result<(), AllocError>
     ensures { OnOk result (out.new.items ≡ out.old.items
-        ++ (compact_text (refusal_json offset words.now (told_of origin.entry)) ++ 10 ∷ [])) }
+        ++ (compact_text (refusal_json (fault_told fault.now) (told_of origin.entry)) ++ 10 ∷ [])) }
 {
-    let told = words_value(alloc, offset, words)?;
-    push_member(alloc, b"{\"fault\":", &told, out)?;
+    push_fault_object(alloc, b"{\"fault\":", fault, out)?;
     push_end(alloc, origin, out)?;
     Ok(())
 }
 
-fn words_value(alloc: Global, offset: Option<usize>, words: &str) -> Result<Value, AllocError>
-    ensures { IfOk result (λ v. view v ≡ words_json offset words.now) }
-{
-    match offset {
-        Some(offset) => json!(in alloc; {"offset": offset, "text": words}),
-        None => json!(in alloc; {"text": words}),
-    }
-}
-
-// What a fault says, if it was not memory that ran out.
-fn fault_text(alloc: Global, fault: &ASN1DecodeErr) -> Result<String, AllocError>
-    ensures { IfOk result (λ _. fault.now ≢ OutOfMemory) }
-{
-    match fault {
-        ASN1DecodeErr::OutOfMemory => Err(AllocError),
-        _ => format!(in alloc; "{fault}"),
-    }
-}
-
-// Puts the rows of all blocks, and the end of an array.
-fn push_rows(alloc: Global, outline: &Outline<'_>, out: &mut Vec<u8>) -> Result<(), AllocError>
-    ensures { (nodes : Nodes) → HasStructure outline.now nodes
-        → OnOk result (AddsArray nodes (entries_in outline.now) out.old.items out.new.items) }
+// Puts the rows of all encodings, and the end of an array. The first fault, if any is at fault.
+fn push_rows(
+    alloc: Global,
+    octets: &[u8],
+    entries: &[Entry],
+    out: &mut Vec<u8>,
+) -> Result<Option<Fault>, AllocError>
+    ensures { All (IsEncoded octets.now) entries.now → IfOk result (λ first.
+        AddsArray octets.now entries.now (option_map fault_told first) out.old.items out.new.items) }
 {
     let mut is_later = false;
-    for (index, entry) in outline.all() {
+    let mut first = None;
+    for entry in entries {
         push_comma(is_later, out)?;
-        push_row(alloc, outline, index, entry, out)?;
+        let fault = push_row(alloc, octets, entry, out)?;
+        first = earlier(first, fault);
         is_later = true;
     }
     out.push(b']')?;
-    Ok(())
+    Ok(first)
+}
+
+// The first of two faults.
+fn earlier(first: Option<Fault>, next: Option<Fault>) -> Option<Fault>
+    ensures { option_map fault_told result ≡ earlier_of (option_map fault_told first) (option_map fault_told next) }
+{
+    match first {
+        Some(fault) => Some(fault),
+        None => next,
+    }
 }
 
 fn push_comma(is_later: bool, out: &mut Vec<u8>) -> Result<(), AllocError>

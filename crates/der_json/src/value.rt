@@ -1,33 +1,38 @@
-// What is told of a block: its type, its tag, and what it holds. None of it is a float.
-ghost use Rattle.std.specs.Prelude.{◌≡◌, ◌<◌, List, ℕ, false, get_or, length, IfOk, IsTrue, None, option_map};
+// What is told of an encoding: its type, and what it holds. None of it is a float.
+ghost use Rattle.std.specs.Prelude.{◌≡◌, ◌||◌, ◌==◌, List, ℕ, false, true, None, IfOk, IfSome, IsTrue};
+ghost use Rattle.std.specs.Prelude.{MatchResult, option_map};
 ghost use Rattle.hex.specs.Hex.{encode_lower};
+ghost use Rattle.asn1_headers.specs.Header.{Encoding};
 ghost use Rattle.asn1_headers.specs.Names.{class_name};
+ghost use Rattle.asn1_headers.specs.declared.header.ASN1Class.TheVariants.{Universal};
 ghost use Rattle.asn1_leaves.specs.Contents.Moment.{moment_of};
 ghost use Rattle.serde_json.specs.View.{view};
 ghost use Rattle.serde_json.specs.Written.{has_float};
-ghost use Rattle.asn1_blocks.specs.BlockParts.{tree_tag};
+ghost use Rattle.asn1_blocks.specs.Contents.{is_group_tag};
+ghost use Rattle.asn1_blocks.specs.Grammar.{Encodes};
 ghost use Rattle.asn1_blocks.specs.View.{view as view_block};
-ghost use Rattle.asn1_outline.specs.Outlines.{entries_in, octets_in};
-ghost use Rattle.asn1_outline.specs.Structure.{IsStructure, Nodes, tree_at};
 ghost use Rattle.serde_json.specs.Data.{string};
 ghost use Rattle.asn1_leaves.specs.DottedDecimal.{dotted_decimal};
-ghost use Rattle.der_json.specs.Json.{HasShortFront, IsIdentifierValue};
+ghost use Rattle.der_json.specs.Json.{HasShortFront, IsIdentifierValue, IsShown, IsShownUniversal, fault_told};
+ghost use Rattle.der_json.specs.Json.{is_wide_tag};
 ghost use Rattle.der_json.specs.Json.{IsMomentText, IsValue, bits_json, natural_json, type_json};
 ghost use Rattle.der_json.specs.Json.{whole_json};
-ghost use Rattle.der_json.specs.Rows.{IsEntryAt};
 
+use crate::fault::{Fault, fault_at};
 use asn1_blocks::block::ASN1Block;
-use asn1_headers::error::ASN1EncodeErr;
+use asn1_blocks::contents::leaf_block;
+use asn1_blocks::parsed::PlacedHeader;
+use asn1_headers::error::{ASN1DecodeErr, ASN1EncodeErr};
 use asn1_headers::header::ASN1Class;
 use asn1_leaves::oid::OID;
 use asn1_numbers::number::big_int::BigInt;
 use asn1_numbers::number::big_uint::BigUint;
 use asn1_outline::entry::Entry;
-use asn1_outline::outline::Outline;
 use der_values::{Characters, long_identifier, text_in_form};
 use jiff::civil::DateTime;
 use serde_json::{Value, json};
 use std::alloc::{AllocError, Global};
+use std::str;
 
 // The greatest number that every reader of JSON takes as it is (RFC 7493, section 2.2): 2^53 - 1.
 const GREATEST_NUMBER: u64 = 9_007_199_254_740_991;
@@ -51,20 +56,8 @@ pub fn class_value(alloc: Global, class: ASN1Class) -> Result<Value, AllocError>
     text_value(alloc, class.name())
 }
 
-// The tag number of the block at the index.
-pub fn tag_value(alloc: Global, outline: &Outline<'_>, index: usize) -> Result<Value, AllocError>
-    ensures told { (nodes : Nodes) → IsStructure (octets_in outline.now) nodes
-        → index < length (entries_in outline.now)
-        → IfOk result (λ v. view v ≡ natural_json (tree_tag (tree_at nodes index))) }
-    ensures exact { IfOk result (λ v. has_float (view v) ≡ false) }
-{
-    match outline.tag(alloc, index)? {
-        Some(tag) => natural_value(alloc, &tag),
-        None => Ok(Value::Null),
-    }
-}
-
-fn natural_value(alloc: Global, number: &BigUint) -> Result<Value, AllocError>
+// A natural number.
+pub fn natural_value(alloc: Global, number: &BigUint) -> Result<Value, AllocError>
     ensures told { IfOk result (λ v. view v ≡ natural_json number.now) }
     ensures exact { IfOk result (λ v. has_float (view v) ≡ false) }
 {
@@ -138,17 +131,6 @@ fn has_short_front(alloc: Global, identifier: &OID) -> Result<bool, AllocError>
     }
 }
 
-// A string that the library reads as UTF-8, in the form that its type has, where the octets are so.
-fn wide_value(alloc: Global, form: Characters, text: &str) -> Result<Value, AllocError>
-    ensures told { IfOk result (λ v. (characters : List ℕ) × (view v ≡ string characters)) }
-    ensures exact { IfOk result (λ v. has_float (view v) ≡ false) }
-{
-    match text_in_form(alloc, form, text.as_bytes())? {
-        Some(characters) => Ok(Value::String(characters)),
-        None => text_value(alloc, text),
-    }
-}
-
 fn moment_value(alloc: Global, moment: &DateTime) -> Result<Value, AllocError>
     ensures told { IfOk result (λ v. (text : List ℕ) × IsMomentText (moment_of moment.now) text
         × (view v ≡ string text)) }
@@ -157,29 +139,121 @@ fn moment_value(alloc: Global, moment: &DateTime) -> Result<Value, AllocError>
     Ok(Value::String(format!(in alloc; "{moment}Z")?))
 }
 
-// What the block at the index holds: `null` of one that holds blocks.
-pub fn value_at(
+// What is shown of an encoding: its value, and what is wrong with its contents octets, if anything is.
+#[derive(Drop)]
+pub struct Shown {
+    pub value: Value,
+    pub fault: Option<Fault>,
+}
+
+// What is shown of the encoding of the entry, which has this tag number and these contents octets.
+pub fn shown_of(
     alloc: Global,
-    outline: &Outline<'_>,
-    index: usize,
     entry: &Entry,
-) -> Result<Value, AllocError>
-    ensures told { (nodes : Nodes) → IsEntryAt outline.now nodes index entry.now
-        → IfOk result (λ v. IsValue (tree_at nodes index) entry.now.items (view v)) }
-    ensures exact { IfOk result (λ v. has_float (view v) ≡ false) }
+    tag: BigUint,
+    contents: &[u8],
+) -> Result<Shown, AllocError>
+    ensures told { (octets : List ℕ)
+        → Encoding octets entry.now.class entry.now.constructed tag contents.now entry.now.header
+        → IfOk result (λ shown. IsShown entry.now.class entry.now.items octets contents.now entry.now.offset tag
+        (view shown.value) (option_map fault_told shown.fault)) }
+    ensures exact { IfOk result (λ shown. has_float (view shown.value) ≡ false) }
 {
     if entry.items > 0 {
-        return Ok(Value::Null);
+        return Ok(right(Value::Null));
     }
-    match outline.to_block(alloc, index)? {
-        Some(block) => value_of(alloc, outline.contents(index).unwrap_or(&[]), &block),
-        None => Ok(Value::Null),
+    match entry.class {
+        ASN1Class::Universal => universal_shown(alloc, entry, tag, contents),
+        ASN1Class::Application | ASN1Class::ContextSpecific | ASN1Class::Private => {
+            Ok(right(octets_value(alloc, contents)?))
+        }
     }
 }
 
-// What a block with these contents octets holds, in which no block stands.
+fn right(value: Value) -> Shown
+    ensures { (view result.value ≡ view value) × (result.fault ≡ None) }
+{
+    Shown { value, fault: None }
+}
+
+// What is shown of an encoding of class Universal. Of a string that the library takes for UTF-8, though X.690 has other
+// characters, it is these, where the octets are so.
+fn universal_shown(
+    alloc: Global,
+    entry: &Entry,
+    tag: BigUint,
+    contents: &[u8],
+) -> Result<Shown, AllocError>
+    ensures told { (octets : List ℕ)
+        → Encoding octets Universal entry.now.constructed tag contents.now entry.now.header
+        → IfOk result (λ shown. IsShownUniversal octets contents.now entry.now.offset tag
+        (view shown.value) (option_map fault_told shown.fault)) }
+    ensures exact { IfOk result (λ shown. has_float (view shown.value) ≡ false) }
+{
+    if is_group(&tag) {
+        return Ok(right(Value::Null));
+    }
+    if let Some(form) = form_of(&tag, contents) {
+        if let Some(text) = text_in_form(alloc, form, contents)? {
+            return Ok(right(Value::String(text)));
+        }
+    }
+    leaf_shown(alloc, entry, tag, contents)
+}
+
+fn is_group(tag: &BigUint) -> bool
+    ensures { result ≡ is_group_tag tag.now }
+{
+    matches!(tag.to_u64(), Some(16 | 17))
+}
+
+// The form of characters that X.690 has for a string that the library takes for UTF-8. In a TeletexString they are
+// Latin-1 where they are no UTF-8.
+fn form_of(tag: &BigUint, contents: &[u8]) -> Option<Characters>
+    ensures { IfSome result (λ _. is_wide_tag tag.now ≡ true) }
+{
+    match tag.to_u64() {
+        Some(20) if str::from_utf8(contents).is_err() => Some(Characters::Latin1),
+        Some(28) => Some(Characters::Utf32),
+        Some(30) => Some(Characters::Utf16),
+        _ => None,
+    }
+}
+
+// What is shown of contents octets by what the library reads of them.
+fn leaf_shown(
+    alloc: Global,
+    entry: &Entry,
+    tag: BigUint,
+    contents: &[u8],
+) -> Result<Shown, AllocError>
+    requires { is_group_tag tag ≡ false }
+    ensures told { (octets : List ℕ)
+        → Encoding octets Universal entry.now.constructed tag contents.now entry.now.header
+        → IfOk result (λ shown. IsShownUniversal octets contents.now entry.now.offset tag
+        (view shown.value) (option_map fault_told shown.fault)) }
+    ensures exact { IfOk result (λ shown. has_float (view shown.value) ≡ false) }
+{
+    let header = PlacedHeader {
+        class: ASN1Class::Universal,
+        constructed: entry.constructed,
+        tag,
+        start: 0,
+        end: contents.len(),
+    };
+    match leaf_block(alloc, header, contents, entry.offset) {
+        Ok(block) => Ok(right(value_of(alloc, contents, &block)?)),
+        Err(ASN1DecodeErr::OutOfMemory) => Err(AllocError),
+        Err(fault) => Ok(Shown {
+            value: octets_value(alloc, contents)?,
+            fault: Some(fault_at(alloc, entry.offset, &fault)?),
+        }),
+    }
+}
+
+// What a block with these contents octets holds.
 fn value_of(alloc: Global, contents: &[u8], block: &ASN1Block) -> Result<Value, AllocError>
-    ensures told { IfOk result (λ v. IsValue (view_block block.now) 0 (view v)) }
+    ensures told { IfOk result (λ v. IsValue (view_block block.now) (view v)) }
     ensures exact { IfOk result (λ v. has_float (view v) ≡ false) }
 {
     match block {
@@ -194,9 +268,9 @@ fn value_of(alloc: Global, contents: &[u8], block: &ASN1Block) -> Result<Value, 
         ASN1Block::UTF8String(_, text)
         | ASN1Block::PrintableString(_, text)
         | ASN1Block::TeletexString(_, text)
-        | ASN1Block::IA5String(_, text) => text_value(alloc, text),
-        ASN1Block::UniversalString(_, text) => wide_value(alloc, Characters::Utf32, text),
-        ASN1Block::BMPString(_, text) => wide_value(alloc, Characters::Utf16, text),
+        | ASN1Block::IA5String(_, text)
+        | ASN1Block::UniversalString(_, text)
+        | ASN1Block::BMPString(_, text) => text_value(alloc, text),
         ASN1Block::Null(_)
         | ASN1Block::Sequence(_, _)
         | ASN1Block::Set(_, _)

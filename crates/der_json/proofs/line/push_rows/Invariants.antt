@@ -1,10 +1,10 @@
-use Rattle.std.proofs.Common.{map}
-use Rattle.asn1_outline.specs.Structure.{Nodes}
-use Rattle.der_json.specs.Rows.{AddsRows, HasStructure}
-use Rattle.der_json.proofs.Arrays.{shown}
+use Rattle.std.proofs.Common.{option_map, take}
+use Rattle.std.specs.Prelude.{All}
+use Rattle.der_json.specs.Json.{fault_told}
+use Rattle.der_json.specs.Rows.{AddsRows, IsEncoded}
 use Rattle.der_json.proofs.line.push_rows.Given as goal
 
 -- the rows of the entries before this one are put
-abbrev pub invariant-loop-index : goal.invariant-loop-index
-invariant-loop-index l = (nodes : Nodes) → HasStructure l.outline nodes
-    → AddsRows nodes l.is_later (map shown l.yielded) l.fn.out.items l.out.items
+abbrev pub invariant-loop-entry : goal.invariant-loop-entry
+invariant-loop-entry l = All (IsEncoded l.octets) l.entries
+    → AddsRows l.octets l.is_later (take l.entry-index l.entries) (option_map fault_told l.first) l.fn.out.items l.out.items
