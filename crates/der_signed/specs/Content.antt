@@ -1,34 +1,56 @@
 -- What is answered to an input.
-use Rattle.std.specs.Prelude.{◌≡◌, ◌≢◌, ⊤, ℕ, List, Option, None, Some}
+use Rattle.std.specs.Prelude.{◌≡◌, ◌≢◌, ⊤, ℕ, ◌+◌, ◌<◌, List, get_or, None, Some}
 use Rattle.der_forms.specs.Objects.{document_of}
+use Rattle.simple_asn1.specs.Entries.{no_entry}
 use Rattle.simple_asn1.specs.Fault.{fault_of}
-use Rattle.simple_asn1.specs.Grammar.{IsDocument, FirstFault}
-use Rattle.simple_asn1.specs.Places.{HasOctets}
-use Rattle.simple_asn1.specs.SignedTrees.{SignedParts, IsOfAnotherShape, signed_trees}
-use Rattle.simple_asn1.specs.Tree.{Trees}
-use Rattle.simple_asn1.specs.Types.{OutOfMemory}
-use Rattle.simple_asn1.specs.declared.convert.signed.TripleErr.{TripleErr}
-use Rattle.simple_asn1.specs.declared.convert.signed.TripleErr.TheVariants.{Codec, Shape}
+use Rattle.simple_asn1.specs.Shapes.{AreEntriesOfShapes, FirstHeaderFaultAt, encoding_octets}
+use Rattle.asn1_headers.specs.declared.error.ASN1DecodeErr.{ASN1DecodeErr}
+use Rattle.asn1_headers.specs.declared.error.ASN1DecodeErr.TheVariants.{OutOfMemory}
+use Rattle.asn1_headers.specs.declared.header.ASN1Class.TheVariants.{Universal}
+use Rattle.asn1_outline.specs.declared.entry.Entry.{Entry}
 use Rattle.der_signed.specs.declared.run.RunFault.{RunFault}
 use Rattle.der_signed.specs.declared.run.RunFault.TheVariants.{NoDocument, NotSigned, Refused, Stream}
 use Rattle.der_io.specs.declared.StreamFault.TheVariants.{Memory}
 
--- the octets are a document that begins with a signed triple, whose content has these octets
+abbrev pub entry_at : List Entry → ℕ → Entry
+entry_at entries index = get_or entries index no_entry
+
+-- of class Universal, with the tag number
+abbrev pub IsUniversal : ℕ → Entry → Type 0
+IsUniversal tag entry = (entry.class ≡ Universal) × (entry.tag ≡ tag)
+
+-- the entries begin with a SEQUENCE of three: what was signed; a SEQUENCE that begins with an OBJECT IDENTIFIER, the
+-- algorithm; and a BIT STRING, the signature
+pub record BeginWithTriple (entries : List Entry) : Type 0 where
+  pub whole : IsUniversal 16 (entry_at entries 0)
+  pub three : (entry_at entries 0).items ≡ 3
+  pub algorithm : IsUniversal 16 (entry_at entries (entry_at entries 1).next)
+  pub some : 0 < (entry_at entries (entry_at entries 1).next).items
+  pub identifier : IsUniversal 6 (entry_at entries ((entry_at entries 1).next + 1))
+  pub signature : IsUniversal 3 (entry_at entries (entry_at entries (entry_at entries 1).next).next)
+
+-- the octets are encodings by their headers, the first of which is a triple; what was signed has these octets
 pub record IsContent (octets : List ℕ) (content : List ℕ) : Type 0 where
-  pub parts : SignedParts
-  pub rest : Trees ℕ
-  pub document : IsDocument octets (signed_trees parts rest)
-  pub signed : HasOctets octets (signed_trees parts rest) parts.content content
+  pub entries : List Entry
+  pub walked : AreEntriesOfShapes octets entries
+  pub triple : BeginWithTriple entries
+  pub content_is : content ≡ encoding_octets octets (entry_at entries 1)
+
+-- they are encodings by their headers, the first of which is none
+abbrev pub IsOfAnotherShape : List ℕ → Type 0
+IsOfAnotherShape octets =
+    (entries : List Entry) × AreEntriesOfShapes octets entries × (BeginWithTriple entries → ⊥)
 
 -- the input has a document, in one of its forms, of which this holds
 abbrev pub HasDocument : List ℕ → (List ℕ → Type 0) → Type 0
 HasDocument input Holds = (octets : List ℕ) × (document_of input ≡ Some octets) × Holds octets
 
--- the fault says what is wrong with the octets of a document: their first fault, or another block at their front
+-- the fault says what is wrong with the octets of a document: the first fault of a header, or another encoding at their
+-- front
 abbrev pub IsFaultOf : RunFault → List ℕ → Type 0
 IsFaultOf (Stream f) octets = f ≡ Memory
 IsFaultOf (NoDocument f) octets = ⊥
-IsFaultOf (Refused e) octets = FirstFault octets (fault_of e)
+IsFaultOf (Refused e) octets = (offset : ℕ) × FirstHeaderFaultAt octets (fault_of e) offset
 IsFaultOf NotSigned octets = IsOfAnotherShape octets
 
 -- the fault says what is wrong with the input: it has no document in a form that is read, or one that is at fault
@@ -38,9 +60,16 @@ TellsWhy (NoDocument f) input = document_of input ≡ None
 TellsWhy (Refused e) input = HasDocument input (IsFaultOf (Refused e))
 TellsWhy NotSigned input = HasDocument input (IsFaultOf NotSigned)
 
--- the fault of a run is that of no triple
-abbrev pub IsRefusalOf : TripleErr → RunFault → Type 0
-IsRefusalOf fault (Stream f) = (f ≡ Memory) × (fault ≡ Codec OutOfMemory)
-IsRefusalOf fault (NoDocument f) = ⊥
-IsRefusalOf fault (Refused e) = (fault ≡ Codec e) × (e ≢ OutOfMemory)
-IsRefusalOf fault NotSigned = fault ≡ Shape
+-- the fault of a run is that of reading
+abbrev pub IsRefusalOf : ASN1DecodeErr → RunFault → Type 0
+IsRefusalOf error (Stream f) = (f ≡ Memory) × (error ≡ OutOfMemory)
+IsRefusalOf error (NoDocument f) = ⊥
+IsRefusalOf error (Refused e) = (error ≡ e) × (e ≢ OutOfMemory)
+IsRefusalOf error NotSigned = ⊥
+
+-- nothing is taken of entries, since memory ran out, or they begin with no triple
+abbrev pub LacksContent : List Entry → RunFault → Type 0
+LacksContent entries (Stream f) = (f ≡ Memory) × BeginWithTriple entries
+LacksContent entries (NoDocument f) = ⊥
+LacksContent entries (Refused e) = ⊥
+LacksContent entries NotSigned = BeginWithTriple entries → ⊥

@@ -1,11 +1,11 @@
 //! Writes the octets that were signed of a signed triple, as a certificate (X.509) is one.
 //!
 //! Standard input is a document whose first block is a SEQUENCE of exactly three: any block, a SEQUENCE that begins
-//! with an OBJECT IDENTIFIER, and a BIT STRING. It comes as it is, in PEM (its first object), in hex digits or in
-//! base64. The octets of the first of the three are written to standard output, exactly as they are in the document,
-//! and nothing else is. The exit status is 0; it is 1 after a fault of reading or writing, 2 where memory ran out or
-//! there are arguments, and 3 if the input is not such a document, with a line on standard error that says why.
-//! `--help` and `--version` are answered.
+//! with an OBJECT IDENTIFIER, and a BIT STRING. It is read by its headers: values are not looked into. It comes as it
+//! is, in PEM (its first object), in hex digits or in base64. The octets of the first of the three are written to
+//! standard output, exactly as they are in the document, and nothing else is. The exit status is 0; it is 1 after a
+//! fault of reading or writing, 2 where memory ran out or there are arguments, and 3 if the input is not such a
+//! document, with a line on standard error that says why. `--help` and `--version` are answered.
 #![tactic(auto)]
 
 mod run;

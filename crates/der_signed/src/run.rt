@@ -1,8 +1,12 @@
 // The run of the program: all input is read before anything is written.
-ghost use Rattle.std.specs.Prelude.{◌≡◌, ◌⊎◌, ℕ, List, Err, IfErr, IfOk, IfSome, IsOk, OnOk, codes};
+ghost use Rattle.std.specs.Prelude.{◌≡◌, ◌⊎◌, ◌<◌, ◌↔◌, ℕ, List, Err, IfErr, IfOk, IfSome, IsOk, IsTrue};
+ghost use Rattle.std.specs.Prelude.{MatchOption, OnOk, codes};
+ghost use Rattle.simple_asn1.specs.Shapes.{encoding_octets};
+ghost use Rattle.simple_asn1.specs.Walked.{walked_entries, walked_octets};
 ghost use Rattle.std.specs.Io.KnownBytes.{Appends, IsAtEnd, Keeps};
 ghost use Rattle.der_forms.specs.declared.input.FormFault.{FormFault};
-ghost use Rattle.der_signed.specs.Content.{HasDocument, IsContent, IsFaultOf, IsRefusalOf, TellsWhy};
+ghost use Rattle.der_signed.specs.Content.{BeginWithTriple, HasDocument, IsContent, IsFaultOf, IsRefusalOf};
+ghost use Rattle.der_signed.specs.Content.{IsUniversal, LacksContent, TellsWhy, entry_at};
 ghost use Rattle.der_signed.specs.declared.run.RunFault.TheVariants.{Stream, NotSigned as not_signed};
 ghost use Rattle.der_signed.specs.declared.run.RunFault.TheVariants.{NoDocument as no_document, Refused as refused};
 ghost use Rattle.der_io.specs.declared.StreamFault.TheVariants.{Read as read_fault};
@@ -11,7 +15,7 @@ ghost use Rattle.der_io.specs.declared.StreamFault.TheVariants.{Memory as memory
 
 use der_forms::{FormFault, document_of};
 use der_io::{StreamFault, fault_status, read_all, write_all};
-use simple_asn1::{ASN1DecodeErr, TripleErr, read_signed};
+use simple_asn1::{ASN1Class, ASN1DecodeErr, Entry, Headers};
 use std::alloc::Global;
 use std::io::{Read, Write};
 
@@ -22,7 +26,7 @@ pub enum RunFault {
     Stream(StreamFault),
     /// The input has no document in a form that is read.
     NoDocument(FormFault),
-    /// The octets of the document are at fault.
+    /// A header of the document is at fault.
     Refused(ASN1DecodeErr),
     /// The first block of the document is not a signed triple.
     NotSigned,
@@ -40,8 +44,8 @@ impl From<StreamFault> for RunFault {
 }
 
 /// Reads all of `r`, and writes the octets that were signed to `w`, where the input has a document that begins with a
-/// signed triple: as it is, in PEM (its first object), in hex digits or in base 64. The whole input is kept in memory,
-/// with its blocks while it is read, and the content beside it.
+/// signed triple, by its headers: as it is, in PEM (its first object), in hex digits or in base 64. The whole input is
+/// kept in memory, with its entries while it is read, and the content beside it.
 ///
 /// # Errors
 /// `Read`, `Memory`, `NoDocument`, `Refused` and `NotSigned`, after which nothing was written; `Write`, after which
@@ -77,20 +81,81 @@ fn signed_part(alloc: Global, octets: &[u8]) -> Result<Vec<u8>, RunFault>
     ensures content { IfOk result (λ content. IsContent octets.now content.items) }
     ensures refused { IfErr result (λ e. IsFaultOf e octets.now) }
 {
-    match read_signed(alloc, octets) {
-        Ok(triple) => Ok(triple.content),
-        Err(fault) => Err(refusal_of(fault)),
+    match Headers::read(alloc, octets) {
+        Ok(headers) => content_in(alloc, &headers),
+        Err(located) => Err(refusal_of(located.error)),
     }
 }
 
-// Whether memory ran out, or the octets are at fault, or the shape of their first block.
-fn refusal_of(fault: TripleErr) -> RunFault
-    ensures { IsRefusalOf fault result }
+// Whether memory ran out, or the octets are at fault.
+fn refusal_of(error: ASN1DecodeErr) -> RunFault
+    ensures { IsRefusalOf error result }
 {
-    match fault {
-        TripleErr::Codec(ASN1DecodeErr::OutOfMemory) => RunFault::Stream(StreamFault::Memory),
-        TripleErr::Codec(fault) => RunFault::Refused(fault),
-        TripleErr::Shape => RunFault::NotSigned,
+    match error {
+        ASN1DecodeErr::OutOfMemory => RunFault::Stream(StreamFault::Memory),
+        error => RunFault::Refused(error),
+    }
+}
+
+// The octets of the first of the three, where the first encoding is a triple.
+fn content_in(alloc: Global, headers: &Headers<'_>) -> Result<Vec<u8>, RunFault>
+    ensures content { IfOk result (λ content. BeginWithTriple (walked_entries headers.now)
+        × (content.items ≡ encoding_octets (walked_octets headers.now) (entry_at (walked_entries headers.now) 1))) }
+    ensures refused { IfErr result (LacksContent (walked_entries headers.now)) }
+{
+    if !begin_with_triple(headers.entries()) {
+        return Err(RunFault::NotSigned);
+    }
+    match headers.encoding(1) {
+        Some(content) => match Vec::from_slice(alloc, content) {
+            Ok(content) => Ok(content),
+            Err(_) => Err(RunFault::Stream(StreamFault::Memory)),
+        },
+        None => Err(RunFault::NotSigned),
+    }
+}
+
+// Whether the first encoding is a triple.
+fn begin_with_triple(entries: &[Entry]) -> bool
+    ensures { IsTrue result ↔ BeginWithTriple entries.now }
+{
+    let Some(whole) = with_tag(entries, 0, 16) else {
+        return false;
+    };
+    if whole.items != 3 {
+        return false;
+    }
+    let Some(content) = entries.get(1) else {
+        return false;
+    };
+    let Some(algorithm) = with_tag(entries, content.next, 16) else {
+        return false;
+    };
+    if algorithm.items == 0 {
+        return false;
+    }
+    let Some(inside) = content.next.checked_add(1) else {
+        return false;
+    };
+    if with_tag(entries, inside, 6).is_none() {
+        return false;
+    }
+    with_tag(entries, algorithm.next, 3).is_some()
+}
+
+// The entry at the index, where it is of class Universal with the tag number.
+fn with_tag(entries: &[Entry], index: usize, tag: u64) -> Option<&Entry>
+    requires { 0 < tag }
+    ensures { MatchOption result
+        (IsUniversal tag (entry_at entries.now index) → ⊥)
+        (λ entry. (entry.now ≡ entry_at entries.now index) × IsUniversal tag entry.now) }
+{
+    let Some(entry) = entries.get(index) else {
+        return None;
+    };
+    match entry.class {
+        ASN1Class::Universal if entry.tag == tag => Some(entry),
+        _ => None,
     }
 }
 
