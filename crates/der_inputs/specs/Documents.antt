@@ -1,11 +1,14 @@
--- What is put of octets that may have a label, or of what has none that can be read: as a dump, or as a line of JSON.
-use Rattle.std.specs.Prelude.{◌≡◌, ◌⊎◌, ℕ, Bool, true, false, List, Option, Some, None, option_map}
+-- What is put of octets that may have a label, or of what has none that can be read: as a dump, as a line of JSON, or
+-- on a page.
+use Rattle.std.specs.Prelude.{◌≡◌, ◌⊎◌, ℕ, Bool, true, false, List, [], Option, Some, None, option_map, unwrap_or}
 use Rattle.std.specs.Str.Lossy.{utf8_lossy}
 use Rattle.serde_json.specs.Data.{Members}
+use Rattle.der_html.specs.Page.{Shows}
 use Rattle.der_io.specs.Escaped.{escaped}
+use Rattle.der_io.specs.Lines.{lines_of}
 use Rattle.der_json.specs.Json.{AddsJsonOf, AddsLineOf, named_fault, origin_members, refusal_json}
-use Rattle.der_lines.specs.Dump.{AddsDumpOf, AddsLine, IsNote}
-use Rattle.der_inputs.specs.Strict.{AddsStrictDumpOf, IsRejectedAt}
+use Rattle.der_lines.specs.Dump.{AddsDumpOf, AddsLine, AddsStrictDumpOf, IsNote}
+use Rattle.der_inputs.specs.Strict.{IsRejectedAt}
 use Rattle.der_lines.specs.declared.document.Verdict.{Verdict}
 use Rattle.der_lines.specs.declared.document.Verdict.TheVariants.{AllRead, Refused}
 use Rattle.der_options.specs.declared.options.Options.{Options}
@@ -80,16 +83,24 @@ abbrev pub PutsJson :
     → Type 0
 PutsJson strict file label octets = AddsJsonLine strict octets (origin_members file (option_map utf8_lossy label))
 
--- as JSON, which has all blocks, or as a dump
+-- a section of a page: a dump under the line of its label, and the octets
+abbrev pub PutsOnPage :
+    Bool → Option ℕ → Option (List ℕ) → Option (List ℕ) → Verdict → List ℕ → List ℕ → Type 0
+PutsOnPage strict most label octets verdict before after =
+    (dump : List ℕ) × PutsDump strict most label octets verdict [] dump
+    × Shows (lines_of dump) (unwrap_or octets []) before after
+
+-- as JSON, which has all blocks, on a page, or as a dump
 abbrev pub PutsAs :
-    Bool → Bool → Option ℕ → Option (List ℕ) → Option (List ℕ) → Option (List ℕ) → Verdict
+    Bool → Bool → Bool → Option ℕ → Option (List ℕ) → Option (List ℕ) → Option (List ℕ) → Verdict
     → List ℕ → List ℕ → Type 0
-PutsAs true strict most file = PutsJson strict file
-PutsAs false strict most file = PutsDump strict most
+PutsAs true html strict most file = PutsJson strict file
+PutsAs false true strict most file = PutsOnPage strict most
+PutsAs false false strict most file = PutsDump strict most
 
 -- what the options want to be put of octets that have this label, if any, in the file of this name, if it is told; or
 -- of what has no octets that can be read
 abbrev pub Puts :
     Options → Option (List ℕ) → Option (List ℕ) → Option (List ℕ) → Verdict → List ℕ → List ℕ
     → Type 0
-Puts options file = PutsAs options.is_json options.is_strict options.most_depth file
+Puts options file = PutsAs options.is_json options.is_html options.is_strict options.most_depth file

@@ -6,7 +6,9 @@ use Rattle.der_forms.specs.Forms.{form_is, objects, odd_digits, other_text, plai
 use Rattle.der_forms.specs.Objects.{Object, document_of, objects_of}
 use Rattle.der_forms.specs.declared.objects.Ending.{Ending}
 use Rattle.der_forms.specs.declared.objects.Ending.TheVariants.{Closed}
+use Rattle.der_html.specs.Page.{Shows}
 use Rattle.der_io.specs.Escaped.{escaped}
+use Rattle.der_io.specs.Lines.{lines_of}
 use Rattle.der_lines.specs.Dump.{AddsLine, IsNote}
 use Rattle.asn1_headers.specs.Front.{IsHeader}
 use Rattle.der_lines.specs.Seek.{BeginsAt, HasNoBlockAt}
@@ -112,16 +114,18 @@ names_shown (Extract offset) count = false
 names_shown (Contents offset) count = false
 names_shown _ count = nat_lt 1 count
 
--- the line `=` and a name, escaped, above dumps: JSON tells it in each line
-abbrev pub AddsName : Bool → List ℕ → List ℕ → List ℕ → Type 0
-AddsName true name before after = after ≡ before
-AddsName false name before after = AddsLine (IsNote equals_sign (escaped name)) before after
+-- the line `=` and a name, escaped, above dumps, on a page or not: JSON tells it in each line
+abbrev pub AddsName : Bool → Bool → List ℕ → List ℕ → List ℕ → Type 0
+AddsName true html name before after = after ≡ before
+AddsName false true name before after =
+    (line : List ℕ) × AddsLine (IsNote equals_sign (escaped name)) [] line × Shows (lines_of line) [] before after
+AddsName false false name before after = AddsLine (IsNote equals_sign (escaped name)) before after
 
 -- what is put of octets in the file of this name, which is told or not
 abbrev pub AddsNamed : Bool → Options → List ℕ → List ℕ → Outcome → List ℕ → List ℕ → Type 0
 AddsNamed false options name octets outcome before after = AddsInput options None octets outcome before after
 AddsNamed true options name octets outcome before after =
-    (named : List ℕ) × AddsName options.is_json name before named
+    (named : List ℕ) × AddsName options.is_json options.is_html name before named
     × AddsInput options (Some name) octets outcome named after
 
 -- an input: its name, and its octets, where they are known
@@ -146,6 +150,11 @@ AddsSources named options (input ∷ inputs) (came ∷ later) before after =
     (between : List ℕ) × AddsSource named options input came before between
     × AddsSources named options inputs later between after
 AddsSources named options _ _ before after = ⊥
+
+-- what is written of what was put: that, and around the sections of a page its beginning and its end
+abbrev pub IsFramed : Bool → List ℕ → List ℕ → Type 0
+IsFramed false put output = output ≡ put
+IsFramed true put output = (beginning end : List ℕ) × (output ≡ beginning ++ (put ++ end))
 
 -- what a reader has left after an input of which this came: nothing, unless it could not be read
 abbrev pub IsReadToEnd : Outcome → Option (List ℕ) → Type 0

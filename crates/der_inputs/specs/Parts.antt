@@ -12,7 +12,8 @@ use Rattle.der_options.specs.declared.options.Task.TheVariants.{Contents, Extrac
 -- what is put in this manner
 abbrev pub PutsIn : Manner → OutputRelation
 PutsIn manner =
-    PutsAs manner.is_json manner.is_strict manner.style.most_depth (option_map (λ name. name.now) manner.file)
+    PutsAs manner.is_json manner.is_html manner.is_strict manner.style.most_depth
+    (option_map (λ name. name.now) manner.file)
 
 -- what the task wants of a block, or of none
 abbrev pub AddsPart : Manner → Task → Option (List ℕ) → Outcome → List ℕ → List ℕ → Type 0

@@ -1,10 +1,9 @@
 //! What `der_dump` writes of its inputs.
 //!
 //! [`run`] reads inputs, each a [`Source`] with a name, and writes what the options of `der_options` want of each: a
-//! dump, a line of JSON, or octets as they stand. An input is a document in one of the forms of `der_forms`, told
-//! apart by its octets; a dump has the lines of `der_lines`, and a line of JSON is that of `der_json`. What comes of an
-//! input is an [`Outcome`], and [`status`] is the exit status after a run. [`push_document_strictly`] puts the lines of
-//! a document and rejects one that is not canonical.
+//! dump, a line of JSON, a section of a page, or octets as they stand. An input is a document in one of the forms of
+//! `der_forms`, told apart by its octets; a dump has the lines of `der_lines`, a line of JSON is that of `der_json`, and
+//! a page that of `der_html`. What comes of an input is an [`Outcome`], and [`status`] is the exit status after a run.
 //!
 //! It opens nothing by itself: `der_dump` gives it files and standard input, and tests give it octets.
 #![tactic(auto)]
@@ -19,4 +18,3 @@ mod tasks;
 
 pub use outcome::Outcome;
 pub use sources::{Source, run, status};
-pub use strict::push_document_strictly;

@@ -1,13 +1,15 @@
-// In which manner what is read is put: as a dump, or as a line of JSON.
+// In which manner what is read is put: as a dump, as a line of JSON, or on a page.
 ghost use Rattle.std.specs.Prelude.{IfOk, OnOk};
 ghost use Rattle.std.specs.Option.{option_map};
 ghost use Rattle.std.specs.Result.{result_ok};
-ghost use Rattle.der_inputs.specs.Documents.{AddsDump, AddsLabel, AddsReading, PutsDump};
+ghost use Rattle.der_inputs.specs.Documents.{AddsDump, AddsLabel, AddsReading, PutsDump, PutsOnPage};
 ghost use Rattle.der_inputs.specs.Parts.{PutsIn};
 
 use crate::json_lines::push_json_line;
-use crate::strict::push_document_strictly;
-use der_lines::{Names, Style, Verdict, push_document, push_label, push_refusal};
+use der_html::push_section;
+use der_lines::{
+    Names, Style, Verdict, push_document, push_label, push_refusal, push_strict_document,
+};
 use std::alloc::{AllocError, Global};
 
 // How what is read is put.
@@ -17,6 +19,7 @@ pub struct Manner<'a> {
     pub style: Style,
     pub is_strict: bool,
     pub is_json: bool,
+    pub is_html: bool,
     // the name of the file, where lines of JSON tell it
     pub file: Option<&'a str>,
 }
@@ -34,9 +37,29 @@ pub fn put(
 {
     if manner.is_json {
         push_json_line(alloc, manner, label, found, out)
+    } else if manner.is_html {
+        push_on_page(alloc, manner, label, found, out)
     } else {
         push_dump(alloc, manner, label, found, out)
     }
+}
+
+// Puts a section of a page: a dump of what was found, and its octets.
+fn push_on_page(
+    alloc: Global,
+    manner: &Manner<'_>,
+    label: Option<&[u8]>,
+    found: Result<&[u8], &str>,
+    out: &mut Vec<u8>,
+) -> Result<Verdict, AllocError>
+    ensures { IfOk result (λ verdict. PutsOnPage manner.now.is_strict manner.now.style.most_depth
+        (option_map (λ l. l.now) label.entry) (option_map (λ o. o.now) (result_ok found.entry))
+        verdict out.old.items out.new.items) }
+{
+    let mut dump = Vec::new(alloc);
+    let verdict = push_dump(alloc, manner, label, found, &mut dump)?;
+    push_section(alloc, &dump, found.unwrap_or(&[]), out)?;
+    Ok(verdict)
 }
 
 // Puts a dump of what was found.
@@ -91,7 +114,7 @@ fn push_reading(
         octets.now verdict out.old.items out.new.items) }
 {
     if manner.is_strict {
-        push_document_strictly(alloc, manner.names, manner.style, octets, out)
+        push_strict_document(alloc, manner.names, manner.style, octets, out)
     } else {
         push_document(alloc, manner.names, manner.style, octets, out)
     }

@@ -1,15 +1,21 @@
 // A run over inputs: all of them are read before anything is written.
-ghost use Rattle.std.specs.Prelude.{◌≡◌, ◌⊎◌, List, ℕ, [], IfOk, IfErr, IfSome, IsErr, IsSome, OnOk, length, map};
+ghost use Rattle.std.specs.Prelude.{◌≡◌, ◌⊎◌, List, ℕ, [], true, IfOk, IfErr, IfSome, IsErr, IsSome, OnOk, length, map};
 ghost use Rattle.std.specs.Io.KnownBytes.{Appends, IsAtEnd, Keeps};
 ghost use Rattle.std.specs.Option.{option_map};
-ghost use Rattle.der_inputs.specs.Inputs.{AddsName, AddsNamed, AddsSource, AddsSources, AreReadToEnds, IsReadToEnd};
+ghost use Rattle.der_inputs.specs.Inputs.{AddsName, AddsNamed, AddsSource, AddsSources, AreReadToEnds, IsFramed, IsReadToEnd};
 ghost use Rattle.der_inputs.specs.Inputs.{input_of, names_shown};
+ghost use Rattle.der_html.specs.Page.{Shows};
+ghost use Rattle.der_io.specs.Characters.{equals_sign};
+ghost use Rattle.der_io.specs.Escaped.{escaped};
+ghost use Rattle.der_io.specs.Lines.{lines_of};
+ghost use Rattle.der_lines.specs.Dump.{AddsLine, IsNote};
 ghost use Rattle.der_inputs.specs.Outcomes.{greatest_status};
 ghost use Rattle.der_io.specs.declared.StreamFault.TheVariants.{Memory as memory_fault, Write as write_fault};
 
 use crate::manner::Manner;
 use crate::outcome::{Outcome, greatest};
 use crate::tasks::push_input;
+use der_html::{push_foot, push_head, push_section};
 use der_io::{StreamFault, read_all, write_all};
 use der_lines::{Names, Style, push_label};
 use der_options::{Options, Task};
@@ -26,8 +32,8 @@ pub struct Source<'a, R> {
 /// Reads all of each input, in order, and writes to `w` what the options want of each; returns what came of each. The
 /// readers of those that could be read are at their ends.
 ///
-/// An input is a document, or documents in PEM, or a document in hex digits, told apart by its octets. A document is
-/// put as a dump, or as a line of JSON. All of the output is kept in memory, and one input at a time.
+/// An input is DER, PEM, hex digits or base64, told apart by its bytes. A document is put as a dump, as a line of JSON,
+/// or on a page of HTML. All of the output is kept in memory, and one input at a time.
 ///
 /// # Errors
 /// `Memory`, after which nothing was written; `Write`, after which nothing is known of what was.
@@ -37,10 +43,10 @@ pub fn run<R: Read + Drop, W: Write>(
     sources: &mut [Source<'_, R>],
     w: &mut W,
 ) -> Result<Vec<Outcome>, StreamFault>
-    ensures answered { IfOk result (λ came. (output : List ℕ)
+    ensures answered { IfOk result (λ came. (put output : List ℕ)
         × AddsSources (names_shown options.now.task (length sources.old)) options.now
-        (map (λ source. input_of source.name.now (R.remaining source.reader)) sources.old) came.items [] output
-        × Appends (W.contents w.old) (W.contents w.new) output) }
+        (map (λ source. input_of source.name.now (R.remaining source.reader)) sources.old) came.items [] put
+        × IsFramed options.now.is_html put output × Appends (W.contents w.old) (W.contents w.new) output) }
     ensures read { IfOk result (λ came. AreReadToEnds came.items
         (map (λ source. R.remaining source.reader) sources.new)) }
     ensures kept { IfErr result (λ e. (e ≡ write_fault) ⊎ Keeps (W.contents w.old) (W.contents w.new)) }
@@ -49,10 +55,35 @@ pub fn run<R: Read + Drop, W: Write>(
         return Err(StreamFault::Memory);
     };
     let is_named = are_names_shown(options.task, sources.len());
-    let mut output = Vec::new(alloc);
-    let came = push_sources(alloc, &names, options, is_named, sources, &mut output)?;
+    let mut put = Vec::new(alloc);
+    let came = push_sources(alloc, &names, options, is_named, sources, &mut put)?;
+    let Ok(output) = framed(alloc, options.is_html, put) else {
+        return Err(StreamFault::Memory);
+    };
     write_all(w, &output)?;
     Ok(came)
+}
+
+// What is written of what was put.
+fn framed(alloc: Global, is_html: bool, put: Vec<u8>) -> Result<Vec<u8>, AllocError>
+    ensures { IfOk result (λ output. IsFramed is_html put.items output.items) }
+{
+    if is_html {
+        page_of(alloc, &put)
+    } else {
+        Ok(put)
+    }
+}
+
+// A page with the sections.
+fn page_of(alloc: Global, sections: &[u8]) -> Result<Vec<u8>, AllocError>
+    ensures { IfOk result (λ page. IsFramed true sections.now page.items) }
+{
+    let mut page = Vec::new(alloc);
+    push_head(&mut page)?;
+    page.extend_from_slice(sections)?;
+    push_foot(&mut page)?;
+    Ok(page)
 }
 
 // Puts what the options want of each input, one after another.
@@ -142,7 +173,7 @@ fn push_named(
         out.old.items out.new.items) }
 {
     if is_named {
-        push_name(alloc, options.is_json, name, out)?;
+        push_name(alloc, options, name, out)?;
         let manner = manner_of(names, options, Some(name));
         push_input(alloc, &manner, options.task, input, out)
     } else {
@@ -152,19 +183,38 @@ fn push_named(
 }
 
 // Puts the line of a name, above a dump.
-fn push_name(alloc: Global, is_json: bool, name: &str, out: &mut Vec<u8>) -> Result<(), AllocError>
-    ensures { OnOk result (AddsName is_json name.now out.old.items out.new.items) }
+fn push_name(
+    alloc: Global,
+    options: &Options<'_>,
+    name: &str,
+    out: &mut Vec<u8>,
+) -> Result<(), AllocError>
+    ensures { OnOk result (AddsName options.now.is_json options.now.is_html name.now out.old.items out.new.items) }
 {
-    if is_json {
+    if options.is_json {
         Ok(())
+    } else if options.is_html {
+        push_page_name(alloc, name.as_bytes(), out)
     } else {
         push_label(alloc, name.as_bytes(), out)
     }
 }
 
+// So on a page.
+fn push_page_name(alloc: Global, name: &[u8], out: &mut Vec<u8>) -> Result<(), AllocError>
+    ensures { OnOk result ((line : List ℕ) × AddsLine (IsNote equals_sign (escaped name.now)) [] line
+        × Shows (lines_of line) [] out.old.items out.new.items) }
+{
+    let mut line = Vec::new(alloc);
+    push_label(alloc, name, &mut line)?;
+    push_section(alloc, &line, &[], out)?;
+    Ok(())
+}
+
 // In which manner the options want documents to be put that stand in the file.
 fn manner_of<'a>(names: &'a Names, options: &Options<'_>, file: Option<&'a str>) -> Manner<'a>
     ensures json { result.is_json ≡ options.now.is_json }
+    ensures html { result.is_html ≡ options.now.is_html }
     ensures strict { result.is_strict ≡ options.now.is_strict }
     ensures file { option_map (λ name. name.now) result.file ≡ option_map (λ name. name.now) file.entry }
     ensures full { result.style.is_full ≡ options.now.is_full }
@@ -180,6 +230,7 @@ fn manner_of<'a>(names: &'a Names, options: &Options<'_>, file: Option<&'a str>)
         },
         is_strict: options.is_strict,
         is_json: options.is_json,
+        is_html: options.is_html,
         file,
     }
 }

@@ -34,7 +34,10 @@ task_rules =
     ∷ flag (codes "strict") ∷ []
 
 abbrev pub style_rules : List Rule
-style_rules = flag (codes "full") ∷ flag (codes "flat") ∷ valued (codes "depth") ∷ flag (codes "json") ∷ []
+style_rules = flag (codes "full") ∷ flag (codes "flat") ∷ valued (codes "depth") ∷ []
+
+abbrev pub form_rules : List Rule
+form_rules = flag (codes "json") ∷ flag (codes "html") ∷ []
 
 abbrev pub with_rules : App → List Rule → App
 with_rules = fold with_rule
@@ -47,7 +50,7 @@ bare_command =
 
 -- the whole command
 unfoldable pub command : App
-command = with_rules (with_rules bare_command task_rules) style_rules
+command = with_rules (with_rules (with_rules bare_command task_rules) style_rules) form_rules
 
 -- a flag is set: its value is `true`
 abbrev pub is_true : Option Text → Bool
@@ -89,13 +92,14 @@ is_given name rows = if takes_number name then is_some (first_of name rows) else
 abbrev pub are_both_given : Text → Text → List Row → Bool
 are_both_given first second rows = is_given first rows && is_given second rows
 
--- the arguments that do not go together: two tasks, and JSON, which has all blocks whole, with what shows fewer or
--- less, or writes octets
+-- the arguments that do not go together: two tasks; JSON, which has all blocks whole, with what shows fewer or less, or
+-- writes octets; and a page with JSON or octets
 abbrev pub exclusions : List (Text × Text)
 exclusions =
     (codes "at", codes "extract") ∷ (codes "at", codes "contents") ∷ (codes "extract", codes "contents")
     ∷ (codes "json", codes "depth") ∷ (codes "json", codes "full") ∷ (codes "json", codes "flat")
-    ∷ (codes "json", codes "extract") ∷ (codes "json", codes "contents") ∷ []
+    ∷ (codes "json", codes "extract") ∷ (codes "json", codes "contents")
+    ∷ (codes "html", codes "json") ∷ (codes "html", codes "extract") ∷ (codes "html", codes "contents") ∷ []
 
 abbrev pub are_exclusive : Text → Text → Bool
 are_exclusive first second = list_any (λ pair. bytes_eq pair.0 first && bytes_eq pair.1 second) exclusions
@@ -127,6 +131,7 @@ pub record AsksFor (rows : List Row) (options : Options) : Type 0 where
   pub full : options.is_full ≡ is_true (first_of (codes "full") rows)
   pub flat : options.is_flat ≡ is_true (first_of (codes "flat") rows)
   pub json : options.is_json ≡ is_true (first_of (codes "json") rows)
+  pub html : options.is_html ≡ is_true (first_of (codes "html") rows)
   pub depth : IsNumberOf (codes "depth") rows options.most_depth
 
 -- the words, of which the first is the program's name, ask for the options: the command takes them, and its matches do

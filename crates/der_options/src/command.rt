@@ -2,7 +2,7 @@
 ghost use Rattle.std.specs.Prelude.{◌≡◌, IfOk, false};
 ghost use Rattle.clap.specs.Words.{app_of, rule_of};
 ghost use Rattle.der_options.specs.Options.{command as command_is, flag as flag_is, valued as valued_is};
-ghost use Rattle.der_options.specs.Options.{files as files_is, bare_command, task_rules, style_rules, with_rules};
+ghost use Rattle.der_options.specs.Options.{files as files_is, bare_command, form_rules, task_rules, style_rules, with_rules};
 
 use clap::{Arg, ArgAction, Command};
 use std::alloc::{AllocError, Global};
@@ -20,7 +20,8 @@ pub fn command<'a>(alloc: Global) -> Result<Command<'a>, AllocError>
 {
     let bare = bare(alloc)?;
     let with_tasks = with_tasks(alloc, bare)?;
-    with_styles(alloc, with_tasks)
+    let with_styles = with_styles(alloc, with_tasks)?;
+    with_forms(alloc, with_styles)
 }
 
 // The command with its files alone.
@@ -78,12 +79,24 @@ fn with_styles<'a>(alloc: Global, command: Command<'a>) -> Result<Command<'a>, A
         "COUNT",
         "Hide blocks with more than COUNT blocks around them; 0 shows the outermost only",
     );
+    command.arg(full)?.arg(flat)?.arg(depth)
+}
+
+// The command with the forms in which documents are written.
+fn with_forms<'a>(alloc: Global, command: Command<'a>) -> Result<Command<'a>, AllocError>
+    ensures { IfOk result (λ c. app_of c ≡ with_rules (app_of command.entry) form_rules) }
+{
     let json = flag(
         alloc,
         "json",
         "Write each document as one line of JSON, with all blocks whole",
     );
-    command.arg(full)?.arg(flat)?.arg(depth)?.arg(json)
+    let html = flag(
+        alloc,
+        "html",
+        "Write one page of HTML that shows all documents, their bytes beside them",
+    );
+    command.arg(json)?.arg(html)
 }
 
 // An argument `--name` with no value.

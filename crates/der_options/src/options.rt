@@ -27,6 +27,8 @@ pub struct Options<'a> {
     pub is_flat: bool,
     /// Documents are written as JSON, a line each.
     pub is_json: bool,
+    /// Documents are shown on a page of HTML, one for all inputs.
+    pub is_html: bool,
     /// The most blocks around a block that is shown; the outermost has none. `None` shows all blocks.
     pub most_depth: Option<usize>,
 }
@@ -86,6 +88,7 @@ fn asked_for<'a>(alloc: Global, matches: &ArgMatches<'a>) -> Result<Options<'a>,
         is_full: is_set(matches, "full"),
         is_flat: is_set(matches, "flat"),
         is_json: is_set(matches, "json"),
+        is_html: is_set(matches, "html"),
         most_depth: number_of(matches, "depth")?,
     })
 }
@@ -102,7 +105,10 @@ fn refuse_exclusions<'a>(matches: &ArgMatches<'a>) -> Result<(), OptionsFault<'a
     refuse_both(matches, "json", "full")?;
     refuse_both(matches, "json", "flat")?;
     refuse_both(matches, "json", "extract")?;
-    refuse_both(matches, "json", "contents")
+    refuse_both(matches, "json", "contents")?;
+    refuse_both(matches, "html", "json")?;
+    refuse_both(matches, "html", "extract")?;
+    refuse_both(matches, "html", "contents")
 }
 
 // Refuses two arguments, where both are given.

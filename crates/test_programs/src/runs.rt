@@ -17,6 +17,7 @@ fn dump(alloc: Global) -> Options<'static> {
         is_full: false,
         is_flat: false,
         is_json: false,
+        is_html: false,
         most_depth: None,
     }
 }

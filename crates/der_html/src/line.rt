@@ -1,0 +1,89 @@
+// The columns of a line of a dump.
+use memchr::memmem::find;
+use std::str;
+
+// The offset of an encoding, the sizes of its header and contents octets, and how many encodings are around it.
+#[derive(Clone, Copy)]
+pub struct Columns {
+    pub offset: usize,
+    pub header: usize,
+    pub contents: usize,
+    pub depth: usize,
+}
+
+// The columns of a line, if it has them: a line of a label or of an error has none.
+pub fn columns_of(line: &[u8]) -> Option<Columns> {
+    let (offset, rest) = number_in_front(but_mark(line))?;
+    let (header, rest) = number_in_front(rest)?;
+    let (contents, rest) = number_in_front(rest)?;
+    let spaces = rest.len() - rest.trim_ascii_start().len();
+    Some(Columns {
+        offset,
+        header,
+        contents,
+        depth: spaces.saturating_sub(2) / 2,
+    })
+}
+
+// The line without the mark of one that is of an encoding inside octets.
+fn but_mark(line: &[u8]) -> &[u8] {
+    match line.split_first() {
+        Some((b'>', rest)) => rest,
+        _ => line,
+    }
+}
+
+// The number at the front, behind spaces, and what follows it.
+fn number_in_front(text: &[u8]) -> Option<(usize, &[u8])> {
+    let text = text.trim_ascii_start();
+    let end = text
+        .iter()
+        .position(|b| !b.is_ascii_digit())
+        .unwrap_or(text.len());
+    let (digits, rest) = text.split_at(end);
+    let number = str::from_utf8(digits).ok()?.parse::<usize>().ok()?;
+    Some((number, rest))
+}
+
+// How many encodings are around that of the line; none around a line without columns.
+pub fn depth_of(line: &[u8]) -> usize {
+    match columns_of(line) {
+        Some(columns) => columns.depth,
+        None => 0,
+    }
+}
+
+// The names of errors in documents, one of which ends the line of an element that has the error.
+const ERRORS: [&str; 8] = [
+    "EmptyBuffer",
+    "BadBooleanLength",
+    "LengthTooLarge",
+    "UTF8DecodeFailure",
+    "PrintableStringDecodeFailure",
+    "InvalidDateValue",
+    "InvalidBitStringLength",
+    "Incomplete",
+];
+
+// Whether a line says that something is wrong: with an input, or with its own encoding.
+pub fn tells_error(line: &[u8]) -> bool {
+    line.starts_with(b"!") || is_cut_short(line) || ends_with_error(line)
+}
+
+// Whether the encoding of the line ends with the document. A value in quotation marks is not looked into.
+fn is_cut_short(line: &[u8]) -> bool {
+    let words = line.split(|b| *b == b'"').next().unwrap_or(line);
+    find(words, b" (truncated: ").is_some()
+}
+
+fn ends_with_error(line: &[u8]) -> bool {
+    let Some(words) = line.strip_suffix(b")") else {
+        return false;
+    };
+    for name in ERRORS {
+        if let Some(before) = words.strip_suffix(name.as_bytes()) {
+            return before.ends_with(b" (");
+        }
+    }
+    false
+}
