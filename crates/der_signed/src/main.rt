@@ -17,6 +17,7 @@ use clap::Command;
 use clap::error::ErrorKind;
 use der_io::{StreamFault, escaped, fault_status, words};
 use std::alloc::{AllocError, Global};
+use std::io;
 use std::process::ExitCode;
 
 // The exit status of words that are not understood.
@@ -30,9 +31,12 @@ const ABOUT: &str =
     It is read from standard input, as DER, PEM, hex digits or base64.";
 
 fn main(rt: HostRuntime) -> ExitCode {
-    let Ok(words) = words(&rt) else {
-        let _ = eprintln!(rt; "error: the arguments cannot be read");
-        return ExitCode::from(WRONG_WORDS);
+    let words = match words(&rt) {
+        Ok(words) => words,
+        Err(e) => {
+            let _ = eprintln!(rt; "{}", words_fault(&e));
+            return ExitCode::from(WRONG_WORDS);
+        }
     };
     let command = Command::new(rt.alloc(), "der_signed")
         .version(VERSION)
@@ -43,9 +47,26 @@ fn main(rt: HostRuntime) -> ExitCode {
     }
 }
 
+// Why the arguments are no words.
+fn words_fault(e: &io::Error) -> &'static str {
+    match e.kind() {
+        io::ErrorKind::OutOfMemory => memory_text(),
+        _ => "error: arguments are not UTF-8",
+    }
+}
+
+fn memory_text() -> &'static str {
+    fault_text(&RunFault::Stream(StreamFault::Memory))
+}
+
 // Help and the version go to standard output, and what is wrong with the words, on one line, to standard error.
 fn tell(rt: &HostRuntime, answer: &clap::Error) -> u8 {
+    if matches!(answer.kind(), ErrorKind::OutOfMemory) {
+        let _ = eprintln!(rt; "{}", memory_text());
+        return WRONG_WORDS;
+    }
     let Ok(text) = format!(in rt.alloc(); "{answer}") else {
+        let _ = eprintln!(rt; "{}", memory_text());
         return WRONG_WORDS;
     };
     if matches!(
@@ -58,9 +79,10 @@ fn tell(rt: &HostRuntime, answer: &clap::Error) -> u8 {
         };
     }
     let line = text.lines().next().unwrap_or("");
-    if let Ok(shown) = escaped(rt.alloc(), line.as_bytes()) {
-        let _ = eprintln!(rt; "{shown}");
-    }
+    let _ = match escaped(rt.alloc(), line.as_bytes()) {
+        Ok(shown) => eprintln!(rt; "{shown}"),
+        Err(_) => eprintln!(rt; "{}", memory_text()),
+    };
     WRONG_WORDS
 }
 
