@@ -56,7 +56,7 @@ static size_t field(size_t block, size_t number)
 {
     size_t found = block + 1;
     if (number >= blocks[block].items)
-        fail("this is no certificate");
+        fail("not a certificate");
     while (number-- > 0)
         found = blocks[found].next;
     return found;
@@ -126,7 +126,7 @@ static void print_attribute(size_t attribute)
     size_t length;
     char *type = value_of(simple_asn1_oid, field(attribute, 0), &length);
     if (!type)
-        fail("this is no certificate");
+        fail("not a certificate");
     const char *name = type;
     for (size_t k = 0; k < sizeof known / sizeof *known; k++)
         if (strcmp(type, known[k][0]) == 0)
@@ -140,7 +140,7 @@ static void print_time(const char *what, size_t block)
 {
     simple_asn1_moment m = simple_asn1_time(octets, size, blocks[block].offset);
     if (m.status)
-        fail("this is no certificate");
+        fail("not a certificate");
     printf("%s: %04d-%02u-%02uT%02u:%02u:%02u", what, (int)m.year, (unsigned)m.month, (unsigned)m.day,
            (unsigned)m.hour, (unsigned)m.minute, (unsigned)m.second);
     if (m.nanosecond)

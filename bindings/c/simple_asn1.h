@@ -1,8 +1,8 @@
 /* simple_asn1.h: reads and writes DER (ITU-T X.690) as flat records.
  *
  * Link libsimple_asn1, which calls the program's malloc, realloc and free. No call keeps memory or hands memory out,
- * and calls may run in several threads at once. Every call returns for all octets, offsets and records. The caller must
- * ensure that each pointer has as many octets or records behind it as the number after it says (it may be null if that
+ * and calls may run in several threads at once. Every call returns for all bytes, offsets and records. The caller must
+ * ensure that each pointer has as many bytes or records behind it as the number after it says (it may be null if that
  * is 0), and that no output overlaps an input.
  *
  * Where it is not X.690's BER, and what strict reading accepts though DER forbids it:
@@ -56,9 +56,9 @@ enum { /* what calls return */
 /* A block. The blocks that it holds come right after it. */
 typedef struct simple_asn1_block {
     uint64_t tag;       /* tag number; UINT64_MAX for greater ones too, and write rejects a record with it */
-    size_t offset;      /* of its first octet from the start of the document */
-    size_t header;      /* number of identifier and length octets */
-    size_t contents;    /* number of contents octets after them */
+    size_t offset;      /* of its first byte from the start of the document */
+    size_t header;      /* number of identifier and length octets, in bytes */
+    size_t contents;    /* number of contents octets after them, in bytes */
     size_t items;       /* number of blocks directly inside it; other classes than 0 have them too */
     size_t next;        /* index of the record after it and all that it holds */
     size_t depth;       /* number of blocks around it */
@@ -69,7 +69,7 @@ typedef struct simple_asn1_block {
 typedef struct simple_asn1_outcome {
     uint32_t status;
     size_t offset; /* of the block at fault; 0 if none is */
-    size_t count;  /* records or octets that were written, or with NO_ROOM are needed; otherwise 0 */
+    size_t count;  /* records or bytes that were written, or with NO_ROOM are needed; otherwise 0 */
 } simple_asn1_outcome;
 
 typedef struct simple_asn1_integer {
@@ -88,17 +88,17 @@ typedef struct simple_asn1_moment { /* in UTC; all 0 unless the status is SIMPLE
     uint32_t nanosecond; /* of the second */
 } simple_asn1_moment;
 
-typedef struct simple_asn1_refusal { /* why octets are no document; SIMPLE_ASN1_OK if they are one */
+typedef struct simple_asn1_refusal { /* why bytes are not a document; SIMPLE_ASN1_OK if they are one */
     uint32_t status;
     size_t offset;            /* of the block at fault */
-    uint64_t number;          /* of octets, with BOOLEAN_LENGTH and LENGTH; of missing bits, with BIT_STRING_LENGTH */
-    simple_asn1_outcome text; /* of writing the text of a time, with DATE; otherwise of no octets */
+    uint64_t number;          /* of bytes, with BOOLEAN_LENGTH and LENGTH; of missing bits, with BIT_STRING_LENGTH */
+    simple_asn1_outcome text; /* of writing the text of a time, with DATE; otherwise of an empty one */
 } simple_asn1_refusal;
 
 typedef struct simple_asn1_signed_parts { /* next and depth of the records are 0 */
     uint32_t status;
     size_t offset;               /* of the block at fault */
-    simple_asn1_block content;   /* what was signed: octets + offset, header + contents of them */
+    simple_asn1_block content;   /* what was signed: header + contents bytes from octets + offset on */
     simple_asn1_block algorithm; /* its OBJECT IDENTIFIER */
     simple_asn1_block signature; /* BIT STRING */
 } simple_asn1_signed_parts;
@@ -113,14 +113,14 @@ simple_asn1_outcome simple_asn1_read(const uint8_t *octets, size_t size, simple_
 /* The same, for documents in canonical form (DER) only. */
 simple_asn1_outcome simple_asn1_read_strict(const uint8_t *octets, size_t size, simple_asn1_block *blocks, size_t room);
 
-/* The same for each encoding by its header alone: contents octets of leaves are not looked into, so that a document can
- * be walked of which some are at fault. The error is that of the first header at fault. */
+/* The same by headers alone: contents octets of leaves are not checked, so a document with faults in them can be walked
+ * too. The error is that of the first header at fault. */
 simple_asn1_outcome simple_asn1_outline(const uint8_t *octets, size_t size, simple_asn1_block *blocks, size_t room);
 
-/* Writes the canonical octets (DER) of a document. */
+/* Writes the canonical bytes (DER) of a document. */
 simple_asn1_outcome simple_asn1_rewrite(const uint8_t *octets, size_t size, uint8_t *out, size_t room);
 
-/* Writes the canonical octets of what records describe: one with items holds the records after it; any other has the
+/* Writes the canonical bytes of what records describe: one with items holds the records after it; any other has the
  * contents octets from offset + header on. Records that were read can be passed as they are; next and depth are
  * ignored. Several blocks in one of another class than 0 get the shortest headers, where rewrite keeps them as they
  * came. A record with the tag UINT64_MAX is a BAD_RECORD, since that number also stands for each greater one. */
@@ -140,11 +140,15 @@ simple_asn1_outcome simple_asn1_oid(const uint8_t *octets, size_t size, size_t o
  * first contents octet of the signature is the number of its unused bits. */
 simple_asn1_signed_parts simple_asn1_signed(const uint8_t *octets, size_t size);
 
-/* Writes the contents octets of a value, at which a record for simple_asn1_write can point: of a BOOLEAN, true but for
- * 0; an INTEGER; a BIT STRING, whose bits are the first of these octets (unused ones stay as they are; in DER they are
- * 0); an OBJECT IDENTIFIER, with its components in decimal, as in 1.2.840; a string with this tag number, of text in
- * UTF-8; a UTCTime (tag 23) or GeneralizedTime (tag 24), whatever the status of the moment. What is not such a value,
- * or would not be read back, is rejected:
+/* Each writes the contents octets of a value, for a record of simple_asn1_write to point at:
+ *
+ * - put_boolean: 0 is false, any other value true. put_int64: an INTEGER.
+ * - put_bits: a BIT STRING of the first bits of these bytes. Unused bits stay as they are; in DER they are 0.
+ * - put_oid: an OBJECT IDENTIFIER from its components in decimal, as in 1.2.840.
+ * - put_text: a string with this tag number, from text in UTF-8.
+ * - put_time: a UTCTime (tag 23) or GeneralizedTime (tag 24). The status of the moment is ignored.
+ *
+ * A value that does not fit its type, or would not be read back, is rejected:
  *
  * - NOT_OID: another text. RANGE: components that cannot be written, a character above 7F in an IA5String, octets that
  *   are not the fewest for so many bits.
@@ -157,21 +161,22 @@ simple_asn1_outcome simple_asn1_put_oid(const uint8_t *text, size_t size, uint8_
 simple_asn1_outcome simple_asn1_put_text(uint64_t tag, const uint8_t *text, size_t size, uint8_t *out, size_t room);
 simple_asn1_outcome simple_asn1_put_time(uint64_t tag, const simple_asn1_moment *moment, uint8_t *out, size_t room);
 
-/* For bindings that make values of their own of records and their contents octets.
+/* For bindings that make their own values from records and contents octets.
  *
- * The components of contents octets of an OBJECT IDENTIFIER: as numbers, or RANGE if one is 2^64 or more; in decimal,
- * of any size; as contents octets again, in canonical form. The error of other octets is that of reading. */
+ * Each takes the contents octets of an OBJECT IDENTIFIER. simple_asn1_components writes the components as numbers, or
+ * returns RANGE if one is 2^64 or more; simple_asn1_dotted writes them in decimal, of any size; and
+ * simple_asn1_shortest_oid writes the canonical contents octets. Errors of other bytes are those of reading. */
 simple_asn1_outcome simple_asn1_components(const uint8_t *contents, size_t size, uint64_t *out, size_t room);
 simple_asn1_outcome simple_asn1_dotted(const uint8_t *contents, size_t size, uint8_t *out, size_t room);
 simple_asn1_outcome simple_asn1_shortest_oid(const uint8_t *contents, size_t size, uint8_t *out, size_t room);
 
-/* The record of the encoding at an offset by its header alone, with items, next and depth 0; its tag number in decimal,
- * of any size. NO_SUCH_VALUE if none stands there. */
+/* simple_asn1_header writes the record of the encoding at an offset, read by its header alone: items, next and depth
+ * are 0. simple_asn1_tag writes its tag number in decimal, of any size. NO_SUCH_VALUE: no encoding is at the offset. */
 simple_asn1_outcome simple_asn1_header(const uint8_t *octets, size_t size, size_t offset, simple_asn1_block *blocks,
                                        size_t room);
 simple_asn1_outcome simple_asn1_tag(const uint8_t *octets, size_t size, size_t offset, uint8_t *out, size_t room);
 
-/* Why simple_asn1_read rejects octets, with the number or the text of the error. */
+/* Why simple_asn1_read rejects these bytes, with the number or the text of the error. */
 simple_asn1_refusal simple_asn1_fault(const uint8_t *octets, size_t size, uint8_t *out, size_t room);
 
 /* As simple_asn1_put_bits and the others, of values that would not be read back too: up to 255 unused bits; components

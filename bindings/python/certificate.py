@@ -44,7 +44,7 @@ def main():
     try:
         show(document)
     except (IndexError, ValueError):
-        sys.exit("this is no certificate")
+        sys.exit("not a certificate")
 
 
 if __name__ == "__main__":

@@ -3,8 +3,8 @@ ghost use Rattle.asn1_outline.specs.Shapes.{AreEntriesOfShapes};
 
 use crate::entry::Entry;
 
-/// The encodings of a document as a flat list of entries by their headers, each before those inside it. The contents
-/// octets of leaves are not looked into, so that a document can be walked in which some are at fault.
+/// The encodings of a document, read by their headers alone, as a flat list of entries: each before those inside it.
+/// Contents octets of leaves are not checked, so a document with faults in them can be walked too.
 ///
 /// It goes into what [`Outline`] goes into: the contents octets of each SEQUENCE and SET (X.690 8.9 to 8.12), which
 /// must be encodings, and those of a constructed encoding of another class (8.14) where they are encodings. Otherwise

@@ -1,4 +1,4 @@
-//! Documents as flat lists of entries, one for each block, of which none is made: a layer of `simple_asn1`, which is
+//! Documents as flat lists of entries, one for each block, without building a block: a layer of `simple_asn1`, which is
 //! the crate for users.
 //!
 //! `simple_asn1` hands on `Outline`, `Headers`, `Entry`, `Entries` and `law_entries`. All else is public for the crates

@@ -83,10 +83,10 @@ pub fn fault_of_end(object: &PemObject<'_>, last: usize) -> Option<(usize, &'sta
     match object.ending {
         Ending::Closed => None,
         Ending::Missing => Some((object.line, "this object has no END line")),
-        Ending::OtherLabel => Some((last, "the label of END is not that of BEGIN")),
+        Ending::OtherLabel => Some((last, "END has another label than BEGIN")),
         Ending::Joined => Some((
             last,
-            "another object begins in the END line, and is not read",
+            "the next object begins on the END line, and is not read",
         )),
     }
 }

@@ -185,11 +185,11 @@ pub fn fault_text(fault: &RunFault) -> &'static str
     ensures memory { fault.now ≡ Stream memory_fault → result.now ≡ codes "out of memory" }
     ensures form { (f : FormFault) → fault.now ≡ no_document f → result.now ≡ codes "no document" }
     ensures octets { (f : _) → fault.now ≡ refused f → result.now ≡ codes "no document" }
-    ensures refused { fault.now ≡ not_signed → result.now ≡ codes "no signed triple" }
+    ensures refused { fault.now ≡ not_signed → result.now ≡ codes "no signed content" }
 {
     match fault {
         RunFault::Stream(fault) => der_io::fault_text(fault),
         RunFault::NoDocument(_) | RunFault::Refused(_) => "no document",
-        RunFault::NotSigned => "no signed triple",
+        RunFault::NotSigned => "no signed content",
     }
 }

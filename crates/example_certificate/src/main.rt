@@ -30,7 +30,7 @@ enum CertificateErr {
     #[error("out of memory")]
     Memory(#[from] AllocError),
     // The octets are a document, and no certificate.
-    #[error("this is no certificate")]
+    #[error("not a certificate")]
     Shape,
 }
 
@@ -121,7 +121,7 @@ fn write_certificate<W: Write>(
     write_name(alloc, out, certificate.subject)?;
     writeln!(out, "key {key_algorithm}")?;
     let size = certificate.signed.len();
-    writeln!(out, "{size} octets signed with {signature_algorithm}")?;
+    writeln!(out, "{size} bytes signed with {signature_algorithm}")?;
     Ok(())
 }
 

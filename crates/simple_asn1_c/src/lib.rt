@@ -372,7 +372,7 @@ pub extern "C" fn simple_asn1_header(
     put_header(alloc, octets, offset, blocks)
 }
 
-/// Puts the tag number of the encoding at an offset (X.690 8.1.2) in decimal, of any size; otherwise as
+/// Writes the tag number of the encoding at an offset (X.690 8.1.2) in decimal, of any size. Errors are those of
 /// [`simple_asn1_header`].
 #[unsafe(no_mangle)]
 pub extern "C" fn simple_asn1_tag(

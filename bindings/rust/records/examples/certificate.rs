@@ -5,7 +5,7 @@ use std::error::Error;
 use std::io::Read;
 use std::process::ExitCode;
 
-const SHAPE: &str = "this is no certificate";
+const SHAPE: &str = "not a certificate";
 const PEM: &str = "this is PEM; as DER it is: openssl x509 -in FILE -outform DER";
 
 fn main() -> ExitCode {

@@ -52,7 +52,7 @@ impl Builder {
         self.add_value(2, calls::put_int64(value))
     }
 
-    /// A BIT STRING of the first bits of the octets, which must be the fewest that hold so many. Unused bits of the
+    /// A BIT STRING of the first bits of the bytes, which must be the fewest that hold so many. Unused bits of the
     /// last stay as they are; in DER they are 0.
     pub fn add_bits(&mut self, octets: &[u8], bits: usize) -> &mut Builder {
         self.add_value(3, calls::put_bits(octets, bits))
@@ -88,7 +88,7 @@ impl Builder {
         self.add(block.class(), block.tag(), block.is_constructed(), Ok(block.contents()))
     }
 
-    /// The canonical octets (DER) of the document, or the first error. A block that was not closed is a
+    /// The canonical bytes (DER) of the document, or the first error. A block that was not closed is a
     /// [`FaultKind::BadRecord`].
     pub fn finish(&self) -> Result<Vec<u8>, Fault> {
         match (self.fault, self.open.last()) {

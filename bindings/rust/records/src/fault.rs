@@ -1,4 +1,4 @@
-//! Why octets cannot be read, why a block has no value of a kind, and why records cannot be written.
+//! Why bytes cannot be read, why a block has no value of a kind, and why records cannot be written.
 
 use std::error::Error;
 use std::fmt;
@@ -7,7 +7,7 @@ use std::fmt;
 #[derive(Clone, Copy, Debug, PartialEq, Eq, Hash)]
 pub struct Fault {
     pub kind: FaultKind,
-    /// The offset of the block at fault, in octets from the start; for [`FaultKind::BadRecord`] the record's index, and
+    /// The offset of the block at fault, in bytes from the start; for [`FaultKind::BadRecord`] the record's index, and
     /// for a value that a [`Builder`](crate::Builder) cannot add the index of its block.
     pub offset: usize,
 }

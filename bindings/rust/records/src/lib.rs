@@ -37,7 +37,7 @@ pub struct Document<'a> {
 }
 
 impl<'a> Document<'a> {
-    /// Reads a document: blocks one after another to the end of the octets, at least one.
+    /// Reads a document: blocks one after another to the end of the bytes, at least one.
     pub fn read(octets: &'a [u8]) -> Result<Document<'a>, Fault> {
         Ok(Document { octets, records: calls::read(octets)? })
     }
@@ -47,8 +47,8 @@ impl<'a> Document<'a> {
         Ok(Document { octets, records: calls::read_strict(octets)? })
     }
 
-    /// Reads a document by its headers alone: contents octets of leaves are not looked into, so that a document can be
-    /// walked of which some are at fault. Their calls return the fault.
+    /// Reads a document by its headers alone: contents octets of leaves are not checked, so a document with faults in
+    /// them can be walked too. Asking for the value of such a leaf returns its fault.
     pub fn outline(octets: &'a [u8]) -> Result<Document<'a>, Fault> {
         Ok(Document { octets, records: calls::outline(octets)? })
     }
@@ -163,7 +163,7 @@ impl<'d, 'a> Block<'d, 'a> {
         Blocks { document: self.document, index: self.index + 1, end: self.record().next }
     }
 
-    /// The octets of the whole block.
+    /// The bytes of the whole block.
     pub fn octets(&self) -> &'a [u8] {
         let record = self.record();
         &self.document.octets[record.offset..][..record.header + record.contents]
@@ -194,7 +194,7 @@ impl<'d, 'a> Block<'d, 'a> {
         text_of(calls::oid(self.document.octets, self.offset())?, self.offset())
     }
 
-    /// The octets that hold the bits of a BIT STRING, and the number of bits. The first bit is the most significant of
+    /// The bytes that hold the bits of a BIT STRING, and the number of bits. The first bit is the most significant of
     /// the first octet.
     pub fn bits(&self) -> Result<(&'a [u8], usize), Fault> {
         if self.class() != Class::Universal || self.tag() != 3 {
@@ -229,12 +229,12 @@ fn text_of(octets: Vec<u8>, offset: usize) -> Result<String, Fault> {
     String::from_utf8(octets).map_err(|_| Fault { kind: FaultKind::Utf8, offset })
 }
 
-/// The canonical octets (DER) of a document.
+/// The canonical bytes (DER) of a document.
 pub fn rewrite(octets: &[u8]) -> Result<Vec<u8>, Fault> {
     calls::rewrite(octets)
 }
 
-/// The canonical octets (DER) of what records describe: one with items holds the records after it, any other has its
+/// The canonical bytes (DER) of what records describe: one with items holds the records after it, any other has its
 /// contents octets in `octets`. `next` and `depth` are ignored.
 pub fn write(octets: &[u8], records: &[Record]) -> Result<Vec<u8>, Fault> {
     calls::write(octets, records)
@@ -244,15 +244,15 @@ pub fn write(octets: &[u8], records: &[Record]) -> Result<Vec<u8>, Fault> {
 #[derive(Clone, Debug, PartialEq, Eq)]
 #[non_exhaustive]
 pub struct Signed<'a> {
-    /// The octets that were signed.
+    /// The bytes that were signed.
     pub content: &'a [u8],
     /// The OBJECT IDENTIFIER of the algorithm, as in `1.2.840`.
     pub algorithm: String,
-    /// The octets of the AlgorithmIdentifier: the SEQUENCE of that OBJECT IDENTIFIER and the parameters.
+    /// The bytes of the AlgorithmIdentifier: the SEQUENCE of that OBJECT IDENTIFIER and the parameters.
     pub algorithm_identifier: &'a [u8],
-    /// The octets of the algorithm's parameters, if any. RSASSA-PSS cannot be verified without them.
+    /// The bytes of the algorithm's parameters, if any. RSASSA-PSS cannot be verified without them.
     pub parameters: &'a [u8],
-    /// The octets that hold the bits of the signature.
+    /// The bytes that hold the bits of the signature.
     pub signature: &'a [u8],
     /// The number of unused bits in the last of these: 0 with all usual algorithms.
     pub unused_bits: u8,

@@ -55,7 +55,7 @@ pub fn read<T>(octets: &[u8], make: impl FnOnce(&[Block]) -> T) -> Result<T, Out
     made
 }
 
-/// The fault of octets that are no document, and its text.
+/// The error of bytes that are not a document, and its text.
 pub fn fault(octets: &[u8]) -> (sys::Fault, String) {
     let mut text = vec![0; 64];
     loop {
@@ -158,7 +158,7 @@ pub fn raw_time(tag: u64, moment: &Moment, out: &mut Vec<u8>) -> Result<(), Outc
     append(out, 32, |out, room| unsafe { sys::simple_asn1_raw_time(tag, moment, out, room) })
 }
 
-/// The octets that records describe.
+/// The bytes that records describe.
 pub fn spell(octets: &[u8], blocks: &[Block], out: &mut Vec<u8>) -> Result<(), Outcome> {
     append(out, octets.len() + 6 * blocks.len(), |out, room| unsafe {
         sys::simple_asn1_spell(octets.as_ptr(), octets.len(), blocks.as_ptr(), blocks.len(), out, room)

@@ -1,10 +1,10 @@
 use std::str::Utf8Error;
 use thiserror::Error;
 
-/// Why octets are no document, or a component of an object identifier does not fit.
+/// Why bytes are not a document, or a component of an object identifier does not fit.
 #[derive(Clone, Debug, Error, PartialEq)]
 pub enum ASN1DecodeErr {
-    /// There are no octets, or a SEQUENCE or SET has none.
+    /// The input, or a SEQUENCE or SET, is empty.
     #[error("Encountered an empty buffer decoding ASN1 block.")]
     EmptyBuffer,
     /// How many contents octets a BOOLEAN has.
@@ -32,7 +32,7 @@ pub enum ASN1DecodeErr {
     Overflow,
 }
 
-/// Why a block is not written. The last three are not in the original, which panics there or writes other octets.
+/// Why a block is not written. The last three are not in the original, which panics there or writes other bytes.
 #[derive(Clone, Debug, Error, PartialEq)]
 pub enum ASN1EncodeErr {
     #[error("ASN1 object identifier has too few fields.")]
@@ -41,7 +41,7 @@ pub enum ASN1EncodeErr {
     ObjectIdentVal1TooLarge,
     #[error("Second value in ASN1 OID is too big.")]
     ObjectIdentVal2TooLarge,
-    /// A bit string has more bits than its octets, or more than 255 unused ones.
+    /// A bit string has more bits than its bytes hold, or more than 255 unused ones.
     #[error("Number of bits does not match the octets of a bit string")]
     BitStringLength,
     /// A character of a PrintableString or IA5String is above 255.

@@ -5,7 +5,7 @@ use crate::{ASN1Block, ASN1Class, ASN1EncodeErr, BigUint, OID};
 use simple_asn1_sys as sys;
 use time::PrimitiveDateTime;
 
-/// The canonical octets of a block.
+/// The canonical bytes of a block.
 ///
 /// ```
 /// use simple_asn1::{to_der, ASN1Block};
