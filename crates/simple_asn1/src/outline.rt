@@ -4,16 +4,20 @@ ghost use Rattle.asn1_headers.specs.Fault.{DecodeFault, OutOfMemoryOr, not_canon
 ghost use Rattle.asn1_headers.specs.declared.error.ASN1DecodeErr.TheVariants.{OutOfMemory};
 ghost use Rattle.asn1_blocks.specs.Grammar.{FirstFault, IsDocument};
 ghost use Rattle.asn1_blocks.specs.Tree.{Trees};
-ghost use Rattle.asn1_outline.specs.Entries.{AreEntriesOf};
+ghost use Rattle.asn1_outline.specs.Entries.{AreEntriesOf, IsOutline};
 ghost use Rattle.asn1_outline.specs.Outlines.{entries_in, octets_in};
 ghost use Rattle.simple_asn1.specs.Canonical.{all_canonical};
 ghost use Rattle.simple_asn1.specs.ReadBack.{CanonicalDocument};
 ghost use Rattle.simple_asn1.specs.Strict.{IsNotCanonicalAt, StrictFault};
 
+mod canonical;
+
+use crate::outline::canonical::are_canonical_by_entries;
 use crate::write::in_place::are_canonical_in_place;
 use crate::write::strict::from_der_strict;
 use asn1_blocks::block::discard::discard;
 use asn1_headers::error::ASN1DecodeErr;
+use asn1_outline::entry::Entry;
 use asn1_outline::outline::Outline;
 use std::alloc::Global;
 
@@ -48,20 +52,21 @@ fn canonical_outline<'a>(alloc: Global, octets: &'a [u8]) -> Result<Outline<'a>,
 {
     match Outline::from_der(alloc, octets) {
         Ok(outline) => {
-            check_canonical(alloc, octets)?;
+            check_canonical(alloc, octets, outline.entries())?;
             Ok(outline)
         }
         Err(e) => Err(e),
     }
 }
 
-// Whether a document is canonical: by a look at its octets in place, and by its blocks where that says no.
-fn check_canonical(alloc: Global, octets: &[u8]) -> Result<(), ASN1DecodeErr>
+// Whether a document is canonical: by its entries, where these say no by its octets, and then by its blocks.
+fn check_canonical(alloc: Global, octets: &[u8], entries: &[Entry]) -> Result<(), ASN1DecodeErr>
+    requires { IsOutline octets.now entries.now }
     ensures canonical { OnOk result
         ((bs : Trees ℕ) → IsDocument octets.now bs → octets.now ≡ all_canonical bs) }
     ensures fault { IfErr result (OutOfMemoryOr (StrictFault octets.now)) }
 {
-    if are_canonical_in_place(alloc, octets)? {
+    if are_canonical_by_entries(octets, entries) || are_canonical_in_place(alloc, octets)? {
         return Ok(());
     }
     discard(from_der_strict(alloc, octets)?);

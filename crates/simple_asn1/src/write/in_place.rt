@@ -3,6 +3,7 @@
 // the length before it says.
 ghost use Rattle.std.specs.Prelude.{◌≡◌, ◌<◌, ◌⊎◌, ◌∷◌, List, ℕ, false, IfErr, IfOk, IfSome, IsTrue};
 ghost use Rattle.asn1_headers.specs.Front.{IsAtFront};
+ghost use Rattle.asn1_leaves.specs.Contents.ObjectIdentifier.{ObjectIdentifierContents, object_identifier_contents};
 ghost use Rattle.simple_asn1.specs.Inner.InPlace.{AreCanonical, AreCanonicalContents, BeginsShortest, IsOfGroup, LeavesBoth};
 ghost use Rattle.asn1_headers.specs.declared.header.ASN1Class.TheVariants.{Universal};
 ghost use Rattle.asn1_headers.specs.declared.error.ASN1DecodeErr.TheVariants.{OutOfMemory};
@@ -55,7 +56,7 @@ fn are_contents_canonical(constructed: bool, tag: &BigUint, contents: &[u8]) -> 
 // The same of a primitive encoding. Those of strings of characters, of an OCTET STRING and of a UTCTime have no other
 // form, and those of other tags stay as they came.
 #[inline(always)]
-fn are_leaf_contents_canonical(tag: u64, contents: &[u8]) -> bool
+pub(crate) fn are_leaf_contents_canonical(tag: u64, contents: &[u8]) -> bool
     ensures { IsTrue result → AreCanonicalContents Universal false tag contents.now }
 {
     match tag {
@@ -63,11 +64,37 @@ fn are_leaf_contents_canonical(tag: u64, contents: &[u8]) -> bool
         2 => integer::are_canonical(contents),
         3 => bit_string::are_canonical(contents),
         5 => contents.is_empty(),
-        6 => object_identifier::are_shortest(contents),
+        6 => are_shortest_subidentifiers(contents),
         16 | 17 => false,
         24 => generalized_time::are_canonical(contents),
         _ => true,
     }
+}
+
+// Whether contents octets of an OBJECT IDENTIFIER have their shortest form, which is seen at once where none is 80
+// (X.690 8.19.2).
+#[inline(always)]
+fn are_shortest_subidentifiers(contents: &[u8]) -> bool
+    ensures meant { IsTrue result → (components : List ℕ) × ObjectIdentifierContents components contents.now }
+    ensures shortest { IsTrue result → (components : List ℕ)
+        → ObjectIdentifierContents components contents.now
+        → contents.now ≡ object_identifier_contents components }
+{
+    let Some((_, rest)) = contents.split_first() else {
+        return false;
+    };
+    for octet in rest {
+        if *octet == 0x80 {
+            return object_identifier::are_shortest(contents);
+        }
+    }
+    if rest.is_empty() {
+        return true;
+    }
+    if rest[rest.len() - 1] < 0x80 {
+        return true;
+    }
+    object_identifier::are_shortest(contents)
 }
 
 // Where octets begin with a header in its shortest form: octets, maybe none, that stand inside, and those that come

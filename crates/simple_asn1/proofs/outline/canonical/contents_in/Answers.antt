@@ -1,0 +1,12 @@
+use Rattle.std.proofs.Common.{arith}
+use Rattle.simple_asn1.proofs.CanonicalEntries.{entry_within}
+use Rattle.simple_asn1.proofs.outline.canonical.contents_in.Goals as goal
+
+pub overflow_add-start : goal.overflow_add-start
+overflow_add-start c = omega (arith, entry_within c.args.octets.now c.args.entry.now c.requires)
+
+pub overflow_add-result : goal.overflow_add-result
+overflow_add-result c = omega (arith, entry_within c.args.octets.now c.args.entry.now c.requires)
+
+pub slice_bounds-result-end : goal.slice_bounds-result-end
+slice_bounds-result-end c = entry_within c.args.octets.now c.args.entry.now c.requires

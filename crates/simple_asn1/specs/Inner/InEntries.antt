@@ -1,0 +1,43 @@
+-- What a look at the entries of a document finds out. Private contracts alone name these.
+use Rattle.std.specs.Prelude.{◌≡◌, ℕ, Bool, true, false, List, length}
+use Rattle.asn1_headers.specs.Header.{Encoding}
+use Rattle.asn1_headers.specs.declared.header.ASN1Class.{ASN1Class}
+use Rattle.asn1_headers.specs.declared.header.ASN1Class.TheVariants.{Universal}
+use Rattle.asn1_blocks.specs.declared.block.GroupKind.{GroupKind}
+use Rattle.asn1_blocks.specs.Contents.{LeafContents, group_tag, leaf_contents, leaf_tag}
+use Rattle.asn1_blocks.specs.Places.{EncodingAt}
+use Rattle.asn1_blocks.specs.Tree.{Leaf}
+use Rattle.asn1_outline.specs.declared.entry.Entry.{Entry}
+use Rattle.simple_asn1.specs.Canonical.{shortest_encoding}
+
+-- an encoding of these fields, in which no octet but those inside it could be another: its header is the shortest, and
+-- the contents octets of a leaf are those that are written
+pub record IsCanonicalEncoding (octets : List ℕ) (class : ASN1Class) (constructed : Bool) (tag : ℕ)
+    (contents : List ℕ) : Type 0 where
+  pub shortest : octets ≡ shortest_encoding class constructed tag contents
+  pub group : class ≡ Universal → (g : GroupKind) → tag ≡ group_tag g → constructed ≡ true
+  pub primitive : class ≡ Universal → (l : Leaf) → tag ≡ leaf_tag l → constructed ≡ false
+  pub leaf :
+      class ≡ Universal → (l : Leaf) → tag ≡ leaf_tag l → LeafContents l contents →
+      contents ≡ leaf_contents l
+
+-- at the offset in the document stands such an encoding
+pub record HasCanonicalAt (document : List ℕ) (offset : ℕ) : Type 0 where
+  pub octets : List ℕ
+  pub at_offset : EncodingAt document offset octets
+  pub class : ASN1Class
+  pub constructed : Bool
+  pub tag : ℕ
+  pub contents : List ℕ
+  pub header : ℕ
+  pub encoding : Encoding octets class constructed tag contents header
+  pub canonical : IsCanonicalEncoding octets class constructed tag contents
+
+-- at the entry's offset stands an encoding with its fields, whose header is the shortest
+pub record HasShortestAt (document : List ℕ) (r : Entry) : Type 0 where
+  pub octets : List ℕ
+  pub at_offset : EncodingAt document r.offset octets
+  pub contents : List ℕ
+  pub size : r.contents ≡ length contents
+  pub encoding : Encoding octets r.class r.constructed r.tag contents r.header
+  pub shortest : octets ≡ shortest_encoding r.class r.constructed r.tag contents
