@@ -6,8 +6,8 @@ use Rattle.std.specs.Prelude.{◌&&◌, Option, None, Some}
 use Rattle.std.specs.List.{concat}
 use Rattle.std.proofs.lemmas.List.Elements.{All-cons, All-nil}
 use Rattle.asn1_headers.proofs.Prefixes.{identifier_some}
-use Rattle.asn1_blocks.specs.Places.{EncodingAt, HasNoEncodingAt, IsEncoding}
-use Rattle.der_rules.specs.Order.{BeginWith, ascends}
+use Rattle.asn1_blocks.specs.Places.{EncodingAt, IsEncoding}
+use Rattle.der_rules.specs.Order.{BeginWith, BeginsWithNoDefinite, IsDefinite, ascends}
 use Rattle.der_rules.specs.Steps.{may_follow, may_of}
 use Rattle.der_rules.specs.declared.order.Order.{Order}
 
@@ -48,11 +48,11 @@ behind_encoding octets part after at is =
     in
     at.at_offset ∙ ap (λ z. part ++ z) (sym e)
 
-one_more : (octets part after : List ℕ) (later : List (List ℕ)) → IsEncoding part → octets ≡ part ++ after → BeginWith after later → BeginWith octets (part ∷ later)
+one_more : (octets part after : List ℕ) (later : List (List ℕ)) → IsDefinite part → octets ≡ part ++ after → BeginWith after later → BeginWith octets (part ∷ later)
 one_more octets part after later i e h = record {
   rest = h.rest;
   whole = e ∙ (ap (λ z. part ++ z) h.whole ∙ sym (append_assoc part (concat later) h.rest));
-  encodings = All-cons IsEncoding part later i h.encodings;
+  encodings = All-cons IsDefinite part later i h.encodings;
   no_more = h.no_more;
 }
 
@@ -73,7 +73,7 @@ step_decides order found (Some first) part later = and_assoc found (may_of order
 
 pub decided_more :
     (order : Order) (octets : List ℕ) (found : Bool) (before : Option (List ℕ)) (rest part after : List ℕ) →
-    IsDecided order octets found before rest → IsEncoding part → rest ≡ part ++ after →
+    IsDecided order octets found before rest → IsDefinite part → rest ≡ part ++ after →
     IsDecided order octets (found && may_follow order before part) (Some part) after
 decided_more order octets found before rest part after d i e later h =
     let (parts, b, is) = d (part ∷ later) (one_more rest part after later i e h) in
@@ -86,8 +86,8 @@ ended order found (Some first) = sym (and_true found)
 
 pub decided_all :
     (order : Order) (octets : List ℕ) (found : Bool) (before : Option (List ℕ)) (rest : List ℕ) →
-    IsDecided order octets found before rest → HasNoEncodingAt rest 0 →
+    IsDecided order octets found before rest → BeginsWithNoDefinite rest →
     (parts : List (List ℕ)) × BeginWith octets parts × (found ≡ ascends (may_of order) parts)
 decided_all order octets found before rest d none =
-    let (parts, b, is) = d [] (record { rest = rest; whole = refl; encodings = All-nil IsEncoding; no_more = none }) in
+    let (parts, b, is) = d [] (record { rest = rest; whole = refl; encodings = All-nil IsDefinite; no_more = none }) in
     (parts, b, sym (is ∙ ended order found before))

@@ -1,3 +1,4 @@
 pub mod Rules
+pub mod LengthForm
 pub mod Order
 pub mod Steps

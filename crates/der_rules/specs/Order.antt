@@ -6,7 +6,8 @@ use Rattle.std.specs.Cmp.Lexicographic.{slice_cmp}
 use Rattle.std.specs.List.{All, concat}
 use Rattle.asn1_headers.specs.declared.header.ASN1Class.{ASN1Class}
 use Rattle.asn1_headers.specs.declared.header.ASN1Class.TheVariants.{Universal}
-use Rattle.asn1_blocks.specs.Places.{HasNoEncodingAt, IsEncoding}
+use Rattle.asn1_blocks.specs.Places.{IsEncoding}
+use Rattle.der_rules.specs.LengthForm.{has_indefinite_length}
 
 -- each stands before the next as it may
 abbrev pub ascends : (List ℕ → List ℕ → Bool) → List (List ℕ) → Bool
@@ -28,12 +29,20 @@ has_less_tag first next =
 abbrev pub is_not_greater : List ℕ → List ℕ → Bool
 is_not_greater first next = not (is_gt (slice_cmp nat_cmp first next))
 
--- the octets are these encodings, and then octets that begin with none
+-- the octets are an encoding of the definite form (8.1.3.3)
+abbrev pub IsDefinite : List ℕ → Type 0
+IsDefinite octets = (found : IsEncoding octets) × (has_indefinite_length found.encoding.len ≡ false)
+
+-- they do not begin with one
+abbrev pub BeginsWithNoDefinite : List ℕ → Type 0
+BeginsWithNoDefinite octets = (part behind : List ℕ) → octets ≡ part ++ behind → IsDefinite part → ⊥
+
+-- the octets are these encodings of the definite form, and then octets that begin with none
 pub record BeginWith (octets : List ℕ) (parts : List (List ℕ)) : Type 0 where
   pub rest : List ℕ
   pub whole : octets ≡ concat parts ++ rest
-  pub encodings : All IsEncoding parts
-  pub no_more : HasNoEncodingAt rest 0
+  pub encodings : All IsDefinite parts
+  pub no_more : BeginsWithNoDefinite rest
 
 -- so it was found, whether encodings one after another ascend
 abbrev pub IsAscentFound : (List ℕ → List ℕ → Bool) → List ℕ → Bool → Type 0

@@ -4,6 +4,7 @@ use Rattle.std.specs.Prelude.{if◌then◌else◌, List, [], ◌∷◌, get_or, 
 use Rattle.asn1_headers.specs.declared.header.ASN1Class.{ASN1Class}
 use Rattle.asn1_headers.specs.declared.header.ASN1Class.TheVariants.{Universal}
 use Rattle.der_rules.specs.declared.breaches.Breaches.{Breaches}
+use Rattle.der_rules.specs.LengthForm.{has_indefinite_length}
 use Rattle.der_rules.specs.Order.{IsOrderFound}
 use Rattle.std.specs.Str.{byte}
 use Rattle.asn1_numbers.specs.Octets.{digit}
@@ -16,12 +17,11 @@ has_long_identifier (leading ∷ []) tag = false
 has_long_identifier (leading ∷ next ∷ more) tag = (leading % 32 == 31) && (nat_lt tag 31 || (next == 128))
 
 -- octets begin with length octets that are not the shortest of the number (10.1): of the long form below 128, or with
--- an octet 00 before those of the number; or of the indefinite form
+-- an octet 00 before those of the number
 abbrev pub has_long_length : List ℕ → ℕ → Bool
 has_long_length [] announced = false
-has_long_length (first ∷ []) announced = first == 128
-has_long_length (first ∷ next ∷ more) announced =
-    (first == 128) || (nat_lt 128 first && (nat_lt announced 128 || (next == 0)))
+has_long_length (first ∷ []) announced = false
+has_long_length (first ∷ next ∷ more) announced = nat_lt 128 first && (nat_lt announced 128 || (next == 0))
 
 -- a type that is always constructed: EXTERNAL, EMBEDDED PDV, SEQUENCE, SET, CHARACTER STRING
 abbrev pub is_constructed_type : ℕ → Bool
@@ -93,10 +93,12 @@ pub record AreBreaches (found : Breaches) (octets behind : List ℕ) (announced 
     (constructed : Bool) (tag : ℕ) (inside : List ℕ) : Type 0 where
   pub identifier : found.identifier ≡ has_long_identifier octets tag
   pub length : found.length ≡ has_long_length behind announced
+  pub indefinite : found.indefinite ≡ has_indefinite_length behind
   pub form : found.form ≡ has_wrong_form class constructed tag
   pub contents : found.contents ≡ has_other_contents class constructed tag inside
   pub order : IsOrderFound class tag inside found.order
 
 -- there is one
 abbrev pub is_breach : Breaches → Bool
-is_breach found = found.identifier || found.length || found.form || found.contents || found.order
+is_breach found =
+    found.identifier || (found.length || found.indefinite) || found.form || found.contents || found.order

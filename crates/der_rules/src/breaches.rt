@@ -4,7 +4,7 @@ ghost use Rattle.asn1_headers.specs.Front.{IsAtFront};
 ghost use Rattle.der_rules.specs.Rules.{AreBreaches, is_breach};
 
 use crate::contents::has_other_contents;
-use crate::header::{has_long_identifier, has_long_length, has_wrong_form};
+use crate::header::{has_indefinite_length, has_long_identifier, has_long_length, has_wrong_form};
 use crate::order::is_out_of_order;
 use asn1_headers::front::Header;
 
@@ -13,8 +13,10 @@ use asn1_headers::front::Header;
 pub struct Breaches {
     /// Its tag number is in more octets than it takes (X.690 8.1.2.2, 8.1.2.4.2).
     pub identifier: bool,
-    /// Its length is in more octets than it takes (X.690 10.1), or has the indefinite form (X.690 8.1.3.6).
+    /// Its length is in more octets than it takes (X.690 10.1).
     pub length: bool,
+    /// Its length has the indefinite form (X.690 8.1.3.6), which DER does not have (X.690 10.1).
+    pub indefinite: bool,
     /// It is constructed, and has to be primitive, or the other way round (X.690 10.2, and 8.2 on).
     pub form: bool,
     /// Its contents octets are not those that DER has of their value (X.690 8.3.2, 8.6.2, 8.8.2, 8.19.2, 11.1, 11.2,
@@ -29,7 +31,8 @@ impl Breaches {
     pub fn is_any(self) -> bool
         ensures { result ≡ is_breach self }
     {
-        self.identifier || self.length || self.form || self.contents || self.order
+        let has_length = self.length || self.indefinite;
+        self.identifier || has_length || self.form || self.contents || self.order
     }
 }
 
@@ -47,6 +50,7 @@ pub fn find_breaches(octets: &[u8], header: &Header) -> Breaches
     Breaches {
         identifier: has_long_identifier(octets, &header.tag),
         length: has_long_length(octets, header),
+        indefinite: has_indefinite_length(octets, header),
         form: has_wrong_form(header),
         contents: has_other_contents(header, contents),
         order: is_out_of_order(header, contents),

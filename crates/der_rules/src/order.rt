@@ -1,10 +1,14 @@
 // The order of what a SET holds.
 ghost use Rattle.std.specs.Prelude.{◌≡◌, ◌&&◌, ◌||◌, not, option_map};
-ghost use Rattle.der_rules.specs.Order.{IsAscentFound, IsOrderFound, has_less_tag as has_less_tag_is};
+ghost use Rattle.std.specs.Prelude.{IfNone, IfSome};
+ghost use Rattle.asn1_blocks.specs.Places.{EncodingAt};
+ghost use Rattle.der_rules.specs.Order.{BeginsWithNoDefinite, IsAscentFound, IsDefinite, IsOrderFound};
+ghost use Rattle.der_rules.specs.Order.{has_less_tag as has_less_tag_is};
 ghost use Rattle.der_rules.specs.Order.{is_not_greater as is_not_greater_is, is_set as is_set_is};
 ghost use Rattle.der_rules.specs.Order.{tag_rank as tag_rank_is};
 ghost use Rattle.der_rules.specs.Steps.{may_follow, may_of};
 
+use crate::header::{behind_identifier, is_indefinite_length};
 use asn1_blocks::encoding::encoding_at;
 use asn1_headers::front::Header;
 use asn1_headers::header::ASN1Class;
@@ -44,20 +48,32 @@ fn is_set(header: &Header) -> bool
     }
 }
 
-// Whether encodings, as far as they stand one after another, ascend.
+// Whether encodings of the definite form, as far as they stand one after another, ascend.
 fn ascend(order: Order, contents: &[u8]) -> bool
     ensures { IsAscentFound (may_of order) contents.now result }
 {
     let mut before: Option<&[u8]> = None;
     let mut ascend = true;
     let mut rest = contents;
-    while let Some(encoding) = encoding_at(rest, 0) {
+    while let Some(encoding) = definite_at(rest) {
         ascend = still_ascend(ascend, order, before, encoding);
         let (_, after) = rest.split_at(encoding.len().min(rest.len()));
         before = Some(encoding);
         rest = after;
     }
     ascend
+}
+
+// The encoding of the definite form at the front, if one stands there.
+fn definite_at(octets: &[u8]) -> Option<&[u8]>
+    ensures found { IfSome result (λ part. EncodingAt octets.now 0 part.now) }
+    ensures definite { IfSome result (λ part. IsDefinite part.now) }
+    ensures none { IfNone result (BeginsWithNoDefinite octets.now) }
+{
+    if is_indefinite_length(behind_identifier(octets)) {
+        return None;
+    }
+    encoding_at(octets, 0)
 }
 
 // Whether encodings that ascended up to the last of them do so with the next one.

@@ -19,7 +19,10 @@ pub fn push_words(
         push_next(out, start, "tag in more bytes than needed")?;
     }
     if breaches.length {
-        push_next(out, start, length_words(header))?;
+        push_next(out, start, "length in more bytes than needed")?;
+    }
+    if breaches.indefinite {
+        push_next(out, start, "indefinite length")?;
     }
     if breaches.form {
         push_next(out, start, form_words(header))?;
@@ -39,14 +42,6 @@ fn push_next(out: &mut String, start: usize, words: &str) -> Result<(), AllocErr
         out.push_str(", ")?;
     }
     out.push_str(words)
-}
-
-fn length_words(header: &Header) -> &'static str {
-    if header.is_indefinite {
-        "indefinite length"
-    } else {
-        "length in more bytes than needed"
-    }
 }
 
 fn form_words(header: &Header) -> &'static str {

@@ -14,7 +14,7 @@ loop-encoding-preserved c =
     let whole = behind_encoding rest part after found (c.split_at.ensures.back ∙ ap (λ m. drop m rest) c.min.ensures) in
     subst (λ z. IsDecided order contents z (Some part) after) (sym c.still_ascend-ascend.ensures)
     (decided_more order contents c.loop-encoding.ascend (option_map (λ b. b.now) c.loop-encoding.before) rest part after
-    c.loop-encoding.invariant found.encoding whole)
+    c.loop-encoding.invariant c.in-Some.ensures.definite whole)
 
 pub returns : goal.returns
 returns c =
