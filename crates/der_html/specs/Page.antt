@@ -17,6 +17,7 @@ use Rattle.der_html.specs.declared.markup.Markup.TheVariants.{
   Offset,
   HeaderSize,
   ContentsSize,
+  Indefinite,
   ValueEnd,
 }
 
@@ -51,6 +52,7 @@ markup_text LineEnd = codes "</p>\n"
 markup_text Offset = codes " data-offset=\""
 markup_text HeaderSize = codes "\" data-header=\""
 markup_text ContentsSize = codes "\" data-contents=\""
+markup_text Indefinite = codes "inf"
 markup_text ValueEnd = codes "\""
 
 -- a piece of a page: fixed markup, a number, a line of a dump, or octets

@@ -38,6 +38,13 @@ const FOOT: &str = "<script>
 (() => {
   if (!window.CSS || !CSS.highlights) return;
   let last = null;
+  // an indefinite length ends with the last line inside
+  const endOf = (line, middle) => {
+    if (line.dataset.contents !== 'inf') return middle + Number(line.dataset.contents);
+    const inside = [...line.parentNode.querySelectorAll('[data-offset]')].pop();
+    if (line.tagName !== 'SUMMARY' || inside === line) return middle;
+    return endOf(inside, Number(inside.dataset.offset) + Number(inside.dataset.header));
+  };
   const mark = event => {
     const line = event.target.closest && event.target.closest('[data-offset]');
     if (!line || line === last) return;
@@ -47,7 +54,7 @@ const FOOT: &str = "<script>
     const octets = line.closest('section').querySelector('.octets'), text = octets.firstChild;
     if (!text) return;
     const start = Number(line.dataset.offset), middle = start + Number(line.dataset.header);
-    const end = middle + Number(line.dataset.contents);
+    const end = endOf(line, middle);
     const range = (from, to) => {
       const r = new Range();
       r.setStart(text, Math.min(3 * from, text.length));

@@ -7,7 +7,8 @@ use std::str;
 pub struct Columns {
     pub offset: usize,
     pub header: usize,
-    pub contents: usize,
+    // none of an indefinite length
+    pub contents: Option<usize>,
     pub depth: usize,
 }
 
@@ -15,7 +16,7 @@ pub struct Columns {
 pub fn columns_of(line: &[u8]) -> Option<Columns> {
     let (offset, rest) = number_in_front(but_mark(line))?;
     let (header, rest) = number_in_front(rest)?;
-    let (contents, rest) = number_in_front(rest)?;
+    let (contents, rest) = size_in_front(rest)?;
     let spaces = rest.len() - rest.trim_ascii_start().len();
     Some(Columns {
         offset,
@@ -45,6 +46,15 @@ fn number_in_front(text: &[u8]) -> Option<(usize, &[u8])> {
     Some((number, rest))
 }
 
+// The size of contents octets at the front, and what follows it.
+fn size_in_front(text: &[u8]) -> Option<(Option<usize>, &[u8])> {
+    if let Some(rest) = text.trim_ascii_start().strip_prefix(b"inf") {
+        return Some((None, rest));
+    }
+    let (size, rest) = number_in_front(text)?;
+    Some((Some(size), rest))
+}
+
 // How many encodings are around that of the line; none around a line without columns.
 pub fn depth_of(line: &[u8]) -> usize {
     match columns_of(line) {
@@ -67,13 +77,24 @@ const ERRORS: [&str; 8] = [
 
 // Whether a line says that something is wrong: with an input, or with its own encoding.
 pub fn tells_error(line: &[u8]) -> bool {
-    line.starts_with(b"!") || is_cut_short(line) || ends_with_error(line)
+    line.starts_with(b"!") || says_error(line) || ends_with_error(line)
 }
 
-// Whether the encoding of the line ends with the document. A value in quotation marks is not looked into.
-fn is_cut_short(line: &[u8]) -> bool {
+// What is said of an encoding that ends with the document, and of one whose length may not be indefinite.
+const SAID: [&[u8]; 2] = [
+    b" (truncated: ",
+    b": indefinite length of a primitive element",
+];
+
+// Whether that is said on the line. A value in quotation marks is not looked into.
+fn says_error(line: &[u8]) -> bool {
     let words = line.split(|b| *b == b'"').next().unwrap_or(line);
-    find(words, b" (truncated: ").is_some()
+    for said in SAID {
+        if find(words, said).is_some() {
+            return true;
+        }
+    }
+    false
 }
 
 fn ends_with_error(line: &[u8]) -> bool {

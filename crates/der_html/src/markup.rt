@@ -23,6 +23,7 @@ pub enum Markup {
     Offset,
     HeaderSize,
     ContentsSize,
+    Indefinite,
     ValueEnd,
 }
 
@@ -44,6 +45,7 @@ fn text_of(markup: Markup) -> &'static str
         Markup::Offset => " data-offset=\"",
         Markup::HeaderSize => "\" data-header=\"",
         Markup::ContentsSize => "\" data-contents=\"",
+        Markup::Indefinite => "inf",
         Markup::ValueEnd => "\"",
     }
 }

@@ -149,7 +149,17 @@ fn push_attributes(line: &[u8], out: &mut Vec<u8>) -> Result<(), AllocError>
     push_markup(Markup::HeaderSize, out)?;
     push_number(columns.header, out)?;
     push_markup(Markup::ContentsSize, out)?;
-    push_number(columns.contents, out)?;
+    push_contents(columns.contents, out)?;
     push_markup(Markup::ValueEnd, out)?;
     Ok(())
+}
+
+// Pushes the size of contents octets, if it is definite.
+fn push_contents(contents: Option<usize>, out: &mut Vec<u8>) -> Result<(), AllocError>
+    ensures { OnOk result (Shows [] [] out.old.items out.new.items) }
+{
+    match contents {
+        Some(size) => push_number(size, out),
+        None => push_markup(Markup::Indefinite, out),
+    }
 }

@@ -12,4 +12,4 @@ returns c =
     (markup_then [] [] _ _ _ c.in_ok-push_markup-2.ensures
     (markup_then [] [] _ _ _ c.in_ok-push_number-2.ensures
     (markup_then [] [] _ _ _ c.in_ok-push_markup-3.ensures
-    (markup_then [] [] _ _ _ c.in_ok-push_number-3.ensures c.in_ok-push_markup-4.ensures)))))
+    (markup_then [] [] _ _ _ c.in_ok-push_contents.ensures c.in_ok-push_markup-4.ensures)))))
