@@ -187,7 +187,7 @@ inside_deeper octets part base m further f at e s =
       earlier = s.earlier;
       others = s.others;
       among = s.among;
-      place = record { offset = omega (arith, o, e); header = l.header; contents = l.contents; words = l.words; marked = l.marked };
+      place = record { offset = omega (arith, o, e); header = l.header; contents = l.contents; indefinite = l.indefinite; words = l.words; marked = l.marked };
     }
 
 -- a mark

@@ -3,21 +3,23 @@ use Rattle.std.proofs.Common.{◌≡◌, ◌⊎◌, inl, inr, ℕ, ◌+◌, ◌-
 use Rattle.std.proofs.Common.{codes, drop, length, take, slice_range, refl, sym, ap, ◌∙◌, subst, append_assoc, append-nil, arith}
 use Rattle.std.proofs.Math.Seq.{take-add}
 use Rattle.std.proofs.lemmas.List.{length-drop, length-take-le, take-append-drop}
-use Rattle.std.specs.Prelude.{Option, None, Some, MatchOption, option_map}
+use Rattle.std.specs.Prelude.{◌↔◌, ◌&&◌, IfOk, IsTrue, Option, None, Some, Result, Ok, Err, option_map}
+use Rattle.std.specs.Option.{is_some}
 use Rattle.asn1_headers.specs.Header.{Encoding, IsLength}
 use Rattle.asn1_headers.specs.declared.header.ASN1Class.{ASN1Class}
-use Rattle.asn1_blocks.specs.Contents.{LeafFault}
 use Rattle.asn1_blocks.specs.Grammar.{Encodes}
 use Rattle.asn1_blocks.specs.Tree.{Tree}
 use Rattle.der_lines.specs.Dump.{Adds, Front, IsFirst, IsJudged, IsLater, StandAt, StandsInside, cut_short, is_wide}
-use Rattle.der_lines.specs.Dump.{of_cut, tag_words, unreadable, with_no_value, with_value}
-use Rattle.asn1_headers.specs.Front.{BeginsWithHeader, HasNoHeader}
+use Rattle.der_lines.specs.Dump.{begins_with_end, end_of_contents, is_stray_form, of_cut, of_stray_form, tag_words, taken}
+use Rattle.der_lines.specs.Dump.{unreadable, with_encodings, with_no_value, with_value}
+use Rattle.asn1_headers.specs.Front.{BeginsWithHeader, HasIndefiniteForm, HasNoHeader}
 use Rattle.der_lines.specs.Headers.{is_gone_into}
 use Rattle.asn1_headers.specs.Front.{IsAtFront}
-use Rattle.der_lines.specs.Steps.{AddsStart, HasNoValue, IsFirstFault, IsMarkedFirst, IsNear, IsRight, IsTaken, PutsEncodings, PutsFirst, StartsWith}
-use Rattle.der_lines.specs.Steps.{header_front, outer}
+use Rattle.der_lines.specs.Steps.{AddsStart, IsFirstFault, IsMarkedFirst, IsNear, IsRight, IsTaken, PutsEncodings, PutsFirst, StartsWith}
+use Rattle.der_lines.specs.Steps.{IsLeafTold, PutsAs, PutsNext, StartsNext, header_front, outer}
+use Rattle.der_lines.specs.declared.cursor.Left.{Left}
 use Rattle.der_lines.specs.declared.cursor.Step.{Step}
-use Rattle.der_lines.specs.declared.cursor.Step.TheVariants.{Into, Past}
+use Rattle.der_lines.specs.declared.cursor.Step.TheVariants.{Into, Out, Past}
 use Rattle.der_lines.specs.declared.encodings.Found.{Found}
 use Rattle.der_lines.specs.declared.encodings.Passed.{Passed}
 use Rattle.der_lines.specs.declared.faults.Fault.{Fault}
@@ -26,12 +28,13 @@ use Rattle.der_lines.specs.declared.place.Place.{Place}
 use Rattle.der_lines.proofs.Dumps.{adds_join, adds_map, inside_deeper, start_adds}
 use Rattle.der_lines.proofs.Seeking.{header_size}
 
-pub puts_first :
-    (place : Place) (offset : ℕ) (left : List ℕ) (passed : Passed) (front shown : Front) (faults a b : List ℕ) →
-    StartsWith left offset place.depth front passed.step faults → front.offset ≡ offset → shown.depth ≡ place.depth →
+pub puts_as :
+    (Starts : Front → Step → List ℕ → Type 0) (place : Place) (offset : ℕ) (left : List ℕ) (passed : Passed)
+    (front shown : Front) (faults a b : List ℕ) →
+    Starts front passed.step faults → front.offset ≡ offset → shown.depth ≡ place.depth →
     IsLater place.base front shown → IsFirstFault faults passed.fault → passed.is_marked ≡ front.marked →
-    AddsStart place shown a b → PutsFirst place offset left passed a b
-puts_first place offset left passed front shown faults a b starts o d later told mark put = record {
+    AddsStart place shown a b → PutsAs Starts place offset left passed a b
+puts_as Starts place offset left passed front shown faults a b starts o d later told mark put = record {
   front = front;
   shown = shown;
   faults = faults;
@@ -44,31 +47,94 @@ puts_first place offset left passed front shown faults a b starts o d later told
   adds = start_adds (IsNear place.base left front) place.is_inside place.most_depth shown a b put (inl later);
 }
 
+pub puts_first :
+    (place : Place) (offset : ℕ) (left : List ℕ) (passed : Passed) (front shown : Front) (faults a b : List ℕ) →
+    StartsWith left offset place.depth front passed.step faults → front.offset ≡ offset → shown.depth ≡ place.depth →
+    IsLater place.base front shown → IsFirstFault faults passed.fault → passed.is_marked ≡ front.marked →
+    AddsStart place shown a b → PutsFirst place offset left passed a b
+puts_first place offset left = puts_as (StartsWith left offset place.depth) place offset left
+
+starts_next :
+    (left : Left) (offset depth : ℕ) (front : Front) (step : Step) (faults : List ℕ) →
+    (left.is_indefinite && begins_with_end left.octets.now) ≡ false → 0 < length left.octets.now →
+    StartsWith left.octets.now offset depth front step faults → StartsNext left offset depth front step faults
+starts_next left offset depth front (Into header size indefinite) faults e some starts = (e, some, starts)
+starts_next left offset depth front (Past size) faults e some starts = (e, some, starts)
+starts_next left offset depth front (Out size) faults e some starts = absurd starts
+
+-- an encoding, where no end-of-contents octets end what is left
+puts_next :
+    (place : Place) (offset : ℕ) (left : Left) (passed : Passed) (a b : List ℕ) →
+    (left.is_indefinite && begins_with_end left.octets.now) ≡ false → 0 < length left.octets.now →
+    PutsFirst place offset left.octets.now passed a b → PutsNext place offset left passed a b
+puts_next place offset left passed a b e some put = record {
+  front = put.front;
+  shown = put.shown;
+  faults = put.faults;
+  starts = starts_next left offset place.depth put.front passed.step put.faults e some put.starts;
+  same_offset = put.same_offset;
+  same_depth = put.same_depth;
+  later = put.later;
+  told = put.told;
+  same_mark = put.same_mark;
+  adds = put.adds;
+}
+
+pub puts_next_ok :
+    {E : Type 0} (result : Result Passed E) (place : Place) (offset : ℕ) (left : Left) (a b : List ℕ) →
+    (left.is_indefinite && begins_with_end left.octets.now) ≡ false → 0 < length left.octets.now →
+    IfOk result (λ passed. PutsFirst place offset left.octets.now passed a b) →
+    IfOk result (λ passed. PutsNext place offset left passed a b)
+puts_next_ok (Ok passed) place offset left a b e some put = puts_next place offset left passed a b e some put
+puts_next_ok (Err error) place offset left a b e some put = put
+
+-- end-of-contents octets
+pub puts_end :
+    (place : Place) (offset size : ℕ) (left : Left) (passed : Passed) (faults a b : List ℕ) → left.is_indefinite ≡ true →
+    passed.step ≡ Out size →
+    (((size ≡ 2) × (begins_with_end left.octets.now ≡ true) × (faults ≡ []))
+    ⊎ ((size ≡ 0) × (left.octets.now ≡ []) × (faults ≡ offset ∷ []))) →
+    IsFirstFault faults passed.fault → passed.is_marked ≡ false →
+    AddsStart place (end_of_contents (place.base + offset) size place.depth) a b → PutsNext place offset left passed a b
+puts_end place offset size left passed faults a b within s is told mark put =
+    let front = end_of_contents offset size place.depth in
+    puts_as (StartsNext left offset place.depth) place offset left.octets.now passed front
+    (end_of_contents (place.base + offset) size place.depth) faults a b
+    (subst (λ z. StartsNext left offset place.depth front z faults) (sym s) (within, refl, is))
+    refl refl (record { offset = refl; header = refl; contents = refl; indefinite = refl; words = refl; marked = refl })
+    told mark put
+
 -- octets that begin with no header
 pub puts_unreadable :
     (place : Place) (offset : ℕ) (left : List ℕ) (passed : Passed) (shown : Front) (a b : List ℕ) → HasNoHeader left →
     passed.step ≡ Past (length left) → IsFirstFault (offset ∷ []) passed.fault → shown.offset ≡ place.base + offset →
-    shown.header ≡ 0 → shown.contents ≡ length left → shown.depth ≡ place.depth → shown.words ≡ codes "unreadable" →
+    shown.header ≡ 0 → shown.contents ≡ length left → shown.indefinite ≡ false → shown.depth ≡ place.depth → shown.words ≡ codes "unreadable" →
     shown.marked ≡ false → passed.is_marked ≡ false → AddsStart place shown a b → PutsFirst place offset left passed a b
-puts_unreadable place offset left passed shown a b none s told o h c d w m mark put =
+puts_unreadable place offset left passed shown a b none s told o h c i d w m mark put =
     puts_first place offset left passed (unreadable offset (length left) place.depth) shown (offset ∷ []) a b
     (subst (λ z. StartsWith left offset place.depth (unreadable offset (length left) place.depth) z (offset ∷ [])) (sym s)
     (inr (refl, none, refl, refl)))
-    refl d (record { offset = o; header = h; contents = c; words = w; marked = m }) told mark put
+    refl d (record { offset = o; header = h; contents = c; indefinite = i; words = w; marked = m }) told mark put
+
+-- the encoding with the header that begins the octets is judged so
+abbrev pub IsJudgedAs : (left : List ℕ) → ℕ → ℕ → Bool → (header : Header) → IsAtFront left header → List ℕ → Type 0
+IsJudgedAs left offset depth marked header h faults =
+    IsJudged left (header_front offset depth marked header) header.class header.constructed header.tag
+    (is_stray_form header.constructed (drop (length h.identifier) left)) faults
 
 -- that of a header
 pub header_later :
     (base offset depth : ℕ) (marked : Bool) (header : Header) →
     IsLater base (header_front offset depth marked header) (header_front (base + offset) depth marked header)
 header_later base offset depth marked header =
-    record { offset = refl; header = refl; contents = refl; words = refl; marked = refl }
+    record { offset = refl; header = refl; contents = refl; indefinite = refl; words = refl; marked = refl }
 
 pub begins :
-    (left : List ℕ) (offset depth : ℕ) (marked : Bool) (header : Header) (opened : Bool) (faults : List ℕ) →
-    IsAtFront left header → opened ≡ is_gone_into header.class header.constructed header.tag →
-    IsJudged left (header_front offset depth marked header) header.class header.constructed header.tag faults →
+    (left : List ℕ) (offset depth : ℕ) (marked : Bool) (header : Header) (opened : Bool) (faults : List ℕ)
+    (h : IsAtFront left header) → opened ≡ is_gone_into header.class header.constructed header.tag →
+    IsTrue header.is_indefinite ↔ HasIndefiniteForm left → IsJudgedAs left offset depth marked header h faults →
     IsMarkedFirst left header marked → IsFirst left offset depth (header_front offset depth marked header) opened faults
-begins left offset depth marked header opened faults h o judged m = record {
+begins left offset depth marked header opened faults h o form judged m = record {
   class = header.class;
   constructed = header.constructed;
   tag = header.tag;
@@ -77,36 +143,46 @@ begins left offset depth marked header opened faults h o judged m = record {
   depth_is = refl;
   words_are = refl;
   opened_is = o;
+  form = form;
   judged = judged;
   marked = m h;
 }
 
+taken_cut : (indefinite : Bool) (n there : ℕ) → there < n → there ≡ taken indefinite n there
+taken_cut true n there less = refl
+taken_cut false n there less = omega (arith, less)
+
 -- an encoding that is cut short
 pub cut_starts :
     (left : List ℕ) (offset depth : ℕ) (header : Header) (step : Step) → IsAtFront left header →
-    length left < header.size + header.announced → IsTaken header (length left) step →
+    length left < header.size + header.announced → IsTrue header.is_indefinite ↔ HasIndefiniteForm left →
+    IsTaken header (length left) step →
     StartsWith left offset depth (header_front offset depth false header) step (offset ∷ [])
-cut_starts left offset depth header (Into first all) h l (o, p, q) = (
+cut_starts left offset depth header (Into first all indefinite) h l form (o, p, q, i) = (
   p,
-  omega (arith, q, l),
-  begins left offset depth false header true (offset ∷ []) h (sym o) (cut_short l refl) (λ f. of_cut l refl),
+  q ∙ taken_cut header.is_indefinite (header.size + header.announced) (length left) l,
+  i,
+  begins left offset depth false header true (offset ∷ []) h (sym o) form (cut_short l refl) (λ f. of_cut l refl),
 )
-cut_starts left offset depth header (Past all) h l (o, q) =
+cut_starts left offset depth header (Past all) h l form (o, q) =
     inl (
-      omega (arith, q, l),
-      begins left offset depth false header false (offset ∷ []) h (sym o) (cut_short l refl) (λ f. of_cut l refl),
+      q ∙ taken_cut header.is_indefinite (header.size + header.announced) (length left) l,
+      begins left offset depth false header false (offset ∷ []) h (sym o) form (cut_short l refl) (λ f. of_cut l refl),
     )
+cut_starts left offset depth header (Out all) h l form none = absurd none
 
--- one that is gone into
-pub opened_starts :
-    (left : List ℕ) (offset depth : ℕ) (marked : Bool) (header : Header) (faults : List ℕ) → IsAtFront left header →
-    header.size + header.announced ≤ length left → is_gone_into header.class header.constructed header.tag ≡ true →
-    IsJudged left (header_front offset depth marked header) header.class header.constructed header.tag faults →
-    IsMarkedFirst left header marked →
-    StartsWith left offset depth (header_front offset depth marked header)
-    (Into header.size (header.size + header.announced)) faults
-opened_starts left offset depth marked header faults h l o judged m =
-    (refl, omega (arith, l), begins left offset depth marked header true faults h (sym o) judged m)
+-- one that is whole
+pub whole_starts :
+    (left : List ℕ) (offset depth : ℕ) (marked : Bool) (header : Header) (size : ℕ) (step : Step) (faults : List ℕ)
+    (h : IsAtFront left header) → IsTrue header.is_indefinite ↔ HasIndefiniteForm left →
+    IsJudgedAs left offset depth marked header h faults → IsMarkedFirst left header marked → IsTaken header size step →
+    size ≡ taken header.is_indefinite (header.size + header.announced) (length left) →
+    StartsWith left offset depth (header_front offset depth marked header) step faults
+whole_starts left offset depth marked header size (Into first all indefinite) faults h form judged m (o, p, q, i) is =
+    (p, q ∙ is, i, begins left offset depth marked header true faults h (sym o) form judged m)
+whole_starts left offset depth marked header size (Past all) faults h form judged m (o, q) is =
+    inl (q ∙ is, begins left offset depth marked header false faults h (sym o) form judged m)
+whole_starts left offset depth marked header size (Out all) faults h form judged m none is = absurd none
 
 -- the octets of a whole encoding
 pub front_encoding :
@@ -138,49 +214,66 @@ value_is left contents s n c k t h l e (inr right) = inr (right (take (s + n) le
 slice_whole : (xs : List ℕ) (s e : ℕ) → slice_range xs s e ++ drop (e - s) (drop s xs) ≡ drop s xs
 slice_whole xs s e = take-append-drop (e - s) (drop s xs)
 
--- what is wrong with contents octets, and what is told of it
-abbrev pub IsToldOf : List ℕ → ℕ → ℕ → Bool → Header → Option Fault → Type 0
-IsToldOf left offset depth marked header told =
-    (faults : List ℕ)
-    × IsJudged left (header_front offset depth marked header) header.class header.constructed header.tag faults
-    × IsFirstFault faults told
+-- what is wrong with an encoding, and what is told of it
+abbrev pub IsToldOf : (left : List ℕ) → ℕ → ℕ → Bool → (header : Header) → IsAtFront left header → Option Fault → Type 0
+IsToldOf left offset depth marked header h told =
+    (faults : List ℕ) × IsJudgedAs left offset depth marked header h faults × IsFirstFault faults told
 
 pub leaf_told :
-    {W : Type 0} (left contents : List ℕ) (offset depth : ℕ) (marked : Bool) (header : Header) (words : Option W)
-    (told : Option Fault) →
-    IsAtFront left header → header.size + header.announced ≤ length left →
+    {W : Type 0} (left : List ℕ) (offset depth : ℕ) (marked : Bool) (header : Header) (words : Option W)
+    (told : Option Fault) (h : IsAtFront left header) → header.size + header.announced ≤ length left →
     is_gone_into header.class header.constructed header.tag ≡ false →
-    contents ≡ slice_range left header.size (header.size + header.announced) →
-    MatchOption words (IsRight header.class header.constructed header.tag contents) (λ w. HasNoValue header.class header.tag contents) →
+    IsLeafTold left header (drop (length h.identifier) left) words →
     option_map (λ (f : Fault). f.offset) told ≡ option_map (λ (w : W). offset) words →
-    IsToldOf left offset depth marked header told
-leaf_told left contents offset depth marked header None None h l o e right same = (
+    IsToldOf left offset depth marked header h told
+leaf_told left offset depth marked header None None h l o (stray, right) same = (
   [],
-  with_value l o (value_is left contents header.size header.announced header.class header.constructed header.tag h l e right) refl,
+  with_value l o stray
+      (value_is left (slice_range left header.size (header.size + header.announced)) header.size header.announced
+      header.class header.constructed header.tag h l refl right)
+      refl,
   refl,
 )
-leaf_told left contents offset depth marked header (Some words) (Some fault) h l o e (u, (what, is)) same =
-    let there : fault.offset ≡ offset = cc same in (
-      offset ∷ [],
-      with_no_value l o u what (subst (λ z. LeafFault header.tag z what) e is) refl,
-      ([], ap (λ z. z ∷ []) (sym there)),
-    )
-leaf_told left contents offset depth marked header None (Some fault) h l o e right same = absurd (cc same)
-leaf_told left contents offset depth marked header (Some words) None h l o e wrong same = absurd (cc same)
+leaf_told left offset depth marked header (Some words) (Some fault) h l o (inl stray) same =
+    let there : fault.offset ≡ offset = cc same in
+    (offset ∷ [], of_stray_form stray refl, ([], ap (λ z. z ∷ []) (sym there)))
+leaf_told left offset depth marked header (Some words) (Some fault) h l o (inr (u, (what, is))) same =
+    let there : fault.offset ≡ offset = cc same in
+    (offset ∷ [], with_no_value l o u what is refl, ([], ap (λ z. z ∷ []) (sym there)))
+leaf_told left offset depth marked header None (Some fault) h l o right same = absurd (cc same)
+leaf_told left offset depth marked header (Some words) None h l o wrong same = absurd (cc same)
+
+pub opened_told :
+    {W : Type 0} (left : List ℕ) (offset depth : ℕ) (marked : Bool) (header : Header) (words : Option W)
+    (told : Option Fault) (h : IsAtFront left header) → header.size + header.announced ≤ length left →
+    is_gone_into header.class header.constructed header.tag ≡ true →
+    is_some words ≡ is_stray_form header.constructed (drop (length h.identifier) left) →
+    option_map (λ (f : Fault). f.offset) told ≡ option_map (λ (w : W). offset) words →
+    IsToldOf left offset depth marked header h told
+opened_told left offset depth marked header None None h l o stray same = ([], with_encodings l o (sym stray) refl, refl)
+opened_told left offset depth marked header (Some words) (Some fault) h l o stray same =
+    let there : fault.offset ≡ offset = cc same in
+    (offset ∷ [], of_stray_form (sym stray) refl, ([], ap (λ z. z ∷ []) (sym there)))
+opened_told left offset depth marked header None (Some fault) h l o stray same = absurd (cc same)
+opened_told left offset depth marked header (Some words) None h l o stray same = absurd (cc same)
 
 pub leaf_puts :
-    (place : Place) (offset : ℕ) (left contents : List ℕ) (marked : Bool) (header : Header) (passed : Passed)
-    (shown : Front) (a m b : List ℕ) → IsMarkedFirst left header marked → IsAtFront left header → header.size + header.announced ≤ length left →
-    is_gone_into header.class header.constructed header.tag ≡ false →
+    (place : Place) (offset : ℕ) (left contents : List ℕ) (marked : Bool) (header : Header) (size : ℕ) (step : Step)
+    (passed : Passed) (shown : Front) (a m b : List ℕ) (h : IsAtFront left header) → IsMarkedFirst left header marked →
+    IsTrue header.is_indefinite ↔ HasIndefiniteForm left →
     contents ≡ slice_range left header.size (header.size + header.announced) →
-    passed.step ≡ Past (header.size + header.announced) → IsToldOf left offset place.depth marked header passed.fault →
-    shown.offset ≡ place.base + offset → shown.header ≡ header.size → shown.contents ≡ header.announced → shown.depth ≡ place.depth →
-    shown.words ≡ tag_words header.class header.tag → shown.marked ≡ marked → passed.is_marked ≡ marked → AddsStart place shown a m →
-    Adds (StandsInside (place.base + (offset + header.size)) contents) [] m b → PutsFirst place offset left passed a b
-leaf_puts place offset left contents marked header passed shown a m b is_marked h l o e step (faults, judged, told) so sh sc sd sw sm mark put inside =
+    IsTaken header size step → size ≡ taken header.is_indefinite (header.size + header.announced) (length left) →
+    passed.step ≡ step → IsToldOf left offset place.depth marked header h passed.fault →
+    shown.offset ≡ place.base + offset → shown.header ≡ header.size → shown.contents ≡ header.announced →
+    shown.indefinite ≡ header.is_indefinite → shown.depth ≡ place.depth →
+    shown.words ≡ tag_words header.class header.tag → shown.marked ≡ marked → passed.is_marked ≡ marked →
+    AddsStart place shown a m → Adds (StandsInside (place.base + (offset + header.size)) contents) [] m b →
+    PutsFirst place offset left passed a b
+leaf_puts place offset left contents marked header size step passed shown a m b h is_marked form e taken_by is goes (faults, judged, told) so sh sc si sd sw sm mark put inside =
     let front = header_front offset place.depth marked header in
     let P = IsNear place.base left front in
-    let later : IsLater place.base front shown = record { offset = so; header = sh; contents = sc; words = sw; marked = sm } in
+    let later : IsLater place.base front shown =
+    record { offset = so; header = sh; contents = sc; indefinite = si; words = sw; marked = sm } in
     let stands : StandAt left header.size contents = (
       drop (header.size + header.announced - header.size) (drop header.size left),
       sym (slice_whole left header.size (header.size + header.announced)) ∙ ap (λ z. z ++ drop (header.size + header.announced - header.size) (drop header.size left)) (sym e),
@@ -197,8 +290,8 @@ leaf_puts place offset left contents marked header passed shown a m b is_marked 
       front = front;
       shown = shown;
       faults = faults;
-      starts = subst (λ z. StartsWith left offset place.depth front z faults) (sym step)
-          (inl (omega (arith, l), begins left offset place.depth marked header false faults h (sym o) judged is_marked));
+      starts = subst (λ z. StartsWith left offset place.depth front z faults) (sym goes)
+          (whole_starts left offset place.depth marked header size step faults h form judged is_marked taken_by is);
       same_offset = refl;
       same_depth = sd;
       later = later;
@@ -208,11 +301,11 @@ leaf_puts place offset left contents marked header passed shown a m b is_marked 
     }
 
 -- the lines of encodings inside contents octets
-pub held_adds :
+pub nested_adds :
     (inside : Place) (contents octets : List ℕ) (base before : ℕ) (told : Found) (a b : List ℕ) → StandAt contents before octets →
     inside.is_inside ≡ true → inside.base ≡ base + before → PutsEncodings inside octets told a b →
     Adds (StandsInside base contents) [] a b
-held_adds inside contents octets base before told a b stand is_inside further put =
+nested_adds inside contents octets base before told a b stand is_inside further put =
     adds_map (StandsInside inside.base octets) (StandsInside base contents)
     (λ p s. inside_deeper contents octets base before inside.base p stand further s) [] a b
     (subst (λ z. Adds (StandsInside inside.base octets) (outer z inside.most_depth put.fronts) a b) is_inside put.adds)

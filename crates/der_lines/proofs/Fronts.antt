@@ -1,16 +1,18 @@
 -- How far the lines of octets were put.
-use Rattle.std.proofs.Common.{◌≡◌, ◌⊎◌, inl, inr, ℕ, ◌+◌, ◌-◌, ◌<◌, Bool, true, false, List, [], ◌∷◌, ◌++◌, if◌then◌else◌}
+use Rattle.std.proofs.Common.{◌≡◌, ◌⊎◌, inl, inr, ℕ, ◌+◌, ◌-◌, Bool, true, false, List, [], ◌∷◌, ◌++◌, if◌then◌else◌}
 use Rattle.std.proofs.Common.{drop, length, reverse, slice_range, refl, sym, ap, ◌∙◌, subst, append_assoc, append-nil, arith}
-use Rattle.std.proofs.lemmas.List.{length-reverse, take-append-drop}
+use Rattle.std.proofs.lemmas.List.{take-append-drop}
 use Rattle.std.specs.Prelude.{Option, None, Some}
-use Rattle.der_lines.specs.Dump.{Adds, AreFrontsOf, Front, IsLater, StandAt, StandsInside, marked_offsets}
-use Rattle.der_lines.specs.Steps.{Goes, IsAhead, IsFirstFault, IsNear, PutsEncodings, PutsFirst, earlier_fault, marked_offset, outer}
+use Rattle.der_lines.specs.Dump.{Adds, AreFrontsOf, Front, IsLater, StandAt, StandsInside, end_at, marked_offsets}
+use Rattle.der_lines.specs.Steps.{Goes, HasLeft, IsAhead, IsFirstFault, IsLeftOf, IsNear, PutsEncodings, PutsNext}
+use Rattle.der_lines.specs.Steps.{earlier_fault, ends_of, marked_offset, outer}
 use Rattle.der_lines.specs.declared.cursor.Cursor.{Cursor}
+use Rattle.der_lines.specs.declared.cursor.Left.{Left}
 use Rattle.der_lines.specs.declared.encodings.Found.{Found}
 use Rattle.der_lines.specs.declared.encodings.Passed.{Passed}
 use Rattle.der_lines.specs.declared.faults.Fault.{Fault}
 use Rattle.der_lines.specs.declared.place.Place.{Place}
-use Rattle.der_lines.proofs.Cursors.{ahead_is, starts_again, step_goes, with_depth}
+use Rattle.der_lines.proofs.Cursors.{ahead_back, ahead_is, depth_is, next_again, step_goes, with_depth}
 use Rattle.der_lines.proofs.Dumps.{adds_join, adds_map, adds_nothing, inside_deeper, outer_join, outer_none}
 
 abbrev pub IsAmong : List Front → Front → Type 0
@@ -33,34 +35,35 @@ pub record ShownTo (place : Place) (octets : List ℕ) (cursor : Cursor) (first 
 
 pub shown_none :
     (place : Place) (octets : List ℕ) (cursor : Cursor) (a : List ℕ) → cursor.octets.now ≡ octets → cursor.offset ≡ 0 →
-    cursor.end ≡ length octets → cursor.ends.items ≡ [] → ShownTo place octets cursor None [] a a
-shown_none place octets cursor a o z e n = record {
+    cursor.ends.items ≡ end_at (length octets) false ∷ [] → ShownTo place octets cursor None [] a a
+shown_none place octets cursor a o z e = record {
   fronts = [];
   faults = [];
   same_octets = o;
   goes_on = λ later more h.
-      ahead_is cursor octets 0 (length octets ∷ []) later more o z
-      (ap (λ x. x ∷ reverse cursor.ends.items) e ∙ ap (λ x. length octets ∷ reverse x) n) h;
+      ahead_is cursor octets 0 (end_at (length octets) false ∷ []) later more o z (ap reverse e) h;
   told = refl;
   marks_are = refl;
   adds = subst (λ l. Adds (IsSoFar place.base octets []) l a a) (sym (outer_none place.is_inside place.most_depth))
       (adds_nothing (IsSoFar place.base octets []) a);
 }
 
-make : ℕ → ℕ → ℕ → ℕ → List ℕ → Bool → Front
-make o h c d w m = record { offset = o; header = h; contents = c; depth = d; words = w; marked = m }
+make : ℕ → ℕ → ℕ → Bool → ℕ → List ℕ → Bool → Front
+make o h c i d w m =
+    record { offset = o; header = h; contents = c; indefinite = i; depth = d; words = w; marked = m }
 
 front_is :
-    (f g : Front) → f.offset ≡ g.offset → f.header ≡ g.header → f.contents ≡ g.contents → f.depth ≡ g.depth →
-    f.words ≡ g.words → f.marked ≡ g.marked → f ≡ g
+    (f g : Front) → f.offset ≡ g.offset → f.header ≡ g.header → f.contents ≡ g.contents → f.indefinite ≡ g.indefinite →
+    f.depth ≡ g.depth → f.words ≡ g.words → f.marked ≡ g.marked → f ≡ g
 unfolding make
-front_is f g o h c d w m =
-    ap (λ z. make z f.header f.contents f.depth f.words f.marked) o
-    ∙ (ap (λ z. make g.offset z f.contents f.depth f.words f.marked) h
-    ∙ (ap (λ z. make g.offset g.header z f.depth f.words f.marked) c
-    ∙ (ap (λ z. make g.offset g.header g.contents z f.words f.marked) d
-    ∙ (ap (λ z. make g.offset g.header g.contents g.depth z f.marked) w
-    ∙ ap (make g.offset g.header g.contents g.depth g.words) m))))
+front_is f g o h c i d w m =
+    ap (λ z. make z f.header f.contents f.indefinite f.depth f.words f.marked) o
+    ∙ (ap (λ z. make g.offset z f.contents f.indefinite f.depth f.words f.marked) h
+    ∙ (ap (λ z. make g.offset g.header z f.indefinite f.depth f.words f.marked) c
+    ∙ (ap (λ z. make g.offset g.header g.contents z f.depth f.words f.marked) i
+    ∙ (ap (λ z. make g.offset g.header g.contents g.indefinite z f.words f.marked) d
+    ∙ (ap (λ z. make g.offset g.header g.contents g.indefinite g.depth z f.marked) w
+    ∙ ap (make g.offset g.header g.contents g.indefinite g.depth g.words) m)))))
 
 -- the first line
 line_is :
@@ -70,7 +73,8 @@ line_is P true most f g b c e adds = adds
 line_is P false most f g b c e adds = subst (λ z. Adds P (outer false most (z ∷ [])) b c) (e refl) adds
 
 later_again : (base depth : ℕ) (f p : Front) → IsLater base f p → IsLater base (with_depth depth f) p
-later_again base depth f p l = record { offset = l.offset; header = l.header; contents = l.contents; words = l.words; marked = l.marked }
+later_again base depth f p l =
+    record { offset = l.offset; header = l.header; contents = l.contents; indefinite = l.indefinite; words = l.words; marked = l.marked }
 
 near_so_far :
     (base depth offset : ℕ) (octets left : List ℕ) (fronts : List Front) (f p : Front) → StandAt octets offset left → f.offset ≡ offset →
@@ -114,24 +118,26 @@ marked_more [] g = marked_one g.marked g.offset
 marked_more (f ∷ fronts) g = marked_next f.marked f.offset _ _ _ (marked_more fronts g)
 
 pub shown_more :
-    (place here : Place) (octets left : List ℕ) (k m n : Cursor) (passed : Passed) (first : Option Fault)
+    (place here : Place) (octets : List ℕ) (left : Left) (k m n : Cursor) (passed : Passed) (first : Option Fault)
     (marks more_marks a b c : List ℕ) → more_marks ≡ marks ++ marked_offset passed.is_marked m.offset →
     (place.is_inside ≡ false → (place.base ≡ 0) × (place.depth ≡ 0)) → ShownTo place octets k first marks a b →
-    m.octets.now ≡ k.octets.now → ((fs : List Front) (es : List ℕ) → IsAhead m fs es → IsAhead k fs es) →
-    left ≡ slice_range m.octets.now m.offset m.end → 0 < length left → here.is_inside ≡ place.is_inside → here.base ≡ place.base →
-    here.depth ≡ place.depth + length m.ends.items → here.most_depth ≡ place.most_depth →
-    PutsFirst here m.offset left passed b c → Goes passed.step m n → n.octets.now ≡ m.octets.now →
+    m.octets.now ≡ k.octets.now → m.offset ≡ k.offset → HasLeft m.octets.now m.offset (ends_of k) (ends_of m) →
+    IsLeftOf m left → here.is_inside ≡ place.is_inside → here.base ≡ place.base →
+    here.depth ≡ place.depth + (length m.ends.items - 1) → here.most_depth ≡ place.most_depth →
+    PutsNext here m.offset left passed b c → Goes passed.step m n → n.octets.now ≡ m.octets.now →
     ShownTo place octets n (earlier_fault first passed.fault) more_marks a c
-shown_more place here octets left k m n passed first marks more_marks a b c put_marks outside s same back at some i z d most put goes kept =
-    let depth = length (reverse m.ends.items) in
+shown_more place here octets left k m n passed first marks more_marks a b c put_marks outside s same same_offset ended at i z d most put goes kept =
+    let depth = length at.around in
     let f = put.front in
     let g = with_depth depth f in
     let P = IsSoFar place.base octets (s.fronts ++ g ∷ []) in
-    let stands : StandAt octets m.offset left =
-    subst (λ o. StandAt o m.offset left) (same ∙ s.same_octets) (left_stands m.octets.now left m.offset m.end at) in
+    let stands : StandAt octets m.offset left.octets.now =
+    subst (λ o. StandAt o m.offset left.octets.now) (same ∙ s.same_octets)
+    (left_stands m.octets.now left.octets.now m.offset at.end.offset at.octets_are) in
     let near : Adds P (outer here.is_inside here.most_depth (put.shown ∷ [])) b c =
-    adds_map (IsNear here.base left f) P
-    (λ p h. near_so_far place.base depth m.offset octets left s.fronts f p stands put.same_offset (subst (λ x. IsNear x left f p) z h))
+    adds_map (IsNear here.base left.octets.now f) P
+    (λ p h. near_so_far place.base depth m.offset octets left.octets.now s.fronts f p stands put.same_offset
+    (subst (λ x. IsNear x left.octets.now f p) z h))
     (outer here.is_inside here.most_depth (put.shown ∷ [])) b c put.adds
     in
     let mine : Adds P (outer place.is_inside place.most_depth (put.shown ∷ [])) b c =
@@ -143,7 +149,8 @@ shown_more place here octets left k m n passed first marks more_marks a b c put_
     let e : put.shown.depth ≡ here.depth = put.same_depth in
     let one = line_is P place.is_inside place.most_depth put.shown g b c
     (λ out. let (no_base, no_depth) = outside out in
-    front_is put.shown g (omega (arith, o, z, no_base)) l.header l.contents (omega (arith, e, d, no_depth, length-reverse m.ends.items)) l.words l.marked)
+    front_is put.shown g (omega (arith, o, z, no_base)) l.header l.contents l.indefinite
+    (omega (arith, e, d, no_depth, depth_is m left at)) l.words l.marked)
     mine
     in
     let before = adds_map (IsSoFar place.base octets s.fronts) P (λ p h. so_far_more place.base octets s.fronts g p h)
@@ -157,9 +164,9 @@ shown_more place here octets left k m n passed first marks more_marks a b c put_
           subst (λ x. AreFrontsOf octets x ((s.faults ++ put.faults) ++ more)) (sym (append_assoc s.fronts (g ∷ []) later))
           (subst (AreFrontsOf octets (s.fronts ++ g ∷ later)) (sym (append_assoc s.faults put.faults more))
           (s.goes_on (g ∷ later) (put.faults ++ more)
-          (back (g ∷ later) (put.faults ++ more)
-          (step_goes m n left g passed.step put.faults later more at some
-          (starts_again m.offset here.depth depth left f passed.step put.faults put.starts) goes ahead))));
+          (ahead_back k m (g ∷ later) (put.faults ++ more) same same_offset ended
+          (step_goes m n left g passed.step put.faults later more at
+          (next_again m.offset here.depth depth left f passed.step put.faults put.starts) goes ahead))));
       told = told_more s.faults put.faults first passed.fault s.told put.told;
       marks_are = put_marks ∙ (ap (λ z. z ++ marked_offset passed.is_marked m.offset) s.marks_are
           ∙ (ap (λ z. marked_offsets s.fronts ++ marked_offset z m.offset) put.same_mark
@@ -185,7 +192,7 @@ closed base octets fronts faults p read (inl (f, (earlier, others, e), l)) =
       earlier = earlier;
       others = others;
       among = e;
-      place = record { offset = omega (arith, o); header = l.header; contents = l.contents; words = l.words; marked = l.marked };
+      place = record { offset = omega (arith, o); header = l.header; contents = l.contents; indefinite = l.indefinite; words = l.words; marked = l.marked };
     }
 closed base octets fronts faults p read (inr inside) = inside
 

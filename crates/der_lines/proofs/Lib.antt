@@ -4,4 +4,5 @@ mod Firsts
 mod Fronts
 mod Headers
 mod Seeking
+mod Segments
 mod Stricts

@@ -1,6 +1,6 @@
 -- What is written of octets: lines, one for each encoding in order, by their headers. The contents octets of
 -- constructed encodings, and of each SEQUENCE and SET, are gone into; those of others are looked at alone.
-use Rattle.std.specs.Prelude.{◌≡◌, ◌≢◌, ◌⊎◌, ◌==◌, ◌||◌, ℕ, ◌+◌, ◌-◌, ◌*◌, ◌^◌, ◌<◌, ◌≤◌, min, nat_lt, Bool, true, false}
+use Rattle.std.specs.Prelude.{◌≡◌, ◌≢◌, ◌⊎◌, ◌↔◌, ◌==◌, ◌&&◌, ◌||◌, not, IsTrue, ℕ, ◌+◌, ◌-◌, ◌*◌, ◌^◌, ◌<◌, ◌≤◌, min, nat_lt, Bool, true, false}
 use Rattle.std.specs.Prelude.{if◌then◌else◌, Option, None, Some, unwrap_or, List, [], ◌∷◌, ◌++◌, drop, length, map, take}
 use Rattle.std.specs.Prelude.{replicate, slice_range, codes, decimal}
 use Rattle.std.specs.List.{All}
@@ -12,6 +12,8 @@ use Rattle.asn1_blocks.specs.Grammar.{Encodes}
 use Rattle.asn1_blocks.specs.Tree.{Tree}
 use Rattle.asn1_headers.specs.Front.{BeginsWithHeader, HasIndefiniteForm, HasNoHeader}
 use Rattle.der_lines.specs.Headers.{is_gone_into}
+use Rattle.der_lines.specs.declared.cursor.End.{End}
+use Rattle.der_rules.specs.LengthForm.{has_indefinite_length}
 use Rattle.der_rules.specs.Rules.{AreBreaches, is_breach}
 use Rattle.der_rules.specs.declared.breaches.Breaches.{Breaches}
 use Rattle.der_lines.specs.declared.document.Verdict.{Verdict}
@@ -32,11 +34,13 @@ tag_words ContextSpecific tag = codes "[" ++ (tag_number tag ++ codes "]")
 tag_words Private tag = codes "[PRIVATE " ++ (tag_number tag ++ codes "]")
 
 -- what the line of an encoding begins with: its offset, the sizes of its header and of the contents octets that it
--- announces, how many encodings are around it, and its tag in words; and whether it ends with a mark
+-- announces, whether its length is of the indefinite form, which announces none, how many encodings are around it, and
+-- its tag in words; and whether it ends with a mark
 pub record Front : Type 0 where
   pub offset : ℕ
   pub header : ℕ
   pub contents : ℕ
+  pub indefinite : Bool
   pub depth : ℕ
   pub words : List ℕ
   pub marked : Bool
@@ -47,8 +51,21 @@ unreadable offset size depth = record {
   offset = offset;
   header = 0;
   contents = size;
+  indefinite = false;
   depth = depth;
   words = codes "unreadable";
+  marked = false;
+}
+
+-- that of end-of-contents octets at the offset: there are two of them (X.690 8.1.5), or none where they are missing
+abbrev pub end_of_contents : ℕ → ℕ → ℕ → Front
+end_of_contents offset size depth = record {
+  offset = offset;
+  header = size;
+  contents = 0;
+  indefinite = false;
+  depth = depth;
+  words = codes "end-of-contents";
   marked = false;
 }
 
@@ -57,26 +74,30 @@ abbrev pub is_wide : ASN1Class → ℕ → Bool
 is_wide Universal tag = (tag == 20) || (tag == 28) || (tag == 30)
 is_wide class tag = false
 
+-- a primitive encoding has length octets of the indefinite form, which only a constructed one may have (X.690 8.1.3.2).
+-- They are read as a length of 0. The octets are those behind its identifier octets
+abbrev pub is_stray_form : Bool → List ℕ → Bool
+is_stray_form constructed behind = not constructed && has_indefinite_length behind
+
 -- what is wrong with an encoding that begins the octets, nothing or something at its offset
-pub data IsJudged (octets : List ℕ) (front : Front) (class : ASN1Class) (constructed : Bool) (tag : ℕ)
+pub data IsJudged (octets : List ℕ) (front : Front) (class : ASN1Class) (constructed : Bool) (tag : ℕ) (stray : Bool)
     (faults : List ℕ) : Type 0 where
   cut_short :
       length octets < front.header + front.contents → faults ≡ front.offset ∷ [] →
-      IsJudged octets front class constructed tag faults
-  of_indefinite_form :
-      HasIndefiniteForm octets → faults ≡ front.offset ∷ [] → IsJudged octets front class constructed tag faults
+      IsJudged octets front class constructed tag stray faults
+  of_stray_form : stray ≡ true → faults ≡ front.offset ∷ [] → IsJudged octets front class constructed tag stray faults
   with_encodings :
-      front.header + front.contents ≤ length octets → is_gone_into class constructed tag ≡ true →
-      (HasIndefiniteForm octets → ⊥) → faults ≡ [] → IsJudged octets front class constructed tag faults
+      front.header + front.contents ≤ length octets → is_gone_into class constructed tag ≡ true → stray ≡ false →
+      faults ≡ [] → IsJudged octets front class constructed tag stray faults
   with_value :
-      front.header + front.contents ≤ length octets → is_gone_into class constructed tag ≡ false →
+      front.header + front.contents ≤ length octets → is_gone_into class constructed tag ≡ false → stray ≡ false →
       (is_wide class tag ≡ true) ⊎ ((b : Tree ℕ) × Encodes 0 (take (front.header + front.contents) octets) b) →
-      faults ≡ [] → IsJudged octets front class constructed tag faults
+      faults ≡ [] → IsJudged octets front class constructed tag stray faults
   with_no_value :
       front.header + front.contents ≤ length octets → is_gone_into class constructed tag ≡ false →
       class ≡ Universal → (fault : DecodeFault) →
       LeafFault tag (slice_range octets front.header (front.header + front.contents)) fault →
-      faults ≡ front.offset ∷ [] → IsJudged octets front class constructed tag faults
+      faults ≡ front.offset ∷ [] → IsJudged octets front class constructed tag stray faults
 
 -- an encoding that begins the octets, with these identifier octets, is marked: where it is whole, and breaks a rule of
 -- BER or DER, whether or not it has a value
@@ -102,44 +123,81 @@ pub record IsFirst (octets : List ℕ) (offset depth : ℕ) (front : Front) (ope
   pub depth_is : front.depth ≡ depth
   pub words_are : front.words ≡ tag_words class tag
   pub opened_is : opened ≡ is_gone_into class constructed tag
-  pub judged : IsJudged octets front class constructed tag faults
+  pub form : IsTrue front.indefinite ↔ HasIndefiniteForm octets
+  pub judged :
+      IsJudged octets front class constructed tag (is_stray_form constructed (drop (length header.identifier) octets))
+      faults
   pub marked :
       IsMarked octets header.identifier front.header front.contents class constructed tag front.marked
 
--- how many of the octets the encoding takes that begins them
+-- how many octets an encoding takes at most, of so many: those that its header announces, or in the indefinite form all
+abbrev pub taken : Bool → ℕ → ℕ → ℕ
+taken true announced there = there
+taken false announced there = min announced there
+
+-- how many of the octets the encoding takes at most that begins them
 abbrev pub size_in : List ℕ → Front → ℕ
-size_in octets front = min (front.header + front.contents) (length octets)
+size_in octets front = taken front.indefinite (front.header + front.contents) (length octets)
+
+-- contents octets end at the offset, if they are not of the indefinite form and end-of-contents octets end them before
+abbrev pub end_at : ℕ → Bool → End
+end_at offset indefinite = record { offset = offset; is_indefinite = indefinite }
+
+-- octets begin with end-of-contents octets (X.690 8.1.5)
+abbrev pub begins_with_end : List ℕ → Bool
+begins_with_end [] = false
+begins_with_end (first ∷ []) = false
+begins_with_end (first ∷ next ∷ more) = (first == 0) && (next == 0)
 
 -- lines begin with these, and these are the offsets of faults, from an offset of the octets on, where contents octets
--- that end at these offsets are open, the innermost first. What is left of them begins with an encoding, which is gone
--- into or passed over; or with no header: then all of it is unreadable
-pub data AreFronts (octets : List ℕ) : ℕ → List ℕ → List Front → List ℕ → Type 0 where
+-- that end so are open, the innermost first.
+-- Contents octets of definite length end at their offset. Those of the indefinite form end with end-of-contents octets,
+-- which have a line of their own as the last of what stands inside (X.690 8.1.3.6, 8.1.5); these are missing where no
+-- octets are left in the contents octets around, which is a fault with a line.
+-- What is left begins with an encoding, which is gone into or passed over; or with no header: then all of it is
+-- unreadable
+pub data AreFronts (octets : List ℕ) : ℕ → List End → List Front → List ℕ → Type 0 where
   all_ended :
-      {offset : ℕ} {ends : List ℕ} {fronts : List Front} {faults : List ℕ} →
+      {offset : ℕ} {ends : List End} {fronts : List Front} {faults : List ℕ} →
       ends ≡ [] → fronts ≡ [] → faults ≡ [] → AreFronts octets offset ends fronts faults
   one_ended :
-      {offset : ℕ} {ends : List ℕ} {fronts : List Front} {faults : List ℕ} (end : ℕ) (around : List ℕ) →
-      ends ≡ end ∷ around → slice_range octets offset end ≡ [] → AreFronts octets offset around fronts faults →
+      {offset : ℕ} {ends : List End} {fronts : List Front} {faults : List ℕ} (end : End) (around : List End) →
+      ends ≡ end ∷ around → end.is_indefinite ≡ false → slice_range octets offset end.offset ≡ [] →
+      AreFronts octets offset around fronts faults → AreFronts octets offset ends fronts faults
+  ended_by_octets :
+      {offset : ℕ} {ends : List End} {fronts : List Front} {faults : List ℕ} (end : End) (around : List End)
+      (later_fronts : List Front) →
+      ends ≡ end ∷ around → end.is_indefinite ≡ true →
+      begins_with_end (slice_range octets offset end.offset) ≡ true →
+      AreFronts octets (offset + 2) around later_fronts faults →
+      fronts ≡ end_of_contents offset 2 (length around) ∷ later_fronts → AreFronts octets offset ends fronts faults
+  end_missing :
+      {offset : ℕ} {ends : List End} {fronts : List Front} {faults : List ℕ} (end : End) (around : List End)
+      (later_fronts : List Front) (later_faults : List ℕ) →
+      ends ≡ end ∷ around → end.is_indefinite ≡ true → slice_range octets offset end.offset ≡ [] →
+      AreFronts octets offset around later_fronts later_faults →
+      fronts ≡ end_of_contents offset 0 (length around) ∷ later_fronts → faults ≡ offset ∷ later_faults →
       AreFronts octets offset ends fronts faults
   no_header :
-      {offset : ℕ} {ends : List ℕ} {fronts : List Front} {faults : List ℕ} (left : List ℕ) (end : ℕ)
-      (around : List ℕ) (later_fronts : List Front) (later_faults : List ℕ) →
-      ends ≡ end ∷ around → left ≡ slice_range octets offset end → 0 < length left → HasNoHeader left →
+      {offset : ℕ} {ends : List End} {fronts : List Front} {faults : List ℕ} (left : List ℕ) (end : End)
+      (around : List End) (later_fronts : List Front) (later_faults : List ℕ) →
+      ends ≡ end ∷ around → left ≡ slice_range octets offset end.offset → 0 < length left → HasNoHeader left →
       AreFronts octets (offset + length left) ends later_fronts later_faults →
       fronts ≡ unreadable offset (length left) (length around) ∷ later_fronts → faults ≡ offset ∷ later_faults →
       AreFronts octets offset ends fronts faults
   gone_into :
-      {offset : ℕ} {ends : List ℕ} {fronts : List Front} {faults : List ℕ} (left : List ℕ) (end : ℕ)
-      (around : List ℕ) (first : Front) (own : List ℕ) (later_fronts : List Front) (later_faults : List ℕ) →
-      ends ≡ end ∷ around → left ≡ slice_range octets offset end →
-      IsFirst left offset (length around) first true own →
-      AreFronts octets (offset + first.header) ((offset + size_in left first) ∷ ends) later_fronts later_faults →
+      {offset : ℕ} {ends : List End} {fronts : List Front} {faults : List ℕ} (left : List ℕ) (end : End)
+      (around : List End) (first : Front) (own : List ℕ) (later_fronts : List Front) (later_faults : List ℕ) →
+      ends ≡ end ∷ around → left ≡ slice_range octets offset end.offset →
+      (end.is_indefinite && begins_with_end left) ≡ false → IsFirst left offset (length around) first true own →
+      AreFronts octets (offset + first.header) (end_at (offset + size_in left first) first.indefinite ∷ ends)
+      later_fronts later_faults →
       fronts ≡ first ∷ later_fronts → faults ≡ own ++ later_faults → AreFronts octets offset ends fronts faults
   passed_over :
-      {offset : ℕ} {ends : List ℕ} {fronts : List Front} {faults : List ℕ} (left : List ℕ) (end : ℕ)
-      (around : List ℕ) (first : Front) (own : List ℕ) (later_fronts : List Front) (later_faults : List ℕ) →
-      ends ≡ end ∷ around → left ≡ slice_range octets offset end →
-      IsFirst left offset (length around) first false own →
+      {offset : ℕ} {ends : List End} {fronts : List Front} {faults : List ℕ} (left : List ℕ) (end : End)
+      (around : List End) (first : Front) (own : List ℕ) (later_fronts : List Front) (later_faults : List ℕ) →
+      ends ≡ end ∷ around → left ≡ slice_range octets offset end.offset →
+      (end.is_indefinite && begins_with_end left) ≡ false → IsFirst left offset (length around) first false own →
       AreFronts octets (offset + size_in left first) ends later_fronts later_faults →
       fronts ≡ first ∷ later_fronts → faults ≡ own ++ later_faults → AreFronts octets offset ends fronts faults
 
@@ -151,7 +209,7 @@ marked_offsets (front ∷ fronts) =
 
 -- so of all octets
 abbrev pub AreFrontsOf : List ℕ → List Front → List ℕ → Type 0
-AreFrontsOf octets = AreFronts octets 0 (length octets ∷ [])
+AreFrontsOf octets = AreFronts octets 0 (end_at (length octets) false ∷ [])
 
 -- what stands inside so many others stands inside more than the most, where there is a most
 abbrev pub is_too_deep : Option ℕ → ℕ → Bool
@@ -181,6 +239,12 @@ abbrev pub IsMark : Bool → List ℕ → Type 0
 IsMark true mark = (words : List ℕ) × (mark ≡ codes " (not DER: " ++ (words ++ codes ")"))
 IsMark false mark = mark ≡ []
 
+-- the size of the contents octets as a line has it, on the right of seven columns: a number, or `inf` where the length
+-- is of the indefinite form
+abbrev pub contents_column : Bool → ℕ → List ℕ
+contents_column true contents = replicate 4 space ++ codes "inf"
+contents_column false contents = right_of 7 contents
+
 -- a line of an encoding: spaces, the offset, the sizes of header and contents in columns, spaces for the depth, the
 -- words, what else is said of it, and the mark
 pub record IsBlockLine (front : Front) (line : List ℕ) : Type 0 where
@@ -189,7 +253,7 @@ pub record IsBlockLine (front : Front) (line : List ℕ) : Type 0 where
   pub mark : List ℕ
   pub line_is : line ≡
       replicate spaces space ++ (decimal front.offset ++ (space ∷ [] ++ (right_of 2 front.header ++ (space ∷ []
-      ++ (right_of 7 front.contents ++ (space ∷ space ∷ []
+      ++ (contents_column front.indefinite front.contents ++ (space ∷ space ∷ []
       ++ (indentation front.depth ++ (front.words ++ (said ++ mark)))))))))
   pub one : IsOneLine said
   pub mark_is : IsMark front.marked mark
@@ -225,6 +289,7 @@ pub record IsLater (base : ℕ) (front later : Front) : Type 0 where
   pub offset : later.offset ≡ base + front.offset
   pub header : later.header ≡ front.header
   pub contents : later.contents ≡ front.contents
+  pub indefinite : later.indefinite ≡ front.indefinite
   pub words : later.words ≡ front.words
   pub marked : later.marked ≡ front.marked
 

@@ -1,4 +1,5 @@
 pub mod Dump
 pub mod Headers
 pub mod Seek
+pub mod Segments
 pub mod Steps

@@ -1,5 +1,6 @@
 -- What is put step by step. Private contracts alone name these.
-use Rattle.std.specs.Prelude.{◌≡◌, ◌⊎◌, ℕ, ◌+◌, Option, Bool, true, false, List, [], ◌∷◌, ◌++◌, length, reverse}
+use Rattle.std.specs.Prelude.{◌≡◌, ◌⊎◌, ◌&&◌, ℕ, ◌+◌, ◌<◌, Option, Bool, true, false, List, [], ◌∷◌, ◌++◌, drop, length}
+use Rattle.std.specs.Prelude.{⊤, ◌↔◌, ◌≤◌, IsTrue, reverse, slice_range}
 use Rattle.std.specs.Prelude.{MatchOption, None, Some}
 use Rattle.asn1_headers.specs.Fault.{DecodeFault}
 use Rattle.asn1_headers.specs.Header.{Encoding}
@@ -14,12 +15,16 @@ use Rattle.der_lines.specs.Dump.{IsFaultLine, IsMark, IsMarked, IsOneLine, marke
 use Rattle.der_lines.specs.declared.document.Verdict.{Verdict}
 use Rattle.der_lines.specs.declared.document.Verdict.TheVariants.{Refused}
 use Rattle.der_lines.specs.Dump.{StandsInside, down_to, indentation, is_too_deep, is_wide, right_of, size_in, tag_words}
-use Rattle.der_lines.specs.Dump.{unreadable}
-use Rattle.asn1_headers.specs.Front.{HasNoHeader, IsAtFront}
+use Rattle.der_lines.specs.Dump.{begins_with_end, contents_column, end_at, end_of_contents}
+use Rattle.der_lines.specs.Dump.{is_stray_form, taken, unreadable}
+use Rattle.asn1_headers.specs.Front.{BeginsWithHeader, HasIndefiniteForm, HasNoHeader, IsAtFront}
+use Rattle.der_lines.specs.Segments.{Joins, segment_tag}
 use Rattle.der_lines.specs.Headers.{is_gone_into}
 use Rattle.der_lines.specs.declared.cursor.Cursor.{Cursor}
+use Rattle.der_lines.specs.declared.cursor.End.{End}
+use Rattle.der_lines.specs.declared.cursor.Left.{Left}
 use Rattle.der_lines.specs.declared.cursor.Step.{Step}
-use Rattle.der_lines.specs.declared.cursor.Step.TheVariants.{Into, Past}
+use Rattle.der_lines.specs.declared.cursor.Step.TheVariants.{Into, Out, Past}
 use Rattle.der_lines.specs.declared.encodings.Found.{Found}
 use Rattle.der_lines.specs.declared.encodings.Passed.{Passed}
 use Rattle.der_lines.specs.declared.faults.Fault.{Fault}
@@ -41,6 +46,16 @@ IsRight class constructed tag contents =
 abbrev pub HasNoValue : ASN1Class → ℕ → List ℕ → Type 0
 HasNoValue class tag contents = (class ≡ Universal) × ((fault : DecodeFault) × LeafFault tag contents fault)
 
+-- what is told of contents octets: of the encoding with the header that begins the octets, these behind its identifier
+-- octets, nothing where it is right
+abbrev pub IsLeafTold : {W : Type 0} → List ℕ → Header → List ℕ → Option W → Type 0
+IsLeafTold left header behind told =
+    MatchOption told
+    ((is_stray_form header.constructed behind ≡ false) × IsRight header.class header.constructed header.tag
+    (slice_range left header.size (header.size + header.announced)))
+    (λ words. (is_stray_form header.constructed behind ≡ true)
+    ⊎ HasNoValue header.class header.tag (slice_range left header.size (header.size + header.announced)))
+
 -- the octet that a line begins with
 abbrev pub mark_of : Mark → ℕ
 mark_of fault_mark = exclamation_mark
@@ -51,6 +66,7 @@ front_of start = record {
   offset = start.offset;
   header = start.header;
   contents = start.contents;
+  indefinite = start.is_indefinite;
   depth = start.depth;
   words = start.words.now;
   marked = is_some start.mark;
@@ -62,6 +78,7 @@ header_front offset depth marked header = record {
   offset = offset;
   header = header.size;
   contents = header.announced;
+  indefinite = header.is_indefinite;
   depth = depth;
   words = tag_words header.class header.tag;
   marked = marked;
@@ -70,8 +87,8 @@ header_front offset depth marked header = record {
 -- what a line has behind its offset and a space
 abbrev pub start_text : Front → List ℕ
 start_text front =
-    right_of 2 front.header ++ (space ∷ [] ++ (right_of 7 front.contents ++ (space ∷ space ∷ []
-    ++ (indentation front.depth ++ front.words))))
+    right_of 2 front.header ++ (space ∷ [] ++ (contents_column front.indefinite front.contents
+    ++ (space ∷ space ∷ [] ++ (indentation front.depth ++ front.words))))
 
 -- a mark was put, or none
 abbrev pub AddsMark : Bool → List ℕ → List ℕ → Type 0
@@ -102,36 +119,91 @@ outer true most fronts = []
 outer false most fronts = down_to most fronts
 
 -- where the contents octets end that are open, the innermost first
-abbrev pub ends_of : Cursor → List ℕ
-ends_of cursor = cursor.end ∷ reverse cursor.ends.items
+abbrev pub ends_of : Cursor → List End
+ends_of cursor = reverse cursor.ends.items
 
 -- what a cursor has yet to come to
 abbrev pub IsAhead : Cursor → List Front → List ℕ → Type 0
 IsAhead cursor fronts faults = AreFronts cursor.octets.now cursor.offset (ends_of cursor) fronts faults
 
+-- this is left of the innermost contents octets that are open; where they are of definite length, some octets
+pub record IsLeftOf (cursor : Cursor) (left : Left) : Type 0 where
+  pub end : End
+  pub around : List End
+  pub ends_are : ends_of cursor ≡ end ∷ around
+  pub octets_are : left.octets.now ≡ slice_range cursor.octets.now cursor.offset end.offset
+  pub form : left.is_indefinite ≡ end.is_indefinite
+  pub some : left.is_indefinite ≡ false → 0 < length left.octets.now
+
+-- contents octets of definite length that have ended at the offset were left
+pub data HasLeft (octets : List ℕ) (offset : ℕ) : List End → List End → Type 0 where
+  none_left : {old new : List End} → old ≡ new → HasLeft octets offset old new
+  one_left :
+      {old new : List End} (end : End) (around : List End) →
+      old ≡ end ∷ around → end.is_indefinite ≡ false → slice_range octets offset end.offset ≡ [] →
+      HasLeft octets offset around new → HasLeft octets offset old new
+
 -- the cursor after a step
 abbrev pub Goes : Step → Cursor → Cursor → Type 0
-Goes (Into header size) old new =
+Goes (Into header size indefinite) old new =
     (new.octets.now ≡ old.octets.now) × (new.offset ≡ old.offset + header)
-    × (ends_of new ≡ (old.offset + size) ∷ ends_of old)
+    × (ends_of new ≡ end_at (old.offset + size) indefinite ∷ ends_of old)
 Goes (Past size) old new =
     (new.octets.now ≡ old.octets.now) × (new.offset ≡ old.offset + size) × (ends_of new ≡ ends_of old)
+Goes (Out size) old new =
+    (new.octets.now ≡ old.octets.now) × (new.offset ≡ old.offset + size) × (ends_of new ≡ drop 1 (ends_of old))
+
+-- it takes some octets of what is left, or leaves contents octets
+abbrev pub Takes : Step → Left → Type 0
+Takes (Into header size indefinite) left = (0 < header) × (0 < length left.octets.now)
+Takes (Past size) left = (0 < size) × (0 < length left.octets.now)
+Takes (Out size) left = ⊤
 
 -- the step goes on after an encoding with the header that takes so many octets
 abbrev pub IsTaken : Header → ℕ → Step → Type 0
-IsTaken header size (Into first all) =
+IsTaken header size (Into first all indefinite) =
     (is_gone_into header.class header.constructed header.tag ≡ true) × (first ≡ header.size) × (all ≡ size)
+    × (indefinite ≡ header.is_indefinite)
 IsTaken header size (Past all) =
     (is_gone_into header.class header.constructed header.tag ≡ false) × (all ≡ size)
+IsTaken header size (Out all) = ⊥
 
 -- the octets begin with an encoding, or with no header, and it is gone on by the step
 abbrev pub StartsWith : List ℕ → ℕ → ℕ → Front → Step → List ℕ → Type 0
-StartsWith left offset depth front (Into header size) faults =
-    (header ≡ front.header) × (size ≡ size_in left front) × IsFirst left offset depth front true faults
+StartsWith left offset depth front (Into header size indefinite) faults =
+    (header ≡ front.header) × (size ≡ size_in left front) × (indefinite ≡ front.indefinite)
+    × IsFirst left offset depth front true faults
 StartsWith left offset depth front (Past size) faults =
     ((size ≡ size_in left front) × IsFirst left offset depth front false faults)
     ⊎ ((size ≡ length left) × HasNoHeader left × (front ≡ unreadable offset (length left) depth)
     × (faults ≡ offset ∷ []))
+StartsWith left offset depth front (Out size) faults = ⊥
+
+-- so, or with end-of-contents octets of the contents octets around, which may be missing
+abbrev pub StartsNext : Left → ℕ → ℕ → Front → Step → List ℕ → Type 0
+StartsNext left offset depth front (Into header size indefinite) faults =
+    ((left.is_indefinite && begins_with_end left.octets.now) ≡ false) × (0 < length left.octets.now)
+    × StartsWith left.octets.now offset depth front (Into header size indefinite) faults
+StartsNext left offset depth front (Past size) faults =
+    ((left.is_indefinite && begins_with_end left.octets.now) ≡ false) × (0 < length left.octets.now)
+    × StartsWith left.octets.now offset depth front (Past size) faults
+StartsNext left offset depth front (Out size) faults =
+    (left.is_indefinite ≡ true) × (front ≡ end_of_contents offset size depth)
+    × (((size ≡ 2) × (begins_with_end left.octets.now ≡ true) × (faults ≡ []))
+    ⊎ ((size ≡ 0) × (left.octets.now ≡ []) × (faults ≡ offset ∷ [])))
+
+-- the octets begin with a segment of a string with the tag, and it is gone on by the step; or with the end of one
+abbrev pub IsSegment : ℕ → Left → Step → List ℕ → List ℕ → Type 0
+IsSegment tag left (Into header size indefinite) before after =
+    (announced : ℕ) × BeginsWithHeader left.octets.now header announced Universal true (segment_tag tag)
+    × (header + announced ≤ length left.octets.now) × (IsTrue indefinite ↔ HasIndefiniteForm left.octets.now)
+    × (size ≡ taken indefinite (header + announced) (length left.octets.now)) × (after ≡ before)
+IsSegment tag left (Past size) before after =
+    (header announced : ℕ) × BeginsWithHeader left.octets.now header announced Universal false (segment_tag tag)
+    × (header + announced ≤ length left.octets.now) × (size ≡ header + announced)
+    × Joins tag before (slice_range left.octets.now header (header + announced)) after
+IsSegment tag left (Out size) before after =
+    (left.is_indefinite ≡ true) × (begins_with_end left.octets.now ≡ true) × (size ≡ 2) × (after ≡ before)
 
 -- what is told is the first of the faults, where there is one
 abbrev pub IsFirstFault : List ℕ → Option Fault → Type 0
@@ -152,19 +224,25 @@ marked_offset false offset = []
 abbrev pub IsNear : ℕ → List ℕ → Front → Front → Type 0
 IsNear base left front later = IsLater base front later ⊎ StandsInside (base + front.offset) left later
 
--- the lines were put of what stands at the front of octets, which stand at the offset
-pub record PutsFirst (place : Place) (offset : ℕ) (left : List ℕ) (passed : Passed) (before after : List ℕ)
-    : Type 0 where
+-- the lines were put of what stands at the front of octets, which stand at the offset and start so
+pub record PutsAs (Starts : Front → Step → List ℕ → Type 0) (place : Place) (offset : ℕ) (left : List ℕ)
+    (passed : Passed) (before after : List ℕ) : Type 0 where
   pub front : Front
   pub shown : Front
   pub faults : List ℕ
-  pub starts : StartsWith left offset place.depth front passed.step faults
+  pub starts : Starts front passed.step faults
   pub same_offset : front.offset ≡ offset
   pub same_depth : shown.depth ≡ place.depth
   pub later : IsLater place.base front shown
   pub told : IsFirstFault faults passed.fault
   pub same_mark : passed.is_marked ≡ front.marked
   pub adds : Adds (IsNear place.base left front) (outer place.is_inside place.most_depth (shown ∷ [])) before after
+
+abbrev pub PutsFirst : Place → ℕ → List ℕ → Passed → List ℕ → List ℕ → Type 0
+PutsFirst place offset left = PutsAs (StartsWith left offset place.depth) place offset left
+
+abbrev pub PutsNext : Place → ℕ → Left → Passed → List ℕ → List ℕ → Type 0
+PutsNext place offset left = PutsAs (StartsNext left offset place.depth) place offset left.octets.now
 
 -- the lines of octets were put
 pub record PutsEncodings (place : Place) (octets : List ℕ) (found : Found) (before after : List ℕ)

@@ -23,12 +23,14 @@ pub enum Verdict {
 /// Puts the lines of octets: one for each encoding in order, by their headers. It goes into the contents octets of
 /// constructed encodings, and of each SEQUENCE and SET; of others it shows the value, or what is wrong with it. Octets
 /// that begin with no header have one line, up to the end of the contents octets around them, and it goes on there.
+/// Contents octets of the indefinite form of BER (X.690 8.1.3.6) end with end-of-contents octets, which have a line.
 ///
 /// Where something is wrong the verdict is `Refused`, and the last line is that of the first fault: no header, contents
-/// octets that are cut short, those of no value, or a length of the indefinite form of BER (X.690 8.1.3.6), which is
-/// read as 0. Octets inside strings count for nothing there.
+/// octets that are cut short, those of no value, end-of-contents octets that are missing, or the indefinite form of a
+/// primitive encoding, which is read as a length of 0. Octets inside strings count for nothing there.
 ///
-/// Beside the lines it takes the memory of one value, and a word for each encoding that is open.
+/// Beside the lines it takes the memory of one value, which may be that of a string in segments, and two words for each
+/// encoding that is open.
 ///
 /// # Errors
 /// Memory ran out.

@@ -1,12 +1,18 @@
 // The headers of encodings, by their octets.
-ghost use Rattle.std.specs.Prelude.{◌≡◌, ◌==◌, IfOk, MatchOption};
-ghost use Rattle.asn1_headers.specs.Front.{HasNoHeader, IsAtFront};
+ghost use Rattle.std.specs.Prelude.{◌≡◌, ◌↔◌, ◌==◌, ◌+◌, ◌≤◌, IfOk, IfSome, IsTrue};
+ghost use Rattle.std.specs.Prelude.{MatchOption, drop, length, true};
+ghost use Rattle.asn1_headers.specs.declared.header.ASN1Class.TheVariants.{Universal};
+ghost use Rattle.asn1_headers.specs.Front.{HasIndefiniteForm, HasNoHeader, IsAtFront};
+ghost use Rattle.der_lines.specs.Dump.{is_stray_form, taken};
 ghost use Rattle.der_lines.specs.Headers.{StandsBehindHeader, is_gone_into};
+ghost use Rattle.der_lines.specs.Steps.{IsTaken};
 
+use crate::cursor::Step;
 use asn1_headers::error::ASN1DecodeErr;
 use asn1_headers::front::{Header, read_header};
 use asn1_headers::header::{ASN1Class, HeaderCount};
 use asn1_numbers::number::big_uint::BigUint;
+use der_rules::has_indefinite_length;
 use std::alloc::{AllocError, Global};
 
 // Whether the contents octets are encodings: those of a constructed encoding, and of a SEQUENCE or SET.
@@ -19,6 +25,13 @@ pub fn holds_encodings(header: &Header) -> bool
         }
         _ => header.constructed,
     }
+}
+
+// Whether its class is Universal.
+pub fn is_universal(header: &Header) -> bool
+    ensures { result ≡ true → header.now.class ≡ Universal }
+{
+    matches!(header.class, ASN1Class::Universal)
 }
 
 // The tag number, of class Universal, if it is a small one.
@@ -39,11 +52,63 @@ pub fn has_tag(tag: &BigUint, number: u8) -> bool
     }
 }
 
+// How many of the octets an encoding takes at most that begins them.
+pub fn size_of(octets: &[u8], header: &Header) -> usize
+    requires { header.now.size + header.now.announced ≤ length octets.now }
+    ensures { result ≡ taken header.now.is_indefinite (header.now.size + header.now.announced) (length octets.now) }
+{
+    if header.is_indefinite {
+        octets.len()
+    } else {
+        header.size + header.announced
+    }
+}
+
+// How it is gone on after an encoding that takes so many octets at most.
+pub fn step_of(header: &Header, size: usize) -> Step
+    ensures { IsTaken header.now size result }
+{
+    if holds_encodings(header) {
+        Step::Into(header.size, size, header.is_indefinite)
+    } else {
+        Step::Past(size)
+    }
+}
+
+// Whether the encoding is primitive, and its length has the indefinite form, which it may not have.
+pub fn has_stray_form(octets: &[u8], header: &Header) -> bool
+    requires { IsAtFront octets.now header.now }
+    ensures { (front : IsAtFront octets.now header.now) →
+        result ≡ is_stray_form header.now.constructed (drop (length front.identifier) octets.now) }
+{
+    let is_indefinite = has_indefinite_length(octets, header);
+    is_indefinite && !header.constructed
+}
+
+// The header of an encoding that is whole, where one begins the octets. Of the indefinite form it may be cut short.
+pub fn whole_header(alloc: Global, octets: &[u8]) -> Result<Option<Header>, AllocError>
+    ensures front { IfOk result (λ found. IfSome found (IsAtFront octets.now)) }
+    ensures whole { IfOk result (λ found. IfSome found (λ header.
+        header.size + header.announced ≤ length octets.now)) }
+    ensures form { IfOk result (λ found. IfSome found (λ header.
+        IsTrue header.is_indefinite ↔ HasIndefiniteForm octets.now)) }
+{
+    let Some(header) = find_header(alloc, octets)? else {
+        return Ok(None);
+    };
+    if header.announced > octets.len() - header.size || has_stray_form(octets, &header) {
+        return Ok(None);
+    }
+    Ok(Some(header))
+}
+
 // The header at the front, where one stands there.
 pub fn find_header(alloc: Global, octets: &[u8]) -> Result<Option<Header>, AllocError>
-    ensures { IfOk result (λ found. MatchOption found
+    ensures found { IfOk result (λ found. MatchOption found
         (HasNoHeader octets.now)
         (IsAtFront octets.now)) }
+    ensures form { IfOk result (λ found. IfSome found (λ header.
+        IsTrue header.is_indefinite ↔ HasIndefiniteForm octets.now)) }
 {
     match read_header(alloc, octets, &mut HeaderCount::new()) {
         Ok(header) => Ok(Some(header)),

@@ -10,15 +10,17 @@
 //! ```
 //!
 //! A line has the offset of its encoding, in octets from the first of the document, how many octets its header has, how
-//! many contents octets it announces, its type, and its value. Encodings inside the bytes of a string have lines
-//! that begin with `>`. What is wrong with an encoding is said on its line, and the first fault again on the last line,
-//! which begins with `!`; what came of it is the [`Verdict`]. Where the library reads otherwise than X.690, on purpose,
-//! lines show what X.690 has. What is read and is not DER has a mark at the end of its line, and
-//! [`push_strict_document`] lists it. [`push_fault_line`] puts the line of a fault that others find.
+//! many contents octets it announces, its type, and its value. In the place of their number `inf` stands where the
+//! length is indefinite (X.690 8.1.3.6); then end-of-contents octets end what stands inside, and have a line, too. A
+//! string that is constructed has the value of its segments joined, if these are well-formed, and each of them a line.
+//! Encodings inside the bytes of a string have lines that begin with `>`. What is wrong with an encoding is said on its
+//! line, and the first fault again on the last line, which begins with `!`; what came of it is the [`Verdict`]. Where the
+//! library reads otherwise than X.690, on purpose, lines show what X.690 has. What is read and is not DER has a mark at
+//! the end of its line, and [`push_strict_document`] lists it. [`push_fault_line`] puts the line of a fault that others
+//! find.
 //!
 //! [`push_label`] and [`push_refusal`] put the other lines of what is written: `=` and the label of a document, `!` and
 //! why there is none. [`block_at`] finds a block by its offset, and [`behind_header`] its contents octets.
-//! [`INDEFINITE`] is what is said of the indefinite form of BER.
 //!
 //! The only error is that memory ran out; what was pushed before it stays.
 #![tactic(auto)]
@@ -28,16 +30,17 @@ mod document;
 mod encodings;
 mod faults;
 mod header;
-mod held;
 mod leaf;
 mod lines;
 mod marks;
 mod names;
+mod nested;
 mod notes;
 mod place;
 mod scalars;
 mod seek;
 mod strict;
+mod strings;
 mod style;
 mod values;
 
@@ -49,4 +52,3 @@ pub use notes::{push_label, push_refusal};
 pub use seek::block_at;
 pub use strict::push_strict_document;
 pub use style::Style;
-pub use values::INDEFINITE;

@@ -1,6 +1,7 @@
 // Lines, each put at the end of what is written.
 ghost use Rattle.std.specs.Prelude.{◌≡◌, ◌==◌, ◌++◌, OnOk, if◌then◌else◌, replicate, true};
-ghost use Rattle.der_lines.specs.Dump.{AddsLine, IsBlockLine, IsFaultLine, IsNote, IsOneLine, on_one_line, right_of};
+ghost use Rattle.der_lines.specs.Dump.{AddsLine, IsBlockLine, IsFaultLine, IsNote, IsOneLine};
+ghost use Rattle.der_lines.specs.Dump.{contents_column, on_one_line, right_of};
 ghost use Rattle.std.specs.Option.{is_some};
 ghost use Rattle.der_lines.specs.Steps.{AddsMark, IsLineOf, front_of, mark_of, start_text};
 
@@ -23,6 +24,9 @@ const OFFSET_WIDTH: usize = 7;
 const HEADER_WIDTH: usize = 2;
 
 const CONTENTS_WIDTH: usize = 7;
+
+// What stands in the place of the size of contents octets whose length is indefinite.
+const INDEFINITE: &[u8] = b"inf";
 
 // How many levels are shown by spaces; deeper ones stand where the last of them does.
 const MOST_LEVELS: usize = 40;
@@ -62,12 +66,14 @@ fn plain(b: u8) -> u8
 }
 
 // What the line of an encoding begins with: its offset, the sizes of its header and of the contents octets that it
-// announces, how many encodings are around it, and its tag in words; and what is said in its mark, if it has one.
+// announces, whether its length is of the indefinite form, how many encodings are around it, and its tag in words; and
+// what is said in its mark, if it has one.
 #[derive(Clone, Copy)]
 pub struct LineStart<'a> {
     pub offset: usize,
     pub header: usize,
     pub contents: usize,
+    pub is_indefinite: bool,
     pub depth: usize,
     pub words: &'a str,
     pub mark: Option<&'a str>,
@@ -84,13 +90,28 @@ fn push_right(width: usize, number: usize, out: &mut Vec<u8>) -> Result<(), Allo
     Ok(())
 }
 
+// Puts the size of the contents, or that its length is indefinite.
+fn push_contents_size(
+    is_indefinite: bool,
+    contents: usize,
+    out: &mut Vec<u8>,
+) -> Result<(), AllocError>
+    ensures { OnOk result (out.new.items ≡ out.old.items ++ contents_column is_indefinite contents) }
+{
+    if is_indefinite {
+        push_spaces(CONTENTS_WIDTH - INDEFINITE.len(), out)?;
+        return out.extend_from_slice(INDEFINITE);
+    }
+    push_right(CONTENTS_WIDTH, contents, out)
+}
+
 // Puts the sizes of header and contents, the spaces for the depth, and the words.
 fn push_start(start: LineStart<'_>, out: &mut Vec<u8>) -> Result<(), AllocError>
     ensures { OnOk result (out.new.items ≡ out.old.items ++ start_text (front_of start.entry)) }
 {
     push_right(HEADER_WIDTH, start.header, out)?;
     out.push(b' ')?;
-    push_right(CONTENTS_WIDTH, start.contents, out)?;
+    push_contents_size(start.is_indefinite, start.contents, out)?;
     out.extend_from_slice(b"  ")?;
     push_spaces(2 * start.depth.min(MOST_LEVELS), out)?;
     out.extend_from_slice(start.words.as_bytes())?;

@@ -32,6 +32,8 @@ pub struct Place {
     pub value_depth: usize,
     // the extension whose value the next string is
     pub next: Extension,
+    // whether they stand in a string that is constructed
+    pub is_segment: bool,
 }
 
 // The place of the document itself.
@@ -51,6 +53,7 @@ pub fn outermost(style: Style) -> Place
         extension: Extension::Other,
         value_depth: 0,
         next: Extension::Other,
+        is_segment: false,
     }
 }
 
@@ -66,8 +69,14 @@ impl Place {
         self.documents > 0 && !is_deep
     }
 
-    // That of encodings which stand so many levels further in; a string there is the value of the extension.
-    pub fn deeper(self, levels: usize, next: Extension) -> Result<Place, AllocError>
+    // That of encodings which stand so many levels further in, maybe in a string; a string there is the value of the
+    // extension.
+    pub fn deeper(
+        self,
+        levels: usize,
+        next: Extension,
+        is_segment: bool,
+    ) -> Result<Place, AllocError>
         ensures same { IfOk result (λ p. p.is_inside ≡ self.is_inside) }
         ensures base { IfOk result (λ p. p.base ≡ self.base) }
         ensures depth { IfOk result (λ p. p.depth ≡ self.depth + levels) }
@@ -77,6 +86,7 @@ impl Place {
         Ok(Place {
             depth: sum_of(self.depth, levels)?,
             next,
+            is_segment,
             ..self
         })
     }
@@ -96,6 +106,7 @@ impl Place {
             extension: self.next,
             value_depth: self.depth.saturating_add(1),
             next: Extension::Other,
+            is_segment: false,
             ..self
         })
     }

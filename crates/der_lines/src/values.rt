@@ -30,9 +30,6 @@ const LEAST_TEXT: usize = 5;
 // From how many octets on an integer is also shown by them.
 const LEAST_HEX: usize = 5;
 
-/// What is said of BER's indefinite length: the blocks inside are shown after it, not inside.
-pub const INDEFINITE: &str = "indefinite length (BER): levels are lost from here";
-
 // How a value is written.
 #[derive(Clone, Copy, Drop)]
 pub struct ValueStyle {
@@ -70,16 +67,27 @@ fn tag_number(alloc: Global, tag: &BigUint) -> Result<String, AllocError>
 }
 
 // What is said of an encoding that is gone into, behind its tag: what it is in an extension. That it is constructed is
-// said where neither its tag nor what stands inside it tells so.
-pub fn opened_text(alloc: Global, header: &Header, role: Role) -> Result<String, AllocError> {
+// said where neither its tag nor what stands inside it tells so; and then what its segments are joined.
+pub fn opened_text(
+    alloc: Global,
+    header: &Header,
+    role: Role,
+    joined: Option<&str>,
+) -> Result<String, AllocError> {
     let is_told = match universal_tag(header) {
         Some(tag) => matches!(tag, 8 | 11 | 16 | 17 | 29),
-        None => header.announced > 0,
+        None => header.announced > 0 || header.is_indefinite,
     };
     let mut said = String::new(alloc);
     write_role(&mut said, role)?;
     if !is_told {
         said.push_str(", constructed")?;
+    }
+    if let Some(value) = joined {
+        if !value.is_empty() {
+            said.push_str(":")?;
+            said.push_str(value)?;
+        }
     }
     Ok(said)
 }

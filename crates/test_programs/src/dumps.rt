@@ -24,9 +24,10 @@ const LAST_NULL: &[u8] = b"
   66003  2       0    NULL
 ";
 
-const LAST_LOST: &[u8] = b"
-  66003  2       0    SEQUENCE (not DER: indefinite length)
-! error at offset 66003: indefinite length (BER): levels are lost from here
+const NO_END: &[u8] = b"
+  66003  2     inf    SEQUENCE (not DER: indefinite length)
+  66005  0       0      end-of-contents is missing (Incomplete)
+! error at offset 66005: end-of-contents is missing (Incomplete)
 ";
 
 #[test]
@@ -35,7 +36,7 @@ fn a_long_sequence_is_shown_once(rt: HostRuntime) -> Result<(), Fail> {
     let names = Names::new(alloc)?;
     for (last, ending, lines) in [
         ([0x05, 0x00], LAST_NULL, 33_002),
-        ([0x30, 0x80], LAST_LOST, 33_003),
+        ([0x30, 0x80], NO_END, 33_004),
     ] {
         let octets = sequence_of_nulls(alloc, last)?;
         let mut out = Vec::new(alloc);

@@ -1,37 +1,33 @@
-use Rattle.std.proofs.Common.{◌≡◌, ◌∙◌, ◌+◌, ◌-◌, ◌<◌, [], length, refl, ap, subst, sym, slice_range, arith}
+use Rattle.std.proofs.Common.{◌≡◌, ◌∙◌, ◌+◌, ◌-◌, ◌<◌, ◌≤◌, [], length, refl, ap, subst, sym, slice_range, arith, false}
 use Rattle.std.specs.Option.{is_some}
-use Rattle.der_lines.specs.Dump.{Adds, StandAt, StandsInside}
-use Rattle.der_lines.proofs.Cursors.{before_end, step_further, step_kept}
-use Rattle.der_lines.proofs.Dumps.{adds_nothing}
-use Rattle.der_lines.proofs.Firsts.{held_adds, leaf_puts, leaf_told}
-use Rattle.std.specs.Prelude.{None}
+use Rattle.std.specs.Prelude.{None, ◌&&◌}
+use Rattle.std.proofs.lemmas.Grind.{common_steps}
+use Rattle.der_lines.specs.Dump.{Adds, StandAt, StandsInside, begins_with_end}
 use Rattle.der_lines.specs.Steps.{IsMarkedFirst}
+use Rattle.der_lines.proofs.Cursors.{ahead_none, left_less, next_takes, step_kept, step_less, to_go}
+use Rattle.der_lines.proofs.Dumps.{adds_nothing}
+use Rattle.der_lines.proofs.Firsts.{leaf_puts, leaf_told, nested_adds, puts_next_ok}
 use Rattle.der_lines.proofs.Fronts.{ShownTo, shown_all, shown_more, shown_none}
 use Rattle.der_lines.proofs.encodings.+encodings.Goals as goal
 
 pub push_encodings-loop-left-init : goal.push_encodings-loop-left-init
 push_encodings-loop-left-init t c =
-    let o = c.over-cursor.ensures in
-    subst (λ m. ShownTo c.args.place c.args.octets.now c.over-cursor.result None m c.args.out.now.items c.args.out.now.items)
+    let o = c.in_ok-cursor.ensures in
+    subst (λ m. ShownTo c.args.place c.args.octets.now c.in_ok-cursor.cursor None m c.args.out.now.items c.args.out.now.items)
     (sym c.new-marks.ensures.items)
-    (shown_none c.args.place c.args.octets.now c.over-cursor.result c.args.out.now.items o.octets o.offset o.end o.ends)
+    (shown_none c.args.place c.args.octets.now c.in_ok-cursor.cursor c.args.out.now.items o.octets o.offset o.ends)
 
 pub push_encodings-loop-left-smaller : goal.push_encodings-loop-left-smaller
 push_encodings-loop-left-smaller t c =
-    let octets = c.args.octets.now in
+    let k = c.loop-left.cursor in
     let m = c.next.new.self in
     let n = c.go.new.self in
     let e = c.in-Some.ensures in
     let put = c.in_ok-passed.ensures in
-    let same : m.octets.now ≡ octets = e.octets ∙ c.loop-left.invariant.same_octets in
-    let l : length m.octets.now ≡ length octets = ap length same in
-    let within : m.offset < length m.octets.now = before_end m.octets.now c.in-Some.left.now m.offset m.end e.left e.some in
-    let further : m.offset < n.offset =
-    step_further m n c.in-Some.left.now c.in_ok-here.here.depth put.front c.in_ok-passed.passed.step put.faults e.some put.starts c.in_ok-go.ensures
-    in
-    let o : m.offset ≡ c.loop-left.cursor.offset = e.offset in
-    let less : length octets - n.offset < length octets - c.loop-left.cursor.offset = omega (arith, l, within, further, o) in
-    less
+    let takes = next_takes m.offset c.in_ok-here.here.depth c.in-Some.left put.front c.in_ok-passed.passed.step put.faults put.starts in
+    let less : to_go n < to_go m = step_less m n c.in-Some.left c.in_ok-passed.passed.step e.left takes c.in_ok-go.ensures in
+    let no_more : to_go m ≤ to_go k = left_less k m e.octets e.offset e.ended in
+    omega (arith, less, no_more)
 
 pub push_encodings-loop-left-preserved : goal.push_encodings-loop-left-preserved
 push_encodings-loop-left-preserved t c =
@@ -41,27 +37,37 @@ push_encodings-loop-left-preserved t c =
     let h = c.in_ok-here.ensures in
     let place = c.args.place in
     let here = c.in_ok-here.here in
-    let d : here.depth ≡ place.depth + length m.ends.items = h.depth ∙ ap (λ z. place.depth + z) c.depth.ensures in
-    let all = shown_more place here c.args.octets.now c.in-Some.left.now c.loop-left.cursor m n c.in_ok-passed.passed c.loop-left.first
-    _ _ _ _ _ c.in_ok-keep_mark.ensures c.requires c.loop-left.invariant e.octets e.back e.left e.some h.same h.base d h.most c.in_ok-passed.ensures
-    c.in_ok-go.ensures (step_kept m n c.in_ok-passed.passed.step c.in_ok-go.ensures)
+    let d : here.depth ≡ place.depth + (length m.ends.items - 1) = h.depth ∙ ap (λ z. place.depth + z) c.depth-depth.ensures in
+    let all = shown_more place here c.args.octets.now c.in-Some.left c.loop-left.cursor m n c.in_ok-passed.passed c.loop-left.first
+    _ _ _ _ _ c.in_ok-keep_mark.ensures c.requires c.loop-left.invariant e.octets e.offset e.ended e.left h.same h.base d h.most
+    c.in_ok-passed.ensures c.in_ok-go.ensures (step_kept m n c.in_ok-passed.passed.step c.in_ok-go.ensures)
     in
     rw (c.earlier-first.ensures) all
 
 pub push_encodings-returns : goal.push_encodings-returns
 push_encodings-returns t c =
-    shown_all c.args.place c.args.octets.now c.loop-left.cursor _ _ _ c.loop-left.invariant (rw c.in_default.is at c.next.ensures.back)
+    shown_all c.args.place c.args.octets.now c.loop-left.cursor _ _ _ c.loop-left.invariant
+    (ahead_none c.loop-left.cursor c.next.new.self c.next.ensures.octets c.next.ensures.offset c.next.ensures.ended
+    c.in_default.ensures.none)
 
-pub push_held-returns-in_default : goal.push_held-returns-in_default
-push_held-returns-in_default t c = adds_nothing (StandsInside (c.args.place.base + c.args.offset) c.args._contents.now) _
+pub push_nested-returns-in_default : goal.push_nested-returns-in_default
+push_nested-returns-in_default t c = adds_nothing (StandsInside (c.args.place.base + c.args.offset) c.args._contents.now) _
 
-pub push_held-returns : goal.push_held-returns
-push_held-returns t c =
-    let held = c.in-Some.held in
+pub push_nested-returns : goal.push_nested-returns
+push_nested-returns t c =
+    let nested = c.in-Some.nested in
     let inside = c.in_ok-inside.inside in
-    let stand : StandAt c.args._contents.now held.before held.octets.now = rw c.in-Some.is at c.requires.stand in
-    held_adds inside c.args._contents.now held.octets.now (c.args.place.base + c.args.offset) held.before _ _ _ stand
+    let stand : StandAt c.args._contents.now nested.before nested.octets.now = rw c.in-Some.is at c.requires.stand in
+    nested_adds inside c.args._contents.now nested.octets.now (c.args.place.base + c.args.offset) nested.before _ _ _ stand
     c.in_ok-inside.ensures.inside (c.in_ok-inside.ensures.base ∙ omega (arith, c.in_ok-sum_of.ensures)) c.in_ok-push_encodings.ensures
+
+pub push_next-returns : goal.push_next-returns
+push_next-returns t c =
+    let left = c.args.left in
+    let none : (left.is_indefinite && begins_with_end left.octets.now) ≡ false =
+    sym c.begins_with_end.ensures ∙ c.if-begins_with_end.false in
+    let some : 0 < length left.octets.now = grind (arith, common_steps) in
+    puts_next_ok c.push_first.result c.args.place c.args.offset left _ _ none some c.push_first.ensures
 
 pub push_leaf-returns : goal.push_leaf-returns
 push_leaf-returns t c =
@@ -73,8 +79,9 @@ push_leaf-returns t c =
     let marked = is_some c.as_deref.result in
     let is_marked = subst (IsMarkedFirst left header) (sym c.as_deref.ensures.variant) c.in_ok-mark.ensures in
     let same = c.is_some-2.ensures ∙ sym c.as_deref.ensures.variant in
-    leaf_puts place offset left contents marked header _ _ _ _ _ is_marked c.requires.front c.requires.whole c.requires.closed refl refl
-    (leaf_told left contents offset place.depth marked header c.in_ok-value.value.fault c.fault_at.result c.requires.front c.requires.whole
-    c.requires.closed refl c.in_ok-value.ensures c.fault_at.ensures)
-    c.in_ok-sum_of.ensures refl refl refl (c.deref.ensures ∙ c.in_ok-words.ensures) refl same c.in_ok-push_start.ensures
-    (subst (λ z. Adds (StandsInside (place.base + z) contents) [] c.push_start.new.out.items c.push_held.new.out.items) c.in_ok-before.ensures c.in_ok-push_held.ensures)
+    leaf_puts place offset left contents marked header c.size_of.result c.step_of-step.result _ _ _ _ _ c.requires.front is_marked c.requires.form refl
+    c.step_of-step.ensures c.size_of.ensures refl
+    (leaf_told left offset place.depth marked header c.in_ok-value.value.fault c.fault_at.result c.requires.front c.requires.whole
+    c.requires.closed (c.in_ok-value.ensures c.requires.front) c.fault_at.ensures)
+    c.in_ok-sum_of.ensures refl refl refl refl (c.deref.ensures ∙ c.in_ok-words.ensures) refl same c.in_ok-push_start.ensures
+    (subst (λ z. Adds (StandsInside (place.base + z) contents) [] c.push_start.new.out.items c.push_nested.new.out.items) c.in_ok-before.ensures c.in_ok-push_nested.ensures)

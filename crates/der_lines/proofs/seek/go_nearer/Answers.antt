@@ -8,13 +8,13 @@ use Rattle.der_lines.proofs.seek.go_nearer.Goals as goal
 
 pub returns-in_default-clause-found : goal.returns-in_default-clause-found
 returns-in_default-clause-found c =
-    nowhere_without_header c.args.octets.now c.args.distance c.requires (rw c.in_default.is at c.in_ok-header.ensures)
+    nowhere_without_header c.args.octets.now c.args.distance c.requires (rw c.in_default.is at c.in_ok-header.ensures.found)
 
 pub returns-then-distance-header-clause-found : goal.returns-then-distance-header-clause-found
 returns-then-distance-header-clause-found c =
     let octets = c.args.octets.now in
     let header = c.in-Some.header in
-    let front : IsAtFront octets header = rw c.in-Some.is at c.in_ok-header.ensures in
+    let front : IsAtFront octets header = rw c.in-Some.is at c.in_ok-header.ensures.found in
     in_header octets header.size header.announced header.class header.constructed header.tag c.args.distance c.requires
     front c.if-distance-header.true
 
@@ -22,7 +22,7 @@ pub returns-then-place-header-clause-found : goal.returns-then-place-header-clau
 returns-then-place-header-clause-found c block =
     let octets = c.args.octets.now in
     let header = c.in-Some.header in
-    let front : IsAtFront octets header = rw c.in-Some.is at c.in_ok-header.ensures in
+    let front : IsAtFront octets header = rw c.in-Some.is at c.in_ok-header.ensures.found in
     let after : c.split_at-2.result.1.now ≡ drop (header.size + header.announced) octets =
     rest_of octets c.split_at.result.1.now c.split_at-2.result.1.now header.size header.announced c.min.result
     c.split_at.ensures.back c.min.ensures c.split_at-2.ensures.back
@@ -37,7 +37,7 @@ pub returns-in_default-octets_inside-clause-found : goal.returns-in_default-octe
 returns-in_default-octets_inside-clause-found c =
     let octets = c.args.octets.now in
     let header = c.in-Some.header in
-    let front : IsAtFront octets header = rw c.in-Some.is at c.in_ok-header.ensures in
+    let front : IsAtFront octets header = rw c.in-Some.is at c.in_ok-header.ensures.found in
     let contents =
     contents_of octets c.split_at.result.1.now c.split_at-2.result.0.now header.size header.announced c.min.result
     c.split_at.ensures.back c.min.ensures c.split_at-2.ensures.front
@@ -51,7 +51,7 @@ pub returns-then-place-before-clause-found : goal.returns-then-place-before-clau
 returns-then-place-before-clause-found c =
     let octets = c.args.octets.now in
     let header = c.in-Some.header in
-    let front : IsAtFront octets header = rw c.in-Some.is at c.in_ok-header.ensures in
+    let front : IsAtFront octets header = rw c.in-Some.is at c.in_ok-header.ensures.found in
     let found = c.in-Some-octets_inside in
     let Inside = λ (z : List ℕ). Holds header.class header.constructed header.tag z found.before found.inside.now in
     let contents =
@@ -71,7 +71,7 @@ pub returns-clause-found : goal.returns-clause-found
 returns-clause-found c block =
     let octets = c.args.octets.now in
     let header = c.in-Some.header in
-    let front : IsAtFront octets header = rw c.in-Some.is at c.in_ok-header.ensures in
+    let front : IsAtFront octets header = rw c.in-Some.is at c.in_ok-header.ensures.found in
     let found = c.in-Some-octets_inside in
     let Inside = λ (z : List ℕ). Holds header.class header.constructed header.tag z found.before found.inside.now in
     let contents =

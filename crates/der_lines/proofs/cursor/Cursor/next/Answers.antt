@@ -1,29 +1,21 @@
-use Rattle.std.proofs.Common.{◌≡◌, ◌∙◌, [], length, reverse, refl, sym, arith}
+use Rattle.std.proofs.Common.{◌≡◌, ◌∙◌, length, refl, sym, arith}
 use Rattle.std.proofs.lemmas.Grind.{common_steps}
 use Rattle.std.proofs.lemmas.List.{nil_from_length}
-use Rattle.asn1_blocks.proofs.Reader.Popping.{reverse_none}
-use Rattle.der_lines.specs.Dump.{all_ended, one_ended}
-use Rattle.der_lines.proofs.Cursors.{one_left}
+use Rattle.der_lines.specs.Steps.{none_left}
+use Rattle.der_lines.proofs.Cursors.{left_on}
 use Rattle.der_lines.proofs.cursor.Cursor.next.Goals as goal
 
-pub returns-in-None-clause-back : goal.returns-in-None-clause-back
-returns-in-None-clause-back c =
-    let self = c.loop-left.self in
-    let (left, offset, octets, back) = c.loop-left.invariant in
-    let none : length c.loop-left.left.now ≡ 0 = grind (arith, common_steps) in
-    let few : length self.ends.items ≡ 0 = grind (arith, common_steps) in
-    back [] [] (one_ended self.end (reverse self.ends.items) refl (sym left ∙ nil_from_length c.loop-left.left.now none)
-    (all_ended (reverse_none self.ends.items few) refl refl))
+pub loop-end-init : goal.loop-end-init
+loop-end-init c = (refl, refl, none_left refl)
 
-pub loop-left-preserved : goal.loop-left-preserved
-loop-left-preserved c =
-    let self = c.loop-left.self in
-    let (left, offset, octets, back) = c.loop-left.invariant in
-    let none : length c.loop-left.left.now ≡ 0 = grind (arith, common_steps) in (
-      c.left-left-in-loop-left.ensures,
-      offset,
-      octets,
-      λ fronts faults ahead. back fronts faults
-          (one_left self.octets.now self.offset self.end c.in-Some.end self.ends.items c.pop.new.self.items fronts faults
-          (sym left ∙ nil_from_length c.loop-left.left.now none) c.in-Some.ensures.items ahead),
+pub loop-end-preserved : goal.loop-end-preserved
+loop-end-preserved c =
+    let (offset, octets, left) = c.loop-end.invariant in
+    let (around, is) = c.in-Some.ensures.some in
+    let e = c.leave.ensures in
+    let none : length c.left_to-octets.result.now ≡ 0 = grind (arith, common_steps) in (
+      e.offset ∙ offset,
+      e.octets ∙ octets,
+      left_on _ c.loop-end.self c.leave.new.self c.in-Some.end around left is c.if-end.false
+          (sym c.left_to-octets.ensures ∙ nil_from_length c.left_to-octets.result.now none) e.octets e.offset e.ends,
     )

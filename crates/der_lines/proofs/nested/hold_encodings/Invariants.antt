@@ -1,0 +1,5 @@
+use Rattle.der_lines.proofs.Cursors.{to_go}
+use Rattle.der_lines.proofs.nested.hold_encodings.Given as goal
+
+abbrev pub decreases-loop-left : goal.decreases-loop-left
+decreases-loop-left l = to_go l.cursor

@@ -1,0 +1,40 @@
+use Rattle.std.proofs.Common.{◌<◌, ◌≤◌, arith, refl}
+use Rattle.der_lines.specs.Segments.{no_more}
+use Rattle.der_lines.specs.Steps.{IsSegment}
+use Rattle.der_lines.proofs.Cursors.{left_less, step_less, to_go}
+use Rattle.der_lines.proofs.Segments.{segment_goes, segment_takes, segments_back}
+use Rattle.der_lines.proofs.strings.joined_segments.Goals as goal
+
+pub loop-left-smaller : goal.loop-left-smaller
+loop-left-smaller c =
+    let k = c.loop-left.cursor in
+    let m = c.next.new.self in
+    let n = c.go.new.self in
+    let e = c.in-Some.ensures in
+    let segment : IsSegment c.args.tag c.in-Some.left c.in-Some-2.step c.loop-left.joined.items c.join_next.new.joined.items =
+    rw c.in-Some-2.is at c.in_ok-step.ensures in
+    let takes = segment_takes c.args.tag c.in-Some.left c.in-Some-2.step _ _ segment in
+    let less : to_go n < to_go m = step_less m n c.in-Some.left c.in-Some-2.step e.left takes c.in_ok-go.ensures in
+    let fewer : to_go m ≤ to_go k = left_less k m e.octets e.offset e.ended in
+    omega (arith, less, fewer)
+
+pub loop-left-preserved : goal.loop-left-preserved
+loop-left-preserved c after later =
+    let tag = c.args.tag in
+    let k = c.loop-left.cursor in
+    let m = c.next.new.self in
+    let n = c.go.new.self in
+    let e = c.in-Some.ensures in
+    let segment : IsSegment tag c.in-Some.left c.in-Some-2.step c.loop-left.joined.items c.join_next.new.joined.items =
+    rw c.in-Some-2.is at c.in_ok-step.ensures in
+    c.loop-left.invariant after
+    (segments_back tag k m _ after e.octets e.offset e.ended
+    (segment_goes tag m n c.in-Some.left c.in-Some-2.step _ _ after e.left segment c.in_ok-go.ensures later))
+
+pub returns : goal.returns
+returns c =
+    let tag = c.args.tag in
+    let k = c.loop-left.cursor in
+    let m = c.next.new.self in
+    let e = c.next.ensures in
+    c.loop-left.invariant _ (segments_back tag k m _ _ e.octets e.offset e.ended (no_more c.in_default.ensures.none refl))

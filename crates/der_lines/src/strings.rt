@@ -1,0 +1,203 @@
+// Constructed strings, which hold their octets in segments.
+ghost use Rattle.std.specs.Prelude.{◌≡◌, ◌+◌, ◌≤◌, IfOk, IfSome, length, true};
+ghost use Rattle.asn1_headers.specs.Front.{IsAtFront};
+ghost use Rattle.der_lines.specs.Segments.{AreSegmentsOf, Joins, JoinsBits, segment_tag as segment_tag_is};
+ghost use Rattle.der_lines.specs.Steps.{IsSegment};
+
+use crate::cursor::{Cursor, Left, Step};
+use crate::header::{has_tag, holds_encodings, is_universal, size_of, universal_tag, whole_header};
+use crate::leaf::read_value;
+use crate::names::Names;
+use crate::place::Place;
+use crate::values::ValueStyle;
+use asn1_headers::front::Header;
+use asn1_headers::header::ASN1Class;
+use asn1_numbers::number::big_uint::BigUint;
+use der_values::Role;
+use std::alloc::{AllocError, Global};
+
+const BIT_STRING: u8 = 3;
+
+const OCTET_STRING: u8 = 4;
+
+// The tag of a string that is constructed: also of an ObjectDescriptor and of times, which are strings (X.680 38 to 48).
+pub fn string_tag(header: &Header) -> Option<u8> {
+    match universal_tag(header) {
+        Some(tag) if header.constructed => {
+            if matches!(tag, 3 | 4 | 7 | 12 | 18..=28 | 30) {
+                Some(tag)
+            } else {
+                None
+            }
+        }
+        _ => None,
+    }
+}
+
+// How many encodings are around the outermost string that is open and constructed, if there is one, after an encoding
+// inside so many.
+pub fn string_around(string: Option<usize>, depth: usize, is_string: bool) -> Option<usize> {
+    match string {
+        Some(outermost) if outermost < depth => string,
+        _ if is_string => Some(depth),
+        _ => None,
+    }
+}
+
+// Whether what stands inside so many encodings is in a string that is constructed.
+pub fn is_in_string(string: Option<usize>, depth: usize) -> bool {
+    match string {
+        Some(outermost) => outermost < depth,
+        None => false,
+    }
+}
+
+// The value of the whole encoding that begins the octets, as it stands behind a tag: of a string that is constructed, if
+// its segments are well-formed. A string that is itself a segment has none: else segments in segments would be joined
+// again and again.
+pub fn joined_value(
+    alloc: Global,
+    names: &Names,
+    left: &[u8],
+    header: &Header,
+    place: Place,
+) -> Result<Option<String>, AllocError>
+    requires front { IsAtFront left.now header.now }
+    requires whole { header.now.size + header.now.announced ≤ length left.now }
+{
+    if place.is_segment {
+        return Ok(None);
+    }
+    let Some(tag) = string_tag(header) else {
+        return Ok(None);
+    };
+    let contents = &left[header.size..size_of(left, header)];
+    match joined_segments(alloc, tag, contents, header.is_indefinite)? {
+        Some(joined) => value_of_joined(alloc, names, tag, &joined, place),
+        None => Ok(None),
+    }
+}
+
+// The value of a string with the tag, if the octets have one.
+fn value_of_joined(
+    alloc: Global,
+    names: &Names,
+    tag: u8,
+    joined: &[u8],
+    place: Place,
+) -> Result<Option<String>, AllocError> {
+    let header = Header {
+        class: ASN1Class::Universal,
+        constructed: false,
+        tag: BigUint::from_u64(alloc, u64::from(tag))?,
+        size: 0,
+        announced: joined.len(),
+        is_indefinite: false,
+    };
+    if holds_encodings(&header) {
+        return Ok(None);
+    }
+    let style = ValueStyle {
+        is_opened: false,
+        is_full: place.is_full,
+        role: Role::Plain,
+    };
+    let value = read_value(alloc, names, header, joined, style)?;
+    if value.fault.is_some() {
+        return Ok(None);
+    }
+    Ok(Some(value.text))
+}
+
+// The contents octets of a string with the tag, if what it holds are well-formed segments.
+fn joined_segments(
+    alloc: Global,
+    tag: u8,
+    contents: &[u8],
+    is_indefinite: bool,
+) -> Result<Option<Vec<u8>>, AllocError>
+    ensures { IfOk result (λ joined. IfSome joined (λ octets.
+        AreSegmentsOf tag contents.now is_indefinite octets.items)) }
+{
+    let mut joined = Vec::new(alloc);
+    if tag == BIT_STRING {
+        joined.push(0)?;
+    }
+    let mut cursor = Cursor::over(alloc, contents, is_indefinite)?;
+    while let Some(left) = cursor.next() {
+        let Some(step) = join_next(alloc, tag, left, &mut joined)? else {
+            return Ok(None);
+        };
+        cursor.go(step)?;
+    }
+    Ok(Some(joined))
+}
+
+// Joins the segment that begins what is left to those before it, unless it is constructed, too: then its own are next.
+// How it is gone on, if one begins it, or the end of a segment.
+fn join_next(
+    alloc: Global,
+    tag: u8,
+    left: Left<'_>,
+    joined: &mut Vec<u8>,
+) -> Result<Option<Step>, AllocError>
+    ensures { IfOk result (λ found. IfSome found (λ step.
+        IsSegment tag left.entry step joined.old.items joined.new.items)) }
+{
+    if left.begins_with_end() {
+        return Ok(Some(Step::Out(2)));
+    }
+    let Some(header) = whole_header(alloc, left.octets)? else {
+        return Ok(None);
+    };
+    if !is_universal(&header) || !has_tag(&header.tag, segment_tag(tag)) {
+        return Ok(None);
+    }
+    if header.constructed {
+        let size = size_of(left.octets, &header);
+        return Ok(Some(Step::Into(header.size, size, header.is_indefinite)));
+    }
+    let size = header.size + header.announced;
+    if join(tag, &left.octets[header.size..size], joined)? {
+        Ok(Some(Step::Past(size)))
+    } else {
+        Ok(None)
+    }
+}
+
+// The tag of the segments of a string.
+fn segment_tag(tag: u8) -> u8
+    ensures { result ≡ segment_tag_is tag }
+{
+    if tag == BIT_STRING {
+        BIT_STRING
+    } else {
+        OCTET_STRING
+    }
+}
+
+// Joins the contents octets of a segment to those of others, if they may stand there.
+fn join(tag: u8, segment: &[u8], joined: &mut Vec<u8>) -> Result<bool, AllocError>
+    ensures { IfOk result (λ done. done ≡ true → Joins tag joined.old.items segment.now joined.new.items) }
+{
+    if tag == BIT_STRING {
+        return join_bits(segment, joined);
+    }
+    joined.extend_from_slice(segment)?;
+    Ok(true)
+}
+
+// Joins bits to others, if these fill their last octet: only the last segment may have unused bits.
+fn join_bits(segment: &[u8], joined: &mut Vec<u8>) -> Result<bool, AllocError>
+    ensures { IfOk result (λ done. done ≡ true → JoinsBits joined.old.items segment.now joined.new.items) }
+{
+    let Some((unused, bits)) = segment.split_first() else {
+        return Ok(false);
+    };
+    if joined.first() != Some(&0) || *unused > 7 {
+        return Ok(false);
+    }
+    joined[0] = *unused;
+    joined.extend_from_slice(bits)?;
+    Ok(true)
+}
