@@ -1,4 +1,10 @@
 // Values of class Universal that the library does not read.
+ghost use Rattle.std.specs.Prelude.{◌≡◌, false, true, IfOk, IfSome, MatchOption};
+ghost use Rattle.std.specs.List.{list_all};
+ghost use Rattle.std.specs.Str.{is_utf8 as is_utf8_is};
+ghost use Rattle.der_values.specs.Strings.{has_printed_characters, has_words, is_iri as is_iri_is, is_numeric as is_numeric_is};
+ghost use Rattle.der_values.specs.Strings.{is_printed as is_printed_is, is_string as is_string_is};
+
 use asn1_headers::error::ASN1DecodeErr;
 use asn1_leaves::contents::object_identifier;
 use asn1_numbers::number::big_int::BigInt;
@@ -38,20 +44,68 @@ const RELATIVE_OID_IRI: u64 = 36;
 /// does not read: of an ObjectDescriptor, a VideotexString, a GraphicString, a VisibleString, a GeneralString if all
 /// are printed characters of ASCII, of a NumericString if all are digits and spaces, of an OID-IRI (X.690 8.21) and a
 /// RELATIVE-OID-IRI (X.690 8.22) if they are UTF-8. Else `None`.
-pub fn string_of(tag: u64, contents: &[u8]) -> Option<&str> {
-    let is_string = match tag {
-        NUMERIC_STRING => contents.iter().all(|b| *b == b' ' || b.is_ascii_digit()),
-        OBJECT_DESCRIPTOR | VIDEOTEX_STRING | GRAPHIC_STRING..=GENERAL_STRING => {
-            are_printed(contents)
-        }
-        OID_IRI | RELATIVE_OID_IRI => true,
-        _ => false,
-    };
-    if is_string {
-        str::from_utf8(contents).ok()
-    } else {
-        None
+pub fn string_of(tag: u64, contents: &[u8]) -> Option<&str>
+    ensures { MatchOption result
+        (is_string_is tag contents.now ≡ false)
+        (λ text. (is_string_is tag contents.now ≡ true) × (text.now ≡ contents.now)) }
+{
+    if !is_string(tag, contents) {
+        return None;
     }
+    match str::from_utf8(contents) {
+        Ok(text) => Some(text),
+        Err(_) => None,
+    }
+}
+
+fn is_string(tag: u64, contents: &[u8]) -> bool
+    ensures { result ≡ is_string_is tag contents.now }
+{
+    if tag == NUMERIC_STRING {
+        are_numeric(contents)
+    } else if is_printed_type(tag) {
+        are_printed(contents)
+    } else if is_iri(tag) {
+        is_utf8(contents)
+    } else {
+        false
+    }
+}
+
+fn is_printed_type(tag: u64) -> bool
+    ensures { result ≡ has_printed_characters tag }
+{
+    matches!(
+        tag,
+        OBJECT_DESCRIPTOR | VIDEOTEX_STRING | GRAPHIC_STRING..=GENERAL_STRING
+    )
+}
+
+fn is_iri(tag: u64) -> bool
+    ensures { result ≡ is_iri_is tag }
+{
+    matches!(tag, OID_IRI | RELATIVE_OID_IRI)
+}
+
+fn is_utf8(octets: &[u8]) -> bool
+    ensures { result ≡ is_utf8_is octets.now }
+{
+    match str::from_utf8(octets) {
+        Ok(_) => true,
+        Err(_) => false,
+    }
+}
+
+fn are_numeric(octets: &[u8]) -> bool
+    ensures { result ≡ list_all is_numeric_is octets.now }
+{
+    octets.iter().all(|b| is_numeric(*b))
+}
+
+fn is_numeric(octet: u8) -> bool
+    ensures { result ≡ is_numeric_is octet }
+{
+    octet == b' ' || octet.is_ascii_digit()
 }
 
 /// The value of contents octets with this tag of class Universal as text, where it is that of a type that the library
@@ -61,7 +115,9 @@ pub fn string_of(tag: u64, contents: &[u8]) -> Option<&str> {
 ///
 /// # Errors
 /// Memory ran out.
-pub fn value_text(alloc: Global, tag: u64, contents: &[u8]) -> Result<Option<String>, AllocError> {
+pub fn value_text(alloc: Global, tag: u64, contents: &[u8]) -> Result<Option<String>, AllocError>
+    ensures { IfOk result (λ found. IfSome found (λ _. has_words tag ≡ true)) }
+{
     match tag {
         REAL => real_text(alloc, contents),
         RELATIVE_OID => relative_text(alloc, contents),
@@ -71,8 +127,16 @@ pub fn value_text(alloc: Global, tag: u64, contents: &[u8]) -> Result<Option<Str
 }
 
 // Whether the octets are printed characters of ASCII.
-fn are_printed(octets: &[u8]) -> bool {
-    octets.iter().all(|b| *b >= b' ' && *b < 127)
+fn are_printed(octets: &[u8]) -> bool
+    ensures { result ≡ list_all is_printed_is octets.now }
+{
+    octets.iter().all(|b| is_printed(*b))
+}
+
+fn is_printed(octet: u8) -> bool
+    ensures { result ≡ is_printed_is octet }
+{
+    octet >= b' ' && octet < 127
 }
 
 fn real_text(alloc: Global, contents: &[u8]) -> Result<Option<String>, AllocError> {
