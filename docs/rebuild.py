@@ -14,6 +14,7 @@ an error, where it is as long:
 
 - a BOOLEAN other than 00 is FF, and the length 80 of a primitive block is 00
 - a BMPString is UTF-16 and a UniversalString UTF-32, also of text that was UTF-8
+- a REAL has base 2 and an odd mantissa, or the form NR3
 - the fraction of a GeneralizedTime has its point
 """
 import json
@@ -30,6 +31,16 @@ ENCODINGS = {
     "UniversalString": ["utf-32-be", "utf-8"],
     "BMPString": ["utf-16-be", "utf-8"],
 }
+
+
+# and of types that the library does not read
+TEXTS = {
+    "ObjectDescriptor", "TIME", "NumericString", "VideotexString", "GraphicString", "VisibleString", "GeneralString",
+}
+REALS = {"0": b"", "PLUS-INFINITY": b"\x40", "MINUS-INFINITY": b"\x41", "NOT-A-NUMBER": b"\x42", "-0": b"\x43"}
+# where the marks of DATE, TIME-OF-DAY, DATE-TIME and DURATION stand, by their tags
+MARKS = {31: (4, 7), 32: (2, 5), 33: (4, 7, 10, 13, 16), 34: (0,)}
+IRIS = {35, 36}
 
 
 class Different(Exception):
@@ -81,6 +92,40 @@ def identifier_forms(value):
         yield bytes([front])  # the library reads one octet from 80 on so, which X.690 does not have
 
 
+def text_forms(value):
+    """Characters, or the octets that are none: hex digits, of which there are two an octet."""
+    yield value.encode()
+    if re.fullmatch("([0-9a-f]{2})*", value):
+        yield bytes.fromhex(value)
+
+
+def marked_forms(tag, value):
+    """A DATE, a TIME-OF-DAY, a DATE-TIME or a DURATION: its contents leave out marks."""
+    yield "".join(it for place, it in enumerate(value) if place not in MARKS[tag]).encode()
+    yield from text_forms(value)
+
+
+def relative_forms(value):
+    if value.startswith("."):
+        yield b"".join(base128(int(it)) for it in value[1:].split("."))
+    else:
+        yield from text_forms(value)
+
+
+def real_forms(value):
+    """X.690 8.5 and 11.3."""
+    if value in REALS:
+        yield REALS[value]
+    elif found := re.fullmatch(r"(-?)(\d+)(?: \* 2\^(-?\d+))?", value):
+        sign, mantissa, exponent = found[1], int(found[2]), next(integer_forms(found[3] or "0"))
+        front = 0x80 + (0x40 if sign else 0)
+        front += len(exponent) - 1 if len(exponent) < 4 else 3
+        size = bytes([len(exponent)]) if len(exponent) > 3 else b""
+        yield bytes([front]) + size + exponent + mantissa.to_bytes((mantissa.bit_length() + 7) // 8, "big")
+    yield b"\x03" + value.encode()
+    yield from text_forms(value)
+
+
 def time_forms(value):
     """Both types: 2026-11-23T00:43:05.5Z without the marks, of a UTCTime without the century."""
     yield re.sub("[-T:]", "", value).encode()
@@ -91,12 +136,20 @@ def forms(row):
     kind, value = row["type"], row["value"]
     if "code" in row.get("fault", {}):
         yield bytes.fromhex(value)
+    elif kind == "ENUMERATED" and row["constructed"]:
+        yield bytes.fromhex(value)
     elif kind in ENCODINGS:
         yield from (value.encode(it) for it in ENCODINGS[kind])
     elif kind == "BOOLEAN":
         yield b"\xff" if value else b"\x00"
-    elif kind == "INTEGER":
+    elif kind in ("INTEGER", "ENUMERATED"):
         yield from integer_forms(value)
+    elif kind in TEXTS:
+        yield from text_forms(value)
+    elif kind == "REAL":
+        yield from real_forms(value)
+    elif kind == "RELATIVE-OID":
+        yield from relative_forms(value)
     elif kind == "BIT STRING":
         yield from bit_string_forms(value)
     elif kind == "OBJECT IDENTIFIER":
@@ -107,6 +160,10 @@ def forms(row):
         yield from time_forms(value)
     elif kind == "NULL":
         yield b""
+    elif row["class"] == "universal" and row["tag"] in MARKS:
+        yield from marked_forms(row["tag"], value)
+    elif row["class"] == "universal" and row["tag"] in IRIS:
+        yield from text_forms(value)
     else:
         yield bytes.fromhex(value)
 

@@ -12,6 +12,7 @@ use Rattle.serde_json.specs.Data.{Items, no_items, item, Members, no_members, me
 use Rattle.serde_json.specs.Find.{of_integer}
 use Rattle.serde_json.specs.Written.{compact_text}
 use Rattle.asn1_numbers.specs.Decimal.{natural_numeral, whole_numeral}
+use Rattle.asn1_numbers.specs.TwosComplement.{signed_number}
 use Rattle.asn1_headers.specs.Fault.{DecodeFault}
 use Rattle.asn1_headers.specs.Front.{HasIndefiniteForm}
 use Rattle.asn1_headers.specs.Header.{Encoding}
@@ -28,6 +29,7 @@ use Rattle.asn1_blocks.specs.Tree.{octet_string, null as null_leaf, object_ident
 use Rattle.asn1_blocks.specs.Tree.{utc_time, generalized_time}
 use Rattle.asn1_outline.specs.Shapes.{AreEntriesOfShapes, FirstHeaderFaultAt, contents_octets, encoding_octets}
 use Rattle.asn1_outline.specs.declared.entry.Entry.{Entry}
+use Rattle.der_values.specs.Strings.{has_words, is_string}
 use Rattle.der_json.specs.declared.fault.Fault.{Fault}
 use Rattle.der_json.specs.declared.line.Origin.{Origin}
 
@@ -93,6 +95,15 @@ IsValue (unknown class constructed offset tag octets) value = value ≡ string (
 abbrev pub is_wide_tag : ℕ → Bool
 is_wide_tag tag = (tag == 20) || (tag == 28) || (tag == 30)
 
+-- the value of a primitive encoding of class Universal of a type that the library does not read: the number of an
+-- ENUMERATED (X.690 8.4), the characters of a string
+abbrev pub other_value : Bool → ℕ → List ℕ → Option Data
+other_value true tag contents = None
+other_value false tag contents =
+    if tag == 10 then Some (whole_json (signed_number contents))
+    else if is_string tag contents then Some (string contents)
+    else None
+
 -- what is wrong, in words, with its name and its offset, where it has these
 pub record ToldFault : Type 0 where
   pub code : Option (List ℕ)
@@ -115,29 +126,35 @@ named_fault offset fault words = record {
 }
 
 -- what is shown of an encoding of class Universal: its value and no fault; or its contents octets, where they have none
-pub data IsShownUniversal (octets contents : List ℕ) (offset tag : ℕ) (value : Data) (fault : Option ToldFault)
-    : Type 0 where
+pub data IsShownUniversal (octets contents : List ℕ) (constructed : Bool) (offset tag : ℕ) (value : Data)
+    (fault : Option ToldFault) : Type 0 where
   of_group :
       is_group_tag tag ≡ true → value ≡ null → fault ≡ None →
-      IsShownUniversal octets contents offset tag value fault
+      IsShownUniversal octets contents constructed offset tag value fault
   in_its_form :
       is_wide_tag tag ≡ true → (text : List ℕ) → value ≡ string text → fault ≡ None →
-      IsShownUniversal octets contents offset tag value fault
+      IsShownUniversal octets contents constructed offset tag value fault
+  of_other_type :
+      other_value constructed tag contents ≡ Some value → fault ≡ None →
+      IsShownUniversal octets contents constructed offset tag value fault
+  in_words :
+      constructed ≡ false → has_words tag ≡ true → (text : List ℕ) → value ≡ string text → fault ≡ None →
+      IsShownUniversal octets contents constructed offset tag value fault
   with_value :
-      (tree : Tree ℕ) → Encodes offset octets tree → IsValue tree value → fault ≡ None →
-      IsShownUniversal octets contents offset tag value fault
+      other_value constructed tag contents ≡ None → (tree : Tree ℕ) → Encodes offset octets tree →
+      IsValue tree value → fault ≡ None → IsShownUniversal octets contents constructed offset tag value fault
   with_no_value :
       (found : DecodeFault) (words : List ℕ) → LeafFault tag contents found →
       value ≡ string (encode_lower contents) → fault ≡ Some (named_fault offset found words) →
-      IsShownUniversal octets contents offset tag value fault
+      IsShownUniversal octets contents constructed offset tag value fault
 
 -- what is shown of an encoding in which so many stand: of one in which any do, null
 abbrev pub IsShown :
-    ASN1Class → ℕ → List ℕ → List ℕ → ℕ → ℕ → Data → Option ToldFault → Type 0
-IsShown class (suc items) octets contents offset tag value fault = (value ≡ null) × (fault ≡ None)
-IsShown Universal zero octets contents offset tag value fault =
-    IsShownUniversal octets contents offset tag value fault
-IsShown class zero octets contents offset tag value fault =
+    ASN1Class → Bool → ℕ → List ℕ → List ℕ → ℕ → ℕ → Data → Option ToldFault → Type 0
+IsShown class constructed (suc items) octets contents offset tag value fault = (value ≡ null) × (fault ≡ None)
+IsShown Universal constructed zero octets contents offset tag value fault =
+    IsShownUniversal octets contents constructed offset tag value fault
+IsShown class constructed zero octets contents offset tag value fault =
     (value ≡ string (encode_lower contents)) × (fault ≡ None)
 
 -- what is wrong with an encoding at the offset that has such a fault of its own, or none: its length, if this has the
@@ -181,8 +198,8 @@ pub record IsRow (document : List ℕ) (entry : Entry) (row : Row) : Type 0 wher
   pub value : Data
   pub own : Option ToldFault
   pub shown :
-      IsShown entry.class entry.items (encoding_octets document entry) (contents_octets document entry)
-      entry.offset tag value own
+      IsShown entry.class entry.constructed entry.items (encoding_octets document entry)
+      (contents_octets document entry) entry.offset tag value own
   pub indefinite : Bool
   pub form : IsTrue indefinite ↔ HasIndefiniteForm (encoding_octets document entry)
   pub judged : IsJudged indefinite entry.offset own row.fault

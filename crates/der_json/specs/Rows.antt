@@ -1,13 +1,14 @@
 -- The text of an array, as far as it is put, and what is known of an entry. Private contracts alone name these.
-use Rattle.std.specs.Prelude.{◌≡◌, ℕ, ◌+◌, ◌<◌, ◌≤◌, ◌^◌, Bool, true, false, List, [], ◌∷◌, ◌++◌, length, codes}
+use Rattle.std.specs.Prelude.{◌≡◌, ◌⊎◌, ℕ, ◌+◌, ◌<◌, ◌≤◌, ◌^◌, Bool, true, false, List, [], ◌∷◌, ◌++◌, length, codes}
 use Rattle.std.specs.Prelude.{Option, None, Some}
 use Rattle.std.specs.List.{AllZip}
-use Rattle.serde_json.specs.Data.{Members, string}
+use Rattle.serde_json.specs.Data.{Data, Members, string}
 use Rattle.serde_json.specs.Written.{comma_if, compact_text, items_text, members_text}
 use Rattle.asn1_headers.specs.Header.{Encoding}
 use Rattle.asn1_outline.specs.Shapes.{contents_octets, encoding_octets}
 use Rattle.asn1_outline.specs.declared.entry.Entry.{Entry}
-use Rattle.der_json.specs.Json.{IsRow, Row, ToldFault, fault_json, first_fault, items_of}
+use Rattle.der_values.specs.Strings.{has_words}
+use Rattle.der_json.specs.Json.{IsRow, Row, ToldFault, fault_json, first_fault, items_of, other_value}
 
 -- an encoding stands in the document where the entry has it
 pub record IsEncoded (document : List ℕ) (entry : Entry) : Type 0 where
@@ -17,6 +18,12 @@ pub record IsEncoded (document : List ℕ) (entry : Entry) : Type 0 where
       (contents_octets document entry) entry.header
   pub within : entry.offset + entry.header + entry.contents ≤ length document
   pub room : length document < 2 ^ 64
+
+-- the value of a primitive encoding of a type that the library does not read, or words of it
+abbrev pub IsOtherValue : Bool → ℕ → List ℕ → Data → Type 0
+IsOtherValue constructed tag contents value =
+    (other_value constructed tag contents ≡ Some value)
+    ⊎ ((constructed ≡ false) × (has_words tag ≡ true) × ((text : List ℕ) × (value ≡ string text)))
 
 -- the texts of these, with a comma between two of them
 abbrev pub rows_text : Bool → List Row → List ℕ

@@ -20,13 +20,17 @@
 //! | Block | `value` |
 //! |---|---|
 //! | BOOLEAN | `true` or `false` |
-//! | INTEGER | a number from -(2^53 - 1) to 2^53 - 1; any other as a text of its decimal digits |
+//! | INTEGER, ENUMERATED | a number from -(2^53 - 1) to 2^53 - 1; any other as a text of its decimal digits |
 //! | OBJECT IDENTIFIER | a text, `1.2.840`, as X.690 has it: of `88 37` `2.999` |
 //! | strings | their text, of a UniversalString also in UTF-32, a BMPString in UTF-16, a TeletexString in Latin-1 |
 //! | UTCTime, GeneralizedTime | a text, `2026-11-23T00:43:05Z` |
+//! | REAL, RELATIVE-OID, TIME, DATE, TIME-OF-DAY, DATE-TIME, DURATION | a text: `5 * 2^-5`, `.8571.3`, `1985-10-12` |
 //! | BIT STRING | an object: `bits`, how many there are, and `octets`, in hex digits |
-//! | any other that holds no blocks: OCTET STRING, ENUMERATED, `[0]` | its contents octets in hex digits |
+//! | any other that holds no blocks: OCTET STRING, `[0]` | its contents octets in hex digits |
 //! | NULL, SEQUENCE, SET, and what holds blocks | `null` |
+//!
+//! So are contents octets of the types named that have no value, or are in a constructed encoding. A text has as many
+//! octets as the contents where it is characters; hex digits are twice as many.
 //!
 //! A `fault` is an object with `text`, and `code`, the name of the error, and `offset`, where it has these. A block
 //! whose contents octets have no value shows them in hex digits, with its fault. A length of the indefinite form (BER)

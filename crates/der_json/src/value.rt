@@ -1,6 +1,6 @@
 // What is told of an encoding: its type, and what it holds. None of it is a float.
 ghost use Rattle.std.specs.Prelude.{◌≡◌, ◌||◌, ◌==◌, List, ℕ, false, true, None, IfOk, IfSome, IsTrue};
-ghost use Rattle.std.specs.Prelude.{MatchResult, option_map};
+ghost use Rattle.std.specs.Prelude.{MatchOption, MatchResult, option_map};
 ghost use Rattle.hex.specs.Hex.{encode_lower};
 ghost use Rattle.asn1_headers.specs.Header.{Encoding};
 ghost use Rattle.asn1_headers.specs.Names.{class_name};
@@ -14,7 +14,8 @@ ghost use Rattle.asn1_blocks.specs.View.{view as view_block};
 ghost use Rattle.serde_json.specs.Data.{string};
 ghost use Rattle.asn1_leaves.specs.DottedDecimal.{dotted_decimal};
 ghost use Rattle.der_json.specs.Json.{HasShortFront, IsIdentifierValue, IsShown, IsShownUniversal, fault_told};
-ghost use Rattle.der_json.specs.Json.{is_wide_tag};
+ghost use Rattle.der_json.specs.Json.{is_wide_tag, other_value as other_value_is};
+ghost use Rattle.der_json.specs.Rows.{IsOtherValue};
 ghost use Rattle.der_json.specs.Json.{IsMomentText, IsValue, bits_json, natural_json, type_json};
 ghost use Rattle.der_json.specs.Json.{whole_json};
 
@@ -28,7 +29,7 @@ use asn1_leaves::oid::OID;
 use asn1_numbers::number::big_int::BigInt;
 use asn1_numbers::number::big_uint::BigUint;
 use asn1_outline::entry::Entry;
-use der_values::{Characters, long_identifier, text_in_form};
+use der_values::{Characters, long_identifier, string_of, text_in_form, value_text};
 use jiff::civil::DateTime;
 use serde_json::{Value, json};
 use std::alloc::{AllocError, Global};
@@ -36,6 +37,9 @@ use std::str;
 
 // The greatest number that every reader of JSON takes as it is (RFC 7493, section 2.2): 2^53 - 1.
 const GREATEST_NUMBER: u64 = 9_007_199_254_740_991;
+
+// The tag of an ENUMERATED (X.680 8.4, table 1).
+const ENUMERATED: u64 = 10;
 
 // The name of its type, or `null`.
 pub fn type_value(alloc: Global, entry: &Entry) -> Result<Value, AllocError>
@@ -155,8 +159,8 @@ pub fn shown_of(
 ) -> Result<Shown, AllocError>
     ensures told { (octets : List ℕ)
         → Encoding octets entry.now.class entry.now.constructed tag contents.now entry.now.header
-        → IfOk result (λ shown. IsShown entry.now.class entry.now.items octets contents.now entry.now.offset tag
-        (view shown.value) (option_map fault_told shown.fault)) }
+        → IfOk result (λ shown. IsShown entry.now.class entry.now.constructed entry.now.items octets contents.now
+        entry.now.offset tag (view shown.value) (option_map fault_told shown.fault)) }
     ensures exact { IfOk result (λ shown. has_float (view shown.value) ≡ false) }
 {
     if entry.items > 0 {
@@ -186,7 +190,7 @@ fn universal_shown(
 ) -> Result<Shown, AllocError>
     ensures told { (octets : List ℕ)
         → Encoding octets Universal entry.now.constructed tag contents.now entry.now.header
-        → IfOk result (λ shown. IsShownUniversal octets contents.now entry.now.offset tag
+        → IfOk result (λ shown. IsShownUniversal octets contents.now entry.now.constructed entry.now.offset tag
         (view shown.value) (option_map fault_told shown.fault)) }
     ensures exact { IfOk result (λ shown. has_float (view shown.value) ≡ false) }
 {
@@ -198,7 +202,11 @@ fn universal_shown(
             return Ok(right(Value::String(text)));
         }
     }
-    leaf_shown(alloc, entry, tag, contents)
+    let other = other_value(alloc, entry.constructed, &tag, contents)?;
+    match other {
+        Some(value) => Ok(right(value)),
+        None => leaf_shown(alloc, entry, tag, contents),
+    }
 }
 
 fn is_group(tag: &BigUint) -> bool
@@ -220,6 +228,44 @@ fn form_of(tag: &BigUint, contents: &[u8]) -> Option<Characters>
     }
 }
 
+// The value of an encoding of class Universal of a type that the library does not read, if its contents octets have one.
+fn other_value(
+    alloc: Global,
+    constructed: bool,
+    tag: &BigUint,
+    contents: &[u8],
+) -> Result<Option<Value>, AllocError>
+    ensures told { IfOk result (λ found. MatchOption found
+        (other_value_is constructed tag.now contents.now ≡ None)
+        (λ v. IsOtherValue constructed tag.now contents.now (view v))) }
+    ensures exact { IfOk result (λ found. IfSome found (λ v. has_float (view v) ≡ false)) }
+{
+    match tag.to_u64() {
+        Some(tag) if !constructed => value_of_type(alloc, tag, contents),
+        _ => Ok(None),
+    }
+}
+
+// So with a tag of a few octets, of a primitive encoding.
+fn value_of_type(alloc: Global, tag: u64, contents: &[u8]) -> Result<Option<Value>, AllocError>
+    ensures told { IfOk result (λ found. MatchOption found
+        (other_value_is false tag contents.now ≡ None)
+        (λ v. IsOtherValue false tag contents.now (view v))) }
+    ensures exact { IfOk result (λ found. IfSome found (λ v. has_float (view v) ≡ false)) }
+{
+    if tag == ENUMERATED {
+        let number = BigInt::from_signed_bytes_be(alloc, contents)?;
+        return Ok(Some(integer_value(alloc, &number)?));
+    }
+    if let Some(text) = string_of(tag, contents) {
+        return Ok(Some(text_value(alloc, text)?));
+    }
+    match value_text(alloc, tag, contents)? {
+        Some(text) => Ok(Some(Value::String(text))),
+        None => Ok(None),
+    }
+}
+
 // What is shown of contents octets by what the library reads of them.
 fn leaf_shown(
     alloc: Global,
@@ -227,10 +273,11 @@ fn leaf_shown(
     tag: BigUint,
     contents: &[u8],
 ) -> Result<Shown, AllocError>
-    requires { is_group_tag tag ≡ false }
+    requires no_group { is_group_tag tag ≡ false }
+    requires no_other { other_value_is entry.now.constructed tag contents.now ≡ None }
     ensures told { (octets : List ℕ)
         → Encoding octets Universal entry.now.constructed tag contents.now entry.now.header
-        → IfOk result (λ shown. IsShownUniversal octets contents.now entry.now.offset tag
+        → IfOk result (λ shown. IsShownUniversal octets contents.now entry.now.constructed entry.now.offset tag
         (view shown.value) (option_map fault_told shown.fault)) }
     ensures exact { IfOk result (λ shown. has_float (view shown.value) ≡ false) }
 {

@@ -39,7 +39,7 @@ returns c = λ at.
       encoding = encoding;
       value = view c.in_ok-shown.shown.value;
       own = option_map fault_told c.in_ok-shown.shown.fault;
-      shown = subst (λ v. IsShown r.class r.items (encoding_octets x r) v r.offset header.tag (view c.in_ok-shown.shown.value)
+      shown = subst (λ v. IsShown r.class r.constructed r.items (encoding_octets x r) v r.offset header.tag (view c.in_ok-shown.shown.value)
           (option_map fault_told c.in_ok-shown.shown.fault)) contents shown;
       indefinite = header.is_indefinite;
       form = subst (λ z. IsTrue header.is_indefinite ↔ HasIndefiniteForm z) whole c.in_ok-header.ensures.form;

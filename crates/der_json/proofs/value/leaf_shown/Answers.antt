@@ -8,7 +8,7 @@ use Rattle.der_json.proofs.value.leaf_shown.Goals as goal
 pub returns-in_ok-value_of-in-Ok-clause-told : goal.returns-in_ok-value_of-in-Ok-clause-told
 returns-in_ok-value_of-in-Ok-clause-told c = λ octets e.
     let tree = view_block c.in-Ok.block in
-    with_value tree (c.in-Ok.ensures.encoded octets c.args.entry.now.header e)
+    with_value c.requires.no_other tree (c.in-Ok.ensures.encoded octets c.args.entry.now.header e)
     (subst (IsValue tree) (sym c.right.ensures.0) c.in_ok-value_of-in-Ok.ensures.told) (ap (option_map fault_told) c.right.ensures.1)
 
 pub returns-in_ok-fault_at-in-Err : goal.returns-in_ok-fault_at-in-Err

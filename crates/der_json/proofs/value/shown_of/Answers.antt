@@ -13,7 +13,7 @@ returns-in-Universal-clause-told c = λ octets e.
     let universal : r.class ≡ Universal = c.in-Universal.is in
     let own = c.universal_shown.ensures.told octets
     (subst (λ k. Encoding octets k r.constructed c.args.tag c.args.contents.now r.header) universal e) in
-    subst (λ n. IfOk c.universal_shown.result (λ shown. IsShown r.class n octets c.args.contents.now r.offset c.args.tag
+    subst (λ n. IfOk c.universal_shown.result (λ shown. IsShown r.class r.constructed n octets c.args.contents.now r.offset c.args.tag
     (view shown.value) (option_map fault_told shown.fault))) (sym none)
-    (subst (λ k. IfOk c.universal_shown.result (λ shown. IsShown k 0 octets c.args.contents.now r.offset c.args.tag
+    (subst (λ k. IfOk c.universal_shown.result (λ shown. IsShown k r.constructed 0 octets c.args.contents.now r.offset c.args.tag
     (view shown.value) (option_map fault_told shown.fault))) (sym universal) own)
