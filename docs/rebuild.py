@@ -7,7 +7,7 @@ block makes more or fewer bytes than the block has, it is an error that names th
 - identifier and length octets, INTEGERs and OBJECT IDENTIFIERs in longer forms than the shortest
 - contents of a NULL, and none of an INTEGER
 - fractions of a second that end with 0, have no digits, or more than nine
-- lines with a `fault`, such as the second line of a document with a malformed block
+- lines with a `fault` or a list `not_der`, such as the second line of a document with a malformed block
 
 After an error nothing is written, and the exit status is 1. What JSON does not tell is written as DER has it, without
 an error, where it is as long:
@@ -211,6 +211,8 @@ def main():
     for number, line in enumerate(sys.stdin.buffer, 1):
         try:
             read = json.loads(line)
+            if "not_der" in read:
+                sys.exit(f"line {number}: no document: {read['not_der'][0]['text']}")
             if "fault" in read:
                 sys.exit(f"line {number}: no document: {read['fault']['text']}")
             documents.append(rebuild(read["blocks"]))

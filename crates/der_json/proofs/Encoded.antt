@@ -1,13 +1,13 @@
 -- An encoding stands in the document where each entry has it.
 use Rattle.std.proofs.Common.{◌≡◌, ℕ, suc, ◌+◌, ◌-◌, ◌<◌, ◌≤◌, ◌^◌, ◌++◌, List, get_or, length, sym, ap, ◌∙◌, subst, arith}
-use Rattle.std.proofs.Common.{append_assoc, take-append-drop}
+use Rattle.std.proofs.Common.{append_assoc, length-drop, take-append-drop}
 use Rattle.std.specs.List.{All, slice_range}
 use Rattle.std.specs.Prelude.{drop}
 use Rattle.std.proofs.lemmas.List.Elements.{All-append, All-cons, All-nil}
 use Rattle.asn1_headers.specs.Front.{BeginsWithHeader}
 use Rattle.asn1_headers.specs.Header.{Encoding}
 use Rattle.asn1_headers.specs.declared.header.ASN1Class.{ASN1Class}
-use Rattle.asn1_headers.proofs.Prefixes.{identifier_alone}
+use Rattle.asn1_headers.proofs.Prefixes.{identifier_alone, length_alone}
 use Rattle.std.specs.Prelude.{Bool}
 use Rattle.asn1_blocks.specs.Places.{HeaderFound}
 use Rattle.asn1_blocks.specs.declared.parsed.PlacedHeader.{PlacedHeader}
@@ -62,6 +62,20 @@ tag_is x c c' k k' n n' size announced h contents e f =
     let same = identifier_alone f.identifier e.identifier (f.len ++ drop size x) (e.len ++ contents) c' c k' k n' n f.fields e.identifier_octets
     (sym two ∙ e.whole) in
     same.tag
+
+-- so it is as long as its header says
+pub size_is :
+    (x : List ℕ) (c c' : ASN1Class) (k k' : Bool) (n n' size announced h : ℕ) (contents : List ℕ) → Encoding x c k n contents h
+    → BeginsWithHeader x size announced c' k' n' → size + announced ≡ length x
+size_is x c c' k k' n n' size announced h contents e f =
+    let two : x ≡ f.identifier ++ (f.len ++ drop size x) =
+    sym (take-append-drop size x) ∙ ap (λ z. z ++ drop size x) f.front_is ∙ append_assoc f.identifier f.len (drop size x) in
+    let same = identifier_alone f.identifier e.identifier (f.len ++ drop size x) (e.len ++ contents) c' c k' k n' n f.fields e.identifier_octets
+    (sym two ∙ e.whole) in
+    let lengths = length_alone f.len e.len (drop size x) contents announced (length contents) f.length_octets e.length_octets same.rest in
+    let number : announced ≡ length contents = lengths.number in
+    let behind : length (drop size x) ≡ length contents = ap length lengths.rest in
+    omega (arith, number, behind, f.within, length-drop size x)
 
 -- an entry that is gone over is one of them
 pub entry_here : (x : List ℕ) (es : List Entry) (k : ℕ) (r : Entry) → All (IsEncoded x) es → k < length es → r ≡ get_or es k r → IsEncoded x r

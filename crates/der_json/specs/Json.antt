@@ -1,8 +1,10 @@
 -- What is written of octets as JSON: an object that has a row for each encoding, by the headers, and the first fault.
-use Rattle.std.specs.Prelude.{◌≡◌, ◌↔◌, ◌⊎◌, ℕ, zero, suc, ◌+◌, ◌<◌, ◌==◌, ◌||◌, ℤ, unsigned_abs, nat_lt}
+use Rattle.std.specs.Prelude.{◌≡◌, ◌↔◌, ◌⊎◌, ℕ, zero, suc, ◌+◌, ◌<◌, ◌==◌, ◌&&◌, ◌||◌, ℤ, unsigned_abs, nat_lt}
 use Rattle.std.specs.Prelude.{IsTrue, Bool, true, false}
 use Rattle.std.specs.Prelude.{if◌then◌else◌, List, [], ◌∷◌, ◌++◌, codes, Option, None, Some, option_map, string_bytes}
-use Rattle.std.specs.List.{AllZip}
+use Rattle.std.specs.Prelude.{drop, length}
+use Rattle.std.specs.List.{AllZip, slice_range}
+use Rattle.std.specs.Option.{is_some}
 use Rattle.std.specs.Str.{chars}
 use Rattle.hex.specs.Hex.{encode_lower}
 use Rattle.jiff.specs.Names.{iso_datetime_text}
@@ -14,8 +16,9 @@ use Rattle.serde_json.specs.Written.{compact_text}
 use Rattle.asn1_numbers.specs.Decimal.{natural_numeral, whole_numeral}
 use Rattle.asn1_numbers.specs.TwosComplement.{signed_number}
 use Rattle.asn1_headers.specs.Fault.{DecodeFault}
-use Rattle.asn1_headers.specs.Front.{HasIndefiniteForm}
+use Rattle.asn1_headers.specs.Front.{HasIndefiniteForm, IsAtFront}
 use Rattle.asn1_headers.specs.Header.{Encoding}
+use Rattle.asn1_headers.specs.declared.front.Header.{Header}
 use Rattle.asn1_headers.specs.declared.header.ASN1Class.{ASN1Class}
 use Rattle.asn1_headers.specs.Names.{class_name, fault_name, type_name}
 use Rattle.asn1_headers.specs.declared.header.ASN1Class.TheVariants.{Universal}
@@ -29,6 +32,8 @@ use Rattle.asn1_blocks.specs.Tree.{octet_string, null as null_leaf, object_ident
 use Rattle.asn1_blocks.specs.Tree.{utc_time, generalized_time}
 use Rattle.asn1_outline.specs.Shapes.{AreEntriesOfShapes, FirstHeaderFaultAt, contents_octets, encoding_octets}
 use Rattle.asn1_outline.specs.declared.entry.Entry.{Entry}
+use Rattle.der_rules.specs.Rules.{AreBreaches, is_breach}
+use Rattle.der_rules.specs.declared.breaches.Breaches.{Breaches}
 use Rattle.der_values.specs.Strings.{has_words, is_string}
 use Rattle.der_json.specs.declared.fault.Fault.{Fault}
 use Rattle.der_json.specs.declared.line.Origin.{Origin}
@@ -164,6 +169,16 @@ IsJudged true offset own fault =
     (words : List ℕ) × (fault ≡ Some (record { code = None; offset = Some offset; words = words }))
 IsJudged false offset own fault = fault ≡ own
 
+-- an encoding breaks a rule of BER or DER without which it is read, or none
+pub record IsMarked (encoding : List ℕ) (marked : Bool) : Type 0 where
+  pub header : Header
+  pub front : IsAtFront encoding header
+  pub found : Breaches
+  pub breaches :
+      AreBreaches found encoding (drop (length front.identifier) encoding) header.announced header.class
+      header.constructed header.tag (slice_range encoding header.size (header.size + header.announced))
+  pub marked_is : marked ≡ is_breach found
+
 -- a member with a text, before others, where there is one; so with a number
 abbrev pub member_if : List ℕ → Option (List ℕ) → Members → Members
 member_if name None others = others
@@ -184,9 +199,18 @@ abbrev pub fault_members : Option ToldFault → Members
 fault_members None = no_members
 fault_members (Some fault) = member (codes "fault") (fault_json fault) no_members
 
--- the object of an encoding, and its fault
+-- the members that not every object has: what is not DER, and what is wrong
+abbrev pub rest_members : Option (List ℕ) → Option ToldFault → Members
+rest_members not_der fault = member_if (codes "not_der") not_der (fault_members fault)
+
+-- what is not DER in an encoding at the offset, in words
+abbrev pub mark_at : ℕ → List ℕ → ToldFault
+mark_at offset words = record { code = None; offset = Some offset; words = words }
+
+-- the object of an encoding, what is not DER in it, and its fault
 pub record Row : Type 0 where
   pub json : Data
+  pub not_der : Option ToldFault
   pub fault : Option ToldFault
 
 -- so of the encoding of the entry
@@ -203,8 +227,12 @@ pub record IsRow (document : List ℕ) (entry : Entry) (row : Row) : Type 0 wher
   pub indefinite : Bool
   pub form : IsTrue indefinite ↔ HasIndefiniteForm (encoding_octets document entry)
   pub judged : IsJudged indefinite entry.offset own row.fault
+  pub words : Option (List ℕ)
+  pub marked : IsMarked (encoding_octets document entry) (is_some words)
+  pub not_der : row.not_der ≡ option_map (mark_at entry.offset) words
   -- how many octets stand before the encoding, how many its identifier and length octets are, how many it has, and how
-  -- many encodings are around it; its class, its constructed bit, its tag and its type; its value, and its fault
+  -- many encodings are around it; its class, its constructed bit, its tag and its type; its value, what is not DER in
+  -- it, and its fault
   pub members : row.json ≡
       object (member (codes "offset") (number (unsigned entry.offset))
       (member (codes "header") (number (unsigned entry.header))
@@ -214,12 +242,15 @@ pub record IsRow (document : List ℕ) (entry : Entry) (row : Row) : Type 0 wher
       (member (codes "constructed") (boolean_json entry.constructed)
       (member (codes "tag") (natural_json tag)
       (member (codes "type") (type_json entry.class entry.tag)
-      (member (codes "value") value (fault_members row.fault))))))))))
+      (member (codes "value") value (rest_members words row.fault))))))))))
 
--- an array of the objects
-abbrev pub items_of : List Row → Items
-items_of [] = no_items
-items_of (row ∷ later) = item row.json (items_of later)
+-- an array of the objects of these
+abbrev pub items_of : {A : Type 0} → (A → Data) → List A → Items
+items_of json [] = no_items
+items_of json (x ∷ xs) = item (json x) (items_of json xs)
+
+abbrev pub row_json : Row → Data
+row_json row = row.json
 
 -- the first of two faults, and of those of rows
 abbrev pub earlier_of : Option ToldFault → Option ToldFault → Option ToldFault
@@ -230,6 +261,15 @@ abbrev pub first_fault : List Row → Option ToldFault
 first_fault [] = None
 first_fault (row ∷ later) = earlier_of row.fault (first_fault later)
 
+-- what is not DER in encodings, of each in which anything is
+abbrev pub one_if : Option ToldFault → List ToldFault
+one_if None = []
+one_if (Some mark) = mark ∷ []
+
+abbrev pub marks_of : List Row → List ToldFault
+marks_of [] = []
+marks_of (row ∷ later) = one_if row.not_der ++ marks_of later
+
 -- the members that tell where octets are from: the name of the file, and the label in it
 abbrev pub origin_members : Option (List ℕ) → Option (List ℕ) → Members
 origin_members file label = member_if (codes "file") file (member_if (codes "label") label no_members)
@@ -238,14 +278,16 @@ origin_members file label = member_if (codes "file") file (member_if (codes "lab
 abbrev pub told_of : Origin → Members
 told_of origin = origin_members (option_map (λ t. t.now) origin.file) (option_map (λ t. t.now) origin.label)
 
--- an object that has a row for each encoding of the octets, in order, of which this is the first fault
-pub record IsDocumentJson (octets : List ℕ) (origin : Members) (first : Option ToldFault) (json : Data) : Type 0 where
+-- an object that has a row for each encoding of the octets, in order, of which these are the marks and the first fault
+pub record IsDocumentJson (octets : List ℕ) (origin : Members) (marks : List ToldFault) (first : Option ToldFault)
+    (json : Data) : Type 0 where
   pub entries : List Entry
   pub rows : List Row
   pub walked : AreEntriesOfShapes octets entries
   pub told : AllZip (IsRow octets) entries rows
+  pub marks_are : marks ≡ marks_of rows
   pub first_is : first ≡ first_fault rows
-  pub json_is : json ≡ object (member (codes "blocks") (array (items_of rows)) origin)
+  pub json_is : json ≡ object (member (codes "blocks") (array (items_of row_json rows)) origin)
 
 -- an object with a fault
 abbrev pub refusal_json : ToldFault → Members → Data
@@ -264,9 +306,10 @@ AddsFirst (Some fault) origin right before after =
 -- what is put of octets that are encodings by their headers: a line that has them, and that of the first fault
 pub record AddsEncodings (octets : List ℕ) (origin : Members) (right : Bool) (before after : List ℕ) : Type 0 where
   pub json : Data
+  pub marks : List ToldFault
   pub first : Option ToldFault
   pub between : List ℕ
-  pub is_document : IsDocumentJson octets origin first json
+  pub is_document : IsDocumentJson octets origin marks first json
   pub line : AddsLineOf json before between
   pub fault : AddsFirst first origin right between after
 
@@ -283,3 +326,33 @@ abbrev pub AddsJsonOf : List ℕ → Members → Bool → List ℕ → List ℕ 
 AddsJsonOf octets origin true before after = AddsEncodings octets origin true before after
 AddsJsonOf octets origin false before after =
     AddsEncodings octets origin false before after ⊎ AddsHeaderFault octets origin before after
+
+-- the line of what is not DER, where anything is; all is DER where there is none
+abbrev pub AddsMarks : List ToldFault → Members → Bool → List ℕ → List ℕ → Type 0
+AddsMarks [] origin right before after = (right ≡ true) × (after ≡ before)
+AddsMarks (mark ∷ marks) origin right before after =
+    (right ≡ false)
+    × AddsLineOf (object (member (codes "not_der") (array (items_of fault_json (mark ∷ marks))) origin)) before after
+
+-- what is put of octets that are encodings by their headers, and have to be DER: a line that has them, that of what is
+-- not DER, with the offset of each, and that of the first fault
+pub record AddsStrictEncodings (octets : List ℕ) (origin : Members) (right : Bool) (before after : List ℕ)
+    : Type 0 where
+  pub json : Data
+  pub marks : List ToldFault
+  pub first : Option ToldFault
+  pub blocks : List ℕ
+  pub list : List ℕ
+  pub is_der : Bool
+  pub is_right : Bool
+  pub is_document : IsDocumentJson octets origin marks first json
+  pub line : AddsLineOf json before blocks
+  pub marked : AddsMarks marks origin is_der blocks list
+  pub fault : AddsFirst first origin is_right list after
+  pub right_is : right ≡ (is_der && is_right)
+
+-- what is put of octets that have to be DER, where all is, or not
+abbrev pub AddsStrictJsonOf : List ℕ → Members → Bool → List ℕ → List ℕ → Type 0
+AddsStrictJsonOf octets origin true before after = AddsStrictEncodings octets origin true before after
+AddsStrictJsonOf octets origin false before after =
+    AddsStrictEncodings octets origin false before after ⊎ AddsHeaderFault octets origin before after

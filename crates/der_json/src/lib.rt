@@ -15,6 +15,7 @@
 //! | `tag` | its number; as a text of its decimal digits where it is greater than 2^53 - 1 |
 //! | `type` | `SEQUENCE` and its like, by X.680 (8.4, table 1); `null` where the tag has no type there |
 //! | `value` | what it holds: the next table |
+//! | `not_der` | what is not DER in it, if anything is, in the words of `der_rules` |
 //! | `fault` | what is wrong with it, if anything is |
 //!
 //! | Block | `value` |
@@ -29,21 +30,28 @@
 //! | any other that holds no blocks: OCTET STRING, `[0]` | its contents octets in hex digits |
 //! | NULL, SEQUENCE, SET, and what holds blocks | `null` |
 //!
-//! So are contents octets of the types named that have no value, or are in a constructed encoding. A text has as many
-//! octets as the contents where it is characters; hex digits are twice as many.
+//! Contents octets of these types that have no value are in hex digits, too, and those of a constructed ENUMERATED or
+//! string. Hex digits are twice as many as octets; a text of characters has as many as the contents.
 //!
 //! A `fault` is an object with `text`, and `code`, the name of the error, and `offset`, where it has these. A block
 //! whose contents octets have no value shows them in hex digits, with its fault. A length of the indefinite form (BER)
 //! is one. The first fault is a line of its own behind that of the blocks; if a header is at fault, or octets are not
 //! read, it is the only one. An [`Origin`] adds the members `file` and `label` to each line, of each that is known.
 //!
+//! [`push_strict_json`] adds a line of what is not DER, if anything is: `not_der` is an array of objects with `offset`
+//! and `text`.
+//!
 //! Numbers beyond 2^53 - 1 are texts since `jq` and JavaScript round them, as RFC 7493 (section 2.2) lets readers do.
 #![tactic(auto)]
 
 mod fault;
 mod line;
+mod mark;
+mod member;
 mod row;
+mod strict;
 mod value;
 
 pub use fault::{Fault, fault_at};
 pub use line::{Origin, push_json, push_refusal};
+pub use strict::push_strict_json;

@@ -1,15 +1,19 @@
 // A document as a line of JSON.
-ghost use Rattle.std.specs.Prelude.{◌≡◌, ◌++◌, ◌∷◌, [], All, IfOk, OnOk, option_map};
-ghost use Rattle.serde_json.specs.Data.{string};
+ghost use Rattle.std.specs.Prelude.{◌≡◌, ◌≢◌, ◌++◌, ◌∷◌, [], ℕ, List, All, IfOk, OnOk, map, option_map};
 ghost use Rattle.serde_json.specs.Written.{comma_if, compact_text};
-ghost use Rattle.der_json.specs.Json.{AddsFirst, AddsJsonOf, earlier_of, fault_told, refusal_json, told_of};
-ghost use Rattle.der_json.specs.Rows.{AddsArray, IsEncoded, end_text, told_text};
+ghost use Rattle.asn1_headers.specs.Fault.{fault_of};
+ghost use Rattle.asn1_headers.specs.declared.error.ASN1DecodeErr.TheVariants.{OutOfMemory};
+ghost use Rattle.asn1_outline.specs.Shapes.{AreEntriesOfShapes};
+ghost use Rattle.der_json.specs.Json.{AddsFirst, AddsJsonOf, AddsLineOf, earlier_of, fault_told, named_fault};
+ghost use Rattle.der_json.specs.Json.{one_if, refusal_json, told_of};
+ghost use Rattle.der_json.specs.Rows.{AddsArray, AddsBlocks, IsEncoded, end_text, found_marks, told_text};
 
 use crate::fault::{Fault, fault_at};
-use crate::row::{push_fault_object, push_member, push_row};
+use crate::member::push_text;
+use crate::row::{push_fault_object, push_row};
+use asn1_headers::error::LocatedErr;
 use asn1_outline::entry::Entry;
 use asn1_outline::headers::Headers;
-use serde_json::Value;
 use std::alloc::{AllocError, Global};
 
 /// Where octets are from, as far as a line tells it. Each text that is there is the member of its name, behind the
@@ -40,21 +44,59 @@ pub fn push_json(
 {
     match Headers::read(alloc, octets) {
         Ok(headers) => {
-            out.extend_from_slice(b"{\"blocks\":[")?;
-            let first = push_rows(alloc, octets, headers.entries(), out)?;
-            push_end(alloc, origin, out)?;
-            push_first(alloc, origin, &first, out)
+            let found = push_blocks(alloc, origin, octets, headers.entries(), out)?;
+            push_first(alloc, origin, &found.first, out)
         }
         Err(located) => {
-            let fault = fault_at(alloc, located.offset, &located.error)?;
-            push_refusal(alloc, origin, &fault, out)?;
+            push_located(alloc, origin, &located, out)?;
             Ok(false)
         }
     }
 }
 
+// What was found in encodings: what is not DER, and the first fault.
+#[derive(Drop)]
+pub struct Found {
+    pub marks: Vec<Fault>,
+    pub first: Option<Fault>,
+}
+
+// Puts the line of the encodings of the entries. What was found in them.
+pub fn push_blocks(
+    alloc: Global,
+    origin: Origin<'_>,
+    octets: &[u8],
+    entries: &[Entry],
+    out: &mut Vec<u8>,
+) -> Result<Found, AllocError>
+    requires { AreEntriesOfShapes octets.now entries.now }
+    ensures { IfOk result (λ found. AddsBlocks octets.now (told_of origin.entry) (found_marks found)
+        (option_map fault_told found.first) out.old.items out.new.items) }
+{
+    out.extend_from_slice(b"{\"blocks\":[")?;
+    let found = push_rows(alloc, octets, entries, out)?;
+    push_end(alloc, origin, out)?;
+    Ok(found)
+}
+
+// Puts the line of an error.
+pub fn push_located(
+    alloc: Global,
+    origin: Origin<'_>,
+    located: &LocatedErr,
+    out: &mut Vec<u8>,
+) -> Result<(), AllocError>
+    ensures told { OnOk result ((words : List ℕ) × AddsLineOf
+        (refusal_json (named_fault located.now.offset (fault_of located.now.error) words) (told_of origin.entry))
+        out.old.items out.new.items) }
+    ensures other { OnOk result (located.now.error ≢ OutOfMemory) }
+{
+    let fault = fault_at(alloc, located.offset, &located.error)?;
+    push_refusal(alloc, origin, &fault, out)
+}
+
 // Puts the line of the first fault, if there is one. Whether there is none.
-fn push_first(
+pub fn push_first(
     alloc: Global,
     origin: Origin<'_>,
     first: &Option<Fault>,
@@ -91,26 +133,40 @@ pub fn push_refusal(
     Ok(())
 }
 
-// Puts the rows of all encodings, and the end of an array. The first fault, if any is at fault.
+// Puts the rows of all encodings, and the end of an array. What was found in them.
 fn push_rows(
     alloc: Global,
     octets: &[u8],
     entries: &[Entry],
     out: &mut Vec<u8>,
-) -> Result<Option<Fault>, AllocError>
-    ensures { All (IsEncoded octets.now) entries.now → IfOk result (λ first.
-        AddsArray octets.now entries.now (option_map fault_told first) out.old.items out.new.items) }
+) -> Result<Found, AllocError>
+    requires { All (IsEncoded octets.now) entries.now }
+    ensures { IfOk result (λ found. AddsArray octets.now entries.now (found_marks found)
+        (option_map fault_told found.first) out.old.items out.new.items) }
 {
     let mut is_later = false;
+    let mut marks = Vec::new(alloc);
     let mut first = None;
     for entry in entries {
         push_comma(is_later, out)?;
-        let fault = push_row(alloc, octets, entry, out)?;
-        first = earlier(first, fault);
+        let told = push_row(alloc, octets, entry, out)?;
+        keep_mark(told.not_der, &mut marks)?;
+        first = earlier(first, told.fault);
         is_later = true;
     }
     out.push(b']')?;
-    Ok(first)
+    Ok(Found { marks, first })
+}
+
+// Keeps what is not DER in an encoding, if anything is.
+fn keep_mark(mark: Option<Fault>, marks: &mut Vec<Fault>) -> Result<(), AllocError>
+    ensures { OnOk result (map fault_told marks.new.items
+        ≡ map fault_told marks.old.items ++ one_if (option_map fault_told mark)) }
+{
+    if let Some(mark) = mark {
+        marks.push(mark)?;
+    }
+    Ok(())
 }
 
 // The first of two faults.
@@ -123,7 +179,7 @@ fn earlier(first: Option<Fault>, next: Option<Fault>) -> Option<Fault>
     }
 }
 
-fn push_comma(is_later: bool, out: &mut Vec<u8>) -> Result<(), AllocError>
+pub fn push_comma(is_later: bool, out: &mut Vec<u8>) -> Result<(), AllocError>
     ensures { OnOk result (out.new.items ≡ out.old.items ++ comma_if is_later) }
 {
     if is_later {
@@ -133,7 +189,7 @@ fn push_comma(is_later: bool, out: &mut Vec<u8>) -> Result<(), AllocError>
 }
 
 // Puts the end of an object and of its line, with where the octets are from.
-fn push_end(alloc: Global, origin: Origin<'_>, out: &mut Vec<u8>) -> Result<(), AllocError>
+pub fn push_end(alloc: Global, origin: Origin<'_>, out: &mut Vec<u8>) -> Result<(), AllocError>
     ensures { OnOk result (out.new.items ≡ out.old.items ++ (end_text (told_of origin.entry) ++ 10 ∷ [])) }
 {
     push_told(alloc, b",\"file\":", origin.file, out)?;
@@ -156,11 +212,4 @@ fn push_told(
         Some(told) => push_text(alloc, name, told, out),
         None => Ok(()),
     }
-}
-
-fn push_text(alloc: Global, name: &[u8], told: &str, out: &mut Vec<u8>) -> Result<(), AllocError>
-    ensures { OnOk result (out.new.items ≡ out.old.items ++ (name.now ++ compact_text (string told.now))) }
-{
-    let text = Value::try_from_str(alloc, told)?;
-    push_member(alloc, name, &text, out)
 }

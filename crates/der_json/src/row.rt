@@ -1,13 +1,14 @@
 // An encoding as an object of JSON.
-ghost use Rattle.std.specs.Prelude.{◌≡◌, ◌++◌, ◌+◌, ◌≤◌, ◌↔◌, false, length, slice_range, IfOk, IsTrue, OnOk};
-ghost use Rattle.std.specs.Prelude.{option_map};
-ghost use Rattle.serde_json.specs.View.{view};
-ghost use Rattle.serde_json.specs.Written.{compact_text, has_float};
+ghost use Rattle.std.specs.Prelude.{◌≡◌, ◌++◌, ◌+◌, ◌≤◌, ◌↔◌, codes, length, slice_range, true, IfOk, IsTrue, OnOk};
+ghost use Rattle.std.specs.Prelude.{option_map, string_bytes};
+ghost use Rattle.serde_json.specs.Written.{compact_text, members_text};
 ghost use Rattle.asn1_headers.specs.Front.{HasIndefiniteForm, IsAtFront};
-ghost use Rattle.der_json.specs.Json.{IsRow, Row, fault_json, fault_told};
-ghost use Rattle.der_json.specs.Rows.{IsEncoded, fault_text};
+ghost use Rattle.der_json.specs.Json.{IsRow, Row, fault_json, fault_told, mark_at, rest_members};
+ghost use Rattle.der_json.specs.Rows.{IsEncoded, fault_text, told_text};
 
 use crate::fault::{Fault, fault_value, judged};
+use crate::mark::mark_of;
+use crate::member::{push_member, push_text};
 use crate::value::{class_value, natural_value, shown_of, type_value};
 use asn1_headers::front::{Header, read_header};
 use asn1_headers::header::HeaderCount;
@@ -15,19 +16,29 @@ use asn1_outline::entry::Entry;
 use serde_json::Value;
 use std::alloc::{AllocError, Global};
 
-// Puts the object of the encoding of the entry at the end. What is wrong with it.
+// What is told of an encoding beside its value: what is not DER in it, and its fault.
+#[derive(Drop)]
+pub struct Told {
+    pub not_der: Option<Fault>,
+    pub fault: Option<Fault>,
+}
+
+// Puts the object of the encoding of the entry at the end. What is told of it.
 pub fn push_row(
     alloc: Global,
     document: &[u8],
     entry: &Entry,
     out: &mut Vec<u8>,
-) -> Result<Option<Fault>, AllocError>
-    ensures { IsEncoded document.now entry.now → IfOk result (λ fault. (row : Row)
-        × IsRow document.now entry.now row × (row.fault ≡ option_map fault_told fault)
+) -> Result<Told, AllocError>
+    requires { IsEncoded document.now entry.now }
+    ensures { IfOk result (λ told. (row : Row) × IsRow document.now entry.now row
+        × (row.not_der ≡ option_map fault_told told.not_der) × (row.fault ≡ option_map fault_told told.fault)
         × (out.new.items ≡ out.old.items ++ compact_text row.json)) }
 {
     let size = entry.header.saturating_add(entry.contents);
-    let header = header_of(alloc, part_of(document, entry.offset, size))?;
+    let encoding = part_of(document, entry.offset, size);
+    let header = header_of(alloc, encoding)?;
+    let mark = mark_of(alloc, encoding, &header)?;
     let behind = entry.offset.saturating_add(entry.header);
     let contents = part_of(document, behind, entry.contents);
     let class = class_value(alloc, entry.class)?;
@@ -50,9 +61,50 @@ pub fn push_row(
     push_member(alloc, b",\"tag\":", &tag, out)?;
     push_member(alloc, b",\"type\":", &kind, out)?;
     push_member(alloc, b",\"value\":", &shown.value, out)?;
-    push_fault(alloc, &fault, out)?;
+    push_rest(alloc, &mark, &fault, out)?;
+    let not_der = placed(entry.offset, mark);
+    Ok(Told { not_der, fault })
+}
+
+// What is not DER in an encoding at the offset.
+fn placed(offset: usize, words: Option<String>) -> Option<Fault>
+    ensures { option_map fault_told result ≡ option_map (mark_at offset) (option_map string_bytes words) }
+{
+    match words {
+        Some(words) => Some(Fault {
+            code: None,
+            offset: Some(offset),
+            words,
+        }),
+        None => None,
+    }
+}
+
+// Puts the members that not every object has, and its end.
+fn push_rest(
+    alloc: Global,
+    mark: &Option<String>,
+    fault: &Option<Fault>,
+    out: &mut Vec<u8>,
+) -> Result<(), AllocError>
+    ensures { OnOk result (out.new.items ≡ out.old.items ++ members_text true
+        (rest_members (option_map string_bytes mark.now) (option_map fault_told fault.now))) }
+{
+    push_mark(alloc, mark, out)?;
+    push_fault(alloc, fault, out)?;
     out.push(b'}')?;
-    Ok(fault)
+    Ok(())
+}
+
+// Puts the member of what is not DER, if anything is.
+fn push_mark(alloc: Global, mark: &Option<String>, out: &mut Vec<u8>) -> Result<(), AllocError>
+    ensures { OnOk result (out.new.items
+        ≡ out.old.items ++ told_text (codes ",\"not_der\":") (option_map string_bytes mark.now)) }
+{
+    match mark {
+        Some(words) => push_text(alloc, b",\"not_der\":", words, out),
+        None => Ok(()),
+    }
 }
 
 // So many octets of the document from the start on, where they are there.
@@ -98,20 +150,4 @@ pub fn push_fault_object(
 {
     let object = fault_value(alloc, fault)?;
     push_member(alloc, name, &object, out)
-}
-
-// Puts a value that is no float behind its name.
-pub fn push_member(
-    alloc: Global,
-    name: &[u8],
-    value: &Value,
-    out: &mut Vec<u8>,
-) -> Result<(), AllocError>
-    requires { has_float (view value.now) ≡ false }
-    ensures { OnOk result (out.new.items ≡ out.old.items ++ (name.now ++ compact_text (view value.now))) }
-{
-    let text = value.to_vec(alloc)?;
-    out.extend_from_slice(name)?;
-    out.extend_from_slice(&text)?;
-    Ok(())
 }

@@ -228,7 +228,8 @@ fn form_of(tag: &BigUint, contents: &[u8]) -> Option<Characters>
     }
 }
 
-// The value of an encoding of class Universal of a type that the library does not read, if its contents octets have one.
+// The value of an encoding of class Universal of a type that the library does not read, if it is primitive and its
+// contents octets have one.
 fn other_value(
     alloc: Global,
     constructed: bool,

@@ -1,7 +1,7 @@
 use Rattle.std.proofs.Common.{◌++◌, ◌∙◌, ap, append_assoc}
 use Rattle.serde_json.specs.View.{view}
 use Rattle.serde_json.specs.Written.{compact_text}
-use Rattle.der_json.proofs.row.push_member.Goals as goal
+use Rattle.der_json.proofs.member.push_member.Goals as goal
 
 pub returns : goal.returns
 returns c =
