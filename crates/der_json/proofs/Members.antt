@@ -27,10 +27,20 @@ unfolding serde_json_on_literals
 not_der_end None others rest e = e
 not_der_end (Some t) others rest e = ap (λ z. (codes ",\"not_der\":" ++ compact_text (string t)) ++ z) e
 
+shown_end :
+    (words : Option (List ℕ)) (others : Members) (rest : List ℕ) → rest ≡ members_text true others →
+    told_text (codes ",\"shown\":") words ++ rest ≡ members_text true (member_if (codes "shown") words others)
+unfolding serde_json_on_literals
+shown_end None others rest e = e
+shown_end (Some t) others rest e = ap (λ z. (codes ",\"shown\":" ++ compact_text (string t)) ++ z) e
+
 pub rest_end :
-    (words : Option (List ℕ)) (fault : Option ToldFault) →
-    told_text (codes ",\"not_der\":") words ++ (fault_text fault ++ 125 ∷ []) ≡ members_text true (rest_members words fault)
-rest_end words fault = not_der_end words (fault_members fault) _ (fault_end fault)
+    (beside words : Option (List ℕ)) (fault : Option ToldFault) →
+    told_text (codes ",\"shown\":") beside ++ (told_text (codes ",\"not_der\":") words ++ (fault_text fault ++ 125 ∷ []))
+    ≡ members_text true (rest_members beside words fault)
+rest_end beside words fault =
+    shown_end beside (member_if (codes "not_der") words (fault_members fault)) _
+    (not_der_end words (fault_members fault) _ (fault_end fault))
 
 module _ (offset header size depth class constructed tag kind value : Data) (rest : Members) where
   abbrev pub row_json : Data

@@ -199,9 +199,10 @@ abbrev pub fault_members : Option ToldFault → Members
 fault_members None = no_members
 fault_members (Some fault) = member (codes "fault") (fault_json fault) no_members
 
--- the members that not every object has: what is not DER, and what is wrong
-abbrev pub rest_members : Option (List ℕ) → Option ToldFault → Members
-rest_members not_der fault = member_if (codes "not_der") not_der (fault_members fault)
+-- the members that not every object has: what is shown beside the value, what is not DER, and what is wrong
+abbrev pub rest_members : Option (List ℕ) → Option (List ℕ) → Option ToldFault → Members
+rest_members beside not_der fault =
+    member_if (codes "shown") beside (member_if (codes "not_der") not_der (fault_members fault))
 
 -- what is not DER in an encoding at the offset, in words
 abbrev pub mark_at : ℕ → List ℕ → ToldFault
@@ -227,12 +228,13 @@ pub record IsRow (document : List ℕ) (entry : Entry) (row : Row) : Type 0 wher
   pub indefinite : Bool
   pub form : IsTrue indefinite ↔ HasIndefiniteForm (encoding_octets document entry)
   pub judged : IsJudged indefinite entry.offset own row.fault
+  pub beside : Option (List ℕ)
   pub words : Option (List ℕ)
   pub marked : IsMarked (encoding_octets document entry) (is_some words)
   pub not_der : row.not_der ≡ option_map (mark_at entry.offset) words
   -- how many octets stand before the encoding, how many its identifier and length octets are, how many it has, and how
-  -- many encodings are around it; its class, its constructed bit, its tag and its type; its value, what is not DER in
-  -- it, and its fault
+  -- many encodings are around it; its class, its constructed bit, its tag and its type; its value, what is shown
+  -- beside it, what is not DER in it, and its fault
   pub members : row.json ≡
       object (member (codes "offset") (number (unsigned entry.offset))
       (member (codes "header") (number (unsigned entry.header))
@@ -242,7 +244,7 @@ pub record IsRow (document : List ℕ) (entry : Entry) (row : Row) : Type 0 wher
       (member (codes "constructed") (boolean_json entry.constructed)
       (member (codes "tag") (natural_json tag)
       (member (codes "type") (type_json entry.class entry.tag)
-      (member (codes "value") value (rest_members words row.fault))))))))))
+      (member (codes "value") value (rest_members beside words row.fault))))))))))
 
 -- an array of the objects of these
 abbrev pub items_of : {A : Type 0} → (A → Data) → List A → Items

@@ -15,6 +15,7 @@
 //! | `tag` | its number; as a text of its decimal digits where it is greater than 2^53 - 1 |
 //! | `type` | `SEQUENCE` and its like, by X.680 (8.4, table 1); `null` where the tag has no type there |
 //! | `value` | what it holds: the next table |
+//! | `shown` | beside the value, as on lines: octets of an INTEGER of five or more, in hex digits; printed text |
 //! | `not_der` | what is not DER in it, if anything is, in the words of `der_rules` |
 //! | `fault` | what is wrong with it, if anything is |
 //!
@@ -44,6 +45,7 @@
 //! Numbers beyond 2^53 - 1 are texts since `jq` and JavaScript round them, as RFC 7493 (section 2.2) lets readers do.
 #![tactic(auto)]
 
+mod beside;
 mod fault;
 mod line;
 mod mark;

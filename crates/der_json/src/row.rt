@@ -1,11 +1,12 @@
 // An encoding as an object of JSON.
-ghost use Rattle.std.specs.Prelude.{◌≡◌, ◌++◌, ◌+◌, ◌≤◌, ◌↔◌, codes, length, slice_range, true, IfOk, IsTrue, OnOk};
+ghost use Rattle.std.specs.Prelude.{◌≡◌, ◌++◌, ◌+◌, ◌≤◌, ◌↔◌, length, slice_range, true, IfOk, IsTrue, OnOk};
 ghost use Rattle.std.specs.Prelude.{option_map, string_bytes};
 ghost use Rattle.serde_json.specs.Written.{compact_text, members_text};
 ghost use Rattle.asn1_headers.specs.Front.{HasIndefiniteForm, IsAtFront};
 ghost use Rattle.der_json.specs.Json.{IsRow, Row, fault_json, fault_told, mark_at, rest_members};
 ghost use Rattle.der_json.specs.Rows.{IsEncoded, fault_text, told_text};
 
+use crate::beside::beside_of;
 use crate::fault::{Fault, fault_value, judged};
 use crate::mark::mark_of;
 use crate::member::{push_member, push_text};
@@ -45,6 +46,7 @@ pub fn push_row(
     let tag = natural_value(alloc, &header.tag)?;
     let kind = type_value(alloc, entry)?;
     let is_indefinite = header.is_indefinite;
+    let beside = beside_of(alloc, entry, &header.tag, contents)?;
     let shown = shown_of(alloc, entry, header.tag, contents)?;
     let fault = judged(alloc, is_indefinite, entry.offset, shown.fault)?;
     push_member(alloc, b"{\"offset\":", &Value::from(entry.offset), out)?;
@@ -61,7 +63,7 @@ pub fn push_row(
     push_member(alloc, b",\"tag\":", &tag, out)?;
     push_member(alloc, b",\"type\":", &kind, out)?;
     push_member(alloc, b",\"value\":", &shown.value, out)?;
-    push_rest(alloc, &mark, &fault, out)?;
+    push_rest(alloc, &beside, &mark, &fault, out)?;
     let not_der = placed(entry.offset, mark);
     Ok(Told { not_der, fault })
 }
@@ -83,26 +85,34 @@ fn placed(offset: usize, words: Option<String>) -> Option<Fault>
 // Puts the members that not every object has, and its end.
 fn push_rest(
     alloc: Global,
+    beside: &Option<String>,
     mark: &Option<String>,
     fault: &Option<Fault>,
     out: &mut Vec<u8>,
 ) -> Result<(), AllocError>
     ensures { OnOk result (out.new.items ≡ out.old.items ++ members_text true
-        (rest_members (option_map string_bytes mark.now) (option_map fault_told fault.now))) }
+        (rest_members (option_map string_bytes beside.now) (option_map string_bytes mark.now)
+        (option_map fault_told fault.now))) }
 {
-    push_mark(alloc, mark, out)?;
+    push_words(alloc, b",\"shown\":", beside, out)?;
+    push_words(alloc, b",\"not_der\":", mark, out)?;
     push_fault(alloc, fault, out)?;
     out.push(b'}')?;
     Ok(())
 }
 
-// Puts the member of what is not DER, if anything is.
-fn push_mark(alloc: Global, mark: &Option<String>, out: &mut Vec<u8>) -> Result<(), AllocError>
+// Puts words behind their name, if there are some.
+fn push_words(
+    alloc: Global,
+    name: &[u8],
+    words: &Option<String>,
+    out: &mut Vec<u8>,
+) -> Result<(), AllocError>
     ensures { OnOk result (out.new.items
-        ≡ out.old.items ++ told_text (codes ",\"not_der\":") (option_map string_bytes mark.now)) }
+        ≡ out.old.items ++ told_text name.now (option_map string_bytes words.now)) }
 {
-    match mark {
-        Some(words) => push_text(alloc, b",\"not_der\":", words, out),
+    match words {
+        Some(words) => push_text(alloc, name, words, out),
         None => Ok(()),
     }
 }

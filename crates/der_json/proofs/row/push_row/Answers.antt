@@ -10,6 +10,7 @@ use Rattle.asn1_outline.specs.Shapes.{contents_octets, encoding_octets}
 use Rattle.der_json.specs.Json.{IsMarked, IsRow, IsShown, Row, fault_told, mark_at, rest_members}
 use Rattle.der_json.proofs.Encoded.{size_is, tag_is}
 use Rattle.der_json.proofs.Members.{marked_still, row_json, row_put, row_same}
+use Rattle.std.proofs.lemmas.Result.{err_from_is_err_and}
 use Rattle.der_json.proofs.row.push_row.Goals as goal
 
 pub mark_of-requires : goal.mark_of-requires
@@ -28,6 +29,12 @@ mark_of-requires c =
       front = front;
       whole = omega (arith, sum);
     }
+
+pub returns-in_err-push_rest : goal.returns-in_err-push_rest
+returns-in_err-push_rest c =
+    let step = c.from_residual-in_err-push_rest in
+    let p = err_from_is_err_and step.result step.ensures.1 in
+    rw p.1 tt
 
 pub returns : goal.returns
 returns c =
@@ -49,7 +56,8 @@ returns c =
     let shown = c.in_ok-shown.ensures.told (encoding_octets x r)
     (subst (λ v. Encoding (encoding_octets x r) r.class r.constructed header.tag v r.header) (sym contents) encoding) in
     let words = option_map string_bytes c.in_ok-mark.mark in
-    let rest : Members = rest_members words (option_map fault_told c.in_ok-fault.fault) in
+    let beside = option_map string_bytes c.in_ok-beside.beside in
+    let rest : Members = rest_members beside words (option_map fault_told c.in_ok-fault.fault) in
     let marked : IsMarked (encoding_octets x r) (is_some words) =
     subst (λ z. IsMarked z (is_some words)) whole (marked_still string_bytes c.part_of-encoding.result.now c.in_ok-mark.mark c.in_ok-mark.ensures) in
     let json : Data =
@@ -68,6 +76,7 @@ returns c =
       indefinite = header.is_indefinite;
       form = subst (λ z. IsTrue header.is_indefinite ↔ HasIndefiniteForm z) whole c.in_ok-header.ensures.form;
       judged = c.in_ok-fault.ensures;
+      beside = beside;
       words = words;
       marked = marked;
       not_der = refl;
