@@ -1,4 +1,3 @@
 mod Answered
 mod Inputs
 mod Readers
-mod StrictFaults

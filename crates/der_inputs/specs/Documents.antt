@@ -1,19 +1,16 @@
 -- What is put of octets that may have a label, or of what has none that can be read: as a dump, as a line of JSON, or
 -- on a page.
-use Rattle.std.specs.Prelude.{◌≡◌, ◌⊎◌, ℕ, Bool, true, false, List, [], Option, Some, None, option_map, unwrap_or}
+use Rattle.std.specs.Prelude.{◌≡◌, ℕ, Bool, true, false, List, [], Option, Some, None, option_map, unwrap_or}
 use Rattle.std.specs.Str.Lossy.{utf8_lossy}
 use Rattle.serde_json.specs.Data.{Members}
 use Rattle.der_html.specs.Page.{Shows}
 use Rattle.der_io.specs.Escaped.{escaped}
 use Rattle.der_io.specs.Lines.{lines_of}
-use Rattle.der_json.specs.Json.{AddsJsonOf, AddsLineOf, named_fault, origin_members, refusal_json}
+use Rattle.der_json.specs.Json.{AddsJsonOf, AddsLineOf, AddsStrictJsonOf, origin_members, refusal_json}
 use Rattle.der_lines.specs.Dump.{AddsDumpOf, AddsLine, AddsStrictDumpOf, IsNote}
-use Rattle.der_inputs.specs.Strict.{IsRejectedAt}
 use Rattle.der_lines.specs.declared.document.Verdict.{Verdict}
 use Rattle.der_lines.specs.declared.document.Verdict.TheVariants.{AllRead, Refused}
 use Rattle.der_options.specs.declared.options.Options.{Options}
-use Rattle.simple_asn1.specs.Fault.{DecodeFault}
-use Rattle.simple_asn1.specs.ReadBack.{IsCanonicalDocument}
 use Rattle.der_io.specs.Characters.{equals_sign, exclamation_mark}
 
 abbrev pub is_all_read : Verdict → Bool
@@ -48,27 +45,10 @@ AddsWords origin before after =
     (words : List ℕ)
     × AddsLineOf (refusal_json (record { code = None; offset = None; words = words }) origin) before after
 
--- the line of JSON of where octets are rejected, if they are no canonical document
-abbrev pub AddsJsonRejection : List ℕ → Members → Verdict → List ℕ → List ℕ → Type 0
-AddsJsonRejection octets origin AllRead before after = IsCanonicalDocument octets × (after ≡ before)
-AddsJsonRejection octets origin Refused before after =
-    (offset : ℕ) × (fault : DecodeFault) × (words : List ℕ) × IsRejectedAt octets offset
-    × AddsLineOf (refusal_json (named_fault offset fault words) origin) before after
-
--- what is put as JSON of octets, where no document is read but a canonical one: of another, after its line, that of
--- where it is rejected
-abbrev pub AddsStrictJsonOf : List ℕ → Members → Verdict → List ℕ → List ℕ → Type 0
-AddsStrictJsonOf octets origin AllRead before after =
-    IsCanonicalDocument octets × AddsJsonOf octets origin true before after
-AddsStrictJsonOf octets origin Refused before after =
-    AddsJsonOf octets origin false before after
-    ⊎ ((shown : List ℕ) × AddsJsonOf octets origin true before shown
-    × AddsJsonRejection octets origin Refused shown after)
-
--- so of octets, read strictly or not
+-- what is put as JSON of octets, read strictly or not
 abbrev pub AddsJsonReading : Bool → List ℕ → Members → Verdict → List ℕ → List ℕ → Type 0
 AddsJsonReading false octets origin verdict = AddsJsonOf octets origin (is_all_read verdict)
-AddsJsonReading true octets origin verdict = AddsStrictJsonOf octets origin verdict
+AddsJsonReading true octets origin verdict = AddsStrictJsonOf octets origin (is_all_read verdict)
 
 -- the line of JSON of octets, or that of a refusal where there are none to be read
 abbrev pub AddsJsonLine : Bool → Option (List ℕ) → Members → Verdict → List ℕ → List ℕ → Type 0

@@ -2,4 +2,3 @@ pub mod Documents
 pub mod Inputs
 pub mod Outcomes
 pub mod Parts
-pub mod Strict

@@ -2,13 +2,11 @@
 ghost use Rattle.std.specs.Prelude.{◌≡◌, IfOk, OnOk};
 ghost use Rattle.std.specs.Option.{option_map};
 ghost use Rattle.std.specs.Result.{result_ok};
-ghost use Rattle.der_inputs.specs.Documents.{AddsJsonLine, AddsJsonReading, AddsJsonRejection};
-ghost use Rattle.der_inputs.specs.Documents.{AddsStrictJsonOf, AddsWords, PutsJson, is_all_read};
-ghost use Rattle.der_json.specs.Json.{AddsJsonOf, told_of};
+ghost use Rattle.der_inputs.specs.Documents.{AddsJsonLine, AddsJsonReading, AddsWords, PutsJson, is_all_read};
+ghost use Rattle.der_json.specs.Json.{AddsJsonOf, AddsStrictJsonOf, told_of};
 
 use crate::manner::Manner;
-use crate::strict::rejection;
-use der_json::{Fault, Origin, fault_at, push_json, push_refusal};
+use der_json::{Fault, Origin, push_json, push_refusal, push_strict_json};
 use der_lines::Verdict;
 use std::alloc::{AllocError, Global};
 
@@ -107,39 +105,19 @@ fn push_plainly(
     }
 }
 
-// Puts the line of octets, and behind it that of where they are rejected, where nothing is at fault, and they are no
-// canonical document.
+// So where they have to be DER.
 fn push_strictly(
     alloc: Global,
     origin: Origin<'_>,
     octets: &[u8],
     out: &mut Vec<u8>,
 ) -> Result<Verdict, AllocError>
-    ensures { IfOk result (λ verdict. AddsStrictJsonOf octets.now (told_of origin.entry) verdict
+    ensures { IfOk result (λ verdict. AddsStrictJsonOf octets.now (told_of origin.entry) (is_all_read verdict)
         out.old.items out.new.items) }
 {
-    match push_plainly(alloc, origin, octets, out)? {
-        Verdict::Refused => Ok(Verdict::Refused),
-        Verdict::AllRead => push_rejection(alloc, origin, octets, out),
-    }
-}
-
-// Puts the line of where octets are rejected, if they are.
-fn push_rejection(
-    alloc: Global,
-    origin: Origin<'_>,
-    octets: &[u8],
-    out: &mut Vec<u8>,
-) -> Result<Verdict, AllocError>
-    ensures { IfOk result (λ verdict. AddsJsonRejection octets.now (told_of origin.entry) verdict
-        out.old.items out.new.items) }
-{
-    match rejection(alloc, octets)? {
-        Some(located) => {
-            let fault = fault_at(alloc, located.offset, &located.error)?;
-            push_refusal(alloc, origin, &fault, out)?;
-            Ok(Verdict::Refused)
-        }
-        None => Ok(Verdict::AllRead),
+    if push_strict_json(alloc, origin, octets, out)? {
+        Ok(Verdict::AllRead)
+    } else {
+        Ok(Verdict::Refused)
     }
 }

@@ -13,7 +13,6 @@ mod json_lines;
 mod manner;
 mod outcome;
 mod sources;
-mod strict;
 mod tasks;
 
 pub use outcome::Outcome;
