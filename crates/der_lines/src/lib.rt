@@ -14,10 +14,10 @@
 //! length is indefinite (X.690 8.1.3.6); then end-of-contents octets end what stands inside, and have a line, too. A
 //! string that is constructed has the value of its segments joined, if these are well-formed, and each of them a line.
 //! Encodings inside the bytes of a string have lines that begin with `>`. What is wrong with an encoding is said on its
-//! line, and the first fault again on the last line, which begins with `!`; what came of it is the [`Verdict`]. Where the
-//! library reads otherwise than X.690, on purpose, lines show what X.690 has. What is read and is not DER has a mark at
-//! the end of its line, and [`push_strict_document`] lists it. [`push_fault_line`] puts the line of a fault that others
-//! find.
+//! line, and the first fault again on the last line, which begins with `!`; what came of it is the [`Verdict`]. Where
+//! the library reads otherwise than X.690, on purpose, lines show what X.690 has. What is read and is not DER has a
+//! mark at the end of its line, and [`push_strict_document`] lists it. [`push_fault_line`] puts the line of a fault
+//! that others find.
 //!
 //! [`push_label`] and [`push_refusal`] put the other lines of what is written: `=` and the label of a document, `!` and
 //! why there is none. [`block_at`] finds a block by its offset, and [`behind_header`] its contents octets.

@@ -85,7 +85,7 @@ struct Seen {
     kind: Kind,
 }
 
-// What is seen of the encoding that begins what is left. `None` where none begins it, or one at the outermost that may be
+// What is seen of the encoding that begins what is left. `None` where none begins it, or an outermost one that may be
 // of no known type.
 fn look_at(
     alloc: Global,

@@ -17,8 +17,8 @@ const OCTET_STRING: u8 = 4;
 /// The octets of the block that begins at the offset, if one does, by headers that follow one another from the front of
 /// the document: also in octets of another block, if these are encodings to their end, and in one that is cut short.
 ///
-/// A length of the indefinite form (X.690 8.1.3.6) is read as 0 here: of a block that has one there is the header alone,
-/// and what stands inside is found behind it.
+/// A length of the indefinite form (X.690 8.1.3.6) is read as 0 here: of a block that has one there is the header
+/// alone, and what stands inside is found behind it.
 ///
 /// # Errors
 /// Memory ran out.

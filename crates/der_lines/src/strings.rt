@@ -20,7 +20,7 @@ const BIT_STRING: u8 = 3;
 
 const OCTET_STRING: u8 = 4;
 
-// The tag of a string that is constructed: also of an ObjectDescriptor and of times, which are strings (X.680 38 to 48).
+// The tag of a string that is constructed: also of an ObjectDescriptor and of times, which are strings.
 pub fn string_tag(header: &Header) -> Option<u8> {
     match universal_tag(header) {
         Some(tag) if header.constructed => {
@@ -52,9 +52,9 @@ pub fn is_in_string(string: Option<usize>, depth: usize) -> bool {
     }
 }
 
-// The value of the whole encoding that begins the octets, as it stands behind a tag: of a string that is constructed, if
-// its segments are well-formed. A string that is itself a segment has none: else segments in segments would be joined
-// again and again.
+// The value of the whole encoding that begins the octets, as it stands behind a tag: of a string that is constructed,
+// if its segments are well-formed. A string that is itself a segment has none: else segments in segments would be
+// joined again and again.
 pub fn joined_value(
     alloc: Global,
     names: &Names,
