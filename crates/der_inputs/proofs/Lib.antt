@@ -1,3 +1,4 @@
-mod Answered
-mod Inputs
+mod Blocks
+mod Lower
 mod Readers
+mod Texts

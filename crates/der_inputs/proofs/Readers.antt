@@ -1,25 +1,15 @@
 -- Inputs after inputs, each of which a loop over their readers has come to.
-use Rattle.std.proofs.Common.{◌≡◌, ◌<◌, ◌+◌, ℕ, suc, List, [], ◌∷◌, ◌++◌, Bool, arith, drop, get_or, length, map, refl}
+use Rattle.std.proofs.Common.{◌≡◌, ◌<◌, ◌+◌, ℕ, suc, List, [], ◌∷◌, ◌++◌, arith, drop, get_or, length, map, refl}
 use Rattle.std.proofs.Common.{false, is_err, is_ok, if◌then◌else◌, set, sym, take, ◌∙◌}
 use Rattle.std.specs.Prelude.{Option, Result, Ok, Err}
 use Rattle.std.proofs.lemmas.List.{drop-set-lt, map-append, take_more}
 use Rattle.std.proofs.lemmas.Grind.{take-set_at}
 use Rattle.std.proofs.Math.Seq.{drop-cons}
-use Rattle.der_inputs.specs.Inputs.{AddsSource, AddsSources, AreReadToEnds, Input, IsReadToEnd}
+use Rattle.der_inputs.proofs.Texts.{one_more}
+use Rattle.der_inputs.specs.Inputs.{AreReadToEnds, Input, IsReadToEnd}
+use Rattle.der_inputs.specs.Parts.{Pushes}
+use Rattle.der_inputs.specs.Texts.{AreTexts}
 use Rattle.der_inputs.specs.declared.outcome.Outcome.{Outcome}
-use Rattle.der_options.specs.declared.options.Options.{Options}
-
--- one input more
-one_more :
-    (named : Bool) (options : Options) (inputs : List Input) (came : List Outcome) (input : Input)
-    (last : Outcome) (a b c : List ℕ) →
-    AddsSources named options inputs came a b → AddsSource named options input last b c →
-    AddsSources named options (inputs ++ input ∷ []) (came ++ last ∷ []) a c
-one_more named options [] [] input last a b c e h = (c, rw (← e) h, refl)
-one_more named options (x ∷ xs) (v ∷ vs) input last a b c (between, first, rest) h =
-    (between, first, one_more named options xs vs input last between b c rest h)
-one_more named options [] (v ∷ vs) input last a b c e h = absurd e
-one_more named options (x ∷ xs) [] input last a b c e h = absurd e
 
 -- one reader more
 one_more_read :
@@ -53,14 +43,13 @@ module _ {S T E : Type 0} (i : ℕ) (all now : List S) (l : i < length all) (n :
   left_later y = drop-set-lt (i + 1) now i y (omega arith) ∙ (let both = from_here y in cc)
 
   pub one_put :
-      (named : Bool) (options : Options) (input : S → Input) (d : S) (a b c : List ℕ) →
-      AddsSources named options (map input (take i all)) were a b →
-      AddsSource named options (input (get_or now i d)) last b c →
-      AddsSources named options (map input (take (i + 1) all)) are a c
-  one_put named options input d a b c earlier one =
+      (Is : Input → Outcome → List ℕ → Type 0) (input : S → Input) (d : S) (a b c : List ℕ) →
+      Pushes (AreTexts Is (map input (take i all)) were) a b → Pushes (Is (input (get_or now i d)) last) b c →
+      Pushes (AreTexts Is (map input (take (i + 1) all)) are) a c
+  one_put Is input d a b c earlier one =
       let more = map-append input (take i all) (get_or all i d ∷ []) in
       rw (take_more all i d l, more, ← here d, pushed r were are last e p)
-      (one_more named options (map input (take i all)) were (input (get_or now i d)) last a b c earlier one)
+      (one_more Is (map input (take i all)) were (input (get_or now i d)) last a b c earlier one)
 
   pub one_read :
       (rest : S → Option (List ℕ)) (y : S) → AreReadToEnds were (map rest (take i now)) → IsReadToEnd last (rest y) →

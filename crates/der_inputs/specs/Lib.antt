@@ -1,4 +1,7 @@
-pub mod Documents
-pub mod Inputs
+pub mod Findings
+pub mod Texts
+pub mod Json
+pub mod Forms
 pub mod Outcomes
+pub mod Inputs
 pub mod Parts

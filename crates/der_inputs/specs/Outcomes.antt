@@ -1,21 +1,18 @@
 -- What came of inputs, and the exit status after them.
-use Rattle.std.specs.Prelude.{◌≡◌, ℕ, List, fold, max}
+use Rattle.std.specs.Prelude.{ℕ, List, fold, max}
 use Rattle.der_lines.specs.declared.document.Verdict.{Verdict}
 use Rattle.der_lines.specs.declared.document.Verdict.TheVariants.{AllRead, Refused}
 use Rattle.der_inputs.specs.declared.outcome.Outcome.{Outcome}
 use Rattle.der_inputs.specs.declared.outcome.Outcome.TheVariants.{Lacking, Unread, Written}
 
--- what is put, and the verdict to which it comes
-abbrev pub Writes : (Verdict → List ℕ → List ℕ → Type 0) → Outcome → List ℕ → List ℕ → Type 0
-Writes Put (Written verdict) before after = Put verdict before after
-Writes Put (Lacking why) before after = ⊥
-Writes Put Unread before after = ⊥
+-- where one and then another were read, all was
+abbrev pub both_read : Verdict → Verdict → Verdict
+both_read AllRead verdict = verdict
+both_read Refused verdict = Refused
 
--- nothing is put, for a reason that is told elsewhere
-abbrev pub WritesNothing : Outcome → List ℕ → List ℕ → Type 0
-WritesNothing (Written verdict) before after = ⊥
-WritesNothing (Lacking why) before after = after ≡ before
-WritesNothing Unread before after = ⊥
+-- so of any number
+abbrev pub all_read : List Verdict → Verdict
+all_read verdicts = fold both_read AllRead verdicts
 
 -- the exit status that an input asks for: 0 where all that is wanted was written, 1 where some is rejected or not
 -- there, 2 where it can't be read

@@ -1,22 +1,29 @@
--- What is put in a manner, and of one block. Private contracts alone name these.
-use Rattle.std.specs.Prelude.{ℕ, List, Option, None}
+-- What a call pushes, what it found, and what its `Show` wants. Private contracts alone name these.
+use Rattle.std.specs.Prelude.{◌≡◌, ℕ, List, ◌++◌, Option, Result, Vec}
+use Rattle.std.specs.Global.{Global}
 use Rattle.std.specs.Option.{option_map}
-use Rattle.der_inputs.specs.Documents.{PutsAs}
-use Rattle.der_inputs.specs.Inputs.{AddsContents, AddsOctets, AddsThese, OutputRelation}
-use Rattle.der_inputs.specs.Outcomes.{Writes}
-use Rattle.der_inputs.specs.declared.outcome.Outcome.{Outcome}
-use Rattle.der_inputs.specs.declared.manner.Manner.{Manner}
-use Rattle.der_options.specs.declared.options.Task.{Task}
-use Rattle.der_options.specs.declared.options.Task.TheVariants.{Contents, Extract}
+use Rattle.std.specs.Result.{result_ok}
+use Rattle.der_inputs.specs.Findings.{Finding}
+use Rattle.der_inputs.specs.Inputs.{Wanted}
+use Rattle.der_inputs.specs.declared.found.Found.{Found}
+use Rattle.der_inputs.specs.declared.show.Show.{Show}
 
--- what is put in this manner
-abbrev pub PutsIn : Manner → OutputRelation
-PutsIn manner =
-    PutsAs manner.is_json manner.is_html manner.is_strict manner.style.most_depth
-    (option_map (λ name. name.now) manner.file)
+-- a text of some kind was pushed
+abbrev pub Pushes : (List ℕ → Type 0) → List ℕ → List ℕ → Type 0
+Pushes Is before after = (text : List ℕ) × (after ≡ before ++ text) × Is text
 
--- what the task wants of a block, or of none
-abbrev pub AddsPart : Manner → Task → Option (List ℕ) → Outcome → List ℕ → List ℕ → Type 0
-AddsPart manner (Extract offset) octets = AddsThese AddsOctets octets
-AddsPart manner (Contents offset) octets = AddsThese AddsContents octets
-AddsPart manner _ octets = Writes (PutsIn manner None octets)
+-- the octets, where there are some
+abbrev pub octets_in : {E : Type 0} → Result (Vec ℕ Global) E → Option (List ℕ)
+octets_in octets = option_map (λ v. v.items) (result_ok octets)
+
+abbrev pub finding_in : Found → Finding
+finding_in found = record { label = option_map (λ v. v.items) found.label; octets = octets_in found.octets }
+
+abbrev pub wanted_of : Show → Wanted
+wanted_of show = record {
+  task = show.task;
+  named = show.is_named;
+  form = show.form;
+  strict = show.is_strict;
+  most_depth = show.style.most_depth;
+}

@@ -5,15 +5,16 @@
 //! `der_forms`, told apart by its octets; a dump has the lines of `der_lines`, a line of JSON is that of `der_json`, and
 //! a page that of `der_html`. What comes of an input is an [`Outcome`], and [`status`] is the exit status after a run.
 //!
+//! Two steps do it: `found` lists what is found in an input, and `show` pushes the text of each.
+//!
 //! It opens nothing by itself: `der_dump` gives it files and standard input, and tests give it octets.
 #![tactic(auto)]
 
-mod answers;
-mod json_lines;
-mod manner;
+mod found;
+mod json;
 mod outcome;
+mod show;
 mod sources;
-mod tasks;
 
 pub use outcome::Outcome;
 pub use sources::{Source, run, status};

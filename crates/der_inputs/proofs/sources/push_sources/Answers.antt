@@ -1,5 +1,6 @@
 use Rattle.std.proofs.Common.{sym, ◌∙◌}
-use Rattle.der_inputs.specs.Inputs.{input_of}
+use Rattle.der_inputs.specs.Inputs.{IsInputText, input_of}
+use Rattle.der_inputs.specs.Parts.{wanted_of}
 use Rattle.der_inputs.proofs.Readers.{left_later, one_put, one_read}
 use Rattle.der_inputs.proofs.sources.push_sources.Goals as goal
 
@@ -17,10 +18,10 @@ loop-source-preserved g c =
     let e = sym c.is_err.ensures.value ∙ c.if-is_err.false in
     let p = c.push.ensures.items in
     record {
-      put = one_put i all now l n left c.push.result were are last e p c.args.is_named c.args.options.now
+      pushed = one_put i all now l n left c.push.result were are last e p (IsInputText (wanted_of c.args.show.now))
           (λ source. input_of source.name.now (g.R.Read.remaining source.reader)) c.source-item.result
-          c.args.out.now.items c.loop-source.out.items c.push_source.new.out.items c.loop-source.invariant.put
-          c.in_ok-outcome.ensures.put;
+          c.args.out.now.items c.loop-source.out.items c.push_source.new.out.items c.loop-source.invariant.pushed
+          c.in_ok-outcome.ensures.pushed;
       read = one_read i all now l n left c.push.result were are last e p (λ source. g.R.Read.remaining source.reader)
           c.push_source.new.source c.loop-source.invariant.read c.in_ok-outcome.ensures.read;
       left = left_later i all now l n left c.push.result were are last e p c.push_source.new.source;

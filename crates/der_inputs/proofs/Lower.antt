@@ -1,0 +1,229 @@
+-- What the crates below push after a text, they push after none.
+use Rattle.std.proofs.Common.{◌≡◌, ℕ, List, [], ◌∷◌, ◌++◌, Bool, true, false, ap, inl, inr, refl, sym, subst, ◌∙◌}
+use Rattle.std.proofs.Common.{append_assoc, append-nil}
+use Rattle.std.specs.Prelude.{Option, None, Some, codes, unwrap_or}
+use Rattle.std.specs.List.{flat_map}
+use Rattle.serde_json.specs.Data.{Members, array, member, object}
+use Rattle.serde_json.specs.Written.{compact_text}
+use Rattle.der_html.specs.Page.{Shows, written}
+use Rattle.der_io.specs.Characters.{equals_sign, exclamation_mark}
+use Rattle.der_io.specs.Escaped.{escaped}
+use Rattle.der_io.specs.Lines.{lines_of}
+use Rattle.der_inputs.specs.Findings.{Finding}
+use Rattle.der_inputs.specs.Forms.{IsDump, IsFoundDump, IsName, IsSection, IsTitle}
+use Rattle.der_inputs.specs.declared.show.Form.TheVariants.{Page}
+use Rattle.der_inputs.proofs.Texts.{after_two, both_pushed, pushed_as}
+use Rattle.der_inputs.specs.Json.{IsOctetsJson, is_all_read}
+use Rattle.der_inputs.specs.Parts.{Pushes}
+use Rattle.der_json.specs.Json.{AddsEncodings, AddsFirst, AddsHeaderFault, AddsJsonOf, AddsMarks, AddsStrictEncodings}
+use Rattle.der_json.specs.Json.{AddsStrictJsonOf, ToldFault, fault_json, items_of, named_fault, refusal_json}
+use Rattle.der_lines.specs.Dump.{AddsDumpOf, AddsFaultLines, AddsFaultOf, AddsLine, AddsStrictDumpOf}
+use Rattle.der_lines.specs.Dump.{AddsBlocksOf, IsNote}
+use Rattle.der_lines.specs.declared.document.Verdict.{Verdict}
+use Rattle.der_lines.specs.declared.document.Verdict.TheVariants.{AllRead, Refused}
+
+-- so of a relation, whatever text stands before
+abbrev Stands : (List ℕ → List ℕ → Type 0) → List ℕ → List ℕ → Type 0
+Stands Adds a b = (text : List ℕ) × (b ≡ a ++ text) × ((z : List ℕ) → Adds z (z ++ text))
+
+-- lines
+pub line_pushed : (Is : List ℕ → Type 0) (a b : List ℕ) → AddsLine Is a b → Pushes (AddsLine Is []) a b
+line_pushed Is a b (line, e, is) = (line ++ 10 ∷ [], e, (line, refl, is))
+
+blocks_pushed :
+    (most : Option ℕ) (octets faults a b : List ℕ) → AddsBlocksOf most octets faults a b →
+    Pushes (AddsBlocksOf most octets faults []) a b
+blocks_pushed most octets faults a b (fronts, are, (text, e, dump)) = (text, e, (fronts, are, (text, refl, dump)))
+
+fault_pushed :
+    (most : Option ℕ) (octets a b : List ℕ) → AddsFaultOf most octets a b → Pushes (AddsFaultOf most octets []) a b
+fault_pushed most octets a b (offset, later, shown, (fronts, are, (text, e, dump)), (line, f, is)) =
+    let last = line ++ 10 ∷ [] in (
+      text ++ last,
+      after_two a shown b text last e f,
+      (offset, later, text, (fronts, are, (text, refl, dump)), (line, refl, is)),
+    )
+
+pub dump_pushed :
+    (most : Option ℕ) (octets : List ℕ) (verdict : Verdict) (a b : List ℕ) → AddsDumpOf most octets verdict a b →
+    Pushes (AddsDumpOf most octets verdict []) a b
+dump_pushed most octets AllRead a b (some, blocks) =
+    pushed_as _ _ a b (λ text is. (some, is)) (blocks_pushed most octets [] a b blocks)
+dump_pushed most octets Refused a b (inl fault) =
+    pushed_as _ _ a b (λ text is. inl is) (fault_pushed most octets a b fault)
+dump_pushed most octets Refused a b (inr (none, line)) =
+    pushed_as _ _ a b (λ text is. inr (none, is)) (line_pushed _ a b line)
+
+fault_lines : (offsets a b : List ℕ) → AddsFaultLines offsets a b → Stands (AddsFaultLines offsets) a b
+fault_lines [] a b e = ([], e ∙ sym (append-nil a), λ z. append-nil z)
+fault_lines (offset ∷ offsets) a b (first, (line, e, is), later) =
+    let own = line ++ 10 ∷ [] in
+    let rest = fault_lines offsets first b later in (
+      own ++ rest.0,
+      after_two a first b own rest.0 e rest.1,
+      λ z. (
+        z ++ own,
+        (line, refl, is),
+        subst (AddsFaultLines offsets (z ++ own)) (append_assoc z own rest.0) (rest.2 (z ++ own)),
+      ),
+    )
+
+pub strict_dump_pushed :
+    (most : Option ℕ) (octets : List ℕ) (verdict : Verdict) (a b : List ℕ) →
+    AddsStrictDumpOf most octets verdict a b → Pushes (AddsStrictDumpOf most octets verdict []) a b
+strict_dump_pushed most octets verdict a b (inl (some, (fronts, faults, shown, are, (text, e, dump), lines, is))) =
+    let last = fault_lines _ shown b lines in (
+      text ++ last.0,
+      after_two a shown b text last.0 e last.1,
+      inl (some, (fronts, faults, text, are, (text, refl, dump), last.2 text, is)),
+    )
+strict_dump_pushed most octets verdict a b (inr (none, refused, line)) =
+    pushed_as _ _ a b (λ text is. inr (none, refused, is)) (line_pushed _ a b line)
+
+-- JSON
+first_fault :
+    (fault : Option ToldFault) (origin : Members) (right : Bool) (a b : List ℕ) → AddsFirst fault origin right a b →
+    Stands (AddsFirst fault origin right) a b
+first_fault None origin right a b (e, same) = ([], same ∙ sym (append-nil a), λ z. (e, append-nil z))
+first_fault (Some fault) origin right a b (e, line) =
+    (compact_text (refusal_json fault origin) ++ 10 ∷ [], line, λ z. (e, refl))
+
+encodings_pushed :
+    (octets : List ℕ) (origin : Members) (right : Bool) (a b : List ℕ) → AddsEncodings octets origin right a b →
+    Pushes (AddsEncodings octets origin right []) a b
+encodings_pushed octets origin right a b h =
+    let own = compact_text h.json ++ 10 ∷ [] in
+    let last = first_fault h.first origin right h.between b h.fault in (
+      own ++ last.0,
+      after_two a h.between b own last.0 h.line last.1,
+      record {
+        json = h.json;
+        first = h.first;
+        between = own;
+        is_document = h.is_document;
+        line = refl;
+        fault = last.2 own;
+      },
+    )
+
+header_fault_pushed :
+    (octets : List ℕ) (origin : Members) (a b : List ℕ) → AddsHeaderFault octets origin a b →
+    Pushes (AddsHeaderFault octets origin []) a b
+header_fault_pushed octets origin a b h = (
+  compact_text (refusal_json (named_fault h.offset h.fault h.words) origin) ++ 10 ∷ [],
+  h.line,
+  record { fault = h.fault; offset = h.offset; words = h.words; first = h.first; line = refl },
+)
+
+pub json_pushed :
+    (octets : List ℕ) (origin : Members) (right : Bool) (a b : List ℕ) → AddsJsonOf octets origin right a b →
+    Pushes (AddsJsonOf octets origin right []) a b
+json_pushed octets origin true a b h = encodings_pushed octets origin true a b h
+json_pushed octets origin false a b (inl h) =
+    pushed_as _ _ a b (λ text is. inl is) (encodings_pushed octets origin false a b h)
+json_pushed octets origin false a b (inr h) =
+    pushed_as _ _ a b (λ text is. inr is) (header_fault_pushed octets origin a b h)
+
+marks_pushed :
+    (marks : List ToldFault) (origin : Members) (right : Bool) (a b : List ℕ) → AddsMarks marks origin right a b →
+    Stands (AddsMarks marks origin right) a b
+marks_pushed [] origin right a b (e, same) = ([], same ∙ sym (append-nil a), λ z. (e, append-nil z))
+marks_pushed (mark ∷ marks) origin right a b (e, line) =
+    (compact_text (object (member (codes "not_der") (array (items_of fault_json (mark ∷ marks))) origin)) ++ 10 ∷ [], line, λ z. (e, refl))
+
+strict_encodings_pushed :
+    (octets : List ℕ) (origin : Members) (right : Bool) (a b : List ℕ) → AddsStrictEncodings octets origin right a b →
+    Pushes (AddsStrictEncodings octets origin right []) a b
+strict_encodings_pushed octets origin right a b h =
+    let own = compact_text h.json ++ 10 ∷ [] in
+    let list = marks_pushed h.marks origin h.is_der h.blocks h.list h.marked in
+    let last = first_fault h.first origin h.is_right h.list b h.fault in
+    let shown = after_two a h.blocks h.list own list.0 h.line list.1 in (
+      (own ++ list.0) ++ last.0,
+      after_two a h.list b (own ++ list.0) last.0 shown last.1,
+      record {
+        json = h.json;
+        marks = h.marks;
+        first = h.first;
+        blocks = own;
+        list = own ++ list.0;
+        is_der = h.is_der;
+        is_right = h.is_right;
+        is_document = h.is_document;
+        line = refl;
+        marked = list.2 own;
+        fault = last.2 (own ++ list.0);
+        right_is = h.right_is;
+      },
+    )
+
+pub strict_json_pushed :
+    (octets : List ℕ) (origin : Members) (right : Bool) (a b : List ℕ) → AddsStrictJsonOf octets origin right a b →
+    Pushes (AddsStrictJsonOf octets origin right []) a b
+strict_json_pushed octets origin true a b h = strict_encodings_pushed octets origin true a b h
+strict_json_pushed octets origin false a b (inl h) =
+    pushed_as _ _ a b (λ text is. inl is) (strict_encodings_pushed octets origin false a b h)
+strict_json_pushed octets origin false a b (inr h) =
+    pushed_as _ _ a b (λ text is. inr is) (header_fault_pushed octets origin a b h)
+
+-- a page
+pub shows_pushed : (lines : List (List ℕ)) (octets a b : List ℕ) → Shows lines octets a b → Pushes (Shows lines octets []) a b
+shows_pushed lines octets a b h = (
+  flat_map written h.pieces,
+  h.after_is,
+  record { pieces = h.pieces; lines_are = h.lines_are; octets_are = h.octets_are; after_is = refl },
+)
+
+-- the line of a name
+pub title_pushed :
+    (name other a b : List ℕ) → other ≡ name → AddsLine (IsNote equals_sign (escaped other)) a b →
+    Pushes (IsTitle name) a b
+title_pushed name other a b e h =
+    subst (λ z. Pushes (IsTitle z) a b) e (line_pushed (IsNote equals_sign (escaped other)) a b h)
+
+-- a section of a page, whose lines are a dump that was pushed after nothing
+pub section_pushed :
+    (strict : Bool) (most : Option ℕ) (finding : Finding) (verdict : Verdict) (none dump lines octets a b : List ℕ) →
+    none ≡ [] → Pushes (IsDump strict most finding verdict) none dump → lines ≡ dump →
+    octets ≡ unwrap_or finding.octets [] → Shows (lines_of lines) octets a b →
+    Pushes (IsSection strict most finding verdict) a b
+section_pushed strict most finding verdict none dump lines octets a b n (text, e, is) same these shown =
+    let whole : dump ≡ text = e ∙ ap (λ z. z ++ text) n in
+    let at : Shows (lines_of dump) (unwrap_or finding.octets []) a b =
+    subst (λ z. Shows (lines_of z) (unwrap_or finding.octets []) a b) same
+    (subst (λ z. Shows (lines_of lines) z a b) these shown) in
+    pushed_as _ (IsSection strict most finding verdict) a b
+    (λ own h. (dump, subst (IsDump strict most finding verdict) (sym whole) is, h)) (shows_pushed (lines_of dump) _ a b at)
+
+-- the line of a name on a page
+pub page_name_pushed :
+    (name none line lines octets a b : List ℕ) → none ≡ [] → Pushes (IsTitle name) none line → lines ≡ line →
+    octets ≡ [] → Shows (lines_of lines) octets a b → Pushes (IsName Page name) a b
+page_name_pushed name none line lines octets a b n (text, e, is) same these shown =
+    let whole : line ≡ text = e ∙ ap (λ z. z ++ text) n in
+    let at : Shows (lines_of line) [] a b =
+    subst (λ z. Shows (lines_of z) [] a b) same (subst (λ z. Shows (lines_of lines) z a b) these shown) in
+    pushed_as _ (IsName Page name) a b (λ own h. (line, subst (IsTitle name) (sym whole) is, h))
+    (shows_pushed (lines_of line) [] a b at)
+
+-- the line of why there are no octets
+pub refusal_pushed :
+    (strict : Bool) (most : Option ℕ) (why : List ℕ) (verdict : Verdict) (a b : List ℕ) →
+    (verdict ≡ Refused) × AddsLine (IsNote exclamation_mark why) a b →
+    Pushes (IsFoundDump strict most None verdict) a b
+refusal_pushed strict most why verdict a b (refused, line) =
+    pushed_as _ (IsFoundDump strict most None verdict) a b (λ text is. (refused, (why, is)))
+    (line_pushed (IsNote exclamation_mark why) a b line)
+
+-- the lines of octets, strictly or not
+pub read_pushed :
+    (octets : List ℕ) (origin : Members) (right : Bool) (verdict : Verdict) (a b : List ℕ) → is_all_read verdict ≡ right →
+    AddsJsonOf octets origin right a b → Pushes (IsOctetsJson false octets origin verdict) a b
+read_pushed octets origin right verdict a b same h =
+    json_pushed octets origin (is_all_read verdict) a b (subst (λ z. AddsJsonOf octets origin z a b) (sym same) h)
+
+pub strictly_pushed :
+    (octets : List ℕ) (origin : Members) (right : Bool) (verdict : Verdict) (a b : List ℕ) → is_all_read verdict ≡ right →
+    AddsStrictJsonOf octets origin right a b → Pushes (IsOctetsJson true octets origin verdict) a b
+strictly_pushed octets origin right verdict a b same h =
+    strict_json_pushed octets origin (is_all_read verdict) a b (subst (λ z. AddsStrictJsonOf octets origin z a b) (sym same) h)

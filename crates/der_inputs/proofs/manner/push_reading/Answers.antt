@@ -1,8 +1,0 @@
-use Rattle.std.proofs.Common.{rules}
-use Rattle.der_inputs.proofs.manner.push_reading.Goals as goal
-
-pub returns-then-manner : goal.returns-then-manner
-returns-then-manner c = search rules
-
-pub returns-else-manner : goal.returns-else-manner
-returns-else-manner c = search rules

@@ -1,0 +1,15 @@
+use Rattle.std.proofs.Common.{◌≡◌, List, map, take}
+use Rattle.std.specs.Option.{option_map}
+use Rattle.der_inputs.specs.Inputs.{IsFindingText}
+use Rattle.der_inputs.specs.Outcomes.{all_read}
+use Rattle.der_inputs.specs.Parts.{Pushes, finding_in, wanted_of}
+use Rattle.der_inputs.specs.Texts.{AreTexts}
+use Rattle.der_lines.specs.declared.document.Verdict.{Verdict}
+use Rattle.der_inputs.proofs.show.Show.push_all.Given as goal
+
+-- the texts of those before this one are pushed
+abbrev pub invariant-loop-one : goal.invariant-loop-one
+invariant-loop-one l =
+    (verdicts : List Verdict) × (l.verdict ≡ all_read verdicts)
+    × Pushes (AreTexts (IsFindingText (wanted_of l.self) (option_map (λ name. name.now) l.file))
+    (map finding_in (take l.one-index l.found)) verdicts) l.fn.out.items l.out.items

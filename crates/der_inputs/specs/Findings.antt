@@ -1,0 +1,54 @@
+-- What is found in an input: its documents and what is wrong with its form, in order; and the block that begins at an
+-- offset.
+use Rattle.std.specs.Prelude.{◌≡◌, ◌⊎◌, ℕ, List, [], ◌∷◌, ◌++◌, Option, Some, None}
+use Rattle.std.specs.List.{flat_map}
+use Rattle.asn1_headers.specs.Front.{IsHeader}
+use Rattle.der_forms.specs.Forms.{InputForm, form_is, objects, odd_digits, other_text, plain_octets, spelled}
+use Rattle.der_forms.specs.Objects.{Object, document_of, objects_of}
+use Rattle.der_forms.specs.declared.objects.Ending.{Ending}
+use Rattle.der_forms.specs.declared.objects.Ending.TheVariants.{Closed}
+use Rattle.der_lines.specs.Seek.{BeginsAt, HasNoBlockAt}
+
+-- octets under their label, if they have one; or that there are none to be read
+pub record Finding : Type 0 where
+  pub label : Option (List ℕ)
+  pub octets : Option (List ℕ)
+
+-- what has no label
+abbrev pub unlabelled : Option (List ℕ) → Finding
+unlabelled octets = record { label = None; octets = octets }
+
+-- what is wrong with the end of an object of PEM, if anything is
+abbrev pub of_ending : Ending → List Finding
+of_ending Closed = []
+of_ending _ = unlabelled None ∷ []
+
+-- an object: its octets under its label, and then its end
+abbrev pub of_object : Object → List Finding
+of_object object = record { label = Some object.label; octets = object.octets } ∷ of_ending object.ending
+
+-- what an input has in this form
+abbrev pub in_form : InputForm → List ℕ → List Finding
+in_form objects input = flat_map of_object (objects_of input)
+in_form (spelled octets) input = unlabelled (Some octets) ∷ []
+in_form odd_digits input = unlabelled None ∷ []
+in_form other_text input = unlabelled None ∷ []
+in_form plain_octets input = unlabelled (Some input) ∷ []
+
+-- so in its own
+abbrev pub findings_of : List ℕ → List Finding
+findings_of input = in_form (form_is input) input
+
+-- the block that begins at the offset in the document of an input, the first one of PEM; or that none does
+abbrev pub IsBlockAt : ℕ → List ℕ → Option (List ℕ) → Type 0
+IsBlockAt offset input (Some block) =
+    (document : List ℕ) × (document_of input ≡ Some document) × BeginsAt document offset block
+IsBlockAt offset input None =
+    (document_of input ≡ None)
+    ⊎ ((document : List ℕ) × (document_of input ≡ Some document) × HasNoBlockAt document offset)
+
+-- so of its contents octets, which are those behind its header
+abbrev pub IsContentsAt : ℕ → List ℕ → Option (List ℕ) → Type 0
+IsContentsAt offset input (Some contents) =
+    (header : List ℕ) × IsHeader header × IsBlockAt offset input (Some (header ++ contents))
+IsContentsAt offset input None = IsBlockAt offset input None

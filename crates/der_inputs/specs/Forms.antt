@@ -1,0 +1,69 @@
+-- What is written of a finding: as lines, as JSON, or on a page.
+use Rattle.std.specs.Prelude.{◌≡◌, ℕ, Bool, true, false, List, [], ◌++◌, Option, Some, None, unwrap_or}
+use Rattle.der_html.specs.Page.{Shows}
+use Rattle.der_io.specs.Characters.{equals_sign, exclamation_mark}
+use Rattle.der_io.specs.Escaped.{escaped}
+use Rattle.der_io.specs.Lines.{lines_of}
+use Rattle.der_inputs.specs.Findings.{Finding}
+use Rattle.der_inputs.specs.Json.{IsJson}
+use Rattle.der_inputs.specs.declared.show.Form.{Form}
+use Rattle.der_inputs.specs.declared.show.Form.TheVariants.{Json, Lines, Page}
+use Rattle.der_lines.specs.Dump.{AddsDumpOf, AddsLine, AddsStrictDumpOf, IsNote}
+use Rattle.der_lines.specs.declared.document.Verdict.{Verdict}
+use Rattle.der_lines.specs.declared.document.Verdict.TheVariants.{Refused}
+
+-- the line `=` and a name or a label, escaped
+abbrev pub IsTitle : List ℕ → List ℕ → Type 0
+IsTitle name text = AddsLine (IsNote equals_sign (escaped name)) [] text
+
+-- so of a label, where there is one
+abbrev pub IsLabel : Option (List ℕ) → List ℕ → Type 0
+IsLabel None text = text ≡ []
+IsLabel (Some label) text = IsTitle label text
+
+-- the dump of octets, read strictly or not, with no more than so many blocks around a block, where there is a most
+abbrev pub IsOctetsDump : Bool → Option ℕ → List ℕ → Verdict → List ℕ → Type 0
+IsOctetsDump false most octets verdict text = AddsDumpOf most octets verdict [] text
+IsOctetsDump true most octets verdict text = AddsStrictDumpOf most octets verdict [] text
+
+-- so, or a line `!` in words where there are none to be read
+abbrev pub IsFoundDump : Bool → Option ℕ → Option (List ℕ) → Verdict → List ℕ → Type 0
+IsFoundDump strict most (Some octets) verdict text = IsOctetsDump strict most octets verdict text
+IsFoundDump strict most None verdict text =
+    (verdict ≡ Refused) × ((why : List ℕ) × AddsLine (IsNote exclamation_mark why) [] text)
+
+-- a dump under the line of its label
+abbrev pub IsDump : Bool → Option ℕ → Finding → Verdict → List ℕ → Type 0
+IsDump strict most finding verdict text =
+    (title dump : List ℕ) × (text ≡ title ++ dump) × IsLabel finding.label title
+    × IsFoundDump strict most finding.octets verdict dump
+
+-- a section of a page: such a dump, and the octets
+abbrev pub IsSection : Bool → Option ℕ → Finding → Verdict → List ℕ → Type 0
+IsSection strict most finding verdict text =
+    (dump : List ℕ) × IsDump strict most finding verdict dump
+    × Shows (lines_of dump) (unwrap_or finding.octets []) [] text
+
+-- what is written in this form of a finding in the file of this name, if it is told: as JSON, which has all blocks, on
+-- a page, or as lines
+abbrev pub IsText : Form → Bool → Option ℕ → Option (List ℕ) → Finding → Verdict → List ℕ → Type 0
+IsText Lines strict most file = IsDump strict most
+IsText Json strict most file = IsJson strict file
+IsText Page strict most file = IsSection strict most
+
+-- the line of a name above dumps, on a page or not: JSON tells it in each line
+abbrev pub IsName : Form → List ℕ → List ℕ → Type 0
+IsName Lines name text = IsTitle name text
+IsName Json name text = text ≡ []
+IsName Page name text = (line : List ℕ) × IsTitle name line × Shows (lines_of line) [] [] text
+
+-- what is written of these texts: they, and around the sections of a page its beginning and its end
+abbrev pub IsFramed : Form → List ℕ → List ℕ → Type 0
+IsFramed Page texts output = (beginning end : List ℕ) × (output ≡ beginning ++ (texts ++ end))
+IsFramed _ texts output = output ≡ texts
+
+-- JSON where it is wanted, or else a page
+abbrev pub form_by : Bool → Bool → Form
+form_by true html = Json
+form_by false true = Page
+form_by false false = Lines

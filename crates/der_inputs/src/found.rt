@@ -1,0 +1,171 @@
+// What is found in an input.
+ghost use Rattle.std.specs.Prelude.{◌≡◌, ◌++◌, ◌∷◌, [], if◌then◌else◌, is_some, IfOk, OnOk, None, map};
+ghost use Rattle.std.specs.List.{flat_map};
+ghost use Rattle.der_forms.specs.Objects.{objects_of as objects_are};
+ghost use Rattle.der_forms.specs.Shown.{shown_object};
+ghost use Rattle.der_inputs.specs.Findings.{IsBlockAt, IsContentsAt, findings_of, of_object, unlabelled};
+ghost use Rattle.der_inputs.specs.Parts.{finding_in, octets_in};
+ghost use Rattle.simple_asn1.specs.Places.{IsEncoding};
+ghost use Rattle.der_lines.specs.Headers.{StandsBehindHeader};
+
+use der_forms::{
+    Form, FormFault, Lines, PemFault, PemObject, document_of, fault_of_end, form_of, next_object,
+};
+use der_lines::{behind_header, block_at};
+use std::alloc::{AllocError, Global};
+
+// Octets under their label, if they have one, or why there are none to be read.
+#[derive(Drop)]
+pub struct Found {
+    pub label: Option<Vec<u8>>,
+    pub octets: Result<Vec<u8>, String>,
+}
+
+// Each document of an input and what is wrong with its form, in order.
+pub fn documents_of(alloc: Global, input: Vec<u8>) -> Result<Vec<Found>, AllocError>
+    ensures { IfOk result (λ found. map finding_in found.items ≡ findings_of input.items) }
+{
+    match form_of(alloc, &input)? {
+        Form::Pem => objects_of(alloc, &input),
+        Form::Spelled(octets) => alone(alloc, Ok(octets)),
+        Form::OddDigits => fault_alone(alloc, &FormFault::OddDigits),
+        Form::Text => fault_alone(alloc, &FormFault::Text),
+        Form::Der => alone(alloc, Ok(input)),
+    }
+}
+
+// What has no label, alone.
+pub fn alone(alloc: Global, octets: Result<Vec<u8>, String>) -> Result<Vec<Found>, AllocError>
+    ensures { IfOk result (λ found. map finding_in found.items ≡ unlabelled (octets_in octets) ∷ []) }
+{
+    let mut found = Vec::new(alloc);
+    found.push(Found {
+        label: None,
+        octets,
+    })?;
+    Ok(found)
+}
+
+// Why an input has no document.
+fn fault_alone(alloc: Global, fault: &FormFault) -> Result<Vec<Found>, AllocError>
+    ensures { IfOk result (λ found. map finding_in found.items ≡ unlabelled None ∷ []) }
+{
+    let why = format!(in alloc; "{fault}")?;
+    alone(alloc, Err(why))
+}
+
+fn objects_of(alloc: Global, input: &[u8]) -> Result<Vec<Found>, AllocError>
+    ensures { IfOk result (λ found. map finding_in found.items ≡ flat_map of_object (objects_are input.now)) }
+{
+    let mut found = Vec::new(alloc);
+    let mut lines = Lines::of(input);
+    while let Some((object, after)) = next_object(alloc, lines)? {
+        push_object(alloc, object, after.before, &mut found)?;
+        lines = after;
+    }
+    Ok(found)
+}
+
+// Pushes an object, and what is wrong with its end, up to which so many lines were read.
+fn push_object(
+    alloc: Global,
+    object: PemObject<'_>,
+    last: usize,
+    found: &mut Vec<Found>,
+) -> Result<(), AllocError>
+    ensures { OnOk result (map finding_in found.new.items
+        ≡ map finding_in found.old.items ++ of_object (shown_object object.entry)) }
+{
+    let bad_end = fault_of_end(&object, last);
+    let label = copy_of(alloc, object.label)?;
+    let octets = octets_of(alloc, object.octets)?;
+    found.push(Found {
+        label: Some(label),
+        octets,
+    })?;
+    push_end(alloc, bad_end, found)
+}
+
+// Pushes what is wrong with the end of an object, and in which line, if anything is.
+fn push_end(
+    alloc: Global,
+    bad_end: Option<(usize, &str)>,
+    found: &mut Vec<Found>,
+) -> Result<(), AllocError>
+    ensures { OnOk result (map finding_in found.new.items ≡ map finding_in found.old.items
+        ++ (if is_some bad_end.entry then unlabelled None ∷ [] else [])) }
+{
+    if let Some((line, what)) = bad_end {
+        found.push(Found {
+            label: None,
+            octets: Err(format!(in alloc; "line {line}: {what}")?),
+        })?;
+    }
+    Ok(())
+}
+
+// The octets of an object, or why there are none.
+fn octets_of(
+    alloc: Global,
+    octets: Result<Vec<u8>, PemFault>,
+) -> Result<Result<Vec<u8>, String>, AllocError>
+    ensures { IfOk result (λ found. octets_in found ≡ octets_in octets) }
+{
+    match octets {
+        Ok(octets) => Ok(Ok(octets)),
+        Err(PemFault::Encrypted) => Ok(Err(String::from_str(alloc, "encrypted, not read")?)),
+        Err(PemFault::NoBase64(line)) => Ok(Err(format!(in alloc; "line {line}: invalid base64")?)),
+    }
+}
+
+// The block that begins at the offset in the document of an input, the first one of PEM, or why there is none.
+pub fn block_of(
+    alloc: Global,
+    input: Vec<u8>,
+    offset: usize,
+) -> Result<Result<Vec<u8>, String>, AllocError>
+    ensures { IfOk result (λ found. IsBlockAt offset input.items (octets_in found)) }
+{
+    let document = match document_of(alloc, input) {
+        Ok(document) => document,
+        Err(FormFault::OutOfMemory) => return Err(AllocError),
+        Err(fault) => return Ok(Err(format!(in alloc; "{fault}")?)),
+    };
+    match block_at(alloc, &document, offset)? {
+        Some(block) => Ok(Ok(copy_of(alloc, block)?)),
+        None => Ok(Err(format!(in alloc; "no block begins at offset {offset}")?)),
+    }
+}
+
+// The contents octets of that block.
+pub fn contents_of(
+    alloc: Global,
+    input: Vec<u8>,
+    offset: usize,
+) -> Result<Result<Vec<u8>, String>, AllocError>
+    ensures { IfOk result (λ found. IsContentsAt offset input.items (octets_in found)) }
+{
+    match block_of(alloc, input, offset)? {
+        Ok(block) => Ok(Ok(without_header(alloc, &block)?)),
+        Err(why) => Ok(Err(why)),
+    }
+}
+
+// The octets of an encoding that stand behind its header.
+fn without_header(alloc: Global, block: &[u8]) -> Result<Vec<u8>, AllocError>
+    requires { IsEncoding block.now }
+    ensures { IfOk result (λ contents. StandsBehindHeader block.now contents.items) }
+{
+    match behind_header(alloc, block)? {
+        Some(contents) => copy_of(alloc, contents),
+        None => unreachable!(),
+    }
+}
+
+fn copy_of(alloc: Global, octets: &[u8]) -> Result<Vec<u8>, AllocError>
+    ensures { IfOk result (λ copy. copy.items ≡ octets.now) }
+{
+    let mut copy = Vec::new(alloc);
+    copy.extend_from_slice(octets)?;
+    Ok(copy)
+}

@@ -1,0 +1,222 @@
+// How what is found is shown.
+ghost use Rattle.std.specs.Prelude.{◌≡◌, [], IfOk, OnOk, map, unwrap_or};
+ghost use Rattle.std.specs.Option.{option_map};
+ghost use Rattle.der_inputs.specs.Forms.{IsDump, IsFoundDump, IsFramed, IsLabel, IsName, IsOctetsDump, IsSection};
+ghost use Rattle.der_inputs.specs.Forms.{form_by};
+ghost use Rattle.der_inputs.specs.Inputs.{AreShown, IsFindingText, names_shown, wanted_by};
+ghost use Rattle.der_inputs.specs.Outcomes.{both_read};
+ghost use Rattle.der_inputs.specs.Parts.{Pushes, finding_in, octets_in, wanted_of};
+ghost use Rattle.der_inputs.specs.declared.show.Form.TheVariants.{Page as page_form};
+
+use crate::found::Found;
+use crate::outcome::Outcome;
+use der_html::{push_foot, push_head, push_section};
+use der_lines::{
+    Names, Style, Verdict, push_document, push_label, push_refusal, push_strict_document,
+};
+use der_options::{Options, Task};
+use std::alloc::{AllocError, Global};
+
+// What the output is.
+#[derive(Clone, Copy)]
+pub enum Form {
+    Lines,
+    Json,
+    Page,
+}
+
+// What is done with each input, and how what is found is shown.
+#[derive(Drop)]
+pub struct Show {
+    pub alloc: Global,
+    pub names: Names,
+    pub task: Task,
+    // the name of each input is told
+    pub is_named: bool,
+    pub form: Form,
+    pub is_strict: bool,
+    pub style: Style,
+}
+
+impl Show {
+    // As the options want it of so many inputs.
+    pub fn new(alloc: Global, options: &Options<'_>, count: usize) -> Result<Show, AllocError>
+        ensures { IfOk result (λ show. wanted_of show ≡ wanted_by options.now count) }
+    {
+        Ok(Show {
+            alloc,
+            names: Names::new(alloc)?,
+            task: options.task,
+            is_named: are_names_shown(options.task, count),
+            form: form_of(options.is_json, options.is_html),
+            is_strict: options.is_strict,
+            style: Style {
+                is_full: options.is_full,
+                is_flat: options.is_flat,
+                most_depth: options.most_depth,
+            },
+        })
+    }
+
+    // Pushes the text of each, one after another. JSON tells the name of the file.
+    pub fn push_all(
+        &self,
+        file: Option<&str>,
+        found: &[Found],
+        out: &mut Vec<u8>,
+    ) -> Result<Outcome, AllocError>
+        ensures { IfOk result (λ outcome. Pushes (AreShown (wanted_of self.now)
+            (option_map (λ name. name.now) file.entry) (map finding_in found.now) outcome)
+            out.old.items out.new.items) }
+    {
+        let mut verdict = Verdict::AllRead;
+        for one in found {
+            let read = self.push(file, one, out)?;
+            verdict = both(verdict, read);
+        }
+        Ok(Outcome::Written(verdict))
+    }
+
+    fn push(
+        &self,
+        file: Option<&str>,
+        found: &Found,
+        out: &mut Vec<u8>,
+    ) -> Result<Verdict, AllocError>
+        ensures { IfOk result (λ verdict. Pushes (IsFindingText (wanted_of self.now)
+            (option_map (λ name. name.now) file.entry) (finding_in found.now) verdict)
+            out.old.items out.new.items) }
+    {
+        match self.form {
+            Form::Lines => self.push_lines(found, out),
+            Form::Json => self.push_json(file, found, out),
+            Form::Page => self.push_on_page(found, out),
+        }
+    }
+
+    // Pushes a section of a page: a dump, and the octets.
+    fn push_on_page(&self, found: &Found, out: &mut Vec<u8>) -> Result<Verdict, AllocError>
+        ensures { IfOk result (λ verdict. Pushes (IsSection self.now.is_strict self.now.style.most_depth
+            (finding_in found.now) verdict) out.old.items out.new.items) }
+    {
+        let mut dump = Vec::new(self.alloc);
+        let verdict = self.push_lines(found, &mut dump)?;
+        push_section(self.alloc, &dump, octets_or_none(found), out)?;
+        Ok(verdict)
+    }
+
+    // Pushes a dump under the line of its label, if it has one.
+    fn push_lines(&self, found: &Found, out: &mut Vec<u8>) -> Result<Verdict, AllocError>
+        ensures { IfOk result (λ verdict. Pushes (IsDump self.now.is_strict self.now.style.most_depth
+            (finding_in found.now) verdict) out.old.items out.new.items) }
+    {
+        self.push_label_of(found, out)?;
+        self.push_dump(found, out)
+    }
+
+    fn push_label_of(&self, found: &Found, out: &mut Vec<u8>) -> Result<(), AllocError>
+        ensures { OnOk result (Pushes (IsLabel (finding_in found.now).label) out.old.items out.new.items) }
+    {
+        match &found.label {
+            Some(label) => push_label(self.alloc, label, out),
+            None => Ok(()),
+        }
+    }
+
+    fn push_dump(&self, found: &Found, out: &mut Vec<u8>) -> Result<Verdict, AllocError>
+        ensures { IfOk result (λ verdict. Pushes (IsFoundDump self.now.is_strict self.now.style.most_depth
+            (octets_in found.now.octets) verdict) out.old.items out.new.items) }
+    {
+        match &found.octets {
+            Ok(octets) => self.push_octets(octets, out),
+            Err(why) => push_refusal(why, out),
+        }
+    }
+
+    fn push_octets(&self, octets: &[u8], out: &mut Vec<u8>) -> Result<Verdict, AllocError>
+        ensures { IfOk result (λ verdict. Pushes (IsOctetsDump self.now.is_strict self.now.style.most_depth
+            octets.now verdict) out.old.items out.new.items) }
+    {
+        if self.is_strict {
+            push_strict_document(self.alloc, &self.names, self.style, octets, out)
+        } else {
+            push_document(self.alloc, &self.names, self.style, octets, out)
+        }
+    }
+
+    // Pushes the line of a name above dumps, on a page or not: JSON tells it in each line.
+    pub fn push_name(&self, name: &str, out: &mut Vec<u8>) -> Result<(), AllocError>
+        ensures { OnOk result (Pushes (IsName self.now.form name.now) out.old.items out.new.items) }
+    {
+        match self.form {
+            Form::Lines => push_label(self.alloc, name.as_bytes(), out),
+            Form::Json => Ok(()),
+            Form::Page => {
+                let mut line = Vec::new(self.alloc);
+                push_label(self.alloc, name.as_bytes(), &mut line)?;
+                push_section(self.alloc, &line, &[], out)
+            }
+        }
+    }
+
+    // What is written of all texts.
+    pub fn framed(&self, texts: Vec<u8>) -> Result<Vec<u8>, AllocError>
+        ensures { IfOk result (λ output. IsFramed self.now.form texts.items output.items) }
+    {
+        match self.form {
+            Form::Page => page_of(self.alloc, &texts),
+            _ => Ok(texts),
+        }
+    }
+}
+
+// A page with the sections.
+fn page_of(alloc: Global, sections: &[u8]) -> Result<Vec<u8>, AllocError>
+    ensures { IfOk result (λ page. IsFramed page_form sections.now page.items) }
+{
+    let mut page = Vec::new(alloc);
+    push_head(&mut page)?;
+    page.extend_from_slice(sections)?;
+    push_foot(&mut page)?;
+    Ok(page)
+}
+
+fn octets_or_none(found: &Found) -> &[u8]
+    ensures { result.now ≡ unwrap_or (octets_in found.now.octets) [] }
+{
+    match &found.octets {
+        Ok(octets) => octets,
+        Err(_) => &[],
+    }
+}
+
+fn both(a: Verdict, b: Verdict) -> Verdict
+    ensures { result ≡ both_read a b }
+{
+    match a {
+        Verdict::AllRead => b,
+        Verdict::Refused => Verdict::Refused,
+    }
+}
+
+fn form_of(is_json: bool, is_html: bool) -> Form
+    ensures { result ≡ form_by is_json is_html }
+{
+    if is_json {
+        Form::Json
+    } else if is_html {
+        Form::Page
+    } else {
+        Form::Lines
+    }
+}
+
+// Whether names are told of so many inputs.
+fn are_names_shown(task: Task, count: usize) -> bool
+    ensures { result ≡ names_shown task count }
+{
+    match task {
+        Task::Extract(_) | Task::Contents(_) => false,
+        _ => count > 1,
+    }
+}
