@@ -1,11 +1,14 @@
 // Why words are no command line.
-ghost use Rattle.std.specs.Prelude.{◌≡◌, IfOk, false, string_bytes};
+ghost use Rattle.std.specs.Prelude.{◌≡◌, IfOk, OnOk, false, string_bytes};
 ghost use Rattle.der_options.specs.Options.{IsMemory, IsOneLine, by_command, is_answer};
 
 use clap::Error;
 use clap::error::ErrorKind;
 use std::alloc::{AllocError, Global};
 use std::fmt;
+
+// What stands before the argument in a tip of `clap`.
+const TIP: &str = "\n\n  tip: a similar argument exists: ";
 
 /// Why there are no options.
 #[derive(Debug, Drop)]
@@ -47,7 +50,8 @@ impl OptionsFault<'_> {
         }
     }
 
-    /// The text for the user: the whole of help and of the version, and one line of what is wrong.
+    /// The text for the user: the whole of help and of the version, and one line of what is wrong, with an argument that
+    /// is like an unknown one.
     pub fn text(&self, alloc: Global) -> Result<String, AllocError>
         ensures one_line { IfOk result (λ text. is_answer self.now ≡ false → IsOneLine (string_bytes text)) }
     {
@@ -55,8 +59,22 @@ impl OptionsFault<'_> {
         if self.is_answer() {
             return Ok(whole);
         }
-        String::from_str(alloc, first_line(&whole))
+        let mut text = String::from_str(alloc, first_line(&whole))?;
+        push_tip(&whole, &mut text)?;
+        Ok(text)
     }
+}
+
+// Pushes the argument that is meant, where `clap` has a tip for one that there is not.
+fn push_tip(whole: &str, text: &mut String) -> Result<(), AllocError>
+    ensures { OnOk result (IsOneLine (string_bytes text.old) → IsOneLine (string_bytes text.new)) }
+{
+    if let Some((_, tip)) = whole.split_once(TIP) {
+        text.push_str("; did you mean ")?;
+        text.push_str(first_line(tip))?;
+        text.push_str("?")?;
+    }
+    Ok(())
 }
 
 // The text up to the end of its first line.
