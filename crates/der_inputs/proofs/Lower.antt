@@ -12,7 +12,7 @@ use Rattle.der_io.specs.Lines.{lines_of}
 use Rattle.der_inputs.specs.Findings.{Finding}
 use Rattle.der_inputs.specs.Forms.{IsDump, IsFoundDump, IsName, IsSection, IsTitle}
 use Rattle.der_inputs.specs.declared.show.Form.TheVariants.{Page}
-use Rattle.der_inputs.proofs.Texts.{after_two, both_pushed, pushed_as}
+use Rattle.der_inputs.proofs.Texts.{after_two, pushed_as}
 use Rattle.der_inputs.specs.Json.{IsOctetsJson, is_all_read}
 use Rattle.der_inputs.specs.Parts.{Pushes}
 use Rattle.der_json.specs.Json.{AddsEncodings, AddsFirst, AddsHeaderFault, AddsJsonOf, AddsMarks, AddsStrictEncodings}
@@ -98,6 +98,7 @@ encodings_pushed octets origin right a b h =
       after_two a h.between b own last.0 h.line last.1,
       record {
         json = h.json;
+        marks = h.marks;
         first = h.first;
         between = own;
         is_document = h.is_document;
