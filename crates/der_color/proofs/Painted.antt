@@ -1,0 +1,75 @@
+-- Pieces that are pushed one after another.
+use Rattle.std.proofs.Common.{◌≡◌, ℕ, List, [], ◌∷◌, ◌++◌, ap, append-nil, append_assoc, arith, drop, length, refl, sym, take, ◌∙◌}
+use Rattle.std.specs.List.{flat_map}
+use Rattle.std.proofs.lemmas.Grind.{flat_map-append}
+use Rattle.std.proofs.lemmas.List.{take-append-drop}
+use Rattle.der_color.specs.Paints.{Paints, Piece, paint, part, sequence, text_in, written}
+use Rattle.der_color.specs.declared.paint.Paint.{Paint}
+use Rattle.der_color.specs.declared.paint.Paint.TheVariants.{Plain}
+
+text_more : (ps qs : List Piece) → text_in (ps ++ qs) ≡ text_in ps ++ text_in qs
+text_more [] qs = refl
+text_more (paint p ∷ ps) qs = text_more ps qs
+text_more (part octets ∷ ps) qs =
+    ap (λ z. octets ++ z) (text_more ps qs) ∙ sym (append_assoc octets (text_in ps) (text_in qs))
+
+-- nothing was pushed
+pub paints_none : (a : List ℕ) → Paints [] a a
+paints_none a = record { pieces = []; text_is = refl; after_is = sym (append-nil a) }
+
+-- one text and then another
+pub paints_then : (s t a b c : List ℕ) → Paints s a b → Paints t b c → Paints (s ++ t) a c
+paints_then s t a b c one next = record {
+  pieces = one.pieces ++ next.pieces;
+  text_is =
+      text_more one.pieces next.pieces
+      ∙ (ap (λ z. z ++ text_in next.pieces) one.text_is ∙ ap (λ z. s ++ z) next.text_is);
+  after_is =
+      next.after_is
+      ∙ (ap (λ z. z ++ flat_map written next.pieces) one.after_is
+      ∙ (append_assoc a (flat_map written one.pieces) (flat_map written next.pieces)
+      ∙ ap (λ z. a ++ z) (sym (flat_map-append written one.pieces next.pieces))));
+}
+
+-- what a terminal obeys is no text
+pub paints_paint : (p : Paint) (a b : List ℕ) → b ≡ a ++ sequence p → Paints [] a b
+paints_paint p a b e = record {
+  pieces = paint p ∷ [];
+  text_is = refl;
+  after_is = e ∙ ap (λ z. a ++ z) (sym (append-nil (sequence p)));
+}
+
+pub same_text : (s t a b : List ℕ) → s ≡ t → Paints s a b → Paints t a b
+same_text s t a b e h = record { pieces = h.pieces; text_is = h.text_is ∙ e; after_is = h.after_is }
+
+-- a text as it is
+pub paints_part : (t a b : List ℕ) → b ≡ a ++ t → Paints t a b
+paints_part t a b e = record {
+  pieces = part t ∷ [];
+  text_is = append-nil t;
+  after_is = e ∙ ap (λ z. a ++ z) (sym (append-nil t));
+}
+
+-- a text in a colour
+pub painted :
+    (p : Paint) (t a b c d : List ℕ) → b ≡ a ++ sequence p → c ≡ b ++ t → d ≡ c ++ sequence Plain → Paints t a d
+painted p t a b c d e f g =
+    same_text (t ++ []) t a d (append-nil t)
+    (paints_then t [] a c d (paints_then [] t a b c (paints_paint p a b e) (paints_part t b c f)) (paints_paint Plain c d g))
+
+-- the parts of a line, each behind another
+pub four_parts :
+    (line columns rest tag later value mark a b c d e : List ℕ) → columns ++ rest ≡ line → tag ++ later ≡ rest →
+    value ++ mark ≡ later → Paints columns a b → Paints tag b c → Paints value c d → Paints mark d e → Paints line a e
+four_parts line columns rest tag later value mark a b c d e p q r first second third last =
+    same_text (columns ++ (tag ++ (value ++ mark))) line a e
+    (ap (λ z. columns ++ (tag ++ z)) r ∙ (ap (λ z. columns ++ z) q ∙ p))
+    (paints_then columns (tag ++ (value ++ mark)) a b e first
+    (paints_then tag (value ++ mark) b c e second (paints_then value mark c d e third last)))
+
+pub parted : (n : ℕ) (text front back : List ℕ) → front ≡ take n text → back ≡ drop n text → front ++ back ≡ text
+parted n text front back e f = rw (e, f) (take-append-drop n text)
+
+pub none_painted : (t a : List ℕ) → length t ≡ 0 → Paints t a a
+none_painted [] a e = paints_none a
+none_painted (b ∷ t) a e = absurd (omega (arith, e))
