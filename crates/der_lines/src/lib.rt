@@ -47,7 +47,7 @@ mod values;
 pub use document::{Verdict, push_document};
 pub use faults::push_fault_line;
 pub use header::behind_header;
-pub use names::Names;
+pub use names::{Names, NamesFault, OwnNames};
 pub use notes::{push_label, push_refusal};
 pub use seek::block_at;
 pub use strict::push_strict_document;

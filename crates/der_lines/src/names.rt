@@ -7,11 +7,13 @@ mod itu_t;
 mod joint;
 mod member_bodies;
 mod organizations;
+mod own;
 
 use itu_t::ITU_T;
 use joint::JOINT;
 use member_bodies::MEMBER_BODIES;
 use organizations::ORGANIZATIONS;
+pub use own::{NamesFault, OwnNames};
 use std::alloc::{AllocError, Global};
 
 /// The names of object identifiers, by their numbers: a table, which is made once.
@@ -19,6 +21,8 @@ use std::alloc::{AllocError, Global};
 pub struct Names {
     // in the order of the table
     rows: Vec<&'static str>,
+    // these come before the rows
+    own: OwnNames,
 }
 
 impl Names {
@@ -27,17 +31,33 @@ impl Names {
     /// # Errors
     /// Memory ran out.
     pub fn new(alloc: Global) -> Result<Names, AllocError> {
+        Names::with(alloc, OwnNames::none(alloc))
+    }
+
+    /// The same, behind other names.
+    ///
+    /// # Errors
+    /// Memory ran out.
+    pub fn with(alloc: Global, own: OwnNames) -> Result<Names, AllocError> {
         let mut rows = Vec::new(alloc);
         for text in [ITU_T, MEMBER_BODIES, ORGANIZATIONS, JOINT] {
             for row in text.lines() {
                 rows.push(row)?;
             }
         }
-        Ok(Names { rows })
+        Ok(Names { rows, own })
     }
 
-    // The name and the standard of an object identifier, by its components in decimal with points between them.
-    pub(crate) fn of(&self, number: &str) -> Option<(&'static str, &'static str)> {
+    // The name of an object identifier and the standard, or what else is said of it, by its components in decimal with
+    // points between them.
+    pub(crate) fn of(&self, number: &str) -> Option<(&str, &str)> {
+        match self.own.of(number) {
+            Some(found) => Some(found),
+            None => self.built_in(number),
+        }
+    }
+
+    fn built_in(&self, number: &str) -> Option<(&'static str, &'static str)> {
         match self.rows.binary_search_by(|row| number_in(row).cmp(number)) {
             Ok(i) => self.rows[i].split_once(' ')?.1.split_once(' '),
             Err(_) => None,

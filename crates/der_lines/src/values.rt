@@ -318,6 +318,7 @@ fn write_components(
     };
     write!(out, " {number}")?;
     match names.of(&number) {
+        Some((name, "")) => write!(out, " {name}"),
         Some((name, standard)) => write!(out, " {name} ({standard})"),
         None => Ok(()),
     }

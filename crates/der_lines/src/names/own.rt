@@ -1,0 +1,228 @@
+// Names of object identifiers that a user gives, in the form of the configuration file of `dumpasn1`.
+use der_io::escaped;
+use std::alloc::{AllocError, Global};
+use std::str;
+
+/// Names of object identifiers by their numbers, which come before those of the crate.
+#[derive(Debug, Drop)]
+pub struct OwnNames {
+    // in the order of the numbers' texts
+    rows: Vec<OwnName>,
+}
+
+// A name, and what is said of it, which may be nothing.
+#[derive(Debug, Drop)]
+struct OwnName {
+    number: String,
+    name: String,
+    comment: String,
+}
+
+/// Why a text gives no names.
+#[derive(Debug, Drop, PartialEq)]
+pub enum NamesFault {
+    /// Memory ran out.
+    Memory,
+    /// The line with this number, the first being 1, has another form.
+    Line(usize),
+}
+
+impl From<AllocError> for NamesFault {
+    fn from(_e: AllocError) -> NamesFault {
+        NamesFault::Memory
+    }
+}
+
+impl OwnNames {
+    /// No names.
+    pub fn none(alloc: Global) -> OwnNames {
+        OwnNames {
+            rows: Vec::new(alloc),
+        }
+    }
+
+    /// The names in a text of lines `OID = 2 5 4 3`, each with `Description = commonName` and maybe `Comment = X.520`
+    /// after it. Numbers have spaces or points between them, or are DER in hex digits, as `06 03 55 04 03`. Lines
+    /// `Warning`, empty lines and those that begin with `#` say nothing. Names are escaped.
+    ///
+    /// It takes memory for the names.
+    ///
+    /// # Errors
+    /// `Line` for the first line of another form, and `Memory`.
+    pub fn read(alloc: Global, text: &[u8]) -> Result<OwnNames, NamesFault> {
+        let mut rows = Vec::new(alloc);
+        let mut number = 0usize;
+        for line in text.split(|b| *b == b'\n') {
+            number = number.saturating_add(1);
+            if !take_line(alloc, line.trim_ascii(), &mut rows)? {
+                return Err(NamesFault::Line(number));
+            }
+        }
+        rows.sort_by(|a: &OwnName, b: &OwnName| a.number.cmp(&b.number))?;
+        Ok(OwnNames { rows })
+    }
+
+    // The name of an object identifier, by its components in decimal with points between them, and what is said of it.
+    pub(crate) fn of(&self, number: &str) -> Option<(&str, &str)> {
+        match self
+            .rows
+            .binary_search_by(|row| row.number.as_str().cmp(number))
+        {
+            Ok(i) if !self.rows[i].name.is_empty() => {
+                Some((self.rows[i].name.as_str(), self.rows[i].comment.as_str()))
+            }
+            _ => None,
+        }
+    }
+}
+
+// Takes a line. Whether it has a form that is known.
+fn take_line(alloc: Global, line: &[u8], rows: &mut Vec<OwnName>) -> Result<bool, AllocError> {
+    if line.is_empty() || line.starts_with(b"#") || line == "Warning".as_bytes() {
+        return Ok(true);
+    }
+    let Some(place) = line.iter().position(|b| *b == b'=') else {
+        return Ok(false);
+    };
+    let word = line[..place].trim_ascii();
+    let value = line[place + 1..].trim_ascii();
+    if word == "OID".as_bytes() {
+        return push_number(alloc, value, rows);
+    }
+    let Some(row) = rows.last_mut() else {
+        return Ok(false);
+    };
+    if word == "Description".as_bytes() {
+        row.name = escaped(alloc, but_numbers(value))?;
+        Ok(true)
+    } else if word == "Comment".as_bytes() {
+        row.comment = escaped(alloc, value)?;
+        Ok(true)
+    } else {
+        Ok(false)
+    }
+}
+
+// A description without the numbers in parentheses at its end, as older files have them: `commonName (2 5 4 3)`.
+fn but_numbers(value: &[u8]) -> &[u8] {
+    let Some(place) = value.iter().rposition(|b| *b == b'(') else {
+        return value;
+    };
+    let are_numbers = value[place + 1..]
+        .iter()
+        .all(|b| b.is_ascii_digit() || *b == b' ' || *b == b')');
+    if are_numbers && place > 0 {
+        value[..place].trim_ascii()
+    } else {
+        value
+    }
+}
+
+// Pushes a row with the number that a value is. Whether it is one.
+fn push_number(alloc: Global, value: &[u8], rows: &mut Vec<OwnName>) -> Result<bool, AllocError> {
+    let mut number = String::new(alloc);
+    let is_number = if value.starts_with(b"06 ") {
+        push_encoded(alloc, value, &mut number)?
+    } else {
+        push_components(value, &mut number)?
+    };
+    if is_number {
+        rows.push(OwnName {
+            number,
+            name: String::new(alloc),
+            comment: String::new(alloc),
+        })?;
+    }
+    Ok(is_number)
+}
+
+// Pushes components in decimal, with points in place of what parts them. Whether there are some.
+fn push_components(value: &[u8], number: &mut String) -> Result<bool, AllocError> {
+    for part in value.split(|b| *b == b' ' || *b == b'.') {
+        if part.is_empty() {
+            continue;
+        }
+        let Some(component) = component_in(part) else {
+            return Ok(false);
+        };
+        push_component(component, number)?;
+    }
+    Ok(!number.is_empty())
+}
+
+fn component_in(part: &[u8]) -> Option<u128> {
+    str::from_utf8(part).ok()?.parse::<u128>().ok()
+}
+
+fn push_component(component: u128, number: &mut String) -> Result<(), AllocError> {
+    if number.is_empty() {
+        write!(number, "{component}")
+    } else {
+        write!(number, ".{component}")
+    }
+}
+
+// Pushes the components of an encoding in hex digits. Whether it is one of an object identifier.
+fn push_encoded(alloc: Global, value: &[u8], number: &mut String) -> Result<bool, AllocError> {
+    let Some(octets) = octets_in(alloc, value)? else {
+        return Ok(false);
+    };
+    match octets.as_slice() {
+        [0x06, size, contents @ ..] if usize::from(*size) == contents.len() => {
+            push_contents(contents, number)
+        }
+        _ => Ok(false),
+    }
+}
+
+// The octets that pairs of hex digits spell, with a space between two.
+fn octets_in(alloc: Global, value: &[u8]) -> Result<Option<Vec<u8>>, AllocError> {
+    let mut octets = Vec::new(alloc);
+    for part in value.split(|b| *b == b' ') {
+        if part.is_empty() {
+            continue;
+        }
+        match octet_in(part) {
+            Some(octet) => octets.push(octet)?,
+            None => return Ok(None),
+        }
+    }
+    Ok(Some(octets))
+}
+
+fn octet_in(part: &[u8]) -> Option<u8> {
+    u8::from_str_radix(str::from_utf8(part).ok()?, 16).ok()
+}
+
+// Pushes the components of contents octets (X.690 8.19). Whether they are whole and each component is below 2^128.
+fn push_contents(contents: &[u8], number: &mut String) -> Result<bool, AllocError> {
+    let mut value = 0u128;
+    let mut is_whole = false;
+    for b in contents {
+        let Some(more) = with_bits(value, *b) else {
+            return Ok(false);
+        };
+        value = more;
+        is_whole = *b < 0x80;
+        if is_whole {
+            push_subidentifier(value, number)?;
+            value = 0;
+        }
+    }
+    Ok(is_whole)
+}
+
+// The number with seven bits more.
+fn with_bits(value: u128, b: u8) -> Option<u128> {
+    value.checked_mul(128)?.checked_add(u128::from(b & 0x7F))
+}
+
+// Pushes a component, or of the first subidentifier two (X.690 8.19.4).
+fn push_subidentifier(value: u128, number: &mut String) -> Result<(), AllocError> {
+    if !number.is_empty() {
+        return push_component(value, number);
+    }
+    let first = (value / 40).min(2);
+    push_component(first, number)?;
+    push_component(value - first * 40, number)
+}
