@@ -3,14 +3,39 @@ ghost use Rattle.std.specs.Prelude.{IfOk};
 ghost use Rattle.std.specs.Counts.{IsPrefixLen};
 
 use der_io::escaped;
+use der_options::Color;
+use std::env::VarError;
 use std::fs::File;
-use std::io;
-use std::io::{ErrorKind, Read, Write};
+use std::io::{ErrorKind, IsTerminal, Read, Write};
+use std::{env, io};
+
+const MEGABYTE: usize = 1_000_000;
+
+// From how many megabytes of an input on it is said how many were read.
+const MANY: usize = 8;
 
 // Says what is wrong, with what is no printed character escaped, on a line of standard error.
 pub fn tell_error(rt: &HostRuntime, words: &str) {
     if let Ok(text) = escaped(rt.alloc(), words.as_bytes()) {
         let _ = eprintln!(rt; "{text}");
+    }
+}
+
+// Whether lines are coloured in this place: on a terminal, if the environment does not say otherwise.
+pub fn color_here(rt: &HostRuntime, color: Color) -> Color {
+    match color {
+        Color::Auto if rt.stdout().is_terminal() && !is_color_off(rt) => Color::Always,
+        Color::Auto => Color::Never,
+        _ => color,
+    }
+}
+
+// Whether the variable NO_COLOR is there, and not empty (https://no-color.org).
+fn is_color_off(rt: &HostRuntime) -> bool {
+    match env::var(rt, "NO_COLOR") {
+        Ok(text) => !text.is_empty(),
+        Err(VarError::NotPresent) => false,
+        Err(_) => true,
     }
 }
 
@@ -20,6 +45,9 @@ pub struct HostReader<'r, 'a> {
     rt: &'r HostRuntime,
     name: &'a str,
     file: Option<File>,
+    // how many octets were read, and how many megabytes the terminal shows
+    count: usize,
+    shown: usize,
 }
 
 impl<'r, 'a> HostReader<'r, 'a> {
@@ -29,6 +57,8 @@ impl<'r, 'a> HostReader<'r, 'a> {
             rt,
             name,
             file: None,
+            count: 0,
+            shown: 0,
         }
     }
 
@@ -46,6 +76,25 @@ impl<'r, 'a> HostReader<'r, 'a> {
         let count = file.read(buf)?;
         self.file = Some(file);
         Ok(count)
+    }
+
+    // Shows on a terminal how many megabytes of a long input were read; after the last octet nothing.
+    fn show_progress(&mut self, count: usize) {
+        self.count = self.count.saturating_add(count);
+        let megabytes = self.count / MEGABYTE;
+        if count == 0 {
+            self.hide_progress();
+        } else if megabytes >= MANY && megabytes > self.shown && self.rt.stderr().is_terminal() {
+            self.shown = megabytes;
+            let _ = eprint!(self.rt; "\r{megabytes} MB read");
+        }
+    }
+
+    fn hide_progress(&mut self) {
+        if self.shown > 0 {
+            self.shown = 0;
+            let _ = eprint!(self.rt; "\r\u{1b}[K");
+        }
     }
 
     // Says on standard error why nothing more can be read.
@@ -96,8 +145,12 @@ impl Write for HostWriter<'_> {
 impl Read for HostReader<'_, '_> {
     fn read(&mut self, buf: &mut [u8]) -> io::Result<usize> {
         let outcome = self.read_some(buf);
-        if let Err(fault) = &outcome {
-            self.tell(fault);
+        match &outcome {
+            Ok(count) => self.show_progress(*count),
+            Err(fault) => {
+                self.hide_progress();
+                self.tell(fault);
+            }
         }
         outcome
     }

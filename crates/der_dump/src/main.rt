@@ -3,9 +3,10 @@
 
 mod host;
 
-use crate::host::{HostReader, HostWriter, tell_error};
+use crate::host::{HostReader, HostWriter, color_here, tell_error};
 use der_inputs::{Outcome, Source, run, status};
-use der_io::{StreamFault, fault_text, words};
+use der_io::{StreamFault, fault_text, read_all, words};
+use der_lines::{NamesFault, OwnNames};
 use der_options::{Options, OptionsFault, options_of};
 use std::alloc::AllocError;
 use std::io;
@@ -35,7 +36,13 @@ fn words_fault(e: &io::Error) -> &'static str {
 // Does what the words ask for, the first of which is the program's name.
 fn obey(rt: &HostRuntime, words: &[String]) -> u8 {
     match options_of(rt.alloc(), words) {
-        Ok(options) => answer(rt, &options),
+        Ok(mut options) => {
+            options.color = color_here(rt, options.color);
+            match own_names(rt, &options) {
+                Some(own) => answer(rt, &options, own),
+                None => WRONG_WORDS,
+            }
+        }
         Err(fault) => tell(rt, &fault),
     }
 }
@@ -56,11 +63,52 @@ fn tell(rt: &HostRuntime, fault: &OptionsFault<'_>) -> u8 {
     }
 }
 
+// The names of object identifiers in the file that the options name; `None` where it gives none, after saying why.
+fn own_names(rt: &HostRuntime, options: &Options<'_>) -> Option<OwnNames> {
+    let Some(file) = options.oids else {
+        return Some(OwnNames::none(rt.alloc()));
+    };
+    let text = match read_all(rt.alloc(), &mut HostReader::new(rt, file)) {
+        Ok(text) => text,
+        Err(fault) => {
+            tell_memory(rt, &fault);
+            return None;
+        }
+    };
+    match OwnNames::read(rt.alloc(), &text) {
+        Ok(own) => Some(own),
+        Err(NamesFault::Line(number)) => {
+            tell_line(rt, file, number);
+            None
+        }
+        Err(NamesFault::Memory) => {
+            tell_memory(rt, &StreamFault::Memory);
+            None
+        }
+    }
+}
+
+// Says that memory ran out; of any other fault the reader has told.
+fn tell_memory(rt: &HostRuntime, fault: &StreamFault) {
+    if *fault == StreamFault::Memory {
+        let _ = eprintln!(rt; "{}", fault_text(fault));
+    }
+}
+
+// Says which line of a file names no object identifiers.
+fn tell_line(rt: &HostRuntime, file: &str, number: usize) {
+    if let Ok(words) = format!(in rt.alloc();
+        "error: {file}: line {number}: not OID, Description or Comment"
+    ) {
+        tell_error(rt, &words);
+    }
+}
+
 // Does what the options want.
-fn answer(rt: &HostRuntime, options: &Options<'_>) -> u8 {
+fn answer(rt: &HostRuntime, options: &Options<'_>, own: OwnNames) -> u8 {
     let mut output = HostWriter::new(rt);
     let outcome = match sources(rt, options) {
-        Ok(mut sources) => run(rt.alloc(), options, &mut sources, &mut output),
+        Ok(mut sources) => run(rt.alloc(), options, own, &mut sources, &mut output),
         Err(_) => Err(StreamFault::Memory),
     };
     match &outcome {

@@ -1,5 +1,6 @@
 -- What is written of a finding: as lines, as JSON, or on a page.
 use Rattle.std.specs.Prelude.{◌≡◌, ℕ, Bool, true, false, List, [], ◌++◌, Option, Some, None, unwrap_or}
+use Rattle.der_color.specs.Paints.{Paints}
 use Rattle.der_html.specs.Page.{Shows}
 use Rattle.der_io.specs.Characters.{equals_sign, exclamation_mark}
 use Rattle.der_io.specs.Escaped.{escaped}
@@ -57,10 +58,13 @@ IsName Lines name text = IsTitle name text
 IsName Json name text = text ≡ []
 IsName Page name text = (line : List ℕ) × IsTitle name line × Shows (lines_of line) [] [] text
 
--- what is written of these texts: they, and around the sections of a page its beginning and its end
-abbrev pub IsFramed : Form → List ℕ → List ℕ → Type 0
-IsFramed Page texts output = (beginning end : List ℕ) × (output ≡ beginning ++ (texts ++ end))
-IsFramed _ texts output = output ≡ texts
+-- what is written of these texts: they, lines in colours or not, and around the sections of a page its beginning and
+-- its end
+abbrev pub IsFramed : Form → Bool → List ℕ → List ℕ → Type 0
+IsFramed Page colored texts output = (beginning end : List ℕ) × (output ≡ beginning ++ (texts ++ end))
+IsFramed Lines true texts output = Paints texts [] output
+IsFramed Lines false texts output = output ≡ texts
+IsFramed Json colored texts output = output ≡ texts
 
 -- JSON where it is wanted, or else a page
 abbrev pub form_by : Bool → Bool → Form

@@ -11,6 +11,8 @@ use Rattle.der_inputs.specs.declared.outcome.Outcome.TheVariants.{Lacking, Unrea
 use Rattle.der_inputs.specs.declared.show.Form.{Form}
 use Rattle.der_lines.specs.declared.document.Verdict.{Verdict}
 use Rattle.der_lines.specs.declared.document.Verdict.TheVariants.{AllRead}
+use Rattle.der_options.specs.declared.options.Color.{Color}
+use Rattle.der_options.specs.declared.options.Color.TheVariants.{Always}
 use Rattle.der_options.specs.declared.options.Options.{Options}
 use Rattle.der_options.specs.declared.options.Task.{Task}
 use Rattle.der_options.specs.declared.options.Task.TheVariants.{At, Contents, Dump, Extract}
@@ -20,6 +22,16 @@ abbrev pub names_shown : Task → ℕ → Bool
 names_shown (Extract offset) count = false
 names_shown (Contents offset) count = false
 names_shown _ count = nat_lt 1 count
+
+-- lines are coloured where they always are, and not octets as they stand
+abbrev pub is_always : Color → Bool
+is_always Always = true
+is_always _ = false
+
+abbrev pub are_colors_shown : Task → Color → Bool
+are_colors_shown (Extract offset) color = false
+are_colors_shown (Contents offset) color = false
+are_colors_shown _ color = is_always color
 
 -- what is wanted of inputs: what is done with each, whether its name is told, and how findings are shown
 pub record Wanted : Type 0 where

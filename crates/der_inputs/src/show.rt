@@ -1,20 +1,22 @@
 // How what is found is shown.
-ghost use Rattle.std.specs.Prelude.{◌≡◌, [], IfOk, OnOk, map, unwrap_or};
+ghost use Rattle.std.specs.Prelude.{◌≡◌, [], IfOk, OnOk, false, map, unwrap_or};
 ghost use Rattle.std.specs.Option.{option_map};
 ghost use Rattle.der_inputs.specs.Forms.{IsDump, IsFoundDump, IsFramed, IsLabel, IsName, IsOctetsDump, IsSection};
 ghost use Rattle.der_inputs.specs.Forms.{form_by};
-ghost use Rattle.der_inputs.specs.Inputs.{AreShown, IsFindingText, names_shown, wanted_by};
+ghost use Rattle.der_inputs.specs.Inputs.{AreShown, IsFindingText, are_colors_shown as colors_shown, names_shown};
+ghost use Rattle.der_inputs.specs.Inputs.{wanted_by};
 ghost use Rattle.der_inputs.specs.Outcomes.{both_read};
 ghost use Rattle.der_inputs.specs.Parts.{Pushes, finding_in, octets_in, wanted_of};
 ghost use Rattle.der_inputs.specs.declared.show.Form.TheVariants.{Page as page_form};
 
 use crate::found::Found;
 use crate::outcome::Outcome;
+use der_color::coloured;
 use der_html::{push_foot, push_head, push_section};
 use der_lines::{
-    Names, Style, Verdict, push_document, push_label, push_refusal, push_strict_document,
+    Names, OwnNames, Style, Verdict, push_document, push_label, push_refusal, push_strict_document,
 };
-use der_options::{Options, Task};
+use der_options::{Color, Options, Task};
 use std::alloc::{AllocError, Global};
 
 // What the output is.
@@ -35,21 +37,30 @@ pub struct Show {
     pub is_named: bool,
     pub form: Form,
     pub is_strict: bool,
+    // lines are coloured
+    pub is_colored: bool,
     pub style: Style,
 }
 
 impl Show {
     // As the options want it of so many inputs.
-    pub fn new(alloc: Global, options: &Options<'_>, count: usize) -> Result<Show, AllocError>
-        ensures { IfOk result (λ show. wanted_of show ≡ wanted_by options.now count) }
+    pub fn new(
+        alloc: Global,
+        options: &Options<'_>,
+        own: OwnNames,
+        count: usize,
+    ) -> Result<Show, AllocError>
+        ensures colored { IfOk result (λ show. show.is_colored ≡ colors_shown options.now.task options.now.color) }
+        ensures wanted { IfOk result (λ show. wanted_of show ≡ wanted_by options.now count) }
     {
         Ok(Show {
             alloc,
-            names: Names::new(alloc)?,
+            names: Names::with(alloc, own)?,
             task: options.task,
             is_named: are_names_shown(options.task, count),
             form: form_of(options.is_json, options.is_html),
             is_strict: options.is_strict,
+            is_colored: are_colors_shown(options.task, options.color),
             style: Style {
                 is_full: options.is_full,
                 is_flat: options.is_flat,
@@ -161,10 +172,11 @@ impl Show {
 
     // What is written of all texts.
     pub fn framed(&self, texts: Vec<u8>) -> Result<Vec<u8>, AllocError>
-        ensures { IfOk result (λ output. IsFramed self.now.form texts.items output.items) }
+        ensures { IfOk result (λ output. IsFramed self.now.form self.now.is_colored texts.items output.items) }
     {
         match self.form {
             Form::Page => page_of(self.alloc, &texts),
+            Form::Lines if self.is_colored => coloured(self.alloc, &texts),
             _ => Ok(texts),
         }
     }
@@ -172,7 +184,7 @@ impl Show {
 
 // A page with the sections.
 fn page_of(alloc: Global, sections: &[u8]) -> Result<Vec<u8>, AllocError>
-    ensures { IfOk result (λ page. IsFramed page_form sections.now page.items) }
+    ensures { IfOk result (λ page. IsFramed page_form false sections.now page.items) }
 {
     let mut page = Vec::new(alloc);
     push_head(&mut page)?;
@@ -208,6 +220,16 @@ fn form_of(is_json: bool, is_html: bool) -> Form
         Form::Page
     } else {
         Form::Lines
+    }
+}
+
+// Whether lines are coloured.
+fn are_colors_shown(task: Task, color: Color) -> bool
+    ensures { result ≡ colors_shown task color }
+{
+    match task {
+        Task::Extract(_) | Task::Contents(_) => false,
+        _ => matches!(color, Color::Always),
     }
 }
 

@@ -4,7 +4,7 @@ ghost use Rattle.std.specs.Io.KnownBytes.{Appends, IsAtEnd, Keeps};
 ghost use Rattle.std.specs.Option.{option_map};
 ghost use Rattle.der_inputs.specs.Forms.{IsFramed, form_by};
 ghost use Rattle.der_inputs.specs.Inputs.{AreReadToEnds, IsInputText, IsNamedText, IsPart, IsReadToEnd, IsTaskText};
-ghost use Rattle.der_inputs.specs.Inputs.{input_of, wanted_by};
+ghost use Rattle.der_inputs.specs.Inputs.{are_colors_shown, input_of, wanted_by};
 ghost use Rattle.der_inputs.specs.Outcomes.{greatest_status};
 ghost use Rattle.der_inputs.specs.Parts.{Pushes, octets_in, wanted_of};
 ghost use Rattle.der_inputs.specs.Texts.{AreTexts};
@@ -14,7 +14,7 @@ use crate::found::{alone, block_of, contents_of, documents_of};
 use crate::outcome::{Outcome, greatest};
 use crate::show::Show;
 use der_io::{StreamFault, read_all, write_all};
-use der_lines::Verdict;
+use der_lines::{OwnNames, Verdict};
 use der_options::{Options, Task};
 use std::alloc::{AllocError, Global};
 use std::io::{Read, Write};
@@ -30,26 +30,29 @@ pub struct Source<'a, R> {
 /// readers of those that could be read are at their ends.
 ///
 /// An input is DER, PEM, hex digits or base64, told apart by its bytes. A document is put as a dump, as a line of JSON,
-/// or on a page of HTML. All of the output is kept in memory, and one input at a time.
+/// or on a page of HTML; names of object identifiers are first those of `own`. Lines are coloured if the options say
+/// `Always`. All of the output is kept in memory, and one input at a time.
 ///
 /// # Errors
 /// `Memory`, after which nothing was written; `Write`, after which nothing is known of what was.
 pub fn run<R: Read + Drop, W: Write>(
     alloc: Global,
     options: &Options<'_>,
+    own: OwnNames,
     sources: &mut [Source<'_, R>],
     w: &mut W,
 ) -> Result<Vec<Outcome>, StreamFault>
     ensures answered { IfOk result (λ came. (texts output : List ℕ)
         × AreTexts (IsInputText (wanted_by options.now (length sources.old)))
         (map (λ source. input_of source.name.now (R.remaining source.reader)) sources.old) came.items texts
-        × IsFramed (form_by options.now.is_json options.now.is_html) texts output
+        × IsFramed (form_by options.now.is_json options.now.is_html)
+        (are_colors_shown options.now.task options.now.color) texts output
         × Appends (W.contents w.old) (W.contents w.new) output) }
     ensures read { IfOk result (λ came. AreReadToEnds came.items
         (map (λ source. R.remaining source.reader) sources.new)) }
     ensures kept { IfErr result (λ e. (e ≡ write_fault) ⊎ Keeps (W.contents w.old) (W.contents w.new)) }
 {
-    let Ok(show) = Show::new(alloc, options, sources.len()) else {
+    let Ok(show) = Show::new(alloc, options, own, sources.len()) else {
         return Err(StreamFault::Memory);
     };
     let mut texts = Vec::new(alloc);

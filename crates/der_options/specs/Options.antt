@@ -1,6 +1,6 @@
 -- Which words of a command line give which options, by what `clap` makes of the words.
 use Rattle.std.specs.Prelude.{◌≡◌, ◌≢◌, ◌⊎◌, ◌&&◌, ℕ, ◌<◌, ◌^◌, Bool, true, false, not, List, [], ◌∷◌, codes, drop, fold, map, take}
-use Rattle.std.specs.Prelude.{Option, Some, None, is_some, if◌then◌else◌}
+use Rattle.std.specs.Prelude.{Option, Some, None, is_some, option_map, if◌then◌else◌}
 use Rattle.std.specs.List.{All, list_all, list_any}
 use Rattle.std.specs.Str.{bytes_eq}
 use Rattle.std.specs.Str.Parse.{IsNumeral, digits_value, without_leading_plus}
@@ -11,7 +11,9 @@ use Rattle.clap.specs.declared.error.Error.{Error}
 use Rattle.clap.specs.declared.error.kind.ErrorKind.{ErrorKind}
 use Rattle.clap.specs.declared.error.kind.ErrorKind.TheVariants.{DisplayHelp, DisplayVersion, OutOfMemory as memory_kind}
 use Rattle.der_options.specs.declared.fault.OptionsFault.{OptionsFault}
-use Rattle.der_options.specs.declared.fault.OptionsFault.TheVariants.{Command, NoNumber, NotTogether}
+use Rattle.der_options.specs.declared.fault.OptionsFault.TheVariants.{Command, NoColor, NoNumber, NotTogether}
+use Rattle.der_options.specs.declared.options.Color.{Color}
+use Rattle.der_options.specs.declared.options.Color.TheVariants.{Always, Auto, Never}
 use Rattle.der_options.specs.declared.options.Options.{Options}
 use Rattle.der_options.specs.declared.options.Task.{Task}
 use Rattle.der_options.specs.declared.options.Task.TheVariants.{At, Contents, Dump, Extract}
@@ -36,6 +38,9 @@ task_rules =
 abbrev pub style_rules : List Rule
 style_rules = flag (codes "full") ∷ flag (codes "flat") ∷ valued (codes "depth") ∷ []
 
+abbrev pub look_rules : List Rule
+look_rules = valued (codes "oids") ∷ valued (codes "color") ∷ []
+
 abbrev pub form_rules : List Rule
 form_rules = flag (codes "json") ∷ flag (codes "html") ∷ []
 
@@ -50,7 +55,7 @@ bare_command =
 
 -- the whole command
 unfoldable pub command : App
-command = with_rules (with_rules (with_rules bare_command task_rules) style_rules) form_rules
+command = with_rules (with_rules (with_rules (with_rules bare_command task_rules) style_rules) look_rules) form_rules
 
 -- a flag is set: its value is `true`
 abbrev pub is_true : Option Text → Bool
@@ -113,6 +118,19 @@ abbrev pub IsNumberOf : Text → List Row → Option ℕ → Type 0
 IsNumberOf name rows None = first_of name rows ≡ None
 IsNumberOf name rows (Some n) = (text : Text) × (first_of name rows ≡ Some text) × IsNumber text n
 
+-- when lines are coloured
+abbrev pub color_in : Text → Option Color
+color_in text =
+    if bytes_eq text (codes "auto") then Some Auto
+    else if bytes_eq text (codes "always") then Some Always
+    else if bytes_eq text (codes "never") then Some Never
+    else None
+
+-- so by a value, or without one
+abbrev pub color_by : Option Text → Option Color
+color_by None = Some Auto
+color_by (Some text) = color_in text
+
 -- what is done with each input
 abbrev pub IsTask : List Row → Task → Type 0
 IsTask rows Dump =
@@ -133,18 +151,22 @@ pub record AsksFor (rows : List Row) (options : Options) : Type 0 where
   pub json : options.is_json ≡ is_true (first_of (codes "json") rows)
   pub html : options.is_html ≡ is_true (first_of (codes "html") rows)
   pub depth : IsNumberOf (codes "depth") rows options.most_depth
+  pub oids : option_map (λ name. name.now) options.oids ≡ first_of (codes "oids") rows
+  pub color : color_by (first_of (codes "color") rows) ≡ Some options.color
 
 -- the words, of which the first is the program's name, ask for the options: the command takes them, and its matches do
 abbrev pub Means : List Text → Options → Type 0
 Means words options = (fault_of command words ≡ []) × AsksFor (matches_of command words) options
 
--- the matches ask for nothing: the value of an argument that takes a number is none, or two arguments do not go
--- together
+-- the matches ask for nothing: the value of an argument that takes a number is none, that of `--color` none of its own,
+-- or two arguments do not go together
 abbrev pub AsksForNothing : List Row → OptionsFault → Type 0
 AsksForNothing rows (Command e) = ⊥
 AsksForNothing rows (NoNumber name text) =
     (takes_number name.now ≡ true) × (first_of name.now rows ≡ Some text.now)
     × ((n : ℕ) → IsNumber text.now n → ⊥)
+AsksForNothing rows (NoColor text) =
+    (first_of (codes "color") rows ≡ Some text.now) × (color_in text.now ≡ None)
 AsksForNothing rows (NotTogether first second) =
     (are_exclusive first.now second.now ≡ true) × (are_both_given first.now second.now rows ≡ true)
 

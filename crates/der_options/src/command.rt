@@ -2,7 +2,8 @@
 ghost use Rattle.std.specs.Prelude.{◌≡◌, IfOk, false};
 ghost use Rattle.clap.specs.Words.{app_of, rule_of};
 ghost use Rattle.der_options.specs.Options.{command as command_is, flag as flag_is, valued as valued_is};
-ghost use Rattle.der_options.specs.Options.{files as files_is, bare_command, form_rules, task_rules, style_rules, with_rules};
+ghost use Rattle.der_options.specs.Options.{files as files_is, bare_command, form_rules, look_rules, style_rules};
+ghost use Rattle.der_options.specs.Options.{task_rules, with_rules};
 
 use clap::{Arg, ArgAction, Command};
 use std::alloc::{AllocError, Global};
@@ -21,7 +22,8 @@ pub fn command<'a>(alloc: Global) -> Result<Command<'a>, AllocError>
     let bare = bare(alloc)?;
     let with_tasks = with_tasks(alloc, bare)?;
     let with_styles = with_styles(alloc, with_tasks)?;
-    with_forms(alloc, with_styles)
+    let with_looks = with_looks(alloc, with_styles)?;
+    with_forms(alloc, with_looks)
 }
 
 // The command with its files alone.
@@ -80,6 +82,25 @@ fn with_styles<'a>(alloc: Global, command: Command<'a>) -> Result<Command<'a>, A
         "Hide blocks with more than COUNT blocks around them; 0 shows the outermost only",
     );
     command.arg(full)?.arg(flat)?.arg(depth)
+}
+
+// The command with the names and colours of lines.
+fn with_looks<'a>(alloc: Global, command: Command<'a>) -> Result<Command<'a>, AllocError>
+    ensures { IfOk result (λ c. app_of c ≡ with_rules (app_of command.entry) look_rules) }
+{
+    let oids = valued(
+        alloc,
+        "oids",
+        "FILE",
+        "Name object identifiers by a file of dumpasn1 first",
+    );
+    let color = valued(
+        alloc,
+        "color",
+        "WHEN",
+        "Color lines: always, never, or auto, on a terminal without NO_COLOR [default: auto]",
+    );
+    command.arg(oids)?.arg(color)
 }
 
 // The command with the forms in which documents are written.

@@ -17,6 +17,8 @@ pub enum OptionsFault<'a> {
     Command(Error),
     /// The value of the argument is not a 64-bit number.
     NoNumber(&'static str, &'a str),
+    /// The value of `--color` is none of the three.
+    NoColor(&'a str),
     /// Two arguments that do not go together.
     NotTogether(&'static str, &'static str),
 }
@@ -92,6 +94,12 @@ impl fmt::Display for OptionsFault<'_> {
                 write!(
                     f,
                     "error: invalid value '{value}' for '--{name}': not a 64-bit number"
+                )
+            }
+            OptionsFault::NoColor(value) => {
+                write!(
+                    f,
+                    "error: invalid value '{value}' for '--color': not auto, always or never"
                 )
             }
             OptionsFault::NotTogether(first, second) => {

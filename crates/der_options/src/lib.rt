@@ -9,4 +9,4 @@ mod fault;
 mod options;
 
 pub use fault::OptionsFault;
-pub use options::{Options, Task, options_of};
+pub use options::{Color, Options, Task, options_of};

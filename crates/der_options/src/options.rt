@@ -1,9 +1,11 @@
 // The options, and how the matches of `clap` give them.
-ghost use Rattle.std.specs.Prelude.{◌≡◌, ℕ, IfOk, IfErr, MatchOption, OnOk, codes, drop, map, option_map, true, false};
+ghost use Rattle.std.specs.Prelude.{◌≡◌, ℕ, IfOk, IfErr, MatchOption, OnOk, Some, codes, drop, map, option_map, true};
+ghost use Rattle.std.specs.Prelude.{false};
 ghost use Rattle.clap.specs.Words.{all_of, first_of, found_of, rows_of};
 ghost use Rattle.der_options.specs.Options.{AsksFor, AsksForNothing, IsNumberOf, IsRefused, IsTask, Means};
 ghost use Rattle.der_options.specs.Options.{are_both_given, are_exclusive, go_together, is_given as is_given_by};
 ghost use Rattle.der_options.specs.Options.{IsNumber, begins_hex, is_true, names_of, takes_number};
+ghost use Rattle.der_options.specs.Options.{color_by, color_in as color_in_is};
 ghost use Rattle.der_options.specs.Steps.{IsMatched, IsUnmatched, LacksOptions};
 
 use crate::command::command;
@@ -31,6 +33,19 @@ pub struct Options<'a> {
     pub is_html: bool,
     /// The most blocks around a block that is shown; the outermost has none. `None` shows all blocks.
     pub most_depth: Option<usize>,
+    /// The name of the file that names object identifiers, before the names that are built in.
+    pub oids: Option<&'a str>,
+    /// When lines are coloured.
+    pub color: Color,
+}
+
+/// When lines are coloured.
+#[derive(Clone, Copy, Debug, PartialEq)]
+pub enum Color {
+    /// On a terminal.
+    Auto,
+    Always,
+    Never,
 }
 
 /// What is done with an input. Offsets are counted in octets from the first octet of its document.
@@ -90,6 +105,8 @@ fn asked_for<'a>(alloc: Global, matches: &ArgMatches<'a>) -> Result<Options<'a>,
         is_json: is_set(matches, "json"),
         is_html: is_set(matches, "html"),
         most_depth: number_of(matches, "depth")?,
+        oids: value(matches, "oids"),
+        color: color_of(matches)?,
     })
 }
 
@@ -183,6 +200,32 @@ fn number_of<'a>(
     match number_in(text) {
         Some(n) => Ok(Some(n)),
         None => Err(OptionsFault::NoNumber(name, text)),
+    }
+}
+
+// When lines are coloured.
+fn color_of<'a>(matches: &ArgMatches<'a>) -> Result<Color, OptionsFault<'a>>
+    ensures read { IfOk result (λ color. color_by (first_of (codes "color") (rows_of (found_of matches.now)))
+        ≡ Some color) }
+    ensures refused { IfErr result (AsksForNothing (rows_of (found_of matches.now))) }
+{
+    let Some(text) = value(matches, "color") else {
+        return Ok(Color::Auto);
+    };
+    match color_in(text) {
+        Some(color) => Ok(color),
+        None => Err(OptionsFault::NoColor(text)),
+    }
+}
+
+fn color_in(text: &str) -> Option<Color>
+    ensures { result ≡ color_in_is text.now }
+{
+    match text {
+        "auto" => Some(Color::Auto),
+        "always" => Some(Color::Always),
+        "never" => Some(Color::Never),
+        _ => None,
     }
 }
 

@@ -2,8 +2,8 @@
 use der_inputs::{Outcome, Source, run, status};
 use der_io::StreamFault;
 use der_io::failing::{FailingReader, FailingWriter};
-use der_lines::Verdict;
-use der_options::{Options, Task};
+use der_lines::{OwnNames, Verdict};
+use der_options::{Color, Options, Task};
 use std::alloc::Global;
 use std::io::ErrorKind;
 use std::test::Fail;
@@ -19,6 +19,8 @@ fn dump(alloc: Global) -> Options<'static> {
         is_json: false,
         is_html: false,
         most_depth: None,
+        oids: None,
+        color: Color::Never,
     }
 }
 
@@ -48,7 +50,13 @@ fn what_cannot_be_read_is_left_out(rt: HostRuntime) -> Result<(), Fail> {
     for reads in 0..6 {
         let mut sources = sources(alloc, reads)?;
         let mut writer = Vec::new(alloc);
-        let outcome = run(alloc, &options, &mut sources, &mut writer);
+        let outcome = run(
+            alloc,
+            &options,
+            OwnNames::none(alloc),
+            &mut sources,
+            &mut writer,
+        );
         let (middle, number, shown) = if reads == 5 {
             (Outcome::Written(Verdict::AllRead), 0, 3)
         } else {
@@ -72,7 +80,13 @@ fn a_fault_of_writing_is_told(rt: HostRuntime) -> Result<(), Fail> {
     let options = dump(alloc);
     for writes in 0..2 {
         let mut sources = sources(alloc, 9)?;
-        let outcome = run(alloc, &options, &mut sources, &mut FailingWriter { writes });
+        let outcome = run(
+            alloc,
+            &options,
+            OwnNames::none(alloc),
+            &mut sources,
+            &mut FailingWriter { writes },
+        );
         assert_eq!(rt; status(&outcome), 2);
         assert!(rt; outcome.is_err_and(|fault| fault == StreamFault::Write));
     }
