@@ -7,12 +7,12 @@ block makes more or fewer bytes than the block has, it is an error that names th
 - identifier and length octets, INTEGERs and OBJECT IDENTIFIERs in longer forms than the shortest
 - contents of a NULL, and none of an INTEGER
 - fractions of a second that end with 0, have no digits, or more than nine
+- a BOOLEAN other than 00 and FF, and the length 80 of a block
 - lines with a `fault` or a list `not_der`, such as the second line of a document with a malformed block
 
 After an error nothing is written, and the exit status is 1. What JSON does not tell is written as DER has it, without
 an error, where it is as long:
 
-- a BOOLEAN other than 00 is FF, and the length 80 of a primitive block is 00
 - a BMPString is UTF-16 and a UniversalString UTF-32, also of text that was UTF-8
 - a REAL has base 2 and an odd mantissa, or the form NR3
 - the fraction of a GeneralizedTime has its point
@@ -41,6 +41,8 @@ REALS = {"0": b"", "PLUS-INFINITY": b"\x40", "MINUS-INFINITY": b"\x41", "NOT-A-N
 # where the marks of DATE, TIME-OF-DAY, DATE-TIME and DURATION stand, by their tags
 MARKS = {31: (4, 7), 32: (2, 5), 33: (4, 7, 10, 13, 16), 34: (0,)}
 IRIS = {35, 36}
+# what `not_der` says of blocks whose bytes the other members do not tell
+LOST = ("true must be FF", "indefinite length")
 
 
 class Different(Exception):
@@ -186,6 +188,8 @@ def rebuild(rows):
             open_blocks.pop()
         if row["offset"] != offset or row["depth"] != len(open_blocks):
             raise Different(row, f"a block at offset {offset}, depth {len(open_blocks)} comes next")
+        if any(words in row.get("not_der", "") for words in LOST):
+            raise Different(row, f"not DER: {row['not_der']}")
         header = header_of(row)
         if len(header) != row["header"]:
             raise Different(row, f"the header has {row['header']} bytes, the shortest has {len(header)}")
