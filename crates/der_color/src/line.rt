@@ -59,8 +59,22 @@ fn push_block(line: &[u8], out: &mut Vec<u8>) -> Result<(), AllocError>
     push_painted(Paint::Red, mark, out)
 }
 
-// How many octets the columns before the tag have.
+// How many octets the columns before the tag have: numbers, or `inf` in place of the last.
 fn columns_size(line: &[u8]) -> usize
+    ensures { result ≤ length line.now }
+{
+    let numbers = numbers_size(line);
+    let (_, rest) = line.split_at(numbers);
+    match rest.strip_prefix(b"inf") {
+        Some(behind) => {
+            let (_, tag) = behind.split_at(numbers_size(behind));
+            line.len().saturating_sub(tag.len())
+        }
+        None => numbers,
+    }
+}
+
+fn numbers_size(line: &[u8]) -> usize
     ensures { result ≤ length line.now }
 {
     line.iter()
