@@ -18,8 +18,9 @@ mutual
   -- the octets of the document from the offset to the end are encodings with these shapes
   pub data AreShapes (document : List ℕ) : ℕ → ℕ → Shapes → Type 0 where
     no_more : {offset end : ℕ} → offset ≡ end → AreShapes document offset end no_shapes
-    one_more : {offset end : ℕ} {header : PlacedHeader} {items rest : Shapes} → HeaderFound document offset end header
-        → HasItems document header items → AreShapes document header.end end rest
+    one_more : {offset end : ℕ} {header : PlacedHeader} {items rest : Shapes}
+        → HeaderFound document offset end header → HasItems document header items
+        → AreShapes document header.end end rest
         → AreShapes document offset end (more_shapes offset header items rest)
 
   -- these stand inside the encoding with the header
@@ -58,7 +59,8 @@ pub record HasShapes (octets : List ℕ) (all : Shapes) : Type 0 where
 -- the first fault of all other octets, and its offset; 0 for no octets
 abbrev pub FirstHeaderFaultAt : List ℕ → DecodeFault → ℕ → Type 0
 FirstHeaderFaultAt octets fault offset =
-    ((octets ≡ []) × (fault ≡ empty_buffer) × (offset ≡ 0)) ⊎ HeadersFaultAt octets 0 0 (length octets) fault offset
+    ((octets ≡ []) × (fault ≡ empty_buffer) × (offset ≡ 0))
+    ⊎ HeadersFaultAt octets 0 0 (length octets) fault offset
 
 -- how many stand side by side
 abbrev pub shape_count : Shapes → ℕ

@@ -21,7 +21,8 @@ use Rattle.der_html.specs.declared.markup.Markup.TheVariants.{
   ValueEnd,
 }
 
--- what stands for a character, in text and in an attribute (HTML, 13.1.4): the five that have a meaning there have names
+-- what stands for a character, in text and in an attribute (HTML, 13.1.4): the five that have a meaning there
+-- have names
 abbrev pub entity : ℕ → List ℕ
 entity c =
     if c == 38 then codes "&amp;"

@@ -25,8 +25,9 @@ section { display: flex; gap: 1rem; align-items: flex-start; border-bottom: 1px 
 .tree summary::-webkit-details-marker { display: none }
 .tree .pointed { background: var(--pointed) }
 .tree .fault { color: var(--fault); font-weight: bold }
-.octets { flex: none; position: sticky; top: 0; box-sizing: border-box; margin: 0; padding: 1rem; width: calc(48ch + 2rem);
- max-height: 100vh; overflow-y: auto; white-space: pre-wrap; border-left: 1px solid var(--faint) }
+.octets { flex: none; position: sticky; top: 0; box-sizing: border-box; margin: 0; padding: 1rem;
+ width: calc(48ch + 2rem); max-height: 100vh; overflow-y: auto; white-space: pre-wrap;
+ border-left: 1px solid var(--faint) }
 .octets:empty { display: none }
 ::highlight(header) { background: var(--header) }
 ::highlight(contents) { background: var(--contents) }

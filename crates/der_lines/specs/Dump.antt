@@ -81,17 +81,19 @@ abbrev pub is_stray_form : Bool → List ℕ → Bool
 is_stray_form constructed behind = not constructed && has_indefinite_length behind
 
 -- what is wrong with an encoding that begins the octets, nothing or something at its offset
-pub data IsJudged (octets : List ℕ) (front : Front) (class : ASN1Class) (constructed : Bool) (tag : ℕ) (stray : Bool)
-    (faults : List ℕ) : Type 0 where
+pub data IsJudged (octets : List ℕ) (front : Front) (class : ASN1Class) (constructed : Bool) (tag : ℕ)
+    (stray : Bool) (faults : List ℕ) : Type 0 where
   cut_short :
       length octets < front.header + front.contents → faults ≡ front.offset ∷ [] →
       IsJudged octets front class constructed tag stray faults
-  of_stray_form : stray ≡ true → faults ≡ front.offset ∷ [] → IsJudged octets front class constructed tag stray faults
+  of_stray_form :
+      stray ≡ true → faults ≡ front.offset ∷ [] → IsJudged octets front class constructed tag stray faults
   with_encodings :
-      front.header + front.contents ≤ length octets → is_gone_into class constructed tag ≡ true → stray ≡ false →
-      faults ≡ [] → IsJudged octets front class constructed tag stray faults
+      front.header + front.contents ≤ length octets → is_gone_into class constructed tag ≡ true →
+      stray ≡ false → faults ≡ [] → IsJudged octets front class constructed tag stray faults
   with_value :
-      front.header + front.contents ≤ length octets → is_gone_into class constructed tag ≡ false → stray ≡ false →
+      front.header + front.contents ≤ length octets → is_gone_into class constructed tag ≡ false →
+      stray ≡ false →
       (is_wide class tag ≡ true) ⊎ ((b : Tree ℕ) × Encodes 0 (take (front.header + front.contents) octets) b) →
       faults ≡ [] → IsJudged octets front class constructed tag stray faults
   with_no_value :
@@ -102,8 +104,8 @@ pub data IsJudged (octets : List ℕ) (front : Front) (class : ASN1Class) (const
 
 -- an encoding that begins the octets, with these identifier octets, is marked: where it is whole, and breaks a rule of
 -- BER or DER, whether or not it has a value
-pub data IsMarked (octets identifier : List ℕ) (size announced : ℕ) (class : ASN1Class) (constructed : Bool) (tag : ℕ)
-    (marked : Bool) : Type 0 where
+pub data IsMarked (octets identifier : List ℕ) (size announced : ℕ) (class : ASN1Class) (constructed : Bool)
+    (tag : ℕ) (marked : Bool) : Type 0 where
   of_cut :
       length octets < size + announced → marked ≡ false →
       IsMarked octets identifier size announced class constructed tag marked
@@ -171,7 +173,8 @@ pub data AreFronts (octets : List ℕ) : ℕ → List End → List Front → Lis
       ends ≡ end ∷ around → end.is_indefinite ≡ true →
       begins_with_end (slice_range octets offset end.offset) ≡ true →
       AreFronts octets (offset + 2) around later_fronts faults →
-      fronts ≡ end_of_contents offset 2 (length around) ∷ later_fronts → AreFronts octets offset ends fronts faults
+      fronts ≡ end_of_contents offset 2 (length around) ∷ later_fronts →
+      AreFronts octets offset ends fronts faults
   end_missing :
       {offset : ℕ} {ends : List End} {fronts : List Front} {faults : List ℕ} (end : End) (around : List End)
       (later_fronts : List Front) (later_faults : List ℕ) →
@@ -182,10 +185,10 @@ pub data AreFronts (octets : List ℕ) : ℕ → List End → List Front → Lis
   no_header :
       {offset : ℕ} {ends : List End} {fronts : List Front} {faults : List ℕ} (left : List ℕ) (end : End)
       (around : List End) (later_fronts : List Front) (later_faults : List ℕ) →
-      ends ≡ end ∷ around → left ≡ slice_range octets offset end.offset → 0 < length left → HasNoHeader left →
-      AreFronts octets (offset + length left) ends later_fronts later_faults →
-      fronts ≡ unreadable offset (length left) (length around) ∷ later_fronts → faults ≡ offset ∷ later_faults →
-      AreFronts octets offset ends fronts faults
+      ends ≡ end ∷ around → left ≡ slice_range octets offset end.offset → 0 < length left →
+      HasNoHeader left → AreFronts octets (offset + length left) ends later_fronts later_faults →
+      fronts ≡ unreadable offset (length left) (length around) ∷ later_fronts →
+      faults ≡ offset ∷ later_faults → AreFronts octets offset ends fronts faults
   gone_into :
       {offset : ℕ} {ends : List End} {fronts : List Front} {faults : List ℕ} (left : List ℕ) (end : End)
       (around : List End) (first : Front) (own : List ℕ) (later_fronts : List Front) (later_faults : List ℕ) →
@@ -193,14 +196,16 @@ pub data AreFronts (octets : List ℕ) : ℕ → List End → List Front → Lis
       (end.is_indefinite && begins_with_end left) ≡ false → IsFirst left offset (length around) first true own →
       AreFronts octets (offset + first.header) (end_at (offset + size_in left first) first.indefinite ∷ ends)
       later_fronts later_faults →
-      fronts ≡ first ∷ later_fronts → faults ≡ own ++ later_faults → AreFronts octets offset ends fronts faults
+      fronts ≡ first ∷ later_fronts → faults ≡ own ++ later_faults →
+      AreFronts octets offset ends fronts faults
   passed_over :
       {offset : ℕ} {ends : List End} {fronts : List Front} {faults : List ℕ} (left : List ℕ) (end : End)
       (around : List End) (first : Front) (own : List ℕ) (later_fronts : List Front) (later_faults : List ℕ) →
       ends ≡ end ∷ around → left ≡ slice_range octets offset end.offset →
       (end.is_indefinite && begins_with_end left) ≡ false → IsFirst left offset (length around) first false own →
       AreFronts octets (offset + size_in left first) ends later_fronts later_faults →
-      fronts ≡ first ∷ later_fronts → faults ≡ own ++ later_faults → AreFronts octets offset ends fronts faults
+      fronts ≡ first ∷ later_fronts → faults ≡ own ++ later_faults →
+      AreFronts octets offset ends fronts faults
 
 -- the offsets of those that are marked
 abbrev pub marked_offsets : List Front → List ℕ

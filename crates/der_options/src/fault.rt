@@ -52,8 +52,8 @@ impl OptionsFault<'_> {
         }
     }
 
-    /// The text for the user: the whole of help and of the version, and one line of what is wrong, with an argument that
-    /// is like an unknown one.
+    /// The text for the user: the whole of help and of the version, and one line of what is wrong, with an argument
+    /// that is like an unknown one.
     pub fn text(&self, alloc: Global) -> Result<String, AllocError>
         ensures one_line { IfOk result (λ text. is_answer self.now ≡ false → IsOneLine (string_bytes text)) }
     {

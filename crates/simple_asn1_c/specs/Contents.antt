@@ -70,7 +70,8 @@ AnswersShortest contents before after o =
 -- the record has the header of the encoding at the offset, and says nothing of what that holds
 abbrev pub IsHeaderAt : List ℕ → ℕ → Block → Type 0
 IsHeaderAt octets offset r =
-    (x : List ℕ) × EncodingAt octets offset x × HasHeader x r × (r.offset ≡ offset) × (r.items ≡ 0) × HasNoLinks r
+    (x : List ℕ) × EncodingAt octets offset x × HasHeader x r × (r.offset ≡ offset) × (r.items ≡ 0)
+    × HasNoLinks r
 
 -- the record of an encoding by its header alone; none stands there; or memory ran out
 pub data AnswersHeader (octets : List ℕ) (offset : ℕ) (before after : List Block) (o : Outcome) : Type 0 where
@@ -78,8 +79,8 @@ pub data AnswersHeader (octets : List ℕ) (offset : ℕ) (before after : List B
       (r : Block) → IsHeaderAt octets offset r → ArePut (r ∷ []) before after o →
       AnswersHeader octets offset before after o
   no_header_was_found :
-      HasNoEncodingAt octets offset → o.status ≡ no_such_value → o.offset ≡ offset → o.count ≡ 0 → after ≡ before →
-      AnswersHeader octets offset before after o
+      HasNoEncodingAt octets offset → o.status ≡ no_such_value → o.offset ≡ offset → o.count ≡ 0 →
+      after ≡ before → AnswersHeader octets offset before after o
   had_no_memory_for_header :
       o.status ≡ no_memory → o.offset ≡ offset → o.count ≡ 0 → after ≡ before →
       AnswersHeader octets offset before after o
@@ -96,10 +97,11 @@ pub data AnswersTag (octets : List ℕ) (offset : ℕ) (before after : List ℕ)
       (tag : ℕ) → HasTagAt octets offset tag → ArePut (natural_numeral tag) before after o →
       AnswersTag octets offset before after o
   no_tag_was_found :
-      HasNoEncodingAt octets offset → o.status ≡ no_such_value → o.offset ≡ offset → o.count ≡ 0 → after ≡ before →
-      AnswersTag octets offset before after o
+      HasNoEncodingAt octets offset → o.status ≡ no_such_value → o.offset ≡ offset → o.count ≡ 0 →
+      after ≡ before → AnswersTag octets offset before after o
   had_no_memory_for_tag :
-      o.status ≡ no_memory → o.offset ≡ offset → o.count ≡ 0 → after ≡ before → AnswersTag octets offset before after o
+      o.status ≡ no_memory → o.offset ≡ offset → o.count ≡ 0 → after ≡ before →
+      AnswersTag octets offset before after o
 
 -- the number that a fault says: a length; of a BIT STRING how many bits are missing
 abbrev pub fault_number : DecodeFault → ℕ

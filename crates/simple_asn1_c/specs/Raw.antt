@@ -74,8 +74,8 @@ pub data AnswersRawIdentifier (components before after : List ℕ) (o : Outcome)
       AnswersRawIdentifier components before after o
   components_have_fault :
       (fault : ASN1EncodeErr) → object_identifier_write_fault components ≡ Some fault →
-      o.status ≡ component_status fault → o.offset ≡ component_place fault → o.count ≡ 0 → after ≡ before →
-      AnswersRawIdentifier components before after o
+      o.status ≡ component_status fault → o.offset ≡ component_place fault → o.count ≡ 0 →
+      after ≡ before → AnswersRawIdentifier components before after o
   had_no_memory_for_raw_identifier :
       IsNotPut no_memory before after o → AnswersRawIdentifier components before after o
 
@@ -89,7 +89,8 @@ pub data AnswersRawText (tag : ℕ) (text before after : List ℕ) (o : Outcome)
   has_no_text :
       IsTextTag tag → (IsUtf8 text → ⊥) → IsNotPut not_utf8 before after o →
       AnswersRawText tag text before after o
-  is_no_text : (IsTextTag tag → ⊥) → IsNotPut no_such_value before after o → AnswersRawText tag text before after o
+  is_no_text :
+      (IsTextTag tag → ⊥) → IsNotPut no_such_value before after o → AnswersRawText tag text before after o
   had_no_memory_for_text : IsNotPut no_memory before after o → AnswersRawText tag text before after o
 
 -- the contents octets of a UTCTime or GeneralizedTime of any moment of the years 0 to 9999: a UTCTime has no century
@@ -106,13 +107,15 @@ pub data AnswersRawMoment (tag : ℕ) (m : Moment) (before after : List ℕ) (o 
 
 -- the shortest encoding of contents octets with a tag number in decimal, of any size; there is no such class or number;
 -- or memory ran out
-pub data AnswersEncoding (class constructed : ℕ) (numeral contents before after : List ℕ) (o : Outcome) : Type 0 where
+pub data AnswersEncoding (class constructed : ℕ) (numeral contents before after : List ℕ) (o : Outcome)
+    : Type 0 where
   was_encoded :
       (c : ASN1Class) → class_number c ≡ class → (tag : ℕ) → numeral ≡ natural_numeral tag →
       ArePut (shortest_encoding c (nat_lt 0 constructed) tag contents) before after o →
       AnswersEncoding class constructed numeral contents before after o
   is_no_class :
-      3 < class → IsNotPut bad_record before after o → AnswersEncoding class constructed numeral contents before after o
+      3 < class → IsNotPut bad_record before after o →
+      AnswersEncoding class constructed numeral contents before after o
   is_no_numeral :
       ((tag : ℕ) → numeral ≡ natural_numeral tag → ⊥) → IsNotPut bad_record before after o →
       AnswersEncoding class constructed numeral contents before after o

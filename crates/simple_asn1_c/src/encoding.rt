@@ -49,8 +49,8 @@ pub fn put_header(alloc: Global, octets: &[u8], offset: usize, room: &mut [Block
 // The tag number of an encoding.
 fn tag_of(alloc: Global, encoding: &[u8]) -> Result<BigUint, AllocError>
     requires { IsEncoding encoding.now }
-    ensures { IfOk result (λ tag. (class : ASN1Class) × (constructed : Bool) × (contents : List ℕ) × (header : ℕ)
-        × Encoding encoding.now class constructed tag contents header) }
+    ensures { IfOk result (λ tag. (class : ASN1Class) × (constructed : Bool) × (contents : List ℕ)
+        × (header : ℕ) × Encoding encoding.now class constructed tag contents header) }
 {
     match read_header(alloc, encoding, &mut HeaderCount::new()) {
         Ok(header) => Ok(header.tag),

@@ -136,7 +136,8 @@ pub extern "C" fn simple_asn1_read_strict(
 #[unsafe(no_mangle)]
 pub extern "C" fn simple_asn1_outline(alloc: Global, octets: &[u8], blocks: &mut [Block]) -> Outcome
     ensures answer { AnswersOutline octets.now blocks.old blocks.new result }
-    ensures few { (all : Shapes) → HasShapes octets.now all → 2 * length (entries_of 0 0 all) ≤ length octets.now }
+    ensures few { (all : Shapes) → HasShapes octets.now all →
+        2 * length (entries_of 0 0 all) ≤ length octets.now }
 {
     match read_headers(alloc, octets) {
         Ok(headers) => put_records(headers.entries(), blocks),

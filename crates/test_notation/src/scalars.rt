@@ -19,8 +19,8 @@ pub fn characters_text(alloc: Global, text: &str) -> Result<String, AllocError> 
     format!(in alloc; "[{characters}]")
 }
 
-/// The components of the object identifier: `1.2.840`. Where one is past a `u128`, the contents octets of the identifier
-/// stand in brackets in their place.
+/// The components of the object identifier: `1.2.840`. Where one is past a `u128`, the contents octets of the
+/// identifier stand in brackets in their place.
 ///
 /// # Errors
 /// Memory ran out.

@@ -15,7 +15,8 @@ pub record Unambiguous : Type 0 where
   -- of two trees encoded at the front of the same octets, at one offset, the octets and the trees are equal
   pub one_front :
       (offset : ℕ) (first second behind beyond : List ℕ) (a b : Tree ℕ) →
-      Encodes offset first a → Encodes offset second b → first ++ behind ≡ second ++ beyond → (first ≡ second) × (a ≡ b)
+      Encodes offset first a → Encodes offset second b → first ++ behind ≡ second ++ beyond →
+      (first ≡ second) × (a ≡ b)
   -- octets are a block exactly if they encode some tree, at whatever offset
   pub block :
       (offset : ℕ) (octets : List ℕ) →
