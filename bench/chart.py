@@ -16,7 +16,7 @@ PEERS = {
     "libtasn1": ("libtasn1", TYPES),
     "OpenSSL types": ("OpenSSL, X509 and X509_CRL", TYPES),
 }
-COLOURS = {OWNS: "#2b6cb0", BORROWS: "#2f855a", TYPES: "#b7791f"}
+COLORS = {OWNS: "#2b6cb0", BORROWS: "#2f855a", TYPES: "#b7791f"}
 WIDTH, LEFT, RIGHT, BAR, STEP, HEAD = 760, 230, 70, 16, 24, 34
 
 
@@ -41,8 +41,8 @@ def main():
     across = lambda x: LEFT + (math.log10(x) - low) / (high - low) * (WIDTH - LEFT - RIGHT)
     marks = [m * 10.0**e for e in range(-3, 5) for m in (1, 2, 5) if low < math.log10(m * 10.0**e) < high]
     parts, y = [], 56
-    for kind, x in zip(COLOURS, (LEFT, LEFT + 140, LEFT + 240)):
-        parts.append(f'<rect x="{x}" y="34" width="12" height="12" fill="{COLOURS[kind]}"/>')
+    for kind, x in zip(COLORS, (LEFT, LEFT + 140, LEFT + 240)):
+        parts.append(f'<rect x="{x}" y="34" width="12" height="12" fill="{COLORS[kind]}"/>')
         parts.append(f'<text x="{x + 18}" y="44">{kind}</text>')
     top = y
     for item, title in ITEMS.items():
@@ -53,7 +53,7 @@ def main():
         y += HEAD
         for x, label, kind in sorted(rows):
             parts.append(f'<text x="{LEFT - 10}" y="{y + 12}" text-anchor="end">{label}</text>')
-            parts.append(f'<rect x="{LEFT}" y="{y}" width="{across(x) - LEFT:.1f}" height="{BAR}" fill="{COLOURS[kind]}"/>')
+            parts.append(f'<rect x="{LEFT}" y="{y}" width="{across(x) - LEFT:.1f}" height="{BAR}" fill="{COLORS[kind]}"/>')
             parts.append(f'<text x="{across(x) + 6:.1f}" y="{y + 12}">{number(x)}</text>')
             y += STEP
     grid = [f'<path d="M{across(m):.1f} {top + 8}V{y}" stroke="#d5d9de"/>'

@@ -1,6 +1,6 @@
 """What der_dump shows on a terminal, and which names it takes from the file of dumpasn1: terminal.py PROGRAM
 
-Lines are coloured on a terminal unless NO_COLOR says otherwise, and without the sequences they are the plain lines. Of
+Lines are colored on a terminal unless NO_COLOR says otherwise, and without the sequences they are the plain lines. Of
 a long input it is told there how much was read. Each identifier that /etc/dumpasn1/dumpasn1.cfg names has that name.
 """
 import os
@@ -69,10 +69,10 @@ def names_of(text):
 
 small = bytes.fromhex("30050201010500")
 plain, _ = run([], small)
-for words, variables, coloured in [([], {}, True), (["--color", "never"], {}, False), ([], {"NO_COLOR": "1"}, False),
+for words, variables, colored in [([], {}, True), (["--color", "never"], {}, False), ([], {"NO_COLOR": "1"}, False),
                                    ([], {"NO_COLOR": ""}, True), (["--color", "always"], {"NO_COLOR": "1"}, True)]:
     shown, _ = run(words, small, "stdout", **variables)
-    is_so(f"{words} {variables}: coloured is {coloured}", (b"\x1b[" in shown) == coloured)
+    is_so(f"{words} {variables}: colored is {colored}", (b"\x1b[" in shown) == colored)
     is_so(f"{words} {variables}: the lines", re.sub(rb"\x1b\[\d*m", b"", shown) == plain)
 
 long = b"\x04\x84" + LONG.to_bytes(4, "big") + bytes(LONG)

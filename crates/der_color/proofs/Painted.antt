@@ -50,7 +50,7 @@ paints_part t a b e = record {
   after_is = e ∙ ap (λ z. a ++ z) (sym (append-nil t));
 }
 
--- a text in a colour
+-- a text in a color
 pub painted :
     (p : Paint) (t a b c d : List ℕ) → b ≡ a ++ sequence p → c ≡ b ++ t → d ≡ c ++ sequence Plain → Paints t a d
 painted p t a b c d e f g =

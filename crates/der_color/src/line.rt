@@ -1,4 +1,4 @@
-// Lines in colours.
+// Lines in colors.
 ghost use Rattle.std.specs.Prelude.{◌<◌, ◌≤◌, [], IfOk, OnOk, length};
 ghost use Rattle.der_color.specs.Paints.{Paints};
 
@@ -11,7 +11,7 @@ use std::alloc::{AllocError, Global};
 ///
 /// # Errors
 /// Memory ran out.
-pub fn coloured(alloc: Global, lines: &[u8]) -> Result<Vec<u8>, AllocError>
+pub fn colored(alloc: Global, lines: &[u8]) -> Result<Vec<u8>, AllocError>
     ensures { IfOk result (λ text. Paints lines.now [] text.items) }
 {
     let mut out = Vec::new(alloc);

@@ -1,4 +1,4 @@
-// Texts in colours.
+// Texts in colors.
 ghost use Rattle.std.specs.Prelude.{◌≡◌, OnOk};
 ghost use Rattle.der_color.specs.Paints.{Paints, sequence};
 
@@ -27,7 +27,7 @@ fn sequence_of(paint: Paint) -> &'static str
     }
 }
 
-// Pushes a text in a colour, if there is any.
+// Pushes a text in a color, if there is any.
 pub fn push_painted(paint: Paint, text: &[u8], out: &mut Vec<u8>) -> Result<(), AllocError>
     ensures { OnOk result (Paints text.now out.old.items out.new.items) }
 {

@@ -21,7 +21,7 @@ pub fn tell_error(rt: &HostRuntime, words: &str) {
     }
 }
 
-// Whether lines are coloured in this place: on a terminal, if the environment does not say otherwise.
+// Whether lines are colored in this place: on a terminal, if the environment does not say otherwise.
 pub fn color_here(rt: &HostRuntime, color: Color) -> Color {
     match color {
         Color::Auto if rt.stdout().is_terminal() && !is_color_off(rt) => Color::Always,

@@ -58,7 +58,7 @@ IsName Lines name text = IsTitle name text
 IsName Json name text = text ≡ []
 IsName Page name text = (line : List ℕ) × IsTitle name line × Shows (lines_of line) [] [] text
 
--- what is written of these texts: they, lines in colours or not, and around the sections of a page its beginning and
+-- what is written of these texts: they, lines in colors or not, and around the sections of a page its beginning and
 -- its end
 abbrev pub IsFramed : Form → Bool → List ℕ → List ℕ → Type 0
 IsFramed Page colored texts output = (beginning end : List ℕ) × (output ≡ beginning ++ (texts ++ end))

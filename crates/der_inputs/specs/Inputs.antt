@@ -23,7 +23,7 @@ names_shown (Extract offset) count = false
 names_shown (Contents offset) count = false
 names_shown _ count = nat_lt 1 count
 
--- lines are coloured where they always are, and not octets as they stand
+-- lines are colored where they always are, and not octets as they stand
 abbrev pub is_always : Color → Bool
 is_always Always = true
 is_always _ = false

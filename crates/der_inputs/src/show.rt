@@ -11,7 +11,7 @@ ghost use Rattle.der_inputs.specs.declared.show.Form.TheVariants.{Page as page_f
 
 use crate::found::Found;
 use crate::outcome::Outcome;
-use der_color::coloured;
+use der_color::colored;
 use der_html::{push_foot, push_head, push_section};
 use der_lines::{
     Names, OwnNames, Style, Verdict, push_document, push_label, push_refusal, push_strict_document,
@@ -37,7 +37,7 @@ pub struct Show {
     pub is_named: bool,
     pub form: Form,
     pub is_strict: bool,
-    // lines are coloured
+    // lines are colored
     pub is_colored: bool,
     pub style: Style,
 }
@@ -176,7 +176,7 @@ impl Show {
     {
         match self.form {
             Form::Page => page_of(self.alloc, &texts),
-            Form::Lines if self.is_colored => coloured(self.alloc, &texts),
+            Form::Lines if self.is_colored => colored(self.alloc, &texts),
             _ => Ok(texts),
         }
     }
@@ -223,7 +223,7 @@ fn form_of(is_json: bool, is_html: bool) -> Form
     }
 }
 
-// Whether lines are coloured.
+// Whether lines are colored.
 fn are_colors_shown(task: Task, color: Color) -> bool
     ensures { result ≡ colors_shown task color }
 {

@@ -30,7 +30,7 @@ pub struct Source<'a, R> {
 /// readers of those that could be read are at their ends.
 ///
 /// An input is DER, PEM, hex digits or base64, told apart by its bytes. A document is put as a dump, as a line of JSON,
-/// or on a page of HTML; names of object identifiers are first those of `own`. Lines are coloured if the options say
+/// or on a page of HTML; names of object identifiers are first those of `own`. Lines are colored if the options say
 /// `Always`. All of the output is kept in memory, and one input at a time.
 ///
 /// # Errors

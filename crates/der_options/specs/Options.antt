@@ -118,7 +118,7 @@ abbrev pub IsNumberOf : Text → List Row → Option ℕ → Type 0
 IsNumberOf name rows None = first_of name rows ≡ None
 IsNumberOf name rows (Some n) = (text : Text) × (first_of name rows ≡ Some text) × IsNumber text n
 
--- when lines are coloured
+-- when lines are colored
 abbrev pub color_in : Text → Option Color
 color_in text =
     if bytes_eq text (codes "auto") then Some Auto

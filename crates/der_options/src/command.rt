@@ -84,7 +84,7 @@ fn with_styles<'a>(alloc: Global, command: Command<'a>) -> Result<Command<'a>, A
     command.arg(full)?.arg(flat)?.arg(depth)
 }
 
-// The command with the names and colours of lines.
+// The command with the names and colors of lines.
 fn with_looks<'a>(alloc: Global, command: Command<'a>) -> Result<Command<'a>, AllocError>
     ensures { IfOk result (λ c. app_of c ≡ with_rules (app_of command.entry) look_rules) }
 {

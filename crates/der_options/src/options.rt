@@ -35,11 +35,11 @@ pub struct Options<'a> {
     pub most_depth: Option<usize>,
     /// The name of the file that names object identifiers, before the names that are built in.
     pub oids: Option<&'a str>,
-    /// When lines are coloured.
+    /// When lines are colored.
     pub color: Color,
 }
 
-/// When lines are coloured.
+/// When lines are colored.
 #[derive(Clone, Copy, Debug, PartialEq)]
 pub enum Color {
     /// On a terminal.
@@ -203,7 +203,7 @@ fn number_of<'a>(
     }
 }
 
-// When lines are coloured.
+// When lines are colored.
 fn color_of<'a>(matches: &ArgMatches<'a>) -> Result<Color, OptionsFault<'a>>
     ensures read { IfOk result (λ color. color_by (first_of (codes "color") (rows_of (found_of matches.now)))
         ≡ Some color) }

@@ -1,7 +1,7 @@
 use Rattle.std.proofs.Common.{◌≡◌, ◌++◌, [], ap, append_assoc, append-nil, arith, refl, sym, ◌∙◌, length, List, ℕ, ◌∷◌}
 use Rattle.std.proofs.lemmas.Grind.{common_steps}
 use Rattle.der_color.proofs.Painted.{paints_then, parted, same_text}
-use Rattle.der_color.proofs.line.coloured.Goals as goal
+use Rattle.der_color.proofs.line.colored.Goals as goal
 
 pub loop-rest-preserved : goal.loop-rest-preserved
 loop-rest-preserved c =

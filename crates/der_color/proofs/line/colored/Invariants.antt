@@ -1,6 +1,6 @@
 use Rattle.std.proofs.Common.{◌≡◌, ◌++◌, ℕ, List, [], length}
 use Rattle.der_color.specs.Paints.{Paints}
-use Rattle.der_color.proofs.line.coloured.Given as goal
+use Rattle.der_color.proofs.line.colored.Given as goal
 
 -- so much is painted, and the rest is to come
 abbrev pub invariant-loop-rest : goal.invariant-loop-rest
