@@ -30,6 +30,7 @@ mod document;
 mod encodings;
 mod faults;
 mod header;
+mod identifier;
 mod leaf;
 mod lines;
 mod marks;

@@ -4,6 +4,7 @@ ghost use Rattle.der_lines.specs.Dump.{tag_number as tag_number_is, tag_words as
 ghost use Rattle.asn1_headers.specs.Names.{type_name as type_name_is};
 
 use crate::header::universal_tag;
+use crate::identifier::{identifier_of, number_of};
 use crate::names::Names;
 use crate::scalars::{write_after_space, write_hex, write_quoted};
 use asn1_headers::error::ASN1DecodeErr;
@@ -12,13 +13,11 @@ use asn1_headers::header::ASN1Class;
 use asn1_headers::types::type_name;
 use asn1_leaves::contents::text::TextForm;
 use asn1_leaves::contents::{generalized_time, text, utc_time};
-use asn1_leaves::oid;
 use asn1_leaves::oid::OID;
 use asn1_numbers::number::big_int::BigInt;
 use asn1_numbers::number::big_uint::BigUint;
 use der_values::{
-    Role, address_text, bit_names, general_name, long_identifier, string_of,
-    value_text as other_value,
+    Role, address_text, bit_names, general_name, string_of, value_text as other_value,
 };
 use jiff::civil::DateTime;
 use std::alloc::{AllocError, Global};
@@ -296,10 +295,7 @@ fn write_identifier(
     names: &Names,
     contents: &[u8],
 ) -> Result<(), AllocError> {
-    if let Some(long) = long_identifier(alloc, contents)? {
-        return write_components(alloc, out, names, &long);
-    }
-    match found(oid::read(alloc, contents))? {
+    match identifier_of(alloc, contents)? {
         Some(identifier) => write_components(alloc, out, names, &identifier),
         None => Ok(()),
     }
@@ -311,10 +307,8 @@ fn write_components(
     names: &Names,
     identifier: &OID,
 ) -> Result<(), AllocError> {
-    let number = match identifier.as_vec::<u128>(alloc) {
-        Ok(_) => format!(in alloc; "{identifier}")?,
-        Err(ASN1DecodeErr::OutOfMemory) => return Err(AllocError),
-        Err(_) => return out.push_str(" with components beyond 2^128"),
+    let Some(number) = number_of(alloc, identifier)? else {
+        return out.push_str(" with components beyond 2^128");
     };
     write!(out, " {number}")?;
     match names.of(&number) {

@@ -1,4 +1,5 @@
 // Names of object identifiers that a user gives, in the form of the configuration file of `dumpasn1`.
+use crate::identifier::{identifier_of, number_of};
 use der_io::escaped;
 use std::alloc::{AllocError, Global};
 use std::str;
@@ -120,58 +121,59 @@ fn but_numbers(value: &[u8]) -> &[u8] {
 
 // Pushes a row with the number that a value is. Whether it is one.
 fn push_number(alloc: Global, value: &[u8], rows: &mut Vec<OwnName>) -> Result<bool, AllocError> {
-    let mut number = String::new(alloc);
-    let is_number = if value.starts_with(b"06 ") {
-        push_encoded(alloc, value, &mut number)?
+    let number = if value.starts_with(b"06 ") {
+        encoded_number(alloc, value)?
     } else {
-        push_components(value, &mut number)?
+        spelled_number(alloc, value)?
     };
-    if is_number {
-        rows.push(OwnName {
-            number,
-            name: String::new(alloc),
-            comment: String::new(alloc),
-        })?;
-    }
-    Ok(is_number)
+    let Some(number) = number else {
+        return Ok(false);
+    };
+    rows.push(OwnName {
+        number,
+        name: String::new(alloc),
+        comment: String::new(alloc),
+    })?;
+    Ok(true)
 }
 
-// Pushes components in decimal, with points in place of what parts them. Whether there are some.
-fn push_components(value: &[u8], number: &mut String) -> Result<bool, AllocError> {
+// Components in decimal, with points in place of what parts them, if there are some.
+fn spelled_number(alloc: Global, value: &[u8]) -> Result<Option<String>, AllocError> {
+    let mut number = String::new(alloc);
     for part in value.split(|b| *b == b' ' || *b == b'.') {
         if part.is_empty() {
             continue;
         }
         let Some(component) = component_in(part) else {
-            return Ok(false);
+            return Ok(None);
         };
-        push_component(component, number)?;
+        let point = if number.is_empty() { "" } else { "." };
+        write!(number, "{point}{component}")?;
     }
-    Ok(!number.is_empty())
+    Ok(if number.is_empty() {
+        None
+    } else {
+        Some(number)
+    })
 }
 
 fn component_in(part: &[u8]) -> Option<u128> {
     str::from_utf8(part).ok()?.parse::<u128>().ok()
 }
 
-fn push_component(component: u128, number: &mut String) -> Result<(), AllocError> {
-    if number.is_empty() {
-        write!(number, "{component}")
-    } else {
-        write!(number, ".{component}")
-    }
-}
-
-// Pushes the components of an encoding in hex digits. Whether it is one of an object identifier.
-fn push_encoded(alloc: Global, value: &[u8], number: &mut String) -> Result<bool, AllocError> {
+// The components of an encoding in hex digits, if it is one of an object identifier and each is below 2^128.
+fn encoded_number(alloc: Global, value: &[u8]) -> Result<Option<String>, AllocError> {
     let Some(octets) = octets_in(alloc, value)? else {
-        return Ok(false);
+        return Ok(None);
     };
     match octets.as_slice() {
         [0x06, size, contents @ ..] if usize::from(*size) == contents.len() => {
-            push_contents(contents, number)
+            match identifier_of(alloc, contents)? {
+                Some(identifier) => number_of(alloc, &identifier),
+                None => Ok(None),
+            }
         }
-        _ => Ok(false),
+        _ => Ok(None),
     }
 }
 
@@ -192,37 +194,4 @@ fn octets_in(alloc: Global, value: &[u8]) -> Result<Option<Vec<u8>>, AllocError>
 
 fn octet_in(part: &[u8]) -> Option<u8> {
     u8::from_str_radix(str::from_utf8(part).ok()?, 16).ok()
-}
-
-// Pushes the components of contents octets (X.690 8.19). Whether they are whole and each component is below 2^128.
-fn push_contents(contents: &[u8], number: &mut String) -> Result<bool, AllocError> {
-    let mut value = 0u128;
-    let mut is_whole = false;
-    for b in contents {
-        let Some(more) = with_bits(value, *b) else {
-            return Ok(false);
-        };
-        value = more;
-        is_whole = *b < 0x80;
-        if is_whole {
-            push_subidentifier(value, number)?;
-            value = 0;
-        }
-    }
-    Ok(is_whole)
-}
-
-// The number with seven bits more.
-fn with_bits(value: u128, b: u8) -> Option<u128> {
-    value.checked_mul(128)?.checked_add(u128::from(b & 0x7F))
-}
-
-// Pushes a component, or of the first subidentifier two (X.690 8.19.4).
-fn push_subidentifier(value: u128, number: &mut String) -> Result<(), AllocError> {
-    if !number.is_empty() {
-        return push_component(value, number);
-    }
-    let first = (value / 40).min(2);
-    push_component(first, number)?;
-    push_component(value - first * 40, number)
 }
