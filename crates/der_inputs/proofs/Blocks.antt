@@ -5,7 +5,7 @@ use Rattle.asn1_headers.specs.Front.{HasNoHeader}
 use Rattle.der_inputs.specs.Findings.{IsBlockAt, IsContentsAt}
 use Rattle.der_lines.specs.Headers.{StandsBehindHeader}
 use Rattle.der_lines.specs.Seek.{BeginsAt, begins_behind, begins_first, begins_inside}
-use Rattle.simple_asn1.specs.Places.{IsEncoding}
+use Rattle.asn1_blocks.specs.Places.{IsEncoding}
 
 -- an encoding has a header
 pub has_header : (octets : List ℕ) → IsEncoding octets → HasNoHeader octets → ⊥

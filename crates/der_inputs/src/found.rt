@@ -5,7 +5,7 @@ ghost use Rattle.der_forms.specs.Objects.{objects_of as objects_are};
 ghost use Rattle.der_forms.specs.Shown.{shown_object};
 ghost use Rattle.der_inputs.specs.Findings.{IsBlockAt, IsContentsAt, findings_of, of_object, unlabelled};
 ghost use Rattle.der_inputs.specs.Parts.{finding_in, octets_in};
-ghost use Rattle.simple_asn1.specs.Places.{IsEncoding};
+ghost use Rattle.asn1_blocks.specs.Places.{IsEncoding};
 ghost use Rattle.der_lines.specs.Headers.{StandsBehindHeader};
 
 use der_forms::{
