@@ -64,7 +64,7 @@ fn with_tasks<'a>(alloc: Global, command: Command<'a>) -> Result<Command<'a>, Al
     let strict = flag(
         alloc,
         "strict",
-        "Reject documents that are not canonical DER, after showing them",
+        "Reject documents that are not DER, and list why, after showing them",
     );
     command.arg(at)?.arg(extract)?.arg(contents)?.arg(strict)
 }
