@@ -6,7 +6,7 @@ use Rattle.std.specs.List.{flat_map}
 use Rattle.serde_json.specs.Data.{Members, array, member, object}
 use Rattle.serde_json.specs.Written.{compact_text}
 use Rattle.der_html.specs.Page.{Shows, written}
-use Rattle.der_io.specs.Characters.{equals_sign, exclamation_mark}
+use Rattle.der_io.specs.Characters.{equals_sign}
 use Rattle.der_io.specs.Escaped.{escaped}
 use Rattle.der_io.specs.Lines.{lines_of}
 use Rattle.der_inputs.specs.Findings.{Finding}
@@ -17,68 +17,12 @@ use Rattle.der_inputs.specs.Json.{IsOctetsJson, is_all_read}
 use Rattle.der_inputs.specs.Parts.{Pushes}
 use Rattle.der_json.specs.Json.{AddsEncodings, AddsFirst, AddsHeaderFault, AddsJsonOf, AddsMarks, AddsStrictEncodings}
 use Rattle.der_json.specs.Json.{AddsStrictJsonOf, ToldFault, fault_json, items_of, named_fault, refusal_json}
-use Rattle.der_lines.specs.Dump.{AddsDumpOf, AddsFaultLines, AddsFaultOf, AddsLine, AddsStrictDumpOf}
-use Rattle.der_lines.specs.Dump.{AddsBlocksOf, IsNote}
+use Rattle.der_lines.specs.Dump.{IsLine, IsNote, IsRefusal}
 use Rattle.der_lines.specs.declared.document.Verdict.{Verdict}
-use Rattle.der_lines.specs.declared.document.Verdict.TheVariants.{AllRead, Refused}
 
 -- so of a relation, whatever text stands before
 abbrev Stands : (List ℕ → List ℕ → Type 0) → List ℕ → List ℕ → Type 0
 Stands Adds a b = (text : List ℕ) × (b ≡ a ++ text) × ((z : List ℕ) → Adds z (z ++ text))
-
--- lines
-pub line_pushed : (Is : List ℕ → Type 0) (a b : List ℕ) → AddsLine Is a b → Pushes (AddsLine Is []) a b
-line_pushed Is a b (line, e, is) = (line ++ 10 ∷ [], e, (line, refl, is))
-
-blocks_pushed :
-    (most : Option ℕ) (octets faults a b : List ℕ) → AddsBlocksOf most octets faults a b →
-    Pushes (AddsBlocksOf most octets faults []) a b
-blocks_pushed most octets faults a b (fronts, are, (text, e, dump)) = (text, e, (fronts, are, (text, refl, dump)))
-
-fault_pushed :
-    (most : Option ℕ) (octets a b : List ℕ) → AddsFaultOf most octets a b → Pushes (AddsFaultOf most octets []) a b
-fault_pushed most octets a b (offset, later, shown, (fronts, are, (text, e, dump)), (line, f, is)) =
-    let last = line ++ 10 ∷ [] in (
-      text ++ last,
-      after_two a shown b text last e f,
-      (offset, later, text, (fronts, are, (text, refl, dump)), (line, refl, is)),
-    )
-
-pub dump_pushed :
-    (most : Option ℕ) (octets : List ℕ) (verdict : Verdict) (a b : List ℕ) → AddsDumpOf most octets verdict a b →
-    Pushes (AddsDumpOf most octets verdict []) a b
-dump_pushed most octets AllRead a b (some, blocks) =
-    pushed_as _ _ a b (λ text is. (some, is)) (blocks_pushed most octets [] a b blocks)
-dump_pushed most octets Refused a b (inl fault) =
-    pushed_as _ _ a b (λ text is. inl is) (fault_pushed most octets a b fault)
-dump_pushed most octets Refused a b (inr (none, line)) =
-    pushed_as _ _ a b (λ text is. inr (none, is)) (line_pushed _ a b line)
-
-fault_lines : (offsets a b : List ℕ) → AddsFaultLines offsets a b → Stands (AddsFaultLines offsets) a b
-fault_lines [] a b e = ([], e ∙ sym (append-nil a), λ z. append-nil z)
-fault_lines (offset ∷ offsets) a b (first, (line, e, is), later) =
-    let own = line ++ 10 ∷ [] in
-    let rest = fault_lines offsets first b later in (
-      own ++ rest.0,
-      after_two a first b own rest.0 e rest.1,
-      λ z. (
-        z ++ own,
-        (line, refl, is),
-        subst (AddsFaultLines offsets (z ++ own)) (append_assoc z own rest.0) (rest.2 (z ++ own)),
-      ),
-    )
-
-pub strict_dump_pushed :
-    (most : Option ℕ) (octets : List ℕ) (verdict : Verdict) (a b : List ℕ) →
-    AddsStrictDumpOf most octets verdict a b → Pushes (AddsStrictDumpOf most octets verdict []) a b
-strict_dump_pushed most octets verdict a b (inl (some, (fronts, faults, shown, are, (text, e, dump), lines, is))) =
-    let last = fault_lines _ shown b lines in (
-      text ++ last.0,
-      after_two a shown b text last.0 e last.1,
-      inl (some, (fronts, faults, text, are, (text, refl, dump), last.2 text, is)),
-    )
-strict_dump_pushed most octets verdict a b (inr (none, refused, line)) =
-    pushed_as _ _ a b (λ text is. inr (none, refused, is)) (line_pushed _ a b line)
 
 -- JSON
 first_fault :
@@ -177,10 +121,10 @@ shows_pushed lines octets a b h = (
 
 -- the line of a name
 pub title_pushed :
-    (name other a b : List ℕ) → other ≡ name → AddsLine (IsNote equals_sign (escaped other)) a b →
+    (name other a b : List ℕ) → other ≡ name →
+    Pushes (IsLine (IsNote equals_sign (escaped other))) a b →
     Pushes (IsTitle name) a b
-title_pushed name other a b e h =
-    subst (λ z. Pushes (IsTitle z) a b) e (line_pushed (IsNote equals_sign (escaped other)) a b h)
+title_pushed name other a b e h = subst (λ z. Pushes (IsTitle z) a b) e h
 
 -- a section of a page, whose lines are a dump that was pushed after nothing
 pub section_pushed :
@@ -210,11 +154,9 @@ page_name_pushed name none line lines octets a b n (text, e, is) same these show
 -- the line of why there are no octets
 pub refusal_pushed :
     (strict : Bool) (most : Option ℕ) (why : List ℕ) (verdict : Verdict) (a b : List ℕ) →
-    (verdict ≡ Refused) × AddsLine (IsNote exclamation_mark why) a b →
-    Pushes (IsFoundDump strict most None verdict) a b
-refusal_pushed strict most why verdict a b (refused, line) =
-    pushed_as _ (IsFoundDump strict most None verdict) a b (λ text is. (refused, (why, is)))
-    (line_pushed (IsNote exclamation_mark why) a b line)
+    Pushes (IsRefusal why verdict) a b → Pushes (IsFoundDump strict most None verdict) a b
+refusal_pushed strict most why verdict a b =
+    pushed_as _ (IsFoundDump strict most None verdict) a b (λ text is. (why, is))
 
 -- the lines of octets, strictly or not
 pub read_pushed :

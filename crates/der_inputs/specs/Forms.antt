@@ -2,36 +2,30 @@
 use Rattle.std.specs.Prelude.{◌≡◌, ℕ, Bool, true, false, List, [], ◌++◌, Option, Some, None, unwrap_or}
 use Rattle.der_color.specs.Paints.{Paints}
 use Rattle.der_html.specs.Page.{Shows}
-use Rattle.der_io.specs.Characters.{equals_sign, exclamation_mark}
+use Rattle.der_io.specs.Characters.{equals_sign}
 use Rattle.der_io.specs.Escaped.{escaped}
 use Rattle.der_io.specs.Lines.{lines_of}
 use Rattle.der_inputs.specs.Findings.{Finding}
 use Rattle.der_inputs.specs.Json.{IsJson}
 use Rattle.der_inputs.specs.declared.show.Form.{Form}
 use Rattle.der_inputs.specs.declared.show.Form.TheVariants.{Json, Lines, Page}
-use Rattle.der_lines.specs.Dump.{AddsDumpOf, AddsLine, AddsStrictDumpOf, IsNote}
+use Rattle.der_lines.specs.Dump.{IsDumpOf, IsLine, IsNote, IsRefusal}
 use Rattle.der_lines.specs.declared.document.Verdict.{Verdict}
-use Rattle.der_lines.specs.declared.document.Verdict.TheVariants.{Refused}
 
 -- the line `=` and a name or a label, escaped
 abbrev pub IsTitle : List ℕ → List ℕ → Type 0
-IsTitle name text = AddsLine (IsNote equals_sign (escaped name)) [] text
+IsTitle name text = IsLine (IsNote equals_sign (escaped name)) text
 
 -- so of a label, where there is one
 abbrev pub IsLabel : Option (List ℕ) → List ℕ → Type 0
 IsLabel None text = text ≡ []
 IsLabel (Some label) text = IsTitle label text
 
--- the dump of octets, read strictly or not, with no more than so many blocks around a block, where there is a most
-abbrev pub IsOctetsDump : Bool → Option ℕ → List ℕ → Verdict → List ℕ → Type 0
-IsOctetsDump false most octets verdict text = AddsDumpOf most octets verdict [] text
-IsOctetsDump true most octets verdict text = AddsStrictDumpOf most octets verdict [] text
-
--- so, or a line `!` in words where there are none to be read
+-- the dump of octets, read strictly or not, with no more than so many blocks around a block, where there is a most; or
+-- a line `!` in words where there are none to be read
 abbrev pub IsFoundDump : Bool → Option ℕ → Option (List ℕ) → Verdict → List ℕ → Type 0
-IsFoundDump strict most (Some octets) verdict text = IsOctetsDump strict most octets verdict text
-IsFoundDump strict most None verdict text =
-    (verdict ≡ Refused) × ((why : List ℕ) × AddsLine (IsNote exclamation_mark why) [] text)
+IsFoundDump strict most (Some octets) verdict text = IsDumpOf strict most octets verdict text
+IsFoundDump strict most None verdict text = (why : List ℕ) × IsRefusal why verdict text
 
 -- a dump under the line of its label
 abbrev pub IsDump : Bool → Option ℕ → Finding → Verdict → List ℕ → Type 0

@@ -1,8 +1,9 @@
 // How what is found is shown.
 ghost use Rattle.std.specs.Prelude.{◌≡◌, [], IfOk, OnOk, false, map, unwrap_or};
 ghost use Rattle.std.specs.Option.{option_map};
-ghost use Rattle.der_inputs.specs.Forms.{IsDump, IsFoundDump, IsFramed, IsLabel, IsName, IsOctetsDump, IsSection};
+ghost use Rattle.der_inputs.specs.Forms.{IsDump, IsFoundDump, IsFramed, IsLabel, IsName, IsSection};
 ghost use Rattle.der_inputs.specs.Forms.{form_by};
+ghost use Rattle.der_lines.specs.Dump.{IsDumpOf};
 ghost use Rattle.der_inputs.specs.Inputs.{AreShown, IsFindingText, are_colors_shown as colors_shown, names_shown};
 ghost use Rattle.der_inputs.specs.Inputs.{wanted_by};
 ghost use Rattle.der_inputs.specs.Outcomes.{both_read};
@@ -145,7 +146,7 @@ impl Show {
     }
 
     fn push_octets(&self, octets: &[u8], out: &mut Vec<u8>) -> Result<Verdict, AllocError>
-        ensures { IfOk result (λ verdict. Pushes (IsOctetsDump self.now.is_strict self.now.style.most_depth
+        ensures { IfOk result (λ verdict. Pushes (IsDumpOf self.now.is_strict self.now.style.most_depth
             octets.now verdict) out.old.items out.new.items) }
     {
         if self.is_strict {

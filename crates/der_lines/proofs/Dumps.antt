@@ -3,13 +3,13 @@ use Rattle.std.proofs.Common.{◌≡◌, ◌≢◌, ◌==◌, ℕ, zero, suc, �
 use Rattle.std.proofs.Common.{Bool, true, false, refl, sym, ap, ◌∙◌, subst, append_assoc, append-nil, arith, length}
 use Rattle.std.proofs.lemmas.List.{drop-drop}
 use Rattle.std.proofs.lemmas.Bool.{eqb-false, eqb-true}
-use Rattle.std.proofs.lemmas.List.Elements.{All-append, All-cons, All-head, All-nil, All-tail}
+use Rattle.std.proofs.lemmas.List.Elements.{All-cons, All-head, All-nil, All-tail}
 use Rattle.std.specs.Fmt.{decimal}
 use Rattle.std.specs.Prelude.{Option, Result, Ok, Err, OnOk}
 use Rattle.std.specs.declared.alloc.AllocError.{AllocError}
-use Rattle.der_lines.specs.Dump.{Adds, AddsFaultLines, AddsLine, Front, IsBlockLine, IsDump, IsFaultLine, IsInsideLine, IsNote, IsOneLine}
+use Rattle.der_lines.specs.Dump.{Adds, AreFaultLines, Front, IsBlockLine, IsDump, IsFaultLine, IsInsideLine, IsLine, IsMark, IsNote, IsOneLine}
 use Rattle.der_lines.specs.Dump.{StandAt, StandsInside, block_line, down_to, inside_line, is_too_deep, no_lines, on_one_line, right_of}
-use Rattle.der_lines.specs.Steps.{AddsMark, AddsUnless, IsLineOf, outer, start_text}
+use Rattle.der_lines.specs.Steps.{IsLineOf, IsLineUnless, outer, start_text}
 
 -- a dump after a dump
 pub dump_join : (P : Front → Type 0) (fs gs : List Front) (a b : List ℕ) → IsDump P fs a → IsDump P gs b → IsDump P (fs ++ gs) (a ++ b)
@@ -26,30 +26,29 @@ dump_map P Q m fs a (no_lines p q) = no_lines p q
 dump_map P Q m fs a (block_line f later line rest p q l d) = block_line f later line rest p q l (dump_map P Q m later rest d)
 dump_map P Q m fs a (inside_line f line rest q l i d) = inside_line f line rest q l (m f i) (dump_map P Q m fs rest d)
 
-pub adds_map : (P Q : Front → Type 0) → ((f : Front) → P f → Q f) → (fs : List Front) (a b : List ℕ) → Adds P fs a b → Adds Q fs a b
-adds_map P Q m fs a b (text, is, d) = (text, is, dump_map P Q m fs text d)
+-- a text of another kind
+pub adds_as :
+    (Is Other : List ℕ → Type 0) (a b : List ℕ) → ((text : List ℕ) → Is text → Other text) → Adds Is a b → Adds Other a b
+adds_as Is Other a b turn (text, e, is) = (text, e, turn text is)
 
-pub adds_nothing : (P : Front → Type 0) (a : List ℕ) → Adds P [] a a
-adds_nothing P a = ([], sym (append-nil a), no_lines refl refl)
+-- nothing
+pub adds_none : (Is : List ℕ → Type 0) (a : List ℕ) → Is [] → Adds Is a a
+adds_none Is a is = ([], sym (append-nil a), is)
 
-pub adds_join : (P : Front → Type 0) (fs gs : List Front) (a b c : List ℕ) → Adds P fs a b → Adds P gs b c → Adds P (fs ++ gs) a c
-adds_join P fs gs a b c (x, p, d) (y, q, e) =
-    (x ++ y, q ∙ (ap (λ z. z ++ y) p ∙ append_assoc a x y), dump_join P fs gs x y d e)
+-- one text and then another
+pub adds_both :
+    (Is Later Other : List ℕ → Type 0) (a b c : List ℕ) →
+    ((text more : List ℕ) → Is text → Later more → Other (text ++ more)) → Adds Is a b → Adds Later b c → Adds Other a c
+adds_both Is Later Other a b c turn (text, e, is) (more, f, later) =
+    (text ++ more, f ∙ (ap (λ z. z ++ more) e ∙ append_assoc a text more), turn text more is later)
 
--- one line
-pub adds_block : (P : Front → Type 0) (f : Front) (a b : List ℕ) → AddsLine (IsBlockLine f) a b → Adds P (f ∷ []) a b
-adds_block P f a b (line, is, l) = (line ++ 10 ∷ [], is, block_line f [] line [] refl refl l (no_lines refl refl))
-
-pub adds_inside : (P : Front → Type 0) (f : Front) (a b : List ℕ) → AddsLine (IsInsideLine f) a b → P f → Adds P [] a b
-adds_inside P f a b (line, is, l) i = (line ++ 10 ∷ [], is, inside_line f line [] refl l i (no_lines refl refl))
-
-adds_unless :
-    (P : Front → Type 0) (inside q : Bool) (f : Front) (a b : List ℕ) → AddsUnless q inside f a b → P f →
-    Adds P (if inside then [] else if q then [] else f ∷ []) a b
-adds_unless P true true f a b e i = subst (Adds P [] a) (sym e) (adds_nothing P a)
-adds_unless P true false f a b line i = adds_inside P f a b line i
-adds_unless P false true f a b e i = subst (Adds P [] a) (sym e) (adds_nothing P a)
-adds_unless P false false f a b line i = adds_block P f a b line
+dump_unless :
+    (P : Front → Type 0) (inside q : Bool) (f : Front) (text : List ℕ) → IsLineUnless q inside f text → P f →
+    IsDump P (if inside then [] else if q then [] else f ∷ []) text
+dump_unless P true true f text e i = no_lines refl e
+dump_unless P true false f text (line, e, l) i = inside_line f line [] e l i (no_lines refl refl)
+dump_unless P false true f text e i = no_lines refl e
+dump_unless P false false f text (line, e, l) i = block_line f [] line [] refl e l (no_lines refl refl)
 
 outer_one :
     (inside : Bool) (most : Option ℕ) (f : Front) →
@@ -58,11 +57,11 @@ outer_one true most f = refl
 outer_one false most f = refl
 
 -- the line of an encoding, unless it stands too deep
-pub start_adds :
-    (P : Front → Type 0) (inside : Bool) (most : Option ℕ) (f : Front) (a b : List ℕ) →
-    AddsUnless (is_too_deep most f.depth) inside f a b → P f → Adds P (outer inside most (f ∷ [])) a b
-start_adds P inside most f a b put i =
-    subst (λ z. Adds P z a b) (sym (outer_one inside most f)) (adds_unless P inside (is_too_deep most f.depth) f a b put i)
+pub start_dump :
+    (P : Front → Type 0) (inside : Bool) (most : Option ℕ) (f : Front) (text : List ℕ) →
+    IsLineUnless (is_too_deep most f.depth) inside f text → P f → IsDump P (outer inside most (f ∷ [])) text
+start_dump P inside most f text line i =
+    subst (λ z. IsDump P z text) (sym (outer_one inside most f)) (dump_unless P inside (is_too_deep most f.depth) f text line i)
 
 down_to_join_one :
     (q : Bool) (f : Front) (xs ys zs : List Front) → xs ≡ ys ++ zs →
@@ -107,56 +106,61 @@ stays_on_one_line (b ∷ text) one =
 -- the parts of the line of an encoding
 pub line_put :
     (a b c d e k g text : List ℕ) (width : ℕ) (f : Front) → b ≡ a ++ right_of width f.offset → c ≡ b ++ 32 ∷ [] →
-    d ≡ c ++ start_text f → e ≡ d ++ on_one_line text → AddsMark f.marked e k → g ≡ k ++ 10 ∷ [] →
-    AddsLine (IsBlockLine f) a g
-line_put a b c d e k g text width f p q r s (mark, m, is, one) t =
+    d ≡ c ++ start_text f → e ≡ d ++ on_one_line text → Adds (IsMark f.marked) e k → g ≡ k ++ 10 ∷ [] →
+    Adds (IsLine (IsBlockLine f)) a g
+line_put a b c d e k g text width f p q r s (mark, m, is) t =
     let said = on_one_line text in
     let spaces = width - length (decimal f.offset) in
     let line : List ℕ = replicate spaces 32 ++ (decimal f.offset ++ (32 ∷ start_text f ++ (said ++ mark))) in
     let whole : g ≡ a ++ (line ++ 10 ∷ []) = rw (t, m, s, r, q, p) (simp append_assoc) in (
-      line,
+      line ++ 10 ∷ [],
       whole,
-      record {
-        spaces = spaces;
-        said = said;
-        mark = mark;
-        line_is = simp append_assoc;
-        one = has_one_line text;
-        mark_is = is;
-        one_mark = one;
-      },
+      (
+        line,
+        refl,
+        record {
+          spaces = spaces;
+          said = said;
+          mark = mark;
+          line_is = simp append_assoc;
+          one = has_one_line text;
+          mark_is = is;
+        },
+      ),
     )
 
 -- the line of an encoding after its mark
-pub inside_put : (a b c : List ℕ) (f : Front) → b ≡ a ++ 62 ∷ [] → AddsLine (IsBlockLine f) b c → AddsLine (IsInsideLine f) a c
-inside_put a b c f p (line, is, l) = (
-  62 ∷ line,
-  is ∙ (ap (λ z. z ++ (line ++ 10 ∷ [])) p ∙ append_assoc a (62 ∷ []) (line ++ 10 ∷ [])),
-  record { shown = line; line_is = refl; block = l },
+pub inside_put :
+    (a b c : List ℕ) (f : Front) → b ≡ a ++ 62 ∷ [] → Adds (IsLine (IsBlockLine f)) b c → Adds (IsLine (IsInsideLine f)) a c
+inside_put a b c f p (text, is, (line, e, l)) = (
+  62 ∷ text,
+  is ∙ (ap (λ z. z ++ text) p ∙ append_assoc a (62 ∷ []) text),
+  (62 ∷ line, ap (λ z. 62 ∷ z) e, record { shown = line; line_is = refl; block = l }),
 )
 
 pub line_inside :
     (r : Result (Unit {0}) AllocError) (inside : Bool) (f : Front) (a b c : List ℕ) → inside ≡ true → b ≡ a ++ 62 ∷ [] →
-    OnOk r (AddsLine (IsBlockLine f) b c) → OnOk r (AddsLine (IsLineOf inside f) a c)
-line_inside (Ok u) inside f a b c e p line = subst (λ z. AddsLine (IsLineOf z f) a c) (sym e) (inside_put a b c f p line)
+    OnOk r (Adds (IsLine (IsBlockLine f)) b c) → OnOk r (Adds (IsLine (IsLineOf inside f)) a c)
+line_inside (Ok u) inside f a b c e p line =
+    subst (λ z. Adds (IsLine (IsLineOf z f)) a c) (sym e) (inside_put a b c f p line)
 line_inside (Err x) inside f a b c e p line = tt
 
 -- the parts of a note
 pub note_put : (a b c d e text : List ℕ) (mark : ℕ) → b ≡ a ++ mark ∷ [] → c ≡ b ++ 32 ∷ [] → d ≡ c ++ on_one_line text
-    → e ≡ d ++ 10 ∷ [] → AddsLine (IsNote mark text) a e
+    → e ≡ d ++ 10 ∷ [] → Adds (IsLine (IsNote mark text)) a e
 note_put a b c d e text mark p q r s =
     let line : List ℕ = mark ∷ 32 ∷ on_one_line text in
     let whole : e ≡ a ++ (line ++ 10 ∷ []) = rw (s, r, q, p) (simp append_assoc) in
-    (line, whole, refl)
+    (line ++ 10 ∷ [], whole, (line, refl, refl))
 
 -- the parts of the line of a fault
 pub fault_put : (a b c d e f g text : List ℕ) (offset : ℕ) → b ≡ a ++ codes "! error at offset " → c ≡ b ++ decimal offset
-    → d ≡ c ++ 58 ∷ [] → e ≡ d ++ 32 ∷ [] → f ≡ e ++ on_one_line text → g ≡ f ++ 10 ∷ [] → AddsLine (IsFaultLine offset) a g
+    → d ≡ c ++ 58 ∷ [] → e ≡ d ++ 32 ∷ [] → f ≡ e ++ on_one_line text → g ≡ f ++ 10 ∷ [] → Adds (IsLine (IsFaultLine offset)) a g
 fault_put a b c d e f g text offset p q r s t u =
     let said = on_one_line text in
     let line : List ℕ = codes "! error at offset " ++ decimal offset ++ 58 ∷ 32 ∷ said in
     let whole : g ≡ a ++ (line ++ 10 ∷ []) = rw (u, t, s, r, q, p) (simp append_assoc) in
-    (line, whole, record { said = said; line_is = refl; one = has_one_line text })
+    (line ++ 10 ∷ [], whole, (line, refl, record { said = said; line_is = refl; one = has_one_line text }))
 
 -- octets among octets among octets
 drop-append : (n : ℕ) (xs ys : List ℕ) → (zs : List ℕ) × (drop n (xs ++ ys) ≡ drop n xs ++ zs)
@@ -193,18 +197,23 @@ inside_deeper octets part base m further f at e s =
 -- a mark
 pub mark_put :
     (a b c d words : List ℕ) → b ≡ a ++ codes " (not DER: " → c ≡ b ++ on_one_line words → d ≡ c ++ 41 ∷ [] →
-    AddsMark true a d
+    Adds (IsMark true) a d
 mark_put a b c d words p q r =
     let mark = codes " (not DER: " ++ (on_one_line words ++ codes ")") in
     let whole : d ≡ a ++ mark = rw (r, q, p) (simp append_assoc) in
-    let one =
-    All-append (λ b. b ≢ 10) (codes " (not DER: ") (on_one_line words ++ codes ")") (has_one_line (codes " (not DER: "))
-    (All-append (λ b. b ≢ 10) (on_one_line words) (codes ")") (has_one_line words) (has_one_line (codes ")")))
-    in
-    (mark, whole, (on_one_line words, refl), one)
+    (mark, whole, (on_one_line words, has_one_line words, refl))
 
--- lines of faults after lines of faults
+-- lines of faults
+pub fault_line : (offset : ℕ) (text : List ℕ) → IsLine (IsFaultLine offset) text → AreFaultLines (offset ∷ []) text
+fault_line offset text line = (text, [], sym (append-nil text), line, refl)
+
 pub fault_lines_join :
-    (xs ys a b c : List ℕ) → AddsFaultLines xs a b → AddsFaultLines ys b c → AddsFaultLines (xs ++ ys) a c
-fault_lines_join [] ys a b c e more = subst (λ z. AddsFaultLines ys z c) e more
-fault_lines_join (x ∷ xs) ys a b c (first, line, others) more = (first, line, fault_lines_join xs ys first b c others more)
+    (xs ys a b : List ℕ) → AreFaultLines xs a → AreFaultLines ys b → AreFaultLines (xs ++ ys) (a ++ b)
+fault_lines_join [] ys a b e more = subst (λ z. AreFaultLines ys (z ++ b)) (sym e) more
+fault_lines_join (x ∷ xs) ys a b (first, later, e, line, others) more = (
+  first,
+  later ++ b,
+  ap (λ z. z ++ b) e ∙ append_assoc first later b,
+  line,
+  fault_lines_join xs ys later b others more,
+)

@@ -9,14 +9,14 @@ use Rattle.asn1_headers.specs.Header.{Encoding, IsLength}
 use Rattle.asn1_headers.specs.declared.header.ASN1Class.{ASN1Class}
 use Rattle.asn1_blocks.specs.Grammar.{Encodes}
 use Rattle.asn1_blocks.specs.Tree.{Tree}
-use Rattle.der_lines.specs.Dump.{Adds, Front, IsFirst, IsJudged, IsLater, StandAt, StandsInside, cut_short, is_wide}
+use Rattle.der_lines.specs.Dump.{Adds, Front, IsDump, IsFirst, IsJudged, IsLater, StandAt, StandsInside, cut_short, is_wide}
 use Rattle.der_lines.specs.Dump.{begins_with_end, end_of_contents, is_stray_form, of_cut, of_stray_form, tag_words, taken}
 use Rattle.der_lines.specs.Dump.{unreadable, with_encodings, with_no_value, with_value}
 use Rattle.asn1_headers.specs.Front.{BeginsWithHeader, HasIndefiniteForm, HasNoHeader}
 use Rattle.der_lines.specs.Headers.{is_gone_into}
 use Rattle.asn1_headers.specs.Front.{IsAtFront}
-use Rattle.der_lines.specs.Steps.{AddsStart, IsFirstFault, IsMarkedFirst, IsNear, IsRight, IsTaken, PutsEncodings, PutsFirst, StartsWith}
-use Rattle.der_lines.specs.Steps.{IsLeafTold, PutsAs, PutsNext, StartsNext, header_front, outer}
+use Rattle.der_lines.specs.Steps.{IsFirstDump, IsFirstFault, IsMarkedFirst, IsNear, IsRight, IsStart, IsTaken, IsWholeDump, StartsWith}
+use Rattle.der_lines.specs.Steps.{IsDumpAs, IsLeafTold, IsNextDump, StartsNext, header_front, outer}
 use Rattle.der_lines.specs.declared.cursor.Left.{Left}
 use Rattle.der_lines.specs.declared.cursor.Step.{Step}
 use Rattle.der_lines.specs.declared.cursor.Step.TheVariants.{Into, Out, Past}
@@ -25,7 +25,7 @@ use Rattle.der_lines.specs.declared.encodings.Passed.{Passed}
 use Rattle.der_lines.specs.declared.faults.Fault.{Fault}
 use Rattle.asn1_headers.specs.declared.front.Header.{Header}
 use Rattle.der_lines.specs.declared.place.Place.{Place}
-use Rattle.der_lines.proofs.Dumps.{adds_join, adds_map, inside_deeper, start_adds}
+use Rattle.der_lines.proofs.Dumps.{adds_as, dump_join, dump_map, inside_deeper, start_dump}
 use Rattle.der_lines.proofs.Seeking.{header_size}
 
 pub puts_as :
@@ -33,25 +33,29 @@ pub puts_as :
     (front shown : Front) (faults a b : List ℕ) →
     Starts front passed.step faults → front.offset ≡ offset → shown.depth ≡ place.depth →
     IsLater place.base front shown → IsFirstFault faults passed.fault → passed.is_marked ≡ front.marked →
-    AddsStart place shown a b → PutsAs Starts place offset left passed a b
-puts_as Starts place offset left passed front shown faults a b starts o d later told mark put = record {
-  front = front;
-  shown = shown;
-  faults = faults;
-  starts = starts;
-  same_offset = o;
-  same_depth = d;
-  later = later;
-  told = told;
-  same_mark = mark;
-  adds = start_adds (IsNear place.base left front) place.is_inside place.most_depth shown a b put (inl later);
-}
+    Adds (IsStart place shown) a b → Adds (IsDumpAs Starts place offset left passed) a b
+puts_as Starts place offset left passed front shown faults a b starts o d later told mark (text, e, put) = (
+  text,
+  e,
+  record {
+    front = front;
+    shown = shown;
+    faults = faults;
+    starts = starts;
+    same_offset = o;
+    same_depth = d;
+    later = later;
+    told = told;
+    same_mark = mark;
+    dump = start_dump (IsNear place.base left front) place.is_inside place.most_depth shown text put (inl later);
+  },
+)
 
 pub puts_first :
     (place : Place) (offset : ℕ) (left : List ℕ) (passed : Passed) (front shown : Front) (faults a b : List ℕ) →
     StartsWith left offset place.depth front passed.step faults → front.offset ≡ offset → shown.depth ≡ place.depth →
     IsLater place.base front shown → IsFirstFault faults passed.fault → passed.is_marked ≡ front.marked →
-    AddsStart place shown a b → PutsFirst place offset left passed a b
+    Adds (IsStart place shown) a b → Adds (IsFirstDump place offset left passed) a b
 puts_first place offset left = puts_as (StartsWith left offset place.depth) place offset left
 
 starts_next :
@@ -64,10 +68,10 @@ starts_next left offset depth front (Out size) faults e some starts = absurd sta
 
 -- an encoding, where no end-of-contents octets end what is left
 puts_next :
-    (place : Place) (offset : ℕ) (left : Left) (passed : Passed) (a b : List ℕ) →
+    (place : Place) (offset : ℕ) (left : Left) (passed : Passed) (text : List ℕ) →
     (left.is_indefinite && begins_with_end left.octets.now) ≡ false → 0 < length left.octets.now →
-    PutsFirst place offset left.octets.now passed a b → PutsNext place offset left passed a b
-puts_next place offset left passed a b e some put = record {
+    IsFirstDump place offset left.octets.now passed text → IsNextDump place offset left passed text
+puts_next place offset left passed text e some put = record {
   front = put.front;
   shown = put.shown;
   faults = put.faults;
@@ -77,15 +81,16 @@ puts_next place offset left passed a b e some put = record {
   later = put.later;
   told = put.told;
   same_mark = put.same_mark;
-  adds = put.adds;
+  dump = put.dump;
 }
 
 pub puts_next_ok :
     {E : Type 0} (result : Result Passed E) (place : Place) (offset : ℕ) (left : Left) (a b : List ℕ) →
     (left.is_indefinite && begins_with_end left.octets.now) ≡ false → 0 < length left.octets.now →
-    IfOk result (λ passed. PutsFirst place offset left.octets.now passed a b) →
-    IfOk result (λ passed. PutsNext place offset left passed a b)
-puts_next_ok (Ok passed) place offset left a b e some put = puts_next place offset left passed a b e some put
+    IfOk result (λ passed. Adds (IsFirstDump place offset left.octets.now passed) a b) →
+    IfOk result (λ passed. Adds (IsNextDump place offset left passed) a b)
+puts_next_ok (Ok passed) place offset left a b e some put =
+    adds_as _ _ a b (λ text. puts_next place offset left passed text e some) put
 puts_next_ok (Err error) place offset left a b e some put = put
 
 -- end-of-contents octets
@@ -95,7 +100,8 @@ pub puts_end :
     (((size ≡ 2) × (begins_with_end left.octets.now ≡ true) × (faults ≡ []))
     ⊎ ((size ≡ 0) × (left.octets.now ≡ []) × (faults ≡ offset ∷ []))) →
     IsFirstFault faults passed.fault → passed.is_marked ≡ false →
-    AddsStart place (end_of_contents (place.base + offset) size place.depth) a b → PutsNext place offset left passed a b
+    Adds (IsStart place (end_of_contents (place.base + offset) size place.depth)) a b →
+    Adds (IsNextDump place offset left passed) a b
 puts_end place offset size left passed faults a b within s is told mark put =
     let front = end_of_contents offset size place.depth in
     puts_as (StartsNext left offset place.depth) place offset left.octets.now passed front
@@ -109,7 +115,7 @@ pub puts_unreadable :
     (place : Place) (offset : ℕ) (left : List ℕ) (passed : Passed) (shown : Front) (a b : List ℕ) → HasNoHeader left →
     passed.step ≡ Past (length left) → IsFirstFault (offset ∷ []) passed.fault → shown.offset ≡ place.base + offset →
     shown.header ≡ 0 → shown.contents ≡ length left → shown.indefinite ≡ false → shown.depth ≡ place.depth → shown.words ≡ codes "unreadable" →
-    shown.marked ≡ false → passed.is_marked ≡ false → AddsStart place shown a b → PutsFirst place offset left passed a b
+    shown.marked ≡ false → passed.is_marked ≡ false → Adds (IsStart place shown) a b → Adds (IsFirstDump place offset left passed) a b
 puts_unreadable place offset left passed shown a b none s told o h c i d w m mark put =
     puts_first place offset left passed (unreadable offset (length left) place.depth) shown (offset ∷ []) a b
     (subst (λ z. StartsWith left offset place.depth (unreadable offset (length left) place.depth) z (offset ∷ [])) (sym s)
@@ -267,9 +273,9 @@ pub leaf_puts :
     shown.offset ≡ place.base + offset → shown.header ≡ header.size → shown.contents ≡ header.announced →
     shown.indefinite ≡ header.is_indefinite → shown.depth ≡ place.depth →
     shown.words ≡ tag_words header.class header.tag → shown.marked ≡ marked → passed.is_marked ≡ marked →
-    AddsStart place shown a m → Adds (StandsInside (place.base + (offset + header.size)) contents) [] m b →
-    PutsFirst place offset left passed a b
-leaf_puts place offset left contents marked header size step passed shown a m b h is_marked form e taken_by is goes (faults, judged, told) so sh sc si sd sw sm mark put inside =
+    Adds (IsStart place shown) a m → Adds (IsDump (StandsInside (place.base + (offset + header.size)) contents) []) m b →
+    Adds (IsFirstDump place offset left passed) a b
+leaf_puts place offset left contents marked header size step passed shown a m b h is_marked form e taken_by is goes (faults, judged, told) so sh sc si sd sw sm mark (x, p, put) (y, q, inside) =
     let front = header_front offset place.depth marked header in
     let P = IsNear place.base left front in
     let later : IsLater place.base front shown =
@@ -279,33 +285,39 @@ leaf_puts place offset left contents marked header size step passed shown a m b 
       sym (slice_whole left header.size (header.size + header.announced)) ∙ ap (λ z. z ++ drop (header.size + header.announced - header.size) (drop header.size left)) (sym e),
     )
     in
-    let deeper = adds_map (StandsInside (place.base + (offset + header.size)) contents) P
-    (λ p s. inr (inside_deeper left contents (place.base + offset) header.size (place.base + (offset + header.size)) p stands (omega arith) s))
-    [] m b inside
+    let deeper = dump_map (StandsInside (place.base + (offset + header.size)) contents) P
+    (λ f s. inr (inside_deeper left contents (place.base + offset) header.size (place.base + (offset + header.size)) f stands (omega arith) s))
+    [] y inside
     in
-    let all = adds_join P (outer place.is_inside place.most_depth (shown ∷ [])) [] a m b
-    (start_adds P place.is_inside place.most_depth shown a m put (inl later)) deeper
-    in
-    record {
-      front = front;
-      shown = shown;
-      faults = faults;
-      starts = subst (λ z. StartsWith left offset place.depth front z faults) (sym goes)
-          (whole_starts left offset place.depth marked header size step faults h form judged is_marked taken_by is);
-      same_offset = refl;
-      same_depth = sd;
-      later = later;
-      told = told;
-      same_mark = mark;
-      adds = subst (λ z. Adds P z a b) (append-nil (outer place.is_inside place.most_depth (shown ∷ []))) all;
-    }
+    let all = dump_join P (outer place.is_inside place.most_depth (shown ∷ [])) [] x y
+    (start_dump P place.is_inside place.most_depth shown x put (inl later)) deeper
+    in (
+      x ++ y,
+      q ∙ (ap (λ z. z ++ y) p ∙ append_assoc a x y),
+      record {
+        front = front;
+        shown = shown;
+        faults = faults;
+        starts = subst (λ z. StartsWith left offset place.depth front z faults) (sym goes)
+            (whole_starts left offset place.depth marked header size step faults h form judged is_marked taken_by is);
+        same_offset = refl;
+        same_depth = sd;
+        later = later;
+        told = told;
+        same_mark = mark;
+        dump = subst (λ z. IsDump P z (x ++ y)) (append-nil (outer place.is_inside place.most_depth (shown ∷ []))) all;
+      },
+    )
 
 -- the lines of encodings inside contents octets
 pub nested_adds :
     (inside : Place) (contents octets : List ℕ) (base before : ℕ) (told : Found) (a b : List ℕ) → StandAt contents before octets →
-    inside.is_inside ≡ true → inside.base ≡ base + before → PutsEncodings inside octets told a b →
-    Adds (StandsInside base contents) [] a b
-nested_adds inside contents octets base before told a b stand is_inside further put =
-    adds_map (StandsInside inside.base octets) (StandsInside base contents)
-    (λ p s. inside_deeper contents octets base before inside.base p stand further s) [] a b
-    (subst (λ z. Adds (StandsInside inside.base octets) (outer z inside.most_depth put.fronts) a b) is_inside put.adds)
+    inside.is_inside ≡ true → inside.base ≡ base + before → Adds (IsWholeDump inside octets told) a b →
+    Adds (IsDump (StandsInside base contents) []) a b
+nested_adds inside contents octets base before told a b stand is_inside further (text, e, put) = (
+  text,
+  e,
+  dump_map (StandsInside inside.base octets) (StandsInside base contents)
+      (λ p s. inside_deeper contents octets base before inside.base p stand further s) [] text
+      (subst (λ z. IsDump (StandsInside inside.base octets) (outer z inside.most_depth put.fronts) text) is_inside put.dump),
+)

@@ -3,8 +3,8 @@ use Rattle.std.proofs.Common.{◌≡◌, ◌⊎◌, inl, inr, ℕ, ◌+◌, ◌-
 use Rattle.std.proofs.Common.{drop, length, reverse, slice_range, refl, sym, ap, ◌∙◌, subst, append_assoc, append-nil, arith}
 use Rattle.std.proofs.lemmas.List.{take-append-drop}
 use Rattle.std.specs.Prelude.{Option, None, Some}
-use Rattle.der_lines.specs.Dump.{Adds, AreFrontsOf, Front, IsLater, StandAt, StandsInside, end_at, marked_offsets}
-use Rattle.der_lines.specs.Steps.{Goes, HasLeft, IsAhead, IsFirstFault, IsLeftOf, IsNear, PutsEncodings, PutsNext}
+use Rattle.der_lines.specs.Dump.{AreFrontsOf, Front, IsDump, IsLater, StandAt, StandsInside, end_at, marked_offsets, no_lines}
+use Rattle.der_lines.specs.Steps.{Goes, HasLeft, IsAhead, IsFirstFault, IsLeftOf, IsNear, IsNextDump, IsWholeDump}
 use Rattle.der_lines.specs.Steps.{earlier_fault, ends_of, marked_offset, outer}
 use Rattle.der_lines.specs.declared.cursor.Cursor.{Cursor}
 use Rattle.der_lines.specs.declared.cursor.Left.{Left}
@@ -13,7 +13,7 @@ use Rattle.der_lines.specs.declared.encodings.Passed.{Passed}
 use Rattle.der_lines.specs.declared.faults.Fault.{Fault}
 use Rattle.der_lines.specs.declared.place.Place.{Place}
 use Rattle.der_lines.proofs.Cursors.{ahead_back, ahead_is, depth_is, next_again, step_goes, with_depth}
-use Rattle.der_lines.proofs.Dumps.{adds_join, adds_map, adds_nothing, inside_deeper, outer_join, outer_none}
+use Rattle.der_lines.proofs.Dumps.{dump_join, dump_map, inside_deeper, outer_join, outer_none}
 
 abbrev pub IsAmong : List Front → Front → Type 0
 IsAmong fronts f = (earlier others : List Front) × (fronts ≡ earlier ++ f ∷ others)
@@ -23,7 +23,7 @@ abbrev pub IsSoFar : ℕ → List ℕ → List Front → Front → Type 0
 IsSoFar base octets fronts p = ((f : Front) × IsAmong fronts f × IsLater base f p) ⊎ StandsInside base octets p
 
 -- what was put up to where the cursor stands
-pub record ShownTo (place : Place) (octets : List ℕ) (cursor : Cursor) (first : Option Fault) (marks a b : List ℕ)
+pub record ShownTo (place : Place) (octets : List ℕ) (cursor : Cursor) (first : Option Fault) (marks text : List ℕ)
     : Type 0 where
   pub fronts : List Front
   pub faults : List ℕ
@@ -31,12 +31,12 @@ pub record ShownTo (place : Place) (octets : List ℕ) (cursor : Cursor) (first 
   pub goes_on : (later : List Front) (more : List ℕ) → IsAhead cursor later more → AreFrontsOf octets (fronts ++ later) (faults ++ more)
   pub told : IsFirstFault faults first
   pub marks_are : marks ≡ marked_offsets fronts
-  pub adds : Adds (IsSoFar place.base octets fronts) (outer place.is_inside place.most_depth fronts) a b
+  pub dump : IsDump (IsSoFar place.base octets fronts) (outer place.is_inside place.most_depth fronts) text
 
 pub shown_none :
-    (place : Place) (octets : List ℕ) (cursor : Cursor) (a : List ℕ) → cursor.octets.now ≡ octets → cursor.offset ≡ 0 →
-    cursor.ends.items ≡ end_at (length octets) false ∷ [] → ShownTo place octets cursor None [] a a
-shown_none place octets cursor a o z e = record {
+    (place : Place) (octets : List ℕ) (cursor : Cursor) → cursor.octets.now ≡ octets → cursor.offset ≡ 0 →
+    cursor.ends.items ≡ end_at (length octets) false ∷ [] → ShownTo place octets cursor None [] []
+shown_none place octets cursor o z e = record {
   fronts = [];
   faults = [];
   same_octets = o;
@@ -44,8 +44,7 @@ shown_none place octets cursor a o z e = record {
       ahead_is cursor octets 0 (end_at (length octets) false ∷ []) later more o z (ap reverse e) h;
   told = refl;
   marks_are = refl;
-  adds = subst (λ l. Adds (IsSoFar place.base octets []) l a a) (sym (outer_none place.is_inside place.most_depth))
-      (adds_nothing (IsSoFar place.base octets []) a);
+  dump = no_lines (outer_none place.is_inside place.most_depth) refl;
 }
 
 make : ℕ → ℕ → ℕ → Bool → ℕ → List ℕ → Bool → Front
@@ -67,10 +66,10 @@ front_is f g o h c i d w m =
 
 -- the first line
 line_is :
-    (P : Front → Type 0) (inside : Bool) (most : Option ℕ) (f g : Front) (b c : List ℕ) → (inside ≡ false → f ≡ g) →
-    Adds P (outer inside most (f ∷ [])) b c → Adds P (outer inside most (g ∷ [])) b c
-line_is P true most f g b c e adds = adds
-line_is P false most f g b c e adds = subst (λ z. Adds P (outer false most (z ∷ [])) b c) (e refl) adds
+    (P : Front → Type 0) (inside : Bool) (most : Option ℕ) (f g : Front) (text : List ℕ) → (inside ≡ false → f ≡ g) →
+    IsDump P (outer inside most (f ∷ [])) text → IsDump P (outer inside most (g ∷ [])) text
+line_is P true most f g text e dump = dump
+line_is P false most f g text e dump = subst (λ z. IsDump P (outer false most (z ∷ [])) text) (e refl) dump
 
 later_again : (base depth : ℕ) (f p : Front) → IsLater base f p → IsLater base (with_depth depth f) p
 later_again base depth f p l =
@@ -119,14 +118,14 @@ marked_more (f ∷ fronts) g = marked_next f.marked f.offset _ _ _ (marked_more 
 
 pub shown_more :
     (place here : Place) (octets : List ℕ) (left : Left) (k m n : Cursor) (passed : Passed) (first : Option Fault)
-    (marks more_marks a b c : List ℕ) → more_marks ≡ marks ++ marked_offset passed.is_marked m.offset →
-    (place.is_inside ≡ false → (place.base ≡ 0) × (place.depth ≡ 0)) → ShownTo place octets k first marks a b →
+    (marks more_marks text own : List ℕ) → more_marks ≡ marks ++ marked_offset passed.is_marked m.offset →
+    (place.is_inside ≡ false → (place.base ≡ 0) × (place.depth ≡ 0)) → ShownTo place octets k first marks text →
     m.octets.now ≡ k.octets.now → m.offset ≡ k.offset → HasLeft m.octets.now m.offset (ends_of k) (ends_of m) →
     IsLeftOf m left → here.is_inside ≡ place.is_inside → here.base ≡ place.base →
     here.depth ≡ place.depth + (length m.ends.items - 1) → here.most_depth ≡ place.most_depth →
-    PutsNext here m.offset left passed b c → Goes passed.step m n → n.octets.now ≡ m.octets.now →
-    ShownTo place octets n (earlier_fault first passed.fault) more_marks a c
-shown_more place here octets left k m n passed first marks more_marks a b c put_marks outside s same same_offset ended at i z d most put goes kept =
+    IsNextDump here m.offset left passed own → Goes passed.step m n → n.octets.now ≡ m.octets.now →
+    ShownTo place octets n (earlier_fault first passed.fault) more_marks (text ++ own)
+shown_more place here octets left k m n passed first marks more_marks text own put_marks outside s same same_offset ended at i z d most put goes kept =
     let depth = length at.around in
     let f = put.front in
     let g = with_depth depth f in
@@ -134,27 +133,27 @@ shown_more place here octets left k m n passed first marks more_marks a b c put_
     let stands : StandAt octets m.offset left.octets.now =
     subst (λ o. StandAt o m.offset left.octets.now) (same ∙ s.same_octets)
     (left_stands m.octets.now left.octets.now m.offset at.end.offset at.octets_are) in
-    let near : Adds P (outer here.is_inside here.most_depth (put.shown ∷ [])) b c =
-    adds_map (IsNear here.base left.octets.now f) P
+    let near : IsDump P (outer here.is_inside here.most_depth (put.shown ∷ [])) own =
+    dump_map (IsNear here.base left.octets.now f) P
     (λ p h. near_so_far place.base depth m.offset octets left.octets.now s.fronts f p stands put.same_offset
     (subst (λ x. IsNear x left.octets.now f p) z h))
-    (outer here.is_inside here.most_depth (put.shown ∷ [])) b c put.adds
+    (outer here.is_inside here.most_depth (put.shown ∷ [])) own put.dump
     in
-    let mine : Adds P (outer place.is_inside place.most_depth (put.shown ∷ [])) b c =
-    subst (λ x. Adds P (outer x place.most_depth (put.shown ∷ [])) b c) i
-    (subst (λ x. Adds P (outer here.is_inside x (put.shown ∷ [])) b c) most near)
+    let mine : IsDump P (outer place.is_inside place.most_depth (put.shown ∷ [])) own =
+    subst (λ x. IsDump P (outer x place.most_depth (put.shown ∷ [])) own) i
+    (subst (λ x. IsDump P (outer here.is_inside x (put.shown ∷ [])) own) most near)
     in
     let l = put.later in
     let o : put.shown.offset ≡ here.base + f.offset = l.offset in
     let e : put.shown.depth ≡ here.depth = put.same_depth in
-    let one = line_is P place.is_inside place.most_depth put.shown g b c
+    let one = line_is P place.is_inside place.most_depth put.shown g own
     (λ out. let (no_base, no_depth) = outside out in
     front_is put.shown g (omega (arith, o, z, no_base)) l.header l.contents l.indefinite
     (omega (arith, e, d, no_depth, depth_is m left at)) l.words l.marked)
     mine
     in
-    let before = adds_map (IsSoFar place.base octets s.fronts) P (λ p h. so_far_more place.base octets s.fronts g p h)
-    (outer place.is_inside place.most_depth s.fronts) a b s.adds
+    let before = dump_map (IsSoFar place.base octets s.fronts) P (λ p h. so_far_more place.base octets s.fronts g p h)
+    (outer place.is_inside place.most_depth s.fronts) text s.dump
     in
     record {
       fronts = s.fronts ++ g ∷ [];
@@ -172,8 +171,8 @@ shown_more place here octets left k m n passed first marks more_marks a b c put_
           ∙ (ap (λ z. marked_offsets s.fronts ++ marked_offset z m.offset) put.same_mark
           ∙ (ap (λ z. marked_offsets s.fronts ++ marked_offset f.marked z) (sym put.same_offset)
           ∙ sym (marked_more s.fronts g))));
-      adds = subst (λ x. Adds P x a c) (sym (outer_join place.is_inside place.most_depth s.fronts (g ∷ [])))
-          (adds_join P _ _ a b c before one);
+      dump = subst (λ x. IsDump P x (text ++ own)) (sym (outer_join place.is_inside place.most_depth s.fronts (g ∷ [])))
+          (dump_join P _ _ text own before one);
     }
 
 closed :
@@ -197,10 +196,10 @@ closed base octets fronts faults p read (inl (f, (earlier, others, e), l)) =
 closed base octets fronts faults p read (inr inside) = inside
 
 pub shown_all :
-    (place : Place) (octets : List ℕ) (cursor : Cursor) (found : Found) (a b : List ℕ) →
-    ShownTo place octets cursor found.fault found.marks.items a b → IsAhead cursor [] [] →
-    PutsEncodings place octets found a b
-shown_all place octets cursor found a b s ended =
+    (place : Place) (octets : List ℕ) (cursor : Cursor) (found : Found) (text : List ℕ) →
+    IsAhead cursor [] [] → ShownTo place octets cursor found.fault found.marks.items text →
+    IsWholeDump place octets found text
+shown_all place octets cursor found text ended s =
     let all : AreFrontsOf octets s.fronts s.faults =
     subst (λ x. AreFrontsOf octets x s.faults) (append-nil s.fronts)
     (subst (AreFrontsOf octets (s.fronts ++ [])) (append-nil s.faults) (s.goes_on [] [] ended))
@@ -211,6 +210,6 @@ shown_all place octets cursor found a b s ended =
       read = all;
       told = s.told;
       marks = s.marks_are;
-      adds = adds_map (IsSoFar place.base octets s.fronts) (StandsInside place.base octets)
-          (λ p h. closed place.base octets s.fronts s.faults p all h) (outer place.is_inside place.most_depth s.fronts) a b s.adds;
+      dump = dump_map (IsSoFar place.base octets s.fronts) (StandsInside place.base octets)
+          (λ p h. closed place.base octets s.fronts s.faults p all h) (outer place.is_inside place.most_depth s.fronts) text s.dump;
     }

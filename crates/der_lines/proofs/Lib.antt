@@ -1,8 +1,8 @@
 mod Cursors
+mod Documents
 mod Dumps
 mod Firsts
 mod Fronts
 mod Headers
 mod Seeking
 mod Segments
-mod Stricts

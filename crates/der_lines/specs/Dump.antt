@@ -20,7 +20,7 @@ use Rattle.der_rules.specs.declared.breaches.Breaches.{Breaches}
 use Rattle.der_lines.specs.declared.document.Verdict.{Verdict}
 use Rattle.der_lines.specs.declared.document.Verdict.TheVariants.{AllRead, Refused}
 use Rattle.asn1_headers.specs.Names.{type_name}
-use Rattle.der_io.specs.Characters.{colon, greater_than_sign, line_feed, space}
+use Rattle.der_io.specs.Characters.{colon, exclamation_mark, greater_than_sign, line_feed, space}
 
 -- a tag number in words: in decimal below 2^128
 abbrev pub tag_number : ℕ → List ℕ
@@ -240,9 +240,9 @@ right_of width n = replicate (width - length (decimal n)) space ++ decimal n
 abbrev pub indentation : ℕ → List ℕ
 indentation depth = replicate (2 * min depth 40) space
 
--- what a line ends with that is marked: what is wrong; any other with nothing
+-- what a line ends with that is marked: what is wrong, on one line; any other with nothing
 abbrev pub IsMark : Bool → List ℕ → Type 0
-IsMark true mark = (words : List ℕ) × (mark ≡ codes " (not DER: " ++ (words ++ codes ")"))
+IsMark true mark = (words : List ℕ) × IsOneLine words × (mark ≡ codes " (not DER: " ++ (words ++ codes ")"))
 IsMark false mark = mark ≡ []
 
 -- the size of the contents octets as a line has it, on the right of seven columns: a number, or `inf` where the length
@@ -263,7 +263,6 @@ pub record IsBlockLine (front : Front) (line : List ℕ) : Type 0 where
       ++ (indentation front.depth ++ (front.words ++ (said ++ mark)))))))))
   pub one : IsOneLine said
   pub mark_is : IsMark front.marked mark
-  pub one_mark : IsOneLine mark
 
 -- the line of one that stands inside octets of another: `>`, and then as any
 pub record IsInsideLine (front : Front) (line : List ℕ) : Type 0 where
@@ -326,59 +325,45 @@ pub data IsDump (Inside : Front → Type 0) : List Front → List ℕ → Type 0
       text ≡ line ++ line_feed ∷ rest → IsInsideLine front line → Inside front →
       IsDump Inside fronts rest → IsDump Inside fronts text
 
--- such lines were put after the text
-abbrev pub Adds : (Front → Type 0) → List Front → List ℕ → List ℕ → Type 0
-Adds Inside fronts before after =
-    (text : List ℕ) × (after ≡ before ++ text) × IsDump Inside fronts text
+-- a line of some kind, and octet 0A, which ends it
+abbrev pub IsLine : (List ℕ → Type 0) → List ℕ → Type 0
+IsLine Is text = (line : List ℕ) × (text ≡ line ++ line_feed ∷ []) × Is line
 
--- a line of some kind was put after the text
-abbrev pub AddsLine : (List ℕ → Type 0) → List ℕ → List ℕ → Type 0
-AddsLine Is before after = (line : List ℕ) × (after ≡ before ++ (line ++ line_feed ∷ [])) × Is line
+-- lines of faults at these offsets, in order
+abbrev pub AreFaultLines : List ℕ → List ℕ → Type 0
+AreFaultLines [] text = text ≡ []
+AreFaultLines (offset ∷ offsets) text =
+    (first later : List ℕ) × (text ≡ first ++ later) × IsLine (IsFaultLine offset) first
+    × AreFaultLines offsets later
 
--- the lines of octets were put, down to the most depth, where these are the offsets of faults
-abbrev pub AddsBlocksOf : Option ℕ → List ℕ → List ℕ → List ℕ → List ℕ → Type 0
-AddsBlocksOf most octets faults before after =
-    (fronts : List Front) × AreFrontsOf octets fronts faults
-    × Adds (StandsInside 0 octets) (down_to most fronts) before after
-
--- so, and then the line of the first fault
-abbrev pub AddsFaultOf : Option ℕ → List ℕ → List ℕ → List ℕ → Type 0
-AddsFaultOf most octets before after =
-    (offset : ℕ) × (later shown : List ℕ) × AddsBlocksOf most octets (offset ∷ later) before shown
-    × AddsLine (IsFaultLine offset) shown after
-
--- what is put after the text of octets: their lines, where nothing is wrong with them; lines and the first fault, where
--- something is; of no octets, that there are none
-abbrev pub AddsDumpOf : Option ℕ → List ℕ → Verdict → List ℕ → List ℕ → Type 0
-AddsDumpOf most octets AllRead before after = (0 < length octets) × AddsBlocksOf most octets [] before after
-AddsDumpOf most octets Refused before after =
-    AddsFaultOf most octets before after ⊎ ((octets ≡ []) × AddsLine (IsFaultLine 0) before after)
-
--- lines of faults were put after the text, at these offsets in order
-abbrev pub AddsFaultLines : List ℕ → List ℕ → List ℕ → Type 0
-AddsFaultLines [] before after = after ≡ before
-AddsFaultLines (offset ∷ offsets) before after =
-    (first : List ℕ) × AddsLine (IsFaultLine offset) before first × AddsFaultLines offsets first after
-
--- what is wrong with a document that has to be DER: each encoding that is marked, and then the first fault
-abbrev pub wrong_offsets : List Front → List ℕ → List ℕ
-wrong_offsets fronts faults = marked_offsets fronts ++ take 1 faults
+-- what is wrong with a document: the first fault; and where it has to be DER, each encoding that is marked before it
+abbrev pub wrong_offsets : Bool → List Front → List ℕ → List ℕ
+wrong_offsets false fronts faults = take 1 faults
+wrong_offsets true fronts faults = marked_offsets fronts ++ take 1 faults
 
 -- all was read of a document of which nothing is wrong
 abbrev pub verdict_of : List ℕ → Verdict
 verdict_of [] = AllRead
 verdict_of (offset ∷ offsets) = Refused
 
--- what is put after the text of octets that have to be DER: their lines, and a line for each that is wrong with them
-abbrev pub AddsStrictDump : Option ℕ → List ℕ → Verdict → List ℕ → List ℕ → Type 0
-AddsStrictDump most octets verdict before after =
-    (fronts : List Front) × (faults shown : List ℕ) × AreFrontsOf octets fronts faults
-    × Adds (StandsInside 0 octets) (down_to most fronts) before shown
-    × AddsFaultLines (wrong_offsets fronts faults) shown after
-    × (verdict ≡ verdict_of (wrong_offsets fronts faults))
+-- the lines of octets, which have to be DER or not, down to the most depth, and a line for each that is wrong with them
+abbrev pub IsDumpOfSome : Bool → Option ℕ → List ℕ → Verdict → List ℕ → Type 0
+IsDumpOfSome strict most octets verdict text =
+    (fronts : List Front) × (faults lines last : List ℕ) × (text ≡ lines ++ last)
+    × AreFrontsOf octets fronts faults × IsDump (StandsInside 0 octets) (down_to most fronts) lines
+    × AreFaultLines (wrong_offsets strict fronts faults) last
+    × (verdict ≡ verdict_of (wrong_offsets strict fronts faults))
 
 -- so, or of no octets that there are none
-abbrev pub AddsStrictDumpOf : Option ℕ → List ℕ → Verdict → List ℕ → List ℕ → Type 0
-AddsStrictDumpOf most octets verdict before after =
-    ((0 < length octets) × AddsStrictDump most octets verdict before after)
-    ⊎ ((octets ≡ []) × (verdict ≡ Refused) × AddsLine (IsFaultLine 0) before after)
+abbrev pub IsDumpOf : Bool → Option ℕ → List ℕ → Verdict → List ℕ → Type 0
+IsDumpOf strict most octets verdict text =
+    ((0 < length octets) × IsDumpOfSome strict most octets verdict text)
+    ⊎ ((octets ≡ []) × (verdict ≡ Refused) × IsLine (IsFaultLine 0) text)
+
+-- the line of why there are no octets to be read
+abbrev pub IsRefusal : List ℕ → Verdict → List ℕ → Type 0
+IsRefusal why verdict text = (verdict ≡ Refused) × IsLine (IsNote exclamation_mark why) text
+
+-- a text of some kind was put after the text
+abbrev pub Adds : (List ℕ → Type 0) → List ℕ → List ℕ → Type 0
+Adds Is before after = (text : List ℕ) × (after ≡ before ++ text) × Is text

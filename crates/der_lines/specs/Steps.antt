@@ -10,8 +10,8 @@ use Rattle.asn1_blocks.specs.Contents.{LeafFault}
 use Rattle.asn1_blocks.specs.Grammar.{Encodes}
 use Rattle.asn1_blocks.specs.Tree.{Tree}
 use Rattle.std.specs.Option.{is_some}
-use Rattle.der_lines.specs.Dump.{Adds, AddsLine, AreFronts, AreFrontsOf, Front, IsBlockLine, IsFirst, IsInsideLine, IsLater}
-use Rattle.der_lines.specs.Dump.{IsFaultLine, IsMark, IsMarked, IsOneLine, marked_offsets, verdict_of}
+use Rattle.der_lines.specs.Dump.{AreFronts, AreFrontsOf, Front, IsBlockLine, IsDump, IsFirst, IsInsideLine, IsLater}
+use Rattle.der_lines.specs.Dump.{IsFaultLine, IsLine, IsMarked, marked_offsets, verdict_of}
 use Rattle.der_lines.specs.declared.document.Verdict.{Verdict}
 use Rattle.der_lines.specs.declared.document.Verdict.TheVariants.{Refused}
 use Rattle.der_lines.specs.Dump.{StandsInside, down_to, indentation, is_too_deep, is_wide, right_of, size_in, tag_words}
@@ -90,10 +90,6 @@ start_text front =
     right_of 2 front.header ++ (space ∷ [] ++ (contents_column front.indefinite front.contents
     ++ (space ∷ space ∷ [] ++ (indentation front.depth ++ front.words))))
 
--- a mark was put, or none
-abbrev pub AddsMark : Bool → List ℕ → List ℕ → Type 0
-AddsMark marked before after = (mark : List ℕ) × (after ≡ before ++ mark) × IsMark marked mark × IsOneLine mark
-
 -- the encoding with the header is marked, which begins the octets
 abbrev pub IsMarkedFirst : List ℕ → Header → Bool → Type 0
 IsMarkedFirst left header marked =
@@ -105,13 +101,13 @@ abbrev pub IsLineOf : Bool → Front → List ℕ → Type 0
 IsLineOf true front line = IsInsideLine front line
 IsLineOf false front line = IsBlockLine front line
 
--- the line was put, or stands too deep
-abbrev pub AddsUnless : Bool → Bool → Front → List ℕ → List ℕ → Type 0
-AddsUnless true inside front before after = after ≡ before
-AddsUnless false inside front before after = AddsLine (IsLineOf inside front) before after
+-- the line, or nothing where it stands too deep
+abbrev pub IsLineUnless : Bool → Bool → Front → List ℕ → Type 0
+IsLineUnless true inside front text = text ≡ []
+IsLineUnless false inside front text = IsLine (IsLineOf inside front) text
 
-abbrev pub AddsStart : Place → Front → List ℕ → List ℕ → Type 0
-AddsStart place front = AddsUnless (is_too_deep place.most_depth front.depth) place.is_inside front
+abbrev pub IsStart : Place → Front → List ℕ → Type 0
+IsStart place front = IsLineUnless (is_too_deep place.most_depth front.depth) place.is_inside front
 
 -- the lines of encodings that are no lines inside octets of a string
 abbrev pub outer : Bool → Option ℕ → List Front → List Front
@@ -224,9 +220,9 @@ marked_offset false offset = []
 abbrev pub IsNear : ℕ → List ℕ → Front → Front → Type 0
 IsNear base left front later = IsLater base front later ⊎ StandsInside (base + front.offset) left later
 
--- the lines were put of what stands at the front of octets, which stand at the offset and start so
-pub record PutsAs (Starts : Front → Step → List ℕ → Type 0) (place : Place) (offset : ℕ) (left : List ℕ)
-    (passed : Passed) (before after : List ℕ) : Type 0 where
+-- the lines of what stands at the front of octets, which stand at the offset and start so
+pub record IsDumpAs (Starts : Front → Step → List ℕ → Type 0) (place : Place) (offset : ℕ) (left : List ℕ)
+    (passed : Passed) (text : List ℕ) : Type 0 where
   pub front : Front
   pub shown : Front
   pub faults : List ℕ
@@ -236,29 +232,29 @@ pub record PutsAs (Starts : Front → Step → List ℕ → Type 0) (place : Pla
   pub later : IsLater place.base front shown
   pub told : IsFirstFault faults passed.fault
   pub same_mark : passed.is_marked ≡ front.marked
-  pub adds : Adds (IsNear place.base left front) (outer place.is_inside place.most_depth (shown ∷ [])) before after
+  pub dump : IsDump (IsNear place.base left front) (outer place.is_inside place.most_depth (shown ∷ [])) text
 
-abbrev pub PutsFirst : Place → ℕ → List ℕ → Passed → List ℕ → List ℕ → Type 0
-PutsFirst place offset left = PutsAs (StartsWith left offset place.depth) place offset left
+abbrev pub IsFirstDump : Place → ℕ → List ℕ → Passed → List ℕ → Type 0
+IsFirstDump place offset left = IsDumpAs (StartsWith left offset place.depth) place offset left
 
-abbrev pub PutsNext : Place → ℕ → Left → Passed → List ℕ → List ℕ → Type 0
-PutsNext place offset left = PutsAs (StartsNext left offset place.depth) place offset left.octets.now
+abbrev pub IsNextDump : Place → ℕ → Left → Passed → List ℕ → Type 0
+IsNextDump place offset left = IsDumpAs (StartsNext left offset place.depth) place offset left.octets.now
 
--- the lines of octets were put
-pub record PutsEncodings (place : Place) (octets : List ℕ) (found : Found) (before after : List ℕ)
-    : Type 0 where
+-- the lines of octets
+pub record IsWholeDump (place : Place) (octets : List ℕ) (found : Found) (text : List ℕ) : Type 0 where
   pub fronts : List Front
   pub faults : List ℕ
   pub read : AreFrontsOf octets fronts faults
   pub told : IsFirstFault faults found.fault
   pub marks : found.marks.items ≡ marked_offsets fronts
-  pub adds : Adds (StandsInside place.base octets) (outer place.is_inside place.most_depth fronts) before after
+  pub dump : IsDump (StandsInside place.base octets) (outer place.is_inside place.most_depth fronts) text
 
--- the first fault was put, if there is one; and the verdict is of the marks and of it
-abbrev pub AddsFound : Option Fault → List ℕ → Verdict → List ℕ → List ℕ → Type 0
-AddsFound None marks verdict before after = (after ≡ before) × (verdict ≡ verdict_of marks)
-AddsFound (Some fault) marks verdict before after =
-    (verdict ≡ Refused) × AddsLine (IsFaultLine fault.offset) before after
+-- marks, where they are wrong
+abbrev pub marks_by : Bool → List ℕ → List ℕ
+marks_by true marks = marks
+marks_by false marks = []
 
-abbrev pub AddsLast : Found → Verdict → List ℕ → List ℕ → Type 0
-AddsLast found verdict before after = AddsFound found.fault found.marks.items verdict before after
+-- the line of the first fault, if there is one; and the verdict is of the marks and of it
+abbrev pub IsLast : Option Fault → List ℕ → Verdict → List ℕ → Type 0
+IsLast None marks verdict text = (text ≡ []) × (verdict ≡ verdict_of marks)
+IsLast (Some fault) marks verdict text = (verdict ≡ Refused) × IsLine (IsFaultLine fault.offset) text

@@ -1,10 +1,12 @@
 // The lines of a document.
-ghost use Rattle.std.specs.Prelude.{IfOk};
-ghost use Rattle.der_lines.specs.Dump.{AddsDumpOf};
+ghost use Rattle.std.specs.Prelude.{◌≡◌, IfOk, OnOk, false, true};
+ghost use Rattle.der_lines.specs.Dump.{Adds, AreFaultLines, IsDumpOf, IsDumpOfSome, IsFaultLine, IsLine};
+ghost use Rattle.der_lines.specs.Steps.{IsLast, marks_by as marks_are};
 
-use crate::encodings::push_encodings;
+use crate::encodings::{Found, push_encodings};
 use crate::faults::push_fault_line;
 use crate::lines::push_fault;
+use crate::marks::words_at;
 use crate::names::Names;
 use crate::place::outermost;
 use crate::style::Style;
@@ -41,18 +43,114 @@ pub fn push_document(
     octets: &[u8],
     out: &mut Vec<u8>,
 ) -> Result<Verdict, AllocError>
-    ensures { IfOk result (λ verdict. AddsDumpOf style.most_depth octets.now verdict out.old.items out.new.items) }
+    ensures { IfOk result (λ verdict. Adds (IsDumpOf false style.most_depth octets.now verdict)
+        out.old.items out.new.items) }
+{
+    push_dump(alloc, names, style, octets, false, out)
+}
+
+/// Puts the lines of octets as `push_document` does, and then what is wrong with them where they have to be DER: a line
+/// with the offset of each encoding whose line has a mark, and what its mark says; and last the first fault. Where
+/// there is no such line the verdict is `AllRead`. Octets inside strings count for nothing there.
+///
+/// It takes a word more for each encoding that has a mark.
+///
+/// # Errors
+/// Memory ran out.
+pub fn push_strict_document(
+    alloc: Global,
+    names: &Names,
+    style: Style,
+    octets: &[u8],
+    out: &mut Vec<u8>,
+) -> Result<Verdict, AllocError>
+    ensures { IfOk result (λ verdict. Adds (IsDumpOf true style.most_depth octets.now verdict)
+        out.old.items out.new.items) }
+{
+    push_dump(alloc, names, style, octets, true, out)
+}
+
+fn push_dump(
+    alloc: Global,
+    names: &Names,
+    style: Style,
+    octets: &[u8],
+    is_strict: bool,
+    out: &mut Vec<u8>,
+) -> Result<Verdict, AllocError>
+    ensures { IfOk result (λ verdict. Adds (IsDumpOf is_strict style.most_depth octets.now verdict)
+        out.old.items out.new.items) }
 {
     if octets.is_empty() {
         push_fault_line(alloc, 0, &ASN1DecodeErr::EmptyBuffer, out)?;
         return Ok(Verdict::Refused);
     }
+    push_lines(alloc, names, style, octets, is_strict, out)
+}
+
+// The same of octets, also of none.
+fn push_lines(
+    alloc: Global,
+    names: &Names,
+    style: Style,
+    octets: &[u8],
+    is_strict: bool,
+    out: &mut Vec<u8>,
+) -> Result<Verdict, AllocError>
+    ensures { IfOk result (λ verdict. Adds (IsDumpOfSome is_strict style.most_depth octets.now verdict)
+        out.old.items out.new.items) }
+{
     let found = push_encodings(alloc, names, octets, outermost(style), out)?;
+    let marks = marks_by(is_strict, &found.marks);
+    push_marks(alloc, octets, marks, out)?;
+    push_last(&found, marks, out)
+}
+
+// Marks, where they are wrong.
+fn marks_by(is_strict: bool, marks: &[usize]) -> &[usize]
+    ensures { result.now ≡ marks_are is_strict marks.now }
+{
+    if is_strict { marks } else { &[] }
+}
+
+// Puts a line for each mark.
+fn push_marks(
+    alloc: Global,
+    octets: &[u8],
+    marks: &[usize],
+    out: &mut Vec<u8>,
+) -> Result<(), AllocError>
+    ensures { OnOk result (Adds (AreFaultLines marks.now) out.old.items out.new.items) }
+{
+    for offset in marks {
+        push_mark_line(alloc, octets, *offset, out)?;
+    }
+    Ok(())
+}
+
+fn push_mark_line(
+    alloc: Global,
+    octets: &[u8],
+    offset: usize,
+    out: &mut Vec<u8>,
+) -> Result<(), AllocError>
+    ensures { OnOk result (Adds (IsLine (IsFaultLine offset)) out.old.items out.new.items) }
+{
+    let words = words_at(alloc, octets, offset)?;
+    push_fault(offset, words.as_bytes(), out)
+}
+
+// Puts the line of the first fault, if there is one, behind those of marks.
+fn push_last(found: &Found, marks: &[usize], out: &mut Vec<u8>) -> Result<Verdict, AllocError>
+    ensures { IfOk result (λ verdict. Adds (IsLast found.now.fault marks.now verdict)
+        out.old.items out.new.items) }
+{
     match &found.fault {
-        None => Ok(Verdict::AllRead),
         Some(fault) => {
             push_fault(fault.offset, fault.words.as_bytes(), out)?;
             Ok(Verdict::Refused)
         }
+        None if marks.is_empty() => Ok(Verdict::AllRead),
+        None => Ok(Verdict::Refused),
     }
 }

@@ -2,11 +2,11 @@
 ghost use Rattle.std.specs.Prelude.{◌≡◌, ◌↔◌, ◌+◌, ◌≤◌, ◌<◌, ◌++◌, drop, false, length, true};
 ghost use Rattle.std.specs.Prelude.{[], IfOk, IfSome, IsTrue, OnOk, option_map};
 ghost use Rattle.std.specs.Option.{is_some};
-ghost use Rattle.der_lines.specs.Dump.{Adds, StandAt, StandsInside, begins_with_end, end_of_contents};
+ghost use Rattle.der_lines.specs.Dump.{Adds, IsDump, StandAt, StandsInside, begins_with_end, end_of_contents};
 ghost use Rattle.der_lines.specs.Dump.{is_stray_form};
 ghost use Rattle.asn1_headers.specs.Front.{HasIndefiniteForm, HasNoHeader, IsAtFront};
 ghost use Rattle.der_lines.specs.Headers.{is_gone_into};
-ghost use Rattle.der_lines.specs.Steps.{AddsStart, IsLeafTold, PutsEncodings, PutsFirst, PutsNext, front_of};
+ghost use Rattle.der_lines.specs.Steps.{IsFirstDump, IsLeafTold, IsNextDump, IsStart, IsWholeDump, front_of};
 ghost use Rattle.der_lines.specs.Steps.{earlier_fault, header_front, marked_offset};
 
 use crate::cursor::{Cursor, Left, Step};
@@ -58,7 +58,7 @@ pub fn push_encodings(
     out: &mut Vec<u8>,
 ) -> Result<Found, AllocError>
     requires { place.is_inside ≡ false → (place.base ≡ 0) × (place.depth ≡ 0) }
-    ensures { IfOk result (λ found. PutsEncodings place octets.now found out.old.items out.new.items) }
+    ensures { IfOk result (λ found. Adds (IsWholeDump place octets.now found) out.old.items out.new.items) }
 {
     let mut first = None;
     let mut marks = Vec::new(alloc);
@@ -103,7 +103,7 @@ fn push_next(
     out: &mut Vec<u8>,
 ) -> Result<Passed, AllocError>
     requires { left.is_indefinite ≡ false → 0 < length left.octets.now }
-    ensures { IfOk result (λ passed. PutsNext place offset left.entry passed out.old.items out.new.items) }
+    ensures { IfOk result (λ passed. Adds (IsNextDump place offset left.entry passed) out.old.items out.new.items) }
 {
     if left.octets.is_empty() {
         return push_missing_end(alloc, left, offset, place, out);
@@ -123,7 +123,7 @@ fn push_end(
 ) -> Result<Passed, AllocError>
     requires within { _left.is_indefinite ≡ true }
     requires there { begins_with_end _left.octets.now ≡ true }
-    ensures { IfOk result (λ passed. PutsNext place offset _left.entry passed out.old.items out.new.items) }
+    ensures { IfOk result (λ passed. Adds (IsNextDump place offset _left.entry passed) out.old.items out.new.items) }
 {
     push_end_line(2, offset, "", place, out)?;
     Ok(Passed {
@@ -145,7 +145,7 @@ fn push_missing_end(
 ) -> Result<Passed, AllocError>
     requires within { _left.is_indefinite ≡ true }
     requires none { length _left.octets.now ≡ 0 }
-    ensures { IfOk result (λ passed. PutsNext place offset _left.entry passed out.old.items out.new.items) }
+    ensures { IfOk result (λ passed. Adds (IsNextDump place offset _left.entry passed) out.old.items out.new.items) }
 {
     push_end_line(0, offset, " is missing (Incomplete)", place, out)?;
     let words = String::from_str(alloc, "end-of-contents is missing (Incomplete)")?;
@@ -166,7 +166,7 @@ fn push_end_line(
     place: Place,
     out: &mut Vec<u8>,
 ) -> Result<(), AllocError>
-    ensures { OnOk result (AddsStart place (end_of_contents (place.base + offset) size place.depth)
+    ensures { OnOk result (Adds (IsStart place (end_of_contents (place.base + offset) size place.depth))
         out.old.items out.new.items) }
 {
     let start = LineStart {
@@ -192,7 +192,7 @@ fn push_first(
     out: &mut Vec<u8>,
 ) -> Result<Passed, AllocError>
     requires { 0 < length left.now }
-    ensures { IfOk result (λ passed. PutsFirst place offset left.now passed out.old.items out.new.items) }
+    ensures { IfOk result (λ passed. Adds (IsFirstDump place offset left.now passed) out.old.items out.new.items) }
 {
     let header = match read_header(alloc, left, &mut HeaderCount::new()) {
         Ok(header) => header,
@@ -219,7 +219,7 @@ fn push_unreadable(
 ) -> Result<Passed, AllocError>
     requires some { 0 < length left.now }
     requires none { HasNoHeader left.now }
-    ensures { IfOk result (λ passed. PutsFirst place offset left.now passed out.old.items out.new.items) }
+    ensures { IfOk result (λ passed. Adds (IsFirstDump place offset left.now passed) out.old.items out.new.items) }
 {
     let words = fault_words(alloc, fault)?;
     let mut said = String::new(alloc);
@@ -257,7 +257,7 @@ fn push_cut(
     requires front { IsAtFront left.now header.now }
     requires cut { length left.now < header.now.size + header.now.announced }
     requires form { IsTrue header.now.is_indefinite ↔ HasIndefiniteForm left.now }
-    ensures { IfOk result (λ passed. PutsFirst place offset left.now passed out.old.items out.new.items) }
+    ensures { IfOk result (λ passed. Adds (IsFirstDump place offset left.now passed) out.old.items out.new.items) }
 {
     let (_, contents) = left.split_at(header.size);
     let there = contents.len();
@@ -293,7 +293,7 @@ fn push_opened(
     requires whole { header.now.size + header.now.announced ≤ length left.now }
     requires opened { is_gone_into header.now.class header.now.constructed header.now.tag ≡ true }
     requires form { IsTrue header.now.is_indefinite ↔ HasIndefiniteForm left.now }
-    ensures { IfOk result (λ passed. PutsFirst place offset left.now passed out.old.items out.new.items) }
+    ensures { IfOk result (λ passed. Adds (IsFirstDump place offset left.now passed) out.old.items out.new.items) }
 {
     let mark = mark_of(alloc, left, header)?;
     let joined = joined_value(alloc, names, left, header, place)?;
@@ -339,7 +339,7 @@ fn push_leaf(
     requires whole { header.size + header.announced ≤ length left.now }
     requires closed { is_gone_into header.class header.constructed header.tag ≡ false }
     requires form { IsTrue header.is_indefinite ↔ HasIndefiniteForm left.now }
-    ensures { IfOk result (λ passed. PutsFirst place offset left.now passed out.old.items out.new.items) }
+    ensures { IfOk result (λ passed. Adds (IsFirstDump place offset left.now passed) out.old.items out.new.items) }
 {
     let size = header.size + header.announced;
     let contents = &left[header.size..size];
@@ -413,7 +413,7 @@ fn push_nested(
 ) -> Result<(), AllocError>
     requires stand { IfSome nested (λ n. StandAt _contents.now n.before n.octets.now) }
     requires more { IfSome nested (λ _. 0 < place.documents) }
-    ensures { OnOk result (Adds (StandsInside (place.base + offset) _contents.now) []
+    ensures { OnOk result (Adds (IsDump (StandsInside (place.base + offset) _contents.now) [])
         out.old.items out.new.items) }
 {
     let Some(nested) = nested else {
@@ -451,8 +451,8 @@ fn push_header(
     mark: Option<&str>,
     out: &mut Vec<u8>,
 ) -> Result<(), AllocError>
-    ensures { OnOk result (AddsStart place
-        (header_front (place.base + offset) place.depth (is_some mark.entry) header.now) out.old.items out.new.items) }
+    ensures { OnOk result (Adds (IsStart place
+        (header_front (place.base + offset) place.depth (is_some mark.entry) header.now)) out.old.items out.new.items) }
 {
     let words = tag_words(alloc, header.class, &header.tag)?;
     let start = LineStart {
@@ -474,7 +474,7 @@ fn push_start(
     said: &str,
     out: &mut Vec<u8>,
 ) -> Result<(), AllocError>
-    ensures { OnOk result (AddsStart place (front_of start.entry) out.old.items out.new.items) }
+    ensures { OnOk result (Adds (IsStart place (front_of start.entry)) out.old.items out.new.items) }
 {
     if is_too_deep(place.most_depth, start.depth) {
         return Ok(());

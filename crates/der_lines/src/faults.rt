@@ -1,6 +1,6 @@
 // What is said of faults.
 ghost use Rattle.std.specs.Prelude.{OnOk};
-ghost use Rattle.der_lines.specs.Dump.{AddsLine, IsFaultLine};
+ghost use Rattle.der_lines.specs.Dump.{Adds, IsFaultLine, IsLine};
 
 use crate::lines::push_fault;
 use crate::scalars::{write_after_space, write_quoted};
@@ -26,7 +26,7 @@ pub fn push_fault_line(
     fault: &ASN1DecodeErr,
     out: &mut Vec<u8>,
 ) -> Result<(), AllocError>
-    ensures { OnOk result (AddsLine (IsFaultLine offset) out.old.items out.new.items) }
+    ensures { OnOk result (Adds (IsLine (IsFaultLine offset)) out.old.items out.new.items) }
 {
     let words = fault_words(alloc, fault)?;
     push_fault(offset, words.as_bytes(), out)

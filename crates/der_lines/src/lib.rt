@@ -40,16 +40,14 @@ mod notes;
 mod place;
 mod scalars;
 mod seek;
-mod strict;
 mod strings;
 mod style;
 mod values;
 
-pub use document::{Verdict, push_document};
+pub use document::{Verdict, push_document, push_strict_document};
 pub use faults::push_fault_line;
 pub use header::behind_header;
 pub use names::{Names, NamesFault, OwnNames};
 pub use notes::{push_label, push_refusal};
 pub use seek::block_at;
-pub use strict::push_strict_document;
 pub use style::Style;

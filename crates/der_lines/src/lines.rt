@@ -1,9 +1,9 @@
 // Lines, each put at the end of what is written.
 ghost use Rattle.std.specs.Prelude.{◌≡◌, ◌==◌, ◌++◌, OnOk, if◌then◌else◌, replicate, true};
-ghost use Rattle.der_lines.specs.Dump.{AddsLine, IsBlockLine, IsFaultLine, IsNote, IsOneLine};
+ghost use Rattle.der_lines.specs.Dump.{Adds, IsBlockLine, IsFaultLine, IsLine, IsMark, IsNote, IsOneLine};
 ghost use Rattle.der_lines.specs.Dump.{contents_column, on_one_line, right_of};
 ghost use Rattle.std.specs.Option.{is_some};
-ghost use Rattle.der_lines.specs.Steps.{AddsMark, IsLineOf, front_of, mark_of, start_text};
+ghost use Rattle.der_lines.specs.Steps.{IsLineOf, front_of, mark_of, start_text};
 
 use itoa::Buffer;
 use memchr::memchr;
@@ -125,7 +125,7 @@ fn push_block_line(
     said: &str,
     out: &mut Vec<u8>,
 ) -> Result<(), AllocError>
-    ensures { OnOk result (AddsLine (IsBlockLine (front_of start.entry)) out.old.items out.new.items) }
+    ensures { OnOk result (Adds (IsLine (IsBlockLine (front_of start.entry))) out.old.items out.new.items) }
 {
     push_right(width, start.offset, out)?;
     out.push(b' ')?;
@@ -138,7 +138,7 @@ fn push_block_line(
 
 // Puts the mark of an encoding that is not DER, if it has one.
 fn push_mark(mark: Option<&str>, out: &mut Vec<u8>) -> Result<(), AllocError>
-    ensures { OnOk result (AddsMark (is_some mark.entry) out.old.items out.new.items) }
+    ensures { OnOk result (Adds (IsMark (is_some mark.entry)) out.old.items out.new.items) }
 {
     let Some(words) = mark else {
         return Ok(());
@@ -151,7 +151,7 @@ fn push_mark(mark: Option<&str>, out: &mut Vec<u8>) -> Result<(), AllocError>
 
 // A line that is no line of a block: its mark, a space, and what is said.
 pub fn push_note(mark: Mark, said: &[u8], out: &mut Vec<u8>) -> Result<(), AllocError>
-    ensures { OnOk result (AddsLine (IsNote (mark_of mark) said.now) out.old.items out.new.items) }
+    ensures { OnOk result (Adds (IsLine (IsNote (mark_of mark) said.now)) out.old.items out.new.items) }
 {
     out.push(mark_octet(mark))?;
     out.push(b' ')?;
@@ -162,7 +162,7 @@ pub fn push_note(mark: Mark, said: &[u8], out: &mut Vec<u8>) -> Result<(), Alloc
 
 // The line of a fault: its offset, and what is said of it.
 pub fn push_fault(offset: usize, said: &[u8], out: &mut Vec<u8>) -> Result<(), AllocError>
-    ensures { OnOk result (AddsLine (IsFaultLine offset) out.old.items out.new.items) }
+    ensures { OnOk result (Adds (IsLine (IsFaultLine offset)) out.old.items out.new.items) }
 {
     let mut digits = Buffer::new();
     out.extend_from_slice(b"! error at offset ")?;
@@ -190,7 +190,7 @@ pub fn push_line(
     said: &str,
     out: &mut Vec<u8>,
 ) -> Result<(), AllocError>
-    ensures { OnOk result (AddsLine (IsLineOf is_inside (front_of start.entry)) out.old.items out.new.items) }
+    ensures { OnOk result (Adds (IsLine (IsLineOf is_inside (front_of start.entry))) out.old.items out.new.items) }
 {
     if !is_inside {
         return push_block_line(OFFSET_WIDTH, start, said, out);

@@ -1,9 +1,8 @@
 // Lines about documents, which are no lines of their blocks.
-ghost use Rattle.std.specs.Prelude.{◌≡◌, IfOk, OnOk};
-ghost use Rattle.der_lines.specs.Dump.{AddsLine, IsNote};
+ghost use Rattle.std.specs.Prelude.{IfOk, OnOk};
+ghost use Rattle.der_lines.specs.Dump.{Adds, IsLine, IsNote, IsRefusal};
 ghost use Rattle.der_io.specs.Escaped.{escaped as escaped_is};
-ghost use Rattle.der_lines.specs.declared.document.Verdict.TheVariants.{Refused};
-ghost use Rattle.der_io.specs.Characters.{equals_sign, exclamation_mark};
+ghost use Rattle.der_io.specs.Characters.{equals_sign};
 
 use crate::document::Verdict;
 use crate::lines::{Mark, push_note};
@@ -15,7 +14,7 @@ use std::alloc::{AllocError, Global};
 /// # Errors
 /// Memory ran out.
 pub fn push_label(alloc: Global, label: &[u8], out: &mut Vec<u8>) -> Result<(), AllocError>
-    ensures { OnOk result (AddsLine (IsNote equals_sign (escaped_is label.now)) out.old.items out.new.items) }
+    ensures { OnOk result (Adds (IsLine (IsNote equals_sign (escaped_is label.now))) out.old.items out.new.items) }
 {
     let text = escaped(alloc, label)?;
     push_note(Mark::Object, text.as_bytes(), out)
@@ -27,8 +26,7 @@ pub fn push_label(alloc: Global, label: &[u8], out: &mut Vec<u8>) -> Result<(), 
 /// # Errors
 /// Memory ran out.
 pub fn push_refusal(why: &str, out: &mut Vec<u8>) -> Result<Verdict, AllocError>
-    ensures { IfOk result (λ verdict.
-        (verdict ≡ Refused) × AddsLine (IsNote exclamation_mark why.now) out.old.items out.new.items) }
+    ensures { IfOk result (λ verdict. Adds (IsRefusal why.now verdict) out.old.items out.new.items) }
 {
     push_note(Mark::Fault, why.as_bytes(), out)?;
     Ok(Verdict::Refused)

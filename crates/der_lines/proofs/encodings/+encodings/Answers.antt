@@ -2,10 +2,10 @@ use Rattle.std.proofs.Common.{◌≡◌, ◌∙◌, ◌+◌, ◌-◌, ◌<◌, �
 use Rattle.std.specs.Option.{is_some}
 use Rattle.std.specs.Prelude.{None, ◌&&◌}
 use Rattle.std.proofs.lemmas.Grind.{common_steps}
-use Rattle.der_lines.specs.Dump.{Adds, StandAt, StandsInside, begins_with_end}
-use Rattle.der_lines.specs.Steps.{IsMarkedFirst}
+use Rattle.der_lines.specs.Dump.{Adds, IsDump, StandAt, StandsInside, begins_with_end, no_lines}
+use Rattle.der_lines.specs.Steps.{IsMarkedFirst, earlier_fault}
 use Rattle.der_lines.proofs.Cursors.{ahead_none, left_less, next_takes, step_kept, step_less, to_go}
-use Rattle.der_lines.proofs.Dumps.{adds_nothing}
+use Rattle.der_lines.proofs.Dumps.{adds_as, adds_both, adds_none}
 use Rattle.der_lines.proofs.Firsts.{leaf_puts, leaf_told, nested_adds, puts_next_ok}
 use Rattle.der_lines.proofs.Fronts.{ShownTo, shown_all, shown_more, shown_none}
 use Rattle.der_lines.proofs.encodings.+encodings.Goals as goal
@@ -13,9 +13,9 @@ use Rattle.der_lines.proofs.encodings.+encodings.Goals as goal
 pub push_encodings-loop-left-init : goal.push_encodings-loop-left-init
 push_encodings-loop-left-init t c =
     let o = c.in_ok-cursor.ensures in
-    subst (λ m. ShownTo c.args.place c.args.octets.now c.in_ok-cursor.cursor None m c.args.out.now.items c.args.out.now.items)
-    (sym c.new-marks.ensures.items)
-    (shown_none c.args.place c.args.octets.now c.in_ok-cursor.cursor c.args.out.now.items o.octets o.offset o.ends)
+    adds_none (ShownTo c.args.place c.args.octets.now c.in_ok-cursor.cursor None _) _
+    (subst (λ m. ShownTo c.args.place c.args.octets.now c.in_ok-cursor.cursor None m []) (sym c.new-marks.ensures.items)
+    (shown_none c.args.place c.args.octets.now c.in_ok-cursor.cursor o.octets o.offset o.ends))
 
 pub push_encodings-loop-left-smaller : goal.push_encodings-loop-left-smaller
 push_encodings-loop-left-smaller t c =
@@ -23,7 +23,7 @@ push_encodings-loop-left-smaller t c =
     let m = c.next.new.self in
     let n = c.go.new.self in
     let e = c.in-Some.ensures in
-    let put = c.in_ok-passed.ensures in
+    let (text, is, put) = c.in_ok-passed.ensures in
     let takes = next_takes m.offset c.in_ok-here.here.depth c.in-Some.left put.front c.in_ok-passed.passed.step put.faults put.starts in
     let less : to_go n < to_go m = step_less m n c.in-Some.left c.in_ok-passed.passed.step e.left takes c.in_ok-go.ensures in
     let no_more : to_go m ≤ to_go k = left_less k m e.octets e.offset e.ended in
@@ -38,20 +38,23 @@ push_encodings-loop-left-preserved t c =
     let place = c.args.place in
     let here = c.in_ok-here.here in
     let d : here.depth ≡ place.depth + (length m.ends.items - 1) = h.depth ∙ ap (λ z. place.depth + z) c.depth-depth.ensures in
-    let all = shown_more place here c.args.octets.now c.in-Some.left c.loop-left.cursor m n c.in_ok-passed.passed c.loop-left.first
-    _ _ _ _ _ c.in_ok-keep_mark.ensures c.requires c.loop-left.invariant e.octets e.offset e.ended e.left h.same h.base d h.most
-    c.in_ok-passed.ensures c.in_ok-go.ensures (step_kept m n c.in_ok-passed.passed.step c.in_ok-go.ensures)
+    let passed = c.in_ok-passed.passed in
+    let first = c.loop-left.first in
+    let all = adds_both _ _ (ShownTo place c.args.octets.now n (earlier_fault first passed.fault) _) _ _ _
+    (λ text own s put. shown_more place here c.args.octets.now c.in-Some.left c.loop-left.cursor m n passed first _ _ text own
+    c.in_ok-keep_mark.ensures c.requires s e.octets e.offset e.ended e.left h.same h.base d h.most put c.in_ok-go.ensures
+    (step_kept m n passed.step c.in_ok-go.ensures)) c.loop-left.invariant c.in_ok-passed.ensures
     in
     rw (c.earlier-first.ensures) all
 
 pub push_encodings-returns : goal.push_encodings-returns
 push_encodings-returns t c =
-    shown_all c.args.place c.args.octets.now c.loop-left.cursor _ _ _ c.loop-left.invariant
+    adds_as _ _ _ _ (λ text. shown_all c.args.place c.args.octets.now c.loop-left.cursor _ text
     (ahead_none c.loop-left.cursor c.next.new.self c.next.ensures.octets c.next.ensures.offset c.next.ensures.ended
-    c.in_default.ensures.none)
+    c.in_default.ensures.none)) c.loop-left.invariant
 
 pub push_nested-returns-in_default : goal.push_nested-returns-in_default
-push_nested-returns-in_default t c = adds_nothing (StandsInside (c.args.place.base + c.args.offset) c.args._contents.now) _
+push_nested-returns-in_default t c = adds_none _ _ (no_lines refl refl)
 
 pub push_nested-returns : goal.push_nested-returns
 push_nested-returns t c =
@@ -84,4 +87,5 @@ push_leaf-returns t c =
     (leaf_told left offset place.depth marked header c.in_ok-value.value.fault c.fault_at.result c.requires.front c.requires.whole
     c.requires.closed (c.in_ok-value.ensures c.requires.front) c.fault_at.ensures)
     c.in_ok-sum_of.ensures refl refl refl refl (c.deref.ensures ∙ c.in_ok-words.ensures) refl same c.in_ok-push_start.ensures
-    (subst (λ z. Adds (StandsInside (place.base + z) contents) [] c.push_start.new.out.items c.push_nested.new.out.items) c.in_ok-before.ensures c.in_ok-push_nested.ensures)
+    (subst (λ z. Adds (IsDump (StandsInside (place.base + z) contents) []) c.push_start.new.out.items c.push_nested.new.out.items)
+    c.in_ok-before.ensures c.in_ok-push_nested.ensures)

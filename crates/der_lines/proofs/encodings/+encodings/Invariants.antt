@@ -1,4 +1,5 @@
 use Rattle.std.proofs.Common.{◌+◌, ◌*◌}
+use Rattle.der_lines.specs.Dump.{Adds}
 use Rattle.der_lines.proofs.Cursors.{to_go}
 use Rattle.der_lines.proofs.Fronts.{ShownTo}
 use Rattle.der_lines.proofs.encodings.+encodings.Given as goal
@@ -20,7 +21,8 @@ decreases-push_encodings l = 5 * l.place.documents + 4
 
 -- the lines of the encodings before the cursor were put
 abbrev pub invariant-push_encodings-loop-left : goal.invariant-push_encodings-loop-left
-invariant-push_encodings-loop-left l = ShownTo l.place l.octets l.cursor l.first l.marks.items l.fn.out.items l.out.items
+invariant-push_encodings-loop-left l =
+    Adds (ShownTo l.place l.octets l.cursor l.first l.marks.items) l.fn.out.items l.out.items
 
 abbrev pub decreases-push_encodings-loop-left : goal.decreases-push_encodings-loop-left
 decreases-push_encodings-loop-left l = to_go l.cursor

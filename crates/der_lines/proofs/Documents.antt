@@ -1,0 +1,77 @@
+-- What is put of documents.
+use Rattle.std.proofs.Common.{◌≡◌, ℕ, Bool, true, false, List, [], ◌∷◌, ◌++◌, take, refl, sym, ap, ◌∙◌, subst, append_assoc, append-nil}
+use Rattle.std.specs.Prelude.{Option, None, Some, Result, Ok, Err, IfOk}
+use Rattle.std.specs.declared.alloc.AllocError.{AllocError}
+use Rattle.der_lines.specs.Dump.{Adds, AreFaultLines, Front, IsDump, IsDumpOfSome, StandsInside, down_to}
+use Rattle.der_lines.specs.Dump.{marked_offsets, verdict_of, wrong_offsets}
+use Rattle.der_lines.specs.Steps.{IsFirstFault, IsLast, IsWholeDump, marks_by, outer}
+use Rattle.der_lines.specs.declared.document.Verdict.{Verdict}
+use Rattle.der_lines.specs.declared.document.Verdict.TheVariants.{Refused}
+use Rattle.der_lines.specs.declared.encodings.Found.{Found}
+use Rattle.der_lines.specs.declared.faults.Fault.{Fault}
+use Rattle.der_lines.specs.declared.place.Place.{Place}
+use Rattle.der_lines.proofs.Dumps.{fault_line, fault_lines_join}
+
+refused_by : (offsets : List ℕ) (offset : ℕ) → verdict_of (offsets ++ offset ∷ []) ≡ Refused
+refused_by [] offset = refl
+refused_by (first ∷ offsets) offset = refl
+
+lines_told :
+    (told : Option Fault) (marks faults a b : List ℕ) (verdict : Verdict) → IsFirstFault faults told →
+    AreFaultLines marks a → IsLast told marks verdict b →
+    AreFaultLines (marks ++ take 1 faults) (a ++ b) × (verdict ≡ verdict_of (marks ++ take 1 faults))
+lines_told None marks faults a b verdict none lines (e, v) =
+    let all : marks ++ take 1 faults ≡ marks = ap (λ z. marks ++ take 1 z) none ∙ append-nil marks in
+    let same : a ++ b ≡ a = ap (λ z. a ++ z) e ∙ append-nil a in (
+      subst (λ z. AreFaultLines z (a ++ b)) (sym all) (subst (AreFaultLines marks) (sym same) lines),
+      v ∙ ap verdict_of (sym all),
+    )
+lines_told (Some fault) marks faults a b verdict (later, is) lines (v, last) =
+    let all : marks ++ take 1 faults ≡ marks ++ fault.offset ∷ [] = ap (λ z. marks ++ take 1 z) is in (
+      subst (λ z. AreFaultLines z (a ++ b)) (sym all)
+          (fault_lines_join marks (fault.offset ∷ []) a b lines (fault_line fault.offset b last)),
+      v ∙ (sym (refused_by marks fault.offset) ∙ ap verdict_of (sym all)),
+    )
+
+outermost_dump :
+    (place : Place) (octets : List ℕ) (most : Option ℕ) (fronts : List Front) (text : List ℕ) → place.is_inside ≡ false →
+    place.base ≡ 0 → place.most_depth ≡ most →
+    IsDump (StandsInside place.base octets) (outer place.is_inside place.most_depth fronts) text →
+    IsDump (StandsInside 0 octets) (down_to most fronts) text
+outermost_dump place octets most fronts text i z m dump =
+    subst (λ y. IsDump (StandsInside 0 octets) (outer false y fronts) text) m
+    (subst (λ y. IsDump (StandsInside 0 octets) (outer y place.most_depth fronts) text) i
+    (subst (λ y. IsDump (StandsInside y octets) (outer place.is_inside place.most_depth fronts) text) z dump))
+
+wrong_is :
+    (strict : Bool) (fronts : List Front) (faults : List ℕ) →
+    marks_by strict (marked_offsets fronts) ++ take 1 faults ≡ wrong_offsets strict fronts faults
+wrong_is true fronts faults = refl
+wrong_is false fronts faults = refl
+
+pub some_put :
+    (place : Place) (strict : Bool) (octets : List ℕ) (most : Option ℕ) (found : Found) (marks a b c d : List ℕ)
+    (verdict : Result Verdict AllocError) → place.is_inside ≡ false → place.base ≡ 0 → place.most_depth ≡ most →
+    marks ≡ marks_by strict found.marks.items → Adds (IsWholeDump place octets found) a b →
+    Adds (AreFaultLines marks) b c → IfOk verdict (λ v. Adds (IsLast found.fault marks v) c d) →
+    IfOk verdict (λ v. Adds (IsDumpOfSome strict most octets v) a d)
+some_put place strict octets most found marks a b c d (Err e) i z m these put lines last = last
+some_put place strict octets most found marks a b c d (Ok v) i z m these (x, p, put) (y, q, lines) (w, r, last) =
+    let wrong : marks ++ take 1 put.faults ≡ wrong_offsets strict put.fronts put.faults =
+    ap (λ z. z ++ take 1 put.faults) (these ∙ ap (marks_by strict) put.marks) ∙ wrong_is strict put.fronts put.faults in
+    let (all, is) = lines_told found.fault marks put.faults y w v put.told lines last in
+    let whole : d ≡ a ++ (x ++ (y ++ w)) = rw (r, q, p) (simp append_assoc) in (
+      x ++ (y ++ w),
+      whole,
+      (
+        put.fronts,
+        put.faults,
+        x,
+        y ++ w,
+        refl,
+        put.read,
+        outermost_dump place octets most put.fronts x i z m put.dump,
+        subst (λ z. AreFaultLines z (y ++ w)) wrong all,
+        is ∙ ap verdict_of wrong,
+      ),
+    )
