@@ -5,9 +5,9 @@ use Rattle.std.specs.Prelude.{Option, Result, Ok, Err}
 use Rattle.std.proofs.lemmas.List.{drop-set-lt, map-append, take_more}
 use Rattle.std.proofs.lemmas.Grind.{take-set_at}
 use Rattle.std.proofs.Math.Seq.{drop-cons}
+use Rattle.der_lines.specs.Dump.{Adds}
 use Rattle.der_inputs.proofs.Texts.{one_more}
 use Rattle.der_inputs.specs.Inputs.{AreReadToEnds, Input, IsReadToEnd}
-use Rattle.der_inputs.specs.Parts.{Pushes}
 use Rattle.der_inputs.specs.Texts.{AreTexts}
 use Rattle.der_inputs.specs.declared.outcome.Outcome.{Outcome}
 
@@ -44,8 +44,8 @@ module _ {S T E : Type 0} (i : ℕ) (all now : List S) (l : i < length all) (n :
 
   pub one_put :
       (Is : Input → Outcome → List ℕ → Type 0) (input : S → Input) (d : S) (a b c : List ℕ) →
-      Pushes (AreTexts Is (map input (take i all)) were) a b → Pushes (Is (input (get_or now i d)) last) b c →
-      Pushes (AreTexts Is (map input (take (i + 1) all)) are) a c
+      Adds (AreTexts Is (map input (take i all)) were) a b → Adds (Is (input (get_or now i d)) last) b c →
+      Adds (AreTexts Is (map input (take (i + 1) all)) are) a c
   one_put Is input d a b c earlier one =
       let more = map-append input (take i all) (get_or all i d ∷ []) in
       rw (take_more all i d l, more, ← here d, pushed r were are last e p)

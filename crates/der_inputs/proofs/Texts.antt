@@ -5,31 +5,16 @@ use Rattle.std.proofs.lemmas.List.{map-append, take_more}
 use Rattle.std.proofs.lemmas.List.Concat.{flat_map-cons}
 use Rattle.std.proofs.lemmas.List.Sums.{fold-append}
 use Rattle.std.specs.List.{flat_map}
+use Rattle.der_lines.specs.Dump.{Adds}
 use Rattle.der_inputs.specs.Findings.{Finding}
 use Rattle.der_inputs.specs.Outcomes.{all_read, both_read}
-use Rattle.der_inputs.specs.Parts.{Pushes}
 use Rattle.der_inputs.specs.Texts.{AreTexts}
+use Rattle.der_lines.proofs.Dumps.{adds_both, adds_none}
 use Rattle.der_lines.specs.declared.document.Verdict.{Verdict}
 use Rattle.der_lines.specs.declared.document.Verdict.TheVariants.{AllRead}
 
 pub after_two : (a b c first second : List ℕ) → b ≡ a ++ first → c ≡ b ++ second → c ≡ a ++ (first ++ second)
 after_two a b c first second e f = f ∙ (ap (λ z. z ++ second) e ∙ append_assoc a first second)
-
-pub pushed_as :
-    (Is Other : List ℕ → Type 0) (a b : List ℕ) → ((text : List ℕ) → Is text → Other text) → Pushes Is a b →
-    Pushes Other a b
-pushed_as Is Other a b turn (text, e, is) = (text, e, turn text is)
-
--- nothing
-pub none_pushed : (a : List ℕ) → Pushes (λ text. text ≡ []) a a
-none_pushed a = ([], sym (append-nil a), refl)
-
--- one text and then another
-pub both_pushed :
-    (Is Later : List ℕ → Type 0) (a b c : List ℕ) → Pushes Is a b → Pushes Later b c →
-    Pushes (λ text. (first second : List ℕ) × (text ≡ first ++ second) × Is first × Later second) a c
-both_pushed Is Later a b c (first, e, is) (second, f, later) =
-    (first ++ second, after_two a b c first second e f, (first, second, refl, is, later))
 
 module _ {A B : Type 0} (Is : A → B → List ℕ → Type 0) where
   -- the text of one more
@@ -47,24 +32,23 @@ module _ {A B : Type 0} (Is : A → B → List ℕ → Type 0) where
   one_text_more [] (v ∷ vs) x last text own h is = absurd h
   one_text_more (y ∷ ys) [] x last text own h is = absurd h
 
-  pub no_texts : (a : List ℕ) → Pushes (AreTexts Is [] []) a a
-  no_texts a = none_pushed a
+  pub no_texts : (a : List ℕ) → Adds (AreTexts Is [] []) a a
+  no_texts a = adds_none (AreTexts Is [] []) a refl
 
   pub one_more :
-      (xs : List A) (came : List B) (x : A) (last : B) (a b c : List ℕ) → Pushes (AreTexts Is xs came) a b →
-      Pushes (Is x last) b c → Pushes (AreTexts Is (xs ++ x ∷ []) (came ++ last ∷ [])) a c
-  one_more xs came x last a b c (text, e, h) (own, f, is) =
-      (text ++ own, after_two a b c text own e f, one_text_more xs came x last text own h is)
+      (xs : List A) (came : List B) (x : A) (last : B) (a b c : List ℕ) → Adds (AreTexts Is xs came) a b →
+      Adds (Is x last) b c → Adds (AreTexts Is (xs ++ x ∷ []) (came ++ last ∷ [])) a c
+  one_more xs came x last a b c = adds_both _ _ _ a b c (one_text_more xs came x last)
 
 -- the text of one more of what is found
 pub shown_more :
     {F : Type 0} (Is : Finding → Verdict → List ℕ → Type 0) (f : F → Finding) (all : List F) (i : ℕ) (x : F)
     (read one both : Verdict) (a b c : List ℕ) → i < length all → x ≡ get_or all i x → both ≡ both_read read one →
     ((verdicts : List Verdict) × (read ≡ all_read verdicts)
-    × Pushes (AreTexts Is (map f (take i all)) verdicts) a b) →
-    Pushes (Is (f x) one) b c →
+    × Adds (AreTexts Is (map f (take i all)) verdicts) a b) →
+    Adds (Is (f x) one) b c →
     (verdicts : List Verdict) × (both ≡ all_read verdicts)
-    × Pushes (AreTexts Is (map f (take (i + 1) all)) verdicts) a c
+    × Adds (AreTexts Is (map f (take (i + 1) all)) verdicts) a c
 shown_more Is f all i x read one both a b c l at is (verdicts, e, earlier) last =
     let more = map-append f (take i all) (x ∷ []) in (
       verdicts ++ one ∷ [],

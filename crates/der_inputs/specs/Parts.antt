@@ -1,5 +1,5 @@
--- What a call pushes, what it found, and what its `Show` wants. Private contracts alone name these.
-use Rattle.std.specs.Prelude.{◌≡◌, ℕ, List, ◌++◌, Option, Result, Vec}
+-- What a call found, and what its `Show` wants. Private contracts alone name these.
+use Rattle.std.specs.Prelude.{ℕ, List, Option, Result, Vec}
 use Rattle.std.specs.Global.{Global}
 use Rattle.std.specs.Option.{option_map}
 use Rattle.std.specs.Result.{result_ok}
@@ -7,10 +7,6 @@ use Rattle.der_inputs.specs.Findings.{Finding}
 use Rattle.der_inputs.specs.Inputs.{Wanted}
 use Rattle.der_inputs.specs.declared.found.Found.{Found}
 use Rattle.der_inputs.specs.declared.show.Show.{Show}
-
--- a text of some kind was pushed
-abbrev pub Pushes : (List ℕ → Type 0) → List ℕ → List ℕ → Type 0
-Pushes Is before after = (text : List ℕ) × (after ≡ before ++ text) × Is text
 
 -- the octets, where there are some
 abbrev pub octets_in : {E : Type 0} → Result (Vec ℕ Global) E → Option (List ℕ)

@@ -1,8 +1,9 @@
 // Lines of JSON of what is found.
 ghost use Rattle.std.specs.Prelude.{◌≡◌, IfOk, OnOk};
 ghost use Rattle.std.specs.Option.{option_map};
+ghost use Rattle.der_lines.specs.Dump.{Adds};
 ghost use Rattle.der_inputs.specs.Json.{IsFoundJson, IsJson, IsOctetsJson, IsWords, is_all_read};
-ghost use Rattle.der_inputs.specs.Parts.{Pushes, finding_in, octets_in};
+ghost use Rattle.der_inputs.specs.Parts.{finding_in, octets_in};
 ghost use Rattle.der_json.specs.Json.{told_of};
 
 use crate::found::Found;
@@ -19,7 +20,7 @@ impl Show {
         found: &Found,
         out: &mut Vec<u8>,
     ) -> Result<Verdict, AllocError>
-        ensures { IfOk result (λ verdict. Pushes (IsJson self.now.is_strict
+        ensures { IfOk result (λ verdict. Adds (IsJson self.now.is_strict
             (option_map (λ name. name.now) file.entry) (finding_in found.now) verdict)
             out.old.items out.new.items) }
     {
@@ -42,7 +43,7 @@ impl Show {
         found: &Found,
         out: &mut Vec<u8>,
     ) -> Result<Verdict, AllocError>
-        ensures { IfOk result (λ verdict. Pushes (IsFoundJson self.now.is_strict (octets_in found.now.octets)
+        ensures { IfOk result (λ verdict. Adds (IsFoundJson self.now.is_strict (octets_in found.now.octets)
             (told_of origin.entry) verdict) out.old.items out.new.items) }
     {
         match &found.octets {
@@ -61,7 +62,7 @@ impl Show {
         octets: &[u8],
         out: &mut Vec<u8>,
     ) -> Result<Verdict, AllocError>
-        ensures { IfOk result (λ verdict. Pushes (IsOctetsJson self.now.is_strict octets.now (told_of origin.entry)
+        ensures { IfOk result (λ verdict. Adds (IsOctetsJson self.now.is_strict octets.now (told_of origin.entry)
             verdict) out.old.items out.new.items) }
     {
         if self.is_strict {
@@ -90,7 +91,7 @@ fn push_words(
     why: &str,
     out: &mut Vec<u8>,
 ) -> Result<(), AllocError>
-    ensures { OnOk result (Pushes (IsWords (told_of origin.entry)) out.old.items out.new.items) }
+    ensures { OnOk result (Adds (IsWords (told_of origin.entry)) out.old.items out.new.items) }
 {
     let fault = Fault {
         code: None,

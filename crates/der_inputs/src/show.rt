@@ -3,11 +3,11 @@ ghost use Rattle.std.specs.Prelude.{◌≡◌, [], IfOk, OnOk, false, map, unwra
 ghost use Rattle.std.specs.Option.{option_map};
 ghost use Rattle.der_inputs.specs.Forms.{IsDump, IsFoundDump, IsFramed, IsLabel, IsName, IsSection};
 ghost use Rattle.der_inputs.specs.Forms.{form_by};
-ghost use Rattle.der_lines.specs.Dump.{IsDumpOf};
+ghost use Rattle.der_lines.specs.Dump.{Adds, IsDumpOf};
 ghost use Rattle.der_inputs.specs.Inputs.{AreShown, IsFindingText, are_colors_shown as colors_shown, names_shown};
 ghost use Rattle.der_inputs.specs.Inputs.{wanted_by};
 ghost use Rattle.der_inputs.specs.Outcomes.{both_read};
-ghost use Rattle.der_inputs.specs.Parts.{Pushes, finding_in, octets_in, wanted_of};
+ghost use Rattle.der_inputs.specs.Parts.{finding_in, octets_in, wanted_of};
 ghost use Rattle.der_inputs.specs.declared.show.Form.TheVariants.{Page as page_form};
 
 use crate::found::Found;
@@ -77,7 +77,7 @@ impl Show {
         found: &[Found],
         out: &mut Vec<u8>,
     ) -> Result<Outcome, AllocError>
-        ensures { IfOk result (λ outcome. Pushes (AreShown (wanted_of self.now)
+        ensures { IfOk result (λ outcome. Adds (AreShown (wanted_of self.now)
             (option_map (λ name. name.now) file.entry) (map finding_in found.now) outcome)
             out.old.items out.new.items) }
     {
@@ -95,7 +95,7 @@ impl Show {
         found: &Found,
         out: &mut Vec<u8>,
     ) -> Result<Verdict, AllocError>
-        ensures { IfOk result (λ verdict. Pushes (IsFindingText (wanted_of self.now)
+        ensures { IfOk result (λ verdict. Adds (IsFindingText (wanted_of self.now)
             (option_map (λ name. name.now) file.entry) (finding_in found.now) verdict)
             out.old.items out.new.items) }
     {
@@ -108,7 +108,7 @@ impl Show {
 
     // Pushes a section of a page: a dump, and the octets.
     fn push_on_page(&self, found: &Found, out: &mut Vec<u8>) -> Result<Verdict, AllocError>
-        ensures { IfOk result (λ verdict. Pushes (IsSection self.now.is_strict self.now.style.most_depth
+        ensures { IfOk result (λ verdict. Adds (IsSection self.now.is_strict self.now.style.most_depth
             (finding_in found.now) verdict) out.old.items out.new.items) }
     {
         let mut dump = Vec::new(self.alloc);
@@ -119,7 +119,7 @@ impl Show {
 
     // Pushes a dump under the line of its label, if it has one.
     fn push_lines(&self, found: &Found, out: &mut Vec<u8>) -> Result<Verdict, AllocError>
-        ensures { IfOk result (λ verdict. Pushes (IsDump self.now.is_strict self.now.style.most_depth
+        ensures { IfOk result (λ verdict. Adds (IsDump self.now.is_strict self.now.style.most_depth
             (finding_in found.now) verdict) out.old.items out.new.items) }
     {
         self.push_label_of(found, out)?;
@@ -127,7 +127,7 @@ impl Show {
     }
 
     fn push_label_of(&self, found: &Found, out: &mut Vec<u8>) -> Result<(), AllocError>
-        ensures { OnOk result (Pushes (IsLabel (finding_in found.now).label) out.old.items out.new.items) }
+        ensures { OnOk result (Adds (IsLabel (finding_in found.now).label) out.old.items out.new.items) }
     {
         match &found.label {
             Some(label) => push_label(self.alloc, label, out),
@@ -136,7 +136,7 @@ impl Show {
     }
 
     fn push_dump(&self, found: &Found, out: &mut Vec<u8>) -> Result<Verdict, AllocError>
-        ensures { IfOk result (λ verdict. Pushes (IsFoundDump self.now.is_strict self.now.style.most_depth
+        ensures { IfOk result (λ verdict. Adds (IsFoundDump self.now.is_strict self.now.style.most_depth
             (octets_in found.now.octets) verdict) out.old.items out.new.items) }
     {
         match &found.octets {
@@ -146,7 +146,7 @@ impl Show {
     }
 
     fn push_octets(&self, octets: &[u8], out: &mut Vec<u8>) -> Result<Verdict, AllocError>
-        ensures { IfOk result (λ verdict. Pushes (IsDumpOf self.now.is_strict self.now.style.most_depth
+        ensures { IfOk result (λ verdict. Adds (IsDumpOf self.now.is_strict self.now.style.most_depth
             octets.now verdict) out.old.items out.new.items) }
     {
         if self.is_strict {
@@ -158,7 +158,7 @@ impl Show {
 
     // Pushes the line of a name above dumps, on a page or not: JSON tells it in each line.
     pub fn push_name(&self, name: &str, out: &mut Vec<u8>) -> Result<(), AllocError>
-        ensures { OnOk result (Pushes (IsName self.now.form name.now) out.old.items out.new.items) }
+        ensures { OnOk result (Adds (IsName self.now.form name.now) out.old.items out.new.items) }
     {
         match self.form {
             Form::Lines => push_label(self.alloc, name.as_bytes(), out),

@@ -2,11 +2,12 @@
 ghost use Rattle.std.specs.Prelude.{◌≡◌, ◌⊎◌, List, ℕ, IfOk, IfErr, IfSome, IsErr, IsSome, length, map};
 ghost use Rattle.std.specs.Io.KnownBytes.{Appends, IsAtEnd, Keeps};
 ghost use Rattle.std.specs.Option.{option_map};
+ghost use Rattle.der_lines.specs.Dump.{Adds};
 ghost use Rattle.der_inputs.specs.Forms.{IsFramed, form_by};
 ghost use Rattle.der_inputs.specs.Inputs.{AreReadToEnds, IsInputText, IsNamedText, IsPart, IsReadToEnd, IsTaskText};
 ghost use Rattle.der_inputs.specs.Inputs.{are_colors_shown, input_of, wanted_by};
 ghost use Rattle.der_inputs.specs.Outcomes.{greatest_status};
-ghost use Rattle.der_inputs.specs.Parts.{Pushes, octets_in, wanted_of};
+ghost use Rattle.der_inputs.specs.Parts.{octets_in, wanted_of};
 ghost use Rattle.der_inputs.specs.Texts.{AreTexts};
 ghost use Rattle.der_io.specs.declared.StreamFault.TheVariants.{Memory as memory_fault, Write as write_fault};
 
@@ -70,7 +71,7 @@ fn push_sources<R: Read + Drop>(
     sources: &mut [Source<'_, R>],
     out: &mut Vec<u8>,
 ) -> Result<Vec<Outcome>, StreamFault>
-    ensures pushed { IfOk result (λ came. Pushes (AreTexts (IsInputText (wanted_of show.now))
+    ensures pushed { IfOk result (λ came. Adds (AreTexts (IsInputText (wanted_of show.now))
         (map (λ source. input_of source.name.now (R.remaining source.reader)) sources.old) came.items)
         out.old.items out.new.items) }
     ensures read { IfOk result (λ came. AreReadToEnds came.items
@@ -93,7 +94,7 @@ fn push_source<R: Read + Drop>(
     source: &mut Source<'_, R>,
     out: &mut Vec<u8>,
 ) -> Result<Outcome, StreamFault>
-    ensures pushed { IfOk result (λ came. Pushes (IsInputText (wanted_of show.now)
+    ensures pushed { IfOk result (λ came. Adds (IsInputText (wanted_of show.now)
         (input_of source.old.name.now (R.remaining source.old.reader)) came) out.old.items out.new.items) }
     ensures read { IfOk result (λ came. IsReadToEnd came (R.remaining source.new.reader)) }
     ensures fault { IfErr result (λ e. e ≡ memory_fault) }
@@ -128,7 +129,7 @@ fn push_named(
     input: Vec<u8>,
     out: &mut Vec<u8>,
 ) -> Result<Outcome, AllocError>
-    ensures { IfOk result (λ outcome. Pushes (IsNamedText show.now.is_named (wanted_of show.now) name.now input.items
+    ensures { IfOk result (λ outcome. Adds (IsNamedText show.now.is_named (wanted_of show.now) name.now input.items
         outcome) out.old.items out.new.items) }
 {
     if show.is_named {
@@ -146,7 +147,7 @@ fn push_input(
     input: Vec<u8>,
     out: &mut Vec<u8>,
 ) -> Result<Outcome, AllocError>
-    ensures { IfOk result (λ outcome. Pushes (IsTaskText show.now.task (wanted_of show.now)
+    ensures { IfOk result (λ outcome. Adds (IsTaskText show.now.task (wanted_of show.now)
         (option_map (λ name. name.now) file.entry) input.items outcome) out.old.items out.new.items) }
 {
     match show.task {
@@ -166,7 +167,7 @@ fn push_input(
 
 // Pushes octets as they stand. Where there are none, it is told elsewhere why.
 fn push_part(part: Result<Vec<u8>, String>, out: &mut Vec<u8>) -> Result<Outcome, AllocError>
-    ensures { IfOk result (λ outcome. Pushes (IsPart (octets_in part) outcome) out.old.items out.new.items) }
+    ensures { IfOk result (λ outcome. Adds (IsPart (octets_in part) outcome) out.old.items out.new.items) }
 {
     match part {
         Ok(octets) => {

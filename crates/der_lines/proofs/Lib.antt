@@ -1,6 +1,6 @@
 mod Cursors
 mod Documents
-mod Dumps
+pub mod Dumps
 mod Firsts
 mod Fronts
 mod Headers

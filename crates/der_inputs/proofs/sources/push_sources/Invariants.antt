@@ -1,13 +1,14 @@
 use Rattle.std.proofs.Common.{◌≡◌, drop, map, take}
+use Rattle.der_lines.specs.Dump.{Adds}
 use Rattle.der_inputs.specs.Inputs.{AreReadToEnds, IsInputText, input_of}
-use Rattle.der_inputs.specs.Parts.{Pushes, wanted_of}
+use Rattle.der_inputs.specs.Parts.{wanted_of}
 use Rattle.der_inputs.specs.Texts.{AreTexts}
 use Rattle.der_inputs.proofs.sources.push_sources.Given as goal
 
 -- the texts of the sources before this one are pushed, these are read, and the others are as they were
 abbrev pub invariant-loop-source : goal.invariant-loop-source
 invariant-loop-source g l = record {
-  pushed : Pushes (AreTexts (IsInputText (wanted_of l.fn.show))
+  pushed : Adds (AreTexts (IsInputText (wanted_of l.fn.show))
       (map (λ source. input_of source.name.now (g.R.Read.remaining source.reader)) (take l.source-index l.fn.sources))
       l.came.items) l.fn.out.items l.out.items;
   read : AreReadToEnds l.came.items

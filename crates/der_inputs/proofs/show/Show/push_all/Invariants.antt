@@ -1,8 +1,9 @@
 use Rattle.std.proofs.Common.{◌≡◌, List, map, take}
 use Rattle.std.specs.Option.{option_map}
+use Rattle.der_lines.specs.Dump.{Adds}
 use Rattle.der_inputs.specs.Inputs.{IsFindingText}
 use Rattle.der_inputs.specs.Outcomes.{all_read}
-use Rattle.der_inputs.specs.Parts.{Pushes, finding_in, wanted_of}
+use Rattle.der_inputs.specs.Parts.{finding_in, wanted_of}
 use Rattle.der_inputs.specs.Texts.{AreTexts}
 use Rattle.der_lines.specs.declared.document.Verdict.{Verdict}
 use Rattle.der_inputs.proofs.show.Show.push_all.Given as goal
@@ -11,5 +12,5 @@ use Rattle.der_inputs.proofs.show.Show.push_all.Given as goal
 abbrev pub invariant-loop-one : goal.invariant-loop-one
 invariant-loop-one l =
     (verdicts : List Verdict) × (l.verdict ≡ all_read verdicts)
-    × Pushes (AreTexts (IsFindingText (wanted_of l.self) (option_map (λ name. name.now) l.file))
+    × Adds (AreTexts (IsFindingText (wanted_of l.self) (option_map (λ name. name.now) l.file))
     (map finding_in (take l.one-index l.found)) verdicts) l.fn.out.items l.out.items
