@@ -26,13 +26,12 @@ use Rattle.std.proofs.Common.{
   subst,
   arith,
 }
-use Rattle.std.specs.Prelude.{pos, All}
+use Rattle.std.specs.Prelude.{pos, All, if◌then◌else◌}
 use Rattle.std.proofs.lemmas.Bool.{false≢true, cases_Bool, or_cases, or_right, eqb-true}
 use Rattle.asn1_blocks.specs.declared.block.GroupKind.{GroupKind}
 use Rattle.asn1_blocks.specs.declared.block.GroupKind.TheVariants.{Sequence, Set}
 use Rattle.asn1_headers.specs.Fault.{DecodeFault, IsOfReading}
 use Rattle.asn1_numbers.specs.Octets.{AreOctets}
-use Rattle.asn1_blocks.specs.Inner.LeafEquality.{equal_string}
 use Rattle.asn1_numbers.specs.TwosComplement.{signed_number}
 use Rattle.asn1_leaves.specs.StringKind.{StringKind, utf8, printable, teletex, ia5, universal, bmp}
 use Rattle.asn1_blocks.specs.Tree.{Leaf, boolean, integer, bit_string, octet_string, null, object_identifier, text, utc_time, generalized_time}
@@ -146,6 +145,24 @@ string_tag_small teletex = lit< tt
 string_tag_small ia5 = lit< tt
 string_tag_small universal = lit< tt
 string_tag_small bmp = lit< tt
+
+-- the kind of a string by its tag
+string_of : ℕ → StringKind
+string_of n =
+    if n == 12 then utf8 else (if n == 19 then printable else (if n == 20 then teletex
+    else (if n == 22 then ia5 else (if n == 28 then universal else bmp))))
+
+string_back : (kind : StringKind) → string_of (string_tag kind) ≡ kind
+unfolding string_of
+string_back utf8 = refl
+string_back printable = refl
+string_back teletex = refl
+string_back ia5 = refl
+string_back universal = refl
+string_back bmp = refl
+
+equal_string : (j k : StringKind) → string_tag j ≡ string_tag k → j ≡ k
+equal_string j k e = sym (string_back j) ∙ (ap string_of e ∙ string_back k)
 
 -- a tag that is none is not its
 no_string_tag : (n : ℕ) (kind : StringKind) → is_string_tag n ≡ false → n ≡ string_tag kind → ⊥

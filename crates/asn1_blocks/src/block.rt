@@ -6,7 +6,6 @@ ghost use Rattle.asn1_blocks.specs.View.{tree_class, tree_offset, view};
 
 mod copy;
 pub mod discard;
-mod own;
 pub mod parts;
 mod same;
 

@@ -1,7 +1,10 @@
-// Contents octets of blocks: which module reads and pushes those of a tag. There is one for each kind that has a rule.
-ghost use Rattle.std.specs.Prelude.{◌≡◌, ◌↔◌, ◌⊎◌, ◌≤◌, ℕ, List, length, false, None, Some, IfOk, IfErr, IsTrue, MatchOption, OnOk};
+// What differs from kind to kind of block: which module reads and pushes the contents octets of a tag, one for each kind
+// that has a rule; and how a block is copied and compared beside the blocks that it holds.
+ghost use Rattle.std.specs.Prelude.{◌≡◌, ◌↔◌, ◌⊎◌, ◌≤◌, ℕ, List, length, false, None, Some, IfOk, IfErr, IfSome, IsTrue, MatchOption, OnOk};
+ghost use Rattle.std.specs.Str.{chars};
 ghost use Rattle.asn1_headers.specs.declared.header.ASN1Class.TheVariants.{Universal};
 ghost use Rattle.asn1_blocks.specs.Contents.{LeafFault, is_known_tag, is_leaf_tag, string_tag};
+ghost use Rattle.asn1_leaves.specs.Contents.Moment.{moment_of};
 ghost use Rattle.asn1_leaves.specs.Contents.Text.{text_form};
 ghost use Rattle.asn1_leaves.specs.StringKind.{StringKind};
 ghost use Rattle.asn1_blocks.specs.Inner.LeafBlocks.{IsLeafOf, IsNoLeafOrMeant, IsSingleAt};
@@ -12,11 +15,13 @@ ghost use Rattle.asn1_blocks.specs.Grammar.{Encodes};
 ghost use Rattle.asn1_headers.specs.Header.{Encoding};
 ghost use Rattle.asn1_blocks.specs.HeadersBegun.{IsReadInside};
 ghost use Rattle.asn1_blocks.specs.Tree.{unknown};
-ghost use Rattle.asn1_blocks.specs.View.{view};
+ghost use Rattle.asn1_blocks.specs.Inner.TreeOrder.{inside, own_shape};
+ghost use Rattle.asn1_blocks.specs.View.{view, views};
 ghost use Rattle.asn1_headers.specs.declared.error.ASN1DecodeErr.TheVariants.{OutOfMemory};
 ghost use Rattle.asn1_headers.specs.declared.error.ASN1EncodeErr.TheVariants.{OutOfMemory as no_memory};
 
 use crate::block::ASN1Block;
+use crate::held::{HeldBlocks, boxed};
 use crate::parsed::PlacedHeader;
 use asn1_headers::error::{ASN1DecodeErr, ASN1EncodeErr};
 use asn1_headers::header::ASN1Class;
@@ -25,7 +30,8 @@ use asn1_leaves::contents::{bit_string, boolean, generalized_time, integer, text
 use asn1_leaves::oid;
 use asn1_numbers::number::big_uint::BigUint;
 use asn1_numbers::sink::Sink;
-use std::alloc::Global;
+use jiff::civil::DateTime;
+use std::alloc::{AllocError, Global};
 
 // The block of an encoding whose contents are not read as blocks.
 pub fn leaf_block(
@@ -107,36 +113,36 @@ pub fn check_contents(
     }
 }
 
-// Whether contents octets of class Universal mean a leaf, where their tag is that of one.
+// Whether contents octets of class Universal mean a leaf, where their tag is that of one. Where no less work tells, the
+// leaf is read.
 fn check_leaf(alloc: Global, tag: &BigUint, contents: &[u8]) -> Result<(), ASN1DecodeErr>
     ensures found { OnOk result (IsNoLeafOrMeant tag.now contents.now) }
     ensures refused { IfErr result (OutOfMemoryOr (LeafFault tag.now contents.now)) }
 {
+    if let Some(form) = string_form(tag) {
+        return text::check(form, contents);
+    }
     match tag.to_u64() {
-        Some(1) => {
-            boolean::read(contents)?;
-            Ok(())
-        }
         Some(2) => Ok(()),
         Some(3) => bit_string::check(contents),
         Some(4) => Ok(()),
-        Some(5) => Ok(()),
         Some(6) => oid::check(alloc, contents),
-        Some(12) => text::check(TextForm::Utf8, contents),
-        Some(19) => text::check(TextForm::Printable, contents),
-        Some(20) => text::check(TextForm::Utf8, contents),
-        Some(22) => Ok(()),
-        Some(23) => {
-            utc_time::read(alloc, contents)?;
+        _ => {
+            let leaf = universal_leaf(alloc, tag, contents, 0)?;
+            drop(leaf);
             Ok(())
         }
-        Some(24) => {
-            generalized_time::read(alloc, contents)?;
-            Ok(())
-        }
-        Some(28) => text::check(TextForm::Utf8, contents),
-        Some(30) => text::check(TextForm::Utf8, contents),
-        _ => Ok(()),
+    }
+}
+
+// The form of the string with the tag, if it is that of one.
+fn string_form(tag: &BigUint) -> Option<TextForm>
+    ensures { IfSome result (λ form.
+        (kind : StringKind) × (tag.now ≡ string_tag kind) × (form ≡ text_form kind)) }
+{
+    match tag.to_u64() {
+        Some(tag) => form_of(tag),
+        None => None,
     }
 }
 
@@ -261,5 +267,90 @@ pub fn push_own<S: Sink>(b: &ASN1Block, out: &mut S)
         ASN1Block::UTCTime(_, d) => utc_time::push(d, out),
         ASN1Block::GeneralizedTime(_, d) => generalized_time::push(d, out),
         ASN1Block::Sequence(_, _) | ASN1Block::Set(_, _) | ASN1Block::Explicit(_, _, _, _) => {}
+    }
+}
+
+// The same block, where the copies are those of the blocks that it holds, which it takes.
+pub fn copy_over(
+    alloc: Global,
+    b: &ASN1Block,
+    held: &mut HeldBlocks,
+) -> Result<ASN1Block, AllocError>
+    requires { views held.old ≡ inside (view b.now) }
+    ensures { IfOk result (λ r. view r ≡ view b.now) }
+{
+    match b {
+        ASN1Block::Boolean(o, x) => Ok(ASN1Block::Boolean(*o, *x)),
+        ASN1Block::Integer(o, n) => Ok(ASN1Block::Integer(*o, n.clone(alloc)?)),
+        ASN1Block::BitString(o, n, v) => Ok(ASN1Block::BitString(
+            *o,
+            *n,
+            Vec::from_slice(alloc, v)?,
+        )),
+        ASN1Block::OctetString(o, v) => Ok(ASN1Block::OctetString(*o, Vec::from_slice(alloc, v)?)),
+        ASN1Block::Null(o) => Ok(ASN1Block::Null(*o)),
+        ASN1Block::ObjectIdentifier(o, oid) => {
+            Ok(ASN1Block::ObjectIdentifier(*o, oid.clone(alloc)?))
+        }
+        ASN1Block::UTCTime(o, d) => Ok(ASN1Block::UTCTime(*o, *d)),
+        ASN1Block::GeneralizedTime(o, d) => Ok(ASN1Block::GeneralizedTime(*o, *d)),
+        ASN1Block::UTF8String(o, s) => Ok(ASN1Block::UTF8String(*o, s.clone()?)),
+        ASN1Block::PrintableString(o, s) => Ok(ASN1Block::PrintableString(*o, s.clone()?)),
+        ASN1Block::TeletexString(o, s) => Ok(ASN1Block::TeletexString(*o, s.clone()?)),
+        ASN1Block::IA5String(o, s) => Ok(ASN1Block::IA5String(*o, s.clone()?)),
+        ASN1Block::UniversalString(o, s) => Ok(ASN1Block::UniversalString(*o, s.clone()?)),
+        ASN1Block::BMPString(o, s) => Ok(ASN1Block::BMPString(*o, s.clone()?)),
+        ASN1Block::Sequence(o, _) => Ok(ASN1Block::Sequence(*o, held.take_all(alloc))),
+        ASN1Block::Set(o, _) => Ok(ASN1Block::Set(*o, held.take_all(alloc))),
+        ASN1Block::Explicit(c, o, t, _) => {
+            let tag = t.clone(alloc)?;
+            Ok(ASN1Block::Explicit(*c, *o, tag, boxed(alloc, held.take_last())?))
+        }
+        ASN1Block::Unknown(c, k, o, t, v) => {
+            Ok(ASN1Block::Unknown(*c, *k, *o, t.clone(alloc)?, Vec::from_slice(alloc, v)?))
+        }
+    }
+}
+
+// Whether two texts have the same characters.
+fn same_text(s: &str, t: &str) -> bool
+    ensures { IsTrue result ↔ (chars s.now ≡ chars t.now) }
+{
+    s == t
+}
+
+// Whether two moments are the same.
+fn same_moment(a: &DateTime, b: &DateTime) -> bool
+    ensures { IsTrue result ↔ (moment_of a.now ≡ moment_of b.now) }
+{
+    a == b
+}
+
+// Whether two blocks are the same beside the blocks that they hold.
+pub fn same_own(a: &ASN1Block, b: &ASN1Block) -> bool
+    ensures { IsTrue result ↔ (own_shape (view a.now) ≡ own_shape (view b.now)) }
+{
+    match (a, b) {
+        (ASN1Block::Boolean(_, x), ASN1Block::Boolean(_, y)) => x == y,
+        (ASN1Block::Integer(_, m), ASN1Block::Integer(_, n)) => m == n,
+        (ASN1Block::BitString(_, m, v), ASN1Block::BitString(_, n, w)) => m == n && v == w,
+        (ASN1Block::OctetString(_, v), ASN1Block::OctetString(_, w)) => v == w,
+        (ASN1Block::ObjectIdentifier(_, s), ASN1Block::ObjectIdentifier(_, t)) => s == t,
+        (ASN1Block::UTCTime(_, d), ASN1Block::UTCTime(_, e))
+        | (ASN1Block::GeneralizedTime(_, d), ASN1Block::GeneralizedTime(_, e)) => same_moment(d, e),
+        (ASN1Block::UTF8String(_, s), ASN1Block::UTF8String(_, t))
+        | (ASN1Block::PrintableString(_, s), ASN1Block::PrintableString(_, t))
+        | (ASN1Block::TeletexString(_, s), ASN1Block::TeletexString(_, t))
+        | (ASN1Block::IA5String(_, s), ASN1Block::IA5String(_, t))
+        | (ASN1Block::UniversalString(_, s), ASN1Block::UniversalString(_, t))
+        | (ASN1Block::BMPString(_, s), ASN1Block::BMPString(_, t)) => same_text(s, t),
+        (ASN1Block::Null(_), ASN1Block::Null(_))
+        | (ASN1Block::Sequence(_, _), ASN1Block::Sequence(_, _))
+        | (ASN1Block::Set(_, _), ASN1Block::Set(_, _)) => true,
+        (ASN1Block::Explicit(c, _, m, _), ASN1Block::Explicit(d, _, n, _)) => c == d && m == n,
+        (ASN1Block::Unknown(c, j, _, m, v), ASN1Block::Unknown(d, k, _, n, w)) => {
+            c == d && j == k && m == n && v == w
+        }
+        _ => false,
     }
 }

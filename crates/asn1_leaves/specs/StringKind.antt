@@ -6,3 +6,4 @@ pub data StringKind : Type 0 where
   ia5 : StringKind
   universal : StringKind
   bmp : StringKind
+  deriving Discrete as StringKind-discrete

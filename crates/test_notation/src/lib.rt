@@ -34,7 +34,7 @@
 //! | OBJECT IDENTIFIER | `ObjectIdentifier(OFFSET, COMPONENTS)` |
 //! | UTCTime, GeneralizedTime | `UTCTime(OFFSET, MOMENT)`, `GeneralizedTime(OFFSET, MOMENT)` |
 //! | UTF8String | `UTF8String(OFFSET, [CHARACTERS])` |
-//! | PrintableString, TeletexString, IA5String, UniversalString, BMPString | so too, each with its own name |
+//! | any other string of characters | so too, with its own name |
 //! | SEQUENCE, SET | `Sequence(OFFSET, [BLOCKS])`, `Set(OFFSET, [BLOCKS])` |
 //! | explicit tagging | `Explicit(CLASS, OFFSET, TAG, BLOCK)` |
 //! | any other encoding | `Unknown(CLASS, CONSTRUCTED, OFFSET, TAG, [OCTETS])`, `CONSTRUCTED` being `true` or `false` |

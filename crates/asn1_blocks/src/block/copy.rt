@@ -4,7 +4,7 @@ ghost use Rattle.std.specs.Prelude.{◌≡◌, ◌++◌, ◌≤◌, IfOk, length
 ghost use Rattle.asn1_blocks.specs.View.{view, views};
 
 use crate::block::ASN1Block;
-use crate::block::own::copy_over;
+use crate::contents::copy_over;
 use crate::held::HeldBlocks;
 use crate::walk::{blocks_inside, in_tree_order};
 use std::alloc::{AllocError, Global};

@@ -6,7 +6,7 @@ ghost use Rattle.asn1_blocks.specs.Tree.{shape, shapes};
 ghost use Rattle.asn1_blocks.specs.View.{view, views};
 
 use crate::block::ASN1Block;
-use crate::block::own::same_own;
+use crate::contents::same_own;
 use crate::walk::blocks_inside;
 use std::slice;
 

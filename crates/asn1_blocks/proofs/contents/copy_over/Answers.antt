@@ -6,7 +6,7 @@ use Rattle.asn1_blocks.specs.Inner.TreeOrder.{inside}
 use Rattle.asn1_blocks.specs.View.{view, views}
 use Rattle.asn1_blocks.proofs.BlockLists.{count, count_views}
 use Rattle.asn1_blocks.proofs.CopySteps.{explicit_of_copy, sequence_of_copies, set_of_copies, view_explicit}
-use Rattle.asn1_blocks.proofs.block.own.copy_over.Goals as goal
+use Rattle.asn1_blocks.proofs.contents.copy_over.Goals as goal
 
 -- what is held for an explicit block is one block
 holds_one : (held : List ASN1Block) (b : ASN1Block) (c : ASN1Class) (o n : ℕ) (inner : Box ASN1Block Global) → b ≡ Explicit c o n inner

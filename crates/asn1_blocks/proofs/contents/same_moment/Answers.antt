@@ -7,7 +7,7 @@ use Rattle.jiff_core.specs.DateTime.{civil_nanos}
 use Rattle.jiff_core.specs.Time.{time_nanos}
 use Rattle.jiff_core.specs.declared.civil.datetime.DateTime.{DateTime}
 use Rattle.asn1_leaves.specs.Contents.Moment.{Moment, moment_of}
-use Rattle.asn1_blocks.proofs.block.own.same_moment.Goals as goal
+use Rattle.asn1_blocks.proofs.contents.same_moment.Goals as goal
 
 -- moments at the same nanosecond have the same fields
 same_fields : (a b : DateTime) → civil_nanos a ≡ civil_nanos b → moment_of a ≡ moment_of b

@@ -5,7 +5,7 @@ use Rattle.asn1_blocks.specs.declared.block.ASN1Block.{ObjectIdentifier, the_lem
 use Rattle.asn1_blocks.specs.Tree.{Tree, leaf, object_identifier}
 use Rattle.asn1_blocks.specs.Inner.TreeOrder.{own_shape}
 use Rattle.asn1_blocks.specs.View.{view}
-use Rattle.asn1_blocks.proofs.block.own.same_own.Goals as goal
+use Rattle.asn1_blocks.proofs.contents.same_own.Goals as goal
 
 -- the shape of an object identifier
 abbrev own : List ℕ → Tree (Unit {0})

@@ -3,7 +3,7 @@ use Rattle.std.specs.Prelude.{encode_utf8_all}
 use Rattle.std.specs.Str.{chars}
 use Rattle.std.proofs.lemmas.Slice.Eq.{bytes_eq-Decides}
 use Rattle.std.proofs.lemmas.Str.{encodes-chars}
-use Rattle.asn1_blocks.proofs.block.own.same_text.Goals as goal
+use Rattle.asn1_blocks.proofs.contents.same_text.Goals as goal
 
 pub returns : goal.returns
 returns c =
