@@ -13,14 +13,14 @@
  * - Length octets: 80 is the length 0. The indefinite form is not supported.
  * - Constructed strings are not joined: the contents octets of 24 03 04 01 05 are 04 01 05.
  * - Text: of UTF8String, PrintableString, TeletexString, IA5String, UniversalString and BMPString only. Other strings
- *   (NumericString, VisibleString, GeneralString ..) have none, and any contents octets.
+ *   have none.
  * - Times: those with an offset, a comma, second 60 or no seconds are rejected.
  * - An INTEGER beyond int64_t is SIMPLE_ASN1_RANGE.
  * - Other classes: a constructed block has items if its contents octets are valid blocks. Strict reading checks an item
  *   that is the only one, and no other contents octets.
  * - Strict reading accepts unused bits that are not 0, and more than 7 of them; octets of an IA5String above 7F; a SET
  *   in any order; DEFAULT values; any contents octets of tags of class Universal without a type here, such as
- *   ENUMERATED and REAL. */
+ *   ENUMERATED, REAL and VisibleString. */
 #ifndef SIMPLE_ASN1_H
 #define SIMPLE_ASN1_H
 #include <stddef.h>
