@@ -1,39 +1,39 @@
 -- Blocks by their offsets.
-use Rattle.std.proofs.Common.{ℕ, List, ◌++◌, length, refl, sym, ◌∙◌, append_assoc, subst}
+use Rattle.std.proofs.Common.{ℕ, List, ◌++◌, length, refl, sym, ◌∙◌, append_assoc}
 use Rattle.std.specs.Prelude.{Some}
-use Rattle.asn1_headers.specs.Front.{HasNoHeader}
-use Rattle.der_inputs.specs.Findings.{IsBlockAt, IsContentsAt}
+use Rattle.der_inputs.specs.Findings.{IsBlockAt}
+use Rattle.der_lines.specs.Elements.{HasNoContents, IsElement, end_octets, of_definite_form, of_definite_length}
+use Rattle.der_lines.specs.Elements.{of_indefinite_form, of_indefinite_length}
 use Rattle.der_lines.specs.Headers.{StandsBehindHeader}
-use Rattle.der_lines.specs.Seek.{BeginsAt, begins_behind, begins_first, begins_inside}
+use Rattle.der_lines.specs.Seek.{BeginsIn, begins_first, begins_further}
 use Rattle.asn1_blocks.specs.Places.{IsEncoding}
 
 -- an encoding has a header
-pub has_header : (octets : List ℕ) → IsEncoding octets → HasNoHeader octets → ⊥
-has_header octets e none =
-    let parts = e.encoding in
-    none (parts.identifier ++ parts.len) e.contents (
-      parts.identifier,
-      parts.len,
-      refl,
-      (e.tag, (e.class, e.constructed, parts.identifier_octets)),
-      (length e.contents, parts.length_octets),
+behind_it : (octets : List ℕ) (e : IsEncoding octets) → StandsBehindHeader octets e.contents
+behind_it octets e =
+    let parts = e.encoding in (
+      parts.identifier ++ parts.len,
+      parts.whole ∙ sym (append_assoc parts.identifier parts.len e.contents),
+      (
+        parts.identifier,
+        parts.len,
+        refl,
+        (e.tag, (e.class, e.constructed, parts.identifier_octets)),
+        (length e.contents, parts.length_octets),
+      ),
     )
-    (parts.whole ∙ sym (append_assoc parts.identifier parts.len e.contents))
 
--- what begins at an offset is an encoding
-begun_encoding : (octets : List ℕ) (n : ℕ) (block : List ℕ) → BeginsAt octets n block → IsEncoding block
-begun_encoding octets n block (begins_first e at) = at.encoding
-begun_encoding octets n block (begins_behind size announced class constructed tag later header e at) =
-    begun_encoding _ later block at
-begun_encoding octets n block (begins_inside size announced class constructed tag before later inside header e l holds at) =
-    begun_encoding inside later block at
+-- an element has contents octets
+pub has_contents : (octets : List ℕ) → IsElement octets → HasNoContents octets → ⊥
+has_contents octets (of_definite_form definite e) none =
+    none e.contents (of_definite_length definite (behind_it octets e))
+has_contents octets (of_indefinite_form contents standing inside) none = none contents (of_indefinite_length standing)
 
-pub block_encoding : (n : ℕ) (input block : List ℕ) → IsBlockAt n input (Some block) → IsEncoding block
-block_encoding n input block (document, e, at) = begun_encoding document n block at
+-- what begins at an offset is an element
+begun_element : (depth : ℕ) (octets : List ℕ) (n : ℕ) (block : List ℕ) → BeginsIn depth octets n block → IsElement block
+begun_element depth octets n block (begins_first e not at) = at.is_element
+begun_element depth octets n block (begins_further around others later leads at) =
+    begun_element around others later block at
 
--- contents octets are those behind a header
-pub contents_at :
-    (n : ℕ) (input block contents : List ℕ) → IsBlockAt n input (Some block) → StandsBehindHeader block contents →
-    IsContentsAt n input (Some contents)
-contents_at n input block contents at (header, whole, is) =
-    (header, is, subst (λ z. IsBlockAt n input (Some z)) whole at)
+pub block_element : (n : ℕ) (input block : List ℕ) → IsBlockAt n input (Some block) → IsElement block
+block_element n input block (document, e, at) = begun_element 0 document n block at

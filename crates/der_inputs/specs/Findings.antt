@@ -2,11 +2,11 @@
 -- offset.
 use Rattle.std.specs.Prelude.{◌≡◌, ◌⊎◌, ℕ, List, [], ◌∷◌, ◌++◌, Option, Some, None}
 use Rattle.std.specs.List.{flat_map}
-use Rattle.asn1_headers.specs.Front.{IsHeader}
 use Rattle.der_forms.specs.Forms.{InputForm, form_is, objects, odd_digits, other_text, plain_octets, spelled}
 use Rattle.der_forms.specs.Objects.{Object, document_of, objects_of}
 use Rattle.der_forms.specs.declared.objects.Ending.{Ending}
 use Rattle.der_forms.specs.declared.objects.Ending.TheVariants.{Closed}
+use Rattle.der_lines.specs.Elements.{HasContents}
 use Rattle.der_lines.specs.Seek.{BeginsAt, HasNoBlockAt}
 
 -- octets under their label, if they have one; or that there are none to be read
@@ -47,8 +47,8 @@ IsBlockAt offset input None =
     (document_of input ≡ None)
     ⊎ ((document : List ℕ) × (document_of input ≡ Some document) × HasNoBlockAt document offset)
 
--- so of its contents octets, which are those behind its header
+-- so of its contents octets
 abbrev pub IsContentsAt : ℕ → List ℕ → Option (List ℕ) → Type 0
 IsContentsAt offset input (Some contents) =
-    (header : List ℕ) × IsHeader header × IsBlockAt offset input (Some (header ++ contents))
+    (block : List ℕ) × IsBlockAt offset input (Some block) × HasContents block contents
 IsContentsAt offset input None = IsBlockAt offset input None

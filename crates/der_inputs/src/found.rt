@@ -5,8 +5,7 @@ ghost use Rattle.der_forms.specs.Objects.{objects_of as objects_are};
 ghost use Rattle.der_forms.specs.Shown.{shown_object};
 ghost use Rattle.der_inputs.specs.Findings.{IsBlockAt, IsContentsAt, findings_of, of_object, unlabelled};
 ghost use Rattle.der_inputs.specs.Parts.{finding_in, octets_in};
-ghost use Rattle.asn1_blocks.specs.Places.{IsEncoding};
-ghost use Rattle.der_lines.specs.Headers.{StandsBehindHeader};
+ghost use Rattle.der_lines.specs.Elements.{HasContents, IsElement};
 
 use der_forms::{
     Form, FormFault, Lines, PemFault, PemObject, document_of, fault_of_end, form_of, next_object,
@@ -151,10 +150,10 @@ pub fn contents_of(
     }
 }
 
-// The octets of an encoding that stand behind its header.
+// The contents octets of an element.
 fn without_header(alloc: Global, block: &[u8]) -> Result<Vec<u8>, AllocError>
-    requires { IsEncoding block.now }
-    ensures { IfOk result (λ contents. StandsBehindHeader block.now contents.items) }
+    requires { IsElement block.now }
+    ensures { IfOk result (λ contents. HasContents block.now contents.items) }
 {
     match behind_header(alloc, block)? {
         Some(contents) => copy_of(alloc, contents),

@@ -1,6 +1,7 @@
 mod Cursors
 mod Documents
 pub mod Dumps
+mod Elements
 mod Firsts
 mod Fronts
 mod Headers

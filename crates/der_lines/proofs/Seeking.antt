@@ -1,17 +1,21 @@
 -- Where encodings begin, header after header.
-use Rattle.std.proofs.Common.{◌≡◌, ℕ, ◌+◌, ◌<◌, ◌≤◌, min, Bool, Bor, true, false, List, [], ◌∷◌, ◌++◌, drop, length, take}
+use Rattle.std.proofs.Common.{◌≡◌, ℕ, zero, suc, nat_lt, ◌+◌, ◌<◌, ◌≤◌, min, Bool, Bor, true, false, List, [], ◌∷◌, ◌++◌, drop, length, take}
 use Rattle.std.proofs.Common.{refl, sym, ap, ◌∙◌, subst, append_assoc, arith}
-use Rattle.std.specs.Prelude.{◌↔◌, IfNone, IfSome, MatchOption, None, Option, Some}
+use Rattle.std.specs.Prelude.{◌↔◌, Err, IfOk, MatchOption, None, Ok, Option, Result, Some}
 use Rattle.std.proofs.lemmas.List.{drop-drop, drop_at, drop_min, length-append, length-take-le, take-append-drop, take_min}
 use Rattle.asn1_headers.specs.Header.{IsIdentifier}
 use Rattle.asn1_headers.specs.declared.header.ASN1Class.{ASN1Class}
 use Rattle.asn1_headers.specs.declared.header.ASN1Class.TheVariants.{Universal}
 use Rattle.asn1_headers.proofs.Prefixes.{encoding_alone, identifier_alone, length_alone}
 use Rattle.asn1_blocks.specs.Places.{EncodingAt, HasNoEncodingAt, IsEncoding}
-use Rattle.asn1_headers.specs.Front.{BeginsWithHeader, HasNoHeader}
+use Rattle.asn1_headers.specs.Front.{BeginsWithHeader, HasIndefiniteForm, HasNoHeader}
+use Rattle.der_lines.specs.Dump.{begins_with_end}
+use Rattle.der_lines.specs.Elements.{ElementAt, HasNoElement}
 use Rattle.der_lines.specs.Headers.{is_gone_into}
-use Rattle.der_lines.specs.Seek.{AreEncodings, BeginsAt, HasNoBlockAt, Holds, begins_behind, begins_first}
-use Rattle.der_lines.specs.Seek.{begins_inside, holds_bits, holds_blocks, holds_octets, none_left, one_first}
+use Rattle.der_lines.proofs.Elements.{end_is}
+use Rattle.der_lines.specs.Seek.{AreEncodings, BeginsAt, BeginsIn, HasNoBlockAt, Holds, LeadsTo, begins_first, begins_further}
+use Rattle.der_lines.specs.Seek.{behind_element, behind_end, behind_indefinite, ends_contents, holds_bits, holds_blocks}
+use Rattle.der_lines.specs.Seek.{holds_octets, inside_element, none_left, one_first}
 
 identifier_some : (xs : List ℕ) (c : ASN1Class) (k : Bool) (t : ℕ) → IsIdentifier xs c k t → 0 < length xs
 identifier_some [] c k t h = absurd h
@@ -68,14 +72,6 @@ no_header_begins octets s n c k t none h =
     none (take s octets) (drop s octets) (h.identifier, h.len, h.front_is, (t, (c, k, h.fields)), (n, h.length_octets))
     (sym (take-append-drop s octets))
 
-pub nowhere_without_header :
-    (octets : List ℕ) (d : ℕ) → 0 < d → HasNoHeader octets → HasNoBlockAt octets d
-nowhere_without_header octets d some none block (begins_first e at) = absurd (omega (arith, e, some))
-nowhere_without_header octets d some none block (begins_behind s n c k t later h e at) =
-    no_header_begins octets s n c k t none h
-nowhere_without_header octets d some none block (begins_inside s n c k t before later inside h e l holds at) =
-    no_header_begins octets s n c k t none h
-
 -- contents octets are blocks, or those of a string
 not_both :
     (c : ASN1Class) (k : Bool) (t m : ℕ) → c ≡ Universal → k ≡ false → t ≡ m → is_gone_into Universal false m ≡ false →
@@ -121,69 +117,140 @@ holds_moved octets s n c k t s' n' c' k' t' b i same h =
     (subst (λ z. Holds c' k' t' (take z (drop s octets)) b i) (sym same.announced)
     (subst (λ z. Holds c' k' t' (take n' (drop z octets)) b i) (sym same.size) h))))
 
-module _ (octets : List ℕ) (s n : ℕ) (c : ASN1Class) (k : Bool) (t d : ℕ) (some : 0 < d)
-    (header : BeginsWithHeader octets s n c k t) where
-  -- an offset inside the header
-  pub in_header : d < s → HasNoBlockAt octets d
-  in_header l block (begins_first e at) = absurd (omega (arith, e, some))
-  in_header l block (begins_behind s' n' c' k' t' later h e at) =
-      let same = header_alone octets s n c k t s' n' c' k' t' header h in
-      absurd (omega (arith, same.size, e, l))
-  in_header l block (begins_inside s' n' c' k' t' before later inside h e m holds at) =
-      let same = header_alone octets s n c k t s' n' c' k' t' header h in
-      absurd (omega (arith, same.size, e, l))
+-- the end of contents octets stands where some are open
+open_end : (o a : ℕ) (xs : List ℕ) → o ≡ suc a → begins_with_end xs ≡ true → ends_contents o xs ≡ false → ⊥
+open_end o a xs e is not =
+    let so : true ≡ false = sym is ∙ (ap (λ z. ends_contents z xs) (sym e) ∙ not) in
+    absurd (cc so)
 
-  -- one behind the encoding
-  pub behind_it :
-      (less : ℕ) → d ≡ (s + n) + less → (block : List ℕ) → BeginsAt octets d block ↔ BeginsAt (drop (s + n) octets) less block
-  behind_it less is block = (to, λ at. begins_behind s n c k t less header is at)
-    where
-      to : BeginsAt octets d block → BeginsAt (drop (s + n) octets) less block
-      to (begins_first e at) = absurd (omega (arith, e, some))
-      to (begins_behind s' n' c' k' t' later h e at) =
-          let same = header_alone octets s n c k t s' n' c' k' t' header h in
-          let sum : s' + n' ≡ s + n = omega (arith, same.size, same.announced) in
-          let place : later ≡ less = omega (arith, same.size, same.announced, e, is) in
-          subst (λ z. BeginsAt (drop (s + n) octets) z block) place (subst (λ z. BeginsAt (drop z octets) later block) sum at)
-      to (begins_inside s' n' c' k' t' before later inside h e m holds at) =
-          let same = header_alone octets s n c k t s' n' c' k' t' header h in
-          absurd (omega (arith, same.size, same.announced, e, m, is))
+pub ends_none : (d : ℕ) (xs : List ℕ) → d ≤ 0 → nat_lt 0 d ≡ ends_contents d xs
+ends_none zero xs none = refl
+ends_none (suc d) xs none = absurd (omega (arith, none))
 
-  -- one in contents octets in which encodings begin
-  pub inside_it :
-      (before less : ℕ) (inside : List ℕ) → d ≡ s + (before + less) → before + less < n →
-      Holds c k t (take n (drop s octets)) before inside → (block : List ℕ) →
-      BeginsAt octets d block ↔ BeginsAt inside less block
-  inside_it before less inside is l holds block =
-      (to, λ at. begins_inside s n c k t before less inside header is l holds at)
-    where
-      to : BeginsAt octets d block → BeginsAt inside less block
-      to (begins_first e at) = absurd (omega (arith, e, some))
-      to (begins_behind s' n' c' k' t' later h e at) =
-          let same = header_alone octets s n c k t s' n' c' k' t' header h in
-          absurd (omega (arith, same.size, same.announced, e, l, is))
-      to (begins_inside s' n' c' k' t' before' later inside' h e m held at) =
-          let same = header_alone octets s n c k t s' n' c' k' t' header h in
-          let one =
-          holds_alone c k t (take n (drop s octets)) before' before inside' inside
-          (holds_moved octets s n c k t s' n' c' k' t' before' inside' same held) holds
-          in
-          let place : later ≡ less = omega (arith, same.size, one.before, e, is) in
-          subst (λ z. BeginsAt z less block) one.inside (subst (λ z. BeginsAt inside' z block) place at)
+pub ends_some : (d : ℕ) (xs : List ℕ) → 0 < d → begins_with_end xs ≡ ends_contents d xs
+ends_some zero xs some = absurd (omega (arith, some))
+ends_some (suc d) xs some = refl
 
-  -- one in contents octets of which all that encodings may begin in stands further on, or nothing
-  pub not_inside_it :
-      s ≤ d → d < s + n →
-      ((before : ℕ) (inside : List ℕ) → Holds c k t (take n (drop s octets)) before inside → d < s + before) →
-      HasNoBlockAt octets d
-  not_inside_it f l none block (begins_first e at) = absurd (omega (arith, e, some))
-  not_inside_it f l none block (begins_behind s' n' c' k' t' later h e at) =
-      let same = header_alone octets s n c k t s' n' c' k' t' header h in
-      absurd (omega (arith, same.size, same.announced, e, l))
-  not_inside_it f l none block (begins_inside s' n' c' k' t' before later inside h e m holds at) =
-      let same = header_alone octets s n c k t s' n' c' k' t' header h in
-      let further = none before inside (holds_moved octets s n c k t s' n' c' k' t' before inside same holds) in
-      absurd (omega (arith, same.size, e, further))
+pub ended_is :
+    (d : ℕ) (xs : List ℕ) → ends_contents d xs ≡ true → (0 < d) × (begins_with_end xs ≡ true) × (2 ≤ length xs)
+ended_is zero xs e =
+    let never : false ≡ true = e in
+    absurd (cc never)
+ended_is (suc d) xs e =
+    let two : length xs ≡ suc (suc (length (drop 2 xs))) = ap length (end_is xs e) in
+    (omega arith, e, omega (arith, two))
+
+pub record SameLead (a b : ℕ) (xs ys : List ℕ) (d e : ℕ) : Type 0 where
+  pub around : a ≡ b
+  pub others : xs ≡ ys
+  pub later : d ≡ e
+
+-- all leads to one
+pub leads_alone :
+    (o : ℕ) (xs : List ℕ) (d a a' : ℕ) (ys ys' : List ℕ) (l l' : ℕ) → LeadsTo o xs d a ys l →
+    LeadsTo o xs d a' ys' l' → SameLead a a' ys ys' l l'
+leads_alone o xs d a a' ys ys' _ _ (behind_end p i e f) (behind_end p' i' e' f') =
+    record { around = omega (arith, p, p'); others = e ∙ sym e'; later = omega (arith, f, f') }
+leads_alone o xs d a a' ys ys' _ _ (behind_end p i e f) (behind_element s' n' c' k' t' not' h' form' p' e' f') =
+    absurd (open_end o a xs p i not')
+leads_alone o xs d a a' ys ys' _ _ (behind_end p i e f) (inside_element s' n' c' k' t' b' not' h' form' p' e' m' f') =
+    absurd (open_end o a xs p i not')
+leads_alone o xs d a a' ys ys' _ _ (behind_end p i e f) (behind_indefinite s' n' c' k' t' not' h' form' p' e' f') =
+    absurd (open_end o a xs p i not')
+leads_alone o xs d a a' ys ys' _ _ (behind_element s n c k t not h form p e f) (behind_end p' i' e' f') =
+    absurd (open_end o a' xs p' i' not)
+leads_alone o xs d a a' ys ys' _ _ (behind_element s n c k t _ h _ p e f) (behind_element s' n' c' k' t' _ h' _ p' e' f') =
+    let same = header_alone xs s n c k t s' n' c' k' t' h h' in
+    let sum : s + n ≡ s' + n' = omega (arith, same.size, same.announced) in
+    record { around = p ∙ sym p'; others = e ∙ (ap (λ z. drop z xs) sum ∙ sym e'); later = omega (arith, sum, f, f') }
+leads_alone o xs d a a' ys ys' _ _ (behind_element s n c k t _ h _ _ _ f) (inside_element s' n' c' k' t' _ _ h' _ _ _ m' f') =
+    let same = header_alone xs s n c k t s' n' c' k' t' h h' in
+    absurd (omega (arith, same.size, same.announced, f, f', m'))
+leads_alone o xs d a a' ys ys' _ _ (behind_element _ _ _ _ _ _ _ form _ _ _) (behind_indefinite _ _ _ _ _ _ _ form' _ _ _) =
+    absurd (form form')
+leads_alone o xs d a a' ys ys' _ _ (inside_element s n c k t b not h form p e m f) (behind_end p' i' e' f') =
+    absurd (open_end o a' xs p' i' not)
+leads_alone o xs d a a' ys ys' _ _ (inside_element s n c k t _ _ h _ _ _ m f) (behind_element s' n' c' k' t' _ h' _ _ _ f') =
+    let same = header_alone xs s n c k t s' n' c' k' t' h h' in
+    absurd (omega (arith, same.size, same.announced, f, f', m))
+leads_alone o xs d a a' ys ys' _ _ (inside_element s n c k t b _ h _ p e _ f) (inside_element s' n' c' k' t' b' _ h' _ p' e' _ f') =
+    let same = header_alone xs s n c k t s' n' c' k' t' h h' in
+    let one =
+    holds_alone c k t (take n (drop s xs)) b b' ys ys' e (holds_moved xs s n c k t s' n' c' k' t' b' ys' same e')
+    in
+    record { around = p ∙ sym p'; others = one.inside; later = omega (arith, same.size, one.before, f, f') }
+leads_alone o xs d a a' ys ys' _ _ (inside_element _ _ _ _ _ _ _ _ form _ _ _ _) (behind_indefinite _ _ _ _ _ _ _ form' _ _ _) =
+    absurd (form form')
+leads_alone o xs d a a' ys ys' _ _ (behind_indefinite s n c k t not h form p e f) (behind_end p' i' e' f') =
+    absurd (open_end o a' xs p' i' not)
+leads_alone o xs d a a' ys ys' _ _ (behind_indefinite _ _ _ _ _ _ _ form _ _ _) (behind_element _ _ _ _ _ _ _ form' _ _ _) =
+    absurd (form' form)
+leads_alone o xs d a a' ys ys' _ _ (behind_indefinite _ _ _ _ _ _ _ form _ _ _) (inside_element _ _ _ _ _ _ _ _ form' _ _ _ _) =
+    absurd (form' form)
+leads_alone o xs d a a' ys ys' _ _ (behind_indefinite s n c k t _ h _ p e f) (behind_indefinite s' n' c' k' t' _ h' _ p' e' f') =
+    let same = header_alone xs s n c k t s' n' c' k' t' h h' in
+    record {
+      around = p ∙ sym p';
+      others = e ∙ (ap (λ z. drop z xs) same.size ∙ sym e');
+      later = omega (arith, same.size, f, f');
+    }
+
+-- what begins further on begins where it leads to
+pub begins_there :
+    (o : ℕ) (xs : List ℕ) (d a : ℕ) (ys : List ℕ) (l : ℕ) → 0 < d → LeadsTo o xs d a ys l → (block : List ℕ) →
+    BeginsIn o xs d block ↔ BeginsIn a ys l block
+begins_there o xs d a ys l some leads block = (to, λ at. begins_further a ys l leads at)
+  where
+    to : BeginsIn o xs d block → BeginsIn a ys l block
+    to (begins_first e not at) = absurd (omega (arith, e, some))
+    to (begins_further a' ys' l' leads' at) =
+        let same = leads_alone o xs d a' a ys' ys l' l leads' leads in
+        subst (λ z. BeginsIn z ys l block) same.around
+        (subst (λ z. BeginsIn a' z l block) same.others (subst (λ z. BeginsIn a' ys' z block) same.later at))
+
+pub begins_nowhere :
+    (o : ℕ) (xs : List ℕ) (d : ℕ) → 0 < d →
+    ((a : ℕ) (ys : List ℕ) (l : ℕ) → LeadsTo o xs d a ys l → ⊥) → (block : List ℕ) → BeginsIn o xs d block → ⊥
+begins_nowhere o xs d some none block (begins_first e not at) = absurd (omega (arith, e, some))
+begins_nowhere o xs d some none block (begins_further a ys l leads at) = none a ys l leads
+
+module _ (o : ℕ) (xs : List ℕ) (d : ℕ) where
+  module _ (no_end : ends_contents o xs ≡ false) where
+    -- where no header stands
+    pub in_no_header : HasNoHeader xs → (a : ℕ) (ys : List ℕ) (l : ℕ) → LeadsTo o xs d a ys l → ⊥
+    in_no_header none a ys l (behind_end p i e f) = open_end o a xs p i no_end
+    in_no_header none a ys l (behind_element s n c k t not h form p e f) = no_header_begins xs s n c k t none h
+    in_no_header none a ys l (inside_element s n c k t b not h form p e m f) = no_header_begins xs s n c k t none h
+    in_no_header none a ys l (behind_indefinite s n c k t not h form p e f) = no_header_begins xs s n c k t none h
+
+    module _ (s n : ℕ) (c : ASN1Class) (k : Bool) (t : ℕ) (header : BeginsWithHeader xs s n c k t) where
+      -- in a header
+      pub in_header : d < s → (a : ℕ) (ys : List ℕ) (l : ℕ) → LeadsTo o xs d a ys l → ⊥
+      in_header few a ys l (behind_end p i e f) = open_end o a xs p i no_end
+      in_header few a ys l (behind_element s' n' c' k' t' not h form p e f) =
+          let same = header_alone xs s n c k t s' n' c' k' t' header h in
+          absurd (omega (arith, same.size, f, few))
+      in_header few a ys l (inside_element s' n' c' k' t' b not h form p e m f) =
+          let same = header_alone xs s n c k t s' n' c' k' t' header h in
+          absurd (omega (arith, same.size, f, few))
+      in_header few a ys l (behind_indefinite s' n' c' k' t' not h form p e f) =
+          let same = header_alone xs s n c k t s' n' c' k' t' header h in
+          absurd (omega (arith, same.size, f, few))
+
+      -- in contents octets, before all that encodings may begin in
+      pub in_contents :
+          d < s + n → (HasIndefiniteForm xs → ⊥) →
+          ((b : ℕ) (ys : List ℕ) → Holds c k t (take n (drop s xs)) b ys → d < s + b) → (a : ℕ) (ys : List ℕ) (l : ℕ) →
+          LeadsTo o xs d a ys l → ⊥
+      in_contents few definite none a ys l (behind_end p i e f) = open_end o a xs p i no_end
+      in_contents few definite none a ys l (behind_element s' n' c' k' t' not h form p e f) =
+          let same = header_alone xs s n c k t s' n' c' k' t' header h in
+          absurd (omega (arith, same.size, same.announced, f, few))
+      in_contents few definite none a ys l (inside_element s' n' c' k' t' b not h form p e m f) =
+          let same = header_alone xs s n c k t s' n' c' k' t' header h in
+          let further = none b ys (holds_moved xs s n c k t s' n' c' k' t' b ys same e) in
+          absurd (omega (arith, same.size, f, further))
+      in_contents few definite none a ys l (behind_indefinite s' n' c' k' t' not h form p e f) = definite form
 
 -- contents octets, as far as they are there, and what stands behind them
 pub contents_of :
@@ -198,23 +265,46 @@ pub rest_of :
 rest_of octets behind after s n m b e is =
     is ∙ (ap (λ k. drop k behind) e ∙ (drop_min n behind ∙ (ap (drop n) b ∙ drop-drop n s octets)))
 
--- at the front stands what stands there
-pub at_front : (octets block : List ℕ) → BeginsAt octets 0 block → EncodingAt octets 0 block
-at_front octets block (begins_first e at) = at
-at_front octets block (begins_behind s n c k t later h e at) =
-    absurd (omega (arith, e, header_some octets s n c k t h))
-at_front octets block (begins_inside s n c k t before later inside h e l holds at) =
-    absurd (omega (arith, e, header_some octets s n c k t h))
+-- at the front begins the element there
+pub begins_here :
+    (o : ℕ) (xs block : List ℕ) → BeginsIn o xs 0 block → (ends_contents o xs ≡ false) × ElementAt xs block
+begins_here o xs block (begins_first e not at) = (not, at)
+begins_here o xs block (begins_further a ys l (behind_end p i e f) at) = absurd (omega (arith, f))
+begins_here o xs block (begins_further a ys l (behind_element s n c k t not h form p e f) at) =
+    absurd (omega (arith, f, header_some xs s n c k t h))
+begins_here o xs block (begins_further a ys l (inside_element s n c k t b not h form p e m f) at) =
+    absurd (omega (arith, f, header_some xs s n c k t h))
+begins_here o xs block (begins_further a ys l (behind_indefinite s n c k t not h form p e f) at) =
+    absurd (omega (arith, f, header_some xs s n c k t h))
 
 -- what was found at the end of the way
 pub found_at :
-    (octets left : List ℕ) (offset distance : ℕ) (r : Option (Bor (List ℕ))) → distance ≡ 0 →
-    ((block : List ℕ) → BeginsAt octets offset block ↔ BeginsAt left distance block) →
-    IfSome r (λ o. EncodingAt left 0 o.now) → IfNone r (HasNoEncodingAt left 0) →
-    MatchOption r (HasNoBlockAt octets offset) (λ block. BeginsAt octets offset block.now)
-found_at octets left offset distance None z same found none =
-    λ block h. none block (at_front left block (subst (λ d. BeginsAt left d block) z ((same block).0 h)))
-found_at octets left offset distance (Some o) z same found none = (same o.now).1 (begins_first z found)
+    (xs left : List ℕ) (offset depth distance : ℕ) (r : Option (Bor (List ℕ))) → distance ≡ 0 →
+    ((block : List ℕ) → BeginsIn 0 xs offset block ↔ BeginsIn depth left distance block) →
+    ends_contents depth left ≡ false → MatchOption r (HasNoElement left) (λ e. ElementAt left e.now) →
+    MatchOption r (HasNoBlockAt xs offset) (λ block. BeginsAt xs offset block.now)
+found_at xs left offset depth distance None z same not none =
+    λ block h.
+    none block (begins_here depth left block (subst (λ d. BeginsIn depth left d block) z ((same block).0 h))).1
+found_at xs left offset depth distance (Some e) z same not found = (same e.now).1 (begins_first z not found)
+
+pub found_in :
+    {E : Type 0} (xs left : List ℕ) (offset depth distance : ℕ) (r : Result (Option (Bor (List ℕ))) E) → distance ≡ 0 →
+    ((block : List ℕ) → BeginsIn 0 xs offset block ↔ BeginsIn depth left distance block) →
+    ends_contents depth left ≡ false → IfOk r (λ o. MatchOption o (HasNoElement left) (λ e. ElementAt left e.now)) →
+    IfOk r (λ o. MatchOption o (HasNoBlockAt xs offset) (λ block. BeginsAt xs offset block.now))
+found_in xs left offset depth distance (Ok o) z same not found = found_at xs left offset depth distance o z same not found
+found_in xs left offset depth distance (Err e) z same not found = tt
+
+-- at the end of contents octets no element begins
+pub none_at_end :
+    (xs left : List ℕ) (offset depth distance : ℕ) → distance ≡ 0 →
+    ((block : List ℕ) → BeginsIn 0 xs offset block ↔ BeginsIn depth left distance block) →
+    ends_contents depth left ≡ true → HasNoBlockAt xs offset
+none_at_end xs left offset depth distance z same is block h =
+    let (not, at) = begins_here depth left block (subst (λ d. BeginsIn depth left d block) z ((same block).0 h)) in
+    let so : true ≡ false = sym is ∙ not in
+    absurd (cc so)
 
 -- an encoding has octets
 encoding_some : (octets : List ℕ) → IsEncoding octets → 0 < length octets

@@ -1,9 +1,11 @@
--- At which offsets of a document encodings begin, by headers that follow one another from its front.
-use Rattle.std.specs.Prelude.{◌≡◌, ℕ, ◌+◌, ◌<◌, Bool, true, false, List, [], ◌∷◌, ◌++◌, drop, take}
+-- At which offsets of a document elements begin, by headers that follow one another from its front.
+use Rattle.std.specs.Prelude.{◌≡◌, ℕ, zero, suc, ◌+◌, ◌<◌, Bool, true, false, List, [], ◌∷◌, ◌++◌, drop, take}
 use Rattle.asn1_headers.specs.declared.header.ASN1Class.{ASN1Class}
 use Rattle.asn1_headers.specs.declared.header.ASN1Class.TheVariants.{Universal}
-use Rattle.asn1_blocks.specs.Places.{EncodingAt, IsEncoding}
-use Rattle.asn1_headers.specs.Front.{BeginsWithHeader}
+use Rattle.asn1_blocks.specs.Places.{IsEncoding}
+use Rattle.asn1_headers.specs.Front.{BeginsWithHeader, HasIndefiniteForm}
+use Rattle.der_lines.specs.Dump.{begins_with_end}
+use Rattle.der_lines.specs.Elements.{ElementAt}
 use Rattle.der_lines.specs.Headers.{is_gone_into}
 
 -- the octets are encodings, one after another to the end
@@ -29,24 +31,51 @@ pub data Holds (class : ASN1Class) (constructed : Bool) (tag : ℕ) (contents : 
       AreEncodings inside →
       Holds class constructed tag contents before inside
 
--- this encoding begins at the offset: at the front, behind the encoding there, or in its contents octets, which may be
--- cut short
-pub data BeginsAt : List ℕ → ℕ → List ℕ → Type 0 where
-  begins_first :
-      {octets : List ℕ} {offset : ℕ} {block : List ℕ} → offset ≡ 0 → EncodingAt octets 0 block →
-      BeginsAt octets offset block
-  begins_behind :
-      {octets : List ℕ} {offset : ℕ} {block : List ℕ}
-      (size announced : ℕ) (class : ASN1Class) (constructed : Bool) (tag later : ℕ) →
-      BeginsWithHeader octets size announced class constructed tag → offset ≡ (size + announced) + later →
-      BeginsAt (drop (size + announced) octets) later block → BeginsAt octets offset block
-  begins_inside :
-      {octets : List ℕ} {offset : ℕ} {block : List ℕ}
-      (size announced : ℕ) (class : ASN1Class) (constructed : Bool) (tag before later : ℕ) (inside : List ℕ) →
-      BeginsWithHeader octets size announced class constructed tag → offset ≡ size + (before + later) →
-      before + later < announced → Holds class constructed tag (take announced (drop size octets)) before inside →
-      BeginsAt inside later block → BeginsAt octets offset block
+-- octets that stand inside so many contents octets of the indefinite form begin with the end of the innermost
+abbrev pub ends_contents : ℕ → List ℕ → Bool
+ends_contents zero octets = false
+ends_contents (suc around) octets = begins_with_end octets
 
--- no encoding begins there
+-- what begins at the offset of octets begins in others, at an offset of these: behind end-of-contents octets, behind
+-- the element at the front, in its contents octets, or behind its header where its length is of the indefinite form.
+-- Octets stand inside so many contents octets of the indefinite form, which may be cut short
+pub data LeadsTo (depth : ℕ) (octets : List ℕ) (offset : ℕ) (around : ℕ) (others : List ℕ) (later : ℕ)
+    : Type 0 where
+  behind_end :
+      depth ≡ suc around → begins_with_end octets ≡ true → others ≡ drop 2 octets → offset ≡ 2 + later →
+      LeadsTo depth octets offset around others later
+  behind_element :
+      (size announced : ℕ) (class : ASN1Class) (constructed : Bool) (tag : ℕ) →
+      ends_contents depth octets ≡ false → BeginsWithHeader octets size announced class constructed tag →
+      (HasIndefiniteForm octets → ⊥) → around ≡ depth → others ≡ drop (size + announced) octets →
+      offset ≡ (size + announced) + later → LeadsTo depth octets offset around others later
+  inside_element :
+      (size announced : ℕ) (class : ASN1Class) (constructed : Bool) (tag before : ℕ) →
+      ends_contents depth octets ≡ false → BeginsWithHeader octets size announced class constructed tag →
+      (HasIndefiniteForm octets → ⊥) → around ≡ 0 →
+      Holds class constructed tag (take announced (drop size octets)) before others →
+      before + later < announced → offset ≡ size + (before + later) → LeadsTo depth octets offset around others later
+  behind_indefinite :
+      (size announced : ℕ) (class : ASN1Class) (constructed : Bool) (tag : ℕ) →
+      ends_contents depth octets ≡ false → BeginsWithHeader octets size announced class constructed tag →
+      HasIndefiniteForm octets → around ≡ suc depth → others ≡ drop size octets → offset ≡ size + later →
+      LeadsTo depth octets offset around others later
+
+-- this element begins at the offset of octets that stand inside so many contents octets of the indefinite form: at the
+-- front, where no end-of-contents octets stand; or where it leads to
+pub data BeginsIn : ℕ → List ℕ → ℕ → List ℕ → Type 0 where
+  begins_first :
+      {depth : ℕ} {octets : List ℕ} {offset : ℕ} {block : List ℕ} →
+      offset ≡ 0 → ends_contents depth octets ≡ false → ElementAt octets block → BeginsIn depth octets offset block
+  begins_further :
+      {depth : ℕ} {octets : List ℕ} {offset : ℕ} {block : List ℕ} (around : ℕ) (others : List ℕ) (later : ℕ) →
+      LeadsTo depth octets offset around others later → BeginsIn around others later block →
+      BeginsIn depth octets offset block
+
+-- this element begins at the offset
+abbrev pub BeginsAt : List ℕ → ℕ → List ℕ → Type 0
+BeginsAt octets offset block = BeginsIn 0 octets offset block
+
+-- no element begins there
 abbrev pub HasNoBlockAt : List ℕ → ℕ → Type 0
 HasNoBlockAt octets offset = (block : List ℕ) → BeginsAt octets offset block → ⊥

@@ -4,7 +4,7 @@ ghost use Rattle.std.specs.Prelude.{MatchOption, drop, length, true};
 ghost use Rattle.asn1_headers.specs.declared.header.ASN1Class.TheVariants.{Universal};
 ghost use Rattle.asn1_headers.specs.Front.{HasIndefiniteForm, HasNoHeader, IsAtFront};
 ghost use Rattle.der_lines.specs.Dump.{is_stray_form, taken};
-ghost use Rattle.der_lines.specs.Headers.{StandsBehindHeader, is_gone_into};
+ghost use Rattle.der_lines.specs.Headers.{is_gone_into};
 ghost use Rattle.der_lines.specs.Steps.{IsTaken};
 
 use crate::cursor::Step;
@@ -115,21 +115,4 @@ pub fn find_header(alloc: Global, octets: &[u8]) -> Result<Option<Header>, Alloc
         Err(ASN1DecodeErr::OutOfMemory) => Err(AllocError),
         Err(_) => Ok(None),
     }
-}
-
-/// The contents octets, where the octets are an encoding; otherwise what follows the header at their front. `None`
-/// without a header.
-///
-/// # Errors
-/// Memory ran out.
-pub fn behind_header(alloc: Global, octets: &[u8]) -> Result<Option<&[u8]>, AllocError>
-    ensures { IfOk result (λ found. MatchOption found
-        (HasNoHeader octets.now)
-        (λ behind. StandsBehindHeader octets.now behind.now)) }
-{
-    let Some(header) = find_header(alloc, octets)? else {
-        return Ok(None);
-    };
-    let (_, behind) = octets.split_at(header.size);
-    Ok(Some(behind))
 }

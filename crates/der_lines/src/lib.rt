@@ -27,6 +27,7 @@
 
 mod cursor;
 mod document;
+mod element;
 mod encodings;
 mod faults;
 mod header;
@@ -45,8 +46,8 @@ mod style;
 mod values;
 
 pub use document::{Verdict, push_document, push_strict_document};
+pub use element::behind_header;
 pub use faults::push_fault_line;
-pub use header::behind_header;
 pub use names::{Names, NamesFault, OwnNames};
 pub use notes::{push_label, push_refusal};
 pub use seek::block_at;

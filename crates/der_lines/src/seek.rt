@@ -1,9 +1,13 @@
 // Blocks by their offsets.
-ghost use Rattle.std.specs.Prelude.{◌≡◌, ◌↔◌, ◌<◌, ◌∷◌, ℕ, List, false, IfOk, IfSome, IsTrue, MatchOption};
-ghost use Rattle.der_lines.specs.Seek.{AreEncodings, BeginsAt, HasNoBlockAt, Holds};
+ghost use Rattle.std.specs.Prelude.{◌≡◌, ◌↔◌, ◌<◌, ◌≤◌, ◌∷◌, ℕ, List, false, true, IfOk, IfSome, IsTrue, MatchOption};
+ghost use Rattle.asn1_headers.specs.Front.{HasIndefiniteForm, IsAtFront};
+ghost use Rattle.der_lines.specs.Seek.{AreEncodings, BeginsAt, HasNoBlockAt, Holds, ends_contents};
+ghost use Rattle.der_lines.specs.SeekSteps.{LeadsNowhere, LeadsOn};
 ghost use Rattle.asn1_headers.specs.declared.header.ASN1Class.TheVariants.{Universal};
 
+use crate::element::{begins_with_end, element_at};
 use crate::header::{find_header, has_tag, holds_encodings};
+use crate::place::sum_of;
 use asn1_blocks::encoding::encoding_at;
 use asn1_headers::front::Header;
 use asn1_headers::header::ASN1Class;
@@ -14,11 +18,22 @@ const BIT_STRING: u8 = 3;
 
 const OCTET_STRING: u8 = 4;
 
+// What is looked for begins so many octets further on in octets, which stand inside so many contents octets of the
+// indefinite form.
+#[derive(Clone, Copy)]
+struct Sought<'a> {
+    octets: &'a [u8],
+    distance: usize,
+    depth: usize,
+}
+
 /// The octets of the block that begins at the offset, if one does, by headers that follow one another from the front of
 /// the document: also in octets of another block, if these are encodings to their end, and in one that is cut short.
 ///
-/// A length of the indefinite form (X.690 8.1.3.6) is read as 0 here: of a block that has one there is the header
-/// alone, and what stands inside is found behind it.
+/// A block with a length of the indefinite form (X.690 8.1.3.6) has its end-of-contents octets, too. `None` is also
+/// for one that is cut short itself, or whose end-of-contents octets are missing, and at end-of-contents octets.
+///
+/// It takes time in proportion to the octets, and stack and memory that do not depend on how deep blocks are.
 ///
 /// # Errors
 /// Memory ran out.
@@ -27,50 +42,112 @@ pub fn block_at(alloc: Global, octets: &[u8], offset: usize) -> Result<Option<&[
         (HasNoBlockAt octets.now offset)
         (λ block. BeginsAt octets.now offset block.now)) }
 {
-    let mut left = octets;
-    let mut distance = offset;
-    while distance > 0 {
-        let Some((nearer, less)) = go_nearer(alloc, left, distance)? else {
+    let mut sought = Sought {
+        octets,
+        distance: offset,
+        depth: 0,
+    };
+    while sought.distance > 0 {
+        let Some(nearer) = go_nearer(alloc, sought)? else {
             return Ok(None);
         };
-        left = nearer;
-        distance = less;
+        sought = nearer;
     }
-    Ok(encoding_at(left, 0))
+    if sought.begins_with_end() {
+        return Ok(None);
+    }
+    element_at(alloc, sought.octets)
 }
 
-// The octets in which a block is looked for next that begins so many octets further on, and how many of them stand
-// before it.
-fn go_nearer(
-    alloc: Global,
-    octets: &[u8],
-    distance: usize,
-) -> Result<Option<(&[u8], usize)>, AllocError>
-    requires { 0 < distance }
+impl<'a> Sought<'a> {
+    // Whether its octets begin with the end of the contents octets around.
+    fn begins_with_end(self) -> bool
+        ensures { result ≡ ends_contents self.entry.depth self.entry.octets.now }
+    {
+        self.depth > 0 && begins_with_end(self.octets)
+    }
+}
+
+// Where it is looked for next.
+fn go_nearer(alloc: Global, sought: Sought<'_>) -> Result<Option<Sought<'_>>, AllocError>
+    requires { 0 < sought.distance }
     ensures found { IfOk result (λ found. MatchOption found
-        (HasNoBlockAt octets.now distance)
-        (λ f. (block : List ℕ) → BeginsAt octets.now distance block ↔ BeginsAt f.0.now f.1 block)) }
-    ensures nearer { IfOk result (λ found. IfSome found (λ f. f.1 < distance)) }
+        (LeadsNowhere sought.entry)
+        (LeadsOn sought.entry)) }
+    ensures nearer { IfOk result (λ found. IfSome found (λ f. f.distance < sought.entry.distance)) }
 {
-    let Some(header) = find_header(alloc, octets)? else {
+    if sought.begins_with_end() {
+        return Ok(behind_end(sought));
+    }
+    let Some(header) = find_header(alloc, sought.octets)? else {
         return Ok(None);
     };
-    if distance < header.size {
+    if sought.distance < header.size {
         return Ok(None);
     }
-    let (_, behind) = octets.split_at(header.size);
-    let (contents, after) = behind.split_at(header.announced.min(behind.len()));
-    let place = distance - header.size;
+    if header.is_indefinite {
+        let (_, octets) = sought.octets.split_at(header.size);
+        return Ok(Some(Sought {
+            octets,
+            distance: sought.distance - header.size,
+            depth: sum_of(sought.depth, 1)?,
+        }));
+    }
+    Ok(by_length(sought, &header))
+}
+
+// Where it is looked for behind the end-of-contents octets at the front.
+fn behind_end(sought: Sought<'_>) -> Option<Sought<'_>>
+    requires end { ends_contents sought.depth sought.octets.now ≡ true }
+    requires further { 0 < sought.distance }
+    ensures found { MatchOption result
+        (LeadsNowhere sought.entry)
+        (LeadsOn sought.entry) }
+    ensures nearer { IfSome result (λ f. f.distance < sought.entry.distance) }
+{
+    if sought.distance < 2 {
+        return None;
+    }
+    let (_, octets) = sought.octets.split_at(2);
+    Some(Sought {
+        octets,
+        distance: sought.distance - 2,
+        depth: sought.depth - 1,
+    })
+}
+
+// Where it is looked for behind the header at the front, whose length has the definite form.
+fn by_length<'a>(sought: Sought<'a>, header: &Header) -> Option<Sought<'a>>
+    requires front { IsAtFront sought.octets.now header.now }
+    requires behind { header.now.size ≤ sought.distance }
+    requires form { HasIndefiniteForm sought.octets.now → ⊥ }
+    requires element { ends_contents sought.depth sought.octets.now ≡ false }
+    ensures found { MatchOption result
+        (LeadsNowhere sought.entry)
+        (LeadsOn sought.entry) }
+    ensures nearer { IfSome result (λ f. f.distance < sought.entry.distance) }
+{
+    let (_, behind) = sought.octets.split_at(header.size);
+    let (contents, octets) = behind.split_at(header.announced.min(behind.len()));
+    let place = sought.distance - header.size;
     if place >= header.announced {
-        return Ok(Some((after, place - header.announced)));
+        return Some(Sought {
+            octets,
+            distance: place - header.announced,
+            depth: sought.depth,
+        });
     }
-    let Some((inside, before)) = octets_inside(&header, contents) else {
-        return Ok(None);
+    let Some((octets, before)) = octets_inside(header, contents) else {
+        return None;
     };
     if place < before {
-        return Ok(None);
+        return None;
     }
-    Ok(Some((inside, place - before)))
+    Some(Sought {
+        octets,
+        distance: place - before,
+        depth: 0,
+    })
 }
 
 // The octets in contents octets in which encodings begin, if any do, and how many stand before these.

@@ -1,7 +1,7 @@
-use Rattle.der_inputs.proofs.Blocks.{block_encoding}
+use Rattle.der_inputs.proofs.Blocks.{block_element}
 use Rattle.der_inputs.proofs.found.contents_of.Goals as goal
 
 pub without_header-requires : goal.without_header-requires
 without_header-requires c =
     rw c.deref.ensures.value
-    (block_encoding c.args.offset c.args.input.items c.in-Ok.block.items (rw c.in-Ok.is at c.in_ok-block.ensures))
+    (block_element c.args.offset c.args.input.items c.in-Ok.block.items (rw c.in-Ok.is at c.in_ok-block.ensures))

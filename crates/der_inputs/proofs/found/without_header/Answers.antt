@@ -1,5 +1,5 @@
-use Rattle.der_inputs.proofs.Blocks.{has_header}
+use Rattle.der_inputs.proofs.Blocks.{has_contents}
 use Rattle.der_inputs.proofs.found.without_header.Goals as goal
 
 pub unreachable-requires : goal.unreachable-requires
-unreachable-requires c = has_header c.args.block.now c.requires (rw c.in-None.is at c.in_ok-contents.ensures)
+unreachable-requires c = has_contents c.args.block.now c.requires (rw c.in-None.is at c.in_ok-contents.ensures)
