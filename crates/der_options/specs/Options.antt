@@ -90,21 +90,29 @@ abbrev pub takes_number : Text → Bool
 takes_number name =
     list_any (bytes_eq name) (codes "at" ∷ codes "extract" ∷ codes "contents" ∷ codes "depth" ∷ [])
 
--- the argument is among the words: one that takes a number has a value, and a flag is set
+-- the arguments that have values
+abbrev pub takes_value : Text → Bool
+takes_value name =
+    list_any (bytes_eq name)
+    (codes "at" ∷ codes "extract" ∷ codes "contents" ∷ codes "depth" ∷ codes "oids" ∷ codes "color" ∷ [])
+
+-- the argument is among the words: one that takes a value has one, and a flag is set
 abbrev pub is_given : Text → List Row → Bool
-is_given name rows = if takes_number name then is_some (first_of name rows) else is_true (first_of name rows)
+is_given name rows = if takes_value name then is_some (first_of name rows) else is_true (first_of name rows)
 
 abbrev pub are_both_given : Text → Text → List Row → Bool
 are_both_given first second rows = is_given first rows && is_given second rows
 
 -- the arguments that do not go together: two tasks; JSON, which has all blocks whole, with what shows fewer or less, or
--- writes octets; and a page with JSON or octets
+-- writes octets; a page with JSON or octets; colours of lines with what writes none; and names with octets
 abbrev pub exclusions : List (Text × Text)
 exclusions =
     (codes "at", codes "extract") ∷ (codes "at", codes "contents") ∷ (codes "extract", codes "contents")
     ∷ (codes "json", codes "depth") ∷ (codes "json", codes "full") ∷ (codes "json", codes "flat")
     ∷ (codes "json", codes "extract") ∷ (codes "json", codes "contents")
-    ∷ (codes "html", codes "json") ∷ (codes "html", codes "extract") ∷ (codes "html", codes "contents") ∷ []
+    ∷ (codes "html", codes "json") ∷ (codes "html", codes "extract") ∷ (codes "html", codes "contents")
+    ∷ (codes "color", codes "json") ∷ (codes "color", codes "html") ∷ (codes "color", codes "extract")
+    ∷ (codes "color", codes "contents") ∷ (codes "oids", codes "extract") ∷ (codes "oids", codes "contents") ∷ []
 
 abbrev pub are_exclusive : Text → Text → Bool
 are_exclusive first second = list_any (λ pair. bytes_eq pair.0 first && bytes_eq pair.1 second) exclusions

@@ -125,7 +125,13 @@ fn refuse_exclusions<'a>(matches: &ArgMatches<'a>) -> Result<(), OptionsFault<'a
     refuse_both(matches, "json", "contents")?;
     refuse_both(matches, "html", "json")?;
     refuse_both(matches, "html", "extract")?;
-    refuse_both(matches, "html", "contents")
+    refuse_both(matches, "html", "contents")?;
+    refuse_both(matches, "color", "json")?;
+    refuse_both(matches, "color", "html")?;
+    refuse_both(matches, "color", "extract")?;
+    refuse_both(matches, "color", "contents")?;
+    refuse_both(matches, "oids", "extract")?;
+    refuse_both(matches, "oids", "contents")
 }
 
 // Refuses two arguments, where both are given.
@@ -145,12 +151,14 @@ fn refuse_both<'a>(
     Ok(())
 }
 
-// Whether an argument is among the words: one that takes a number has a value then, and a flag is set.
+// Whether an argument is among the words: one that takes a value has one then, and a flag is set.
 fn is_given(matches: &ArgMatches<'_>, name: &str) -> bool
     ensures { result ≡ is_given_by name.now (rows_of (found_of matches.now)) }
 {
     match name {
-        "at" | "extract" | "contents" | "depth" => value(matches, name).is_some(),
+        "at" | "extract" | "contents" | "depth" | "oids" | "color" => {
+            value(matches, name).is_some()
+        }
         _ => is_set(matches, name),
     }
 }
