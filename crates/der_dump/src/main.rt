@@ -29,7 +29,7 @@ fn main(rt: HostRuntime) -> ExitCode {
 fn words_fault(e: &io::Error) -> &'static str {
     match e.kind() {
         io::ErrorKind::OutOfMemory => fault_text(&StreamFault::Memory),
-        _ => "error: arguments are not UTF-8",
+        _ => "error: arguments must be UTF-8: give another file as standard input: der_dump < FILE",
     }
 }
 
