@@ -58,7 +58,7 @@ pub puts_first :
     Adds (IsStart place shown) a b → Adds (IsFirstDump place offset left passed) a b
 puts_first place offset left = puts_as (StartsWith left offset place.depth) place offset left
 
-starts_next :
+pub starts_next :
     (left : Left) (offset depth : ℕ) (front : Front) (step : Step) (faults : List ℕ) →
     (left.is_indefinite && begins_with_end left.octets.now) ≡ false → 0 < length left.octets.now →
     StartsWith left.octets.now offset depth front step faults → StartsNext left offset depth front step faults
@@ -154,7 +154,7 @@ begins left offset depth marked header opened faults h o form judged m = record 
   marked = m h;
 }
 
-taken_cut : (indefinite : Bool) (n there : ℕ) → there < n → there ≡ taken indefinite n there
+pub taken_cut : (indefinite : Bool) (n there : ℕ) → there < n → there ≡ taken indefinite n there
 taken_cut true n there less = refl
 taken_cut false n there less = omega (arith, less)
 

@@ -91,7 +91,7 @@ so_far_more base octets fronts g p (inl (f, (earlier, others, e), l)) =
 so_far_more base octets fronts g p (inr inside) = inr inside
 
 -- what is left stands at the offset
-left_stands : (octets left : List ℕ) (offset end : ℕ) → left ≡ slice_range octets offset end → StandAt octets offset left
+pub left_stands : (octets left : List ℕ) (offset end : ℕ) → left ≡ slice_range octets offset end → StandAt octets offset left
 left_stands octets left offset end e =
     let rest = drop offset octets in
     (drop (end - offset) rest, sym (take-append-drop (end - offset) rest) ∙ ap (λ z. z ++ drop (end - offset) rest) (sym e))

@@ -1,9 +1,9 @@
-mod Cursors
+pub mod Cursors
 mod Documents
 pub mod Dumps
 mod Elements
-mod Firsts
-mod Fronts
+pub mod Firsts
+pub mod Fronts
 mod Headers
 mod Seeking
 mod Segments

@@ -35,7 +35,9 @@ pub fn is_universal(header: &Header) -> bool
 }
 
 // The tag number, of class Universal, if it is a small one.
-pub fn universal_tag(header: &Header) -> Option<u8> {
+pub fn universal_tag(header: &Header) -> Option<u8>
+    ensures { IfSome result (λ tag. (header.now.class ≡ Universal) × (header.now.tag ≡ tag)) }
+{
     match header.class {
         ASN1Class::Universal => header.tag.to_u8(),
         _ => None,

@@ -102,7 +102,7 @@ fn check(
 
 // The form of characters of a string that the library takes for UTF-8 where X.690 has others. In a TeletexString they
 // are Latin-1 where they are no UTF-8.
-fn form_of(header: &Header, contents: &[u8]) -> Option<Characters>
+pub fn form_of(header: &Header, contents: &[u8]) -> Option<Characters>
     ensures { IfSome result (λ _. is_wide header.now.class header.now.tag ≡ true) }
 {
     if !matches!(header.class, ASN1Class::Universal) {

@@ -22,28 +22,30 @@
 //! [`push_label`] and [`push_refusal`] put the other lines of what is written: `=` and the label of a document, `!` and
 //! why there is none. [`block_at`] finds a block by its offset, and [`behind_header`] its contents octets.
 //!
+//! The modules are for `der_json`, which goes the same way over encodings, and says of them what lines say.
+//!
 //! The only error is that memory ran out; what was pushed before it stays.
 #![tactic(auto)]
 
-mod cursor;
+pub mod cursor;
 mod document;
 mod element;
 mod encodings;
-mod faults;
-mod header;
-mod identifier;
-mod leaf;
+pub mod faults;
+pub mod header;
+pub mod identifier;
+pub mod leaf;
 mod lines;
-mod marks;
-mod names;
-mod nested;
+pub mod marks;
+pub mod names;
+pub mod nested;
 mod notes;
-mod place;
+pub mod place;
 mod scalars;
 mod seek;
-mod strings;
+pub mod strings;
 mod style;
-mod values;
+pub mod values;
 
 pub use document::{Verdict, push_document, push_strict_document};
 pub use element::behind_header;

@@ -48,9 +48,9 @@ impl Names {
         Ok(Names { rows, own })
     }
 
-    // The name of an object identifier and the standard, or what else is said of it, by its components in decimal with
-    // points between them.
-    pub(crate) fn of(&self, number: &str) -> Option<(&str, &str)> {
+    /// The name of an object identifier and the standard, or what else is said of it, by its components in decimal with
+    /// points between them.
+    pub fn of(&self, number: &str) -> Option<(&str, &str)> {
         match self.own.of(number) {
             Some(found) => Some(found),
             None => self.built_in(number),

@@ -1,5 +1,5 @@
 // Where lines stand that are put.
-ghost use Rattle.std.specs.Prelude.{◌≡◌, ◌+◌, ◌<◌, IfOk, false, true};
+ghost use Rattle.std.specs.Prelude.{◌≡◌, ◌+◌, ◌<◌, suc, IfOk, false, true, if◌then◌else◌};
 ghost use Rattle.der_lines.specs.Dump.{is_too_deep};
 
 use crate::header::universal_tag;
@@ -42,6 +42,7 @@ pub fn outermost(style: Style) -> Place
     ensures base { result.base ≡ 0 }
     ensures depth { result.depth ≡ 0 }
     ensures most { result.most_depth ≡ style.most_depth }
+    ensures documents { result.documents ≡ (if style.is_flat then 0 else 8) }
 {
     Place {
         is_inside: false,
@@ -96,12 +97,13 @@ impl Place {
         requires { 0 < self.documents }
         ensures inside { IfOk result (λ p. p.is_inside ≡ true) }
         ensures base { IfOk result (λ p. p.base ≡ self.base + before) }
-        ensures fewer { IfOk result (λ p. p.documents < self.documents) }
+        ensures depth { IfOk result (λ p. p.depth ≡ suc self.depth) }
+        ensures fewer { IfOk result (λ p. self.documents ≡ suc p.documents) }
     {
         Ok(Place {
             is_inside: true,
             base: sum_of(self.base, before)?,
-            depth: self.depth.saturating_add(1),
+            depth: sum_of(self.depth, 1)?,
             documents: self.documents - 1,
             extension: self.next,
             value_depth: self.depth.saturating_add(1),

@@ -1,6 +1,7 @@
 // Constructed strings, which hold their octets in segments.
 ghost use Rattle.std.specs.Prelude.{◌≡◌, ◌+◌, ◌≤◌, IfOk, IfSome, length, true};
 ghost use Rattle.asn1_headers.specs.Front.{IsAtFront};
+ghost use Rattle.asn1_headers.specs.declared.header.ASN1Class.TheVariants.{Universal};
 ghost use Rattle.der_lines.specs.Segments.{AreSegmentsOf, Joins, JoinsBits, segment_tag as segment_tag_is};
 ghost use Rattle.der_lines.specs.Steps.{IsSegment};
 
@@ -21,7 +22,9 @@ const BIT_STRING: u8 = 3;
 const OCTET_STRING: u8 = 4;
 
 // The tag of a string that is constructed: also of an ObjectDescriptor and of times, which are strings.
-pub fn string_tag(header: &Header) -> Option<u8> {
+pub fn string_tag(header: &Header) -> Option<u8>
+    ensures { IfSome result (λ tag. (header.now.class ≡ Universal) × (header.now.tag ≡ tag)) }
+{
     match universal_tag(header) {
         Some(tag) if header.constructed => {
             if matches!(tag, 3 | 4 | 7 | 12 | 18..=28 | 30) {
@@ -110,7 +113,7 @@ fn value_of_joined(
 }
 
 // The contents octets of a string with the tag, if what it holds are well-formed segments.
-fn joined_segments(
+pub fn joined_segments(
     alloc: Global,
     tag: u8,
     contents: &[u8],

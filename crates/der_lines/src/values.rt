@@ -24,10 +24,10 @@ use std::alloc::{AllocError, Global};
 use std::str;
 
 // How many octets of a string, or of another class, are shown as text at least: fewer may well be a number.
-const LEAST_TEXT: usize = 5;
+pub const LEAST_TEXT: usize = 5;
 
 // From how many octets on an integer is also shown by them.
-const LEAST_HEX: usize = 5;
+pub const LEAST_HEX: usize = 5;
 
 // How a value is written.
 #[derive(Clone, Copy, Drop)]
@@ -319,7 +319,7 @@ fn write_components(
 }
 
 // The name of a type that has one.
-fn name_of(class: ASN1Class, tag: &BigUint) -> Option<&'static str>
+pub fn name_of(class: ASN1Class, tag: &BigUint) -> Option<&'static str>
     ensures { option_map (λ name. name.now) result ≡ type_name_is class tag.now }
 {
     match tag.to_u64() {
@@ -343,7 +343,7 @@ fn write_unknown(
 }
 
 // Whether the octets are printable characters of ASCII.
-fn is_text(octets: &[u8]) -> bool {
+pub fn is_text(octets: &[u8]) -> bool {
     octets.iter().all(|b| *b >= b' ' && *b < 127)
 }
 
