@@ -1,14 +1,18 @@
 #!/usr/bin/env python3
 """Writes documents back from the lines of `der_dump --json`, one after another: rebuild.py < LINES > FILE
 
-Canonical DER (X.690) comes back byte for byte. JSON does not keep everything of other documents. If the value of a
-block makes more or fewer bytes than the block has, it is an error that names the block's offset. So are:
+Canonical DER (X.690) comes back byte for byte, also with BER's indefinite lengths and constructed strings. JSON does
+not keep everything of other documents. If the value of a block makes more or fewer bytes than the block has, it is an
+error that names the block's offset. So are:
 
 - identifier and length octets, INTEGERs and OBJECT IDENTIFIERs in longer forms than the shortest
 - contents of a NULL, and none of an INTEGER
 - fractions of a second that end with 0, have no digits, or more than nine
-- a BOOLEAN other than 00 and FF, and the length 80 of a block
-- lines with a `fault` or a list `not_der`, such as the second line of a document with a malformed block
+- a BOOLEAN other than 00 and FF
+- a block with a `fault`: malformed, cut short, without its end, or of no header
+
+Lines with a `fault` or a list `not_der` are errors, too. The `blocks` of a block are in its value; the value of
+a constructed string is in its segments.
 
 After an error nothing is written, and the exit status is 1. What JSON does not tell is written as DER has it, without
 an error, where it is as long:
@@ -42,7 +46,9 @@ REALS = {"0": b"", "PLUS-INFINITY": b"\x40", "MINUS-INFINITY": b"\x41", "NOT-A-N
 MARKS = {31: (4, 7), 32: (2, 5), 33: (4, 7, 10, 13, 16), 34: (0,)}
 IRIS = {35, 36}
 # what `not_der` says of blocks whose bytes the other members do not tell
-LOST = ("true must be FF", "indefinite length")
+LOST = "true must be FF"
+INDEFINITE = b"\x80"
+END = b"\x00\x00"
 
 
 class Different(Exception):
@@ -70,6 +76,8 @@ def header_of(row):
     tag = int(row["tag"])
     front = CLASSES[row["class"]] + (0x20 if row["constructed"] else 0)
     identifier = bytes([front + tag]) if tag < 31 else bytes([front + 31]) + base128(tag)
+    if row["size"] is None:
+        return identifier + INDEFINITE
     return identifier + length_octets(row["size"] - row["header"])
 
 
@@ -136,11 +144,7 @@ def time_forms(value):
 def forms(row):
     """The contents octets that the value of a block without blocks inside may be, the likeliest first."""
     kind, value = row["type"], row["value"]
-    if "code" in row.get("fault", {}):
-        yield bytes.fromhex(value)
-    elif kind == "ENUMERATED" and row["constructed"]:
-        yield bytes.fromhex(value)
-    elif kind in ENCODINGS:
+    if kind in ENCODINGS:
         yield from (value.encode(it) for it in ENCODINGS[kind])
     elif kind == "BOOLEAN":
         yield b"\xff" if value else b"\x00"
@@ -180,27 +184,51 @@ def contents_of(row):
     raise Different(row, f"{row['type'] or 'the block'} has {wanted} bytes of contents, its value makes {sizes}")
 
 
+def is_opened(row):
+    """Whether its contents are blocks, which have rows of their own."""
+    return row["constructed"] or row["type"] in ("SEQUENCE", "SET")
+
+
+def is_end(row):
+    """Whether it is the end-of-contents octets of an indefinite length; others have a value."""
+    return row["type"] == "end-of-contents" and row["value"] is None and not row["constructed"]
+
+
+def checked_header(row):
+    """The identifier and length octets, if the row tells its block."""
+    if "fault" in row:
+        raise Different(row, row["fault"]["text"])
+    if LOST in row.get("not_der", ""):
+        raise Different(row, f"not DER: {row['not_der']}")
+    header = header_of(row)
+    if len(header) != row["header"]:
+        raise Different(row, f"the header has {row['header']} bytes, the shortest has {len(header)}")
+    return header
+
+
 def rebuild(rows):
     """The document of these rows, which are the `blocks` of a line."""
-    parts, offset, open_blocks = [], 0, []
+    # of the blocks that are open, the outermost first: where each ends, of an indefinite length None
+    parts, offset, ends = [], 0, []
     for row in rows:
-        while open_blocks and open_blocks[-1] == offset:
-            open_blocks.pop()
-        if row["offset"] != offset or row["depth"] != len(open_blocks):
-            raise Different(row, f"a block at offset {offset}, depth {len(open_blocks)} comes next")
-        if any(words in row.get("not_der", "") for words in LOST):
-            raise Different(row, f"not DER: {row['not_der']}")
-        header = header_of(row)
-        if len(header) != row["header"]:
-            raise Different(row, f"the header has {row['header']} bytes, the shortest has {len(header)}")
-        parts.append(header)
-        if row["value"] is None and row["type"] != "NULL":
-            open_blocks.append(offset + row["size"])
+        while ends and ends[-1] == offset:
+            ends.pop()
+        if row["offset"] != offset or row["depth"] != len(ends):
+            raise Different(row, f"a block at offset {offset}, depth {len(ends)} comes next")
+        header = checked_header(row)
+        if is_end(row):
+            if not ends or ends.pop() is not None:
+                raise Different(row, "no block of indefinite length ends here")
+            parts.append(END)
+            offset += len(END)
+        elif is_opened(row):
+            parts.append(header)
+            ends.append(None if row["size"] is None else offset + row["size"])
             offset += row["header"]
         else:
-            parts.append(contents_of(row))
+            parts += [header, contents_of(row)]
             offset += row["size"]
-    if any(end != offset for end in open_blocks):
+    if any(end != offset for end in ends):
         raise Different(rows[-1], "blocks are missing behind this one")
     return b"".join(parts)
 

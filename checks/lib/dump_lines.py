@@ -1,7 +1,7 @@
 """What der_dump writes with --json: dump_lines.py PROGRAM WORK FOLDER
 
-Each line keeps to docs/dump.schema.json, docs/rebuild.py makes documents of lines, and the examples of docs/DUMP.md for
-jq show what openssl shows, of each certificate of the folder. `checks/json` runs it.
+Each line keeps to docs/dump.schema.json and has what a dump shows, docs/rebuild.py makes documents of lines, and the
+examples of docs/DUMP.md for jq show what openssl shows, of each certificate of the folder. `checks/json` runs it.
 """
 import copy
 import json
@@ -69,18 +69,32 @@ class Dump:
         self.program, self.folder = program, folder
         folder.mkdir()
 
+    def run(self, words, given=None):
+        return subprocess.run([self.program, *words], cwd=self.folder, input=given, capture_output=True).stdout
+
     def text(self, words, given=None):
-        ran = subprocess.run([self.program, "--json", *words], cwd=self.folder, input=given, capture_output=True)
-        return ran.stdout
+        return self.run(["--json", *words], given)
 
     def lines(self, words, given=None):
         return [json.loads(line) for line in self.text(words, given).split(b"\n")[:-1]]
 
+    def write(self, documents):
+        """The names of files of these octets, in hex digits."""
+        names = [f"{number:05}.hex" for number in range(len(documents))]
+        for name, octets in zip(names, documents):
+            (self.folder / name).write_text(octets.hex() + "\n")
+        return names
+
+    def shown(self, documents):
+        """The lines of a dump of each of these octets."""
+        text = self.run(["--full", *self.write(documents)]).decode()
+        # of a single file the name is not told
+        parts = re.split(r"^= \d{5}\.hex\n", text, flags=re.M)[1:] if len(documents) > 1 else [text]
+        return [part.split("\n")[:-1] for part in parts]
+
     def lines_of(self, documents, *words):
         """The lines of each of these octets, without its file."""
-        lines = {f"{number:05}.hex": [] for number in range(len(documents))}
-        for name, octets in zip(lines, documents):
-            (self.folder / name).write_text(octets.hex() + "\n")
+        lines = {name: [] for name in self.write(documents)}
         for line in self.lines([*words, *lines]):
             # of a single file the name is not told
             lines[line.pop("file") if len(lines) > 1 else next(iter(lines))].append(line)
@@ -90,7 +104,8 @@ class Dump:
 # what the schema must refuse of the line of a SEQUENCE of these blocks: where, and what stands there then, or nothing
 BLOCKS = ("01 01 FF", "02 01 05", "03 02 04 B0", "04 02 0A BC", "05 00", "06 02 88 37", "0C 01 41", "80 01 41",
           "17 0D 32 36 31 31 32 33 30 30 34 33 30 35 5A", "18 0F 32 30 32 36 31 31 32 33 30 30 34 33 30 35 5A",
-          "A0 02 05 00", "0A 01 05", "12 01 31", "02 02 00 05")
+          "A0 02 05 00", "0A 01 05", "12 01 31", "02 02 00 05", "24 05 04 01 41 04 00", "30 80 00 00", "04 02 05 00",
+          "06 03 55 04 03", "22 00", "1F 1F 04 31 39 38 35", "1F 25 01 31")
 MISSING = object()
 MEMBERS = ("offset", "header", "size", "depth", "class", "constructed", "tag", "type", "value")
 REFUSED = [
@@ -98,8 +113,8 @@ REFUSED = [
     ((3, "other"), 1),
     *(((3, name), it) for name in ("offset", "header", "size", "depth") for it in ("3", -1, 1.5, None, True)),
     ((3, "class"), "Universal"), ((3, "class"), None), ((3, "class"), "private"),
-    ((3, "constructed"), 0),
-    ((3, "tag"), -1), ((3, "tag"), "3"), ((3, "tag"), 4), ((8, "tag"), "0"), ((8, "tag"), 2**53),
+    ((3, "constructed"), 0), ((3, "constructed"), None), ((3, "header"), 0), ((3, "header"), 1), ((3, "size"), 1),
+    ((3, "tag"), -1), ((3, "tag"), "3"), ((3, "tag"), 4), ((3, "tag"), None), ((8, "tag"), "0"), ((8, "tag"), 2**53),
     ((3, "type"), "BITSTRING"), ((3, "type"), "NULL"), ((3, "type"), None), ((8, "type"), "INTEGER"),
     ((0, "value"), ""), ((0, "offset"), 1), ((0, "depth"), 1),
     ((1, "value"), 1), ((2, "value"), "5"), ((2, "value"), 2**53), ((2, "value"), 1.5), ((2, "value"), True),
@@ -107,9 +122,40 @@ REFUSED = [
     ((4, "value"), "0ABC"), ((4, "value"), "0ab"), ((4, "value"), None), ((5, "value"), ""),
     ((6, "value"), "3.1"), ((6, "value"), "2.01"), ((6, "value"), "2"), ((7, "value"), 1), ((8, "value"), None),
     ((9, "value"), "2050-11-23T00:43:05Z"), ((9, "value"), "2026-11-23 00:43:05"),
-    ((10, "value"), "2026-11-23T00:43:05.50Z"), ((11, "constructed"), False), ((11, "value"), "g0"),
+    ((10, "value"), "2026-11-23T00:43:05.50Z"), ((11, "constructed"), False), ((11, "value"), "0500"),
     ((13, "value"), "5"), ((13, "value"), 1.5), ((14, "value"), 1), ((14, "value"), None), ((15, "not_der"), None),
-    ((15, "not_der"), ["padded"]),
+    ((15, "not_der"), ["padded"]), ((15, "not_der"), "indefinite length"),
+    ((16, "value"), "4"), ((16, "value"), 41), ((16, "type"), None), ((16, "shown"), "A"), ((16, "name"), "A"),
+    ((19, "not_der"), MISSING), ((19, "not_der"), "padded"), ((19, "size"), 4), ((19, "constructed"), False),
+    ((19, "value"), ""), ((19, "fault"), {"offset": 0, "text": ""}),
+    ((20, "header"), 0), ((20, "header"), 3), ((20, "size"), 3), ((20, "size"), None), ((20, "value"), 0),
+    ((20, "not_der"), "padded"), ((20, "type"), "NULL"),
+    ((21, "blocks"), []), ((21, "blocks"), {}), ((21, "blocks", 0, "value"), ""), ((21, "blocks", 0, "type"), MISSING),
+    ((21, "constructed"), True), ((21, "fault"), {"offset": 0, "text": ""}), ((22, "blocks"), [{}]),
+    ((22, "name"), ""), ((22, "name"), 1), ((2, "name"), "five"), ((7, "shown"), "A"), ((2, "shown"), ""),
+    ((23, "value"), 0), ((23, "value"), ""), ((24, "value"), 1985), ((24, "type"), "DATE"), ((25, "value"), "1"),
+]
+# so of a line with each fault, the block of which is: malformed, primitive and of indefinite length, of no header, cut
+# short, and without its end
+FAULTS = "30 80  01 02 00 FF  04 80  30 01 05  30 05 04 03 41"
+REFUSED_FAULTS = [
+    *(((row, "fault"), it) for row in (1, 2, 4, 5, 6, 7) for it in ("", {}, {"code": "Incomplete"})),
+    *(((row, "fault"), MISSING) for row in (1, 2, 4, 5, 7)),
+    *(((row, "fault", "offset"), it) for row in (1, 2, 4, 5, 6, 7) for it in (MISSING, -1)),
+    *(((row, "fault", "text"), it) for row in (1, 2, 4, 5, 6, 7) for it in (MISSING, 1)),
+    *(((row, "fault", "code"), it) for row in (1, 2, 4, 5, 6, 7) for it in ("EmptyBuffer", "NotCanonical", "Other")),
+    *(((row, "fault", "code"), "InvalidDateValue") for row in (1, 2, 4, 5, 6, 7)),
+    *(((row, "fault", "code"), MISSING) for row in (1, 4, 5, 6, 7)),
+    *(((row, "blocks"), [{}]) for row in (1, 2, 4, 5, 6, 7)),
+    ((1, "value"), True), ((1, "value"), None), ((1, "shown"), "00ff"), ((1, "constructed"), True),
+    ((2, "value"), ""), ((2, "constructed"), True), ((2, "not_der"), MISSING), ((2, "not_der"), "padded"),
+    ((4, "value"), ""), ((4, "value"), None), ((4, "header"), 1), ((4, "size"), 0), ((4, "size"), None),
+    ((4, "class"), "universal"), ((4, "constructed"), False), ((4, "tag"), 5), ((4, "type"), "NULL"),
+    ((4, "not_der"), "padded"),
+    ((5, "value"), "040341"), ((5, "shown"), MISSING), ((5, "shown"), "truncated"), ((5, "size"), None),
+    ((6, "value"), None), ((6, "value"), "4"), ((6, "shown"), MISSING),
+    ((7, "size"), 2), ((7, "header"), 1), ((7, "tag"), 1), ((7, "type"), None), ((7, "value"), ""),
+    ((7, "constructed"), True), ((7, "class"), "private"), ((7, "not_der"), "padded"),
 ]
 REFUSED_LINES = [
     {}, [], None, {"blocks": []}, {"blocks": {}}, {"file": "a"}, {"fault": {}}, {"fault": ""}, {"fault": {"offset": 1}},
@@ -120,10 +166,8 @@ REFUSED_LINES = [
 ]
 
 
-def refused_lines(line):
-    yield from REFUSED_LINES
-    yield line | {"fault": {"text": ""}}
-    for path, value in REFUSED:
+def changed_lines(line, changes):
+    for path, value in changes:
         changed = copy.deepcopy(line)
         place = changed["blocks"]
         for name in path[:-1]:
@@ -149,16 +193,108 @@ def check_schema(dump, lines):
             fail("not by the schema:", error.json_path, error.message[:200])
         else:
             good += 1
-    rows = sum(len(line.get("blocks", "")) for line in lines)
+    rows = sum(1 for line in lines for _ in all_rows(line.get("blocks", [])))
     tell(f"{good} of {len(lines)} lines, {rows} blocks, keep to the schema")
     octets = bytes.fromhex("".join(BLOCKS))
-    [line] = dump.lines([], (b"\x30" + rebuild.length_octets(len(octets)) + octets).hex().encode())
-    if not validator.is_valid(line) or len(line["blocks"]) != len(BLOCKS) + 2:
-        fail("the line that is to be changed is not by the schema")
-    changed = list(refused_lines(line))
+    changed = REFUSED_LINES
+    for octets, changes in ((b"\x30" + rebuild.length_octets(len(octets)) + octets, REFUSED),
+                            (bytes.fromhex(FAULTS), REFUSED_FAULTS)):
+        line, *_ = dump.lines([], octets.hex().encode())
+        if not validator.is_valid(line) or len(line["blocks"]) != 1 + max(path[0] for path, _ in changes):
+            fail("the line that is to be changed is not by the schema")
+            return
+        changed = [*changed, line | {"fault": {"text": ""}}, *changed_lines(line, changes)]
     for each in filter(validator.is_valid, changed):
         fail("the schema lets through", json.dumps(each)[:2000])
     tell(f"{len(changed)} wrong lines, {sum(not validator.is_valid(it) for it in changed)} refused by the schema")
+
+
+def all_rows(rows, inside=False):
+    """These and those inside strings, in the order of lines; and whether they stand inside one."""
+    for row in rows:
+        yield row, inside
+        yield from all_rows(row.get("blocks", []), True)
+
+
+MOST_LEVELS = 40
+BLOCK_LINE = re.compile(r"([ >]) *(\d+) +(\d+) +(\d+|inf)  ( *)(.*)")
+CLASSES = {"universal": "UNIVERSAL ", "application": "APPLICATION ", "context-specific": "", "private": "PRIVATE "}
+
+
+def words_of(row):
+    """How the words of a line begin, by its row."""
+    if row["class"] is None:
+        return "unreadable"
+    number = row["tag"] if int(row["tag"]) < 2**128 else "beyond 2^128"
+    return row["type"] or f"[{CLASSES[row['class']]}{number}]"
+
+
+def cut_short(row):
+    """What is said of a block that is cut short: how many contents octets there are, and are announced."""
+    return re.fullmatch(r"truncated: (\d+) of (\d+) bytes", row.get("shown", "")) if "fault" in row else None
+
+
+def contents_size(row):
+    """How many contents octets a line shows, by its row."""
+    if row["size"] is None:
+        return "inf"
+    there, cut = str(row["size"] - row["header"]), cut_short(row)
+    if cut:
+        return cut[2] if cut[1] == there else None
+    return there
+
+
+def words_in(row):
+    """What stands in the words of a line, by its row: a name, and a fault."""
+    yield row.get("name", "")
+    if "fault" in row:
+        yield row["shown"] if cut_short(row) else row["fault"]["text"]
+
+
+def is_of_line(row, inside, line):
+    """Whether the line is that of the row."""
+    if not (found := BLOCK_LINE.fullmatch(line)):
+        return False
+    mark, offset, header, contents, spaces, words = found.groups()
+    numbers = (str(row["offset"]), str(row["header"]), contents_size(row), 2 * min(row["depth"], MOST_LEVELS))
+    start, end = words_of(row), f" (not DER: {row['not_der']})" if "not_der" in row else ""
+    return (
+        (mark == ">") == inside and (offset, header, contents, len(spaces)) == numbers
+        and words.startswith(start) and words[len(start):len(start) + 1] in ("", " ", ":", ",")
+        and words.endswith(end) and (end != "" or "(not DER: " not in words)
+        and all(it in words for it in words_in(row))
+    )
+
+
+def check_shown(dump, documents, lines):
+    """A row for each line of a dump, in the same order, with what it shows."""
+    rows = nested = 0
+    for octets, read, shown in zip(documents, lines, dump.shown(documents), strict=True):
+        shown = [it for it in shown if it[:1] != "!"]
+        each = list(all_rows(read[0].get("blocks", [])))
+        rows, nested = rows + len(each), nested + sum(inside for _, inside in each)
+        if len(each) != len(shown):
+            fail(f"{octets.hex()[:80]} has {len(each)} blocks in JSON, {len(shown)} lines")
+        for (row, inside), line in zip(each, shown):
+            if not is_of_line(row, inside, line):
+                fail(f"{octets.hex()[:80]}: {json.dumps(row)[:300]} is not of the line {line[:200]}")
+                break
+    tell(f"{rows} blocks have their lines, {nested} of them inside strings; of {len(documents)} documents")
+
+
+def check_told(documents, lines, strict):
+    """Behind the blocks stands the first of their faults; before it, strictly, what is not DER in them."""
+    good = 0
+    for octets, read, strictly in zip(documents, lines, strict, strict=True):
+        rows = read[0].get("blocks", [])
+        marks = [{"offset": row["offset"], "text": row["not_der"]} for row in rows if "not_der" in row]
+        faults = [{"fault": row["fault"]} for row in rows if "fault" in row][:1]
+        listed = [{"not_der": marks}] if marks else []
+        if rows and (read[1:] != faults or strictly != [read[0], *listed, *faults]):
+            fail(f"{octets.hex()[:80]}: behind the blocks stands {read[1:]}, strictly {strictly[1:]}")
+        else:
+            good += 1
+    tell(f"{good} of {len(documents)} documents have the first fault of their blocks, and strictly their marks")
 
 
 def is_canonical_real(contents):
@@ -175,23 +311,39 @@ def is_canonical_real(contents):
 
 def has_canonical_reals(octets, rows):
     """What is not DER in a REAL is not told."""
-    ends = ((row["offset"] + row["header"], row["offset"] + row["size"]) for row in rows if row["type"] == "REAL")
+    ends = ((row["offset"] + row["header"], row["offset"] + row["size"]) for row in rows
+            if row["type"] == "REAL" and not row["constructed"])
     return all(is_canonical_real(octets[start:end]) for start, end in ends)
 
 
 def has_short_fractions(rows):
     """Of a fraction of a second JSON has nine digits."""
     return all(row["size"] - row["header"] <= len("19910525000000.123456789Z") for row in rows
-               if row["type"] == "GeneralizedTime")
+               if row["type"] == "GeneralizedTime" and not row["constructed"])
+
+
+# of what is not DER, what rows tell
+TOLD_MARKS = {
+    "indefinite length", "must be primitive", "must be constructed", "elements out of order", "unused bits set",
+    "no count of unused bits", "more than 7 unused bits",
+}
+
+
+def tells_all(octets, rows):
+    """Whether rows tell all octets of their document: it is canonical, or BER in what they tell."""
+    marks = {mark for row in rows if "not_der" in row for mark in row["not_der"].split(", ")}
+    return (
+        marks <= TOLD_MARKS and not any("fault" in row for row in rows) and has_canonical_reals(octets, rows)
+        and has_short_fractions(rows)
+    )
 
 
 def check_rebuilt(dump, documents, lines):
-    """Canonical documents are made again of their lines. Of others it is told which block's octets are lost, or no line
-    tells them from what is made."""
-    strict = dump.lines_of(documents, "--strict")
+    """Documents are made again of rows that tell all of their octets. Of others it is told which block's octets are
+    lost, or no line tells them from what is made."""
     counts = dict.fromkeys(("canonical", "same", "told", "alike"), 0)
-    alike = []
-    for octets, read, strictly in zip(documents, lines, strict):
+    indefinite, alike = 0, []
+    for octets, read in zip(documents, lines):
         if "blocks" not in read[0]:
             continue
         rows = read[0]["blocks"]
@@ -200,12 +352,12 @@ def check_rebuilt(dump, documents, lines):
             told = ""
         except rebuild.Different as why:
             made, told = None, str(why)
-        is_strict = "blocks" in strictly[-1] and has_canonical_reals(octets, rows) and has_short_fractions(rows)
         if made == octets:
-            counts["canonical" if is_strict else "same"] += 1
-        elif is_strict:
-            fail(f"{octets.hex()[:80]} is canonical and not made again: {told or made.hex()[:80]}")
-        elif told or len(read) > 1:
+            counts["canonical" if tells_all(octets, rows) else "same"] += 1
+            indefinite += any(row["size"] is None for row in rows)
+        elif tells_all(octets, rows):
+            fail(f"{octets.hex()[:80]} is not made again: {told or made.hex()[:80]}")
+        elif told:
             counts["told"] += 1
         else:
             alike.append((octets, made, rows))
@@ -215,16 +367,66 @@ def check_rebuilt(dump, documents, lines):
             counts["alike"] += 1
         else:
             fail(f"{octets.hex()[:80]} is made {made.hex()[:80]}, whose line is another")
-    tell(f"{counts['canonical']} canonical documents made again; of others {counts['same']} made again, "
-         f"{counts['told']} told, {counts['alike']} made to one with the same line")
+    tell(f"{counts['canonical']} documents made again of all that they are, {indefinite} with indefinite lengths; of "
+         f"others {counts['same']} made again, {counts['told']} told, {counts['alike']} made to one with the same line")
+
+
+# documents of BER that are made again: contents of signed data as `openssl cms -stream` has them; segments in segments,
+# bits with unused ones, a character in two segments, and none; ends inside definite lengths; tags in several octets; a
+# SET; and octets that hold BER
+BER = [
+    "30 80 06 09 2A 86 48 86 F7 0D 01 07 01 A0 80 24 80 04 03 61 62 63 04 02 64 0A 00 00 00 00 00 00",
+    "24 80 04 02 41 42 24 80 04 01 43 00 00 24 03 04 01 44 00 00",
+    "30 80 23 80 03 03 00 0A 3B 03 03 04 5F D0 00 00 2C 06 04 01 C3 04 01 A9 24 00 2C 80 00 00 00 00",
+    "30 0D 30 80 02 01 05 00 00 30 04 31 80 00 00 05 00",
+    "7F 81 01 80 BF 1F 80 DF 82 80 00 01 41 00 00 E0 80 00 00 00 00 00 00 05 00",
+    "31 80 02 01 07 02 01 05 00 00 3E 08 04 01 00 04 03 E4 00 41 3C 80 04 04 00 01 F6 00 00 00",
+    "30 0C 04 0A 30 80 24 80 04 00 00 00 00 00 03 07 00 30 80 05 00 00 00 37 80 04 02 32 36 04 0B 31 31 32 33 30 30 34 "
+    "33 30 35 5A 00 00",
+    "38 80 04 0E 32 30 32 36 31 31 32 33 30 30 34 33 30 35 04 01 5A 00 00 29 80 04 01 40 00 00",
+    "24 80 03 01 00 00 00 2C 80 04 01 FF 00 00 22 80 02 01 05 00 00 30 80 00 00 00 00 00 00",
+]
+
+
+STREAMED = """
+openssl req -x509 -newkey ec -pkeyopt ec_paramgen_curve:P-256 -nodes -keyout signer.key -out signer.pem -days 9 \\
+    -subj /CN=Signer
+openssl cms -sign -stream -binary -nodetach -outform DER -in content -out signed.ber -signer signer.pem \\
+    -inkey signer.key
+openssl cms -encrypt -stream -binary -outform DER -in content -out encrypted.ber -aes128 -secretkeyid 01 \\
+    -secretkey 000102030405060708090A0B0C0D0E0F
+"""
+
+
+def streamed(folder):
+    """Messages as openssl streams them, their content in several segments."""
+    if not shutil.which("openssl"):
+        tell("messages of CMS are NOT CHECKED, there is no openssl")
+        return []
+    folder.mkdir()
+    (folder / "content").write_bytes(bytes(range(256)) * 40)
+    subprocess.run(["sh", "-ec", STREAMED], cwd=folder, capture_output=True, check=True)
+    return [(folder / name).read_bytes() for name in ("signed.ber", "encrypted.ber")]
+
+
+def check_ber(dump, documents):
+    """docs/rebuild.py makes documents again that have indefinite lengths and constructed strings."""
+    for octets in documents:
+        line, *others = dump.lines([], octets.hex().encode())
+        if others or not any(row["size"] is None for row in line["blocks"]):
+            fail(f"{octets.hex()[:80]} has no indefinite length, or faults: {others}")
+        if rebuilt(dump.text([], octets.hex().encode())) != (0, octets, ""):
+            fail(f"rebuild.py does not write {octets.hex()[:80]} again")
+    tell(f"rebuild.py was run on {len(documents)} documents with indefinite lengths")
+
+
+def rebuilt(lines):
+    ran = subprocess.run([sys.executable, TOP / "docs/rebuild.py"], input=lines, capture_output=True)
+    return ran.returncode, ran.stdout, ran.stderr.decode()
 
 
 def check_program(dump, roots):
     """docs/rebuild.py as a program: what it writes and says, and how it ends."""
-    def rebuilt(lines):
-        ran = subprocess.run([sys.executable, TOP / "docs/rebuild.py"], input=lines, capture_output=True)
-        return ran.returncode, ran.stdout, ran.stderr.decode()
-
     for number, octets in enumerate(roots):
         (dump.folder / f"{number:05}.der").write_bytes(octets)
     names = [f"{number:05}.der" for number in range(len(roots))]
@@ -245,17 +447,21 @@ TOLD = [
     (b"05 00 30 03 02 01 05 02 02 00 05", "line 1: offset 7: INTEGER has 2 bytes of contents, its value makes 1"),
     (b"30 04 05 00 02 00", "line 1: offset 4: INTEGER"),
     (b"05 00 01 01 2A", "line 1: offset 2: not DER: true must be FF"),
-    (b"05 00 04 80", "line 1: offset 2: not DER: indefinite length"),
     (b"30 81 02 05 00", "line 1: offset 0: the header has 3 bytes, the shortest has 2"),
+    (b"30 80 00 81 00 00 00", "line 1: offset 2: the header has 3 bytes, the shortest has 2"),
     (b"05 00 9F 1E 00", "line 1: offset 2: the header has 3 bytes, the shortest has 2"),
     (b"30 03 05 01 00", "line 1: offset 2: NULL has 1 bytes"),
     (b"A0 04 06 02 80 01", "line 1: offset 2: OBJECT IDENTIFIER"),
     (b"18 11 32 30 32 36 31 31 32 33 30 30 34 33 30 35 2E 30 5A", "line 1: offset 0: GeneralizedTime"),
     (b"18 10 32 30 32 36 31 31 32 33 30 30 34 33 30 35 2E 5A", "line 1: offset 0: GeneralizedTime"),
-    (b"30 80 05 00", "line 1: offset 0: not DER: indefinite length"),
     (b"0A 02 00 05", "line 1: offset 0: ENUMERATED has 2 bytes of contents, its value makes 1"),
-    (b"A0 04 05 00 30 80", "line 1: offset 4: not DER: indefinite length"),
-    (b"30 03 05", "line 1: no document: "),
+    (b"05 00 04 80", "line 1: offset 2: indefinite length of a primitive element"),
+    (b"30 80 05 00", "line 1: offset 4: end-of-contents is missing"),
+    (b"A0 04 05 00 30 80", "line 1: offset 6: end-of-contents is missing"),
+    (b"30 03 05", "line 1: offset 0: unexpected end of data"),
+    (b"30 01 05", "line 1: offset 2: unexpected end of data"),
+    (b"05 00 01 02 00 FF", "line 1: offset 2: BOOLEAN must have 1 content byte, has 2"),
+    (b"", "line 1: no document: there are no bytes"),
     (b"-", "line 1: not a line of der_dump --json"),
 ]
 
@@ -314,7 +520,7 @@ class Identifiers:
 
 def check_examples(program, work, roots):
     """The examples of docs/DUMP.md for jq, each as it stands there."""
-    missing = [it for it in ("jq", "openssl", "xxd", "xargs") if not shutil.which(it)]
+    missing = [it for it in ("jq", "openssl") if not shutil.which(it)]
     if missing:
         tell(f"the examples of docs/DUMP.md are NOT CHECKED, there is no {', '.join(missing)}")
         return
@@ -357,11 +563,18 @@ def main():
     program, work, folder = sys.argv[1], pathlib.Path(sys.argv[2]), sys.argv[3]
     dump = Dump(program, work / "inputs")
     roots = certificates(folder)
-    documents = list(dict.fromkeys([*rows_inputs(), *calls_inputs(), *roots, nested(0x30, 50), nested(0xA0, 50)]))
+    indefinite = [*map(bytes.fromhex, BER), *streamed(work / "streamed")]
+    documents = list(dict.fromkeys([*rows_inputs(), *calls_inputs(), *roots, nested(0x30, 50), nested(0xA0, 50),
+                                    *indefinite]))
     lines = dump.lines_of(documents)
+    strict = dump.lines_of(documents, "--strict")
     files = sorted(str(it) for it in (TOP / "checks/data/dumps").iterdir() if it.suffix != ".dump")
-    check_schema(dump, [*sum(lines, []), *dump.lines(files), *dump.lines(["--strict", *files])])
+    others = [line for line in sum(strict, []) if "blocks" not in line]
+    check_schema(dump, [*sum(lines, []), *others, *dump.lines(files), *dump.lines(["--strict", *files])])
+    check_shown(dump, documents, lines)
+    check_told(documents, lines, strict)
     check_rebuilt(dump, documents, lines)
+    check_ber(dump, indefinite)
     check_program(dump, roots)
     check_examples(program, work, roots)
     tell(f"{len(documents)} inputs, {wrong} wrong")

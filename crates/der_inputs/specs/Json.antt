@@ -1,8 +1,8 @@
 -- What is written of a finding as JSON.
-use Rattle.std.specs.Prelude.{◌≡◌, ℕ, Bool, true, false, List, [], Option, Some, None, option_map}
+use Rattle.std.specs.Prelude.{◌≡◌, ℕ, Bool, true, false, List, Option, Some, None, option_map}
 use Rattle.std.specs.Str.Lossy.{utf8_lossy}
 use Rattle.serde_json.specs.Data.{Members}
-use Rattle.der_json.specs.Json.{AddsJsonOf, AddsLineOf, AddsStrictJsonOf, origin_members, refusal_json}
+use Rattle.der_json.specs.Json.{IsJsonOf, IsStrictJsonOf, line_text, origin_members, refusal_json}
 use Rattle.der_inputs.specs.Findings.{Finding}
 use Rattle.der_lines.specs.declared.document.Verdict.{Verdict}
 use Rattle.der_lines.specs.declared.document.Verdict.TheVariants.{AllRead, Refused}
@@ -11,7 +11,7 @@ use Rattle.der_lines.specs.declared.document.Verdict.TheVariants.{AllRead, Refus
 abbrev pub IsWords : Members → List ℕ → Type 0
 IsWords origin text =
     (words : List ℕ)
-    × AddsLineOf (refusal_json (record { code = None; offset = None; words = words }) origin) [] text
+    × (text ≡ line_text (refusal_json (record { code = None; offset = None; words = words }) origin))
 
 abbrev pub is_all_read : Verdict → Bool
 is_all_read AllRead = true
@@ -19,8 +19,8 @@ is_all_read Refused = false
 
 -- the lines of octets, in which something is at fault or nothing is; strictly, so of what is not DER
 abbrev pub IsOctetsJson : Bool → List ℕ → Members → Verdict → List ℕ → Type 0
-IsOctetsJson false octets origin verdict = AddsJsonOf octets origin (is_all_read verdict) []
-IsOctetsJson true octets origin verdict = AddsStrictJsonOf octets origin (is_all_read verdict) []
+IsOctetsJson false octets origin verdict = IsJsonOf octets origin (is_all_read verdict)
+IsOctetsJson true octets origin verdict = IsStrictJsonOf octets origin (is_all_read verdict)
 
 -- so, or a line of why there are none to be read
 abbrev pub IsFoundJson : Bool → Option (List ℕ) → Members → Verdict → List ℕ → Type 0

@@ -66,9 +66,9 @@ impl Show {
             verdict) out.old.items out.new.items) }
     {
         if self.is_strict {
-            Ok(verdict_of(push_strict_json(self.alloc, origin, octets, out)?))
+            Ok(verdict_of(push_strict_json(self.alloc, &self.names, origin, octets, out)?))
         } else {
-            Ok(verdict_of(push_json(self.alloc, origin, octets, out)?))
+            Ok(verdict_of(push_json(self.alloc, &self.names, origin, octets, out)?))
         }
     }
 }

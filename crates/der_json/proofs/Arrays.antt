@@ -1,17 +1,11 @@
--- The text of an array, row by row.
+-- The text of an array, one after another.
 use Rattle.std.proofs.Common.{◌≡◌, ◌+◌, ◌<◌, ℕ, List, [], ◌∷◌, ◌++◌, Bool, true, false, get_or, length, map, refl, sym, ap, ◌∙◌, take}
 use Rattle.std.proofs.lemmas.List.{append_assoc, append-nil, map-append, take_more}
-use Rattle.std.specs.Prelude.{Option, None, Some}
-use Rattle.std.specs.List.{AllZip}
-use Rattle.std.proofs.Common.{subst}
-use Rattle.std.proofs.lemmas.Slice.Zip.{all_zipped_more}
 use Rattle.serde_json.specs.Written.{comma_if, compact_text, items_text}
-use Rattle.asn1_outline.specs.declared.entry.Entry.{Entry}
 use Rattle.serde_json.specs.Data.{Data}
-use Rattle.der_json.specs.Json.{IsRow, Row, ToldFault, earlier_of, fault_json, fault_told, first_fault, items_of}
-use Rattle.der_json.specs.Json.{marks_of, one_if, row_json}
+use Rattle.der_json.specs.Json.{fault_json, fault_told, items_of}
 use Rattle.der_json.specs.declared.fault.Fault.{Fault}
-use Rattle.der_json.specs.Rows.{AddsArray, AddsRows, are_some, texts}
+use Rattle.der_json.specs.Rows.{are_some, texts}
 
 module _ {A : Type 0} (json : A → Data) where
   -- one more, behind others
@@ -61,58 +55,6 @@ module _ {A : Type 0} (json : A → Data) where
 pub some_more : {A : Type 0} → (xs : List A) (x : A) → true ≡ are_some (xs ++ x ∷ [])
 some_more [] x = refl
 some_more (y ∷ xs) x = refl
-
-marks_more : (rs : List Row) (r : Row) → marks_of rs ++ one_if r.not_der ≡ marks_of (rs ++ r ∷ [])
-marks_more [] r = sym (append-nil (one_if r.not_der))
-marks_more (x ∷ xs) r =
-    append_assoc (one_if x.not_der) (marks_of xs) (one_if r.not_der) ∙ ap (λ z. one_if x.not_der ++ z) (marks_more xs r)
-
-earlier_after : (a b c : Option ToldFault) → earlier_of (earlier_of a b) c ≡ earlier_of a (earlier_of b c)
-earlier_after None b c = refl
-earlier_after (Some x) b c = refl
-
-earlier_none : (a : Option ToldFault) → a ≡ earlier_of a None
-earlier_none None = refl
-earlier_none (Some x) = refl
-
-first_more : (rs : List Row) (r : Row) → earlier_of (first_fault rs) r.fault ≡ first_fault (rs ++ r ∷ [])
-first_more [] r = earlier_none r.fault
-first_more (x ∷ xs) r = earlier_after x.fault (first_fault xs) r.fault ∙ ap (earlier_of x.fault) (first_more xs r)
-
-pub no_rows : (document : List ℕ) (before : List ℕ) → AddsRows document false [] [] None before before
-no_rows document before =
-    record { rows = []; told = tt; some = refl; marks_are = refl; first_is = refl; after_is = sym (append-nil before) }
-
--- one row more, of the entry at an index
-module _ (document : List ℕ) (entries : List Entry) (i : ℕ) (entry : Entry) (within : i < length entries)
-    (is : entry ≡ get_or entries i entry) where
-  pub one_row :
-      (later : Bool) (marks more_marks : List ToldFault) (mark first fault next : Option ToldFault) (row : Row)
-      (before middle comma after : List ℕ) →
-      AddsRows document later (take i entries) marks first before middle → comma ≡ middle ++ comma_if later →
-      IsRow document entry row → row.not_der ≡ mark → row.fault ≡ fault → more_marks ≡ marks ++ one_if mark →
-      next ≡ earlier_of first fault → after ≡ comma ++ compact_text row.json →
-      AddsRows document true (take (i + 1) entries) more_marks next before after
-  one_row later marks more_marks mark first fault next row before middle comma after h c o d f m n e =
-      let told : AllZip (IsRow document) (take i entries ++ entry ∷ []) (h.rows ++ row ∷ []) =
-      all_zipped_more (IsRow document) (take i entries) h.rows entry row h.told o in
-      let more : take (i + 1) entries ≡ take i entries ++ entry ∷ [] =
-      take_more entries i entry within ∙ ap (λ z. take i entries ++ z ∷ []) (sym is) in
-      record {
-        rows = h.rows ++ row ∷ [];
-        told = subst (λ z. AllZip (IsRow document) z (h.rows ++ row ∷ [])) (sym more) told;
-        some = some_more h.rows row;
-        marks_are = m ∙ ap (λ z. z ++ one_if mark) h.marks_are ∙ ap (λ z. marks_of h.rows ++ one_if z) (sym d) ∙ marks_more h.rows row;
-        first_is = n ∙ ap (λ z. earlier_of z fault) h.first_is ∙ ap (earlier_of (first_fault h.rows)) (sym f) ∙ first_more h.rows row;
-        after_is = one_text row_json h.rows row later before middle comma after h.some h.after_is c e;
-      }
-
-pub all_rows : (document : List ℕ) (later : Bool) (entries : List Entry) (marks : List ToldFault) (first : Option ToldFault)
-    (before middle after : List ℕ)
-    → AddsRows document later entries marks first before middle → after ≡ middle ++ 93 ∷ []
-    → AddsArray document entries marks first before after
-all_rows document later entries marks first before middle after h e =
-    (h.rows, h.told, h.marks_are, h.first_is, all_texts row_json h.rows before middle after h.after_is e)
 
 -- three texts put one after another
 pub joined : (out x y z a b c : List ℕ) → a ≡ out ++ x → b ≡ a ++ y → c ≡ b ++ z → c ≡ out ++ (x ++ (y ++ z))

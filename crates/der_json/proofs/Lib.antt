@@ -1,4 +1,5 @@
 pub mod Arrays
-pub mod Encoded
+pub mod Elements
 pub mod Lines
 pub mod Members
+pub mod Walk

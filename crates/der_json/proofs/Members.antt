@@ -1,25 +1,52 @@
 -- The object of a row, member by member.
-use Rattle.std.proofs.Common.{◌≡◌, ℕ, List, [], ◌∷◌, ◌++◌, codes, refl, true, ap, ◌∙◌}
+use Rattle.std.proofs.Common.{◌≡◌, ℕ, List, [], ◌∷◌, ◌++◌, codes, false, refl, true, ap, ◌∙◌}
 use Rattle.std.proofs.lemmas.List.{append_assoc}
 use Rattle.serde_json.proofs.OnLiterals.{serde_json_on_literals}
-use Rattle.std.specs.Option.{is_some, option_map}
 use Rattle.std.specs.Prelude.{Option, None, Some}
-use Rattle.serde_json.specs.Data.{Data, Members, member, object, string}
-use Rattle.serde_json.specs.Written.{compact_text, members_text}
-use Rattle.der_json.specs.Json.{IsMarked, ToldFault, fault_members, member_if, rest_members}
-use Rattle.der_json.specs.Rows.{fault_text, told_text}
+use Rattle.serde_json.specs.Data.{Data, Items, Members, number, string, unsigned}
+use Rattle.serde_json.specs.View.{view}
+use Rattle.serde_json.specs.Written.{compact_text, items_text, members_text}
+use Rattle.der_json.specs.Json.{ToldFault, blocks_if, boolean_or_null, number_or_null, text_or_null, fault_if, member_if, row_json}
+use Rattle.der_json.specs.Rows.{blocks_text, fault_text, first_members, last_members, row_of, told_text}
+use Rattle.der_json.specs.declared.object.Object.{Object}
 
 -- one text put after another
 pub put_after : (out x y a b : List ℕ) → a ≡ out ++ x → b ≡ a ++ y → b ≡ out ++ (x ++ y)
 put_after out x y a b d e = e ∙ (ap (λ z. z ++ y) d ∙ append_assoc out x y)
 
--- the member of a fault, and the closing bracket
-fault_end : (fault : Option ToldFault) → fault_text fault ++ 125 ∷ [] ≡ members_text true (fault_members fault)
-unfolding serde_json_on_literals
-fault_end None = refl
-fault_end (Some f) = refl
+-- the same value
+pub put_same :
+    (old name new : List ℕ) (v w : Data) → new ≡ old ++ (name ++ compact_text v) → v ≡ w →
+    new ≡ old ++ (name ++ compact_text w)
+put_same old name new v w e same = e ∙ ap (λ z. old ++ (name ++ compact_text z)) same
 
--- the members that not every object has
+-- nine of them
+pub nine_put :
+    (out m0 m1 m2 m3 m4 m5 m6 m7 m8 a b c d e f g h i : List ℕ) →
+    a ≡ out ++ m0 → b ≡ a ++ m1 → c ≡ b ++ m2 → d ≡ c ++ m3 → e ≡ d ++ m4 → f ≡ e ++ m5 → g ≡ f ++ m6 →
+    h ≡ g ++ m7 → i ≡ h ++ m8 →
+    i ≡ out ++ (m0 ++ (m1 ++ (m2 ++ (m3 ++ (m4 ++ (m5 ++ (m6 ++ (m7 ++ m8))))))))
+nine_put out m0 m1 m2 m3 m4 m5 m6 m7 m8 a b c d e f g h i p0 p1 p2 p3 p4 p5 p6 p7 p8 =
+    put_after out m0 _ a i p0 (put_after a m1 _ b i p1 (put_after b m2 _ c i p2 (put_after c m3 _ d i p3
+    (put_after d m4 _ e i p4 (put_after e m5 _ f i p5 (put_after f m6 _ g i p6 (put_after g m7 m8 h i p7 p8)))))))
+
+-- texts before another
+joined_front :
+    (a b rest text : List ℕ) → b ++ rest ≡ text → (a ++ b) ++ rest ≡ a ++ text
+joined_front a b rest text e = append_assoc a b rest ∙ ap (λ z. a ++ z) e
+
+blocks_end : (inside : Option Items) → blocks_text inside ++ 125 ∷ [] ≡ members_text true (blocks_if inside)
+unfolding serde_json_on_literals
+blocks_end None = refl
+blocks_end (Some items) = refl
+
+fault_end :
+    (fault : Option ToldFault) (others : Members) (rest : List ℕ) → rest ≡ members_text true others →
+    fault_text fault ++ rest ≡ members_text true (fault_if fault others)
+unfolding serde_json_on_literals
+fault_end None others rest e = e
+fault_end (Some f) others rest e = ap (λ z. fault_text (Some f) ++ z) e
+
 not_der_end :
     (words : Option (List ℕ)) (others : Members) (rest : List ℕ) → rest ≡ members_text true others →
     told_text (codes ",\"not_der\":") words ++ rest ≡ members_text true (member_if (codes "not_der") words others)
@@ -34,97 +61,65 @@ unfolding serde_json_on_literals
 shown_end None others rest e = e
 shown_end (Some t) others rest e = ap (λ z. (codes ",\"shown\":" ++ compact_text (string t)) ++ z) e
 
-pub rest_end :
-    (beside words : Option (List ℕ)) (fault : Option ToldFault) →
-    told_text (codes ",\"shown\":") beside ++ (told_text (codes ",\"not_der\":") words ++ (fault_text fault ++ 125 ∷ []))
-    ≡ members_text true (rest_members beside words fault)
-rest_end beside words fault =
-    shown_end beside (member_if (codes "not_der") words (fault_members fault)) _
-    (not_der_end words (fault_members fault) _ (fault_end fault))
+name_end :
+    (words : Option (List ℕ)) (others : Members) (rest : List ℕ) → rest ≡ members_text true others →
+    told_text (codes ",\"name\":") words ++ rest ≡ members_text true (member_if (codes "name") words others)
+unfolding serde_json_on_literals
+name_end None others rest e = e
+name_end (Some t) others rest e = ap (λ z. (codes ",\"name\":" ++ compact_text (string t)) ++ z) e
 
-module _ (offset header size depth class constructed tag kind value : Data) (rest : Members) where
-  abbrev pub row_json : Data
-  row_json =
-      object (member (codes "offset") offset
-      (member (codes "header") header
-      (member (codes "size") size
-      (member (codes "depth") depth
-      (member (codes "class") class
-      (member (codes "constructed") constructed
-      (member (codes "tag") tag
-      (member (codes "type") kind
-      (member (codes "value") value rest)))))))))
+-- the members that not every object has, and the closing bracket
+others_end :
+    (name shown words : Option (List ℕ)) (fault : Option ToldFault) (inside : Option Items) →
+    (told_text (codes ",\"name\":") name ++ (told_text (codes ",\"shown\":") shown
+    ++ (told_text (codes ",\"not_der\":") words ++ fault_text fault))) ++ (blocks_text inside ++ 125 ∷ [])
+    ≡ members_text true (member_if (codes "name") name (member_if (codes "shown") shown
+    (member_if (codes "not_der") words (fault_if fault (blocks_if inside)))))
+others_end name shown words fault inside =
+    let end = blocks_text inside ++ 125 ∷ [] in
+    let last = fault_end fault (blocks_if inside) end (blocks_end inside) in
+    let marked = not_der_end words (fault_if fault (blocks_if inside)) _ last in
+    let beside = shown_end shown (member_if (codes "not_der") words (fault_if fault (blocks_if inside))) _ marked in
+    let n = told_text (codes ",\"name\":") name in
+    let s = told_text (codes ",\"shown\":") shown in
+    let d = told_text (codes ",\"not_der\":") words in
+    let f = fault_text fault in
+    joined_front n (s ++ (d ++ f)) end (s ++ (d ++ (f ++ end)))
+    (joined_front s (d ++ f) end (d ++ (f ++ end)) (append_assoc d f end))
+    ∙ name_end name (member_if (codes "shown") shown (member_if (codes "not_der") words (fault_if fault (blocks_if inside)))) _ beside
 
-  -- the text of each member, and of those after it
-  abbrev from_value : List ℕ
-  from_value = (codes ",\"value\":" ++ compact_text value) ++ members_text true rest
+nine_front :
+    (m0 m1 m2 m3 m4 m5 m6 m7 m8 rest : List ℕ) →
+    (m0 ++ (m1 ++ (m2 ++ (m3 ++ (m4 ++ (m5 ++ (m6 ++ (m7 ++ m8)))))))) ++ rest
+    ≡ m0 ++ (m1 ++ (m2 ++ (m3 ++ (m4 ++ (m5 ++ (m6 ++ (m7 ++ (m8 ++ rest))))))))
+nine_front m0 m1 m2 m3 m4 m5 m6 m7 m8 rest =
+    joined_front m0 _ rest _ (joined_front m1 _ rest _ (joined_front m2 _ rest _ (joined_front m3 _ rest _
+    (joined_front m4 _ rest _ (joined_front m5 _ rest _ (joined_front m6 _ rest _ (append_assoc m7 m8 rest)))))))
 
-  abbrev from_kind : List ℕ
-  from_kind = (codes ",\"type\":" ++ compact_text kind) ++ from_value
+-- an object
+pub object_text :
+    (object : Object) (inside : Option Items) →
+    first_members object ++ (last_members object ++ (blocks_text inside ++ 125 ∷ []))
+    ≡ compact_text (row_json (row_of object inside))
+unfolding serde_json_on_literals
+object_text object inside =
+    let m0 = codes "{\"offset\":" ++ compact_text (number (unsigned object.offset)) in
+    let m1 = codes ",\"header\":" ++ compact_text (number (unsigned object.header)) in
+    let m2 = codes ",\"size\":" ++ compact_text (number_or_null object.size) in
+    let m3 = codes ",\"depth\":" ++ compact_text (number (unsigned object.depth)) in
+    let m4 = codes ",\"class\":" ++ compact_text (text_or_null (row_of object inside).class) in
+    let m5 = codes ",\"constructed\":" ++ compact_text (boolean_or_null object.constructed) in
+    let m6 = codes ",\"tag\":" ++ compact_text (view object.tag) in
+    let m7 = codes ",\"type\":" ++ compact_text (text_or_null (row_of object inside).kind) in
+    let m8 = codes ",\"value\":" ++ compact_text (view object.value) in
+    let row = row_of object inside in
+    nine_front m0 m1 m2 m3 m4 m5 m6 m7 m8 (last_members object ++ (blocks_text inside ++ 125 ∷ []))
+    ∙ ap (λ z. m0 ++ (m1 ++ (m2 ++ (m3 ++ (m4 ++ (m5 ++ (m6 ++ (m7 ++ (m8 ++ z)))))))))
+    (others_end row.name row.beside row.not_der row.fault inside)
 
-  abbrev from_tag : List ℕ
-  from_tag = (codes ",\"tag\":" ++ compact_text tag) ++ from_kind
-
-  abbrev from_constructed : List ℕ
-  from_constructed = (codes ",\"constructed\":" ++ compact_text constructed) ++ from_tag
-
-  abbrev from_class : List ℕ
-  from_class = (codes ",\"class\":" ++ compact_text class) ++ from_constructed
-
-  abbrev from_depth : List ℕ
-  from_depth = (codes ",\"depth\":" ++ compact_text depth) ++ from_class
-
-  abbrev from_size : List ℕ
-  from_size = (codes ",\"size\":" ++ compact_text size) ++ from_depth
-
-  abbrev from_header : List ℕ
-  from_header = (codes ",\"header\":" ++ compact_text header) ++ from_size
-
-  abbrev from_offset : List ℕ
-  from_offset = (codes "{\"offset\":" ++ compact_text offset) ++ from_header
-
-  row_text : from_offset ≡ compact_text row_json
-  unfolding serde_json_on_literals
-  row_text = refl
-
-  -- members put one after another, and the closing bracket
-  pub row_put :
-      (out a b c d e f g h i k : List ℕ) →
-      a ≡ out ++ (codes "{\"offset\":" ++ compact_text offset) →
-      b ≡ a ++ (codes ",\"header\":" ++ compact_text header) →
-      c ≡ b ++ (codes ",\"size\":" ++ compact_text size) →
-      d ≡ c ++ (codes ",\"depth\":" ++ compact_text depth) →
-      e ≡ d ++ (codes ",\"class\":" ++ compact_text class) →
-      f ≡ e ++ (codes ",\"constructed\":" ++ compact_text constructed) →
-      g ≡ f ++ (codes ",\"tag\":" ++ compact_text tag) →
-      h ≡ g ++ (codes ",\"type\":" ++ compact_text kind) →
-      i ≡ h ++ (codes ",\"value\":" ++ compact_text value) →
-      k ≡ i ++ members_text true rest → k ≡ out ++ compact_text row_json
-  row_put out a b c d e f g h i k p0 p1 p2 p3 p4 p5 p6 p7 p8 last =
-      put_after out (codes "{\"offset\":" ++ compact_text offset) from_header a k p0
-      (put_after a (codes ",\"header\":" ++ compact_text header) from_size b k p1
-      (put_after b (codes ",\"size\":" ++ compact_text size) from_depth c k p2
-      (put_after c (codes ",\"depth\":" ++ compact_text depth) from_class d k p3
-      (put_after d (codes ",\"class\":" ++ compact_text class) from_constructed e k p4
-      (put_after e (codes ",\"constructed\":" ++ compact_text constructed) from_tag f k p5
-      (put_after f (codes ",\"tag\":" ++ compact_text tag) from_kind g k p6
-      (put_after g (codes ",\"type\":" ++ compact_text kind) from_value h k p7
-      (put_after h (codes ",\"value\":" ++ compact_text value) (members_text true rest) i k p8 last))))))))
-      ∙ ap (λ z. out ++ z) row_text
-
--- the same members make the same object
-pub row_same :
-    (offset header size depth class constructed tag kind value offset' header' size' depth' class' constructed' tag' kind' : Data)
-    (rest : Members) →
-    offset ≡ offset' → header ≡ header' → size ≡ size' → depth ≡ depth' → class ≡ class' → constructed ≡ constructed' →
-    tag ≡ tag' → kind ≡ kind' →
-    row_json offset header size depth class constructed tag kind value rest
-    ≡ row_json offset' header' size' depth' class' constructed' tag' kind' value rest
-row_same o h s d c b t k v o' h' s' d' c' b' t' k' f p0 p1 p2 p3 p4 p5 p6 p7 = rw (p0, p1, p2, p3, p4, p5, p6, p7) refl
-
--- a mark is there where its words are
-pub marked_still :
-    {A : Type 0} → (words : A → List ℕ) (x : List ℕ) (mark : Option A) → IsMarked x (is_some mark) →
-    IsMarked x (is_some (option_map words mark))
-marked_still words x None m = m
-marked_still words x (Some text) m = m
+-- the member of blocks
+pub blocks_put :
+    (out a b : List ℕ) (items : Items) → a ≡ out ++ codes ",\"blocks\":[" → b ≡ a ++ items_text false items →
+    b ≡ out ++ blocks_text (Some items)
+unfolding serde_json_on_literals
+blocks_put out a b items d e = put_after out (codes ",\"blocks\":[") (items_text false items) a b d e

@@ -1,10 +1,9 @@
--- What is written of octets as JSON: an object that has a row for each encoding, by the headers, and the first fault.
-use Rattle.std.specs.Prelude.{◌≡◌, ◌↔◌, ◌⊎◌, ℕ, zero, suc, ◌+◌, ◌<◌, ◌==◌, ◌&&◌, ◌||◌, ℤ, unsigned_abs, nat_lt}
-use Rattle.std.specs.Prelude.{IsTrue, Bool, true, false}
-use Rattle.std.specs.Prelude.{if◌then◌else◌, List, [], ◌∷◌, ◌++◌, codes, Option, None, Some, option_map, string_bytes}
-use Rattle.std.specs.Prelude.{drop, length}
+-- What is written of octets as JSON: an object that has a row for each line of a dump of them, and the first fault.
+use Rattle.std.specs.Prelude.{◌≡◌, ◌⊎◌, ⊤, ℕ, zero, suc, ◌+◌, ◌<◌, ◌==◌, ◌&&◌, ℤ, unsigned_abs, nat_lt}
+use Rattle.std.specs.Prelude.{Bool, true, false, if◌then◌else◌, List, [], ◌∷◌, ◌++◌, codes, drop, length, map}
+use Rattle.std.specs.Prelude.{Option, None, Some, option_map, string_bytes}
 use Rattle.std.specs.List.{AllZip, slice_range}
-use Rattle.std.specs.Option.{is_some}
+use Rattle.std.specs.Option.{is_none, is_some, option_to_list}
 use Rattle.std.specs.Str.{chars}
 use Rattle.hex.specs.Hex.{encode_lower}
 use Rattle.jiff.specs.Names.{iso_datetime_text}
@@ -15,25 +14,23 @@ use Rattle.serde_json.specs.Find.{of_integer}
 use Rattle.serde_json.specs.Written.{compact_text}
 use Rattle.asn1_numbers.specs.Decimal.{natural_numeral, whole_numeral}
 use Rattle.asn1_numbers.specs.TwosComplement.{signed_number}
-use Rattle.asn1_headers.specs.Fault.{DecodeFault}
-use Rattle.asn1_headers.specs.Front.{HasIndefiniteForm, IsAtFront}
+use Rattle.asn1_headers.specs.Fault.{DecodeFault, empty_buffer, incomplete}
+use Rattle.asn1_headers.specs.Front.{BeginsWithHeader}
 use Rattle.asn1_headers.specs.Header.{Encoding}
-use Rattle.asn1_headers.specs.declared.front.Header.{Header}
 use Rattle.asn1_headers.specs.declared.header.ASN1Class.{ASN1Class}
 use Rattle.asn1_headers.specs.Names.{class_name, fault_name, type_name}
 use Rattle.asn1_headers.specs.declared.header.ASN1Class.TheVariants.{Universal}
 use Rattle.asn1_leaves.specs.Contents.ObjectIdentifier.{object_identifier_contents}
 use Rattle.asn1_leaves.specs.Contents.Moment.{Moment, moment_of}
 use Rattle.asn1_leaves.specs.DottedDecimal.{dotted_decimal}
-use Rattle.asn1_blocks.specs.Contents.{LeafFault, is_group_tag}
+use Rattle.asn1_blocks.specs.Contents.{LeafFault}
 use Rattle.asn1_blocks.specs.Grammar.{Encodes}
 use Rattle.asn1_blocks.specs.Tree.{Leaf, Tree, leaf, group, explicit, unknown, boolean, integer, bit_string}
 use Rattle.asn1_blocks.specs.Tree.{octet_string, null as null_leaf, object_identifier, text as text_leaf}
 use Rattle.asn1_blocks.specs.Tree.{utc_time, generalized_time}
-use Rattle.asn1_outline.specs.Shapes.{AreEntriesOfShapes, FirstHeaderFaultAt, contents_octets, encoding_octets}
-use Rattle.asn1_outline.specs.declared.entry.Entry.{Entry}
-use Rattle.der_rules.specs.Rules.{AreBreaches, is_breach}
-use Rattle.der_rules.specs.declared.breaches.Breaches.{Breaches}
+use Rattle.der_lines.specs.Dump.{AreFrontsOf, Front, StandAt, is_stray_form, is_wide, size_in}
+use Rattle.der_lines.specs.Headers.{is_gone_into}
+use Rattle.der_lines.specs.Segments.{AreSegmentsOf}
 use Rattle.der_values.specs.Strings.{has_words, is_string}
 use Rattle.der_json.specs.declared.fault.Fault.{Fault}
 use Rattle.der_json.specs.declared.line.Origin.{Origin}
@@ -51,8 +48,13 @@ abbrev pub text_or_null : Option (List ℕ) → Data
 text_or_null None = null
 text_or_null (Some name) = string name
 
-abbrev pub type_json : ASN1Class → ℕ → Data
-type_json class tag = text_or_null (type_name class tag)
+abbrev pub number_or_null : Option ℕ → Data
+number_or_null None = null
+number_or_null (Some n) = number (unsigned n)
+
+abbrev pub boolean_or_null : Option Bool → Data
+boolean_or_null None = null
+boolean_or_null (Some b) = boolean_json b
 
 -- the text of a moment: `2026-11-23T00:43:05Z`
 abbrev pub IsMomentText : Moment → List ℕ → Type 0
@@ -96,18 +98,14 @@ IsValue (group offset kind blocks) value = value ≡ null
 IsValue (explicit class offset tag block) value = value ≡ null
 IsValue (unknown class constructed offset tag octets) value = value ≡ string (encode_lower octets)
 
--- strings that the library takes for UTF-8 where X.690 has other characters: TeletexString, UniversalString, BMPString
-abbrev pub is_wide_tag : ℕ → Bool
-is_wide_tag tag = (tag == 20) || (tag == 28) || (tag == 30)
-
--- the value of a primitive encoding of class Universal of a type that the library does not read: the number of an
--- ENUMERATED (X.690 8.4), the characters of a string
-abbrev pub other_value : Bool → ℕ → List ℕ → Option Data
-other_value true tag contents = None
-other_value false tag contents =
+-- the value of contents octets of a type that the library does not read: the number of an ENUMERATED (X.690 8.4), the
+-- characters of a string
+abbrev pub other_value : ASN1Class → ℕ → List ℕ → Option Data
+other_value Universal tag contents =
     if tag == 10 then Some (whole_json (signed_number contents))
     else if is_string tag contents then Some (string contents)
     else None
+other_value class tag contents = None
 
 -- what is wrong, in words, with its name and its offset, where it has these
 pub record ToldFault : Type 0 where
@@ -130,54 +128,133 @@ named_fault offset fault words = record {
   words = words;
 }
 
--- what is shown of an encoding of class Universal: its value and no fault; or its contents octets, where they have none
-pub data IsShownUniversal (octets contents : List ℕ) (constructed : Bool) (offset tag : ℕ) (value : Data)
-    (fault : Option ToldFault) : Type 0 where
-  of_group :
-      is_group_tag tag ≡ true → value ≡ null → fault ≡ None →
-      IsShownUniversal octets contents constructed offset tag value fault
-  in_its_form :
-      is_wide_tag tag ≡ true → (text : List ℕ) → value ≡ string text → fault ≡ None →
-      IsShownUniversal octets contents constructed offset tag value fault
-  of_other_type :
-      other_value constructed tag contents ≡ Some value → fault ≡ None →
-      IsShownUniversal octets contents constructed offset tag value fault
+-- one in words alone
+abbrev pub words_fault : ℕ → List ℕ → ToldFault
+words_fault offset words = record { code = None; offset = Some offset; words = words }
+
+-- the value of contents octets that mean the tree: by their type, in words of their type, or of the block
+pub data IsValueOf (class : ASN1Class) (tag : ℕ) (contents : List ℕ) (tree : Tree ℕ) (value : Data) : Type 0 where
+  of_other_type : other_value class tag contents ≡ Some value → IsValueOf class tag contents tree value
   in_words :
-      constructed ≡ false → has_words tag ≡ true → (text : List ℕ) → value ≡ string text → fault ≡ None →
-      IsShownUniversal octets contents constructed offset tag value fault
+      class ≡ Universal → has_words tag ≡ true → (text : List ℕ) → value ≡ string text →
+      IsValueOf class tag contents tree value
+  of_block : other_value class tag contents ≡ None → IsValue tree value → IsValueOf class tag contents tree value
+
+-- what is shown of contents octets of a primitive encoding at the offset: the characters of a string that the library
+-- takes for UTF-8; their value; or these octets, where they have none, and what is wrong with them
+pub data AreShown (offset : ℕ) (class : ASN1Class) (tag : ℕ) (contents : List ℕ) (value : Data)
+    (fault : Option ToldFault) : Type 0 where
+  in_their_form :
+      is_wide class tag ≡ true → (text : List ℕ) → value ≡ string text → fault ≡ None →
+      AreShown offset class tag contents value fault
   with_value :
-      other_value constructed tag contents ≡ None → (tree : Tree ℕ) → Encodes offset octets tree →
-      IsValue tree value → fault ≡ None → IsShownUniversal octets contents constructed offset tag value fault
+      (tree : Tree ℕ) →
+      ((octets : List ℕ) (header : ℕ) → Encoding octets class false tag contents header →
+      Encodes 0 octets tree) →
+      IsValueOf class tag contents tree value → fault ≡ None → AreShown offset class tag contents value fault
   with_no_value :
-      (found : DecodeFault) (words : List ℕ) → LeafFault tag contents found →
+      class ≡ Universal → (found : DecodeFault) (words : List ℕ) → LeafFault tag contents found →
       value ≡ string (encode_lower contents) → fault ≡ Some (named_fault offset found words) →
-      IsShownUniversal octets contents constructed offset tag value fault
+      AreShown offset class tag contents value fault
 
--- what is shown of an encoding in which so many stand: of one in which any do, null
-abbrev pub IsShown :
-    ASN1Class → Bool → ℕ → List ℕ → List ℕ → ℕ → ℕ → Data → Option ToldFault → Type 0
-IsShown class constructed (suc items) octets contents offset tag value fault = (value ≡ null) × (fault ≡ None)
-IsShown Universal constructed zero octets contents offset tag value fault =
-    IsShownUniversal octets contents constructed offset tag value fault
-IsShown class constructed zero octets contents offset tag value fault =
-    (value ≡ string (encode_lower contents)) × (fault ≡ None)
+-- what is shown of an encoding that is gone into: nothing; or of a string whose segments are joined what is shown of
+-- these
+pub data IsOpenedValue (class : ASN1Class) (tag : ℕ) (contents : List ℕ) (indefinite : Bool) (value : Data)
+    : Type 0 where
+  of_none : value ≡ null → IsOpenedValue class tag contents indefinite value
+  of_segments :
+      class ≡ Universal → (joined : List ℕ) → AreSegmentsOf tag contents indefinite joined →
+      (offset : ℕ) → AreShown offset class tag joined value None →
+      IsOpenedValue class tag contents indefinite value
 
--- what is wrong with an encoding at the offset that has such a fault of its own, or none: its length, if this has the
--- indefinite form
-abbrev pub IsJudged : Bool → ℕ → Option ToldFault → Option ToldFault → Type 0
-IsJudged true offset own fault =
-    (words : List ℕ) × (fault ≡ Some (record { code = None; offset = Some offset; words = words }))
-IsJudged false offset own fault = fault ≡ own
+-- what is shown of an encoding with these fields that begins the octets, and what is wrong with it, at the offset
+pub data IsJudged (octets : List ℕ) (front : Front) (offset : ℕ) (class : ASN1Class) (constructed : Bool)
+    (tag : ℕ) (stray : Bool) (value : Data) (fault : Option ToldFault) : Type 0 where
+  cut_short :
+      length octets < front.header + front.contents →
+      value ≡ (if is_gone_into class constructed tag then null
+      else string (encode_lower (drop front.header octets))) →
+      (words : List ℕ) → fault ≡ Some (named_fault offset incomplete words) →
+      IsJudged octets front offset class constructed tag stray value fault
+  of_stray_form :
+      stray ≡ true → value ≡ null → (words : List ℕ) → fault ≡ Some (words_fault offset words) →
+      IsJudged octets front offset class constructed tag stray value fault
+  with_encodings :
+      is_gone_into class constructed tag ≡ true →
+      IsOpenedValue class tag (slice_range octets front.header (size_in octets front)) front.indefinite value →
+      fault ≡ None → IsJudged octets front offset class constructed tag stray value fault
+  with_contents :
+      is_gone_into class constructed tag ≡ false →
+      AreShown offset class tag (slice_range octets front.header (front.header + front.contents)) value fault →
+      IsJudged octets front offset class constructed tag stray value fault
 
--- an encoding breaks a rule of BER or DER without which it is read, or none
-pub record IsMarked (encoding : List ℕ) (marked : Bool) : Type 0 where
-  pub header : Header
-  pub front : IsAtFront encoding header
-  pub found : Breaches
-  pub breaches :
-      AreBreaches found encoding (drop (length front.identifier) encoding) header.announced header.class
-      header.constructed header.tag (slice_range encoding header.size (header.size + header.announced))
-  pub marked_is : marked ≡ is_breach found
+-- what the object of a block tells: how many octets stand before it, how many its identifier and length octets are, how
+-- many it has as far as they are there, and how many blocks are around it; its class, its constructed bit, its tag and
+-- its type; its value, its name, what is shown beside the value, what is not DER in it, and its fault; and the objects
+-- of what stands inside its octets
+pub record Row : Type 0 where
+  pub offset : ℕ
+  pub header : ℕ
+  pub size : Option ℕ
+  pub depth : ℕ
+  pub class : Option (List ℕ)
+  pub constructed : Option Bool
+  pub tag : Data
+  pub kind : Option (List ℕ)
+  pub value : Data
+  pub name : Option (List ℕ)
+  pub beside : Option (List ℕ)
+  pub not_der : Option (List ℕ)
+  pub fault : Option ToldFault
+  pub inside : Option Items
+
+-- end-of-contents octets, of which there are two, or none where they are missing
+pub record IsEndRow (front : Front) (row : Row) : Type 0 where
+  pub words : front.words ≡ codes "end-of-contents"
+  pub size : row.size ≡ Some front.header
+  pub class : row.class ≡ Some (codes "universal")
+  pub constructed : row.constructed ≡ Some false
+  pub tag : row.tag ≡ number (unsigned 0)
+  pub kind : row.kind ≡ Some (codes "end-of-contents")
+  pub value : row.value ≡ null
+  pub fault :
+      ((front.header ≡ 2) × (row.fault ≡ None))
+      ⊎ ((front.header ≡ 0)
+      × ((told : List ℕ) × (row.fault ≡ Some (named_fault row.offset incomplete told))))
+
+-- octets that begin with no header
+pub record IsUnreadableRow (octets : List ℕ) (front : Front) (row : Row) : Type 0 where
+  pub words : front.words ≡ codes "unreadable"
+  pub size : row.size ≡ Some (length octets)
+  pub class : row.class ≡ None
+  pub constructed : row.constructed ≡ None
+  pub tag : row.tag ≡ null
+  pub kind : row.kind ≡ None
+  pub value : row.value ≡ string (encode_lower octets)
+  pub found : DecodeFault
+  pub told : List ℕ
+  pub fault : row.fault ≡ Some (named_fault row.offset found told)
+
+-- an encoding; how many octets it has is told where its length is of the definite form
+pub record IsEncodingRow (octets : List ℕ) (front : Front) (row : Row) : Type 0 where
+  pub class : ASN1Class
+  pub constructed : Bool
+  pub tag : ℕ
+  pub header : BeginsWithHeader octets front.header front.contents class constructed tag
+  pub size : row.size ≡ (if front.indefinite then None else Some (size_in octets front))
+  pub class_is : row.class ≡ Some (class_name class)
+  pub constructed_is : row.constructed ≡ Some constructed
+  pub tag_is : row.tag ≡ natural_json tag
+  pub kind_is : row.kind ≡ type_name class tag
+  pub judged :
+      IsJudged octets front row.offset class constructed tag
+      (is_stray_form constructed (drop (length header.identifier) octets)) row.value row.fault
+
+-- the object is of what begins the octets, as a line of a dump has it
+pub data IsRowOf (octets : List ℕ) (front : Front) (row : Row) : Type 0 where
+  of_end : IsEndRow front row → IsRowOf octets front row
+  of_unreadable : IsUnreadableRow octets front row → IsRowOf octets front row
+  of_encoding : IsEncodingRow octets front row → IsRowOf octets front row
 
 -- a member with a text, before others, where there is one; so with a number
 abbrev pub member_if : List ℕ → Option (List ℕ) → Members → Members
@@ -195,64 +272,59 @@ fault_json fault =
     (number_if (codes "offset") fault.offset
     (member (codes "text") (string fault.words) no_members)))
 
-abbrev pub fault_members : Option ToldFault → Members
-fault_members None = no_members
-fault_members (Some fault) = member (codes "fault") (fault_json fault) no_members
+abbrev pub fault_if : Option ToldFault → Members → Members
+fault_if None others = others
+fault_if (Some fault) others = member (codes "fault") (fault_json fault) others
 
--- the members that not every object has: what is shown beside the value, what is not DER, and what is wrong
-abbrev pub rest_members : Option (List ℕ) → Option (List ℕ) → Option ToldFault → Members
-rest_members beside not_der fault =
-    member_if (codes "shown") beside (member_if (codes "not_der") not_der (fault_members fault))
+abbrev pub blocks_if : Option Items → Members
+blocks_if None = no_members
+blocks_if (Some items) = member (codes "blocks") (array items) no_members
 
--- what is not DER in an encoding at the offset, in words
-abbrev pub mark_at : ℕ → List ℕ → ToldFault
-mark_at offset words = record { code = None; offset = Some offset; words = words }
+-- the members that not every object has
+abbrev pub rest_members : Row → Members
+rest_members row =
+    member_if (codes "name") row.name
+    (member_if (codes "shown") row.beside
+    (member_if (codes "not_der") row.not_der
+    (fault_if row.fault (blocks_if row.inside))))
 
--- the object of an encoding, what is not DER in it, and its fault
-pub record Row : Type 0 where
-  pub json : Data
-  pub not_der : Option ToldFault
-  pub fault : Option ToldFault
-
--- so of the encoding of the entry
-pub record IsRow (document : List ℕ) (entry : Entry) (row : Row) : Type 0 where
-  pub tag : ℕ
-  pub encoding :
-      Encoding (encoding_octets document entry) entry.class entry.constructed tag
-      (contents_octets document entry) entry.header
-  pub value : Data
-  pub own : Option ToldFault
-  pub shown :
-      IsShown entry.class entry.constructed entry.items (encoding_octets document entry)
-      (contents_octets document entry) entry.offset tag value own
-  pub indefinite : Bool
-  pub form : IsTrue indefinite ↔ HasIndefiniteForm (encoding_octets document entry)
-  pub judged : IsJudged indefinite entry.offset own row.fault
-  pub beside : Option (List ℕ)
-  pub words : Option (List ℕ)
-  pub marked : IsMarked (encoding_octets document entry) (is_some words)
-  pub not_der : row.not_der ≡ option_map (mark_at entry.offset) words
-  -- how many octets stand before the encoding, how many its identifier and length octets are, how many it has, and how
-  -- many encodings are around it; its class, its constructed bit, its tag and its type; its value, what is shown
-  -- beside it, what is not DER in it, and its fault
-  pub members : row.json ≡
-      object (member (codes "offset") (number (unsigned entry.offset))
-      (member (codes "header") (number (unsigned entry.header))
-      (member (codes "size") (number (unsigned (entry.header + entry.contents)))
-      (member (codes "depth") (number (unsigned entry.depth))
-      (member (codes "class") (string (class_name entry.class))
-      (member (codes "constructed") (boolean_json entry.constructed)
-      (member (codes "tag") (natural_json tag)
-      (member (codes "type") (type_json entry.class entry.tag)
-      (member (codes "value") value (rest_members beside words row.fault))))))))))
+abbrev pub row_json : Row → Data
+row_json row =
+    object (member (codes "offset") (number (unsigned row.offset))
+    (member (codes "header") (number (unsigned row.header))
+    (member (codes "size") (number_or_null row.size)
+    (member (codes "depth") (number (unsigned row.depth))
+    (member (codes "class") (text_or_null row.class)
+    (member (codes "constructed") (boolean_or_null row.constructed)
+    (member (codes "tag") row.tag
+    (member (codes "type") (text_or_null row.kind)
+    (member (codes "value") row.value (rest_members row))))))))))
 
 -- an array of the objects of these
 abbrev pub items_of : {A : Type 0} → (A → Data) → List A → Items
 items_of json [] = no_items
 items_of json (x ∷ xs) = item (json x) (items_of json xs)
 
-abbrev pub row_json : Row → Data
-row_json row = row.json
+-- objects of what stands inside contents octets that stand so many octets later, inside so many blocks: if there are
+-- any, something holds of them
+abbrev pub IsInside :
+    (List ℕ → ℕ → ℕ → Items → Type 0) → List ℕ → ℕ → ℕ → Option Items → Type 0
+IsInside Inside contents base deep None = ⊤
+IsInside Inside contents base deep (Some items) = Inside contents base deep items
+
+-- the object of what has a line in a dump of the octets, which stand so many octets later, inside so many blocks
+pub record IsRow (Inside : List ℕ → ℕ → ℕ → Items → Type 0) (octets : List ℕ) (base deep : ℕ)
+    (front : Front) (row : Row) : Type 0 where
+  pub left : List ℕ
+  pub position : StandAt octets front.offset left
+  pub row_of : IsRowOf left front row
+  pub offset : row.offset ≡ base + front.offset
+  pub header : row.header ≡ front.header
+  pub depth : row.depth ≡ deep + front.depth
+  pub marked : is_some row.not_der ≡ front.marked
+  pub inside :
+      IsInside Inside (slice_range left front.header (front.header + front.contents)) (row.offset + row.header)
+      (suc row.depth) row.inside
 
 -- the first of two faults, and of those of rows
 abbrev pub earlier_of : Option ToldFault → Option ToldFault → Option ToldFault
@@ -263,14 +335,52 @@ abbrev pub first_fault : List Row → Option ToldFault
 first_fault [] = None
 first_fault (row ∷ later) = earlier_of row.fault (first_fault later)
 
--- what is not DER in encodings, of each in which anything is
-abbrev pub one_if : Option ToldFault → List ToldFault
-one_if None = []
-one_if (Some mark) = mark ∷ []
+-- the offset of a fault, and those of rows
+abbrev pub told_offset : Option ToldFault → List ℕ
+told_offset None = []
+told_offset (Some fault) = option_to_list fault.offset
+
+abbrev pub fault_offsets : List Row → List ℕ
+fault_offsets [] = []
+fault_offsets (row ∷ later) = told_offset row.fault ++ fault_offsets later
+
+-- rows of octets, one for each line of a dump of them, whose faults they have
+pub record AreRows (Inside : List ℕ → ℕ → ℕ → Items → Type 0) (octets : List ℕ) (base deep : ℕ)
+    (rows : List Row) : Type 0 where
+  pub fronts : List Front
+  pub faults : List ℕ
+  pub read : AreFrontsOf octets fronts faults
+  pub told : AllZip (IsRow Inside octets base deep) fronts rows
+  pub faults_are : fault_offsets rows ≡ map (λ offset. base + offset) faults
+
+-- rows of octets that stand in contents octets; so many documents may be shown inside one another
+abbrev pub AreInside : ℕ → List ℕ → ℕ → ℕ → Items → Type 0
+AreInside zero contents base deep items = ⊥
+AreInside (suc documents) contents base deep items =
+    (before : ℕ) × (octets : List ℕ) × StandAt contents before octets
+    × ((rows : List Row) × AreRows (AreInside documents) octets (base + before) deep rows
+    × (items ≡ items_of row_json rows))
+
+-- rows of a document, in which eight may be shown
+abbrev pub AreRowsOf : List ℕ → List Row → Type 0
+AreRowsOf octets = AreRows (AreInside 8) octets 0 0
+
+-- what is not DER in a block at the offset, if anything is, and in those of rows
+abbrev pub marks_at : ℕ → Option (List ℕ) → List ToldFault
+marks_at offset None = []
+marks_at offset (Some words) = words_fault offset words ∷ []
+
+abbrev pub mark_of : Row → List ToldFault
+mark_of row = marks_at row.offset row.not_der
 
 abbrev pub marks_of : List Row → List ToldFault
 marks_of [] = []
-marks_of (row ∷ later) = one_if row.not_der ++ marks_of later
+marks_of (row ∷ later) = mark_of row ++ marks_of later
+
+-- nothing is not DER
+abbrev pub is_der : List ToldFault → Bool
+is_der [] = true
+is_der (mark ∷ marks) = false
 
 -- the members that tell where octets are from: the name of the file, and the label in it
 abbrev pub origin_members : Option (List ℕ) → Option (List ℕ) → Members
@@ -280,81 +390,46 @@ origin_members file label = member_if (codes "file") file (member_if (codes "lab
 abbrev pub told_of : Origin → Members
 told_of origin = origin_members (option_map (λ t. t.now) origin.file) (option_map (λ t. t.now) origin.label)
 
--- an object that has a row for each encoding of the octets, in order, of which these are the marks and the first fault
-pub record IsDocumentJson (octets : List ℕ) (origin : Members) (marks : List ToldFault) (first : Option ToldFault)
-    (json : Data) : Type 0 where
-  pub entries : List Entry
-  pub rows : List Row
-  pub walked : AreEntriesOfShapes octets entries
-  pub told : AllZip (IsRow octets) entries rows
-  pub marks_are : marks ≡ marks_of rows
-  pub first_is : first ≡ first_fault rows
-  pub json_is : json ≡ object (member (codes "blocks") (array (items_of row_json rows)) origin)
+-- the text of JSON, and the end of a line
+abbrev pub line_text : Data → List ℕ
+line_text json = compact_text json ++ 10 ∷ []
 
 -- an object with a fault
 abbrev pub refusal_json : ToldFault → Members → Data
 refusal_json fault origin = object (member (codes "fault") (fault_json fault) origin)
 
--- the text of JSON was put after the text, and the end of a line
-abbrev pub AddsLineOf : Data → List ℕ → List ℕ → Type 0
-AddsLineOf json before after = after ≡ before ++ (compact_text json ++ 10 ∷ [])
+-- the line of the rows
+abbrev pub rows_text : List Row → Members → List ℕ
+rows_text rows origin = line_text (object (member (codes "blocks") (array (items_of row_json rows)) origin))
 
--- the line of the first fault, where there is one; nothing is at fault where there is none
-abbrev pub AddsFirst : Option ToldFault → Members → Bool → List ℕ → List ℕ → Type 0
-AddsFirst None origin right before after = (right ≡ true) × (after ≡ before)
-AddsFirst (Some fault) origin right before after =
-    (right ≡ false) × AddsLineOf (refusal_json fault origin) before after
+-- the line of the first fault, where there is one
+abbrev pub first_text : Option ToldFault → Members → List ℕ
+first_text None origin = []
+first_text (Some fault) origin = line_text (refusal_json fault origin)
 
--- what is put of octets that are encodings by their headers: a line that has them, and that of the first fault
-pub record AddsEncodings (octets : List ℕ) (origin : Members) (right : Bool) (before after : List ℕ) : Type 0 where
-  pub json : Data
-  pub marks : List ToldFault
-  pub first : Option ToldFault
-  pub between : List ℕ
-  pub is_document : IsDocumentJson octets origin marks first json
-  pub line : AddsLineOf json before between
-  pub fault : AddsFirst first origin right between after
+-- the line of what is not DER, where anything is
+abbrev pub marks_text : List ToldFault → Members → List ℕ
+marks_text [] origin = []
+marks_text (mark ∷ marks) origin =
+    line_text (object (member (codes "not_der") (array (items_of fault_json (mark ∷ marks))) origin))
 
--- of others, the line of the first fault of a header
-pub record AddsHeaderFault (octets : List ℕ) (origin : Members) (before after : List ℕ) : Type 0 where
-  pub fault : DecodeFault
-  pub offset : ℕ
-  pub words : List ℕ
-  pub first : FirstHeaderFaultAt octets fault offset
-  pub line : AddsLineOf (refusal_json (named_fault offset fault words) origin) before after
+-- the line that there are no octets
+abbrev pub IsEmptyLine : Members → List ℕ → Type 0
+IsEmptyLine origin text =
+    (words : List ℕ) × (text ≡ line_text (refusal_json (named_fault 0 empty_buffer words) origin))
 
--- what is put of octets in which nothing is at fault, or something is
-abbrev pub AddsJsonOf : List ℕ → Members → Bool → List ℕ → List ℕ → Type 0
-AddsJsonOf octets origin true before after = AddsEncodings octets origin true before after
-AddsJsonOf octets origin false before after =
-    AddsEncodings octets origin false before after ⊎ AddsHeaderFault octets origin before after
+-- the text is of octets in which nothing is at fault, or something is: a line of the rows, and that of the first fault
+abbrev pub IsJsonOf : List ℕ → Members → Bool → List ℕ → Type 0
+IsJsonOf octets origin right text =
+    ((rows : List Row) × AreRowsOf octets rows × (right ≡ is_none (first_fault rows))
+    × (text ≡ rows_text rows origin ++ first_text (first_fault rows) origin))
+    ⊎ ((octets ≡ []) × (right ≡ false) × IsEmptyLine origin text)
 
--- the line of what is not DER, where anything is; all is DER where there is none
-abbrev pub AddsMarks : List ToldFault → Members → Bool → List ℕ → List ℕ → Type 0
-AddsMarks [] origin right before after = (right ≡ true) × (after ≡ before)
-AddsMarks (mark ∷ marks) origin right before after =
-    (right ≡ false)
-    × AddsLineOf (object (member (codes "not_der") (array (items_of fault_json (mark ∷ marks))) origin)) before after
-
--- what is put of octets that are encodings by their headers, and have to be DER: a line that has them, that of what is
--- not DER, with the offset of each, and that of the first fault
-pub record AddsStrictEncodings (octets : List ℕ) (origin : Members) (right : Bool) (before after : List ℕ)
-    : Type 0 where
-  pub json : Data
-  pub marks : List ToldFault
-  pub first : Option ToldFault
-  pub blocks : List ℕ
-  pub list : List ℕ
-  pub is_der : Bool
-  pub is_right : Bool
-  pub is_document : IsDocumentJson octets origin marks first json
-  pub line : AddsLineOf json before blocks
-  pub marked : AddsMarks marks origin is_der blocks list
-  pub fault : AddsFirst first origin is_right list after
-  pub right_is : right ≡ (is_der && is_right)
-
--- what is put of octets that have to be DER, where all is, or not
-abbrev pub AddsStrictJsonOf : List ℕ → Members → Bool → List ℕ → List ℕ → Type 0
-AddsStrictJsonOf octets origin true before after = AddsStrictEncodings octets origin true before after
-AddsStrictJsonOf octets origin false before after =
-    AddsStrictEncodings octets origin false before after ⊎ AddsHeaderFault octets origin before after
+-- the text is of octets that have to be DER, where all is, or not: between these lines that of what is not DER, with
+-- the offset of each
+abbrev pub IsStrictJsonOf : List ℕ → Members → Bool → List ℕ → Type 0
+IsStrictJsonOf octets origin right text =
+    ((rows : List Row) × AreRowsOf octets rows
+    × (right ≡ (is_der (marks_of rows) && is_none (first_fault rows)))
+    × (text ≡ rows_text rows origin ++ (marks_text (marks_of rows) origin ++ first_text (first_fault rows) origin)))
+    ⊎ ((octets ≡ []) × (right ≡ false) × IsEmptyLine origin text)

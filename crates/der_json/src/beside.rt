@@ -1,52 +1,139 @@
 // What lines show of an encoding beside its value.
+use asn1_headers::front::Header;
 use asn1_headers::header::ASN1Class;
 use asn1_numbers::number::big_int::BigInt;
-use asn1_numbers::number::big_uint::BigUint;
-use asn1_outline::entry::Entry;
+use der_lines::header::universal_tag;
+use der_lines::identifier::{identifier_of, number_of};
+use der_lines::names::Names;
+use der_lines::values::{LEAST_HEX, LEAST_TEXT, is_text};
+use der_values::{Role, address_text, bit_names, general_name};
 use std::alloc::{AllocError, Global};
 use std::str;
 
-// The tags of X.680 8.4, table 1.
-const INTEGER: u64 = 2;
+// A name, of an object identifier, of bits, or of what stands in an extension; and the octets of a long integer in hex
+// digits, or octets as text.
+#[derive(Drop)]
+pub struct Beside {
+    pub name: Option<String>,
+    pub shown: Option<String>,
+}
 
-const OCTET_STRING: u64 = 4;
-
-const ENUMERATED: u64 = 10;
-
-// From how many octets on an integer is also shown by them, and octets as text.
-const LEAST: usize = 5;
-
-// What is shown of the encoding of the entry beside its value: the octets of a long integer in hex digits, and octets
-// that are printed characters of ASCII as text.
+// What is shown of a primitive encoding with the header beside its value.
 pub fn beside_of(
     alloc: Global,
-    entry: &Entry,
-    tag: &BigUint,
+    names: &Names,
+    header: &Header,
+    role: Role,
+    contents: &[u8],
+) -> Result<Beside, AllocError> {
+    match (header.class, universal_tag(header)) {
+        (ASN1Class::Universal, Some(tag)) => of_type(alloc, names, tag, role, contents),
+        (ASN1Class::Universal, None) => of_shown(None),
+        _ => of_role(alloc, role, contents),
+    }
+}
+
+// So of class Universal, with this tag.
+fn of_type(
+    alloc: Global,
+    names: &Names,
+    tag: u8,
+    role: Role,
+    contents: &[u8],
+) -> Result<Beside, AllocError> {
+    match tag {
+        6 => of_name(identifier_name(alloc, names, contents)?),
+        2 | 10 => of_shown(long_octets(alloc, contents)?),
+        4 => of_shown(text_from(alloc, contents, LEAST_TEXT)?),
+        _ => of_name(names_of_bits(alloc, role, contents)?),
+    }
+}
+
+// So of another class.
+fn of_role(alloc: Global, role: Role, contents: &[u8]) -> Result<Beside, AllocError> {
+    match role {
+        Role::Plain => of_shown(text_from(alloc, contents, LEAST_TEXT)?),
+        Role::Bits(_) => of_name(names_of_bits(alloc, role, contents)?),
+        Role::Name(tag) => Ok(Beside {
+            name: role_name(alloc, role)?,
+            shown: name_shown(alloc, tag, contents)?,
+        }),
+    }
+}
+
+fn of_name(name: Option<String>) -> Result<Beside, AllocError> {
+    Ok(Beside { name, shown: None })
+}
+
+fn of_shown(shown: Option<String>) -> Result<Beside, AllocError> {
+    Ok(Beside { name: None, shown })
+}
+
+// The name of an object identifier that has one.
+fn identifier_name(
+    alloc: Global,
+    names: &Names,
     contents: &[u8],
 ) -> Result<Option<String>, AllocError> {
-    if entry.constructed {
+    let Some(identifier) = identifier_of(alloc, contents)? else {
         return Ok(None);
+    };
+    let Some(number) = number_of(alloc, &identifier)? else {
+        return Ok(None);
+    };
+    match names.of(&number) {
+        Some((name, _)) => Ok(Some(String::from_str(alloc, name)?)),
+        None => Ok(None),
     }
-    match (entry.class, tag.to_u64()) {
-        (ASN1Class::Universal, Some(INTEGER | ENUMERATED)) => long_octets(alloc, contents),
-        (ASN1Class::Universal, Some(OCTET_STRING)) => printed_text(alloc, contents),
-        (ASN1Class::Universal, _) => Ok(None),
-        _ => printed_text(alloc, contents),
+}
+
+// The names of the bits that are set, if any are.
+fn names_of_bits(alloc: Global, role: Role, contents: &[u8]) -> Result<Option<String>, AllocError> {
+    let (Role::Bits(kind), [_, octets @ ..]) = (role, contents) else {
+        return Ok(None);
+    };
+    let names = bit_names(alloc, kind, octets)?;
+    Ok(if names.is_empty() { None } else { Some(names) })
+}
+
+// The name of a GeneralName.
+pub fn role_name(alloc: Global, role: Role) -> Result<Option<String>, AllocError> {
+    let Role::Name(tag) = role else {
+        return Ok(None);
+    };
+    match general_name(tag) {
+        Some(name) => Ok(Some(String::from_str(alloc, name)?)),
+        None => Ok(None),
+    }
+}
+
+// What a GeneralName is as text: an address, an object identifier, or characters.
+fn name_shown(alloc: Global, tag: u64, contents: &[u8]) -> Result<Option<String>, AllocError> {
+    match tag {
+        7 => match address_text(alloc, contents)? {
+            Some(address) => Ok(Some(address)),
+            None => text_from(alloc, contents, LEAST_TEXT),
+        },
+        8 => match identifier_of(alloc, contents)? {
+            Some(identifier) => number_of(alloc, &identifier),
+            None => Ok(None),
+        },
+        _ => text_from(alloc, contents, 1),
     }
 }
 
 // The octets of an integer of some, in hex digits.
 fn long_octets(alloc: Global, contents: &[u8]) -> Result<Option<String>, AllocError> {
     let octets = BigInt::from_signed_bytes_be(alloc, contents)?.to_signed_bytes_be(alloc)?;
-    if octets.len() < LEAST {
+    if octets.len() < LEAST_HEX {
         return Ok(None);
     }
     Ok(Some(hex::encode(alloc, &octets)?))
 }
 
-// The octets as text, where they are some printed characters.
-fn printed_text(alloc: Global, octets: &[u8]) -> Result<Option<String>, AllocError> {
-    if octets.len() < LEAST || !octets.iter().all(|b| *b >= b' ' && *b < 127) {
+// The octets as text, where they are at least so many printed characters.
+fn text_from(alloc: Global, octets: &[u8], least: usize) -> Result<Option<String>, AllocError> {
+    if octets.len() < least || !is_text(octets) {
         return Ok(None);
     }
     match str::from_utf8(octets) {

@@ -1,16 +1,14 @@
 // Faults as objects of JSON.
-ghost use Rattle.std.specs.Prelude.{◌≡◌, ◌≢◌, ℕ, List, Some, IfOk, option_map};
+ghost use Rattle.std.specs.Prelude.{◌≡◌, ◌≢◌, ℕ, List, Some, IfOk, string_bytes};
 ghost use Rattle.serde_json.specs.View.{view};
-ghost use Rattle.asn1_headers.specs.Fault.{fault_of};
+ghost use Rattle.asn1_headers.specs.Fault.{fault_of, incomplete};
 ghost use Rattle.asn1_headers.specs.declared.error.ASN1DecodeErr.TheVariants.{OutOfMemory};
-ghost use Rattle.der_json.specs.Json.{IsJudged, fault_json, fault_told, named_fault};
+ghost use Rattle.der_json.specs.Json.{fault_json, fault_told, named_fault, words_fault};
 
 use asn1_headers::error::ASN1DecodeErr;
+use der_lines::faults::{fault_words, leaf_words};
 use serde_json::{Value, json};
 use std::alloc::{AllocError, Global};
-
-// What is said of a length of the indefinite form.
-const INDEFINITE: &str = "indefinite length (BER): levels are lost from here";
 
 /// What is wrong, in words, with its name and its offset, where it has these.
 #[derive(Debug, Drop)]
@@ -36,29 +34,54 @@ pub fn fault_at(alloc: Global, offset: usize, error: &ASN1DecodeErr) -> Result<F
         _ => Ok(Fault {
             code: Some(error.name()),
             offset: Some(offset),
-            words: format!(in alloc; "{error}")?,
+            words: fault_words(alloc, error)?,
         }),
     }
 }
 
-// What is wrong with an encoding at the offset: that its length has the indefinite form of BER, or its own fault.
-pub fn judged(
+// That of contents octets of a type of class Universal.
+pub fn leaf_fault(
     alloc: Global,
-    is_indefinite: bool,
     offset: usize,
-    own: Option<Fault>,
-) -> Result<Option<Fault>, AllocError>
-    ensures { IfOk result (λ fault. IsJudged is_indefinite offset (option_map fault_told own)
-        (option_map fault_told fault)) }
+    universal: Option<u8>,
+    contents: &[u8],
+    error: &ASN1DecodeErr,
+) -> Result<Fault, AllocError>
+    ensures found { IfOk result (λ fault. (words : List ℕ)
+        × (fault_told fault ≡ named_fault offset (fault_of error.now) words)) }
+    ensures other { IfOk result (λ _. error.now ≢ OutOfMemory) }
 {
-    if !is_indefinite {
-        return Ok(own);
+    match error {
+        ASN1DecodeErr::OutOfMemory => Err(AllocError),
+        _ => Ok(Fault {
+            code: Some(error.name()),
+            offset: Some(offset),
+            words: leaf_words(alloc, universal, contents, error)?,
+        }),
     }
-    Ok(Some(Fault {
+}
+
+// That end-of-contents octets are missing at the offset.
+pub fn end_missing(alloc: Global, offset: usize) -> Result<Fault, AllocError>
+    ensures { IfOk result (λ fault. (words : List ℕ)
+        × (fault_told fault ≡ named_fault offset incomplete words)) }
+{
+    Ok(Fault {
+        code: Some("Incomplete"),
+        offset: Some(offset),
+        words: String::from_str(alloc, "end-of-contents is missing (Incomplete)")?,
+    })
+}
+
+// A fault in words alone.
+pub fn fault_in_words(offset: usize, words: String) -> Fault
+    ensures { fault_told result ≡ words_fault offset (string_bytes words) }
+{
+    Fault {
         code: None,
         offset: Some(offset),
-        words: String::from_str(alloc, INDEFINITE)?,
-    }))
+        words,
+    }
 }
 
 // A fault as an object.

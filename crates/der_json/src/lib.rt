@@ -1,23 +1,24 @@
 //! Documents as JSON, a line each, for programs.
 //!
-//! [`push_json`] puts an object whose `blocks` are the encodings of the octets by their headers, each before those
-//! inside it, as `Headers` of `simple_asn1` has them: also those in a constructed one of another class, however many.
-//! Each is an object:
+//! [`push_json`] puts an object whose `blocks` are what has a line in a dump of `der_lines`, in the same order. Each is
+//! an object:
 //!
 //! | Member | What |
 //! |---|---|
-//! | `offset` | how many octets are before the block |
+//! | `offset` | how many octets of the document are before it |
 //! | `header` | how many identifier and length octets it has |
-//! | `size` | how many octets it has, with its header |
+//! | `size` | how many octets it has, with its header, and as far as they are there; `null` of an indefinite length |
 //! | `depth` | how many blocks are around it |
 //! | `class` | `universal`, `application`, `context-specific` or `private` |
 //! | `constructed` | its constructed bit: `true` or `false` |
 //! | `tag` | its number; as a text of its decimal digits where it is greater than 2^53 - 1 |
 //! | `type` | `SEQUENCE` and its like, by X.680 (8.4, table 1); `null` where the tag has no type there |
 //! | `value` | what it holds: the next table |
-//! | `shown` | beside the value, as on lines: octets of an INTEGER of five or more, in hex digits; printed text |
+//! | `name` | the name of an object identifier, of bits that are set, or of a GeneralName, if it has one |
+//! | `shown` | beside the value, as on lines: hex digits of an INTEGER of five octets or more; printed text; an address |
 //! | `not_der` | what is not DER in it, if anything is, in the words of `der_rules` |
 //! | `fault` | what is wrong with it, if anything is |
+//! | `blocks` | such objects of the encodings inside its octets, where a dump shows some |
 //!
 //! | Block | `value` |
 //! |---|---|
@@ -28,16 +29,19 @@
 //! | UTCTime, GeneralizedTime | a text, `2026-11-23T00:43:05Z` |
 //! | REAL, RELATIVE-OID, TIME, DATE, TIME-OF-DAY, DATE-TIME, DURATION | a text: `5 * 2^-5`, `.8571.3`, `1985-10-12` |
 //! | BIT STRING | an object: `bits`, how many there are, and `octets`, in hex digits |
-//! | any other that holds no blocks: OCTET STRING, `[0]` | its contents octets in hex digits |
-//! | NULL, SEQUENCE, SET, and what holds blocks | `null` |
+//! | any other that is primitive: OCTET STRING, `[0]` | its contents octets in hex digits |
+//! | NULL, SEQUENCE, SET, and what is constructed | `null`; of a constructed string that of its segments, joined |
 //!
-//! Contents octets of these types that have no value are in hex digits, too, and those of a constructed ENUMERATED or
-//! string. Hex digits are twice as many as octets; a text of characters has as many as the contents.
+//! Contents octets of these types that have no value are in hex digits, too. Hex digits are twice as many as octets; a
+//! text of characters has as many as the contents.
 //!
-//! A `fault` is an object with `text`, and `code`, the name of the error, and `offset`, where it has these. A block
-//! whose contents octets have no value shows them in hex digits, with its fault. A length of the indefinite form (BER)
-//! is one. The first fault is a line of its own behind that of the blocks; if a header is at fault, or octets are not
-//! read, it is the only one. An [`Origin`] adds the members `file` and `label` to each line, of each that is known.
+//! End-of-contents octets of the indefinite form (X.690 8.1.5) have an object; where they are missing it has no octets,
+//! and a fault. Octets that begin with no header have one whose `class`, `constructed`, `tag` and `type` are `null`.
+//!
+//! A `fault` is an object with `text`, and `code`, the name of the error, and `offset`, where it has these. The first
+//! fault is a line of its own behind that of the blocks; if octets are not read, it is the only one. An [`Origin`] adds
+//! the members `file` and `label` to each line, of each that is known. Faults inside octets of strings count for
+//! nothing.
 //!
 //! [`push_strict_json`] adds a line of what is not DER, if anything is: `not_der` is an array of objects with `offset`
 //! and `text`.
@@ -46,11 +50,12 @@
 #![tactic(auto)]
 
 mod beside;
+mod element;
 mod fault;
 mod line;
-mod mark;
 mod member;
-mod row;
+mod object;
+mod rows;
 mod strict;
 mod value;
 

@@ -1,12 +1,15 @@
 // A document that has to be DER, as lines of JSON.
-ghost use Rattle.std.specs.Prelude.{◌≡◌, ◌++◌, false, IfOk, OnOk, map, option_map};
+ghost use Rattle.std.specs.Prelude.{◌≡◌, ◌++◌, ◌&&◌, false, IfOk, OnOk, map};
 ghost use Rattle.serde_json.specs.Written.{items_text};
-ghost use Rattle.der_json.specs.Json.{AddsMarks, AddsStrictJsonOf, fault_json, fault_told, items_of, told_of};
+ghost use Rattle.der_lines.specs.Dump.{Adds};
+ghost use Rattle.der_json.specs.Json.{IsStrictJsonOf, fault_json, fault_told, is_der, items_of, marks_text};
+ghost use Rattle.der_json.specs.Json.{told_of};
 
 use crate::fault::Fault;
-use crate::line::{Origin, push_blocks, push_comma, push_end, push_first, push_located};
-use crate::row::push_fault_object;
-use asn1_outline::headers::Headers;
+use crate::line::{Origin, push_blocks, push_empty, push_end, push_first};
+use crate::object::push_fault_object;
+use crate::rows::push_comma;
+use der_lines::Names;
 use std::alloc::{AllocError, Global};
 
 /// Puts the octets at the end as [`push_json`](crate::push_json) does, where they have to be DER. Behind the line of
@@ -14,29 +17,32 @@ use std::alloc::{AllocError, Global};
 /// `{"not_der":[{"offset":..,"text":".."},..]}`. Last is the line of the first fault, if there is one. Whether all is
 /// DER, and nothing is at fault.
 ///
-/// It takes memory as `push_json` does; the only error is that it ran out, after which some of the lines may have been
-/// put.
+/// It takes memory as `push_json` does, and for the list; the only error is that it ran out, after which some of the
+/// lines may have been put.
 pub fn push_strict_json(
     alloc: Global,
+    names: &Names,
     origin: Origin<'_>,
     octets: &[u8],
     out: &mut Vec<u8>,
 ) -> Result<bool, AllocError>
-    ensures { IfOk result (λ is_right. AddsStrictJsonOf octets.now (told_of origin.entry) is_right
+    ensures { IfOk result (λ is_right. Adds (IsStrictJsonOf octets.now (told_of origin.entry) is_right)
         out.old.items out.new.items) }
 {
-    match Headers::read(alloc, octets) {
-        Ok(headers) => {
-            let found = push_blocks(alloc, origin, octets, headers.entries(), out)?;
-            let is_der = push_marks(alloc, origin, &found.marks, out)?;
-            let is_right = push_first(alloc, origin, &found.first, out)?;
-            Ok(is_der && is_right)
-        }
-        Err(located) => {
-            push_located(alloc, origin, &located, out)?;
-            Ok(false)
-        }
+    if octets.is_empty() {
+        push_empty(alloc, origin, out)?;
+        return Ok(false);
     }
+    let found = push_blocks(alloc, names, origin, octets, out)?;
+    let is_der = push_marks(alloc, origin, &found.marks, out)?;
+    let is_right = push_first(alloc, origin, &found.first, out)?;
+    Ok(both(is_der, is_right))
+}
+
+fn both(is_der: bool, is_right: bool) -> bool
+    ensures { result ≡ (is_der && is_right) }
+{
+    is_der && is_right
 }
 
 // Puts the line of what is not DER, if anything is. Whether nothing is.
@@ -46,8 +52,9 @@ fn push_marks(
     marks: &[Fault],
     out: &mut Vec<u8>,
 ) -> Result<bool, AllocError>
-    ensures { IfOk result (λ is_der. AddsMarks (map fault_told marks.now) (told_of origin.entry) is_der
-        out.old.items out.new.items) }
+    ensures right { IfOk result (λ right. right ≡ is_der (map fault_told marks.now)) }
+    ensures text { OnOk result (out.new.items
+        ≡ out.old.items ++ marks_text (map fault_told marks.now) (told_of origin.entry)) }
 {
     if marks.is_empty() {
         return Ok(true);

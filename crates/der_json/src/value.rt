@@ -1,64 +1,40 @@
-// What is told of an encoding: its type, and what it holds. None of it is a float.
-ghost use Rattle.std.specs.Prelude.{◌≡◌, ◌||◌, ◌==◌, List, ℕ, false, true, None, IfOk, IfSome, IsTrue};
-ghost use Rattle.std.specs.Prelude.{MatchOption, MatchResult, option_map};
+// Values. None of them is a float.
+ghost use Rattle.std.specs.Prelude.{◌≡◌, List, ℕ, false, true, None, IfOk, IfSome, IsTrue, MatchOption, option_map};
 ghost use Rattle.hex.specs.Hex.{encode_lower};
-ghost use Rattle.asn1_headers.specs.Header.{Encoding};
-ghost use Rattle.asn1_headers.specs.Names.{class_name};
 ghost use Rattle.asn1_headers.specs.declared.header.ASN1Class.TheVariants.{Universal};
 ghost use Rattle.asn1_leaves.specs.Contents.Moment.{moment_of};
-ghost use Rattle.serde_json.specs.View.{view};
-ghost use Rattle.serde_json.specs.Written.{has_float};
-ghost use Rattle.asn1_blocks.specs.Contents.{is_group_tag};
-ghost use Rattle.asn1_blocks.specs.Grammar.{Encodes};
+ghost use Rattle.asn1_leaves.specs.DottedDecimal.{dotted_decimal};
 ghost use Rattle.asn1_blocks.specs.View.{view as view_block};
 ghost use Rattle.serde_json.specs.Data.{string};
-ghost use Rattle.asn1_leaves.specs.DottedDecimal.{dotted_decimal};
-ghost use Rattle.der_json.specs.Json.{HasShortFront, IsIdentifierValue, IsShown, IsShownUniversal, fault_told};
-ghost use Rattle.der_json.specs.Json.{is_wide_tag, other_value as other_value_is};
+ghost use Rattle.serde_json.specs.View.{view};
+ghost use Rattle.serde_json.specs.Written.{has_float};
+ghost use Rattle.der_lines.specs.Headers.{is_gone_into};
+ghost use Rattle.der_json.specs.Json.{AreShown, HasShortFront, IsIdentifierValue, IsMomentText, IsValue, IsValueOf};
+ghost use Rattle.der_json.specs.Json.{bits_json, fault_told, natural_json, other_value as other_value_is, whole_json};
 ghost use Rattle.der_json.specs.Rows.{IsOtherValue};
-ghost use Rattle.der_json.specs.Json.{IsMomentText, IsValue, bits_json, natural_json, type_json};
-ghost use Rattle.der_json.specs.Json.{whole_json};
 
-use crate::fault::{Fault, fault_at};
+use crate::fault::{Fault, leaf_fault};
 use asn1_blocks::block::ASN1Block;
 use asn1_blocks::contents::leaf_block;
 use asn1_blocks::parsed::PlacedHeader;
 use asn1_headers::error::{ASN1DecodeErr, ASN1EncodeErr};
+use asn1_headers::front::Header;
 use asn1_headers::header::ASN1Class;
 use asn1_leaves::oid::OID;
 use asn1_numbers::number::big_int::BigInt;
 use asn1_numbers::number::big_uint::BigUint;
-use asn1_outline::entry::Entry;
-use der_values::{Characters, long_identifier, string_of, text_in_form, value_text};
+use der_lines::header::universal_tag;
+use der_lines::leaf::form_of;
+use der_values::{long_identifier, string_of, text_in_form, value_text};
 use jiff::civil::DateTime;
 use serde_json::{Value, json};
 use std::alloc::{AllocError, Global};
-use std::str;
 
 // The greatest number that every reader of JSON takes as it is (RFC 7493, section 2.2): 2^53 - 1.
 const GREATEST_NUMBER: u64 = 9_007_199_254_740_991;
 
 // The tag of an ENUMERATED (X.680 8.4, table 1).
 const ENUMERATED: u64 = 10;
-
-// The name of its type, or `null`.
-pub fn type_value(alloc: Global, entry: &Entry) -> Result<Value, AllocError>
-    ensures told { IfOk result (λ v. view v ≡ type_json entry.now.class entry.now.tag) }
-    ensures exact { IfOk result (λ v. has_float (view v) ≡ false) }
-{
-    match entry.type_name() {
-        Some(name) => text_value(alloc, name),
-        None => Ok(Value::Null),
-    }
-}
-
-// How its class is called.
-pub fn class_value(alloc: Global, class: ASN1Class) -> Result<Value, AllocError>
-    ensures told { IfOk result (λ v. view v ≡ string (class_name class)) }
-    ensures exact { IfOk result (λ v. has_float (view v) ≡ false) }
-{
-    text_value(alloc, class.name())
-}
 
 // A natural number.
 pub fn natural_value(alloc: Global, number: &BigUint) -> Result<Value, AllocError>
@@ -81,7 +57,7 @@ fn integer_value(alloc: Global, number: &BigInt) -> Result<Value, AllocError>
     }
 }
 
-fn octets_value(alloc: Global, octets: &[u8]) -> Result<Value, AllocError>
+pub fn octets_value(alloc: Global, octets: &[u8]) -> Result<Value, AllocError>
     ensures told { IfOk result (λ v. view v ≡ string (encode_lower octets.now)) }
     ensures exact { IfOk result (λ v. has_float (view v) ≡ false) }
 {
@@ -143,34 +119,38 @@ fn moment_value(alloc: Global, moment: &DateTime) -> Result<Value, AllocError>
     Ok(Value::String(format!(in alloc; "{moment}Z")?))
 }
 
-// What is shown of an encoding: its value, and what is wrong with its contents octets, if anything is.
+// What is shown of contents octets: their value, and what is wrong with them, if anything is.
 #[derive(Drop)]
 pub struct Shown {
     pub value: Value,
     pub fault: Option<Fault>,
 }
 
-// What is shown of the encoding of the entry, which has this tag number and these contents octets.
-pub fn shown_of(
+// What is shown of the contents octets of a primitive encoding with the header, which stands at the offset. Of a string
+// that the library takes for UTF-8, though X.690 has other characters, it is these, where the octets are so.
+pub fn contents_shown(
     alloc: Global,
-    entry: &Entry,
-    tag: BigUint,
+    header: &Header,
     contents: &[u8],
+    offset: usize,
 ) -> Result<Shown, AllocError>
-    ensures told { (octets : List ℕ)
-        → Encoding octets entry.now.class entry.now.constructed tag contents.now entry.now.header
-        → IfOk result (λ shown. IsShown entry.now.class entry.now.constructed entry.now.items octets contents.now
-        entry.now.offset tag (view shown.value) (option_map fault_told shown.fault)) }
+    requires { is_gone_into header.now.class header.now.constructed header.now.tag ≡ false }
+    ensures told { IfOk result (λ shown. AreShown offset header.now.class header.now.tag contents.now
+        (view shown.value) (option_map fault_told shown.fault)) }
     ensures exact { IfOk result (λ shown. has_float (view shown.value) ≡ false) }
 {
-    if entry.items > 0 {
-        return Ok(right(Value::Null));
-    }
-    match entry.class {
-        ASN1Class::Universal => universal_shown(alloc, entry, tag, contents),
-        ASN1Class::Application | ASN1Class::ContextSpecific | ASN1Class::Private => {
-            Ok(right(octets_value(alloc, contents)?))
+    if let Some(form) = form_of(header, contents) {
+        if let Some(text) = text_in_form(alloc, form, contents)? {
+            return Ok(right(Value::String(text)));
         }
+    }
+    match leaf_block(alloc, placed(alloc, header, contents)?, contents, 0) {
+        Ok(block) => Ok(right(value_in(alloc, header, contents, &block)?)),
+        Err(ASN1DecodeErr::OutOfMemory) => Err(AllocError),
+        Err(fault) => Ok(Shown {
+            value: octets_value(alloc, contents)?,
+            fault: Some(leaf_fault(alloc, offset, universal_tag(header), contents, &fault)?),
+        }),
     }
 }
 
@@ -180,78 +160,55 @@ fn right(value: Value) -> Shown
     Shown { value, fault: None }
 }
 
-// What is shown of an encoding of class Universal. Of a string that the library takes for UTF-8, though X.690 has other
-// characters, it is these, where the octets are so.
-fn universal_shown(
+fn placed(alloc: Global, header: &Header, contents: &[u8]) -> Result<PlacedHeader, AllocError>
+    ensures class { IfOk result (λ placed. placed.class ≡ header.now.class) }
+    ensures constructed { IfOk result (λ placed. placed.constructed ≡ header.now.constructed) }
+    ensures tag { IfOk result (λ placed. placed.tag ≡ header.now.tag) }
+{
+    Ok(PlacedHeader {
+        class: header.class,
+        constructed: header.constructed,
+        tag: header.tag.clone(alloc)?,
+        start: 0,
+        end: contents.len(),
+    })
+}
+
+// The value of contents octets of an encoding with the header, which are those of the block.
+fn value_in(
     alloc: Global,
-    entry: &Entry,
-    tag: BigUint,
+    header: &Header,
     contents: &[u8],
-) -> Result<Shown, AllocError>
-    ensures told { (octets : List ℕ)
-        → Encoding octets Universal entry.now.constructed tag contents.now entry.now.header
-        → IfOk result (λ shown. IsShownUniversal octets contents.now entry.now.constructed entry.now.offset tag
-        (view shown.value) (option_map fault_told shown.fault)) }
-    ensures exact { IfOk result (λ shown. has_float (view shown.value) ≡ false) }
+    block: &ASN1Block,
+) -> Result<Value, AllocError>
+    ensures told { IfOk result (λ v.
+        IsValueOf header.now.class header.now.tag contents.now (view_block block.now) (view v)) }
+    ensures exact { IfOk result (λ v. has_float (view v) ≡ false) }
 {
-    if is_group(&tag) {
-        return Ok(right(Value::Null));
-    }
-    if let Some(form) = form_of(&tag, contents) {
-        if let Some(text) = text_in_form(alloc, form, contents)? {
-            return Ok(right(Value::String(text)));
-        }
-    }
-    let other = other_value(alloc, entry.constructed, &tag, contents)?;
-    match other {
-        Some(value) => Ok(right(value)),
-        None => leaf_shown(alloc, entry, tag, contents),
+    match other_value(alloc, header, contents)? {
+        Some(value) => Ok(value),
+        None => value_of(alloc, contents, block),
     }
 }
 
-fn is_group(tag: &BigUint) -> bool
-    ensures { result ≡ is_group_tag tag.now }
-{
-    matches!(tag.to_u64(), Some(16 | 17))
-}
-
-// The form of characters that X.690 has for a string that the library takes for UTF-8. In a TeletexString they are
-// Latin-1 where they are no UTF-8.
-fn form_of(tag: &BigUint, contents: &[u8]) -> Option<Characters>
-    ensures { IfSome result (λ _. is_wide_tag tag.now ≡ true) }
-{
-    match tag.to_u64() {
-        Some(20) if str::from_utf8(contents).is_err() => Some(Characters::Latin1),
-        Some(28) => Some(Characters::Utf32),
-        Some(30) => Some(Characters::Utf16),
-        _ => None,
-    }
-}
-
-// The value of an encoding of class Universal of a type that the library does not read, if it is primitive and its
-// contents octets have one.
-fn other_value(
-    alloc: Global,
-    constructed: bool,
-    tag: &BigUint,
-    contents: &[u8],
-) -> Result<Option<Value>, AllocError>
+// The value of contents octets of a type that the library does not read, if they have one.
+fn other_value(alloc: Global, header: &Header, contents: &[u8]) -> Result<Option<Value>, AllocError>
     ensures told { IfOk result (λ found. MatchOption found
-        (other_value_is constructed tag.now contents.now ≡ None)
-        (λ v. IsOtherValue constructed tag.now contents.now (view v))) }
+        (other_value_is header.now.class header.now.tag contents.now ≡ None)
+        (λ v. IsOtherValue header.now.class header.now.tag contents.now (view v))) }
     ensures exact { IfOk result (λ found. IfSome found (λ v. has_float (view v) ≡ false)) }
 {
-    match tag.to_u64() {
-        Some(tag) if !constructed => value_of_type(alloc, tag, contents),
+    match (header.class, header.tag.to_u64()) {
+        (ASN1Class::Universal, Some(tag)) => value_of_type(alloc, tag, contents),
         _ => Ok(None),
     }
 }
 
-// So with a tag of a few octets, of a primitive encoding.
+// So of a type of class Universal.
 fn value_of_type(alloc: Global, tag: u64, contents: &[u8]) -> Result<Option<Value>, AllocError>
     ensures told { IfOk result (λ found. MatchOption found
-        (other_value_is false tag contents.now ≡ None)
-        (λ v. IsOtherValue false tag contents.now (view v))) }
+        (other_value_is Universal tag contents.now ≡ None)
+        (λ v. IsOtherValue Universal tag contents.now (view v))) }
     ensures exact { IfOk result (λ found. IfSome found (λ v. has_float (view v) ≡ false)) }
 {
     if tag == ENUMERATED {
@@ -264,38 +221,6 @@ fn value_of_type(alloc: Global, tag: u64, contents: &[u8]) -> Result<Option<Valu
     match value_text(alloc, tag, contents)? {
         Some(text) => Ok(Some(Value::String(text))),
         None => Ok(None),
-    }
-}
-
-// What is shown of contents octets by what the library reads of them.
-fn leaf_shown(
-    alloc: Global,
-    entry: &Entry,
-    tag: BigUint,
-    contents: &[u8],
-) -> Result<Shown, AllocError>
-    requires no_group { is_group_tag tag ≡ false }
-    requires no_other { other_value_is entry.now.constructed tag contents.now ≡ None }
-    ensures told { (octets : List ℕ)
-        → Encoding octets Universal entry.now.constructed tag contents.now entry.now.header
-        → IfOk result (λ shown. IsShownUniversal octets contents.now entry.now.constructed entry.now.offset tag
-        (view shown.value) (option_map fault_told shown.fault)) }
-    ensures exact { IfOk result (λ shown. has_float (view shown.value) ≡ false) }
-{
-    let header = PlacedHeader {
-        class: ASN1Class::Universal,
-        constructed: entry.constructed,
-        tag,
-        start: 0,
-        end: contents.len(),
-    };
-    match leaf_block(alloc, header, contents, entry.offset) {
-        Ok(block) => Ok(right(value_of(alloc, contents, &block)?)),
-        Err(ASN1DecodeErr::OutOfMemory) => Err(AllocError),
-        Err(fault) => Ok(Shown {
-            value: octets_value(alloc, contents)?,
-            fault: Some(fault_at(alloc, entry.offset, &fault)?),
-        }),
     }
 }
 

@@ -1,32 +1,22 @@
-use Rattle.std.proofs.Common.{◌∙◌, inr, option_map, rules}
-use Rattle.asn1_headers.specs.Fault.{fault_of}
-use Rattle.asn1_outline.specs.Shapes.{FirstHeaderFaultAt}
-use Rattle.der_json.specs.Json.{AddsHeaderFault, fault_told, told_of}
-use Rattle.der_json.specs.Rows.{found_marks}
-use Rattle.der_json.proofs.Lines.{encodings_put}
+use Rattle.std.proofs.Common.{◌++◌, ◌∙◌, ap, inl, inr, refl, sym}
+use Rattle.std.specs.Option.{is_none}
+use Rattle.der_json.specs.Json.{first_fault, first_text, told_of}
+use Rattle.der_json.proofs.Lines.{none_there}
+use Rattle.der_json.proofs.Members.{put_after}
 use Rattle.der_json.proofs.line.push_json.Goals as goal
 
-pub push_blocks-requires : goal.push_blocks-requires
-push_blocks-requires c =
-    let (all, has, is) = c.in-Ok.ensures.document in
-    (all, has, c.entries.ensures ∙ is)
+pub returns-then-is_empty : goal.returns-then-is_empty
+returns-then-is_empty c =
+    let (text, put, empty) = c.in_ok-push_empty.ensures in
+    (text, put, inr (none_there c.args.octets.now (sym c.is_empty.ensures ∙ c.if-is_empty.true), refl, empty))
 
-pub returns-in_ok-found-in-Ok : goal.returns-in_ok-found-in-Ok
-returns-in_ok-found-in-Ok c =
-    let found = c.in_ok-found-in-Ok.found in
-    encodings_put c.push_first.result c.args.octets.now (told_of c.args.origin) (found_marks found) (option_map fault_told found.first)
-    c.args.out.now.items _ _ c.in_ok-found-in-Ok.ensures c.push_first.ensures
-
-pub returns-in_ok-push_located-in-Err : goal.returns-in_ok-push_located-in-Err
-returns-in_ok-push_located-in-Err c =
-    let fault = fault_of c.in-Err.located.error in
-    let (words, line) = c.in_ok-push_located-in-Err.ensures.told in
-    let first : FirstHeaderFaultAt c.args.octets.now fault c.in-Err.located.offset = search rules in
-    let told : AddsHeaderFault c.args.octets.now (told_of c.args.origin) c.args.out.now.items c.push_located.new.out.items = record {
-      fault = fault;
-      offset = c.in-Err.located.offset;
-      words = words;
-      first = first;
-      line = line;
-    } in
-    inr told
+pub returns : goal.returns
+returns c =
+    let origin = told_of c.args.origin in
+    let (text, put, (rows, are, marks, first, is)) = c.in_ok-found.ensures in
+    let last = first_text (first_fault rows) origin in (
+      text ++ last,
+      put_after c.args.out.now.items text last c.push_blocks.new.out.items _ put
+          (c.in_ok-is_right.ensures.text ∙ ap (λ z. c.push_blocks.new.out.items ++ first_text z origin) first),
+      inl (rows, are, c.in_ok-is_right.ensures.right ∙ ap is_none first, ap (λ z. z ++ last) is),
+    )

@@ -1,4 +1,4 @@
-use Rattle.std.proofs.Common.{◌++◌, ◌∷◌, [], ◌∙◌, ap, codes, false, map, sym}
+use Rattle.std.proofs.Common.{◌++◌, ◌∷◌, [], ◌∙◌, ap, append-nil, codes, false, map, sym}
 use Rattle.serde_json.specs.Written.{items_text}
 use Rattle.der_json.specs.Json.{fault_json, fault_told, items_of, told_of}
 use Rattle.der_json.specs.Rows.{end_text}
@@ -7,15 +7,19 @@ use Rattle.der_json.proofs.Lines.{marks_line, no_marks, some_marks}
 use Rattle.der_json.proofs.strict.push_marks.Goals as goal
 
 pub returns-then-is_empty : goal.returns-then-is_empty
-returns-then-is_empty c = no_marks c.args.marks.now (told_of c.args.origin) c.args.out.now.items
-    (sym c.is_empty.ensures ∙ c.if-is_empty.true)
+returns-then-is_empty c =
+    let out = c.args.out.now.items in
+    let (right, none) = no_marks c.args.marks.now (told_of c.args.origin) (sym c.is_empty.ensures ∙ c.if-is_empty.true) in
+    record { right = right; text = sym (ap (λ z. out ++ z) none ∙ append-nil out) }
 
 pub returns : goal.returns
 returns c =
     let origin = told_of c.args.origin in
     let out = c.args.out.now.items in
     let marks = map fault_told c.args.marks.now in
-    some_marks c.args.marks.now origin out c.push_end.new.out.items (sym c.is_empty.ensures ∙ c.if-is_empty.false)
-    (joined out (codes "{\"not_der\":[") (items_text false (items_of fault_json marks)) (end_text origin ++ 10 ∷ []) _ _ _
+    let (right, some) = some_marks c.args.marks.now origin (sym c.is_empty.ensures ∙ c.if-is_empty.false) in
+    let put =
+    joined out (codes "{\"not_der\":[") (items_text false (items_of fault_json marks)) (end_text origin ++ 10 ∷ []) _ _ _
     c.in_ok-extend_from_slice.ensures.items c.in_ok-push_list.ensures c.in_ok-push_end.ensures
-    ∙ ap (λ z. out ++ z) (marks_line origin marks))
+    ∙ ap (λ z. out ++ z) (marks_line origin marks) in
+    record { right = right; text = put ∙ ap (λ z. out ++ z) (sym some) }

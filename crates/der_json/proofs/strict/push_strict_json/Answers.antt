@@ -1,24 +1,29 @@
-use Rattle.std.proofs.Common.{◌∙◌, inr, rules}
-use Rattle.asn1_headers.specs.Fault.{fault_of}
-use Rattle.asn1_outline.specs.Shapes.{FirstHeaderFaultAt}
-use Rattle.der_json.specs.Json.{AddsHeaderFault, told_of}
+use Rattle.std.proofs.Common.{◌++◌, ◌∙◌, ap, inl, inr, refl, sym}
+use Rattle.std.specs.Option.{is_none}
+use Rattle.std.specs.Prelude.{◌&&◌, map}
+use Rattle.der_json.specs.Json.{fault_told, first_fault, first_text, is_der, marks_of, marks_text, told_of}
+use Rattle.der_json.proofs.Lines.{none_there}
+use Rattle.der_json.proofs.Members.{put_after}
 use Rattle.der_json.proofs.strict.push_strict_json.Goals as goal
 
-pub push_blocks-requires : goal.push_blocks-requires
-push_blocks-requires c =
-    let (all, has, is) = c.in-Ok.ensures.document in
-    (all, has, c.entries.ensures ∙ is)
+pub returns-then-is_empty : goal.returns-then-is_empty
+returns-then-is_empty c =
+    let (text, put, empty) = c.in_ok-push_empty.ensures in
+    (text, put, inr (none_there c.args.octets.now (sym c.is_empty.ensures ∙ c.if-is_empty.true), refl, empty))
 
-pub returns-in_ok-push_located-in-Err : goal.returns-in_ok-push_located-in-Err
-returns-in_ok-push_located-in-Err c =
-    let fault = fault_of c.in-Err.located.error in
-    let (words, line) = c.in_ok-push_located-in-Err.ensures.told in
-    let first : FirstHeaderFaultAt c.args.octets.now fault c.in-Err.located.offset = search rules in
-    let told : AddsHeaderFault c.args.octets.now (told_of c.args.origin) c.args.out.now.items c.push_located.new.out.items = record {
-      fault = fault;
-      offset = c.in-Err.located.offset;
-      words = words;
-      first = first;
-      line = line;
-    } in
-    inr told
+pub returns : goal.returns
+returns c =
+    let origin = told_of c.args.origin in
+    let (text, put, (rows, are, marks, first, is)) = c.in_ok-found.ensures in
+    let list = marks_text (marks_of rows) origin in
+    let last = first_text (first_fault rows) origin in
+    let all = ap (map fault_told) c.deref.ensures.value ∙ marks in
+    let listed = c.in_ok-is_der.ensures.text ∙ ap (λ z. c.push_blocks.new.out.items ++ marks_text z origin) all in
+    let right = c.both.ensures ∙ (ap (λ z. z && c.in_ok-is_right.is_right) (c.in_ok-is_der.ensures.right ∙ ap is_der all)
+    ∙ ap (λ z. is_der (marks_of rows) && z) (c.in_ok-is_right.ensures.right ∙ ap is_none first)) in
+    let told = c.in_ok-is_right.ensures.text ∙ ap (λ z. c.push_marks.new.out.items ++ first_text z origin) first in (
+      text ++ (list ++ last),
+      put_after c.args.out.now.items text (list ++ last) c.push_blocks.new.out.items _ put
+          (put_after c.push_blocks.new.out.items list last c.push_marks.new.out.items _ listed told),
+      inl (rows, are, right, ap (λ z. z ++ (list ++ last)) is),
+    )

@@ -1,0 +1,134 @@
+// Objects of blocks.
+ghost use Rattle.std.specs.Prelude.{◌≡◌, ◌++◌, false, IfOk, OnOk, option_map, string_bytes};
+ghost use Rattle.serde_json.specs.View.{view};
+ghost use Rattle.serde_json.specs.Written.{compact_text, has_float};
+ghost use Rattle.der_json.specs.Json.{boolean_or_null as boolean_or_null_is, fault_json, fault_told};
+ghost use Rattle.der_json.specs.Json.{number_or_null as number_or_null_is, text_or_null as text_or_null_is};
+ghost use Rattle.der_json.specs.Rows.{IsExact, fault_text, first_members, last_members, told_text};
+
+use crate::fault::{Fault, fault_value};
+use crate::member::{push_member, push_text};
+use serde_json::Value;
+use std::alloc::{AllocError, Global};
+
+// What the object of a block tells, but for what stands inside its octets.
+#[derive(Drop)]
+pub struct Object {
+    pub offset: usize,
+    pub header: usize,
+    // how many octets it has, as far as they are there, where its length is of the definite form
+    pub size: Option<usize>,
+    pub depth: usize,
+    pub class: Option<&'static str>,
+    pub constructed: Option<bool>,
+    pub tag: Value,
+    pub kind: Option<&'static str>,
+    pub value: Value,
+    pub name: Option<String>,
+    pub shown: Option<String>,
+    pub not_der: Option<String>,
+    pub fault: Option<Fault>,
+}
+
+impl Object {
+    // Puts its members that every object has, and its beginning.
+    pub fn push_first(&self, alloc: Global, out: &mut Vec<u8>) -> Result<(), AllocError>
+        requires { IsExact self.now }
+        ensures { OnOk result (out.new.items ≡ out.old.items ++ first_members self.now) }
+    {
+        push_member(alloc, b"{\"offset\":", &Value::from(self.offset), out)?;
+        push_member(alloc, b",\"header\":", &Value::from(self.header), out)?;
+        push_member(alloc, b",\"size\":", &number_or_null(self.size), out)?;
+        push_member(alloc, b",\"depth\":", &Value::from(self.depth), out)?;
+        let class = text_or_null(alloc, self.class)?;
+        push_member(alloc, b",\"class\":", &class, out)?;
+        let constructed = boolean_or_null(self.constructed);
+        push_member(alloc, b",\"constructed\":", &constructed, out)?;
+        push_member(alloc, b",\"tag\":", &self.tag, out)?;
+        let kind = text_or_null(alloc, self.kind)?;
+        push_member(alloc, b",\"type\":", &kind, out)?;
+        push_member(alloc, b",\"value\":", &self.value, out)?;
+        Ok(())
+    }
+
+    // Puts those that not every object has.
+    pub fn push_others(&self, alloc: Global, out: &mut Vec<u8>) -> Result<(), AllocError>
+        ensures { OnOk result (out.new.items ≡ out.old.items ++ last_members self.now) }
+    {
+        push_words(alloc, b",\"name\":", &self.name, out)?;
+        push_words(alloc, b",\"shown\":", &self.shown, out)?;
+        push_words(alloc, b",\"not_der\":", &self.not_der, out)?;
+        push_fault(alloc, &self.fault, out)?;
+        Ok(())
+    }
+}
+
+fn number_or_null(number: Option<usize>) -> Value
+    ensures told { view result ≡ number_or_null_is number }
+    ensures exact { has_float (view result) ≡ false }
+{
+    match number {
+        Some(n) => Value::from(n),
+        None => Value::Null,
+    }
+}
+
+fn boolean_or_null(boolean: Option<bool>) -> Value
+    ensures told { view result ≡ boolean_or_null_is boolean }
+    ensures exact { has_float (view result) ≡ false }
+{
+    match boolean {
+        Some(b) => Value::from(b),
+        None => Value::Null,
+    }
+}
+
+fn text_or_null(alloc: Global, text: Option<&str>) -> Result<Value, AllocError>
+    ensures told { IfOk result (λ v. view v ≡ text_or_null_is (option_map (λ t. t.now) text.entry)) }
+    ensures exact { IfOk result (λ v. has_float (view v) ≡ false) }
+{
+    match text {
+        Some(text) => Value::try_from_str(alloc, text),
+        None => Ok(Value::Null),
+    }
+}
+
+// Puts words behind their name, if there are some.
+fn push_words(
+    alloc: Global,
+    name: &[u8],
+    words: &Option<String>,
+    out: &mut Vec<u8>,
+) -> Result<(), AllocError>
+    ensures { OnOk result (out.new.items
+        ≡ out.old.items ++ told_text name.now (option_map string_bytes words.now)) }
+{
+    match words {
+        Some(words) => push_text(alloc, name, words, out),
+        None => Ok(()),
+    }
+}
+
+// Puts the member of a fault, if there is one.
+fn push_fault(alloc: Global, fault: &Option<Fault>, out: &mut Vec<u8>) -> Result<(), AllocError>
+    ensures { OnOk result (out.new.items ≡ out.old.items ++ fault_text (option_map fault_told fault.now)) }
+{
+    match fault {
+        Some(fault) => push_fault_object(alloc, b",\"fault\":", fault, out),
+        None => Ok(()),
+    }
+}
+
+// Puts the object of a fault behind its name.
+pub fn push_fault_object(
+    alloc: Global,
+    name: &[u8],
+    fault: &Fault,
+    out: &mut Vec<u8>,
+) -> Result<(), AllocError>
+    ensures { OnOk result (out.new.items
+        ≡ out.old.items ++ (name.now ++ compact_text (fault_json (fault_told fault.now)))) }
+{
+    let object = fault_value(alloc, fault)?;
+    push_member(alloc, name, &object, out)
+}
