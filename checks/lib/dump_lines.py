@@ -96,8 +96,7 @@ class Dump:
         """The lines of each of these octets, without its file."""
         lines = {name: [] for name in self.write(documents)}
         for line in self.lines([*words, *lines]):
-            # of a single file the name is not told
-            lines[line.pop("file") if len(lines) > 1 else next(iter(lines))].append(line)
+            lines[line.pop("file")].append(line)
         return list(lines.values())
 
 

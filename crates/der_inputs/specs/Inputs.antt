@@ -1,5 +1,5 @@
 -- What is written of inputs, by the options.
-use Rattle.std.specs.Prelude.{◌≡◌, ◌≢◌, ◌⊎◌, ℕ, Bool, true, false, List, [], ◌∷◌, ◌++◌, nat_lt}
+use Rattle.std.specs.Prelude.{◌≡◌, ◌≢◌, ◌⊎◌, ◌||◌, ℕ, Bool, true, false, List, [], ◌∷◌, ◌++◌, nat_lt}
 use Rattle.std.specs.Prelude.{Option, Some, None, IfSome}
 use Rattle.std.specs.Io.KnownBytes.{IsAtEnd}
 use Rattle.der_inputs.specs.Findings.{Finding, IsBlockAt, IsContentsAt, findings_of, unlabelled}
@@ -17,11 +17,11 @@ use Rattle.der_options.specs.declared.options.Options.{Options}
 use Rattle.der_options.specs.declared.options.Task.{Task}
 use Rattle.der_options.specs.declared.options.Task.TheVariants.{At, Contents, Dump, Extract}
 
--- names are told where there are several inputs, and not beside octets as they stand
-abbrev pub names_shown : Task → ℕ → Bool
-names_shown (Extract offset) count = false
-names_shown (Contents offset) count = false
-names_shown _ count = nat_lt 1 count
+-- names are told in JSON, and where there are several inputs, and not beside octets as they stand
+abbrev pub names_shown : Task → Bool → ℕ → Bool
+names_shown (Extract offset) json count = false
+names_shown (Contents offset) json count = false
+names_shown _ json count = json || nat_lt 1 count
 
 -- lines are colored where they always are, and not octets as they stand
 abbrev pub is_always : Color → Bool
@@ -45,7 +45,7 @@ pub record Wanted : Type 0 where
 abbrev pub wanted_by : Options → ℕ → Wanted
 wanted_by options count = record {
   task = options.task;
-  named = names_shown options.task count;
+  named = names_shown options.task options.is_json count;
   form = form_by options.is_json options.is_html;
   strict = options.is_strict;
   most_depth = options.most_depth;

@@ -58,7 +58,7 @@ impl Show {
             alloc,
             names: Names::with(alloc, own)?,
             task: options.task,
-            is_named: are_names_shown(options.task, count),
+            is_named: are_names_shown(options.task, options.is_json, count),
             form: form_of(options.is_json, options.is_html),
             is_strict: options.is_strict,
             is_colored: are_colors_shown(options.task, options.color),
@@ -234,12 +234,12 @@ fn are_colors_shown(task: Task, color: Color) -> bool
     }
 }
 
-// Whether names are told of so many inputs.
-fn are_names_shown(task: Task, count: usize) -> bool
-    ensures { result ≡ names_shown task count }
+// Whether names are told of so many inputs, in JSON or not.
+fn are_names_shown(task: Task, is_json: bool, count: usize) -> bool
+    ensures { result ≡ names_shown task is_json count }
 {
     match task {
         Task::Extract(_) | Task::Contents(_) => false,
-        _ => count > 1,
+        _ => is_json || count > 1,
     }
 }
