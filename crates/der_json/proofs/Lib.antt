@@ -1,5 +1,5 @@
 pub mod Arrays
-pub mod Elements
 pub mod Lines
 pub mod Members
+pub mod Pieces
 pub mod Walk

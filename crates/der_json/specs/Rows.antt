@@ -1,28 +1,36 @@
 -- The text of an array, as far as it is put, and what is read for a row. Private contracts alone name these.
-use Rattle.std.specs.Prelude.{◌≡◌, ◌⊎◌, ℕ, suc, ◌+◌, ◌-◌, ◌<◌, Bool, true, false, List, [], ◌∷◌, ◌++◌, codes, length, map}
-use Rattle.std.specs.Prelude.{IfSome, Option, None, Some, option_map, string_bytes, if◌then◌else◌}
-use Rattle.std.specs.List.{slice_range}
+use Rattle.std.specs.Prelude.{◌≡◌, ◌⊎◌, ℕ, suc, ◌+◌, ◌-◌, Bool, true, false, List, [], ◌∷◌, ◌++◌, codes, length, map}
+use Rattle.std.specs.Prelude.{MatchOption, Option, None, Some, option_map, string_bytes, if◌then◌else◌}
 use Rattle.std.specs.Option.{is_some}
+use Rattle.hex.specs.Hex.{encode_lower}
+use Rattle.asn1_headers.specs.Fault.{DecodeFault}
+use Rattle.asn1_headers.specs.Header.{Encoding}
 use Rattle.asn1_headers.specs.Names.{class_name, type_name}
 use Rattle.asn1_headers.specs.declared.front.Header.{Header}
 use Rattle.asn1_headers.specs.declared.header.ASN1Class.{ASN1Class}
 use Rattle.asn1_headers.specs.declared.header.ASN1Class.TheVariants.{Universal}
+use Rattle.asn1_blocks.specs.Contents.{LeafFault}
+use Rattle.asn1_blocks.specs.Grammar.{Encodes}
+use Rattle.asn1_blocks.specs.Tree.{Tree}
 use Rattle.serde_json.specs.Data.{Data, Items, Members, array, null, number, string, unsigned}
 use Rattle.serde_json.specs.View.{view}
 use Rattle.serde_json.specs.Written.{comma_if, compact_text, has_float, items_text, members_text}
-use Rattle.der_lines.specs.Dump.{Front, StandAt, is_stray_form, taken}
-use Rattle.der_lines.specs.Steps.{StartsNext, StartsWith}
-use Rattle.der_lines.specs.declared.cursor.Left.{Left}
-use Rattle.der_lines.specs.declared.cursor.Step.{Step}
+use Rattle.der_lines.specs.Headers.{is_gone_into}
+use Rattle.der_lines.specs.Pieces.{IsKind, front_of, kind_header}
+use Rattle.der_lines.specs.declared.faults.Fault.{Fault as PieceFault}
+use Rattle.der_lines.specs.declared.leaf.Meaning.{Meaning}
+use Rattle.der_lines.specs.declared.leaf.Meaning.TheVariants.{Nothing, Text, Value}
 use Rattle.der_lines.specs.declared.nested.Nested.{Nested}
+use Rattle.der_lines.specs.declared.piece.Kind.{Kind}
+use Rattle.der_lines.specs.declared.piece.Kind.TheVariants.{Cut, EndOfContents, Leaf, Opened, Unreadable}
+use Rattle.der_lines.specs.declared.piece.Piece.{Piece}
 use Rattle.der_lines.specs.declared.place.Place.{Place}
 use Rattle.der_values.specs.Strings.{has_words}
-use Rattle.der_json.specs.Json.{AreInside, AreRows, AreRowsOf, AreShown, IsOpenedValue, IsRowOf, Row, ToldFault, boolean_or_null}
-use Rattle.der_json.specs.Json.{fault_json, fault_told, first_fault, items_of, marks_of, natural_json, number_or_null}
-use Rattle.der_json.specs.Json.{other_value, row_json, rows_text, text_or_null, told_offset, words_fault}
-use Rattle.der_json.specs.declared.element.Element.{Element}
-use Rattle.der_json.specs.declared.element.Told.{Told}
+use Rattle.der_json.specs.Json.{AreInside, AreRows, AreRowsOf, IsOpenedValue, IsRowOf, IsValueOf, Row, ToldFault}
+use Rattle.der_json.specs.Json.{boolean_or_null, fault_json, fault_told, first_fault, items_of, marks_of, natural_json}
+use Rattle.der_json.specs.Json.{number_or_null, other_value, row_json, rows_text, text_or_null}
 use Rattle.der_json.specs.declared.object.Object.{Object}
+use Rattle.der_json.specs.declared.object.Tag.{Tag}
 use Rattle.der_json.specs.declared.rows.Found.{Found}
 
 -- what an object tells, and what stands inside
@@ -32,10 +40,10 @@ row_of object inside = record {
   header = object.header;
   size = object.size;
   depth = object.depth;
-  class = option_map (λ t. t.now) object.class;
-  constructed = object.constructed;
-  tag = view object.tag;
-  kind = option_map (λ t. t.now) object.kind;
+  class = option_map (λ t. t.now) object.tag.class;
+  constructed = object.tag.constructed;
+  tag = view object.tag.number;
+  kind = option_map (λ t. t.now) object.tag.kind;
   value = view object.value;
   name = option_map string_bytes object.name;
   beside = option_map string_bytes object.shown;
@@ -46,49 +54,7 @@ row_of object inside = record {
 
 -- none of it is a float
 abbrev pub IsExact : Object → Type 0
-IsExact object = (has_float (view object.tag) ≡ false) × (has_float (view object.value) ≡ false)
-
--- the object of end-of-contents octets, of which there are so many
-abbrev pub end_row : ℕ → ℕ → ℕ → Option ToldFault → Option Items → Row
-end_row offset size depth fault inside = record {
-  offset = offset;
-  header = size;
-  size = Some size;
-  depth = depth;
-  class = Some (codes "universal");
-  constructed = Some false;
-  tag = number (unsigned 0);
-  kind = Some (codes "end-of-contents");
-  value = null;
-  name = None;
-  beside = None;
-  not_der = None;
-  fault = fault;
-  inside = inside;
-}
-
--- an encoding that begins octets is judged so, unless its length is of the indefinite form and it is primitive: then
--- nothing is shown of it but that
-abbrev pub IsUnlessStray :
-    Bool → ℕ → (Data → Option ToldFault → Type 0) → Data → Option ToldFault → Type 0
-IsUnlessStray true at Is value fault =
-    (value ≡ null) × ((words : List ℕ) × (fault ≡ Some (words_fault at words)))
-IsUnlessStray false at Is value fault = Is value fault
-
--- so of one with the header, at the offset, that is gone into; these octets stand behind its identifier octets
-abbrev pub IsOpenedShown : List ℕ → Header → ℕ → List ℕ → Data → Option ToldFault → Type 0
-IsOpenedShown left header at behind =
-    IsUnlessStray (is_stray_form header.constructed behind) at
-    (λ value fault. IsOpenedValue header.class header.tag
-    (slice_range left header.size
-    (taken header.is_indefinite (header.size + header.announced) (length left))) header.is_indefinite value
-    × (fault ≡ None))
-
--- and of one that is not
-abbrev pub IsLeafShown : List ℕ → Header → ℕ → List ℕ → Data → Option ToldFault → Type 0
-IsLeafShown left header at behind =
-    IsUnlessStray (is_stray_form header.constructed behind) at
-    (AreShown at header.class header.tag (slice_range left header.size (header.size + header.announced)))
+IsExact object = (has_float (view object.tag.number) ≡ false) × (has_float (view object.value) ≡ false)
 
 -- the value of contents octets of a type that the library does not read, or words of it
 abbrev pub IsOtherValue : ASN1Class → ℕ → List ℕ → Data → Type 0
@@ -96,46 +62,95 @@ IsOtherValue class tag contents value =
     (other_value class tag contents ≡ Some value)
     ⊎ ((class ≡ Universal) × (has_words tag ≡ true) × ((text : List ℕ) × (value ≡ string text)))
 
--- an object tells the fields of the header, of an encoding of so many octets at the offset, and these
-pub record IsHeaderObject (header : Header) (size at depth : ℕ) (told : Told) (object : Object) : Type 0 where
-  pub offset_is : object.offset ≡ at
-  pub header_is : object.header ≡ header.size
-  pub size_is : object.size ≡ (if header.is_indefinite then None else Some size)
-  pub depth_is : object.depth ≡ depth
-  pub class_is : option_map (λ t. t.now) object.class ≡ Some (class_name header.class)
-  pub constructed_is : object.constructed ≡ Some header.constructed
-  pub tag_is : view object.tag ≡ natural_json header.tag
-  pub tag_exact : has_float (view object.tag) ≡ false
-  pub kind_is : option_map (λ t. t.now) object.kind ≡ type_name header.class header.tag
-  pub value_is : object.value ≡ told.value
-  pub mark_is : object.not_der ≡ told.not_der
-  pub fault_is : object.fault ≡ told.fault
+-- the value of contents octets that mean a block, or null where something is wrong with them
+abbrev pub IsBlockValue : ASN1Class → ℕ → List ℕ → Data → Type 0
+IsBlockValue class tag contents value =
+    ((value ≡ null) × ((class ≡ Universal) × ((found : DecodeFault) × LeafFault tag contents found)))
+    ⊎ ((tree : Tree ℕ)
+    × ((octets : List ℕ) (header : ℕ) → Encoding octets class false tag contents header → Encodes 0 octets tree)
+    × IsValueOf class tag contents tree value)
 
--- what begins octets that stand at the offset was read for its object
-pub record IsElementAs (Starts : Front → Step → List ℕ → Type 0) (place : Place) (offset : ℕ)
-    (octets : List ℕ) (element : Element) : Type 0 where
-  pub front : Front
-  pub faults : List ℕ
-  pub starts : Starts front element.step faults
-  pub same_offset : front.offset ≡ offset
-  pub same_header : element.object.header ≡ front.header
-  pub offset_is : element.object.offset ≡ place.base + offset
-  pub depth_is : element.object.depth ≡ place.depth
-  pub row : (inside : Option Items) → IsRowOf octets front (row_of element.object inside)
-  pub marked : is_some element.object.not_der ≡ front.marked
-  pub faults_are :
-      told_offset (option_map fault_told element.object.fault) ≡ map (λ fault. place.base + fault) faults
-  pub exact : IsExact element.object
-  pub more : IfSome element.nested (λ nested. 0 < place.documents)
-  pub inside :
-      IfSome element.nested (λ nested. StandAt
-      (slice_range octets front.header (front.header + front.contents)) nested.before nested.octets.now)
+-- the value of those that mean something
+abbrev pub IsMeantValue : ASN1Class → ℕ → List ℕ → Meaning → Data → Type 0
+IsMeantValue class tag contents (Text form text) value = (words : List ℕ) × (value ≡ string words)
+IsMeantValue class tag contents Value value = IsBlockValue class tag contents value
+IsMeantValue class tag contents Nothing value = ⊥
 
-abbrev pub IsElement : Place → ℕ → Left → Element → Type 0
-IsElement place offset left = IsElementAs (StartsNext left offset place.depth) place offset left.octets.now
+-- what a fault of a piece tells, which stands at the offset of the document
+abbrev pub told_at : ℕ → PieceFault → ToldFault
+told_at offset fault = record {
+  code = option_map (λ t. t.now) fault.code;
+  offset = Some offset;
+  words = string_bytes fault.words;
+}
 
-abbrev pub IsFirstElement : Place → ℕ → List ℕ → Element → Type 0
-IsFirstElement place offset left = IsElementAs (StartsWith left offset place.depth) place offset left
+-- how many octets an encoding with the header has, as far as its contents octets are there, and a piece
+abbrev pub encoding_size : Header → List ℕ → Option ℕ
+encoding_size header contents = if header.is_indefinite then None else Some (header.size + length contents)
+
+abbrev pub kind_size : Kind → Option ℕ
+kind_size (EndOfContents size) = Some size
+kind_size (Unreadable octets) = Some (length octets.now)
+kind_size (Cut header contents) = encoding_size header contents.now
+kind_size (Opened header contents) = encoding_size header contents.now
+kind_size (Leaf header contents meaning) = encoding_size header contents.now
+
+-- what is told of a tag
+abbrev pub IsTagWith : Option (List ℕ) → Option Bool → Data → Option (List ℕ) → Tag → Type 0
+IsTagWith class constructed told kind tag =
+    (option_map (λ t. t.now) tag.class ≡ class) × (tag.constructed ≡ constructed) × (view tag.number ≡ told)
+    × (option_map (λ t. t.now) tag.kind ≡ kind)
+
+abbrev pub IsHeaderTag : Header → Tag → Type 0
+IsHeaderTag header =
+    IsTagWith (Some (class_name header.class)) (Some header.constructed) (natural_json header.tag)
+    (type_name header.class header.tag)
+
+abbrev pub IsTagOf : Kind → Tag → Type 0
+IsTagOf (EndOfContents size) =
+    IsTagWith (Some (codes "universal")) (Some false) (number (unsigned 0)) (Some (codes "end-of-contents"))
+IsTagOf (Unreadable octets) = IsTagWith None None null None
+IsTagOf (Cut header contents) = IsHeaderTag header
+IsTagOf (Opened header contents) = IsHeaderTag header
+IsTagOf (Leaf header contents meaning) = IsHeaderTag header
+
+-- contents octets that mean nothing are told, if they could be read
+abbrev pub wrong_json : Option PieceFault → List ℕ → Data
+wrong_json None contents = null
+wrong_json (Some fault) contents = if is_some fault.code then string (encode_lower contents) else null
+
+-- the value of a primitive encoding
+abbrev pub IsLeafValueOf : Header → List ℕ → Meaning → Option PieceFault → Data → Type 0
+IsLeafValueOf header contents (Text form text) fault value = (words : List ℕ) × (value ≡ string words)
+IsLeafValueOf header contents Value fault value = IsBlockValue header.class header.tag contents value
+IsLeafValueOf header contents Nothing fault value = value ≡ wrong_json fault contents
+
+-- and of a piece
+abbrev pub IsPieceValue : Kind → Option PieceFault → Data → Type 0
+IsPieceValue (EndOfContents size) fault value = value ≡ null
+IsPieceValue (Unreadable octets) fault value = value ≡ string (encode_lower octets.now)
+IsPieceValue (Cut header contents) fault value =
+    value ≡ (if is_gone_into header.class header.constructed header.tag then null
+    else string (encode_lower contents.now))
+IsPieceValue (Opened header contents) fault value =
+    MatchOption fault
+    (IsOpenedValue header.class header.tag contents.now header.is_indefinite value)
+    (λ _. value ≡ null)
+IsPieceValue (Leaf header contents meaning) fault value = IsLeafValueOf header contents.now meaning fault value
+
+-- a piece begins some octets
+abbrev pub IsRead : Piece → Type 0
+IsRead piece = (left : List ℕ) × IsKind left piece.offset piece.kind piece.fault
+
+-- the object is of the piece, which begins the octets
+pub record IsObject (left : List ℕ) (piece : Piece) (object : Object) : Type 0 where
+  pub offset_is : object.offset ≡ piece.place.base + piece.offset
+  pub header_is : object.header ≡ kind_header piece.kind
+  pub depth_is : object.depth ≡ piece.place.depth
+  pub row : (depth : ℕ) (inside : Option Items) → IsRowOf left (front_of depth piece) (row_of object inside)
+  pub marked : is_some object.not_der ≡ is_some piece.mark
+  pub fault_is : option_map fault_told object.fault ≡ option_map (told_at object.offset) piece.fault
+  pub exact : IsExact object
 
 -- the members that every object has, and its beginning
 abbrev pub first_members : Object → List ℕ
@@ -144,10 +159,10 @@ first_members object =
     ++ ((codes ",\"header\":" ++ compact_text (number (unsigned object.header)))
     ++ ((codes ",\"size\":" ++ compact_text (number_or_null object.size))
     ++ ((codes ",\"depth\":" ++ compact_text (number (unsigned object.depth)))
-    ++ ((codes ",\"class\":" ++ compact_text (text_or_null (option_map (λ t. t.now) object.class)))
-    ++ ((codes ",\"constructed\":" ++ compact_text (boolean_or_null object.constructed))
-    ++ ((codes ",\"tag\":" ++ compact_text (view object.tag))
-    ++ ((codes ",\"type\":" ++ compact_text (text_or_null (option_map (λ t. t.now) object.kind)))
+    ++ ((codes ",\"class\":" ++ compact_text (text_or_null (option_map (λ t. t.now) object.tag.class)))
+    ++ ((codes ",\"constructed\":" ++ compact_text (boolean_or_null object.tag.constructed))
+    ++ ((codes ",\"tag\":" ++ compact_text (view object.tag.number))
+    ++ ((codes ",\"type\":" ++ compact_text (text_or_null (option_map (λ t. t.now) object.tag.kind)))
     ++ (codes ",\"value\":" ++ compact_text (view object.value)))))))))
 
 -- a text behind its name, where there is one
@@ -204,13 +219,13 @@ IsRowsLine octets origin found text =
     (rows : List Row) × AreRowsOf octets rows × (found_marks found ≡ marks_of rows)
     × (option_map fault_told found.first ≡ first_fault rows) × (text ≡ rows_text rows origin)
 
--- objects of the octets, if there are any, in contents octets that stand so many octets further on
+-- objects of the octets, if there are any, in contents octets that stand at the offset of the document
 abbrev pub IsNestedJson : Place → ℕ → Option Nested → Option Items → Type 0
 IsNestedJson place offset None inside = inside ≡ None
 IsNestedJson place offset (Some nested) inside =
     (items : Items) × (inside ≡ Some items)
     × ((rows : List Row)
-    × AreRows (AreInside (place.documents - 1)) nested.octets.now (place.base + (offset + nested.before))
+    × AreRows (AreInside (place.documents - 1)) nested.octets.now (offset + nested.before)
     (suc place.depth) rows × (items ≡ items_of row_json rows))
 
 -- the end of an object that has these members after its first

@@ -5,6 +5,8 @@ use asn1_numbers::number::big_int::BigInt;
 use der_lines::header::universal_tag;
 use der_lines::identifier::{identifier_of, number_of};
 use der_lines::names::Names;
+use der_lines::piece::Kind;
+use der_lines::place::Place;
 use der_lines::values::{LEAST_HEX, LEAST_TEXT, is_text};
 use der_values::{Role, address_text, bit_names, general_name};
 use std::alloc::{AllocError, Global};
@@ -18,8 +20,29 @@ pub struct Beside {
     pub shown: Option<String>,
 }
 
-// What is shown of a primitive encoding with the header beside its value.
+// What is shown of a piece that stands at the place.
 pub fn beside_of(
+    alloc: Global,
+    names: &Names,
+    kind: &Kind<'_>,
+    place: Place,
+) -> Result<Beside, AllocError> {
+    match kind {
+        Kind::EndOfContents(_) | Kind::Unreadable(_) => of_shown(None),
+        Kind::Cut(header, contents) => {
+            let there = contents.len();
+            let announced = header.announced;
+            of_shown(Some(format!(in alloc; "truncated: {there} of {announced} bytes")?))
+        }
+        Kind::Opened(header, _) => of_name(role_name(alloc, place.role(header))?),
+        Kind::Leaf(header, contents, _) => {
+            of_contents(alloc, names, header, place.role(header), contents)
+        }
+    }
+}
+
+// So of a primitive encoding with the header.
+fn of_contents(
     alloc: Global,
     names: &Names,
     header: &Header,
@@ -97,7 +120,7 @@ fn names_of_bits(alloc: Global, role: Role, contents: &[u8]) -> Result<Option<St
 }
 
 // The name of a GeneralName.
-pub fn role_name(alloc: Global, role: Role) -> Result<Option<String>, AllocError> {
+fn role_name(alloc: Global, role: Role) -> Result<Option<String>, AllocError> {
     let Role::Name(tag) = role else {
         return Ok(None);
     };

@@ -1,12 +1,12 @@
 // Faults as objects of JSON.
-ghost use Rattle.std.specs.Prelude.{◌≡◌, ◌≢◌, ℕ, List, Some, IfOk, string_bytes};
+ghost use Rattle.std.specs.Prelude.{◌≡◌, ℕ, List, IfOk, string_bytes};
 ghost use Rattle.serde_json.specs.View.{view};
-ghost use Rattle.asn1_headers.specs.Fault.{fault_of, incomplete};
-ghost use Rattle.asn1_headers.specs.declared.error.ASN1DecodeErr.TheVariants.{OutOfMemory};
+ghost use Rattle.asn1_headers.specs.Fault.{fault_of};
 ghost use Rattle.der_json.specs.Json.{fault_json, fault_told, named_fault, words_fault};
+ghost use Rattle.der_json.specs.Rows.{told_at};
 
 use asn1_headers::error::ASN1DecodeErr;
-use der_lines::faults::{fault_words, leaf_words};
+use der_lines::faults;
 use serde_json::{Value, json};
 use std::alloc::{AllocError, Global};
 
@@ -25,52 +25,22 @@ pub struct Fault {
 /// # Errors
 /// Memory ran out, which is also said of that error.
 pub fn fault_at(alloc: Global, offset: usize, error: &ASN1DecodeErr) -> Result<Fault, AllocError>
-    ensures found { IfOk result (λ fault. (words : List ℕ)
-        × (fault_told fault ≡ named_fault offset (fault_of error.now) words)) }
-    ensures other { IfOk result (λ _. error.now ≢ OutOfMemory) }
-{
-    match error {
-        ASN1DecodeErr::OutOfMemory => Err(AllocError),
-        _ => Ok(Fault {
-            code: Some(error.name()),
-            offset: Some(offset),
-            words: fault_words(alloc, error)?,
-        }),
-    }
-}
-
-// That of contents octets of a type of class Universal.
-pub fn leaf_fault(
-    alloc: Global,
-    offset: usize,
-    universal: Option<u8>,
-    contents: &[u8],
-    error: &ASN1DecodeErr,
-) -> Result<Fault, AllocError>
-    ensures found { IfOk result (λ fault. (words : List ℕ)
-        × (fault_told fault ≡ named_fault offset (fault_of error.now) words)) }
-    ensures other { IfOk result (λ _. error.now ≢ OutOfMemory) }
-{
-    match error {
-        ASN1DecodeErr::OutOfMemory => Err(AllocError),
-        _ => Ok(Fault {
-            code: Some(error.name()),
-            offset: Some(offset),
-            words: leaf_words(alloc, universal, contents, error)?,
-        }),
-    }
-}
-
-// That end-of-contents octets are missing at the offset.
-pub fn end_missing(alloc: Global, offset: usize) -> Result<Fault, AllocError>
     ensures { IfOk result (λ fault. (words : List ℕ)
-        × (fault_told fault ≡ named_fault offset incomplete words)) }
+        × (fault_told fault ≡ named_fault offset (fault_of error.now) words)) }
 {
-    Ok(Fault {
-        code: Some("Incomplete"),
+    let fault = faults::fault_at(alloc, offset, error)?;
+    Ok(placed(fault, offset))
+}
+
+// A fault of a piece that stands at the offset of the document.
+pub fn placed(fault: faults::Fault, offset: usize) -> Fault
+    ensures { fault_told result ≡ told_at offset fault }
+{
+    Fault {
+        code: fault.code,
         offset: Some(offset),
-        words: String::from_str(alloc, "end-of-contents is missing (Incomplete)")?,
-    })
+        words: fault.words,
+    }
 }
 
 // A fault in words alone.

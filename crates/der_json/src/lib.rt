@@ -50,11 +50,11 @@
 #![tactic(auto)]
 
 mod beside;
-mod element;
 mod fault;
 mod line;
 mod member;
 mod object;
+mod piece;
 mod rows;
 mod strict;
 mod value;

@@ -11,6 +11,15 @@ use crate::member::{push_member, push_text};
 use serde_json::Value;
 use std::alloc::{AllocError, Global};
 
+// What it tells of a tag: its class, whether the encoding is constructed, its number, and how its type is called.
+#[derive(Drop)]
+pub struct Tag {
+    pub class: Option<&'static str>,
+    pub constructed: Option<bool>,
+    pub number: Value,
+    pub kind: Option<&'static str>,
+}
+
 // What the object of a block tells, but for what stands inside its octets.
 #[derive(Drop)]
 pub struct Object {
@@ -19,10 +28,7 @@ pub struct Object {
     // how many octets it has, as far as they are there, where its length is of the definite form
     pub size: Option<usize>,
     pub depth: usize,
-    pub class: Option<&'static str>,
-    pub constructed: Option<bool>,
-    pub tag: Value,
-    pub kind: Option<&'static str>,
+    pub tag: Tag,
     pub value: Value,
     pub name: Option<String>,
     pub shown: Option<String>,
@@ -40,12 +46,12 @@ impl Object {
         push_member(alloc, b",\"header\":", &Value::from(self.header), out)?;
         push_member(alloc, b",\"size\":", &number_or_null(self.size), out)?;
         push_member(alloc, b",\"depth\":", &Value::from(self.depth), out)?;
-        let class = text_or_null(alloc, self.class)?;
+        let class = text_or_null(alloc, self.tag.class)?;
         push_member(alloc, b",\"class\":", &class, out)?;
-        let constructed = boolean_or_null(self.constructed);
+        let constructed = boolean_or_null(self.tag.constructed);
         push_member(alloc, b",\"constructed\":", &constructed, out)?;
-        push_member(alloc, b",\"tag\":", &self.tag, out)?;
-        let kind = text_or_null(alloc, self.kind)?;
+        push_member(alloc, b",\"tag\":", &self.tag.number, out)?;
+        let kind = text_or_null(alloc, self.tag.kind)?;
         push_member(alloc, b",\"type\":", &kind, out)?;
         push_member(alloc, b",\"value\":", &self.value, out)?;
         Ok(())

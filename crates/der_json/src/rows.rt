@@ -1,21 +1,18 @@
 // The objects of a document, in the order of its lines.
-ghost use Rattle.std.specs.Prelude.{◌≡◌, ◌++◌, ◌+◌, ◌<◌, IfOk, IfSome, OnOk, Option, map, option_map, string_bytes};
-ghost use Rattle.std.specs.Option.{option_to_list};
+ghost use Rattle.std.specs.Prelude.{◌≡◌, ◌++◌, ◌+◌, ◌<◌, IfOk, IfSome, OnOk, Option, option_map, string_bytes};
 ghost use Rattle.serde_json.specs.Data.{Items};
 ghost use Rattle.serde_json.specs.Written.{comma_if, compact_text};
 ghost use Rattle.der_lines.specs.Dump.{Adds};
 ghost use Rattle.der_json.specs.Json.{earlier_of, fault_told, marks_at, row_json};
-ghost use Rattle.der_json.specs.Rows.{IsArray, IsExact, IsNestedJson, blocks_text, row_of};
+ghost use Rattle.der_json.specs.Rows.{IsArray, IsExact, IsNestedJson, blocks_text, found_marks, row_of};
 
-use crate::element::{Element, element_at};
 use crate::fault::{Fault, fault_in_words};
 use crate::object::Object;
-use der_lines::cursor::Cursor;
+use crate::piece::object_of;
 use der_lines::names::Names;
 use der_lines::nested::Nested;
 use der_lines::place::{Place, sum_of};
-use der_lines::strings::{is_in_string, string_around};
-use der_values::Extension;
+use der_lines::walk::Walk;
 use std::alloc::{AllocError, Global};
 
 // What was found in a document: what is not DER, and the first fault.
@@ -23,6 +20,30 @@ use std::alloc::{AllocError, Global};
 pub struct Found {
     pub marks: Vec<Fault>,
     pub first: Option<Fault>,
+}
+
+impl Found {
+    // Keeps what one more object tells.
+    fn keep(&mut self, object: Object) -> Result<(), AllocError>
+        ensures marks { OnOk result (found_marks self.new
+            ≡ found_marks self.old ++ marks_at object.offset (option_map string_bytes object.not_der)) }
+        ensures first { OnOk result (option_map fault_told self.new.first
+            ≡ earlier_of (option_map fault_told self.old.first) (option_map fault_told object.fault)) }
+    {
+        let Object {
+            offset,
+            not_der,
+            fault,
+            ..
+        } = object;
+        if let Some(words) = not_der {
+            self.marks.push(fault_in_words(offset, words))?;
+        }
+        if self.first.is_none() {
+            self.first = fault;
+        }
+        Ok(())
+    }
 }
 
 // Puts the objects of octets, with commas between them, and the end of an array. What was found in them.
@@ -36,56 +57,49 @@ pub fn push_rows(
 ) -> Result<Found, AllocError>
     ensures { IfOk result (λ found. Adds (IsArray place octets.now found) out.old.items out.new.items) }
 {
+    let mut found = Found {
+        marks: Vec::new(alloc),
+        first: None,
+    };
     let mut is_later = false;
-    let mut marks = Vec::new(alloc);
-    let mut first = None;
-    let mut extension = Extension::Other;
-    let mut string = None;
-    let mut cursor = Cursor::over(alloc, octets, false)?;
-    while let Some(left) = cursor.next() {
-        let depth = cursor.depth();
-        let here = place.deeper(depth, extension, is_in_string(string, depth))?;
-        let offset = cursor.offset;
-        let element = element_at(alloc, names, left, offset, here)?;
+    let mut walk = Walk::over(alloc, octets, place)?;
+    while let Some(piece) = walk.next(alloc)? {
+        let (here, nested) = (piece.place, piece.nested);
+        let object = object_of(alloc, names, piece)?;
         push_comma(is_later, out)?;
-        push_object(alloc, names, &element, offset, here, out)?;
-        cursor.go(element.step)?;
-        extension = element.next;
-        string = string_around(string, depth, element.is_string);
-        let (mark, fault) = told_by(element.object);
-        keep_mark(mark, &mut marks)?;
-        first = earlier(first, fault);
+        push_object(alloc, names, &object, nested, here, out)?;
+        found.keep(object)?;
         is_later = true;
     }
     out.push(b']')?;
-    Ok(Found { marks, first })
+    Ok(found)
 }
 
-// Puts the object of what stands at the place, so many octets further on.
+// Puts the object, of a piece at the place, with the blocks inside its contents octets.
 #[cycle(rows)]
 fn push_object(
     alloc: Global,
     names: &Names,
-    element: &Element<'_>,
-    offset: usize,
+    object: &Object,
+    nested: Option<Nested<'_>>,
     place: Place,
     out: &mut Vec<u8>,
 ) -> Result<(), AllocError>
-    requires exact { IsExact element.now.object }
-    requires more { IfSome element.now.nested (λ _. 0 < place.documents) }
+    requires exact { IsExact object.now }
+    requires more { IfSome nested (λ _. 0 < place.documents) }
     ensures { OnOk result ((inside : Option Items)
-        × IsNestedJson place (offset + element.now.object.header) element.now.nested inside
-        × (out.new.items ≡ out.old.items ++ compact_text (row_json (row_of element.now.object inside)))) }
+        × IsNestedJson place (object.now.offset + object.now.header) nested.entry inside
+        × (out.new.items ≡ out.old.items ++ compact_text (row_json (row_of object.now inside)))) }
 {
-    element.object.push_first(alloc, out)?;
-    element.object.push_others(alloc, out)?;
-    let before = sum_of(offset, element.object.header)?;
-    push_nested(alloc, names, element.nested, before, place, out)?;
+    object.push_first(alloc, out)?;
+    object.push_others(alloc, out)?;
+    let before = sum_of(object.offset, object.header)?;
+    push_nested(alloc, names, nested, before, place, out)?;
     out.push(b'}')?;
     Ok(())
 }
 
-// Puts the member of the blocks inside contents octets that stand so many octets further on, if there are any.
+// Puts the member of the blocks inside contents octets, which stand at the offset of the document, if there are any.
 #[cycle(rows)]
 fn push_nested(
     alloc: Global,
@@ -106,46 +120,6 @@ fn push_nested(
     let inside = place.inside(sum_of(offset, nested.before)?)?;
     push_rows(alloc, names, nested.octets, inside, out)?;
     Ok(())
-}
-
-// What is not DER in an encoding, and its fault.
-fn told_by(object: Object) -> (Option<Fault>, Option<Fault>)
-    ensures mark { option_to_list (option_map fault_told result.0)
-        ≡ marks_at object.offset (option_map string_bytes object.not_der) }
-    ensures fault { result.1 ≡ object.fault }
-{
-    let Object {
-        offset,
-        not_der,
-        fault,
-        ..
-    } = object;
-    let mark = match not_der {
-        Some(words) => Some(fault_in_words(offset, words)),
-        None => None,
-    };
-    (mark, fault)
-}
-
-// Keeps what is not DER in an encoding, if anything is.
-fn keep_mark(mark: Option<Fault>, marks: &mut Vec<Fault>) -> Result<(), AllocError>
-    ensures { OnOk result (map fault_told marks.new.items
-        ≡ map fault_told marks.old.items ++ option_to_list (option_map fault_told mark)) }
-{
-    if let Some(mark) = mark {
-        marks.push(mark)?;
-    }
-    Ok(())
-}
-
-// The first of two faults.
-fn earlier(first: Option<Fault>, next: Option<Fault>) -> Option<Fault>
-    ensures { option_map fault_told result ≡ earlier_of (option_map fault_told first) (option_map fault_told next) }
-{
-    match first {
-        Some(fault) => Some(fault),
-        None => next,
-    }
 }
 
 pub fn push_comma(is_later: bool, out: &mut Vec<u8>) -> Result<(), AllocError>

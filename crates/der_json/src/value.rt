@@ -1,5 +1,5 @@
 // Values. None of them is a float.
-ghost use Rattle.std.specs.Prelude.{◌≡◌, List, ℕ, false, true, None, IfOk, IfSome, IsTrue, MatchOption, option_map};
+ghost use Rattle.std.specs.Prelude.{◌≡◌, List, ℕ, false, true, None, IfOk, IfSome, IsTrue, MatchOption};
 ghost use Rattle.hex.specs.Hex.{encode_lower};
 ghost use Rattle.asn1_headers.specs.declared.header.ASN1Class.TheVariants.{Universal};
 ghost use Rattle.asn1_leaves.specs.Contents.Moment.{moment_of};
@@ -9,11 +9,11 @@ ghost use Rattle.serde_json.specs.Data.{string};
 ghost use Rattle.serde_json.specs.View.{view};
 ghost use Rattle.serde_json.specs.Written.{has_float};
 ghost use Rattle.der_lines.specs.Headers.{is_gone_into};
-ghost use Rattle.der_json.specs.Json.{AreShown, HasShortFront, IsIdentifierValue, IsMomentText, IsValue, IsValueOf};
-ghost use Rattle.der_json.specs.Json.{bits_json, fault_told, natural_json, other_value as other_value_is, whole_json};
-ghost use Rattle.der_json.specs.Rows.{IsOtherValue};
+ghost use Rattle.der_lines.specs.declared.leaf.Meaning.TheVariants.{Nothing};
+ghost use Rattle.der_json.specs.Json.{HasShortFront, IsIdentifierValue, IsMomentText, IsValue, IsValueOf};
+ghost use Rattle.der_json.specs.Json.{bits_json, natural_json, other_value as other_value_is, whole_json};
+ghost use Rattle.der_json.specs.Rows.{IsBlockValue, IsMeantValue, IsOtherValue};
 
-use crate::fault::{Fault, leaf_fault};
 use asn1_blocks::block::ASN1Block;
 use asn1_blocks::contents::leaf_block;
 use asn1_blocks::parsed::PlacedHeader;
@@ -23,9 +23,8 @@ use asn1_headers::header::ASN1Class;
 use asn1_leaves::oid::OID;
 use asn1_numbers::number::big_int::BigInt;
 use asn1_numbers::number::big_uint::BigUint;
-use der_lines::header::universal_tag;
-use der_lines::leaf::form_of;
-use der_values::{long_identifier, string_of, text_in_form, value_text};
+use der_lines::leaf::Meaning;
+use der_values::{long_identifier, string_of, value_text};
 use jiff::civil::DateTime;
 use serde_json::{Value, json};
 use std::alloc::{AllocError, Global};
@@ -119,45 +118,38 @@ fn moment_value(alloc: Global, moment: &DateTime) -> Result<Value, AllocError>
     Ok(Value::String(format!(in alloc; "{moment}Z")?))
 }
 
-// What is shown of contents octets: their value, and what is wrong with them, if anything is.
-#[derive(Drop)]
-pub struct Shown {
-    pub value: Value,
-    pub fault: Option<Fault>,
-}
-
-// What is shown of the contents octets of a primitive encoding with the header, which stands at the offset. Of a string
-// that the library takes for UTF-8, though X.690 has other characters, it is these, where the octets are so.
-pub fn contents_shown(
+// The value of contents octets of a primitive encoding with the header that mean something, if they do. Of a string that
+// the library takes for UTF-8, though X.690 has other characters, it is these.
+pub fn meant_value(
     alloc: Global,
     header: &Header,
     contents: &[u8],
-    offset: usize,
-) -> Result<Shown, AllocError>
+    meaning: &Meaning,
+) -> Result<Option<Value>, AllocError>
     requires { is_gone_into header.now.class header.now.constructed header.now.tag ≡ false }
-    ensures told { IfOk result (λ shown. AreShown offset header.now.class header.now.tag contents.now
-        (view shown.value) (option_map fault_told shown.fault)) }
-    ensures exact { IfOk result (λ shown. has_float (view shown.value) ≡ false) }
+    ensures told { IfOk result (λ found. MatchOption found
+        (meaning.now ≡ Nothing)
+        (λ v. IsMeantValue header.now.class header.now.tag contents.now meaning.now (view v))) }
+    ensures exact { IfOk result (λ found. IfSome found (λ v. has_float (view v) ≡ false)) }
 {
-    if let Some(form) = form_of(header, contents) {
-        if let Some(text) = text_in_form(alloc, form, contents)? {
-            return Ok(right(Value::String(text)));
-        }
-    }
-    match leaf_block(alloc, placed(alloc, header, contents)?, contents, 0) {
-        Ok(block) => Ok(right(value_in(alloc, header, contents, &block)?)),
-        Err(ASN1DecodeErr::OutOfMemory) => Err(AllocError),
-        Err(fault) => Ok(Shown {
-            value: octets_value(alloc, contents)?,
-            fault: Some(leaf_fault(alloc, offset, universal_tag(header), contents, &fault)?),
-        }),
+    match meaning {
+        Meaning::Text(_, text) => Ok(Some(text_value(alloc, text)?)),
+        Meaning::Value => Ok(Some(block_value(alloc, header, contents)?)),
+        Meaning::Nothing => Ok(None),
     }
 }
 
-fn right(value: Value) -> Shown
-    ensures { (view result.value ≡ view value) × (result.fault ≡ None) }
+// The value of contents octets that mean a block, or null where something is wrong with them.
+fn block_value(alloc: Global, header: &Header, contents: &[u8]) -> Result<Value, AllocError>
+    requires { is_gone_into header.now.class header.now.constructed header.now.tag ≡ false }
+    ensures told { IfOk result (λ v. IsBlockValue header.now.class header.now.tag contents.now (view v)) }
+    ensures exact { IfOk result (λ v. has_float (view v) ≡ false) }
 {
-    Shown { value, fault: None }
+    match leaf_block(alloc, placed(alloc, header, contents)?, contents, 0) {
+        Ok(block) => value_in(alloc, header, contents, &block),
+        Err(ASN1DecodeErr::OutOfMemory) => Err(AllocError),
+        Err(_) => Ok(Value::Null),
+    }
 }
 
 fn placed(alloc: Global, header: &Header, contents: &[u8]) -> Result<PlacedHeader, AllocError>

@@ -1,67 +1,18 @@
 -- Going over octets by their headers.
-use Rattle.std.proofs.Common.{◌≡◌, inl, inr, ℕ, suc, ◌+◌, ◌-◌, ◌*◌, ◌<◌, ◌≤◌, min, Bool, true, false, List, [], ◌∷◌, ◌++◌}
+use Rattle.std.proofs.Common.{◌≡◌, inl, inr, ℕ, suc, ◌+◌, ◌-◌, ◌<◌, ◌≤◌, min, Bool, true, false, List, [], ◌∷◌, ◌++◌}
 use Rattle.std.proofs.Common.{drop, get_or, length, reverse, slice_range, refl, sym, ap, ◌∙◌, subst, arith}
 use Rattle.std.proofs.lemmas.List.{get_or-reverse, length-drop, length-reverse, length-take}
 use Rattle.std.specs.Prelude.{◌&&◌}
-use Rattle.der_lines.specs.Dump.{AreFronts, Front, IsFirst, IsJudged, all_ended, begins_with_end, cut_short, end_at, end_missing}
-use Rattle.der_lines.specs.Dump.{end_of_contents, ended_by_octets, gone_into, no_header, of_stray_form, one_ended}
-use Rattle.der_lines.specs.Dump.{passed_over, size_in, taken, with_encodings, with_no_value, with_value}
-use Rattle.der_lines.specs.Steps.{Goes, HasLeft, IsAhead, IsLeftOf, StartsNext, Takes, ends_of, none_left, one_left}
+use Rattle.der_lines.specs.Dump.{AreFronts, Front, IsFirst, all_ended, begins_with_end, end_at, end_missing}
+use Rattle.der_lines.specs.Dump.{end_of_contents, ended_by_octets, gone_into, no_header, one_ended}
+use Rattle.der_lines.specs.Dump.{passed_over, size_in, taken}
+use Rattle.der_lines.specs.Steps.{Goes, HasLeft, IsAhead, IsLeftOf, StartsNext, Takes, ends_of, none_left, one_left, to_go}
 use Rattle.der_lines.specs.declared.cursor.Cursor.{Cursor}
 use Rattle.der_lines.specs.declared.cursor.End.{End}
 use Rattle.der_lines.specs.declared.cursor.Left.{Left}
 use Rattle.der_lines.specs.declared.cursor.Step.{Step}
 use Rattle.der_lines.specs.declared.cursor.Step.TheVariants.{Into, Out, Past}
 use Rattle.der_lines.proofs.Seeking.{header_some}
-
--- the same inside so many others
-abbrev pub with_depth : ℕ → Front → Front
-with_depth depth f = record {
-  offset = f.offset;
-  header = f.header;
-  contents = f.contents;
-  indefinite = f.indefinite;
-  depth = depth;
-  words = f.words;
-  marked = f.marked;
-}
-
-judged_again :
-    (depth : ℕ) (left : List ℕ) (f : Front) (c : _) (k : Bool) (t : ℕ) (stray : Bool) (faults : List ℕ) →
-    IsJudged left f c k t stray faults → IsJudged left (with_depth depth f) c k t stray faults
-judged_again depth left f c k t stray faults (cut_short l e) = cut_short l e
-judged_again depth left f c k t stray faults (of_stray_form h e) = of_stray_form h e
-judged_again depth left f c k t stray faults (with_encodings l o n e) = with_encodings l o n e
-judged_again depth left f c k t stray faults (with_value l o n v e) = with_value l o n v e
-judged_again depth left f c k t stray faults (with_no_value l o u fault v e) = with_no_value l o u fault v e
-
-first_again :
-    (offset depth deep : ℕ) (left : List ℕ) (f : Front) (opened : Bool) (faults : List ℕ) →
-    IsFirst left offset depth f opened faults → IsFirst left offset deep (with_depth deep f) opened faults
-first_again offset depth deep left f opened faults h = record {
-  class = h.class;
-  constructed = h.constructed;
-  tag = h.tag;
-  header = h.header;
-  offset_is = h.offset_is;
-  depth_is = refl;
-  words_are = h.words_are;
-  opened_is = h.opened_is;
-  form = h.form;
-  judged = judged_again deep left f h.class h.constructed h.tag _ faults h.judged;
-  marked = h.marked;
-}
-
-pub next_again :
-    (offset depth deep : ℕ) (left : Left) (f : Front) (step : Step) (faults : List ℕ) →
-    StartsNext left offset depth f step faults → StartsNext left offset deep (with_depth deep f) step faults
-next_again offset depth deep left f (Into header size indefinite) faults (e, some, (p, q, i, h)) =
-    (e, some, (p, q, i, first_again offset depth deep left.octets.now f true faults h))
-next_again offset depth deep left f (Past size) faults (e, some, inl (q, h)) =
-    (e, some, inl (q, first_again offset depth deep left.octets.now f false faults h))
-next_again offset depth deep left f (Past size) faults (e, some, inr (q, none, front, is)) =
-    (e, some, inr (q, none, ap (with_depth deep) front, is))
-next_again offset depth deep left f (Out size) faults (within, front, is) = (within, ap (with_depth deep) front, is)
 
 pub ahead_is :
     (n : Cursor) (octets : List ℕ) (offset : ℕ) (ends : List End) (fronts : List Front) (faults : List ℕ) →
@@ -188,10 +139,6 @@ before_end m left at some =
     ap length at.octets_are ∙ length-take (at.end.offset - m.offset) (drop m.offset octets) in
     let d : length (drop m.offset octets) ≡ length octets - m.offset = length-drop m.offset octets in
     omega (arith, l, d, some)
-
--- how far a cursor has still to go at most: twice for octets, since each of them may begin an encoding and leave it
-abbrev pub to_go : Cursor → ℕ
-to_go cursor = 2 * (length cursor.octets.now - cursor.offset) + length cursor.ends.items
 
 pub taken_some : (indefinite : Bool) (n there : ℕ) → 0 < n → 0 < there → 0 < taken indefinite n there
 taken_some true n there some left = left

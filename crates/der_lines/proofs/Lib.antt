@@ -2,7 +2,7 @@ pub mod Cursors
 mod Documents
 pub mod Dumps
 mod Elements
-pub mod Firsts
+pub mod Pieces
 pub mod Fronts
 mod Headers
 mod Seeking

@@ -1,22 +1,16 @@
 -- What is put step by step. Private contracts alone name these.
 use Rattle.std.specs.Prelude.{◌≡◌, ◌⊎◌, ◌&&◌, ℕ, ◌+◌, ◌<◌, Option, Bool, true, false, List, [], ◌∷◌, ◌++◌, drop, length}
-use Rattle.std.specs.Prelude.{⊤, ◌↔◌, ◌≤◌, IsTrue, reverse, slice_range}
+use Rattle.std.specs.Prelude.{⊤, ◌↔◌, ◌≤◌, ◌*◌, ◌-◌, IsTrue, reverse, slice_range}
 use Rattle.std.specs.Prelude.{MatchOption, None, Some}
-use Rattle.asn1_headers.specs.Fault.{DecodeFault}
-use Rattle.asn1_headers.specs.Header.{Encoding}
-use Rattle.asn1_headers.specs.declared.header.ASN1Class.{ASN1Class}
 use Rattle.asn1_headers.specs.declared.header.ASN1Class.TheVariants.{Universal}
-use Rattle.asn1_blocks.specs.Contents.{LeafFault}
-use Rattle.asn1_blocks.specs.Grammar.{Encodes}
-use Rattle.asn1_blocks.specs.Tree.{Tree}
 use Rattle.std.specs.Option.{is_some}
-use Rattle.der_lines.specs.Dump.{AreFronts, AreFrontsOf, Front, IsBlockLine, IsDump, IsFirst, IsInsideLine, IsLater}
+use Rattle.der_lines.specs.Dump.{AreFronts, AreFrontsOf, Front, IsBlockLine, IsDump, IsFirst, IsInsideLine}
 use Rattle.der_lines.specs.Dump.{IsFaultLine, IsLine, IsMarked, marked_offsets, verdict_of}
 use Rattle.der_lines.specs.declared.document.Verdict.{Verdict}
 use Rattle.der_lines.specs.declared.document.Verdict.TheVariants.{Refused}
-use Rattle.der_lines.specs.Dump.{StandsInside, down_to, indentation, is_too_deep, is_wide, right_of, size_in, tag_words}
+use Rattle.der_lines.specs.Dump.{StandsInside, down_to, indentation, is_too_deep, right_of, size_in, tag_words}
 use Rattle.der_lines.specs.Dump.{begins_with_end, contents_column, end_at, end_of_contents}
-use Rattle.der_lines.specs.Dump.{is_stray_form, taken, unreadable}
+use Rattle.der_lines.specs.Dump.{taken, unreadable}
 use Rattle.asn1_headers.specs.Front.{BeginsWithHeader, HasIndefiniteForm, HasNoHeader, IsAtFront}
 use Rattle.der_lines.specs.Segments.{Joins, segment_tag}
 use Rattle.der_lines.specs.Headers.{is_gone_into}
@@ -26,7 +20,6 @@ use Rattle.der_lines.specs.declared.cursor.Left.{Left}
 use Rattle.der_lines.specs.declared.cursor.Step.{Step}
 use Rattle.der_lines.specs.declared.cursor.Step.TheVariants.{Into, Out, Past}
 use Rattle.der_lines.specs.declared.encodings.Found.{Found}
-use Rattle.der_lines.specs.declared.encodings.Passed.{Passed}
 use Rattle.der_lines.specs.declared.faults.Fault.{Fault}
 use Rattle.asn1_headers.specs.declared.front.Header.{Header}
 use Rattle.der_lines.specs.declared.lines.LineStart.{LineStart}
@@ -34,27 +27,6 @@ use Rattle.der_lines.specs.declared.lines.Mark.{Mark}
 use Rattle.der_lines.specs.declared.lines.Mark.TheVariants.{Fault as fault_mark, Object as object_mark}
 use Rattle.der_lines.specs.declared.place.Place.{Place}
 use Rattle.der_io.specs.Characters.{equals_sign, exclamation_mark, space}
-
--- the contents octets of an encoding with these fields have a value
-abbrev pub IsRight : ASN1Class → Bool → ℕ → List ℕ → Type 0
-IsRight class constructed tag contents =
-    (is_wide class tag ≡ true)
-    ⊎ ((octets : List ℕ) (header : ℕ) → Encoding octets class constructed tag contents header
-    → (b : Tree ℕ) × Encodes 0 octets b)
-
--- they have none
-abbrev pub HasNoValue : ASN1Class → ℕ → List ℕ → Type 0
-HasNoValue class tag contents = (class ≡ Universal) × ((fault : DecodeFault) × LeafFault tag contents fault)
-
--- what is told of contents octets: of the encoding with the header that begins the octets, these behind its identifier
--- octets, nothing where it is right
-abbrev pub IsLeafTold : {W : Type 0} → List ℕ → Header → List ℕ → Option W → Type 0
-IsLeafTold left header behind told =
-    MatchOption told
-    ((is_stray_form header.constructed behind ≡ false) × IsRight header.class header.constructed header.tag
-    (slice_range left header.size (header.size + header.announced)))
-    (λ words. (is_stray_form header.constructed behind ≡ true)
-    ⊎ HasNoValue header.class header.tag (slice_range left header.size (header.size + header.announced)))
 
 -- the octet that a line begins with
 abbrev pub mark_of : Mark → ℕ
@@ -117,6 +89,10 @@ outer false most fronts = down_to most fronts
 -- where the contents octets end that are open, the innermost first
 abbrev pub ends_of : Cursor → List End
 ends_of cursor = reverse cursor.ends.items
+
+-- how far a cursor has still to go at most: twice for octets, since each of them may begin an encoding and leave it
+abbrev pub to_go : Cursor → ℕ
+to_go cursor = 2 * (length cursor.octets.now - cursor.offset) + length cursor.ends.items
 
 -- what a cursor has yet to come to
 abbrev pub IsAhead : Cursor → List Front → List ℕ → Type 0
@@ -215,30 +191,6 @@ earlier_fault (Some fault) next = Some fault
 abbrev pub marked_offset : Bool → ℕ → List ℕ
 marked_offset true offset = offset ∷ []
 marked_offset false offset = []
-
--- the line is of the encoding that begins the octets, or of one inside them
-abbrev pub IsNear : ℕ → List ℕ → Front → Front → Type 0
-IsNear base left front later = IsLater base front later ⊎ StandsInside (base + front.offset) left later
-
--- the lines of what stands at the front of octets, which stand at the offset and start so
-pub record IsDumpAs (Starts : Front → Step → List ℕ → Type 0) (place : Place) (offset : ℕ) (left : List ℕ)
-    (passed : Passed) (text : List ℕ) : Type 0 where
-  pub front : Front
-  pub shown : Front
-  pub faults : List ℕ
-  pub starts : Starts front passed.step faults
-  pub same_offset : front.offset ≡ offset
-  pub same_depth : shown.depth ≡ place.depth
-  pub later : IsLater place.base front shown
-  pub told : IsFirstFault faults passed.fault
-  pub same_mark : passed.is_marked ≡ front.marked
-  pub dump : IsDump (IsNear place.base left front) (outer place.is_inside place.most_depth (shown ∷ [])) text
-
-abbrev pub IsFirstDump : Place → ℕ → List ℕ → Passed → List ℕ → Type 0
-IsFirstDump place offset left = IsDumpAs (StartsWith left offset place.depth) place offset left
-
-abbrev pub IsNextDump : Place → ℕ → Left → Passed → List ℕ → Type 0
-IsNextDump place offset left = IsDumpAs (StartsNext left offset place.depth) place offset left.octets.now
 
 -- the lines of octets
 pub record IsWholeDump (place : Place) (octets : List ℕ) (found : Found) (text : List ℕ) : Type 0 where

@@ -1,6 +1,9 @@
 // What is said of faults.
-ghost use Rattle.std.specs.Prelude.{OnOk};
+ghost use Rattle.std.specs.Prelude.{◌≢◌, IfOk, OnOk};
+ghost use Rattle.asn1_headers.specs.Fault.{fault_of};
+ghost use Rattle.asn1_headers.specs.declared.error.ASN1DecodeErr.TheVariants.{OutOfMemory};
 ghost use Rattle.der_lines.specs.Dump.{Adds, IsFaultLine, IsLine};
+ghost use Rattle.der_lines.specs.Pieces.{IsNamed};
 
 use crate::lines::push_fault;
 use crate::scalars::{write_after_space, write_quoted};
@@ -9,11 +12,48 @@ use std::alloc::{AllocError, Global};
 use std::str;
 use std::str::Utf8Error;
 
-// What is wrong, in words, and at which offset.
+// What is wrong, and at which offset: the name of an error, as ASN1DecodeErr::name has it, if it has one, and words.
 #[derive(Drop)]
 pub struct Fault {
     pub offset: usize,
+    pub code: Option<&'static str>,
     pub words: String,
+}
+
+// The fault at the offset.
+pub fn fault_at(alloc: Global, offset: usize, error: &ASN1DecodeErr) -> Result<Fault, AllocError>
+    ensures found { IfOk result (IsNamed offset (fault_of error.now)) }
+    ensures other { IfOk result (λ _. error.now ≢ OutOfMemory) }
+{
+    match error {
+        ASN1DecodeErr::OutOfMemory => Err(AllocError),
+        _ => Ok(Fault {
+            offset,
+            code: Some(error.name()),
+            words: fault_words(alloc, error)?,
+        }),
+    }
+}
+
+// That of contents octets of a type of class Universal.
+pub fn leaf_fault(
+    alloc: Global,
+    offset: usize,
+    universal: Option<u8>,
+    contents: &[u8],
+    error: &ASN1DecodeErr,
+) -> Result<Fault, AllocError>
+    ensures found { IfOk result (IsNamed offset (fault_of error.now)) }
+    ensures other { IfOk result (λ _. error.now ≢ OutOfMemory) }
+{
+    match error {
+        ASN1DecodeErr::OutOfMemory => Err(AllocError),
+        _ => Ok(Fault {
+            offset,
+            code: Some(error.name()),
+            words: leaf_words(alloc, universal, contents, error)?,
+        }),
+    }
 }
 
 /// Puts the line of a fault: its offset, and what it is in words.
@@ -33,7 +73,7 @@ pub fn push_fault_line(
 }
 
 // What is wrong with contents octets of a type of class Universal, in words, and the name of the fault.
-pub fn leaf_words(
+fn leaf_words(
     alloc: Global,
     universal: Option<u8>,
     contents: &[u8],

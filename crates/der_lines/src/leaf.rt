@@ -1,16 +1,16 @@
-// Contents octets of primitive encodings: their values, or what is wrong with them.
-ghost use Rattle.std.specs.Prelude.{◌≡◌, false, true, IfOk, IfSome, IsTrue, MatchOption};
+// Contents octets of primitive encodings: what they mean, or what is wrong with them.
+ghost use Rattle.std.specs.Prelude.{◌≡◌, false, true, None, IfOk, IfSome, MatchOption};
+ghost use Rattle.asn1_headers.specs.Fault.{fault_of};
+ghost use Rattle.asn1_headers.specs.declared.header.ASN1Class.TheVariants.{Universal};
+ghost use Rattle.asn1_blocks.specs.Contents.{LeafFault};
 ghost use Rattle.der_lines.specs.Dump.{is_wide};
 ghost use Rattle.der_lines.specs.Headers.{is_gone_into};
-ghost use Rattle.der_lines.specs.Steps.{HasNoValue, IsRight};
+ghost use Rattle.der_lines.specs.Pieces.{IsMeaning, IsRight};
 
-use crate::faults::leaf_words;
+use crate::faults::{Fault, leaf_fault};
 use crate::header::{has_tag, universal_tag};
-use crate::names::Names;
-use crate::scalars::{write_after_space, write_as};
-use crate::values::{ValueStyle, value_text};
 use asn1_blocks::contents::check_contents;
-use asn1_blocks::parsed;
+use asn1_blocks::parsed::PlacedHeader;
 use asn1_headers::error::ASN1DecodeErr;
 use asn1_headers::front::Header;
 use asn1_headers::header::ASN1Class;
@@ -18,94 +18,111 @@ use der_values::{Characters, text_in_form};
 use std::alloc::{AllocError, Global};
 use std::str;
 
-// What is said of contents octets behind the tag, and what is wrong with them in words, if anything is.
+// What contents octets mean.
 #[derive(Drop)]
-pub struct Value {
-    pub text: String,
-    pub fault: Option<String>,
+pub enum Meaning {
+    // characters of a form that X.690 has, where the library takes the string for UTF-8
+    Text(Characters, String),
+    // a block
+    Value,
+    // nothing, since something is wrong with them
+    Nothing,
 }
 
-// The value of contents octets.
-pub fn read_value(
+// What contents octets mean, and what is wrong with them, if anything is.
+#[derive(Drop)]
+pub struct Read {
+    pub meaning: Meaning,
+    pub fault: Option<Fault>,
+}
+
+// So of the contents octets of a primitive encoding with the header, which stands at the offset.
+pub fn read_contents(
     alloc: Global,
-    names: &Names,
-    header: Header,
+    header: &Header,
     contents: &[u8],
-    style: ValueStyle,
-) -> Result<Value, AllocError>
-    requires { is_gone_into header.class header.constructed header.tag ≡ false }
-    ensures { IfOk result (λ value. MatchOption value.fault
-        (IsRight header.class header.constructed header.tag contents.now)
-        (λ _. HasNoValue header.class header.tag contents.now)) }
+    offset: usize,
+) -> Result<Read, AllocError>
+    requires { is_gone_into header.now.class header.now.constructed header.now.tag ≡ false }
+    ensures { IfOk result (λ read. IsMeaning header.now.class header.now.constructed header.now.tag contents.now
+        offset read.meaning read.fault) }
 {
-    let universal = universal_tag(&header);
-    if let Some(form) = form_of(&header, contents) {
-        let mut text = String::new(alloc);
-        if write_as(alloc, &mut text, form, contents)? {
-            return Ok(Value { text, fault: None });
-        }
+    if let Some((form, text)) = characters_of(alloc, header, contents)? {
+        return Ok(Read {
+            meaning: Meaning::Text(form, text),
+            fault: None,
+        });
     }
-    match check(alloc, header, contents)? {
-        None => {
-            let text = value_text(alloc, names, universal, contents, style)?;
-            Ok(Value { text, fault: None })
-        }
-        Some(fault) => {
-            let words = leaf_words(alloc, universal, contents, &fault)?;
-            let mut text = String::new(alloc);
-            write_after_space(&mut text, contents, style.is_full)?;
-            write!(text, ": {words}")?;
-            Ok(Value {
-                text,
-                fault: Some(words),
-            })
-        }
-    }
+    let Some(error) = check(alloc, header, contents)? else {
+        return Ok(Read {
+            meaning: Meaning::Value,
+            fault: None,
+        });
+    };
+    let fault = leaf_fault(alloc, offset, universal_tag(header), contents, &error)?;
+    Ok(Read {
+        meaning: Meaning::Nothing,
+        fault: Some(fault),
+    })
 }
 
-// Whether contents octets have a value.
-pub fn is_right(alloc: Global, header: Header, contents: &[u8]) -> Result<bool, AllocError>
-    requires { is_gone_into header.class header.constructed header.tag ≡ false }
+// Whether contents octets mean something.
+pub fn is_right(alloc: Global, header: &Header, contents: &[u8]) -> Result<bool, AllocError>
+    requires { is_gone_into header.now.class header.now.constructed header.now.tag ≡ false }
 {
-    if let Some(form) = form_of(&header, contents) {
-        if text_in_form(alloc, form, contents)?.is_some() {
-            return Ok(true);
-        }
-    }
-    Ok(check(alloc, header, contents)?.is_none())
+    Ok(
+        characters_of(alloc, header, contents)?.is_some()
+            || check(alloc, header, contents)?.is_none(),
+    )
 }
 
 // What is wrong with contents octets, if anything is.
 fn check(
     alloc: Global,
-    header: Header,
+    header: &Header,
     contents: &[u8],
 ) -> Result<Option<ASN1DecodeErr>, AllocError>
-    requires { is_gone_into header.class header.constructed header.tag ≡ false }
-    ensures { IfOk result (λ fault. MatchOption fault
-        (IsRight header.class header.constructed header.tag contents.now)
-        (λ _. HasNoValue header.class header.tag contents.now)) }
+    requires { is_gone_into header.now.class header.now.constructed header.now.tag ≡ false }
+    ensures { IfOk result (λ error. MatchOption error
+        (IsRight header.now.class header.now.constructed header.now.tag contents.now)
+        (λ e. (header.now.class ≡ Universal) × LeafFault header.now.tag contents.now (fault_of e))) }
 {
-    let header = parsed::PlacedHeader {
+    let placed = PlacedHeader {
         class: header.class,
         constructed: header.constructed,
-        tag: header.tag,
+        tag: header.tag.clone(alloc)?,
         start: 0,
         end: contents.len(),
     };
-    match check_contents(alloc, &header, contents) {
+    match check_contents(alloc, &placed, contents) {
         Ok(()) => Ok(None),
         Err(ASN1DecodeErr::OutOfMemory) => Err(AllocError),
-        Err(fault) => Ok(Some(fault)),
+        Err(error) => Ok(Some(error)),
     }
 }
 
-// The form of characters of a string that the library takes for UTF-8 where X.690 has others. In a TeletexString they
-// are Latin-1 where they are no UTF-8.
-pub fn form_of(header: &Header, contents: &[u8]) -> Option<Characters>
+// The characters of a string that the library takes for UTF-8 where X.690 has others, and their form, if the octets are
+// so. In a TeletexString they are Latin-1 where they are no UTF-8.
+fn characters_of(
+    alloc: Global,
+    header: &Header,
+    contents: &[u8],
+) -> Result<Option<(Characters, String)>, AllocError>
+    ensures { IfOk result (λ found. IfSome found (λ _. is_wide header.now.class header.now.tag ≡ true)) }
+{
+    let Some(form) = form_of(header, contents) else {
+        return Ok(None);
+    };
+    match text_in_form(alloc, form, contents)? {
+        Some(text) => Ok(Some((form, text))),
+        None => Ok(None),
+    }
+}
+
+fn form_of(header: &Header, contents: &[u8]) -> Option<Characters>
     ensures { IfSome result (λ _. is_wide header.now.class header.now.tag ≡ true) }
 {
-    if !matches!(header.class, ASN1Class::Universal) {
+    if contents.is_empty() || !matches!(header.class, ASN1Class::Universal) {
         return None;
     }
     if has_tag(&header.tag, 20) && str::from_utf8(contents).is_err() {

@@ -22,7 +22,7 @@
 //! [`push_label`] and [`push_refusal`] put the other lines of what is written: `=` and the label of a document, `!` and
 //! why there is none. [`block_at`] finds a block by its offset, and [`behind_header`] its contents octets.
 //!
-//! The modules are for `der_json`, which goes the same way over encodings, and says of them what lines say.
+//! The modules are for `der_json`, which goes over the same pieces, and says of them what lines say.
 //!
 //! The only error is that memory ran out; what was pushed before it stays.
 #![tactic(auto)]
@@ -40,12 +40,14 @@ pub mod marks;
 pub mod names;
 pub mod nested;
 mod notes;
+pub mod piece;
 pub mod place;
 mod scalars;
 mod seek;
 pub mod strings;
 mod style;
 pub mod values;
+pub mod walk;
 
 pub use document::{Verdict, push_document, push_strict_document};
 pub use element::behind_header;

@@ -24,8 +24,8 @@ pub fn nested_in<'a>(
     contents: &'a [u8],
     place: Place,
 ) -> Result<Option<Nested<'a>>, AllocError>
-    ensures stand { IfOk result (λ nested. IfSome nested (λ h. StandAt contents.now h.before h.octets.now)) }
-    ensures fewer { IfOk result (λ nested. IfSome nested (λ _. 0 < place.documents)) }
+    ensures { IfOk result (λ nested. IfSome nested (λ n.
+        (0 < place.documents) × StandAt contents.now n.before n.octets.now)) }
 {
     if !place.shows_inside() {
         return Ok(None);
@@ -121,7 +121,7 @@ fn kind_with(alloc: Global, octets: &[u8], header: Header, kind: Kind) -> Result
         return Ok(kind);
     }
     let contents = &octets[header.size..header.size + header.announced];
-    if is_right(alloc, header, contents)? {
+    if is_right(alloc, &header, contents)? {
         Ok(Kind::Values)
     } else {
         Ok(Kind::Unlikely)

@@ -92,17 +92,18 @@ impl Place {
         })
     }
 
-    // That of octets inside a string which stands here, so many octets further on. One document fewer is shown in them.
-    pub fn inside(self, before: usize) -> Result<Place, AllocError>
+    // That of octets inside a string which stands here; these stand at the offset of the document. One document fewer is
+    // shown in them.
+    pub fn inside(self, offset: usize) -> Result<Place, AllocError>
         requires { 0 < self.documents }
         ensures inside { IfOk result (λ p. p.is_inside ≡ true) }
-        ensures base { IfOk result (λ p. p.base ≡ self.base + before) }
+        ensures base { IfOk result (λ p. p.base ≡ offset) }
         ensures depth { IfOk result (λ p. p.depth ≡ suc self.depth) }
         ensures fewer { IfOk result (λ p. self.documents ≡ suc p.documents) }
     {
         Ok(Place {
             is_inside: true,
-            base: sum_of(self.base, before)?,
+            base: offset,
             depth: sum_of(self.depth, 1)?,
             documents: self.documents - 1,
             extension: self.next,

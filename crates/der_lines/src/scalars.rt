@@ -1,7 +1,7 @@
 // Octets, characters and numbers.
 use der_io::push_escaped;
-use der_values::{Characters, text_in_form};
-use std::alloc::{AllocError, Global};
+use der_values::Characters;
+use std::alloc::AllocError;
 
 // How many octets are written at most where not all are; of longer ones the first of them, and how many there are.
 const MOST_OCTETS: usize = 32;
@@ -40,24 +40,12 @@ pub fn write_quoted(out: &mut String, text: &str) -> Result<(), AllocError> {
     out.push_str("\"")
 }
 
-// Puts the name of the form and the octets as characters at the end, if they are at least one. Whether that was done.
-pub fn write_as(
-    alloc: Global,
-    out: &mut String,
-    form: Characters,
-    octets: &[u8],
-) -> Result<bool, AllocError> {
-    if octets.is_empty() {
-        return Ok(false);
-    }
-    let Some(text) = text_in_form(alloc, form, octets)? else {
-        return Ok(false);
-    };
+// Puts the name of the form and the characters at the end.
+pub fn write_as(out: &mut String, form: Characters, text: &str) -> Result<(), AllocError> {
     out.push_str(" (as ")?;
     out.push_str(form_name(form))?;
     out.push_str(") ")?;
-    write_quoted(out, &text)?;
-    Ok(true)
+    write_quoted(out, text)
 }
 
 fn form_name(form: Characters) -> &'static str {

@@ -1,16 +1,16 @@
 // Constructed strings, which hold their octets in segments.
-ghost use Rattle.std.specs.Prelude.{◌≡◌, ◌+◌, ◌≤◌, IfOk, IfSome, length, true};
-ghost use Rattle.asn1_headers.specs.Front.{IsAtFront};
+ghost use Rattle.std.specs.Prelude.{◌≡◌, IfOk, IfSome, false, true};
 ghost use Rattle.asn1_headers.specs.declared.header.ASN1Class.TheVariants.{Universal};
+ghost use Rattle.der_lines.specs.Headers.{is_gone_into};
 ghost use Rattle.der_lines.specs.Segments.{AreSegmentsOf, Joins, JoinsBits, segment_tag as segment_tag_is};
 ghost use Rattle.der_lines.specs.Steps.{IsSegment};
 
 use crate::cursor::{Cursor, Left, Step};
 use crate::header::{has_tag, holds_encodings, is_universal, size_of, universal_tag, whole_header};
-use crate::leaf::read_value;
+use crate::leaf::{Meaning, Read, read_contents};
 use crate::names::Names;
 use crate::place::Place;
-use crate::values::ValueStyle;
+use crate::values::{ValueStyle, read_text};
 use asn1_headers::front::Header;
 use asn1_headers::header::ASN1Class;
 use asn1_numbers::number::big_uint::BigUint;
@@ -55,18 +55,43 @@ pub fn is_in_string(string: Option<usize>, depth: usize) -> bool {
     }
 }
 
-// The value of the whole encoding that begins the octets, as it stands behind a tag: of a string that is constructed,
+// The value of a whole encoding with these contents octets, as it stands behind a tag: of a string that is constructed,
 // if its segments are well-formed. A string that is itself a segment has none: else segments in segments would be
 // joined again and again.
 pub fn joined_value(
     alloc: Global,
     names: &Names,
-    left: &[u8],
     header: &Header,
+    contents: &[u8],
     place: Place,
-) -> Result<Option<String>, AllocError>
-    requires front { IsAtFront left.now header.now }
-    requires whole { header.now.size + header.now.announced ≤ length left.now }
+) -> Result<Option<String>, AllocError> {
+    let Some((header, joined)) = joined_string(alloc, header, contents, place)? else {
+        return Ok(None);
+    };
+    let Read { meaning, .. } = read_contents(alloc, &header, &joined, 0)?;
+    let style = ValueStyle {
+        is_opened: false,
+        is_full: place.is_full,
+        role: Role::Plain,
+    };
+    match meaning {
+        Meaning::Nothing => Ok(None),
+        meaning => Ok(Some(read_text(alloc, names, &header, &joined, &meaning, style)?)),
+    }
+}
+
+// The header and the contents octets of a string in one piece, where these are the contents octets of one that is
+// constructed.
+pub fn joined_string(
+    alloc: Global,
+    header: &Header,
+    contents: &[u8],
+    place: Place,
+) -> Result<Option<(Header, Vec<u8>)>, AllocError>
+    ensures { IfOk result (λ found. IfSome found (λ f.
+        (header.now.class ≡ Universal) × (f.0.class ≡ Universal) × (f.0.tag ≡ header.now.tag)
+        × (f.0.constructed ≡ false) × (is_gone_into f.0.class f.0.constructed f.0.tag ≡ false)
+        × AreSegmentsOf header.now.tag contents.now header.now.is_indefinite f.1.items)) }
 {
     if place.is_segment {
         return Ok(None);
@@ -74,22 +99,10 @@ pub fn joined_value(
     let Some(tag) = string_tag(header) else {
         return Ok(None);
     };
-    let contents = &left[header.size..size_of(left, header)];
-    match joined_segments(alloc, tag, contents, header.is_indefinite)? {
-        Some(joined) => value_of_joined(alloc, names, tag, &joined, place),
-        None => Ok(None),
-    }
-}
-
-// The value of a string with the tag, if the octets have one.
-fn value_of_joined(
-    alloc: Global,
-    names: &Names,
-    tag: u8,
-    joined: &[u8],
-    place: Place,
-) -> Result<Option<String>, AllocError> {
-    let header = Header {
+    let Some(joined) = joined_segments(alloc, tag, contents, header.is_indefinite)? else {
+        return Ok(None);
+    };
+    let whole = Header {
         class: ASN1Class::Universal,
         constructed: false,
         tag: BigUint::from_u64(alloc, u64::from(tag))?,
@@ -97,19 +110,10 @@ fn value_of_joined(
         announced: joined.len(),
         is_indefinite: false,
     };
-    if holds_encodings(&header) {
+    if holds_encodings(&whole) {
         return Ok(None);
     }
-    let style = ValueStyle {
-        is_opened: false,
-        is_full: place.is_full,
-        role: Role::Plain,
-    };
-    let value = read_value(alloc, names, header, joined, style)?;
-    if value.fault.is_some() {
-        return Ok(None);
-    }
-    Ok(Some(value.text))
+    Ok(Some((whole, joined)))
 }
 
 // The contents octets of a string with the tag, if what it holds are well-formed segments.

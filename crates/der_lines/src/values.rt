@@ -3,10 +3,11 @@ ghost use Rattle.std.specs.Prelude.{◌≡◌, IfOk, option_map, string_bytes};
 ghost use Rattle.der_lines.specs.Dump.{tag_number as tag_number_is, tag_words as tag_words_are};
 ghost use Rattle.asn1_headers.specs.Names.{type_name as type_name_is};
 
-use crate::header::universal_tag;
+use crate::header::{holds_encodings, universal_tag};
 use crate::identifier::{identifier_of, number_of};
+use crate::leaf::Meaning;
 use crate::names::Names;
-use crate::scalars::{write_after_space, write_hex, write_quoted};
+use crate::scalars::{write_after_space, write_as, write_hex, write_quoted};
 use asn1_headers::error::ASN1DecodeErr;
 use asn1_headers::front::Header;
 use asn1_headers::header::ASN1Class;
@@ -91,6 +92,41 @@ pub fn opened_text(
     Ok(said)
 }
 
+// What is said of an encoding that is cut short: how many of the contents octets are there that it announces, and which,
+// if they are no encodings.
+pub fn cut_text(
+    alloc: Global,
+    header: &Header,
+    contents: &[u8],
+    is_full: bool,
+) -> Result<String, AllocError> {
+    let there = contents.len();
+    let announced = header.announced;
+    let mut said = format!(in alloc; " (truncated: {there} of {announced} bytes)")?;
+    if !holds_encodings(header) && there > 0 {
+        said.push_str(":")?;
+        write_after_space(&mut said, contents, is_full)?;
+    }
+    Ok(said)
+}
+
+// What contents octets mean, behind the tag.
+pub fn read_text(
+    alloc: Global,
+    names: &Names,
+    header: &Header,
+    contents: &[u8],
+    meaning: &Meaning,
+    style: ValueStyle,
+) -> Result<String, AllocError> {
+    let Meaning::Text(form, text) = meaning else {
+        return value_text(alloc, names, universal_tag(header), contents, style);
+    };
+    let mut said = String::new(alloc);
+    write_as(&mut said, *form, text)?;
+    Ok(said)
+}
+
 // The name of a GeneralName.
 fn write_role(out: &mut String, role: Role) -> Result<(), AllocError> {
     if let Role::Name(tag) = role {
@@ -103,7 +139,7 @@ fn write_role(out: &mut String, role: Role) -> Result<(), AllocError> {
 }
 
 // The value of contents octets, behind the tag.
-pub fn value_text(
+fn value_text(
     alloc: Global,
     names: &Names,
     universal: Option<u8>,

@@ -1,6 +1,5 @@
-use Rattle.std.proofs.Common.{◌+◌, ◌*◌, map, option_map}
-use Rattle.der_lines.proofs.Cursors.{to_go}
-use Rattle.der_json.specs.Json.{fault_told}
+use Rattle.std.proofs.Common.{◌+◌, ◌*◌}
+use Rattle.der_lines.specs.Steps.{to_go}
 use Rattle.der_json.proofs.Walk.{RowsTo}
 use Rattle.der_json.proofs.rows.+rows.Given as goal
 
@@ -13,10 +12,9 @@ decreases-push_object l = 3 * l.place.documents + 1
 abbrev pub decreases-push_rows : goal.decreases-push_rows
 decreases-push_rows l = 3 * l.place.documents + 2
 
--- the objects of what stands before the cursor were put
-abbrev pub invariant-push_rows-loop-left : goal.invariant-push_rows-loop-left
-invariant-push_rows-loop-left l = RowsTo l.place l.octets l.cursor l.is_later (map fault_told l.marks.items)
-    (option_map fault_told l.first) l.fn.out.items l.out.items
+-- the objects of the pieces before the walk were put
+abbrev pub invariant-push_rows-loop-walk : goal.invariant-push_rows-loop-walk
+invariant-push_rows-loop-walk l = RowsTo l.fn.place l.fn.octets l.walk l.is_later l.found l.fn.out.items l.out.items
 
-abbrev pub decreases-push_rows-loop-left : goal.decreases-push_rows-loop-left
-decreases-push_rows-loop-left l = to_go l.cursor
+abbrev pub decreases-push_rows-loop-walk : goal.decreases-push_rows-loop-walk
+decreases-push_rows-loop-walk l = to_go l.walk.cursor

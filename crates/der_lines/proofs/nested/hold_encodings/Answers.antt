@@ -1,6 +1,7 @@
 use Rattle.std.proofs.Common.{◌<◌, ◌≤◌, arith}
 use Rattle.der_lines.specs.Steps.{Takes}
-use Rattle.der_lines.proofs.Cursors.{left_less, step_less, to_go}
+use Rattle.der_lines.specs.Steps.{to_go}
+use Rattle.der_lines.proofs.Cursors.{left_less, step_less}
 use Rattle.der_lines.proofs.nested.hold_encodings.Goals as goal
 
 pub loop-left-smaller : goal.loop-left-smaller

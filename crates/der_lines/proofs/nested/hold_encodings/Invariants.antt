@@ -1,4 +1,4 @@
-use Rattle.der_lines.proofs.Cursors.{to_go}
+use Rattle.der_lines.specs.Steps.{to_go}
 use Rattle.der_lines.proofs.nested.hold_encodings.Given as goal
 
 abbrev pub decreases-loop-left : goal.decreases-loop-left

@@ -1,7 +1,8 @@
 use Rattle.std.proofs.Common.{◌<◌, ◌≤◌, arith, refl}
 use Rattle.der_lines.specs.Segments.{no_more}
 use Rattle.der_lines.specs.Steps.{IsSegment}
-use Rattle.der_lines.proofs.Cursors.{left_less, step_less, to_go}
+use Rattle.der_lines.specs.Steps.{to_go}
+use Rattle.der_lines.proofs.Cursors.{left_less, step_less}
 use Rattle.der_lines.proofs.Segments.{segment_goes, segment_takes, segments_back}
 use Rattle.der_lines.proofs.strings.joined_segments.Goals as goal
 

@@ -1,6 +1,6 @@
 use Rattle.std.proofs.Common.{ℕ, List}
 use Rattle.der_lines.specs.Segments.{AreSegmentsOf}
-use Rattle.der_lines.proofs.Cursors.{to_go}
+use Rattle.der_lines.specs.Steps.{to_go}
 use Rattle.der_lines.proofs.Segments.{AreLeft}
 use Rattle.der_lines.proofs.strings.joined_segments.Given as goal
 

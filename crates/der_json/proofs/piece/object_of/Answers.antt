@@ -1,0 +1,20 @@
+use Rattle.std.proofs.Common.{refl}
+use Rattle.std.specs.Option.{is_some}
+use Rattle.der_json.proofs.Pieces.{row_is}
+use Rattle.der_json.proofs.piece.object_of.Goals as goal
+
+pub returns : goal.returns
+returns c = λ left kind.
+    let piece = c.args.piece in
+    let value = c.in_ok-value_of.ensures in
+    let tag = c.in_ok-tag_of.ensures in
+    record {
+      offset_is = c.in_ok-offset.ensures;
+      header_is = c.header_size.ensures;
+      depth_is = refl;
+      row = λ depth inside. row_is left piece.offset depth (is_some piece.mark) _ inside piece.fault c.placed_if.ensures
+          piece.kind c.in_ok-size_of.ensures tag.told value.told kind;
+      marked = refl;
+      fault_is = c.placed_if.ensures;
+      exact = (tag.exact, value.exact);
+    }

@@ -1,0 +1,204 @@
+-- What was read of the piece that begins octets.
+use Rattle.std.proofs.Common.{◌≡◌, inl, inr, ℕ, ◌+◌, ◌-◌, ◌<◌, ◌≤◌, Bool, true, false, List, [], ◌∷◌, ◌++◌}
+use Rattle.std.proofs.Common.{drop, length, take, slice_range, refl, sym, ap, ◌∙◌, subst, append_assoc, arith}
+use Rattle.std.proofs.Math.Seq.{take-add}
+use Rattle.std.proofs.lemmas.List.{length-drop, length-take-le, take-append-drop}
+use Rattle.std.specs.Prelude.{◌↔◌, ◌&&◌, IsTrue, Option, None, Some}
+use Rattle.asn1_headers.specs.Fault.{DecodeFault}
+use Rattle.asn1_headers.specs.Front.{BeginsWithHeader, HasIndefiniteForm, IsAtFront}
+use Rattle.asn1_headers.specs.Header.{Encoding, IsLength}
+use Rattle.asn1_headers.specs.declared.front.Header.{Header}
+use Rattle.asn1_headers.specs.declared.header.ASN1Class.{ASN1Class}
+use Rattle.der_lines.specs.Dump.{Adds, IsDump, IsFirst, IsJudged, StandAt, StandsInside, begins_with_end, cut_short}
+use Rattle.der_lines.specs.Dump.{is_stray_form, of_cut, of_stray_form, taken, with_encodings, with_no_value, with_value}
+use Rattle.der_lines.specs.Headers.{is_gone_into}
+use Rattle.der_lines.specs.Pieces.{IsFault, IsFirstPiece, IsLeafMeaning, IsMeaning, IsNamed, IsNameless, IsOpenedFault}
+use Rattle.der_lines.specs.Pieces.{IsPiece, fault_offset, front_of}
+use Rattle.der_lines.specs.Steps.{IsMarkedFirst, IsTaken, IsWholeDump, StartsNext, StartsWith, header_front, outer}
+use Rattle.der_lines.specs.Dump.{Front}
+use Rattle.der_lines.specs.declared.cursor.Left.{Left}
+use Rattle.der_lines.specs.declared.cursor.Step.{Step}
+use Rattle.der_lines.specs.declared.cursor.Step.TheVariants.{Into, Out, Past}
+use Rattle.der_lines.specs.declared.encodings.Found.{Found}
+use Rattle.der_lines.specs.declared.faults.Fault.{Fault}
+use Rattle.der_lines.specs.declared.leaf.Meaning.{Meaning}
+use Rattle.der_lines.specs.declared.leaf.Meaning.TheVariants.{Nothing, Text, Value}
+use Rattle.der_lines.specs.declared.piece.Piece.{Piece}
+use Rattle.der_lines.specs.declared.place.Place.{Place}
+use Rattle.der_lines.proofs.Dumps.{dump_map, inside_deeper}
+use Rattle.der_lines.proofs.Seeking.{header_size}
+
+pub starts_next :
+    (left : Left) (offset depth : ℕ) (front : Front) (step : Step) (faults : List ℕ) →
+    (left.is_indefinite && begins_with_end left.octets.now) ≡ false → 0 < length left.octets.now →
+    StartsWith left.octets.now offset depth front step faults → StartsNext left offset depth front step faults
+starts_next left offset depth front (Into header size indefinite) faults e some starts = (e, some, starts)
+starts_next left offset depth front (Past size) faults e some starts = (e, some, starts)
+starts_next left offset depth front (Out size) faults e some starts = absurd starts
+
+-- an encoding, where no end-of-contents octets end what is left
+pub next_piece :
+    (left : Left) (offset : ℕ) (place : Place) (piece : Piece) →
+    (left.is_indefinite && begins_with_end left.octets.now) ≡ false → 0 < length left.octets.now →
+    IsFirstPiece left.octets.now offset place piece → IsPiece left offset place piece
+next_piece left offset place piece e some p = record {
+  starts = λ depth. starts_next left offset depth (front_of depth piece) piece.step (fault_offset piece.fault) e some (p.starts depth);
+  kind = p.kind;
+  offset_is = p.offset_is;
+  place_is = p.place_is;
+  holding = p.holding;
+}
+
+-- where a fault stands
+fault_at :
+    (Is : Fault → Type 0) (offset : ℕ) (fault : Option Fault) → ((f : Fault) → Is f → f.offset ≡ offset) →
+    IsFault Is fault → fault_offset fault ≡ offset ∷ []
+fault_at Is offset None turn none = absurd none
+fault_at Is offset (Some fault) turn is = ap (λ z. z ∷ []) (turn fault is)
+
+pub named_at : (offset : ℕ) (found : DecodeFault) (fault : Option Fault) → IsFault (IsNamed offset found) fault
+    → fault_offset fault ≡ offset ∷ []
+named_at offset found fault = fault_at (IsNamed offset found) offset fault (λ f is. is.0)
+
+pub nameless_at : (offset : ℕ) (fault : Option Fault) → IsFault (IsNameless offset) fault → fault_offset fault ≡ offset ∷ []
+nameless_at offset fault = fault_at (IsNameless offset) offset fault (λ f is. is.0)
+
+-- the encoding with the header that begins the octets is judged so
+abbrev pub IsJudgedAs : (left : List ℕ) → ℕ → ℕ → Bool → (header : Header) → IsAtFront left header → List ℕ → Type 0
+IsJudgedAs left offset depth marked header h faults =
+    IsJudged left (header_front offset depth marked header) header.class header.constructed header.tag
+    (is_stray_form header.constructed (drop (length h.identifier) left)) faults
+
+begins :
+    (left : List ℕ) (offset depth : ℕ) (marked : Bool) (header : Header) (opened : Bool) (faults : List ℕ)
+    (h : IsAtFront left header) → opened ≡ is_gone_into header.class header.constructed header.tag →
+    IsTrue header.is_indefinite ↔ HasIndefiniteForm left → IsJudgedAs left offset depth marked header h faults →
+    IsMarkedFirst left header marked → IsFirst left offset depth (header_front offset depth marked header) opened faults
+begins left offset depth marked header opened faults h o form judged m = record {
+  class = header.class;
+  constructed = header.constructed;
+  tag = header.tag;
+  header = h;
+  offset_is = refl;
+  depth_is = refl;
+  words_are = refl;
+  opened_is = o;
+  form = form;
+  judged = judged;
+  marked = m h;
+}
+
+taken_cut : (indefinite : Bool) (n there : ℕ) → there < n → there ≡ taken indefinite n there
+taken_cut true n there less = refl
+taken_cut false n there less = omega (arith, less)
+
+-- an encoding that is cut short
+pub cut_starts :
+    (left : List ℕ) (offset depth : ℕ) (header : Header) (step : Step) (faults : List ℕ) → IsAtFront left header →
+    length left < header.size + header.announced → IsTrue header.is_indefinite ↔ HasIndefiniteForm left →
+    IsTaken header (length left) step → faults ≡ offset ∷ [] →
+    StartsWith left offset depth (header_front offset depth false header) step faults
+cut_starts left offset depth header (Into first all indefinite) faults h l form (o, p, q, i) e = (
+  p,
+  q ∙ taken_cut header.is_indefinite (header.size + header.announced) (length left) l,
+  i,
+  begins left offset depth false header true faults h (sym o) form (cut_short l e) (λ f. of_cut l refl),
+)
+cut_starts left offset depth header (Past all) faults h l form (o, q) e =
+    inl (
+      q ∙ taken_cut header.is_indefinite (header.size + header.announced) (length left) l,
+      begins left offset depth false header false faults h (sym o) form (cut_short l e) (λ f. of_cut l refl),
+    )
+cut_starts left offset depth header (Out all) faults h l form none e = absurd none
+
+-- one that is whole
+pub whole_starts :
+    (left : List ℕ) (offset depth : ℕ) (marked : Bool) (header : Header) (size : ℕ) (step : Step) (faults : List ℕ)
+    (h : IsAtFront left header) → IsTrue header.is_indefinite ↔ HasIndefiniteForm left →
+    IsJudgedAs left offset depth marked header h faults → IsMarkedFirst left header marked → IsTaken header size step →
+    size ≡ taken header.is_indefinite (header.size + header.announced) (length left) →
+    StartsWith left offset depth (header_front offset depth marked header) step faults
+whole_starts left offset depth marked header size (Into first all indefinite) faults h form judged m (o, p, q, i) is =
+    (p, q ∙ is, i, begins left offset depth marked header true faults h (sym o) form judged m)
+whole_starts left offset depth marked header size (Past all) faults h form judged m (o, q) is =
+    inl (q ∙ is, begins left offset depth marked header false faults h (sym o) form judged m)
+whole_starts left offset depth marked header size (Out all) faults h form judged m none is = absurd none
+
+-- the octets of a whole encoding
+pub front_encoding :
+    (left contents : List ℕ) (s n : ℕ) (c : ASN1Class) (k : Bool) (t : ℕ) → BeginsWithHeader left s n c k t →
+    s + n ≤ length left → contents ≡ slice_range left s (s + n) → Encoding (take (s + n) left) c k t contents s
+front_encoding left contents s n c k t h l e =
+    let m : s + n - s ≡ n = omega arith in
+    let cut : contents ≡ take n (drop s left) = e ∙ ap (λ z. take z (drop s left)) m in
+    let d : length (drop s left) ≡ length left - s = length-drop s left in
+    let size : length contents ≡ n = ap length cut ∙ length-take-le n (drop s left) (omega (arith, d, l)) in
+    record {
+      identifier = h.identifier;
+      len = h.len;
+      identifier_octets = h.fields;
+      length_octets = subst (IsLength h.len) (sym size) h.length_octets;
+      whole = take-add s n left
+          ∙ (ap (λ z. z ++ take n (drop s left)) h.front_is
+          ∙ (append_assoc h.identifier h.len (take n (drop s left)) ∙ ap (λ z. h.identifier ++ (h.len ++ z)) (sym cut)));
+      size = header_size left s n c k t h;
+    }
+
+-- what is wrong with an encoding that is gone into
+pub opened_judged :
+    (left : List ℕ) (offset depth : ℕ) (marked : Bool) (header : Header) (fault : Option Fault)
+    (h : IsAtFront left header) → header.size + header.announced ≤ length left →
+    is_gone_into header.class header.constructed header.tag ≡ true →
+    IsOpenedFault (is_stray_form header.constructed (drop (length h.identifier) left)) offset fault →
+    IsJudgedAs left offset depth marked header h (fault_offset fault)
+opened_judged left offset depth marked header fault h l o (inl (stray, is)) =
+    of_stray_form stray (nameless_at offset fault is)
+opened_judged left offset depth marked header fault h l o (inr (stray, none)) =
+    with_encodings l o stray (ap fault_offset none)
+
+meaning_judged :
+    (left : List ℕ) (offset depth : ℕ) (marked : Bool) (header : Header) (meaning : Meaning) (fault : Option Fault)
+    (h : IsAtFront left header) → header.size + header.announced ≤ length left →
+    is_gone_into header.class header.constructed header.tag ≡ false →
+    is_stray_form header.constructed (drop (length h.identifier) left) ≡ false →
+    IsMeaning header.class header.constructed header.tag
+    (slice_range left header.size (header.size + header.announced)) offset meaning fault →
+    IsJudgedAs left offset depth marked header h (fault_offset fault)
+meaning_judged left offset depth marked header (Text form text) fault h l o stray (wide, none) =
+    with_value l o stray (inl wide) (ap fault_offset none)
+meaning_judged left offset depth marked header Value fault h l o stray (right, none) =
+    with_value l o stray
+    (inr (right (take (header.size + header.announced) left) header.size
+    (front_encoding left (slice_range left header.size (header.size + header.announced)) header.size header.announced
+    header.class header.constructed header.tag h l refl)))
+    (ap fault_offset none)
+meaning_judged left offset depth marked header Nothing fault h l o stray (u, (found, wrong, is)) =
+    with_no_value l o u found wrong (named_at offset found fault is)
+
+-- and with one that is not
+pub leaf_judged :
+    (left : List ℕ) (offset depth : ℕ) (marked : Bool) (header : Header) (meaning : Meaning) (fault : Option Fault)
+    (h : IsAtFront left header) → header.size + header.announced ≤ length left →
+    is_gone_into header.class header.constructed header.tag ≡ false →
+    IsLeafMeaning left header (drop (length h.identifier) left) offset meaning fault →
+    IsJudgedAs left offset depth marked header h (fault_offset fault)
+leaf_judged left offset depth marked header meaning fault h l o (inl (stray, nothing, is)) =
+    of_stray_form stray (nameless_at offset fault is)
+leaf_judged left offset depth marked header meaning fault h l o (inr (stray, is)) =
+    meaning_judged left offset depth marked header meaning fault h l o stray is
+
+pub slice_whole : (xs : List ℕ) (s e : ℕ) → slice_range xs s e ++ drop (e - s) (drop s xs) ≡ drop s xs
+slice_whole xs s e = take-append-drop (e - s) (drop s xs)
+
+-- the lines of encodings inside contents octets
+pub nested_adds :
+    (inside : Place) (contents octets : List ℕ) (base before : ℕ) (told : Found) (a b : List ℕ) → StandAt contents before octets →
+    inside.is_inside ≡ true → inside.base ≡ base + before → Adds (IsWholeDump inside octets told) a b →
+    Adds (IsDump (StandsInside base contents) []) a b
+nested_adds inside contents octets base before told a b stand is_inside further (text, e, put) = (
+  text,
+  e,
+  dump_map (StandsInside inside.base octets) (StandsInside base contents)
+      (λ p s. inside_deeper contents octets base before inside.base p stand further s) [] text
+      (subst (λ z. IsDump (StandsInside inside.base octets) (outer z inside.most_depth put.fronts) text) is_inside put.dump),
+)
