@@ -2,7 +2,7 @@
 use Rattle.std.proofs.Common.{ℕ, List, ◌++◌, length, refl, sym, ◌∙◌, append_assoc}
 use Rattle.std.specs.Prelude.{Some}
 use Rattle.der_inputs.specs.Findings.{IsBlockAt}
-use Rattle.der_lines.specs.Elements.{HasNoContents, IsElement, end_octets, of_definite_form, of_definite_length}
+use Rattle.der_lines.specs.Elements.{HasNoContents, IsElement, of_definite_form, of_definite_length}
 use Rattle.der_lines.specs.Elements.{of_indefinite_form, of_indefinite_length}
 use Rattle.der_lines.specs.Headers.{StandsBehindHeader}
 use Rattle.der_lines.specs.Seek.{BeginsIn, begins_first, begins_further}

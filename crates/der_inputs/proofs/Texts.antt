@@ -9,12 +9,9 @@ use Rattle.der_lines.specs.Dump.{Adds}
 use Rattle.der_inputs.specs.Findings.{Finding}
 use Rattle.der_inputs.specs.Outcomes.{all_read, both_read}
 use Rattle.der_inputs.specs.Texts.{AreTexts}
-use Rattle.der_lines.proofs.Dumps.{adds_both, adds_none}
+use Rattle.der_lines.proofs.Dumps.{adds_both}
 use Rattle.der_lines.specs.declared.document.Verdict.{Verdict}
 use Rattle.der_lines.specs.declared.document.Verdict.TheVariants.{AllRead}
-
-pub after_two : (a b c first second : List ℕ) → b ≡ a ++ first → c ≡ b ++ second → c ≡ a ++ (first ++ second)
-after_two a b c first second e f = f ∙ (ap (λ z. z ++ second) e ∙ append_assoc a first second)
 
 module _ {A B : Type 0} (Is : A → B → List ℕ → Type 0) where
   -- the text of one more
@@ -31,9 +28,6 @@ module _ {A B : Type 0} (Is : A → B → List ℕ → Type 0) where
   )
   one_text_more [] (v ∷ vs) x last text own h is = absurd h
   one_text_more (y ∷ ys) [] x last text own h is = absurd h
-
-  pub no_texts : (a : List ℕ) → Adds (AreTexts Is [] []) a a
-  no_texts a = adds_none (AreTexts Is [] []) a refl
 
   pub one_more :
       (xs : List A) (came : List B) (x : A) (last : B) (a b c : List ℕ) → Adds (AreTexts Is xs came) a b →

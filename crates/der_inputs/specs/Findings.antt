@@ -1,6 +1,6 @@
 -- What is found in an input: its documents and what is wrong with its form, in order; and the block that begins at an
 -- offset.
-use Rattle.std.specs.Prelude.{◌≡◌, ◌⊎◌, ℕ, List, [], ◌∷◌, ◌++◌, Option, Some, None}
+use Rattle.std.specs.Prelude.{◌≡◌, ◌⊎◌, ℕ, List, [], ◌∷◌, Option, Some, None}
 use Rattle.std.specs.List.{flat_map}
 use Rattle.der_forms.specs.Forms.{InputForm, form_is, objects, odd_digits, other_text, plain_octets, spelled}
 use Rattle.der_forms.specs.Objects.{Object, document_of, objects_of}

@@ -1,6 +1,6 @@
 -- What the object of a piece tells.
 use Rattle.std.proofs.Common.{◌≡◌, ◌⊎◌, inl, inr, ℕ, ◌+◌, ◌-◌, ◌≤◌, Bool, true, false, List, drop, length, min, take}
-use Rattle.std.proofs.Common.{slice_range, refl, sym, ap, arith, ◌∙◌, rules, subst}
+use Rattle.std.proofs.Common.{slice_range, refl, sym, ap, arith, ◌∙◌, subst}
 use Rattle.std.proofs.lemmas.Bool.{false≢true}
 use Rattle.std.proofs.lemmas.List.{length-drop, length-take-le}
 use Rattle.std.specs.Prelude.{IfSome, MatchOption, Option, None, Some, option_map, if◌then◌else◌, string_bytes}
@@ -20,7 +20,6 @@ use Rattle.asn1_blocks.proofs.OneReading.{encodes_block}
 use Rattle.hex.specs.Hex.{encode_lower}
 use Rattle.serde_json.specs.Data.{Data, Items, null, string}
 use Rattle.serde_json.specs.View.{view}
-use Rattle.serde_json.specs.declared.value.Value.{Null, the_lemmas}
 use Rattle.der_lines.specs.Dump.{is_stray_form, taken}
 use Rattle.der_lines.specs.Headers.{is_gone_into}
 use Rattle.der_lines.specs.Steps.{header_front}
@@ -39,9 +38,6 @@ use Rattle.der_json.specs.Json.{with_no_value, with_value, words_fault}
 use Rattle.der_json.specs.Rows.{IsHeaderTag, IsLeafValueOf, IsMeantValue, IsPieceValue, IsTagOf, kind_size}
 use Rattle.der_json.specs.Rows.{row_of, told_at, wrong_json}
 use Rattle.der_json.specs.declared.object.Object.{Object}
-
-pub null_is : view Null ≡ null
-null_is = search (rules, the_lemmas)
 
 pub primitive_of : (class : ASN1Class) (constructed : Bool) (tag : ℕ) → is_gone_into class constructed tag ≡ false → constructed ≡ false
 primitive_of class true tag e = absurd (false≢true (sym e))

@@ -2,7 +2,7 @@
 use Rattle.std.proofs.Common.{◌≡◌, inl, inr, ℕ, ◌+◌, ◌-◌, ◌<◌, ◌≤◌, Bool, true, false, List, [], ◌∷◌, ◌++◌}
 use Rattle.std.proofs.Common.{drop, length, take, slice_range, refl, sym, ap, ◌∙◌, subst, append_assoc, arith}
 use Rattle.std.proofs.Math.Seq.{take-add}
-use Rattle.std.proofs.lemmas.List.{length-drop, length-take-le, take-append-drop}
+use Rattle.std.proofs.lemmas.List.{length-drop, length-take-le}
 use Rattle.std.specs.Prelude.{◌↔◌, ◌&&◌, IsTrue, Option, None, Some}
 use Rattle.asn1_headers.specs.Fault.{DecodeFault}
 use Rattle.asn1_headers.specs.Front.{BeginsWithHeader, HasIndefiniteForm, IsAtFront}
@@ -186,9 +186,6 @@ leaf_judged left offset depth marked header meaning fault h l o (inl (stray, not
     of_stray_form stray (nameless_at offset fault is)
 leaf_judged left offset depth marked header meaning fault h l o (inr (stray, is)) =
     meaning_judged left offset depth marked header meaning fault h l o stray is
-
-pub slice_whole : (xs : List ℕ) (s e : ℕ) → slice_range xs s e ++ drop (e - s) (drop s xs) ≡ drop s xs
-slice_whole xs s e = take-append-drop (e - s) (drop s xs)
 
 -- the lines of encodings inside contents octets
 pub nested_adds :

@@ -7,13 +7,12 @@ use Rattle.asn1_headers.specs.declared.header.ASN1Class.TheVariants.{Universal}
 use Rattle.std.specs.Prelude.{◌↔◌, IsTrue}
 use Rattle.der_lines.specs.Dump.{begins_with_end, end_at, taken}
 use Rattle.der_lines.specs.Segments.{AreSegments, Joins, constructed_one, ended_by_octets, one_ended, primitive_one, segment_tag}
-use Rattle.der_lines.specs.Steps.{Goes, HasLeft, IsLeftOf, IsSegment, IsTaken, Takes, ends_of, none_left, one_left}
+use Rattle.der_lines.specs.Steps.{Goes, HasLeft, IsLeftOf, IsSegment, Takes, ends_of, none_left, one_left}
 use Rattle.der_lines.specs.declared.cursor.Cursor.{Cursor}
 use Rattle.der_lines.specs.declared.cursor.End.{End}
 use Rattle.der_lines.specs.declared.cursor.Left.{Left}
 use Rattle.der_lines.specs.declared.cursor.Step.{Step}
 use Rattle.der_lines.specs.declared.cursor.Step.TheVariants.{Into, Out, Past}
-use Rattle.der_lines.proofs.Cursors.{taken_some}
 use Rattle.der_lines.proofs.Seeking.{header_some}
 
 -- segments that a cursor has yet to come to
@@ -67,21 +66,6 @@ segment_goes tag m n left (Out size) before between after at (within, begins, tw
     (subst (λ z. begins_with_end z ≡ true) at.octets_are begins)
     (subst (λ z. AreSegments tag m.octets.now (m.offset + 2) at.around z after) same
     (segments_are tag n m.octets.now (m.offset + 2) at.around between after o x (ends ∙ ap (drop 1) at.ends_are) later))
-
--- a header has octets
-pub header_takes :
-    (left : Left) (header : Header) (size : ℕ) (step : Step) → IsAtFront left.octets.now header →
-    header.size + header.announced ≤ length left.octets.now →
-    size ≡ taken header.is_indefinite (header.size + header.announced) (length left.octets.now) →
-    IsTaken header size step → Takes step left
-header_takes left header size (Into first all indefinite) front whole is (opened, p, q, i) =
-    let some = header_some left.octets.now header.size header.announced header.class header.constructed header.tag front in
-    (omega (arith, p, some), omega (arith, whole, some))
-header_takes left header size (Past all) front whole is (opened, q) =
-    let some = header_some left.octets.now header.size header.announced header.class header.constructed header.tag front in
-    let t = taken_some header.is_indefinite (header.size + header.announced) (length left.octets.now) (omega (arith, some)) (omega (arith, whole, some)) in
-    (omega (arith, q, is, t), omega (arith, whole, some))
-header_takes left header size (Out all) front whole is none = absurd none
 
 pub segment_takes :
     (tag : ℕ) (left : Left) (step : Step) (before after : List ℕ) → IsSegment tag left step before after → Takes step left
