@@ -1,8 +1,6 @@
--- What the crates below push after a text, they push after none.
-use Rattle.std.proofs.Common.{◌≡◌, ℕ, List, [], Bool, true, false, refl, sym, subst}
-use Rattle.std.specs.List.{flat_map}
+-- What the crates below push, as inputs have it.
+use Rattle.std.proofs.Common.{◌≡◌, ℕ, List, Bool, true, false, sym, subst}
 use Rattle.serde_json.specs.Data.{Members}
-use Rattle.der_html.specs.Page.{Shows, written}
 use Rattle.der_io.specs.Characters.{equals_sign}
 use Rattle.der_io.specs.Escaped.{escaped}
 use Rattle.der_inputs.specs.Forms.{IsTitle}
@@ -10,14 +8,6 @@ use Rattle.der_inputs.specs.Json.{IsOctetsJson, is_all_read}
 use Rattle.der_json.specs.Json.{IsJsonOf, IsStrictJsonOf}
 use Rattle.der_lines.specs.Dump.{Adds, IsLine, IsNote}
 use Rattle.der_lines.specs.declared.document.Verdict.{Verdict}
-
--- a page
-pub shows_pushed : (lines : List (List ℕ)) (octets a b : List ℕ) → Shows lines octets a b → Adds (Shows lines octets []) a b
-shows_pushed lines octets a b h = (
-  flat_map written h.pieces,
-  h.after_is,
-  record { pieces = h.pieces; lines_are = h.lines_are; octets_are = h.octets_are; after_is = refl },
-)
 
 -- the line of a name
 pub title_pushed :
