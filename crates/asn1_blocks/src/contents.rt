@@ -113,26 +113,52 @@ pub fn check_contents(
     }
 }
 
-// Whether contents octets of class Universal mean a leaf, where their tag is that of one. Where no less work tells, the
-// leaf is read.
+// Whether contents octets of class Universal mean a leaf, where their tag is that of one.
 fn check_leaf(alloc: Global, tag: &BigUint, contents: &[u8]) -> Result<(), ASN1DecodeErr>
     ensures found { OnOk result (IsNoLeafOrMeant tag.now contents.now) }
     ensures refused { IfErr result (OutOfMemoryOr (LeafFault tag.now contents.now)) }
 {
-    if let Some(form) = string_form(tag) {
-        return text::check(form, contents);
-    }
     match tag.to_u64() {
+        Some(1) => {
+            boolean::read(contents)?;
+            Ok(())
+        }
         Some(2) => Ok(()),
         Some(3) => bit_string::check(contents),
         Some(4) => Ok(()),
+        Some(5) => Ok(()),
         Some(6) => oid::check(alloc, contents),
-        _ => {
-            let leaf = universal_leaf(alloc, tag, contents, 0)?;
-            drop(leaf);
+        Some(23) => {
+            utc_time::read(alloc, contents)?;
             Ok(())
         }
+        Some(24) => {
+            generalized_time::read(alloc, contents)?;
+            Ok(())
+        }
+        _ => check_other(alloc, tag, contents),
     }
+}
+
+// So with any other tag. What is neither a string nor has an arm above is read.
+fn check_other(alloc: Global, tag: &BigUint, contents: &[u8]) -> Result<(), ASN1DecodeErr>
+    ensures found { OnOk result (IsNoLeafOrMeant tag.now contents.now) }
+    ensures refused { IfErr result (OutOfMemoryOr (LeafFault tag.now contents.now)) }
+{
+    match string_form(tag) {
+        Some(form) => text::check(form, contents),
+        None => check_by_reading(alloc, tag, contents),
+    }
+}
+
+#[inline(never)]
+fn check_by_reading(alloc: Global, tag: &BigUint, contents: &[u8]) -> Result<(), ASN1DecodeErr>
+    ensures found { OnOk result (IsNoLeafOrMeant tag.now contents.now) }
+    ensures refused { IfErr result (OutOfMemoryOr (LeafFault tag.now contents.now)) }
+{
+    let leaf = universal_leaf(alloc, tag, contents, 0)?;
+    drop(leaf);
+    Ok(())
 }
 
 // The form of the string with the tag, if it is that of one.

@@ -1,0 +1,23 @@
+use Rattle.std.proofs.Common.{◌≡◌, ℕ, false, List, Option, Some, None, inl, inr}
+use Rattle.std.specs.Prelude.{MatchOption}
+use Rattle.asn1_blocks.specs.declared.block.ASN1Block.{ASN1Block}
+use Rattle.asn1_blocks.specs.Contents.{is_leaf_tag}
+use Rattle.asn1_blocks.specs.Inner.LeafBlocks.{IsLeafOf, IsNoLeafOrMeant}
+use Rattle.asn1_blocks.specs.Tree.{Tree, explicit, group, leaf, unknown}
+use Rattle.asn1_blocks.specs.View.{view}
+use Rattle.asn1_blocks.proofs.contents.check_by_reading.Goals as goal
+
+-- a leaf that was read is meant
+read_found : (tag : ℕ) (contents : List ℕ) (b : Tree ℕ) → IsLeafOf 0 tag contents b → IsNoLeafOrMeant tag contents
+read_found tag contents (leaf o l) m = inr (l, m.1, m.2)
+read_found tag contents (group o g bs) m = absurd m
+read_found tag contents (explicit c o n b) m = absurd m
+read_found tag contents (unknown c k o n v) m = absurd m
+
+option_found : (tag : ℕ) (contents : List ℕ) (found : Option ASN1Block)
+    → MatchOption found (is_leaf_tag tag ≡ false) (λ b. IsLeafOf 0 tag contents (view b)) → IsNoLeafOrMeant tag contents
+option_found tag contents None none = inl none
+option_found tag contents (Some b) m = read_found tag contents (view b) m
+
+pub returns-clause-found : goal.returns-clause-found
+returns-clause-found c = option_found c.args.tag.now c.args.contents.now c.in_ok-leaf.leaf c.in_ok-leaf.ensures.found
