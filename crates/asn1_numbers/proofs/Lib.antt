@@ -5,6 +5,7 @@ pub mod FixedOctets
 pub mod SignedNumbers
 pub mod FittingNumbers
 pub mod Decimals
+pub mod Limbs
 pub mod Numerals
 pub mod SignedNumerals
 pub mod ReadNumerals
