@@ -26,7 +26,9 @@ use crate::parsed::PlacedHeader;
 use asn1_headers::error::{ASN1DecodeErr, ASN1EncodeErr};
 use asn1_headers::header::ASN1Class;
 use asn1_leaves::contents::text::TextForm;
-use asn1_leaves::contents::{bit_string, boolean, generalized_time, integer, text, utc_time};
+use asn1_leaves::contents::{
+    bit_string, boolean, generalized_time, integer, object_identifier, text, utc_time,
+};
 use asn1_leaves::oid;
 use asn1_numbers::number::big_uint::BigUint;
 use asn1_numbers::sink::Sink;
@@ -34,6 +36,7 @@ use jiff::civil::DateTime;
 use std::alloc::{AllocError, Global};
 
 // The block of an encoding whose contents are not read as blocks.
+#[inline(always)]
 pub fn leaf_block(
     alloc: Global,
     header: PlacedHeader,
@@ -57,6 +60,7 @@ pub fn leaf_block(
 }
 
 // The leaf that contents octets of class Universal mean, where their tag is that of one.
+#[inline(always)]
 fn universal_leaf(
     alloc: Global,
     tag: &BigUint,
@@ -95,6 +99,7 @@ fn universal_leaf(
 }
 
 // Whether the contents octets of an encoding that are not read as blocks are those of a block, of which none is made.
+#[inline(always)]
 pub fn check_contents(
     alloc: Global,
     header: &PlacedHeader,
@@ -114,62 +119,59 @@ pub fn check_contents(
 }
 
 // Whether contents octets of class Universal mean a leaf, where their tag is that of one.
+#[inline(always)]
 fn check_leaf(alloc: Global, tag: &BigUint, contents: &[u8]) -> Result<(), ASN1DecodeErr>
     ensures found { OnOk result (IsNoLeafOrMeant tag.now contents.now) }
     ensures refused { IfErr result (OutOfMemoryOr (LeafFault tag.now contents.now)) }
 {
     match tag.to_u64() {
-        Some(1) => {
-            boolean::read(contents)?;
-            Ok(())
+        Some(tag) => {
+            if are_meant(tag, contents) {
+                Ok(())
+            } else {
+                check_by_reading(alloc, tag, contents)
+            }
         }
-        Some(2) => Ok(()),
-        Some(3) => bit_string::check(contents),
-        Some(4) => Ok(()),
-        Some(5) => Ok(()),
-        Some(6) => oid::check(alloc, contents),
-        Some(23) => {
-            utc_time::read(alloc, contents)?;
-            Ok(())
-        }
-        Some(24) => {
-            generalized_time::read(alloc, contents)?;
-            Ok(())
-        }
-        _ => check_other(alloc, tag, contents),
+        None => Ok(()),
     }
 }
 
-// So with any other tag. What is neither a string nor has an arm above is read.
-fn check_other(alloc: Global, tag: &BigUint, contents: &[u8]) -> Result<(), ASN1DecodeErr>
-    ensures found { OnOk result (IsNoLeafOrMeant tag.now contents.now) }
-    ensures refused { IfErr result (OutOfMemoryOr (LeafFault tag.now contents.now)) }
+// The same with a tag of this number, without a fault.
+#[inline(always)]
+fn are_meant(tag: u64, contents: &[u8]) -> bool
+    ensures { IsTrue result → IsNoLeafOrMeant tag contents.now }
 {
-    match string_form(tag) {
-        Some(form) => text::check(form, contents),
-        None => check_by_reading(alloc, tag, contents),
+    match tag {
+        1 => boolean::are_meant(contents),
+        2 => true,
+        3 => bit_string::are_meant(contents),
+        4 => true,
+        5 => true,
+        6 => object_identifier::are_meant(contents),
+        12 => text::are_meant(TextForm::Utf8, contents),
+        19 => text::are_meant(TextForm::Printable, contents),
+        20 => text::are_meant(TextForm::Utf8, contents),
+        22 => true,
+        23 => utc_time::are_meant(contents),
+        24 => generalized_time::are_meant(contents),
+        28 => text::are_meant(TextForm::Utf8, contents),
+        30 => text::are_meant(TextForm::Utf8, contents),
+        _ => true,
     }
 }
 
+// Reads contents octets, to say why they mean no leaf. It takes the number of the tag, so that no tag is put in memory
+// only to be lent.
+#[cold]
 #[inline(never)]
-fn check_by_reading(alloc: Global, tag: &BigUint, contents: &[u8]) -> Result<(), ASN1DecodeErr>
-    ensures found { OnOk result (IsNoLeafOrMeant tag.now contents.now) }
-    ensures refused { IfErr result (OutOfMemoryOr (LeafFault tag.now contents.now)) }
+fn check_by_reading(alloc: Global, tag: u64, contents: &[u8]) -> Result<(), ASN1DecodeErr>
+    ensures found { OnOk result (IsNoLeafOrMeant tag contents.now) }
+    ensures refused { IfErr result (OutOfMemoryOr (LeafFault tag contents.now)) }
 {
-    let leaf = universal_leaf(alloc, tag, contents, 0)?;
+    let tag = BigUint::from_u64(alloc, tag)?;
+    let leaf = universal_leaf(alloc, &tag, contents, 0)?;
     drop(leaf);
     Ok(())
-}
-
-// The form of the string with the tag, if it is that of one.
-fn string_form(tag: &BigUint) -> Option<TextForm>
-    ensures { IfSome result (λ form.
-        (kind : StringKind) × (tag.now ≡ string_tag kind) × (form ≡ text_form kind)) }
-{
-    match tag.to_u64() {
-        Some(tag) => form_of(tag),
-        None => None,
-    }
 }
 
 fn unknown_block(

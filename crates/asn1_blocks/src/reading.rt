@@ -140,6 +140,9 @@ pub enum Turn {
     Stop,
 }
 
+// Room for so many frames is made at once: few documents have more that stand in one another.
+const RESERVED: usize = 8;
+
 // Reads a document: gives the builder back, and the document's items.
 pub fn read_into<B: Builder>(
     alloc: Global,
@@ -166,6 +169,9 @@ pub fn read_into<B: Builder>(
             offset: 0,
         });
     }
+    let Ok(outer) = Vec::with_capacity(alloc, RESERVED) else {
+        return Err(out_of_memory(0));
+    };
     let mut reader = Reader {
         inner: OpenFrame {
             extent: Extent {
@@ -175,7 +181,7 @@ pub fn read_into<B: Builder>(
             },
             items,
         },
-        outer: Vec::new(alloc),
+        outer,
         index: 0,
         builder,
         fault: ASN1DecodeErr::OutOfMemory,

@@ -1,28 +1,5 @@
 -- Subidentifiers, one after another.
-use Rattle.std.proofs.Common.{
-  ◌≡◌,
-  ℕ,
-  ◌<◌,
-  ◌≤◌,
-  ◌⊎◌,
-  inl,
-  inr,
-  List,
-  [],
-  ◌∷◌,
-  ◌++◌,
-  length,
-  take,
-  refl,
-  sym,
-  ap,
-  ◌∙◌,
-  subst,
-  arith,
-  length-append,
-  append_assoc,
-  append-nil,
-}
+use Rattle.std.proofs.Common.{◌≡◌, ℕ, ◌-◌, ◌<◌, ◌≤◌, inl, inr, List, [], ◌∷◌, ◌++◌, length, get_or, take, refl, sym, ap, ◌∙◌, subst, arith, length-append, append_assoc, append-nil, sub-one}
 use Rattle.std.specs.List.{flat_map}
 use Rattle.std.proofs.lemmas.Bool.{cases_lt}
 use Rattle.std.proofs.lemmas.List.{take_at}
@@ -111,24 +88,42 @@ first_of_none : (b : ℕ) (octets : List ℕ) → ((ns : List ℕ) → Subidenti
 first_of_none b octets none high [] s = omega (arith, ap length s)
 first_of_none b octets none high (m ∷ ms) s = still_none b octets s.0 s.1 ms high none s.2 s.3.continued s.4
 
--- octets are subidentifiers of some numbers, or of none
-pub subidentifiers_decided : (octets : List ℕ) → ((ns : List ℕ) × Subidentifiers ns octets) ⊎ ((ns : List ℕ) → Subidentifiers ns octets → ⊥)
-subidentifiers_decided [] = inl ([], refl)
-subidentifiers_decided (b ∷ octets) = by_rest (subidentifiers_decided octets) (cases_lt b 128)
-  where
-    by_rest : ((ns : List ℕ) × Subidentifiers ns octets) ⊎ ((ns : List ℕ) → Subidentifiers ns octets → ⊥) → (b < 128) ⊎ (128 ≤ b)
-        → ((ns : List ℕ) × Subidentifiers ns (b ∷ octets)) ⊎ ((ns : List ℕ) → Subidentifiers ns (b ∷ octets) → ⊥)
-    by_rest (inl (ns, s)) (inl low) =
-        inl (low_bits_number (b ∷ []) ∷ ns, (b ∷ [], octets, refl, record { continued = low; value = refl }, s))
-    by_rest (inr none) (inl low) =
-        inr (none_after (b ∷ []) octets (low_bits_number (b ∷ [])) (record { continued = low; value = refl }) none (b ∷ octets) refl)
-    by_rest (inl ([], s)) (inr high) = inr (first_unfinished b octets s high)
-    by_rest (inl (n ∷ ns, s)) (inr high) =
-        inl (
-          low_bits_number (b ∷ s.0) ∷ ns,
-          (b ∷ s.0, s.1, ap (λ z. b ∷ z) s.2, record { continued = continued_more b s.0 high s.3.continued; value = refl }, s.4),
-        )
-    by_rest (inr none) (inr high) = inr (first_of_none b octets none high)
+-- one before octets that are subidentifiers makes others, where there are octets
+more_before : (b c : ℕ) (octets : List ℕ) → (ns : List ℕ) × Subidentifiers ns (c ∷ octets)
+    → (ns : List ℕ) × Subidentifiers ns (b ∷ c ∷ octets)
+more_before b c octets ([], s) = absurd (omega (arith, ap length s))
+more_before b c octets (n ∷ ns, s) = elim (cases_lt b 128) [
+  | inl low ↦ (low_bits_number (b ∷ []) ∷ n ∷ ns, (b ∷ [], c ∷ octets, refl, record { continued = low; value = refl }, s))
+  | inr high ↦ (
+    low_bits_number (b ∷ s.0) ∷ ns,
+    (b ∷ s.0, s.1, ap (λ z. b ∷ z) s.2, record { continued = continued_more b s.0 high s.3.continued; value = refl }, s.4),
+  )
+]
+
+none_before : (b : ℕ) (octets : List ℕ) → ((ns : List ℕ) → Subidentifiers ns octets → ⊥) → (ns : List ℕ)
+    → Subidentifiers ns (b ∷ octets) → ⊥
+none_before b octets none = elim (cases_lt b 128) [
+  | inl low ↦ none_after (b ∷ []) octets (low_bits_number (b ∷ [])) (record { continued = low; value = refl }) none (b ∷ octets) refl
+  | inr high ↦ first_of_none b octets none high
+]
+
+-- the last octet, after one more
+last_after : (b c : ℕ) (octets : List ℕ)
+    → get_or (b ∷ c ∷ octets) (length (b ∷ c ∷ octets) - 1) 0 ≡ get_or (c ∷ octets) (length (c ∷ octets) - 1) 0
+last_after b c octets = simp sub-one
+
+-- octets are subidentifiers of some numbers, where the last ends one
+pub subidentifiers_ended : (octets : List ℕ) → get_or octets (length octets - 1) 0 < 128 → (ns : List ℕ) × Subidentifiers ns octets
+subidentifiers_ended [] low = ([], refl)
+subidentifiers_ended (b ∷ []) low = (low_bits_number (b ∷ []) ∷ [], (b ∷ [], [], refl, record { continued = low; value = refl }, refl))
+subidentifiers_ended (b ∷ c ∷ octets) low = more_before b c octets (subidentifiers_ended (c ∷ octets) (omega (arith, low, last_after b c octets)))
+
+-- and of none, where it does not
+pub subidentifiers_unended : (octets : List ℕ) → 128 ≤ get_or octets (length octets - 1) 0 → (ns : List ℕ) → Subidentifiers ns octets → ⊥
+subidentifiers_unended [] high ns s = omega (arith, high)
+subidentifiers_unended (b ∷ []) high ns s = first_unfinished b [] refl high ns s
+subidentifiers_unended (b ∷ c ∷ octets) high ns s =
+    none_before b (c ∷ octets) (subidentifiers_unended (c ∷ octets) (omega (arith, high, last_after b c octets))) ns s
 
 -- the shortest forms are subidentifiers
 pub subidentifiers_shortest : (ns : List ℕ) → Subidentifiers ns (flat_map shortest_base128 ns)

@@ -243,18 +243,6 @@ pub fn read(alloc: Global, contents: &[u8]) -> Result<OID, ASN1DecodeErr>
     Ok(OID::new(object_identifier::read(alloc, contents)?))
 }
 
-// Whether contents octets mean components. Those in which each subidentifier has its shortest form take no memory.
-pub fn check(alloc: Global, contents: &[u8]) -> Result<(), ASN1DecodeErr>
-    ensures found { OnOk result ((ns : List ℕ) × ObjectIdentifierContents ns contents.now) }
-    ensures refused { IfErr result (OutOfMemoryOr (ObjectIdentifierFault contents.now)) }
-{
-    if object_identifier::are_shortest(contents) {
-        return Ok(());
-    }
-    object_identifier::read(alloc, contents)?;
-    Ok(())
-}
-
 // The number of contents octets that are written.
 pub fn size(oid: &OID) -> Result<usize, ASN1EncodeErr>
     ensures size { IfOk result (λ n. n ≡ length (object_identifier_contents oid.now)) }

@@ -6,10 +6,13 @@ use Rattle.std.proofs.Common.{
   ◌*◌,
   ◌-◌,
   ◌<◌,
+  ◌≤◌,
   ◌⊎◌,
   List,
   [],
   ◌∷◌,
+  length,
+  get_or,
   None,
   inl,
   inr,
@@ -34,7 +37,7 @@ use Rattle.asn1_leaves.specs.Contents.ObjectIdentifier.{
   object_identifier_write_fault,
 }
 use Rattle.asn1_headers.specs.Fault.{DecodeFault, IsOfReading, incomplete}
-use Rattle.asn1_leaves.proofs.Subidentifiers.{subidentifiers_alone, subidentifiers_decided, subidentifiers_shortest}
+use Rattle.asn1_leaves.proofs.Subidentifiers.{subidentifiers_alone, subidentifiers_ended, subidentifiers_shortest, subidentifiers_unended}
 
 -- the first two components of a number
 first_alone : (v w x y n : ℕ) → AreFirstTwo v w n → AreFirstTwo x y n → (v ≡ x) × (w ≡ y)
@@ -92,13 +95,25 @@ no_octets [] p = p
 no_octets (x ∷ []) p = p
 no_octets (x ∷ y ∷ ns) (c, rest, e, f, s) = cc
 
+-- one octet, and after it the last ends a subidentifier
+pub object_identifier_ended : (b : ℕ) (octets : List ℕ) → get_or octets (length octets - 1) 0 < 128
+    → (ns : List ℕ) × ObjectIdentifierContents ns (b ∷ octets)
+object_identifier_ended b octets low =
+    let f = first_two b in
+    let s = subidentifiers_ended octets low in
+    (f.0 ∷ f.1 ∷ s.0, (b, octets, refl, f.2, s.1))
+
+pub object_identifier_unended : (b : ℕ) (octets : List ℕ) → 128 ≤ get_or octets (length octets - 1) 0 → (ns : List ℕ)
+    → ObjectIdentifierContents ns (b ∷ octets) → ⊥
+object_identifier_unended b octets high = no_subidentifiers b octets (subidentifiers_unended octets high)
+
 -- all others have one
 pub object_identifier_meaning : (contents : List ℕ)
     → ((ns : List ℕ) × ObjectIdentifierContents ns contents) ⊎ ((e : DecodeFault) × ObjectIdentifierFault contents e)
 object_identifier_meaning [] = inr (incomplete, (refl, no_octets))
-object_identifier_meaning (b ∷ octets) = elim (subidentifiers_decided octets) [
-  | inl s ↦ let f = first_two b in inl (f.0 ∷ f.1 ∷ s.0, (b, octets, refl, f.2, s.1))
-  | inr none ↦ inr (incomplete, (refl, no_subidentifiers b octets none))
+object_identifier_meaning (b ∷ octets) = elim (cases_lt (get_or octets (length octets - 1) 0) 128) [
+  | inl low ↦ inl (object_identifier_ended b octets low)
+  | inr high ↦ inr (incomplete, (refl, object_identifier_unended b octets high))
 ]
 
 -- it is one of reading

@@ -16,13 +16,18 @@ pub fn read(alloc: Global, contents: &[u8]) -> Result<(usize, Vec<u8>), ASN1Deco
     Ok((bits, Vec::from_slice(alloc, octets)?))
 }
 
-// Whether the contents octets mean bits, without a copy of them.
-pub fn check(contents: &[u8]) -> Result<(), ASN1DecodeErr>
-    ensures found { OnOk result ((n : ℕ) × (v : List ℕ) × BitStringContents n v contents.now) }
-    ensures refused { IfErr result (λ e. BitStringFault contents.now (fault_of e)) }
+// Whether the contents octets mean bits.
+#[inline(always)]
+pub fn are_meant(contents: &[u8]) -> bool
+    ensures { IsTrue result → (n : ℕ) × (v : List ℕ) × BitStringContents n v contents.now }
 {
-    bits_in(contents)?;
-    Ok(())
+    let Some((unused, octets)) = contents.split_first() else {
+        return true;
+    };
+    match octets.len().checked_mul(8) {
+        Some(room) => *unused as usize <= room,
+        None => false,
+    }
 }
 
 // The number of bits, and where the octets stand that hold them.

@@ -16,6 +16,14 @@ pub fn read(contents: &[u8]) -> Result<bool, ASN1DecodeErr>
     Ok(contents[0] != 0)
 }
 
+// Whether contents octets mean a truth value.
+#[inline(always)]
+pub fn are_meant(contents: &[u8]) -> bool
+    ensures { IsTrue result → (b : Bool) × BooleanContents b contents.now }
+{
+    contents.len() == 1
+}
+
 // The number of octets that are written.
 pub fn size(_value: bool) -> usize
     ensures { result ≡ length (boolean_contents _value) }

@@ -28,6 +28,14 @@ pub fn read(alloc: Global, contents: &[u8]) -> Result<DateTime, ASN1DecodeErr>
     }
 }
 
+// Whether the contents octets mean a moment.
+#[inline(always)]
+pub fn are_meant(contents: &[u8]) -> bool
+    ensures { IsTrue result → (m : Moment) × GeneralizedTimeContents m contents.now }
+{
+    moment(contents).is_some()
+}
+
 #[inline(never)]
 fn moment(contents: &[u8]) -> Option<DateTime>
     ensures found { IfSome result (λ d. GeneralizedTimeContents (moment_of d) contents.now) }

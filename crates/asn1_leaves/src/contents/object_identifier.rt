@@ -1,6 +1,6 @@
 // Contents octets of an OBJECT IDENTIFIER (X.690 8.19).
 ghost use Rattle.std.specs.Prelude.{◌≡◌, ◌↔◌, ◌⊎◌, ◌++◌, ◌∷◌, ◌+◌, ◌<◌, ◌≤◌, ◌^◌, ℕ, List, drop, length};
-ghost use Rattle.std.specs.Prelude.{None, Some, IfOk, IfErr, IsTrue, OnOk, SomeIff};
+ghost use Rattle.std.specs.Prelude.{None, Some, IfOk, IfErr, IsFalse, IsTrue, OnOk, SomeIff};
 ghost use Rattle.std.specs.List.{flat_map};
 ghost use Rattle.asn1_numbers.specs.Base128.{shortest_base128};
 ghost use Rattle.asn1_leaves.specs.Contents.ObjectIdentifier.{
@@ -75,6 +75,22 @@ pub fn read(alloc: Global, contents: &[u8]) -> Result<Vec<BigUint>, ASN1DecodeEr
     components.push(BigUint::from_u64(alloc, second as u64)?)?;
     push_subidentifiers(alloc, rest, &mut components)?;
     Ok(components)
+}
+
+// Whether the octets mean components. One octet is of the first two; after it the last octet of all is one of which bit
+// 8 is clear, so that it ends a subidentifier.
+pub fn are_meant(contents: &[u8]) -> bool
+    ensures meant { IsTrue result → (components : List ℕ) × ObjectIdentifierContents components contents.now }
+    ensures others { IsFalse result → (components : List ℕ)
+        → ObjectIdentifierContents components contents.now → ⊥ }
+{
+    let Some((_, rest)) = contents.split_first() else {
+        return false;
+    };
+    match rest.last() {
+        Some(octet) => *octet < 128,
+        None => true,
+    }
 }
 
 // Whether the octets mean components, and no subidentifier begins with 80 (hexadecimal), so that each

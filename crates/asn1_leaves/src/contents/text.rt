@@ -31,24 +31,16 @@ pub fn read(alloc: Global, form: TextForm, contents: &[u8]) -> Result<String, AS
     }
 }
 
-// Whether the contents octets are characters, without making the text.
-pub fn check(form: TextForm, contents: &[u8]) -> Result<(), ASN1DecodeErr>
-    ensures found { OnOk result ((cs : List ℕ) × TextContents form cs contents.now) }
-    ensures refused { IfErr result (λ e. TextFault form contents.now (fault_of e)) }
+// Whether the contents octets are characters.
+#[inline(always)]
+pub fn are_meant(form: TextForm, contents: &[u8]) -> bool
+    ensures { IsTrue result → (cs : List ℕ) × TextContents form cs contents.now }
 {
     match form {
-        TextForm::Utf8 => check_utf8(contents),
-        TextForm::Printable => check_printable(contents),
-        TextForm::Octets => Ok(()),
+        TextForm::Utf8 => str::from_utf8(contents).is_ok(),
+        TextForm::Printable => are_printable(contents),
+        TextForm::Octets => true,
     }
-}
-
-fn check_utf8(contents: &[u8]) -> Result<(), ASN1DecodeErr>
-    ensures found { OnOk result ((cs : List ℕ) × TextContents Utf8 cs contents.now) }
-    ensures refused { IfErr result (λ e. TextFault Utf8 contents.now (fault_of e)) }
-{
-    utf8_text(contents)?;
-    Ok(())
 }
 
 // The text, where it stands.

@@ -1,4 +1,4 @@
-use Rattle.std.proofs.Common.{◌≡◌, ℕ, false, List, Option, Some, None, inl, inr}
+use Rattle.std.proofs.Common.{◌≡◌, ℕ, false, List, Option, Some, None, inl, inr, subst}
 use Rattle.std.specs.Prelude.{MatchOption}
 use Rattle.asn1_blocks.specs.declared.block.ASN1Block.{ASN1Block}
 use Rattle.asn1_blocks.specs.Contents.{is_leaf_tag}
@@ -20,4 +20,7 @@ option_found tag contents None none = inl none
 option_found tag contents (Some b) m = read_found tag contents (view b) m
 
 pub returns-clause-found : goal.returns-clause-found
-returns-clause-found c = option_found c.args.tag.now c.args.contents.now c.in_ok-leaf.leaf c.in_ok-leaf.ensures.found
+returns-clause-found c =
+    let contents = c.args.contents.now in
+    let found = option_found c.in_ok-tag.tag contents c.in_ok-leaf.leaf c.in_ok-leaf.ensures.found in
+    subst (λ z. IsNoLeafOrMeant z contents) c.in_ok-tag.ensures found

@@ -14,7 +14,7 @@ returns-then-is_empty-clause-counted g c =
 pub turns-init : goal.turns-init
 turns-init g c = (
   0,
-  first_reading g.B.Builder.holds c.args.octets.now c.args.builder c.args.items c.new.result.items c.new.ensures.items c.requires.empty,
+  first_reading g.B.Builder.holds c.args.octets.now c.args.builder c.args.items c.in-Ok.outer.items c.in-Ok.ensures.items c.requires.empty,
   omega arith,
 )
 
