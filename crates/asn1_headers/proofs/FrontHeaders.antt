@@ -1,5 +1,6 @@
 -- The header at the front of octets, or that there is none.
-use Rattle.std.proofs.Common.{◌≡◌, ℕ, ◌≤◌, Bool, List, [], ◌∷◌, ◌++◌, inl, inr, length, take, drop, refl, sym, ap, ◌∙◌, subst, append_assoc}
+use Rattle.std.proofs.Common.{◌≡◌, ℕ, zero, suc, ◌-◌, ◌%◌, ◌<◌, ◌≤◌, Bool, List, [], ◌∷◌, ◌++◌, inl, inr, length, take, drop, refl, sym, ap, ◌∙◌, subst, arith, append_assoc}
+use Rattle.std.specs.List.{slice_range}
 use Rattle.std.proofs.lemmas.List.{drop_at, length-take-le, take-append-drop, take_at}
 use Rattle.asn1_headers.specs.declared.error.ASN1DecodeErr.{ASN1DecodeErr}
 use Rattle.asn1_headers.specs.declared.header.ASN1Class.{ASN1Class}
@@ -51,3 +52,17 @@ length_missed place octets s [] c k n e t d missing h =
 length_missed place octets s (b ∷ rest) c k n e t d missing h =
     no_length s b rest c k n t d (λ l r m u f. missing m (length l)
     (subst (λ z. IsLength z m) (sym (ap (take (length l)) f ∙ take_at l r (length l) refl)) u)) h
+
+-- identifier octets up to an index stand at the front
+pub identifier_taken : (octets : List ℕ) (index : ℕ) (c : ASN1Class) (k : Bool) (n : ℕ) → IsIdentifier (slice_range octets 0 index) c k n
+    → IsIdentifier (take index octets) c k n
+identifier_taken octets index c k n i =
+    let e : index - 0 ≡ index = omega arith in
+    subst (λ z. IsIdentifier (take z octets) c k n) e i
+
+-- identifier octets that begin with an octet of a low tag number are that octet
+pub low_identifier : (b d : ℕ) (octets : List ℕ) (size : ℕ) (c : ASN1Class) (k : Bool) (n : ℕ) → b % 32 < 31 → 0 < size
+    → IsIdentifier (take size (b ∷ d ∷ octets)) c k n → IsIdentifier (b ∷ []) c k n
+low_identifier b d octets zero c k n low some i = absurd (omega (arith, some))
+low_identifier b d octets (suc zero) c k n low some i = i
+low_identifier b d octets (suc (suc size)) c k n low some i = absurd (omega (arith, low, i.0))

@@ -6,7 +6,7 @@ ghost use Rattle.asn1_headers.specs.Front.{HasIndefiniteForm, HasNoHeader, IsAtF
 ghost use Rattle.asn1_headers.specs.HeaderFault.{HeaderFault};
 
 use crate::error::ASN1DecodeErr;
-use crate::header::{ASN1Class, HeaderCount, class_of, length_at, tag_at};
+use crate::header::{ASN1Class, HeaderCount, decode_tag, length_at};
 use asn1_numbers::number::big_uint::BigUint;
 use std::alloc::Global;
 
@@ -37,12 +37,11 @@ pub fn read_header(
     ensures fault { (offset : ℕ) → IfErr result (OutOfMemoryOr (HeaderFault offset octets.now)) }
     ensures counted { count.new ≡ count.old + 1 }
 {
-    count.add_one();
     match octets {
         [leading, length, ..] if *leading % 32 != 31 && *length < 128 => {
-            short_header(alloc, octets, *leading, *length)
+            short_header(alloc, octets, *leading, *length, count)
         }
-        _ => header_at(alloc, octets),
+        _ => header_at(alloc, octets, count),
     }
 }
 
@@ -51,21 +50,27 @@ pub fn read_header(
 #[inline(always)]
 fn short_header(
     alloc: Global,
-    _octets: &[u8],
-    leading: u8,
+    octets: &[u8],
+    _leading: u8,
     length: u8,
+    count: &mut HeaderCount,
 ) -> Result<Header, ASN1DecodeErr>
-    requires front { (rest : List ℕ) × (_octets.now ≡ leading ∷ length ∷ rest) }
-    requires low { leading % 32 < 31 }
+    requires room { count.old + 1 < 2 ^ 64 }
+    requires front { (rest : List ℕ) × (octets.now ≡ _leading ∷ length ∷ rest) }
+    requires low { _leading % 32 < 31 }
     requires short { length < 128 }
-    ensures found { IfOk result (IsAtFront _octets.now) }
-    ensures form { IfOk result (λ header. IsTrue header.is_indefinite ↔ HasIndefiniteForm _octets.now) }
-    ensures refused { IfErr result (λ e. e ≡ OutOfMemory) }
+    ensures found { IfOk result (IsAtFront octets.now) }
+    ensures form { IfOk result (λ header. IsTrue header.is_indefinite ↔ HasIndefiniteForm octets.now) }
+    ensures none { IfErr result (λ e. (e ≡ OutOfMemory) ⊎ HasNoHeader octets.now) }
+    ensures fault { (offset : ℕ) → IfErr result (OutOfMemoryOr (HeaderFault offset octets.now)) }
+    ensures counted { count.new ≡ count.old + 1 }
 {
+    let mut identifier = 0;
+    let (tag, constructed, class) = decode_tag(alloc, octets, &mut identifier, count)?;
     Ok(Header {
-        class: class_of(leading),
-        constructed: leading % 64 / 32 == 1,
-        tag: BigUint::from_u64(alloc, (leading % 32) as u64)?,
+        class,
+        constructed,
+        tag,
         size: 2,
         announced: length as usize,
         is_indefinite: false,
@@ -74,13 +79,16 @@ fn short_header(
 
 // Any header.
 #[inline(always)]
-fn header_at(alloc: Global, octets: &[u8]) -> Result<Header, ASN1DecodeErr>
+fn header_at(alloc: Global, octets: &[u8], count: &mut HeaderCount) -> Result<Header, ASN1DecodeErr>
+    requires room { count.old + 1 < 2 ^ 64 }
     ensures found { IfOk result (IsAtFront octets.now) }
     ensures form { IfOk result (λ header. IsTrue header.is_indefinite ↔ HasIndefiniteForm octets.now) }
     ensures none { IfErr result (λ e. (e ≡ OutOfMemory) ⊎ HasNoHeader octets.now) }
     ensures fault { (offset : ℕ) → IfErr result (OutOfMemoryOr (HeaderFault offset octets.now)) }
+    ensures counted { count.new ≡ count.old + 1 }
 {
-    let ((tag, constructed, class), identifier) = tag_at(alloc, octets)?;
+    let mut identifier = 0;
+    let (tag, constructed, class) = decode_tag(alloc, octets, &mut identifier, count)?;
     let (_, behind) = octets.split_at(identifier);
     let (announced, length) = length_at(behind)?;
     Ok(Header {

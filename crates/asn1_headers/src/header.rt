@@ -50,7 +50,7 @@ impl ASN1Class {
     }
 }
 
-/// The number of headers begun. [`decode_tag`] raises it, and so does what reads a document with a count.
+/// The number of headers begun. [`decode_tag`] alone raises it: what reads a document with a count hands its count on.
 #[derive(Debug, Drop)]
 pub struct HeaderCount {
     begun: u64,
@@ -102,7 +102,7 @@ impl HeaderCount {
 
     // One header more is begun.
     #[inline(always)]
-    pub(crate) fn add_one(&mut self)
+    fn add_one(&mut self)
         requires { self.old + 1 < 2 ^ 64 }
         ensures { self.new ≡ self.old + 1 }
     {
@@ -137,7 +137,7 @@ fn base128_at(alloc: Global, octets: &[u8]) -> Result<(BigUint, usize), ASN1Deco
 
 // The identifier octets at the front, and how many they are.
 #[inline(always)]
-pub(crate) fn tag_at(
+fn tag_at(
     alloc: Global,
     octets: &[u8],
 ) -> Result<((BigUint, bool, ASN1Class), usize), ASN1DecodeErr>
@@ -181,6 +181,7 @@ pub(crate) fn tag_at(
 ///     Ok(class)
 /// }
 /// ```
+#[inline(always)]
 pub fn decode_tag(
     alloc: Global,
     i: &[u8],
@@ -324,7 +325,7 @@ pub fn identifier_at(octets: &[u8]) -> Option<usize>
 }
 
 // The class of a leading octet.
-pub(crate) fn class_of(leading: u8) -> ASN1Class
+fn class_of(leading: u8) -> ASN1Class
     ensures { class_number result ≡ leading / 64 }
 {
     match leading >> 6 {

@@ -3,7 +3,7 @@ use Rattle.std.proofs.Math.Seq.{take-add}
 use Rattle.std.proofs.lemmas.List.{take-append-drop}
 use Rattle.std.proofs.lemmas.Result.{err_from_is_err_and}
 use Rattle.asn1_headers.specs.Fault.{fault_of}
-use Rattle.asn1_headers.proofs.FrontHeaders.{identifier_missed, length_missed, none_without_identifier, none_without_length}
+use Rattle.asn1_headers.proofs.FrontHeaders.{identifier_missed, identifier_taken, length_missed, none_without_identifier, none_without_length}
 use Rattle.asn1_headers.proofs.IndefiniteForms.{form_of_constructed, form_of_primitive}
 use Rattle.asn1_headers.proofs.front.header_at.Goals as goal
 use Rattle.asn1_headers.proofs.front.header_at.Goals.{then-constructed, else-constructed}
@@ -23,33 +23,39 @@ returns-in_err-tag-clause-fault c offset =
 
 pub returns-in_err-announced-clause-none : goal.returns-in_err-announced-clause-none
 returns-in_err-announced-clause-none c =
+    let octets = c.args.octets.now in
     let found = c.in_ok-tag in
+    let size = c.decode_tag.new.index in
+    let is = identifier_taken octets size found.class found.constructed found.tag found.ensures.found in
     let p = err_from_is_err_and c.from_residual-in_err-announced.result c.from_residual-in_err-announced.ensures.1 in
-    rw (p.1, p.2) (inr (none_without_length c.args.octets.now found.identifier found.tag found.ensures.found.1
-    (found.class, found.constructed, found.ensures.found.2) (rw (sym c.split_at.ensures.back) c.in_err-announced.ensures.refused)))
+    rw (p.1, p.2) (inr (none_without_length octets size found.tag found.ensures.moved.1
+    (found.class, found.constructed, is) (rw (sym c.split_at.ensures.back) c.in_err-announced.ensures.refused)))
 
 pub returns-in_err-announced-clause-fault : goal.returns-in_err-announced-clause-fault
 returns-in_err-announced-clause-fault c offset =
     let octets = c.args.octets.now in
     let found = c.in_ok-tag in
+    let size = c.decode_tag.new.index in
+    let is = identifier_taken octets size found.class found.constructed found.tag found.ensures.found in
     let p = err_from_is_err_and c.from_residual-in_err-announced.result c.from_residual-in_err-announced.ensures.1 in
-    rw (p.1, p.2) (inr (length_missed offset octets (take found.identifier octets) (drop found.identifier octets) found.class
-    found.constructed found.tag (fault_of c.in_err-announced.field-0.0) found.ensures.found.2
-    (sym (take-append-drop found.identifier octets)) (rw (sym c.split_at.ensures.back) c.in_err-announced.ensures.refused)
+    rw (p.1, p.2) (inr (length_missed offset octets (take size octets) (drop size octets) found.class
+    found.constructed found.tag (fault_of c.in_err-announced.field-0.0) is
+    (sym (take-append-drop size octets)) (rw (sym c.split_at.ensures.back) c.in_err-announced.ensures.refused)
     (rw (sym c.split_at.ensures.back) c.in_err-announced.ensures.fault)))
 
 pub returns-clause-found : goal.returns-clause-found
 returns-clause-found c =
     let octets = c.args.octets.now in
     let found = c.in_ok-tag in
-    let size = found.identifier in
+    let size = c.decode_tag.new.index in
+    let is = identifier_taken octets size found.class found.constructed found.tag found.ensures.found in
     let l = c.in_ok-announced.length in
     record {
-      within = omega (arith, found.ensures.found.1, c.in_ok-announced.ensures.found.0, c.split_at.ensures.back_len);
+      within = omega (arith, found.ensures.moved.1, c.in_ok-announced.ensures.found.0, c.split_at.ensures.back_len);
       identifier = take size octets;
       len = take l (drop size octets);
       front_is = take-add size l octets;
-      fields = found.ensures.found.2;
+      fields = is;
       length_octets = rw (sym c.split_at.ensures.back) c.in_ok-announced.ensures.found.1;
     }
 
@@ -57,13 +63,15 @@ pub returns-clause-form : goal.returns-clause-form
 returns-clause-form c =
     let octets = c.args.octets.now in
     let found = c.in_ok-tag in
+    let size = c.decode_tag.new.index in
+    let is = identifier_taken octets size found.class found.constructed found.tag found.ensures.found in
     elim c.if-constructed.branch [
       | then-constructed w ↦
-          form_of_constructed octets c.split_at.result.1.now found.identifier found.tag found.class found.constructed
-          found.ensures.found.1 found.ensures.found.2 c.split_at.ensures.back w.begins_with_80.result
+          form_of_constructed octets c.split_at.result.1.now size found.tag found.class found.constructed
+          found.ensures.moved.1 is c.split_at.ensures.back w.begins_with_80.result
           c.if-constructed.result w.if-constructed.true w.begins_with_80.ensures w.result-is
       | else-constructed w ↦
-          form_of_primitive octets c.split_at.result.1.now found.identifier found.tag found.class found.constructed
-          found.ensures.found.1 found.ensures.found.2 c.split_at.ensures.back c.if-constructed.result
+          form_of_primitive octets c.split_at.result.1.now size found.tag found.class found.constructed
+          found.ensures.moved.1 is c.split_at.ensures.back c.if-constructed.result
           w.if-constructed.false (w.result-is ∙ w.if-constructed.false)
     ]
