@@ -1,12 +1,11 @@
 -- The order of the elements of a SET (X.690 10.3) and of a SET OF (11.6).
 use Rattle.std.specs.Prelude.{◌≡◌, ◌==◌, ◌&&◌, ◌||◌, ℕ, ◌+◌, ◌*◌, ◌/◌, ◌%◌, nat_lt, Bool, true, false, not}
 use Rattle.std.specs.Prelude.{List, [], ◌∷◌, ◌++◌}
-use Rattle.std.specs.Ordering.{is_gt, nat_cmp}
-use Rattle.std.specs.Cmp.Lexicographic.{slice_cmp}
 use Rattle.std.specs.List.{All, concat}
 use Rattle.asn1_headers.specs.declared.header.ASN1Class.{ASN1Class}
 use Rattle.asn1_headers.specs.declared.header.ASN1Class.TheVariants.{Universal}
 use Rattle.asn1_blocks.specs.Places.{IsEncoding}
+use Rattle.asn1_der.specs.Der.{is_not_greater}
 use Rattle.der_rules.specs.LengthForm.{has_indefinite_length}
 
 -- each stands before the next as it may
@@ -24,10 +23,6 @@ tag_rank (leading ∷ more) = (leading / 64) * 32 + leading % 32
 abbrev pub has_less_tag : List ℕ → List ℕ → Bool
 has_less_tag first next =
     nat_lt (tag_rank first) (tag_rank next) || ((tag_rank first == tag_rank next) && (tag_rank first % 32 == 31))
-
--- the octets of the first are not greater (11.6)
-abbrev pub is_not_greater : List ℕ → List ℕ → Bool
-is_not_greater first next = not (is_gt (slice_cmp nat_cmp first next))
 
 -- the octets are an encoding of the definite form (8.1.3.3)
 abbrev pub IsDefinite : List ℕ → Type 0

@@ -1,13 +1,13 @@
 -- Rules of X.690 that an encoding may break and be read all the same.
-use Rattle.std.specs.Prelude.{◌≡◌, ◌==◌, ◌&&◌, ◌||◌, ℕ, ◌-◌, ◌%◌, ◌^◌, nat_lt, Bool, true, false, not}
-use Rattle.std.specs.Prelude.{if◌then◌else◌, List, [], ◌∷◌, get_or, length}
+use Rattle.std.specs.Prelude.{◌≡◌, ◌==◌, ◌&&◌, ◌||◌, ℕ, ◌%◌, ◌^◌, nat_lt, Bool, true, false, not}
+use Rattle.std.specs.Prelude.{if◌then◌else◌, List, [], ◌∷◌, length}
 use Rattle.asn1_headers.specs.declared.header.ASN1Class.{ASN1Class}
 use Rattle.asn1_headers.specs.declared.header.ASN1Class.TheVariants.{Universal}
 use Rattle.der_rules.specs.declared.breaches.Breaches.{Breaches}
 use Rattle.der_rules.specs.LengthForm.{has_indefinite_length}
 use Rattle.der_rules.specs.Order.{IsOrderFound}
-use Rattle.std.specs.Str.{byte}
-use Rattle.asn1_numbers.specs.Octets.{digit}
+use Rattle.asn1_der.specs.Der.{is_constructed_type}
+use Rattle.asn1_der.specs.Padding.{has_padded_component, has_padded_fraction, is_padded_number, last_octet}
 
 -- octets begin with a tag number below 31 in more than one octet (8.1.2.2), or with a tag number before whose octets
 -- stands an octet 80 (8.1.2.4.2)
@@ -23,10 +23,6 @@ has_long_length [] announced = false
 has_long_length (first ∷ []) announced = false
 has_long_length (first ∷ next ∷ more) announced = nat_lt 128 first && (nat_lt announced 128 || (next == 0))
 
--- a type that is always constructed: EXTERNAL, EMBEDDED PDV, SEQUENCE, SET, CHARACTER STRING
-abbrev pub is_constructed_type : ℕ → Bool
-is_constructed_type tag = (tag == 8) || (tag == 11) || (tag == 16) || (tag == 17) || (tag == 29)
-
 -- a type with a tag up to 36 (X.680 8.4, table 1) that is constructed where it is always primitive (10.2 for strings),
 -- or the other way round
 abbrev pub has_wrong_form : ASN1Class → Bool → ℕ → Bool
@@ -39,37 +35,11 @@ abbrev pub is_other_truth : List ℕ → Bool
 is_other_truth (octet ∷ []) = not (octet == 0) && not (octet == 255)
 is_other_truth octets = false
 
--- an INTEGER without octets (8.3.1), or whose first nine bits are alike (8.3.2)
-abbrev pub is_padded_number : List ℕ → Bool
-is_padded_number [] = true
-is_padded_number (first ∷ []) = false
-is_padded_number (first ∷ next ∷ more) = if nat_lt next 128 then first == 0 else (first == 255)
-
--- the last of the octets, 0 of none
-abbrev pub last_octet : List ℕ → ℕ
-last_octet octets = get_or octets (length octets - 1) 0
-
 -- a BIT STRING without an octet for the number of unused bits (8.6.2.1), or with more than 7 (8.6.2.2), or with one
 -- set (11.2.1)
 abbrev pub has_stray_bits : List ℕ → Bool
 has_stray_bits [] = true
 has_stray_bits (unused ∷ octets) = nat_lt 7 unused || not (last_octet octets % (2 ^ unused) == 0)
-
--- an octet 80 stands where a subidentifier begins (8.19.2): in front, or behind an octet below 80
-abbrev pub is_padded_from : Bool → List ℕ → Bool
-is_padded_from begins [] = false
-is_padded_from begins (octet ∷ octets) = (begins && (octet == 128)) || is_padded_from (nat_lt octet 128) octets
-
-abbrev pub has_padded_component : List ℕ → Bool
-has_padded_component octets = is_padded_from true octets
-
--- a GeneralizedTime of the form YYYYMMDDhhmmssZ with a fraction, before which no point stands (11.7.4), or that ends in
--- 0, or has no digit (11.7.3)
-abbrev pub has_padded_fraction : List ℕ → Bool
-has_padded_fraction octets =
-    nat_lt 15 (length octets)
-    && (not (get_or octets 14 0 == byte ".") || (get_or octets (length octets - 2) 0 == digit 0)
-    || (get_or octets (length octets - 2) 0 == byte "."))
 
 -- contents octets of a primitive encoding of class Universal that are not those of DER: BOOLEAN, INTEGER and
 -- ENUMERATED, BIT STRING, NULL (8.8.2), OBJECT IDENTIFIER and RELATIVE-OID, GeneralizedTime

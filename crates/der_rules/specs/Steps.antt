@@ -1,6 +1,7 @@
 -- What is found step by step. Private contracts alone name these.
 use Rattle.std.specs.Prelude.{ℕ, Bool, true, List, Option, None, Some}
-use Rattle.der_rules.specs.Order.{has_less_tag, is_not_greater}
+use Rattle.asn1_der.specs.Der.{is_not_greater}
+use Rattle.der_rules.specs.Order.{has_less_tag}
 use Rattle.der_rules.specs.declared.order.Order.{Order}
 use Rattle.der_rules.specs.declared.order.Order.TheVariants.{Tags, Octets}
 

@@ -1,17 +1,13 @@
 // Rules of contents octets of primitive encodings.
 ghost use Rattle.std.specs.Prelude.{◌≡◌, ◌≤◌, ◌%◌, ◌^◌, ◌==◌, not};
+ghost use Rattle.asn1_der.specs.Padding.{last_octet};
 ghost use Rattle.der_rules.specs.Rules.{are_not_canonical as are_not_canonical_is};
 ghost use Rattle.der_rules.specs.Rules.{has_other_contents as has_other_contents_is};
-ghost use Rattle.der_rules.specs.Rules.{has_padded_component as has_padded_component_is};
-ghost use Rattle.der_rules.specs.Rules.{has_padded_fraction as has_padded_fraction_is};
 ghost use Rattle.der_rules.specs.Rules.{has_stray_bits as has_stray_bits_is, is_other_truth as is_other_truth_is};
-ghost use Rattle.der_rules.specs.Rules.{is_padded_number as is_padded_number_is, last_octet};
 
+use asn1_der::padding::{has_padded_component, has_padded_fraction, is_padded_number};
 use asn1_headers::front::Header;
 use asn1_headers::header::ASN1Class;
-
-// Where the point of a GeneralizedTime stands that has a fraction of a second.
-const POINT: usize = 14;
 
 // Whether contents octets are not those of DER.
 pub fn has_other_contents(header: &Header, contents: &[u8]) -> bool
@@ -49,22 +45,6 @@ fn is_other_truth(contents: &[u8]) -> bool
     }
 }
 
-fn is_padded_number(contents: &[u8]) -> bool
-    ensures { result ≡ is_padded_number_is contents.now }
-{
-    match contents {
-        [] => true,
-        [_] => false,
-        [first, next, ..] => {
-            if *next < 128 {
-                *first == 0
-            } else {
-                *first == 0xFF
-            }
-        }
-    }
-}
-
 fn has_stray_bits(contents: &[u8]) -> bool
     ensures { result ≡ has_stray_bits_is contents.now }
 {
@@ -83,27 +63,4 @@ fn ends_in_bits(unused: u8, octets: &[u8]) -> bool
         Some(octet) => *octet % (1 << unused) != 0,
         None => false,
     }
-}
-
-fn has_padded_component(contents: &[u8]) -> bool
-    ensures { result ≡ has_padded_component_is contents.now }
-{
-    let mut begins = true;
-    for octet in contents {
-        if begins && *octet == 128 {
-            return true;
-        }
-        begins = *octet < 128;
-    }
-    false
-}
-
-fn has_padded_fraction(contents: &[u8]) -> bool
-    ensures { result ≡ has_padded_fraction_is contents.now }
-{
-    if contents.len() <= POINT + 1 {
-        return false;
-    }
-    let last = contents[contents.len() - 2];
-    contents[POINT] != b'.' || last == b'0' || last == b'.'
 }

@@ -7,8 +7,8 @@ ghost use Rattle.der_rules.specs.LengthForm.{has_indefinite_length as has_indefi
 ghost use Rattle.der_rules.specs.Rules.{has_long_identifier as has_long_identifier_is};
 ghost use Rattle.der_rules.specs.Rules.{has_long_length as has_long_length_is};
 ghost use Rattle.der_rules.specs.Rules.{has_wrong_form as has_wrong_form_is};
-ghost use Rattle.der_rules.specs.Rules.{is_constructed_type as is_constructed_type_is};
 
+use asn1_der::header::is_constructed_type;
 use asn1_headers::front::Header;
 use asn1_headers::header::{ASN1Class, identifier_at};
 use asn1_numbers::number::big_uint::BigUint;
@@ -104,10 +104,4 @@ fn is_other_form(constructed: bool, tag: u64) -> bool
     } else {
         is_constructed_type(tag)
     }
-}
-
-fn is_constructed_type(tag: u64) -> bool
-    ensures { result ≡ is_constructed_type_is tag }
-{
-    matches!(tag, 8 | 11 | 16 | 17 | 29)
 }

@@ -4,15 +4,15 @@ ghost use Rattle.std.specs.Prelude.{IfNone, IfSome};
 ghost use Rattle.asn1_blocks.specs.Places.{EncodingAt};
 ghost use Rattle.der_rules.specs.Order.{BeginsWithNoDefinite, IsAscentFound, IsDefinite, IsOrderFound};
 ghost use Rattle.der_rules.specs.Order.{has_less_tag as has_less_tag_is};
-ghost use Rattle.der_rules.specs.Order.{is_not_greater as is_not_greater_is, is_set as is_set_is};
+ghost use Rattle.der_rules.specs.Order.{is_set as is_set_is};
 ghost use Rattle.der_rules.specs.Order.{tag_rank as tag_rank_is};
 ghost use Rattle.der_rules.specs.Steps.{may_follow, may_of};
 
 use crate::header::{behind_identifier, is_indefinite_length};
 use asn1_blocks::encoding::encoding_at;
+use asn1_der::order::is_not_greater;
 use asn1_headers::front::Header;
 use asn1_headers::header::ASN1Class;
-use std::cmp::Ordering;
 
 // By what encodings are compared.
 #[derive(Clone, Copy, Drop)]
@@ -110,10 +110,4 @@ fn tag_rank(octets: &[u8]) -> u8
         [leading, ..] => *leading / 64 * 32 + *leading % 32,
         [] => 0,
     }
-}
-
-fn is_not_greater(first: &[u8], next: &[u8]) -> bool
-    ensures { result ≡ is_not_greater_is first.now next.now }
-{
-    !matches!(first.cmp(&next), Ordering::Greater)
 }

@@ -14,6 +14,7 @@ pub fn answer(alloc: Global, name: &str, octets: &[u8]) -> Answer {
         "place" => documents::place(alloc, octets),
         "rewrite" => documents::rewritten(alloc, octets),
         "strict" => documents::strict(alloc, octets),
+        "is_der" => documents::der(alloc, octets),
         "signed" => documents::signed(alloc, octets),
         "Document::from_der_located" => documents::located(alloc, octets),
         "encoding_at" => documents::encoding(alloc, octets),

@@ -2,7 +2,7 @@
 use crate::refusal::{Answer, Refusal, ran_out, said};
 use simple_asn1::{
     ASN1DecodeErr, Document, HeaderCount, TripleErr, discard, encoding_at, from_der_counted,
-    from_der_located, from_der_strict, read_signed, rewrite,
+    from_der_located, from_der_strict, is_der, read_signed, rewrite,
 };
 use std::alloc::Global;
 use test_notation::{blocks_text, components_text, octets_text};
@@ -52,6 +52,16 @@ pub fn strict(alloc: Global, octets: &[u8]) -> Answer {
     let text = blocks_text(alloc, &blocks);
     discard(blocks);
     Ok(text?)
+}
+
+// Whether the octets are DER.
+pub fn der(alloc: Global, octets: &[u8]) -> Answer {
+    let text = if is_der(alloc, octets)? {
+        "true"
+    } else {
+        "false"
+    };
+    Ok(String::from_str(alloc, text)?)
 }
 
 // The octets of the encoding at an offset, the first octet, of the document after it.

@@ -98,7 +98,7 @@ fn is_printable_octet(b: u8) -> bool
 }
 
 // Tests all octets, also after one that fails: with no branch on each, many are tested at once.
-fn are_printable(contents: &[u8]) -> bool
+pub fn are_printable(contents: &[u8]) -> bool
     ensures { result ≡ list_all is_printable contents.now }
 {
     let mut printable = true;

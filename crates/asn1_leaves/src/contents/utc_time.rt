@@ -31,7 +31,7 @@ pub fn are_meant(contents: &[u8]) -> bool
 }
 
 #[inline(never)]
-fn moment(contents: &[u8]) -> Option<DateTime>
+pub fn moment(contents: &[u8]) -> Option<DateTime>
     ensures found { IfSome result (λ d. UtcTimeContents (moment_of d) contents.now) }
     ensures none { IfNone result ((m : Moment) → UtcTimeContents m contents.now → ⊥) }
 {

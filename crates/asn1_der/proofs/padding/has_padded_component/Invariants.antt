@@ -1,6 +1,6 @@
 use Rattle.std.proofs.Common.{◌≡◌, drop}
-use Rattle.der_rules.specs.Rules.{has_padded_component, is_padded_from}
-use Rattle.der_rules.proofs.contents.has_padded_component.Given as goal
+use Rattle.asn1_der.specs.Padding.{has_padded_component, is_padded_from}
+use Rattle.asn1_der.proofs.padding.has_padded_component.Given as goal
 
 -- what is left decides of all
 abbrev pub invariant-loop-octet : goal.invariant-loop-octet

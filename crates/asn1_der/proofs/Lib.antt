@@ -1,0 +1,6 @@
+pub mod Elements
+pub mod Encodings
+pub mod Orders
+pub mod Shortest
+pub mod Tags
+pub mod Turns

@@ -1,0 +1,10 @@
+use Rattle.std.proofs.Common.{◌≡◌, length}
+use Rattle.asn1_der.specs.Contents.{are_bmp}
+use Rattle.asn1_der.proofs.contents.are_bmp.Given as goal
+
+-- what is left decides of all
+abbrev pub invariant-loop-rest : goal.invariant-loop-rest
+invariant-loop-rest l = are_bmp l.contents ≡ are_bmp l.rest
+
+abbrev pub decreases-loop-rest : goal.decreases-loop-rest
+decreases-loop-rest l = length l.rest

@@ -1,0 +1,14 @@
+use Rattle.std.proofs.Common.{◌≡◌, ℕ, List, length}
+use Rattle.std.specs.Prelude.{option_map}
+use Rattle.std.specs.List.{All, concat}
+use Rattle.asn1_blocks.specs.Places.{IsEncoding}
+use Rattle.asn1_der.proofs.Orders.{IsLeft}
+use Rattle.asn1_der.proofs.order.ascend.Given as goal
+
+abbrev pub invariant-loop-encoding : goal.invariant-loop-encoding
+invariant-loop-encoding l =
+    (items : List (List ℕ)) → All IsEncoding items → l.contents ≡ concat items →
+    IsLeft l.order items (option_map (λ b. b.now) l.before) l.rest
+
+abbrev pub decreases-loop-encoding : goal.decreases-loop-encoding
+decreases-loop-encoding l = length l.rest

@@ -1,0 +1,94 @@
+-- DER (X.690): which octets are encodings by its rules. What needs a schema is not asked: which of the orders of 10.3
+-- and 11.6 a SET has, values that are those of DEFAULT (11.5), named bits (11.2.2), sizes and other constraints. Octets
+-- inside an OCTET STRING or BIT STRING are not looked at.
+use Rattle.std.specs.Ordering.{is_gt, nat_cmp}
+use Rattle.std.specs.Cmp.Lexicographic.{slice_cmp}
+use Rattle.std.specs.Prelude.{◌≡◌, ◌≢◌, ◌==◌, ◌&&◌, ◌||◌, ◌⊎◌, ◌++◌, ℕ, ◌<◌, nat_lt, Bool, true, false, not, List, [], ◌∷◌, length}
+use Rattle.asn1_headers.specs.declared.header.ASN1Class.{ASN1Class}
+use Rattle.asn1_headers.specs.declared.header.ASN1Class.TheVariants.{Universal}
+use Rattle.asn1_headers.specs.Header.{Encoding, class_number, shortest_identifier, shortest_length}
+use Rattle.asn1_der.specs.Contents.{HasDerContents}
+
+-- identifier octets in their shortest form (8.1.2.2, 8.1.2.4.2), length octets of the definite form in the fewest
+-- octets (8.1.3, 10.1), and the contents octets
+pub record IsShortest (octets : List ℕ) (class : ASN1Class) (constructed : Bool) (tag : ℕ) (contents : List ℕ)
+    : Type 0 where
+  pub whole : octets ≡ shortest_identifier class constructed tag ++ (shortest_length (length contents) ++ contents)
+
+-- tag numbers of class Universal that no type has (X.680 8.4, table 1): 0, 15, and those above 36
+abbrev pub is_reserved : ℕ → Bool
+is_reserved tag = (tag == 0) || (tag == 15) || nat_lt 36 tag
+
+-- a type that is always constructed: EXTERNAL, EMBEDDED PDV, SEQUENCE, SET, CHARACTER STRING
+abbrev pub is_constructed_type : ℕ → Bool
+is_constructed_type tag = (tag == 8) || (tag == 11) || (tag == 16) || (tag == 17) || (tag == 29)
+
+-- an encoding with this tag
+pub record HasTag (octets : List ℕ) (class : ASN1Class) (tag : ℕ) : Type 0 where
+  pub constructed : Bool
+  pub contents : List ℕ
+  pub header : ℕ
+  pub encoding : Encoding octets class constructed tag contents header
+
+-- the tag of the first stands before that of the next: by class, and in a class by number (10.3; X.680 8.6)
+abbrev pub is_less_tag : ASN1Class → ℕ → ASN1Class → ℕ → Bool
+is_less_tag class tag next_class next_tag =
+    nat_lt (class_number class) (class_number next_class)
+    || ((class_number class == class_number next_class) && nat_lt tag next_tag)
+
+abbrev pub HasLessTag : List ℕ → List ℕ → Type 0
+HasLessTag first next =
+    (class : ASN1Class) × (tag : ℕ) × (next_class : ASN1Class) × (next_tag : ℕ) × HasTag first class tag
+    × HasTag next next_class next_tag × (is_less_tag class tag next_class next_tag ≡ true)
+
+-- the octets of the first are not greater (11.6)
+abbrev pub is_not_greater : List ℕ → List ℕ → Bool
+is_not_greater first next = not (is_gt (slice_cmp nat_cmp first next))
+
+abbrev pub HasNoGreaterOctets : List ℕ → List ℕ → Type 0
+HasNoGreaterOctets first next = is_not_greater first next ≡ true
+
+-- each stands before the next so
+abbrev pub Ascend : (List ℕ → List ℕ → Type 0) → List (List ℕ) → Type 0
+Ascend MayStandBefore [] = Unit {0}
+Ascend MayStandBefore (first ∷ []) = Unit {0}
+Ascend MayStandBefore (first ∷ next ∷ more) = MayStandBefore first next × Ascend MayStandBefore (next ∷ more)
+
+-- the items of a SET ascend by their tags (10.3), or by their octets (11.6): no encoding begins another one, so that
+-- zeros at the end of the shorter, of which 11.6 speaks, make no difference
+abbrev pub IsInOrder : List (List ℕ) → Type 0
+IsInOrder items = Ascend HasLessTag items ⊎ Ascend HasNoGreaterOctets items
+
+mutual
+  -- the octets are an encoding of DER
+  pub data IsDerEncoding : List ℕ → Type 0 where
+    -- a type that is primitive (8.2 to 8.8, 8.19 to 8.23, 8.25, 8.26; strings by 10.2)
+    of_primitive_type : {octets contents : List ℕ} {tag : ℕ}
+        → IsShortest octets Universal false tag contents → is_reserved tag ≡ false
+        → is_constructed_type tag ≡ false → HasDerContents tag contents → IsDerEncoding octets
+    -- SEQUENCE (8.9, 8.10), EXTERNAL (8.18), EMBEDDED PDV (8.17), CHARACTER STRING (8.24)
+    of_sequence : {octets contents : List ℕ} {tag : ℕ}
+        → IsShortest octets Universal true tag contents → is_constructed_type tag ≡ true → tag ≢ 17
+        → (items : List (List ℕ)) → AreDerEncodings contents items → IsDerEncoding octets
+    -- SET (8.11, 8.12)
+    of_set : {octets contents : List ℕ} → IsShortest octets Universal true 17 contents
+        → (items : List (List ℕ)) → AreDerEncodings contents items → IsInOrder items → IsDerEncoding octets
+    -- another class: constructed around encodings (8.14), as explicit tags are and SEQUENCE and SET behind implicit ones
+    of_other_constructed : {octets contents : List ℕ} {class : ASN1Class} {tag : ℕ}
+        → class ≢ Universal → IsShortest octets class true tag contents
+        → (items : List (List ℕ)) → AreDerEncodings contents items → IsDerEncoding octets
+    -- primitive: the type is not known, and any octets are right
+    of_other_primitive : {octets contents : List ℕ} {class : ASN1Class} {tag : ℕ}
+        → class ≢ Universal → IsShortest octets class false tag contents → IsDerEncoding octets
+
+  -- the octets are these encodings of DER, one after another, also none
+  pub data AreDerEncodings : List ℕ → List (List ℕ) → Type 0 where
+    no_encodings : AreDerEncodings [] []
+    more_encodings : {octets first rest : List ℕ} {items : List (List ℕ)} → octets ≡ first ++ rest
+        → IsDerEncoding first → AreDerEncodings rest items → AreDerEncodings octets (first ∷ items)
+
+-- the octets are encodings of DER, one or more
+pub record IsDer (octets : List ℕ) : Type 0 where
+  pub some : 0 < length octets
+  pub items : List (List ℕ)
+  pub encodings : AreDerEncodings octets items

@@ -1,0 +1,65 @@
+-- What is found step by step. Private contracts alone name these.
+use Rattle.std.specs.Prelude.{◌≡◌, ◌++◌, ◌≤◌, ℕ, Bool, true, false, List, [], ◌∷◌, slice_range}
+use Rattle.std.specs.Prelude.{Option, None, Some}
+use Rattle.asn1_headers.specs.Header.{IsSomeIdentifier}
+use Rattle.asn1_der.specs.declared.order.Order.{Order}
+use Rattle.asn1_der.specs.declared.order.Order.TheVariants.{Tags, Octets}
+use Rattle.asn1_headers.specs.declared.header.ASN1Class.{ASN1Class}
+use Rattle.asn1_headers.specs.declared.header.ASN1Class.TheVariants.{Universal}
+use Rattle.asn1_der.specs.Contents.{HasDerContents}
+use Rattle.asn1_der.specs.Der.{AreDerEncodings, HasLessTag, HasNoGreaterOctets, IsInOrder, IsShortest, is_constructed_type, is_reserved}
+
+-- the octets are encodings of DER, also none
+abbrev pub AreDer : List ℕ → Type 0
+AreDer octets = (items : List (List ℕ)) × AreDerEncodings octets items
+
+-- so from the index to the first end, and from each end to the next
+abbrev pub AreDerUpTo : List ℕ → ℕ → List ℕ → Type 0
+AreDerUpTo octets index [] = Unit {0}
+AreDerUpTo octets index (end ∷ ends) = AreDer (slice_range octets index end) × AreDerUpTo octets end ends
+
+-- the ends ascend from the index on
+abbrev pub AreEnds : ℕ → List ℕ → ℕ → Type 0
+AreEnds index [] whole = index ≡ whole
+AreEnds index (end ∷ ends) whole = (index ≤ end) × AreEnds end ends whole
+
+-- what is asked of contents octets beside that they are encodings of DER
+abbrev pub IsRightAlone : ASN1Class → Bool → ℕ → List ℕ → Type 0
+IsRightAlone Universal true tag contents =
+    (is_constructed_type tag ≡ true)
+    × (tag ≡ 17 → (items : List (List ℕ)) → AreDerEncodings contents items → IsInOrder items)
+IsRightAlone Universal false tag contents =
+    (is_reserved tag ≡ false) × (is_constructed_type tag ≡ false) × HasDerContents tag contents
+IsRightAlone class constructed tag contents = Unit {0}
+
+-- what is asked of an encoding beside that
+abbrev pub IsDerAlone : List ℕ → ASN1Class → Bool → ℕ → List ℕ → Type 0
+IsDerAlone octets class constructed tag contents =
+    IsShortest octets class constructed tag contents × IsRightAlone class constructed tag contents
+
+-- what is asked of an encoding, and of its items
+pub record IsWhole (x : List ℕ) (c : ASN1Class) (k : Bool) (n : ℕ) (v : List ℕ) : Type 0 where
+  pub alone : IsDerAlone x c k n v
+  pub items : k ≡ true → AreDer v
+
+-- identifier octets stand at the front
+pub record IsFront (identifier octets : List ℕ) : Type 0 where
+  pub tag : ℕ
+  pub rest : List ℕ
+  pub is : IsSomeIdentifier identifier tag
+  pub whole : octets ≡ identifier ++ rest
+
+-- which encoding may stand before which
+abbrev pub MayStandBefore : Order → List ℕ → List ℕ → Type 0
+MayStandBefore Tags = HasLessTag
+MayStandBefore Octets = HasNoGreaterOctets
+
+-- what may stand behind another, if there is one
+abbrev pub MayFollow : (List ℕ → List ℕ → Type 0) → Option (List ℕ) → List ℕ → Type 0
+MayFollow May None next = Unit {0}
+MayFollow May (Some first) next = May first next
+
+-- these behind another, if there is one
+abbrev pub behind : Option (List ℕ) → List (List ℕ) → List (List ℕ)
+behind None items = items
+behind (Some first) items = first ∷ items
