@@ -1,0 +1,34 @@
+\echo Use "CREATE EXTENSION simple_asn1" to load this file. \quit
+
+-- The blocks of a document, in order: where each begins, the bytes of its header (identifier and length octets) and of
+-- all of it, and how many blocks are directly inside it. The class is 0 universal, 1 application, 2 context-specific,
+-- 3 private. Bytes that are no document are an error that tells the offset.
+CREATE FUNCTION der_blocks(document bytea, OUT index int, OUT depth int, OUT class int, OUT tag numeric,
+                           OUT "offset" int, OUT size int, OUT items int, OUT header int, OUT constructed bool)
+    RETURNS SETOF record AS 'MODULE_PATHNAME' LANGUAGE C IMMUTABLE STRICT PARALLEL SAFE COST 1000 ROWS 60;
+
+-- The offset of the block at a path: of the block with the first number among those at the top, then of the one with
+-- the next number inside it, and so on, from 0. It is null if there is none. Only headers on the way are looked at.
+CREATE FUNCTION der_at(document bytea, VARIADIC path int[]) RETURNS int
+    AS 'MODULE_PATHNAME' LANGUAGE C IMMUTABLE STRICT PARALLEL SAFE COST 10;
+
+-- The value of the block at an offset: an INTEGER; the text of a string of any kind; an OBJECT IDENTIFIER as in
+-- 1.2.840; a UTCTime or GeneralizedTime, without what is below a microsecond. It is null if the block there has another
+-- tag or none is there. Invalid contents octets are an error. Only this block is looked at.
+CREATE FUNCTION der_integer(document bytea, "offset" int) RETURNS numeric
+    AS 'MODULE_PATHNAME' LANGUAGE C IMMUTABLE STRICT PARALLEL SAFE COST 10;
+CREATE FUNCTION der_text(document bytea, "offset" int) RETURNS text
+    AS 'MODULE_PATHNAME' LANGUAGE C IMMUTABLE STRICT PARALLEL SAFE COST 10;
+CREATE FUNCTION der_oid(document bytea, "offset" int) RETURNS text
+    AS 'MODULE_PATHNAME' LANGUAGE C IMMUTABLE STRICT PARALLEL SAFE COST 10;
+CREATE FUNCTION der_time(document bytea, "offset" int) RETURNS timestamptz
+    AS 'MODULE_PATHNAME' LANGUAGE C IMMUTABLE STRICT PARALLEL SAFE COST 10;
+
+-- The canonical bytes (DER) of a document.
+CREATE FUNCTION der_rewrite(document bytea) RETURNS bytea
+    AS 'MODULE_PATHNAME' LANGUAGE C IMMUTABLE STRICT PARALLEL SAFE COST 500;
+
+-- Why the bytes are no document, or strictly no document in canonical form, and the offset of the block at fault. It is
+-- null if they are one.
+CREATE FUNCTION der_fault(document bytea, strict bool DEFAULT false, OUT fault text, OUT "offset" int)
+    AS 'MODULE_PATHNAME' LANGUAGE C IMMUTABLE STRICT PARALLEL SAFE COST 500;
