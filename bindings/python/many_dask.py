@@ -1,0 +1,64 @@
+"""Counts the certificates of logs on the machines of a Dask cluster: many_dask.py SCHEDULER LOG..
+
+A log has a certificate in base64 on each line. Each worker must find the logs under these names, and the package
+simple_asn1. Issuers, types of keys and last years are counted, and lines at fault are listed with why. The part that a
+lost worker was to read is read by another one; Dask's dashboard shows how far the parts are."""
+import base64
+import collections
+import os
+import sys
+
+import simple_asn1
+
+PART = 1 << 22  # bytes of a log that one task reads
+
+
+def facts(octets):
+    items = simple_asn1.read(octets)[0][0].items
+    # the version, [0], may be left out
+    issuer, validity, _, key = items[2 + (items[0].tag_class == 2) :][:4]
+    names = [f"{name[0].oid}={getattr(name[1], 'text', name[1].octets.hex())}" for names in issuer for name in names]
+    kinds = [kind.oid for kind in key[0] if hasattr(kind, "oid")]
+    return [("issuer", ", ".join(names)), ("key", " ".join(kinds)), ("until", str(validity[1].moment.year))]
+
+
+def count(path, start, end=None):
+    """For the lines that begin from `start` to `end`: how many they are, their counts, and what is at fault in which."""
+    number, counts, faults = 0, collections.Counter(), []
+    with open(path, "rb") as log:
+        log.seek(max(start - 1, 0))
+        if start:
+            log.readline()
+        while (end is None or log.tell() < end) and (line := log.readline()):
+            number += 1
+            try:
+                counts.update(facts(base64.b64decode(line.rstrip(), validate=True)))
+            except (ValueError, LookupError) as why:
+                faults.append((number, f"{type(why).__name__}: {why}"))
+    return number, counts, faults
+
+
+def joined(parts, results):
+    """The counts of all parts, and each line at fault with its log and its number there."""
+    counts, faults, lines = collections.Counter(), [], collections.Counter()
+    for (path, *_), (number, more, found) in zip(parts, results):
+        counts.update(more)
+        faults += [(path, lines[path] + line, why) for line, why in found]
+        lines[path] += number
+    return counts, faults
+
+
+def main(scheduler, *logs):
+    from distributed import Client
+
+    parts = [(path, at, at + PART) for path in logs for at in range(0, os.path.getsize(path), PART)]
+    with Client(scheduler) as cluster:
+        counts, faults = joined(parts, cluster.gather(cluster.map(lambda part: count(*part), parts, pure=False)))
+    for path, line, why in faults:
+        print(f"{path}:{line}: {why}", file=sys.stderr)
+    for (what, value), number in sorted(counts.items(), key=lambda it: (it[0][0], -it[1], it[0][1])):
+        print(f"{number:9} {what} {value}")
+
+
+if __name__ == "__main__":
+    main(*sys.argv[1:])
