@@ -10,6 +10,8 @@ import re
 import sysconfig
 import zipfile
 
+from sdist import build_sdist  # noqa: F401
+
 HERE = pathlib.Path(__file__).resolve().parent
 LIBRARY = HERE.parent / "c" / "out" / "lib" / "libsimple_asn1.so"
 
@@ -47,7 +49,3 @@ def _listed(file):
     path, octets = file
     digest = base64.urlsafe_b64encode(hashlib.sha256(octets).digest()).rstrip(b"=").decode()
     return f"{path},sha256={digest},{len(octets)}\n"
-
-
-def build_sdist(sdist_directory, config_settings=None):
-    raise NotImplementedError("there are no source distributions: the library is proved and made in a checkout")

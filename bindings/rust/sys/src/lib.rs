@@ -1,7 +1,7 @@
 //! The calls and records of `simple_asn1.h`, which describes them, over the proved library `simple_asn1`.
 //!
-//! It links `libsimple_asn1.a`, from the folder `SIMPLE_ASN1_LIB` or from where `bindings/c/build` puts it. Each
-//! pointer must have as many values behind it as the number after it says, and no output may overlap an input.
+//! It links `libsimple_asn1.a`: its own, for Linux on x86-64, or that of the folder `SIMPLE_ASN1_LIB`. Each pointer must
+//! have as many values behind it as the number after it says, and no output may overlap an input.
 //!
 //! ```
 //! let octets = [0x30, 0x02, 0x05, 0x00];
