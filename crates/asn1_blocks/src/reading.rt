@@ -6,7 +6,7 @@ ghost use Rattle.asn1_blocks.specs.Grammar.{FirstFaultAt};
 ghost use Rattle.asn1_blocks.specs.HeadersBegun.{HeadersBegun, IsReadInside};
 ghost use Rattle.asn1_blocks.specs.Places.{HeaderFound};
 ghost use Rattle.asn1_blocks.specs.Inner.OpenFrames.{IsKindOf, attempt_of};
-ghost use Rattle.asn1_blocks.specs.Inner.ReaderSteps.{CanBeKept, CanEnd, HasDocument, HasEndedIn, HasKept, HasLeaf, HasOpened, HasStepped, HasTakenTurn, HasTurned, IsEntered, IsFaulty, IsLeafFault, IsReading, Reads, StartsEmpty, in_frame, left};
+ghost use Rattle.asn1_blocks.specs.Inner.ReaderSteps.{CanBeKept, CanEnd, HasDocument, HasEndedIn, HasKept, HasLeaf, HasOpened, HasRecovered, HasStepped, HasTakenStep, IsEntered, IsFaulty, IsLeafFault, IsReading, Reads, StartsEmpty, in_frame, left};
 ghost use Rattle.asn1_blocks.specs.Tree.{Tree};
 ghost use Rattle.asn1_blocks.specs.declared.reading.OpenFrame.{OpenFrame};
 
@@ -132,7 +132,7 @@ pub struct Reader<B, I> {
     pub fault: ASN1DecodeErr,
 }
 
-// Where a turn leads: there is more to read, the document has ended, or the reader has a fault.
+// Where a turn of a loop over frames leads: there is more to read, the document has ended, or the reader has a fault.
 #[derive(Clone, Copy)]
 pub enum Turn {
     More,
@@ -187,88 +187,69 @@ pub fn read_into<B: Builder>(
         fault: ASN1DecodeErr::OutOfMemory,
     };
     'turns: loop {
-        match take_turn(alloc, octets, &mut reader, count) {
-            Turn::More => {}
-            Turn::End => {
+        match take_step(alloc, octets, &mut reader, count) {
+            None => {
                 let Reader { inner, builder, .. } = reader;
                 let OpenFrame { items, .. } = inner;
                 return Ok((builder, items));
             }
-            Turn::Stop => {
-                return Err(LocatedErr {
-                    error: reader.fault,
-                    offset: reader.index,
-                });
+            Some(Ok(())) => {}
+            Some(Err(e)) => {
+                if !recover(alloc, octets, &mut reader, e) {
+                    return Err(LocatedErr {
+                        error: reader.fault,
+                        offset: reader.index,
+                    });
+                }
             }
         }
     }
 }
 
-// Reads one header and what it leads, or closes a frame at its end.
+// Reads one header and what it leads, or closes a frame at its end; `None` at the end of the document.
 #[inline(always)]
-fn take_turn<B: Builder>(
+fn take_step<B: Builder>(
     alloc: Global,
     octets: &[u8],
     reader: &mut Reader<B, B::Items>,
     count: &mut HeaderCount,
-) -> Turn
+) -> Option<Result<(), ASN1DecodeErr>>
     requires small { length octets.now < 2 ^ 64 }
     requires reading { (n : ℕ) × IsReading B.holds octets.now reader.old n
         × (count.old + (length octets.now - n) < 2 ^ 64) }
-    ensures turned { (n base : ℕ) → IsReading B.holds octets.now reader.old n → count.old ≡ base + n
-        → HasTakenTurn B.holds octets.now result reader.new count.new base
+    ensures stepped { (n base : ℕ) → IsReading B.holds octets.now reader.old n → count.old ≡ base + n
+        → HasTakenStep B.holds octets.now result reader.new count.new base
         (left (length octets.now) reader.old.index reader.old.outer.items) }
 {
     if reader.index != reader.inner.extent.end {
-        let step = read_next(alloc, octets, reader, count);
-        return turn_of(alloc, octets, reader, step);
+        return Some(read_next(alloc, octets, reader, count));
     }
     match reader.outer.pop() {
-        Some(parent) => {
-            let step = close(alloc, octets, reader, parent);
-            turn_of(alloc, octets, reader, step)
-        }
-        None => Turn::End,
+        Some(parent) => Some(close(alloc, octets, reader, parent)),
+        None => None,
     }
 }
 
-// Where a step leads. Memory that ran out ends reading; a fault goes to the innermost attempt.
-#[inline(always)]
-fn turn_of<B: Builder>(
-    alloc: Global,
-    octets: &[u8],
-    reader: &mut Reader<B, B::Items>,
-    step: Result<(), ASN1DecodeErr>,
-) -> Turn
-    requires small { length octets.now < 2 ^ 64 }
-    requires stepped { (n most : ℕ) × HasStepped B.holds octets.now step reader.old n most }
-    ensures turned { (n most : ℕ) → HasStepped B.holds octets.now step reader.old n most
-        → HasTurned B.holds octets.now result reader.new n most }
-{
-    match step {
-        Ok(()) => Turn::More,
-        Err(e) => fail(alloc, octets, reader, e),
-    }
-}
-
+// Whether reading goes on behind a fault: it does behind the innermost attempt, if there is one. Memory that ran out
+// ends it.
 #[cold]
 #[inline(never)]
-fn fail<B: Builder>(
+fn recover<B: Builder>(
     alloc: Global,
     octets: &[u8],
     reader: &mut Reader<B, B::Items>,
     e: ASN1DecodeErr,
-) -> Turn
+) -> bool
     requires small { length octets.now < 2 ^ 64 }
     requires failed { (n most : ℕ)
         × OutOfMemoryOr (λ fault. IsFaulty B.holds octets.now reader.old fault n most) e }
-    ensures turned { (n most : ℕ)
+    ensures recovered { (n most : ℕ)
         → OutOfMemoryOr (λ fault. IsFaulty B.holds octets.now reader.old fault n most) e
-        → HasTurned B.holds octets.now result reader.new n most }
+        → HasRecovered B.holds octets.now result reader.new n most }
 {
     if is_out_of_memory(&e) {
         reader.fault = e;
-        return Turn::Stop;
+        return false;
     }
     refuse(alloc, octets, reader, e)
 }
@@ -397,11 +378,11 @@ fn refuse<B: Builder>(
     octets: &[u8],
     reader: &mut Reader<B, B::Items>,
     e: ASN1DecodeErr,
-) -> Turn
+) -> bool
     requires small { length octets.now < 2 ^ 64 }
     requires faulty { (n most : ℕ) × IsFaulty B.holds octets.now reader.old (fault_of e) n most }
-    ensures turned { (n most : ℕ) → IsFaulty B.holds octets.now reader.old (fault_of e) n most
-        → HasTurned B.holds octets.now result reader.new n most }
+    ensures recovered { (n most : ℕ) → IsFaulty B.holds octets.now reader.old (fault_of e) n most
+        → HasRecovered B.holds octets.now result reader.new n most }
 {
     while let Some(parent) = reader.outer.pop() {
         let depth = reader.outer.len();
@@ -416,13 +397,13 @@ fn refuse<B: Builder>(
             .keep(alloc, octets, extent, items, parent, depth)
         else {
             reader.fault = ASN1DecodeErr::OutOfMemory;
-            return Turn::Stop;
+            return false;
         };
         reader.index = end;
-        return Turn::More;
+        return true;
     }
     reader.fault = e;
-    Turn::Stop
+    false
 }
 
 // Whether a fault inside the frame ends there.

@@ -1,13 +1,12 @@
--- The first turn, and what each kind of turn says.
-use Rattle.std.proofs.Common.{◌≡◌, ℕ, List, [], length, reverse, refl, sym, subst, arith}
+-- The first step, and what each kind of step says.
+use Rattle.std.proofs.Common.{◌≡◌, ℕ, Bool, true, false, List, [], Option, Some, None, Result, Ok, Err, length, reverse, refl, sym, subst, arith}
+use Rattle.asn1_headers.specs.declared.error.ASN1DecodeErr.{ASN1DecodeErr}
 use Rattle.asn1_headers.specs.Fault.{OutOfMemoryOr}
 use Rattle.asn1_blocks.specs.declared.reading.FrameKind.TheVariants.{Whole}
 use Rattle.asn1_blocks.specs.declared.reading.OpenFrame.{OpenFrame}
 use Rattle.asn1_blocks.specs.declared.reading.Reader.{Reader}
-use Rattle.asn1_blocks.specs.declared.reading.Turn.{Turn}
-use Rattle.asn1_blocks.specs.declared.reading.Turn.TheVariants.{More, End, Stop}
 use Rattle.asn1_blocks.specs.HeadersBegun.{begun_none}
-use Rattle.asn1_blocks.specs.Inner.ReaderSteps.{GoesOn, HasEnded, HasTurned, Holding, IsFaultyDocument, Reads, StartsEmpty}
+use Rattle.asn1_blocks.specs.Inner.ReaderSteps.{GoesOn, HasEnded, HasRecovered, Holding, IsFaulty, IsFaultyDocument, IsStepped, Reads, StartsEmpty}
 use Rattle.asn1_blocks.proofs.Frames.Slices.{slice_none}
 
 module _ {B I : Type 0} (Holds : Holding B I) (octets : List ℕ) where
@@ -29,12 +28,23 @@ module _ {B I : Type 0} (Holds : Holding B I) (octets : List ℕ) where
       } in
       subst (λ x. Reads Holds octets b f (reverse x) 0 0) (sym none) first
 
-  pub turned_more : (t : Turn) (r : Reader B I) (n most : ℕ) → t ≡ More → HasTurned Holds octets t r n most → GoesOn Holds octets r n most
-  turned_more t r n most e w = subst (λ z. HasTurned Holds octets z r n most) e w
+  -- no step is left
+  pub stepped_end : (s : Option (Result (Unit {0}) ASN1DecodeErr)) (r : Reader B I) (n most : ℕ) → s ≡ None → IsStepped Holds octets s r n most
+      → HasEnded Holds octets r n
+  stepped_end s r n most e w = subst (λ z. IsStepped Holds octets z r n most) e w
 
-  pub turned_end : (t : Turn) (r : Reader B I) (n most : ℕ) → t ≡ End → HasTurned Holds octets t r n most → HasEnded Holds octets r n
-  turned_end t r n most e w = subst (λ z. HasTurned Holds octets z r n most) e w
+  pub stepped_on : (s : Option (Result (Unit {0}) ASN1DecodeErr)) (x : Unit {0}) (r : Reader B I) (n most : ℕ) → s ≡ Some (Ok x)
+      → IsStepped Holds octets s r n most → GoesOn Holds octets r n most
+  stepped_on s x r n most e w = subst (λ z. IsStepped Holds octets z r n most) e w
 
-  pub turned_stop : (t : Turn) (r : Reader B I) (n most : ℕ) → t ≡ Stop → HasTurned Holds octets t r n most
+  pub stepped_wrong : (s : Option (Result (Unit {0}) ASN1DecodeErr)) (x : ASN1DecodeErr) (r : Reader B I) (n most : ℕ) → s ≡ Some (Err x)
+      → IsStepped Holds octets s r n most → OutOfMemoryOr (λ fault. IsFaulty Holds octets r fault n most) x
+  stepped_wrong s x r n most e w = subst (λ z. IsStepped Holds octets z r n most) e w
+
+  -- reading goes on behind a fault, or the fault is that of the document
+  pub recovered_on : (b : Bool) (r : Reader B I) (n most : ℕ) → b ≡ true → HasRecovered Holds octets b r n most → GoesOn Holds octets r n most
+  recovered_on b r n most e w = subst (λ z. HasRecovered Holds octets z r n most) e w
+
+  pub recovered_stop : (b : Bool) (r : Reader B I) (n most : ℕ) → b ≡ false → HasRecovered Holds octets b r n most
       → OutOfMemoryOr (λ fault. IsFaultyDocument octets fault r.index n) r.fault
-  turned_stop t r n most e w = subst (λ z. HasTurned Holds octets z r n most) e w
+  recovered_stop b r n most e w = subst (λ z. HasRecovered Holds octets z r n most) e w

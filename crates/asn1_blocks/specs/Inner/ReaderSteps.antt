@@ -1,5 +1,5 @@
 -- The reader, and what its steps do, whatever is built of the blocks.
-use Rattle.std.specs.Prelude.{◌≡◌, ◌≢◌, ℕ, ◌+◌, ◌*◌, ◌-◌, ◌<◌, ◌≤◌, ◌++◌, List, [], ◌∷◌, length, reverse, slice_range, Result, Ok, Err}
+use Rattle.std.specs.Prelude.{◌≡◌, ◌≢◌, ℕ, ◌+◌, ◌*◌, ◌-◌, ◌<◌, ◌≤◌, ◌++◌, Bool, true, false, List, [], ◌∷◌, length, reverse, slice_range, Option, Some, None, Result, Ok, Err}
 use Rattle.asn1_headers.specs.declared.header.ASN1Class.TheVariants.{Universal}
 use Rattle.asn1_blocks.specs.declared.parsed.PlacedHeader.{PlacedHeader}
 use Rattle.asn1_headers.specs.declared.error.ASN1DecodeErr.{ASN1DecodeErr}
@@ -9,8 +9,6 @@ use Rattle.asn1_blocks.specs.declared.reading.FrameKind.{FrameKind}
 use Rattle.asn1_blocks.specs.declared.reading.FrameKind.TheVariants.{Whole, Attempt}
 use Rattle.asn1_blocks.specs.declared.reading.OpenFrame.{OpenFrame}
 use Rattle.asn1_blocks.specs.declared.reading.Reader.{Reader}
-use Rattle.asn1_blocks.specs.declared.reading.Turn.{Turn}
-use Rattle.asn1_blocks.specs.declared.reading.Turn.TheVariants.{More, End, Stop}
 use Rattle.asn1_headers.specs.Fault.{DecodeFault, OutOfMemoryOr}
 use Rattle.asn1_blocks.specs.Contents.{LeafFault}
 use Rattle.asn1_blocks.specs.Grammar.{AreBlocks, BlocksFaultAt, Encodes, EncodesAll, IsDocument}
@@ -167,19 +165,24 @@ pub record HasEnded {B I : Type 0} (Holds : Holding B I) (octets : List ℕ) (r 
   pub encoded : EncodesAll 0 octets (trees_of trees)
   pub begun : HeadersBegun octets n
 
--- where a turn leads
-abbrev pub HasTurned : {B I : Type 0} → Holding B I → List ℕ → Turn → Reader B I → ℕ → ℕ → Type 0
-HasTurned Holds octets More r n most = GoesOn Holds octets r n most
-HasTurned Holds octets End r n most = HasEnded Holds octets r n
-HasTurned Holds octets Stop r n most = OutOfMemoryOr (λ fault. IsFaultyDocument octets fault r.index n) r.fault
+-- where a fault leads: reading goes on behind the innermost attempt, or it stops
+abbrev pub HasRecovered : {B I : Type 0} → Holding B I → List ℕ → Bool → Reader B I → ℕ → ℕ → Type 0
+HasRecovered Holds octets true r n most = GoesOn Holds octets r n most
+HasRecovered Holds octets false r n most = OutOfMemoryOr (λ fault. IsFaultyDocument octets fault r.index n) r.fault
+
+-- what a step leads to; with none, the whole document was read
+abbrev pub IsStepped : {B I : Type 0} → Holding B I → List ℕ → Option (Result (Unit {0}) ASN1DecodeErr) → Reader B I
+    → ℕ → ℕ → Type 0
+IsStepped Holds octets None r n most = HasEnded Holds octets r n
+IsStepped Holds octets (Some step) r n most = HasStepped Holds octets step r n most
 
 -- and how many headers were begun since the count was at the base
-pub record HasTakenTurn {B I : Type 0} (Holds : Holding B I) (octets : List ℕ) (t : Turn) (r : Reader B I)
-    (count base most : ℕ) : Type 0 where
+pub record HasTakenStep {B I : Type 0} (Holds : Holding B I) (octets : List ℕ)
+    (step : Option (Result (Unit {0}) ASN1DecodeErr)) (r : Reader B I) (count base most : ℕ) : Type 0 where
   pub begun : ℕ
   pub counted : count ≡ base + begun
   pub bounded : begun ≤ length octets
-  pub turned : HasTurned Holds octets t r begun most
+  pub stepped : IsStepped Holds octets step r begun most
 
 -- reading goes on inside a new frame, the innermost from now on
 pub record IsEntered {B I : Type 0} (a : Reader B I) (f : OpenFrame I) (r : Reader B I) : Type 0 where

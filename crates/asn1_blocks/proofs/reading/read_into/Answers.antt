@@ -1,9 +1,9 @@
-use Rattle.std.proofs.Common.{◌≡◌, ◌<◌, inl, inr, length, arith}
+use Rattle.std.proofs.Common.{◌≡◌, ◌<◌, false, true, Some, inl, inr, length, ap, ◌∙◌, arith}
 use Rattle.std.proofs.lemmas.Grind.{common_steps}
 use Rattle.asn1_blocks.specs.HeadersBegun.{begun_none}
 use Rattle.asn1_blocks.proofs.ReadSteps.{no_octets}
 use Rattle.asn1_blocks.proofs.Reader.Opening.{reader_places}
-use Rattle.asn1_blocks.proofs.Reader.Turning.{first_reading, turned_end, turned_more, turned_stop}
+use Rattle.asn1_blocks.proofs.Reader.Turning.{first_reading, recovered_on, recovered_stop, stepped_end, stepped_on, stepped_wrong}
 use Rattle.asn1_blocks.proofs.reading.read_into.Goals as goal
 
 pub returns-then-is_empty-clause-counted : goal.returns-then-is_empty-clause-counted
@@ -18,75 +18,112 @@ turns-init g c = (
   omega arith,
 )
 
-pub take_turn-requires-clause-reading : goal.take_turn-requires-clause-reading
-take_turn-requires-clause-reading g c =
+pub take_step-requires-clause-reading : goal.take_step-requires-clause-reading
+take_step-requires-clause-reading g c =
     let (n, w, e) = c.turns.invariant in
     let v = reader_places g.B.Builder.holds c.args.octets.now c.turns.reader n w in
     (n, w, omega (arith, v.bound, v.to, v.within, e, c.requires.room))
 
+pub returns-in-None-clause-document : goal.returns-in-None-clause-document
+returns-in-None-clause-document g c =
+    let (n, w, e) = c.turns.invariant in
+    let t = c.take_step.ensures.stepped n c.args.count.now w e in
+    let r = c.take_step.new.reader in
+    let d = stepped_end g.B.Builder.holds c.args.octets.now c.take_step.result r t.begun _ c.in-None.is t.stepped in
+    let some : 0 < length c.args.octets.now = grind (arith, common_steps) in
+    record { trees = d.trees; extent = r.inner.extent; document = record { some = some; blocks = d.encoded }; holds = d.holds }
+
+pub returns-in-None-clause-counted : goal.returns-in-None-clause-counted
+returns-in-None-clause-counted g c =
+    let (n, w, e) = c.turns.invariant in
+    let t = c.take_step.ensures.stepped n c.args.count.now w e in
+    let d = stepped_end g.B.Builder.holds c.args.octets.now c.take_step.result c.take_step.new.reader t.begun _ c.in-None.is t.stepped in
+    (t.begun, d.begun, t.counted)
+
+pub returns-in-None-clause-grown : goal.returns-in-None-clause-grown
+returns-in-None-clause-grown g c =
+    let (n, w, e) = c.turns.invariant in
+    let t = c.take_step.ensures.stepped n c.args.count.now w e in
+    omega (arith, t.counted)
+
+pub returns-in-None-clause-bounded : goal.returns-in-None-clause-bounded
+returns-in-None-clause-bounded g c =
+    let (n, w, e) = c.turns.invariant in
+    let t = c.take_step.ensures.stepped n c.args.count.now w e in
+    omega (arith, t.counted, t.bounded)
+
+pub turns-smaller-in-Some-Ok : goal.turns-smaller-in-Some-Ok
+turns-smaller-in-Some-Ok g c =
+    let (n, w, e) = c.turns.invariant in
+    let t = c.take_step.ensures.stepped n c.args.count.now w e in
+    let on = stepped_on g.B.Builder.holds c.args.octets.now c.take_step.result _ c.take_step.new.reader t.begun _ (c.in-Some-Ok.is ∙ ap Some c.in-Some-Ok.field-0-is)
+    t.stepped in
+    on.nearer
+
+pub turns-preserved-in-Some-Ok : goal.turns-preserved-in-Some-Ok
+turns-preserved-in-Some-Ok g c =
+    let (n, w, e) = c.turns.invariant in
+    let t = c.take_step.ensures.stepped n c.args.count.now w e in
+    let on = stepped_on g.B.Builder.holds c.args.octets.now c.take_step.result _ c.take_step.new.reader t.begun _ (c.in-Some-Ok.is ∙ ap Some c.in-Some-Ok.field-0-is)
+    t.stepped in
+    (t.begun, on.reading, t.counted)
+
+pub recover-requires-clause-failed : goal.recover-requires-clause-failed
+recover-requires-clause-failed g c =
+    let (n, w, e) = c.turns.invariant in
+    let t = c.take_step.ensures.stepped n c.args.count.now w e in
+    let wrong = stepped_wrong g.B.Builder.holds c.args.octets.now c.take_step.result _ c.take_step.new.reader t.begun _ (c.in-Some-Err.is ∙ ap Some c.in-Some-Err.field-0-is)
+    t.stepped in
+    (t.begun, _, wrong)
+
+pub returns-then-not-recover-clause-refused : goal.returns-then-not-recover-clause-refused
+returns-then-not-recover-clause-refused g c =
+    let (n, w, e) = c.turns.invariant in
+    let t = c.take_step.ensures.stepped n c.args.count.now w e in
+    let wrong = stepped_wrong g.B.Builder.holds c.args.octets.now c.take_step.result _ c.take_step.new.reader t.begun _ (c.in-Some-Err.is ∙ ap Some c.in-Some-Err.field-0-is)
+    t.stepped in
+    let stops : c.recover.result ≡ false = grind (arith, common_steps) in
+    let s = recovered_stop g.B.Builder.holds c.args.octets.now c.recover.result c.recover.new.reader t.begun _ stops (c.recover.ensures.recovered t.begun _ wrong) in
+    elim s [ inl memory ↦ inl memory | inr f ↦ inr (inr f.fault) ]
+
+pub returns-then-not-recover-clause-counted : goal.returns-then-not-recover-clause-counted
+returns-then-not-recover-clause-counted g c =
+    let (n, w, e) = c.turns.invariant in
+    let t = c.take_step.ensures.stepped n c.args.count.now w e in
+    let wrong = stepped_wrong g.B.Builder.holds c.args.octets.now c.take_step.result _ c.take_step.new.reader t.begun _ (c.in-Some-Err.is ∙ ap Some c.in-Some-Err.field-0-is)
+    t.stepped in
+    let stops : c.recover.result ≡ false = grind (arith, common_steps) in
+    let s = recovered_stop g.B.Builder.holds c.args.octets.now c.recover.result c.recover.new.reader t.begun _ stops (c.recover.ensures.recovered t.begun _ wrong) in
+    elim s [ inl memory ↦ inl memory | inr f ↦ inr (t.begun, f.begun, t.counted) ]
+
+pub returns-then-not-recover-clause-grown : goal.returns-then-not-recover-clause-grown
+returns-then-not-recover-clause-grown g c =
+    let (n, w, e) = c.turns.invariant in
+    let t = c.take_step.ensures.stepped n c.args.count.now w e in
+    omega (arith, t.counted)
+
+pub returns-then-not-recover-clause-bounded : goal.returns-then-not-recover-clause-bounded
+returns-then-not-recover-clause-bounded g c =
+    let (n, w, e) = c.turns.invariant in
+    let t = c.take_step.ensures.stepped n c.args.count.now w e in
+    omega (arith, t.counted, t.bounded)
+
 pub turns-smaller : goal.turns-smaller
 turns-smaller g c =
     let (n, w, e) = c.turns.invariant in
-    let t = c.take_turn.ensures.turned n c.args.count.now w e in
-    (turned_more g.B.Builder.holds c.args.octets.now c.take_turn.result c.take_turn.new.reader t.begun _ c.in-More.is t.turned).nearer
+    let t = c.take_step.ensures.stepped n c.args.count.now w e in
+    let wrong = stepped_wrong g.B.Builder.holds c.args.octets.now c.take_step.result _ c.take_step.new.reader t.begun _ (c.in-Some-Err.is ∙ ap Some c.in-Some-Err.field-0-is)
+    t.stepped in
+    let goes : c.recover.result ≡ true = grind (arith, common_steps) in
+    let on = recovered_on g.B.Builder.holds c.args.octets.now c.recover.result c.recover.new.reader t.begun _ goes (c.recover.ensures.recovered t.begun _ wrong) in
+    on.nearer
 
 pub turns-preserved : goal.turns-preserved
 turns-preserved g c =
     let (n, w, e) = c.turns.invariant in
-    let t = c.take_turn.ensures.turned n c.args.count.now w e in (
-      t.begun,
-      (turned_more g.B.Builder.holds c.args.octets.now c.take_turn.result c.take_turn.new.reader t.begun _ c.in-More.is t.turned).reading,
-      t.counted,
-    )
-
-pub returns-in-End-clause-document : goal.returns-in-End-clause-document
-returns-in-End-clause-document g c =
-    let (n, w, e) = c.turns.invariant in
-    let t = c.take_turn.ensures.turned n c.args.count.now w e in
-    let r = c.take_turn.new.reader in
-    let d = turned_end g.B.Builder.holds c.args.octets.now c.take_turn.result r t.begun _ c.in-End.is t.turned in
-    let some : 0 < length c.args.octets.now = grind (arith, common_steps) in
-    record { trees = d.trees; extent = r.inner.extent; document = record { some = some; blocks = d.encoded }; holds = d.holds }
-
-pub returns-in-End-clause-counted : goal.returns-in-End-clause-counted
-returns-in-End-clause-counted g c =
-    let (n, w, e) = c.turns.invariant in
-    let t = c.take_turn.ensures.turned n c.args.count.now w e in
-    let d = turned_end g.B.Builder.holds c.args.octets.now c.take_turn.result c.take_turn.new.reader t.begun _ c.in-End.is t.turned in
-    (t.begun, d.begun, t.counted)
-
-pub returns-in-End-clause-grown : goal.returns-in-End-clause-grown
-returns-in-End-clause-grown g c =
-    let (n, w, e) = c.turns.invariant in
-    omega (arith, (c.take_turn.ensures.turned n c.args.count.now w e).counted)
-
-pub returns-in-End-clause-bounded : goal.returns-in-End-clause-bounded
-returns-in-End-clause-bounded g c =
-    let (n, w, e) = c.turns.invariant in
-    let t = c.take_turn.ensures.turned n c.args.count.now w e in
-    omega (arith, t.counted, t.bounded)
-
-pub returns-in-Stop-clause-refused : goal.returns-in-Stop-clause-refused
-returns-in-Stop-clause-refused g c =
-    let (n, w, e) = c.turns.invariant in
-    let t = c.take_turn.ensures.turned n c.args.count.now w e in
-    let s = turned_stop g.B.Builder.holds c.args.octets.now c.take_turn.result c.take_turn.new.reader t.begun _ c.in-Stop.is t.turned in
-    elim s [ inl memory ↦ inl memory | inr f ↦ inr (inr f.fault) ]
-
-pub returns-in-Stop-clause-counted : goal.returns-in-Stop-clause-counted
-returns-in-Stop-clause-counted g c =
-    let (n, w, e) = c.turns.invariant in
-    let t = c.take_turn.ensures.turned n c.args.count.now w e in
-    let s = turned_stop g.B.Builder.holds c.args.octets.now c.take_turn.result c.take_turn.new.reader t.begun _ c.in-Stop.is t.turned in
-    elim s [ inl memory ↦ inl memory | inr f ↦ inr (t.begun, f.begun, t.counted) ]
-
-pub returns-in-Stop-clause-grown : goal.returns-in-Stop-clause-grown
-returns-in-Stop-clause-grown g c =
-    let (n, w, e) = c.turns.invariant in
-    omega (arith, (c.take_turn.ensures.turned n c.args.count.now w e).counted)
-
-pub returns-in-Stop-clause-bounded : goal.returns-in-Stop-clause-bounded
-returns-in-Stop-clause-bounded g c =
-    let (n, w, e) = c.turns.invariant in
-    let t = c.take_turn.ensures.turned n c.args.count.now w e in
-    omega (arith, t.counted, t.bounded)
+    let t = c.take_step.ensures.stepped n c.args.count.now w e in
+    let wrong = stepped_wrong g.B.Builder.holds c.args.octets.now c.take_step.result _ c.take_step.new.reader t.begun _ (c.in-Some-Err.is ∙ ap Some c.in-Some-Err.field-0-is)
+    t.stepped in
+    let goes : c.recover.result ≡ true = grind (arith, common_steps) in
+    let on = recovered_on g.B.Builder.holds c.args.octets.now c.recover.result c.recover.new.reader t.begun _ goes (c.recover.ensures.recovered t.begun _ wrong) in
+    (t.begun, on.reading, t.counted)

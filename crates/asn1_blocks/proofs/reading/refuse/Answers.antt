@@ -58,7 +58,7 @@ keep-requires g c =
 pub returns-in-Some : goal.returns-in-Some
 returns-in-Some g c =
     record {
-      turned = λ n most w.
+      recovered = λ n most w.
           let octets = c.args.octets.now in
           let r = c.loop-parent.reader in
           let k = (c.replace-extent.result) in
@@ -80,7 +80,7 @@ returns-in-Some g c =
 pub returns : goal.returns
 returns g c =
     record {
-      turned = λ n most w.
+      recovered = λ n most w.
           let r = c.loop-parent.reader in
           let before = c.loop-parent.invariant.faulty n most w in
           let none : length r.outer.items ≡ 0 = grind (arith, common_steps) in

@@ -4,7 +4,7 @@ use Rattle.std.proofs.Common.{arith}
 use Rattle.asn1_headers.specs.declared.error.ASN1DecodeErr.TheVariants.{OutOfMemory}
 use Rattle.asn1_blocks.specs.Inner.ReaderSteps.{IsFaulty}
 use Rattle.asn1_blocks.proofs.Frames.Opening.{fault_here}
-use Rattle.asn1_blocks.proofs.reading.fail.Goals as goal
+use Rattle.asn1_blocks.proofs.reading.recover.Goals as goal
 
 pub refuse-requires-clause-faulty : goal.refuse-requires-clause-faulty
 refuse-requires-clause-faulty g c =
@@ -19,6 +19,6 @@ pub returns : goal.returns
 returns g c =
     let other : c.args.e ≡ OutOfMemory → ⊥ = grind (arith, common_steps) in
     record {
-      turned = λ n most w.
-          c.refuse.ensures.turned n most (fault_here (λ z. IsFaulty g.B.Builder.holds c.args.octets.now c.args.reader.now z n most) c.args.e w other);
+      recovered = λ n most w.
+          c.refuse.ensures.recovered n most (fault_here (λ z. IsFaulty g.B.Builder.holds c.args.octets.now c.args.reader.now z n most) c.args.e w other);
     }

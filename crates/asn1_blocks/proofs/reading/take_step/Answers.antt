@@ -2,11 +2,11 @@ use Rattle.std.proofs.Common.{◌≡◌, ℕ, ◌+◌, List, [], ◌∷◌, ◌+
 use Rattle.std.proofs.lemmas.Grind.{common_steps}
 use Rattle.asn1_blocks.specs.declared.reading.OpenFrame.{OpenFrame}
 use Rattle.asn1_blocks.specs.declared.reading.Reader.{Reader}
-use Rattle.asn1_blocks.specs.Inner.ReaderSteps.{HasTurned, Holding, IsReading, Reads, left}
+use Rattle.asn1_blocks.specs.Inner.ReaderSteps.{HasStepped, Holding, IsReading, Reads, left}
 use Rattle.asn1_blocks.proofs.Reader.Closing.{document_ended}
 use Rattle.asn1_blocks.proofs.Reader.Opening.{reader_places}
 use Rattle.asn1_blocks.proofs.Reader.Popping.{reverse_none, reverse_push}
-use Rattle.asn1_blocks.proofs.reading.take_turn.Goals as goal
+use Rattle.asn1_blocks.proofs.reading.take_step.Goals as goal
 
 -- the innermost frame has ended inside another, which was taken out of the list
 closing : {B I : Type 0} (Holds : Holding B I) (octets : List ℕ) (r : Reader B I) (f : OpenFrame I) (after : List (OpenFrame I)) (n : ℕ)
@@ -21,43 +21,29 @@ as_much : {B I : Type 0} (size : ℕ) (r : Reader B I) (f : OpenFrame I) (after 
     → r.outer.items ≡ after ++ f ∷ [] → left size r.inner.extent.end (f ∷ after) ≡ left size r.index r.outer.items
 as_much size r f after i is = omega (arith, i, ap length is, length-append after (f ∷ []))
 
-pub read_next-step-requires-clause-room : goal.read_next-step-requires-clause-room
-read_next-step-requires-clause-room g c =
+pub read_next-requires-clause-room : goal.read_next-requires-clause-room
+read_next-requires-clause-room g c =
     let (n, w, room) = c.requires.reading in
     let v = reader_places g.B.Builder.holds c.args.octets.now c.args.reader.now n w in
     omega (arith, v.bound, v.to, v.within, c.if-reader.true, room)
 
-pub turn_of-requires-clause-stepped : goal.turn_of-requires-clause-stepped
-turn_of-requires-clause-stepped g c =
-    let (n, w, room) = c.requires.reading in
-    (n + 1, _, c.read_next-step.ensures.stepped n w)
-
 pub returns-then-reader : goal.returns-then-reader
 returns-then-reader g c =
     record {
-      turned = λ n base w e.
+      stepped = λ n base w e.
           let v = reader_places g.B.Builder.holds c.args.octets.now c.args.reader.now n w in
           record {
             begun = n + 1;
-            counted = omega (arith, e, c.read_next-step.ensures.counted);
+            counted = omega (arith, e, c.read_next.ensures.counted);
             bounded = omega (arith, v.bound, v.to, v.within, c.if-reader.true);
-            turned = c.turn_of.ensures.turned (n + 1) _ (c.read_next-step.ensures.stepped n w);
+            stepped = c.read_next.ensures.stepped n w;
           };
     }
-
-pub turn_of-requires-in-Some-clause-stepped : goal.turn_of-requires-in-Some-clause-stepped
-turn_of-requires-in-Some-clause-stepped g c =
-    let (n, w, room) = c.requires.reading in (
-      n,
-      _,
-      c.close-step.ensures.stepped n (closing g.B.Builder.holds c.args.octets.now c.args.reader.now c.in-Some.parent c.pop.new.self.items n
-          c.if-reader.false c.in-Some.ensures.items w),
-    )
 
 pub returns-in-Some : goal.returns-in-Some
 returns-in-Some g c =
     record {
-      turned = λ n base w e.
+      stepped = λ n base w e.
           let octets = c.args.octets.now in
           let r = c.args.reader.now in
           let parent = c.in-Some.parent in
@@ -65,20 +51,19 @@ returns-in-Some g c =
           let is = c.in-Some.ensures.items in
           let v = reader_places g.B.Builder.holds octets r n w in
           let ended = closing g.B.Builder.holds octets r parent after n c.if-reader.false is w in
-          let t = c.turn_of-in-Some.ensures.turned n _ (c.close-step.ensures.stepped n ended) in
           record {
             begun = n;
             counted = e;
             bounded = omega (arith, v.bound, v.to, v.within);
-            turned = subst (λ z. HasTurned g.B.Builder.holds octets c.turn_of-in-Some.result c.turn_of-in-Some.new.reader n z)
-                (as_much (length octets) r parent after c.if-reader.false is) t;
+            stepped = subst (λ z. HasStepped g.B.Builder.holds octets c.close.result c.close.new.reader n z)
+                (as_much (length octets) r parent after c.if-reader.false is) (c.close.ensures.stepped n ended);
           };
     }
 
 pub returns-in-None : goal.returns-in-None
 returns-in-None g c =
     record {
-      turned = λ n base w e.
+      stepped = λ n base w e.
           let octets = c.args.octets.now in
           let r = c.args.reader.now in
           let v = reader_places g.B.Builder.holds octets r n w in
@@ -89,7 +74,7 @@ returns-in-None g c =
             begun = n;
             counted = e;
             bounded = omega (arith, v.bound, v.to, v.within);
-            turned = document_ended g.B.Builder.holds octets
+            stepped = document_ended g.B.Builder.holds octets
                 (record { inner = r.inner; outer = c.pop.new.self; index = r.index; builder = r.builder; fault = r.fault }) n end;
           };
     }
