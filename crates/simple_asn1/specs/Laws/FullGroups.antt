@@ -1,4 +1,4 @@
--- The narrower grammar of the Rust crate, in which a SEQUENCE or SET has at least one item.
+-- The grammar without empty groups: it is this crate's, but that a SEQUENCE or SET has at least one item.
 use Rattle.std.specs.Prelude.{◌≡◌, ◌≢◌, ℕ, ◌<◌, ◌++◌, Bool, List, [], length}
 use Rattle.asn1_headers.specs.declared.header.ASN1Class.{ASN1Class}
 use Rattle.asn1_headers.specs.declared.header.ASN1Class.TheVariants.{Universal}
@@ -35,11 +35,11 @@ mutual
         {octets x rest : List ℕ} →
         octets ≡ x ++ rest → IsFullBlock x → AreFullBlocks rest → AreFullBlocks octets
 
--- the wider grammar reads all that the narrower reads
-pub record AcceptsAllOfTheRustCrate : Type 0 where
+-- the grammar with empty groups reads all that it reads without them
+pub record IsWiderThanFullGroups : Type 0 where
   pub block : (octets : List ℕ) → IsFullBlock octets → IsBlock octets
   pub blocks : (octets : List ℕ) → AreFullBlocks octets → AreBlocks octets
-  -- so every document of the narrower grammar is one
+  -- so every document without empty groups is one
   pub document :
       (octets : List ℕ) →
       FitInSlice octets → 0 < length octets → AreFullBlocks octets →
