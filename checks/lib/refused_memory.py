@@ -13,6 +13,9 @@ test = sys.argv[4] if len(sys.argv) > 4 else None
 name = pathlib.Path(crate).name
 # what a run ends with where memory ran out: its status, what it wrote, and what stands on standard error
 RAN_OUT = (2, b"", b"out of memory\n")
+# lines of each kind in one run of der_tool, the last of them empty, and their answers
+TOGETHER = ("0280\n3000\nzz\n0489\n",
+            "ok 020100\nok 3000\nbadhex\nrefused LengthTooLarge 9\nrefused EmptyBuffer")
 if test:
     RAN_OUT = (101, b"", b"error: AllocError\nthe test failed: its result gives status 1\n")
 
@@ -24,7 +27,8 @@ def rows():
     lines = [it for it in pathlib.Path(crate, "stdin").read_text().splitlines() if not it.startswith("#")]
     answers = pathlib.Path(crate, "stdout").read_text().splitlines()
     assert len(lines) == len(answers), f"{name}: {len(lines)} lines have {len(answers)} answers"
-    return [it for it in dict(zip(lines, answers)).items() if it[0]]
+    together = [TOGETHER] if name == "der_tool" else []
+    return [it for it in dict(zip(lines, answers)).items() if it[0]] + together
 
 
 def called(line, answer):
@@ -69,7 +73,7 @@ for (line, answer), (count, wrong) in zip(lines, counts):
     call[1] += count
     call[2] = max(call[2], count)
     for it in wrong:
-        print(f"{line[:60]}: {it}")
+        print(f"{line[:60]!r}: {it}")
 for call, (some, count, most) in calls.items():
     print(f"refused-memory: {name} {call}: {some} lines, {count} allocations refused, at most {most} in one")
 total, bad = sum(it for it, _ in counts), sum(len(it) for _, it in counts)

@@ -14,7 +14,7 @@ use asn1_headers::header::{ASN1Class, HeaderCount, identifier_size, length_size}
 use asn1_leaves::contents::{bit_string, boolean, generalized_time, integer, object_identifier};
 use asn1_numbers::number::big_uint::BigUint;
 use smallvec::SmallVec;
-use std::alloc::Global;
+use std::alloc::{AllocError, Global};
 
 // Whether the header at the front of the octets has its shortest form. 80 is as short as 00.
 #[inline(always)]
@@ -99,16 +99,19 @@ fn are_shortest_subidentifiers(contents: &[u8]) -> bool
 
 // Where octets begin with a header in its shortest form: octets, maybe none, that stand inside, and those that come
 // after. Those before are canonical if both are. Most headers are of class Universal, in two octets: these have code of
-// their own.
+// their own. A long tag number may take memory.
 #[inline(always)]
-fn past_header<'a>(alloc: Global, octets: &'a [u8]) -> Option<(&'a [u8], &'a [u8])>
-    ensures { IfSome result (λ x. LeavesBoth octets.now x.0.now x.1.now) }
+fn past_header<'a>(
+    alloc: Global,
+    octets: &'a [u8],
+) -> Result<Option<(&'a [u8], &'a [u8])>, AllocError>
+    ensures { IfOk result (λ found. IfSome found (λ x. LeavesBoth octets.now x.0.now x.1.now)) }
 {
     match octets {
-        [0x30, length, ..] if *length < 128 => past_short_group(octets, 0x30, *length),
-        [0x31, length, ..] if *length < 128 => past_short_group(octets, 0x31, *length),
+        [0x30, length, ..] if *length < 128 => Ok(past_short_group(octets, 0x30, *length)),
+        [0x31, length, ..] if *length < 128 => Ok(past_short_group(octets, 0x31, *length)),
         [leading, length, ..] if *leading < 31 && *length < 128 => {
-            past_short_leaf(octets, *leading, *length)
+            Ok(past_short_leaf(octets, *leading, *length))
         }
         _ => past_any(alloc, octets),
     }
@@ -148,18 +151,19 @@ fn past_short_leaf<'a>(octets: &'a [u8], leading: u8, length: u8) -> Option<(&'a
 
 // The same of any header.
 #[inline(always)]
-fn past_any<'a>(alloc: Global, octets: &'a [u8]) -> Option<(&'a [u8], &'a [u8])>
-    ensures { IfSome result (λ x. LeavesBoth octets.now x.0.now x.1.now) }
+fn past_any<'a>(alloc: Global, octets: &'a [u8]) -> Result<Option<(&'a [u8], &'a [u8])>, AllocError>
+    ensures { IfOk result (λ found. IfSome found (λ x. LeavesBoth octets.now x.0.now x.1.now)) }
 {
     let mut count = HeaderCount::new();
     let header = match read_header(alloc, octets, &mut count) {
         Ok(header) => header,
-        Err(_) => return None,
+        Err(ASN1DecodeErr::OutOfMemory) => return Err(AllocError),
+        Err(_) => return Ok(None),
     };
     if !is_shortest(octets, &header) {
-        return None;
+        return Ok(None);
     }
-    past_shortest(octets, &header)
+    Ok(past_shortest(octets, &header))
 }
 
 // The same where the header at the front has its shortest form.
@@ -209,7 +213,7 @@ pub(crate) fn are_canonical_in_place(alloc: Global, i: &[u8]) -> Result<bool, AS
                 None => return Ok(true),
             }
         } else {
-            let Some((inside, after)) = past_header(alloc, rest) else {
+            let Some((inside, after)) = past_header(alloc, rest)? else {
                 return Ok(false);
             };
             if inside.is_empty() {

@@ -1,5 +1,5 @@
 use Rattle.std.proofs.Common.{◌≡◌, ◌++◌, ◌∷◌, [], ℕ, List, Bor, Some, sym, subst, arith}
-use Rattle.std.specs.Prelude.{All}
+use Rattle.std.specs.Prelude.{All, IfSome}
 use Rattle.std.proofs.lemmas.Grind.{common_steps}
 use Rattle.std.proofs.lemmas.List.Elements.{All-nil, All-pop, All-push}
 use Rattle.simple_asn1.specs.Inner.InPlace.{AreCanonical, LeavesBoth}
@@ -27,12 +27,14 @@ returns-in-None-clause-canonical c said =
 
 pub headers-preserved-then-is_empty-2 : goal.headers-preserved-then-is_empty-2
 headers-preserved-then-is_empty-2 c after outer =
-    let leaves : LeavesBoth c.headers.rest.now c.in-Some-past_header.inside.now c.in-Some-past_header.after.now = c.in-Some-past_header.ensures in
-    c.headers.invariant (leaves.canonical (none_canonical c.in-Some-past_header.inside.now (grind (arith, common_steps))) after) outer
+    let leaves : LeavesBoth c.headers.rest.now c.in-Some-2.inside.now c.in-Some-2.after.now =
+    subst (λ f. IfSome f (λ x. LeavesBoth c.headers.rest.now x.0.now x.1.now)) c.in-Some-2.is c.in_ok-inside.ensures in
+    c.headers.invariant (leaves.canonical (none_canonical c.in-Some-2.inside.now (grind (arith, common_steps))) after) outer
 
 pub headers-preserved : goal.headers-preserved
 headers-preserved c inside outer =
-    let waits = c.in-Some-past_header.after in
-    let leaves : LeavesBoth c.headers.rest.now c.in-Some-past_header.inside.now waits.now = c.in-Some-past_header.ensures in
+    let waits = c.in-Some-2.after in
+    let leaves : LeavesBoth c.headers.rest.now c.in-Some-2.inside.now waits.now =
+    subst (λ f. IfSome f (λ x. LeavesBoth c.headers.rest.now x.0.now x.1.now)) c.in-Some-2.is c.in_ok-inside.ensures in
     let pushed = pushed_all c.headers.outer.items c.push.new.self.items waits c.in_ok-push.ensures.ok outer in
     c.headers.invariant (leaves.canonical inside pushed.1) pushed.0
