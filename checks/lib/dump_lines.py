@@ -132,7 +132,7 @@ REFUSED = [
     ((21, "blocks"), []), ((21, "blocks"), {}), ((21, "blocks", 0, "value"), ""), ((21, "blocks", 0, "type"), MISSING),
     ((21, "constructed"), True), ((21, "fault"), {"offset": 0, "text": ""}), ((22, "blocks"), [{}]),
     ((22, "name"), ""), ((22, "name"), 1), ((2, "name"), "five"), ((7, "shown"), "A"), ((2, "shown"), ""),
-    ((23, "value"), 0), ((23, "value"), ""), ((24, "value"), 1985), ((24, "type"), "DATE"), ((25, "value"), "1"),
+    ((23, "value"), 0), ((23, "value"), ""), ((24, "value"), 1985), ((24, "type"), None), ((24, "type"), "TIME"), ((25, "value"), "1"),
 ]
 # so of a line with each fault, the block of which is: malformed, primitive and of indefinite length, of no header, cut
 # short, and without its end

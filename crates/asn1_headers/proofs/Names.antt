@@ -5,7 +5,7 @@ use Rattle.asn1_headers.specs.declared.header.ASN1Class.{ASN1Class}
 use Rattle.asn1_headers.specs.declared.header.ASN1Class.TheVariants.{Universal, Application, ContextSpecific, Private}
 use Rattle.asn1_headers.specs.Names.{type_name, universal_names}
 
-pub past_names : (class : ASN1Class) (tag : ℕ) → 31 ≤ tag → None ≡ type_name class tag
+pub past_names : (class : ASN1Class) (tag : ℕ) → 37 ≤ tag → None ≡ type_name class tag
 past_names Universal tag l = sym (get_or_past universal_names tag None l)
 past_names Application tag l = refl
 past_names ContextSpecific tag l = refl

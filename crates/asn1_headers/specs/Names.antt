@@ -16,7 +16,9 @@ universal_names =
     Some (codes "PrintableString") ∷ Some (codes "TeletexString") ∷ Some (codes "VideotexString") ∷
     Some (codes "IA5String") ∷ Some (codes "UTCTime") ∷ Some (codes "GeneralizedTime") ∷
     Some (codes "GraphicString") ∷ Some (codes "VisibleString") ∷ Some (codes "GeneralString") ∷
-    Some (codes "UniversalString") ∷ Some (codes "CHARACTER STRING") ∷ Some (codes "BMPString") ∷ []
+    Some (codes "UniversalString") ∷ Some (codes "CHARACTER STRING") ∷ Some (codes "BMPString") ∷
+    Some (codes "DATE") ∷ Some (codes "TIME-OF-DAY") ∷ Some (codes "DATE-TIME") ∷ Some (codes "DURATION") ∷
+    Some (codes "OID-IRI") ∷ Some (codes "RELATIVE-OID-IRI") ∷ []
 
 -- how the type with a class and a tag number is called, if it has a name
 abbrev pub type_name : ASN1Class → ℕ → Option (List ℕ)

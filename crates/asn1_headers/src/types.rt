@@ -50,6 +50,12 @@ fn universal_name(tag: u64) -> Option<&'static str>
         28 => Some("UniversalString"),
         29 => Some("CHARACTER STRING"),
         30 => Some("BMPString"),
-        31.. => None,
+        31 => Some("DATE"),
+        32 => Some("TIME-OF-DAY"),
+        33 => Some("DATE-TIME"),
+        34 => Some("DURATION"),
+        35 => Some("OID-IRI"),
+        36 => Some("RELATIVE-OID-IRI"),
+        37.. => None,
     }
 }

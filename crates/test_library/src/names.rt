@@ -3,8 +3,9 @@ use crate::helpers::octets;
 use simple_asn1::{Document, Outline, from_der};
 use std::test::Fail;
 
-// A SET, an ENUMERATED and a VisibleString, a block tagged [APPLICATION 17], and one tagged [0] around a NULL.
-const MIXED: &str = "31 00 0A 01 05 1A 00 51 00 A0 02 05 00";
+// A SET, an ENUMERATED and a VisibleString, a block tagged [APPLICATION 17], one tagged [0] around a NULL, and the types
+// of the last tag with a name, 36, and the next one.
+const MIXED: &str = "31 00 0A 01 05 1A 00 51 00 A0 02 05 00 1F 24 00 1F 25 00";
 
 #[test]
 fn a_type_has_its_name_in_blocks_and_entries(rt: HostRuntime) -> Result<(), Fail> {
@@ -16,6 +17,8 @@ fn a_type_has_its_name_in_blocks_and_entries(rt: HostRuntime) -> Result<(), Fail
         Some("ENUMERATED"),
         Some("VisibleString"),
         None,
+        None,
+        Some("RELATIVE-OID-IRI"),
         None,
     ];
     assert!(rt;
@@ -33,6 +36,8 @@ fn a_type_has_its_name_in_blocks_and_entries(rt: HostRuntime) -> Result<(), Fail
         None,
         None,
         Some("NULL"),
+        Some("RELATIVE-OID-IRI"),
+        None,
     ];
     assert!(rt;
         outline
