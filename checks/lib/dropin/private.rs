@@ -1,4 +1,4 @@
-//! The private functions that the original's own tests call, by calls of the proved library.
+//! The private functions that the original's own tests call, by those of the crate and calls of the proved library.
 
 #![allow(unused_imports)]
 use crate::calls::{self, Block};
@@ -12,21 +12,17 @@ const PRINTABLE_CHARS: &str = "ABCDEFGHIJKLMNOPQRSTUVWXYZabcdefghijklmnopqrstuvw
 const CLASSES: [ASN1Class; 4] =
     [ASN1Class::Universal, ASN1Class::Application, ASN1Class::ContextSpecific, ASN1Class::Private];
 
-/// The identifier octets: those of an empty encoding, without its length.
 fn encode_tag(class: ASN1Class, constructed: bool, tag: &BigUint) -> Vec<u8> {
     let tag_class = CLASSES.iter().position(|other| *other == class).unwrap() as u8;
     let block = Block { tag_class, constructed: u8::from(constructed), ..Block::default() };
-    let mut octets = Vec::new();
-    calls::encoding(&block, &tag.to_string(), &[], &mut octets).unwrap();
-    octets.pop();
-    octets
+    crate::write::identifier_octets(&block, tag)
 }
 
 fn decode_tag(octets: &[u8], index: &mut usize) -> Result<(BigUint, bool, ASN1Class), ASN1DecodeErr> {
     let whole = [&octets[*index..], &[0]].concat();
     let header = calls::header(&whole, 0).ok_or(ASN1DecodeErr::Incomplete)?;
     *index += header.header - 1;
-    let tag = calls::tag(&whole, 0).parse().unwrap();
+    let tag = crate::read::tag_of(&whole, &header);
     Ok((tag, header.constructed != 0, CLASSES[usize::from(header.tag_class)]))
 }
 

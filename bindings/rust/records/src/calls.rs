@@ -17,17 +17,20 @@ pub struct Moment {
     pub nanosecond: u32,
 }
 
-/// Asks how much is needed, and then for that.
-fn sized<T: Clone + Default>(call: impl Fn(*mut T, usize) -> Outcome) -> Result<Vec<T>, Fault> {
-    let asked = call(std::ptr::NonNull::dangling().as_ptr(), 0);
-    if asked.status != OK && asked.status != NO_ROOM {
-        return Err(Fault::of_status(asked.status, asked.offset));
+/// The bytes that a call writes. It is made with this room, which suffices for most values, or else once more with as
+/// much as it needs.
+fn sized(room: usize, call: impl Fn(*mut u8, usize) -> Outcome) -> Result<Vec<u8>, Fault> {
+    let mut out = vec![0; room];
+    let mut answer = call(out.as_mut_ptr(), out.len());
+    if answer.status == NO_ROOM {
+        out.resize(answer.count, 0);
+        answer = call(out.as_mut_ptr(), out.len());
     }
-    let mut out = vec![T::default(); asked.count];
-    let done = call(out.as_mut_ptr(), out.len());
-    if done.status != OK {
-        return Err(Fault::of_status(done.status, done.offset));
+    if answer.status != OK {
+        return Err(Fault::of_status(answer.status, answer.offset));
     }
+    out.truncate(answer.count);
+    out.shrink_to_fit();
     Ok(out)
 }
 
@@ -72,11 +75,12 @@ pub fn outline(octets: &[u8]) -> Result<Vec<Record>, Fault> {
 }
 
 pub fn rewrite(octets: &[u8]) -> Result<Vec<u8>, Fault> {
-    sized(|out, room| unsafe { simple_asn1_rewrite(octets.as_ptr(), octets.len(), out, room) })
+    sized(octets.len(), |out, room| unsafe { simple_asn1_rewrite(octets.as_ptr(), octets.len(), out, room) })
 }
 
 pub fn write(octets: &[u8], records: &[Record]) -> Result<Vec<u8>, Fault> {
-    sized(|out, room| unsafe {
+    // a short header has two octets, and most have one of at most six
+    sized(octets.len() + 6 * records.len(), |out, room| unsafe {
         simple_asn1_write(octets.as_ptr(), octets.len(), records.as_ptr(), records.len(), out, room)
     })
 }
@@ -105,12 +109,14 @@ pub fn time(octets: &[u8], offset: usize) -> Result<Moment, Fault> {
     }
 }
 
-pub fn text(octets: &[u8], offset: usize) -> Result<Vec<u8>, Fault> {
-    sized(|out, room| unsafe { simple_asn1_text(octets.as_ptr(), octets.len(), offset, out, room) })
+pub fn text(octets: &[u8], offset: usize, room: usize) -> Result<Vec<u8>, Fault> {
+    sized(room, |out, room| unsafe { simple_asn1_text(octets.as_ptr(), octets.len(), offset, out, room) })
 }
 
-pub fn oid(octets: &[u8], offset: usize) -> Result<Vec<u8>, Fault> {
-    sized(|out, room| unsafe { simple_asn1_oid(octets.as_ptr(), octets.len(), offset, out, room) })
+/// The components of an OBJECT IDENTIFIER with so many contents octets. Its first octet gives at most five characters,
+/// as in `2.175`, and each other at most four: so the text is never made twice, which can take long.
+pub fn oid(octets: &[u8], offset: usize, contents: usize) -> Result<Vec<u8>, Fault> {
+    sized(4 * contents + 1, |out, room| unsafe { simple_asn1_oid(octets.as_ptr(), octets.len(), offset, out, room) })
 }
 
 pub fn signed(octets: &[u8]) -> Result<SignedParts, Fault> {
@@ -122,23 +128,23 @@ pub fn signed(octets: &[u8]) -> Result<SignedParts, Fault> {
 }
 
 pub fn put_boolean(value: bool) -> Result<Vec<u8>, Fault> {
-    sized(|out, room| unsafe { simple_asn1_put_boolean(u8::from(value), out, room) })
+    sized(1, |out, room| unsafe { simple_asn1_put_boolean(u8::from(value), out, room) })
 }
 
 pub fn put_int64(value: i64) -> Result<Vec<u8>, Fault> {
-    sized(|out, room| unsafe { simple_asn1_put_int64(value, out, room) })
+    sized(8, |out, room| unsafe { simple_asn1_put_int64(value, out, room) })
 }
 
 pub fn put_bits(octets: &[u8], bits: usize) -> Result<Vec<u8>, Fault> {
-    sized(|out, room| unsafe { simple_asn1_put_bits(octets.as_ptr(), octets.len(), bits, out, room) })
+    sized(octets.len() + 1, |out, room| unsafe { simple_asn1_put_bits(octets.as_ptr(), octets.len(), bits, out, room) })
 }
 
 pub fn put_oid(text: &str) -> Result<Vec<u8>, Fault> {
-    sized(|out, room| unsafe { simple_asn1_put_oid(text.as_ptr(), text.len(), out, room) })
+    sized(text.len(), |out, room| unsafe { simple_asn1_put_oid(text.as_ptr(), text.len(), out, room) })
 }
 
 pub fn put_text(tag: u64, text: &str) -> Result<Vec<u8>, Fault> {
-    sized(|out, room| unsafe { simple_asn1_put_text(tag, text.as_ptr(), text.len(), out, room) })
+    sized(text.len(), |out, room| unsafe { simple_asn1_put_text(tag, text.as_ptr(), text.len(), out, room) })
 }
 
 pub fn put_time(tag: u64, moment: Moment) -> Result<Vec<u8>, Fault> {
@@ -152,5 +158,5 @@ pub fn put_time(tag: u64, moment: Moment) -> Result<Vec<u8>, Fault> {
         second: moment.second,
         nanosecond: moment.nanosecond,
     };
-    sized(|out, room| unsafe { simple_asn1_put_time(tag, &fields, out, room) })
+    sized(32, |out, room| unsafe { simple_asn1_put_time(tag, &fields, out, room) })
 }

@@ -186,12 +186,14 @@ impl<'d, 'a> Block<'d, 'a> {
 
     /// The text of a string, of any kind.
     pub fn text(&self) -> Result<String, Fault> {
-        text_of(calls::text(self.document.octets, self.offset())?, self.offset())
+        // only an IA5String's octets above 7F become longer
+        let room = if self.tag() == 22 { 2 * self.record().contents } else { self.record().contents };
+        text_of(calls::text(self.document.octets, self.offset(), room)?, self.offset())
     }
 
     /// The components of an OBJECT IDENTIFIER, as in `1.2.840`.
     pub fn oid(&self) -> Result<String, Fault> {
-        text_of(calls::oid(self.document.octets, self.offset())?, self.offset())
+        text_of(calls::oid(self.document.octets, self.offset(), self.record().contents)?, self.offset())
     }
 
     /// The bytes that hold the bits of a BIT STRING, and the number of bits. The first bit is the most significant of
@@ -267,7 +269,7 @@ impl<'a> Signed<'a> {
         };
         Ok(Signed {
             content: &octets[content.offset..end_of(&content)],
-            algorithm: text_of(calls::oid(octets, algorithm.offset)?, algorithm.offset)?,
+            algorithm: text_of(calls::oid(octets, algorithm.offset, algorithm.contents)?, algorithm.offset)?,
             // content, algorithm and signature stand one after another
             algorithm_identifier: &octets[end_of(&content)..signature.offset],
             parameters: &octets[end_of(&algorithm)..signature.offset],

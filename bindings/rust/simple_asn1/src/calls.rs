@@ -96,16 +96,6 @@ pub fn text(octets: &[u8], offset: usize, room: usize) -> String {
     text_of(room, |out, room| unsafe { sys::simple_asn1_text(octets.as_ptr(), octets.len(), offset, out, room) })
 }
 
-/// The tag number of an encoding in decimal.
-pub fn tag(octets: &[u8], offset: usize) -> String {
-    text_of(64, |out, room| unsafe { sys::simple_asn1_tag(octets.as_ptr(), octets.len(), offset, out, room) })
-}
-
-/// The components of an object identifier in decimal.
-pub fn dotted(contents: &[u8]) -> String {
-    text_of(128, |out, room| unsafe { sys::simple_asn1_dotted(contents.as_ptr(), contents.len(), out, room) })
-}
-
 /// What is made of the components of an object identifier; `None` if one is 2^64 or more.
 pub fn components<T>(contents: &[u8], make: impl FnOnce(&[u64]) -> T) -> Option<T> {
     let mut room = [0; 32];
@@ -143,11 +133,6 @@ pub fn raw_oid(components: &[u64], out: &mut Vec<u8>) -> Result<(), Outcome> {
     })
 }
 
-/// So with components of any size, in decimal.
-pub fn put_oid(text: &str, out: &mut Vec<u8>) -> Result<(), Outcome> {
-    append(out, 64, |out, room| unsafe { sys::simple_asn1_put_oid(text.as_ptr(), text.len(), out, room) })
-}
-
 pub fn raw_text(tag: u64, text: &str, out: &mut Vec<u8>) -> Result<(), Outcome> {
     append(out, text.len(), |out, room| unsafe {
         sys::simple_asn1_raw_text(tag, text.as_ptr(), text.len(), out, room)
@@ -162,15 +147,6 @@ pub fn raw_time(tag: u64, moment: &Moment, out: &mut Vec<u8>) -> Result<(), Outc
 pub fn spell(octets: &[u8], blocks: &[Block], out: &mut Vec<u8>) -> Result<(), Outcome> {
     append(out, octets.len() + 6 * blocks.len(), |out, room| unsafe {
         sys::simple_asn1_spell(octets.as_ptr(), octets.len(), blocks.as_ptr(), blocks.len(), out, room)
-    })
-}
-
-/// The encoding of contents octets, with the tag number in decimal.
-pub fn encoding(block: &Block, tag: &str, contents: &[u8], out: &mut Vec<u8>) -> Result<(), Outcome> {
-    let (class, constructed) = (block.tag_class, block.constructed);
-    append(out, tag.len() + contents.len() + 16, |out, room| unsafe {
-        let (size, contents) = (contents.len(), contents.as_ptr());
-        sys::simple_asn1_encoding(class, constructed, tag.as_ptr(), tag.len(), contents, size, out, room)
     })
 }
 

@@ -1,5 +1,6 @@
 #![doc = include_str!("../README.md")]
 
+mod base128;
 mod block;
 mod calls;
 mod convert;

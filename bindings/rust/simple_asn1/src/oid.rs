@@ -1,4 +1,4 @@
-use crate::{calls, read, write, ASN1DecodeErr, ASN1EncodeErr, BigUint};
+use crate::{base128, calls, write, ASN1DecodeErr, ASN1EncodeErr, BigUint};
 use std::fmt;
 use std::sync::OnceLock;
 
@@ -6,11 +6,18 @@ use std::sync::OnceLock;
 #[derive(Clone)]
 pub struct OID(Origin);
 
-/// Of one that was read, the components are made when they are first asked for.
+/// One that was read keeps its contents octets. Its components are made when they are first asked for.
 #[derive(Clone)]
 enum Origin {
     Made(Vec<BigUint>),
-    Read { size: u8, octets: [u8; SHORT], components: OnceLock<Vec<BigUint>> },
+    Short { size: u8, octets: [u8; SHORT], components: OnceLock<Vec<BigUint>> },
+    Long(Box<Long>),
+}
+
+#[derive(Clone)]
+struct Long {
+    octets: Box<[u8]>,
+    components: OnceLock<Vec<BigUint>>,
 }
 
 /// So many contents octets make no block larger.
@@ -35,37 +42,45 @@ impl OID {
 
     /// What contents octets that were read mean.
     pub(crate) fn of_contents(contents: &[u8]) -> OID {
+        let components = OnceLock::new();
         if contents.len() > SHORT {
-            return OID::new(components_of(contents));
+            return OID(Origin::Long(Box::new(Long { octets: contents.into(), components })));
         }
         let mut octets = [0; SHORT];
         octets[..contents.len()].copy_from_slice(contents);
-        OID(Origin::Read { size: contents.len() as u8, octets, components: OnceLock::new() })
+        OID(Origin::Short { size: contents.len() as u8, octets, components })
     }
 
     /// The contents octets that it was read from.
     pub(crate) fn contents(&self) -> Option<&[u8]> {
         match &self.0 {
             Origin::Made(_) => None,
-            Origin::Read { size, octets, .. } => Some(&octets[..usize::from(*size)]),
+            Origin::Short { size, octets, .. } => Some(&octets[..usize::from(*size)]),
+            Origin::Long(long) => Some(&long.octets),
         }
     }
 
     pub(crate) fn components(&self) -> &[BigUint] {
         match &self.0 {
             Origin::Made(components) => components,
-            Origin::Read { size, octets, components } => {
+            Origin::Short { size, octets, components } => {
                 components.get_or_init(|| components_of(&octets[..usize::from(*size)]))
             }
+            Origin::Long(long) => long.components.get_or_init(|| components_of(&long.octets)),
         }
     }
 }
 
 fn components_of(contents: &[u8]) -> Vec<BigUint> {
-    match calls::components(contents, |numbers| numbers.iter().map(|number| BigUint::from(*number)).collect()) {
-        Some(components) => components,
-        None => calls::dotted(contents).split('.').map(read::number_of).collect(),
-    }
+    calls::components(contents, |numbers| numbers.iter().map(|number| BigUint::from(*number)).collect())
+        .unwrap_or_else(|| large_components_of(contents))
+}
+
+/// Components of any size, of contents octets that were read. The first octet is of the first two.
+fn large_components_of(contents: &[u8]) -> Vec<BigUint> {
+    let Some((&leading, rest)) = contents.split_first() else { return Vec::new() };
+    let first = (leading / 40).min(2);
+    [first, leading - 40 * first].map(BigUint::from).into_iter().chain(base128::numbers(rest)).collect()
 }
 
 impl fmt::Debug for OID {

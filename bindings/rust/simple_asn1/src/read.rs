@@ -1,7 +1,7 @@
 //! The tree of the records of a document.
 
 use crate::calls::{self, Block};
-use crate::{ASN1Block, ASN1Class, ASN1DecodeErr, BigInt, BigUint, OID};
+use crate::{base128, ASN1Block, ASN1Class, ASN1DecodeErr, BigInt, BigUint, OID};
 use simple_asn1_sys as sys;
 use std::mem;
 use time::{Date, Month, PrimitiveDateTime, Time};
@@ -163,14 +163,10 @@ fn unknown(octets: &[u8], record: &Block) -> ASN1Block {
     ASN1Block::Unknown(class_of(record.tag_class), record.constructed != 0, record.offset, tag, contents)
 }
 
-pub(crate) fn number_of(numeral: &str) -> BigUint {
-    numeral.parse().expect("a numeral is in decimal")
-}
-
-/// The record has the greatest `u64` for each greater tag number too.
-fn tag_of(octets: &[u8], record: &Block) -> BigUint {
+/// The record has the greatest `u64` for each greater tag number too, which stands after the leading octet.
+pub(crate) fn tag_of(octets: &[u8], record: &Block) -> BigUint {
     match record.tag {
-        u64::MAX => number_of(&calls::tag(octets, record.offset)),
+        u64::MAX => base128::numbers(&octets[record.offset + 1..]).next().expect("its header was read"),
         tag => BigUint::from(tag),
     }
 }

@@ -1,7 +1,7 @@
 //! Records of a tree, and the contents octets of its leaves.
 
 use crate::calls::{self, Block, Moment, Outcome};
-use crate::{ASN1Block, ASN1Class, ASN1EncodeErr, BigUint, OID};
+use crate::{base128, ASN1Block, ASN1Class, ASN1EncodeErr, BigUint, OID};
 use simple_asn1_sys as sys;
 use time::PrimitiveDateTime;
 
@@ -141,33 +141,56 @@ impl Records {
 
     fn written(&self) -> Vec<u8> {
         if !self.tags.is_empty() {
-            return self.written_one_by_one();
+            return self.written_from_the_end();
         }
         let mut octets = Vec::new();
         calls::spell(&self.octets, &self.blocks, &mut octets).expect("each record can be put");
         octets
     }
 
-    /// From the last block to the first, so that what a block holds is at the end when its turn comes.
-    fn written_one_by_one(&self) -> Vec<u8> {
-        let mut tags = self.tags.clone();
-        let mut written: Vec<Vec<u8>> = Vec::new();
+    /// With tag numbers of any size: the last octet first, so that the size of what a block holds is known when its
+    /// header's turn comes.
+    fn written_from_the_end(&self) -> Vec<u8> {
+        let mut octets = Vec::with_capacity(self.octets.len() + 6 * self.blocks.len());
+        let mut tags = self.tags.iter().rev().peekable();
+        // of the blocks whose turn came, each without those that it holds
+        let mut sizes: Vec<usize> = Vec::new();
         for (index, block) in self.blocks.iter().enumerate().rev() {
-            let mut contents = self.octets[block.offset..][..block.contents].to_vec();
-            for _ in 0..block.items {
-                contents.extend(written.pop().expect("its items were written"));
-            }
-            let tag = match tags.last() {
-                Some((large, _)) if *large == index => tags.pop().map(|(_, tag)| tag),
-                _ => None,
-            };
-            let numeral = tag.map_or_else(|| block.tag.to_string(), |tag| tag.to_string());
-            let mut octets = Vec::new();
-            calls::encoding(block, &numeral, &contents, &mut octets).expect("each record can be put");
-            written.push(octets);
+            let start = octets.len();
+            octets.extend(self.octets[block.offset..][..block.contents].iter().rev());
+            let items: usize = sizes.drain(sizes.len() - block.items..).sum();
+            let large = tags.next_if(|(large, _)| *large == index).map(|(_, tag)| tag.clone());
+            let mut header = identifier_octets(block, &large.unwrap_or_else(|| BigUint::from(block.tag)));
+            put_length(items + block.contents, &mut header);
+            octets.extend(header.iter().rev());
+            sizes.push(items + octets.len() - start);
         }
-        written.pop().unwrap_or_default()
+        octets.reverse();
+        octets
     }
+}
+
+/// The identifier octets of a block with this tag number (X.690 8.1.2).
+pub(crate) fn identifier_octets(block: &Block, tag: &BigUint) -> Vec<u8> {
+    let leading = block.tag_class << 6 | block.constructed << 5;
+    match u8::try_from(tag) {
+        Ok(tag) if tag < 31 => vec![leading | tag],
+        _ => {
+            let mut octets = vec![leading | 31];
+            base128::put(tag, &mut octets);
+            octets
+        }
+    }
+}
+
+/// Puts the length octets, the fewest (X.690 10.1).
+fn put_length(length: usize, out: &mut Vec<u8>) {
+    let octets = length.to_be_bytes();
+    let significant = &octets[(length.leading_zeros() / 8) as usize..];
+    if length > 127 {
+        out.push(128 | significant.len() as u8);
+    }
+    out.extend_from_slice(if length == 0 { &[0] } else { significant });
 }
 
 fn number_of(class: ASN1Class) -> u8 {
@@ -215,9 +238,9 @@ fn put_components(components: &[BigUint], out: &mut Vec<u8>) -> Result<(), ASN1E
         _ => ASN1EncodeErr::ObjectIdentVal2TooLarge,
     })?;
     if is_cut {
-        out.truncate(start);
-        let numerals: Vec<String> = components.iter().map(BigUint::to_string).collect();
-        calls::put_oid(&numerals.join("."), out).expect("the first two components are small");
+        // the first octet is of the first two
+        out.truncate(start + 1);
+        components[2..].iter().for_each(|component| base128::put(component, out));
     }
     Ok(())
 }

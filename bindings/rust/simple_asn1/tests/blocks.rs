@@ -54,6 +54,38 @@ fn numbers_of_any_size_are_read_and_written() {
 }
 
 #[test]
+fn large_tag_numbers_stand_at_any_depth() {
+    let large_octets = [0x82, 0x80, 0x80, 0x80, 0x80, 0x80, 0x80, 0x80, 0x80, 0];
+    let greatest = [0x81, 0xFF, 0xFF, 0xFF, 0xFF, 0xFF, 0xFF, 0xFF, 0xFF, 0x7F];
+    let explicit = [&[0xBF][..], &large_octets, &[2, 5, 0]].concat();
+    let unknown = [&[0xDF][..], &greatest, &[0x81, 0x80], &[7; 128]].concat();
+    let octets = [&[0x30, 0x81, 164, 5, 0, 0xA3, 14][..], &explicit, &unknown, &[0x31, 3, 1, 1, 0xFF]].concat();
+    let explicit = Explicit(ASN1Class::ContextSpecific, 7, large(), Box::new(Null(19)));
+    let items = vec![
+        Null(3),
+        Explicit(ASN1Class::ContextSpecific, 5, BigUint::from(3u8), Box::new(explicit)),
+        Unknown(ASN1Class::Private, false, 21, BigUint::from(u64::MAX), vec![7; 128]),
+        Set(162, vec![Boolean(164, true)]),
+    ];
+    let sequence = Sequence(0, items);
+    assert_eq!(from_der(&octets).map(|blocks| format!("{blocks:?}")), Ok(format!("{:?}", [&sequence])));
+    assert_eq!(to_der(&sequence), Ok(octets));
+}
+
+#[test]
+fn long_components_are_read_and_written() {
+    // 2^140 - 1 in 20 octets, after an octet that adds nothing to it
+    let number = (BigUint::from(1u8) << 140) - 1u8;
+    let long = [&[0xFF; 19][..], &[0x7F]].concat();
+    let octets = [&[6, 23, 0x88, 5, 0x80][..], &long].concat();
+    let made = OID::new(vec![BigUint::from(2u8), BigUint::from(56u8), BigUint::from(5u8), number]);
+    assert_eq!(from_der(&octets), Ok(vec![ObjectIdentifier(0, made.clone())]));
+    let shortest = [&[6, 22, 0x88, 5][..], &long].concat();
+    assert_eq!(to_der(&ObjectIdentifier(0, made)), Ok(shortest.clone()));
+    assert_eq!(to_der(&from_der(&octets).unwrap()[0]), Ok(shortest));
+}
+
+#[test]
 fn identifiers_that_were_read_are_as_those_that_were_made() {
     // the second is not in the shortest form, the last is long
     for (contents, components) in [

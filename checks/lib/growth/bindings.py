@@ -1,0 +1,111 @@
+"""Documents of which a careless call takes more than linear time: a long number as a component, as a tag or as an
+INTEGER, and many items.
+
+    bindings.py WORK KIND=PROGRAM..
+
+KIND is `c`, `rust` or `python`, of which PROGRAM is given a call and a file, and prints the processor time of the call
+in microseconds and a status; or `json`, for `der_dump`. It fails where twice the size takes more than three times as
+long, or where 100 kB take more than a second. The decimal digits of one long number take quadratic time: there the
+second alone counts.
+"""
+import os
+import subprocess
+import sys
+
+SIZES = (25_000, 50_000, 100_000)
+MOST_SECONDS, MOST_RATIO, NOISE = 1.0, 3.0, 0.01
+
+
+def encoding(first, contents):
+    size = len(contents)
+    octets = size.to_bytes((size.bit_length() + 7) // 8, "big")
+    length = bytes([size]) if size < 128 else bytes([128 + len(octets)]) + octets
+    return bytes([first]) + length + contents
+
+
+def long_number(size):
+    """In base 128."""
+    return b"\xff" * (size - 1) + b"\x7f"
+
+
+def long_component(size):
+    return encoding(0x06, b"\x2a" + long_number(size))
+
+
+def signed(size):
+    algorithm = encoding(0x30, long_component(size))
+    return encoding(0x30, bytes.fromhex("3003020101") + algorithm + bytes.fromhex("03020099"))
+
+
+SHAPES = {
+    "a long component": long_component,
+    "many long components": lambda size: encoding(0x06, b"\x2a" + long_number(10) * (size // 10)),
+    "many components": lambda size: encoding(0x06, b"\x2a" + b"\x05" * size),
+    "a long tag": lambda size: b"\x9f" + long_number(size) + b"\x00",
+    "a long INTEGER": lambda size: encoding(0x02, b"\x7f" + b"\xff" * size),
+    "a long BIT STRING": lambda size: encoding(0x03, b"\x00" + b"\xff" * size),
+    "many items": lambda size: encoding(0x30, bytes.fromhex("0500") * (size // 2)),
+    "many blocks": lambda size: bytes.fromhex("0500") * (size // 2),
+    "a long algorithm": signed,
+}
+
+# the status that is right, and the calls, those that make the decimal digits of a long number with a star
+OK, RANGE = 0, 13
+CALLS = {
+    "c": {
+        "a long component": {OK: "read rewrite shortest_oid oid* dotted*", RANGE: "components"},
+        "many long components": {OK: "read rewrite shortest_oid oid dotted", RANGE: "components"},
+        "many components": {OK: "read rewrite shortest_oid oid dotted components"},
+        "a long tag": {OK: "read rewrite tag*"},
+        "a long INTEGER": {OK: "read rewrite each", RANGE: "int64"},
+        "many items": {OK: "read rewrite each"},
+        "a long algorithm": {OK: "read signed"},
+    },
+    "rust": {
+        "a long component": {OK: "from_der components == to_der made"},
+        "many long components": {OK: "from_der components == to_der made"},
+        "many components": {OK: "from_der components == to_der made"},
+        "a long tag": {OK: "from_der == to_der"},
+        "a long INTEGER": {OK: "from_der == to_der"},
+        "many items": {OK: "from_der == to_der"},
+    },
+}
+
+
+def seconds(kind, program, call, path):
+    """Processor time and status, with the least time of three runs."""
+    least = None
+    for _ in range(3):
+        ran = subprocess.run([*program.split(), call, path], stdout=subprocess.PIPE, check=True)
+        took, status = map(int, ran.stdout.split())
+        least = took if least is None else min(least, took)
+    return least / 1e6, status
+
+
+def is_well(times, is_quadratic):
+    grows = any(b > MOST_RATIO * a + NOISE for a, b in zip(times, times[1:]))
+    return times[-1] <= MOST_SECONDS and (is_quadratic or not grows)
+
+
+def main():
+    work, wrong, tried = sys.argv[1], 0, 0
+    for shape, make in SHAPES.items():
+        paths = [os.path.join(work, f"{size}.der") for size in SIZES]
+        for path, size in zip(paths, SIZES):
+            with open(path, "wb") as file:
+                file.write(make(size))
+        for kind, program in (word.split("=", 1) for word in sys.argv[2:]):
+            for status, calls in CALLS[kind].get(shape, {}).items():
+                for call in calls.split():
+                    name, is_quadratic = call.rstrip("*"), call.endswith("*")
+                    found = [seconds(kind, program, name, path) for path in paths]
+                    times = [time for time, _ in found]
+                    good = is_well(times, is_quadratic) and all(it == status for _, it in found)
+                    tried, wrong = tried + 1, wrong + (not good)
+                    print(f"growth: {kind} {name}, {shape}: {', '.join(f'{time * 1000:.1f}' for time in times)} ms" +
+                          ("" if good else ": WRONG"), flush=True)
+    print(f"growth: {tried} calls of the bindings, {wrong} wrong")
+    sys.exit(1 if wrong else 0)
+
+
+main()
