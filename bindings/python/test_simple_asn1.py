@@ -1,6 +1,7 @@
 """Tests of simple_asn1: python3 -m unittest, in this folder."""
 import array
 import base64
+import concurrent.futures
 import copy
 import datetime
 import pickle
@@ -237,6 +238,34 @@ class Objects(unittest.TestCase):
         self.assertTrue(document[1])
         with self.assertRaises(IndexError):
             document[2]
+
+    def test_items_are_taken_by_their_number_as_of_a_list(self):
+        item = bytes.fromhex("30 03 02 01 05")
+        document = simple_asn1.read((b"\x30\x81\x96" + item * 30) * 12)
+        for blocks, listed in ((document, document.blocks), (document[3], document[3].items)):
+            count = len(listed)
+            self.assertEqual(len(blocks), count)
+            for number in (*range(-count, count), True):
+                self.assertEqual(blocks[number], listed[number])
+            for cut in (slice(2, 5), slice(None, None, -3), slice(-4, None), slice(40, 50)):
+                self.assertEqual(blocks[cut], listed[cut])
+            for number in (count, count + 1, -count - 1):
+                with self.assertRaises(IndexError):
+                    blocks[number]
+            with self.assertRaises(TypeError):
+                blocks["0"]
+        with self.assertRaises(IndexError):
+            document[0][0][0][0]
+
+    def test_calls_at_once_do_not_share_memory(self):
+        texts = ["ä" * size for size in range(60)]
+        octets = Builder()
+        with octets.open(0, 16):
+            for text in texts:
+                octets.add_text(12, text)
+        block = simple_asn1.read(octets.finish())[0]
+        with concurrent.futures.ThreadPoolExecutor(8) as pool:
+            self.assertEqual(list(pool.map(lambda item: item.text, block.items * 20)), texts * 20)
 
     def test_they_are_shown(self):
         document = simple_asn1.read(DOCUMENT)

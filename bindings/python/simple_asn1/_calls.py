@@ -3,7 +3,7 @@ import ctypes
 import os
 import pathlib
 import struct
-from typing import Any, Callable, Iterable, Iterator, List, NamedTuple, Sequence, SupportsBytes, Union
+from typing import Any, Callable, Iterable, Iterator, List, NamedTuple, Sequence, SupportsBytes, Tuple, Union
 
 from ._status import Status, refusal
 
@@ -65,28 +65,51 @@ def record_of(block: Any) -> Record:
 # a `Block` in memory: its fields, and what fills it up to its size
 _FIELDS = "@QNNNNNNBB"
 _RECORD = struct.Struct(f"{_FIELDS}{ctypes.sizeof(Block) - struct.calcsize(_FIELDS)}x")
-_INDEX = struct.Struct("@N")
+# as an array of numbers of this size: how many there are, and which is `next`
+_WORD = struct.calcsize("@N")
+_WORDS, _NEXT = ctypes.sizeof(Block) // _WORD, Block.next.offset // _WORD
+# a `MomentAnswer` in memory
+_MOMENT = struct.Struct("@Ii6I")
+
+
+_SIZE, _unpacked = _RECORD.size, _RECORD.unpack_from
+made = tuple.__new__  # as Record._make, which counts the fields first
 
 
 class Records:
     """The records of a document as the library wrote them, each made a `Record` when it is asked for."""
 
-    __slots__ = ("_memory", "_count")
+    __slots__ = ("_memory", "_count", "_words")
 
     def __init__(self, memory: bytes, count: int) -> None:
         self._memory = memory
         self._count = count
+        self._words = memoryview(memory).cast("N")
 
     def __len__(self) -> int:
         return self._count
 
     def __getitem__(self, index: int) -> Record:
-        return Record._make(_RECORD.unpack_from(self._memory, index * _RECORD.size))
+        return made(Record, _unpacked(self._memory, index * _SIZE))
 
     def next(self, index: int) -> int:
         """The field `next` of the record at the index, which is not made for it."""
-        found: int = _INDEX.unpack_from(self._memory, index * _RECORD.size + Block.next.offset)[0]
-        return found
+        return self._words[index * _WORDS + _NEXT]
+
+    def after(self, index: int, end: int, count: int) -> int:
+        """The index of the block so many after one at the same level; the end if there are fewer."""
+        words = self._words
+        while count and index < end:
+            index = words[index * _WORDS + _NEXT]
+            count -= 1
+        return index
+
+    def level(self, index: int, end: int) -> Iterator[int]:
+        """The indices of the blocks at the level of the first, up to the end."""
+        words = self._words
+        while index < end:
+            yield index
+            index = words[index * _WORDS + _NEXT]
 
     def __iter__(self) -> Iterator[Record]:
         return map(Record._make, _RECORD.iter_unpack(self._memory))
@@ -135,24 +158,25 @@ def _library() -> Any:
     if not hasattr(library, "simple_asn1_version") or library.simple_asn1_version() != _VERSION:
         raise ImportError(f"{path} has calls of another version than {_VERSION}. bindings/c/build makes it.")
     octets, records = [ctypes.c_char_p, ctypes.c_size_t], [ctypes.c_void_p, ctypes.c_size_t]
+    room = [ctypes.c_void_p, ctypes.c_size_t]
     offset, moment = [ctypes.c_size_t], [ctypes.POINTER(MomentAnswer)]
     for name, answer, arguments in (
         ("read", Outcome, octets + records),
         ("read_strict", Outcome, octets + records),
         ("outline", Outcome, octets + records),
-        ("rewrite", Outcome, octets + octets),
-        ("write", Outcome, octets + records + octets),
+        ("rewrite", Outcome, octets + room),
+        ("write", Outcome, octets + records + room),
         ("int64", Integer, octets + offset),
         ("time", MomentAnswer, octets + offset),
-        ("text", Outcome, octets + offset + octets),
-        ("oid", Outcome, octets + offset + octets),
+        ("text", Outcome, octets + offset + room),
+        ("oid", Outcome, octets + offset + room),
         ("signed", SignedParts, octets),
-        ("put_boolean", Outcome, [ctypes.c_uint8] + octets),
-        ("put_int64", Outcome, [ctypes.c_int64] + octets),
-        ("put_bits", Outcome, octets + offset + octets),
-        ("put_oid", Outcome, octets + octets),
-        ("put_text", Outcome, [ctypes.c_uint64] + octets + octets),
-        ("put_time", Outcome, [ctypes.c_uint64] + moment + octets),
+        ("put_boolean", Outcome, [ctypes.c_uint8] + room),
+        ("put_int64", Outcome, [ctypes.c_int64] + room),
+        ("put_bits", Outcome, octets + offset + room),
+        ("put_oid", Outcome, octets + room),
+        ("put_text", Outcome, [ctypes.c_uint64] + octets + room),
+        ("put_time", Outcome, [ctypes.c_uint64] + moment + room),
     ):
         call = getattr(library, "simple_asn1_" + name)
         call.restype, call.argtypes = answer, arguments
@@ -161,25 +185,47 @@ def _library() -> Any:
 
 _LIBRARY = _library()
 
-# most texts fit so many octets
-_USUAL_TEXT = 256
+# no time has more contents octets, and most headers have no more
+_MOST_TIME, _USUAL_HEADER = 32, 6
 
-# the first call has room for so many records, and for fewer where that is one for each eight octets; a document with
-# more is read again with room for as many as it has
+_OK, _NO_ROOM = int(Status.OK), int(Status.NO_ROOM)
+
+# the first call has room for so many records; a document with more is read again with room for as many as it has
 _FIRST_ROOM = 1024
+_FIRST_SIZE = _FIRST_ROOM * _RECORD.size
+
+# memory of that size, with its address, into which no call writes now. It is taken from the list, so that neither
+# another thread nor a signal's handler uses it at the same time.
+_SPARE: List[Tuple[memoryview, int]] = []
+
+
+def _memory(size: int) -> Tuple[memoryview, int]:
+    """New memory and its address. A buffer of ctypes would need a new type for each size."""
+    memory = bytearray(size)
+    return memoryview(memory), ctypes.addressof(ctypes.c_char.from_buffer(memory))
+
+
+def _spare() -> Tuple[memoryview, int]:
+    try:
+        return _SPARE.pop()
+    except IndexError:
+        return _memory(_FIRST_SIZE)
 
 
 def _read(call: Callable[..., Any], octets: bytes) -> Records:
-    room = min(len(octets) // 8 + 16, _FIRST_ROOM)
-    memory = ctypes.create_string_buffer(room * _RECORD.size)
-    answer = call(octets, len(octets), memory, room)
-    if answer.status == Status.NO_ROOM:
-        room = answer.count
-        memory = ctypes.create_string_buffer(room * _RECORD.size)
-        answer = call(octets, len(octets), memory, room)
-    if answer.status != Status.OK:
-        raise refusal(answer.status, answer.offset)
-    return Records(ctypes.string_at(memory, answer.count * _RECORD.size), answer.count)
+    size = len(octets)
+    spare = memory, address = _spare()
+    answer = call(octets, size, address, _FIRST_ROOM)
+    status, count = answer.status, answer.count
+    if status == _NO_ROOM:
+        memory, address = _memory(count * _RECORD.size)
+        answer = call(octets, size, address, count)
+        status, count = answer.status, answer.count
+    records = bytes(memory[: count * _RECORD.size])
+    _SPARE.append(spare)
+    if status != _OK:
+        raise refusal(status, answer.offset)
+    return Records(records, count)
 
 
 def read(octets: bytes) -> Records:
@@ -195,15 +241,19 @@ def outline(octets: bytes) -> Records:
 
 
 def _sized(call: Callable[..., Any], room: int, *arguments: Any) -> bytes:
-    """The octets that a call writes, which is tried with this room first."""
-    out = ctypes.create_string_buffer(room)
-    answer = call(*arguments, out, room)
-    if answer.status == Status.NO_ROOM:
-        out = ctypes.create_string_buffer(answer.count)
-        answer = call(*arguments, out, answer.count)
-    if answer.status != Status.OK:
+    """The octets that a call writes. It is made with this room at least, and once more only if that is too little."""
+    spare = memory, address = _spare()
+    if room > _FIRST_SIZE:
+        memory, address = _memory(room)
+    answer = call(*arguments, address, len(memory))
+    if answer.status == _NO_ROOM:
+        memory, address = _memory(answer.count)
+        answer = call(*arguments, address, len(memory))
+    written = bytes(memory[: answer.count])
+    _SPARE.append(spare)
+    if answer.status != _OK:
         raise refusal(answer.status, answer.offset)
-    return ctypes.string_at(out, answer.count)
+    return written
 
 
 def rewrite(octets: bytes) -> bytes:
@@ -217,7 +267,8 @@ def write(octets: bytes, records: Sequence[Record]) -> bytes:
         if record_of(blocks[index]) != record:  # ctypes cuts numbers that do not fit
             raise refusal(Status.BAD_RECORD, index)
     array = (Block * len(blocks))(*blocks)
-    return _sized(_LIBRARY.simple_asn1_write, len(octets), octets, len(octets), array, len(blocks))
+    room = len(octets) + _USUAL_HEADER * len(blocks)
+    return _sized(_LIBRARY.simple_asn1_write, room, octets, len(octets), array, len(blocks))
 
 
 def int64(octets: bytes, offset: int) -> int:
@@ -227,20 +278,28 @@ def int64(octets: bytes, offset: int) -> int:
     return int(answer.value)
 
 
-def time(octets: bytes, offset: int) -> List[int]:
+def time(octets: bytes, offset: int) -> Tuple[int, ...]:
     """Year, month, day, hour, minute, second and nanosecond."""
-    answer = _LIBRARY.simple_asn1_time(octets, len(octets), offset)
-    if answer.status != Status.OK:
-        raise refusal(answer.status, offset)
-    return [getattr(answer, name) for name, *_ in MomentAnswer._fields_[1:]]
+    fields = _MOMENT.unpack_from(_LIBRARY.simple_asn1_time(octets, len(octets), offset))
+    if fields[0] != _OK:
+        raise refusal(fields[0], offset)
+    return fields[1:]
 
 
-def text(octets: bytes, offset: int) -> str:
-    return _sized(_LIBRARY.simple_asn1_text, _USUAL_TEXT, octets, len(octets), offset).decode()
+def text(octets: bytes, record: Record) -> str:
+    """The text of the string with this record. Only an IA5String's octets above 7F become longer."""
+    room = 2 * record.contents if record.tag == 22 else record.contents
+    return _sized(_LIBRARY.simple_asn1_text, room, octets, len(octets), record.offset).decode()
 
 
-def oid(octets: bytes, offset: int) -> str:
-    return _sized(_LIBRARY.simple_asn1_oid, _USUAL_TEXT, octets, len(octets), offset).decode()
+def oid(octets: bytes, record: Record) -> str:
+    """The components of the OBJECT IDENTIFIER with this record.
+
+    Its first octet gives at most five characters, as in 2.175, and each other at most four: so the text is never made
+    twice, which can take long.
+    """
+    room = 4 * record.contents + 1
+    return _sized(_LIBRARY.simple_asn1_oid, room, octets, len(octets), record.offset).decode()
 
 
 def signed(octets: bytes) -> List[Record]:
@@ -270,7 +329,7 @@ def put_bits(octets: bytes, length: int) -> bytes:
 
 def put_oid(text: str) -> bytes:
     octets = text.encode()
-    return _sized(_LIBRARY.simple_asn1_put_oid, _USUAL_TEXT, octets, len(octets))
+    return _sized(_LIBRARY.simple_asn1_put_oid, len(octets), octets, len(octets))
 
 
 def put_text(tag: int, text: str) -> bytes:
@@ -283,7 +342,7 @@ def put_time(tag: int, moment: Sequence[int]) -> bytes:
     fields = MomentAnswer(Status.OK, *moment)
     if [getattr(fields, name) for name, *_ in MomentAnswer._fields_[1:]] != list(moment):
         raise refusal(Status.DATE, 0)
-    return _sized(_LIBRARY.simple_asn1_put_time, _USUAL_TEXT, _tag(tag), ctypes.byref(fields))
+    return _sized(_LIBRARY.simple_asn1_put_time, _MOST_TIME, _tag(tag), ctypes.byref(fields))
 
 
 def _tag(tag: int) -> int:

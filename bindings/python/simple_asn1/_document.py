@@ -1,9 +1,11 @@
 """Documents, their blocks, and the values of the blocks."""
+from array import array
 from datetime import datetime as DateTime, timezone
-from typing import Callable, Iterable, Iterator, List, NamedTuple, Optional, Tuple, Union, overload
+from functools import partial
+from typing import Callable, Dict, Iterable, Iterator, List, NamedTuple, Optional, Sequence, Tuple, Union, overload
 
 from . import _calls
-from ._calls import Octets, Record, octets_of
+from ._calls import Octets, Record, made, octets_of
 from ._pem import pem_objects
 from ._status import Status, refusal
 
@@ -12,6 +14,8 @@ _NAMES = {
     12: "UTF8String", 16: "SEQUENCE", 17: "SET", 18: "NumericString", 19: "PrintableString", 20: "TeletexString",
     22: "IA5String", 23: "UTCTime", 24: "GeneralizedTime", 26: "VisibleString", 28: "UniversalString", 30: "BMPString",
 }  # fmt: skip
+# those with so small a number are found without a list of all
+_FEW = 8
 _CLASSES = ("UNIVERSAL ", "APPLICATION ", "", "PRIVATE ")
 
 
@@ -54,6 +58,7 @@ class Document:
         self._by_headers = by_headers
         call = _calls.outline if by_headers else _calls.read_strict if strict else _calls.read
         self._blocks = call(self._octets)
+        self._levels: Dict[int, Sequence[int]] = {}
 
     def __reduce__(self) -> Tuple[Callable[[Octets], "Document"], Tuple[bytes]]:
         """A pickled document is read again where it is loaded."""
@@ -71,17 +76,36 @@ class Document:
     @property
     def blocks(self) -> List["Block"]:
         """The blocks at the top level."""
-        return list(self)
+        return list(iter(self))
 
     @property
     def all_blocks(self) -> List["Block"]:
         """The blocks at all depths, each before those inside it."""
         return [Block(self, index) for index in range(len(self._blocks))]
 
-    def _among(self, index: int, end: int) -> Iterator["Block"]:
-        while index < end:
-            yield Block(self, index)
-            index = self._blocks.next(index)
+    def _among(self, start: int, end: int) -> Iterator["Block"]:
+        return map(partial(Block, self), self._blocks.level(start, end))
+
+    def _level(self, start: int, end: int) -> Sequence[int]:
+        """The indices of the blocks at a level, by their number. They are found when they are first asked for."""
+        level = self._levels.get(start)
+        if level is None:
+            level = self._levels[start] = array("Q", self._blocks.level(start, end))
+        return level
+
+    @overload
+    def _taken(self, start: int, end: int, number: int) -> "Block": ...
+    @overload
+    def _taken(self, start: int, end: int, number: slice) -> List["Block"]: ...
+    def _taken(self, start: int, end: int, number: Union[int, slice]) -> Union["Block", List["Block"]]:
+        """The block or blocks with these numbers at a level."""
+        if isinstance(number, slice):
+            return [Block(self, index) for index in self._level(start, end)[number]]
+        if 0 <= number < _FEW:
+            index = self._blocks.after(start, end, number)
+            if index < end:
+                return Block(self, index)
+        return Block(self, self._level(start, end)[number])
 
     def __iter__(self) -> Iterator["Block"]:
         """Over the blocks at the top level."""
@@ -89,14 +113,14 @@ class Document:
 
     def __len__(self) -> int:
         """The number of blocks at the top level."""
-        return sum(1 for _ in self)
+        return len(self._level(0, len(self._blocks)))
 
     @overload
     def __getitem__(self, index: int) -> "Block": ...
     @overload
     def __getitem__(self, index: slice) -> List["Block"]: ...
     def __getitem__(self, index: Union[int, slice]) -> Union["Block", List["Block"]]:
-        return self.blocks[index]
+        return self._taken(0, len(self._blocks), index)
 
     def __repr__(self) -> str:
         return f"<Document of {_count(len(self._octets), 'byte')}: {_count(len(self), 'block')}>"
@@ -138,18 +162,20 @@ class Block:
         kind = kind or f"[{_CLASSES[self.tag_class]}{self.tag}]"
         if len(self) > 0:
             return f"<{kind} at {self.offset}: {_count(len(self), 'item')}>"
-        shown = self.contents[:16].hex(" ").upper()
-        cut = f".. of {len(self.contents)} bytes" if len(self.contents) > 16 else ""
+        record = self._made or self.record
+        start = record.offset + record.header
+        shown = self._document._octets[start : start + min(record.contents, 16)].hex(" ").upper()
+        cut = f".. of {record.contents} bytes" if record.contents > 16 else ""
         return f"<{kind} at {self.offset}{':' if shown else ''} {shown}{cut}".rstrip() + ">"
 
     @property
     def tag_class(self) -> int:
         """0 universal, 1 application, 2 context-specific, 3 private."""
-        return self.record.tag_class
+        return (self._made or self.record).tag_class
 
     @property
     def tag(self) -> int:
-        return self.record.tag
+        return (self._made or self.record).tag
 
     @property
     def constructed(self) -> bool:
@@ -157,25 +183,26 @@ class Block:
 
     @property
     def offset(self) -> int:
-        return self.record.offset
+        return (self._made or self.record).offset
 
     @property
     def depth(self) -> int:
         """The number of blocks around it."""
-        return self.record.depth
+        return (self._made or self.record).depth
 
     @property
     def items(self) -> List["Block"]:
         """The blocks directly inside it."""
-        return list(self)
+        return list(iter(self))
 
     def __iter__(self) -> Iterator["Block"]:
         """Over its items."""
-        return self._document._among(self._index + 1, self._document._blocks.next(self._index))
+        document = self._document
+        return document._among(self._index + 1, document._blocks.next(self._index))
 
     def __len__(self) -> int:
         """The number of items."""
-        return self.record.items
+        return (self._made or self.record).items
 
     def __bool__(self) -> bool:
         """True, also without items."""
@@ -186,31 +213,33 @@ class Block:
     @overload
     def __getitem__(self, index: slice) -> List["Block"]: ...
     def __getitem__(self, index: Union[int, slice]) -> Union["Block", List["Block"]]:
-        return self.items[index]
+        document = self._document
+        return document._taken(self._index + 1, document._blocks.next(self._index), index)
 
     @property
     def octets(self) -> bytes:
         """The octets of the whole block."""
-        record = self.record
-        return self._document.octets[record.offset : _end(record)]
+        record = self._made or self.record
+        return self._document._octets[record.offset : _end(record)]
 
     @property
     def contents(self) -> bytes:
         """Its contents octets: the value of an OCTET STRING."""
-        record = self.record
-        return self._document.octets[record.offset + record.header : _end(record)]
+        record = self._made or self.record
+        return self._document._octets[record.offset + record.header : _end(record)]
 
     @property
     def integer(self) -> int:
         """The number of an INTEGER, of any size."""
-        if (self.tag_class, self.tag) != (0, 2):
-            raise refusal(Status.NO_SUCH_VALUE, self.offset)
+        record = self._made or self.record
+        if record.tag_class != 0 or record.tag != 2:
+            raise refusal(Status.NO_SUCH_VALUE, record.offset)
         return int.from_bytes(self.contents, "big", signed=True)
 
     @property
     def moment(self) -> Moment:
         """The moment of a UTCTime or GeneralizedTime."""
-        return Moment(*_calls.time(self._document.octets, self.offset))
+        return made(Moment, _calls.time(self._document._octets, self.record.offset))
 
     @property
     def datetime(self) -> DateTime:
@@ -220,23 +249,32 @@ class Block:
     @property
     def text(self) -> str:
         """The text of a string, of any kind."""
-        return _calls.text(self._document.octets, self.offset)
+        return _calls.text(self._document._octets, self.record)
 
     @property
     def oid(self) -> str:
-        """The components of an OBJECT IDENTIFIER, as in 1.2.840."""
-        return _calls.oid(self._document.octets, self.offset)
+        """The components of an OBJECT IDENTIFIER, as in 1.2.840.
+
+        For a component of thousands of bytes this takes quadratic time.
+        """
+        return _calls.oid(self._document._octets, self.record)
 
     @property
     def bits(self) -> Bits:
         """The octets that hold the bits of a BIT STRING, and the number of bits."""
-        if (self.tag_class, self.tag) != (0, 3):
-            raise refusal(Status.NO_SUCH_VALUE, self.offset)
-        return _bits_of(self.contents)
+        record = self._made or self.record
+        if record.tag_class != 0 or record.tag != 3:
+            raise refusal(Status.NO_SUCH_VALUE, record.offset)
+        octets, unused = _bits_of(self._document._octets, record)
+        return Bits(octets, 8 * len(octets) - unused)
 
 
-def _bits_of(contents: bytes) -> Bits:
-    return Bits(contents[1:], 8 * len(contents[1:]) - (contents[0] if contents else 0))
+def _bits_of(octets: bytes, record: Record) -> Tuple[bytes, int]:
+    """The octets that hold the bits of the BIT STRING with this record, and the number of unused bits."""
+    if record.contents == 0:
+        return b"", 0
+    start = record.offset + record.header
+    return octets[start + 1 : _end(record)], octets[start]
 
 
 def _count(number: int, what: str) -> str:
@@ -292,14 +330,13 @@ class Signed:
     def __init__(self, source: Octets) -> None:
         octets = octets_of(source)
         content, algorithm, signature = _calls.signed(octets)
-        end, bits = _end(content), octets[signature.offset + signature.header : _end(signature)]
+        end = _end(content)
         self.content = octets[content.offset : end]
-        self.algorithm = _calls.oid(octets, algorithm.offset)
+        self.algorithm = _calls.oid(octets, algorithm)
         # content, algorithm and signature stand one after another
         self.algorithm_identifier = octets[end : signature.offset]
         self.parameters = octets[_end(algorithm) : signature.offset]
-        self.signature = bits[1:]
-        self.unused_bits = bits[0] if bits else 0
+        self.signature, self.unused_bits = _bits_of(octets, signature)
 
     def _key(self) -> Tuple[bytes, bytes, bytes, int]:
         return self.content, self.algorithm_identifier, self.signature, self.unused_bits

@@ -69,6 +69,16 @@ CALLS = {
         "a long INTEGER": {OK: "from_der == to_der"},
         "many items": {OK: "from_der == to_der"},
     },
+    "python": {
+        "a long component": {OK: "read oid* hasattr*"},
+        "many long components": {OK: "read oid hasattr"},
+        "a long tag": {OK: "read repr"},
+        "a long INTEGER": {OK: "read integer repr"},
+        "a long BIT STRING": {OK: "read bits repr"},
+        "many items": {OK: "read block[i] each-repr"},
+        "many blocks": {OK: "read document[i]"},
+        "a long algorithm": {OK: "read Signed*"},
+    },
 }
 
 

@@ -191,7 +191,8 @@ impl<'d, 'a> Block<'d, 'a> {
         text_of(calls::text(self.document.octets, self.offset(), room)?, self.offset())
     }
 
-    /// The components of an OBJECT IDENTIFIER, as in `1.2.840`.
+    /// The components of an OBJECT IDENTIFIER, as in `1.2.840`. For a component of thousands of bytes this takes quadratic
+    /// time.
     pub fn oid(&self) -> Result<String, Fault> {
         text_of(calls::oid(self.document.octets, self.offset(), self.record().contents)?, self.offset())
     }
