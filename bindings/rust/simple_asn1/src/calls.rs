@@ -43,14 +43,15 @@ const MOST_KEPT: usize = 4096;
 
 /// What is made of the records of a document, or the fault.
 pub fn read<T>(octets: &[u8], make: impl FnOnce(&[Block]) -> T) -> Result<T, Outcome> {
-    let mut records = KEPT.take();
+    // a thread that ends may have dropped it already
+    let mut records = KEPT.try_with(Cell::take).unwrap_or_default();
     records.clear();
     let read = append(&mut records, FIRST_ROOM, |out, room| unsafe {
         sys::simple_asn1_read(octets.as_ptr(), octets.len(), out, room)
     });
     let made = read.map(|()| make(&records));
     if records.capacity() <= MOST_KEPT {
-        KEPT.set(records);
+        let _ = KEPT.try_with(|kept| kept.set(records));
     }
     made
 }

@@ -27,7 +27,8 @@ pub enum ASN1DecodeErr {
     InvalidClass(u8),
     #[error("Incomplete data or invalid ASN1")]
     Incomplete,
-    /// A component does not fit the type that [`OID::as_vec`](crate::OID::as_vec) was asked for.
+    /// A component does not fit the type that [`OID::as_vec`](crate::OID::as_vec) was asked for; or blocks nest more
+    /// deeply than [`set_max_depth`](crate::set_max_depth) lets [`from_der`](crate::from_der) read.
     #[error("Value overflow")]
     Overflow,
 }

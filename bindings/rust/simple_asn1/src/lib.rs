@@ -14,7 +14,7 @@ pub use convert::{der_decode, der_encode, FromASN1, FromASN1WithBody, ToASN1};
 pub use error::{ASN1DecodeErr, ASN1EncodeErr};
 pub use num_bigint::{BigInt, BigUint};
 pub use oid::OID;
-pub use read::from_der;
+pub use read::{from_der, set_max_depth, DEFAULT_MAX_DEPTH};
 pub use write::to_der;
 
 /// The object identifier of these components, each cast to a `u64`.

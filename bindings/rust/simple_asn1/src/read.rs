@@ -4,9 +4,34 @@ use crate::calls::{self, Block};
 use crate::{base128, ASN1Block, ASN1Class, ASN1DecodeErr, BigInt, BigUint, OID};
 use simple_asn1_sys as sys;
 use std::mem;
+use std::sync::atomic::{AtomicUsize, Ordering::Relaxed};
 use time::{Date, Month, PrimitiveDateTime, Time};
 
-/// The blocks of a document.
+/// The depth that [`from_der`] reads unless [`set_max_depth`] has set another.
+pub const DEFAULT_MAX_DEPTH: usize = 256;
+
+static MAX_DEPTH: AtomicUsize = AtomicUsize::new(DEFAULT_MAX_DEPTH);
+
+/// Sets for all threads how many blocks may stand around a block that [`from_der`] reads.
+///
+/// Dropping, copying, comparing and showing blocks call themselves for the blocks inside, so each level takes stack: up
+/// to 110 bytes to drop, 430 to copy, 2,700 to show with `{:#?}`, and in a debug build 2,000 to copy. The default, of
+/// 256 levels, fits the 2 MiB of a thread of Rust twice over.
+///
+/// ```
+/// use simple_asn1::{from_der, set_max_depth, ASN1DecodeErr, DEFAULT_MAX_DEPTH};
+///
+/// let nested = [0x30, 0x06, 0x30, 0x04, 0x30, 0x02, 0x05, 0x00];
+/// set_max_depth(2);
+/// assert_eq!(from_der(&nested), Err(ASN1DecodeErr::Overflow));
+/// set_max_depth(DEFAULT_MAX_DEPTH);
+/// assert!(from_der(&nested).is_ok());
+/// ```
+pub fn set_max_depth(depth: usize) {
+    MAX_DEPTH.store(depth, Relaxed);
+}
+
+/// The blocks of a document. If more blocks than [`set_max_depth`] says stand around one, the error is `Overflow`.
 ///
 /// ```
 /// use simple_asn1::{from_der, ASN1Block, BigInt};
@@ -15,9 +40,8 @@ use time::{Date, Month, PrimitiveDateTime, Time};
 /// assert_eq!(blocks, [ASN1Block::Sequence(0, vec![ASN1Block::Integer(2, BigInt::from(-1))])]);
 /// ```
 pub fn from_der(i: &[u8]) -> Result<Vec<ASN1Block>, ASN1DecodeErr> {
-    match calls::read(i, |records| Tree::new(i, records).build()) {
-        Ok(Some(blocks)) => Ok(blocks),
-        Ok(None) => Err(ASN1DecodeErr::EmptyBuffer),
+    match calls::read(i, |records| Tree::new(i, records, MAX_DEPTH.load(Relaxed)).build()) {
+        Ok(blocks) => blocks,
         Err(fault) if has_empty_group_before(i, fault.offset) => Err(ASN1DecodeErr::EmptyBuffer),
         Err(_) => Err(fault(i)),
     }
@@ -37,25 +61,32 @@ struct Tree<'a> {
     /// Those of the innermost block so far, and the index at which it ends.
     items: Vec<ASN1Block>,
     end: usize,
+    max_depth: usize,
 }
 
 impl<'a> Tree<'a> {
-    fn new(octets: &'a [u8], records: &'a [Block]) -> Tree<'a> {
-        Tree { octets, records, frames: Vec::new(), items: Vec::with_capacity(1), end: records.len() }
+    fn new(octets: &'a [u8], records: &'a [Block], max_depth: usize) -> Tree<'a> {
+        Tree { octets, records, frames: Vec::new(), items: Vec::with_capacity(1), end: records.len(), max_depth }
     }
 
-    /// The blocks; `None` if a SEQUENCE or SET is empty, outside any attempt to read a block of another class.
-    fn build(mut self) -> Option<Vec<ASN1Block>> {
+    /// The blocks. `EmptyBuffer` if a SEQUENCE or SET is empty, outside any attempt to read a block of another class;
+    /// `Overflow` if the blocks nest too deeply.
+    fn build(mut self) -> Result<Vec<ASN1Block>, ASN1DecodeErr> {
         let mut index = 0;
         loop {
             while index == self.end {
-                let Some(frame) = self.frames.pop() else { return Some(self.items) };
+                let Some(frame) = self.frames.pop() else { return Ok(self.items) };
                 self.close(frame);
             }
             let record = &self.records[index];
             index = match record {
-                Block { tag_class: 0, tag: 16 | 17, contents: 0, .. } => self.give_up_attempt()?,
+                Block { tag_class: 0, tag: 16 | 17, contents: 0, .. } => {
+                    self.give_up_attempt().ok_or(ASN1DecodeErr::EmptyBuffer)?
+                }
                 Block { tag_class: 0, tag: 16 | 17, .. } | Block { tag_class: 1.., items: 1, .. } => {
+                    if self.frames.len() >= self.max_depth {
+                        return Err(ASN1DecodeErr::Overflow);
+                    }
                     self.open(record);
                     index + 1
                 }
@@ -214,12 +245,12 @@ fn has_empty_group_before(octets: &[u8], fault: usize) -> bool {
 
 /// Whether one of them is empty, or the offset of the fault.
 fn read_alone(octets: &[u8]) -> Result<bool, usize> {
-    calls::read(octets, |records| match Tree::new(octets, records).build() {
-        Some(blocks) => {
+    calls::read(octets, |records| match Tree::new(octets, records, usize::MAX).build() {
+        Ok(blocks) => {
             discard(blocks);
             false
         }
-        None => true,
+        Err(_) => true,
     })
     .map_err(|fault| fault.offset)
 }

@@ -152,18 +152,6 @@ fn what_has_no_octets_is_an_error() {
     }
 }
 
-#[test]
-fn deep_documents_are_read_and_written() {
-    // 2,000 levels, which a test's stack can drop
-    let mut octets = vec![5, 0];
-    for _ in 0..2000 {
-        let size = (octets.len() as u32).to_be_bytes();
-        octets = [&[0x30, 0x84][..], &size, &octets].concat();
-    }
-    let blocks = from_der(&octets).unwrap();
-    assert_eq!(from_der(&to_der(&blocks[0]).unwrap()).unwrap(), blocks);
-}
-
 struct Small(i64);
 
 impl FromASN1 for Small {
