@@ -325,6 +325,12 @@ class Pem(unittest.TestCase):
             )
             self.assertEqual(simple_asn1.read_pem(text).octets, DOCUMENT)
 
+    def test_a_number_is_no_text(self):
+        for text in (10**10, True, None):
+            for call in (simple_asn1.pem_objects, simple_asn1.read_pem):
+                with self.assertRaises(TypeError):
+                    call(text)
+
     def test_what_is_none_is_refused(self):
         for text in ("", "BQA=", "-----BEGIN X-----\nBQA=", "-----BEGIN X-----\nB?A=\n-----END X-----"):
             with self.assertRaises(ValueError):

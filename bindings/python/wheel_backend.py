@@ -1,6 +1,7 @@
 """Makes the wheel for `pip install bindings/python`: the package, with the shared library that bindings/c/build made.
 
-It needs no other package, so that pip needs no network: a wheel is a zip file with three files of metadata (PEP 427).
+It needs no other package, so that pip needs no network: a wheel is a zip file with some files of metadata (PEP 427).
+The same files give the same bytes. `pip install -e` makes one that only says where the package is (PEP 660).
 """
 import base64
 import hashlib
@@ -17,31 +18,65 @@ LIBRARY = HERE.parent / "c" / "out" / "lib" / "libsimple_asn1.so"
 
 
 def build_wheel(wheel_directory, config_settings=None, metadata_directory=None):
+    library = _library()
+    name = _fields()["name"]
+    files = {f"{name}/{path.name}": path.read_bytes() for path in sorted((HERE / name).glob("*.py"))}
+    files[f"{name}/py.typed"] = b""
+    files[f"{name}/libsimple_asn1.so"] = library
+    return _wheel(wheel_directory, files, _tags(library))
+
+
+def build_editable(wheel_directory, config_settings=None, metadata_directory=None):
+    """The package is used where it is, with the library that it finds there."""
+    path = f"{HERE}\n".encode()
+    return _wheel(wheel_directory, {f"{_fields()['name']}.pth": path}, _tags(_library()))
+
+
+def _library():
     library = pathlib.Path(os.environ.get("SIMPLE_ASN1_LIBRARY") or LIBRARY)
     if not library.exists():
         raise FileNotFoundError(f"{library} is not there: call bindings/c/build first, which makes it")
+    return library.read_bytes()
+
+
+def _fields():
     project = (HERE / "pyproject.toml").read_text()
-    name, version, summary, python = (
-        re.search(rf'^{key} = "(.*)"$', project, re.MULTILINE)[1]
-        for key in ("name", "version", "description", "requires-python")
-    )
-    tag = "py3-none-" + re.sub(r"[-.]", "_", sysconfig.get_platform())
-    files = {f"{name}/{path.name}": path.read_bytes() for path in sorted((HERE / name).glob("*.py"))}
-    files[f"{name}/py.typed"] = b""
-    files[f"{name}/libsimple_asn1.so"] = library.read_bytes()
+    keys = ("name", "version", "description", "requires-python")
+    return {key: re.search(rf'^{key} = "(.*)"$', project, re.MULTILINE)[1] for key in keys}
+
+
+def _tags(library):
+    """The platforms that the library runs on: those with the newest version of glibc of which it needs a symbol."""
+    platform = re.sub(r"[-.]", "_", sysconfig.get_platform())
+    versions = [tuple(map(int, found)) for found in re.findall(rb"\0GLIBC_(\d+)\.(\d+)(?=[.\0])", library)]
+    if not versions or not platform.startswith("linux_"):
+        return [platform]
+    machine = platform[len("linux_") :]
+    if max(versions) <= (2, 17):
+        return [f"manylinux_2_17_{machine}", f"manylinux2014_{machine}"]
+    return ["manylinux_{}_{}_{}".format(*max(versions), machine)]
+
+
+def _wheel(wheel_directory, files, platforms):
+    fields = _fields()
+    name, version = fields["name"], fields["version"]
     info = f"{name}-{version}.dist-info"
+    files[f"{info}/LICENSE"] = (HERE.parent.parent / "LICENSE").read_bytes()
     files[f"{info}/METADATA"] = (
-        f"Metadata-Version: 2.1\nName: {name}\nVersion: {version}\nSummary: {summary}\nLicense: ISC\n"
-        f"Requires-Python: {python}\nClassifier: Typing :: Typed\n"
+        f"Metadata-Version: 2.1\nName: {name}\nVersion: {version}\nSummary: {fields['description']}\nLicense: ISC\n"
+        f"License-File: LICENSE\nRequires-Python: {fields['requires-python']}\nClassifier: Typing :: Typed\n"
     ).encode()
+    tags = "".join(f"Tag: py3-none-{platform}\n" for platform in platforms)
     files[f"{info}/WHEEL"] = (
-        f"Wheel-Version: 1.0\nGenerator: wheel_backend\nRoot-Is-Purelib: false\nTag: {tag}\n"
+        f"Wheel-Version: 1.0\nGenerator: wheel_backend\nRoot-Is-Purelib: false\n{tags}"
     ).encode()
-    wheel = f"{name}-{version}-{tag}.whl"
-    with zipfile.ZipFile(pathlib.Path(wheel_directory) / wheel, "w", zipfile.ZIP_DEFLATED) as out:
+    files[f"{info}/RECORD"] = ("".join(map(_listed, files.items())) + f"{info}/RECORD,,\n").encode()
+    wheel = f"{name}-{version}-py3-none-{'.'.join(platforms)}.whl"
+    with zipfile.ZipFile(pathlib.Path(wheel_directory) / wheel, "w") as out:
         for path, octets in files.items():
-            out.writestr(path, octets)
-        out.writestr(f"{info}/RECORD", "".join(map(_listed, files.items())) + f"{info}/RECORD,,\n")
+            entry = zipfile.ZipInfo(path)  # of 1980-01-01
+            entry.external_attr = (0o100755 if path.endswith(".so") else 0o100644) << 16
+            out.writestr(entry, octets, zipfile.ZIP_DEFLATED)
     return wheel
 
 

@@ -1,4 +1,4 @@
-"""The certificates in the PEM files of a folder, each once."""
+"""The certificates in the files of a folder, or in a file, each once. A file is in PEM, or one certificate in DER."""
 import base64
 import pathlib
 import re
@@ -8,9 +8,11 @@ BEGIN, END = "-----BEGIN CERTIFICATE-----", "-----END CERTIFICATE-----"
 
 def certificates(folder):
     seen = {}
-    for path in sorted(pathlib.Path(folder).iterdir()):
-        if path.is_file():
-            text = path.read_text(errors="replace")
-            for body in re.findall(BEGIN + r"([A-Za-z0-9+/=\s]+)" + END, text):
-                seen.setdefault(base64.b64decode(body))
+    folder = pathlib.Path(folder)
+    for path in sorted(folder.iterdir()) if folder.is_dir() else [folder]:
+        octets = path.read_bytes() if path.is_file() else b""
+        if octets.startswith(b"\x30"):
+            seen.setdefault(octets)
+        for body in re.findall(BEGIN + r"([A-Za-z0-9+/=\s]+)" + END, octets.decode(errors="replace")):
+            seen.setdefault(base64.b64decode(body))
     return list(seen)

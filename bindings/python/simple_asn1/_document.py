@@ -296,7 +296,7 @@ def outline(octets: Octets) -> Document:
     return Document(octets, by_headers=True)
 
 
-def read_pem(text: Union[str, bytes]) -> Document:
+def read_pem(text: Union[str, Octets]) -> Document:
     """Reads the first object of PEM. Raises Refused, and ValueError if there is no object or one is malformed."""
     return Document(pem_objects(text)[0].octets)
 

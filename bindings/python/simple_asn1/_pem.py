@@ -4,6 +4,8 @@ import binascii
 import re
 from typing import List, NamedTuple, Union
 
+from ._calls import Octets, octets_of
+
 
 class PemObject(NamedTuple):
     """What is between a BEGIN and an END line: its label, such as CERTIFICATE, and its octets."""
@@ -15,10 +17,10 @@ class PemObject(NamedTuple):
 _BEGIN = re.compile(r"^-----BEGIN ([^\r\n]*)-----[ \t]*\r?$", re.MULTILINE)
 
 
-def pem_objects(text: Union[str, bytes]) -> List[PemObject]:
+def pem_objects(text: Union[str, Octets]) -> List[PemObject]:
     """The objects of PEM, in order. Text around them is skipped. ValueError if there is none, or one is malformed."""
     if not isinstance(text, str):
-        text = bytes(text).decode("latin-1")
+        text = octets_of(text).decode("latin-1")
     found, at = [], 0
     begin = _BEGIN.search(text)
     while begin:
