@@ -4,8 +4,9 @@ import statistics
 import sys
 
 RESULTS = pathlib.Path(sys.argv[1])
-PEERS = ["Rust crate", "here", "here, Document", "here, Outline", "der-parser", "libtasn1", "OpenSSL tree", "OpenSSL types"]
-OPERATIONS = ["Read", "Strict", "Write"]
+PEERS = ["Rust crate", "here", "here, Document", "here, Outline", "here, C", "here, C, all values", "der-parser",
+         "libtasn1", "OpenSSL tree", "OpenSSL types"]
+OPERATIONS = ["Read", "Strict", "Write", "Rewrite"]
 RUNS = sorted(RESULTS.glob("time.*"))
 
 
@@ -74,6 +75,7 @@ print((RESULTS / "same").read_text())
 operation_table("Read: nanoseconds an octet (how many times as fast as the Rust crate)", "Read")
 operation_table("Read strictly: nanoseconds an octet (how many times as long as its own reading otherwise)", "Strict")
 operation_table("Write: nanoseconds an octet (how many times as fast as the Rust crate)", "Write")
+operation_table("Rewrite: nanoseconds an octet (how many times as fast as the Rust crate)", "Rewrite")
 
 columns = [(peer, operation) for operation in OPERATIONS for peer in PEERS]
 columns = [it for it in columns if any(growth_cell(item, *it) for item in ITEMS)]
@@ -96,5 +98,5 @@ table("Memory of reading: allocations a block, and the most octets that are live
       ["item", *PEERS], [[item, *(memory_cell(item, peer) for peer in PEERS)] for item in ITEMS])
 
 counts = {(peer, operation): int(count) for peer, operation, count in rows(RESULTS / "instructions") if int(count) > 0}
-table("Instructions for a certificate, on the mean", ["", "read", "read strictly", "write"],
+table("Instructions for a certificate, on the mean", ["", "read", "read strictly", "write", "rewrite"],
       [[peer, *(f"{counts[peer, it]:,}" if (peer, it) in counts else "" for it in OPERATIONS)] for peer in PEERS])

@@ -5,6 +5,7 @@
 //!     der_bench repeat CORPUS ITEM PEER OPERATION TIMES       nothing but this, for a counter of instructions
 //!     der_bench same CORPUS               whether both writers of trees write the same octets
 mod peers;
+mod records;
 
 use peers::{peers, Document, Peer, HERE, RUST_CRATE};
 use std::{env, ffi::CString, fs, thread};
@@ -44,8 +45,9 @@ enum Operation {
     Read,
     Strict,
     Write,
+    Rewrite,
 }
-use Operation::{Read, Strict, Write};
+use Operation::{Read, Rewrite, Strict, Write};
 
 /// How often a tree is written in a row at least: what that takes longer than no writing is the time of so many.
 const WRITES: u64 = 8;
@@ -95,6 +97,7 @@ impl<'a> Job<'a> {
             Read => (self.peer.read)(document),
             Strict => self.peer.read_strictly.is_some_and(|read| read(document)),
             Write => self.peer.write.is_some_and(|write| write(document, writes)),
+            Rewrite => self.peer.rewrite.is_some_and(|rewrite| rewrite(document)),
         })
     }
 
@@ -162,7 +165,7 @@ fn time(corpus: &str, wanted: &[String]) {
     for item in ITEMS.iter().filter(|it| wanted.is_empty() || wanted.iter().any(|other| other == **it)) {
         let corpora: Vec<_> = sizes(item).iter().map(|size| (*size, documents(corpus, item, *size))).collect();
         // reading and writing apart, so that neither leaves its mark on the other
-        for operations in [&[Read, Strict][..], &[Write]] {
+        for operations in [&[Read, Strict][..], &[Write], &[Rewrite]] {
             let mut jobs = Vec::new();
             for (operation, peer) in operations.iter().flat_map(|it| peers.iter().map(move |peer| (*it, peer))) {
                 let of_sizes = corpora.iter().filter(|(size, _)| *size == LARGEST || GROWTH_OF.contains(&peer.name));
@@ -184,7 +187,7 @@ fn time(corpus: &str, wanted: &[String]) {
 fn repeat(corpus: &str, item: &str, name: &str, operation: &str, times: u64) {
     let peer = peers().into_iter().find(|it| it.name == name).expect("a peer");
     let documents = documents(corpus, item, LARGEST);
-    let operation = *[Read, Strict, Write].iter().find(|it| format!("{it:?}") == operation).expect("an operation");
+    let operation = *[Read, Strict, Write, Rewrite].iter().find(|it| format!("{it:?}") == operation).expect("an operation");
     let job = Job { peer: &peer, operation, size: LARGEST, documents: &documents, times: 1, writes: 0, turns: vec![] };
     let (repeats, writes) = if operation == Write { (1, times) } else { (times, 0) };
     for _ in 0..repeats {

@@ -1,4 +1,5 @@
 //! The readers and writers that are timed.
+use crate::records;
 use simple_asn1::ASN1Block;
 use std::ffi::{c_char, c_int, CString};
 use std::hint::black_box;
@@ -16,6 +17,8 @@ pub struct Peer {
     pub read_strictly: Option<fn(&Document) -> bool>,
     /// Reads the document once, and writes what was read so many times.
     pub write: Option<fn(&Document, u64) -> bool>,
+    /// Gives the canonical octets.
+    pub rewrite: Option<fn(&Document) -> bool>,
 }
 
 pub const RUST_CRATE: &str = "Rust crate";
@@ -23,44 +26,76 @@ pub const HERE: &str = "here";
 
 pub fn peers() -> Vec<Peer> {
     vec![
-        Peer { name: RUST_CRATE, read: |it| crate_write(it, 0), read_strictly: None, write: Some(crate_write) },
+        Peer {
+            name: RUST_CRATE,
+            read: |it| crate_write(it, 0),
+            read_strictly: None,
+            write: Some(crate_write),
+            rewrite: Some(|it| black_box(crate_rewritten(&it.octets)).is_some()),
+        },
         Peer {
             name: HERE,
             read: |it| unsafe { bench_read(it.octets.as_ptr(), it.octets.len()) >= 0 },
             read_strictly: Some(|it| unsafe { bench_read_strictly(it.octets.as_ptr(), it.octets.len()) >= 0 }),
             write: Some(|it, times| unsafe { bench_write(it.octets.as_ptr(), it.octets.len(), times) >= 0 }),
+            rewrite: Some(|it| unsafe { bench_rewritten_size(it.octets.as_ptr(), it.octets.len()) >= 0 }),
         },
         Peer {
             name: "here, Document",
             read: |it| unsafe { bench_read_document(it.octets.as_ptr(), it.octets.len()) >= 0 },
             read_strictly: None,
             write: None,
+            rewrite: None,
         },
         Peer {
             name: "here, Outline",
             read: |it| unsafe { bench_outline(it.octets.as_ptr(), it.octets.len()) >= 0 },
             read_strictly: Some(|it| unsafe { bench_outline_strictly(it.octets.as_ptr(), it.octets.len()) >= 0 }),
             write: None,
+            rewrite: None,
+        },
+        Peer {
+            name: "here, C",
+            read: |it| records::read(&it.octets),
+            read_strictly: Some(|it| records::read_strictly(&it.octets)),
+            write: Some(|it, times| records::write(&it.octets, times)),
+            rewrite: Some(|it| records::rewrite(&it.octets)),
+        },
+        Peer {
+            name: "here, C, all values",
+            read: |it| records::read_values(&it.octets),
+            read_strictly: None,
+            write: None,
+            rewrite: None,
         },
         Peer {
             name: "der-parser",
             read: |it| all_read(it, |octets| der_parser::ber::parse_ber_recursive(octets, DEPTH)),
             read_strictly: Some(|it| all_read(it, |octets| der_parser::der::parse_der_recursive(octets, DEPTH))),
             write: None,
+            rewrite: None,
         },
         Peer {
             name: "libtasn1",
             read: |it| libtasn1(it, false, 0),
             read_strictly: Some(|it| libtasn1(it, true, 0)),
             write: Some(|it, times| libtasn1(it, false, times)),
+            rewrite: None,
         },
         Peer {
             name: "OpenSSL tree",
             read: |it| unsafe { openssl_tree(it.octets.as_ptr(), it.octets.len()) == 1 },
             read_strictly: None,
             write: None,
+            rewrite: None,
         },
-        Peer { name: "OpenSSL types", read: |it| openssl(it, 0), read_strictly: None, write: Some(openssl) },
+        Peer {
+            name: "OpenSSL types",
+            read: |it| openssl(it, 0),
+            read_strictly: None,
+            write: Some(openssl),
+            rewrite: None,
+        },
     ]
 }
 
@@ -133,6 +168,7 @@ extern "C" {
     fn bench_outline_strictly(octets: *const u8, size: usize) -> i64;
     fn bench_read_strictly(octets: *const u8, size: usize) -> i64;
     fn bench_write(octets: *const u8, size: usize, times: u64) -> i64;
+    fn bench_rewritten_size(octets: *const u8, size: usize) -> i64;
     fn bench_rewrite(octets: *const u8, size: usize, room: *mut u8, room_size: usize) -> i64;
     fn libtasn1_typed(item: *const c_char, octets: *const u8, size: usize, is_strict: c_int, times: u64) -> c_int;
     fn openssl_tree(octets: *const u8, size: usize) -> c_int;
