@@ -6,7 +6,7 @@ mod host;
 use crate::host::{HostReader, HostWriter, color_here, tell_error};
 use der_inputs::{Outcome, Source, run, status};
 use der_io::{StreamFault, fault_text, read_all, words};
-use der_lines::{NamesFault, OwnNames};
+use der_names::{NamesFault, OwnNames};
 use der_options::{Options, OptionsFault, options_of};
 use std::alloc::AllocError;
 use std::io;

@@ -14,9 +14,8 @@ use crate::found::Found;
 use crate::outcome::Outcome;
 use der_color::colored;
 use der_html::{push_foot, push_head, push_section};
-use der_lines::{
-    Names, OwnNames, Style, Verdict, push_document, push_label, push_refusal, push_strict_document,
-};
+use der_lines::{Style, Verdict, push_document, push_label, push_refusal, push_strict_document};
+use der_names::{Names, OwnNames};
 use der_options::{Color, Options, Task};
 use std::alloc::{AllocError, Global};
 

@@ -11,8 +11,9 @@ use crate::member::push_text;
 use crate::object::push_fault_object;
 use crate::rows::{Found, push_rows};
 use asn1_headers::error::ASN1DecodeErr;
+use der_lines::Style;
 use der_lines::place::outermost;
-use der_lines::{Names, Style};
+use der_names::Names;
 use std::alloc::{AllocError, Global};
 
 /// Where octets are from, as far as a line tells it. Each text that is there is the member of its name, behind the

@@ -18,11 +18,11 @@ use asn1_headers::front::Header;
 use der_lines::faults;
 use der_lines::header::holds_encodings;
 use der_lines::leaf::{Meaning, Read, read_contents};
-use der_lines::names::Names;
 use der_lines::piece::{Kind, Piece};
 use der_lines::place::{Place, sum_of};
 use der_lines::strings::joined_string;
 use der_lines::values::name_of;
+use der_names::Names;
 use serde_json::Value;
 use std::alloc::{AllocError, Global};
 

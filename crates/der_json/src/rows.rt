@@ -9,10 +9,10 @@ ghost use Rattle.der_json.specs.Rows.{IsArray, IsExact, IsNestedJson, blocks_tex
 use crate::fault::{Fault, fault_in_words};
 use crate::object::Object;
 use crate::piece::object_of;
-use der_lines::names::Names;
 use der_lines::nested::Nested;
 use der_lines::place::{Place, sum_of};
 use der_lines::walk::Walk;
+use der_names::Names;
 use std::alloc::{AllocError, Global};
 
 // What was found in a document: what is not DER, and the first fault.

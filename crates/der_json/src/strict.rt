@@ -9,7 +9,7 @@ use crate::fault::Fault;
 use crate::line::{Origin, push_blocks, push_empty, push_end, push_first};
 use crate::object::push_fault_object;
 use crate::rows::push_comma;
-use der_lines::Names;
+use der_names::Names;
 use std::alloc::{AllocError, Global};
 
 /// Puts the octets at the end as [`push_json`](crate::push_json) does, where they have to be DER. Behind the line of

@@ -7,10 +7,10 @@ use crate::encodings::{Found, push_encodings};
 use crate::faults::push_fault_line;
 use crate::lines::push_fault;
 use crate::marks::words_at;
-use crate::names::Names;
 use crate::place::outermost;
 use crate::style::Style;
 use asn1_headers::error::ASN1DecodeErr;
+use der_names::Names;
 use std::alloc::{AllocError, Global};
 
 /// Whether all of an input was read.

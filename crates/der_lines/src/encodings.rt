@@ -8,13 +8,13 @@ ghost use Rattle.der_lines.specs.Steps.{IsStart, IsWholeDump, earlier_fault, mar
 use crate::faults::Fault;
 use crate::leaf::Meaning;
 use crate::lines::{LineStart, push_line};
-use crate::names::Names;
 use crate::piece::{Kind, Piece};
 use crate::place::{Place, is_too_deep, sum_of};
 use crate::scalars::write_after_space;
 use crate::strings::joined_value;
 use crate::values::{ValueStyle, cut_text, opened_text, read_text};
 use crate::walk::Walk;
+use der_names::Names;
 use std::alloc::{AllocError, Global};
 
 // What is wrong with octets: the first fault, and the offsets of encodings that have a mark.

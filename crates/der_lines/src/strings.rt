@@ -8,12 +8,12 @@ ghost use Rattle.der_lines.specs.Steps.{IsSegment};
 use crate::cursor::{Cursor, Left, Step};
 use crate::header::{has_tag, holds_encodings, is_universal, size_of, universal_tag, whole_header};
 use crate::leaf::{Meaning, Read, read_contents};
-use crate::names::Names;
 use crate::place::Place;
 use crate::values::{ValueStyle, read_text};
 use asn1_headers::front::Header;
 use asn1_headers::header::ASN1Class;
 use asn1_numbers::number::big_uint::BigUint;
+use der_names::Names;
 use der_values::Role;
 use std::alloc::{AllocError, Global};
 

@@ -4,9 +4,7 @@ ghost use Rattle.der_lines.specs.Dump.{tag_number as tag_number_is, tag_words as
 ghost use Rattle.asn1_headers.specs.Names.{type_name as type_name_is};
 
 use crate::header::{holds_encodings, universal_tag};
-use crate::identifier::{identifier_of, number_of};
 use crate::leaf::Meaning;
-use crate::names::Names;
 use crate::scalars::{write_after_space, write_as, write_hex, write_quoted};
 use asn1_headers::error::ASN1DecodeErr;
 use asn1_headers::front::Header;
@@ -17,6 +15,8 @@ use asn1_leaves::contents::{generalized_time, text, utc_time};
 use asn1_leaves::oid::OID;
 use asn1_numbers::number::big_int::BigInt;
 use asn1_numbers::number::big_uint::BigUint;
+use der_names::Names;
+use der_names::identifier::{identifier_of, number_of};
 use der_values::{
     Role, address_text, bit_names, general_name, string_of, value_text as other_value,
 };

@@ -2,7 +2,8 @@
 use der_inputs::{Outcome, Source, run, status};
 use der_io::StreamFault;
 use der_io::failing::{FailingReader, FailingWriter};
-use der_lines::{OwnNames, Verdict};
+use der_lines::Verdict;
+use der_names::OwnNames;
 use der_options::{Color, Options, Task};
 use std::alloc::Global;
 use std::io::ErrorKind;

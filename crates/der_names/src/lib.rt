@@ -1,8 +1,25 @@
-// Names of object identifiers, with the standard that each comes from.
-//
-// The texts have a row a name: the number, the name and the standard, with a space between two, in the order of the
-// numbers' texts. Numbers and names are those of the standards named; many of algorithms, of S/MIME and of WAP are as
-// `openssl list -objects` of OpenSSL 3.0 has them.
+//! Names of object identifiers, with the standard that each comes from.
+//!
+//! [`Names`] is a table of 1,200 names, made once; [`OwnNames`] are those of a user, which come before it. [`identifier`]
+//! reads the contents octets of an object identifier as X.690 has them, and spells the number that the table is asked
+//! for.
+//!
+//! ```rust
+//! use der_names::Names;
+//! use std::alloc::{AllocError, Global};
+//!
+//! // Whether the table has the name of a number: of `2.5.4.3`, commonName of X.520, it has.
+//! fn has_name(alloc: Global, number: &str) -> Result<bool, AllocError> {
+//!     Ok(Names::new(alloc)?.of(number).is_some())
+//! }
+//! ```
+//!
+//! The texts of the table have a row a name: the number, the name and the standard, with a space between two, in the
+//! order of the numbers' texts. Numbers and names are those of the standards named; many of algorithms, of S/MIME and of
+//! WAP are as `openssl list -objects` of OpenSSL 3.0 has them.
+#![tactic(auto)]
+
+pub mod identifier;
 mod itu_t;
 mod joint;
 mod member_bodies;
