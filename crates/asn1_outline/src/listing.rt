@@ -193,12 +193,9 @@ impl EntryBuilder {
         ensures { self.new.entries.items ≡ sealed self.old.entries.items items.entry items.count }
     {
         let next = self.entries.len();
-        let block = self.entries[items.entry];
-        self.entries[items.entry] = Entry {
-            items: items.count,
-            next,
-            ..block
-        };
+        let entry = &mut self.entries[items.entry];
+        entry.items = items.count;
+        entry.next = next;
     }
 
     // There are no entries after this one.
