@@ -1,7 +1,7 @@
 -- What is found step by step. Private contracts alone name these.
 use Rattle.std.specs.Prelude.{◌≡◌, ◌++◌, ◌≤◌, ℕ, Bool, true, false, List, [], ◌∷◌, slice_range}
-use Rattle.std.specs.Prelude.{Option, None, Some}
-use Rattle.asn1_headers.specs.Header.{IsSomeIdentifier}
+use Rattle.std.specs.Prelude.{◌==◌, ◌&&◌, ◌%◌, nat_lt, not, Option, None, Some}
+use Rattle.asn1_headers.specs.Header.{IsIdentifier, IsLength, IsSomeIdentifier}
 use Rattle.asn1_der.specs.declared.order.Order.{Order}
 use Rattle.asn1_der.specs.declared.order.Order.TheVariants.{Tags, Octets}
 use Rattle.asn1_headers.specs.declared.header.ASN1Class.{ASN1Class}
@@ -63,3 +63,16 @@ MayFollow May (Some first) next = May first next
 abbrev pub behind : Option (List ℕ) → List (List ℕ) → List (List ℕ)
 behind None items = items
 behind (Some first) items = first ∷ items
+
+-- the octets are identifier octets of these fields, and length octets of this length
+pub record IsHeaderOf (octets : List ℕ) (class : ASN1Class) (constructed : Bool) (tag size : ℕ) : Type 0 where
+  pub identifier : List ℕ
+  pub len : List ℕ
+  pub whole : octets ≡ identifier ++ len
+  pub identifier_octets : IsIdentifier identifier class constructed tag
+  pub length_octets : IsLength len size
+
+-- an identifier octet of a tag number below 31, and a length octet of the short form
+abbrev pub is_short : List ℕ → Bool
+is_short (leading ∷ size ∷ []) = not (leading % 32 == 31) && nat_lt size 128
+is_short octets = false

@@ -4,7 +4,8 @@ ghost use Rattle.asn1_headers.specs.declared.header.ASN1Class.TheVariants.{Unive
 ghost use Rattle.asn1_headers.specs.Header.{shortest_identifier, shortest_length};
 ghost use Rattle.asn1_blocks.specs.Places.{HeaderFound};
 ghost use Rattle.asn1_der.specs.Der.{is_constructed_type as is_constructed_type_is, is_reserved as is_reserved_is};
-ghost use Rattle.asn1_der.specs.Steps.{AreDer, IsDerAlone, IsRightAlone, IsWhole};
+ghost use Rattle.asn1_der.specs.Steps.{AreDer, IsDerAlone, IsHeaderOf, IsRightAlone, IsWhole};
+ghost use Rattle.asn1_der.specs.Steps.{is_short as is_short_is};
 
 use crate::contents::has_der_contents;
 use crate::order::is_in_order;
@@ -26,8 +27,32 @@ pub fn is_der_alone(octets: &[u8], offset: usize, _limit: usize, header: &Placed
     is_shortest(&octets[offset..header.start], header) && is_right(header, contents)
 }
 
-// Whether identifier and length octets are the shortest of the header.
+// Whether identifier and length octets are the shortest of the header that was read from them.
 fn is_shortest(front: &[u8], header: &PlacedHeader) -> bool
+    requires order { header.now.start ≤ header.now.end }
+    requires read { IsHeaderOf front.now header.now.class header.now.constructed header.now.tag
+        (header.now.end - header.now.start) }
+    ensures { IsTrue result ↔ (front.now ≡ shortest_identifier header.now.class header.now.constructed header.now.tag
+        ++ shortest_length (header.now.end - header.now.start)) }
+{
+    if is_short(front) {
+        return true;
+    }
+    is_written(front, header)
+}
+
+// Whether there are two, as in most headers, which are then the shortest.
+fn is_short(front: &[u8]) -> bool
+    ensures { result ≡ is_short_is front.now }
+{
+    match front {
+        [leading, size] => *leading % 32 != 31 && *size < 128,
+        _ => false,
+    }
+}
+
+// Whether they are those that would be written.
+fn is_written(front: &[u8], header: &PlacedHeader) -> bool
     requires { header.now.start ≤ header.now.end }
     ensures { IsTrue result ↔ (front.now ≡ shortest_identifier header.now.class header.now.constructed header.now.tag
         ++ shortest_length (header.now.end - header.now.start)) }

@@ -1,6 +1,13 @@
 use Rattle.std.proofs.Common.{arith}
-use Rattle.asn1_der.proofs.Shortest.{shortest_front}
+use Rattle.asn1_der.proofs.Shortest.{header_front, shortest_front}
 use Rattle.asn1_der.proofs.header.is_der_alone.Goals as goal
+
+pub is_shortest-requires-clause-read : goal.is_shortest-requires-clause-read
+is_shortest-requires-clause-read c =
+    let h = c.args.header.now in
+    let f = c.requires.found in
+    header_front c.args.octets.now c.args.offset h.start h.end h.class h.constructed h.tag (omega (arith, f.starts_after)) f.order
+    (omega (arith, f.ends_within, c.requires.within)) f.encoding
 
 pub returns-then-is_shortest-clause-right : goal.returns-then-is_shortest-clause-right
 returns-then-is_shortest-clause-right c right =
