@@ -1,0 +1,2 @@
+pub mod NameTrees
+pub mod NameLaws
