@@ -23,7 +23,7 @@ def facts(octets):
 
 
 def count(path, start, end=None):
-    """For the lines that begin from `start` to `end`: how many they are, their counts, and what is at fault in which."""
+    """For the lines that begin from `start` to `end`: how many they are, their counts, and which are at fault."""
     number, counts, faults = 0, collections.Counter(), []
     with open(path, "rb") as log:
         log.seek(max(start - 1, 0))

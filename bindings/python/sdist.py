@@ -27,7 +27,8 @@ def build_sdist(sdist_directory, config_settings=None):
     place = 'backend-path = ["."]'
     if place not in project:
         raise ValueError(f"pyproject.toml has no line {place}")
-    files = {"PKG-INFO": metadata, "pyproject.toml": project.replace(place, f'backend-path = ["{_named(HERE)}"]').encode()}
+    project = project.replace(place, f'backend-path = ["{_named(HERE)}"]')
+    files = {"PKG-INFO": metadata, "pyproject.toml": project.encode()}
     for path in [*sorted(HERE.glob("*.*")), *sorted(HERE.glob("simple_asn1/*.*")), *(TOP / it for it in OTHERS)]:
         if path.is_file() and path.suffix != ".pyc":
             files[_named(path)] = path.read_bytes()
