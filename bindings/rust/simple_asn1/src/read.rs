@@ -54,6 +54,9 @@ struct Frame<'a> {
     end: usize,
 }
 
+/// No certificate nests more deeply.
+const USUAL_DEPTH: usize = 16;
+
 struct Tree<'a> {
     octets: &'a [u8],
     records: &'a [Block],
@@ -66,7 +69,8 @@ struct Tree<'a> {
 
 impl<'a> Tree<'a> {
     fn new(octets: &'a [u8], records: &'a [Block], max_depth: usize) -> Tree<'a> {
-        Tree { octets, records, frames: Vec::new(), items: Vec::with_capacity(1), end: records.len(), max_depth }
+        let frames = Vec::with_capacity(USUAL_DEPTH);
+        Tree { octets, records, frames, items: Vec::with_capacity(1), end: records.len(), max_depth }
     }
 
     /// The blocks. `EmptyBuffer` if a SEQUENCE or SET is empty, outside any attempt to read a block of another class;
