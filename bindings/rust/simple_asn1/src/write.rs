@@ -14,15 +14,23 @@ use time::PrimitiveDateTime;
 /// assert_eq!(to_der(&block), Ok(vec![0x30, 5, 5, 0, 1, 1, 0xFF]));
 /// ```
 pub fn to_der(i: &ASN1Block) -> Result<Vec<u8>, ASN1EncodeErr> {
-    let mut records = Records::default();
-    let mut owed = vec![i];
+    let mut records = Records {
+        blocks: Vec::with_capacity(USUAL_BLOCKS),
+        octets: Vec::with_capacity(USUAL_OCTETS),
+        tags: Vec::new(),
+    };
+    let mut owed = Vec::with_capacity(USUAL_BLOCKS);
+    owed.push(i);
     while let Some(block) = owed.pop() {
         records.add(block, &mut owed)?;
     }
     Ok(records.written())
 }
 
-#[derive(Default)]
+/// A certificate has about so many blocks, and contents octets of leaves.
+const USUAL_BLOCKS: usize = 128;
+const USUAL_OCTETS: usize = 2048;
+
 struct Records {
     blocks: Vec<Block>,
     /// The contents octets of leaves.
