@@ -115,13 +115,13 @@ pub fn fault_status(fault: &StreamFault) -> u8
 
 /// What is said of a fault on standard error.
 pub fn fault_text(fault: &StreamFault) -> &'static str
-    ensures reading { fault.now ≡ read_fault → result.now ≡ codes "read error" }
-    ensures writing { fault.now ≡ write_fault → result.now ≡ codes "write error" }
+    ensures reading { fault.now ≡ read_fault → result.now ≡ codes "read fault" }
+    ensures writing { fault.now ≡ write_fault → result.now ≡ codes "write fault" }
     ensures memory { fault.now ≡ memory_fault → result.now ≡ codes "out of memory" }
 {
     match fault {
-        StreamFault::Read => "read error",
-        StreamFault::Write => "write error",
+        StreamFault::Read => "read fault",
+        StreamFault::Write => "write fault",
         StreamFault::Memory => "out of memory",
     }
 }

@@ -180,8 +180,8 @@ pub fn status(outcome: &Result<(), RunFault>) -> u8
 
 /// What is said of a fault on standard error, before what is wrong with the document.
 pub fn fault_text(fault: &RunFault) -> &'static str
-    ensures reading { fault.now ≡ Stream read_fault → result.now ≡ codes "read error" }
-    ensures writing { fault.now ≡ Stream write_fault → result.now ≡ codes "write error" }
+    ensures reading { fault.now ≡ Stream read_fault → result.now ≡ codes "read fault" }
+    ensures writing { fault.now ≡ Stream write_fault → result.now ≡ codes "write fault" }
     ensures memory { fault.now ≡ Stream memory_fault → result.now ≡ codes "out of memory" }
     ensures form { (f : FormFault) → fault.now ≡ no_document f → result.now ≡ codes "no document" }
     ensures octets { (f : _) → fault.now ≡ refused f → result.now ≡ codes "no document" }

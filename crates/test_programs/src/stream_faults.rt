@@ -41,8 +41,8 @@ fn a_fault_of_a_stream_is_told(rt: HostRuntime) -> Result<(), Fail> {
 fn each_fault_has_its_status_and_text(rt: HostRuntime) -> Result<(), Fail> {
     assert_eq!(rt; status(&Ok(())), 0);
     for (fault, text, number) in [
-        (StreamFault::Read, "read error", 1),
-        (StreamFault::Write, "write error", 1),
+        (StreamFault::Read, "read fault", 1),
+        (StreamFault::Write, "write fault", 1),
         (StreamFault::Memory, "out of memory", 2),
     ] {
         assert_eq!(rt; fault_text(&fault), text);
