@@ -1,7 +1,8 @@
 // Whether octets are a document: they are read, and nothing is built of the blocks.
-ghost use Rattle.std.specs.Prelude.{ℕ, IfErr, OnOk};
-ghost use Rattle.asn1_headers.specs.Fault.{OutOfMemoryOr};
-ghost use Rattle.asn1_blocks.specs.Grammar.{FirstFault, IsDocument};
+ghost use Rattle.std.specs.Prelude.{◌≡◌, ℕ, IfErr, IsErrAnd, OnOk};
+ghost use Rattle.asn1_headers.specs.Fault.{DecodeFault, OutOfMemoryOr};
+ghost use Rattle.asn1_headers.specs.declared.error.ASN1DecodeErr.TheVariants.{OutOfMemory};
+ghost use Rattle.asn1_blocks.specs.Grammar.{FirstFaultAt, IsDocument};
 ghost use Rattle.asn1_blocks.specs.Tree.{Trees};
 ghost use Rattle.simple_asn1.specs.Inner.Checking.{nothing_held};
 
@@ -12,15 +13,51 @@ use asn1_headers::error::{ASN1DecodeErr, LocatedErr};
 use asn1_headers::header::HeaderCount;
 use std::alloc::{AllocError, Global};
 
-// Whether octets are a document.
-pub(crate) fn check_document(alloc: Global, octets: &[u8]) -> Result<(), ASN1DecodeErr>
-    ensures document { OnOk result ((bs : Trees ℕ) × IsDocument octets.now bs) }
-    ensures fault { IfErr result (OutOfMemoryOr (FirstFault octets.now)) }
+/// Whether octets are a document, such as [`from_der_located`](crate::from_der_located) reads; if they are not, with
+/// which first fault, and where. Every header and all contents octets that have a rule are looked at, in linear time,
+/// and no block is built.
+///
+/// It takes memory for each open level of nesting, and for tag numbers past 64 bits. Stack use does not grow with
+/// nesting.
+///
+/// # Errors
+/// Those of [`from_der`](crate::from_der), each with the offset of the innermost block that the fault belongs to: the
+/// block whose header or contents octets are at fault, and not the SEQUENCE or SET around it. For an empty input it is
+/// 0.
+///
+/// ```rust
+/// use simple_asn1::check_document;
+/// use std::alloc::Global;
+///
+/// // Where octets stop being a document: `30 05 05 00 01 02 FF` at 4, and `30 05 05 00 01 01 FF` nowhere.
+/// fn fault_offset(alloc: Global, octets: &[u8]) -> Option<usize> {
+///     match check_document(alloc, octets) {
+///         Ok(()) => None,
+///         Err(located) => Some(located.offset),
+///     }
+/// }
+/// ```
+pub fn check_document(alloc: Global, i: &[u8]) -> Result<(), LocatedErr>
+    ensures document { OnOk result ((bs : Trees ℕ) × IsDocument i.now bs) }
+    ensures fault { IfErr result
+        (λ e. OutOfMemoryOr (λ fault. FirstFaultAt i.now fault e.offset) e.error) }
+    ensures accepts { (bs : Trees ℕ) → IsDocument i.now bs → IfErr result (λ e. e.error ≡ OutOfMemory) }
+    ensures refuses { (fault : DecodeFault) (offset : ℕ) → FirstFaultAt i.now fault offset
+        → IsErrAnd result
+        (λ e. OutOfMemoryOr (λ found. (found ≡ fault) × (e.offset ≡ offset)) e.error) }
+{
+    checked(alloc, i)
+}
+
+fn checked(alloc: Global, i: &[u8]) -> Result<(), LocatedErr>
+    ensures document { OnOk result ((bs : Trees ℕ) × IsDocument i.now bs) }
+    ensures fault { IfErr result
+        (λ e. OutOfMemoryOr (λ fault. FirstFaultAt i.now fault e.offset) e.error) }
 {
     let mut count = HeaderCount::new();
-    match read_into(alloc, octets, NoBlocks, NoBlocks, &mut count) {
+    match read_into(alloc, i, NoBlocks, NoBlocks, &mut count) {
         Ok(_) => Ok(()),
-        Err(LocatedErr { error, .. }) => Err(error),
+        Err(located) => Err(located),
     }
 }
 
