@@ -149,7 +149,8 @@ def forms(row):
     elif kind == "BOOLEAN":
         yield b"\xff" if value else b"\x00"
     elif kind in ("INTEGER", "ENUMERATED"):
-        yield from integer_forms(value)
+        # of more than 1,024 bytes the value is null
+        yield from [bytes.fromhex(row["shown"])] if value is None else integer_forms(value)
     elif kind in TEXTS:
         yield from text_forms(value)
     elif kind == "REAL":

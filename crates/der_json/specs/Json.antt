@@ -13,7 +13,7 @@ use Rattle.serde_json.specs.Data.{Items, no_items, item, Members, no_members, me
 use Rattle.serde_json.specs.Find.{of_integer}
 use Rattle.serde_json.specs.Written.{compact_text}
 use Rattle.asn1_numbers.specs.Decimal.{natural_numeral, whole_numeral}
-use Rattle.asn1_numbers.specs.TwosComplement.{signed_number}
+use Rattle.asn1_numbers.specs.TwosComplement.{shortest_octets, signed_number}
 use Rattle.asn1_headers.specs.Fault.{DecodeFault, empty_buffer, incomplete}
 use Rattle.asn1_headers.specs.Front.{BeginsWithHeader}
 use Rattle.asn1_headers.specs.Header.{Encoding}
@@ -39,10 +39,12 @@ use Rattle.der_json.specs.declared.line.Origin.{Origin}
 abbrev pub natural_json : ℕ → Data
 natural_json n = if nat_lt 9007199254740991 n then string (natural_numeral n) else number (unsigned n)
 
--- a whole number, likewise
+-- a whole number, likewise; null where it has more than 1,024 octets (X.690 8.3.2), which take long to be a numeral
 abbrev pub whole_json : ℤ → Data
 whole_json n =
-    if nat_lt 9007199254740991 (unsigned_abs n) then string (whole_numeral n) else number (of_integer n)
+    if nat_lt 1024 (length (shortest_octets n)) then null
+    else if nat_lt 9007199254740991 (unsigned_abs n) then string (whole_numeral n)
+    else number (of_integer n)
 
 abbrev pub text_or_null : Option (List ℕ) → Data
 text_or_null None = null

@@ -23,7 +23,7 @@
 //! | Block | `value` |
 //! |---|---|
 //! | BOOLEAN | `true` or `false` |
-//! | INTEGER, ENUMERATED | a number from -(2^53 - 1) to 2^53 - 1; any other as a text of its decimal digits |
+//! | INTEGER, ENUMERATED | a number up to 2^53 - 1 either way; else decimal digits; of more than 1,024 octets `null` |
 //! | OBJECT IDENTIFIER | a text, `1.2.840`, as X.690 has it: of `88 37` `2.999` |
 //! | strings | their text, of a UniversalString also in UTF-32, a BMPString in UTF-16, a TeletexString in Latin-1 |
 //! | UTCTime, GeneralizedTime | a text, `2026-11-23T00:43:05Z` |

@@ -32,6 +32,9 @@ use std::alloc::{AllocError, Global};
 // The greatest number that every reader of JSON takes as it is (RFC 7493, section 2.2): 2^53 - 1.
 const GREATEST_NUMBER: u64 = 9_007_199_254_740_991;
 
+// The most octets of an integer that is written in decimal: the time for it grows as the square of their number.
+const MOST_DECIMAL: usize = 1024;
+
 // The tag of an ENUMERATED (X.680 8.4, table 1).
 const ENUMERATED: u64 = 10;
 
@@ -46,10 +49,14 @@ pub fn natural_value(alloc: Global, number: &BigUint) -> Result<Value, AllocErro
     }
 }
 
+// A whole number; null if it has too many octets to be written in decimal.
 fn integer_value(alloc: Global, number: &BigInt) -> Result<Value, AllocError>
     ensures told { IfOk result (λ v. view v ≡ whole_json number.now) }
     ensures exact { IfOk result (λ v. has_float (view v) ≡ false) }
 {
+    if number.octets().len() > MOST_DECIMAL {
+        return Ok(Value::Null);
+    }
     match number.to_i64() {
         Some(n) if n.unsigned_abs() <= GREATEST_NUMBER => Ok(Value::from(n)),
         _ => Ok(Value::String(format!(in alloc; "{number}")?)),
