@@ -8,3 +8,4 @@ pub mod Walked
 pub mod Walking
 pub mod Iterated
 pub mod Building
+pub mod Triple

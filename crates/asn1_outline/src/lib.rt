@@ -14,5 +14,6 @@ pub mod iter;
 pub mod listing;
 pub mod outline;
 mod reading;
+pub mod triple;
 pub mod value;
 mod walk;

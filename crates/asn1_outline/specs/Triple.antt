@@ -1,0 +1,29 @@
+-- A signed triple, as a certificate (X.509) is one, by the entries of its encodings.
+use Rattle.std.specs.Prelude.{◌≡◌, ℕ, ◌+◌, ◌<◌, List, get_or}
+use Rattle.asn1_headers.specs.declared.header.ASN1Class.TheVariants.{Universal}
+use Rattle.asn1_outline.specs.Entries.{no_entry}
+use Rattle.asn1_outline.specs.declared.entry.Entry.{Entry}
+use Rattle.asn1_outline.specs.declared.triple.TripleEntries.{TripleEntries}
+
+abbrev pub entry_at : List Entry → ℕ → Entry
+entry_at entries index = get_or entries index no_entry
+
+-- of class Universal, with the tag number
+abbrev pub IsUniversal : ℕ → Entry → Type 0
+IsUniversal tag entry = (entry.class ≡ Universal) × (entry.tag ≡ tag)
+
+-- the entries begin with a SEQUENCE of three: what was signed; a SEQUENCE that begins with an OBJECT IDENTIFIER, the
+-- algorithm; and a BIT STRING, the signature
+pub record BeginWithTriple (entries : List Entry) : Type 0 where
+  pub whole : IsUniversal 16 (entry_at entries 0)
+  pub three : (entry_at entries 0).items ≡ 3
+  pub algorithm : IsUniversal 16 (entry_at entries (entry_at entries 1).next)
+  pub some : 0 < (entry_at entries (entry_at entries 1).next).items
+  pub identifier : IsUniversal 6 (entry_at entries ((entry_at entries 1).next + 1))
+  pub signature : IsUniversal 3 (entry_at entries (entry_at entries (entry_at entries 1).next).next)
+
+-- these are the entries of its parts
+pub record AreParts (entries : List Entry) (parts : TripleEntries) : Type 0 where
+  pub content : parts.content.now ≡ entry_at entries 1
+  pub identifier : parts.identifier.now ≡ entry_at entries ((entry_at entries 1).next + 1)
+  pub signature : parts.signature.now ≡ entry_at entries (entry_at entries (entry_at entries 1).next).next
