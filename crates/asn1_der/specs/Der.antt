@@ -73,7 +73,8 @@ mutual
     -- SET (8.11, 8.12)
     of_set : {octets contents : List ℕ} → IsShortest octets Universal true 17 contents
         → (items : List (List ℕ)) → AreDerEncodings contents items → IsInOrder items → IsDerEncoding octets
-    -- another class: constructed around encodings (8.14), as explicit tags are and SEQUENCE and SET behind implicit ones
+    -- another class: constructed around encodings (8.14), as explicit tags are and SEQUENCE and SET behind implicit
+    -- ones
     of_other_constructed : {octets contents : List ℕ} {class : ASN1Class} {tag : ℕ}
         → class ≢ Universal → IsShortest octets class true tag contents
         → (items : List (List ℕ)) → AreDerEncodings contents items → IsDerEncoding octets

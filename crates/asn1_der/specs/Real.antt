@@ -65,8 +65,8 @@ is_decimal text =
     let number = behind_minus text in
     is_decimal_mantissa (digits_of_front number) && ends_in_exponent (behind_digits number)
 
--- 0 has no octets (8.5.2). Else the first octet tells the encoding (8.5.6): binary with the base 2 and no scaling (8.5.7,
--- 11.3.1), decimal (8.5.8, 11.3.2), or one of the four special values, alone (8.5.9)
+-- 0 has no octets (8.5.2). Else the first octet tells the encoding (8.5.6): binary with the base 2 and no scaling
+-- (8.5.7, 11.3.1), decimal (8.5.8, 11.3.2), or one of the four special values, alone (8.5.9)
 abbrev pub is_real : List ℕ → Bool
 is_real [] = true
 is_real (first ∷ octets) =

@@ -12,8 +12,9 @@ use std::alloc::{AllocError, Global};
 
 /// Whether the input is DER (X.690): one or more encodings by its rules, which hold inside them too, at every depth.
 ///
-/// X.690 decides, and not what this library reads or writes. `03 01 00` is DER and `03 00` is not. Types that the library
-/// does not read, such as REAL, are judged as well. Bytes inside an OCTET STRING or a BIT STRING are not looked into.
+/// X.690 decides, and not what this library reads or writes. `03 01 00` is DER and `03 00` is not. Types that the
+/// library does not read, such as REAL, are judged as well. Bytes inside an OCTET STRING or a BIT STRING are not looked
+/// into.
 ///
 /// Some rules need a schema, and are not checked: values that are those of DEFAULT (11.5), named bits with zeros at the
 /// end (11.2.2), and sizes. A SET may be ordered by tags (10.3) or by octets (11.6), since only a schema says which.

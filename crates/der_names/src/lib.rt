@@ -1,8 +1,8 @@
 //! Names of object identifiers, with the standard that each comes from.
 //!
-//! [`Names`] is a table of 1,200 names, made once; [`OwnNames`] are those of a user, which come before it. [`identifier`]
-//! reads the contents octets of an object identifier as X.690 has them, and spells the number that the table is asked
-//! for.
+//! [`Names`] is a table of 1,200 names, made once; [`OwnNames`] are those of a user, which come before it.
+//! [`identifier`] reads the contents octets of an object identifier as X.690 has them, and spells the number that the
+//! table is asked for.
 //!
 //! ```rust
 //! use der_names::Names;
@@ -15,8 +15,8 @@
 //! ```
 //!
 //! The texts of the table have a row a name: the number, the name and the standard, with a space between two, in the
-//! order of the numbers' texts. Numbers and names are those of the standards named; many of algorithms, of S/MIME and of
-//! WAP are as `openssl list -objects` of OpenSSL 3.0 has them.
+//! order of the numbers' texts. Numbers and names are those of the standards named; many of algorithms, of S/MIME and
+//! of WAP are as `openssl list -objects` of OpenSSL 3.0 has them.
 #![tactic(auto)]
 
 pub mod identifier;

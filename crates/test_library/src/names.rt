@@ -3,8 +3,8 @@ use crate::helpers::octets;
 use simple_asn1::{Document, Outline, from_der};
 use std::test::Fail;
 
-// A SET, an ENUMERATED and a VisibleString, a block tagged [APPLICATION 17], one tagged [0] around a NULL, and the types
-// of the last tag with a name, 36, and the next one.
+// A SET, an ENUMERATED and a VisibleString, a block tagged [APPLICATION 17], one tagged [0] around a NULL, and the
+// types of the last tag with a name, 36, and the next one.
 const MIXED: &str = "31 00 0A 01 05 1A 00 51 00 A0 02 05 00 1F 24 00 1F 25 00";
 
 #[test]
