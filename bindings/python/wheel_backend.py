@@ -34,6 +34,9 @@ def build_editable(wheel_directory, config_settings=None, metadata_directory=Non
 
 def _library():
     library = pathlib.Path(os.environ.get("SIMPLE_ASN1_LIBRARY") or LIBRARY)
+    platform = sysconfig.get_platform()
+    if library == LIBRARY and platform != "linux-x86_64":
+        raise OSError(f"{library} is for Linux on x86-64, not for {platform}; SIMPLE_ASN1_LIBRARY names another one")
     if not library.exists():
         raise FileNotFoundError(f"{library} is not there: call bindings/c/build first, which makes it")
     return library.read_bytes()
