@@ -1,33 +1,15 @@
 -- What is answered to an input.
-use Rattle.std.specs.Prelude.{◌≡◌, ◌≢◌, ⊤, ℕ, ◌+◌, ◌<◌, List, get_or, None, Some}
+use Rattle.std.specs.Prelude.{◌≡◌, ◌≢◌, ⊤, ℕ, List, None, Some}
 use Rattle.der_forms.specs.Objects.{document_of}
-use Rattle.simple_asn1.specs.Entries.{no_entry}
 use Rattle.simple_asn1.specs.Fault.{fault_of}
 use Rattle.simple_asn1.specs.Shapes.{AreEntriesOfShapes, FirstHeaderFaultAt, encoding_octets}
 use Rattle.asn1_headers.specs.declared.error.ASN1DecodeErr.{ASN1DecodeErr}
 use Rattle.asn1_headers.specs.declared.error.ASN1DecodeErr.TheVariants.{OutOfMemory}
-use Rattle.asn1_headers.specs.declared.header.ASN1Class.TheVariants.{Universal}
+use Rattle.asn1_outline.specs.Triple.{BeginWithTriple, entry_at}
 use Rattle.asn1_outline.specs.declared.entry.Entry.{Entry}
 use Rattle.der_signed.specs.declared.run.RunFault.{RunFault}
 use Rattle.der_signed.specs.declared.run.RunFault.TheVariants.{NoDocument, NotSigned, Refused, Stream}
 use Rattle.der_io.specs.declared.StreamFault.TheVariants.{Memory}
-
-abbrev pub entry_at : List Entry → ℕ → Entry
-entry_at entries index = get_or entries index no_entry
-
--- of class Universal, with the tag number
-abbrev pub IsUniversal : ℕ → Entry → Type 0
-IsUniversal tag entry = (entry.class ≡ Universal) × (entry.tag ≡ tag)
-
--- the entries begin with a SEQUENCE of three: what was signed; a SEQUENCE that begins with an OBJECT IDENTIFIER, the
--- algorithm; and a BIT STRING, the signature
-pub record BeginWithTriple (entries : List Entry) : Type 0 where
-  pub whole : IsUniversal 16 (entry_at entries 0)
-  pub three : (entry_at entries 0).items ≡ 3
-  pub algorithm : IsUniversal 16 (entry_at entries (entry_at entries 1).next)
-  pub some : 0 < (entry_at entries (entry_at entries 1).next).items
-  pub identifier : IsUniversal 6 (entry_at entries ((entry_at entries 1).next + 1))
-  pub signature : IsUniversal 3 (entry_at entries (entry_at entries (entry_at entries 1).next).next)
 
 -- the octets are encodings by their headers, the first of which is a triple; what was signed has these octets
 pub record IsContent (octets : List ℕ) (content : List ℕ) : Type 0 where

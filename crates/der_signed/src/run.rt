@@ -1,21 +1,21 @@
 // The run of the program: all input is read before anything is written.
-ghost use Rattle.std.specs.Prelude.{◌≡◌, ◌⊎◌, ◌<◌, ◌↔◌, ℕ, List, Err, IfErr, IfOk, IfSome, IsOk, IsTrue};
-ghost use Rattle.std.specs.Prelude.{MatchOption, OnOk, codes};
+ghost use Rattle.std.specs.Prelude.{◌≡◌, ◌⊎◌, ℕ, List, Err, IfErr, IfOk, IfSome, IsOk, OnOk, codes};
 ghost use Rattle.simple_asn1.specs.Shapes.{encoding_octets};
 ghost use Rattle.simple_asn1.specs.Walked.{walked_entries, walked_octets};
 ghost use Rattle.std.specs.Io.KnownBytes.{Appends, IsAtEnd, Keeps};
 ghost use Rattle.der_forms.specs.declared.input.FormFault.{FormFault};
-ghost use Rattle.der_signed.specs.Content.{BeginWithTriple, HasDocument, IsContent, IsFaultOf, IsRefusalOf};
-ghost use Rattle.der_signed.specs.Content.{IsUniversal, LacksContent, TellsWhy, entry_at};
+ghost use Rattle.asn1_outline.specs.Triple.{BeginWithTriple, entry_at};
+ghost use Rattle.der_signed.specs.Content.{HasDocument, IsContent, IsFaultOf, IsRefusalOf, LacksContent, TellsWhy};
 ghost use Rattle.der_signed.specs.declared.run.RunFault.TheVariants.{Stream, NotSigned as not_signed};
 ghost use Rattle.der_signed.specs.declared.run.RunFault.TheVariants.{NoDocument as no_document, Refused as refused};
 ghost use Rattle.der_io.specs.declared.StreamFault.TheVariants.{Read as read_fault};
 ghost use Rattle.der_io.specs.declared.StreamFault.TheVariants.{Write as write_fault};
 ghost use Rattle.der_io.specs.declared.StreamFault.TheVariants.{Memory as memory_fault};
 
+use asn1_outline::triple::triple_entries;
 use der_forms::{FormFault, document_of};
 use der_io::{StreamFault, fault_status, read_all, write_all};
-use simple_asn1::{ASN1Class, ASN1DecodeErr, Entry, Headers};
+use simple_asn1::{ASN1DecodeErr, Headers};
 use std::alloc::Global;
 use std::io::{Read, Write};
 
@@ -103,7 +103,7 @@ fn content_in(alloc: Global, headers: &Headers<'_>) -> Result<Vec<u8>, RunFault>
         × (content.items ≡ encoding_octets (walked_octets headers.now) (entry_at (walked_entries headers.now) 1))) }
     ensures refused { IfErr result (LacksContent (walked_entries headers.now)) }
 {
-    if !begin_with_triple(headers.entries()) {
+    if triple_entries(headers.entries()).is_none() {
         return Err(RunFault::NotSigned);
     }
     match headers.encoding(1) {
@@ -112,50 +112,6 @@ fn content_in(alloc: Global, headers: &Headers<'_>) -> Result<Vec<u8>, RunFault>
             Err(_) => Err(RunFault::Stream(StreamFault::Memory)),
         },
         None => Err(RunFault::NotSigned),
-    }
-}
-
-// Whether the first encoding is a triple.
-fn begin_with_triple(entries: &[Entry]) -> bool
-    ensures { IsTrue result ↔ BeginWithTriple entries.now }
-{
-    let Some(whole) = with_tag(entries, 0, 16) else {
-        return false;
-    };
-    if whole.items != 3 {
-        return false;
-    }
-    let Some(content) = entries.get(1) else {
-        return false;
-    };
-    let Some(algorithm) = with_tag(entries, content.next, 16) else {
-        return false;
-    };
-    if algorithm.items == 0 {
-        return false;
-    }
-    let Some(inside) = content.next.checked_add(1) else {
-        return false;
-    };
-    if with_tag(entries, inside, 6).is_none() {
-        return false;
-    }
-    with_tag(entries, algorithm.next, 3).is_some()
-}
-
-// The entry at the index, where it is of class Universal with the tag number.
-fn with_tag(entries: &[Entry], index: usize, tag: u64) -> Option<&Entry>
-    requires { 0 < tag }
-    ensures { MatchOption result
-        (IsUniversal tag (entry_at entries.now index) → ⊥)
-        (λ entry. (entry.now ≡ entry_at entries.now index) × IsUniversal tag entry.now) }
-{
-    let Some(entry) = entries.get(index) else {
-        return None;
-    };
-    match entry.class {
-        ASN1Class::Universal if entry.tag == tag => Some(entry),
-        _ => None,
     }
 }
 

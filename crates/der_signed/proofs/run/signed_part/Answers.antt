@@ -5,7 +5,8 @@ use Rattle.asn1_headers.specs.declared.error.ASN1DecodeErr.{ASN1DecodeErr}
 use Rattle.asn1_outline.specs.Shapes.{AreEntriesOfShapes, FirstHeaderFaultAt, encoding_octets}
 use Rattle.asn1_outline.specs.Walked.{walked_entries, walked_octets}
 use Rattle.asn1_outline.specs.declared.entry.Entry.{Entry}
-use Rattle.der_signed.specs.Content.{BeginWithTriple, IsContent, IsFaultOf, IsRefusalOf, LacksContent, entry_at}
+use Rattle.asn1_outline.specs.Triple.{BeginWithTriple, entry_at}
+use Rattle.der_signed.specs.Content.{IsContent, IsFaultOf, IsRefusalOf, LacksContent}
 use Rattle.der_signed.specs.declared.run.RunFault.{RunFault}
 use Rattle.der_signed.specs.declared.run.RunFault.TheVariants.{NoDocument, NotSigned, Refused, Stream}
 use Rattle.der_signed.proofs.run.signed_part.Goals as goal
