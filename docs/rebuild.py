@@ -87,6 +87,11 @@ def integer_forms(value):
     yield number.to_bytes(size, "big", signed=True)
 
 
+def long_forms(row):
+    """Of an INTEGER or OBJECT IDENTIFIER of more than 1,024 bytes, whose value is null."""
+    yield bytes.fromhex(row["shown"])
+
+
 def bit_string_forms(value):
     octets = bytes.fromhex(value["octets"])
     yield bytes([8 * len(octets) - value["bits"]]) + octets
@@ -149,8 +154,7 @@ def forms(row):
     elif kind == "BOOLEAN":
         yield b"\xff" if value else b"\x00"
     elif kind in ("INTEGER", "ENUMERATED"):
-        # of more than 1,024 bytes the value is null
-        yield from [bytes.fromhex(row["shown"])] if value is None else integer_forms(value)
+        yield from long_forms(row) if value is None else integer_forms(value)
     elif kind in TEXTS:
         yield from text_forms(value)
     elif kind == "REAL":
@@ -160,7 +164,7 @@ def forms(row):
     elif kind == "BIT STRING":
         yield from bit_string_forms(value)
     elif kind == "OBJECT IDENTIFIER":
-        yield from identifier_forms(value)
+        yield from long_forms(row) if value is None else identifier_forms(value)
     elif kind == "UTCTime":
         yield from time_forms(value[2:])
     elif kind == "GeneralizedTime":

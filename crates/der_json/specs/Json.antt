@@ -1,5 +1,5 @@
 -- What is written of octets as JSON: an object that has a row for each line of a dump of them, and the first fault.
-use Rattle.std.specs.Prelude.{◌≡◌, ◌⊎◌, ⊤, ℕ, zero, suc, ◌+◌, ◌<◌, ◌==◌, ◌&&◌, ℤ, unsigned_abs, nat_lt}
+use Rattle.std.specs.Prelude.{◌≡◌, ◌⊎◌, ⊤, ℕ, zero, suc, ◌+◌, ◌<◌, ◌≤◌, ◌==◌, ◌&&◌, ℤ, unsigned_abs, nat_lt}
 use Rattle.std.specs.Prelude.{Bool, true, false, if◌then◌else◌, List, [], ◌∷◌, ◌++◌, codes, drop, length, map}
 use Rattle.std.specs.Prelude.{Option, None, Some, option_map, string_bytes}
 use Rattle.std.specs.List.{AllZip, slice_range}
@@ -74,31 +74,35 @@ abbrev pub HasShortFront : List ℕ → Type 0
 HasShortFront components =
     (octet : ℕ) × (rest : List ℕ) × (object_identifier_contents components ≡ octet ∷ rest) × (octet < 128)
 
--- the value of an object identifier, which the library reads so. Where its first subidentifier has more octets, its
--- components are others
-abbrev pub IsIdentifierValue : List ℕ → Data → Type 0
-IsIdentifierValue components value =
-    (text : List ℕ) × (value ≡ string text) × (HasShortFront components → text ≡ dotted_decimal components)
+-- the value of an object identifier of these contents octets, which the library reads so: null where they are more than
+-- 1,024. Where its first subidentifier has more octets, its components are others
+abbrev pub IsIdentifierValue : List ℕ → List ℕ → Data → Type 0
+IsIdentifierValue contents components value =
+    ((1024 < length contents) × (value ≡ null))
+    ⊎ ((length contents ≤ 1024)
+    × ((text : List ℕ) × (value ≡ string text) × (HasShortFront components → text ≡ dotted_decimal components)))
 
--- the value of a leaf
-abbrev pub IsLeafValue : Leaf → Data → Type 0
-IsLeafValue (boolean is_true) value = value ≡ boolean_json is_true
-IsLeafValue (integer n) value = value ≡ whole_json n
-IsLeafValue (bit_string bits octets) value = value ≡ bits_json bits octets
-IsLeafValue (octet_string octets) value = value ≡ string (encode_lower octets)
-IsLeafValue null_leaf value = value ≡ null
-IsLeafValue (object_identifier components) value = IsIdentifierValue components value
-IsLeafValue (text_leaf kind characters) value =
+-- the value of a leaf of these contents octets
+abbrev pub IsLeafValue : List ℕ → Leaf → Data → Type 0
+IsLeafValue contents (boolean is_true) value = value ≡ boolean_json is_true
+IsLeafValue contents (integer n) value = value ≡ whole_json n
+IsLeafValue contents (bit_string bits octets) value = value ≡ bits_json bits octets
+IsLeafValue contents (octet_string octets) value = value ≡ string (encode_lower octets)
+IsLeafValue contents null_leaf value = value ≡ null
+IsLeafValue contents (object_identifier components) value = IsIdentifierValue contents components value
+IsLeafValue contents (text_leaf kind characters) value =
     (text : List ℕ) × (chars text ≡ characters) × (value ≡ string text)
-IsLeafValue (utc_time moment) value = (text : List ℕ) × IsMomentText moment text × (value ≡ string text)
-IsLeafValue (generalized_time moment) value = (text : List ℕ) × IsMomentText moment text × (value ≡ string text)
+IsLeafValue contents (utc_time moment) value =
+    (text : List ℕ) × IsMomentText moment text × (value ≡ string text)
+IsLeafValue contents (generalized_time moment) value =
+    (text : List ℕ) × IsMomentText moment text × (value ≡ string text)
 
--- the value of a block in which none stand
-abbrev pub IsValue : Tree ℕ → Data → Type 0
-IsValue (leaf offset contents) value = IsLeafValue contents value
-IsValue (group offset kind blocks) value = value ≡ null
-IsValue (explicit class offset tag block) value = value ≡ null
-IsValue (unknown class constructed offset tag octets) value = value ≡ string (encode_lower octets)
+-- the value of a block of these contents octets, in which none stand
+abbrev pub IsValue : List ℕ → Tree ℕ → Data → Type 0
+IsValue contents (leaf offset value_read) value = IsLeafValue contents value_read value
+IsValue contents (group offset kind blocks) value = value ≡ null
+IsValue contents (explicit class offset tag block) value = value ≡ null
+IsValue contents (unknown class constructed offset tag octets) value = value ≡ string (encode_lower octets)
 
 -- the value of contents octets of a type that the library does not read: the number of an ENUMERATED (X.690 8.4), the
 -- characters of a string
@@ -140,7 +144,9 @@ pub data IsValueOf (class : ASN1Class) (tag : ℕ) (contents : List ℕ) (tree :
   in_words :
       class ≡ Universal → has_words tag ≡ true → (text : List ℕ) → value ≡ string text →
       IsValueOf class tag contents tree value
-  of_block : other_value class tag contents ≡ None → IsValue tree value → IsValueOf class tag contents tree value
+  of_block :
+      other_value class tag contents ≡ None → IsValue contents tree value →
+      IsValueOf class tag contents tree value
 
 -- what is shown of contents octets of a primitive encoding at the offset: the characters of a string that the library
 -- takes for UTF-8; their value; or these octets, where they have none, and what is wrong with them

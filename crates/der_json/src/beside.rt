@@ -1,6 +1,11 @@
 // What lines show of an encoding beside its value.
+ghost use Rattle.std.specs.Prelude.{◌≡◌, IfOk, None, Some, if◌then◌else◌, length, nat_lt, option_map, string_bytes};
+ghost use Rattle.hex.specs.Hex.{encode_lower};
+
+use crate::value::MOST_DECIMAL;
 use asn1_headers::front::Header;
 use asn1_headers::header::ASN1Class;
+use asn1_leaves::oid::OID;
 use asn1_numbers::number::big_int::BigInt;
 use der_lines::header::universal_tag;
 use der_lines::piece::Kind;
@@ -12,8 +17,8 @@ use der_values::{Role, address_text, bit_names, general_name};
 use std::alloc::{AllocError, Global};
 use std::str;
 
-// A name, of an object identifier, of bits, or of what stands in an extension; and the octets of a long integer in hex
-// digits, or octets as text.
+// A name, of an object identifier, of bits, or of what stands in an extension; and the octets of a long integer or object
+// identifier in hex digits, or octets as text.
 #[derive(Drop)]
 pub struct Beside {
     pub name: Option<String>,
@@ -65,7 +70,7 @@ fn of_type(
     contents: &[u8],
 ) -> Result<Beside, AllocError> {
     match tag {
-        6 => of_name(identifier_name(alloc, names, contents)?),
+        6 => of_identifier(alloc, names, contents),
         2 | 10 => of_shown(long_octets(alloc, contents)?),
         4 => of_shown(text_from(alloc, contents, LEAST_TEXT)?),
         _ => of_name(names_of_bits(alloc, role, contents)?),
@@ -92,16 +97,34 @@ fn of_shown(shown: Option<String>) -> Result<Beside, AllocError> {
     Ok(Beside { name: None, shown })
 }
 
+// So of an object identifier: one that has no value for its size has its contents octets in hex digits.
+fn of_identifier(alloc: Global, names: &Names, contents: &[u8]) -> Result<Beside, AllocError> {
+    match identifier_of(alloc, contents)? {
+        Some(identifier) => Ok(Beside {
+            name: identifier_name(alloc, names, &identifier)?,
+            shown: octets_if_long(alloc, contents)?,
+        }),
+        None => of_shown(None),
+    }
+}
+
+fn octets_if_long(alloc: Global, contents: &[u8]) -> Result<Option<String>, AllocError>
+    ensures { IfOk result (λ digits. option_map string_bytes digits
+        ≡ (if nat_lt 1024 (length contents.now) then Some (encode_lower contents.now) else None)) }
+{
+    if contents.len() > MOST_DECIMAL {
+        return Ok(Some(hex::encode(alloc, contents)?));
+    }
+    Ok(None)
+}
+
 // The name of an object identifier that has one.
 fn identifier_name(
     alloc: Global,
     names: &Names,
-    contents: &[u8],
+    identifier: &OID,
 ) -> Result<Option<String>, AllocError> {
-    let Some(identifier) = identifier_of(alloc, contents)? else {
-        return Ok(None);
-    };
-    let Some(number) = number_of(alloc, &identifier)? else {
+    let Some(number) = number_of(alloc, identifier)? else {
         return Ok(None);
     };
     match names.of(&number) {

@@ -15,7 +15,7 @@
 //! | `type` | `SEQUENCE` and its like, by X.680 (8.4, table 1); `null` where the tag has no type there |
 //! | `value` | what it holds: the next table |
 //! | `name` | the name of an object identifier, of bits that are set, or of a GeneralName, if it has one |
-//! | `shown` | beside the value, as on lines: hex digits of an INTEGER of five octets or more; printed text; an address |
+//! | `shown` | hex digits of an INTEGER of five octets or more, of a long OBJECT IDENTIFIER; printed text; an address |
 //! | `not_der` | what is not DER in it, if anything is, in the words of `der_rules` |
 //! | `fault` | what is wrong with it, if anything is |
 //! | `blocks` | such objects of the encodings inside its octets, where a dump shows some |
@@ -24,7 +24,7 @@
 //! |---|---|
 //! | BOOLEAN | `true` or `false` |
 //! | INTEGER, ENUMERATED | a number up to 2^53 - 1 either way; else decimal digits; of more than 1,024 octets `null` |
-//! | OBJECT IDENTIFIER | a text, `1.2.840`, as X.690 has it: of `88 37` `2.999` |
+//! | OBJECT IDENTIFIER | a text, `1.2.840`, as X.690 has it: of `88 37` `2.999`; of more than 1,024 octets `null` |
 //! | strings | their text, of a UniversalString also in UTF-32, a BMPString in UTF-16, a TeletexString in Latin-1 |
 //! | UTCTime, GeneralizedTime | a text, `2026-11-23T00:43:05Z` |
 //! | REAL, RELATIVE-OID, TIME, DATE, TIME-OF-DAY, DATE-TIME, DURATION | a text: `5 * 2^-5`, `.8571.3`, `1985-10-12` |

@@ -32,8 +32,9 @@ use std::alloc::{AllocError, Global};
 // The greatest number that every reader of JSON takes as it is (RFC 7493, section 2.2): 2^53 - 1.
 const GREATEST_NUMBER: u64 = 9_007_199_254_740_991;
 
-// The most octets of an integer that is written in decimal: the time for it grows as the square of their number.
-const MOST_DECIMAL: usize = 1024;
+// The most octets of a number, or of an object identifier, that are written in decimal: the time for it grows as the
+// square of how many they are.
+pub const MOST_DECIMAL: usize = 1024;
 
 // The tag of an ENUMERATED (X.680 8.4, table 1).
 const ENUMERATED: u64 = 10;
@@ -92,11 +93,15 @@ fn dotted_value(alloc: Global, identifier: &OID) -> Result<Value, AllocError>
     Ok(Value::String(format!(in alloc; "{identifier}")?))
 }
 
-// The object identifier of contents octets, of which the library read this one.
+// The object identifier of contents octets, of which the library read this one; null if they are too many to be written
+// in decimal.
 fn identifier_value(alloc: Global, contents: &[u8], read: &OID) -> Result<Value, AllocError>
-    ensures told { IfOk result (λ v. IsIdentifierValue read.now (view v)) }
+    ensures told { IfOk result (λ v. IsIdentifierValue contents.now read.now (view v)) }
     ensures exact { IfOk result (λ v. has_float (view v) ≡ false) }
 {
+    if contents.len() > MOST_DECIMAL {
+        return Ok(Value::Null);
+    }
     if has_short_front(alloc, read)? {
         return dotted_value(alloc, read);
     }
@@ -225,7 +230,7 @@ fn value_of_type(alloc: Global, tag: u64, contents: &[u8]) -> Result<Option<Valu
 
 // What a block with these contents octets holds.
 fn value_of(alloc: Global, contents: &[u8], block: &ASN1Block) -> Result<Value, AllocError>
-    ensures told { IfOk result (λ v. IsValue (view_block block.now) (view v)) }
+    ensures told { IfOk result (λ v. IsValue contents.now (view_block block.now) (view v)) }
     ensures exact { IfOk result (λ v. has_float (view v) ≡ false) }
 {
     match block {
