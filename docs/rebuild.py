@@ -6,6 +6,7 @@ not keep everything of other documents. If the value of a block makes more or fe
 error that names the block's offset. So are:
 
 - identifier and length octets, INTEGERs and OBJECT IDENTIFIERs in longer forms than the shortest
+- a tag number of more than 1,024 bytes, also in canonical DER
 - contents of a NULL, and none of an INTEGER
 - fractions of a second that end with 0, have no digits, or more than nine
 - a BOOLEAN other than 00 and FF
@@ -73,6 +74,8 @@ def length_octets(length):
 
 
 def header_of(row):
+    if row["tag"] is None:
+        raise Different(row, "the tag number has more than 1,024 bytes, and is not told")
     tag = int(row["tag"])
     front = CLASSES[row["class"]] + (0x20 if row["constructed"] else 0)
     identifier = bytes([front + tag]) if tag < 31 else bytes([front + 31]) + base128(tag)

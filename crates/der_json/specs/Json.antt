@@ -12,6 +12,7 @@ use Rattle.serde_json.specs.Data.{Data, array, boolean as boolean_json, null, nu
 use Rattle.serde_json.specs.Data.{Items, no_items, item, Members, no_members, member}
 use Rattle.serde_json.specs.Find.{of_integer}
 use Rattle.serde_json.specs.Written.{compact_text}
+use Rattle.asn1_numbers.specs.Base128.{shortest_base128}
 use Rattle.asn1_numbers.specs.Decimal.{natural_numeral, whole_numeral}
 use Rattle.asn1_numbers.specs.TwosComplement.{shortest_octets, signed_number}
 use Rattle.asn1_headers.specs.Fault.{DecodeFault, empty_buffer, incomplete}
@@ -35,9 +36,13 @@ use Rattle.der_values.specs.Strings.{has_words, is_string}
 use Rattle.der_json.specs.declared.fault.Fault.{Fault}
 use Rattle.der_json.specs.declared.line.Origin.{Origin}
 
--- a natural number: greater ones than these are texts, since readers of JSON round them
+-- a tag number: greater ones than these are texts, since readers of JSON round them; null where it has more than 1,024
+-- subsequent octets (X.690 8.1.2.4.2), which take long to be a numeral
 abbrev pub natural_json : ℕ → Data
-natural_json n = if nat_lt 9007199254740991 n then string (natural_numeral n) else number (unsigned n)
+natural_json n =
+    if nat_lt 1024 (length (shortest_base128 n)) then null
+    else if nat_lt 9007199254740991 n then string (natural_numeral n)
+    else number (unsigned n)
 
 -- a whole number, likewise; null where it has more than 1,024 octets (X.690 8.3.2), which take long to be a numeral
 abbrev pub whole_json : ℤ → Data

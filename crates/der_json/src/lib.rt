@@ -11,7 +11,7 @@
 //! | `depth` | how many blocks are around it |
 //! | `class` | `universal`, `application`, `context-specific` or `private` |
 //! | `constructed` | its constructed bit: `true` or `false` |
-//! | `tag` | its number; as a text of its decimal digits where it is greater than 2^53 - 1 |
+//! | `tag` | its number; greater than 2^53 - 1, a text of its decimal digits; of more than 1,024 octets, `null` |
 //! | `type` | `SEQUENCE` and its like, by X.680 (8.4, table 1); `null` where the tag has no type there |
 //! | `value` | what it holds: the next table |
 //! | `name` | the name of an object identifier, of bits that are set, or of a GeneralName, if it has one |

@@ -39,11 +39,14 @@ pub const MOST_DECIMAL: usize = 1024;
 // The tag of an ENUMERATED (X.680 8.4, table 1).
 const ENUMERATED: u64 = 10;
 
-// A natural number.
+// A tag number; null if it has too many octets to be written in decimal.
 pub fn natural_value(alloc: Global, number: &BigUint) -> Result<Value, AllocError>
     ensures told { IfOk result (λ v. view v ≡ natural_json number.now) }
     ensures exact { IfOk result (λ v. has_float (view v) ≡ false) }
 {
+    if number.base128_size() > MOST_DECIMAL {
+        return Ok(Value::Null);
+    }
     match number.to_u64() {
         Some(n) if n <= GREATEST_NUMBER => Ok(Value::from(n)),
         _ => Ok(Value::String(format!(in alloc; "{number}")?)),
