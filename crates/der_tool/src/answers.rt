@@ -9,6 +9,7 @@ ghost use Rattle.der_tool.specs.Answers.{
   number_after,
   refusal,
 };
+ghost use Rattle.der_tool.specs.declared.answers.Reading.TheVariants.{Strict};
 ghost use Rattle.simple_asn1.specs.Fault.{OutOfMemoryOr, fault_of};
 
 use der_io::split_line;
@@ -104,11 +105,21 @@ fn canonical_octets(
 {
     match reading {
         Reading::Lenient => rewrite(alloc, octets),
-        Reading::Strict => {
-            discard(from_der_strict(alloc, octets)?);
-            Ok(octets.to_vec(alloc)?)
-        }
+        Reading::Strict => strict_octets(alloc, octets),
     }
+}
+
+// Those of a document that stands in its canonical octets. No block of it is built: rewritten, it is the same.
+fn strict_octets(alloc: Global, octets: &[u8]) -> Result<Vec<u8>, ASN1DecodeErr>
+    ensures accepted { IfOk result (λ canonical. IsAccepted Strict octets.now canonical.items) }
+    ensures refused { IfErr result (OutOfMemoryOr (IsRefused Strict octets.now)) }
+{
+    let canonical = rewrite(alloc, octets)?;
+    if canonical.as_slice() == octets {
+        return Ok(canonical);
+    }
+    discard(from_der_strict(alloc, octets)?);
+    Ok(octets.to_vec(alloc)?)
 }
 
 // A space and the number of a fault, if it is one of the four whose number is told.
