@@ -117,6 +117,9 @@ simple_asn1_outcome simple_asn1_read_strict(const uint8_t *octets, size_t size, 
  * too. The error is that of the first header at fault. */
 simple_asn1_outcome simple_asn1_outline(const uint8_t *octets, size_t size, simple_asn1_block *blocks, size_t room);
 
+/* Whether bytes are a document, and otherwise the first error, as simple_asn1_read: no records are made. */
+simple_asn1_outcome simple_asn1_check(const uint8_t *octets, size_t size);
+
 /* Writes the canonical bytes (DER) of a document. */
 simple_asn1_outcome simple_asn1_rewrite(const uint8_t *octets, size_t size, uint8_t *out, size_t room);
 
@@ -129,11 +132,19 @@ simple_asn1_outcome simple_asn1_write(const uint8_t *octets, size_t size, const 
 
 /* The value of the block at an offset: an INTEGER's number, if it fits; a UTCTime's or GeneralizedTime's moment; a
  * string's text, of any kind, in UTF-8; an OBJECT IDENTIFIER's components, as in 1.2.840. No terminating 0 is added.
- * Only its header and its own contents octets are looked at; a block with another tag is NO_SUCH_VALUE. */
+ * Only its header and its own contents octets are looked at; a block with another tag is NO_SUCH_VALUE. A component
+ * beyond uint64_t takes time that grows as the square of its octets, with a room of 0 too: simple_asn1_oid_room is
+ * enough at once, and simple_asn1_component gives its octets in linear time. */
 simple_asn1_integer simple_asn1_int64(const uint8_t *octets, size_t size, size_t offset);
 simple_asn1_moment simple_asn1_time(const uint8_t *octets, size_t size, size_t offset);
 simple_asn1_outcome simple_asn1_text(const uint8_t *octets, size_t size, size_t offset, uint8_t *out, size_t room);
 simple_asn1_outcome simple_asn1_oid(const uint8_t *octets, size_t size, size_t offset, uint8_t *out, size_t room);
+
+/* Room that is always enough for the text of an OBJECT IDENTIFIER with so many contents octets. */
+static inline size_t simple_asn1_oid_room(size_t contents)
+{
+    return 4 * contents + 1;
+}
 
 /* The parts of a certificate, request or revocation list with which its signature is verified (RFC 5280, section 4.1).
  * The algorithm's parameters are the octets from the end of its OBJECT IDENTIFIER to the offset of the signature; the
@@ -170,11 +181,26 @@ simple_asn1_outcome simple_asn1_components(const uint8_t *contents, size_t size,
 simple_asn1_outcome simple_asn1_dotted(const uint8_t *contents, size_t size, uint8_t *out, size_t room);
 simple_asn1_outcome simple_asn1_shortest_oid(const uint8_t *contents, size_t size, uint8_t *out, size_t room);
 
+/* How many octets (count) the component has that begins at an index of these contents octets: seven bits in each, most
+ * significant first. The third component begins at index 1, each other where the one before ends; the octet at index 0
+ * has the first two, 40 times the first, 2 at most, and the second. NO_SUCH_VALUE: the index is 0 or not below size.
+ * INCOMPLETE: the octets run out. */
+simple_asn1_outcome simple_asn1_component(const uint8_t *contents, size_t size, size_t index);
+
 /* simple_asn1_header writes the record of the encoding at an offset, read by its header alone: items, next and depth
- * are 0. simple_asn1_tag writes its tag number in decimal, of any size. NO_SUCH_VALUE: no encoding is at the offset. */
+ * are 0. simple_asn1_tag writes its tag number in decimal, of any size; simple_asn1_tag_room of its header is always
+ * enough. simple_asn1_tag_octets returns how many octets (count) after the first of the encoding have the number, seven
+ * bits in each, most significant first: none for a number in the first octet, below 31. NO_SUCH_VALUE: no encoding is
+ * at the offset. */
 simple_asn1_outcome simple_asn1_header(const uint8_t *octets, size_t size, size_t offset, simple_asn1_block *blocks,
                                        size_t room);
 simple_asn1_outcome simple_asn1_tag(const uint8_t *octets, size_t size, size_t offset, uint8_t *out, size_t room);
+simple_asn1_outcome simple_asn1_tag_octets(const uint8_t *octets, size_t size, size_t offset);
+
+static inline size_t simple_asn1_tag_room(size_t header)
+{
+    return 3 * header;
+}
 
 /* Why simple_asn1_read rejects these bytes, with the number or the text of the error. */
 simple_asn1_refusal simple_asn1_fault(const uint8_t *octets, size_t size, uint8_t *out, size_t room);

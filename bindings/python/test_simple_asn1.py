@@ -84,6 +84,12 @@ class Reading(unittest.TestCase):
         time = simple_asn1.read(b"\x18\x1320261123070322.125Z").blocks[0].moment
         self.assertEqual(str(time), "2026-11-23T07:03:22.125000000Z")
 
+    def test_a_check_names_the_first_fault(self):
+        self.assertIsNone(simple_asn1.check(bytes.fromhex("30 03 01 01 FF")))
+        with self.assertRaises(simple_asn1.Refused) as refused:
+            simple_asn1.check(bytes.fromhex("30 05 05 00 01 02 FF"))
+        self.assertEqual((refused.exception.status, refused.exception.offset), (simple_asn1.Status.INCOMPLETE, 4))
+
     def test_what_is_read_is_written(self):
         loose, canonical = bytes.fromhex("30 81 03 01 01 2A"), bytes.fromhex("30 03 01 01 FF")
         self.assertEqual(simple_asn1.rewrite(loose), canonical)
@@ -130,6 +136,7 @@ class Octets(unittest.TestCase):
     CALLS = (
         simple_asn1.read,
         simple_asn1.read_strict,
+        simple_asn1.check,
         simple_asn1.rewrite,
         simple_asn1.Signed,
         lambda octets: simple_asn1.write(octets, [simple_asn1.Record(4, 0, 2, 64, 0, 1, 0, 0, 0)]),

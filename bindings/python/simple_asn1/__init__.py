@@ -14,11 +14,13 @@ in SIMPLE_ASN1_LIBRARY, or else in the package, or where bindings/c/build puts i
 """
 from ._builder import Builder
 from ._calls import Octets, Record
-from ._document import Bits, Block, Document, Moment, Signed, outline, read, read_pem, read_strict, rewrite, write
+from ._document import Bits, Block, Document, Moment, Signed
+from ._document import check, outline, read, read_pem, read_strict, rewrite, write
 from ._pem import PemObject, pem_objects
 from ._status import TEXTS, NoSuchValue, Refused, Status
 
 __all__ = [
     "Bits", "Block", "Builder", "Document", "Moment", "NoSuchValue", "Octets", "PemObject", "Record", "Refused",
-    "Signed", "Status", "TEXTS", "outline", "pem_objects", "read", "read_pem", "read_strict", "rewrite", "write",
+    "Signed", "Status", "TEXTS", "check", "outline", "pem_objects", "read", "read_pem", "read_strict", "rewrite",
+    "write",
 ]  # fmt: skip

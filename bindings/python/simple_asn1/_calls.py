@@ -164,6 +164,7 @@ def _library() -> Any:
         ("read", Outcome, octets + records),
         ("read_strict", Outcome, octets + records),
         ("outline", Outcome, octets + records),
+        ("check", Outcome, octets),
         ("rewrite", Outcome, octets + room),
         ("write", Outcome, octets + records + room),
         ("int64", Integer, octets + offset),
@@ -254,6 +255,12 @@ def _sized(call: Callable[..., Any], room: int, *arguments: Any) -> bytes:
     if answer.status != _OK:
         raise refusal(answer.status, answer.offset)
     return written
+
+
+def check(octets: bytes) -> None:
+    answer = _LIBRARY.simple_asn1_check(octets, len(octets))
+    if answer.status != Status.OK:
+        raise refusal(answer.status, answer.offset)
 
 
 def rewrite(octets: bytes) -> bytes:

@@ -301,6 +301,11 @@ def read_pem(text: Union[str, Octets]) -> Document:
     return Document(pem_objects(text)[0].octets)
 
 
+def check(octets: Octets) -> None:
+    """Raises `Refused` if these octets are not a document. No records are made."""
+    _calls.check(octets_of(octets))
+
+
 def rewrite(octets: Octets) -> bytes:
     """The canonical octets (DER) of a document."""
     return _calls.rewrite(octets_of(octets))

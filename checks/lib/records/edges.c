@@ -7,6 +7,7 @@ static void check_nothing(void)
     simple_asn1_outcome o = simple_asn1_read(NULL, 0, NULL, 0);
     CHECK(o.status == SIMPLE_ASN1_EMPTY && o.offset == 0);
     CHECK(simple_asn1_read_strict(NULL, 0, NULL, 0).status == SIMPLE_ASN1_EMPTY);
+    CHECK(simple_asn1_check(NULL, 0).status == SIMPLE_ASN1_EMPTY);
     CHECK(simple_asn1_rewrite(NULL, 0, NULL, 0).status == SIMPLE_ASN1_EMPTY);
     CHECK(simple_asn1_write(NULL, 0, NULL, 0, NULL, 0).status == SIMPLE_ASN1_EMPTY);
     CHECK(simple_asn1_int64(NULL, 0, 0).status == SIMPLE_ASN1_NO_SUCH_VALUE);
@@ -29,10 +30,16 @@ static void check_answers(void)
     o = simple_asn1_rewrite(five, 5, out, 4);
     CHECK(o.status == SIMPLE_ASN1_NO_ROOM && o.count == 5);
     CHECK(simple_asn1_signed(five, 5).status == SIMPLE_ASN1_NOT_SIGNED);
+    o = simple_asn1_check(five, 5);
+    CHECK(o.status == SIMPLE_ASN1_OK && o.offset == 0 && o.count == 0);
 
     const uint8_t cut[] = {0x30, 4, 2, 1, 5, 1};
     o = simple_asn1_read(cut, 6, NULL, 0);
     CHECK(o.status == SIMPLE_ASN1_INCOMPLETE && o.offset == 5);
+    o = simple_asn1_check(cut, 6);
+    CHECK(o.status == SIMPLE_ASN1_INCOMPLETE && o.offset == 5 && o.count == 0);
+    o = simple_asn1_rewrite(cut, 6, out, sizeof out);
+    CHECK(o.status == SIMPLE_ASN1_INCOMPLETE && o.offset == 5 && o.count == 0);
     const uint8_t loose[] = {5, 0, 1, 1, 42};
     o = simple_asn1_read_strict(loose, 5, NULL, 0);
     CHECK(o.status == SIMPLE_ASN1_NOT_CANONICAL && o.offset == 2);
@@ -168,6 +175,22 @@ static void check_tagged(void)
     CHECK(o.status == SIMPLE_ASN1_OK && o.count == sizeof several && memcmp(out, several, sizeof several) == 0);
 }
 
+/* A triple whose content is several blocks in one of another class: the record counts them, as that of reading does. */
+static void check_signed(void)
+{
+    const uint8_t octets[] = {0x30, 15, 0xA0, 4, 5, 0, 5, 0, 0x30, 3, 6, 1, 0x2A, 3, 2, 0, 0xAB};
+    simple_asn1_block blocks[7];
+    CHECK(simple_asn1_read(octets, sizeof octets, blocks, 7).count == 7 && blocks[1].items == 2);
+    simple_asn1_signed_parts s = simple_asn1_signed(octets, sizeof octets);
+    CHECK(s.status == SIMPLE_ASN1_OK && s.offset == 0);
+    CHECK(s.content.tag_class == 2 && s.content.constructed == 1 && s.content.tag == 0 && s.content.items == 2);
+    CHECK(s.content.offset == 2 && s.content.header == 2 && s.content.contents == 4);
+    CHECK(s.content.next == 0 && s.content.depth == 0);
+    CHECK(s.algorithm.tag == 6 && s.algorithm.offset == 10 && s.algorithm.contents == 1 && s.algorithm.items == 0);
+    CHECK(s.signature.tag == 3 && s.signature.offset == 13 && s.signature.contents == 2);
+    CHECK(s.algorithm.next == 0 && s.algorithm.depth == 0 && s.signature.next == 0 && s.signature.depth == 0);
+}
+
 /* Whether the octets are a document; all calls must agree on it. */
 static int check_changed(const uint8_t *octets, size_t size)
 {
@@ -175,11 +198,12 @@ static int check_changed(const uint8_t *octets, size_t size)
     simple_asn1_outcome o = simple_asn1_read(octets, size, NULL, 0);
     if (o.status != SIMPLE_ASN1_NO_ROOM) {
         CHECK(o.status >= SIMPLE_ASN1_EMPTY && o.status < SIMPLE_ASN1_NOT_CANONICAL && o.offset <= size);
-        CHECK(simple_asn1_rewrite(octets, size, NULL, 0).status == o.status);
+        simple_asn1_outcome r = simple_asn1_rewrite(octets, size, NULL, 0), c = simple_asn1_check(octets, size);
+        CHECK(r.status == o.status && r.offset == o.offset && c.status == o.status && c.offset == o.offset);
         return 0;
     }
     size_t count = o.count;
-    CHECK(count <= size / 2);
+    CHECK(count <= size / 2 && simple_asn1_check(octets, size).status == SIMPLE_ASN1_OK);
     simple_asn1_block *blocks = malloc(count * sizeof *blocks);
     o = simple_asn1_read(octets, size, blocks, count);
     CHECK(o.status == SIMPLE_ASN1_OK && o.count == count);
@@ -207,6 +231,7 @@ int main(int argc, char **argv)
     check_tags();
     check_made();
     check_tagged();
+    check_signed();
     size_t read = 0, refused = 0;
     for (int f = 1; f < argc; f++) {
         size_t size;

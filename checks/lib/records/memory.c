@@ -66,6 +66,7 @@ static uint32_t status_of(int call)
     case 12: return simple_asn1_put_text(12, (const uint8_t *)wide, sizeof wide - 1, out, sizeof out).status;
     case 13: return simple_asn1_put_time(24, &last, out, sizeof out).status;
     case 14: return simple_asn1_outline(octets, size, blocks, 1 << 13).status;
+    case 15: return simple_asn1_check(octets, size).status;
     default: return simple_asn1_write(octets, size, blocks, count, out, sizeof out).status;
     }
 }
@@ -85,7 +86,7 @@ int main(int argc, char **argv)
             *kind = blocks[i].offset;
     }
     size_t refused = 0;
-    for (int call = 0; call < 16; call++) {
+    for (int call = 0; call < 17; call++) {
         for (long k = 0;; k++) {
             long before = live;
             asked = 0, left = k;

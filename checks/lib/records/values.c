@@ -48,6 +48,21 @@ static void reading(void)
     uint8_t wide[22] = {6, 20, 0x55, 0x90}; /* 2^130 */
     memset(wide + 4, 0x80, 17);
     CHECK(put(simple_asn1_oid(wide, 22, 0, out, 64), "2.5.1361129467683753853853498429727072845824", 44));
+    /* components and tags of any size, by their octets */
+    CHECK(refused(simple_asn1_component(OCTETS(0x2A, 0x86, 0x48, LARGE, 0x05), 1), SIMPLE_ASN1_OK, 0, 2));
+    CHECK(refused(simple_asn1_component(OCTETS(0x2A, 0x86, 0x48, LARGE, 0x05), 3), SIMPLE_ASN1_OK, 0, 10));
+    CHECK(refused(simple_asn1_component(OCTETS(0x2A, 0x86, 0x48, LARGE, 0x05), 13), SIMPLE_ASN1_OK, 0, 1));
+    CHECK(refused(simple_asn1_component(OCTETS(0x2A, 0x86, 0x48, LARGE, 0x05), 14), SIMPLE_ASN1_NO_SUCH_VALUE, 14, 0));
+    CHECK(refused(simple_asn1_component(OCTETS(0x2A, 0x86, 0x48), 0), SIMPLE_ASN1_NO_SUCH_VALUE, 0, 0));
+    CHECK(refused(simple_asn1_component(OCTETS(0x2A, 0x86, 0xC8), 1), SIMPLE_ASN1_INCOMPLETE, 1, 0));
+    CHECK(refused(simple_asn1_component(NULL, 0, 0), SIMPLE_ASN1_NO_SUCH_VALUE, 0, 0));
+    CHECK(refused(simple_asn1_tag_octets(OCTETS(0x05, 0x00, 0x9F, LARGE, 0x00), 2), SIMPLE_ASN1_OK, 0, 10));
+    CHECK(refused(simple_asn1_tag_octets(OCTETS(0x05, 0x00), 0), SIMPLE_ASN1_OK, 0, 0));
+    CHECK(refused(simple_asn1_tag_octets(OCTETS(0x1F, 0x05, 0x00), 0), SIMPLE_ASN1_OK, 0, 1));
+    CHECK(refused(simple_asn1_tag_octets(OCTETS(0x05, 0x00), 1), SIMPLE_ASN1_NO_SUCH_VALUE, 1, 0));
+    CHECK(put(simple_asn1_dotted(OCTETS(0xFF, 0x7F), out, simple_asn1_oid_room(2)), "2.175.127", 9));
+    CHECK(put(simple_asn1_dotted(OCTETS(0xFF), out, simple_asn1_oid_room(1)), "2.175", 5));
+    CHECK(put(simple_asn1_tag(OCTETS(0x9F, 0x1F, 0x00), 0, out, simple_asn1_tag_room(3)), "31", 2));
     CHECK(put(simple_asn1_shortest_oid(OCTETS(0x2A, 0x86, 0x48), out, 64), "\x2A\x86\x48", 3));
     CHECK(put(simple_asn1_shortest_oid(OCTETS(0x2A, 0x80, 0x86, 0x48, 0x80, 0x05), out, 64), "\x2A\x86\x48\x05", 4));
     CHECK(refused(simple_asn1_shortest_oid(OCTETS(0x2A, 0x86), out, 64), SIMPLE_ASN1_INCOMPLETE, 0, 0));

@@ -14,7 +14,7 @@ use Rattle.simple_asn1_c.specs.Records.{AreRecords, HasHeader, IsRecordAt, block
 use Rattle.simple_asn1_c.specs.declared.record.Block.{Block}
 
 -- the octets of a tree have the header that stands at its entry
-header_stands : (x : List ℕ) (b : Tree ℕ) (e : Entry) (octets : List ℕ) → HasHeaderAt x e → e.offset ≡ tree_offset b → IsEncodedIn x b octets
+pub header_stands : (x : List ℕ) (b : Tree ℕ) (e : Entry) (octets : List ℕ) → HasHeaderAt x e → e.offset ≡ tree_offset b → IsEncodedIn x b octets
     → HasHeader octets (block_of e)
 header_stands x b e octets (y, at, h) o s =
     let there = encoding_of x b octets s in

@@ -1,15 +1,12 @@
--- The header of octets that are an encoding, and the number of trees.
-use Rattle.std.proofs.Common.{◌≡◌, ℕ, suc, Bool, List, [], ◌∷◌, ◌++◌, length, drop, refl, sym, ap, subst, ◌∙◌, arith, length-append, append_assoc}
-use Rattle.std.proofs.lemmas.List.{drop_at, length-take-le, take-append-drop}
+-- The header of octets that are an encoding.
+use Rattle.std.proofs.Common.{◌≡◌, ◌≤◌, ℕ, Bool, List, ◌++◌, length, drop, take, refl, sym, ap, subst, ◌∙◌, arith, length-append, append_assoc}
+use Rattle.std.proofs.lemmas.List.{drop_at, length-take-le, take-append-drop, take_at}
 use Rattle.asn1_headers.specs.declared.header.ASN1Class.{ASN1Class}
-use Rattle.asn1_blocks.specs.declared.block.ASN1Block.{ASN1Block}
 use Rattle.asn1_headers.specs.declared.header.ASN1Class.TheVariants.{Universal, Application, ContextSpecific, Private}
-use Rattle.simple_asn1.specs.Header.{Encoding, IsLength, class_number}
+use Rattle.simple_asn1.specs.Header.{BeginsWithNo, Encoding, IsIdentifier, IsLength, IsSomeIdentifier, class_number}
 use Rattle.simple_asn1.specs.Places.{IsEncoding}
-use Rattle.simple_asn1.specs.View.{views}
 use Rattle.asn1_headers.proofs.Prefixes.{identifier_alone, length_alone}
 use Rattle.asn1_headers.specs.Front.{BeginsWithHeader, HasNoHeader}
-use Rattle.simple_asn1_c.specs.Records.{count_of}
 
 -- an encoding begins with a header
 pub some_header : (x : List ℕ) → IsEncoding x → HasNoHeader x → ⊥
@@ -44,6 +41,24 @@ front_found x size m c k n is f =
       count,
     )
 
+-- and with identifier octets
+pub some_identifier : (x : List ℕ) → IsEncoding x → BeginsWithNo IsSomeIdentifier x → ⊥
+some_identifier x is none =
+    let e = is.encoding in
+    let i = e.identifier in
+    let front : take (length i) x ≡ i = ap (take (length i)) e.whole ∙ take_at i (e.len ++ is.contents) (length i) refl in
+    none is.tag (length i) (is.class, is.constructed, subst (λ z. IsIdentifier z is.class is.constructed is.tag) (sym front) e.identifier_octets)
+
+-- identifier octets at the front are its own
+pub identifier_found : (x : List ℕ) (size n : ℕ) (c : ASN1Class) (k : Bool) → (is : IsEncoding x) → size ≤ length x → IsIdentifier (take size x) c k n
+    → length is.encoding.identifier ≡ size
+identifier_found x size n c k is within found =
+    let e = is.encoding in
+    let v = is.contents in
+    let same = identifier_alone e.identifier (take size x) (e.len ++ v) (drop size x) is.class c is.constructed k is.tag n e.identifier_octets
+    found (sym e.whole ∙ sym (take-append-drop size x)) in
+    ap length same.octets ∙ length-take-le size x within
+
 -- the class whose number is 0
 pub universal_number : (c : ASN1Class) → class_number c ≡ 0 → c ≡ Universal
 universal_number Universal e = refl
@@ -58,8 +73,3 @@ contents_behind x c k n v h e =
     let l = e.len in
     let at : length (i ++ l) ≡ h = omega (arith, e.size, length-append i l) in
     ap (drop h) (e.whole ∙ sym (append_assoc i l v)) ∙ drop_at (i ++ l) v h at
-
--- the trees of blocks are as many
-pub views_count : (bs : List ASN1Block) → count_of (views bs) ≡ length bs
-views_count [] = refl
-views_count (b ∷ bs) = ap suc (views_count bs)

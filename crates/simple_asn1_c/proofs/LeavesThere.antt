@@ -30,12 +30,12 @@ module _ (octets : List ℕ) (offset : ℕ) where
       (0, (u.whole, u.at, record { some = some; blocks = only 0 u.whole (leaf 0 l) s }))
 
   -- the encoding of a leaf that is read alone
-  record LeafThere (l : Leaf) : Type 0 where
-    contents : List ℕ
-    universal : UniversalAt octets offset (leaf_tag l) contents
-    meaning : LeafContents l contents
+  pub record LeafThere (l : Leaf) : Type 0 where
+    pub contents : List ℕ
+    pub universal : UniversalAt octets offset (leaf_tag l) contents
+    pub meaning : LeafContents l contents
 
-  leaf_there : (l : Leaf) → IsLeafAt octets offset l → LeafThere l
+  pub leaf_there : (l : Leaf) → IsLeafAt octets offset l → LeafThere l
   leaf_there l (o, (x, at, d)) =
       let s = only_tree 0 x (leaf o l) d.blocks in record {
         contents = s.2;
@@ -44,7 +44,7 @@ module _ (octets : List ℕ) (offset : ℕ) where
       }
 
   -- one encoding stands there
-  one_universal : (m n : ℕ) (v w : List ℕ) → UniversalAt octets offset m v → UniversalAt octets offset n w → (m ≡ n) × (v ≡ w)
+  pub one_universal : (m n : ℕ) (v w : List ℕ) → UniversalAt octets offset m v → UniversalAt octets offset n w → (m ≡ n) × (v ≡ w)
   one_universal m n v w a b =
       let same = encoding_at_alone octets offset a.whole b.whole a.at b.at in
       let here = subst (λ z. Encoding z Universal a.constructed m v a.header) same a.encoding in

@@ -1,5 +1,6 @@
 -- What a call answers, by what it did.
-use Rattle.std.proofs.Common.{◌≡◌, ◌⊎◌, ℕ, ◌≤◌, ◌++◌, inl, inr, List, drop, get_or, length, map, refl, sym, ap, subst, ◌∙◌, arith}
+use Rattle.std.proofs.Common.{◌≡◌, ◌⊎◌, ℕ, ◌≤◌, ◌++◌, inl, inr, List, Option, None, Some, drop, get_or, length, map, refl, sym, ap, subst, ◌∙◌, arith}
+use Rattle.std.specs.Prelude.{MatchOption}
 use Rattle.std.proofs.lemmas.List.{drop_at, get_or_append_left, length-map}
 use Rattle.simple_asn1.specs.Canonical.{all_canonical}
 use Rattle.simple_asn1.specs.Grammar.{FirstFaultAt, IsDocument}
@@ -9,6 +10,7 @@ use Rattle.simple_asn1.specs.Shapes.{FirstHeaderFaultAt, HasShapes, Shapes, entr
 use Rattle.simple_asn1.specs.Structure.{IsStructure, Nodes, nodes_depths, nodes_in_order}
 use Rattle.simple_asn1.specs.Tree.{Trees}
 use Rattle.simple_asn1_c.specs.Answers.{
+  AnswersCheck,
   AnswersOutline,
   AnswersRead,
   AnswersReadStrict,
@@ -21,11 +23,13 @@ use Rattle.simple_asn1_c.specs.Answers.{
   had_header_fault,
   had_no_memory,
   had_no_memory_strict,
+  had_no_memory_to_check,
   had_no_memory_to_outline,
   had_no_memory_to_write,
   had_no_room,
   had_no_room_strict,
   had_no_room_to_write,
+  is_no_document,
   was_outlined,
   was_read,
   was_read_strict,
@@ -149,6 +153,18 @@ pub rewrite_refused : (octets before : List ℕ) (o : Outcome) (status offset : 
     → IsNoMemory status offset ⊎ IsRefused octets status offset → AnswersRewrite octets before before o
 rewrite_refused octets before o status offset told (inl m) = had_no_memory_to_write (no_memory_told o status offset told m) told.2 refl
 rewrite_refused octets before o status offset told (inr f) = was_refused_to_write (refusal_told octets o status offset told f) told.2 refl
+
+-- what stands in an answer that may be none
+pub some_written : {A : Type 0} (P : A → Type 0) (Q : Type 0) (w : Option A) (v : A) → w ≡ Some v → MatchOption w Q P → P v
+some_written P Q w v e m = subst (λ z. MatchOption z Q P) e m
+
+pub none_written : {A : Type 0} (P : A → Type 0) (Q : Type 0) (w : Option A) → w ≡ None → MatchOption w Q P → Q
+none_written P Q w e m = subst (λ z. MatchOption z Q P) e m
+
+pub check_refused : (octets : List ℕ) (o : Outcome) (status offset : ℕ) → Tells o status offset
+    → IsNoMemory status offset ⊎ IsRefused octets status offset → AnswersCheck octets o
+check_refused octets o status offset told (inl m) = had_no_memory_to_check (no_memory_told o status offset told m) told.2
+check_refused octets o status offset told (inr f) = is_no_document (refusal_told octets o status offset told f) told.2
 
 pub outline_answer :
     (octets : List ℕ) (all : Shapes) (es found : List Entry) (before after : List Block) (o : Outcome) → found ≡ es → HasShapes octets all →

@@ -85,6 +85,13 @@ pub data AnswersOutline (octets : List ℕ) (before after : List Block) (o : Out
   had_no_memory_to_outline :
       IsNoMemory o.status o.offset → o.count ≡ 0 → after ≡ before → AnswersOutline octets before after o
 
+-- checking: the octets are a document; the first fault and its place; or memory ran out
+pub data AnswersCheck (octets : List ℕ) (o : Outcome) : Type 0 where
+  is_document :
+      o.status ≡ done → o.offset ≡ 0 → o.count ≡ 0 → (bs : Trees ℕ) → IsDocument octets bs → AnswersCheck octets o
+  is_no_document : IsRefused octets o.status o.offset → o.count ≡ 0 → AnswersCheck octets o
+  had_no_memory_to_check : IsNoMemory o.status o.offset → o.count ≡ 0 → AnswersCheck octets o
+
 -- rewriting: the canonical octets of a document at the front of what is written to, and nothing else is changed; their
 -- number, where there is no room for so many; the first fault and its place; or memory ran out
 pub data AnswersRewrite (octets before after : List ℕ) (o : Outcome) : Type 0 where

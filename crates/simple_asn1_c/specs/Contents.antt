@@ -1,11 +1,12 @@
 -- What calls answer of contents octets alone, of one header, and of a fault.
-use Rattle.std.specs.Prelude.{◌≡◌, ◌<◌, ◌^◌, ℕ, All, Bool, List, [], ◌∷◌, unsigned_abs}
+use Rattle.std.specs.Prelude.{◌≡◌, ◌⊎◌, ◌+◌, ◌<◌, ◌≤◌, ◌^◌, ℕ, All, Bool, List, [], ◌∷◌, drop, length, take, unsigned_abs}
 use Rattle.asn1_headers.specs.declared.header.ASN1Class.{ASN1Class}
 use Rattle.asn1_leaves.specs.Contents.ObjectIdentifier.{
   ObjectIdentifierContents,
   ObjectIdentifierFault,
   object_identifier_contents,
 }
+use Rattle.asn1_numbers.specs.Base128.{IsBase128}
 use Rattle.asn1_numbers.specs.Decimal.{natural_numeral}
 use Rattle.simple_asn1.specs.DottedDecimal.{dotted_decimal}
 use Rattle.simple_asn1.specs.Fault.{
@@ -24,7 +25,7 @@ use Rattle.simple_asn1.specs.Fault.{
   utf8_failure,
 }
 use Rattle.simple_asn1.specs.Grammar.{FirstFaultAt, IsDocument}
-use Rattle.simple_asn1.specs.Header.{Encoding}
+use Rattle.simple_asn1.specs.Header.{BeginsWithNo, Encoding}
 use Rattle.simple_asn1.specs.Places.{EncodingAt, HasNoEncodingAt}
 use Rattle.simple_asn1.specs.Tree.{Trees}
 use Rattle.simple_asn1_c.specs.Answers.{IsNoMemory}
@@ -67,6 +68,19 @@ AnswersShortest contents before after o =
     (λ components. ArePut (object_identifier_contents components) before after o)
     (λ status. IsNotPut status before after o)
 
+-- how many octets the component has that begins at the index: they are a base-128 number (X.690 8.19.2); none begins
+-- there, as in the first octet, which is of the first two components; or it does not end
+pub data AnswersComponent (contents : List ℕ) (index : ℕ) (o : Outcome) : Type 0 where
+  component_was_found :
+      0 < index → o.status ≡ done → o.offset ≡ 0 → o.count ≤ length (drop index contents) →
+      (n : ℕ) → IsBase128 (take o.count (drop index contents)) n → AnswersComponent contents index o
+  no_component_begins :
+      (index ≡ 0) ⊎ (length contents ≤ index) → o.status ≡ no_such_value → o.offset ≡ index → o.count ≡ 0 →
+      AnswersComponent contents index o
+  component_does_not_end :
+      BeginsWithNo IsBase128 (drop index contents) → o.status ≡ status_of incomplete → o.offset ≡ index →
+      o.count ≡ 0 → AnswersComponent contents index o
+
 -- the record has the header of the encoding at the offset, and says nothing of what that holds
 abbrev pub IsHeaderAt : List ℕ → ℕ → Block → Type 0
 IsHeaderAt octets offset r =
@@ -102,6 +116,16 @@ pub data AnswersTag (octets : List ℕ) (offset : ℕ) (before after : List ℕ)
   had_no_memory_for_tag :
       o.status ≡ no_memory → o.offset ≡ offset → o.count ≡ 0 → after ≡ before →
       AnswersTag octets offset before after o
+
+-- how many identifier octets of an encoding follow the leading one: they have the tag number as a base-128 number (X.690
+-- 8.1.2.4.2), or there are none, and the leading one has it; or no encoding stands there
+pub data AnswersTagOctets (octets : List ℕ) (offset : ℕ) (o : Outcome) : Type 0 where
+  tag_octets_were_found :
+      o.status ≡ done → o.offset ≡ 0 → (x : List ℕ) → (at : EncodingAt octets offset x) →
+      length at.encoding.encoding.identifier ≡ o.count + 1 → AnswersTagOctets octets offset o
+  no_tag_octets_were_found :
+      HasNoEncodingAt octets offset → o.status ≡ no_such_value → o.offset ≡ offset → o.count ≡ 0 →
+      AnswersTagOctets octets offset o
 
 -- the number that a fault says: a length; of a BIT STRING how many bits are missing
 abbrev pub fault_number : DecodeFault → ℕ

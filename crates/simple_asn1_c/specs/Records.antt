@@ -1,11 +1,8 @@
 -- What a record says of a block.
-use Rattle.std.specs.Prelude.{◌≡◌, ℕ, suc, ◌+◌, ◌<◌, Bool, List, Option, None, Some, get_or, length}
-use Rattle.simple_asn1.specs.BlockParts.{tree_items}
-use Rattle.simple_asn1.specs.Grammar.{IsDocument}
+use Rattle.std.specs.Prelude.{◌≡◌, ℕ, ◌+◌, ◌<◌, Bool, List, get_or, length}
 use Rattle.simple_asn1.specs.Header.{Encoding, class_number, constructed_bit}
-use Rattle.simple_asn1.specs.Places.{HasOctets}
-use Rattle.simple_asn1.specs.Structure.{IsEncodedIn, Nodes, node_at, node_count, node_in_order, node_items, nodes_depths, nodes_in_order, tree_at}
-use Rattle.simple_asn1.specs.Tree.{Tree, Trees, more_trees, no_trees}
+use Rattle.simple_asn1.specs.Structure.{IsEncodedIn, IsStructure, Nodes, node_at, node_count, node_in_order, node_items, nodes_depths, nodes_in_order, tree_at}
+use Rattle.simple_asn1.specs.Tree.{Tree}
 use Rattle.simple_asn1.specs.View.{tree_offset}
 use Rattle.asn1_headers.specs.declared.header.ASN1Class.{ASN1Class}
 use Rattle.asn1_outline.specs.Entries.{HasTag}
@@ -23,33 +20,6 @@ pub record HasHeader (octets : List ℕ) (r : Block) : Type 0 where
   pub constructed_field : r.constructed ≡ constructed_bit constructed
   pub tag_field : HasTag tag r.tag
   pub contents_field : r.contents ≡ length contents
-
--- the tree stands in a document of these octets
-abbrev pub Stands : List ℕ → Tree ℕ → Type 0
-Stands document b = (bs : Trees ℕ) × (octets : List ℕ) × IsDocument document bs × HasOctets document bs b octets
-
--- how many trees there are
-abbrev pub count_of : Trees ℕ → ℕ
-count_of no_trees = 0
-count_of (more_trees b bs) = suc (count_of bs)
-
-abbrev pub count_in : Option (Trees ℕ) → ℕ
-count_in None = 0
-count_in (Some bs) = count_of bs
-
--- how many trees a tree holds, without those inside them
-abbrev pub items_in : Tree ℕ → ℕ
-items_in b = count_in (tree_items b)
-
--- the record is of the tree, which stands in a document of these octets
-pub record IsRecord (whole : List ℕ) (b : Tree ℕ) (r : Block) : Type 0 where
-  pub bs : Trees ℕ
-  pub octets : List ℕ
-  pub document : IsDocument whole bs
-  pub own_octets : HasOctets whole bs b octets
-  pub header : HasHeader octets r
-  pub offset : r.offset ≡ tree_offset b
-  pub items : r.items ≡ items_in b
 
 -- what is read of a place past the end
 abbrev pub no_record : Block
@@ -93,6 +63,19 @@ pub record IsRecordAt (whole : List ℕ) (ns : Nodes) (k : ℕ) (r : Block) : Ty
   -- the index after it and all that it holds
   pub next : r.next ≡ k + length (node_in_order (node_at ns k))
   pub depth : r.depth ≡ get_or (nodes_depths 0 ns) k 0
+
+-- the record is that of a block in a document's structure, which is the tree; its links may be any
+pub record IsRecord (whole : List ℕ) (b : Tree ℕ) (r : Block) : Type 0 where
+  pub ns : Nodes
+  pub structure : IsStructure whole ns
+  pub place : ℕ
+  pub within : place < length (nodes_in_order ns)
+  pub tree : tree_at ns place ≡ b
+  pub octets : List ℕ
+  pub encoded : IsEncodedIn whole b octets
+  pub header : HasHeader octets r
+  pub offset : r.offset ≡ tree_offset b
+  pub items : r.items ≡ node_count (node_items (node_at ns place))
 
 -- the first records are those of the blocks of a document at all depths, one each, in order
 abbrev pub AreRecords : List ℕ → Nodes → List Block → Type 0

@@ -1,12 +1,12 @@
 // The components of contents octets of an OBJECT IDENTIFIER, as numbers, in decimal and in the fewest octets.
-ghost use Rattle.std.specs.Prelude.{◌≡◌, IfOk, string_bytes};
+ghost use Rattle.std.specs.Prelude.{◌≡◌, ◌<◌, ◌≤◌, ℕ, IfNone, IfOk, IfSome, length, slice_index, string_bytes};
 ghost use Rattle.simple_asn1.specs.DottedDecimal.{dotted_decimal};
-ghost use Rattle.simple_asn1_c.specs.Contents.{AnswersComponents, AnswersDotted, AnswersShortest};
+ghost use Rattle.simple_asn1_c.specs.Contents.{AnswersComponent, AnswersComponents, AnswersDotted, AnswersShortest};
 ghost use Rattle.simple_asn1_c.specs.Room.{ArePut};
 
 use crate::putting::{all_put, not_enough, nothing_put, put_octets};
 use crate::record::Outcome;
-use crate::status::{NO_MEMORY, OUT_OF_RANGE, status_of_fault};
+use crate::status::{INCOMPLETE, NO_MEMORY, NO_SUCH_VALUE, OUT_OF_RANGE, status_of_fault};
 use asn1_leaves::contents::object_identifier::are_shortest;
 use asn1_leaves::oid;
 use simple_asn1::{ASN1DecodeErr, OID};
@@ -56,6 +56,32 @@ pub fn put_dotted(alloc: Global, contents: &[u8], room: &mut [u8]) -> Outcome
     match dotted_of(alloc, &oid) {
         Ok(text) => put_octets(text.as_bytes(), room),
         Err(AllocError) => nothing_put(NO_MEMORY, 0),
+    }
+}
+
+// The index of the first octet whose bit 8 is clear.
+fn last_octet_at(octets: &[u8]) -> Option<usize>
+    ensures found { IfSome result (λ i. (i < length octets.now) × (slice_index octets.now i < 128)) }
+    ensures before { IfSome result (λ i. (j : ℕ) → j < i → 128 ≤ slice_index octets.now j) }
+    ensures none { IfNone result ((j : ℕ) → j < length octets.now → 128 ≤ slice_index octets.now j) }
+{
+    octets.iter().position(|b| *b < 128)
+}
+
+// How many octets the component has that begins at the index.
+pub fn component_at(contents: &[u8], index: usize) -> Outcome
+    ensures { AnswersComponent contents.now index result }
+{
+    if index == 0 {
+        return nothing_put(NO_SUCH_VALUE, index);
+    }
+    if index >= contents.len() {
+        return nothing_put(NO_SUCH_VALUE, index);
+    }
+    let (_, rest) = contents.split_at(index);
+    match last_octet_at(rest) {
+        Some(last) => all_put(last + 1),
+        None => nothing_put(INCOMPLETE, index),
     }
 }
 

@@ -5,7 +5,7 @@ ghost use Rattle.simple_asn1.specs.Places.{IsEncoding};
 ghost use Rattle.simple_asn1.specs.Header.{Encoding};
 ghost use Rattle.asn1_headers.specs.declared.header.ASN1Class.{ASN1Class};
 ghost use Rattle.std.specs.Prelude.{Bool, List, ℕ, string_bytes};
-ghost use Rattle.simple_asn1_c.specs.Contents.{AnswersHeader, AnswersTag};
+ghost use Rattle.simple_asn1_c.specs.Contents.{AnswersHeader, AnswersTag, AnswersTagOctets};
 ghost use Rattle.simple_asn1_c.specs.Room.{ArePut};
 
 use crate::header::header_record;
@@ -13,6 +13,7 @@ use crate::putting::{all_put, not_enough, nothing_put, put_octets};
 use crate::record::{Block, Outcome};
 use crate::status::{NO_MEMORY, NO_SUCH_VALUE};
 use asn1_headers::front::read_header;
+use asn1_headers::header::identifier_at;
 use simple_asn1::{ASN1DecodeErr, BigUint, HeaderCount, encoding_at};
 use std::alloc::{AllocError, Global};
 
@@ -81,5 +82,18 @@ pub fn put_tag(alloc: Global, octets: &[u8], offset: usize, room: &mut [u8]) -> 
     match numeral_of(alloc, &tag) {
         Ok(text) => put_octets(text.as_bytes(), room),
         Err(AllocError) => nothing_put(NO_MEMORY, offset),
+    }
+}
+
+// How many identifier octets of the encoding at the offset follow the leading one.
+pub fn tag_octets_at(octets: &[u8], offset: usize) -> Outcome
+    ensures { AnswersTagOctets octets.now offset result }
+{
+    let Some(encoding) = encoding_at(octets, offset) else {
+        return nothing_put(NO_SUCH_VALUE, offset);
+    };
+    match identifier_at(encoding) {
+        Some(size) => all_put(size - 1),
+        None => unreachable!(),
     }
 }

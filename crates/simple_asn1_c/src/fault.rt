@@ -9,7 +9,7 @@ ghost use Rattle.simple_asn1_c.specs.Status.{status_of};
 use crate::putting::put_octets;
 use crate::record::Outcome;
 use crate::status::{DONE, NO_MEMORY, status_of_fault};
-use simple_asn1::{ASN1DecodeErr, Document, LocatedErr};
+use simple_asn1::{ASN1DecodeErr, LocatedErr, check_document};
 use std::alloc::Global;
 use std::mem::size_of;
 
@@ -97,8 +97,8 @@ fn fault_answer(located: &LocatedErr, room: &mut [u8]) -> FaultAnswer
 pub fn fault_in(alloc: Global, octets: &[u8], room: &mut [u8]) -> FaultAnswer
     ensures { AnswersFault octets.now room.old room.new result }
 {
-    let located = match Document::from_der_located(alloc, octets) {
-        Ok(_) => return no_fault(DONE, room),
+    let located = match check_document(alloc, octets) {
+        Ok(()) => return no_fault(DONE, room),
         Err(located) => located,
     };
     match located.error {

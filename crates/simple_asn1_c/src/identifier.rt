@@ -1,8 +1,6 @@
 // The components of an OBJECT IDENTIFIER in decimal with points: of that at an offset, and of one that is put.
-ghost use Rattle.std.specs.Prelude.{◌≡◌, ◌≢◌, ◌⊎◌, ℕ, List, MatchOption};
+ghost use Rattle.std.specs.Prelude.{◌≡◌, ◌≢◌, ◌⊎◌};
 ghost use Rattle.asn1_headers.specs.declared.error.ASN1EncodeErr.TheVariants.{OutOfMemory};
-ghost use Rattle.simple_asn1.specs.Tree.{leaf, object_identifier};
-ghost use Rattle.simple_asn1.specs.View.{tree_offset, view};
 ghost use Rattle.simple_asn1_c.specs.Puts.{AnswersPutIdentifier};
 ghost use Rattle.simple_asn1_c.specs.Status.{no_memory, out_of_range};
 ghost use Rattle.simple_asn1_c.specs.Values.{AnswersIdentifier};
@@ -13,19 +11,8 @@ use crate::putting::{nothing_put, put_octets};
 use crate::record::Outcome;
 use crate::status::{NO_MEMORY, NO_SUCH_VALUE, NOT_OID, OUT_OF_RANGE, status_of_fault};
 use asn1_leaves::oid;
-use simple_asn1::{ASN1Block, ASN1EncodeErr, OID};
+use simple_asn1::{ASN1EncodeErr, OID};
 use std::alloc::{AllocError, Global};
-
-pub fn identifier_of(block: &ASN1Block) -> Option<&OID>
-    ensures { MatchOption result
-        ((o : ℕ) (components : List ℕ) → view block.now ≢ leaf o (object_identifier components))
-        (λ oid. view block.now ≡ leaf (tree_offset (view block.now)) (object_identifier oid.now)) }
-{
-    match block {
-        ASN1Block::ObjectIdentifier(_, oid) => Some(oid),
-        _ => None,
-    }
-}
 
 pub fn identifier_at(alloc: Global, octets: &[u8], offset: usize, room: &mut [u8]) -> Outcome
     ensures { AnswersIdentifier octets.now offset room.old room.new result }

@@ -20,28 +20,28 @@ mod spelling;
 mod status;
 mod text;
 
-ghost use Rattle.std.specs.Prelude.{◌≡◌, ◌⊎◌, ◌*◌, ◌≤◌, ℕ, length};
-ghost use Rattle.simple_asn1.specs.Fault.{OutOfMemoryOr};
-ghost use Rattle.simple_asn1.specs.Grammar.{FirstFault};
+ghost use Rattle.std.specs.Prelude.{◌≡◌, ◌+◌, ◌*◌, ◌≤◌, ℕ, List, length};
+ghost use Rattle.simple_asn1.specs.Places.{EncodingAt};
 ghost use Rattle.simple_asn1.specs.Shapes.{HasShapes, Shapes, entries_of};
 ghost use Rattle.simple_asn1.specs.Structure.{IsStructure, Nodes, nodes_in_order};
 ghost use Rattle.simple_asn1_c.specs.Answers.{
+  AnswersCheck,
   AnswersOutline,
   AnswersRead,
   AnswersReadStrict,
   AnswersRewrite,
   AnswersSigned,
   AnswersWrite,
-  IsNoMemory,
-  IsRefused,
 };
 ghost use Rattle.simple_asn1_c.specs.Contents.{
+  AnswersComponent,
   AnswersComponents,
   AnswersDotted,
   AnswersFault,
   AnswersHeader,
   AnswersShortest,
   AnswersTag,
+  AnswersTagOctets,
 };
 ghost use Rattle.simple_asn1_c.specs.Puts.{
   AnswersPutBits,
@@ -60,26 +60,25 @@ ghost use Rattle.simple_asn1_c.specs.Raw.{
   AnswersRawText,
   AnswersSpell,
 };
-ghost use Rattle.simple_asn1_c.specs.Values.{AnswersIdentifier, AnswersInteger, AnswersMoment, AnswersText};
+ghost use Rattle.simple_asn1_c.specs.Values.{AnswersIdentifier, AnswersInteger, AnswersMoment, AnswersText, UniversalAt};
 
 use crate::bits::{put_bits, put_boolean};
-use crate::components::{put_components, put_dotted, put_shortest};
-use crate::encoding::{put_header, put_tag};
+use crate::components::{component_at, put_components, put_dotted, put_shortest};
+use crate::encoding::{put_header, put_tag, tag_octets_at};
 use crate::fault::{FaultAnswer, fault_in};
 use crate::identifier::{identifier_at, put_identifier};
 use crate::integer::{integer_at, put_integer};
 use crate::moment::{moment_at, put_moment};
-use crate::putting::{put_octets, put_records};
+use crate::putting::{all_put, put_octets, put_records};
 use crate::raw::{put_raw_bits, put_raw_identifier, put_raw_moment, put_raw_text};
 use crate::reading::{
-    Fault, OUT_OF_MEMORY, fault_of_refused, read_headers, read_records, read_records_strict,
+    Fault, canonical_octets, check, read_headers, read_records, read_records_strict,
 };
 use crate::record::{Block, IntegerAnswer, MomentAnswer, Outcome, SignedAnswer};
 use crate::signed::signed_in;
 use crate::spelled::{put_encoding, put_spelled};
 use crate::spelling::spell;
 use crate::text::{put_text, text_at};
-use simple_asn1::{ASN1DecodeErr, rewrite};
 use std::alloc::Global;
 
 // Of the calls and records.
@@ -151,9 +150,22 @@ pub extern "C" fn simple_asn1_outline(alloc: Global, octets: &[u8], blocks: &mut
 pub extern "C" fn simple_asn1_rewrite(alloc: Global, octets: &[u8], room: &mut [u8]) -> Outcome
     ensures { AnswersRewrite octets.now room.old room.new result }
 {
-    match rewrite(alloc, octets) {
-        Ok(canonical) => put_octets(&canonical, room),
-        Err(e) => refused_outcome(rewrite_fault(alloc, octets, &e)),
+    match canonical_octets(alloc, octets) {
+        Ok(Some(canonical)) => put_octets(&canonical, room),
+        Ok(None) => put_octets(octets, room),
+        Err(fault) => refused_outcome(fault),
+    }
+}
+
+/// Whether octets are a document, which is `DONE`; or the first fault, as [`simple_asn1_read`] returns it. No record is
+/// made: it takes 64 bytes of memory at most for each open level of nesting, which is given back.
+#[unsafe(no_mangle)]
+pub extern "C" fn simple_asn1_check(alloc: Global, octets: &[u8]) -> Outcome
+    ensures { AnswersCheck octets.now result }
+{
+    match check(alloc, octets) {
+        Ok(()) => all_put(0),
+        Err(fault) => refused_outcome(fault),
     }
 }
 
@@ -164,17 +176,6 @@ fn refused_outcome(fault: Fault) -> Outcome
         status: fault.status,
         offset: fault.offset,
         count: 0,
-    }
-}
-
-// The fault of octets that were not rewritten.
-fn rewrite_fault(alloc: Global, octets: &[u8], e: &ASN1DecodeErr) -> Fault
-    requires { OutOfMemoryOr (FirstFault octets.now) e.now }
-    ensures { IsNoMemory result.status result.offset ⊎ IsRefused octets.now result.status result.offset }
-{
-    match e {
-        ASN1DecodeErr::OutOfMemory => OUT_OF_MEMORY,
-        _ => fault_of_refused(alloc, octets),
     }
 }
 
@@ -212,7 +213,7 @@ pub extern "C" fn simple_asn1_text(
 }
 
 /// Writes the components of the OBJECT IDENTIFIER at an offset (X.690 8.19) in decimal, with a point between two of
-/// them, of any size, as [`simple_asn1_text`] does.
+/// them, of any size, as [`simple_asn1_text`] does. A component past 64 bits takes quadratic time.
 #[unsafe(no_mangle)]
 pub extern "C" fn simple_asn1_oid(
     alloc: Global,
@@ -220,7 +221,11 @@ pub extern "C" fn simple_asn1_oid(
     offset: usize,
     room: &mut [u8],
 ) -> Outcome
-    ensures { AnswersIdentifier octets.now offset room.old room.new result }
+    ensures answer { AnswersIdentifier octets.now offset room.old room.new result }
+
+    // Room for four octets for each contents octet, and one, is enough.
+    ensures few { (tag : ℕ) (contents : List ℕ) → UniversalAt octets.now offset tag contents
+        → result.count ≤ 4 * length contents + 1 }
 {
     identifier_at(alloc, octets, offset, room)
 }
@@ -253,9 +258,10 @@ pub extern "C" fn simple_asn1_write(
         Ok(spelled) => spelled,
         Err(fault) => return refused_outcome(fault),
     };
-    match rewrite(alloc, &spelled) {
-        Ok(canonical) => put_octets(&canonical, room),
-        Err(e) => refused_outcome(rewrite_fault(alloc, &spelled, &e)),
+    match canonical_octets(alloc, &spelled) {
+        Ok(Some(canonical)) => put_octets(&canonical, room),
+        Ok(None) => put_octets(&spelled, room),
+        Err(fault) => refused_outcome(fault),
     }
 }
 
@@ -341,9 +347,21 @@ pub extern "C" fn simple_asn1_components(
 /// Puts these components in decimal with a point between two of them, of any size, as [`simple_asn1_components`] does.
 #[unsafe(no_mangle)]
 pub extern "C" fn simple_asn1_dotted(alloc: Global, contents: &[u8], room: &mut [u8]) -> Outcome
-    ensures { AnswersDotted contents.now room.old room.new result }
+    ensures answer { AnswersDotted contents.now room.old room.new result }
+    ensures few { result.count ≤ 4 * length contents.now + 1 }
 {
     put_dotted(alloc, contents, room)
+}
+
+/// How many octets the component has that begins at an index of contents octets of an OBJECT IDENTIFIER (X.690 8.19.2):
+/// seven bits in each, the most significant first. The third component begins at index 1, and each other where the one
+/// before ends. `NO_SUCH_VALUE` at index 0, since that octet is of the first two, and from the end on; `INCOMPLETE` if
+/// the octets run out. It takes no memory. Components of any size come over in linear time so.
+#[unsafe(no_mangle)]
+pub extern "C" fn simple_asn1_component(contents: &[u8], index: usize) -> Outcome
+    ensures { AnswersComponent contents.now index result }
+{
+    component_at(contents, index)
 }
 
 /// Puts the contents octets of these components (X.690 8.19.2), each subidentifier in the fewest octets, as
@@ -382,9 +400,23 @@ pub extern "C" fn simple_asn1_tag(
     offset: usize,
     room: &mut [u8],
 ) -> Outcome
-    ensures { AnswersTag octets.now offset room.old room.new result }
+    ensures answer { AnswersTag octets.now offset room.old room.new result }
+
+    // Room for three octets for each octet of the header is enough.
+    ensures few { (encoding : List ℕ) → (at : EncodingAt octets.now offset encoding)
+        → result.count ≤ 3 * at.encoding.header }
 {
     put_tag(alloc, octets, offset, room)
+}
+
+/// How many identifier octets of the encoding at an offset follow the leading one (X.690 8.1.2.4): they have the tag
+/// number, seven bits in each, the most significant first. There are none where the leading octet has it.
+/// `NO_SUCH_VALUE` if there is no encoding. It takes no memory. A tag number of any size comes over in linear time so.
+#[unsafe(no_mangle)]
+pub extern "C" fn simple_asn1_tag_octets(octets: &[u8], offset: usize) -> Outcome
+    ensures { AnswersTagOctets octets.now offset result }
+{
+    tag_octets_at(octets, offset)
 }
 
 /// The first fault of octets that are no document, as [`simple_asn1_read`] returns it, with what it says: a length, or

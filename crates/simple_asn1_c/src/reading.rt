@@ -1,11 +1,11 @@
-// Documents, or the number of their fault with its place.
-ghost use Rattle.std.specs.Prelude.{◌≡◌, ◌≢◌, ◌⊎◌, ℕ, IfErr, IfOk};
+// Entries of documents, or the number of their fault with its place.
+ghost use Rattle.std.specs.Prelude.{◌≡◌, ◌≢◌, ◌⊎◌, ℕ, IfErr, IfOk, MatchOption, OnOk};
+ghost use Rattle.simple_asn1.specs.Canonical.{all_canonical};
 ghost use Rattle.simple_asn1.specs.Fault.{DecodeFault, OutOfMemoryOr, fault_of};
 ghost use Rattle.simple_asn1.specs.Grammar.{IsDocument, FirstFault};
 ghost use Rattle.simple_asn1.specs.ReadBack.{CanonicalDocument};
 ghost use Rattle.simple_asn1.specs.Strict.{StrictFault};
 ghost use Rattle.simple_asn1.specs.Tree.{Trees};
-ghost use Rattle.simple_asn1.specs.View.{document_trees};
 ghost use Rattle.asn1_outline.specs.Entries.{AreEntriesOf};
 ghost use Rattle.asn1_outline.specs.Outlines.{entries_in};
 ghost use Rattle.simple_asn1.specs.Shapes.{HasShapes, Shapes, entries_of};
@@ -16,7 +16,10 @@ ghost use Rattle.asn1_headers.specs.declared.error.ASN1DecodeErr.TheVariants.{Ou
 
 use crate::status::{NO_MEMORY, NOT_CANONICAL, status_of_fault};
 use asn1_outline::outline::Outline;
-use simple_asn1::{ASN1DecodeErr, Document, Headers, LocatedErr, law_one_reading, outline_strict};
+use simple_asn1::{
+    ASN1DecodeErr, Headers, LocatedErr, check_document, law_one_reading, outline_strict,
+    rewrite_unless_canonical,
+};
 use std::alloc::Global;
 
 // The number of a fault, and its place.
@@ -31,13 +34,27 @@ pub const OUT_OF_MEMORY: Fault = Fault {
     offset: 0,
 };
 
-pub fn read(alloc: Global, octets: &[u8]) -> Result<Document, Fault>
-    ensures document { IfOk result (λ document. IsDocument octets.now (document_trees document)) }
+// Whether octets are a document.
+pub fn check(alloc: Global, octets: &[u8]) -> Result<(), Fault>
+    ensures document { OnOk result ((bs : Trees ℕ) × IsDocument octets.now bs) }
     ensures fault { IfErr result
         (λ f. IsNoMemory f.status f.offset ⊎ IsRefused octets.now f.status f.offset) }
 {
-    match Document::from_der_located(alloc, octets) {
-        Ok(document) => Ok(document),
+    match check_document(alloc, octets) {
+        Ok(()) => Ok(()),
+        Err(located) => Err(fault_at(&located)),
+    }
+}
+
+// The canonical octets of a document, where they are not found to be its own.
+pub fn canonical_octets(alloc: Global, octets: &[u8]) -> Result<Option<Vec<u8>>, Fault>
+    ensures document { IfOk result (λ written. (bs : Trees ℕ) × IsDocument octets.now bs
+        × MatchOption written (octets.now ≡ all_canonical bs) (λ v. v.items ≡ all_canonical bs)) }
+    ensures fault { IfErr result
+        (λ f. IsNoMemory f.status f.offset ⊎ IsRefused octets.now f.status f.offset) }
+{
+    match rewrite_unless_canonical(alloc, octets) {
+        Ok(written) => Ok(written),
         Err(located) => Err(fault_at(&located)),
     }
 }
@@ -119,8 +136,8 @@ pub fn fault_of_refused(alloc: Global, octets: &[u8]) -> Fault
     ensures { IsNoMemory result.status result.offset ⊎ IsRefused octets.now result.status result.offset }
 {
     law_one_reading();
-    match read(alloc, octets) {
-        Ok(_) => unreachable!(),
+    match check(alloc, octets) {
+        Ok(()) => unreachable!(),
         Err(fault) => fault,
     }
 }

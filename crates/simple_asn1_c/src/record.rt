@@ -1,12 +1,9 @@
 // The record of a block.
-ghost use Rattle.std.specs.Prelude.{◌≡◌, IfOk};
-ghost use Rattle.simple_asn1.specs.View.{view};
-ghost use Rattle.simple_asn1_c.specs.Records.{IsRecord, Stands, block_of, items_in};
+ghost use Rattle.std.specs.Prelude.{◌≡◌};
+ghost use Rattle.simple_asn1_c.specs.Records.{block_of};
 
-use crate::header::{class_number_of, header_record};
+use crate::header::class_number_of;
 use asn1_outline::entry::Entry;
-use simple_asn1::{ASN1Block, encoding_at};
-use std::alloc::{AllocError, Global};
 use std::mem::size_of;
 
 /// A block as C sees it. `simple_asn1.h` describes the fields.
@@ -77,42 +74,6 @@ const _: () = prove!(size_of::<IntegerAnswer>() == 16);
 const _: () = prove!(size_of::<MomentAnswer>() == 32);
 
 const _: () = prove!(size_of::<SignedAnswer>() == 208);
-
-// How many blocks a block holds, without those inside them.
-pub fn item_count(block: &ASN1Block) -> usize
-    ensures { result ≡ items_in (view block.now) }
-{
-    match block.items() {
-        Some(items) => items.len(),
-        None => 0,
-    }
-}
-
-// The record of a block of the document. What stands in `next` and `depth` is passed on.
-pub fn record_of(
-    alloc: Global,
-    document: &[u8],
-    block: &ASN1Block,
-    next: usize,
-    depth: usize,
-) -> Result<Block, AllocError>
-    requires { Stands document.now (view block.now) }
-    ensures fields { IfOk result (IsRecord document.now (view block.now)) }
-    ensures links { IfOk result (λ r. (r.next ≡ next) × (r.depth ≡ depth)) }
-{
-    let offset = block.offset();
-    let Some(encoding) = encoding_at(document, offset) else {
-        unreachable!()
-    };
-    let header = header_record(alloc, encoding)?;
-    Ok(Block {
-        offset,
-        items: item_count(block),
-        next,
-        depth,
-        ..header
-    })
-}
 
 // The record of an entry.
 pub fn block_of(entry: &Entry) -> Block

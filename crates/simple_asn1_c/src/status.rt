@@ -13,6 +13,8 @@ pub const PRINTABLE: u32 = 5;
 
 pub const DATE: u32 = 6;
 
+pub const INCOMPLETE: u32 = 8;
+
 pub const NOT_CANONICAL: u32 = 9;
 
 pub const NO_MEMORY: u32 = 10;
@@ -40,7 +42,7 @@ pub fn status_of_fault(e: &ASN1DecodeErr) -> u32
         ASN1DecodeErr::PrintableStringDecodeFailure => PRINTABLE,
         ASN1DecodeErr::InvalidDateValue(_) => DATE,
         ASN1DecodeErr::InvalidBitStringLength(_) => 7,
-        ASN1DecodeErr::Incomplete => 8,
+        ASN1DecodeErr::Incomplete => INCOMPLETE,
         ASN1DecodeErr::NotCanonical(_) => NOT_CANONICAL,
         ASN1DecodeErr::OutOfMemory => NO_MEMORY,
         ASN1DecodeErr::InvalidClass(_) => NO_SUCH_VALUE,

@@ -85,6 +85,14 @@ pub fn write(octets: &[u8], records: &[Record]) -> Result<Vec<u8>, Fault> {
     })
 }
 
+pub fn check(octets: &[u8]) -> Result<(), Fault> {
+    let answer = unsafe { simple_asn1_check(octets.as_ptr(), octets.len()) };
+    match answer.status {
+        OK => Ok(()),
+        status => Err(Fault::of_status(status, answer.offset)),
+    }
+}
+
 pub fn int64(octets: &[u8], offset: usize) -> Result<i64, Fault> {
     let answer = unsafe { simple_asn1_int64(octets.as_ptr(), octets.len(), offset) };
     match answer.status {

@@ -232,6 +232,19 @@ fn text_of(octets: Vec<u8>, offset: usize) -> Result<String, Fault> {
     String::from_utf8(octets).map_err(|_| Fault { kind: FaultKind::Utf8, offset })
 }
 
+/// Whether bytes are a document; otherwise the first fault. No records are made.
+///
+/// ```
+/// use simple_asn1_records::{FaultKind, check};
+///
+/// assert_eq!(check(&[0x30, 0x03, 0x01, 0x01, 0xFF]), Ok(()));
+/// let fault = check(&[0x30, 0x03, 0x01, 0x02, 0xFF]).unwrap_err();
+/// assert_eq!((fault.kind, fault.offset), (FaultKind::Incomplete, 2));
+/// ```
+pub fn check(octets: &[u8]) -> Result<(), Fault> {
+    calls::check(octets)
+}
+
 /// The canonical bytes (DER) of a document.
 pub fn rewrite(octets: &[u8]) -> Result<Vec<u8>, Fault> {
     calls::rewrite(octets)

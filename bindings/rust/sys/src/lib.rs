@@ -98,6 +98,7 @@ extern "C" {
     pub fn simple_asn1_read(octets: *const u8, size: usize, blocks: *mut Block, room: usize) -> Outcome;
     pub fn simple_asn1_read_strict(octets: *const u8, size: usize, blocks: *mut Block, room: usize) -> Outcome;
     pub fn simple_asn1_outline(octets: *const u8, size: usize, blocks: *mut Block, room: usize) -> Outcome;
+    pub fn simple_asn1_check(octets: *const u8, size: usize) -> Outcome;
     pub fn simple_asn1_rewrite(octets: *const u8, size: usize, out: *mut u8, room: usize) -> Outcome;
     pub fn simple_asn1_write(
         octets: *const u8,
@@ -121,8 +122,10 @@ extern "C" {
     pub fn simple_asn1_components(contents: *const u8, size: usize, out: *mut u64, room: usize) -> Outcome;
     pub fn simple_asn1_dotted(contents: *const u8, size: usize, out: *mut u8, room: usize) -> Outcome;
     pub fn simple_asn1_shortest_oid(contents: *const u8, size: usize, out: *mut u8, room: usize) -> Outcome;
+    pub fn simple_asn1_component(contents: *const u8, size: usize, index: usize) -> Outcome;
     pub fn simple_asn1_header(octets: *const u8, size: usize, offset: usize, block: *mut Block, room: usize) -> Outcome;
     pub fn simple_asn1_tag(octets: *const u8, size: usize, offset: usize, out: *mut u8, room: usize) -> Outcome;
+    pub fn simple_asn1_tag_octets(octets: *const u8, size: usize, offset: usize) -> Outcome;
     pub fn simple_asn1_fault(octets: *const u8, size: usize, out: *mut u8, room: usize) -> Fault;
     pub fn simple_asn1_raw_bits(octets: *const u8, size: usize, bits: usize, out: *mut u8, room: usize) -> Outcome;
     pub fn simple_asn1_raw_oid(components: *const u64, size: usize, out: *mut u8, room: usize) -> Outcome;

@@ -1,33 +1,42 @@
 use Rattle.std.proofs.Common.{refl, inl, inr, sym, subst, ◌∙◌}
-use Rattle.simple_asn1_c.specs.Answers.{IsRefused, had_no_memory_to_spell, has_bad_record, spelled_no_document, was_spelled}
+use Rattle.simple_asn1_c.specs.Answers.{had_no_memory_to_spell, has_bad_record, spelled_no_document, was_spelled}
 use Rattle.simple_asn1_c.specs.Room.{ArePut}
 use Rattle.simple_asn1_c.specs.Spelled.{IsBadAt, IsSpelled}
-use Rattle.simple_asn1_c.proofs.Outcomes.{no_memory_told, refusal_told}
+use Rattle.simple_asn1_c.proofs.Outcomes.{no_memory_told, none_written, refusal_told, some_written}
 use Rattle.simple_asn1_c.proofs.simple_asn1_write.Goals as goal
 
-pub returns-in-Ok-rewrite : goal.returns-in-Ok-rewrite
-returns-in-Ok-rewrite c =
+pub returns-in-Ok-Some : goal.returns-in-Ok-Some
+returns-in-Ok-Some c =
     let octets = c.args.octets.now in
     let records = c.args.blocks.now in
     let is = subst (IsSpelled octets records) (sym c.deref.ensures.value) c.in-Ok.ensures.spelled in
-    let (bs, d, e) = c.in-Ok-rewrite.ensures.document in
+    let (bs, d, m) = c.in-Ok-Some.ensures.document in
+    let e = some_written _ _ c.in-Ok-Some.field-0 c.in-Ok-Some.canonical c.in-Ok-Some.field-0-is m in
     was_spelled c.deref.result.now is bs d
-    (subst (λ z. ArePut z c.args.room.now c.put_octets.new.room c.put_octets.result) (c.deref-in-Ok-rewrite.ensures.value ∙ e) c.put_octets.ensures)
+    (subst (λ z. ArePut z c.args.room.now c.put_octets.new.room c.put_octets.result) (c.deref-in-Ok-Some.ensures.value ∙ e) c.put_octets.ensures)
+
+pub returns-in-Ok-None : goal.returns-in-Ok-None
+returns-in-Ok-None c =
+    let octets = c.args.octets.now in
+    let records = c.args.blocks.now in
+    let is = subst (IsSpelled octets records) (sym c.deref.ensures.value) c.in-Ok.ensures.spelled in
+    let (bs, d, m) = c.in-Ok-None.ensures.document in
+    let e = none_written _ _ c.in-Ok-None.field-0 c.in-Ok-None.field-0-is m in
+    was_spelled c.deref.result.now is bs d
+    (subst (λ z. ArePut z c.args.room.now c.put_octets-in-Ok-None.new.room c.put_octets-in-Ok-None.result)
+    (c.deref-in-Ok-None.ensures.value ∙ sym c.deref.ensures.value ∙ e) c.put_octets-in-Ok-None.ensures)
 
 pub returns : goal.returns
 returns c =
     let octets = c.args.octets.now in
     let records = c.args.blocks.now in
     let is = subst (IsSpelled octets records) (sym c.deref.ensures.value) c.in-Ok.ensures.spelled in
-    let o = c.refused_outcome-in-Err-rewrite.result in
-    let told = c.refused_outcome-in-Err-rewrite.ensures in
-    let f = c.rewrite_fault.result in
-    elim c.rewrite_fault.ensures [
+    let o = c.refused_outcome-in-Err-canonical_octets.result in
+    let told = c.refused_outcome-in-Err-canonical_octets.ensures in
+    let f = c.in-Err-canonical_octets.fault in
+    elim c.in-Err-canonical_octets.ensures.fault [
       | inl m ↦ had_no_memory_to_spell (no_memory_told o f.status f.offset told m) told.2 refl
-      | inr e ↦
-          spelled_no_document c.deref.result.now is
-          (subst (λ z. IsRefused z o.status o.offset) (c.deref-in-Err-rewrite.ensures.value ∙ sym c.deref.ensures.value)
-          (refusal_told c.deref-in-Err-rewrite.result.now o f.status f.offset told e)) told.2 refl
+      | inr e ↦ spelled_no_document c.deref.result.now is (refusal_told c.deref.result.now o f.status f.offset told e) told.2 refl
     ]
 
 pub returns-in-Err : goal.returns-in-Err

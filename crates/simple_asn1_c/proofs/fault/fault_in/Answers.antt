@@ -1,14 +1,14 @@
 use Rattle.std.proofs.Common.{inl, inr, sym, subst}
 use Rattle.asn1_headers.specs.Fault.{fault_of}
 use Rattle.simple_asn1.specs.Grammar.{FirstFaultAt}
-use Rattle.simple_asn1.specs.View.{document_trees}
 use Rattle.simple_asn1_c.specs.Contents.{fault_was_found, has_no_fault}
 use Rattle.simple_asn1_c.proofs.fault.fault_in.Goals as goal
 
 pub returns-in-Ok : goal.returns-in-Ok
 returns-in-Ok c =
     let (status, offset, number, text) = c.no_fault.ensures in
-    has_no_fault (document_trees c.in-Ok.field-0) c.in-Ok.ensures.document status offset number text
+    let (bs, d) = c.in-Ok.ensures.document in
+    has_no_fault bs d status offset number text
 
 pub returns : goal.returns
 returns c =

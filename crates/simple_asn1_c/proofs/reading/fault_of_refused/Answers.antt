@@ -1,10 +1,10 @@
 use Rattle.std.proofs.Common.{◌<◌, ◌^◌, length, arith}
 use Rattle.std.proofs.lemmas.Grind.{common_steps}
-use Rattle.simple_asn1.specs.View.{document_trees}
 use Rattle.simple_asn1_c.proofs.reading.fault_of_refused.Goals as goal
 
 pub unreachable-requires : goal.unreachable-requires
 unreachable-requires c =
     let (fault, first) = c.requires in
+    let (bs, d) = c.in-Ok.ensures.document in
     let small : length c.args.octets.now < 2 ^ 64 = grind (arith, common_steps) in
-    c.law_one_reading.ensures.not_both c.args.octets.now (document_trees c.in-Ok.field-0) fault small c.in-Ok.ensures.document first
+    c.law_one_reading.ensures.not_both c.args.octets.now bs fault small d first
