@@ -224,7 +224,8 @@ def words_of(row):
     """How the words of a line begin, by its row."""
     if row["class"] is None:
         return "unreadable"
-    number = row["tag"] if int(row["tag"]) < 2**128 else "beyond 2^128"
+    told = row["tag"] is not None and int(row["tag"]) < 2**128
+    number = row["tag"] if told else "beyond 2^128"
     return row["type"] or f"[{CLASSES[row['class']]}{number}]"
 
 
@@ -333,7 +334,7 @@ def tells_all(octets, rows):
     marks = {mark for row in rows if "not_der" in row for mark in row["not_der"].split(", ")}
     return (
         marks <= TOLD_MARKS and not any("fault" in row for row in rows) and has_canonical_reals(octets, rows)
-        and has_short_fractions(rows)
+        and has_short_fractions(rows) and all(row["tag"] is not None for row in rows)
     )
 
 
