@@ -305,7 +305,7 @@ def oid(octets: bytes, record: Record) -> str:
     Its first octet gives at most five characters, as in 2.175, and each other at most four: so the text is never made
     twice, which can take long.
     """
-    room = 4 * record.contents + 1
+    room = 4 * record.contents + 1 if (record.tag_class, record.tag) == (0, 6) else 0
     return _sized(_LIBRARY.simple_asn1_oid, room, octets, len(octets), record.offset).decode()
 
 

@@ -121,8 +121,9 @@ pub fn text(octets: &[u8], offset: usize, room: usize) -> Result<Vec<u8>, Fault>
     sized(room, |out, room| unsafe { simple_asn1_text(octets.as_ptr(), octets.len(), offset, out, room) })
 }
 
-/// The components of an OBJECT IDENTIFIER with so many contents octets. Its first octet gives at most five characters,
-/// as in `2.175`, and each other at most four: so the text is never made twice, which can take long.
+/// The components of an OBJECT IDENTIFIER with so many contents octets; for another block that number is 0. Its first
+/// octet gives at most five characters, as in `2.175`, and each other at most four: so the text is never made twice,
+/// which can take long.
 pub fn oid(octets: &[u8], offset: usize, contents: usize) -> Result<Vec<u8>, Fault> {
     sized(4 * contents + 1, |out, room| unsafe { simple_asn1_oid(octets.as_ptr(), octets.len(), offset, out, room) })
 }

@@ -194,7 +194,8 @@ impl<'d, 'a> Block<'d, 'a> {
     /// The components of an OBJECT IDENTIFIER, as in `1.2.840`. For a component of thousands of bytes this takes quadratic
     /// time.
     pub fn oid(&self) -> Result<String, Fault> {
-        text_of(calls::oid(self.document.octets, self.offset(), self.record().contents)?, self.offset())
+        let contents = if self.class() == Class::Universal && self.tag() == 6 { self.record().contents } else { 0 };
+        text_of(calls::oid(self.document.octets, self.offset(), contents)?, self.offset())
     }
 
     /// The bytes that hold the bits of a BIT STRING, and the number of bits. The first bit is the most significant of

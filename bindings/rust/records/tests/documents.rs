@@ -70,6 +70,9 @@ fn values_are_those_of_their_blocks() -> Result<(), Fault> {
     assert_eq!(number.contents(), &wide[2..]);
     let oid = [0x06, 0x06, 0x2A, 0x86, 0x48, 0x86, 0xF7, 0x0D];
     assert_eq!(Document::read(&oid)?.blocks().next().unwrap().oid()?, "1.2.840.113549");
+    let sequence = [0x30, 0x04, 0x04, 0x02, 0x2A, 0x03];
+    let refused = Document::read(&sequence)?.blocks().next().unwrap().oid().unwrap_err();
+    assert_eq!((refused.kind, refused.offset), (FaultKind::NoSuchValue, 0));
     let time = b"\x17\x0D261123070322Z";
     let wanted = Moment { year: 2026, month: 11, day: 23, hour: 7, minute: 3, second: 22, nanosecond: 0 };
     assert_eq!(Document::read(time)?.blocks().next().unwrap().moment()?, wanted);
