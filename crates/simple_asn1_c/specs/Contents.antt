@@ -1,5 +1,6 @@
 -- What calls answer of contents octets alone, of one header, and of a fault.
-use Rattle.std.specs.Prelude.{◌≡◌, ◌⊎◌, ◌+◌, ◌<◌, ◌≤◌, ◌^◌, ℕ, All, Bool, List, [], ◌∷◌, drop, length, take, unsigned_abs}
+use Rattle.std.specs.Prelude.{◌≡◌, ◌⊎◌, ◌+◌, ◌<◌, ◌≤◌, ◌^◌, ℕ, All, Bool, List, [], ◌∷◌, drop, length, take}
+use Rattle.std.specs.Prelude.{unsigned_abs}
 use Rattle.asn1_headers.specs.declared.header.ASN1Class.{ASN1Class}
 use Rattle.asn1_leaves.specs.Contents.ObjectIdentifier.{
   ObjectIdentifierContents,
@@ -117,8 +118,8 @@ pub data AnswersTag (octets : List ℕ) (offset : ℕ) (before after : List ℕ)
       o.status ≡ no_memory → o.offset ≡ offset → o.count ≡ 0 → after ≡ before →
       AnswersTag octets offset before after o
 
--- how many identifier octets of an encoding follow the leading one: they have the tag number as a base-128 number (X.690
--- 8.1.2.4.2), or there are none, and the leading one has it; or no encoding stands there
+-- how many identifier octets of an encoding follow the leading one: they have the tag number as a base-128 number
+-- (X.690 8.1.2.4.2), or there are none, and the leading one has it; or no encoding stands there
 pub data AnswersTagOctets (octets : List ℕ) (offset : ℕ) (o : Outcome) : Type 0 where
   tag_octets_were_found :
       o.status ≡ done → o.offset ≡ 0 → (x : List ℕ) → (at : EncodingAt octets offset x) →

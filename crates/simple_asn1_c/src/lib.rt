@@ -60,7 +60,13 @@ ghost use Rattle.simple_asn1_c.specs.Raw.{
   AnswersRawText,
   AnswersSpell,
 };
-ghost use Rattle.simple_asn1_c.specs.Values.{AnswersIdentifier, AnswersInteger, AnswersMoment, AnswersText, UniversalAt};
+ghost use Rattle.simple_asn1_c.specs.Values.{
+  AnswersIdentifier,
+  AnswersInteger,
+  AnswersMoment,
+  AnswersText,
+  UniversalAt,
+};
 
 use crate::bits::{put_bits, put_boolean};
 use crate::components::{component_at, put_components, put_dotted, put_shortest};
