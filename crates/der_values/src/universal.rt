@@ -221,7 +221,8 @@ fn natural(alloc: Global, octets: &[u8]) -> Result<Option<u128>, AllocError> {
     Ok(BigInt::from_signed_bytes_be(alloc, &all)?.to_u128())
 }
 
-// The components, each behind a point. In front of them two are put, as an object identifier has.
+// The components, each behind a point, if each is below 2^128. In front of them two are put, as an object identifier
+// has.
 fn relative_text(alloc: Global, contents: &[u8]) -> Result<Option<String>, AllocError> {
     let mut all = Vec::from_slice(alloc, &[0])?;
     all.extend_from_slice(contents)?;
@@ -229,7 +230,10 @@ fn relative_text(alloc: Global, contents: &[u8]) -> Result<Option<String>, Alloc
         Ok(components) => {
             let mut text = String::new(alloc);
             for component in components.iter().skip(2) {
-                write!(text, ".{component}")?;
+                let Some(number) = component.to_u128() else {
+                    return Ok(None);
+                };
+                write!(text, ".{number}")?;
             }
             Ok(Some(text))
         }
