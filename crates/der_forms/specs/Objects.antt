@@ -70,10 +70,21 @@ ending_in label (line ∷ lines) = if ends_object line then ending_by label line
 abbrev pub object_in : List ℕ → List (List ℕ) → Object
 object_in label lines = record { label = label; octets = octets_in lines; ending = ending_in label lines }
 
--- each object that begins in the lines, which stand inside an object or do not
+-- what the line has from the words `-----BEGIN ` on
+abbrev pub begun_in : List ℕ → List ℕ
+begun_in line = drop (length (up_to (codes "-----BEGIN ") line)) line
+
+-- each object that begins in the lines, which stand inside an object or do not. One may begin in the line that ends
+-- another
 abbrev pub objects_in : Bool → List (List ℕ) → List Object
 objects_in inside [] = []
-objects_in true (line ∷ lines) = if ends_object line then objects_in false lines else objects_in true lines
+objects_in true (line ∷ lines) =
+    if ends_object line
+    then
+    (if begins_object (begun_in line)
+    then object_in (label_in (begun_in line)) lines ∷ objects_in true lines
+    else objects_in false lines)
+    else objects_in true lines
 objects_in false (line ∷ lines) =
     if begins_object line then object_in (label_in line) lines ∷ objects_in true lines else objects_in false lines
 

@@ -1,17 +1,19 @@
 // The objects of PEM, one after another.
-ghost use Rattle.std.specs.Prelude.{◌≡◌, ◌≢◌, ◌∷◌, ◌++◌, ◌<◌, ◌≤◌, [], true, false, length};
+ghost use Rattle.std.specs.Prelude.{◌≡◌, ◌≢◌, ◌∷◌, ◌++◌, ◌<◌, ◌≤◌, ℕ, List, [], true, false, length};
 ghost use Rattle.std.specs.Prelude.{IfOk, MatchOption, OnOk, Option};
 ghost use Rattle.std.specs.List.{list_any};
 ghost use Rattle.std.specs.Option.{option_map};
 ghost use Rattle.std.specs.Result.{result_ok};
-ghost use Rattle.der_forms.specs.Objects.{ending_by, ending_in, is_encrypted, object_in, objects_in, octets_in};
+ghost use Rattle.der_forms.specs.Objects.{ending_by, ending_in, ends_object, is_encrypted, object_in, objects_in, octets_in};
 ghost use Rattle.der_forms.specs.Objects.{symbols_in, symbols_of};
 ghost use Rattle.der_forms.specs.Shown.{shown_object};
 ghost use Rattle.der_forms.specs.declared.objects.Ending.TheVariants.{Closed};
 ghost use Rattle.der_io.specs.Lines.{lines_of};
 
 use crate::base64_text::decode;
-use crate::lines::{Lines, end_label_of, has_words, is_end, label_of, tells_encryption};
+use crate::lines::{
+    Lines, end_label_of, has_words, is_end, label_of, part_before, tells_encryption,
+};
 use base64::DecodeError;
 use der_io::split_line;
 use std::alloc::{AllocError, Global};
@@ -34,7 +36,7 @@ pub enum Ending {
     Missing,
     /// The line that ends it has another label.
     OtherLabel,
-    /// Another object begins in the line that ends it, and is passed over.
+    /// Another object begins in the line that ends it.
     Joined,
 }
 
@@ -76,7 +78,8 @@ pub fn next_object<'a>(
     Ok(Some((object, body.after)))
 }
 
-/// The line at which the object ends wrongly, and why; `last` is the number of lines read.
+/// The line at which the object ends wrongly, and why; `last` is the number of lines before those that follow it. A line
+/// that ends it and begins another object is one of these.
 pub fn fault_of_end(object: &PemObject<'_>, last: usize) -> Option<(usize, &'static str)>
     ensures { MatchOption result (object.now.ending ≡ Closed) (λ _. object.now.ending ≢ Closed) }
 {
@@ -85,8 +88,8 @@ pub fn fault_of_end(object: &PemObject<'_>, last: usize) -> Option<(usize, &'sta
         Ending::Missing => Some((object.line, "this object has no END line")),
         Ending::OtherLabel => Some((last, "END has another label than BEGIN")),
         Ending::Joined => Some((
-            last,
-            "the next object begins on the END line, and is not read",
+            last.saturating_add(1),
+            "the next object begins on the END line",
         )),
     }
 }
@@ -137,14 +140,15 @@ fn read_body<'a>(alloc: Global, label: &[u8], lines: Lines<'a>) -> Result<Body<'
     let mut before = lines.before;
     while !is_ended && !rest.is_empty() {
         let (line, after) = split_line(rest);
-        rest = after;
-        before = before.saturating_add(1);
         if is_end(line) {
             is_ended = true;
             ending = ending_of(label, line);
+            Lines { rest, before } = behind_end(Lines { rest, before });
         } else {
             is_encrypted = is_encrypted || tells_encryption(line);
             push_symbols(line, &mut symbols)?;
+            rest = after;
+            before = before.saturating_add(1);
         }
     }
     Ok(Body {
@@ -153,6 +157,29 @@ fn read_body<'a>(alloc: Global, label: &[u8], lines: Lines<'a>) -> Result<Body<'
         ending,
         after: Lines { rest, before },
     })
+}
+
+// The lines behind the first of these, which ends an object. What begins another object in that line is one of them.
+fn behind_end<'a>(lines: Lines<'a>) -> Lines<'a>
+    requires some { 0 < length lines.rest.now }
+    requires ended { (line : List ℕ) (after : List (List ℕ)) → lines_of lines.rest.now ≡ line ∷ after
+        → ends_object line ≡ true }
+    ensures objects { objects_in false (lines_of result.rest.now) ≡ objects_in true (lines_of lines.entry.rest.now) }
+    ensures shorter { length result.rest.now ≤ length lines.entry.rest.now }
+{
+    let (line, after) = split_line(lines.rest);
+    let begun = part_before(b"-----BEGIN ", line).len();
+    if begun < line.len() {
+        let (_, rest) = lines.rest.split_at(begun);
+        return Lines {
+            rest,
+            before: lines.before,
+        };
+    }
+    Lines {
+        rest: after,
+        before: lines.before.saturating_add(1),
+    }
 }
 
 // How a line ends an object with this label.

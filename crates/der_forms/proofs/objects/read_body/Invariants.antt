@@ -1,4 +1,4 @@
-use Rattle.std.proofs.Common.{◌≡◌, ◌++◌, ◌≤◌, [], if◌then◌else◌, ◌||◌, true, false, not, length}
+use Rattle.std.proofs.Common.{◌≡◌, ◌++◌, ◌≤◌, [], if◌then◌else◌, ◌||◌, true, false, not, length, suc}
 use Rattle.der_io.specs.Lines.{lines_of}
 use Rattle.der_forms.specs.Objects.{ending_in, is_encrypted, objects_in, symbols_in}
 use Rattle.der_forms.specs.declared.objects.Ending.TheVariants.{Missing}
@@ -16,4 +16,4 @@ invariant-loop-is_ended l =
     × (length l.rest ≤ length l.fn.lines.rest.now)
 
 abbrev pub decreases-loop-is_ended : goal.decreases-loop-is_ended
-decreases-loop-is_ended l = length l.rest
+decreases-loop-is_ended l = if l.is_ended then 0 else suc (length l.rest)
