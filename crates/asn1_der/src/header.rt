@@ -102,7 +102,8 @@ fn is_right_type(constructed: bool, tag: u64, contents: &[u8]) -> bool
     }
 }
 
-fn is_reserved(tag: u64) -> bool
+// Whether no type has the tag number.
+pub fn is_reserved(tag: u64) -> bool
     ensures { result ≡ is_reserved_is tag }
 {
     tag == 0 || tag == 15 || tag > 36

@@ -4,7 +4,7 @@
 //! `Real` and `Padding` for the contents octets of each type.
 #![tactic(auto)]
 
-mod contents;
+pub mod contents;
 mod der;
 pub mod header;
 pub mod order;
