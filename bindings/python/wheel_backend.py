@@ -49,14 +49,15 @@ def _fields():
 
 
 def _tags(library):
-    """The platforms that the library runs on: those with the newest version of glibc of which it needs a symbol."""
+    """The platforms that the library runs on: those with the newest version of glibc of which it needs a symbol, and
+    those with musl, whose loader takes itself for libc.so.6 and heeds no versions of symbols."""
     platform = re.sub(r"[-.]", "_", sysconfig.get_platform())
     versions = [tuple(map(int, found)) for found in re.findall(rb"\0GLIBC_(\d+)\.(\d+)(?=[.\0])", library)]
     if not versions or not platform.startswith("linux_"):
         return [platform]
     machine = platform[len("linux_") :]
     if max(versions) <= (2, 17):
-        return [f"manylinux_2_17_{machine}", f"manylinux2014_{machine}"]
+        return [f"{policy}_{machine}" for policy in ("manylinux_2_17", "manylinux2014", "musllinux_1_1")]
     return ["manylinux_{}_{}_{}".format(*max(versions), machine)]
 
 
