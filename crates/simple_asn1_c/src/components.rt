@@ -1,16 +1,16 @@
 // The components of contents octets of an OBJECT IDENTIFIER, as numbers, in decimal and in the fewest octets.
-ghost use Rattle.std.specs.Prelude.{◌≡◌, ◌<◌, ◌≤◌, ℕ, IfNone, IfOk, IfSome, length, slice_index, string_bytes};
-ghost use Rattle.simple_asn1.specs.DottedDecimal.{dotted_decimal};
+ghost use Rattle.std.specs.Prelude.{◌<◌, ◌≤◌, ℕ, IfNone, IfSome, length, slice_index};
 ghost use Rattle.simple_asn1_c.specs.Contents.{AnswersComponent, AnswersComponents, AnswersDotted, AnswersShortest};
 ghost use Rattle.simple_asn1_c.specs.Room.{ArePut};
 
+use crate::dotted::put_decimal;
 use crate::putting::{all_put, not_enough, nothing_put, put_octets};
 use crate::record::Outcome;
 use crate::status::{INCOMPLETE, NO_MEMORY, NO_SUCH_VALUE, OUT_OF_RANGE, status_of_fault};
 use asn1_leaves::contents::object_identifier::are_shortest;
 use asn1_leaves::oid;
-use simple_asn1::{ASN1DecodeErr, OID};
-use std::alloc::{AllocError, Global};
+use simple_asn1::ASN1DecodeErr;
+use std::alloc::Global;
 
 fn put_numbers(numbers: &[u64], room: &mut [u64]) -> Outcome
     ensures { ArePut numbers.now room.old room.new result }
@@ -38,24 +38,13 @@ pub fn put_components(alloc: Global, contents: &[u8], room: &mut [u64]) -> Outco
     }
 }
 
-// The text of an object identifier.
-pub fn dotted_of(alloc: Global, oid: &OID) -> Result<String, AllocError>
-    ensures { IfOk result (λ text. string_bytes text ≡ dotted_decimal oid.now) }
-{
-    format!(in alloc; "{oid}")
-}
-
 // Puts them in decimal.
 pub fn put_dotted(alloc: Global, contents: &[u8], room: &mut [u8]) -> Outcome
     ensures { AnswersDotted contents.now room.old room.new result }
 {
-    let oid = match oid::read(alloc, contents) {
-        Ok(oid) => oid,
-        Err(e) => return nothing_put(status_of_fault(&e), 0),
-    };
-    match dotted_of(alloc, &oid) {
-        Ok(text) => put_octets(text.as_bytes(), room),
-        Err(AllocError) => nothing_put(NO_MEMORY, 0),
+    match put_decimal(alloc, contents, room) {
+        Ok(outcome) => outcome,
+        Err(status) => nothing_put(status, 0),
     }
 }
 

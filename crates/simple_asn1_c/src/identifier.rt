@@ -6,13 +6,12 @@ ghost use Rattle.simple_asn1_c.specs.Status.{no_memory, out_of_range};
 ghost use Rattle.simple_asn1_c.specs.Values.{AnswersIdentifier};
 
 use crate::alone::universal_at;
-use crate::components::dotted_of;
+use crate::dotted::put_decimal;
 use crate::putting::{nothing_put, put_octets};
 use crate::record::Outcome;
-use crate::status::{NO_MEMORY, NO_SUCH_VALUE, NOT_OID, OUT_OF_RANGE, status_of_fault};
-use asn1_leaves::oid;
+use crate::status::{NO_MEMORY, NO_SUCH_VALUE, NOT_OID, OUT_OF_RANGE};
 use simple_asn1::{ASN1EncodeErr, OID};
-use std::alloc::{AllocError, Global};
+use std::alloc::Global;
 
 pub fn identifier_at(alloc: Global, octets: &[u8], offset: usize, room: &mut [u8]) -> Outcome
     ensures { AnswersIdentifier octets.now offset room.old room.new result }
@@ -24,13 +23,9 @@ pub fn identifier_at(alloc: Global, octets: &[u8], offset: usize, room: &mut [u8
     if tag != 6 {
         return nothing_put(NO_SUCH_VALUE, offset);
     }
-    let oid = match oid::read(alloc, contents) {
-        Ok(oid) => oid,
-        Err(e) => return nothing_put(status_of_fault(&e), offset),
-    };
-    match dotted_of(alloc, &oid) {
-        Ok(text) => put_octets(text.as_bytes(), room),
-        Err(AllocError) => nothing_put(NO_MEMORY, offset),
+    match put_decimal(alloc, contents, room) {
+        Ok(outcome) => outcome,
+        Err(status) => nothing_put(status, offset),
     }
 }
 

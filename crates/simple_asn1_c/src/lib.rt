@@ -4,6 +4,7 @@
 mod alone;
 mod bits;
 mod components;
+mod dotted;
 mod encoding;
 mod fault;
 mod header;

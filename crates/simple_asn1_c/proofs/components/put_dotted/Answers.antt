@@ -1,20 +1,17 @@
-use Rattle.std.proofs.Common.{inl, inr, refl, ap, subst, ◌∙◌}
-use Rattle.asn1_headers.specs.Fault.{fault_of}
+use Rattle.std.proofs.Common.{inl, inr, ◌∙◌}
 use Rattle.simple_asn1_c.specs.Contents.{had_no_memory_for_components, mean_components, mean_no_components}
-use Rattle.simple_asn1_c.specs.Room.{ArePut}
-use Rattle.simple_asn1_c.specs.Status.{status_of}
 use Rattle.simple_asn1_c.proofs.components.put_dotted.Goals as goal
+
+pub returns-in-Ok : goal.returns-in-Ok
+returns-in-Ok c =
+    let (ns, meant, put) = c.in-Ok.ensures.put in
+    mean_components ns meant put
 
 pub returns-in-Err : goal.returns-in-Err
 returns-in-Err c =
     let put = c.nothing_put.ensures in
-    let told = put.status ∙ c.status_of_fault.ensures in
-    elim c.in-Err.ensures.refused [
-      | inl memory ↦ had_no_memory_for_components (told ∙ ap (λ z. status_of (fault_of z)) memory, put.offset, put.count, refl)
-      | inr fault ↦ mean_no_components (fault_of c.in-Err.e) fault (told, put.offset, put.count, refl)
+    let (kept, why) = c.in-Err.ensures.refused in
+    elim why [
+      | inl memory ↦ had_no_memory_for_components (put.status ∙ memory, put.offset, put.count, kept)
+      | inr (f, fault, told) ↦ mean_no_components f fault (put.status ∙ told, put.offset, put.count, kept)
     ]
-
-pub returns-in-Ok-dotted_of : goal.returns-in-Ok-dotted_of
-returns-in-Ok-dotted_of c =
-    mean_components c.in-Ok.oid c.in-Ok.ensures.found
-    (subst (λ z. ArePut z c.args.room.now c.put_octets.new.room c.put_octets.result) (c.as_bytes.ensures.value ∙ c.in-Ok-dotted_of.ensures) c.put_octets.ensures)

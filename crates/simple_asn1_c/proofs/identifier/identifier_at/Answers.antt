@@ -34,34 +34,31 @@ returns-then-tag-ne6 c =
     c.nothing_put-then-tag-ne6.result.status n c.in-Ok.found.0 c.in-Ok.found.1.now u number (λ m t. omega (arith, t)) c.if-tag-ne6.true put.status)
     put.offset put.count refl
 
-pub returns-in-Err-read : goal.returns-in-Err-read
-returns-in-Err-read c =
+pub returns-in-Ok-put_decimal : goal.returns-in-Ok-put_decimal
+returns-in-Ok-put_decimal c =
     let octets = c.args.octets.now in
     let offset = c.args.offset in
     let v = c.in-Ok.found.1.now in
-    let f = fault_of c.in-Err-read.e in
-    let put = c.nothing_put-in-Err-read.ensures in
+    let (n, u, number) = c.in-Ok.ensures.found in
+    let (ns, meant, put) = c.in-Ok-put_decimal.ensures.put in
+    let six : n ≡ 6 = small_tag n c.in-Ok.found.0 6 number c.if-tag-ne6.false (omega arith) in
+    let is = leaf_here octets offset (object_identifier ns) v (subst (λ z. UniversalAt octets offset z v) six u) meant in
+    identifier_was_found ns is put
+
+pub returns-in-Err-put_decimal : goal.returns-in-Err-put_decimal
+returns-in-Err-put_decimal c =
+    let octets = c.args.octets.now in
+    let offset = c.args.offset in
+    let v = c.in-Ok.found.1.now in
+    let put = c.nothing_put-in-Err-put_decimal.ensures in
     let (n, u, number) = c.in-Ok.ensures.found in
     let six : n ≡ 6 = small_tag n c.in-Ok.found.0 6 number c.if-tag-ne6.false (omega arith) in
-    let told = put.status ∙ c.status_of_fault.ensures in
-    elim c.in-Err-read.ensures.refused [
-      | inl memory ↦ identifier_is_missing (inl (told ∙ ap (λ z. status_of (fault_of z)) memory)) put.offset put.count refl
-      | inr fault ↦
+    let (kept, why) = c.in-Err-put_decimal.ensures.refused in
+    elim why [
+      | inl memory ↦ identifier_is_missing (inl (put.status ∙ memory)) put.offset put.count kept
+      | inr (f, fault, told) ↦
           identifier_is_missing
           (fault_there octets offset ((ns : List ℕ) × IsIdentifierAt octets offset ns) IsIdentifierTag (leaf_of octets offset)
-          c.nothing_put-in-Err-read.result.status n v six u f (of_object_identifier six fault) told)
-          put.offset put.count refl
+          c.nothing_put-in-Err-put_decimal.result.status n v six u f (of_object_identifier six fault) (put.status ∙ told))
+          put.offset put.count kept
     ]
-
-pub returns-in-Ok-dotted_of : goal.returns-in-Ok-dotted_of
-returns-in-Ok-dotted_of c =
-    let octets = c.args.octets.now in
-    let offset = c.args.offset in
-    let v = c.in-Ok.found.1.now in
-    let ns = c.in-Ok-read.oid in
-    let (n, u, number) = c.in-Ok.ensures.found in
-    let six : n ≡ 6 = small_tag n c.in-Ok.found.0 6 number c.if-tag-ne6.false (omega arith) in
-    let is = leaf_here octets offset (object_identifier ns) v (subst (λ z. UniversalAt octets offset z v) six u) c.in-Ok-read.ensures.found in
-    identifier_was_found ns is
-    (subst (λ z. ArePut z c.args.room.now c.put_octets.new.room c.put_octets.result)
-    (c.as_bytes.ensures.value ∙ c.in-Ok-dotted_of.ensures) c.put_octets.ensures)

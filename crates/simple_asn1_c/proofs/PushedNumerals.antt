@@ -1,0 +1,48 @@
+-- Numerals that are pushed, and components of which each is.
+use Rattle.std.proofs.Common.{◌≡◌, ℕ, zero, suc, ◌+◌, ◌<◌, ◌%◌, ◌/◌, List, [], ◌∷◌, ◌++◌, refl, sym, ap, ◌∙◌, arith, map, append_assoc}
+use Rattle.std.specs.Prelude.{IsTrue, Bool, Result, Ok, Err, OnOk}
+use Rattle.std.specs.Int.Digits.{digits_of}
+use Rattle.std.specs.List.{flat_map}
+use Rattle.std.specs.Result.{is_ok}
+use Rattle.std.proofs.lemmas.Int.Digits.{digits_of_step}
+use Rattle.asn1_numbers.specs.Decimal.{natural_numeral}
+use Rattle.asn1_numbers.specs.Octets.{digit}
+use Rattle.asn1_numbers.proofs.Numerals.{natural_some}
+use Rattle.asn1_leaves.specs.Contents.ObjectIdentifier.{AreFirstTwo}
+use Rattle.asn1_leaves.specs.DottedDecimal.{dotted_decimal}
+use Rattle.asn1_leaves.specs.Inner.IdentifierForms.{components_of, first_component, numbers_after, pointed, second_component}
+use Rattle.asn1_leaves.proofs.DottedNumbers.{dotted_first}
+use Rattle.asn1_leaves.proofs.IdentifierForms.{first_found, second_found}
+
+-- what holds after an Ok
+pub pushed_if_ok : {T E P : Type 0} (r : Result T E) (b : Bool) → b ≡ is_ok r → IsTrue b → OnOk r P → P
+pushed_if_ok (Ok x) b e said p = p
+pushed_if_ok (Err x) b e said p = grind (arith, e, said)
+
+-- the numeral of one digit
+pub digit_numeral : (n : ℕ) → n < 10 → (48 + n) ∷ [] ≡ natural_numeral n
+digit_numeral zero low = refl
+digit_numeral (suc m) low =
+    let none : suc m / 10 ≡ 0 = omega (arith, low) in
+    let last : suc m % 10 ≡ suc m = omega (arith, low) in
+    sym (
+    natural_some (suc m) (omega arith)
+    ∙ ap (map digit) (digits_of_step 10 (suc m) (omega arith) (omega arith) ∙ (λ i. digits_of 10 (none i) ++ (last i ∷ [])))
+    )
+
+-- the components of contents octets, one after another
+pub dotted_pushed : (contents rest : List ℕ) (b x y : ℕ) (text one two all : List ℕ) → contents ≡ b ∷ rest → AreFirstTwo x y b
+    → one ≡ text ++ natural_numeral x → two ≡ one ++ pointed y → all ≡ two ++ flat_map pointed (numbers_after 0 rest)
+    → all ≡ text ++ dotted_decimal (components_of contents)
+dotted_pushed contents rest b x y text one two all e pair first second others =
+    let x_is : first_component b ≡ x = first_found x y b pair in
+    let y_is : second_component b ≡ y = second_found x y b pair in
+    let ns = numbers_after 0 rest in
+    let components : x ∷ y ∷ ns ≡ components_of contents = sym (ap components_of e ∙ cc) in
+    let whole : text ++ (natural_numeral x ++ (pointed y ++ flat_map pointed ns)) ≡ text ++ dotted_decimal (components_of contents) =
+    ap (λ z. text ++ z) (sym (dotted_first x (y ∷ ns)) ∙ ap dotted_decimal components) in
+    others
+    ∙ ap (λ z. z ++ flat_map pointed ns) (second ∙ ap (λ z. z ++ pointed y) first)
+    ∙ append_assoc (text ++ natural_numeral x) (pointed y) (flat_map pointed ns)
+    ∙ append_assoc text (natural_numeral x) (pointed y ++ flat_map pointed ns)
+    ∙ whole
