@@ -66,6 +66,27 @@ typedef struct simple_asn1_block {
     uint8_t constructed;
 } simple_asn1_block;
 
+/* A path to a block: so many item numbers of an array of them, from the one at `start` on. */
+typedef struct simple_asn1_path {
+    size_t start;
+    size_t length;
+} simple_asn1_path;
+
+#define SIMPLE_ASN1_KIND_NONE 0    /* the path leads nowhere; all other fields are 0 */
+#define SIMPLE_ASN1_KIND_BLOCK 1   /* a block */
+#define SIMPLE_ASN1_KIND_INTEGER 2 /* an INTEGER whose number fits */
+
+typedef struct simple_asn1_value { /* what a path leads to; the fields of a block are those of simple_asn1_block */
+    uint64_t tag;
+    size_t offset;
+    size_t header;
+    size_t contents;
+    int64_t number;   /* 0 unless the kind is SIMPLE_ASN1_KIND_INTEGER */
+    uint32_t kind;
+    uint8_t tag_class;
+    uint8_t constructed;
+} simple_asn1_value;
+
 typedef struct simple_asn1_outcome {
     uint32_t status;
     size_t offset; /* of the block at fault; 0 if none is */
@@ -116,6 +137,20 @@ simple_asn1_outcome simple_asn1_read_strict(const uint8_t *octets, size_t size, 
 /* The same by headers alone: contents octets of leaves are not checked, so a document with faults in them can be walked
  * too. The error is that of the first header at fault. */
 simple_asn1_outcome simple_asn1_outline(const uint8_t *octets, size_t size, simple_asn1_block *blocks, size_t room);
+
+/* Many values by one call: writes what each path leads to in a document, which is read as by simple_asn1_outline. A
+ * path has item numbers from 0: the first is that of a block at the top level, each other that of an item of the one
+ * before. A path that leads nowhere, one without numbers, and one beyond the step_count numbers in steps are no error:
+ * the kind is then SIMPLE_ASN1_KIND_NONE. Contents octets are not checked.
+ *
+ *     static const size_t steps[] = {0, 0, 1, 0, 0, 3};
+ *     static const simple_asn1_path paths[] = {{0, 3}, {3, 3}};
+ *     simple_asn1_value values[2];
+ *     simple_asn1_outcome o = simple_asn1_values(octets, size, steps, 6, paths, 2, values, 2);
+ */
+simple_asn1_outcome simple_asn1_values(const uint8_t *octets, size_t size, const size_t *steps, size_t step_count,
+                                       const simple_asn1_path *paths, size_t path_count, simple_asn1_value *values,
+                                       size_t room);
 
 /* Whether bytes are a document, and otherwise the first error, as simple_asn1_read: no records are made. */
 simple_asn1_outcome simple_asn1_check(const uint8_t *octets, size_t size);

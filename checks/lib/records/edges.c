@@ -16,6 +16,7 @@ static void check_nothing(void)
     CHECK(simple_asn1_text(NULL, 0, 0, NULL, 0).status == SIMPLE_ASN1_NO_SUCH_VALUE);
     CHECK(simple_asn1_oid(NULL, 0, 0, NULL, 0).status == SIMPLE_ASN1_NO_SUCH_VALUE);
     CHECK(simple_asn1_signed(NULL, 0).status == SIMPLE_ASN1_EMPTY);
+    CHECK(simple_asn1_values(NULL, 0, NULL, 0, NULL, 0, NULL, 0).status == SIMPLE_ASN1_EMPTY);
 }
 
 static void check_answers(void)
@@ -65,6 +66,38 @@ static void check_answers(void)
     simple_asn1_moment m = simple_asn1_time(fraction, 21, 0);
     CHECK(m.status == SIMPLE_ASN1_OK && m.year == 2026 && m.month == 11 && m.day == 23 && m.hour == 7);
     CHECK(m.minute == 3 && m.second == 22 && m.nanosecond == 125000000);
+}
+
+/* What paths lead to: numbers that fit, one that does not, leaves that have none, and nowhere. */
+static void check_paths(void)
+{
+    const uint8_t octets[] = {0x30, 24, 2, 2, 0xFF, 0x7F, 0x1E, 2, 0, 0xE4, 0xA0, 3, 2, 1, 5,
+                              2, 9, 1, 0, 0, 0, 0, 0, 0, 0, 0, 5, 0};
+    const size_t steps[] = {0, 0, 0, 2, 0, 0, 3, 1, 0, 1, 1, 0, 0, 4, SIZE_MAX};
+    const simple_asn1_path paths[] = {{0, 2},  {2, 3},  {5, 2},  {7, 1},  {8, 2},        {0, 0},
+                                      {10, 2}, {12, 2}, {14, 1}, {14, 2}, {SIZE_MAX, 2}, {16, 0}};
+    enum { SIZE = sizeof octets, STEPS = sizeof steps / sizeof *steps, COUNT = sizeof paths / sizeof *paths };
+    simple_asn1_value values[COUNT + 1], before[COUNT + 1];
+    memset(before, 0xA5, sizeof before);
+    memcpy(values, before, sizeof values);
+    simple_asn1_outcome o = simple_asn1_values(octets, SIZE, steps, STEPS, paths, COUNT, values, COUNT - 1);
+    CHECK(o.status == SIMPLE_ASN1_NO_ROOM && o.count == COUNT && memcmp(values, before, sizeof values) == 0);
+    o = simple_asn1_values(octets, SIZE - 1, steps, STEPS, paths, COUNT, values, COUNT);
+    CHECK(o.status == SIMPLE_ASN1_INCOMPLETE && o.offset == 26 && o.count == 0);
+    CHECK(memcmp(values, before, sizeof values) == 0);
+    o = simple_asn1_values(octets, SIZE, steps, STEPS, paths, COUNT, values, COUNT + 1);
+    CHECK(o.status == SIMPLE_ASN1_OK && o.offset == 0 && o.count == COUNT);
+    CHECK(values[0].kind == SIMPLE_ASN1_KIND_INTEGER && values[0].number == -129 && values[0].offset == 2);
+    CHECK(values[1].kind == SIMPLE_ASN1_KIND_INTEGER && values[1].number == 5 && values[1].offset == 12);
+    CHECK(values[2].kind == SIMPLE_ASN1_KIND_BLOCK && values[2].number == 0 && values[2].contents == 9);
+    CHECK(values[3].kind == SIMPLE_ASN1_KIND_BLOCK && values[3].tag == 5 && values[3].offset == 26);
+    CHECK(values[4].kind == SIMPLE_ASN1_KIND_BLOCK && values[4].tag == 30 && values[4].header == 2);
+    CHECK(values[4].tag_class == 0 && values[4].constructed == 0 && values[4].contents == 2);
+    for (size_t i = 5; i < COUNT; i++) {
+        CHECK(values[i].kind == SIMPLE_ASN1_KIND_NONE && values[i].tag == 0 && values[i].offset == 0);
+        CHECK(values[i].header == 0 && values[i].contents == 0 && values[i].number == 0);
+    }
+    CHECK(memcmp(&values[COUNT], &before[COUNT], sizeof before[COUNT]) == 0);
 }
 
 /* Each call for a value answers the fault of contents octets of its kind, and then no value. */
@@ -226,6 +259,7 @@ int main(int argc, char **argv)
 {
     check_nothing();
     check_answers();
+    check_paths();
     check_values_at_fault();
     check_kept();
     check_tags();

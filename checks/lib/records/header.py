@@ -73,6 +73,8 @@ class Refusal(ctypes.Structure):
 
 records = {
     "block": _calls.Block,
+    "path": _calls.Path,
+    "value": _calls.FoundBlock,
     "outcome": _calls.Outcome,
     "integer": _calls.Integer,
     "moment": _calls.MomentAnswer,

@@ -44,6 +44,8 @@ static uint8_t *octets;
 static size_t size, count, text, oid, integer, moment;
 static simple_asn1_block blocks[1 << 13];
 static uint8_t out[1 << 16];
+static const simple_asn1_path whole = {0, 1};
+static simple_asn1_value value;
 /* of more contents octets than are kept in place, and a component beyond 64 bits */
 static const char wide[] = "2.25.340282366920938463463374607431768211456.1.2.3.4.5.6.7.8.9.10.11.12.13";
 static const simple_asn1_moment last = {0, 9999, 12, 31, 23, 59, 59, 999999999};
@@ -67,6 +69,7 @@ static uint32_t status_of(int call)
     case 13: return simple_asn1_put_time(24, &last, out, sizeof out).status;
     case 14: return simple_asn1_outline(octets, size, blocks, 1 << 13).status;
     case 15: return simple_asn1_check(octets, size).status;
+    case 16: return simple_asn1_values(octets, size, &size, 1, &whole, 1, &value, 1).status;
     default: return simple_asn1_write(octets, size, blocks, count, out, sizeof out).status;
     }
 }
@@ -86,7 +89,7 @@ int main(int argc, char **argv)
             *kind = blocks[i].offset;
     }
     size_t refused = 0;
-    for (int call = 0; call < 17; call++) {
+    for (int call = 0; call < 18; call++) {
         for (long k = 0;; k++) {
             long before = live;
             asked = 0, left = k;

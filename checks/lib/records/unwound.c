@@ -50,10 +50,14 @@ static void end(void)
 
 static void call_all(const uint8_t *octets, size_t size, simple_asn1_block *blocks)
 {
+    static const size_t steps[] = {0, 0, 1};
+    static const simple_asn1_path serial = {0, 3};
     static uint8_t out[MOST_BLOCKS];
+    simple_asn1_value value;
     simple_asn1_outcome o = simple_asn1_read(octets, size, blocks, MOST_BLOCKS);
 
     simple_asn1_outline(octets, size, blocks, MOST_BLOCKS);
+    simple_asn1_values(octets, size, steps, 3, &serial, 1, &value, 1);
     simple_asn1_read_strict(octets, size, blocks, MOST_BLOCKS);
     simple_asn1_rewrite(octets, size, out, sizeof out);
     simple_asn1_write(octets, size, blocks, o.count, out, sizeof out);

@@ -42,9 +42,12 @@ use Rattle.asn1_outline.proofs.Entries.{entries_length}
 use Rattle.asn1_outline.specs.Entries.{AreEntries, AreEntriesOf}
 use Rattle.asn1_outline.specs.declared.entry.Entry.{Entry}
 use Rattle.simple_asn1_c.specs.Records.{AreRecords, IsRecordAt, block_of, no_record}
+use Rattle.simple_asn1_c.specs.Paths.{AnswersValues, had_header_fault_of_values, had_no_memory_for_values}
 use Rattle.simple_asn1_c.specs.Room.{AreFront, AreKeptBehind, ArePut}
 use Rattle.simple_asn1_c.specs.declared.record.Block.{Block}
 use Rattle.simple_asn1_c.specs.declared.record.Outcome.{Outcome}
+use Rattle.simple_asn1_c.specs.declared.record.Path.{Path}
+use Rattle.simple_asn1_c.specs.declared.record.Value.{Value}
 use Rattle.simple_asn1_c.proofs.Entries.{entries_records}
 
 pub rewrite_answer :
@@ -177,3 +180,9 @@ pub outline_refused : (octets : List ℕ) (before : List Block) (o : Outcome) (s
 outline_refused octets before o status offset told (inl m) = had_no_memory_to_outline (no_memory_told o status offset told m) told.2 refl
 outline_refused octets before o status offset (s, p, c) (inr (fault, first, e)) =
     had_header_fault (fault, subst (FirstHeaderFaultAt octets fault) (sym p) first, s ∙ e) c refl
+
+pub values_refused : (octets steps : List ℕ) (paths : List Path) (before : List Value) (o : Outcome) (status offset : ℕ) → Tells o status offset
+    → IsNoMemory status offset ⊎ IsRefusedByHeader octets status offset → AnswersValues octets steps paths before before o
+values_refused octets steps paths before o status offset told (inl m) = had_no_memory_for_values (no_memory_told o status offset told m) told.2 refl
+values_refused octets steps paths before o status offset (s, p, c) (inr (fault, first, e)) =
+    had_header_fault_of_values (fault, subst (FirstHeaderFaultAt octets fault) (sym p) first, s ∙ e) c refl

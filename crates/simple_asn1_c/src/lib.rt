@@ -11,6 +11,8 @@ mod header;
 mod identifier;
 mod integer;
 mod moment;
+mod number;
+mod paths;
 mod putting;
 mod raw;
 mod reading;
@@ -44,6 +46,7 @@ ghost use Rattle.simple_asn1_c.specs.Contents.{
   AnswersTag,
   AnswersTagOctets,
 };
+ghost use Rattle.simple_asn1_c.specs.Paths.{AnswersValues};
 ghost use Rattle.simple_asn1_c.specs.Puts.{
   AnswersPutBits,
   AnswersPutBoolean,
@@ -76,12 +79,13 @@ use crate::fault::{FaultAnswer, fault_in};
 use crate::identifier::{identifier_at, put_identifier};
 use crate::integer::{integer_at, put_integer};
 use crate::moment::{moment_at, put_moment};
+use crate::paths::put_values;
 use crate::putting::{all_put, put_octets, put_records};
 use crate::raw::{put_raw_bits, put_raw_identifier, put_raw_moment, put_raw_text};
 use crate::reading::{
     Fault, canonical_octets, check, read_headers, read_records, read_records_strict,
 };
-use crate::record::{Block, IntegerAnswer, MomentAnswer, Outcome, SignedAnswer};
+use crate::record::{Block, IntegerAnswer, MomentAnswer, Outcome, Path, SignedAnswer, Value};
 use crate::signed::signed_in;
 use crate::spelled::{put_encoding, put_spelled};
 use crate::spelling::spell;
@@ -147,6 +151,31 @@ pub extern "C" fn simple_asn1_outline(alloc: Global, octets: &[u8], blocks: &mut
 {
     match read_headers(alloc, octets) {
         Ok(headers) => put_records(headers.entries(), blocks),
+        Err(fault) => refused_outcome(fault),
+    }
+}
+
+/// What paths lead to in a document, which is read by its headers alone as by [`simple_asn1_outline`]: one call for
+/// many values. A path is a list of item numbers from 0: the first is that of an encoding of the document, each other
+/// that of an item of the one before, as the records of [`simple_asn1_outline`] have items. `paths` says where each
+/// begins in `steps`, and its length. A path that leads nowhere, such as one without numbers or beyond `steps`, is no
+/// error: its value has kind 0. Kind 2 is an INTEGER (X.690 8.3) whose number is an `i64`, and kind 1 any other
+/// encoding.
+///
+/// Returns the number of paths; `NO_ROOM` with it, if there is less room; or an error as [`simple_asn1_outline`]. After
+/// an error nothing is written. The memory is that of [`simple_asn1_outline`].
+#[unsafe(no_mangle)]
+pub extern "C" fn simple_asn1_values(
+    alloc: Global,
+    octets: &[u8],
+    steps: &[usize],
+    paths: &[Path],
+    values: &mut [Value],
+) -> Outcome
+    ensures { AnswersValues octets.now steps.now paths.now values.old values.new result }
+{
+    match read_headers(alloc, octets) {
+        Ok(headers) => put_values(octets, headers.entries(), steps, paths, values),
         Err(fault) => refused_outcome(fault),
     }
 }

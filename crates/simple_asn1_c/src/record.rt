@@ -64,6 +64,28 @@ pub struct SignedAnswer {
     pub signature: Block,
 }
 
+/// Where the item numbers of a path begin, and how many they are.
+#[repr(C)]
+#[derive(Clone, Copy)]
+pub struct Path {
+    pub start: usize,
+    pub length: usize,
+}
+
+/// What a path leads to. `simple_asn1.h` describes the fields.
+#[repr(C)]
+#[derive(Clone, Copy)]
+pub struct Value {
+    pub tag: u64,
+    pub offset: usize,
+    pub header: usize,
+    pub contents: usize,
+    pub number: i64,
+    pub kind: u32,
+    pub tag_class: u8,
+    pub constructed: u8,
+}
+
 // What the C header has for them.
 const _: () = prove!(size_of::<Block>() == 64);
 
@@ -74,6 +96,10 @@ const _: () = prove!(size_of::<IntegerAnswer>() == 16);
 const _: () = prove!(size_of::<MomentAnswer>() == 32);
 
 const _: () = prove!(size_of::<SignedAnswer>() == 208);
+
+const _: () = prove!(size_of::<Path>() == 16);
+
+const _: () = prove!(size_of::<Value>() == 48);
 
 // The record of an entry.
 pub fn block_of(entry: &Entry) -> Block

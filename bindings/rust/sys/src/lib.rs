@@ -46,6 +46,28 @@ pub struct Block {
     pub constructed: u8,
 }
 
+/// Where the item numbers of a path begin, and how many they are.
+#[repr(C)]
+#[derive(Clone, Copy, Debug, Default, PartialEq, Eq)]
+pub struct Path {
+    pub start: usize,
+    pub length: usize,
+}
+
+/// What a path leads to: of kind 0 nothing, of kind 1 a block, of kind 2 an INTEGER whose number fits.
+#[repr(C)]
+#[derive(Clone, Copy, Debug, Default, PartialEq, Eq)]
+pub struct Value {
+    pub tag: u64,
+    pub offset: usize,
+    pub header: usize,
+    pub contents: usize,
+    pub number: i64,
+    pub kind: u32,
+    pub tag_class: u8,
+    pub constructed: u8,
+}
+
 #[repr(C)]
 #[derive(Clone, Copy, Debug, PartialEq, Eq)]
 pub struct Outcome {
@@ -98,6 +120,16 @@ extern "C" {
     pub fn simple_asn1_read(octets: *const u8, size: usize, blocks: *mut Block, room: usize) -> Outcome;
     pub fn simple_asn1_read_strict(octets: *const u8, size: usize, blocks: *mut Block, room: usize) -> Outcome;
     pub fn simple_asn1_outline(octets: *const u8, size: usize, blocks: *mut Block, room: usize) -> Outcome;
+    pub fn simple_asn1_values(
+        octets: *const u8,
+        size: usize,
+        steps: *const usize,
+        step_count: usize,
+        paths: *const Path,
+        path_count: usize,
+        values: *mut Value,
+        room: usize,
+    ) -> Outcome;
     pub fn simple_asn1_check(octets: *const u8, size: usize) -> Outcome;
     pub fn simple_asn1_rewrite(octets: *const u8, size: usize, out: *mut u8, room: usize) -> Outcome;
     pub fn simple_asn1_write(

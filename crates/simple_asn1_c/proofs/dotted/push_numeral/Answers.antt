@@ -1,5 +1,4 @@
-use Rattle.std.proofs.Common.{◌≡◌, ◌++◌, ◌∷◌, [], sym, ap, ◌∙◌, arith, rules}
-use Rattle.asn1_numbers.specs.Decimal.{natural_numeral}
+use Rattle.std.proofs.Common.{◌++◌, ap, ◌∙◌, arith}
 use Rattle.asn1_numbers.proofs.Numerals.{decimal_numeral}
 use Rattle.simple_asn1_c.proofs.PushedNumerals.{digit_numeral, pushed_if_ok}
 use Rattle.simple_asn1_c.proofs.dotted.push_numeral.Goals as goal

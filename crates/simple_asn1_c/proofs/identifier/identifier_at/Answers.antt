@@ -1,9 +1,6 @@
-use Rattle.std.proofs.Common.{◌≡◌, ℕ, List, inl, inr, refl, ap, subst, ◌∙◌, arith}
-use Rattle.asn1_headers.specs.Fault.{fault_of}
+use Rattle.std.proofs.Common.{◌≡◌, ℕ, List, inl, inr, refl, subst, ◌∙◌, arith}
 use Rattle.simple_asn1.specs.Contents.{leaf_tag, of_object_identifier}
 use Rattle.simple_asn1.specs.Tree.{Leaf, object_identifier}
-use Rattle.simple_asn1_c.specs.Room.{ArePut}
-use Rattle.simple_asn1_c.specs.Status.{status_of}
 use Rattle.simple_asn1_c.specs.Values.{IsIdentifierAt, IsIdentifierTag, IsLeafAt, UniversalAt}
 use Rattle.simple_asn1_c.specs.Values.{identifier_is_missing, identifier_was_found}
 use Rattle.simple_asn1_c.proofs.LeavesThere.{another_there, fault_there, leaf_here, nothing_there, small_tag}

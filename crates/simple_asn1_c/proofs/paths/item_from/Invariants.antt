@@ -1,0 +1,10 @@
+use Rattle.std.proofs.Common.{◌≡◌}
+use Rattle.simple_asn1_c.specs.Paths.{item_from}
+use Rattle.simple_asn1_c.proofs.paths.item_from.Given as goal
+
+-- what is found from here is what is found from the start
+abbrev pub invariant-loop-left : goal.invariant-loop-left
+invariant-loop-left l = item_from l.entries l.at l.end l.left ≡ item_from l.entries l.index l.end l.step
+
+abbrev pub decreases-loop-left : goal.decreases-loop-left
+decreases-loop-left l = l.left
