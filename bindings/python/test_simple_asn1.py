@@ -14,7 +14,7 @@ import tracemalloc
 import unittest
 
 import simple_asn1
-from simple_asn1 import Builder, Moment, NoSuchValue, PemObject, Refused, Status
+from simple_asn1 import Builder, Moment, NoSuchValue, Paths, PemObject, Refused, Status
 
 DOCUMENT = bytes.fromhex("30 09 02 01 05 A0 04 0C 02 C3 A4 05 00")
 
@@ -55,6 +55,22 @@ class Reading(unittest.TestCase):
         self.assertEqual((text.tag, text.contents, number.integer), (30, b"\x00\xe4", 5))
         self.assertEqual(self.refused(lambda: text.text), (Status.UTF8, 2))
         self.assertEqual(self.refused(simple_asn1.outline, bytes.fromhex("30 04 02 01 05 01")), (Status.INCOMPLETE, 5))
+
+    def test_paths_lead_to_blocks_and_nowhere(self):
+        octets = bytes.fromhex("30 18 02 02 FF 7F 1E 02 00 E4 A0 03 0C 01 41 02 09 01 00 00 00 00 00 00 00 00 06 01 2A")
+        paths = Paths((0, 0), (0, 1), (0, 2, 0), (0, 3), (1,), (2,), (1, 0), (0, 2**64 - 1), ())
+        paths = pickle.loads(pickle.dumps(paths))
+        number, text, inside, wide, oid, *nowhere = paths.values(octets)
+        self.assertEqual((number.integer, wide.integer, inside.text, oid.oid), (-129, 2**64, "A", "1.2"))
+        self.assertEqual((text.tag, text.contents, text.offset, inside.octets), (30, b"\0\xe4", 6, b"\x0c\1A"))
+        self.assertEqual(self.refused(lambda: text.text), (Status.UTF8, 6))
+        self.assertEqual(self.refused(lambda: text.integer), (Status.NO_SUCH_VALUE, 6))
+        self.assertEqual(nowhere, [None] * 4)
+        self.assertEqual(self.refused(paths.values, octets[:-1]), (Status.INCOMPLETE, 26))
+        self.assertEqual(Paths().values(octets), [])
+        self.assertEqual(len(Paths(*[(0, 0)] * 5000).values(octets)), 5000)
+        for number in (-1, 2**64):
+            self.assertRaises(ValueError, Paths, (0, number))
 
     @unittest.skipUnless(shutil.which("openssl"), "there is no openssl")
     def test_the_outline_of_a_certificate_with_an_odd_name_is_that_of_openssl(self):

@@ -16,11 +16,12 @@ from ._builder import Builder
 from ._calls import Octets, Record
 from ._document import Bits, Block, Document, Moment, Signed
 from ._document import check, outline, read, read_pem, read_strict, rewrite, write
+from ._paths import Paths, Value
 from ._pem import PemObject, pem_objects
 from ._status import TEXTS, NoSuchValue, Refused, Status
 
 __all__ = [
-    "Bits", "Block", "Builder", "Document", "Moment", "NoSuchValue", "Octets", "PemObject", "Record", "Refused",
-    "Signed", "Status", "TEXTS", "check", "outline", "pem_objects", "read", "read_pem", "read_strict", "rewrite",
-    "write",
+    "Bits", "Block", "Builder", "Document", "Moment", "NoSuchValue", "Octets", "Paths", "PemObject", "Record",
+    "Refused", "Signed", "Status", "TEXTS", "Value", "check", "outline", "pem_objects", "read", "read_pem",
+    "read_strict", "rewrite", "write",
 ]  # fmt: skip

@@ -1,11 +1,13 @@
 """The calls of simple_asn1.h, by ctypes. Octets are passed to C only here: each call takes the `bytes` of octets_of."""
 import ctypes
+import functools
 import os
 import pathlib
+import re
 import struct
-from typing import Any, Callable, Iterable, Iterator, List, NamedTuple, Sequence, SupportsBytes, Tuple, Union
+from typing import Any, Callable, Iterable, Iterator, List, NamedTuple, Optional, Sequence, SupportsBytes, Tuple, Union
 
-from ._status import Status, refusal
+from ._status import Refused, Status, refusal
 
 Octets = Union[bytes, bytearray, memoryview, SupportsBytes, Iterable[int]]
 
@@ -19,6 +21,23 @@ class Block(ctypes.Structure):
         ("items", ctypes.c_size_t),
         ("next", ctypes.c_size_t),
         ("depth", ctypes.c_size_t),
+        ("tag_class", ctypes.c_uint8),
+        ("constructed", ctypes.c_uint8),
+    ]
+
+
+class Path(ctypes.Structure):
+    _fields_ = [("start", ctypes.c_size_t), ("length", ctypes.c_size_t)]
+
+
+class FoundBlock(ctypes.Structure):
+    _fields_ = [
+        ("tag", ctypes.c_uint64),
+        ("offset", ctypes.c_size_t),
+        ("header", ctypes.c_size_t),
+        ("contents", ctypes.c_size_t),
+        ("number", ctypes.c_int64),
+        ("kind", ctypes.c_uint32),
         ("tag_class", ctypes.c_uint8),
         ("constructed", ctypes.c_uint8),
     ]
@@ -65,6 +84,11 @@ def record_of(block: Any) -> Record:
 # a `Block` in memory: its fields, and what fills it up to its size
 _FIELDS = "@QNNNNNNBB"
 _RECORD = struct.Struct(f"{_FIELDS}{ctypes.sizeof(Block) - struct.calcsize(_FIELDS)}x")
+# a `FoundBlock` in memory
+_FOUND_FIELDS = "@QNNNqIBB"
+_FOUND = struct.Struct(f"{_FOUND_FIELDS}{ctypes.sizeof(FoundBlock) - struct.calcsize(_FOUND_FIELDS)}x")
+# the kind of an INTEGER whose number fits
+INTEGER_FOUND = 2
 # as an array of numbers of this size: how many there are, and which is `next`
 _WORD = struct.calcsize("@N")
 _WORDS, _NEXT = ctypes.sizeof(Block) // _WORD, Block.next.offset // _WORD
@@ -164,6 +188,7 @@ def _library() -> Any:
         ("read", Outcome, octets + records),
         ("read_strict", Outcome, octets + records),
         ("outline", Outcome, octets + records),
+        ("values", Outcome, octets + records + records + records),
         ("check", Outcome, octets),
         ("rewrite", Outcome, octets + room),
         ("write", Outcome, octets + records + room),
@@ -190,6 +215,9 @@ _LIBRARY = _library()
 _MOST_TIME, _USUAL_HEADER = 32, 6
 
 _OK, _NO_ROOM = int(Status.OK), int(Status.NO_ROOM)
+
+# the greatest number that `size_t` holds
+_MOST_STEP = 2 ** (8 * ctypes.sizeof(ctypes.c_size_t)) - 1
 
 # the first call has room for so many records; a document with more is read again with room for as many as it has
 _FIRST_ROOM = 1024
@@ -239,6 +267,38 @@ def read_strict(octets: bytes) -> Records:
 
 def outline(octets: bytes) -> Records:
     return _read(_LIBRARY.simple_asn1_outline, octets)
+
+
+class Places:
+    """Paths as the library takes them."""
+
+    def __init__(self, paths: Sequence[Sequence[int]]) -> None:
+        steps = [number for path in paths for number in path]
+        if not all(0 <= number <= _MOST_STEP for number in steps):  # ctypes cuts numbers that do not fit
+            raise ValueError("the numbers of a path begin with 0")
+        self.steps = (ctypes.c_size_t * len(steps))(*steps)
+        self.paths = (Path * len(paths))()
+        start = 0
+        for place, path in zip(self.paths, paths):
+            place.start, place.length = start, len(path)
+            start += len(path)
+        self.count = len(paths)
+        self.arguments = ctypes.addressof(self.steps), len(steps), ctypes.addressof(self.paths), len(paths)
+
+
+def values(octets: bytes, places: Places) -> Iterable[Any]:
+    """The fields of what each path leads to."""
+    spare = memory, address = _spare()
+    count = places.count
+    size = count * _FOUND.size
+    if size > _FIRST_SIZE:
+        memory, address = _memory(size)
+    answer = _LIBRARY.simple_asn1_values(octets, len(octets), *places.arguments, address, count)
+    found = bytes(memory[:size])
+    _SPARE.append(spare)
+    if answer.status != _OK:
+        raise refusal(answer.status, answer.offset)
+    return _FOUND.iter_unpack(found)
 
 
 def _sized(call: Callable[..., Any], room: int, *arguments: Any) -> bytes:
@@ -295,8 +355,24 @@ def time(octets: bytes, offset: int) -> Tuple[int, ...]:
 
 def text(octets: bytes, record: Record) -> str:
     """The text of the string with this record. Only an IA5String's octets above 7F become longer."""
-    room = 2 * record.contents if record.tag == 22 else record.contents
-    return _sized(_LIBRARY.simple_asn1_text, room, octets, len(octets), record.offset).decode()
+    return text_at(octets, record.offset, 2 * record.contents if record.tag == 22 else record.contents)
+
+
+def text_at(octets: bytes, offset: int, room: int) -> str:
+    return _sized(_LIBRARY.simple_asn1_text, room, octets, len(octets), offset).decode()
+
+
+# the tag numbers of the strings that have a text
+STRINGS = frozenset((12, 19, 20, 22, 28, 30))
+_plain = re.compile(rb"[A-Za-z0-9 '()+,./:=?-]*").fullmatch
+
+
+def plain_text(contents: bytes) -> Optional[str]:
+    """The text of a string of any kind, if its contents octets are characters of a PrintableString.
+
+    These are the text in each kind. Others are for the library.
+    """
+    return contents.decode("ascii") if _plain(contents) else None
 
 
 def oid(octets: bytes, record: Record) -> str:
@@ -305,8 +381,25 @@ def oid(octets: bytes, record: Record) -> str:
     Its first octet gives at most five characters, as in 2.175, and each other at most four: so the text is never made
     twice, which can take long.
     """
-    room = 4 * record.contents + 1 if (record.tag_class, record.tag) == (0, 6) else 0
-    return _sized(_LIBRARY.simple_asn1_oid, room, octets, len(octets), record.offset).decode()
+    return oid_at(octets, record.offset, record.contents if (record.tag_class, record.tag) == (0, 6) else 0)
+
+
+def oid_at(octets: bytes, offset: int, contents: int) -> str:
+    return _sized(_LIBRARY.simple_asn1_oid, 4 * contents + 1, octets, len(octets), offset).decode()
+
+
+# the most contents octets of an OBJECT IDENTIFIER whose text is kept
+USUAL_OID = 32
+
+
+@functools.lru_cache(maxsize=1024)
+def usual_oid(contents: bytes) -> Optional[str]:
+    """The components that these contents octets mean, if any. Most documents have the same few."""
+    octets = bytes((6, len(contents))) + contents
+    try:
+        return oid_at(octets, 0, len(contents))
+    except Refused:
+        return None
 
 
 def signed(octets: bytes) -> List[Record]:

@@ -2,7 +2,7 @@
 
 use crate::Fault;
 pub use simple_asn1_sys::Block as Record;
-pub use simple_asn1_sys::SignedParts;
+pub use simple_asn1_sys::{Path, SignedParts, Value};
 use simple_asn1_sys::*;
 
 /// A moment in UTC, to the nanosecond.
@@ -72,6 +72,27 @@ pub fn read_strict(octets: &[u8]) -> Result<Vec<Record>, Fault> {
 
 pub fn outline(octets: &[u8]) -> Result<Vec<Record>, Fault> {
     records(octets, |out, room| unsafe { simple_asn1_outline(octets.as_ptr(), octets.len(), out, room) })
+}
+
+/// What each path leads to: they begin one after another in the item numbers, and each has so many.
+pub fn values(octets: &[u8], steps: &[usize], paths: &[Path]) -> Result<Vec<Value>, Fault> {
+    let mut values = vec![Value::default(); paths.len()];
+    let answer = unsafe {
+        simple_asn1_values(
+            octets.as_ptr(),
+            octets.len(),
+            steps.as_ptr(),
+            steps.len(),
+            paths.as_ptr(),
+            paths.len(),
+            values.as_mut_ptr(),
+            values.len(),
+        )
+    };
+    match answer.status {
+        OK => Ok(values),
+        status => Err(Fault::of_status(status, answer.offset)),
+    }
 }
 
 pub fn rewrite(octets: &[u8]) -> Result<Vec<u8>, Fault> {

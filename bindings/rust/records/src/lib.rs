@@ -15,11 +15,13 @@
 mod builder;
 mod calls;
 mod fault;
+mod paths;
 
 pub use builder::Builder;
 use calls::SignedParts;
 pub use calls::{Moment, Record};
 pub use fault::{Fault, FaultKind};
+pub use paths::{Paths, Value};
 
 use std::fmt;
 use std::iter::FusedIterator;
@@ -118,6 +120,15 @@ pub enum Class {
     Private,
 }
 
+fn class_of(number: u8) -> Class {
+    match number {
+        0 => Class::Universal,
+        1 => Class::Application,
+        2 => Class::ContextSpecific,
+        _ => Class::Private,
+    }
+}
+
 /// A block of a document.
 #[derive(Clone, Copy)]
 pub struct Block<'d, 'a> {
@@ -131,12 +142,7 @@ impl<'d, 'a> Block<'d, 'a> {
     }
 
     pub fn class(&self) -> Class {
-        match self.record().tag_class {
-            0 => Class::Universal,
-            1 => Class::Application,
-            2 => Class::ContextSpecific,
-            _ => Class::Private,
-        }
+        class_of(self.record().tag_class)
     }
 
     /// The tag number; `u64::MAX` for greater ones.

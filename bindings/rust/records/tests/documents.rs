@@ -1,6 +1,6 @@
 //! What the bindings add to the library's calls, on documents that were made by hand.
 
-use simple_asn1_records::{rewrite, write, Class, Document, Fault, FaultKind, Moment, Signed};
+use simple_asn1_records::{rewrite, write, Class, Document, Fault, FaultKind, Moment, Paths, Signed};
 use std::error::Error;
 
 const DOCUMENT: [u8; 13] = [0x30, 0x09, 0x02, 0x01, 0x05, 0xA0, 0x04, 0x0C, 0x02, 0xC3, 0xA4, 0x05, 0x00];
@@ -54,6 +54,22 @@ fn an_outline_is_walked_past_a_leaf_at_fault() -> Result<(), Fault> {
     assert_eq!(items[1].int64()?, 5);
     let fault = Document::outline(&[0x30, 0x04, 0x02, 0x01, 0x05, 0x01]).unwrap_err();
     assert_eq!(fault, Fault { kind: FaultKind::Incomplete, offset: 5 });
+    Ok(())
+}
+
+#[test]
+fn paths_lead_to_blocks_and_nowhere() -> Result<(), Fault> {
+    let octets = [0x30, 12, 2, 2, 0xFF, 0x7F, 0x1E, 2, 0, 0xE4, 0xA0, 2, 5, 0, 6, 1, 42];
+    let paths = Paths::new([&[0, 0][..], &[0, 1], &[0, 2, 0], &[1], &[2], &[1, 0], &[]]);
+    let values = paths.values(&octets)?;
+    assert_eq!(values[0].unwrap().int64(), Some(-129));
+    let text = values[1].unwrap();
+    assert_eq!((text.tag(), text.contents(), text.int64()), (30, &octets[8..10], None));
+    assert_eq!(text.text().unwrap_err(), Fault { kind: FaultKind::Utf8, offset: 6 });
+    assert_eq!(values[2].unwrap().octets(), &octets[12..14]);
+    assert_eq!(values[3].unwrap().oid()?, "1.2");
+    assert!(values[4..].iter().all(Option::is_none));
+    assert_eq!(paths.values(&octets[..16]).unwrap_err(), Fault { kind: FaultKind::Incomplete, offset: 14 });
     Ok(())
 }
 
