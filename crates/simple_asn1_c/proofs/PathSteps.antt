@@ -1,6 +1,7 @@
 -- Steps from one entry to the next, values one after another, and numbers that fit.
-use Rattle.std.proofs.Common.{◌≡◌, ℕ, zero, suc, ◌-◌, ◌<◌, ◌≤◌, ◌^◌, ◌++◌, inl, inr, List, [], ◌∷◌, pos, negsuc, None, Some, Bool, true, false, drop, get_or, length, map, set, take, refl, sym, ap, ◌∙◌, arith}
+use Rattle.std.proofs.Common.{◌≡◌, ℕ, zero, suc, ◌-◌, ◌<◌, ◌≤◌, ◌^◌, ◌++◌, inl, inr, List, [], ◌∷◌, ℤ, pos, negsuc, None, Some, Bool, true, false, drop, get_or, length, map, set, take, refl, sym, ap, ◌∙◌, arith, FitsSigned}
 use Rattle.std.specs.Prelude.{◌↔◌, IsTrue}
+use Rattle.std.specs.Int.{w64}
 use Rattle.std.specs.Int.Digits.{number_from_digits}
 use Rattle.std.proofs.lemmas.Bool.{cases_lt, cond_above, cond_below, le-leb, lt-leb}
 use Rattle.asn1_numbers.specs.TwosComplement.{signed_number}
@@ -57,3 +58,24 @@ pub negative_fits : (octets : List ℕ) → 128 ≤ get_or octets 0 0 → magnit
     → Some (negsuc (magnitude_of octets)) ≡ fitting (signed_number octets)
 negative_fits octets above small =
     cond_below (magnitude_of octets) (2 ^ 63) (Some (negsuc (magnitude_of octets))) None small ∙ ap fitting (sym (signed_above octets above))
+
+some_same : {A : Type 0} {x y : A} → Some x ≡ Some y → x ≡ y
+some_same e = cc
+
+some_none : {A : Type 0} {x : A} → Some x ≡ None → ⊥
+some_none e = cc
+
+-- one that fits is what was found
+pub number_fits : (z v : ℤ) → Some v ≡ fitting z → z ≡ v
+number_fits (pos n) v e = elim (cases_lt n (2 ^ 63)) [
+  | inl below ↦ some_same (sym (e ∙ sym (cond_below n (2 ^ 63) (Some (pos n)) None below)))
+  | inr above ↦ absurd (some_none (e ∙ sym (cond_above n (2 ^ 63) (Some (pos n)) None None above refl)))
+]
+number_fits (negsuc n) v e = elim (cases_lt n (2 ^ 63)) [
+  | inl below ↦ some_same (sym (e ∙ sym (cond_below n (2 ^ 63) (Some (negsuc n)) None below)))
+  | inr above ↦ absurd (some_none (e ∙ sym (cond_above n (2 ^ 63) (Some (negsuc n)) None None above refl)))
+]
+
+pub does_not_fit : (z : ℤ) → None ≡ fitting z → FitsSigned w64 z → ⊥
+does_not_fit (pos n) e fits = some_none (cond_below n (2 ^ 63) (Some (pos n)) None fits.sfits ∙ sym e)
+does_not_fit (negsuc n) e fits = some_none (cond_below n (2 ^ 63) (Some (negsuc n)) None fits.sfits ∙ sym e)

@@ -4,10 +4,10 @@ ghost use Rattle.simple_asn1_c.specs.Puts.{AnswersPutInteger};
 ghost use Rattle.simple_asn1_c.specs.Values.{AnswersInteger};
 
 use crate::alone::universal_at;
+use crate::number::int64_of;
 use crate::putting::{nothing_put, put_octets};
 use crate::record::{IntegerAnswer, Outcome};
 use crate::status::{DONE, NO_MEMORY, NO_SUCH_VALUE, OUT_OF_RANGE};
-use asn1_leaves::contents::integer;
 use simple_asn1::BigInt;
 use std::alloc::Global;
 
@@ -27,10 +27,7 @@ pub fn integer_at(alloc: Global, octets: &[u8], offset: usize) -> IntegerAnswer
     if tag != 2 {
         return no_integer(NO_SUCH_VALUE);
     }
-    let Ok(n) = integer::read(alloc, contents) else {
-        return no_integer(NO_MEMORY);
-    };
-    match n.to_i64() {
+    match int64_of(contents) {
         Some(value) => IntegerAnswer {
             status: DONE,
             value,

@@ -1,6 +1,7 @@
 // The text of a string: of that at an offset, and of one that is put.
-ghost use Rattle.std.specs.Prelude.{◌≡◌, MatchOption};
+ghost use Rattle.std.specs.Prelude.{◌≡◌, IsTrue, IsUtf8, MatchOption};
 ghost use Rattle.std.specs.Str.{chars};
+ghost use Rattle.asn1_leaves.specs.Contents.Text.{TextContents};
 ghost use Rattle.simple_asn1_c.specs.Puts.{AnswersPutText, AreAllowed, others_status};
 ghost use Rattle.simple_asn1_c.specs.Values.{AnswersText};
 
@@ -13,6 +14,19 @@ use asn1_leaves::contents::text;
 use asn1_leaves::contents::text::TextForm;
 use std::alloc::Global;
 
+// Whether contents octets are found to be the text that they mean, in UTF-8.
+fn are_own_text(form: &TextForm, contents: &[u8]) -> bool
+    ensures utf8 { IsTrue result → IsUtf8 contents.now }
+    ensures meant { IsTrue result → TextContents form.now (chars contents.now) contents.now }
+{
+    match form {
+        TextForm::Utf8 => str::from_utf8(contents).is_ok(),
+        TextForm::Printable => text::are_printable(contents),
+        TextForm::Octets => contents.is_ascii(),
+    }
+}
+
+// Of most strings the contents octets are the text. Others are made into a text in memory.
 pub fn text_at(alloc: Global, octets: &[u8], offset: usize, room: &mut [u8]) -> Outcome
     ensures { AnswersText octets.now offset room.old room.new result }
 {
@@ -23,6 +37,9 @@ pub fn text_at(alloc: Global, octets: &[u8], offset: usize, room: &mut [u8]) -> 
     let Some(form) = form_of(tag) else {
         return nothing_put(NO_SUCH_VALUE, offset);
     };
+    if are_own_text(&form, contents) {
+        return put_octets(contents, room);
+    }
     match text::read(alloc, form, contents) {
         Ok(text) => put_octets(text.as_str().as_bytes(), room),
         Err(e) => nothing_put(status_of_fault(&e), offset),

@@ -1,0 +1,42 @@
+use Rattle.std.proofs.Common.{◌≡◌, true, subst, sym, arith}
+use Rattle.std.specs.Prelude.{IsAscii, IsUtf8}
+use Rattle.std.specs.List.{list_all}
+use Rattle.std.specs.Str.{chars}
+use Rattle.std.proofs.lemmas.Grind.{common_steps}
+use Rattle.std.proofs.lemmas.Str.{IsUtf8-from_ascii, chars-IsAscii, encodes-chars, scalars-chars}
+use Rattle.asn1_leaves.proofs.Characters.{printable_ascii}
+use Rattle.asn1_leaves.specs.Contents.Text.{TextContents, is_printable}
+use Rattle.simple_asn1_c.proofs.text.are_own_text.Goals as goal
+
+pub returns-in-Utf8-clause-utf8 : goal.returns-in-Utf8-clause-utf8
+returns-in-Utf8-clause-utf8 c said = grind (arith, common_steps, said)
+
+pub returns-in-Utf8-clause-meant : goal.returns-in-Utf8-clause-meant
+returns-in-Utf8-clause-meant c said =
+    let octets = c.args.contents.now in
+    let u : IsUtf8 octets = grind (arith, common_steps, said) in
+    subst (λ z. TextContents z (chars octets) octets) (sym c.in-Utf8.is) (scalars-chars octets u, encodes-chars octets u)
+
+pub returns-in-Printable-clause-utf8 : goal.returns-in-Printable-clause-utf8
+returns-in-Printable-clause-utf8 c said =
+    let octets = c.args.contents.now in
+    let all : list_all is_printable octets ≡ true = grind (arith, common_steps, said) in
+    IsUtf8-from_ascii octets (printable_ascii octets all)
+
+pub returns-in-Printable-clause-meant : goal.returns-in-Printable-clause-meant
+returns-in-Printable-clause-meant c said =
+    let octets = c.args.contents.now in
+    let all : list_all is_printable octets ≡ true = grind (arith, common_steps, said) in
+    subst (λ z. TextContents z (chars octets) octets) (sym c.in-Printable.is) (all, chars-IsAscii octets (printable_ascii octets all))
+
+pub returns-in-Octets-clause-utf8 : goal.returns-in-Octets-clause-utf8
+returns-in-Octets-clause-utf8 c said =
+    let octets = c.args.contents.now in
+    let a : IsAscii octets = grind (arith, common_steps, said) in
+    IsUtf8-from_ascii octets a
+
+pub returns-in-Octets-clause-meant : goal.returns-in-Octets-clause-meant
+returns-in-Octets-clause-meant c said =
+    let octets = c.args.contents.now in
+    let a : IsAscii octets = grind (arith, common_steps, said) in
+    subst (λ z. TextContents z (chars octets) octets) (sym c.in-Octets.is) (chars-IsAscii octets a)
