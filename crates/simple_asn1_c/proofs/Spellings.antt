@@ -8,6 +8,8 @@ use Rattle.std.proofs.Common.{
   ◌-◌,
   ◌<◌,
   ◌≤◌,
+  ◌^◌,
+  Bool,
   true,
   List,
   [],
@@ -19,6 +21,7 @@ use Rattle.std.proofs.Common.{
   take,
   refl,
   sym,
+  subst,
   ap,
   ◌∙◌,
   arith,
@@ -28,16 +31,18 @@ use Rattle.std.proofs.Common.{
   Ok,
   Err,
 }
-use Rattle.std.specs.Prelude.{IfErr, nat_lt, reverse}
+use Rattle.std.specs.Prelude.{IfErr, IsTrue, nat_lt}
 use Rattle.std.specs.List.{concat}
 use Rattle.std.proofs.Math.Seq.{get_or-append_seam}
-use Rattle.std.proofs.lemmas.List.{get_or_append_left, reverse-append, reverse-reverse, take-append-drop, take-append-le}
+use Rattle.std.proofs.lemmas.List.{get_or_append_left, length-take-le, take-append-drop, take-append-le}
 use Rattle.std.proofs.Math.Seq.{take-length}
 use Rattle.std.proofs.lemmas.List.Folds.{concat-append}
 use Rattle.simple_asn1.specs.Canonical.{shortest_encoding}
 use Rattle.simple_asn1.specs.Header.{class_number, shortest_identifier, shortest_length}
 use Rattle.asn1_headers.specs.declared.header.ASN1Class.{ASN1Class}
 use Rattle.simple_asn1_c.specs.declared.record.Block.{Block}
+use Rattle.simple_asn1_c.specs.Inner.InRecords.{HoldsBlocks, IsCanonicalBlock}
+use Rattle.simple_asn1_c.proofs.CanonicalRecords.{blocks_drop, blocks_take, holding_block}
 use Rattle.simple_asn1_c.specs.Spelled.{IsState, IsUnspellable, contents_of, greatest_tag, has_too_many, spells_contents, spells_items, starts_of}
 
 pub starts_count : (xs : List (List ℕ)) → length (starts_of xs) ≡ length xs
@@ -68,19 +73,12 @@ start_of_last (suc k) (x ∷ xs) h =
     ap (λ z. get_or (starts_of (x ∷ xs)) z 0) n ∙ get_or_append_left (starts_of xs) (length (concat xs) ∷ []) 0 (length xs - suc k) l
     ∙ start_of_last k xs (omega (arith, h))
 
-reverse_count : (xs : List ℕ) → length (reverse xs) ≡ length xs
-reverse_count [] = refl
-reverse_count (x ∷ xs) = ap length (reverse-append (x ∷ []) xs) ∙ length-append (reverse xs) (x ∷ []) ∙ omega (arith, reverse_count xs)
-
 -- there is an encoding for each place, and each begins among the octets
-module _ (octets : List ℕ) (rs : List Block) (back starts : List ℕ) (state : IsState octets rs back starts) where
+module _ (octets : List ℕ) (rs : List Block) (spelled starts : List ℕ) (was : Bool) (state : IsState octets rs spelled starts was) where
   pub encodings_count : length starts ≡ length state.xs
   encodings_count = ap length state.places ∙ starts_count state.xs
 
-  total : length back ≡ length (concat state.xs)
-  total = sym (reverse_count back) ∙ ap length state.spelled
-
-  pub start_within : (k start : ℕ) → 0 < k → k ≤ length starts → start ≡ get_or starts (length starts - k) 0 → start ≤ length back
+  pub start_within : (k start : ℕ) → 0 < k → k ≤ length starts → start ≡ get_or starts (length starts - k) 0 → start ≤ length spelled
   start_within zero start some few began = absurd (omega (arith, some))
   start_within (suc k) start some few began =
       let xs = state.xs in
@@ -90,40 +88,43 @@ module _ (octets : List ℕ) (rs : List Block) (back starts : List ℕ) (state :
       ∙ ap (λ z. get_or (starts_of xs) (z - suc k) 0) (starts_count xs) ∙ start_of_last k xs fits in
       let whole : concat (take (suc k) xs) ++ concat (drop (suc k) xs) ≡ concat xs =
       sym (concat-append (take (suc k) xs) (drop (suc k) xs)) ∙ ap concat (take-append-drop (suc k) xs) in
-      omega (arith, at, total, ap length whole, length-append (concat (take (suc k) xs)) (concat (drop (suc k) xs)))
+      omega (arith, at, ap length state.joined, ap length whole, length-append (concat (take (suc k) xs)) (concat (drop (suc k) xs)))
 
 module _ (octets : List ℕ) (r : Block) (class : ASN1Class) (is : class_number class ≡ r.tag_class)
-    (rs : List Block) (back starts new_back new_starts : List ℕ) (state : IsState octets rs back starts) where
+    (rs : List Block) (spelled starts new_spelled new_starts : List ℕ) (was now : Bool)
+    (state : IsState octets rs spelled starts was) where
   open state use {xs}
 
   -- with contents octets of its own
   pub contents_more :
       r.tag < greatest_tag → r.items ≡ 0 → r.offset + r.header + r.contents ≤ length octets → (with_contents : List ℕ) →
-      with_contents ≡ back ++ reverse (contents_of octets r) →
-      reverse new_back ≡ shortest_identifier class (nat_lt 0 r.constructed) r.tag ++
-      (shortest_length (length (contents_of octets r)) ++ reverse with_contents) →
-      new_starts ≡ starts ++ length back ∷ [] → IsState octets (r ∷ rs) new_back new_starts
-  contents_more low none within with_contents put headed started =
+      with_contents ≡ contents_of octets r ++ spelled →
+      new_spelled ≡ shortest_identifier class (nat_lt 0 r.constructed) r.tag ++
+      (shortest_length (length (contents_of octets r)) ++ with_contents) →
+      new_starts ≡ starts ++ length spelled ∷ [] → (IsTrue now → IsTrue was) →
+      (IsTrue now → IsCanonicalBlock (shortest_encoding class (nat_lt 0 r.constructed) r.tag (contents_of octets r))) →
+      IsState octets (r ∷ rs) new_spelled new_starts now
+  contents_more low none within with_contents put headed started so_far this =
       let v = contents_of octets r in
       let i = shortest_identifier class (nat_lt 0 r.constructed) r.tag in
       let l = shortest_length (length v) in
-      let inner : reverse with_contents ≡ v ++ concat xs =
-      ap reverse put ∙ reverse-append back (reverse v) ∙ ap (λ z. z ++ reverse back) (reverse-reverse v) ∙ ap (λ z. v ++ z) state.spelled in
-      let size : length back ≡ length (concat xs) = sym (reverse_count back) ∙ ap length state.spelled in
+      let inner : with_contents ≡ v ++ concat xs = put ∙ ap (λ z. v ++ z) state.joined in
       record {
         xs = shortest_encoding class (nat_lt 0 r.constructed) r.tag v ∷ xs;
         spells = spells_contents r class is low none within state.spells;
-        spelled = headed ∙ ap (λ z. i ++ (l ++ z)) inner ∙ sym (append_assoc i (l ++ v) (concat xs) ∙ ap (λ z. i ++ z) (append_assoc l v (concat xs)));
-        places = started ∙ ap (λ z. z ++ length back ∷ []) state.places ∙ ap (λ z. starts_of xs ++ z ∷ []) size;
+        joined = headed ∙ ap (λ z. i ++ (l ++ z)) inner ∙ sym (append_assoc i (l ++ v) (concat xs) ∙ ap (λ z. i ++ z) (append_assoc l v (concat xs)));
+        places = started ∙ ap (λ z. z ++ length spelled ∷ []) state.places ∙ ap (λ z. starts_of xs ++ length z ∷ []) state.joined;
+        found = λ yes. (this yes, state.found (so_far yes));
       }
 
   -- with the encodings that follow it
   pub items_more :
       (start size : ℕ) (left : List ℕ) → r.tag < greatest_tag → 0 < r.items → r.items ≤ length starts → left ≡ take (length starts - r.items) starts →
-      start ≡ get_or starts (length starts - r.items) 0 → size + start ≡ length back →
-      reverse new_back ≡ shortest_identifier class true r.tag ++ (shortest_length size ++ reverse back) →
-      new_starts ≡ left ++ start ∷ [] → IsState octets (r ∷ rs) new_back new_starts
-  items_more start size left low some few taken began sized headed started =
+      start ≡ get_or starts (length starts - r.items) 0 → size + start ≡ length spelled →
+      new_spelled ≡ shortest_identifier class true r.tag ++ (shortest_length size ++ spelled) →
+      new_starts ≡ left ++ start ∷ [] → size < 2 ^ 64 → (IsTrue now → IsTrue was) → (IsTrue now → HoldsBlocks class r.tag r.items) →
+      IsState octets (r ∷ rs) new_spelled new_starts now
+  items_more start size left low some few taken began sized headed started small so_far this =
       let k = r.items in
       let count : length starts ≡ length xs = ap length state.places ∙ starts_count xs in
       let fits : k ≤ length xs = omega (arith, few, count) in
@@ -132,9 +133,8 @@ module _ (octets : List ℕ) (r : Block) (class : ASN1Class) (is : class_number 
       began ∙ ap (λ z. get_or z (length z - k) 0) state.places ∙ ap (λ z. get_or (starts_of xs) (z - k) 0) (starts_count xs)
       ∙ begins k some fits in
       let i = shortest_identifier class true r.tag in
-      let total : length back ≡ length (concat xs) = sym (reverse_count back) ∙ ap length state.spelled in
       let inside : size ≡ length (concat (take k xs)) =
-      omega (arith, sized, at, total, ap length whole, length-append (concat (take k xs)) (concat (drop k xs))) in
+      omega (arith, sized, at, ap length state.joined, ap length whole, length-append (concat (take k xs)) (concat (drop k xs))) in
       let v = concat (take k xs) in
       let l = shortest_length (length v) in
       let rest : left ≡ starts_of (drop k xs) =
@@ -143,9 +143,14 @@ module _ (octets : List ℕ) (r : Block) (class : ASN1Class) (is : class_number 
       record {
         xs = shortest_encoding class true r.tag v ∷ drop k xs;
         spells = spells_items r class is low some fits state.spells;
-        spelled = headed ∙ ap (λ z. i ++ (shortest_length z ++ reverse back)) inside ∙ ap (λ z. i ++ (l ++ z)) (state.spelled ∙ sym whole)
+        joined = headed ∙ ap (λ z. i ++ (shortest_length z ++ spelled)) inside ∙ ap (λ z. i ++ (l ++ z)) (state.joined ∙ sym whole)
             ∙ sym (append_assoc i (l ++ v) (concat (drop k xs)) ∙ ap (λ z. i ++ z) (append_assoc l v (concat (drop k xs))));
         places = started ∙ ap (λ z. z ++ start ∷ []) rest ∙ ap (λ z. starts_of (drop k xs) ++ z ∷ []) at;
+        found = λ yes. (
+          holding_block class r.tag k (take k xs) (this yes) (sym (length-take-le k xs fits)) (subst (λ z. z < 2 ^ 64) inside small)
+              (blocks_take k xs (state.found (so_far yes))),
+          blocks_drop k xs (state.found (so_far yes)),
+        );
       }
     where
       begins : (k : ℕ) → 0 < k → k ≤ length xs → get_or (starts_of xs) (length xs - k) 0 ≡ length (concat (drop k xs))
@@ -154,9 +159,9 @@ module _ (octets : List ℕ) (r : Block) (class : ASN1Class) (is : class_number 
 
 -- a record that holds more than there are can't be put
 pub too_many :
-    (octets : List ℕ) (r : Block) (back starts : List ℕ) (E : Type 0) (bad : E) (put : Result (Unit {0}) E) →
-    IfErr put (λ e. e ≡ bad → (rs : List Block) → IsState octets rs back starts → length starts < r.items) →
-    IfErr put (λ e. e ≡ bad → (rs : List Block) → (s : IsState octets rs back starts) → IsUnspellable octets s.xs r)
-too_many octets r back starts E bad (Ok x) h = h
-too_many octets r back starts E bad (Err e) h =
-    λ same rs s. let few = h same rs s in has_too_many (omega (arith, few, encodings_count octets rs back starts s))
+    (octets : List ℕ) (r : Block) (spelled starts : List ℕ) (was : Bool) (E : Type 0) (bad : E) (put : Result (Unit {0}) E) →
+    IfErr put (λ e. e ≡ bad → (rs : List Block) → IsState octets rs spelled starts was → length starts < r.items) →
+    IfErr put (λ e. e ≡ bad → (rs : List Block) → (s : IsState octets rs spelled starts was) → IsUnspellable octets s.xs r)
+too_many octets r spelled starts was E bad (Ok x) h = h
+too_many octets r spelled starts was E bad (Err e) h =
+    λ same rs s. let few = h same rs s in has_too_many (omega (arith, few, encodings_count octets rs spelled starts was s))

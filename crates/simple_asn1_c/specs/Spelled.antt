@@ -8,6 +8,8 @@ use Rattle.std.specs.Prelude.{
   ◌<◌,
   ◌≤◌,
   ◌++◌,
+  Bool,
+  IsTrue,
   true,
   List,
   [],
@@ -16,7 +18,6 @@ use Rattle.std.specs.Prelude.{
   get_or,
   length,
   nat_lt,
-  reverse,
   slice_range,
   take,
 }
@@ -24,6 +25,7 @@ use Rattle.std.specs.List.{concat}
 use Rattle.simple_asn1.specs.Canonical.{shortest_encoding}
 use Rattle.simple_asn1.specs.Header.{class_number}
 use Rattle.asn1_headers.specs.declared.header.ASN1Class.{ASN1Class}
+use Rattle.simple_asn1_c.specs.Inner.InRecords.{AreCanonicalBlocks}
 use Rattle.simple_asn1_c.specs.Records.{no_record}
 use Rattle.simple_asn1_c.specs.declared.record.Block.{Block}
 
@@ -74,9 +76,11 @@ abbrev pub starts_of : List (List ℕ) → List ℕ
 starts_of [] = []
 starts_of (x ∷ xs) = starts_of xs ++ length (concat xs) ∷ []
 
--- the last records are spelled: these octets, from the last to the first, and where each encoding is among them
-pub record IsState (octets : List ℕ) (records : List Block) (back starts : List ℕ) : Type 0 where
+-- the last records are spelled: these octets, and where each encoding is among them; and each is a block in canonical
+-- form where they were found to be
+pub record IsState (octets : List ℕ) (records : List Block) (spelled starts : List ℕ) (canonical : Bool) : Type 0 where
   pub xs : List (List ℕ)
   pub spells : Spells octets records xs
-  pub spelled : reverse back ≡ concat xs
+  pub joined : spelled ≡ concat xs
   pub places : starts ≡ starts_of xs
+  pub found : IsTrue canonical → AreCanonicalBlocks xs

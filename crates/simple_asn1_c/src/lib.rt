@@ -3,6 +3,7 @@
 
 mod alone;
 mod bits;
+mod canonical;
 mod components;
 mod dotted;
 mod encoding;
@@ -13,6 +14,7 @@ mod integer;
 mod moment;
 mod number;
 mod paths;
+mod prepender;
 mod putting;
 mod raw;
 mod reading;
@@ -290,13 +292,16 @@ pub extern "C" fn simple_asn1_write(
 ) -> Outcome
     ensures { AnswersWrite octets.now blocks.now room.old room.new result }
 {
-    let spelled = match spell(alloc, octets, blocks) {
+    let spelled = match spell(alloc, octets, blocks, true) {
         Ok(spelled) => spelled,
         Err(fault) => return refused_outcome(fault),
     };
-    match canonical_octets(alloc, &spelled) {
+    if spelled.canonical {
+        return put_octets(spelled.octets.as_slice(), room);
+    }
+    match canonical_octets(alloc, spelled.octets.as_slice()) {
         Ok(Some(canonical)) => put_octets(&canonical, room),
-        Ok(None) => put_octets(&spelled, room),
+        Ok(None) => put_octets(spelled.octets.as_slice(), room),
         Err(fault) => refused_outcome(fault),
     }
 }

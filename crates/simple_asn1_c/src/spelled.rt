@@ -14,8 +14,8 @@ use std::alloc::{AllocError, Global};
 pub fn put_spelled(alloc: Global, octets: &[u8], records: &[Block], room: &mut [u8]) -> Outcome
     ensures { AnswersSpell octets.now records.now room.old room.new result }
 {
-    match spell(alloc, octets, records) {
-        Ok(spelled) => put_octets(&spelled, room),
+    match spell(alloc, octets, records, false) {
+        Ok(spelled) => put_octets(spelled.octets.as_slice(), room),
         Err(fault) => nothing_put(fault.status, fault.offset),
     }
 }

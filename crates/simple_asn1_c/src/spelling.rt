@@ -1,4 +1,4 @@
-// The octets that records spell, put from the last to the first.
+// The octets that records spell, put from the last to the first, and whether they are found to be canonical.
 ghost use Rattle.std.specs.Prelude.{
   ◌≡◌,
   ◌⊎◌,
@@ -15,25 +15,48 @@ ghost use Rattle.std.specs.Prelude.{
   IfNone,
   IfOk,
   IfSome,
+  IsTrue,
   MatchOption,
   OnOk,
   get_or,
   length,
   nat_lt,
-  reverse,
   take,
 };
+ghost use Rattle.std.specs.Int.Digits.{digits_of};
+ghost use Rattle.simple_asn1.specs.Canonical.{shortest_encoding};
+ghost use Rattle.simple_asn1.specs.ReadBack.{IsCanonicalDocument};
 ghost use Rattle.simple_asn1.specs.Header.{class_number, shortest_identifier, shortest_length};
 ghost use Rattle.simple_asn1_c.specs.Spelled.{IsBadAt, IsSpelled, IsState, IsUnspellable, contents_of, greatest_tag};
 ghost use Rattle.simple_asn1_c.specs.Answers.{IsNoMemory};
+ghost use Rattle.simple_asn1_c.specs.Inner.InRecords.{HoldsBlocks, IsCanonicalBlock};
 ghost use Rattle.simple_asn1_c.specs.Status.{bad_record};
 ghost use Rattle.simple_asn1_c.specs.declared.spelling.SpellErr.TheVariants.{Memory, Record};
 
+use crate::canonical::{holds_blocks, is_canonical_single};
+use crate::prepender::Prepender;
 use crate::reading::{Fault, OUT_OF_MEMORY};
 use crate::record::Block;
 use crate::status::BAD_RECORD;
-use simple_asn1::{ASN1Class, BigUint, encode_len, encode_tag};
+use asn1_headers::header::length_size;
+use simple_asn1::{ASN1Class, BigUint, encode_class, encode_tag};
 use std::alloc::{AllocError, Global};
+
+// Space for length octets, and an identifier octet before them.
+const SHORT_HEADER: usize = 10;
+
+// The greatest room that is made at first.
+const FIRST_ROOM: usize = 4096;
+
+// For how many encodings there is room at first.
+const FIRST_STARTS: usize = 32;
+
+// What records spell, and whether it is found to be the canonical octets of a document: `false` says nothing.
+#[derive(Drop)]
+pub struct Spelling {
+    pub octets: Prepender,
+    pub canonical: bool,
+}
 
 // Why a record was not put: memory ran out, or it can't stand there.
 #[derive(Clone, Copy, Drop)]
@@ -80,82 +103,174 @@ fn contents_within<'a>(octets: &'a [u8], block: &Block) -> Option<&'a [u8]>
     octets.get(start..end)
 }
 
-// Puts the octets at the end, the last of them first.
-fn push_back(back: &mut Vec<u8>, octets: &[u8]) -> Result<(), AllocError>
-    ensures { OnOk result (back.new.items ≡ back.old.items ++ reverse octets.now) }
+// Puts the octets of the number, the most significant first.
+fn prepend_big_endian(out: &mut Prepender, n: usize)
+    requires { length (digits_of 256 n) ≤ out.old.space }
+    ensures octets { out.new.octets ≡ digits_of 256 n ++ out.old.octets }
+    ensures space { out.new.space + length (digits_of 256 n) ≡ out.old.space }
 {
-    let mut i = octets.len();
-    back.reserve(i)?;
-    while i > 0 {
-        i -= 1;
-        back.push(octets[i])?;
+    if n == 0 {
+        return;
     }
+    out.prepend_octet((n % 256) as u8);
+    prepend_big_endian(out, n / 256);
+}
+
+// Puts the length octets.
+#[inline(always)]
+fn prepend_length(out: &mut Prepender, n: usize)
+    requires { 9 ≤ out.old.space }
+    ensures octets { out.new.octets ≡ shortest_length n ++ out.old.octets }
+    ensures space { out.old.space ≤ out.new.space + 9 }
+{
+    if n < 128 {
+        out.prepend_octet(n as u8);
+        return;
+    }
+    let size = length_size(n);
+    prepend_big_endian(out, n);
+    out.prepend_octet(127 + size as u8);
+}
+
+// Puts the identifier octets, for whose first there is space.
+#[inline(always)]
+fn prepend_identifier(
+    alloc: Global,
+    out: &mut Prepender,
+    class: ASN1Class,
+    constructed: bool,
+    tag: u64,
+) -> Result<(), AllocError>
+    requires { 0 < out.old.space }
+    ensures { OnOk result (out.new.octets ≡ shortest_identifier class constructed tag ++ out.old.octets) }
+{
+    if tag < 31 {
+        let form = if constructed { 0x20 } else { 0 };
+        out.prepend_octet(encode_class(class) + form + tag as u8);
+        return Ok(());
+    }
+    prepend_long_identifier(alloc, out, class, constructed, tag)
+}
+
+// Puts the identifier octets.
+#[cold]
+#[inline(never)]
+fn prepend_long_identifier(
+    alloc: Global,
+    out: &mut Prepender,
+    class: ASN1Class,
+    constructed: bool,
+    tag: u64,
+) -> Result<(), AllocError>
+    ensures { OnOk result (out.new.octets ≡ shortest_identifier class constructed tag ++ out.old.octets) }
+{
+    let tag = BigUint::from_u64(alloc, tag)?;
+    let identifier = encode_tag(alloc, class, constructed, &tag)?;
+    out.reserve(alloc, identifier.len())?;
+    out.prepend(&identifier);
     Ok(())
 }
 
 // Puts the header of contents octets of this size.
-fn push_header(
+#[inline(always)]
+fn prepend_header(
     alloc: Global,
-    back: &mut Vec<u8>,
+    out: &mut Prepender,
     class: ASN1Class,
     constructed: bool,
     tag: u64,
     size: usize,
 ) -> Result<(), AllocError>
-    ensures { OnOk result (reverse back.new.items
-        ≡ shortest_identifier class constructed tag ++ (shortest_length size ++ reverse back.old.items)) }
+    requires { 10 ≤ out.old.space }
+    ensures { OnOk result (out.new.octets
+        ≡ shortest_identifier class constructed tag ++ (shortest_length size ++ out.old.octets)) }
 {
-    let len = encode_len(alloc, size)?;
-    push_back(back, &len)?;
-    let tag = BigUint::from_u64(alloc, tag)?;
-    let identifier = encode_tag(alloc, class, constructed, &tag)?;
-    push_back(back, &identifier)
+    prepend_length(out, size);
+    prepend_identifier(alloc, out, class, constructed, tag)
 }
 
+#[inline(always)]
 fn push_start(starts: &mut Vec<usize>, start: usize) -> Result<(), AllocError>
     ensures { OnOk result (starts.new.items ≡ starts.old.items ++ start ∷ []) }
 {
+    if starts.is_empty() {
+        starts.reserve(FIRST_STARTS)?;
+    }
     match starts.push(start) {
         Ok(()) => Ok(()),
         Err(_) => Err(AllocError),
     }
 }
 
+// Whether octets that were found to be canonical still are with a record of these contents octets.
+#[inline(always)]
+fn are_canonical_with(
+    canonical: bool,
+    class: ASN1Class,
+    constructed: bool,
+    tag: u64,
+    contents: &[u8],
+) -> bool
+    ensures so_far { IsTrue result → IsTrue canonical }
+    ensures this { IsTrue result → IsCanonicalBlock (shortest_encoding class constructed tag contents.now) }
+{
+    canonical && is_canonical_single(class, constructed, tag, contents)
+}
+
+// Whether they still are with a record that holds so many encodings.
+#[inline(always)]
+fn are_canonical_around(canonical: bool, class: ASN1Class, tag: u64, items: usize) -> bool
+    ensures so_far { IsTrue result → IsTrue canonical }
+    ensures this { IsTrue result → HoldsBlocks class tag items }
+{
+    canonical && holds_blocks(class, tag, items)
+}
+
 // Puts a record with contents octets of its own.
-fn push_contents(
+#[inline(always)]
+fn prepend_contents(
     alloc: Global,
     octets: &[u8],
     block: &Block,
     class: ASN1Class,
-    back: &mut Vec<u8>,
+    out: &mut Prepender,
     starts: &mut Vec<usize>,
+    canonical: &mut bool,
 ) -> Result<(), SpellErr>
     requires class { class_number class ≡ block.now.tag_class }
     requires tag { block.now.tag < greatest_tag }
     requires items { block.now.items ≡ 0 }
-    ensures put { OnOk result ((rs : List Block) → IsState octets.now rs back.old.items starts.old.items
-        → IsState octets.now (block.now ∷ rs) back.new.items starts.new.items) }
+    ensures put { OnOk result ((rs : List Block) → IsState octets.now rs out.old.octets starts.old.items canonical.old
+        → IsState octets.now (block.now ∷ rs) out.new.octets starts.new.items canonical.new) }
     ensures refused { IfErr result (λ e. e ≡ Record
         → length octets.now < block.now.offset + block.now.header + block.now.contents) }
 {
     let Some(contents) = contents_within(octets, block) else {
         return Err(SpellErr::Record);
     };
-    let start = back.len();
-    push_back(back, contents)?;
-    push_header(
+    *canonical = are_canonical_with(
+        *canonical,
+        class,
+        block.constructed > 0,
+        block.tag,
+        contents,
+    );
+    push_start(starts, out.len())?;
+    out.reserve(alloc, contents.len() + SHORT_HEADER)?;
+    out.prepend(contents);
+    prepend_header(
         alloc,
-        back,
+        out,
         class,
         block.constructed > 0,
         block.tag,
         contents.len(),
     )?;
-    push_start(starts, start)?;
     Ok(())
 }
 
 // Takes so many places off the end, and answers where the last of these encodings begins.
+#[inline(always)]
 fn take_starts(starts: &mut Vec<usize>, count: usize) -> Option<usize>
     requires { 0 < count }
     ensures { MatchOption result
@@ -174,45 +289,53 @@ fn take_starts(starts: &mut Vec<usize>, count: usize) -> Option<usize>
 }
 
 // Puts a record that holds the encodings before it.
-fn push_items(
+#[inline(always)]
+fn prepend_items(
     alloc: Global,
     octets: &[u8],
     block: &Block,
     class: ASN1Class,
-    back: &mut Vec<u8>,
+    out: &mut Prepender,
     starts: &mut Vec<usize>,
+    canonical: &mut bool,
 ) -> Result<(), SpellErr>
     requires class { class_number class ≡ block.now.tag_class }
     requires tag { block.now.tag < greatest_tag }
     requires items { 0 < block.now.items }
-    ensures put { OnOk result ((rs : List Block) → IsState octets.now rs back.old.items starts.old.items
-        → IsState octets.now (block.now ∷ rs) back.new.items starts.new.items) }
+    ensures put { OnOk result ((rs : List Block) → IsState octets.now rs out.old.octets starts.old.items canonical.old
+        → IsState octets.now (block.now ∷ rs) out.new.octets starts.new.items canonical.new) }
     ensures refused { IfErr result (λ e. e ≡ Record → (rs : List Block)
-        → IsState octets.now rs back.old.items starts.old.items → length starts.old.items < block.now.items) }
+        → IsState octets.now rs out.old.octets starts.old.items canonical.old
+        → length starts.old.items < block.now.items) }
 {
     let Some(start) = take_starts(starts, block.items) else {
         return Err(SpellErr::Record);
     };
-    let Some(size) = back.len().checked_sub(start) else {
+    let Some(size) = out.len().checked_sub(start) else {
         return Err(SpellErr::Record);
     };
-    push_header(alloc, back, class, true, block.tag, size)?;
+    *canonical = are_canonical_around(*canonical, class, block.tag, block.items);
+    out.reserve(alloc, SHORT_HEADER)?;
+    prepend_header(alloc, out, class, true, block.tag, size)?;
     push_start(starts, start)?;
     Ok(())
 }
 
 // Puts a record before what it holds.
-fn push_record(
+#[inline(always)]
+fn prepend_record(
     alloc: Global,
     octets: &[u8],
     block: &Block,
-    back: &mut Vec<u8>,
+    out: &mut Prepender,
     starts: &mut Vec<usize>,
+    canonical: &mut bool,
 ) -> Result<(), SpellErr>
-    ensures put { OnOk result ((rs : List Block) → IsState octets.now rs back.old.items starts.old.items
-        → IsState octets.now (block.now ∷ rs) back.new.items starts.new.items) }
+    ensures put { OnOk result ((rs : List Block) → IsState octets.now rs out.old.octets starts.old.items canonical.old
+        → IsState octets.now (block.now ∷ rs) out.new.octets starts.new.items canonical.new) }
     ensures refused { IfErr result (λ e. e ≡ Record → (rs : List Block)
-        → (s : IsState octets.now rs back.old.items starts.old.items) → IsUnspellable octets.now s.xs block.now) }
+        → (s : IsState octets.now rs out.old.octets starts.old.items canonical.old)
+        → IsUnspellable octets.now s.xs block.now) }
 {
     let Some(class) = class_of(block.tag_class) else {
         return Err(SpellErr::Record);
@@ -222,9 +345,9 @@ fn push_record(
         return Err(SpellErr::Record);
     }
     if block.items > 0 {
-        push_items(alloc, octets, block, class, back, starts)
+        prepend_items(alloc, octets, block, class, out, starts, canonical)
     } else {
-        push_contents(alloc, octets, block, class, back, starts)
+        prepend_contents(alloc, octets, block, class, out, starts, canonical)
     }
 }
 
@@ -241,22 +364,45 @@ fn spell_fault(e: SpellErr, place: usize) -> Fault
     }
 }
 
-// The octets of the records, or the fault and the place of the record that has it.
-pub fn spell(alloc: Global, octets: &[u8], records: &[Block]) -> Result<Vec<u8>, Fault>
-    ensures spelled { IfOk result (λ v. IsSpelled octets.now records.now v.items) }
+// Whether octets that were found to be canonical are those of a document, which has some.
+#[inline(always)]
+fn are_canonical_some(canonical: bool, count: usize) -> bool
+    ensures so_far { IsTrue result → IsTrue canonical }
+    ensures some { IsTrue result → 0 < count }
+{
+    canonical && count > 0
+}
+
+// What the records spell, or the fault and the place of the record that has it. They are looked at only where `look`
+// says so. What was read takes no more than the first room, if it was short.
+pub fn spell(alloc: Global, octets: &[u8], records: &[Block], look: bool) -> Result<Spelling, Fault>
+    ensures spelled { IfOk result (λ s. IsSpelled octets.now records.now s.octets.octets) }
+    ensures canonical { IfOk result (λ s. IsTrue s.canonical → IsCanonicalDocument s.octets.octets) }
     ensures fault { IfErr result (λ f. IsNoMemory f.status f.offset
         ⊎ ((f.status ≡ bad_record) × IsBadAt octets.now records.now f.offset)) }
 {
-    let mut back = Vec::new(alloc);
+    let first_room = FIRST_ROOM.min(octets.len() + SHORT_HEADER);
+    let mut out = Prepender::new(alloc, first_room);
     let mut starts = Vec::new(alloc);
+    let mut canonical = look;
     let mut i = records.len();
     while i > 0 {
         i -= 1;
-        match push_record(alloc, octets, &records[i], &mut back, &mut starts) {
+        match prepend_record(
+            alloc,
+            octets,
+            &records[i],
+            &mut out,
+            &mut starts,
+            &mut canonical,
+        ) {
             Ok(()) => {}
             Err(e) => return Err(spell_fault(e, i)),
         }
     }
-    back.reverse();
-    Ok(back)
+    let canonical = are_canonical_some(canonical, out.len());
+    Ok(Spelling {
+        octets: out,
+        canonical,
+    })
 }

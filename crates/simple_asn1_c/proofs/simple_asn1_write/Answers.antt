@@ -5,38 +5,49 @@ use Rattle.simple_asn1_c.specs.Spelled.{IsBadAt, IsSpelled}
 use Rattle.simple_asn1_c.proofs.Outcomes.{no_memory_told, none_written, refusal_told, some_written}
 use Rattle.simple_asn1_c.proofs.simple_asn1_write.Goals as goal
 
+pub returns-then-spelled : goal.returns-then-spelled
+returns-then-spelled c =
+    let (bs, (d, w)) = c.in-Ok.ensures.canonical c.if-spelled.true in
+    was_spelled c.in-Ok.spelled.octets.octets c.in-Ok.ensures.spelled bs d
+    (subst (λ z. ArePut z c.args.room.now c.put_octets.new.room c.put_octets.result) (c.as_slice.ensures ∙ w) c.put_octets.ensures)
+
 pub returns-in-Ok-Some : goal.returns-in-Ok-Some
 returns-in-Ok-Some c =
     let octets = c.args.octets.now in
     let records = c.args.blocks.now in
-    let is = subst (IsSpelled octets records) (sym c.deref.ensures.value) c.in-Ok.ensures.spelled in
+    let s = c.as_slice-2 in
+    let is = subst (IsSpelled octets records) (sym s.ensures) c.in-Ok.ensures.spelled in
     let (bs, d, m) = c.in-Ok-Some.ensures.document in
     let e = some_written _ _ c.in-Ok-Some.field-0 c.in-Ok-Some.canonical c.in-Ok-Some.field-0-is m in
-    was_spelled c.deref.result.now is bs d
-    (subst (λ z. ArePut z c.args.room.now c.put_octets.new.room c.put_octets.result) (c.deref-in-Ok-Some.ensures.value ∙ e) c.put_octets.ensures)
+    let put = c.put_octets-in-Ok-Some in
+    was_spelled s.result.now is bs d
+    (subst (λ z. ArePut z c.args.room.now put.new.room put.result) (c.deref.ensures.value ∙ e) put.ensures)
 
 pub returns-in-Ok-None : goal.returns-in-Ok-None
 returns-in-Ok-None c =
     let octets = c.args.octets.now in
     let records = c.args.blocks.now in
-    let is = subst (IsSpelled octets records) (sym c.deref.ensures.value) c.in-Ok.ensures.spelled in
+    let s = c.as_slice-2 in
+    let is = subst (IsSpelled octets records) (sym s.ensures) c.in-Ok.ensures.spelled in
     let (bs, d, m) = c.in-Ok-None.ensures.document in
     let e = none_written _ _ c.in-Ok-None.field-0 c.in-Ok-None.field-0-is m in
-    was_spelled c.deref.result.now is bs d
-    (subst (λ z. ArePut z c.args.room.now c.put_octets-in-Ok-None.new.room c.put_octets-in-Ok-None.result)
-    (c.deref-in-Ok-None.ensures.value ∙ sym c.deref.ensures.value ∙ e) c.put_octets-in-Ok-None.ensures)
+    let put = c.put_octets-in-Ok-None in
+    was_spelled s.result.now is bs d
+    (subst (λ z. ArePut z c.args.room.now put.new.room put.result)
+    (c.as_slice-in-Ok-None.ensures ∙ sym s.ensures ∙ e) put.ensures)
 
 pub returns : goal.returns
 returns c =
     let octets = c.args.octets.now in
     let records = c.args.blocks.now in
-    let is = subst (IsSpelled octets records) (sym c.deref.ensures.value) c.in-Ok.ensures.spelled in
+    let s = c.as_slice-2 in
+    let is = subst (IsSpelled octets records) (sym s.ensures) c.in-Ok.ensures.spelled in
     let o = c.refused_outcome-in-Err-canonical_octets.result in
     let told = c.refused_outcome-in-Err-canonical_octets.ensures in
     let f = c.in-Err-canonical_octets.fault in
     elim c.in-Err-canonical_octets.ensures.fault [
       | inl m ↦ had_no_memory_to_spell (no_memory_told o f.status f.offset told m) told.2 refl
-      | inr e ↦ spelled_no_document c.deref.result.now is (refusal_told c.deref.result.now o f.status f.offset told e) told.2 refl
+      | inr e ↦ spelled_no_document s.result.now is (refusal_told s.result.now o f.status f.offset told e) told.2 refl
     ]
 
 pub returns-in-Err : goal.returns-in-Err

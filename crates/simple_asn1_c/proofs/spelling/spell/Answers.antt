@@ -1,4 +1,7 @@
-use Rattle.std.proofs.Common.{◌≡◌, ◌+◌, ◌-◌, ◌<◌, [], drop, inl, inr, length, refl, sym, subst, arith}
+use Rattle.std.proofs.Common.{◌≡◌, ◌+◌, ◌-◌, ◌<◌, [], drop, inl, inr, length, refl, sym, ap, subst, arith}
+use Rattle.std.specs.List.{concat}
+use Rattle.simple_asn1.specs.ReadBack.{IsCanonicalDocument}
+use Rattle.simple_asn1_c.proofs.CanonicalRecords.{blocks_document}
 use Rattle.std.proofs.Math.Seq.{drop-length}
 use Rattle.simple_asn1_c.specs.Spelled.{IsBadAt, IsState, Spells, spells_none}
 use Rattle.simple_asn1_c.proofs.spelling.spell.Goals as goal
@@ -7,12 +10,19 @@ pub loop-i-init : goal.loop-i-init
 loop-i-init c =
     let octets = c.args.octets.now in
     let records = c.args.records.now in
-    let none : IsState octets [] [] [] = record { xs = []; spells = spells_none; spelled = refl; places = refl } in
-    let at_end = subst (λ z. IsState octets z [] []) (sym (drop-length records)) none in
-    let b = subst (λ z. IsState octets (drop (length records) records) z []) (sym c.new-back.ensures.items) at_end in
+    let look = c.args.look in
+    let none : IsState octets [] [] [] look = record {
+      xs = [];
+      spells = spells_none;
+      joined = refl;
+      places = refl;
+      found = λ yes. tt;
+    } in
+    let at_end = subst (λ z. IsState octets z [] [] look) (sym (drop-length records)) none in
+    let b = subst (λ z. IsState octets (drop (length records) records) z [] look) (sym c.new-out.ensures) at_end in
     record {
       within = omega arith;
-      state = subst (λ z. IsState octets (drop (length records) records) c.new-back.result.items z) (sym c.new-starts.ensures.items) b;
+      state = subst (λ z. IsState octets (drop (length records) records) c.new-out.result.octets z look) (sym c.new-starts.ensures.items) b;
     }
 
 pub returns-in-Err-clause-fault : goal.returns-in-Err-clause-fault
@@ -29,3 +39,11 @@ returns-in-Err-clause-fault c = elim c.spell_fault.ensures [
       let spells = subst (λ z. Spells octets (drop z records) state.xs) (sym next) state.spells in
       inr (e, subst (IsBadAt octets records) (sym at) (lt, state.xs, spells, bad))
 ]
+
+pub returns-clause-canonical : goal.returns-clause-canonical
+returns-clause-canonical c said =
+    let state = c.loop-i.invariant.state in
+    let xs = state.xs in
+    let some : 0 < length (concat xs) = omega (arith, c.are_canonical_some-canonical.ensures.some said, c.len.ensures, ap length state.joined) in
+    let (bs, d, w) = blocks_document xs some (state.found (c.are_canonical_some-canonical.ensures.so_far said)) in
+    subst IsCanonicalDocument (sym state.joined) (bs, (d, w))

@@ -5,7 +5,7 @@ use Rattle.simple_asn1_c.proofs.spelling.spell.Given as goal
 abbrev pub invariant-loop-i : goal.invariant-loop-i
 invariant-loop-i l = record {
   within : l.i ≤ length l.records;
-  state : IsState l.octets (drop l.i l.records) l.back.items l.starts.items;
+  state : IsState l.octets (drop l.i l.records) l.out.octets l.starts.items l.canonical;
 }
 
 abbrev pub decreases-loop-i : goal.decreases-loop-i
