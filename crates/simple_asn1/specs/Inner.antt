@@ -5,3 +5,5 @@ pub mod Checking
 pub mod InEntries
 pub mod PointLaws
 pub mod Algorithm
+pub mod Constructed
+pub mod Failing

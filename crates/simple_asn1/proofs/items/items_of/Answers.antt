@@ -1,0 +1,6 @@
+use Rattle.asn1_blocks.specs.View.{view}
+use Rattle.simple_asn1.proofs.HeldItems.{found_held}
+use Rattle.simple_asn1.proofs.items.items_of.Goals as goal
+
+pub returns-clause-found : goal.returns-clause-found
+returns-clause-found c = found_held (view c.args.block.now) c.held_items.result c.held_items.ensures
