@@ -1,7 +1,9 @@
 // Calls of the blocks of a document.
 use crate::identifiers::shown as identifier_shown;
 use crate::refusal::Answer;
-use simple_asn1::{ASN1Block, Document, all_blocks, discard, sequence_items, to_der};
+use simple_asn1::{
+    ASN1Block, ASN1Class, Document, all_blocks, build, discard, items_of, sequence_items, to_der,
+};
 use std::alloc::{AllocError, Global};
 use std::fmt::Display;
 use std::slice;
@@ -67,6 +69,26 @@ pub fn items(alloc: Global, block: &ASN1Block) -> Answer {
     };
     let items = blocks_text(alloc, items)?;
     Ok(format!(in alloc; "[{items}]")?)
+}
+
+pub fn held_items(alloc: Global, block: &ASN1Block) -> Answer {
+    let Some(items) = items_of(alloc, block)? else {
+        return Ok(String::from_str(alloc, "-")?);
+    };
+    let items = blocks_text(alloc, items.blocks())?;
+    Ok(format!(in alloc; "[{items}]")?)
+}
+
+// What is written of the blocks under the implicit tag [0], and the items of that.
+pub fn implicit(alloc: Global, document: &Document) -> Answer {
+    let mut items = Vec::new(alloc);
+    for block in document.blocks() {
+        items.push(block.clone(alloc)?)?;
+    }
+    let block = build::implicit(alloc, ASN1Class::ContextSpecific, 0, items)?;
+    let written = octets_text(alloc, &to_der(alloc, &block)?)?;
+    let items = held_items(alloc, &block)?;
+    Ok(format!(in alloc; "{written} items {items}")?)
 }
 
 pub fn clone(alloc: Global, block: &ASN1Block) -> Answer {

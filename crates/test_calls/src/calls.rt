@@ -19,6 +19,7 @@ pub fn answer(alloc: Global, name: &str, octets: &[u8]) -> Answer {
         "Document::from_der_located" => documents::located(alloc, octets),
         "encoding_at" => documents::encoding(alloc, octets),
         "made" => of(alloc, octets, made::survival),
+        "to_der_faithful" => of(alloc, octets, made::faithful),
         "der_decode" => of(alloc, octets, points::shown),
         "der_encode" => of(alloc, octets, points::written),
         "round_trip" => of(alloc, octets, points::tripped),
@@ -40,6 +41,8 @@ fn of_blocks(alloc: Global, name: &str, octets: &[u8]) -> Answer {
         "bits" => of_each(alloc, octets, blocks::bits),
         "oid" => of_each(alloc, octets, blocks::oid),
         "sequence_items" => of_each(alloc, octets, blocks::items),
+        "items_of" => of_each(alloc, octets, blocks::held_items),
+        "build::implicit" => of(alloc, octets, blocks::implicit),
         _ => of_identifier(alloc, name, octets),
     }
 }

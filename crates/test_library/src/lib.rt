@@ -5,6 +5,8 @@
 #[cfg(test)]
 mod blocks;
 #[cfg(test)]
+mod build;
+#[cfg(test)]
 mod convert;
 #[cfg(test)]
 mod documents;
