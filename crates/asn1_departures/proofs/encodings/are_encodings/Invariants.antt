@@ -1,0 +1,10 @@
+use Rattle.std.proofs.Common.{length}
+use Rattle.asn1_departures.specs.Steps.{IsLeft}
+use Rattle.asn1_departures.proofs.encodings.are_encodings.Given as goal
+
+-- what is left decides
+abbrev pub invariant-encodings : goal.invariant-encodings
+invariant-encodings l = IsLeft l.octets l.unended l.rest
+
+abbrev pub decreases-encodings : goal.decreases-encodings
+decreases-encodings l = length l.rest

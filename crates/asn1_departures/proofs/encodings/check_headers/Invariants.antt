@@ -1,0 +1,10 @@
+use Rattle.std.proofs.Common.{◌-◌, length}
+use Rattle.asn1_departures.specs.Steps.{IsReached}
+use Rattle.asn1_departures.proofs.encodings.check_headers.Given as goal
+
+-- a fault behind the place is one of all
+abbrev pub invariant-headers : goal.invariant-headers
+invariant-headers l = IsReached l.octets l.at
+
+abbrev pub decreases-headers : goal.decreases-headers
+decreases-headers l = length l.octets - l.at.index

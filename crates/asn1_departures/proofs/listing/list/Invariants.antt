@@ -1,0 +1,15 @@
+use Rattle.std.specs.Prelude.{List}
+use Rattle.asn1_departures.specs.Departures.{Lists}
+use Rattle.asn1_departures.specs.Steps.{IsPlaced, ListsAll, left}
+use Rattle.asn1_departures.specs.declared.rule.Departure.{Departure}
+use Rattle.asn1_departures.proofs.listing.list.Given as goal
+
+-- with those of what is left they are all
+abbrev pub invariant-turns : goal.invariant-turns
+invariant-turns l = record {
+  placed : IsPlaced l.octets l.place;
+  all : (all : List Departure) → ListsAll l.octets l.place l.found.items all → Lists 0 0 l.octets all;
+}
+
+abbrev pub decreases-turns : goal.decreases-turns
+decreases-turns l = left l.octets l.place

@@ -1,0 +1,141 @@
+-- Which departures from DER octets have. Encodings are those of BER (X.690 8.1.1.1): of the definite form, or of the
+-- indefinite one (8.1.3.6), whose contents octets are followed to their end-of-contents octets 00 00 (8.1.5).
+use Rattle.std.specs.Prelude.{◌≡◌, ◌≢◌, ◌==◌, ◌&&◌, ◌⊎◌, ◌++◌, ℕ, suc, ◌+◌, ◌<◌, Bool, true, false, not, if◌then◌else◌, MatchBool}
+use Rattle.std.specs.Prelude.{Option, None, Some, List, [], ◌∷◌, length}
+use Rattle.asn1_headers.specs.declared.header.ASN1Class.{ASN1Class}
+use Rattle.asn1_headers.specs.declared.header.ASN1Class.TheVariants.{Universal}
+use Rattle.asn1_headers.specs.Fault.{DecodeFault, empty_buffer, incomplete}
+use Rattle.asn1_headers.specs.Header.{Encoding, shortest_identifier, shortest_length}
+use Rattle.asn1_headers.specs.HeaderFault.{HeaderFault}
+use Rattle.asn1_der.specs.Steps.{IsRightAlone}
+use Rattle.asn1_departures.specs.Rules.{form_rule, identifier_rule, type_rule}
+use Rattle.asn1_departures.specs.declared.rule.Departure.{Departure}
+use Rattle.asn1_departures.specs.declared.rule.Rule.{Rule}
+use Rattle.asn1_departures.specs.declared.rule.Rule.TheVariants.{IndefiniteLength, LongLength, NotEncodings}
+
+-- length octets of the indefinite form: the octet 80
+abbrev pub is_indefinite : List ℕ → Bool
+is_indefinite [] = false
+is_indefinite (first ∷ more) = first == 128
+
+-- an encoding that is open behind its header, up to its end-of-contents octets: a constructed one of the indefinite
+-- form. A primitive one has to be definite (8.1.3.2), and has no contents octets here
+abbrev pub is_open : Bool → List ℕ → Bool
+is_open constructed len = constructed && is_indefinite len
+
+-- one whose contents octets are encodings that stand by themselves: a constructed one of the definite form
+abbrev pub is_looked_into : Bool → List ℕ → Bool
+is_looked_into constructed len = constructed && not (is_indefinite len)
+
+-- an encoding stands in front, or the header of one that is open; among the contents octets of one that is open no
+-- end-of-contents octets
+pub record IsNext (unended : ℕ) (octets first rest : List ℕ) : Type 0 where
+  pub class : ASN1Class
+  pub constructed : Bool
+  pub tag : ℕ
+  pub contents : List ℕ
+  pub header : ℕ
+  pub encoding : Encoding first class constructed tag contents header
+  pub whole : octets ≡ first ++ rest
+  pub no_end : 0 < unended → first ≢ 0 ∷ 0 ∷ []
+
+-- how many are open behind it
+abbrev pub unended_behind : (unended : ℕ) → Bool → List ℕ → ℕ
+unended_behind unended constructed len = if is_open constructed len then suc unended else unended
+
+-- the octets are encodings one after another by their headers; before them so many are open
+pub data AreEncodings : ℕ → List ℕ → Type 0 where
+  no_more : {unended : ℕ} {octets : List ℕ} → unended ≡ 0 → octets ≡ [] → AreEncodings unended octets
+  next : {unended : ℕ} {octets first rest : List ℕ} (n : IsNext unended octets first rest)
+      → AreEncodings (unended_behind unended n.constructed n.encoding.len) rest → AreEncodings unended octets
+  end_of_contents : {unended fewer : ℕ} {octets rest : List ℕ} → unended ≡ fewer + 1 → octets ≡ 0 ∷ 0 ∷ rest
+      → AreEncodings fewer rest → AreEncodings unended octets
+
+-- the rule is found to be broken, exactly if what it asks does not hold
+pub data Found (Asked : Type 0) (rule : Rule) : Option Rule → Type 0 where
+  kept : Asked → Found Asked rule None
+  broken : (Asked → ⊥) → Found Asked rule (Some rule)
+
+-- of length octets
+abbrev pub LengthFound : List ℕ → ℕ → Option Rule → Type 0
+LengthFound len size found =
+    MatchBool (is_indefinite len) (found ≡ Some IndefiniteLength) (Found (len ≡ shortest_length size) LongLength found)
+
+-- of the tag, the form and the contents octets. A schema alone says what other classes hold. Of an encoding that is
+-- open the contents octets are not looked at
+abbrev pub TypeFound : (open_end : Bool) → ASN1Class → Bool → ℕ → List ℕ → Option Rule → Type 0
+TypeFound open_end Universal constructed tag contents found =
+    MatchBool open_end (found ≡ form_rule constructed tag)
+    (Found (IsRightAlone Universal constructed tag contents) (type_rule constructed tag contents) found)
+TypeFound open_end class constructed tag contents found = found ≡ None
+
+-- what an encoding breaks by itself
+pub record OwnRules (identifier len : List ℕ) (class : ASN1Class) (constructed : Bool) (tag : ℕ) (contents : List ℕ)
+    : Type 0 where
+  pub of_identifier : Option Rule
+  pub of_length : Option Rule
+  pub of_type : Option Rule
+  pub identifier_found :
+      Found (identifier ≡ shortest_identifier class constructed tag) (identifier_rule tag) of_identifier
+  pub length_found : LengthFound len (length contents) of_length
+  pub type_found : TypeFound (is_open constructed len) class constructed tag contents of_type
+
+abbrev pub listed : ℕ → Option Rule → List Departure
+listed offset None = []
+listed offset (Some rule) = record { offset = offset; rule = rule } ∷ []
+
+abbrev pub own_departures :
+    (offset : ℕ) {identifier len : List ℕ} {class : ASN1Class} {constructed : Bool} {tag : ℕ} {contents : List ℕ} →
+    OwnRules identifier len class constructed tag contents → List Departure
+own_departures offset r = listed offset r.of_identifier ++ (listed offset r.of_length ++ listed offset r.of_type)
+
+mutual
+  -- the octets, which begin at the offset, are encodings one after another, and have these departures; before them so
+  -- many encodings are open
+  pub data Lists : ℕ → ℕ → List ℕ → List Departure → Type 0 where
+    none_left : {unended offset : ℕ} {octets : List ℕ} {found : List Departure} → unended ≡ 0 → octets ≡ []
+        → found ≡ [] → Lists unended offset octets found
+    encoding_listed : {unended offset : ℕ} {octets first rest : List ℕ} {inside later found : List Departure}
+        (n : IsNext unended octets first rest)
+        (r : OwnRules n.encoding.identifier n.encoding.len n.class n.constructed n.tag n.contents)
+        → ListsInside offset (offset + n.header) (is_looked_into n.constructed n.encoding.len) n.contents inside
+        → Lists (unended_behind unended n.constructed n.encoding.len) (offset + length first) rest later
+        → found ≡ own_departures offset r ++ (inside ++ later) → Lists unended offset octets found
+    end_listed : {unended fewer offset : ℕ} {octets rest : List ℕ} {found : List Departure} → unended ≡ fewer + 1
+        → octets ≡ 0 ∷ 0 ∷ rest → Lists fewer (offset + 2) rest found → Lists unended offset octets found
+
+  -- the departures inside an encoding at the offset, whose contents octets begin at the start, if it is constructed and
+  -- definite: where they are no encodings, that is one, and none are listed inside (8.1.2.5)
+  pub data ListsInside : ℕ → ℕ → Bool → List ℕ → List Departure → Type 0 where
+    nothing_inside : {offset start : ℕ} {looked_at : Bool} {contents : List ℕ} {found : List Departure}
+        → looked_at ≡ false → found ≡ [] → ListsInside offset start looked_at contents found
+    encodings_inside : {offset start : ℕ} {looked_at : Bool} {contents : List ℕ} {found : List Departure}
+        → looked_at ≡ true → Lists 0 start contents found → ListsInside offset start looked_at contents found
+    no_encodings_inside : {offset start : ℕ} {looked_at : Bool} {contents : List ℕ} {found : List Departure}
+        → looked_at ≡ true → (AreEncodings 0 contents → ⊥) → found ≡ listed offset (Some NotEncodings)
+        → ListsInside offset start looked_at contents found
+
+-- the departures of octets
+abbrev pub AreDepartures : List ℕ → List Departure → Type 0
+AreDepartures octets found = Lists 0 0 octets found
+
+-- behind encodings one after another, from the offset on, a header is at fault, or end-of-contents octets are missing
+-- at the end
+pub data HeaderFaultBehind : ℕ → ℕ → List ℕ → ℕ → DecodeFault → Type 0 where
+  at_front : {unended offset : ℕ} {octets : List ℕ} {fault : DecodeFault} → 0 < length octets
+      → HeaderFault offset octets fault → HeaderFaultBehind unended offset octets offset fault
+  unended_at_end : {unended offset : ℕ} {octets : List ℕ} → 0 < unended → octets ≡ []
+      → HeaderFaultBehind unended offset octets offset incomplete
+  behind : {unended offset place : ℕ} {octets first rest : List ℕ} {fault : DecodeFault}
+      (n : IsNext unended octets first rest)
+      → HeaderFaultBehind (unended_behind unended n.constructed n.encoding.len) (offset + length first) rest place fault
+      → HeaderFaultBehind unended offset octets place fault
+  behind_end_of_contents : {unended fewer offset place : ℕ} {octets rest : List ℕ} {fault : DecodeFault}
+      → unended ≡ fewer + 1 → octets ≡ 0 ∷ 0 ∷ rest → HeaderFaultBehind fewer (offset + 2) rest place fault
+      → HeaderFaultBehind unended offset octets place fault
+
+-- why octets are no encodings one after another, and at which offset: there are none, or the first of their headers
+-- that is at fault. Headers inside definite encodings are not among these
+abbrev pub NoEncodingsFault : List ℕ → ℕ → DecodeFault → Type 0
+NoEncodingsFault octets place fault =
+    ((octets ≡ []) × (place ≡ 0) × (fault ≡ empty_buffer)) ⊎ HeaderFaultBehind 0 0 octets place fault

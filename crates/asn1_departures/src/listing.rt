@@ -1,0 +1,190 @@
+// The departures of octets from DER, by a loop that keeps where the open encodings end.
+ghost use Rattle.std.specs.Prelude.{◌≡◌, ◌≢◌, ◌↔◌, ◌++◌, ◌<◌, ◌≤◌, [], List, IfErr, IfOk, IsTrue, length, slice_range, false};
+ghost use Rattle.asn1_headers.specs.Fault.{OutOfMemoryOr};
+ghost use Rattle.asn1_blocks.specs.Places.{HeaderFound};
+ghost use Rattle.asn1_der.specs.Der.{IsDer};
+ghost use Rattle.asn1_departures.specs.Departures.{AreDepartures, NoEncodingsFault};
+ghost use Rattle.asn1_departures.specs.Steps.{GoesOn, HasTurned, IsPlaced, is_at_end as is_at_end_is};
+ghost use Rattle.asn1_departures.specs.declared.rule.Departure.{Departure};
+
+use crate::encodings::{are_encodings, check_headers, is_at_end, is_open, split_header};
+use crate::own::push_own;
+use crate::rule::{Departure, Rule};
+use asn1_blocks::parsed::{PlacedHeader, header_within};
+use asn1_blocks::reading::out_of_memory;
+use asn1_headers::error::LocatedErr;
+use asn1_headers::header::HeaderCount;
+use std::alloc::{AllocError, Global};
+
+/// Each rule of DER (X.690) that an encoding in the input breaks, with the offset of the encoding, in the order of the
+/// offsets. The list is empty exactly if the input is DER.
+///
+/// It looks inside constructed encodings, at every depth, and not inside an OCTET STRING or a BIT STRING. A length of
+/// the indefinite form is one departure, and what it encloses is followed to its end-of-contents bytes. A constructed
+/// encoding whose contents are not encodings is one departure, `NotEncodings`: nothing is listed inside it, and the
+/// list goes on behind it. A SET is out of order only if all that it holds is DER.
+///
+/// Rules that need a schema are not checked: values that are those of DEFAULT (11.5), named bits with zeros at the end
+/// (11.2.2), and sizes. A SET may be ordered by tags (10.3) or by bytes (11.6), since only a schema says which.
+///
+/// It takes memory for the list and for each encoding that is open at a time, and no stack. Its time grows in
+/// proportion to the input, or as n log n where SETs inside SETs are ordered by bytes.
+///
+/// # Errors
+/// The input is not encodings one after another by their headers: the first header at fault outside of definite
+/// encodings, with its offset. It is empty. Memory ran out.
+pub fn departures(alloc: Global, octets: &[u8]) -> Result<Vec<Departure>, LocatedErr>
+    ensures listed { IfOk result (λ found. AreDepartures octets.now found.items) }
+    ensures none { IfOk result (λ found. (found.items ≡ []) ↔ IsDer octets.now) }
+    ensures refused { IfErr result (λ e. OutOfMemoryOr (NoEncodingsFault octets.now e.offset) e.error) }
+{
+    check_headers(alloc, octets)?;
+    match list(alloc, octets) {
+        Ok(found) => Ok(found),
+        Err(_) => Err(out_of_memory(0)),
+    }
+}
+
+// Where an open definite encoding ends, and how many encodings of the indefinite form are open in it.
+#[derive(Clone, Copy, Drop)]
+struct Extent {
+    end: usize,
+    unended: usize,
+}
+
+// The offset that was reached, the innermost open definite encoding, and those around it.
+#[derive(Drop)]
+struct Place {
+    index: usize,
+    inner: Extent,
+    outer: Vec<Extent>,
+}
+
+fn list(alloc: Global, octets: &[u8]) -> Result<Vec<Departure>, AllocError>
+    ensures { IfOk result (λ found. AreDepartures octets.now found.items) }
+{
+    let mut found = Vec::new(alloc);
+    let mut place = Place {
+        index: 0,
+        inner: Extent {
+            end: octets.len(),
+            unended: 0,
+        },
+        outer: Vec::new(alloc),
+    };
+    'turns: loop {
+        if !take_turn(alloc, octets, &mut place, &mut found)? {
+            return Ok(found);
+        }
+    }
+}
+
+// Looks at one encoding beside its items, or closes one at its end. Whether something is left.
+fn take_turn(
+    alloc: Global,
+    octets: &[u8],
+    place: &mut Place,
+    found: &mut Vec<Departure>,
+) -> Result<bool, AllocError>
+    requires placed { IsPlaced octets.now place.old }
+    requires within { place.old.inner.end ≤ length octets.now }
+    ensures { IfOk result (λ more. HasTurned octets.now more place.old place.new found.old.items found.new.items) }
+{
+    if place.index == place.inner.end && place.inner.unended == 0 {
+        return Ok(close(octets, place));
+    }
+    if is_at_end(place.inner.unended, &octets[place.index..place.inner.end]) {
+        pass_end(octets, place);
+        return Ok(true);
+    }
+    let header = header_at(alloc, octets, place)?;
+    advance(alloc, octets, place, &header, found)?;
+    Ok(true)
+}
+
+// Goes on behind the innermost open encoding, which has ended.
+fn close(_octets: &[u8], place: &mut Place) -> bool
+    requires placed { IsPlaced _octets.now place.old }
+    requires ended { place.old.index ≡ place.old.inner.end }
+    requires no_more { place.old.inner.unended ≡ 0 }
+    ensures { (found : List Departure) → HasTurned _octets.now result place.old place.new found found }
+{
+    match place.outer.pop() {
+        Some(extent) => {
+            place.inner = extent;
+            true
+        }
+        None => false,
+    }
+}
+
+// Goes on behind end-of-contents octets.
+fn pass_end(_octets: &[u8], place: &mut Place)
+    requires placed { IsPlaced _octets.now place.old }
+    requires end { IsTrue (is_at_end_is place.old.inner.unended
+        (slice_range _octets.now place.old.index place.old.inner.end)) }
+    ensures { (found : List Departure) → GoesOn _octets.now place.old place.new found found }
+{
+    place.index += 2;
+    place.inner.unended -= 1;
+}
+
+// The header at the place. All headers were looked at before they were reached, so that memory alone can be missing.
+fn header_at(alloc: Global, octets: &[u8], place: &Place) -> Result<PlacedHeader, AllocError>
+    requires { place.now.inner.end ≤ length octets.now }
+    ensures { IfOk result (HeaderFound octets.now place.now.index place.now.inner.end) }
+{
+    let (index, end) = (place.index, place.inner.end);
+    if index >= end {
+        return Err(AllocError);
+    }
+    let mut count = HeaderCount::new();
+    match header_within(alloc, octets, index, end, index, &mut count) {
+        Ok(header) => Ok(header),
+        Err(_) => Err(AllocError),
+    }
+}
+
+// Lists what the encoding with the header breaks, and goes on inside it or behind it.
+fn advance(
+    alloc: Global,
+    octets: &[u8],
+    place: &mut Place,
+    header: &PlacedHeader,
+    found: &mut Vec<Departure>,
+) -> Result<(), AllocError>
+    requires placed { IsPlaced octets.now place.old }
+    requires within { place.old.inner.end ≤ length octets.now }
+    requires header { HeaderFound octets.now place.old.index place.old.inner.end header.now }
+    requires no_end { is_at_end_is place.old.inner.unended
+        (slice_range octets.now place.old.index place.old.inner.end) ≡ false }
+    ensures { IfOk result (λ _. GoesOn octets.now place.old place.new found.old.items found.new.items) }
+{
+    let (identifier, len) = split_header(&octets[place.index..header.start], header);
+    let contents = &octets[header.start..header.end];
+    push_own(alloc, place.index, identifier, len, header, contents, found)?;
+    if is_open(header.constructed, len) {
+        place.inner.unended += 1;
+        place.index = header.end;
+        return Ok(());
+    }
+    if !header.constructed {
+        place.index = header.end;
+        return Ok(());
+    }
+    if are_encodings(contents) {
+        place.outer.push(place.inner)?;
+        place.inner = Extent {
+            end: header.end,
+            unended: 0,
+        };
+        place.index = header.start;
+        return Ok(());
+    }
+    found.push(Departure {
+        offset: place.index,
+        rule: Rule::NotEncodings,
+    })?;
+    place.index = header.end;
+    Ok(())
+}

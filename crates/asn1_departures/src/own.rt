@@ -1,0 +1,266 @@
+// What one encoding breaks by itself.
+ghost use Rattle.std.specs.Prelude.{◌≡◌, ◌↔◌, ◌++◌, ◌-◌, ◌≤◌, List, ℕ, Bool, true, false, IfOk, IsTrue, length, nat_lt};
+ghost use Rattle.asn1_headers.specs.declared.header.ASN1Class.TheVariants.{Universal};
+ghost use Rattle.asn1_headers.specs.Header.{IsIdentifier, IsLength, shortest_identifier, shortest_length};
+ghost use Rattle.asn1_der.specs.Der.{AreDerEncodings, IsInOrder};
+ghost use Rattle.asn1_der.specs.Steps.{IsRightAlone};
+ghost use Rattle.asn1_departures.specs.Departures.{Found, LengthFound, OwnRules, TypeFound, listed, own_departures};
+ghost use Rattle.asn1_departures.specs.Rules.{bits_rule as bits_rule_is, contents_rule as contents_rule_is};
+ghost use Rattle.asn1_departures.specs.Rules.{form_rule as form_rule_is, identifier_rule, is_string as is_string_is};
+ghost use Rattle.asn1_departures.specs.Rules.{real_rule as real_rule_is, type_rule as type_rule_is};
+
+use crate::encodings::{is_indefinite, is_open};
+use crate::rule::{Departure, Rule};
+use asn1_blocks::parsed::PlacedHeader;
+use asn1_der::contents::has_der_contents;
+use asn1_der::header::{is_constructed_type, is_reserved};
+use asn1_der::is_der;
+use asn1_der::order::is_in_order;
+use asn1_headers::header::{ASN1Class, identifier_size, length_size, push_identifier, push_length};
+use asn1_numbers::number::big_uint::BigUint;
+use asn1_numbers::sink::Comparison;
+use std::alloc::{AllocError, Global};
+
+// The least tag number that takes more than one octet.
+const LEAST_HIGH_TAG: u64 = 31;
+
+// Lists what an encoding at the offset breaks by itself.
+pub fn push_own(
+    alloc: Global,
+    offset: usize,
+    identifier: &[u8],
+    len: &[u8],
+    header: &PlacedHeader,
+    contents: &[u8],
+    found: &mut Vec<Departure>,
+) -> Result<(), AllocError>
+    ensures { IfOk result (λ _. (rules : OwnRules identifier.now len.now header.now.class header.now.constructed
+        header.now.tag contents.now) × (found.new.items ≡ found.old.items ++ own_departures offset rules)) }
+{
+    let of_type = type_found(alloc, is_open(header.constructed, len), header, contents)?;
+    push_rule(offset, identifier_found(identifier, header), found)?;
+    push_rule(offset, length_found(len, contents.len()), found)?;
+    push_rule(offset, of_type, found)?;
+    Ok(())
+}
+
+fn push_rule(
+    offset: usize,
+    broken: Option<Rule>,
+    found: &mut Vec<Departure>,
+) -> Result<(), AllocError>
+    ensures { IfOk result (λ _. found.new.items ≡ found.old.items ++ listed offset broken) }
+{
+    if let Some(rule) = broken {
+        found.push(Departure { offset, rule })?;
+    }
+    Ok(())
+}
+
+fn identifier_found(identifier: &[u8], header: &PlacedHeader) -> Option<Rule>
+    ensures { Found (identifier.now ≡ shortest_identifier header.now.class header.now.constructed header.now.tag)
+        (identifier_rule header.now.tag) result }
+{
+    if is_shortest_identifier(identifier, header) {
+        return None;
+    }
+    if is_low(&header.tag) {
+        Some(Rule::LongIdentifier)
+    } else {
+        Some(Rule::PaddedTag)
+    }
+}
+
+fn is_low(tag: &BigUint) -> bool
+    ensures { result ≡ nat_lt tag.now 31 }
+{
+    match tag.to_u64() {
+        Some(n) => n < LEAST_HIGH_TAG,
+        None => false,
+    }
+}
+
+// Whether identifier octets are those that would be written.
+fn is_shortest_identifier(identifier: &[u8], header: &PlacedHeader) -> bool
+    ensures { IsTrue result ↔ (identifier.now ≡ shortest_identifier header.now.class header.now.constructed
+        header.now.tag) }
+{
+    let size = identifier_size(header.class, header.constructed, &header.tag);
+    if identifier.len() != size {
+        return false;
+    }
+    let mut comparison = Comparison {
+        rest: identifier,
+        same: true,
+    };
+    push_identifier(
+        header.class,
+        header.constructed,
+        &header.tag,
+        &mut comparison,
+    );
+    comparison.same
+}
+
+fn length_found(len: &[u8], size: usize) -> Option<Rule>
+    ensures { LengthFound len.now size result }
+{
+    if is_indefinite(len) {
+        return Some(Rule::IndefiniteLength);
+    }
+    if is_shortest_length(len, size) {
+        None
+    } else {
+        Some(Rule::LongLength)
+    }
+}
+
+// Whether length octets are those that would be written.
+fn is_shortest_length(len: &[u8], size: usize) -> bool
+    ensures { IsTrue result ↔ (len.now ≡ shortest_length size) }
+{
+    if len.len() != length_size(size) {
+        return false;
+    }
+    let mut comparison = Comparison {
+        rest: len,
+        same: true,
+    };
+    push_length(size, &mut comparison);
+    comparison.same
+}
+
+fn type_found(
+    alloc: Global,
+    open_end: bool,
+    header: &PlacedHeader,
+    contents: &[u8],
+) -> Result<Option<Rule>, AllocError>
+    ensures { IfOk result (TypeFound open_end header.now.class header.now.constructed header.now.tag contents.now) }
+{
+    match (header.class, header.tag.to_u64()) {
+        (ASN1Class::Universal, Some(tag)) => {
+            universal_found(alloc, open_end, header.constructed, tag, contents)
+        }
+        (ASN1Class::Universal, None) => Ok(Some(Rule::ReservedTag)),
+        _ => Ok(None),
+    }
+}
+
+fn universal_found(
+    alloc: Global,
+    open_end: bool,
+    constructed: bool,
+    tag: u64,
+    contents: &[u8],
+) -> Result<Option<Rule>, AllocError>
+    ensures { IfOk result (TypeFound open_end Universal constructed tag contents.now) }
+{
+    if open_end {
+        return Ok(form_rule(constructed, tag));
+    }
+    let right = is_right(alloc, constructed, tag, contents)?;
+    if right {
+        return Ok(None);
+    }
+    Ok(Some(type_rule(constructed, tag, contents)))
+}
+
+// Whether contents octets are right for the form and the tag, if the items are.
+fn is_right(alloc: Global, constructed: bool, tag: u64, contents: &[u8]) -> Result<bool, AllocError>
+    ensures { IfOk result (λ found. IsTrue found ↔ IsRightAlone Universal constructed tag contents.now) }
+{
+    if !constructed {
+        return Ok(is_right_primitive(tag, contents));
+    }
+    if tag == 17 {
+        return is_set_in_order(alloc, contents);
+    }
+    Ok(is_constructed_type(tag))
+}
+
+fn is_right_primitive(tag: u64, contents: &[u8]) -> bool
+    ensures { IsTrue result ↔ IsRightAlone Universal false tag contents.now }
+{
+    !is_reserved(tag) && !is_constructed_type(tag) && has_der_contents(tag, contents)
+}
+
+// Whether the items are in order, if they are DER.
+fn is_set_in_order(alloc: Global, contents: &[u8]) -> Result<bool, AllocError>
+    ensures { IfOk result (λ found. IsTrue found ↔ IsRightAlone Universal true 17 contents.now) }
+{
+    if is_in_order(contents) {
+        return Ok(true);
+    }
+    Ok(!is_der(alloc, contents)?)
+}
+
+fn type_rule(constructed: bool, tag: u64, contents: &[u8]) -> Rule
+    ensures { result ≡ type_rule_is constructed tag contents.now }
+{
+    match form_rule(constructed, tag) {
+        Some(rule) => rule,
+        None if constructed => Rule::Order,
+        None => contents_rule(tag, contents),
+    }
+}
+
+fn form_rule(constructed: bool, tag: u64) -> Option<Rule>
+    ensures { result ≡ form_rule_is constructed tag }
+{
+    if is_reserved(tag) {
+        return Some(Rule::ReservedTag);
+    }
+    match (constructed, is_constructed_type(tag)) {
+        (true, false) if is_string(tag) => Some(Rule::ConstructedString),
+        (true, false) => Some(Rule::NotPrimitive),
+        (false, true) => Some(Rule::NotConstructed),
+        _ => None,
+    }
+}
+
+fn is_string(tag: u64) -> bool
+    ensures { result ≡ is_string_is tag }
+{
+    matches!(tag, 3 | 4 | 7 | 12 | 18..=28 | 30)
+}
+
+fn contents_rule(tag: u64, contents: &[u8]) -> Rule
+    ensures { result ≡ contents_rule_is tag contents.now }
+{
+    match tag {
+        1 if contents.len() == 1 => Rule::BooleanValue,
+        1 => Rule::BooleanSize,
+        2 | 10 if contents.is_empty() => Rule::NoInteger,
+        2 | 10 => Rule::PaddedInteger,
+        3 => bits_rule(contents),
+        5 => Rule::NullContents,
+        6 | 13 => Rule::Subidentifiers,
+        9 => real_rule(contents),
+        23 => Rule::UtcTime,
+        24 => Rule::GeneralizedTime,
+        14 | 31..=34 => Rule::Time,
+        35 | 36 => Rule::Iri,
+        _ => Rule::Characters,
+    }
+}
+
+fn bits_rule(contents: &[u8]) -> Rule
+    ensures { result ≡ bits_rule_is contents.now }
+{
+    match contents {
+        [0..=7] => Rule::UnusedOfNone,
+        [0..=7, ..] => Rule::UnusedBits,
+        _ => Rule::UnusedCount,
+    }
+}
+
+fn real_rule(contents: &[u8]) -> Rule
+    ensures { result ≡ real_rule_is contents.now }
+{
+    match contents {
+        [0x80..=0xFF, ..] => Rule::BinaryReal,
+        [0..=0x3F, ..] => Rule::DecimalReal,
+        _ => Rule::SpecialReal,
+    }
+}
