@@ -9,7 +9,7 @@ use Rattle.asn1_headers.proofs.Shortest.{shortest_identifier_is, shortest_length
 use Rattle.asn1_der.specs.Der.{AreDerEncodings, IsDer, IsDerEncoding, IsShortest, more_encodings, no_encodings}
 use Rattle.asn1_der.specs.Steps.{AreDer, IsDerAlone, IsRightAlone, IsWhole}
 use Rattle.asn1_der.proofs.Encodings.{der_encoding, der_whole, whole_der}
-use Rattle.asn1_departures.specs.Departures.{Found, IsNext, Lists, ListsInside, OwnRules, TypeFound, broken, encoding_listed, encodings_inside, end_listed, is_indefinite, is_looked_into, is_open, kept, listed, no_encodings_inside, none_left, nothing_inside, own_departures, unended_behind}
+use Rattle.asn1_departures.specs.Departures.{Found, IsNext, Lists, ListsInside, OwnRules, TypeFound, broken, encoding_listed, encodings_inside, end_listed, is_indefinite, is_looked_into, kept, listed, no_encodings_inside, none_left, nothing_inside, own_departures, unended_behind}
 use Rattle.asn1_departures.specs.Rules.{identifier_rule, type_rule}
 use Rattle.asn1_departures.specs.declared.rule.Departure.{Departure}
 use Rattle.asn1_departures.specs.declared.rule.Rule.{Rule}
@@ -44,10 +44,6 @@ definite false found P h e = (refl, h)
 by_length : (b : Bool) (found : Option Rule) (P : Type 0) → b ≡ false → MatchBool b (found ≡ Some IndefiniteLength) P → P
 by_length true found P e h = absurd cc
 by_length false found P e h = h
-
-closed : (k : Bool) (len : List ℕ) → is_indefinite len ≡ false → is_open k len ≡ false
-closed true len e = e
-closed false len e = refl
 
 behind_closed : (u : ℕ) (k : Bool) (len : List ℕ) → is_indefinite len ≡ false → unended_behind u k len ≡ u
 behind_closed u true len e = ap (λ b. if b then suc u else u) e
@@ -85,7 +81,7 @@ own_none o x id len c k n v r w e =
     let i = asked (id ≡ shortest_identifier c k n) (identifier_rule n) r.of_identifier r.identifier_found id_none in
     let l = definite (is_indefinite len) r.of_length (Found (len ≡ shortest_length (length v)) LongLength r.of_length) r.length_found len_none in
     let s = asked (len ≡ shortest_length (length v)) LongLength r.of_length l.1 len_none in
-    let t = type_asked c k n v r.of_type (subst (λ z. TypeFound z c k n v r.of_type) (closed k len l.0) r.type_found) type_none in
+    let t = type_asked c k n v r.of_type (subst (λ z. TypeFound z c k n v r.of_type) l.0 r.type_found) type_none in
     record {
       definite = l.0;
       alone = (
@@ -169,7 +165,7 @@ own_of_alone o id len c k n v r i l t =
     let a : r.of_identifier ≡ None = none_found (id ≡ shortest_identifier c k n) (identifier_rule n) r.of_identifier r.identifier_found i in
     let b : r.of_length ≡ None = none_found (len ≡ shortest_length (length v)) LongLength r.of_length
     (by_length (is_indefinite len) r.of_length (Found (len ≡ shortest_length (length v)) LongLength r.of_length) definite r.length_found) l in
-    let d : r.of_type ≡ None = type_none c k n v r.of_type (subst (λ z. TypeFound z c k n v r.of_type) (closed k len definite) r.type_found) t in
+    let d : r.of_type ≡ None = type_none c k n v r.of_type (subst (λ z. TypeFound z c k n v r.of_type) definite r.type_found) t in
     ap (λ z. listed o z ++ (listed o r.of_length ++ listed o r.of_type)) a
     ∙ (ap (λ z. listed o z ++ listed o r.of_type) b ∙ ap (listed o) d)
 

@@ -19,7 +19,7 @@ is_indefinite [] = false
 is_indefinite (first ∷ more) = first == 128
 
 -- an encoding that is open behind its header, up to its end-of-contents octets: a constructed one of the indefinite
--- form. A primitive one has to be definite (8.1.3.2), and has no contents octets here
+-- form. A primitive one has to be definite (8.1.3.2); nothing tells where it ends, and it has no contents octets here
 abbrev pub is_open : Bool → List ℕ → Bool
 is_open constructed len = constructed && is_indefinite len
 
@@ -27,8 +27,8 @@ is_open constructed len = constructed && is_indefinite len
 abbrev pub is_looked_into : Bool → List ℕ → Bool
 is_looked_into constructed len = constructed && not (is_indefinite len)
 
--- an encoding stands in front, or the header of one that is open; among the contents octets of one that is open no
--- end-of-contents octets
+-- an encoding stands in front, or the header of one that is open. While some are open, end-of-contents octets are no
+-- encoding
 pub record IsNext (unended : ℕ) (octets first rest : List ℕ) : Type 0 where
   pub class : ASN1Class
   pub constructed : Bool
@@ -51,7 +51,7 @@ pub data AreEncodings : ℕ → List ℕ → Type 0 where
   end_of_contents : {unended fewer : ℕ} {octets rest : List ℕ} → unended ≡ fewer + 1 → octets ≡ 0 ∷ 0 ∷ rest
       → AreEncodings fewer rest → AreEncodings unended octets
 
--- the rule is found to be broken, exactly if what it asks does not hold
+-- the rule is found to be broken exactly if what it asks does not hold
 pub data Found (Asked : Type 0) (rule : Rule) : Option Rule → Type 0 where
   kept : Asked → Found Asked rule None
   broken : (Asked → ⊥) → Found Asked rule (Some rule)
@@ -61,13 +61,13 @@ abbrev pub LengthFound : List ℕ → ℕ → Option Rule → Type 0
 LengthFound len size found =
     MatchBool (is_indefinite len) (found ≡ Some IndefiniteLength) (Found (len ≡ shortest_length size) LongLength found)
 
--- of the tag, the form and the contents octets. A schema alone says what other classes hold. Of an encoding that is
--- open the contents octets are not looked at
-abbrev pub TypeFound : (open_end : Bool) → ASN1Class → Bool → ℕ → List ℕ → Option Rule → Type 0
-TypeFound open_end Universal constructed tag contents found =
-    MatchBool open_end (found ≡ form_rule constructed tag)
+-- of the tag, the form and the contents octets. A schema alone says what other classes hold. Of an encoding of the
+-- indefinite form the contents octets are not judged
+abbrev pub TypeFound : (indefinite : Bool) → ASN1Class → Bool → ℕ → List ℕ → Option Rule → Type 0
+TypeFound indefinite Universal constructed tag contents found =
+    MatchBool indefinite (found ≡ form_rule constructed tag)
     (Found (IsRightAlone Universal constructed tag contents) (type_rule constructed tag contents) found)
-TypeFound open_end class constructed tag contents found = found ≡ None
+TypeFound indefinite class constructed tag contents found = found ≡ None
 
 -- what an encoding breaks by itself
 pub record OwnRules (identifier len : List ℕ) (class : ASN1Class) (constructed : Bool) (tag : ℕ) (contents : List ℕ)
@@ -78,7 +78,7 @@ pub record OwnRules (identifier len : List ℕ) (class : ASN1Class) (constructed
   pub identifier_found :
       Found (identifier ≡ shortest_identifier class constructed tag) (identifier_rule tag) of_identifier
   pub length_found : LengthFound len (length contents) of_length
-  pub type_found : TypeFound (is_open constructed len) class constructed tag contents of_type
+  pub type_found : TypeFound (is_indefinite len) class constructed tag contents of_type
 
 abbrev pub listed : ℕ → Option Rule → List Departure
 listed offset None = []

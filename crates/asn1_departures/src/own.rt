@@ -9,7 +9,7 @@ ghost use Rattle.asn1_departures.specs.Rules.{bits_rule as bits_rule_is, content
 ghost use Rattle.asn1_departures.specs.Rules.{form_rule as form_rule_is, identifier_rule, is_string as is_string_is};
 ghost use Rattle.asn1_departures.specs.Rules.{real_rule as real_rule_is, type_rule as type_rule_is};
 
-use crate::encodings::{is_indefinite, is_open};
+use crate::encodings::is_indefinite;
 use crate::rule::{Departure, Rule};
 use asn1_blocks::parsed::PlacedHeader;
 use asn1_der::contents::has_der_contents;
@@ -37,7 +37,7 @@ pub fn push_own(
     ensures { IfOk result (λ _. (rules : OwnRules identifier.now len.now header.now.class header.now.constructed
         header.now.tag contents.now) × (found.new.items ≡ found.old.items ++ own_departures offset rules)) }
 {
-    let of_type = type_found(alloc, is_open(header.constructed, len), header, contents)?;
+    let of_type = type_found(alloc, is_indefinite(len), header, contents)?;
     push_rule(offset, identifier_found(identifier, header), found)?;
     push_rule(offset, length_found(len, contents.len()), found)?;
     push_rule(offset, of_type, found)?;
@@ -132,15 +132,15 @@ fn is_shortest_length(len: &[u8], size: usize) -> bool
 
 fn type_found(
     alloc: Global,
-    open_end: bool,
+    indefinite: bool,
     header: &PlacedHeader,
     contents: &[u8],
 ) -> Result<Option<Rule>, AllocError>
-    ensures { IfOk result (TypeFound open_end header.now.class header.now.constructed header.now.tag contents.now) }
+    ensures { IfOk result (TypeFound indefinite header.now.class header.now.constructed header.now.tag contents.now) }
 {
     match (header.class, header.tag.to_u64()) {
         (ASN1Class::Universal, Some(tag)) => {
-            universal_found(alloc, open_end, header.constructed, tag, contents)
+            universal_found(alloc, indefinite, header.constructed, tag, contents)
         }
         (ASN1Class::Universal, None) => Ok(Some(Rule::ReservedTag)),
         _ => Ok(None),
@@ -149,14 +149,14 @@ fn type_found(
 
 fn universal_found(
     alloc: Global,
-    open_end: bool,
+    indefinite: bool,
     constructed: bool,
     tag: u64,
     contents: &[u8],
 ) -> Result<Option<Rule>, AllocError>
-    ensures { IfOk result (TypeFound open_end Universal constructed tag contents.now) }
+    ensures { IfOk result (TypeFound indefinite Universal constructed tag contents.now) }
 {
-    if open_end {
+    if indefinite {
         return Ok(form_rule(constructed, tag));
     }
     let right = is_right(alloc, constructed, tag, contents)?;

@@ -17,7 +17,7 @@ returns c =
         identifier_found = c.identifier_found.ensures;
         length_found = c.length_found.ensures;
         type_found = subst (λ z. TypeFound z h.class h.constructed h.tag c.args.contents.now c.in_ok-of_type.of_type)
-            c.is_open.ensures c.in_ok-of_type.ensures;
+            c.is_indefinite.ensures c.in_ok-of_type.ensures;
       },
       c.in_ok-push_rule-3.ensures
           ∙ (ap (λ z. z ++ t) (c.in_ok-push_rule-2.ensures ∙ ap (λ z. z ++ b) c.in_ok-push_rule.ensures)

@@ -42,6 +42,6 @@ large_type false k n v large =
 pub returns-in-Universal-None : goal.returns-in-Universal-None
 returns-in-Universal-None c =
     let h = c.args.header.now in
-    subst (λ z. TypeFound c.args.open_end z h.constructed h.tag c.args.contents.now (Some ReservedTag))
+    subst (λ z. TypeFound c.args.indefinite z h.constructed h.tag c.args.contents.now (Some ReservedTag))
     (sym c.in-Universal-None.is-0)
-    (large_type c.args.open_end h.constructed h.tag c.args.contents.now (above h.tag c.in-Universal-None.ensures))
+    (large_type c.args.indefinite h.constructed h.tag c.args.contents.now (above h.tag c.in-Universal-None.ensures))
