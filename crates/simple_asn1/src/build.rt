@@ -304,8 +304,9 @@ pub fn explicit(
 /// A SEQUENCE or SET of these items under an implicit tag (X.690 8.14), such as `[0] IMPLICIT SET OF Attribute`. There
 /// may be any number of items, also none. [`items_of`](crate::items_of) returns the items of what is made.
 ///
-/// As a reader without the schema has it, the block is `Explicit` around one item, and `Unknown` around none or several.
-/// An `Explicit` takes memory for a box. An `Unknown` takes it for the encodings of the items, which are written at once.
+/// As a reader without the schema has it, the block is `Explicit` around one item, and `Unknown` around none or
+/// several. An `Explicit` takes memory for a box. An `Unknown` takes it for the encodings of the items, which are
+/// written at once.
 ///
 /// Use another class than `Universal`: a block of class `Universal` does not come back.
 ///

@@ -100,8 +100,8 @@ impl<T: Drop> From<AllocFailed<T>> for FaithfulErr {
 /// use simple_asn1::{FaithfulErr, build, to_der_faithful};
 /// use std::alloc::Global;
 ///
-/// // A company's name in the octets of a PrintableString: `NotFaithful(1, Characters)` for "AT&T", since block 1 of the
-/// // SEQUENCE, its item, has a character that is not one of the 74.
+/// // A company's name as a PrintableString in a SEQUENCE: `NotFaithful(1, Characters)` for "AT&T", since block 1, the
+/// // string, has a character that is not one of the 74.
 /// fn organization(alloc: Global, name: &str) -> Result<Vec<u8>, FaithfulErr> {
 ///     let names = vec![in alloc; build::printable_string(alloc, name)?]?;
 ///     to_der_faithful(alloc, &build::sequence(names))
