@@ -1,5 +1,5 @@
 -- What records spell is canonical where each encoding is.
-use Rattle.std.proofs.Common.{◌≡◌, ◌≢◌, ℕ, zero, suc, ◌+◌, ◌<◌, ◌^◌, ◌⊎◌, Bool, true, false, List, [], ◌∷◌, ◌++◌, inl, inr, length, take, drop, refl, sym, ap, ap₂, ◌∙◌, subst, arith, length-append, append-nil}
+use Rattle.std.proofs.Common.{◌≡◌, ◌≢◌, ℕ, zero, suc, ◌+◌, ◌<◌, ◌^◌, Bool, true, false, List, [], ◌∷◌, ◌++◌, inl, inr, length, take, drop, refl, sym, ap, ap₂, subst, arith, append-nil}
 use Rattle.std.specs.Prelude.{not, ◌==◌}
 use Rattle.std.specs.List.{concat}
 use Rattle.std.proofs.lemmas.Bool.{false≢true}
@@ -9,10 +9,10 @@ use Rattle.asn1_headers.specs.declared.header.ASN1Class.TheVariants.{Universal}
 use Rattle.asn1_headers.specs.Header.{Encoding, shortest_identifier, shortest_length}
 use Rattle.asn1_headers.proofs.Shortest.{shortest_identifier_is, shortest_length_is}
 use Rattle.asn1_blocks.specs.declared.block.GroupKind.{GroupKind}
-use Rattle.asn1_blocks.specs.Contents.{IsUnknownTag, group_tag, leaf_contents, leaf_tag}
-use Rattle.asn1_blocks.specs.Grammar.{Encodes, EncodesAll, IsDocument, StaysAsItCame}
+use Rattle.asn1_blocks.specs.Contents.{IsUnknownTag, group_tag}
+use Rattle.asn1_blocks.specs.Grammar.{EncodesAll, IsDocument, StaysAsItCame}
 use Rattle.asn1_blocks.specs.Tree.{Trees, explicit, group, leaf, more_trees, no_trees, unknown}
-use Rattle.simple_asn1.specs.Canonical.{all_canonical, canonical, shortest_encoding}
+use Rattle.simple_asn1.specs.Canonical.{all_canonical, shortest_encoding}
 use Rattle.simple_asn1_c.specs.Inner.InRecords.{AreCanonicalBlocks, AreWrittenOfLeaf, HoldsBlocks, IsCanonicalBlock}
 
 abbrev header_size : ASN1Class → Bool → ℕ → List ℕ → ℕ
