@@ -6,8 +6,8 @@ use Rattle.asn1_headers.specs.declared.header.ASN1Class.{ASN1Class}
 use Rattle.asn1_headers.specs.declared.header.ASN1Class.TheVariants.{Universal, Application, ContextSpecific, Private}
 use Rattle.asn1_headers.proofs.Prefixes.{encoding_alone, encoding_some, identifier_alone, length_alone}
 use Rattle.asn1_headers.proofs.Shortest.{shortest_identifier_is, shortest_length_is}
-use Rattle.asn1_der.specs.Der.{AreDerEncodings, IsDer, IsDerEncoding, IsShortest, more_encodings, no_encodings}
-use Rattle.asn1_der.specs.Steps.{AreDer, IsDerAlone, IsRightAlone, IsWhole}
+use Rattle.asn1_der.specs.Der.{AreDerEncodings, IsDer, IsDerEncoding, IsRightAlone, IsShortest, more_encodings, no_encodings}
+use Rattle.asn1_der.specs.Steps.{AreDer, IsDerAlone, IsWhole}
 use Rattle.asn1_der.proofs.Encodings.{der_encoding, der_whole, whole_der}
 use Rattle.asn1_departures.specs.Departures.{Found, IsNext, Lists, ListsInside, OwnRules, TypeFound, broken, encoding_listed, encodings_inside, end_listed, is_indefinite, is_looked_into, kept, listed, no_encodings_inside, none_left, nothing_inside, own_departures, unended_behind}
 use Rattle.asn1_departures.specs.Rules.{identifier_rule, type_rule}

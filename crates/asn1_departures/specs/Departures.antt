@@ -7,7 +7,7 @@ use Rattle.asn1_headers.specs.declared.header.ASN1Class.TheVariants.{Universal}
 use Rattle.asn1_headers.specs.Fault.{DecodeFault, empty_buffer, incomplete}
 use Rattle.asn1_headers.specs.Header.{Encoding, shortest_identifier, shortest_length}
 use Rattle.asn1_headers.specs.HeaderFault.{HeaderFault}
-use Rattle.asn1_der.specs.Steps.{IsRightAlone}
+use Rattle.asn1_der.specs.Der.{IsRightAlone}
 use Rattle.asn1_departures.specs.Rules.{form_rule, identifier_rule, type_rule}
 use Rattle.asn1_departures.specs.declared.rule.Departure.{Departure}
 use Rattle.asn1_departures.specs.declared.rule.Rule.{Rule}

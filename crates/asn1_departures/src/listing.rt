@@ -33,6 +33,17 @@ use std::alloc::{AllocError, Global};
 /// # Errors
 /// The input is not encodings one after another by their headers: the first header at fault outside of definite
 /// encodings, with its offset. It is empty. Memory ran out.
+///
+/// ```rust
+/// use simple_asn1::{LocatedErr, departures};
+/// use std::alloc::Global;
+///
+/// // The offset of the first departure: of `30 03 01 01 2A` 2, since a BOOLEAN is `00` or `FF`.
+/// fn first_departure(alloc: Global, octets: &[u8]) -> Result<Option<usize>, LocatedErr> {
+///     let found = departures(alloc, octets)?;
+///     Ok(found.first().map(|departure| departure.offset))
+/// }
+/// ```
 pub fn departures(alloc: Global, octets: &[u8]) -> Result<Vec<Departure>, LocatedErr>
     ensures listed { IfOk result (λ found. AreDepartures octets.now found.items) }
     ensures none { IfOk result (λ found. (found.items ≡ []) ↔ IsDer octets.now) }

@@ -63,6 +63,15 @@ pub enum Rule {
 
 impl Rule {
     /// The clauses that say the rule: of X.690, unless X.680 is named.
+    ///
+    /// ```rust
+    /// use simple_asn1::Rule;
+    ///
+    /// // `8.2.2, 11.1`
+    /// fn of_booleans() -> &'static str {
+    ///     Rule::BooleanValue.section()
+    /// }
+    /// ```
     pub fn section(self) -> &'static str
         ensures { result.now ≡ section_of self }
     {
@@ -98,6 +107,15 @@ impl Rule {
     }
 
     /// What is wrong where the rule is broken, in a few words.
+    ///
+    /// ```rust
+    /// use simple_asn1::Rule;
+    ///
+    /// // `BOOLEAN neither 00 nor FF`
+    /// fn of_booleans() -> &'static str {
+    ///     Rule::BooleanValue.text()
+    /// }
+    /// ```
     pub fn text(self) -> &'static str
         ensures { result.now ≡ text_of self }
     {

@@ -7,8 +7,8 @@ use Rattle.asn1_headers.specs.declared.header.ASN1Class.TheVariants.{Universal, 
 use Rattle.asn1_headers.proofs.Prefixes.{encoding_alone, identifier_some}
 use Rattle.asn1_headers.proofs.Shortest.{shortest_identifier_is, shortest_length_is}
 use Rattle.asn1_blocks.specs.Places.{IsEncoding}
-use Rattle.asn1_der.specs.Der.{AreDerEncodings, IsDerEncoding, IsInOrder, IsShortest, more_encodings, no_encodings, of_other_constructed, of_other_primitive, of_primitive_type, of_sequence, of_set}
-use Rattle.asn1_der.specs.Steps.{IsRightAlone, IsWhole}
+use Rattle.asn1_der.specs.Der.{AreDerEncodings, IsDerEncoding, IsInOrder, IsRightAlone, IsShortest, more_encodings, no_encodings, of_other_constructed, of_other_primitive, of_primitive_type, of_sequence, of_set}
+use Rattle.asn1_der.specs.Steps.{IsWhole}
 
 -- the shortest encoding is one
 shortest_encoding : (x : List ℕ) (c : ASN1Class) (k : Bool) (n : ℕ) (v : List ℕ) → length x < 2 ^ 64 → IsShortest x c k n v → (h : ℕ) × Encoding x c k n v h

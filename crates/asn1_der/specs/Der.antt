@@ -93,3 +93,13 @@ pub record IsDer (octets : List ℕ) : Type 0 where
   pub some : 0 < length octets
   pub items : List (List ℕ)
   pub encodings : AreDerEncodings octets items
+
+-- what is asked of an encoding's tag, of its form and of its contents octets, beside that the contents octets of a
+-- constructed one are encodings of DER
+abbrev pub IsRightAlone : ASN1Class → Bool → ℕ → List ℕ → Type 0
+IsRightAlone Universal true tag contents =
+    (is_constructed_type tag ≡ true)
+    × (tag ≡ 17 → (items : List (List ℕ)) → AreDerEncodings contents items → IsInOrder items)
+IsRightAlone Universal false tag contents =
+    (is_reserved tag ≡ false) × (is_constructed_type tag ≡ false) × HasDerContents tag contents
+IsRightAlone class constructed tag contents = Unit {0}

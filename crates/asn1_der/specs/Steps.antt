@@ -5,9 +5,7 @@ use Rattle.asn1_headers.specs.Header.{IsIdentifier, IsLength, IsSomeIdentifier}
 use Rattle.asn1_der.specs.declared.order.Order.{Order}
 use Rattle.asn1_der.specs.declared.order.Order.TheVariants.{Tags, Octets}
 use Rattle.asn1_headers.specs.declared.header.ASN1Class.{ASN1Class}
-use Rattle.asn1_headers.specs.declared.header.ASN1Class.TheVariants.{Universal}
-use Rattle.asn1_der.specs.Contents.{HasDerContents}
-use Rattle.asn1_der.specs.Der.{AreDerEncodings, HasLessTag, HasNoGreaterOctets, IsInOrder, IsShortest, is_constructed_type, is_reserved}
+use Rattle.asn1_der.specs.Der.{AreDerEncodings, HasLessTag, HasNoGreaterOctets, IsRightAlone, IsShortest}
 
 -- the octets are encodings of DER, also none
 abbrev pub AreDer : List ℕ → Type 0
@@ -23,16 +21,7 @@ abbrev pub AreEnds : ℕ → List ℕ → ℕ → Type 0
 AreEnds index [] whole = index ≡ whole
 AreEnds index (end ∷ ends) whole = (index ≤ end) × AreEnds end ends whole
 
--- what is asked of contents octets beside that they are encodings of DER
-abbrev pub IsRightAlone : ASN1Class → Bool → ℕ → List ℕ → Type 0
-IsRightAlone Universal true tag contents =
-    (is_constructed_type tag ≡ true)
-    × (tag ≡ 17 → (items : List (List ℕ)) → AreDerEncodings contents items → IsInOrder items)
-IsRightAlone Universal false tag contents =
-    (is_reserved tag ≡ false) × (is_constructed_type tag ≡ false) × HasDerContents tag contents
-IsRightAlone class constructed tag contents = Unit {0}
-
--- what is asked of an encoding beside that
+-- what is asked of an encoding beside its items
 abbrev pub IsDerAlone : List ℕ → ASN1Class → Bool → ℕ → List ℕ → Type 0
 IsDerAlone octets class constructed tag contents =
     IsShortest octets class constructed tag contents × IsRightAlone class constructed tag contents

@@ -1,7 +1,7 @@
 use Rattle.std.proofs.Common.{subst, sym, true}
 use Rattle.std.specs.Prelude.{◌↔◌, IfOk, IsTrue}
 use Rattle.asn1_headers.specs.declared.header.ASN1Class.TheVariants.{Universal}
-use Rattle.asn1_der.specs.Steps.{IsRightAlone}
+use Rattle.asn1_der.specs.Der.{IsRightAlone}
 use Rattle.asn1_departures.proofs.own.is_right.Goals as goal
 
 pub returns-then-tag-eq17 : goal.returns-then-tag-eq17

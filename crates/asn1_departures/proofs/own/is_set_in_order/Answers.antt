@@ -3,8 +3,7 @@ use Rattle.std.specs.Prelude.{◌↔◌, IsTrue, not}
 use Rattle.std.proofs.lemmas.Bool.{cases_lt}
 use Rattle.std.proofs.lemmas.List.{nil_from_length}
 use Rattle.asn1_headers.specs.declared.header.ASN1Class.TheVariants.{Universal}
-use Rattle.asn1_der.specs.Der.{AreDerEncodings, IsDer, IsInOrder, no_encodings}
-use Rattle.asn1_der.specs.Steps.{IsRightAlone}
+use Rattle.asn1_der.specs.Der.{AreDerEncodings, IsDer, IsInOrder, IsRightAlone, no_encodings}
 use Rattle.asn1_der.proofs.Encodings.{items_alone}
 use Rattle.asn1_departures.proofs.own.is_set_in_order.Goals as goal
 

@@ -3,8 +3,7 @@ use Rattle.std.specs.Prelude.{None, Some, if◌then◌else◌}
 use Rattle.std.specs.Option.{unwrap_or}
 use Rattle.std.proofs.lemmas.Bool.{cases_lt}
 use Rattle.asn1_headers.specs.declared.header.ASN1Class.TheVariants.{Universal}
-use Rattle.asn1_der.specs.Der.{is_constructed_type, is_reserved}
-use Rattle.asn1_der.specs.Steps.{IsRightAlone}
+use Rattle.asn1_der.specs.Der.{IsRightAlone, is_constructed_type, is_reserved}
 use Rattle.asn1_departures.specs.Departures.{Found, TypeFound, broken}
 use Rattle.asn1_departures.specs.Rules.{contents_rule, form_rule, is_string}
 use Rattle.asn1_departures.specs.declared.rule.Rule.TheVariants.{ConstructedString, NotConstructed, NotPrimitive, Order, ReservedTag}

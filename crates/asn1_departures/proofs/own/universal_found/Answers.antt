@@ -1,7 +1,7 @@
 use Rattle.std.proofs.Common.{◌≡◌, Bool, true, false, subst}
 use Rattle.std.specs.Prelude.{MatchBool, None, Some}
 use Rattle.asn1_headers.specs.declared.header.ASN1Class.TheVariants.{Universal}
-use Rattle.asn1_der.specs.Steps.{IsRightAlone}
+use Rattle.asn1_der.specs.Der.{IsRightAlone}
 use Rattle.asn1_departures.specs.Departures.{Found, broken, kept}
 use Rattle.asn1_departures.proofs.own.universal_found.Goals as goal
 
