@@ -35,13 +35,12 @@ use std::alloc::{AllocError, Global};
 /// encodings, with its offset. It is empty. Memory ran out.
 ///
 /// ```rust
-/// use simple_asn1::{LocatedErr, departures};
+/// use simple_asn1::{Departure, LocatedErr, departures};
 /// use std::alloc::Global;
 ///
-/// // The offset of the first departure: of `30 03 01 01 2A` 2, since a BOOLEAN is `00` or `FF`.
-/// fn first_departure(alloc: Global, octets: &[u8]) -> Result<Option<usize>, LocatedErr> {
-///     let found = departures(alloc, octets)?;
-///     Ok(found.first().map(|departure| departure.offset))
+/// // What keeps a document from being DER: of `30 06 01 01 2A 02 01 05` the BOOLEAN at offset 2.
+/// fn faults(alloc: Global, document: &[u8]) -> Result<Vec<Departure>, LocatedErr> {
+///     departures(alloc, document)
 /// }
 /// ```
 pub fn departures(alloc: Global, octets: &[u8]) -> Result<Vec<Departure>, LocatedErr>

@@ -2,6 +2,8 @@
 ghost use Rattle.std.specs.Prelude.{◌≡◌};
 ghost use Rattle.asn1_departures.specs.Rules.{section_of, text_of};
 
+use std::fmt;
+
 /// A rule of DER that an encoding may break.
 #[derive(Clone, Copy, Debug, Drop, PartialEq)]
 pub enum Rule {
@@ -65,11 +67,11 @@ impl Rule {
     /// The clauses that say the rule: of X.690, unless X.680 is named.
     ///
     /// ```rust
-    /// use simple_asn1::Rule;
+    /// use simple_asn1::Departure;
     ///
-    /// // `8.2.2, 11.1`
-    /// fn of_booleans() -> &'static str {
-    ///     Rule::BooleanValue.section()
+    /// // Where to read what is wrong: of `01 01 2A` "8.2.2, 11.1".
+    /// fn clauses(departure: &Departure) -> &'static str {
+    ///     departure.rule.section()
     /// }
     /// ```
     pub fn section(self) -> &'static str
@@ -106,14 +108,14 @@ impl Rule {
         }
     }
 
-    /// What is wrong where the rule is broken, in a few words.
+    /// What is wrong where the rule is broken, in a few words, which `Display` writes too.
     ///
     /// ```rust
-    /// use simple_asn1::Rule;
+    /// use simple_asn1::Departure;
     ///
-    /// // `BOOLEAN neither 00 nor FF`
-    /// fn of_booleans() -> &'static str {
-    ///     Rule::BooleanValue.text()
+    /// // What is wrong: of `01 01 2A` "BOOLEAN neither 00 nor FF".
+    /// fn fault(departure: &Departure) -> &'static str {
+    ///     departure.rule.text()
     /// }
     /// ```
     pub fn text(self) -> &'static str
@@ -148,6 +150,13 @@ impl Rule {
             Rule::Order => "SET out of order",
             Rule::NotEncodings => "contents that are not encodings",
         }
+    }
+}
+
+/// Writes [`Rule::text`].
+impl fmt::Display for Rule {
+    fn fmt<W: fmt::Write>(&self, f: &mut fmt::Formatter<W>) -> fmt::Result {
+        write!(f, "{}", self.text())
     }
 }
 
