@@ -35,10 +35,10 @@ class Encoding:
         if place >= end:
             raise NoEncodings(self.offset)
         count = octets[place] - 0x80
-        self.length = octets[place : place + 1 + max(count, 0)]
-        if count > MOST_LENGTH_OCTETS or place + len(self.length) > end:
+        self.start = place + 1 + max(count, 0)
+        if count > MOST_LENGTH_OCTETS or self.start > end:
             raise NoEncodings(self.offset)
-        self.start = place + len(self.length)
+        self.length = octets[place : self.start]
         size = octets[place] if count < 0 else int.from_bytes(self.length[1:], "big")
         self.is_indefinite = count == 0
         self.end = self.start + size
