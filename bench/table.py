@@ -4,8 +4,8 @@ import statistics
 import sys
 
 RESULTS = pathlib.Path(sys.argv[1])
-PEERS = ["Rust crate", "here", "here, Document", "here, Outline", "here, C", "here, C, all values", "der-parser",
-         "libtasn1", "OpenSSL tree", "OpenSSL types"]
+PEERS = ["Rust crate", "here", "here, Document", "here, Outline", "here, is_der", "here, departures", "here, C",
+         "here, C, all values", "der-parser", "libtasn1", "OpenSSL tree", "OpenSSL types"]
 OPERATIONS = ["Read", "Strict", "Write", "Rewrite"]
 RUNS = sorted(RESULTS.glob("time.*"))
 

@@ -55,6 +55,20 @@ pub fn peers() -> Vec<Peer> {
             rewrite: None,
         },
         Peer {
+            name: "here, is_der",
+            read: |it| unsafe { bench_is_der(it.octets.as_ptr(), it.octets.len()) >= 0 },
+            read_strictly: None,
+            write: None,
+            rewrite: None,
+        },
+        Peer {
+            name: "here, departures",
+            read: |it| unsafe { bench_departures(it.octets.as_ptr(), it.octets.len()) >= 0 },
+            read_strictly: None,
+            write: None,
+            rewrite: None,
+        },
+        Peer {
             name: "here, C",
             read: |it| records::read(&it.octets),
             read_strictly: Some(|it| records::read_strictly(&it.octets)),
@@ -167,6 +181,8 @@ extern "C" {
     fn bench_outline(octets: *const u8, size: usize) -> i64;
     fn bench_outline_strictly(octets: *const u8, size: usize) -> i64;
     fn bench_read_strictly(octets: *const u8, size: usize) -> i64;
+    fn bench_is_der(octets: *const u8, size: usize) -> i64;
+    fn bench_departures(octets: *const u8, size: usize) -> i64;
     fn bench_write(octets: *const u8, size: usize, times: u64) -> i64;
     fn bench_rewritten_size(octets: *const u8, size: usize) -> i64;
     fn bench_rewrite(octets: *const u8, size: usize, room: *mut u8, room_size: usize) -> i64;
