@@ -5,6 +5,7 @@ mod alone;
 mod bits;
 mod canonical;
 mod components;
+mod departures;
 mod dotted;
 mod encoding;
 mod fault;
@@ -25,7 +26,8 @@ mod spelling;
 mod status;
 mod text;
 
-ghost use Rattle.std.specs.Prelude.{◌≡◌, ◌+◌, ◌*◌, ◌≤◌, ℕ, List, length};
+ghost use Rattle.std.specs.Prelude.{◌≡◌, ◌↔◌, ◌+◌, ◌*◌, ◌≤◌, ℕ, List, length};
+ghost use Rattle.asn1_der.specs.Der.{IsDer};
 ghost use Rattle.simple_asn1.specs.Places.{EncodingAt};
 ghost use Rattle.simple_asn1.specs.Shapes.{HasShapes, Shapes, entries_of};
 ghost use Rattle.simple_asn1.specs.Structure.{IsStructure, Nodes, nodes_in_order};
@@ -48,6 +50,7 @@ ghost use Rattle.simple_asn1_c.specs.Contents.{
   AnswersTag,
   AnswersTagOctets,
 };
+ghost use Rattle.simple_asn1_c.specs.Departures.{AnswersDepartures};
 ghost use Rattle.simple_asn1_c.specs.Paths.{AnswersValues};
 ghost use Rattle.simple_asn1_c.specs.Puts.{
   AnswersPutBits,
@@ -66,6 +69,7 @@ ghost use Rattle.simple_asn1_c.specs.Raw.{
   AnswersRawText,
   AnswersSpell,
 };
+ghost use Rattle.simple_asn1_c.specs.Status.{done};
 ghost use Rattle.simple_asn1_c.specs.Values.{
   AnswersIdentifier,
   AnswersInteger,
@@ -76,6 +80,7 @@ ghost use Rattle.simple_asn1_c.specs.Values.{
 
 use crate::bits::{put_bits, put_boolean};
 use crate::components::{component_at, put_components, put_dotted, put_shortest};
+use crate::departures::{list_departures, put_departures};
 use crate::encoding::{put_header, put_tag, tag_octets_at};
 use crate::fault::{FaultAnswer, fault_in};
 use crate::identifier::{identifier_at, put_identifier};
@@ -87,7 +92,9 @@ use crate::raw::{put_raw_bits, put_raw_identifier, put_raw_moment, put_raw_text}
 use crate::reading::{
     Fault, canonical_octets, check, read_headers, read_records, read_records_strict,
 };
-use crate::record::{Block, IntegerAnswer, MomentAnswer, Outcome, Path, SignedAnswer, Value};
+use crate::record::{
+    Block, DepartureRecord, IntegerAnswer, MomentAnswer, Outcome, Path, SignedAnswer, Value,
+};
 use crate::signed::signed_in;
 use crate::spelled::{put_encoding, put_spelled};
 use crate::spelling::spell;
@@ -178,6 +185,29 @@ pub extern "C" fn simple_asn1_values(
 {
     match read_headers(alloc, octets) {
         Ok(headers) => put_values(octets, headers.entries(), steps, paths, values),
+        Err(fault) => refused_outcome(fault),
+    }
+}
+
+/// Puts a record for each rule of DER (X.690) that an encoding in the octets breaks, in the order of their offsets: the
+/// offset of the encoding, and the number of the rule in `simple_asn1.h`. There are none exactly if the octets are DER.
+/// Rules that need a schema are not checked.
+///
+/// Returns their number; `NO_ROOM` with it, if there is less room; or, for octets that are not encodings one after
+/// another by their headers, the fault of the first header at fault outside of definite encodings, with its offset.
+/// After an error nothing is written. It takes memory for the list and for each encoding that is open at a time, which
+/// is given back. Stack use does not grow with nesting.
+#[unsafe(no_mangle)]
+pub extern "C" fn simple_asn1_departures(
+    alloc: Global,
+    octets: &[u8],
+    records: &mut [DepartureRecord],
+) -> Outcome
+    ensures answer { AnswersDepartures octets.now records.old records.new result }
+    ensures none { result.status ≡ done → (result.count ≡ 0) ↔ IsDer octets.now }
+{
+    match list_departures(alloc, octets) {
+        Ok(found) => put_departures(&found, records),
         Err(fault) => refused_outcome(fault),
     }
 }

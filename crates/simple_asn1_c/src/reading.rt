@@ -60,7 +60,7 @@ pub fn canonical_octets(alloc: Global, octets: &[u8]) -> Result<Option<Vec<u8>>,
 }
 
 // The number of an error, with its place where it is a fault of octets.
-fn fault_at(located: &LocatedErr) -> Fault
+pub fn fault_at(located: &LocatedErr) -> Fault
     ensures memory { located.now.error ≡ OutOfMemory → IsNoMemory result.status result.offset }
     ensures fault { located.now.error ≢ OutOfMemory →
         (result.status ≡ status_of (fault_of located.now.error)) × (result.offset ≡ located.now.offset) }

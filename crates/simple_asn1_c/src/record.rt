@@ -86,6 +86,14 @@ pub struct Value {
     pub constructed: u8,
 }
 
+/// A rule of DER that an encoding breaks, by its number in `simple_asn1.h`, and where the encoding begins.
+#[repr(C)]
+#[derive(Clone, Copy)]
+pub struct DepartureRecord {
+    pub offset: usize,
+    pub rule: u32,
+}
+
 // What the C header has for them.
 const _: () = prove!(size_of::<Block>() == 64);
 
@@ -100,6 +108,8 @@ const _: () = prove!(size_of::<SignedAnswer>() == 208);
 const _: () = prove!(size_of::<Path>() == 16);
 
 const _: () = prove!(size_of::<Value>() == 48);
+
+const _: () = prove!(size_of::<DepartureRecord>() == 16);
 
 // The record of an entry.
 pub fn block_of(entry: &Entry) -> Block
