@@ -86,8 +86,27 @@ static void look_at_signed(const uint8_t *octets, size_t size)
     }
 }
 
+/* Departures ascend by their offsets, and their rules exist. */
+static void list_departures(const uint8_t *octets, size_t size)
+{
+    simple_asn1_outcome asked = simple_asn1_departures(octets, size, NULL, 0);
+    if (asked.status != SIMPLE_ASN1_NO_ROOM) {
+        CHECK(asked.count == 0 && asked.offset <= size);
+        return;
+    }
+    simple_asn1_departure *departures = room_for(asked.count * sizeof *departures);
+    CHECK(simple_asn1_departures(octets, size, departures, asked.count).status == SIMPLE_ASN1_OK);
+    for (size_t index = 0; index < asked.count; index++) {
+        const simple_asn1_departure *departure = &departures[index];
+        CHECK(departure->offset < size && (index == 0 || departures[index - 1].offset <= departure->offset));
+        CHECK(SIMPLE_ASN1_RULE_LONG_IDENTIFIER <= departure->rule && departure->rule <= SIMPLE_ASN1_RULE_NOT_ENCODINGS);
+    }
+    free(departures);
+}
+
 int LLVMFuzzerTestOneInput(const uint8_t *octets, size_t size)
 {
+    list_departures(octets, size);
     simple_asn1_outcome asked = simple_asn1_read(octets, size, NULL, 0);
     if (asked.status != SIMPLE_ASN1_NO_ROOM) {
         CHECK(asked.status != SIMPLE_ASN1_OK && asked.offset <= size);

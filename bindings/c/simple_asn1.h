@@ -87,6 +87,45 @@ typedef struct simple_asn1_value { /* what a path leads to; the fields of a bloc
     uint8_t constructed;
 } simple_asn1_value;
 
+/* A rule of DER that an encoding breaks. */
+typedef struct simple_asn1_departure {
+    size_t offset; /* of the encoding, from the start of the input */
+    uint32_t rule; /* one of those below */
+} simple_asn1_departure;
+
+enum { /* what is wrong, and the clauses that say the rule: of X.690, unless X.680 is named */
+    SIMPLE_ASN1_RULE_LONG_IDENTIFIER = 1,    /* tag number below 31 in more than one byte: 8.1.2.2 */
+    SIMPLE_ASN1_RULE_PADDED_TAG = 2,         /* tag number not in the fewest bytes: 8.1.2.4.2 */
+    SIMPLE_ASN1_RULE_INDEFINITE_LENGTH = 3,  /* indefinite length: 10.1 */
+    SIMPLE_ASN1_RULE_LONG_LENGTH = 4,        /* length not in the fewest bytes: 10.1 */
+    SIMPLE_ASN1_RULE_RESERVED_TAG = 5,       /* reserved tag: X.680 8.4 */
+    SIMPLE_ASN1_RULE_NOT_CONSTRUCTED = 6,    /* primitive, but the type is constructed: 8.9.1, 8.11.1, 8.17,
+                                              * 8.18, 8.24 */
+    SIMPLE_ASN1_RULE_NOT_PRIMITIVE = 7,      /* constructed, but the type is primitive: 8.2.1, 8.3.1, 8.5.1, 8.8.1,
+                                              * 8.19.1, 8.20.1, 8.21, 8.22, 8.26 */
+    SIMPLE_ASN1_RULE_CONSTRUCTED_STRING = 8, /* string in pieces: 10.2 */
+    SIMPLE_ASN1_RULE_BOOLEAN_SIZE = 9,       /* BOOLEAN not of one byte: 8.2.1 */
+    SIMPLE_ASN1_RULE_BOOLEAN_VALUE = 10,     /* BOOLEAN neither 00 nor FF: 8.2.2, 11.1 */
+    SIMPLE_ASN1_RULE_NO_INTEGER = 11,        /* number without bytes: 8.3.1 */
+    SIMPLE_ASN1_RULE_PADDED_INTEGER = 12,    /* number not in the fewest bytes: 8.3.2 */
+    SIMPLE_ASN1_RULE_BINARY_REAL = 13,       /* binary REAL not in its one form: 8.5.7, 11.3.1 */
+    SIMPLE_ASN1_RULE_DECIMAL_REAL = 14,      /* decimal REAL not in its one form: 8.5.8, 11.3.2 */
+    SIMPLE_ASN1_RULE_SPECIAL_REAL = 15,      /* special REAL that there is not: 8.5.9 */
+    SIMPLE_ASN1_RULE_UNUSED_COUNT = 16,      /* no number of unused bits from 0 to 7: 8.6.2.2 */
+    SIMPLE_ASN1_RULE_UNUSED_OF_NONE = 17,    /* unused bits of no bits: 8.6.2.3 */
+    SIMPLE_ASN1_RULE_UNUSED_BITS = 18,       /* unused bits not 0: 11.2.1 */
+    SIMPLE_ASN1_RULE_NULL_CONTENTS = 19,     /* NULL with contents: 8.8.2 */
+    SIMPLE_ASN1_RULE_SUBIDENTIFIERS = 20,    /* subidentifiers missing, cut off or not in the fewest bytes: 8.19.2,
+                                              * 8.20.2 */
+    SIMPLE_ASN1_RULE_IRI = 21,               /* no internationalized resource identifier: 8.21, 8.22 */
+    SIMPLE_ASN1_RULE_CHARACTERS = 22,        /* characters that the type does not have: 8.23, X.680 41 */
+    SIMPLE_ASN1_RULE_UTC_TIME = 23,          /* not YYMMDDhhmmssZ of a moment that exists: 11.8 */
+    SIMPLE_ASN1_RULE_GENERALIZED_TIME = 24,  /* not YYYYMMDDhhmmss[.f]Z of a moment that exists: 11.7 */
+    SIMPLE_ASN1_RULE_TIME = 25,              /* no date or time of the type: 8.26 */
+    SIMPLE_ASN1_RULE_ORDER = 26,             /* SET out of order: 10.3, 11.6 */
+    SIMPLE_ASN1_RULE_NOT_ENCODINGS = 27      /* contents that are not encodings: 8.1.2.5 */
+};
+
 typedef struct simple_asn1_outcome {
     uint32_t status;
     size_t offset; /* of the block at fault; 0 if none is */
@@ -154,6 +193,15 @@ simple_asn1_outcome simple_asn1_values(const uint8_t *octets, size_t size, const
 
 /* Whether bytes are a document, and otherwise the first error, as simple_asn1_read: no records are made. */
 simple_asn1_outcome simple_asn1_check(const uint8_t *octets, size_t size);
+
+/* Whether bytes are DER by X.690, and why not: writes the offset and the rule of each departure, in the order of the
+ * offsets. The count is 0 exactly for DER. Constructed encodings are looked into at every depth; an OCTET STRING and a
+ * BIT STRING are not. Rules that need a schema are not checked: DEFAULT, named bits, sizes, and which of 10.3 and 11.6
+ * orders a SET. A length of the indefinite form is one departure, and what it encloses is followed. A constructed
+ * encoding whose contents octets are not encodings is one departure, and nothing inside it is listed. The error is that
+ * of bytes that are not encodings one after another by their headers, with the offset of the header at fault. */
+simple_asn1_outcome simple_asn1_departures(const uint8_t *octets, size_t size, simple_asn1_departure *departures,
+                                           size_t room);
 
 /* Writes the canonical bytes (DER) of a document. */
 simple_asn1_outcome simple_asn1_rewrite(const uint8_t *octets, size_t size, uint8_t *out, size_t room);

@@ -14,7 +14,7 @@ import tracemalloc
 import unittest
 
 import simple_asn1
-from simple_asn1 import Builder, Moment, NoSuchValue, Paths, PemObject, Refused, Status
+from simple_asn1 import Builder, Moment, NoSuchValue, Paths, PemObject, Refused, Rule, Status
 
 DOCUMENT = bytes.fromhex("30 09 02 01 05 A0 04 0C 02 C3 A4 05 00")
 
@@ -71,6 +71,21 @@ class Reading(unittest.TestCase):
         self.assertEqual(len(Paths(*[(0, 0)] * 5000).values(octets)), 5000)
         for number in (-1, 2**64):
             self.assertRaises(ValueError, Paths, (0, number))
+
+    def test_departures_say_which_rule_is_broken_where(self):
+        octets = bytes.fromhex("30 81 03 01 01 2A 31 06 04 01 41 02 01 05 30 02 05 01 05 00")
+        found = simple_asn1.departures(octets)
+        rules = [Rule.LONG_LENGTH, Rule.BOOLEAN_VALUE, Rule.ORDER, Rule.NOT_ENCODINGS]
+        self.assertEqual([(departure.offset, departure.rule) for departure in found], list(zip((0, 3, 6, 14), rules)))
+        self.assertEqual(found[1].rule.name, "BOOLEAN_VALUE")
+        self.assertEqual((found[1].section, found[1].text), ("8.2.2, 11.1", "BOOLEAN neither 00 nor FF"))
+        self.assertEqual(str(found[2]), "SET out of order (10.3, 11.6), at 6")
+        self.assertEqual(pickle.loads(pickle.dumps(found)), found)
+        self.assertEqual(simple_asn1.departures(DOCUMENT), [])
+        many = b"\1\1\x2a" * 5000
+        self.assertEqual([departure.offset for departure in simple_asn1.departures(many)], list(range(0, 15000, 3)))
+        self.assertEqual(self.refused(simple_asn1.departures, many[:-1]), (Status.INCOMPLETE, 14997))
+        self.assertEqual(self.refused(simple_asn1.departures, b""), (Status.EMPTY, 0))
 
     @unittest.skipUnless(shutil.which("openssl"), "there is no openssl")
     def test_the_outline_of_a_certificate_with_an_odd_name_is_that_of_openssl(self):

@@ -43,6 +43,10 @@ class FoundBlock(ctypes.Structure):
     ]
 
 
+class DepartureRecord(ctypes.Structure):
+    _fields_ = [("offset", ctypes.c_size_t), ("rule", ctypes.c_uint32)]
+
+
 class Outcome(ctypes.Structure):
     _fields_ = [("status", ctypes.c_uint32), ("offset", ctypes.c_size_t), ("count", ctypes.c_size_t)]
 
@@ -87,6 +91,9 @@ _RECORD = struct.Struct(f"{_FIELDS}{ctypes.sizeof(Block) - struct.calcsize(_FIEL
 # a `FoundBlock` in memory
 _FOUND_FIELDS = "@QNNNqIBB"
 _FOUND = struct.Struct(f"{_FOUND_FIELDS}{ctypes.sizeof(FoundBlock) - struct.calcsize(_FOUND_FIELDS)}x")
+# a `DepartureRecord` in memory
+_DEPARTURE_FIELDS = "@NI"
+_DEPARTURE = struct.Struct(f"{_DEPARTURE_FIELDS}{ctypes.sizeof(DepartureRecord) - struct.calcsize(_DEPARTURE_FIELDS)}x")
 # the kind of an INTEGER whose number fits
 INTEGER_FOUND = 2
 # as an array of numbers of this size: how many there are, and which is `next`
@@ -190,6 +197,7 @@ def _library() -> Any:
         ("outline", Outcome, octets + records),
         ("values", Outcome, octets + records + records + records),
         ("check", Outcome, octets),
+        ("departures", Outcome, octets + records),
         ("rewrite", Outcome, octets + room),
         ("write", Outcome, octets + records + room),
         ("int64", Integer, octets + offset),
@@ -241,20 +249,26 @@ def _spare() -> Tuple[memoryview, int]:
         return _memory(_FIRST_SIZE)
 
 
-def _read(call: Callable[..., Any], octets: bytes) -> Records:
+def _written(call: Callable[..., Any], octets: bytes, record_size: int) -> bytes:
+    """The records of this size that a call writes."""
     size = len(octets)
     spare = memory, address = _spare()
-    answer = call(octets, size, address, _FIRST_ROOM)
+    answer = call(octets, size, address, _FIRST_SIZE // record_size)
     status, count = answer.status, answer.count
     if status == _NO_ROOM:
-        memory, address = _memory(count * _RECORD.size)
+        memory, address = _memory(count * record_size)
         answer = call(octets, size, address, count)
         status, count = answer.status, answer.count
-    records = bytes(memory[: count * _RECORD.size])
+    records = bytes(memory[: count * record_size])
     _SPARE.append(spare)
     if status != _OK:
         raise refusal(status, answer.offset)
-    return Records(records, count)
+    return records
+
+
+def _read(call: Callable[..., Any], octets: bytes) -> Records:
+    records = _written(call, octets, _SIZE)
+    return Records(records, len(records) // _SIZE)
 
 
 def read(octets: bytes) -> Records:
@@ -267,6 +281,11 @@ def read_strict(octets: bytes) -> Records:
 
 def outline(octets: bytes) -> Records:
     return _read(_LIBRARY.simple_asn1_outline, octets)
+
+
+def departures(octets: bytes) -> Iterable[Any]:
+    """The offset of each departure from DER, and the number of its rule."""
+    return _DEPARTURE.iter_unpack(_written(_LIBRARY.simple_asn1_departures, octets, _DEPARTURE.size))
 
 
 class Places:

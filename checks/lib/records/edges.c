@@ -17,6 +17,7 @@ static void check_nothing(void)
     CHECK(simple_asn1_oid(NULL, 0, 0, NULL, 0).status == SIMPLE_ASN1_NO_SUCH_VALUE);
     CHECK(simple_asn1_signed(NULL, 0).status == SIMPLE_ASN1_EMPTY);
     CHECK(simple_asn1_values(NULL, 0, NULL, 0, NULL, 0, NULL, 0).status == SIMPLE_ASN1_EMPTY);
+    CHECK(simple_asn1_departures(NULL, 0, NULL, 0).status == SIMPLE_ASN1_EMPTY);
 }
 
 static void check_answers(void)
@@ -98,6 +99,95 @@ static void check_paths(void)
         CHECK(values[i].header == 0 && values[i].contents == 0 && values[i].number == 0);
     }
     CHECK(memcmp(&values[COUNT], &before[COUNT], sizeof before[COUNT]) == 0);
+}
+
+/* Encodings that break one rule of DER each, by hand from X.690. */
+static const struct {
+    uint8_t octets[16];
+    size_t size;
+    uint32_t rule;
+} departures[] = {
+    {{0x9F, 5, 1, 0x41}, 4, SIMPLE_ASN1_RULE_LONG_IDENTIFIER},
+    {{0x9F, 0x80, 0x1F, 1, 0x41}, 5, SIMPLE_ASN1_RULE_PADDED_TAG},
+    {{0x30, 0x80, 5, 0, 0, 0}, 6, SIMPLE_ASN1_RULE_INDEFINITE_LENGTH},
+    {{4, 0x81, 1, 0x41}, 4, SIMPLE_ASN1_RULE_LONG_LENGTH},
+    {{4, 0x82, 0, 1, 0x41}, 5, SIMPLE_ASN1_RULE_LONG_LENGTH},
+    {{0x0F, 1, 0x41}, 3, SIMPLE_ASN1_RULE_RESERVED_TAG},
+    {{0x20, 0}, 2, SIMPLE_ASN1_RULE_RESERVED_TAG},
+    {{0x10, 3, 2, 1, 5}, 5, SIMPLE_ASN1_RULE_NOT_CONSTRUCTED},
+    {{8, 1, 0x41}, 3, SIMPLE_ASN1_RULE_NOT_CONSTRUCTED},
+    {{0x22, 3, 2, 1, 5}, 5, SIMPLE_ASN1_RULE_NOT_PRIMITIVE},
+    {{0x24, 3, 4, 1, 0x41}, 5, SIMPLE_ASN1_RULE_CONSTRUCTED_STRING},
+    {{1, 0}, 2, SIMPLE_ASN1_RULE_BOOLEAN_SIZE},
+    {{1, 1, 1}, 3, SIMPLE_ASN1_RULE_BOOLEAN_VALUE},
+    {{2, 0}, 2, SIMPLE_ASN1_RULE_NO_INTEGER},
+    {{2, 2, 0, 1}, 4, SIMPLE_ASN1_RULE_PADDED_INTEGER},
+    {{0x0A, 2, 0, 1}, 4, SIMPLE_ASN1_RULE_PADDED_INTEGER},
+    {{9, 3, 0x80, 0, 2}, 5, SIMPLE_ASN1_RULE_BINARY_REAL},
+    {{9, 2, 1, 0x31}, 4, SIMPLE_ASN1_RULE_DECIMAL_REAL},
+    {{9, 1, 0x44}, 3, SIMPLE_ASN1_RULE_SPECIAL_REAL},
+    {{3, 0}, 2, SIMPLE_ASN1_RULE_UNUSED_COUNT},
+    {{3, 2, 8, 0xFF}, 4, SIMPLE_ASN1_RULE_UNUSED_COUNT},
+    {{3, 1, 3}, 3, SIMPLE_ASN1_RULE_UNUSED_OF_NONE},
+    {{3, 2, 3, 0xFF}, 4, SIMPLE_ASN1_RULE_UNUSED_BITS},
+    {{5, 1, 0}, 3, SIMPLE_ASN1_RULE_NULL_CONTENTS},
+    {{6, 3, 0x2A, 0x80, 1}, 5, SIMPLE_ASN1_RULE_SUBIDENTIFIERS},
+    {{0x0D, 0}, 2, SIMPLE_ASN1_RULE_SUBIDENTIFIERS},
+    {{0x1F, 0x23, 0}, 3, SIMPLE_ASN1_RULE_IRI},
+    {{0x12, 3, 0x61, 0x62, 0x63}, 5, SIMPLE_ASN1_RULE_CHARACTERS},
+    {{0x1E, 2, 0xD8, 0}, 4, SIMPLE_ASN1_RULE_CHARACTERS},
+    {{0x17, 0x0B, 0x32, 0x34, 0x30, 0x32, 0x32, 0x39, 0x31, 0x32, 0x30, 0x30, 0x5A}, 13, SIMPLE_ASN1_RULE_UTC_TIME},
+    {{0x18, 0x0D, 0x32, 0x30, 0x32, 0x34, 0x30, 0x32, 0x32, 0x39, 0x31, 0x32, 0x30, 0x30, 0x5A}, 15, SIMPLE_ASN1_RULE_GENERALIZED_TIME},
+    {{0x1F, 0x1F, 1, 0x2F}, 4, SIMPLE_ASN1_RULE_TIME},
+    {{0x31, 6, 4, 1, 0x41, 2, 1, 5}, 8, SIMPLE_ASN1_RULE_ORDER},
+    {{0x31, 6, 2, 1, 2, 2, 1, 1}, 8, SIMPLE_ASN1_RULE_ORDER},
+    {{0x30, 2, 5, 1}, 4, SIMPLE_ASN1_RULE_NOT_ENCODINGS},
+};
+
+/* Each departure alone, and inside a SEQUENCE of the definite form, behind a NULL and before one. */
+static void check_departures(void)
+{
+    uint8_t inside[32] = {0x30, 0, 5, 0};
+    simple_asn1_departure found[2], before = {77, 77};
+    for (size_t i = 0; i < sizeof departures / sizeof *departures; i++) {
+        size_t size = departures[i].size;
+        found[0] = before, found[1] = before;
+        simple_asn1_outcome o = simple_asn1_departures(departures[i].octets, size, found, 2);
+        CHECK(o.status == SIMPLE_ASN1_OK && o.offset == 0 && o.count == 1);
+        CHECK(found[0].offset == 0 && found[0].rule == departures[i].rule);
+        CHECK(found[1].offset == 77 && found[1].rule == 77);
+        inside[1] = (uint8_t)(4 + size);
+        memcpy(inside + 4, departures[i].octets, size);
+        memcpy(inside + 4 + size, "\5", 2);
+        o = simple_asn1_departures(inside, 6 + size, found, 2);
+        CHECK(o.status == SIMPLE_ASN1_OK && o.offset == 0 && o.count == 1);
+        CHECK(found[0].offset == 4 && found[0].rule == departures[i].rule);
+    }
+
+    const uint8_t der[] = {0x30, 10, 1, 1, 0xFF, 4, 2, 1, 1, 3, 1, 0};
+    simple_asn1_outcome o = simple_asn1_departures(der, sizeof der, NULL, 0);
+    CHECK(o.status == SIMPLE_ASN1_OK && o.offset == 0 && o.count == 0);
+    /* a length that is not the shortest, a BOOLEAN inside, contents that are not encodings, and what stands behind */
+    const uint8_t many[] = {0x30, 0x81, 3, 1, 1, 42, 0x31, 2, 5, 9, 5, 1, 0};
+    simple_asn1_departure all[4];
+    memset(all, 0xA5, sizeof all);
+    o = simple_asn1_departures(many, sizeof many, all, 3);
+    CHECK(o.status == SIMPLE_ASN1_NO_ROOM && o.offset == 0 && o.count == 4 && all[0].rule == 0xA5A5A5A5);
+    o = simple_asn1_departures(many, sizeof many, all, 4);
+    CHECK(o.status == SIMPLE_ASN1_OK && o.offset == 0 && o.count == 4);
+    CHECK(all[0].offset == 0 && all[0].rule == SIMPLE_ASN1_RULE_LONG_LENGTH);
+    CHECK(all[1].offset == 3 && all[1].rule == SIMPLE_ASN1_RULE_BOOLEAN_VALUE);
+    CHECK(all[2].offset == 6 && all[2].rule == SIMPLE_ASN1_RULE_NOT_ENCODINGS);
+    CHECK(all[3].offset == 10 && all[3].rule == SIMPLE_ASN1_RULE_NULL_CONTENTS);
+    /* headers at fault at the top level: cut off, a length beyond size_t, and no end-of-contents octets */
+    const uint8_t cut[] = {1, 1, 42, 5, 1}, large[] = {5, 0, 4, 0x89, 1}, open[] = {0x30, 0x80, 5, 0};
+    found[0] = before;
+    o = simple_asn1_departures(cut, sizeof cut, found, 2);
+    CHECK(o.status == SIMPLE_ASN1_INCOMPLETE && o.offset == 3 && o.count == 0 && found[0].rule == 77);
+    o = simple_asn1_departures(large, sizeof large, found, 2);
+    CHECK(o.status == SIMPLE_ASN1_LENGTH && o.offset == 2 && o.count == 0 && found[0].rule == 77);
+    o = simple_asn1_departures(open, sizeof open, found, 2);
+    CHECK(o.status == SIMPLE_ASN1_INCOMPLETE && o.offset == 4 && o.count == 0 && found[0].rule == 77);
 }
 
 /* Each call for a value answers the fault of contents octets of its kind, and then no value. */
@@ -260,6 +350,7 @@ int main(int argc, char **argv)
     check_nothing();
     check_answers();
     check_paths();
+    check_departures();
     check_values_at_fault();
     check_kept();
     check_tags();

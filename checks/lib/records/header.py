@@ -40,13 +40,13 @@ inline = set(re.findall(r"^static inline .*?(simple_asn1_\w+)\(", code, re.M))
 named = set(re.findall(r'^\.BI ".*?(simple_asn1_\w+)\(', page, re.M))
 same("the header's and the man page's names", declared | inline, named)
 
-statuses = {name: int(number) for name, number in re.findall(r"SIMPLE_ASN1_(\w+) = (\d+)", header)}
+statuses = {name: int(number) for name, number in re.findall(r"SIMPLE_ASN1_(?!RULE_)(\w+) = (\d+)", header)}
 same("the header's and Python's statuses", statuses, {s.name: s.value for s in simple_asn1.Status})
-rust = {name: int(number) for name, number in re.findall(r"pub const (\w+): u32 = (\d+)", calls)}
+rust = {name: int(number) for name, number in re.findall(r"pub const (?!RULE_)(\w+): u32 = (\d+)", calls)}
 same("the header's and Rust's statuses", statuses, rust)
 texts = dict(re.findall(r'case SIMPLE_ASN1_(\w+): return "([^"]*)"', header))
 same("the header's and Python's texts", texts, {s.name: t for s, t in simple_asn1.TEXTS.items()})
-told = dict(re.findall(r"^\.B SIMPLE_ASN1_(\w+)\n([^;\n]*)", page, re.M))
+told = dict(re.findall(r"^\.B SIMPLE_ASN1_(?!RULE_)(\w+)\n([^;\n]*)", page, re.M))
 same("the header's and the man page's texts", {k: t for k, t in texts.items() if k != "OK"}, told)
 fault = (top / "bindings/rust/records/src/fault.rs").read_text()
 kinds = dict(re.findall(r"FaultKind::(\w+) => \"([^\"]*)\"", fault))
@@ -63,6 +63,37 @@ other_names = {
 found = re.findall(r"pub const (\w+): u32 = (\d+)", proved) + re.findall(r"ASN1DecodeErr::(\w+)\S* => (\d+)", proved)
 same("the header's and the library's statuses", statuses, {other_names.get(k, k): int(n) for k, n in found})
 
+# the rules of DER by their numbers: the name, what is wrong, and the clauses
+noted = re.findall(r"SIMPLE_ASN1_RULE_(\w+) = (\d+),?\s*/\* (.*?): (.*?) \*/", header, re.S)
+rules = {int(n): (name, text, re.sub(r"\s*\n\s*\* ", " ", clauses)) for name, n, text, clauses in noted}
+same("the numbers of rules", list(rules), list(range(1, len(rules) + 1)))
+same("the header's and Python's rules", rules, {r.value: (r.name, r.text, r.section) for r in simple_asn1.Rule})
+shown = re.findall(r"^\.B SIMPLE_ASN1_RULE_(\w+)\n(.*?): (.*)$", page, re.M)
+same("the header's and the man page's rules", list(rules.values()), shown)
+constants = {int(n): name for name, n in re.findall(r"pub const RULE_(\w+): u32 = (\d+)", calls)}
+same("the header's and Rust's names of rules", {n: name for n, (name, *_) in rules.items()}, constants)
+
+
+def shouted(name):
+    return re.sub(r"(?<!^)(?=[A-Z])", "_", name).upper()
+
+
+made = (top / "bindings/rust/records/src/departures.rs").read_text()
+in_rust = re.findall(r'\(\s*Rule::(\w+),\s*"([^"]*)",\s*"([^"]*)",?\s*\)', made)
+same("the header's and Rust's rules", list(rules.values()), [(shouted(name), *words) for name, *words in in_rust])
+variants = re.findall(r"^    (\w+),$", made[made.index("pub enum Rule") : made.index("const RULES")], re.M)
+same("Rust's rules and their order", variants, [name for name, *_ in in_rust])
+proved = (top / "crates/simple_asn1_c/src/departures.rt").read_text()
+numbered = {int(n): shouted(name) for name, n in re.findall(r"Rule::(\w+) => (\d+)", proved)}
+same("the header's and the library's rules", constants, numbered)
+library = (top / "crates/asn1_departures/src/rule.rt").read_text()
+clauses, texts = (
+    {shouted(name): words for name, words in re.findall(r'Rule::(\w+) => "([^"]*)"', part)}
+    for part in library.split("pub fn text")
+)
+same("the header's texts and those of the library", {r[0]: r[1] for r in rules.values()}, texts)
+same("the header's clauses and those of the library", {r[0]: r[2] for r in rules.values()}, clauses)
+
 
 
 class Refusal(ctypes.Structure):
@@ -75,6 +106,7 @@ records = {
     "block": _calls.Block,
     "path": _calls.Path,
     "value": _calls.FoundBlock,
+    "departure": _calls.DepartureRecord,
     "outcome": _calls.Outcome,
     "integer": _calls.Integer,
     "moment": _calls.MomentAnswer,
@@ -108,9 +140,13 @@ same("the header's and Python's records", found, wanted)
 
 source = "".join((top / "crates/simple_asn1_c/src" / name).read_text() for name in ("record.rt", "fault.rt"))
 answers = {
-    "IntegerAnswer": "integer", "MomentAnswer": "moment", "SignedAnswer": "signed_parts", "FaultAnswer": "refusal"
+    "IntegerAnswer": "integer", "MomentAnswer": "moment", "SignedAnswer": "signed_parts", "FaultAnswer": "refusal",
+    "DepartureRecord": "departure",
 }
 for kind, size in re.findall(r"size_of::<(\w+)>\(\) == (\d+)", source):
     name = answers.get(kind, kind.lower())
     same(f"the sizes of {name}", int(size), ctypes.sizeof(records[name]))
-print(f"header: {len(declared)} calls, {len(statuses)} statuses and {len(records)} records agree in C, Rust and Python")
+print(
+    f"header: {len(declared)} calls, {len(statuses)} statuses, {len(rules)} rules and {len(records)} records agree in "
+    "C, Rust and Python"
+)

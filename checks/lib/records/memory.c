@@ -46,6 +46,9 @@ static simple_asn1_block blocks[1 << 13];
 static uint8_t out[1 << 16];
 static const simple_asn1_path whole = {0, 1};
 static simple_asn1_value value;
+static simple_asn1_departure departures[1 << 10];
+/* a SET whose items are not in order, and a BOOLEAN that is neither 00 nor FF */
+static const uint8_t broken[] = {0x30, 11, 0x31, 6, 4, 1, 65, 2, 1, 5, 1, 1, 42};
 /* of more contents octets than are kept in place, and a component beyond 64 bits */
 static const char wide[] = "2.25.340282366920938463463374607431768211456.1.2.3.4.5.6.7.8.9.10.11.12.13";
 static const simple_asn1_moment last = {0, 9999, 12, 31, 23, 59, 59, 999999999};
@@ -70,6 +73,8 @@ static uint32_t status_of(int call)
     case 14: return simple_asn1_outline(octets, size, blocks, 1 << 13).status;
     case 15: return simple_asn1_check(octets, size).status;
     case 16: return simple_asn1_values(octets, size, &size, 1, &whole, 1, &value, 1).status;
+    case 17: return simple_asn1_departures(octets, size, departures, 1 << 10).status;
+    case 18: return simple_asn1_departures(broken, sizeof broken, departures, 1 << 10).status;
     default: return simple_asn1_write(octets, size, blocks, count, out, sizeof out).status;
     }
 }
@@ -89,7 +94,7 @@ int main(int argc, char **argv)
             *kind = blocks[i].offset;
     }
     size_t refused = 0;
-    for (int call = 0; call < 18; call++) {
+    for (int call = 0; call < 20; call++) {
         for (long k = 0;; k++) {
             long before = live;
             asked = 0, left = k;

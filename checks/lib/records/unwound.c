@@ -54,10 +54,12 @@ static void call_all(const uint8_t *octets, size_t size, simple_asn1_block *bloc
     static const simple_asn1_path serial = {0, 3};
     static uint8_t out[MOST_BLOCKS];
     simple_asn1_value value;
+    simple_asn1_departure departures[4];
     simple_asn1_outcome o = simple_asn1_read(octets, size, blocks, MOST_BLOCKS);
 
     simple_asn1_outline(octets, size, blocks, MOST_BLOCKS);
     simple_asn1_values(octets, size, steps, 3, &serial, 1, &value, 1);
+    simple_asn1_departures(octets, size, departures, 4);
     simple_asn1_read_strict(octets, size, blocks, MOST_BLOCKS);
     simple_asn1_rewrite(octets, size, out, sizeof out);
     simple_asn1_write(octets, size, blocks, o.count, out, sizeof out);

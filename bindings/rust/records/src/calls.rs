@@ -43,11 +43,11 @@ const FIRST_ROOM: usize = 1024;
 
 /// Room for the most records that the octets can need would be 32 octets for each octet. So a document with more
 /// records than the first room is read again, with room for as many as it has.
-fn records(octets: &[u8], call: impl Fn(*mut Record, usize) -> Outcome) -> Result<Vec<Record>, Fault> {
-    let mut records = vec![Record::default(); FIRST_ROOM.min(octets.len() / 2)];
+fn records<R: Clone + Default>(octets: &[u8], call: impl Fn(*mut R, usize) -> Outcome) -> Result<Vec<R>, Fault> {
+    let mut records = vec![R::default(); FIRST_ROOM.min(octets.len() / 2)];
     let mut answer = call(records.as_mut_ptr(), records.len());
     if answer.status == NO_ROOM {
-        records = vec![Record::default(); answer.count];
+        records = vec![R::default(); answer.count];
         answer = call(records.as_mut_ptr(), records.len());
     }
     if answer.status != OK {
@@ -72,6 +72,10 @@ pub fn read_strict(octets: &[u8]) -> Result<Vec<Record>, Fault> {
 
 pub fn outline(octets: &[u8]) -> Result<Vec<Record>, Fault> {
     records(octets, |out, room| unsafe { simple_asn1_outline(octets.as_ptr(), octets.len(), out, room) })
+}
+
+pub fn departures(octets: &[u8]) -> Result<Vec<Departure>, Fault> {
+    records(octets, |out, room| unsafe { simple_asn1_departures(octets.as_ptr(), octets.len(), out, room) })
 }
 
 /// What each path leads to: they begin one after another in the item numbers, and each has so many.

@@ -14,12 +14,14 @@
 
 mod builder;
 mod calls;
+mod departures;
 mod fault;
 mod paths;
 
 pub use builder::Builder;
 use calls::SignedParts;
 pub use calls::{Moment, Record};
+pub use departures::{Departure, Rule, departures};
 pub use fault::{Fault, FaultKind};
 pub use paths::{Paths, Value};
 

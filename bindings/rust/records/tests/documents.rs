@@ -1,6 +1,6 @@
 //! What the bindings add to the library's calls, on documents that were made by hand.
 
-use simple_asn1_records::{rewrite, write, Class, Document, Fault, FaultKind, Moment, Paths, Signed};
+use simple_asn1_records::{departures, rewrite, write, Class, Document, Fault, FaultKind, Moment, Paths, Rule, Signed};
 use std::error::Error;
 
 const DOCUMENT: [u8; 13] = [0x30, 0x09, 0x02, 0x01, 0x05, 0xA0, 0x04, 0x0C, 0x02, 0xC3, 0xA4, 0x05, 0x00];
@@ -39,6 +39,24 @@ fn faults_say_what_and_where() {
     let sequence = document.blocks().next().unwrap();
     assert_eq!(sequence.int64().unwrap_err(), Fault { kind: FaultKind::NoSuchValue, offset: 0 });
     assert_eq!(Signed::read(&DOCUMENT).unwrap_err().kind, FaultKind::NotSigned);
+}
+
+#[test]
+fn departures_say_which_rule_is_broken_where() -> Result<(), Fault> {
+    let octets = [0x30, 0x81, 3, 1, 1, 42, 0x31, 6, 4, 1, 65, 2, 1, 5, 0x30, 2, 5, 1, 5, 0];
+    let found = departures(&octets)?;
+    assert!(found.iter().map(|departure| departure.offset).eq([0, 3, 6, 14]));
+    let rules = [Rule::LongLength, Rule::BooleanValue, Rule::Order, Rule::NotEncodings];
+    assert!(found.iter().map(|departure| departure.rule).eq(rules));
+    assert_eq!(found[1].rule.text(), "BOOLEAN neither 00 nor FF");
+    assert_eq!(found[1].rule.section(), "8.2.2, 11.1");
+    assert_eq!(departures(&DOCUMENT)?, []);
+    let many = [1, 1, 42].repeat(5000);
+    assert!(departures(&many)?.iter().map(|departure| departure.offset).eq((0..15000).step_by(3)));
+    let cut = departures(&many[..14999]).unwrap_err();
+    assert_eq!(cut, Fault { kind: FaultKind::Incomplete, offset: 14997 });
+    assert_eq!(departures(&[]).unwrap_err(), Fault { kind: FaultKind::Empty, offset: 0 });
+    Ok(())
 }
 
 #[test]

@@ -31,6 +31,34 @@ pub const NOT_SIGNED: u32 = 14;
 pub const BAD_RECORD: u32 = 15;
 pub const NOT_OID: u32 = 16;
 
+pub const RULE_LONG_IDENTIFIER: u32 = 1;
+pub const RULE_PADDED_TAG: u32 = 2;
+pub const RULE_INDEFINITE_LENGTH: u32 = 3;
+pub const RULE_LONG_LENGTH: u32 = 4;
+pub const RULE_RESERVED_TAG: u32 = 5;
+pub const RULE_NOT_CONSTRUCTED: u32 = 6;
+pub const RULE_NOT_PRIMITIVE: u32 = 7;
+pub const RULE_CONSTRUCTED_STRING: u32 = 8;
+pub const RULE_BOOLEAN_SIZE: u32 = 9;
+pub const RULE_BOOLEAN_VALUE: u32 = 10;
+pub const RULE_NO_INTEGER: u32 = 11;
+pub const RULE_PADDED_INTEGER: u32 = 12;
+pub const RULE_BINARY_REAL: u32 = 13;
+pub const RULE_DECIMAL_REAL: u32 = 14;
+pub const RULE_SPECIAL_REAL: u32 = 15;
+pub const RULE_UNUSED_COUNT: u32 = 16;
+pub const RULE_UNUSED_OF_NONE: u32 = 17;
+pub const RULE_UNUSED_BITS: u32 = 18;
+pub const RULE_NULL_CONTENTS: u32 = 19;
+pub const RULE_SUBIDENTIFIERS: u32 = 20;
+pub const RULE_IRI: u32 = 21;
+pub const RULE_CHARACTERS: u32 = 22;
+pub const RULE_UTC_TIME: u32 = 23;
+pub const RULE_GENERALIZED_TIME: u32 = 24;
+pub const RULE_TIME: u32 = 25;
+pub const RULE_ORDER: u32 = 26;
+pub const RULE_NOT_ENCODINGS: u32 = 27;
+
 /// A block as the library has it.
 #[repr(C)]
 #[derive(Clone, Copy, Debug, Default, PartialEq, Eq)]
@@ -66,6 +94,14 @@ pub struct Value {
     pub kind: u32,
     pub tag_class: u8,
     pub constructed: u8,
+}
+
+/// A rule of DER that an encoding breaks, and the offset of the encoding.
+#[repr(C)]
+#[derive(Clone, Copy, Debug, Default, PartialEq, Eq)]
+pub struct Departure {
+    pub offset: usize,
+    pub rule: u32,
 }
 
 #[repr(C)]
@@ -131,6 +167,7 @@ extern "C" {
         room: usize,
     ) -> Outcome;
     pub fn simple_asn1_check(octets: *const u8, size: usize) -> Outcome;
+    pub fn simple_asn1_departures(octets: *const u8, size: usize, departures: *mut Departure, room: usize) -> Outcome;
     pub fn simple_asn1_rewrite(octets: *const u8, size: usize, out: *mut u8, room: usize) -> Outcome;
     pub fn simple_asn1_write(
         octets: *const u8,
