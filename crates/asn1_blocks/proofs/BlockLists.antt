@@ -1,6 +1,7 @@
 -- Lists of blocks and their trees.
 use Rattle.std.proofs.Common.{◌≡◌, ℕ, zero, suc, List, [], ◌∷◌, ◌++◌, length, get_or, ◌<◌, refl, sym, ap, ◌∙◌, arith}
 use Rattle.asn1_blocks.specs.declared.block.ASN1Block.{ASN1Block}
+use Rattle.asn1_blocks.specs.Grammar.{IsDocument}
 use Rattle.asn1_blocks.specs.Tree.{Trees, no_trees, more_trees, shape, shapes}
 use Rattle.asn1_blocks.specs.View.{view, views}
 
@@ -16,6 +17,11 @@ count_shapes (more_trees b bs) = ap suc (count_shapes bs)
 pub count_views : (bs : List ASN1Block) → count (views bs) ≡ length bs
 count_views [] = refl
 count_views (b ∷ bs) = ap suc (count_views bs)
+
+-- a document has a block
+pub some_blocks : (octets : List ℕ) (bs : List ASN1Block) → IsDocument octets (views bs) → 0 < length bs
+some_blocks octets [] d = absurd (omega (arith, d.some, ap length d.blocks))
+some_blocks octets (b ∷ bs) d = omega arith
 
 -- lists of the same shapes are of one length
 pub same_length : (xs ys : List ASN1Block) → shapes (views xs) ≡ shapes (views ys) → length xs ≡ length ys

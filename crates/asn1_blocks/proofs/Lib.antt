@@ -1,4 +1,5 @@
 pub mod BlockLists
+pub mod AsciiTexts
 pub mod Leaves
 pub mod OneReading
 pub mod FaultyBlocks

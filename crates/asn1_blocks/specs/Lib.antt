@@ -6,4 +6,5 @@ pub mod HeadersBegun
 pub mod Faithful
 pub mod Places
 pub mod BlockParts
+pub mod UnknownValues
 pub mod Inner

@@ -1,10 +1,5 @@
 // The blocks of a document under an owner that drops them by a loop.
-ghost use Rattle.std.specs.Prelude.{◌≡◌, ℕ, IfErr, IfOk, IsErrAnd, MatchResult};
-ghost use Rattle.asn1_headers.specs.Fault.{DecodeFault, OutOfMemoryOr};
-ghost use Rattle.asn1_blocks.specs.Grammar.{IsDocument, FirstFault, FirstFaultAt};
-ghost use Rattle.asn1_blocks.specs.Tree.{Trees};
-ghost use Rattle.asn1_blocks.specs.View.{document_trees, views};
-ghost use Rattle.asn1_headers.specs.declared.error.ASN1DecodeErr.TheVariants.{OutOfMemory};
+ghost use Rattle.std.specs.Prelude.{◌<◌, length};
 
 use crate::block::ASN1Block;
 use crate::held::HeldBlocks;
@@ -28,9 +23,17 @@ use std::alloc::Global;
 #[derive(Debug, Drop)]
 pub struct Document {
     blocks: HeldBlocks,
+    ghost not_empty: { 0 < length blocks },
 }
 
 impl Document {
+    ghost use Rattle.std.specs.Prelude.{◌≡◌, ◌<◌, ℕ, length, IfErr, IfOk, IsErrAnd, MatchResult};
+    ghost use Rattle.asn1_headers.specs.Fault.{DecodeFault, OutOfMemoryOr};
+    ghost use Rattle.asn1_blocks.specs.Grammar.{IsDocument, FirstFault, FirstFaultAt};
+    ghost use Rattle.asn1_blocks.specs.Tree.{Trees};
+    ghost use Rattle.asn1_blocks.specs.View.{document_trees, views};
+    ghost use Rattle.asn1_headers.specs.declared.error.ASN1DecodeErr.TheVariants.{OutOfMemory};
+
     /// Reads a document as the function [`from_der`] does.
     ///
     /// # Errors
@@ -99,7 +102,7 @@ impl Document {
         }
     }
 
-    /// The blocks at the top level, in order.
+    /// The blocks at the top level, in order. There is at least one.
     ///
     /// ```rust
     /// use simple_asn1::{ASN1Block, Document};
@@ -113,13 +116,14 @@ impl Document {
     /// }
     /// ```
     pub fn blocks(&self) -> &[ASN1Block]
-        ensures { views result.now ≡ document_trees self.now }
+        ensures trees { views result.now ≡ document_trees self.now }
+        ensures not_empty { 0 < length result.now }
     {
         self.blocks.as_slice()
     }
 
-    /// Returns the blocks at the top level, in order. Dropping them then uses stack for each level of nesting, unless
-    /// [`discard`](crate::discard) does it.
+    /// Returns the blocks at the top level, in order. There is at least one. Dropping them then uses stack for each
+    /// level of nesting, unless [`discard`](crate::discard) does it.
     ///
     /// ```rust
     /// use simple_asn1::{ASN1Block, ASN1DecodeErr, Document};
@@ -132,7 +136,8 @@ impl Document {
     /// }
     /// ```
     pub fn into_blocks(self) -> Vec<ASN1Block>
-        ensures { views result.items ≡ document_trees self }
+        ensures trees { views result.items ≡ document_trees self }
+        ensures not_empty { 0 < length result.items }
     {
         let Document { blocks } = self;
         blocks.into_vec()

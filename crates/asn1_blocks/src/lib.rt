@@ -5,7 +5,8 @@
 //!   [`parsed`] is part of it; [`encoding`] finds an encoding by its header;
 //! - [`read`]: trees are built; [`owed`] and [`held`] are parts of it;
 //! - [`document`]: the owner of a document's blocks; [`walk`]: blocks in tree order;
-//! - [`contents`]: which contents octets a tag has; [`faithful`]: which blocks are read back as they are.
+//! - [`contents`]: which contents octets a tag has; [`faithful`]: which blocks are read back as they are;
+//! - [`unknown_values`]: contents octets of types that have no variant of a block.
 //!
 //! `simple_asn1` hands on `ASN1Block`, `Document`, `from_der` and its like, `encoding_at`, `all_blocks` and `discard`.
 //! All else is public for the crates above alone, and may change with them.
@@ -21,4 +22,5 @@ pub mod owed;
 pub mod parsed;
 pub mod read;
 pub mod reading;
+pub mod unknown_values;
 pub mod walk;

@@ -13,12 +13,15 @@ ghost use Rattle.asn1_blocks.specs.BlockParts.{
   tree_tag,
   tree_text,
 };
+ghost use Rattle.asn1_blocks.specs.UnknownValues.{tree_ascii_text, tree_enumerated};
 ghost use Rattle.asn1_blocks.specs.View.{tree_class, view, views};
 ghost use Rattle.asn1_headers.specs.Names.{type_name as name_of_type};
 ghost use Rattle.asn1_leaves.specs.Contents.Moment.{moment_of};
 
 use crate::block::ASN1Block;
+use crate::unknown_values::{ascii_text, enumerated};
 use crate::walk::in_tree_order;
+use asn1_headers::header::ASN1Class;
 use asn1_headers::types::type_name;
 use asn1_leaves::oid::OID;
 use asn1_numbers::number::big_int::BigInt;
@@ -112,6 +115,70 @@ impl ASN1Block {
     {
         match self {
             ASN1Block::Integer(_, n) => Some(n),
+            _ => None,
+        }
+    }
+
+    /// The number of an ENUMERATED (X.690 8.4), which is an `Unknown` of class Universal with tag number 10. `None` for
+    /// any other block, and also where it is constructed or its contents octets are none or not the shortest (8.3.2):
+    /// nothing else checks those of an `Unknown`. The only error is that memory ran out.
+    ///
+    /// ```rust
+    /// use simple_asn1::ASN1Block;
+    /// use std::alloc::{AllocError, Global};
+    ///
+    /// // Whether the block is the reason keyCompromise of a certificate that was revoked: `0A 01 01` is.
+    /// fn is_key_compromise(alloc: Global, block: &ASN1Block) -> Result<bool, AllocError> {
+    ///     match block.enumerated(alloc)? {
+    ///         Some(reason) => Ok(reason.to_i64() == Some(1)),
+    ///         None => Ok(false),
+    ///     }
+    /// }
+    /// ```
+    pub fn enumerated(&self, alloc: Global) -> Result<Option<BigInt>, AllocError>
+        ensures { IfOk result (λ found. MatchOption found
+            (tree_enumerated (view self.now) ≡ None)
+            (λ n. tree_enumerated (view self.now) ≡ Some n)) }
+    {
+        match self {
+            ASN1Block::Unknown(class, constructed, _, tag, contents) => {
+                match (class, constructed, tag.to_u64()) {
+                    (ASN1Class::Universal, false, Some(tag)) => enumerated(alloc, tag, contents),
+                    _ => Ok(None),
+                }
+            }
+            _ => Ok(None),
+        }
+    }
+
+    /// The text of a NumericString, VisibleString or GeneralString (X.690 8.23), which is an `Unknown` of class
+    /// Universal with tag number 18, 26 or 27. `None` for any other block, and also where it is constructed or has an
+    /// octet that is no character of its type.
+    ///
+    /// Each octet is a character of ASCII: the digits and the space of a NumericString, `20` to `7E` of a
+    /// VisibleString, and `00` to `7F` of a GeneralString. Of these a GeneralString with `0E`, `0F` or `1B` has no text
+    /// here, since these begin other sets of characters than the one that a GeneralString starts with.
+    ///
+    /// ```rust
+    /// use simple_asn1::ASN1Block;
+    ///
+    /// // Whether the block is the NumericString `42`: `12 02 34 32` is.
+    /// fn is_42(block: &ASN1Block) -> bool {
+    ///     block.tag() == Some(18) && block.ascii_text() == Some("42")
+    /// }
+    /// ```
+    pub fn ascii_text(&self) -> Option<&str>
+        ensures { MatchOption result
+            (tree_ascii_text (view self.now) ≡ None)
+            (λ text. tree_ascii_text (view self.now) ≡ Some (chars text.now)) }
+    {
+        match self {
+            ASN1Block::Unknown(class, constructed, _, tag, contents) => {
+                match (class, constructed, tag.to_u64()) {
+                    (ASN1Class::Universal, false, Some(tag)) => ascii_text(tag, contents),
+                    _ => None,
+                }
+            }
             _ => None,
         }
     }

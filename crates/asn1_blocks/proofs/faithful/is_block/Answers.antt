@@ -11,7 +11,7 @@ use Rattle.asn1_blocks.proofs.faithful.is_block.Goals.{in-OutOfMemory, in_defaul
 pub returns-in-Ok : goal.returns-in-Ok
 returns-in-Ok c =
     let blocks = c.blocks-in-Ok.result.now in
-    let read = subst (IsDocument c.args.octets.now) (sym c.blocks-in-Ok.ensures) c.in-Ok.ensures.document in
+    let read = subst (IsDocument c.args.octets.now) (sym c.blocks-in-Ok.ensures.trees) c.in-Ok.ensures.document in
     let there = block_if_one c.args.octets.now blocks read in
     let only = one_if_block c.args.octets.now blocks read in
     grind (arith, common_steps, there, only)
