@@ -1,5 +1,5 @@
 -- What holds of an outline's document holds of the entry at an index.
-use Rattle.std.proofs.Common.{◌≡◌, ℕ, ◌+◌, ◌<◌, ◌≤◌, List, Option, Some, None, length, get_or, ap, sym, subst, ◌∙◌, arith, length-append}
+use Rattle.std.proofs.Common.{◌≡◌, ℕ, suc, ◌+◌, ◌<◌, ◌≤◌, ◌++◌, List, Option, Some, None, length, get_or, refl, ap, sym, subst, ◌∙◌, arith, length-append}
 use Rattle.std.proofs.Props.{props}
 use Rattle.std.proofs.lemmas.List.{get_or_past, length-drop}
 use Rattle.std.specs.Prelude.{MatchOption}
@@ -7,7 +7,7 @@ use mathlib.Core.Logic.{∥∥₁_elim}
 use Rattle.asn1_blocks.specs.Grammar.{IsDocument}
 use Rattle.asn1_blocks.specs.Tree.{Trees}
 use Rattle.asn1_outline.specs.Entries.{AreEntries, AreEntriesOf, IsOutline, no_entry}
-use Rattle.asn1_outline.specs.Structure.{IsStructure, Nodes, no_node, no_tree, node_at, node_count, node_in_order, node_items, node_tree, nodes_depths, nodes_in_order, tree_at}
+use Rattle.asn1_outline.specs.Structure.{IsStructure, Nodes, more_nodes, no_node, no_nodes, no_tree, node, node_at, node_count, node_in_order, node_items, node_tree, nodes_depths, nodes_in_order, nodes_trees, tree_at}
 use Rattle.asn1_outline.specs.Values.{IsEntryOf}
 use Rattle.asn1_outline.specs.declared.entry.Entry.{Entry}
 use Rattle.asn1_outline.proofs.Entries.{entries_length, entry_at}
@@ -114,3 +114,18 @@ module _ (octets : List ℕ) (es : List Entry) (k : ℕ) (lent : ∥ IsOutline o
       let first : k + 1 ≤ (get_or es k no_entry).next = omega (arith, next, some) in
       let last : (get_or es k no_entry).next ≤ length es = omega (arith, next, whole, many, h, length-drop k (nodes_in_order ns)) in
       (first, last))
+
+-- an outline has an entry
+some_nodes : (octets : List ℕ) (ns : Nodes) → IsDocument octets (nodes_trees ns) → 0 < length (nodes_in_order ns)
+some_nodes octets no_nodes d = absurd (omega (arith, d.some, ap length d.blocks))
+some_nodes octets (more_nodes (node b ms) ns) d =
+    let size : length (nodes_in_order (more_nodes (node b ms) ns)) ≡ suc (length (nodes_in_order ms ++ nodes_in_order ns)) = refl in
+    omega (arith, size)
+
+pub some_entries : (octets : List ℕ) (es : List Entry) → ∥ IsOutline octets es ∥₁ → 0 < length es
+some_entries octets es lent =
+    let prop : IsProp (0 < length es) = hlevel props in
+    ∥∥₁_elim lent prop (λ x.
+    let (cs, e, are) = x in
+    let some = some_nodes octets are.nodes (subst (IsDocument octets) (sym are.trees) e) in
+    omega (arith, some, entries_length octets 0 (nodes_in_order are.nodes) (nodes_depths 0 are.nodes) es are.entries))

@@ -1,30 +1,32 @@
 -- What an entry's contents octets mean.
 use Rattle.std.proofs.Common.{◌≡◌, ℕ, ◌+◌, ◌<◌, ◌≤◌, ◌^◌, ◌++◌, Bool, true, false, ◌-◌, List, [], Some, None, inl, inr, drop, get_or, length, take, refl, sym, ap, subst, ◌∙◌, arith, append_assoc, length-append}
-use Rattle.std.specs.List.{slice_range}
-use Rattle.std.specs.Prelude.{pos}
-use Rattle.std.proofs.lemmas.Bool.{cases_lt}
+use Rattle.std.specs.List.{list_all, slice_range}
+use Rattle.std.specs.Prelude.{pos, ◌==◌, ◌||◌, ◌&&◌, if◌then◌else◌, Option, MatchOption}
+use Rattle.std.proofs.lemmas.Bool.{cases_Bool, cases_lt, false≢true, or_cases}
+use Rattle.std.proofs.lemmas.Bool.Decides.{nat_tests}
 use Rattle.std.proofs.lemmas.List.{length-drop, take-append-drop, take_at}
 use Rattle.asn1_numbers.specs.TwosComplement.{signed_number}
 use Rattle.asn1_headers.specs.Header.{BeginsWithNo, Encoding, IsIdentifier, IsSomeIdentifier}
 use Rattle.asn1_headers.specs.declared.header.ASN1Class.{ASN1Class}
-use Rattle.asn1_headers.specs.declared.header.ASN1Class.TheVariants.{Universal}
+use Rattle.asn1_headers.specs.declared.header.ASN1Class.TheVariants.{Application, ContextSpecific, Private, Universal}
 use Rattle.asn1_headers.proofs.Prefixes.{SameEncoding, encoding_alone, encoding_some, identifier_alone}
 use Rattle.asn1_leaves.specs.StringKind.{StringKind}
-use Rattle.asn1_blocks.specs.BlockParts.{leaf_integer, tree_bits, tree_boolean, tree_integer, tree_moment, tree_oid, tree_tag, tree_text}
+use Rattle.asn1_blocks.specs.BlockParts.{leaf_integer, tree_bits, tree_boolean, tree_integer, tree_moment, tree_octets, tree_oid, tree_tag, tree_text}
 use Rattle.asn1_blocks.specs.Contents.{LeafContents, LeafFault, group_tag, is_known_tag, is_leaf_tag, leaf_tag, of_text, string_tag}
 use Rattle.asn1_blocks.specs.Inner.LeafBlocks.{IsLeafOf}
-use Rattle.asn1_blocks.proofs.Leaves.{leaf_alone, leaf_no_fault, leaf_tag_is, leaf_tag_known, leaf_tag_no_group, string_tag_small, unknown_known}
+use Rattle.asn1_blocks.proofs.Leaves.{group_known, leaf_alone, leaf_known, leaf_no_fault, leaf_tag_is, leaf_tag_known, leaf_tag_no_group, string_tag_small, unknown_known}
 use Rattle.asn1_headers.specs.Fault.{DecodeFault}
 use Rattle.asn1_leaves.specs.Contents.Text.{TextContents, TextFault, text_form}
 use Rattle.asn1_blocks.specs.declared.block.GroupKind.TheVariants.{Sequence, Set}
 use Rattle.asn1_blocks.specs.Grammar.{Encodes, IsDocument}
 use Rattle.asn1_blocks.specs.Places.{EncodingAt}
-use Rattle.asn1_blocks.specs.Tree.{Leaf, Tree, bit_string, boolean, explicit, generalized_time, group, integer, leaf, object_identifier, text, unknown, utc_time}
+use Rattle.asn1_blocks.specs.Tree.{Leaf, Tree, bit_string, boolean, explicit, generalized_time, group, integer, leaf, object_identifier, octet_string, text, unknown, utc_time}
+use Rattle.asn1_blocks.specs.UnknownValues.{is_ascii_character, is_ascii_tag, is_shortest_integer, tree_ascii_text, tree_enumerated}
 use Rattle.asn1_blocks.specs.View.{tree_offset}
 use Rattle.asn1_blocks.proofs.Slices.{encoding_at_alone}
 use Rattle.asn1_outline.specs.Entries.{AreEntries, HasTag, no_entry}
 use Rattle.asn1_outline.specs.Structure.{IsStructure, Nodes, nodes_depths, nodes_in_order, tree_at}
-use Rattle.asn1_outline.specs.Values.{EachIsOfItsTree, IsEntryOf, IsNoLeafWith}
+use Rattle.asn1_outline.specs.Values.{EachIsOfItsTree, IsEntryOf, IsNoLeafWith, IsNoPrimitive, IsPrimitive}
 use Rattle.asn1_outline.proofs.Entries.{entries_length, entry_at}
 use Rattle.asn1_outline.proofs.Standing.{contents_stand, encoding_of, structure_stands}
 use Rattle.asn1_outline.specs.declared.entry.Entry.{Entry}
@@ -265,6 +267,130 @@ no_oid (leaf o l) other = refl
 no_oid (group o g bs) other = refl
 no_oid (explicit c o n b) other = refl
 no_oid (unknown c k o n v) other = refl
+
+pub no_octets : (b : Tree ℕ) → IsNoLeafWith 4 b → tree_octets b ≡ None
+no_octets (leaf o (octet_string v)) other = absurd (other o (octet_string v) refl refl)
+no_octets (leaf o l) other = refl
+no_octets (group o g bs) other = refl
+no_octets (explicit c o n b) other = refl
+no_octets (unknown c k o n v) other = refl
+
+pub are_octets : (o : ℕ) (v : List ℕ) (b : Tree ℕ) → IsLeafOf o 4 v b → tree_octets b ≡ Some v
+are_octets o v b s = let (p, same) = leaf_is o 4 v b (octet_string v) s refl refl in ap tree_octets same
+
+-- so of what was found
+pub octets_found : {A : Type 0} (now : A → List ℕ) (found : Option A) (b : Tree ℕ)
+    → MatchOption found (IsNoLeafWith 4 b) (λ v. IsLeafOf (tree_offset b) 4 (now v) b)
+    → MatchOption found (tree_octets b ≡ None) (λ v. tree_octets b ≡ Some (now v))
+octets_found now None b h = no_octets b h
+octets_found now (Some v) b h = are_octets (tree_offset b) (now v) b h
+
+-- a primitive encoding of class Universal whose tag number has no rule stays as it came
+primitive_encoded : (o : ℕ) (y : List ℕ) (b : Tree ℕ) (n : ℕ) (w : List ℕ) (h : ℕ) → is_known_tag n ≡ false → Encodes o y b
+    → Encoding y Universal false n w h → IsPrimitive n w b
+primitive_encoded o y (leaf p l) n w h t s e =
+    let z = one y Universal Universal s.1 false (leaf_tag l) n s.2 w s.3 h s.4 e in
+    absurd (false≢true (sym t ∙ ap is_known_tag (sym z.tag) ∙ leaf_known l))
+primitive_encoded o y (group p g bs) n w h t s e =
+    let z = one y Universal Universal s.1 false (group_tag g) n s.2 w s.3 h s.4 e in
+    absurd (false≢true (sym t ∙ ap is_known_tag (sym z.tag) ∙ group_known g))
+primitive_encoded o y (explicit c p m b) n w h t s e =
+    let z = one y c Universal true false m n s.2 w s.3 h s.4 e in
+    absurd (s.1 z.class)
+primitive_encoded o y (unknown c j p m v) n w h t s e =
+    let z = one y c Universal j false m n v w s.1 h s.2 e in
+    let class = z.class in
+    let constructed = z.constructed in
+    let tag = z.tag in
+    let contents = z.contents in
+    cc
+
+pub is_primitive : (x : List ℕ) (b : Tree ℕ) (r : Entry) → IsEntryOf x b r → r.class ≡ Universal → r.constructed ≡ false → r.tag < 64
+    → is_known_tag r.tag ≡ false → IsPrimitive r.tag (slice_range x (r.offset + r.header) (r.offset + r.header + r.contents)) b
+is_primitive x b r e class constructed small t =
+    let c = contents_of x b r e in
+    let own = subst (λ z. Encoding c.octets z r.constructed c.tag c.contents r.header) class c.encoding in
+    let two = subst (λ z. Encoding c.octets Universal z c.tag c.contents r.header) constructed own in
+    let three = subst (λ z. Encoding c.octets Universal false z c.contents r.header) (small_tag c.tag r.tag r.tag c.number refl small) two in
+    subst (λ z. IsPrimitive r.tag z b) (sym c.are) (primitive_encoded (tree_offset b) c.octets b r.tag c.contents r.header t c.encoded three)
+
+pub primitive_found : {A : Type 0} (now : A → List ℕ) (found : Option A) (x : List ℕ) (b : Tree ℕ) (r : Entry) → IsEntryOf x b r
+    → r.class ≡ Universal → r.constructed ≡ false → r.tag < 64 → is_known_tag r.tag ≡ false
+    → MatchOption found (length x < r.offset + r.header + r.contents) (λ v. now v ≡ slice_range x (r.offset + r.header) (r.offset + r.header + r.contents))
+    → MatchOption found (IsNoPrimitive b) (λ v. IsPrimitive r.tag (now v) b)
+primitive_found now None x b r e class constructed small t h = absurd (omega (arith, h, is_within x b r e))
+primitive_found now (Some v) x b r e class constructed small t h =
+    subst (λ z. IsPrimitive r.tag z b) (sym h) (is_primitive x b r e class constructed small t)
+
+-- and what an entry says of such an encoding
+pub primitive_entry : (x : List ℕ) (b : Tree ℕ) (r : Entry) (n : ℕ) (v : List ℕ) → IsEntryOf x b r → IsPrimitive n v b
+    → (r.class ≡ Universal) × (r.constructed ≡ false) × (n < 2 ^ 64 → r.tag ≡ n)
+primitive_entry x b r n v e is =
+    let c = contents_of x b r e in
+    let s : Encodes (tree_offset b) c.octets (unknown Universal false (tree_offset b) n v) = subst (λ z. Encodes (tree_offset b) c.octets z) is c.encoded in
+    let z = one c.octets Universal r.class false r.constructed n c.tag v c.contents s.1 r.header s.2 c.encoding in
+    (sym z.class, sym z.constructed, λ small. c.number.0 (omega (arith, small, z.tag)) ∙ sym z.tag)
+
+-- any other tree has nothing of it
+pub no_enumerated : (b : Tree ℕ) → IsNoPrimitive b → tree_enumerated b ≡ None
+no_enumerated (unknown Universal false o n v) other = absurd (other n v refl)
+no_enumerated (unknown Universal true o n v) other = refl
+no_enumerated (unknown Application k o n v) other = refl
+no_enumerated (unknown ContextSpecific k o n v) other = refl
+no_enumerated (unknown Private k o n v) other = refl
+no_enumerated (leaf o l) other = refl
+no_enumerated (group o g bs) other = refl
+no_enumerated (explicit c o n b) other = refl
+
+pub no_ascii_text : (b : Tree ℕ) → IsNoPrimitive b → tree_ascii_text b ≡ None
+no_ascii_text (unknown Universal false o n v) other = absurd (other n v refl)
+no_ascii_text (unknown Universal true o n v) other = refl
+no_ascii_text (unknown Application k o n v) other = refl
+no_ascii_text (unknown ContextSpecific k o n v) other = refl
+no_ascii_text (unknown Private k o n v) other = refl
+no_ascii_text (leaf o l) other = refl
+no_ascii_text (group o g bs) other = refl
+no_ascii_text (explicit c o n b) other = refl
+
+-- nor has the tree of an entry with another tag number
+pub not_enumerated : (x : List ℕ) (b : Tree ℕ) (r : Entry) → IsEntryOf x b r → (r.tag ≡ 10 → ⊥) → tree_enumerated b ≡ None
+not_enumerated x (unknown Universal false o n v) r e other = elim (cases_Bool (n == 10)) [
+  | inl here ↦
+      let ten : n ≡ 10 = grind (arith, nat_tests, here) in
+      absurd (other ((primitive_entry x (unknown Universal false o n v) r n v e refl).2 (omega (arith, ten)) ∙ ten))
+  | inr there ↦ ap (λ z. if z && is_shortest_integer v then Some (signed_number v) else None) there
+]
+not_enumerated x (unknown Universal true o n v) r e other = refl
+not_enumerated x (unknown Application k o n v) r e other = refl
+not_enumerated x (unknown ContextSpecific k o n v) r e other = refl
+not_enumerated x (unknown Private k o n v) r e other = refl
+not_enumerated x (leaf o l) r e other = refl
+not_enumerated x (group o g bs) r e other = refl
+not_enumerated x (explicit c o n b) r e other = refl
+
+ascii_small : (n : ℕ) → is_ascii_tag n ≡ true → n < 64
+ascii_small n e = elim (or_cases ((n == 18) || (n == 26)) (n == 27) e) [
+  | inr a ↦ grind (arith, nat_tests, a)
+  | inl a ↦ elim (or_cases (n == 18) (n == 26) a) [
+    | inl b ↦ grind (arith, nat_tests, b)
+    | inr b ↦ grind (arith, nat_tests, b)
+  ]
+]
+
+pub not_ascii_text : (x : List ℕ) (b : Tree ℕ) (r : Entry) → IsEntryOf x b r → is_ascii_tag r.tag ≡ false → tree_ascii_text b ≡ None
+not_ascii_text x (unknown Universal false o n v) r e other = elim (cases_Bool (is_ascii_tag n)) [
+  | inl here ↦
+      let same = (primitive_entry x (unknown Universal false o n v) r n v e refl).2 (omega (arith, ascii_small n here)) in
+      absurd (false≢true (sym other ∙ ap is_ascii_tag same ∙ here))
+  | inr there ↦ ap (λ z. if z && list_all (is_ascii_character n) v then Some v else None) there
+]
+not_ascii_text x (unknown Universal true o n v) r e other = refl
+not_ascii_text x (unknown Application k o n v) r e other = refl
+not_ascii_text x (unknown ContextSpecific k o n v) r e other = refl
+not_ascii_text x (unknown Private k o n v) r e other = refl
+not_ascii_text x (leaf o l) r e other = refl
+not_ascii_text x (group o g bs) r e other = refl
+not_ascii_text x (explicit c o n b) r e other = refl
 
 pub no_moment : (b : Tree ℕ) → IsNoLeafWith 23 b → IsNoLeafWith 24 b → tree_moment b ≡ None
 no_moment (leaf o (utc_time m)) other more = absurd (other o (utc_time m) refl refl)

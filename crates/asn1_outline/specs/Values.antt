@@ -1,8 +1,9 @@
 -- Which trees entries are of, for what is read of an entry alone.
-use Rattle.std.specs.Prelude.{◌≡◌, ℕ, ◌<◌, List, get_or, length}
+use Rattle.std.specs.Prelude.{◌≡◌, ℕ, ◌<◌, false, List, get_or, length}
+use Rattle.asn1_headers.specs.declared.header.ASN1Class.TheVariants.{Universal}
 use Rattle.asn1_blocks.specs.Contents.{leaf_tag}
 use Rattle.asn1_blocks.specs.Grammar.{IsDocument}
-use Rattle.asn1_blocks.specs.Tree.{Leaf, Tree, Trees, leaf}
+use Rattle.asn1_blocks.specs.Tree.{Leaf, Tree, Trees, leaf, unknown}
 use Rattle.asn1_blocks.specs.View.{tree_offset}
 use Rattle.asn1_outline.specs.Entries.{AreEntriesOf, HasHeaderAt, no_entry}
 use Rattle.asn1_outline.specs.Structure.{IsEncodedIn, tree_at}
@@ -18,6 +19,15 @@ pub record IsEntryOf (document : List ℕ) (b : Tree ℕ) (r : Entry) : Type 0 w
 -- the tree is no leaf with this tag number
 abbrev pub IsNoLeafWith : ℕ → Tree ℕ → Type 0
 IsNoLeafWith tag b = (o : ℕ) (l : Leaf) → b ≡ leaf o l → leaf_tag l ≡ tag → ⊥
+
+-- the tree is of a primitive encoding of class Universal that stays as it came, with this tag number and these contents
+-- octets
+abbrev pub IsPrimitive : ℕ → List ℕ → Tree ℕ → Type 0
+IsPrimitive tag contents b = b ≡ unknown Universal false (tree_offset b) tag contents
+
+-- the tree is of no such encoding
+abbrev pub IsNoPrimitive : Tree ℕ → Type 0
+IsNoPrimitive b = (tag : ℕ) (contents : List ℕ) → IsPrimitive tag contents b → ⊥
 
 -- each entry of a document is of the tree that has its index in the document's structure
 abbrev pub EachIsOfItsTree : Type 0

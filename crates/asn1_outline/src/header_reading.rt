@@ -73,7 +73,7 @@ impl<'a> Headers<'a> {
     }
 
     /// The octets of the document.
-    pub fn octets(&self) -> &'a [u8]
+    pub fn document(&self) -> &'a [u8]
         ensures { result.now ≡ walked_octets self.now }
     {
         self.octets

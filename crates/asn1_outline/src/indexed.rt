@@ -2,7 +2,8 @@
 ghost use Rattle.std.specs.Prelude.{◌≡◌, ◌<◌, ◌≤◌, length, string_bytes, None, Some, IfOk, IsNone, IsSomeAnd, MatchOption};
 ghost use Rattle.std.specs.Str.{chars};
 ghost use Rattle.asn1_leaves.specs.Contents.Moment.{moment_of};
-ghost use Rattle.asn1_blocks.specs.BlockParts.{tree_bits, tree_boolean, tree_integer, tree_moment, tree_oid, tree_tag, tree_text};
+ghost use Rattle.asn1_blocks.specs.BlockParts.{tree_bits, tree_boolean, tree_integer, tree_moment, tree_octets, tree_oid, tree_tag, tree_text};
+ghost use Rattle.asn1_blocks.specs.UnknownValues.{tree_ascii_text, tree_enumerated};
 ghost use Rattle.asn1_outline.specs.Outlines.{entries_in, octets_in};
 ghost use Rattle.asn1_outline.specs.Structure.{HasContents, IsEncodedIn, IsStructure, Nodes, is_explicit, tree_at};
 
@@ -149,6 +150,54 @@ impl<'a> Outline<'a> {
             Ok(found) => Ok(found),
             Err(_) => Err(AllocError),
         }
+    }
+
+    /// The octets of the OCTET STRING at the index; `None` for any other block, and past the end. [`Outline::document`]
+    /// has the octets of the whole document.
+    pub fn octets(&self, index: usize) -> Option<&'a [u8]>
+        ensures { (ns : Nodes) → IsStructure (octets_in self.now) ns → MatchOption result
+            (tree_octets (tree_at ns index) ≡ None)
+            (λ octets. tree_octets (tree_at ns index) ≡ Some octets.now) }
+    {
+        let Some(entry) = self.entries.get(index) else {
+            return None;
+        };
+        entry.octets(self.octets)
+    }
+
+    /// The number of the ENUMERATED (X.690 8.4) at the index; `None` for any other block, and past the end. As
+    /// [`ASN1Block::enumerated`] has it, there is also none where the encoding is constructed, or has no contents octets
+    /// or not the shortest.
+    ///
+    /// [`ASN1Block::enumerated`]: asn1_blocks::block::ASN1Block::enumerated
+    pub fn enumerated(&self, alloc: Global, index: usize) -> Result<Option<BigInt>, AllocError>
+        ensures { (ns : Nodes) → IsStructure (octets_in self.now) ns → IfOk result
+            (λ found. MatchOption found
+            (tree_enumerated (tree_at ns index) ≡ None)
+            (λ n. tree_enumerated (tree_at ns index) ≡ Some n)) }
+    {
+        let Some(entry) = self.entries.get(index) else {
+            return Ok(None);
+        };
+        match entry.enumerated(alloc, self.octets) {
+            Ok(found) => Ok(found),
+            Err(_) => Err(AllocError),
+        }
+    }
+
+    /// The text of the NumericString, VisibleString or GeneralString (X.690 8.23) at the index; `None` for any other
+    /// block, and past the end. [`ASN1Block::ascii_text`] says which octets are text.
+    ///
+    /// [`ASN1Block::ascii_text`]: asn1_blocks::block::ASN1Block::ascii_text
+    pub fn ascii_text(&self, index: usize) -> Option<&'a str>
+        ensures { (ns : Nodes) → IsStructure (octets_in self.now) ns → MatchOption result
+            (tree_ascii_text (tree_at ns index) ≡ None)
+            (λ text. tree_ascii_text (tree_at ns index) ≡ Some (chars text.now)) }
+    {
+        let Some(entry) = self.entries.get(index) else {
+            return None;
+        };
+        entry.ascii_text(self.octets)
     }
 
     /// The value of the BOOLEAN at the index; `None` for any other block, and past the end.

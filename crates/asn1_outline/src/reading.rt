@@ -99,15 +99,16 @@ impl<'a> Outline<'a> {
         }
     }
 
-    /// The entries, in order.
+    /// The entries, in order. There is at least one, and the first has index 0.
     pub fn entries(&self) -> &[Entry]
-        ensures { result.now ≡ entries_in self.now }
+        ensures entries { result.now ≡ entries_in self.now }
+        ensures not_empty { 0 < length result.now }
     {
         self.entries.as_slice()
     }
 
     /// The octets of the document.
-    pub fn octets(&self) -> &'a [u8]
+    pub fn document(&self) -> &'a [u8]
         ensures { result.now ≡ octets_in self.now }
     {
         self.octets

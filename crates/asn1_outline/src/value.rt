@@ -1,5 +1,5 @@
-// What is read of an entry alone: the leaf readers of its contents octets.
-ghost use Rattle.std.specs.Prelude.{◌≡◌, ◌≢◌, ◌⊎◌, ◌↔◌, ℕ, ◌+◌, ◌<◌, List, length, slice_range, None, Some, true, IfErr, IfOk, IsOkAnd, IsTrue, MatchOption, MatchResult, option_map};
+// What is read of an entry, with the octets of its document: the readers of its contents octets.
+ghost use Rattle.std.specs.Prelude.{◌≡◌, ◌≢◌, ◌⊎◌, ◌↔◌, ℕ, ◌+◌, ◌<◌, List, length, slice_range, None, Some, false, true, IfErr, IfOk, IsOkAnd, IsTrue, MatchOption, MatchResult, option_map};
 ghost use Rattle.asn1_headers.specs.Fault.{OutOfMemoryOr};
 ghost use Rattle.asn1_headers.specs.Names.{type_name as name_of_type};
 ghost use Rattle.asn1_leaves.specs.Contents.GeneralizedTime.{GeneralizedTimeContents, GeneralizedTimeFault};
@@ -7,19 +7,21 @@ ghost use Rattle.asn1_leaves.specs.Contents.Moment.{moment_of};
 ghost use Rattle.asn1_leaves.specs.Contents.UtcTime.{UtcTimeContents, UtcTimeFault};
 ghost use Rattle.asn1_headers.specs.declared.error.ASN1DecodeErr.TheVariants.{OutOfMemory};
 ghost use Rattle.asn1_headers.specs.declared.header.ASN1Class.TheVariants.{Universal};
-ghost use Rattle.asn1_blocks.specs.BlockParts.{tree_bits, tree_boolean, tree_integer, tree_moment, tree_oid, tree_tag, tree_text};
-ghost use Rattle.asn1_blocks.specs.Contents.{is_leaf_tag, string_tag};
+ghost use Rattle.asn1_blocks.specs.BlockParts.{tree_bits, tree_boolean, tree_integer, tree_moment, tree_octets, tree_oid, tree_tag, tree_text};
+ghost use Rattle.asn1_blocks.specs.Contents.{is_known_tag, is_leaf_tag, string_tag};
 ghost use Rattle.asn1_blocks.specs.Inner.LeafBlocks.{IsLeafOf};
+ghost use Rattle.asn1_blocks.specs.UnknownValues.{tree_ascii_text, tree_enumerated};
 ghost use Rattle.asn1_blocks.specs.View.{tree_offset};
 ghost use Rattle.asn1_leaves.specs.Contents.Text.{text_form};
 ghost use Rattle.asn1_leaves.specs.StringKind.{StringKind};
 ghost use Rattle.std.specs.Prelude.{string_bytes};
 ghost use Rattle.std.specs.Str.{chars};
 ghost use Rattle.asn1_blocks.specs.Tree.{Tree};
-ghost use Rattle.asn1_outline.specs.Values.{EachIsOfItsTree, IsEntryOf, IsNoLeafWith};
+ghost use Rattle.asn1_outline.specs.Values.{EachIsOfItsTree, IsEntryOf, IsNoLeafWith, IsNoPrimitive, IsPrimitive};
 
 use crate::entry::Entry;
 use asn1_blocks::contents::form_of;
+use asn1_blocks::unknown_values::{ascii_text, enumerated, is_ascii_tag};
 use asn1_headers::error::ASN1DecodeErr;
 use asn1_headers::header::{ASN1Class, HeaderCount, decode_tag};
 use asn1_headers::types::type_name;
@@ -128,11 +130,8 @@ impl Entry {
         }
     }
 
-    /// The value of a BOOLEAN of the document whose entry this is; `None` for any other block.
-    ///
-    /// # Errors
-    /// Only with an entry of another document.
-    pub fn boolean(&self, document: &[u8]) -> Result<Option<bool>, ASN1DecodeErr>
+    // The value of a BOOLEAN of the document whose entry this is. The only errors are with an entry of another.
+    pub(crate) fn boolean(&self, document: &[u8]) -> Result<Option<bool>, ASN1DecodeErr>
         ensures { (b : Tree ℕ) → IsEntryOf document.now b self.now → IsOkAnd result
             (λ found. MatchOption found (tree_boolean b ≡ None) (λ yes. tree_boolean b ≡ Some yes)) }
     {
@@ -145,11 +144,8 @@ impl Entry {
         }
     }
 
-    /// The components of an OBJECT IDENTIFIER of the document whose entry this is; `None` for any other block.
-    ///
-    /// # Errors
-    /// `OutOfMemory`; with an entry of another document also others.
-    pub fn oid(&self, alloc: Global, document: &[u8]) -> Result<Option<OID>, ASN1DecodeErr>
+    // The components of an OBJECT IDENTIFIER of the document whose entry this is.
+    pub(crate) fn oid(&self, alloc: Global, document: &[u8]) -> Result<Option<OID>, ASN1DecodeErr>
         ensures { (b : Tree ℕ) → IsEntryOf document.now b self.now → MatchResult result
             (λ found. MatchOption found (tree_oid b ≡ None) (λ oid. tree_oid b ≡ Some oid))
             (λ e. e ≡ OutOfMemory) }
@@ -163,12 +159,8 @@ impl Entry {
         }
     }
 
-    /// The number of bits of a BIT STRING of the document whose entry this is, and the octets that hold them; `None` of
-    /// any other block.
-    ///
-    /// # Errors
-    /// `OutOfMemory`; with an entry of another document also others.
-    pub fn bits(
+    // The number of bits of a BIT STRING of the document whose entry this is, and the octets that hold them.
+    pub(crate) fn bits(
         &self,
         alloc: Global,
         document: &[u8],
@@ -188,11 +180,12 @@ impl Entry {
         }
     }
 
-    /// The moment of a UTCTime or GeneralizedTime of the document whose entry this is; `None` for any other block.
-    ///
-    /// # Errors
-    /// `OutOfMemory`; with an entry of another document also others.
-    pub fn moment(&self, alloc: Global, document: &[u8]) -> Result<Option<DateTime>, ASN1DecodeErr>
+    // The moment of a UTCTime or GeneralizedTime of the document whose entry this is.
+    pub(crate) fn moment(
+        &self,
+        alloc: Global,
+        document: &[u8],
+    ) -> Result<Option<DateTime>, ASN1DecodeErr>
         ensures { (b : Tree ℕ) → IsEntryOf document.now b self.now → MatchResult result
             (λ found. MatchOption found
             (tree_moment b ≡ None)
@@ -214,8 +207,12 @@ impl Entry {
         }
     }
 
-    /// The number of an INTEGER of the document whose entry this is; `None` for any other block.
-    pub fn integer(&self, alloc: Global, document: &[u8]) -> Result<Option<BigInt>, AllocError>
+    // The number of an INTEGER of the document whose entry this is.
+    pub(crate) fn integer(
+        &self,
+        alloc: Global,
+        document: &[u8],
+    ) -> Result<Option<BigInt>, AllocError>
         ensures { (b : Tree ℕ) → IsEntryOf document.now b self.now → IfOk result
             (λ found. MatchOption found (tree_integer b ≡ None) (λ n. tree_integer b ≡ Some n)) }
     {
@@ -231,11 +228,12 @@ impl Entry {
         }
     }
 
-    /// The text of a string of any of the six kinds, of the document whose entry this is; `None` for any other block.
-    ///
-    /// # Errors
-    /// `OutOfMemory`; with an entry of another document also an error of contents octets that are not text.
-    pub fn text(&self, alloc: Global, document: &[u8]) -> Result<Option<String>, ASN1DecodeErr>
+    // The text of a string of any of the six kinds, of the document whose entry this is.
+    pub(crate) fn text(
+        &self,
+        alloc: Global,
+        document: &[u8],
+    ) -> Result<Option<String>, ASN1DecodeErr>
         ensures { (b : Tree ℕ) → IsEntryOf document.now b self.now → MatchResult result
             (λ found. MatchOption found
             (tree_text b ≡ None)
@@ -251,6 +249,68 @@ impl Entry {
         match text::read(alloc, form, contents) {
             Ok(text) => Ok(Some(text)),
             Err(e) => Err(e),
+        }
+    }
+
+    // The octets of an OCTET STRING of the document whose entry this is.
+    pub(crate) fn octets<'a>(&self, document: &'a [u8]) -> Option<&'a [u8]>
+        ensures { (b : Tree ℕ) → IsEntryOf document.now b self.now → MatchOption result
+            (tree_octets b ≡ None)
+            (λ octets. tree_octets b ≡ Some octets.now) }
+    {
+        self.leaf_in(document, 4)
+    }
+
+    // The contents octets of a primitive encoding of class Universal of the document whose entry this is, if its tag
+    // number has no rule.
+    fn primitive_in<'a>(&self, document: &'a [u8]) -> Option<&'a [u8]>
+        requires small { self.now.tag < 64 }
+        requires unknown { is_known_tag self.now.tag ≡ false }
+        ensures { (b : Tree ℕ) → IsEntryOf document.now b self.now → MatchOption result
+            (IsNoPrimitive b)
+            (λ contents. IsPrimitive self.now.tag contents.now b) }
+    {
+        match self.class {
+            ASN1Class::Universal => {
+                if self.constructed {
+                    return None;
+                }
+                self.contents_in(document)
+            }
+            _ => None,
+        }
+    }
+
+    // The number of an ENUMERATED of the document whose entry this is.
+    pub(crate) fn enumerated(
+        &self,
+        alloc: Global,
+        document: &[u8],
+    ) -> Result<Option<BigInt>, AllocError>
+        ensures { (b : Tree ℕ) → IsEntryOf document.now b self.now → IfOk result
+            (λ found. MatchOption found (tree_enumerated b ≡ None) (λ n. tree_enumerated b ≡ Some n)) }
+    {
+        if self.tag != 10 {
+            return Ok(None);
+        }
+        match self.primitive_in(document) {
+            Some(contents) => enumerated(alloc, 10, contents),
+            None => Ok(None),
+        }
+    }
+
+    // The text of a string of ASCII of the document whose entry this is.
+    pub(crate) fn ascii_text<'a>(&self, document: &'a [u8]) -> Option<&'a str>
+        ensures { (b : Tree ℕ) → IsEntryOf document.now b self.now → MatchOption result
+            (tree_ascii_text b ≡ None)
+            (λ text. tree_ascii_text b ≡ Some (chars text.now)) }
+    {
+        if !is_ascii_tag(self.tag) {
+            return None;
+        }
+        match self.primitive_in(document) {
+            Some(contents) => ascii_text(self.tag, contents),
+            None => None,
         }
     }
 
@@ -285,8 +345,7 @@ pub fn time_of(alloc: Global, tag: u64, contents: &[u8]) -> Result<Option<DateTi
     }
 }
 
-/// A law, with no code. Each entry of a document is that of the tree at its index, so what is read of an entry is that
-/// tree's.
+/// A law, with no code. Each entry of a document is that of the tree at its index.
 pub fn law_entries()
     ensures { EachIsOfItsTree }
 {}
