@@ -11,5 +11,5 @@ unreachable-requires c =
     (All-from_get_or (λ b. b < 256) c.args.i.now 0 (λ k h. omega (arith, c.type_inv.i k))) c.in_ok-document.ensures.document in
     elim c.in-Err.ensures.refused [
       | inl memory ↦ c.in_default.not-OutOfMemory memory
-      | inr fault ↦ let e : None ≡ Some c.in-Err.e = sym w ∙ (ap (λ z. first_write_fault z) (sym c.blocks-2.ensures) ∙ fault) in cc
+      | inr fault ↦ let e : None ≡ Some c.in-Err.e = sym w ∙ (ap (λ z. first_write_fault z) (sym c.blocks-2.ensures.trees) ∙ fault) in cc
     ]
