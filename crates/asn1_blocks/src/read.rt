@@ -5,7 +5,7 @@ ghost use Rattle.asn1_headers.specs.declared.error.ASN1DecodeErr.TheVariants.{Ou
 ghost use Rattle.asn1_headers.specs.Fault.{DecodeFault, OutOfMemoryOr, UnlessOutOfMemory};
 ghost use Rattle.asn1_blocks.specs.Grammar.{IsDocument, FirstFault, FirstFaultAt};
 ghost use Rattle.asn1_blocks.specs.HeadersBegun.{HeadersBegun};
-ghost use Rattle.asn1_blocks.specs.Inner.OpenFrames.{around};
+ghost use Rattle.asn1_blocks.specs.Inner.OpenFrames.{IsAttemptAlone, around};
 ghost use Rattle.asn1_blocks.specs.Inner.Owed.{after_all};
 ghost use Rattle.asn1_blocks.specs.Inner.TreeBuilding.{IsKept, IsOwed, IsAdded, builder_holds};
 ghost use Rattle.asn1_blocks.specs.Tree.{Trees};
@@ -16,7 +16,7 @@ use crate::contents::leaf_block;
 use crate::encoding::encoding_count;
 use crate::held::HeldBlocks;
 use crate::owed::{Owed, build, explicit_block, group_block, kept_block};
-use crate::parsed::PlacedHeader;
+use crate::parsed::{PlacedHeader, header_within};
 use crate::reading::{Attempt, Builder, Extent, FrameKind, out_of_memory, read_into};
 use asn1_headers::error::{ASN1DecodeErr, LocatedErr};
 use asn1_headers::header::{ASN1Class, HeaderCount};
@@ -275,7 +275,12 @@ impl Builder for TreeBuilder {
         parent: &mut FrameBlocks,
         depth: usize,
     ) -> Result<(), AllocError> {
-        let Extent { kind, start, end } = extent;
+        let Extent {
+            kind,
+            offset,
+            start,
+            end,
+        } = extent;
         let FrameBlocks {
             first,
             owed_before,
@@ -283,13 +288,14 @@ impl Builder for TreeBuilder {
         } = items;
         match kind {
             FrameKind::Whole => unreachable!(),
-            FrameKind::Group(group, offset) => {
+            FrameKind::Group(group) => {
                 if owed_count != 0 {
                     return self.owe(parent, Owed::Group(group, offset, first, owed_count));
                 }
                 self.push_block(parent, group_block(group, offset, first))
             }
-            FrameKind::Attempt(attempt) => {
+            FrameKind::Attempt => {
+                let attempt = attempt_at(alloc, octets, offset, end)?;
                 let inside = leave(&mut self.outermost, depth);
                 if owed_count == 1 && first.len() == 0 {
                     return self.owe(parent, Owed::Explicit(attempt));
@@ -314,10 +320,13 @@ impl Builder for TreeBuilder {
         parent: &mut FrameBlocks,
         depth: usize,
     ) -> Result<(), AllocError> {
-        let Extent { kind, start, end } = extent;
-        let FrameKind::Attempt(attempt) = kind else {
-            unreachable!()
-        };
+        let Extent {
+            offset,
+            start,
+            end,
+            ..
+        } = extent;
+        let attempt = attempt_at(alloc, octets, offset, end)?;
         let inside = leave(&mut self.outermost, depth);
         self.owed.truncate(items.owed_before);
         self.push_as_it_came(alloc, octets, parent, inside, attempt, start, end)
@@ -373,6 +382,24 @@ impl TreeBuilder {
         }
         let block = kept_block(alloc, attempt, &octets[start..end])?;
         self.push_block(items, block)
+    }
+}
+
+// The attempt whose header is at the offset, and whose contents octets end at `end`.
+fn attempt_at(
+    alloc: Global,
+    octets: &[u8],
+    offset: usize,
+    end: usize,
+) -> Result<Attempt, AllocError>
+    requires some { offset < end }
+    requires within { end ≤ length octets.now }
+    ensures { IfOk result (IsAttemptAlone octets.now offset end) }
+{
+    let mut count = HeaderCount::new();
+    match header_within(alloc, octets, 0, end, offset, &mut count) {
+        Ok(PlacedHeader { class, tag, .. }) => Ok(Attempt { class, offset, tag }),
+        Err(_) => Err(AllocError),
     }
 }
 

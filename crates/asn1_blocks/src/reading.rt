@@ -1,11 +1,11 @@
 // Reading, whatever is built of the blocks: one loop over the frames that are open, so that no function calls itself.
-ghost use Rattle.std.specs.Prelude.{◌≡◌, ◌≢◌, ◌↔◌, ℕ, ◌+◌, ◌-◌, ◌<◌, ◌≤◌, ◌^◌, ◌⊎◌, ◌++◌, ◌∷◌, [], List, is_some, length, reverse, IfOk, IfErr, IsTrue, MatchResult, OnOk};
+ghost use Rattle.std.specs.Prelude.{◌≡◌, ◌≢◌, ◌↔◌, ℕ, ◌+◌, ◌-◌, ◌<◌, ◌≤◌, ◌^◌, ◌⊎◌, ◌++◌, ◌∷◌, [], List, length, reverse, IfOk, IfErr, IsTrue, MatchResult, OnOk};
 ghost use Rattle.asn1_headers.specs.declared.error.ASN1DecodeErr.TheVariants.{OutOfMemory};
 ghost use Rattle.asn1_headers.specs.Fault.{OutOfMemoryOr, fault_of};
 ghost use Rattle.asn1_blocks.specs.Grammar.{FirstFaultAt};
 ghost use Rattle.asn1_blocks.specs.HeadersBegun.{HeadersBegun, IsReadInside};
 ghost use Rattle.asn1_blocks.specs.Places.{HeaderFound};
-ghost use Rattle.asn1_blocks.specs.Inner.OpenFrames.{IsKindOf, attempt_of};
+ghost use Rattle.asn1_blocks.specs.Inner.OpenFrames.{IsKindOf, is_tried};
 ghost use Rattle.asn1_blocks.specs.Inner.ReaderSteps.{CanBeKept, CanEnd, HasDocument, HasEndedIn, HasKept, HasLeaf, HasOpened, HasRecovered, HasStepped, HasTakenStep, IsEntered, IsFaulty, IsLeafFault, IsReading, Reads, StartsEmpty, in_frame, left};
 ghost use Rattle.asn1_blocks.specs.Tree.{Tree};
 ghost use Rattle.asn1_blocks.specs.declared.reading.OpenFrame.{OpenFrame};
@@ -27,20 +27,22 @@ pub struct Attempt {
     pub tag: BigUint,
 }
 
-// What the contents octets of a frame are.
+// What the contents octets of a frame are. The class and the tag of an attempt are read again at the frame's offset
+// when it ends: frames are moved whenever one opens or closes, so they are small.
 #[derive(Drop)]
 pub enum FrameKind {
     // The whole document.
     Whole,
-    // Those of a SEQUENCE or SET at the offset.
-    Group(GroupKind, usize),
-    Attempt(Attempt),
+    // Those of a SEQUENCE or SET.
+    Group(GroupKind),
+    Attempt,
 }
 
-// Contents octets, and where they begin and end in the document.
+// Contents octets, where they begin and end in the document, and the offset of their header.
 #[derive(Drop)]
 pub struct Extent {
     pub kind: FrameKind,
+    pub offset: usize,
     pub start: usize,
     pub end: usize,
 }
@@ -176,6 +178,7 @@ pub fn read_into<B: Builder>(
         inner: OpenFrame {
             extent: Extent {
                 kind: FrameKind::Whole,
+                offset: 0,
                 start: 0,
                 end: octets.len(),
             },
@@ -293,8 +296,12 @@ fn read_next<B: Builder>(
     let (start, end) = (header.start, header.end);
     if is_read_inside(&header) {
         let items = reader.builder.open(alloc, octets, &header, offset, depth)?;
-        let kind = kind_of(header, offset);
-        let extent = Extent { kind, start, end };
+        let extent = Extent {
+            kind: kind_of(&header),
+            offset,
+            start,
+            end,
+        };
         return Ok(enter(reader, OpenFrame { extent, items })?);
     }
     let items = &mut reader.inner.items;
@@ -316,19 +323,18 @@ pub fn is_read_inside(header: &PlacedHeader) -> bool
     }
 }
 
-// The frame of contents octets that are read as blocks, in an encoding at the offset.
+// The frame of contents octets that are read as blocks, in an encoding with the header.
 #[inline(always)]
-pub fn kind_of(header: PlacedHeader, offset: usize) -> FrameKind
-    requires { IsReadInside header.class header.constructed header.tag }
-    ensures { IsKindOf result header offset }
+pub fn kind_of(header: &PlacedHeader) -> FrameKind
+    requires { IsReadInside header.now.class header.now.constructed header.now.tag }
+    ensures { IsKindOf result header.now }
 {
-    let PlacedHeader { class, tag, .. } = header;
-    match class {
-        ASN1Class::Universal => match tag.to_u64() {
-            Some(16) => FrameKind::Group(GroupKind::Sequence, offset),
-            _ => FrameKind::Group(GroupKind::Set, offset),
+    match header.class {
+        ASN1Class::Universal => match header.tag.to_u64() {
+            Some(16) => FrameKind::Group(GroupKind::Sequence),
+            _ => FrameKind::Group(GroupKind::Set),
         },
-        _ => FrameKind::Attempt(Attempt { class, offset, tag }),
+        _ => FrameKind::Attempt,
     }
 }
 
@@ -409,7 +415,7 @@ fn refuse<B: Builder>(
 // Whether a fault inside the frame ends there.
 #[inline(always)]
 pub fn is_attempt(kind: &FrameKind) -> bool
-    ensures { result ≡ is_some (attempt_of kind.now) }
+    ensures { result ≡ is_tried kind.now }
 {
-    matches!(kind, FrameKind::Attempt(_))
+    matches!(kind, FrameKind::Attempt)
 }

@@ -17,13 +17,13 @@ use Rattle.asn1_blocks.specs.Grammar.{Encodes, EncodesAll, IsDocument}
 use Rattle.asn1_blocks.specs.HeadersBegun.{IsReadInside}
 use Rattle.asn1_blocks.specs.Places.{HeaderFound}
 use Rattle.asn1_blocks.specs.Inner.LeafBlocks.{IsSingleAt}
-use Rattle.asn1_blocks.specs.Inner.OpenFrames.{IsAttemptAt, IsEnded, IsHeaded, IsKindOf, as_it_came, attempted}
-use Rattle.asn1_blocks.specs.Inner.ReaderSteps.{EndsAs, HasEndedIn, HasKept, HasLeaf, HasOpened, in_frame}
+use Rattle.asn1_blocks.specs.Inner.OpenFrames.{IsAttemptAt, IsEnded, as_it_came, attempted}
+use Rattle.asn1_blocks.specs.Inner.ReaderSteps.{EndsAs, HasEndedIn, HasKept, HasLeaf, HasOpened, in_frame, opened_at}
 use Rattle.asn1_blocks.specs.Tree.{Tree, Trees, explicit, group, leaf, no_trees, trees_of, unknown}
 use Rattle.asn1_blocks.specs.View.{tree_offset}
 use Rattle.asn1_blocks.proofs.Slices.{encodes_offset}
 use Rattle.asn1_outline.specs.Entries.{AreEntries, AreEntriesOf, no_entry}
-use Rattle.asn1_outline.specs.Listing.{AllHold, AreOfTrees, IsBegun, all_hold, builder_holds, offset_of, sealed, with_items}
+use Rattle.asn1_outline.specs.Listing.{AllHold, AreOfTrees, IsBegun, all_hold, builder_holds, sealed, with_items}
 use Rattle.asn1_outline.specs.Structure.{Holds, IsNode, IsTaggedAt, Node, no_nodes, node, node_depths, node_in_order, node_tree, nodes_depths, nodes_in_order, nodes_of, nodes_trees}
 use Rattle.asn1_outline.specs.declared.entry.Entry.{Entry}
 use Rattle.asn1_outline.specs.declared.listing.EntryBuilder.{EntryBuilder}
@@ -77,7 +77,7 @@ all_added x rs ss e i (h ∷ gs) ts (us ∷ rest) n is w a =
 -- a new frame inside
 all_opened :
     (x : List ℕ) (rs : List Entry) (r : Entry) (f g : OpenFrame EntryItems) (gs : List (OpenFrame EntryItems)) (trees : List (List (Tree ℕ))) →
-    IsBegun x (offset_of f.extent.kind) f.items.entry (length gs) r → f.items.entry ≡ length rs → f.items.count ≡ 0 → all_hold x rs (g ∷ gs) trees →
+    IsBegun x f.extent.offset f.items.entry (length gs) r → f.items.entry ≡ length rs → f.items.count ≡ 0 → all_hold x rs (g ∷ gs) trees →
     all_hold x (rs ++ r ∷ []) (f ∷ g ∷ gs) ([] ∷ trees)
 all_opened x rs r f g gs [] b at none a = absurd a
 all_opened x rs r f g gs (us ∷ rest) b at none a = record {
@@ -92,21 +92,15 @@ all_opened x rs r f g gs (us ∷ rest) b at none a = record {
   around = a;
 }
 
-kind_offset : (kind : FrameKind) (h : PlacedHeader) (o : ℕ) → IsKindOf kind h o → offset_of kind ≡ o
-kind_offset Whole h o k = absurd k
-kind_offset (Group g p) h o k = k.2
-kind_offset (Attempt a) h o k = ap (λ (z : other.Attempt). z.offset) k.2
-
 pub opened :
     (x : List ℕ) (h : PlacedHeader) (offset depth : ℕ) (a b : EntryBuilder) (i : EntryItems) (r : Entry) → IsBegun x offset i.entry depth r →
     i.entry ≡ length a.entries.items → i.count ≡ 0 → b.entries.items ≡ a.entries.items ++ r ∷ [] → HasOpened builder_holds x h offset depth a i b
 opened x h offset depth a b i r begun at none is = record {
   holds = λ kind f fs trees d k w.
-      let e : Extent = record { kind = kind; start = h.start; end = h.end } in
+      let e = opened_at offset kind h in
       let deep = subst (λ z. IsBegun x offset i.entry z r) d begun in
-      let place = subst (λ z. IsBegun x z i.entry (length fs) r) (sym (kind_offset kind h offset k)) deep in
       subst (λ z. all_hold x z (in_frame e i ∷ f ∷ fs) ([] ∷ trees)) (sym is)
-      (all_opened x a.entries.items r (in_frame e i) f fs trees place at none w);
+      (all_opened x a.entries.items r (in_frame e i) f fs trees deep at none w);
 }
 
 -- a leaf, or an encoding that is not read inside, holds none
@@ -179,19 +173,18 @@ attempted_offset x a s e (t ∷ []) = refl
 attempted_offset x a s e (t ∷ u ∷ ts) = refl
 
 ended_holds : (x : List ℕ) (e : Extent) (ts : List (Tree ℕ)) (t : Tree ℕ) (bs : Trees ℕ) → trees_of ts ≡ bs → EndsAs x e ts t
-    → Holds x t bs × (tree_offset t ≡ offset_of e.kind)
+    → Holds x t bs × (tree_offset t ≡ e.offset)
 ended_holds x e ts t bs same w = go e.kind refl
   where
-    go : (kind : FrameKind) → e.kind ≡ kind → Holds x t bs × (tree_offset t ≡ offset_of e.kind)
-    go Whole d = absurd (subst (λ z. IsEnded x z e.start e.end ts t) d w.tree)
-    go (Group y p) d =
-        let is : t ≡ group p y (trees_of ts) = subst (λ z. IsEnded x z e.start e.end ts t) d w.tree in
-        (subst (λ z. Holds x z bs) (sym is) (sym same), ap tree_offset is ∙ sym (ap offset_of d))
-    go (Attempt a) d =
-        let is : t ≡ attempted x a e.start e.end ts = subst (λ z. IsEnded x z e.start e.end ts t) d w.tree in
-        let head = subst (λ z. IsHeaded x z w.offset e.start e.end) d w.headed in
-        let holds = attempt_holds x a e.start e.end ts bs same (omega (arith, head.0, w.after)) w.order head.1 w.encoded in
-        (subst (λ z. Holds x z bs) (sym is) holds, ap tree_offset is ∙ (attempted_offset x a e.start e.end ts ∙ sym (ap offset_of d)))
+    go : (kind : FrameKind) → e.kind ≡ kind → Holds x t bs × (tree_offset t ≡ e.offset)
+    go Whole d = absurd (subst (λ z. IsEnded x z e.offset e.start e.end ts t) d w.tree)
+    go (Group y) d =
+        let is : t ≡ group e.offset y (trees_of ts) = subst (λ z. IsEnded x z e.offset e.start e.end ts t) d w.tree in
+        (subst (λ z. Holds x z bs) (sym is) (sym same), ap tree_offset is)
+    go Attempt d =
+        let (a, here, at, is) = subst (λ z. IsEnded x z e.offset e.start e.end ts t) d w.tree in
+        let holds = attempt_holds x a e.start e.end ts bs same (omega (arith, here, w.after)) w.order at w.encoded in
+        (subst (λ z. Holds x z bs) (sym is) holds, ap tree_offset is ∙ (attempted_offset x a e.start e.end ts ∙ here))
 
 -- the entry of a frame
 pub entry_within : (x : List ℕ) (rs : List Entry) (f h : OpenFrame EntryItems) (gs : List (OpenFrame EntryItems)) (trees : List (List (Tree ℕ)))
@@ -214,8 +207,8 @@ ended x a b f i depth is = record {
       let count : f.items.count ≡ length blocks.nodes = w.count ∙ (sym (ap length blocks.trees) ∙ length-map blocks.nodes node_tree) in
       let all = nodes_of blocks.nodes in
       let own = subst (λ z. AreEntries x (suc z) (nodes_in_order all) (nodes_depths (suc (length fs)) all) w.own) w.entry blocks.entries in
-      let begun = subst (λ z. IsBegun x (offset_of f.extent.kind) z (length fs) w.head) w.entry w.begun in
-      let entries = sealed_entry x (offset_of f.extent.kind) (length w.front) (length fs) f.items.count (length rs) t blocks.nodes w.head w.own place count size
+      let begun = subst (λ z. IsBegun x f.extent.offset z (length fs) w.head) w.entry w.begun in
+      let entries = sealed_entry x f.extent.offset (length w.front) (length fs) f.items.count (length rs) t blocks.nodes w.head w.own place count size
       begun own in
       let new = with_items f.items.count (length rs) w.head ∷ w.own in
       let made : sealed rs f.items.entry f.items.count ≡ w.front ++ new =
@@ -260,7 +253,7 @@ frames_left x rs (y ∷ inside) f gs (u ∷ lost) ts rest m a = inner_left x rs 
 pub kept : (x : List ℕ) (a b : EntryBuilder) (f : OpenFrame EntryItems) (i : EntryItems) (depth : ℕ)
     → b.entries.items ≡ take (suc f.items.entry) a.entries.items → HasKept builder_holds x f depth a i b (one_more i)
 kept x a b f i depth is = record {
-  holds = λ inside lost e fs ts us rest k d m kind none held.
+  holds = λ inside lost e fs ts us rest k d m here tried none held.
       let rs = a.entries.items in
       let left = frames_left x rs inside f (in_frame e i ∷ fs) lost ts (us ∷ rest) m held in
       let w = left.holds in
@@ -271,7 +264,7 @@ kept x a b f i depth is = record {
       ap (take (suc f.items.entry)) all
       ∙ ap (λ z. take (suc z) (w.front ++ w.head ∷ (w.own ++ left.more))) w.entry
       ∙ take_after w.front w.head (w.own ++ left.more) in
-      let place = subst (λ z. IsBegun x z f.items.entry (length fs) w.head) (ap offset_of kind) w.begun in
+      let place = subst (λ z. IsBegun x z f.items.entry (length fs) w.head) (sym here) w.begun in
       let at = subst (λ z. IsBegun x k.offset z (length fs) w.head) w.entry place in
       let own = begun_entry x k.offset (length w.front) (length fs) t w.head refl at in
       subst (λ z. AllHold x z (in_frame e (one_more i)) fs (us ++ t ∷ []) rest) (sym (is ∙ made))

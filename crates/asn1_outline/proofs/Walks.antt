@@ -1,13 +1,13 @@
 -- The steps of a walk over headers.
-use Rattle.std.proofs.Common.{◌≡◌, ◌≢◌, ℕ, suc, ◌+◌, ◌<◌, ◌≤◌, ◌++◌, true, List, [], ◌∷◌, Err, Global, Ok, OnOk, Result, Vec, inl, inr, is_some, length, reverse, take, refl, sym, ap, ◌∙◌, subst, arith, append_assoc, append-nil, length-append}
+use Rattle.std.proofs.Common.{◌≡◌, ◌≢◌, ℕ, suc, ◌+◌, ◌<◌, ◌≤◌, ◌++◌, true, List, [], ◌∷◌, Err, Global, Ok, OnOk, Result, Vec, inl, inr, length, reverse, take, refl, sym, ap, ◌∙◌, subst, arith, append_assoc, append-nil, length-append}
 use Rattle.std.proofs.lemmas.Bool.{false≢true}
 use Rattle.std.specs.declared.alloc.AllocError.{AllocError}
 use Rattle.std.proofs.lemmas.List.{length-reverse, reverse-append}
 use Rattle.asn1_headers.specs.Fault.{DecodeFault}
 use Rattle.asn1_headers.specs.declared.header.ASN1Class.TheVariants.{Universal}
 use Rattle.asn1_blocks.specs.HeadersBegun.{IsReadInside}
-use Rattle.asn1_blocks.specs.Inner.OpenFrames.{IsKindOf, attempt_of}
-use Rattle.asn1_blocks.specs.Inner.ReaderSteps.{IsEntered, in_frame, left}
+use Rattle.asn1_blocks.specs.Inner.OpenFrames.{IsKindOf, is_tried}
+use Rattle.asn1_blocks.specs.Inner.ReaderSteps.{IsEntered, in_frame, left, opened_at}
 use Rattle.asn1_blocks.specs.Places.{HeaderFound}
 use Rattle.asn1_blocks.specs.declared.parsed.PlacedHeader.{PlacedHeader}
 use Rattle.asn1_blocks.specs.declared.reading.FrameKind.{FrameKind}
@@ -30,15 +30,15 @@ abbrev pub Walk : Type 0
 Walk = Reader EntryBuilder EntryItems
 
 -- what a frame is of says whether it is an attempt
-attempt_class : (kind : FrameKind) (h : PlacedHeader) (o : ℕ) → IsKindOf kind h o → is_some (attempt_of kind) ≡ true → h.class ≢ Universal
-attempt_class Whole h o is tries = absurd is
-attempt_class (Group g at) h o is tries = absurd (false≢true tries)
-attempt_class (Attempt a) h o is tries = is.0
+attempt_class : (kind : FrameKind) (h : PlacedHeader) → IsKindOf kind h → is_tried kind ≡ true → h.class ≢ Universal
+attempt_class Whole h is tries = absurd is
+attempt_class (Group g) h is tries = absurd (false≢true tries)
+attempt_class Attempt h is tries = is.0
 
-group_class : (kind : FrameKind) (h : PlacedHeader) (o : ℕ) → IsKindOf kind h o → (is_some (attempt_of kind) ≡ true → ⊥) → h.class ≡ Universal
-group_class Whole h o is other = absurd is
-group_class (Group g at) h o is other = is.0
-group_class (Attempt a) h o is other = absurd (other refl)
+group_class : (kind : FrameKind) (h : PlacedHeader) → IsKindOf kind h → (is_tried kind ≡ true → ⊥) → h.class ≡ Universal
+group_class Whole h is other = absurd is
+group_class (Group g) h is other = is.0
+group_class Attempt h is other = absurd (other refl)
 
 -- the entry of an encoding, and those of what is inside it
 abbrev pub with_inside : ℕ → PlacedHeader → Shapes → ℕ → ℕ → List Entry
@@ -124,7 +124,7 @@ taken x f (g ∷ gs) p rs h items w found inside =
 -- a frame begins in it
 pub entered : (x : List ℕ) (f g : Framed) (gs : List Framed) (p : ℕ) (rs : List Entry) (h : PlacedHeader) → AreOpen x g gs p rs → HeaderFound x p g.extent.end h
     → IsReadInside h.class h.constructed h.tag → f.extent.start ≡ h.start → f.extent.end ≡ h.end → f.items.entry ≡ length rs → f.items.count ≡ 0
-    → IsKindOf f.extent.kind h p
+    → IsKindOf f.extent.kind h
     → AreOpen x f (g ∷ gs) h.start (rs ++ shape_entry p h 0 (suc (length rs)) (length gs) ∷ [])
 entered x f g gs p rs h w found inside start end entry none kind =
     let v = places x g gs p rs w in
@@ -187,14 +187,14 @@ entry_within x f g gs p rs w =
 
 -- a fault in the innermost frame, an attempt, which stays as it came
 pub kept : (x : List ℕ) (f g : Framed) (gs : List Framed) (p : ℕ) (rs front more : List Entry) (fault : DecodeFault) (o : ℕ) → rs ≡ front ++ more
-    → AreOpen x f (g ∷ gs) p front → HeadersFaultAt x f.extent.start p f.extent.end fault o → is_some (attempt_of f.extent.kind) ≡ true
+    → AreOpen x f (g ∷ gs) p front → HeadersFaultAt x f.extent.start p f.extent.end fault o → is_tried f.extent.kind ≡ true
     → AreOpen x (counted g) gs f.extent.end (take (suc f.items.entry) rs)
 kept x f g gs p rs front more fault o whole w q tries =
     let h = w.header in
     let d = length gs in
     let q' : HeadersFaultAt x h.start h.start h.end fault o =
     subst (λ z. HeadersFaultAt x z z h.end fault o) w.start (subst (λ z. HeadersFaultAt x f.extent.start f.extent.start z fault o) w.end (w.read.fault fault o q)) in
-    let other : h.class ≢ Universal = attempt_class f.extent.kind h w.offset w.kind tries in
+    let other : h.class ≢ Universal = attempt_class f.extent.kind h w.kind tries in
     let bit : h.constructed ≡ true = elim w.inside [ inl u ↦ absurd (other u.0) | inr u ↦ u.1 ] in
     let made = taken x g gs w.offset w.front h no_shapes w.around w.found (as_it_came other bit q') in
     let head = shape_entry w.offset h 0 (suc f.items.entry) d in
@@ -218,7 +218,7 @@ pub record IsOut (x : List ℕ) (g : Framed) (gs : List Framed) (rs : List Entry
   pub stops : HeadersFaultAt x g.extent.start reached g.extent.end fault o
 
 pub out : (x : List ℕ) (f g : Framed) (gs : List Framed) (p : ℕ) (rs front more : List Entry) (fault : DecodeFault) (o : ℕ) → rs ≡ front ++ more
-    → AreOpen x f (g ∷ gs) p front → HeadersFaultAt x f.extent.start p f.extent.end fault o → (is_some (attempt_of f.extent.kind) ≡ true → ⊥) → IsOut x g gs rs fault o
+    → AreOpen x f (g ∷ gs) p front → HeadersFaultAt x f.extent.start p f.extent.end fault o → (is_tried f.extent.kind ≡ true → ⊥) → IsOut x g gs rs fault o
 out x f g gs p rs front more fault o whole w q group =
     let h = w.header in
     let head = shape_entry w.offset h 0 (suc f.items.entry) (length gs) in
@@ -230,7 +230,7 @@ out x f g gs p rs front more fault o whole w q group =
       more = head ∷ (w.own ++ more);
       whole = whole ∙ ap (λ z. z ++ more) w.whole ∙ append_assoc w.front (head ∷ w.own) more;
       opened = w.around;
-      stops = in_item w.found (group_class f.extent.kind h w.offset w.kind group) w.inside q';
+      stops = in_item w.found (group_class f.extent.kind h w.kind group) w.inside q';
     }
 
 -- the frame around it ends behind it
@@ -295,16 +295,16 @@ module _ (x : List ℕ) (w : Walk) where
   -- a frame is entered
   pub frame_entered :
       (h : PlacedHeader) (b : EntryBuilder) (n : ℕ) (kind : FrameKind) (r : Walk) → IsReading x w → HeaderFound x w.index w.inner.extent.end h →
-      IsReadInside h.class h.constructed h.tag → IsKindOf kind h w.index →
+      IsReadInside h.class h.constructed h.tag → IsKindOf kind h →
       n ≡ length w.builder.entries.items →
       b.entries.items ≡ w.builder.entries.items
       ++ shape_entry w.index h 0 (suc (length w.builder.entries.items)) (length w.outer.items) ∷ [] →
-      IsEntered (record w { builder = b }) (in_frame (record { kind = kind; start = h.start; end = h.end }) (record { entry = n; count = 0 })) r →
+      IsEntered (record w { builder = b }) (in_frame (opened_at w.index kind h) (record { entry = n; count = 0 })) r →
       GoesOn x r (left (length x) w.index w.outer.items)
   frame_entered h b n kind r walking found inside is_kind at pushed e =
       let rs = w.builder.entries.items in
       let gs = reverse w.outer.items in
-      let f : Framed = in_frame (record { kind = kind; start = h.start; end = h.end }) (record { entry = n; count = 0 }) in
+      let f : Framed = in_frame (opened_at w.index kind h) (record { entry = n; count = 0 }) in
       let v = places x w.inner gs w.index rs walking in
       let now = entered x f w.inner gs w.index rs h walking found inside refl refl at refl is_kind in
       let same : r.builder.entries.items ≡ rs ++ shape_entry w.index h 0 (suc (length rs)) (length gs) ∷ [] =
@@ -332,7 +332,7 @@ module _ (x : List ℕ) (w : Walk) where
 
     -- an attempt stays as it came
     pub faulty_kept :
-        (b : EntryBuilder) (i : EntryItems) → is_some (attempt_of w.inner.extent.kind) ≡ true →
+        (b : EntryBuilder) (i : EntryItems) → is_tried w.inner.extent.kind ≡ true →
         b.entries.items ≡ take (suc w.inner.items.entry) w.builder.entries.items → i ≡ one_item_more g.items →
         GoesOn x (record { inner = record g { items = i }; outer = outer; index = w.inner.extent.end; builder = b; fault = w.fault }) most
     faulty_kept b i tries cut more =
@@ -346,7 +346,7 @@ module _ (x : List ℕ) (w : Walk) where
         }
 
     -- a group hands the fault on
-    pub faulty_out : (is_some (attempt_of w.inner.extent.kind) ≡ true → ⊥)
+    pub faulty_out : (is_tried w.inner.extent.kind ≡ true → ⊥)
         → IsFaulty x (record { inner = g; outer = outer; index = w.index; builder = w.builder; fault = w.fault }) fault o most
     faulty_out group =
         let gs = reverse outer.items in

@@ -1,7 +1,5 @@
 -- What the builder of entries holds. Private contracts alone name this.
 use Rattle.std.specs.Prelude.{◌≡◌, ℕ, suc, ◌++◌, List, [], ◌∷◌, get_or, length, map, set}
-use Rattle.asn1_blocks.specs.declared.reading.FrameKind.{FrameKind}
-use Rattle.asn1_blocks.specs.declared.reading.FrameKind.TheVariants.{Whole, Group, Attempt}
 use Rattle.asn1_blocks.specs.declared.reading.OpenFrame.{OpenFrame}
 use Rattle.asn1_blocks.specs.Tree.{Tree}
 use Rattle.asn1_outline.specs.Entries.{AreEntries, HasHeaderAt, no_entry}
@@ -17,12 +15,6 @@ pub record IsBegun (document : List ℕ) (start index deep : ℕ) (r : Entry) : 
   pub items : r.items ≡ 0
   pub next : r.next ≡ suc index
   pub depth : r.depth ≡ deep
-
--- where the header of a frame begins
-abbrev pub offset_of : FrameKind → ℕ
-offset_of Whole = 0
-offset_of (Group g o) = o
-offset_of (Attempt a) = a.offset
 
 -- the entries are of blocks with these trees, and of all that these hold; the first has this index
 pub record AreOfTrees (document : List ℕ) (index deep : ℕ) (ts : List (Tree ℕ)) (rs : List Entry) : Type 0 where
@@ -40,7 +32,7 @@ pub record IsHeld (document : List ℕ) (f : OpenFrame EntryItems) (deep : ℕ) 
   pub whole : rs ≡ front ++ head ∷ own
   pub entry : f.items.entry ≡ length front
   pub count : f.items.count ≡ length ts
-  pub begun : IsBegun document (offset_of f.extent.kind) f.items.entry deep head
+  pub begun : IsBegun document f.extent.offset f.items.entry deep head
   pub blocks : AreOfTrees document (suc f.items.entry) (suc deep) ts own
   pub around : Around front
 

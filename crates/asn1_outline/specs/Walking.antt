@@ -52,7 +52,7 @@ pub record IsInside (document : List ℕ) (f g : OpenFrame EntryItems) (depth : 
   pub inside : IsReadInside header.class header.constructed header.tag
   pub start : f.extent.start ≡ header.start
   pub end : f.extent.end ≡ header.end
-  pub kind : IsKindOf f.extent.kind header offset
+  pub kind : IsKindOf f.extent.kind header
   pub read : IsReadTo document f.extent.start f.extent.end reached (suc f.items.entry) (suc depth) f.items.count own
   pub around : Around offset front
 

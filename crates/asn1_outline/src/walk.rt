@@ -36,6 +36,7 @@ pub fn list_headers(alloc: Global, octets: &[u8]) -> Result<Vec<Entry>, LocatedE
         inner: OpenFrame {
             extent: Extent {
                 kind: FrameKind::Whole,
+                offset: 0,
                 start: 0,
                 end: octets.len(),
             },
@@ -107,7 +108,8 @@ fn take(
     let (start, end) = (header.start, header.end);
     if is_read_inside(&header) {
         let extent = Extent {
-            kind: kind_of(header, offset),
+            kind: kind_of(&header),
+            offset,
             start,
             end,
         };

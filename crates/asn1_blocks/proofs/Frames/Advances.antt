@@ -51,7 +51,6 @@ opened_more octets f [] p q n m t o w =
     record { whole = record { kind = o.whole.kind; start = o.whole.start; end = o.whole.end }; read = follows_read octets f p q n m t o.read w }
 opened_more octets f (g ∷ gs) p q n m t o w =
     record {
-      offset = o.offset;
       before = o.before;
       own = o.own + m;
       headed = o.headed;
@@ -81,7 +80,7 @@ read_bound octets f p n r =
 pub opened_bound : (octets : List ℕ) (f : Frame) (gs : List Frame) (p n : ℕ) → AreOpen octets f gs p n → n ≤ p
 opened_bound octets f [] p n o = omega (arith, read_bound octets f p n o.read)
 opened_bound octets f (g ∷ gs) p n o =
-    omega (arith, read_bound octets f p o.own o.read, opened_bound octets g gs o.offset o.before o.around, o.after, o.total)
+    omega (arith, read_bound octets f p o.own o.read, opened_bound octets g gs f.extent.offset o.before o.around, o.after, o.total)
 
 -- also with the block that follows
 pub follows_bound : (octets : List ℕ) (f : Frame) (gs : List Frame) (p q n m : ℕ) (t : Tree ℕ) → AreOpen octets f gs p n → Follows octets f p q t m

@@ -10,7 +10,7 @@ use Rattle.asn1_blocks.specs.Contents.{group_tag}
 use Rattle.asn1_blocks.specs.Grammar.{Encodes, EncodesAll, IsBlock, of_group, of_other_class}
 use Rattle.asn1_headers.specs.Header.{Encoding}
 use Rattle.asn1_blocks.specs.HeadersBegun.{HeadersBegun}
-use Rattle.asn1_blocks.specs.Inner.OpenFrames.{AreOpen, Frame, IsEnded, IsHeaded, around, as_it_came, attempted}
+use Rattle.asn1_blocks.specs.Inner.OpenFrames.{AreOpen, Frame, IsAttemptAt, IsEnded, IsHeaded, around, as_it_came, attempted}
 use Rattle.asn1_blocks.specs.Tree.{Tree, group, trees_of}
 use Rattle.asn1_blocks.proofs.Faults.{one_block, tree_count}
 use Rattle.asn1_blocks.proofs.Frames.Stopping.{IsClosed, whole_document}
@@ -33,25 +33,26 @@ end_document octets f n o =
     }
 
 -- a group
-pub close_group : (octets : List ℕ) (f g : Frame) (gs : List Frame) (n x : ℕ) (y : GroupKind) → f.extent.kind ≡ Group y x
-    → AreOpen octets f (g ∷ gs) f.extent.end n → IsClosed octets g gs f.extent.end (group x y (trees_of f.trees)) n
-close_group octets f g gs n x y k o =
+pub close_group : (octets : List ℕ) (f g : Frame) (gs : List Frame) (n : ℕ) (y : GroupKind) → f.extent.kind ≡ Group y
+    → AreOpen octets f (g ∷ gs) f.extent.end n → IsClosed octets g gs f.extent.end (group f.extent.offset y (trees_of f.trees)) n
+close_group octets f g gs n y k o =
+    let x = f.extent.offset in
     let s = f.extent.start in
     let z = f.extent.end in
     let contents = slice_range octets s z in
     let trees = trees_of f.trees in
-    let H = subst (λ i. IsHeaded octets i o.offset s z) k o.headed in
-    let bit = H.1.constructed in
-    let F = H.1.encoding in
-    let at : s ≡ x + (s - x) = omega (arith, H.0, o.after) in
+    let H = subst (λ i. IsHeaded octets i x s z) k o.headed in
+    let bit = H.constructed in
+    let F = H.encoding in
+    let at : s ≡ x + (s - x) = omega (arith, o.after) in
     let is_block = of_group F y refl (encodes_blocks s contents trees o.read.encoded) in
     record {
       reached = x;
       before = o.before;
       own = 1 + o.own;
-      opened = subst (λ i. AreOpen octets g gs i o.before) (sym H.0) o.around;
+      opened = o.around;
       follows = record {
-        from = omega (arith, H.0, o.after, o.read.from, o.read.to);
+        from = omega (arith, o.after, o.read.from, o.read.to);
         to = o.ends_within;
         encoded = (refl, bit, contents, s - x, F, subst (λ i. EncodesAll i contents trees) at o.read.encoded);
         begun = begun_opened (slice_range octets x z) Universal bit (group_tag y) contents (s - x) o.own F (inl (refl, group_tag_is y)) is_block o.read.begun;
@@ -66,27 +67,26 @@ Means a contents ts t =
     → Encodes a.offset all t
 
 -- an attempt
-pub close_attempt : (octets : List ℕ) (f g : Frame) (gs : List Frame) (n : ℕ) (a : other.Attempt) (t : Tree ℕ) → f.extent.kind ≡ Attempt a
-    → Means a (slice_range octets f.extent.start f.extent.end) f.trees t → AreOpen octets f (g ∷ gs) f.extent.end n
+pub close_attempt : (octets : List ℕ) (f g : Frame) (gs : List Frame) (n : ℕ) (a : other.Attempt) (t : Tree ℕ) → a.offset ≡ f.extent.offset
+    → IsAttemptAt octets a f.extent.start f.extent.end → Means a (slice_range octets f.extent.start f.extent.end) f.trees t → AreOpen octets f (g ∷ gs) f.extent.end n
     → IsClosed octets g gs f.extent.end t n
-close_attempt octets f g gs n a t k means o =
+close_attempt octets f g gs n a t here H means o =
     let s = f.extent.start in
     let z = f.extent.end in
     let contents = slice_range octets s z in
     let all = slice_range octets a.offset z in
-    let H = subst (λ i. IsHeaded octets i o.offset s z) k o.headed in
-    let F = H.1.encoding in
-    let at : s ≡ a.offset + (s - a.offset) = omega (arith, H.0, o.after) in
+    let F = H.encoding in
+    let at : s ≡ a.offset + (s - a.offset) = omega (arith, here, o.after) in
     record {
       reached = a.offset;
       before = o.before;
       own = 1 + o.own;
-      opened = subst (λ i. AreOpen octets g gs i o.before) (sym H.0) o.around;
+      opened = subst (λ i. AreOpen octets g gs i o.before) (sym here) o.around;
       follows = record {
-        from = omega (arith, H.0, o.after, o.read.from, o.read.to);
+        from = omega (arith, here, o.after, o.read.from, o.read.to);
         to = o.ends_within;
-        encoded = means all (s - a.offset) H.1.other F (subst (λ i. EncodesAll i contents (trees_of f.trees)) at o.read.encoded);
-        begun = begun_opened all a.class true a.tag contents (s - a.offset) o.own F (inr (H.1.other, refl)) (of_other_class F H.1.other) o.read.begun;
+        encoded = means all (s - a.offset) H.other F (subst (λ i. EncodesAll i contents (trees_of f.trees)) at o.read.encoded);
+        begun = begun_opened all a.class true a.tag contents (s - a.offset) o.own F (inr (H.other, refl)) (of_other_class F H.other) o.read.begun;
       };
       total = o.total;
     }
@@ -113,26 +113,26 @@ attempt_means octets a s e (t ∷ []) = one_means a (slice_range octets s e) t
 attempt_means octets a s e (t ∷ u ∷ ts) = other_means octets a s e (t ∷ u ∷ ts) (λ z. absurd (omega (arith, z)))
 
 -- the tree of a frame that is not the document
-pub ended : (octets : List ℕ) (kind : FrameKind) (s e : ℕ) (ts : List (Tree ℕ)) → kind ≢ Whole → (t : Tree ℕ) × IsEnded octets kind s e ts t
-ended octets Whole s e ts other_kind = absurd (other_kind refl)
-ended octets (Group g o) s e ts other_kind = (group o g (trees_of ts), refl)
-ended octets (Attempt a) s e ts other_kind = (attempted octets a s e ts, refl)
+pub ended : (octets : List ℕ) (kind : FrameKind) (o s e : ℕ) (ts : List (Tree ℕ)) → IsHeaded octets kind o s e → (t : Tree ℕ) × IsEnded octets kind o s e ts t
+ended octets Whole o s e ts H = absurd H
+ended octets (Group g) o s e ts H = (group o g (trees_of ts), refl)
+ended octets Attempt o s e ts (a, here, at) = (attempted octets a s e ts, (a, here, at, refl))
 
 pub inside_other : (octets : List ℕ) (f g : Frame) (gs : List Frame) (p n : ℕ) → AreOpen octets f (g ∷ gs) p n → f.extent.kind ≢ Whole
-inside_other octets f g gs p n o is = absurd (subst (λ z. IsHeaded octets z o.offset f.extent.start f.extent.end) is o.headed)
+inside_other octets f g gs p n o is = absurd (subst (λ z. IsHeaded octets z f.extent.offset f.extent.start f.extent.end) is o.headed)
 
 -- follows in the frame around it
-pub close_frame : (octets : List ℕ) (f g : Frame) (gs : List Frame) (n : ℕ) (t : Tree ℕ) → IsEnded octets f.extent.kind f.extent.start f.extent.end f.trees t
+pub close_frame : (octets : List ℕ) (f g : Frame) (gs : List Frame) (n : ℕ) (t : Tree ℕ) → IsEnded octets f.extent.kind f.extent.offset f.extent.start f.extent.end f.trees t
     → AreOpen octets f (g ∷ gs) f.extent.end n → IsClosed octets g gs f.extent.end t n
 close_frame octets f g gs n t is o = go f.extent.kind refl
   where
     go : (kind : FrameKind) → f.extent.kind ≡ kind → IsClosed octets g gs f.extent.end t n
     go Whole d = absurd (inside_other octets f g gs f.extent.end n o d)
-    go (Group y x) d =
-        let this = subst (λ z. IsEnded octets z f.extent.start f.extent.end f.trees t) d is in
-        subst (λ z. IsClosed octets g gs f.extent.end z n) (sym this) (close_group octets f g gs n x y d o)
-    go (Attempt a) d =
-        let this = subst (λ z. IsEnded octets z f.extent.start f.extent.end f.trees t) d is in
+    go (Group y) d =
+        let this = subst (λ z. IsEnded octets z f.extent.offset f.extent.start f.extent.end f.trees t) d is in
+        subst (λ z. IsClosed octets g gs f.extent.end z n) (sym this) (close_group octets f g gs n y d o)
+    go Attempt d =
+        let (a, here, at, this) = subst (λ z. IsEnded octets z f.extent.offset f.extent.start f.extent.end f.trees t) d is in
         let means = attempt_means octets a f.extent.start f.extent.end f.trees in
         subst (λ z. IsClosed octets g gs f.extent.end z n) (sym this)
-        (close_attempt octets f g gs n a (attempted octets a f.extent.start f.extent.end f.trees) d means o)
+        (close_attempt octets f g gs n a (attempted octets a f.extent.start f.extent.end f.trees) here at means o)

@@ -1,11 +1,12 @@
 -- A header in a frame, and what it leads: a frame inside, or a leaf.
-use Rattle.std.proofs.Common.{◌≡◌, ℕ, ◌+◌, ◌-◌, ◌<◌, ◌≤◌, ◌^◌, Bool, List, [], ◌∷◌, inl, inr, length, refl, sym, ◌∙◌, subst, arith}
+use Rattle.std.proofs.Common.{◌≡◌, ℕ, ◌+◌, ◌-◌, ◌<◌, ◌≤◌, ◌^◌, Bool, true, List, [], ◌∷◌, inl, inr, length, refl, sym, ap, ◌∙◌, subst, append-nil, arith}
 use Rattle.std.specs.List.{slice_range}
 use Rattle.asn1_headers.specs.declared.error.ASN1DecodeErr.{ASN1DecodeErr}
 use Rattle.asn1_headers.specs.declared.error.ASN1DecodeErr.TheVariants.{OutOfMemory}
 use Rattle.asn1_headers.specs.declared.header.ASN1Class.{ASN1Class}
 use Rattle.asn1_headers.specs.declared.header.ASN1Class.TheVariants.{Universal}
 use Rattle.asn1_blocks.specs.declared.parsed.PlacedHeader.{PlacedHeader}
+use Rattle.asn1_blocks.specs.declared.reading.Attempt as other
 use Rattle.asn1_blocks.specs.declared.reading.FrameKind.{FrameKind}
 use Rattle.asn1_blocks.specs.declared.reading.FrameKind.TheVariants.{Whole, Group, Attempt}
 use Rattle.asn1_headers.specs.Fault.{DecodeFault, OutOfMemoryOr, fault_of}
@@ -15,7 +16,7 @@ use Rattle.asn1_blocks.specs.Grammar.{Encodes, EncodesAll}
 use Rattle.asn1_blocks.specs.Inner.BlockFault.{BlockFaultAt, at_header, at_leaf}
 use Rattle.asn1_headers.specs.Header.{Encoding}
 use Rattle.asn1_blocks.specs.HeadersBegun.{IsReadInside, begun_none, begun_some, nothing_inside, nothing_after}
-use Rattle.asn1_blocks.specs.Inner.OpenFrames.{Frame, IsHeaded, AreOpen, IsStopping}
+use Rattle.asn1_blocks.specs.Inner.OpenFrames.{Frame, IsAttemptAt, IsHeaded, AreOpen, IsStopping}
 use Rattle.asn1_blocks.specs.Places.{IsEncodingBetween, HeaderFound}
 use Rattle.asn1_blocks.specs.Inner.OpenFrames.{IsKindOf}
 use Rattle.asn1_blocks.specs.Tree.{Tree, trees_of}
@@ -48,32 +49,45 @@ EncodingAt_moved octets i j a b y z c k n e f g F =
     (subst (λ w. IsEncodingBetween octets c k n j w y) f (subst (λ w. IsEncodingBetween octets c k n w a y) e F))
 
 -- the frame of contents octets that are read as blocks
-pub headed_by : (octets : List ℕ) (kind : FrameKind) (reached limit : ℕ) (h : PlacedHeader) → IsKindOf kind h reached → HeaderFound octets reached limit h
+pub headed_by : (octets : List ℕ) (kind : FrameKind) (reached limit : ℕ) (h : PlacedHeader) → IsKindOf kind h → HeaderFound octets reached limit h
     → IsHeaded octets kind reached h.start h.end
 headed_by octets Whole reached limit h k w = absurd k
-headed_by octets (Group g o) reached limit h k w =
+headed_by octets (Group g) reached limit h k w =
     let tag = subst (λ z. IsEncodingBetween octets h.class h.constructed z reached h.start h.end) k.1 w.encoding in
     let own = subst (λ z. IsEncodingBetween octets z h.constructed (group_tag g) reached h.start h.end) k.0 tag in
-    subst (λ z. IsHeaded octets (Group g z) reached h.start h.end) (sym k.2) (refl, record { constructed = h.constructed; encoding = own })
-headed_by octets (Attempt a) reached limit h k w =
+    record { constructed = h.constructed; encoding = own }
+headed_by octets Attempt reached limit h k w =
     let bit = subst (λ z. IsEncodingBetween octets h.class z h.tag reached h.start h.end) k.1 w.encoding in
-    subst (λ z. IsHeaded octets (Attempt z) reached h.start h.end) (sym k.2) (refl, record { other = k.0; encoding = bit })
+    (record { class = h.class; offset = reached; tag = h.tag }, refl, record { other = k.0; encoding = bit })
+
+-- the attempt with these fields
+abbrev pub attempt_with : ASN1Class → ℕ → ℕ → other.Attempt
+attempt_with class offset tag = record { class = class; offset = offset; tag = tag }
+
+-- whichever attempt begins where the header was found, it has the header's class and tag
+pub found_alone : (octets : List ℕ) (o e : ℕ) (h : PlacedHeader) → HeaderFound octets o e h → (b : other.Attempt) (start : ℕ) → b.offset ≡ o
+    → IsAttemptAt octets b start e → attempt_with h.class o h.tag ≡ b
+found_alone octets o e h found b start here at =
+    let behind = slice_range octets h.end e in
+    let d = slice_join octets o h.end e (omega (arith, found.starts_after, found.order)) found.ends_within in
+    let moved = subst (λ z. IsEncodingBetween octets b.class true b.tag z start e) here at.encoding in
+    let z = encoding_alone _ _ _ _ _ _ _ _ _ _ _ _ behind [] found.encoding moved (sym d ∙ sym (append-nil (slice_range octets o e))) in
+    ap (λ c. attempt_with c o h.tag) z.class ∙ (ap (λ i. attempt_with b.class i h.tag) (sym here) ∙ ap (attempt_with b.class b.offset) z.tag)
 
 -- a frame is opened
 pub opened_open : (octets : List ℕ) (f h : Frame) (gs : List Frame) (p n : ℕ) → h.trees ≡ []
-    → IsHeaded octets h.extent.kind p h.extent.start h.extent.end
+    → IsHeaded octets h.extent.kind h.extent.offset h.extent.start h.extent.end → h.extent.offset ≡ p
     → p < h.extent.start → h.extent.start ≤ h.extent.end → h.extent.end ≤ f.extent.end → AreOpen octets f gs p n
     → AreOpen octets h (f ∷ gs) h.extent.start (n + 1)
-opened_open octets f h gs p n e H lt le fits o =
+opened_open octets f h gs p n e H at lt le fits o =
     let w = opened_places octets f gs p n o in
     let s = h.extent.start in
     let none_yet = slice_none octets s in
     record {
-      offset = p;
       before = n;
       own = 0;
       headed = H;
-      after = lt;
+      after = omega (arith, at, lt);
       ends_within = fits;
       read = record {
         from = omega arith;
@@ -82,7 +96,7 @@ opened_open octets f h gs p n e H lt le fits o =
         encoded = subst (λ z. EncodesAll s (slice_range octets s s) (trees_of z)) (sym e) none_yet;
         begun = begun_none none_yet;
       };
-      around = o;
+      around = subst (λ z. AreOpen octets f gs z n) (sym at) o;
       total = omega arith;
     }
 

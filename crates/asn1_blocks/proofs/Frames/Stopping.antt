@@ -31,7 +31,7 @@ use Rattle.asn1_headers.specs.Fault.{DecodeFault}
 use Rattle.asn1_blocks.specs.Grammar.{AreBlocks, BlocksFaultAt, IsBlock, of_other_class}
 use Rattle.asn1_blocks.specs.Inner.BlockFault.{BlockFaultAt, at_item}
 use Rattle.asn1_blocks.specs.HeadersBegun.{HeadersBegun, begun_some, inside_first, nothing_after}
-use Rattle.asn1_blocks.specs.Inner.OpenFrames.{AreOpen, Frame, IsGroupAt, IsHeaded, IsReadTo, IsStopping, StopsAt, as_it_came}
+use Rattle.asn1_blocks.specs.Inner.OpenFrames.{AreOpen, Frame, IsAttemptAt, IsGroupAt, IsHeaded, IsReadTo, IsStopping, StopsAt, as_it_came}
 use Rattle.asn1_blocks.specs.Inner.ReaderSteps.{IsFaultyDocument}
 use Rattle.asn1_blocks.specs.Tree.{Tree, trees_of}
 use Rattle.asn1_blocks.proofs.Faults.{block_is_blocks, block_fault_no_block, blocks_fault_no_blocks}
@@ -94,33 +94,34 @@ group_stops octets g o s e y fault offset a small low lt le fits within G r =
     }
 
 -- a fault leaves a group
-stop_group : (octets : List ℕ) (f g : Frame) (gs : List Frame) (e : DecodeFault) (offset n x : ℕ) (y : GroupKind) → length octets < 2 ^ 64
-    → f.extent.kind ≡ Group y x → IsStopping octets f (g ∷ gs) e offset n → IsStopping octets g gs e offset n
-stop_group octets f g gs e offset n x y small k w =
+stop_group : (octets : List ℕ) (f g : Frame) (gs : List Frame) (e : DecodeFault) (offset n : ℕ) (y : GroupKind) → length octets < 2 ^ 64
+    → f.extent.kind ≡ Group y → IsStopping octets f (g ∷ gs) e offset n → IsStopping octets g gs e offset n
+stop_group octets f g gs e offset n y small k w =
     let o = w.opened in
+    let x = f.extent.offset in
     let s = f.extent.start in
-    let H = subst (λ z. IsHeaded octets z o.offset s f.extent.end) k o.headed in
+    let H = subst (λ z. IsHeaded octets z x s f.extent.end) k o.headed in
     let r = refused_read octets f w.reached e offset o.own w.own o.read w.stops in
-    let v = opened_places octets g gs o.offset o.before o.around in
+    let v = opened_places octets g gs x o.before o.around in
     record {
       reached = x;
       before = o.before;
       own = 1 + (o.own + w.own);
-      opened = subst (λ z. AreOpen octets g gs z o.before) (sym H.0) o.around;
-      stops = group_stops octets g x s f.extent.end y e offset (o.own + w.own) small (omega (arith, H.0, v.from)) (omega (arith, H.0, o.after))
-          (omega (arith, o.read.from, o.read.to)) o.ends_within v.within H.1 r;
+      opened = o.around;
+      stops = group_stops octets g x s f.extent.end y e offset (o.own + w.own) small v.from o.after (omega (arith, o.read.from, o.read.to)) o.ends_within
+          v.within H r;
       total = omega (arith, w.total, o.total);
     }
 
 -- a fault goes on to the frame around it
 pub stop_pop : (octets : List ℕ) (f g : Frame) (gs : List Frame) (e : DecodeFault) (offset n : ℕ) → length octets < 2 ^ 64
-    → ((a : owed.Attempt) → f.extent.kind ≡ Attempt a → ⊥) → IsStopping octets f (g ∷ gs) e offset n → IsStopping octets g gs e offset n
+    → (f.extent.kind ≡ Attempt → ⊥) → IsStopping octets f (g ∷ gs) e offset n → IsStopping octets g gs e offset n
 stop_pop octets f g gs e offset n small other w = go f.extent.kind refl
   where
     go : (k : FrameKind) → f.extent.kind ≡ k → IsStopping octets g gs e offset n
-    go Whole d = absurd (subst (λ z. IsHeaded octets z w.opened.offset f.extent.start f.extent.end) d w.opened.headed)
-    go (Group y x) d = stop_group octets f g gs e offset n x y small d w
-    go (Attempt a) d = absurd (other a d)
+    go Whole d = absurd (subst (λ z. IsHeaded octets z f.extent.offset f.extent.start f.extent.end) d w.opened.headed)
+    go (Group y) d = stop_group octets f g gs e offset n y small d w
+    go Attempt d = absurd (other d)
 
 -- what a closed frame is in the frame around it
 pub record IsClosed (octets : List ℕ) (g : Frame) (gs : List Frame) (end : ℕ) (t : Tree ℕ) (n : ℕ) : Type 0 where
@@ -144,15 +145,14 @@ stop_no_blocks octets f g gs e offset n small w =
 
 -- a fault closes an attempt
 pub stop_attempt : (octets : List ℕ) (f g : Frame) (gs : List Frame) (e : DecodeFault) (offset n : ℕ) (a : owed.Attempt) → length octets < 2 ^ 64
-    → f.extent.kind ≡ Attempt a → IsStopping octets f (g ∷ gs) e offset n
+    → a.offset ≡ f.extent.offset → IsAttemptAt octets a f.extent.start f.extent.end → IsStopping octets f (g ∷ gs) e offset n
     → IsClosed octets g gs f.extent.end (as_it_came octets a f.extent.start f.extent.end) n
-stop_attempt octets f g gs e offset n a small k w =
+stop_attempt octets f g gs e offset n a small here H w =
     let o = w.opened in
     let s = f.extent.start in
     let z = f.extent.end in
     let contents = slice_range octets s z in
-    let H = subst (λ i. IsHeaded octets i o.offset s z) k o.headed in
-    let F = H.1.encoding in
+    let F = H.encoding in
     let r = refused_read octets f w.reached e offset o.own w.own o.read w.stops in
     let no_block = λ (i : (true ≡ true) × IsBlock contents). stop_no_blocks octets f g gs e offset n small w (block_is_blocks contents i.1) in
     let m = o.own + w.own in
@@ -160,12 +160,12 @@ stop_attempt octets f g gs e offset n a small k w =
       reached = a.offset;
       before = o.before;
       own = 1 + m;
-      opened = subst (λ i. AreOpen octets g gs i o.before) (sym H.0) o.around;
+      opened = subst (λ i. AreOpen octets g gs i o.before) (sym here) o.around;
       follows = record {
-        from = omega (arith, H.0, o.after, o.read.from, o.read.to);
+        from = omega (arith, here, o.after, o.read.from, o.read.to);
         to = o.ends_within;
-        encoded = (refl, s - a.offset, F, inr (H.1.other, no_block));
-        begun = begun_opened (slice_range octets a.offset z) a.class true a.tag contents (s - a.offset) m F (inr (H.1.other, refl)) (of_other_class F H.1.other)
+        encoded = (refl, s - a.offset, F, inr (H.other, no_block));
+        begun = begun_opened (slice_range octets a.offset z) a.class true a.tag contents (s - a.offset) m F (inr (H.other, refl)) (of_other_class F H.other)
             r.begun;
       };
       total = omega (arith, w.total, o.total);

@@ -59,7 +59,8 @@ module _ {B I : Type 0} (Holds : Holding B I) (octets : List ℕ) where
         let v = opened_places octets (frame k w.trees) (frames (h ∷ reverse outer.items) (N.next ∷ N.others)) k.extent.end n ending in
         record {
           kind = inside_other octets (frame k w.trees) (frame h N.next) (frames (reverse outer.items) N.others) k.extent.end n ending;
-          order = v.from;
+          after = ending.after;
+          order = omega (arith, v.from, v.to);
           within = v.within;
           extent = h.extent;
           outer = reverse outer.items;
@@ -75,12 +76,10 @@ module _ {B I : Type 0} (Holds : Holding B I) (octets : List ℕ) where
         (record { inner = record { extent = h.extent; items = j }; outer = outer; index = k.extent.end; builder = c; fault = fault }) n most
     ended_goes_on depth c j fault most d is near =
         let gs = reverse outer.items in
-        let other = inside_other octets (frame k w.trees) (frame h N.next) (frames gs N.others) k.extent.end n ending in
-        let (t, tree) = ended octets k.extent.kind k.extent.start k.extent.end w.trees other in
+        let (t, tree) = ended octets k.extent.kind k.extent.offset k.extent.start k.extent.end w.trees ending.headed in
         let before = subst (λ z. Holds octets b (k ∷ h ∷ gs) (w.trees ∷ z)) N.are w.holds in
         let whole : EndsAs octets k.extent w.trees t = record {
           tree = tree;
-          offset = ending.offset;
           headed = ending.headed;
           after = ending.after;
           order = omega (arith, ending.read.from, ending.read.to);

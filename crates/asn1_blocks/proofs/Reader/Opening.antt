@@ -32,7 +32,7 @@ use Rattle.asn1_blocks.specs.declared.parsed.PlacedHeader.{PlacedHeader}
 use Rattle.asn1_blocks.specs.HeadersBegun.{IsReadInside}
 use Rattle.asn1_blocks.specs.Inner.OpenFrames.{AreOpen, IsKindOf, IsStopping}
 use Rattle.asn1_blocks.specs.Places.{HeaderFound}
-use Rattle.asn1_blocks.specs.Inner.ReaderSteps.{GoesOn, HasLeaf, HasOpened, Holding, IsEntered, IsFaulty, IsLeafFault, IsReading, frame, frames, left}
+use Rattle.asn1_blocks.specs.Inner.ReaderSteps.{GoesOn, HasLeaf, HasOpened, Holding, IsEntered, IsFaulty, IsLeafFault, IsReading, frame, frames, left, opened_at}
 use Rattle.asn1_blocks.proofs.Frames.Advances.{opened_bound, opened_places}
 use Rattle.asn1_blocks.proofs.Frames.Opening.{header_stopping, headed_by, leaf_follows, leaf_stopping, opened_open}
 use Rattle.asn1_blocks.proofs.Reader.Closing.{goes_on}
@@ -54,17 +54,17 @@ module _ {B I : Type 0} (Holds : Holding B I) (octets : List ℕ) where
 
   -- a frame was opened at the header
   pub open_goes_on :
-      (a r : Reader B I) (h : PlacedHeader) (n depth : ℕ) (kind : FrameKind) (items : I) (b : B) → depth ≡ length a.outer.items → IsKindOf kind h a.index →
+      (a r : Reader B I) (h : PlacedHeader) (n depth : ℕ) (kind : FrameKind) (items : I) (b : B) → depth ≡ length a.outer.items → IsKindOf kind h →
       HasOpened Holds octets h a.index depth a.builder items b →
       IsEntered (record { inner = a.inner; outer = a.outer; index = a.index; builder = b; fault = a.fault })
-      (record { extent = record { kind = kind; start = h.start; end = h.end }; items = items }) r →
+      (record { extent = opened_at a.index kind h; items = items }) r →
       HeaderFound octets a.index a.inner.extent.end h → IsReading Holds octets a n →
       GoesOn Holds octets r (n + 1) (left (length octets) a.index a.outer.items)
   open_goes_on a r h n depth kind items b d is new u found w =
       let outer = a.outer.items in
-      let f : OpenFrame I = record { extent = record { kind = kind; start = h.start; end = h.end }; items = items } in
+      let f : OpenFrame I = record { extent = opened_at a.index kind h; items = items } in
       let headed = headed_by octets kind a.index a.inner.extent.end h is found in
-      let o = opened_open octets (frame a.inner w.trees) (frame f []) (frames (reverse outer) w.outer) a.index n refl headed found.starts_after found.order found.ends_within
+      let o = opened_open octets (frame a.inner w.trees) (frame f []) (frames (reverse outer) w.outer) a.index n refl headed refl found.starts_after found.order found.ends_within
       w.opened in
       let k = new.holds kind a.inner (reverse outer) (w.trees ∷ w.outer) (omega (arith, d, length-reverse outer)) is w.holds in
       let around : reverse r.outer.items ≡ a.inner ∷ reverse outer = ap reverse u.outer ∙ reverse-append outer (a.inner ∷ []) in

@@ -11,36 +11,48 @@ use Rattle.std.proofs.Common.{
   ◌++◌,
   Global,
   Vec,
-  is_some,
   length,
   reverse,
   true,
   refl,
   sym,
   ap,
+  ◌∙◌,
   subst,
   arith,
   append_assoc,
   length-append,
 }
+use Rattle.std.proofs.lemmas.Bool.{false≢true}
 use Rattle.std.proofs.lemmas.List.{length-reverse}
 use Rattle.asn1_headers.specs.declared.error.ASN1DecodeErr.{ASN1DecodeErr}
 use Rattle.asn1_headers.specs.Fault.{DecodeFault}
 use Rattle.asn1_blocks.specs.declared.reading.Attempt as other
+use Rattle.asn1_blocks.specs.declared.reading.Extent.{Extent}
 use Rattle.asn1_blocks.specs.declared.reading.FrameKind.{FrameKind}
 use Rattle.asn1_blocks.specs.declared.reading.FrameKind.TheVariants.{Whole, Group, Attempt}
 use Rattle.asn1_blocks.specs.declared.reading.OpenFrame.{OpenFrame}
-use Rattle.asn1_blocks.specs.Inner.OpenFrames.{IsStopping, attempt_of}
+use Rattle.asn1_blocks.specs.Inner.OpenFrames.{IsAttemptAt, IsHeaded, IsStopping, is_tried}
 use Rattle.asn1_blocks.specs.Inner.ReaderSteps.{CanBeKept, GoesOn, HasKept, Holding, IsFaultyDocument, IsRefused, frame, frames, left}
 use Rattle.asn1_blocks.proofs.Frames.Stopping.{StoppingPlaces, stop_attempt, stop_document, stop_no_blocks, stop_pop, stopping_places}
 use Rattle.asn1_blocks.proofs.Reader.Closing.{IsNested, goes_on, nested}
 use Rattle.asn1_blocks.proofs.Reader.Popping.{reverse_none, reverse_push}
 
--- an attempt is one
-pub attempt_is : (kind : FrameKind) → is_some (attempt_of kind) ≡ true → (a : other.Attempt) × (kind ≡ Attempt a)
-attempt_is Whole e = absurd (cc)
-attempt_is (Group y p) e = absurd (cc)
-attempt_is (Attempt a) e = (a, refl)
+-- the attempt of a frame that is one
+pub record IsTried (octets : List ℕ) (e : Extent) : Type 0 where
+  pub attempt : other.Attempt
+  pub offset : attempt.offset ≡ e.offset
+  pub headed : IsAttemptAt octets attempt e.start e.end
+
+pub attempt_headed : (octets : List ℕ) (e : Extent) → is_tried e.kind ≡ true → IsHeaded octets e.kind e.offset e.start e.end → IsTried octets e
+attempt_headed octets e tries H = go e.kind refl
+  where
+    go : (kind : FrameKind) → e.kind ≡ kind → IsTried octets e
+    go Whole d = absurd (subst (λ z. IsHeaded octets z e.offset e.start e.end) d H)
+    go (Group y) d = absurd (false≢true (sym (ap is_tried d) ∙ tries))
+    go Attempt d =
+        let (a, here, at) = subst (λ z. IsHeaded octets z e.offset e.start e.end) d H in
+        record { attempt = a; offset = here; headed = at }
 
 -- there is less left to do when the frame around was taken out of the list
 pub taken_nearer : {I : Type 0} (size : ℕ) (f k g : OpenFrame I) (before after : List (OpenFrame I)) → k ≡ f → before ≡ after ++ g ∷ []
@@ -81,7 +93,7 @@ module _ {B I : Type 0} (Holds : Holding B I) (octets : List ℕ) (b : B) where
     ends_within = stops.opened.ends_within
 
     -- goes on to that one, if k is no attempt
-    pub refused_pop : ((a : other.Attempt) → k.extent.kind ≡ Attempt a → ⊥) → IsRefused Holds octets b h (reverse outer.items) e offset n
+    pub refused_pop : (k.extent.kind ≡ Attempt → ⊥) → IsRefused Holds octets b h (reverse outer.items) e offset n
     refused_pop other_kind =
         let gs = reverse outer.items in
         let joined = append_assoc r.inside (k ∷ []) (h ∷ gs) in
@@ -98,21 +110,32 @@ module _ {B I : Type 0} (Holds : Holding B I) (octets : List ℕ) (b : B) where
           stopping = stop_pop octets (frame k r.trees) (frame h N.next) (frames gs N.others) e offset n small other_kind stops;
         }
 
-    -- which can be kept, if it is one
-    pub can_be_kept : (a : other.Attempt) → k.extent.kind ≡ Attempt a → CanBeKept octets k.extent
-    can_be_kept a is =
+    -- which attempt it is, if it is one
+    pub tried : is_tried k.extent.kind ≡ true → IsTried octets k.extent
+    tried tries = attempt_headed octets k.extent tries stops.opened.headed
+
+    -- and then it can be kept
+    pub can_be_kept : IsTried octets k.extent → CanBeKept octets k.extent
+    can_be_kept a =
         let p : StoppingPlaces octets (frame k r.trees) n = stopping_places octets (frame k r.trees)
         (frame h N.next ∷ frames (reverse outer.items) N.others) e offset n stops in
-        record { attempt = a; kind = is; order = p.order; within = p.within }
+        record {
+          attempt = a.attempt;
+          offset = a.offset;
+          headed = a.headed;
+          after = stops.opened.after;
+          order = p.order;
+          within = p.within;
+        }
 
     -- and then reading goes on
-    pub kept_goes_on : (a : other.Attempt) → k.extent.kind ≡ Attempt a → (depth : ℕ) (c : B) (j : I) (fault : ASN1DecodeErr) (most : ℕ) →
+    pub kept_goes_on : IsTried octets k.extent → (depth : ℕ) (c : B) (j : I) (fault : ASN1DecodeErr) (most : ℕ) →
         depth ≡ length outer.items → HasKept Holds octets k depth b h.items c j → left (length octets) k.extent.end outer.items < most →
         GoesOn Holds octets
         (record { inner = record { extent = h.extent; items = j }; outer = outer; index = k.extent.end; builder = c; fault = fault }) n most
-    kept_goes_on a is depth c j fault most d kept near =
+    kept_goes_on a depth c j fault most d kept near =
         let gs = reverse outer.items in
         let none = stop_no_blocks octets (frame k r.trees) (frame h N.next) (frames gs N.others) e offset n small stops in
-        let after = kept.holds r.inside r.lost h.extent gs r.trees N.next N.others a (omega (arith, d, length-reverse outer.items)) r.dropped is none held in
-        let closed = stop_attempt octets (frame k r.trees) (frame h N.next) (frames gs N.others) e offset n a small is stops in
+        let after = kept.holds r.inside r.lost h.extent gs r.trees N.next N.others a.attempt (omega (arith, d, length-reverse outer.items)) r.dropped a.offset a.headed none held in
+        let closed = stop_attempt octets (frame k r.trees) (frame h N.next) (frames gs N.others) e offset n a.attempt small a.offset a.headed stops in
         goes_on Holds octets h.extent j outer k.extent.end c fault N.next N.others _ n most near N.count after closed

@@ -12,9 +12,9 @@ use Rattle.asn1_blocks.proofs.Frames.Slices.{slice_none}
 module _ {B I : Type 0} (Holds : Holding B I) (octets : List ℕ) where
   -- nothing is read yet
   pub first_reading : (b : B) (items : I) (outer : List (OpenFrame I)) → outer ≡ [] → StartsEmpty Holds octets b items
-      → Reads Holds octets b (record { extent = record { kind = Whole; start = 0; end = length octets }; items = items }) (reverse outer) 0 0
+      → Reads Holds octets b (record { extent = record { kind = Whole; offset = 0; start = 0; end = length octets }; items = items }) (reverse outer) 0 0
   first_reading b items outer none h =
-      let f : OpenFrame I = record { extent = record { kind = Whole; start = 0; end = length octets }; items = items } in
+      let f : OpenFrame I = record { extent = record { kind = Whole; offset = 0; start = 0; end = length octets }; items = items } in
       let z = slice_none octets 0 in
       let first : Reads Holds octets b f [] 0 0 = record {
         trees = [];

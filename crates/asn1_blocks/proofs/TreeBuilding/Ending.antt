@@ -11,11 +11,11 @@ use Rattle.asn1_blocks.specs.declared.read.TreeBuilder.{TreeBuilder}
 use Rattle.asn1_blocks.specs.declared.reading.Attempt as other
 use Rattle.asn1_blocks.specs.declared.reading.Extent.{Extent}
 use Rattle.asn1_blocks.specs.declared.reading.FrameKind.{FrameKind}
-use Rattle.asn1_blocks.specs.declared.reading.FrameKind.TheVariants.{Attempt, Group, Whole}
+use Rattle.asn1_blocks.specs.declared.reading.FrameKind.TheVariants.{Attempt, Group}
 use Rattle.asn1_blocks.specs.declared.reading.OpenFrame.{OpenFrame}
-use Rattle.asn1_blocks.specs.Inner.OpenFrames.{IsEnded, around, as_it_came, attempted}
+use Rattle.asn1_blocks.specs.Inner.OpenFrames.{IsAttemptAlone, IsEnded, around, as_it_came, attempted}
 use Rattle.asn1_blocks.specs.Inner.Owed.{Leads, after_all}
-use Rattle.asn1_blocks.specs.Inner.ReaderSteps.{HasEndedIn, HasKept, HasOpened, in_frame}
+use Rattle.asn1_blocks.specs.Inner.ReaderSteps.{HasEndedIn, HasKept, HasOpened, in_frame, opened_at}
 use Rattle.asn1_blocks.specs.Inner.TreeBuilding.{AllHold, Holds, IsKept, IsOwed, IsAdded, all_hold, builder_holds}
 use Rattle.asn1_blocks.specs.Tree.{Tree, group, trees_of}
 use Rattle.asn1_blocks.specs.View.{view, views}
@@ -39,9 +39,16 @@ attempted_other octets a s e (t ∷ []) many = absurd (many refl)
 attempted_other octets a s e (t ∷ u ∷ ts) many = refl
 
 -- what the frame is, where its kind is known
-pub ended_is : (octets : List ℕ) (kind other : FrameKind) (s e : ℕ) (ts : List (Tree ℕ)) (t : Tree ℕ) → kind ≡ other → IsEnded octets kind s e ts t
-    → IsEnded octets other s e ts t
-ended_is octets kind other s e ts t is w = subst (λ z. IsEnded octets z s e ts t) is w
+pub ended_is : (octets : List ℕ) (kind other : FrameKind) (o s e : ℕ) (ts : List (Tree ℕ)) (t : Tree ℕ) → kind ≡ other → IsEnded octets kind o s e ts t
+    → IsEnded octets other o s e ts t
+ended_is octets kind other o s e ts t is w = subst (λ z. IsEnded octets z o s e ts t) is w
+
+-- and of an attempt, which attempt it is of
+tried_ended : (octets : List ℕ) (f : Extent) (k : other.Attempt) (ts : List (Tree ℕ)) (t : Tree ℕ) → f.kind ≡ Attempt
+    → IsAttemptAlone octets f.offset f.end k → IsEnded octets f.kind f.offset f.start f.end ts t → t ≡ attempted octets k f.start f.end ts
+tried_ended octets f k ts t is alone w =
+    let (b, here, at, tree) = ended_is octets f.kind Attempt f.offset f.start f.end ts t is w in
+    tree ∙ ap (λ z. attempted octets z f.start f.end ts) (sym (alone b f.start here at))
 
 module _ (octets : List ℕ) (es : List Owed) (f : OpenFrame FrameBlocks) (ts : List (Tree ℕ)) (h : Holds octets es f ts) where
   -- the one tree is owed
@@ -140,14 +147,9 @@ pub opened :
     i.owed_count ≡ 0 → i.first ≡ [] → HasOpened builder_holds octets h offset depth a i b
 opened octets h offset depth a b i same before count first = record {
   holds = λ kind f fs trees d is w.
-      all_opened octets b.owed.items (in_frame (record { kind = kind; start = h.start; end = h.end }) i) f fs trees before count first
+      all_opened octets b.owed.items (in_frame (opened_at offset kind h) i) f fs trees before count first
       (subst (λ (z : Vec Owed Global). all_hold octets z.items (f ∷ fs) trees) (sym same) w);
 }
-
-abbrev attempt_in : FrameKind → other.Attempt → other.Attempt
-attempt_in Whole a = a
-attempt_in (Group g o) a = a
-attempt_in (Attempt k) a = k
 
 -- the frame f ended: the builder a became c and then r, and the items of the frame around it were i and are j
 module _ (octets : List ℕ) (a r : TreeBuilder) (i j : FrameBlocks) (f : OpenFrame FrameBlocks) (depth : ℕ) (c : TreeBuilder) where
@@ -155,13 +157,14 @@ module _ (octets : List ℕ) (a r : TreeBuilder) (i j : FrameBlocks) (f : OpenFr
     moved : (P : List Owed → Type 0) → P a.owed.items → P c.owed.items
     moved P p = subst (λ (z : Vec Owed Global). P z.items) (sym same) p
 
-    pub group_owed : (g : GroupKind) (o : ℕ) → f.extent.kind ≡ Group g o → IsOwed c i (OwedAs.Group g o f.items.first f.items.owed_count) r j
+    pub group_owed : (g : GroupKind) → f.extent.kind ≡ Group g → IsOwed c i (OwedAs.Group g f.extent.offset f.items.first f.items.owed_count) r j
         → HasEndedIn builder_holds octets f depth a i r j
-    group_owed g o kind u = record {
+    group_owed g kind u = record {
       holds = λ e fs ts us rest t d is w.
+          let o = f.extent.offset in
           let n = f.items.owed_before in
           let one = OwedAs.Group g o f.items.first f.items.owed_count in
-          let this = ended_is octets f.extent.kind (Group g o) f.extent.start f.extent.end ts t kind is.tree in
+          let this = ended_is octets f.extent.kind (Group g) f.extent.offset f.extent.start f.extent.end ts t kind is.tree in
           let tree : group o g (trees_of (map view f.items.first ++ w.0.owed)) ≡ t = sym (this ∙ ap (λ z. group o g (trees_of z)) w.0.trees) in
           let grown = subst (λ z. IsGrown octets (take n a.owed.items) (a.owed.items ++ one ∷ []) z) tree
           (group_grown octets a.owed.items n w.0.owed g o f.items.owed_count f.items.first w.0.count w.0.leads) in
@@ -169,23 +172,23 @@ module _ (octets : List ℕ) (a r : TreeBuilder) (i j : FrameBlocks) (f : OpenFr
           (moved (λ z. IsGrown octets (take n a.owed.items) (z ++ one ∷ []) t) grown) w.1;
     }
 
-    pub group_pushed : (g : GroupKind) (o : ℕ) (b : ASN1Block) → f.extent.kind ≡ Group g o → f.items.owed_count ≡ 0
-        → view b ≡ group o g (views f.items.first) → IsAdded c i b r j → HasEndedIn builder_holds octets f depth a i r j
-    group_pushed g o b kind none means u = record {
+    pub group_pushed : (g : GroupKind) (b : ASN1Block) → f.extent.kind ≡ Group g → f.items.owed_count ≡ 0
+        → view b ≡ group f.extent.offset g (views f.items.first) → IsAdded c i b r j → HasEndedIn builder_holds octets f depth a i r j
+    group_pushed g b kind none means u = record {
       holds = λ e fs ts us rest t d is w.
           let clean = left_clean octets a.owed.items f (in_frame e i) fs ts us rest none w.0 w.1 in
-          let this = ended_is octets f.extent.kind (Group g o) f.extent.start f.extent.end ts t kind is.tree in
-          let tree : view b ≡ t = means ∙ sym (this ∙ ap (λ z. group o g (trees_of z)) clean.trees) in
+          let this = ended_is octets f.extent.kind (Group g) f.extent.offset f.extent.start f.extent.end ts t kind is.tree in
+          let tree : view b ≡ t = means ∙ sym (this ∙ ap (λ z. group f.extent.offset g (trees_of z)) clean.trees) in
           tree_more octets c r i j e fs us rest b t tree u (moved (λ z. AllHold octets z (in_frame e i) fs us rest) clean.outer);
     }
 
-    pub explicit_owed : (k : other.Attempt) → f.extent.kind ≡ Attempt k → f.items.owed_count ≡ 1 → length f.items.first ≡ 0
+    pub explicit_owed : (k : other.Attempt) → f.extent.kind ≡ Attempt → IsAttemptAlone octets f.extent.offset f.extent.end k → f.items.owed_count ≡ 1 → length f.items.first ≡ 0
         → IsOwed c i (OwedAs.Explicit k) r j → HasEndedIn builder_holds octets f depth a i r j
-    explicit_owed k kind one none u = record {
+    explicit_owed k kind alone one none u = record {
       holds = λ e fs ts us rest t d is w.
           let n = f.items.owed_before in
           let (x, leads, are) = one_owed octets a.owed.items f ts w.0 one none in
-          let this = ended_is octets f.extent.kind (Attempt k) f.extent.start f.extent.end ts t kind is.tree in
+          let this = tried_ended octets f.extent k ts t kind alone is.tree in
           let tree : around k x ≡ t = sym (this ∙ ap (attempted octets k f.extent.start f.extent.end) are) in
           let grown = subst (λ z. IsGrown octets (take n a.owed.items) (a.owed.items ++ OwedAs.Explicit k ∷ []) z) tree
           (around_grown octets a.owed.items n x k leads) in
@@ -193,24 +196,24 @@ module _ (octets : List ℕ) (a r : TreeBuilder) (i j : FrameBlocks) (f : OpenFr
           (moved (λ z. IsGrown octets (take n a.owed.items) (z ++ OwedAs.Explicit k ∷ []) t) grown) w.1;
     }
 
-    pub explicit_pushed : (k : other.Attempt) (b item : ASN1Block) → f.extent.kind ≡ Attempt k → f.items.owed_count ≡ 0 → f.items.first ≡ item ∷ []
+    pub explicit_pushed : (k : other.Attempt) (b item : ASN1Block) → f.extent.kind ≡ Attempt → IsAttemptAlone octets f.extent.offset f.extent.end k → f.items.owed_count ≡ 0 → f.items.first ≡ item ∷ []
         → view b ≡ around k (view item) → IsAdded c i b r j → HasEndedIn builder_holds octets f depth a i r j
-    explicit_pushed k b item kind none one means u = record {
+    explicit_pushed k b item kind alone none one means u = record {
       holds = λ e fs ts us rest t d is w.
           let clean = left_clean octets a.owed.items f (in_frame e i) fs ts us rest none w.0 w.1 in
           let are : ts ≡ view item ∷ [] = clean.trees ∙ ap (map view) one in
-          let this = ended_is octets f.extent.kind (Attempt k) f.extent.start f.extent.end ts t kind is.tree in
+          let this = tried_ended octets f.extent k ts t kind alone is.tree in
           let tree : view b ≡ t = means ∙ sym (this ∙ ap (attempted octets k f.extent.start f.extent.end) are) in
           tree_more octets c r i j e fs us rest b t tree u (moved (λ z. AllHold octets z (in_frame e i) fs us rest) clean.outer);
     }
 
   -- what it owes goes, and it stays as it came
-  module _ (k : other.Attempt) (kind : f.extent.kind ≡ Attempt k) (cut : c.owed.items ≡ take f.items.owed_before a.owed.items) where
-    pub kept_ended : (length f.items.first + f.items.owed_count ≡ 1 → ⊥) → IsKept octets c i k f.extent.start f.extent.end r j
+  module _ (k : other.Attempt) (alone : IsAttemptAlone octets f.extent.offset f.extent.end k) (cut : c.owed.items ≡ take f.items.owed_before a.owed.items) where
+    pub kept_ended : f.extent.kind ≡ Attempt → (length f.items.first + f.items.owed_count ≡ 1 → ⊥) → IsKept octets c i k f.extent.start f.extent.end r j
         → HasEndedIn builder_holds octets f depth a i r j
-    kept_ended many u = record {
+    kept_ended kind many u = record {
       holds = λ e fs ts us rest t d is w.
-          let this = ended_is octets f.extent.kind (Attempt k) f.extent.start f.extent.end ts t kind is.tree in
+          let this = tried_ended octets f.extent k ts t kind alone is.tree in
           let tree = other_ended octets k f.extent.start f.extent.end ts t _ (tree_count_is octets a.owed.items f ts w.0) many this in
           let more = kept_more octets c r i j e fs us rest k f.extent.start f.extent.end u
           (subst (λ z. AllHold octets z (in_frame e i) fs us rest) (sym cut) w.1) in
@@ -219,8 +222,8 @@ module _ (octets : List ℕ) (a r : TreeBuilder) (i j : FrameBlocks) (f : OpenFr
 
     pub kept_after : IsKept octets c i k f.extent.start f.extent.end r j → HasKept builder_holds octets f depth a i r j
     kept_after u = record {
-      holds = λ inside lost e fs ts us rest l d m is none w.
-          let same : k ≡ l = ap (λ z. attempt_in z k) (sym kind ∙ is) in
+      holds = λ inside lost e fs ts us rest l d m here at none w.
+          let same : k ≡ l = alone l f.extent.start here at in
           let before = around_left octets a.owed.items inside f (in_frame e i) fs lost ts us rest m w in
           let more = kept_more octets c r i j e fs us rest k f.extent.start f.extent.end u
           (subst (λ z. AllHold octets z (in_frame e i) fs us rest) (sym cut) before) in

@@ -1,5 +1,5 @@
 -- The frames that are open while a document is read.
-use Rattle.std.specs.Prelude.{◌≡◌, ◌≢◌, ℕ, ◌+◌, ◌-◌, ◌<◌, ◌≤◌, Bool, true, List, [], ◌∷◌, Option, Some, None, length, slice_range}
+use Rattle.std.specs.Prelude.{◌≡◌, ◌≢◌, ℕ, ◌+◌, ◌-◌, ◌<◌, ◌≤◌, Bool, true, false, List, [], ◌∷◌, length, slice_range}
 use Rattle.asn1_blocks.specs.declared.block.GroupKind.{GroupKind}
 use Rattle.asn1_headers.specs.declared.header.ASN1Class.TheVariants.{Universal}
 use Rattle.asn1_blocks.specs.declared.reading.Attempt as other
@@ -15,19 +15,17 @@ use Rattle.asn1_blocks.specs.Inner.BlockFault.{BlockFaultAt}
 use Rattle.asn1_blocks.specs.HeadersBegun.{HeadersBegun}
 use Rattle.asn1_blocks.specs.Places.{IsEncodingBetween}
 
--- the frame is of an encoding with this header, whose first octet is at the offset
-abbrev pub IsKindOf : FrameKind → PlacedHeader → ℕ → Type 0
-IsKindOf Whole h offset = ⊥
-IsKindOf (Group g o) h offset = (h.class ≡ Universal) × (h.tag ≡ group_tag g) × (o ≡ offset)
-IsKindOf (Attempt a) h offset =
-    (h.class ≢ Universal) × (h.constructed ≡ true) ×
-    (a ≡ record { class = h.class; offset = offset; tag = h.tag })
+-- the frame is of an encoding with this header
+abbrev pub IsKindOf : FrameKind → PlacedHeader → Type 0
+IsKindOf Whole h = ⊥
+IsKindOf (Group g) h = (h.class ≡ Universal) × (h.tag ≡ group_tag g)
+IsKindOf Attempt h = (h.class ≢ Universal) × (h.constructed ≡ true)
 
--- which attempt the frame is
-abbrev pub attempt_of : FrameKind → Option other.Attempt
-attempt_of Whole = None
-attempt_of (Group g o) = None
-attempt_of (Attempt a) = Some a
+-- whether the frame is an attempt
+abbrev pub is_tried : FrameKind → Bool
+is_tried Whole = false
+is_tried (Group g) = false
+is_tried Attempt = true
 
 -- an attempt that ended with one block, and one that stays as it came
 abbrev pub around : other.Attempt → Tree ℕ → Tree ℕ
@@ -40,12 +38,6 @@ abbrev pub attempted : List ℕ → other.Attempt → ℕ → ℕ → List (Tree
 attempted octets a start end [] = as_it_came octets a start end
 attempted octets a start end (t ∷ []) = around a t
 attempted octets a start end (t ∷ u ∷ ts) = as_it_came octets a start end
-
--- a frame that ended with these trees is this tree
-abbrev pub IsEnded : List ℕ → FrameKind → ℕ → ℕ → List (Tree ℕ) → Tree ℕ → Type 0
-IsEnded octets Whole start end ts t = ⊥
-IsEnded octets (Group g o) start end ts t = t ≡ group o g (trees_of ts)
-IsEnded octets (Attempt a) start end ts t = t ≡ attempted octets a start end ts
 
 -- contents octets that are being read, and the trees so far
 pub record Frame : Type 0 where
@@ -71,11 +63,24 @@ pub record IsAttemptAt (octets : List ℕ) (a : other.Attempt) (start end : ℕ)
   pub other : a.class ≢ Universal
   pub encoding : IsEncodingBetween octets a.class true a.tag a.offset start end
 
+-- whichever attempt begins at the offset and ends there, it is this one
+abbrev pub IsAttemptAlone : List ℕ → ℕ → ℕ → other.Attempt → Type 0
+IsAttemptAlone octets offset end a =
+    (b : other.Attempt) (start : ℕ) → b.offset ≡ offset → IsAttemptAt octets b start end → a ≡ b
+
 -- the header at the offset stands before these contents octets
 abbrev pub IsHeaded : List ℕ → FrameKind → ℕ → ℕ → ℕ → Type 0
 IsHeaded octets Whole offset start end = ⊥
-IsHeaded octets (Group g o) offset start end = (o ≡ offset) × IsGroupAt octets g o start end
-IsHeaded octets (Attempt a) offset start end = (a.offset ≡ offset) × IsAttemptAt octets a start end
+IsHeaded octets (Group g) offset start end = IsGroupAt octets g offset start end
+IsHeaded octets Attempt offset start end =
+    (a : other.Attempt) × (a.offset ≡ offset) × IsAttemptAt octets a start end
+
+-- a frame that ended with these trees is this tree
+abbrev pub IsEnded : List ℕ → FrameKind → ℕ → ℕ → ℕ → List (Tree ℕ) → Tree ℕ → Type 0
+IsEnded octets Whole offset start end ts t = ⊥
+IsEnded octets (Group g) offset start end ts t = t ≡ group offset g (trees_of ts)
+IsEnded octets Attempt offset start end ts t =
+    (a : other.Attempt) × (a.offset ≡ offset) × IsAttemptAt octets a start end × (t ≡ attempted octets a start end ts)
 
 -- the frame of the document
 pub record IsDocumentFrame (octets : List ℕ) (f : Frame) : Type 0 where
@@ -87,14 +92,13 @@ pub record IsDocumentFrame (octets : List ℕ) (f : Frame) : Type 0 where
 -- headers were begun: those before it, its own, and those inside
 pub record IsInside (octets : List ℕ) (f g : Frame) (Around : ℕ → ℕ → Type 0) (reached n : ℕ) : Type 0
   where
-    pub offset : ℕ
     pub before : ℕ
     pub own : ℕ
-    pub headed : IsHeaded octets f.extent.kind offset f.extent.start f.extent.end
-    pub after : offset < f.extent.start
+    pub headed : IsHeaded octets f.extent.kind f.extent.offset f.extent.start f.extent.end
+    pub after : f.extent.offset < f.extent.start
     pub ends_within : f.extent.end ≤ g.extent.end
     pub read : IsReadTo octets f reached own
-    pub around : Around offset before
+    pub around : Around f.extent.offset before
     pub total : n ≡ before + (1 + own)
 
 -- the outermost frame is read up to the offset reached

@@ -6,14 +6,14 @@ use Rattle.asn1_headers.specs.declared.error.ASN1DecodeErr.{ASN1DecodeErr}
 use Rattle.asn1_blocks.specs.declared.reading.Attempt as other
 use Rattle.asn1_blocks.specs.declared.reading.Extent.{Extent}
 use Rattle.asn1_blocks.specs.declared.reading.FrameKind.{FrameKind}
-use Rattle.asn1_blocks.specs.declared.reading.FrameKind.TheVariants.{Whole, Attempt}
+use Rattle.asn1_blocks.specs.declared.reading.FrameKind.TheVariants.{Whole}
 use Rattle.asn1_blocks.specs.declared.reading.OpenFrame.{OpenFrame}
 use Rattle.asn1_blocks.specs.declared.reading.Reader.{Reader}
 use Rattle.asn1_headers.specs.Fault.{DecodeFault, OutOfMemoryOr}
 use Rattle.asn1_blocks.specs.Contents.{LeafFault}
 use Rattle.asn1_blocks.specs.Grammar.{AreBlocks, BlocksFaultAt, Encodes, EncodesAll, IsDocument}
 use Rattle.asn1_blocks.specs.HeadersBegun.{HeadersBegun}
-use Rattle.asn1_blocks.specs.Inner.OpenFrames.{AreOpen, Frame, IsEnded, IsHeaded, IsKindOf, IsStopping, as_it_came}
+use Rattle.asn1_blocks.specs.Inner.OpenFrames.{AreOpen, Frame, IsAttemptAt, IsEnded, IsHeaded, IsKindOf, IsStopping, as_it_came}
 use Rattle.asn1_blocks.specs.Tree.{Tree, trees_of}
 
 -- what a builder was given: these trees in the frames that are open, the innermost first
@@ -23,12 +23,16 @@ Holding B I = List ℕ → B → List (OpenFrame I) → List (List (Tree ℕ)) �
 abbrev pub in_frame : {I : Type 0} → Extent → I → OpenFrame I
 in_frame e items = record { extent = e; items = items }
 
+-- the contents octets of an encoding at the offset with the header
+abbrev pub opened_at : ℕ → FrameKind → PlacedHeader → Extent
+opened_at offset kind h = record { kind = kind; offset = offset; start = h.start; end = h.end }
+
 -- the builder a became b, and has a new frame with these items, for an encoding with this header
 pub record HasOpened {B I : Type 0} (Holds : Holding B I) (octets : List ℕ) (h : PlacedHeader) (offset depth : ℕ)
     (a : B) (items : I) (b : B) : Type 0 where
   pub holds : (kind : FrameKind) (f : OpenFrame I) (fs : List (OpenFrame I)) (trees : List (List (Tree ℕ))) →
-      depth ≡ length fs → IsKindOf kind h offset → Holds octets a (f ∷ fs) trees →
-      Holds octets b (in_frame (record { kind = kind; start = h.start; end = h.end }) items ∷ f ∷ fs) ([] ∷ trees)
+      depth ≡ length fs → IsKindOf kind h → Holds octets a (f ∷ fs) trees →
+      Holds octets b (in_frame (opened_at offset kind h) items ∷ f ∷ fs) ([] ∷ trees)
 
 -- the innermost frame, whose items were i and are j, has one tree more
 pub record HasMore {B I : Type 0} (Holds : Holding B I) (octets : List ℕ) (t : Tree ℕ) (depth : ℕ)
@@ -56,6 +60,7 @@ pub record IsLeafFault {B I : Type 0} (octets : List ℕ) (h : PlacedHeader) (a 
 pub record CanEnd {B I : Type 0} (Holds : Holding B I) (octets : List ℕ) (f : OpenFrame I) (depth : ℕ)
     (a : B) (i : I) : Type 0 where
   pub kind : f.extent.kind ≢ Whole
+  pub after : f.extent.offset < f.extent.start
   pub order : f.extent.start ≤ f.extent.end
   pub within : f.extent.end ≤ length octets
   pub extent : Extent
@@ -66,10 +71,9 @@ pub record CanEnd {B I : Type 0} (Holds : Holding B I) (octets : List ℕ) (f : 
 
 -- contents octets that were read to their end, where these trees stand, are those of this one
 pub record EndsAs (octets : List ℕ) (e : Extent) (ts : List (Tree ℕ)) (t : Tree ℕ) : Type 0 where
-  pub tree : IsEnded octets e.kind e.start e.end ts t
-  pub offset : ℕ
-  pub headed : IsHeaded octets e.kind offset e.start e.end
-  pub after : offset < e.start
+  pub tree : IsEnded octets e.kind e.offset e.start e.end ts t
+  pub headed : IsHeaded octets e.kind e.offset e.start e.end
+  pub after : e.offset < e.start
   pub order : e.start ≤ e.end
   pub encoded : EncodesAll e.start (slice_range octets e.start e.end) (trees_of ts)
 
@@ -84,7 +88,9 @@ pub record HasEndedIn {B I : Type 0} (Holds : Holding B I) (octets : List ℕ) (
 -- the frame is an attempt that can be kept
 pub record CanBeKept (octets : List ℕ) (e : Extent) : Type 0 where
   pub attempt : other.Attempt
-  pub kind : e.kind ≡ Attempt attempt
+  pub offset : attempt.offset ≡ e.offset
+  pub headed : IsAttemptAt octets attempt e.start e.end
+  pub after : e.offset < e.start
   pub order : e.start ≤ e.end
   pub within : e.end ≤ length octets
 
@@ -94,7 +100,8 @@ pub record HasKept {B I : Type 0} (Holds : Holding B I) (octets : List ℕ) (f :
     (a : B) (i : I) (b : B) (j : I) : Type 0 where
   pub holds : (inside : List (OpenFrame I)) (lost : List (List (Tree ℕ))) (e : Extent) (fs : List (OpenFrame I))
       (ts us : List (Tree ℕ)) (rest : List (List (Tree ℕ))) (k : other.Attempt) → depth ≡ length fs →
-      length inside ≡ length lost → f.extent.kind ≡ Attempt k →
+      length inside ≡ length lost → k.offset ≡ f.extent.offset →
+      IsAttemptAt octets k f.extent.start f.extent.end →
       (AreBlocks (slice_range octets f.extent.start f.extent.end) → ⊥) →
       Holds octets a (inside ++ f ∷ in_frame e i ∷ fs) (lost ++ ts ∷ us ∷ rest) →
       Holds octets b (in_frame e j ∷ fs) ((us ++ as_it_came octets k f.extent.start f.extent.end ∷ []) ∷ rest)
@@ -194,7 +201,7 @@ pub record IsEntered {B I : Type 0} (a : Reader B I) (f : OpenFrame I) (r : Read
 -- nothing is read yet
 abbrev pub StartsEmpty : {B I : Type 0} → Holding B I → List ℕ → B → I → Type 0
 StartsEmpty Holds octets b items =
-    Holds octets b (in_frame (record { kind = Whole; start = 0; end = length octets }) items ∷ []) ([] ∷ [])
+    Holds octets b (in_frame (record { kind = Whole; offset = 0; start = 0; end = length octets }) items ∷ []) ([] ∷ [])
 
 -- and these are the trees of the document
 pub record HasDocument {B I : Type 0} (Holds : Holding B I) (octets : List ℕ) (b : B) (items : I) : Type 0 where

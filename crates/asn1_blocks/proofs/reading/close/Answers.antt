@@ -24,10 +24,10 @@ left_at {B} {I} octets r k f own =
 pub close-requires : goal.close-requires
 close-requires g c =
     let r = c.args.reader.now in
-    let k = (c.replace-extent.result) in
-    let h = c.replace-extent.new.dest in
+    let k = (c.replace-items.result) in
+    let h = c.replace-items.new.dest in
     let n = c.requires.reading.0 in
-    let w = ended g.B.Builder.holds c.args.octets.now r k c.args.parent h n c.replace-extent.ensures.value c.replace-extent.ensures.after
+    let w = ended g.B.Builder.holds c.args.octets.now r k c.args.parent h n c.replace-items.ensures.value c.replace-items.ensures.after
     c.requires.reading.1 in
     let depth : c.len-depth.result ≡ length r.outer.items = grind (arith, common_steps) in
     can_end g.B.Builder.holds c.args.octets.now r.builder k h r.outer n w c.len-depth.result depth
@@ -41,10 +41,10 @@ returns g c =
       stepped = λ n read.
           let octets = c.args.octets.now in
           let r = c.args.reader.now in
-          let k = (c.replace-extent.result) in
-          let h = c.replace-extent.new.dest in
-          let own = c.replace-extent.ensures.value in
-          let w = ended g.B.Builder.holds octets r k c.args.parent h n own c.replace-extent.ensures.after read in
+          let k = (c.replace-items.result) in
+          let h = c.replace-items.new.dest in
+          let own = c.replace-items.ensures.value in
+          let w = ended g.B.Builder.holds octets r k c.args.parent h n own c.replace-items.ensures.after read in
           let depth : c.len-depth.result ≡ length r.outer.items = grind (arith, common_steps) in
           ended_goes_on g.B.Builder.holds octets r.builder k h r.outer n w c.len-depth.result c.close.new.self c.close.new.parent r.fault _ depth
           c.in_ok-close.ensures (left_at octets r k c.args.parent own);

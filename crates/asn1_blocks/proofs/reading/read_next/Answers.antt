@@ -45,8 +45,8 @@ pub returns-then-is_read_inside-clause-stepped : goal.returns-then-is_read_insid
 returns-then-is_read_inside-clause-stepped g c n w =
     let a = c.args.reader.now in
     let depth : c.len-depth.result ≡ length a.outer.items = grind (arith, common_steps) in
-    open_goes_on g.B.Builder.holds c.args.octets.now a c.enter.new.reader c.in_ok-header.header n c.len-depth.result c.kind_of-kind.result
-    c.in_ok-items.items c.open.new.self depth c.kind_of-kind.ensures c.in_ok-items.ensures c.in_ok-enter.ensures c.in_ok-header.ensures.found w
+    open_goes_on g.B.Builder.holds c.args.octets.now a c.enter.new.reader c.in_ok-header.header n c.len-depth.result c.kind_of.result
+    c.in_ok-items.items c.open.new.self depth c.kind_of.ensures c.in_ok-items.ensures c.in_ok-enter.ensures c.in_ok-header.ensures.found w
 
 pub returns-in_err-leaf-clause-stepped : goal.returns-in_err-leaf-clause-stepped
 returns-in_err-leaf-clause-stepped g c n w =
