@@ -34,7 +34,7 @@ same_length xs ys c d j k m n v w g h r q F G e =
     (length_alone F.len G.len (v ++ r) (w ++ q) (length v) (length w) F.length_octets G.length_octets i.rest).octets
 
 -- end-of-contents octets are an encoding
-end_encoding : Encoding (0 ∷ 0 ∷ []) Universal false 0 [] 2
+pub end_encoding : Encoding (0 ∷ 0 ∷ []) Universal false 0 [] 2
 end_encoding = record {
   identifier = 0 ∷ [];
   len = 0 ∷ [];

@@ -1,3 +1,4 @@
 pub mod Fronts
 pub mod Law
 pub mod Walk
+pub mod Alone

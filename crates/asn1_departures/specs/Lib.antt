@@ -1,3 +1,4 @@
 pub mod Rules
 pub mod Departures
 pub mod Steps
+pub mod Laws

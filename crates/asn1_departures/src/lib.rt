@@ -5,9 +5,11 @@
 #![tactic(auto)]
 
 mod encodings;
+mod laws;
 mod listing;
 mod own;
 mod rule;
 
+pub use laws::law_departures;
 pub use listing::departures;
 pub use rule::{Departure, Rule};

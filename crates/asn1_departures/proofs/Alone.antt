@@ -1,0 +1,207 @@
+-- Octets have one list of departures, or a header at fault.
+use Rattle.std.proofs.Common.{◌≡◌, ℕ, ◌+◌, ◌<◌, ◌^◌, Bool, true, false, List, [], ◌∷◌, ◌++◌, inl, inr, length, refl, sym, ap, ap₂, ◌∙◌, subst, arith, length-append}
+use Rattle.std.specs.Prelude.{MatchBool, Option, None, Some}
+use Rattle.asn1_headers.specs.Fault.{DecodeFault}
+use Rattle.asn1_headers.specs.Header.{Encoding, shortest_identifier, shortest_length}
+use Rattle.asn1_headers.specs.HeaderFault.{HeaderFault}
+use Rattle.asn1_headers.specs.declared.header.ASN1Class.{ASN1Class}
+use Rattle.asn1_headers.specs.declared.header.ASN1Class.TheVariants.{Universal, Application, ContextSpecific, Private}
+use Rattle.asn1_headers.proofs.Prefixes.{encoding_alone, encoding_some, identifier_alone}
+use Rattle.asn1_blocks.proofs.Faults.{header_no_encoding}
+use Rattle.asn1_der.specs.Der.{IsDer, IsRightAlone}
+use Rattle.asn1_departures.specs.Departures.{AreEncodings, Found, HeaderFaultBehind, IsNext, LengthFound, Lists, ListsInside, NoEncodingsFault, OwnRules, TypeFound, at_front, behind, behind_end_of_contents, broken, encoding_listed, encodings_inside, end_listed, end_of_contents, is_indefinite, is_looked_into, kept, listed, next, no_encodings_inside, no_more, none_left, nothing_inside, own_departures, unended_at_end, unended_behind}
+use Rattle.asn1_departures.specs.Rules.{form_rule, identifier_rule, type_rule}
+use Rattle.asn1_departures.specs.declared.rule.Departure.{Departure}
+use Rattle.asn1_departures.specs.declared.rule.Rule.{Rule}
+use Rattle.asn1_departures.specs.declared.rule.Rule.TheVariants.{IndefiniteLength, LongLength, NotEncodings}
+use Rattle.asn1_departures.proofs.Fronts.{at_end, behind_end, behind_next, der_encodings, end_encoding, is_end, same_length}
+
+-- a rule is found to be broken, or not
+found_alone : (Asked : Type 0) (rule : Rule) (f g : Option Rule) → Found Asked rule f → Found Asked rule g → f ≡ g
+found_alone Asked rule f g (kept a) (kept b) = refl
+found_alone Asked rule f g (kept a) (broken b) = absurd (b a)
+found_alone Asked rule f g (broken a) (kept b) = absurd (a b)
+found_alone Asked rule f g (broken a) (broken b) = refl
+
+length_found_alone : (len : List ℕ) (n : ℕ) (f g : Option Rule) → LengthFound len n f → LengthFound len n g → f ≡ g
+length_found_alone len n f g p q = by_form (is_indefinite len) p q
+  where
+    by_form :
+        (b : Bool) →
+        MatchBool b (f ≡ Some IndefiniteLength) (Found (len ≡ shortest_length n) LongLength f) →
+        MatchBool b (g ≡ Some IndefiniteLength) (Found (len ≡ shortest_length n) LongLength g) → f ≡ g
+    by_form true p q = p ∙ sym q
+    by_form false p q = found_alone (len ≡ shortest_length n) LongLength f g p q
+
+type_found_alone :
+    (b : Bool) (c : ASN1Class) (k : Bool) (n : ℕ) (v : List ℕ) (f g : Option Rule) → TypeFound b c k n v f → TypeFound b c k n v g → f ≡ g
+type_found_alone true Universal k n v f g p q = p ∙ sym q
+type_found_alone false Universal k n v f g p q = found_alone (IsRightAlone Universal k n v) (type_rule k n v) f g p q
+type_found_alone b Application k n v f g p q = p ∙ sym q
+type_found_alone b ContextSpecific k n v f g p q = p ∙ sym q
+type_found_alone b Private k n v f g p q = p ∙ sym q
+
+-- what an encoding breaks by itself
+own_alone :
+    (o : ℕ) (id len : List ℕ) (c : ASN1Class) (k : Bool) (n : ℕ) (v : List ℕ) (r s : OwnRules id len c k n v) →
+    own_departures o r ≡ own_departures o s
+own_alone o id len c k n v r s =
+    let i : r.of_identifier ≡ s.of_identifier =
+    found_alone (id ≡ shortest_identifier c k n) (identifier_rule n) r.of_identifier s.of_identifier r.identifier_found s.identifier_found in
+    let l : r.of_length ≡ s.of_length = length_found_alone len (length v) r.of_length s.of_length r.length_found s.length_found in
+    let t : r.of_type ≡ s.of_type = type_found_alone (is_indefinite len) c k n v r.of_type s.of_type r.type_found s.type_found in
+    ap (λ z. listed o z ++ (listed o r.of_length ++ listed o r.of_type)) i
+    ∙ (ap (λ z. listed o s.of_identifier ++ (listed o z ++ listed o r.of_type)) l
+    ∙ ap (λ z. listed o s.of_identifier ++ (listed o s.of_length ++ listed o z)) t)
+
+-- what is listed of an encoding in front, and of what is behind it
+record ListsFrom (u o : ℕ) (id len : List ℕ) (c : ASN1Class) (k : Bool) (n : ℕ) (v : List ℕ) (h size : ℕ) (rest : List ℕ) (found : List Departure)
+    : Type 0 where
+  own : OwnRules id len c k n v
+  inside : List Departure
+  later : List Departure
+  inside_is : ListsInside o (o + h) (is_looked_into k len) v inside
+  later_is : Lists (unended_behind u k len) (o + size) rest later
+  all : found ≡ own_departures o own ++ (inside ++ later)
+
+-- encodings at the front of one list have the same identifier octets
+same_identifier :
+    (xs ys : List ℕ) (c d : ASN1Class) (j k : Bool) (m n : ℕ) (v w : List ℕ) (g h : ℕ) (F : Encoding xs c j m v g) (G : Encoding ys d k n w h) →
+    xs ≡ ys → F.identifier ≡ G.identifier
+same_identifier xs ys c d j k m n v w g h F G e =
+    (identifier_alone F.identifier G.identifier (F.len ++ v) (G.len ++ w) c d j k m n F.identifier_octets G.identifier_octets
+    (sym F.whole ∙ (e ∙ G.whole))).octets
+
+module _ (u o : ℕ) (found : List Departure) where
+  -- with the fields of another header that are the same
+  retold :
+      (id id' len len' : List ℕ) (c c' : ASN1Class) (k k' : Bool) (n n' : ℕ) (v v' : List ℕ) (h h' size size' : ℕ) (rest rest' : List ℕ) →
+      id ≡ id' → len ≡ len' → c ≡ c' → k ≡ k' → n ≡ n' → v ≡ v' → h ≡ h' → size ≡ size' → rest ≡ rest' →
+      ListsFrom u o id' len' c' k' n' v' h' size' rest' found → ListsFrom u o id len c k n v h size rest found
+  retold id id' len len' c c' k k' n n' v v' h h' size size' rest rest' ei el ec ek en ev eh es er l =
+      subst (λ z. ListsFrom u o z len c k n v h size rest found) (sym ei)
+      (subst (λ z. ListsFrom u o id' z c k n v h size rest found) (sym el)
+      (subst (λ z. ListsFrom u o id' len' z k n v h size rest found) (sym ec)
+      (subst (λ z. ListsFrom u o id' len' c' z n v h size rest found) (sym ek)
+      (subst (λ z. ListsFrom u o id' len' c' k' z v h size rest found) (sym en)
+      (subst (λ z. ListsFrom u o id' len' c' k' n' z h size rest found) (sym ev)
+      (subst (λ z. ListsFrom u o id' len' c' k' n' v' z size rest found) (sym eh)
+      (subst (λ z. ListsFrom u o id' len' c' k' n' v' h' z rest found) (sym es)
+      (subst (λ z. ListsFrom u o id' len' c' k' n' v' h' size' z found) (sym er) l))))))))
+
+  -- where an encoding stands in front, it is what is listed first
+  listed_next :
+      (x first rest : List ℕ) (m : IsNext u x first rest) → Lists u o x found →
+      ListsFrom u o m.encoding.identifier m.encoding.len m.class m.constructed m.tag m.contents m.header (length first) rest found
+  listed_next x first rest m (none_left z e f) =
+      absurd (omega (
+        arith,
+        encoding_some first m.class m.constructed m.tag m.contents m.header m.encoding,
+        ap length m.whole,
+        ap length e,
+        length-append first rest,
+      ))
+  listed_next x first rest m (encoding_listed {first = f} {rest = q} {inside = inside} {later = later} n r i ls all) =
+      let e : first ++ rest ≡ f ++ q = sym m.whole ∙ n.whole in
+      let same = encoding_alone first f m.class n.class m.constructed n.constructed m.tag n.tag m.contents n.contents m.header n.header rest q
+      m.encoding n.encoding e in
+      let id = same_identifier first f m.class n.class m.constructed n.constructed m.tag n.tag m.contents n.contents m.header n.header
+      m.encoding n.encoding same.octets in
+      let len = same_length first f m.class n.class m.constructed n.constructed m.tag n.tag m.contents n.contents m.header n.header rest q
+      m.encoding n.encoding e in
+      retold m.encoding.identifier n.encoding.identifier m.encoding.len n.encoding.len m.class n.class m.constructed n.constructed m.tag n.tag
+      m.contents n.contents m.header n.header (length first) (length f) rest q
+      id len same.class same.constructed same.tag same.contents same.header (ap length same.octets) same.rest
+      (record { own = r; inside = inside; later = later; inside_is = i; later_is = ls; all = all })
+  listed_next x first rest m (end_listed more e ls) =
+      absurd (m.no_end (omega (arith, more)) (is_end x first rest _ m.class m.constructed m.tag m.contents m.header m.encoding m.whole e))
+
+  -- where end-of-contents octets do, what is listed is behind them
+  listed_end : (x rest : List ℕ) (fewer : ℕ) → u ≡ fewer + 1 → x ≡ 0 ∷ 0 ∷ rest → Lists u o x found → Lists fewer (o + 2) rest found
+  listed_end x rest fewer more e (none_left z e' f) = absurd (omega (arith, more, z))
+  listed_end x rest fewer more e (encoding_listed {first = f} {rest = q} n r i ls all) =
+      absurd (n.no_end (omega (arith, more)) (is_end x f q rest n.class n.constructed n.tag n.contents n.header n.encoding n.whole e))
+  listed_end x rest fewer more e (end_listed {fewer = g} {rest = q} more' e' ls) =
+      let same : q ≡ rest = cc in
+      let count : g ≡ fewer = omega (arith, more, more') in
+      subst (λ z. Lists z (o + 2) rest found) count (subst (λ z. Lists g (o + 2) z found) same ls)
+
+  -- of no octets none are
+  listed_none : (x : List ℕ) → u ≡ 0 → x ≡ [] → Lists u o x found → found ≡ []
+  listed_none x z e (none_left z' e' f) = f
+  listed_none x z e (encoding_listed {first = f} {rest = q} n r i ls all) =
+      absurd (omega (
+        arith,
+        encoding_some f n.class n.constructed n.tag n.contents n.header n.encoding,
+        ap length n.whole,
+        ap length e,
+        length-append f q,
+      ))
+  listed_none x z e (end_listed more e' ls) = absurd (omega (arith, more, z))
+
+-- what has a list is encodings one after another
+pub listed_encodings : (u o : ℕ) (x : List ℕ) (found : List Departure) → Lists u o x found → AreEncodings u x
+listed_encodings u o x found (none_left z e f) = no_more z e
+listed_encodings u o x found (encoding_listed {first = first} {rest = rest} {later = later} n r i ls all) =
+    next n (listed_encodings (unended_behind u n.constructed n.encoding.len) (o + length first) rest later ls)
+listed_encodings u o x found (end_listed {fewer = fewer} {rest = rest} more e ls) =
+    end_of_contents more e (listed_encodings fewer (o + 2) rest found ls)
+
+mutual
+  -- octets have one list
+  pub lists_alone : (u o : ℕ) (x : List ℕ) (xs ys : List Departure) → Lists u o x xs → Lists u o x ys → xs ≡ ys
+  lists_alone u o x xs ys (none_left z e f) l = f ∙ sym (listed_none u o ys x z e l)
+  lists_alone u o x xs ys (encoding_listed {first = first} {rest = rest} {inside = inside} {later = later} n r i ls all) l =
+      let m = listed_next u o ys x first rest n l in
+      let own = own_alone o n.encoding.identifier n.encoding.len n.class n.constructed n.tag n.contents r m.own in
+      let within : inside ≡ m.inside =
+      inside_alone o (o + n.header) (is_looked_into n.constructed n.encoding.len) n.contents inside m.inside i m.inside_is in
+      let behind : later ≡ m.later =
+      lists_alone (unended_behind u n.constructed n.encoding.len) (o + length first) rest later m.later ls m.later_is in
+      all ∙ (ap (λ z. z ++ (inside ++ later)) own
+      ∙ (ap (λ z. own_departures o m.own ++ (z ++ later)) within
+      ∙ (ap (λ z. own_departures o m.own ++ (m.inside ++ z)) behind ∙ sym m.all)))
+  lists_alone u o x xs ys (end_listed {fewer = fewer} {rest = rest} more e ls) l =
+      lists_alone fewer (o + 2) rest xs ys ls (listed_end u o ys x rest fewer more e l)
+
+  inside_alone :
+      (o s : ℕ) (b : Bool) (v : List ℕ) (xs ys : List Departure) → ListsInside o s b v xs → ListsInside o s b v ys → xs ≡ ys
+  inside_alone o s b v xs ys (nothing_inside f e) (nothing_inside f' e') = e ∙ sym e'
+  inside_alone o s b v xs ys (nothing_inside f e) (encodings_inside t ls) = absurd cc
+  inside_alone o s b v xs ys (nothing_inside f e) (no_encodings_inside t never e') = absurd cc
+  inside_alone o s b v xs ys (encodings_inside t ls) (nothing_inside f e) = absurd cc
+  inside_alone o s b v xs ys (encodings_inside t ls) (encodings_inside t' ls') = lists_alone 0 s v xs ys ls ls'
+  inside_alone o s b v xs ys (encodings_inside t ls) (no_encodings_inside t' never e) =
+      absurd (never (listed_encodings 0 s v xs ls))
+  inside_alone o s b v xs ys (no_encodings_inside t never e) (nothing_inside f e') = absurd cc
+  inside_alone o s b v xs ys (no_encodings_inside t never e) (encodings_inside t' ls) =
+      absurd (never (listed_encodings 0 s v ys ls))
+  inside_alone o s b v xs ys (no_encodings_inside t never e) (no_encodings_inside t' never' e') = e ∙ sym e'
+
+-- no header in front of encodings is at fault
+front_no_fault :
+    (u o : ℕ) (x : List ℕ) (e : DecodeFault) → o + length x < 2 ^ 64 → 0 < length x → HeaderFault o x e → AreEncodings u x → ⊥
+front_no_fault u o x e small some f (no_more z none) = omega (arith, some, ap length none)
+front_no_fault u o x e small some f (next {first = first} {rest = rest} n a) =
+    header_no_encoding o x first rest e n.class n.constructed n.tag n.contents n.header f small n.whole n.encoding
+front_no_fault u o x e small some f (end_of_contents {rest = rest} more w a) =
+    header_no_encoding o x (0 ∷ 0 ∷ []) rest e Universal false 0 [] 2 f small w end_encoding
+
+-- and none behind the first of them
+encodings_no_fault :
+    (u o place : ℕ) (x : List ℕ) (e : DecodeFault) → o + length x < 2 ^ 64 → AreEncodings u x → HeaderFaultBehind u o x place e → ⊥
+encodings_no_fault u o place x e small a (at_front some f) = front_no_fault u o x e small some f a
+encodings_no_fault u o place x e small a (unended_at_end some none) = omega (arith, some, at_end u x none a)
+encodings_no_fault u o place x e small a (behind {first = first} {rest = rest} n f) =
+    encodings_no_fault (unended_behind u n.constructed n.encoding.len) (o + length first) place rest e
+    (omega (arith, small, ap length n.whole, length-append first rest)) (behind_next u x first rest n a) f
+encodings_no_fault u o place x e small a (behind_end_of_contents {fewer = fewer} {rest = rest} more w f) =
+    encodings_no_fault fewer (o + 2) place rest e (omega (arith, small, ap length w)) (behind_end u fewer x rest more w a) f
+
+-- so encodings one after another have no fault
+pub no_fault : (x : List ℕ) (place : ℕ) (e : DecodeFault) → length x < 2 ^ 64 → 0 < length x → AreEncodings 0 x → NoEncodingsFault x place e → ⊥
+no_fault x place e small some a (inl f) = omega (arith, some, ap length f.0)
+no_fault x place e small some a (inr f) = encodings_no_fault 0 0 place x e (omega (arith, small)) a f
+
+pub der_no_fault : (x : List ℕ) (place : ℕ) (e : DecodeFault) → length x < 2 ^ 64 → IsDer x → NoEncodingsFault x place e → ⊥
+der_no_fault x place e small d f = no_fault x place e small d.some (der_encodings x d.items small d.encodings) f
