@@ -1,0 +1,80 @@
+-- Encodings of DER that encode trees.
+use Rattle.std.proofs.Common.{◌≡◌, ℕ, ◌+◌, ◌<◌, ◌^◌, Bool, true, false, List, [], ◌++◌, length, refl, sym, ap, ◌∙◌, subst, arith, length-append}
+use Rattle.std.proofs.lemmas.Bool.{false≢true}
+use Rattle.std.proofs.lemmas.List.{drop_at, take_at}
+use Rattle.std.proofs.lemmas.List.Elements.{All-drop, All-take}
+use Rattle.asn1_numbers.specs.Octets.{AreOctets}
+use Rattle.asn1_headers.specs.Header.{Encoding}
+use Rattle.asn1_headers.specs.declared.header.ASN1Class.{ASN1Class}
+use Rattle.asn1_headers.specs.declared.header.ASN1Class.TheVariants.{Universal}
+use Rattle.asn1_headers.proofs.Prefixes.{encoding_alone, encoding_some}
+use Rattle.asn1_leaves.specs.StringKind.{utf8, printable, teletex, ia5, universal, bmp}
+use Rattle.asn1_blocks.specs.Contents.{group_tag, leaf_tag}
+use Rattle.asn1_blocks.specs.Tree.{Leaf, boolean, integer, bit_string, octet_string, null, object_identifier, text, utc_time, generalized_time}
+use Rattle.asn1_blocks.specs.declared.block.GroupKind.{GroupKind}
+use Rattle.asn1_blocks.specs.declared.block.GroupKind.TheVariants.{Sequence, Set}
+use Rattle.asn1_der.specs.Contents.{HasDerContents}
+use Rattle.asn1_der.specs.Der.{AreDerEncodings, IsDerEncoding, IsRightAlone, is_constructed_type, more_encodings, no_encodings}
+use Rattle.asn1_der.specs.Steps.{AreDer}
+use Rattle.asn1_der.proofs.Encodings.{der_encoding}
+
+-- octets before others, and those behind them
+pub all_before : (x y : List ℕ) → AreOctets (x ++ y) → AreOctets x
+all_before x y all = subst AreOctets (take_at x y (length x) refl) (All-take (λ b. b < 256) (length x) (x ++ y) all)
+
+pub all_behind : (x y : List ℕ) → AreOctets (x ++ y) → AreOctets y
+all_behind x y all = subst AreOctets (drop_at x y (length x) refl) (All-drop (λ b. b < 256) (length x) (x ++ y) all)
+
+-- the contents octets of an encoding
+pub contents_octets : (x : List ℕ) (c : ASN1Class) (k : Bool) (n : ℕ) (v : List ℕ) (h : ℕ) → Encoding x c k n v h → AreOctets x → AreOctets v
+contents_octets x c k n v h e all = all_behind e.len v (all_behind e.identifier (e.len ++ v) (subst AreOctets e.whole all))
+
+pub contents_small : (x : List ℕ) (c : ASN1Class) (k : Bool) (n : ℕ) (v : List ℕ) (h : ℕ) → Encoding x c k n v h → length x < 2 ^ 64 → length v < 2 ^ 64
+contents_small x c k n v h e small =
+    omega (arith, small, ap length e.whole, length-append e.identifier (e.len ++ v), length-append e.len v)
+
+-- a leaf is of no type that is constructed
+leaf_type : (l : Leaf) → is_constructed_type (leaf_tag l) ≡ false
+leaf_type (boolean b) = refl
+leaf_type (integer n) = refl
+leaf_type (bit_string n v) = refl
+leaf_type (octet_string v) = refl
+leaf_type null = refl
+leaf_type (object_identifier ns) = refl
+leaf_type (text utf8 cs) = refl
+leaf_type (text printable cs) = refl
+leaf_type (text teletex cs) = refl
+leaf_type (text ia5 cs) = refl
+leaf_type (text universal cs) = refl
+leaf_type (text bmp cs) = refl
+leaf_type (utc_time m) = refl
+leaf_type (generalized_time m) = refl
+
+-- a leaf of DER is primitive
+pub leaf_right : (l : Leaf) (k : Bool) (v : List ℕ) → IsRightAlone Universal k (leaf_tag l) v → (k ≡ false) × HasDerContents (leaf_tag l) v
+leaf_right l true v r = absurd (false≢true (sym (leaf_type l) ∙ r.0))
+leaf_right l false v r = (refl, r.2)
+
+group_type : (g : GroupKind) → is_constructed_type (group_tag g) ≡ true
+group_type Sequence = refl
+group_type Set = refl
+
+-- a SEQUENCE or SET of DER is constructed
+pub group_right : (g : GroupKind) (k : Bool) (v : List ℕ) → IsRightAlone Universal k (group_tag g) v → k ≡ true
+group_right g true v r = refl
+group_right g false v r = absurd (false≢true (sym r.1 ∙ group_type g))
+
+-- an encoding in front of encodings of DER is one, and so are those behind it
+pub record IsSplit (first rest : List ℕ) : Type 0 where
+  pub der : IsDerEncoding first
+  pub more : AreDer rest
+
+pub split :
+    (x first rest : List ℕ) (c : ASN1Class) (k : Bool) (n : ℕ) (v : List ℕ) (h : ℕ) → Encoding first c k n v h → x ≡ first ++ rest →
+    length x < 2 ^ 64 → AreDer x → IsSplit first rest
+split x first rest c k n v h e whole small (items, no_encodings) =
+    absurd (omega (arith, encoding_some first c k n v h e, ap length whole, length-append first rest))
+split x first rest c k n v h e whole small (items, more_encodings {first = f} {rest = r} {items = is} w d ds) =
+    let (c', k', n', v', h', e') = der_encoding f (omega (arith, small, ap length w, length-append f r)) d in
+    let same = encoding_alone first f c c' k k' n n' v v' h h' rest r e e' (sym whole ∙ w) in
+    record { der = subst IsDerEncoding (sym same.octets) d; more = (is, subst (λ z. AreDerEncodings z is) (sym same.rest) ds) }

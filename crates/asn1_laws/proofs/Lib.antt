@@ -1,0 +1,9 @@
+pub mod Fractions
+pub mod Leaves
+pub mod Times
+pub mod Kept
+pub mod Encodings
+pub mod Documents
+pub mod WrittenTimes
+pub mod WrittenLeaves
+pub mod Written

@@ -1,0 +1,5 @@
+use Rattle.asn1_laws.proofs.Documents.{der_canonical}
+use Rattle.asn1_laws.proofs.laws.law_der_is_canonical.Goals as goal
+
+pub returns : goal.returns
+returns c = record { canonical = der_canonical }

@@ -1,0 +1,8 @@
+//! Laws between DER by X.690, the rules that it breaks, and what `simple_asn1` reads and writes. There is no code here:
+//! each law is a function that does nothing, and whose contract is proved.
+#![tactic(auto)]
+
+mod laws;
+
+pub use asn1_departures::law_departures;
+pub use laws::{law_der_is_canonical, law_written_is_der};
