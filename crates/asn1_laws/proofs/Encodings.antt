@@ -1,5 +1,5 @@
 -- Encodings of DER that encode trees.
-use Rattle.std.proofs.Common.{◌≡◌, ℕ, ◌+◌, ◌<◌, ◌^◌, Bool, true, false, List, [], ◌++◌, length, refl, sym, ap, ◌∙◌, subst, arith, length-append}
+use Rattle.std.proofs.Common.{◌≡◌, ℕ, ◌+◌, ◌<◌, ◌≤◌, ◌^◌, Bool, true, false, List, [], ◌++◌, length, refl, sym, ap, ◌∙◌, subst, arith, length-append}
 use Rattle.std.proofs.lemmas.Bool.{false≢true}
 use Rattle.std.proofs.lemmas.List.{drop_at, take_at}
 use Rattle.std.proofs.lemmas.List.Elements.{All-drop, All-take}
@@ -29,9 +29,12 @@ all_behind x y all = subst AreOctets (drop_at x y (length x) refl) (All-drop (λ
 pub contents_octets : (x : List ℕ) (c : ASN1Class) (k : Bool) (n : ℕ) (v : List ℕ) (h : ℕ) → Encoding x c k n v h → AreOctets x → AreOctets v
 contents_octets x c k n v h e all = all_behind e.len v (all_behind e.identifier (e.len ++ v) (subst AreOctets e.whole all))
 
+pub contents_le : (x : List ℕ) (c : ASN1Class) (k : Bool) (n : ℕ) (v : List ℕ) (h : ℕ) → Encoding x c k n v h → length v ≤ length x
+contents_le x c k n v h e = omega (arith, ap length e.whole, length-append e.identifier (e.len ++ v), length-append e.len v)
+
 pub contents_small : (x : List ℕ) (c : ASN1Class) (k : Bool) (n : ℕ) (v : List ℕ) (h : ℕ) → Encoding x c k n v h → length x < 2 ^ 64 → length v < 2 ^ 64
 contents_small x c k n v h e small =
-    omega (arith, small, ap length e.whole, length-append e.identifier (e.len ++ v), length-append e.len v)
+    omega (arith, small, contents_le x c k n v h e)
 
 -- a leaf is of no type that is constructed
 leaf_type : (l : Leaf) → is_constructed_type (leaf_tag l) ≡ false
@@ -50,10 +53,14 @@ leaf_type (text bmp cs) = refl
 leaf_type (utc_time m) = refl
 leaf_type (generalized_time m) = refl
 
--- a leaf of DER is primitive
+-- an encoding of DER of a type that is not constructed is primitive
+pub primitive_right :
+    (n : ℕ) (k : Bool) (v : List ℕ) → is_constructed_type n ≡ false → IsRightAlone Universal k n v → (k ≡ false) × HasDerContents n v
+primitive_right n true v e r = absurd (false≢true (sym e ∙ r.0))
+primitive_right n false v e r = (refl, r.2)
+
 pub leaf_right : (l : Leaf) (k : Bool) (v : List ℕ) → IsRightAlone Universal k (leaf_tag l) v → (k ≡ false) × HasDerContents (leaf_tag l) v
-leaf_right l true v r = absurd (false≢true (sym (leaf_type l) ∙ r.0))
-leaf_right l false v r = (refl, r.2)
+leaf_right l k v r = primitive_right (leaf_tag l) k v (leaf_type l) r
 
 group_type : (g : GroupKind) → is_constructed_type (group_tag g) ≡ true
 group_type Sequence = refl

@@ -60,7 +60,7 @@ pub bit_string_some : (n : ℕ) (v : List ℕ) → 0 < n → bit_string_contents
 bit_string_some zero v some = absurd (omega (arith, some))
 bit_string_some (suc n) v some = ap (λ z. if z then [] else ((8 * length v - suc n) ∷ v)) (some_are_not_none n)
 
-few_unused : (unused first : ℕ) (more : List ℕ) → is_bit_string (unused ∷ first ∷ more) ≡ true → unused < 8
+pub few_unused : (unused first : ℕ) (more : List ℕ) → is_bit_string (unused ∷ first ∷ more) ≡ true → unused < 8
 few_unused unused first more t = let e = (and_parts (nat_lt unused 8) _ t).0 in grind (arith, nat_tests, e)
 
 pub bit_string_kept :
@@ -132,11 +132,11 @@ behind_first b (c ∷ more) padded on = elim (cases_lt b 128) [
     second false y e = e
 
 -- what is asked of subidentifiers
-record AreWell (octets : List ℕ) : Type 0 where
+pub record AreWell (octets : List ℕ) : Type 0 where
   pub last : last_octet octets < 128
   pub unpadded : has_padded_component octets ≡ false
 
-are_well : (octets : List ℕ) → are_subidentifiers octets ≡ true → AreWell octets
+pub are_well : (octets : List ℕ) → are_subidentifiers octets ≡ true → AreWell octets
 are_well octets t =
     let p = and_parts (nat_lt 0 (length octets) && nat_lt (last_octet octets) 128) (not (has_padded_component octets)) t in
     let q = and_parts (nat_lt 0 (length octets)) (nat_lt (last_octet octets) 128) p.0 in

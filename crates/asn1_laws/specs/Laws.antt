@@ -1,13 +1,22 @@
 -- Laws between DER and what this library reads and writes.
 use Rattle.std.specs.Prelude.{◌≡◌, ◌≢◌, ◌↔◌, ℕ, List}
 use Rattle.asn1_numbers.specs.Octets.{AreOctets, FitInSlice}
+use Rattle.asn1_headers.specs.Fault.{DecodeFault}
 use Rattle.asn1_blocks.specs.Faithful.{AreFaithful, IsFaithful}
-use Rattle.asn1_blocks.specs.Grammar.{IsDocument}
+use Rattle.asn1_blocks.specs.Grammar.{FirstFault, IsDocument}
 use Rattle.asn1_blocks.specs.Tree.{Tree, Trees, no_trees}
 use Rattle.asn1_der.specs.Der.{IsDer}
 use Rattle.simple_asn1.specs.Canonical.{all_canonical, canonical}
 use Rattle.asn1_laws.specs.DerTrees.{AreDerTrees, IsDerTree}
+use Rattle.asn1_laws.specs.Refused.{IsFaultOfDer}
 use Rattle.asn1_laws.specs.Spellings.{HasNoOtherSpelling}
+
+-- which DER is not read
+pub record DerIsRead : Type 0 where
+  -- what is DER and no document has a fault of DER
+  pub refused :
+      (octets : List ℕ) (fault : DecodeFault) →
+      FitInSlice octets → IsDer octets → FirstFault octets fault → IsFaultOfDer octets fault
 
 -- what rewriting does to DER
 pub record DerIsCanonical : Type 0 where

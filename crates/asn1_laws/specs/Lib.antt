@@ -1,3 +1,4 @@
+pub mod Refused
 pub mod Spellings
 pub mod DerTrees
 pub mod Laws

@@ -1,5 +1,26 @@
 // Laws over the definitions alone: where DER by X.690 and what this library reads and writes are the same.
-ghost use Rattle.asn1_laws.specs.Laws.{DerIsCanonical, WrittenIsDer};
+ghost use Rattle.asn1_laws.specs.Laws.{DerIsCanonical, DerIsRead, WrittenIsDer};
+
+/// A law, with no code. All DER that a slice can hold is read, with two exceptions. A TeletexString, a UniversalString or
+/// a BMPString, which have codes of their own in DER (X.690 8.23), is rejected where it is no UTF-8. A BIT STRING is
+/// rejected where a `usize` cannot count its bits.
+///
+/// ```rust
+/// use simple_asn1::{ASN1DecodeErr, Document, is_der};
+/// use std::alloc::Global;
+///
+/// // Blocks of DER. By the law, `None` is returned for what is not DER, and errors are `UTF8DecodeFailure`,
+/// // `LengthTooLarge` or `OutOfMemory`.
+/// fn der_blocks(alloc: Global, octets: &[u8]) -> Result<Option<Document>, ASN1DecodeErr> {
+///     if is_der(alloc, octets)? {
+///         return Ok(Some(Document::from_der(alloc, octets)?));
+///     }
+///     Ok(None)
+/// }
+/// ```
+pub fn law_der_is_read()
+    ensures { DerIsRead }
+{}
 
 /// A law, with no code. A document that is DER is its own canonical octets, so that `rewrite` leaves it alone and
 /// `from_der_strict` accepts it, exactly if none of its blocks, at any depth, is of three kinds.

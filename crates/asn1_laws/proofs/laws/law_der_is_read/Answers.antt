@@ -1,0 +1,5 @@
+use Rattle.asn1_laws.proofs.Refused.{der_refused}
+use Rattle.asn1_laws.proofs.laws.law_der_is_read.Goals as goal
+
+pub returns : goal.returns
+returns c = record { refused = der_refused }
