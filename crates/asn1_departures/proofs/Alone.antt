@@ -8,6 +8,7 @@ use Rattle.asn1_headers.specs.declared.header.ASN1Class.{ASN1Class}
 use Rattle.asn1_headers.specs.declared.header.ASN1Class.TheVariants.{Universal, Application, ContextSpecific, Private}
 use Rattle.asn1_headers.proofs.Prefixes.{encoding_alone, encoding_some, identifier_alone}
 use Rattle.asn1_blocks.proofs.Faults.{header_no_encoding}
+use Rattle.asn1_blocks.proofs.FaultsAlone.{header_fault_alone}
 use Rattle.asn1_der.specs.Der.{IsDer, IsRightAlone}
 use Rattle.asn1_departures.specs.Departures.{AreEncodings, Found, HeaderFaultBehind, IsNext, LengthFound, Lists, ListsInside, NoEncodingsFault, OwnRules, TypeFound, at_front, behind, behind_end_of_contents, broken, encoding_listed, encodings_inside, end_listed, end_of_contents, is_indefinite, is_looked_into, kept, listed, next, no_encodings_inside, no_more, none_left, nothing_inside, own_departures, unended_at_end, unended_behind}
 use Rattle.asn1_departures.specs.Rules.{form_rule, identifier_rule, type_rule}
@@ -205,3 +206,88 @@ no_fault x place e small some a (inr f) = encodings_no_fault 0 0 place x e (omeg
 
 pub der_no_fault : (x : List ℕ) (place : ℕ) (e : DecodeFault) → length x < 2 ^ 64 → IsDer x → NoEncodingsFault x place e → ⊥
 der_no_fault x place e small d f = no_fault x place e small d.some (der_encodings x d.items small d.encodings) f
+
+-- what is behind the encoding in front
+same_behind :
+    (u o q : ℕ) (x first rest : List ℕ) (e : DecodeFault) (n : IsNext u x first rest) (f r : List ℕ) (m : IsNext u x f r) →
+    HeaderFaultBehind (unended_behind u m.constructed m.encoding.len) (o + length f) r q e →
+    HeaderFaultBehind (unended_behind u n.constructed n.encoding.len) (o + length first) rest q e
+same_behind u o q x first rest e n f r m h =
+    let w : first ++ rest ≡ f ++ r = sym n.whole ∙ m.whole in
+    let same = encoding_alone first f n.class m.class n.constructed m.constructed n.tag m.tag n.contents m.contents n.header m.header rest r
+    n.encoding m.encoding w in
+    let len = same_length first f n.class m.class n.constructed m.constructed n.tag m.tag n.contents m.contents n.header m.header rest r
+    n.encoding m.encoding w in
+    subst (λ z. HeaderFaultBehind (unended_behind u n.constructed n.encoding.len) (o + length z) rest q e) (sym same.octets)
+    (subst (λ z. HeaderFaultBehind (unended_behind u n.constructed n.encoding.len) (o + length f) z q e) (sym same.rest)
+    (subst (λ z. HeaderFaultBehind (unended_behind u n.constructed z) (o + length f) r q e) (sym len)
+    (subst (λ z. HeaderFaultBehind (unended_behind u z m.encoding.len) (o + length f) r q e) (sym same.constructed) h)))
+
+-- an encoding has octets, so that none are left is said of no octets alone
+no_octets : (u : ℕ) (x first rest : List ℕ) → IsNext u x first rest → x ≡ [] → ⊥
+no_octets u x first rest n none =
+    omega (
+      arith,
+      encoding_some first n.class n.constructed n.tag n.contents n.header n.encoding,
+      ap length n.whole,
+      ap length none,
+      length-append first rest,
+    )
+
+front_no_next : (u o : ℕ) (x first rest : List ℕ) (e : DecodeFault) → o + length x < 2 ^ 64 → HeaderFault o x e → IsNext u x first rest → ⊥
+front_no_next u o x first rest e small f n =
+    header_no_encoding o x first rest e n.class n.constructed n.tag n.contents n.header f small n.whole n.encoding
+
+front_no_end : (o : ℕ) (x rest : List ℕ) (e : DecodeFault) → o + length x < 2 ^ 64 → HeaderFault o x e → x ≡ 0 ∷ 0 ∷ rest → ⊥
+front_no_end o x rest e small f w = header_no_encoding o x (0 ∷ 0 ∷ []) rest e Universal false 0 [] 2 f small w end_encoding
+
+next_no_end : (u fewer : ℕ) (x first rest later : List ℕ) → IsNext u x first rest → u ≡ fewer + 1 → x ≡ 0 ∷ 0 ∷ later → ⊥
+next_no_end u fewer x first rest later n more w =
+    n.no_end (omega (arith, more)) (is_end x first rest later n.class n.constructed n.tag n.contents n.header n.encoding n.whole w)
+
+-- there is one fault, at one place
+fault_alone :
+    (u o p q : ℕ) (x : List ℕ) (e d : DecodeFault) → o + length x < 2 ^ 64 → HeaderFaultBehind u o x p e → HeaderFaultBehind u o x q d →
+    (p ≡ q) × (e ≡ d)
+fault_alone u o p q x e d small (at_front some f) (at_front more g) = (refl, header_fault_alone o x e d f g)
+fault_alone u o p q x e d small (at_front some f) (unended_at_end more none) = absurd (omega (arith, some, ap length none))
+fault_alone u o p q x e d small (at_front some f) (behind {first = first} {rest = rest} n g) =
+    absurd (front_no_next u o x first rest e small f n)
+fault_alone u o p q x e d small (at_front some f) (behind_end_of_contents {rest = rest} more w g) = absurd (front_no_end o x rest e small f w)
+fault_alone u o p q x e d small (unended_at_end some none) (at_front more g) = absurd (omega (arith, more, ap length none))
+fault_alone u o p q x e d small (unended_at_end some none) (unended_at_end more none') = (refl, refl)
+fault_alone u o p q x e d small (unended_at_end some none) (behind {first = first} {rest = rest} n g) =
+    absurd (no_octets u x first rest n none)
+fault_alone u o p q x e d small (unended_at_end some none) (behind_end_of_contents more w g) = absurd (omega (arith, ap length w, ap length none))
+fault_alone u o p q x e d small (behind {first = first} {rest = rest} n f) (at_front more g) =
+    absurd (front_no_next u o x first rest d small g n)
+fault_alone u o p q x e d small (behind {first = first} {rest = rest} n f) (unended_at_end some none) =
+    absurd (no_octets u x first rest n none)
+fault_alone u o p q x e d small (behind {first = first} {rest = rest} n f) (behind {first = y} {rest = r} m g) =
+    fault_alone (unended_behind u n.constructed n.encoding.len) (o + length first) p q rest e d
+    (omega (arith, small, ap length n.whole, length-append first rest)) f (same_behind u o q x first rest d n y r m g)
+fault_alone u o p q x e d small (behind {first = first} {rest = rest} n f) (behind_end_of_contents {fewer = fewer} {rest = r} more w g) =
+    absurd (next_no_end u fewer x first rest r n more w)
+fault_alone u o p q x e d small (behind_end_of_contents {rest = rest} more w f) (at_front some g) = absurd (front_no_end o x rest d small g w)
+fault_alone u o p q x e d small (behind_end_of_contents more w f) (unended_at_end some none) = absurd (omega (arith, ap length w, ap length none))
+fault_alone u o p q x e d small (behind_end_of_contents {fewer = fewer} {rest = rest} more w f) (behind {first = y} {rest = r} m g) =
+    absurd (next_no_end u fewer x y r rest m more w)
+fault_alone u o p q x e d small (behind_end_of_contents {fewer = a} {rest = rest} more w f) (behind_end_of_contents {fewer = b} {rest = r} more' w' g) =
+    let same : r ≡ rest = cc in
+    let count : b ≡ a = omega (arith, more, more') in
+    fault_alone a (o + 2) p q rest e d (omega (arith, small, ap length w)) f
+    (subst (λ z. HeaderFaultBehind z (o + 2) rest q d) count (subst (λ z. HeaderFaultBehind b (o + 2) z q d) same g))
+
+-- of no octets no header is at fault, where none is open
+of_none : {x : List ℕ} {p : ℕ} {e : DecodeFault} → x ≡ [] → HeaderFaultBehind 0 0 x p e → ⊥
+of_none none (at_front some f) = omega (arith, some, ap length none)
+of_none none (unended_at_end some e) = omega (arith, some)
+of_none {x = x} none (behind {first = first} {rest = rest} n f) = no_octets 0 x first rest n none
+of_none none (behind_end_of_contents more w f) = omega (arith, ap length w, ap length none)
+
+pub one_fault :
+    (x : List ℕ) (p q : ℕ) (e d : DecodeFault) → length x < 2 ^ 64 → NoEncodingsFault x p e → NoEncodingsFault x q d → (p ≡ q) × (e ≡ d)
+one_fault x p q e d small (inl f) (inl g) = (f.1 ∙ sym g.1, f.2 ∙ sym g.2)
+one_fault x p q e d small (inl f) (inr g) = absurd (of_none f.0 g)
+one_fault x p q e d small (inr f) (inl g) = absurd (of_none g.0 f)
+one_fault x p q e d small (inr f) (inr g) = fault_alone 0 0 p q x e d (omega (arith, small)) f g

@@ -12,10 +12,15 @@ pub record OneListOfDepartures : Type 0 where
   pub one_list :
       (octets : List ℕ) (some others : List Departure) → AreDepartures octets some → AreDepartures octets others →
       some ≡ others
-  -- and no list where a header is at fault
+  -- and no list where a header is at fault, if there are octets
   pub not_both :
       (octets : List ℕ) (found : List Departure) (place : ℕ) (fault : DecodeFault) → FitInSlice octets →
       0 < length octets → AreDepartures octets found → NoEncodingsFault octets place fault → ⊥
+  -- the header at fault is one, with one fault
+  pub one_fault :
+      (octets : List ℕ) (some other : ℕ) (fault another : DecodeFault) → FitInSlice octets →
+      NoEncodingsFault octets some fault → NoEncodingsFault octets other another →
+      (some ≡ other) × (fault ≡ another)
   -- no header of DER is at fault
   pub der_has_no_fault :
       (octets : List ℕ) (place : ℕ) (fault : DecodeFault) → FitInSlice octets → IsDer octets →

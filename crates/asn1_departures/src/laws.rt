@@ -1,8 +1,8 @@
 // Laws of the list of departures.
 ghost use Rattle.asn1_departures.specs.Laws.{OneListOfDepartures};
 
-/// A law, with no code. Octets have at most one list of departures, and those that have one have no header at fault. DER
-/// has no header at fault, and is never rejected by `departures` for one.
+/// A law, with no code. Octets have at most one list of departures, and at most one first header at fault. They do not
+/// have both, if there are any octets. DER has no header at fault, so that `departures` never rejects it for one.
 ///
 /// ```rust
 /// use simple_asn1::{Departure, LocatedErr, departures};
