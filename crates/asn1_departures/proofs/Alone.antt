@@ -1,6 +1,6 @@
 -- Octets have one list of departures, or a header at fault.
-use Rattle.std.proofs.Common.{◌≡◌, ℕ, ◌+◌, ◌<◌, ◌^◌, Bool, true, false, List, [], ◌∷◌, ◌++◌, inl, inr, length, refl, sym, ap, ap₂, ◌∙◌, subst, arith, length-append}
-use Rattle.std.specs.Prelude.{MatchBool, Option, None, Some}
+use Rattle.std.proofs.Common.{◌≡◌, ℕ, ◌+◌, ◌<◌, ◌^◌, Bool, true, false, List, [], ◌∷◌, ◌++◌, inl, inr, length, refl, sym, ap, ◌∙◌, subst, arith, length-append}
+use Rattle.std.specs.Prelude.{MatchBool, Option, Some}
 use Rattle.asn1_headers.specs.Fault.{DecodeFault}
 use Rattle.asn1_headers.specs.Header.{Encoding, shortest_identifier, shortest_length}
 use Rattle.asn1_headers.specs.HeaderFault.{HeaderFault}
@@ -11,10 +11,10 @@ use Rattle.asn1_blocks.proofs.Faults.{header_no_encoding}
 use Rattle.asn1_blocks.proofs.FaultsAlone.{header_fault_alone}
 use Rattle.asn1_der.specs.Der.{IsDer, IsRightAlone}
 use Rattle.asn1_departures.specs.Departures.{AreEncodings, Found, HeaderFaultBehind, IsNext, LengthFound, Lists, ListsInside, NoEncodingsFault, OwnRules, TypeFound, at_front, behind, behind_end_of_contents, broken, encoding_listed, encodings_inside, end_listed, end_of_contents, is_indefinite, is_looked_into, kept, listed, next, no_encodings_inside, no_more, none_left, nothing_inside, own_departures, unended_at_end, unended_behind}
-use Rattle.asn1_departures.specs.Rules.{form_rule, identifier_rule, type_rule}
+use Rattle.asn1_departures.specs.Rules.{identifier_rule, type_rule}
 use Rattle.asn1_departures.specs.declared.rule.Departure.{Departure}
 use Rattle.asn1_departures.specs.declared.rule.Rule.{Rule}
-use Rattle.asn1_departures.specs.declared.rule.Rule.TheVariants.{IndefiniteLength, LongLength, NotEncodings}
+use Rattle.asn1_departures.specs.declared.rule.Rule.TheVariants.{IndefiniteLength, LongLength}
 use Rattle.asn1_departures.proofs.Fronts.{at_end, behind_end, behind_next, der_encodings, end_encoding, is_end, same_length}
 
 -- a rule is found to be broken, or not

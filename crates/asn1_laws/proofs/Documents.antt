@@ -1,5 +1,5 @@
 -- A document that is DER is its canonical octets exactly if no leaf of it is written otherwise.
-use Rattle.std.proofs.Common.{◌≡◌, ◌≢◌, ◌↔◌, ℕ, ◌+◌, ◌<◌, ◌^◌, Bool, true, false, List, [], ◌++◌, length, refl, sym, ap, ◌∙◌, subst, arith, length-append, append-nil}
+use Rattle.std.proofs.Common.{◌≡◌, ◌↔◌, ℕ, ◌+◌, ◌<◌, ◌^◌, Bool, true, false, List, [], ◌++◌, length, refl, sym, ap, ◌∙◌, subst, arith, length-append, append-nil}
 use Rattle.std.specs.List.{slice_range}
 use Rattle.asn1_numbers.specs.Octets.{AreOctets}
 use Rattle.asn1_headers.specs.Header.{Encoding}
@@ -8,12 +8,12 @@ use Rattle.asn1_headers.specs.declared.header.ASN1Class.TheVariants.{Universal}
 use Rattle.asn1_headers.proofs.Prefixes.{encoding_alone}
 use Rattle.asn1_blocks.specs.Contents.{LeafContents, group_tag, leaf_contents, leaf_tag}
 use Rattle.asn1_blocks.specs.Grammar.{Encodes, EncodesAll, IsDocument}
-use Rattle.asn1_blocks.specs.Places.{HasOctets, StandsAmong, StandsIn, end_before, in_explicit, in_first, in_group, in_later, itself}
+use Rattle.asn1_blocks.specs.Places.{StandsAmong, StandsIn, end_before, in_explicit, in_first, in_group, in_later, itself}
 use Rattle.asn1_blocks.specs.Tree.{Leaf, Tree, Trees, leaf, group, explicit, unknown, no_trees, more_trees}
 use Rattle.asn1_blocks.proofs.Faults.{block_encoding}
 use Rattle.asn1_blocks.proofs.OneReading.{encodes_block}
 use Rattle.asn1_blocks.proofs.Slices.{end_is, open_contents, open_first, open_rest, slice_here}
-use Rattle.asn1_der.specs.Der.{IsDer, IsDerEncoding, IsShortest}
+use Rattle.asn1_der.specs.Der.{IsDer, IsDerEncoding}
 use Rattle.asn1_der.specs.Steps.{AreDer}
 use Rattle.asn1_der.proofs.Encodings.{der_whole}
 use Rattle.simple_asn1.specs.Canonical.{all_canonical, canonical, shortest_encoding}

@@ -1,5 +1,5 @@
 -- A leaf whose contents octets are DER is written as it came, or it is one of those that are written otherwise.
-use Rattle.std.proofs.Common.{◌≡◌, ℕ, ◌+◌, Bool, true, false, List, [], ◌∷◌, length, refl, sym, ap, ◌∙◌, arith}
+use Rattle.std.proofs.Common.{◌≡◌, ℕ, false, List, length, refl, sym}
 use Rattle.std.proofs.lemmas.Bool.{eqb-true}
 use Rattle.std.proofs.lemmas.List.{nil_from_length}
 use Rattle.asn1_numbers.specs.Octets.{AreOctets}
@@ -7,7 +7,6 @@ use Rattle.asn1_leaves.specs.StringKind.{utf8, printable, teletex, ia5, universa
 use Rattle.asn1_blocks.specs.Contents.{LeafContents, leaf_contents, leaf_tag}
 use Rattle.asn1_blocks.specs.Tree.{Leaf, boolean, integer, bit_string, octet_string, null, object_identifier, text, utc_time, generalized_time}
 use Rattle.asn1_der.specs.Contents.{HasDerContents}
-use Rattle.asn1_der.specs.Padding.{has_padded_fraction}
 use Rattle.asn1_laws.specs.Spellings.{is_written_otherwise}
 use Rattle.asn1_laws.proofs.Leaves.{bit_string_kept, bit_string_other, boolean_kept, integer_kept, object_identifier_kept, object_identifier_other}
 use Rattle.asn1_laws.proofs.Times.{generalized_time_kept, generalized_time_other}

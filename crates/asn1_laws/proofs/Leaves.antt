@@ -1,13 +1,12 @@
 -- Contents octets of leaves that are DER: the same are written, or they are one of those that are written otherwise.
-use Rattle.std.proofs.Common.{◌≡◌, ◌≢◌, ◌==◌, ℕ, zero, suc, ◌+◌, ◌-◌, ◌*◌, ◌<◌, ◌≤◌, ◌^◌, ◌⊎◌, Bool, true, false, not, List, [], ◌∷◌, ◌++◌, inl, inr, length, get_or, refl, sym, ap, ap₂, ◌∙◌, subst, arith, IsTrue}
+use Rattle.std.proofs.Common.{◌≡◌, ◌≢◌, ◌==◌, ℕ, zero, suc, ◌+◌, ◌-◌, ◌*◌, ◌<◌, Bool, true, false, not, List, [], ◌∷◌, ◌++◌, inl, inr, length, refl, sym, ap, ap₂, ◌∙◌, subst, arith, IsTrue}
 use Rattle.std.specs.Prelude.{ℤ, ◌&&◌, ◌||◌, nat_lt, if◌then◌else◌}
 use Rattle.std.specs.List.{flat_map}
 use Rattle.std.proofs.lemmas.Bool.{and_parts, cases_Bool, cases_lt, eqb-true, false≢true}
 use Rattle.std.proofs.lemmas.Bool.Decides.{nat_tests}
-use Rattle.std.proofs.lemmas.List.{nil_from_length}
-use Rattle.std.proofs.lemmas.List.Elements.{All-drop, recursion_from_All}
+use Rattle.std.proofs.lemmas.List.Elements.{recursion_from_All}
 use Rattle.asn1_numbers.specs.Octets.{AreOctets}
-use Rattle.asn1_numbers.specs.TwosComplement.{shortest_octets, signed_number}
+use Rattle.asn1_numbers.specs.TwosComplement.{shortest_octets}
 use Rattle.asn1_numbers.specs.Base128.{IsContinued, shortest_base128}
 use Rattle.asn1_headers.proofs.Shortest.{shortest_base128_is, shortest_base128_leading}
 use Rattle.asn1_numbers.proofs.SignedNumbers.{shortest_signed, sign_before}
@@ -17,7 +16,7 @@ use Rattle.asn1_leaves.specs.Contents.Integer.{IntegerContents}
 use Rattle.asn1_leaves.specs.Contents.ObjectIdentifier.{ObjectIdentifierContents, object_identifier_contents}
 use Rattle.asn1_leaves.proofs.ShortSubidentifiers.{NoneLeads, short_object_identifier}
 use Rattle.asn1_der.specs.Contents.{are_subidentifiers, is_bit_string, is_boolean, is_integer}
-use Rattle.asn1_der.specs.Padding.{has_padded_component, is_padded_from, is_padded_number, last_octet}
+use Rattle.asn1_der.specs.Padding.{has_padded_component, is_padded_from, last_octet}
 use Rattle.asn1_laws.proofs.Fractions.{last_after}
 use Rattle.asn1_laws.specs.Spellings.{goes_on_with_80, has_no_bits}
 

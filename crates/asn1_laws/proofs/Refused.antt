@@ -1,12 +1,8 @@
 -- The faults of octets that are DER.
-use Rattle.std.proofs.Common.{◌≡◌, ◌==◌, ℕ, ◌+◌, ◌*◌, ◌<◌, ◌≤◌, ◌^◌, ◌⊎◌, Bool, true, false, List, [], ◌∷◌, ◌++◌, inl, inr, length, refl, sym, ap, ◌∙◌, subst, arith, length-append, append_assoc}
-use Rattle.std.specs.Prelude.{◌||◌}
-use Rattle.std.proofs.lemmas.Bool.{false≢true}
+use Rattle.std.proofs.Common.{◌≡◌, ℕ, ◌+◌, ◌<◌, ◌≤◌, ◌^◌, true, false, List, [], ◌∷◌, ◌++◌, inl, inr, length, refl, ap, ◌∙◌, subst, arith, length-append, append_assoc}
 use Rattle.std.proofs.lemmas.Str.{IsUtf8-from_is_utf8}
 use Rattle.asn1_headers.specs.Fault.{DecodeFault}
-use Rattle.asn1_headers.specs.Header.{Encoding}
 use Rattle.asn1_headers.specs.HeaderFault.{HeaderFault}
-use Rattle.asn1_headers.specs.declared.header.ASN1Class.{ASN1Class}
 use Rattle.asn1_headers.specs.declared.header.ASN1Class.TheVariants.{Universal}
 use Rattle.asn1_leaves.specs.Contents.BitString.{BitStringFault}
 use Rattle.asn1_leaves.specs.Contents.GeneralizedTime.{GeneralizedTimeContents}
@@ -22,7 +18,7 @@ use Rattle.asn1_der.specs.Contents.{HasDerContents, IsMoment, are_subidentifiers
 use Rattle.asn1_der.specs.Der.{IsDer, is_constructed_type, more_encodings, no_encodings}
 use Rattle.asn1_der.specs.Steps.{AreDer}
 use Rattle.asn1_der.proofs.Encodings.{der_encoding, der_whole}
-use Rattle.asn1_laws.specs.Refused.{IsFaultOfDer, has_other_code, of_bits, of_string}
+use Rattle.asn1_laws.specs.Refused.{IsFaultOfDer, of_bits, of_string}
 use Rattle.asn1_laws.proofs.Encodings.{contents_le, contents_small, group_right, primitive_right, split}
 use Rattle.asn1_laws.proofs.Fractions.{last_after}
 use Rattle.asn1_laws.proofs.Leaves.{are_well, few_unused}

@@ -1,5 +1,5 @@
 -- Contents octets of a GeneralizedTime that are DER.
-use Rattle.std.proofs.Common.{◌≡◌, ◌≢◌, ◌==◌, ℕ, zero, suc, ◌+◌, ◌-◌, ◌*◌, ◌<◌, ◌≤◌, ◌^◌, ◌⊎◌, Bool, true, false, not, List, [], ◌∷◌, ◌++◌, inl, inr, length, get_or, refl, sym, ap, ap₂, ◌∙◌, subst, arith, length-append}
+use Rattle.std.proofs.Common.{◌≡◌, ◌≢◌, ◌==◌, ℕ, zero, ◌+◌, ◌-◌, ◌<◌, ◌≤◌, ◌⊎◌, Bool, true, false, not, List, [], ◌∷◌, ◌++◌, inl, inr, length, get_or, refl, sym, ap, ap₂, ◌∙◌, arith, length-append}
 use Rattle.std.specs.Prelude.{◌&&◌, ◌||◌, nat_lt, if◌then◌else◌}
 use Rattle.std.specs.Char.{is_ascii_digit}
 use Rattle.std.specs.List.{list_all}
@@ -10,7 +10,7 @@ use Rattle.asn1_leaves.specs.Contents.GeneralizedTime.{GeneralizedTimeContents, 
 use Rattle.asn1_leaves.specs.Contents.Moment.{Moment}
 use Rattle.asn1_der.specs.Padding.{has_padded_fraction, last_octet}
 use Rattle.asn1_laws.specs.Spellings.{has_many_digits}
-use Rattle.asn1_laws.proofs.Fractions.{IsFraction, digit_range, fraction_few, fraction_is}
+use Rattle.asn1_laws.proofs.Fractions.{digit_range, fraction_few, fraction_is}
 
 second_size : (m : Moment) → length (to_second m) ≡ 14
 second_size m = refl

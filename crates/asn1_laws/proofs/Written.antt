@@ -1,14 +1,11 @@
 -- When what is written of faithful trees is DER.
-use Rattle.std.proofs.Common.{◌≡◌, ◌≢◌, ◌↔◌, ℕ, ◌+◌, ◌<◌, ◌≤◌, ◌^◌, Bool, true, false, List, [], ◌∷◌, ◌++◌, length, refl, sym, ap, ◌∙◌, subst, arith, length-append, append-nil}
-use Rattle.asn1_headers.specs.Header.{Encoding}
+use Rattle.std.proofs.Common.{◌≡◌, ◌≢◌, ◌↔◌, ℕ, ◌<◌, ◌^◌, Bool, true, false, List, [], ◌∷◌, ◌++◌, length, refl, sym, ap, arith, length-append, append-nil}
 use Rattle.asn1_headers.specs.declared.header.ASN1Class.{ASN1Class}
 use Rattle.asn1_headers.specs.declared.header.ASN1Class.TheVariants.{Universal}
 use Rattle.asn1_leaves.specs.StringKind.{utf8, printable, teletex, ia5, universal, bmp}
-use Rattle.asn1_blocks.specs.Contents.{group_tag, leaf_contents, leaf_tag}
+use Rattle.asn1_blocks.specs.Contents.{leaf_contents, leaf_tag}
 use Rattle.asn1_blocks.specs.Faithful.{AreFaithful, IsFaithful}
-use Rattle.asn1_blocks.specs.Places.{IsEncoding}
 use Rattle.asn1_blocks.specs.Tree.{Leaf, Tree, Trees, leaf, group, explicit, unknown, no_trees, more_trees, boolean, integer, bit_string, octet_string, null, object_identifier, text, utc_time, generalized_time}
-use Rattle.asn1_blocks.specs.declared.block.GroupKind.{GroupKind}
 use Rattle.asn1_blocks.specs.declared.block.GroupKind.TheVariants.{Sequence, Set}
 use Rattle.asn1_der.specs.Der.{AreDerEncodings, IsDer, IsDerEncoding, IsShortest, is_constructed_type, is_reserved, more_encodings, no_encodings, of_other_constructed, of_primitive_type, of_sequence, of_set}
 use Rattle.asn1_der.specs.Steps.{AreDer, IsWhole}

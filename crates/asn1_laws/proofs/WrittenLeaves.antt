@@ -1,8 +1,8 @@
 -- When what is written of a faithful leaf is DER.
-use Rattle.std.proofs.Common.{◌≡◌, ◌≢◌, ◌==◌, ◌↔◌, ℕ, zero, suc, ◌+◌, ◌-◌, ◌*◌, ◌%◌, ◌<◌, ◌≤◌, ◌^◌, ◌⊎◌, Bool, true, false, not, None, List, [], ◌∷◌, ◌++◌, inl, inr, length, get_or, refl, sym, ap, ap₂, ◌∙◌, subst, arith, length-append}
+use Rattle.std.proofs.Common.{◌≡◌, ◌≢◌, ◌==◌, ℕ, zero, suc, ◌+◌, ◌-◌, ◌*◌, ◌%◌, ◌<◌, ◌≤◌, ◌^◌, Bool, true, false, not, List, [], ◌∷◌, ◌++◌, inl, inr, length, refl, sym, ap, ap₂, ◌∙◌, arith, length-append}
 use Rattle.std.specs.Prelude.{ℤ, encode_utf8_all, ◌&&◌, ◌||◌, nat_lt, if◌then◌else◌}
 use Rattle.std.specs.List.{flat_map}
-use Rattle.std.proofs.lemmas.Bool.{and_from, and_parts, cases_Bool, cases_lt, eqb-true, false≢true}
+use Rattle.std.proofs.lemmas.Bool.{and_from, cases_Bool, cases_lt, eqb-true, false≢true}
 use Rattle.std.proofs.lemmas.Bool.Decides.{nat_tests}
 use Rattle.std.proofs.lemmas.Str.{is_utf8-from_IsUtf8}
 use Rattle.asn1_numbers.specs.TwosComplement.{shortest_octets}
@@ -15,7 +15,7 @@ use Rattle.asn1_leaves.specs.StringKind.{utf8, printable, teletex, ia5, universa
 use Rattle.asn1_blocks.specs.Contents.{IsFaithfulLeaf, leaf_contents, leaf_tag}
 use Rattle.asn1_blocks.specs.Tree.{Leaf, boolean, integer, bit_string, octet_string, null, object_identifier, text, utc_time, generalized_time}
 use Rattle.asn1_der.specs.Contents.{HasDerContents, HasDerTime, has_der_octets, are_subidentifiers, is_bit_string, is_integer}
-use Rattle.asn1_der.specs.Padding.{has_padded_component, is_padded_from, is_padded_number, last_octet}
+use Rattle.asn1_der.specs.Padding.{has_padded_component, is_padded_from, last_octet}
 use Rattle.asn1_laws.specs.DerTrees.{are_der_bits, are_der_components, is_der_leaf}
 use Rattle.asn1_laws.proofs.Fractions.{last_after}
 use Rattle.asn1_laws.proofs.Leaves.{bit_string_some, continued_some}
