@@ -1,19 +1,31 @@
 """Documents with octets changed, for comparisons with a plain reader."""
 import random
 
+from certificates import certificates
+from x690 import encoding
+
 ODD = (0, 1, 0x1F, 0x30, 0x31, 0x7F, 0x80, 0xFF)
-
-
-def header(leading, size):
-    octets = size.to_bytes((size.bit_length() + 7) // 8, "big")
-    return bytes([leading, size]) if size < 128 else bytes([leading, 0x80 + len(octets)]) + octets
+SHORT = 40  # octets, of which each is changed
 
 
 def each_changed(octets):
     for place in range(len(octets)):
-        for value in range(256):
-            if value != octets[place]:
-                yield octets[:place] + bytes([value]) + octets[place + 1 :]
+        yield from changed_at(octets, place)
+
+
+def changed_at(octets, place):
+    """The octets with the one at the place changed to each other value."""
+    return [octets[:place] + bytes([it]) + octets[place + 1 :] for it in range(256) if it != octets[place]]
+
+
+def of_certificates(folder, parts):
+    """The certificates of a folder; and three of them, and each part that is short, with each octet changed to each
+    other value."""
+    found = sorted(certificates(folder), key=len)
+    yield from found
+    half = found[: len(found) // 2 + 1]
+    for octets in (half[0], half[len(half) // 2], half[-1], *(it for it in parts if len(it) < SHORT)):
+        yield from each_changed(octets)
 
 
 def joined(parts, seed):
@@ -22,8 +34,7 @@ def joined(parts, seed):
     contents = bytearray(chance.choice(parts) + chance.choice(parts))
     if chance.random() < 0.7 and contents:
         contents[chance.randrange(len(contents))] = chance.choice(ODD)
-    size = len(contents)
-    return header(chance.choice((0x30, 0x31, 0x31, 0xA0)), size) + bytes(contents)
+    return encoding(chance.choice((0x30, 0x31, 0x31, 0xA0)), bytes(contents))
 
 
 def indefinite(parts, seed):
@@ -37,5 +48,5 @@ def indefinite(parts, seed):
             octets = bytes([chance.choice((0x30, 0x31, 0x24, 0xA0)), 0x80]) + octets
             octets += b"\0\0" if chance.random() < 0.8 else b""
         elif form < 0.8:
-            octets = header(chance.choice((0x30, 0x31, 0xA0)), len(octets)) + octets
+            octets = encoding(chance.choice((0x30, 0x31, 0xA0)), octets)
     return octets

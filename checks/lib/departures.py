@@ -5,6 +5,7 @@ It is written from X.690, by `der` for what encodings of DER are, and shares not
 import re
 
 import der
+from x690 import length_octets
 
 STRINGS = {3, 4, 7, 12, 18, 19, 20, 21, 22, 23, 24, 25, 26, 27, 28, 30}  # 8.6, 8.7, 8.23, 8.25
 MOST_LENGTH_OCTETS = 8
@@ -73,11 +74,6 @@ def shortest_identifier(it):
         return bytes([leading | it.tag])
     number = [it.tag >> place & 0x7F for place in range(0, it.tag.bit_length(), 7)]
     return bytes([leading | 31] + [0x80 | octet for octet in number[:0:-1]] + number[:1])
-
-
-def shortest_length(size):
-    octets = size.to_bytes((size.bit_length() + 7) // 8, "big")
-    return bytes([size]) if size < 0x80 else bytes([0x80 + len(octets)]) + octets
 
 
 def form_rule(it):
@@ -150,7 +146,7 @@ def own_rules(it):
         yield "LongIdentifier" if it.tag < 31 else "PaddedTag"
     if it.is_indefinite:
         yield "IndefiniteLength"
-    elif it.length != shortest_length(len(it.contents)):
+    elif it.length != length_octets(len(it.contents)):
         yield "LongLength"
     rule = type_rule(it)
     if rule:

@@ -1,7 +1,8 @@
 """What der_dump writes with --json: dump_lines.py PROGRAM WORK FOLDER
 
-Each line keeps to docs/dump.schema.json and has what a dump shows, docs/rebuild.py makes documents of lines, and the
-examples of docs/DUMP.md for jq show what openssl shows, of each certificate of the folder. `checks/json` runs it.
+Each line keeps to docs/dump.schema.json and has what a dump shows, crates/der_dump/rebuild.py makes documents of lines,
+and the examples of docs/DUMP.md for jq show what openssl shows, of each certificate of the folder. `checks/json` runs
+it.
 """
 import copy
 import json
@@ -13,9 +14,10 @@ import subprocess
 import sys
 import textwrap
 from certificates import certificates
+from x690 import encoding, nested
 
 TOP = pathlib.Path(__file__).resolve().parent.parent.parent
-sys.path.insert(0, str(TOP / "docs"))
+sys.path.insert(0, str(TOP / "crates/der_dump"))
 import rebuild  # noqa: E402
 
 try:
@@ -52,14 +54,6 @@ def calls_inputs():
     for line in (TOP / "crates/test_calls/stdin").read_text().splitlines():
         if found := re.fullmatch(r"(?:read|rewrite|strict|count|parts) ((?:[0-9A-F]{2} ?)+)", line):
             yield bytes.fromhex(found[1])
-
-
-def nested(first, levels):
-    parts, size = [b"\x05\x00"], 2
-    for _ in range(levels):
-        parts.append(bytes([first]) + rebuild.length_octets(size))
-        size += len(parts[-1])
-    return b"".join(reversed(parts))
 
 
 class Dump:
@@ -196,7 +190,7 @@ def check_schema(dump, lines):
     tell(f"{good} of {len(lines)} lines, {rows} blocks, keep to the schema")
     octets = bytes.fromhex("".join(BLOCKS))
     changed = REFUSED_LINES
-    for octets, changes in ((b"\x30" + rebuild.length_octets(len(octets)) + octets, REFUSED),
+    for octets, changes in ((encoding(0x30, octets), REFUSED),
                             (bytes.fromhex(FAULTS), REFUSED_FAULTS)):
         line, *_ = dump.lines([], octets.hex().encode())
         if not validator.is_valid(line) or len(line["blocks"]) != 1 + max(path[0] for path, _ in changes):
@@ -410,7 +404,7 @@ def streamed(folder):
 
 
 def check_ber(dump, documents):
-    """docs/rebuild.py makes documents again that have indefinite lengths and constructed strings."""
+    """crates/der_dump/rebuild.py makes documents again that have indefinite lengths and constructed strings."""
     for octets in documents:
         line, *others = dump.lines([], octets.hex().encode())
         if others or not any(row["size"] is None for row in line["blocks"]):
@@ -421,12 +415,12 @@ def check_ber(dump, documents):
 
 
 def rebuilt(lines):
-    ran = subprocess.run([sys.executable, TOP / "docs/rebuild.py"], input=lines, capture_output=True)
+    ran = subprocess.run([sys.executable, TOP / "crates/der_dump/rebuild.py"], input=lines, capture_output=True)
     return ran.returncode, ran.stdout, ran.stderr.decode()
 
 
 def check_program(dump, roots):
-    """docs/rebuild.py as a program: what it writes and says, and how it ends."""
+    """crates/der_dump/rebuild.py as a program: what it writes and says, and how it ends."""
     for number, octets in enumerate(roots):
         (dump.folder / f"{number:05}.der").write_bytes(octets)
     names = [f"{number:05}.der" for number in range(len(roots))]

@@ -1,7 +1,7 @@
 """Documents of which a careless call takes more than linear time: a long number as a component, as a tag or as an
 INTEGER, and many items.
 
-    bindings.py WORK KIND=PROGRAM..
+    bindings.py WORK KIND=PROGRAM..    with checks/lib on Python's path
 
 KIND is `c`, `rust` or `python`, of which PROGRAM is given a call and a file, and prints the processor time of the call
 in microseconds and a status; or `json`, for `der_dump`. It fails where twice the size takes more than three times as
@@ -14,15 +14,10 @@ import subprocess
 import sys
 import tempfile
 
+from x690 import encoding
+
 SIZES = (25_000, 50_000, 100_000)
 MOST_SECONDS, MOST_RATIO, NOISE = 1.0, 3.0, 0.01
-
-
-def encoding(first, contents):
-    size = len(contents)
-    octets = size.to_bytes((size.bit_length() + 7) // 8, "big")
-    length = bytes([size]) if size < 128 else bytes([128 + len(octets)]) + octets
-    return bytes([first]) + length + contents
 
 
 def long_number(size):
