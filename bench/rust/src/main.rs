@@ -11,8 +11,17 @@ use peers::{peers, Document, Peer, HERE, RUST_CRATE};
 use std::{env, ffi::CString, fs, thread};
 
 const ITEMS: [&str; 11] = [
-    "certificates", "bundle", "list_of_revoked", "integers", "long_integers", "text", "identifiers", "times",
-    "failures", "nested", "subidentifier",
+    "certificates",
+    "bundle",
+    "list_of_revoked",
+    "integers",
+    "long_integers",
+    "text",
+    "identifiers",
+    "times",
+    "failures",
+    "nested",
+    "subidentifier",
 ];
 /// An item has these sizes, but for the certificates, which are files.
 const SIZES: [u32; 3] = [1, 2, 4];
@@ -21,7 +30,11 @@ const LARGEST: u32 = 4;
 const GROWTH_OF: [&str; 3] = [RUST_CRATE, HERE, "der-parser"];
 
 fn sizes(item: &str) -> &'static [u32] {
-    if item == "certificates" { &[LARGEST] } else { &SIZES }
+    if item == "certificates" {
+        &[LARGEST]
+    } else {
+        &SIZES
+    }
 }
 
 fn documents(corpus: &str, item: &str, size: u32) -> Vec<Document> {
@@ -187,7 +200,8 @@ fn time(corpus: &str, wanted: &[String]) {
 fn repeat(corpus: &str, item: &str, name: &str, operation: &str, times: u64) {
     let peer = peers().into_iter().find(|it| it.name == name).expect("a peer");
     let documents = documents(corpus, item, LARGEST);
-    let operation = *[Read, Strict, Write, Rewrite].iter().find(|it| format!("{it:?}") == operation).expect("an operation");
+    let operation =
+        *[Read, Strict, Write, Rewrite].iter().find(|it| format!("{it:?}") == operation).expect("an operation");
     let job = Job { peer: &peer, operation, size: LARGEST, documents: &documents, times: 1, writes: 0, turns: vec![] };
     let (repeats, writes) = if operation == Write { (1, times) } else { (times, 0) };
     for _ in 0..repeats {

@@ -48,7 +48,12 @@ extern "C" {
     fn simple_asn1_read_strict(octets: *const u8, size: usize, blocks: *mut Block, room: usize) -> Outcome;
     fn simple_asn1_rewrite(octets: *const u8, size: usize, out: *mut u8, room: usize) -> Outcome;
     fn simple_asn1_write(
-        octets: *const u8, size: usize, blocks: *const Block, count: usize, out: *mut u8, room: usize,
+        octets: *const u8,
+        size: usize,
+        blocks: *const Block,
+        count: usize,
+        out: *mut u8,
+        room: usize,
     ) -> Outcome;
     fn simple_asn1_int64(octets: *const u8, size: usize, offset: usize) -> Integer;
     fn simple_asn1_time(octets: *const u8, size: usize, offset: usize) -> Moment;

@@ -191,12 +191,17 @@ fn read(count: usize, certificates: &[Vec<u8>]) {
         let there = original::from_der(&octets);
         // a tree with its offsets, or an error with what it says
         let shown = (format!("{here:?}"), here.as_ref().err().map(|e| e.to_string()));
-        let rule = if here.iter().flatten().zip(&written).any(|(block, octets)| rule_of(block, octets) == "UNEXPLAINED") {
+        let rule = if here.iter().flatten().zip(&written).any(|(block, octets)| rule_of(block, octets) == "UNEXPLAINED")
+        {
             "UNEXPLAINED as written"
         } else if here.is_ok() && here != dropin::from_der(&octets) {
             "UNEXPLAINED as another tree"
         } else if shown == (format!("{there:?}"), there.as_ref().err().map(|e| e.to_string())) {
-            if here.is_ok() { "the same tree" } else { "the same error" }
+            if here.is_ok() {
+                "the same tree"
+            } else {
+                "the same error"
+            }
         } else if shown.0 == format!("{:?}", unsigned::from_der(&octets)) {
             "a signed year is not read"
         } else {
@@ -342,10 +347,9 @@ fn first_rule(block: &dropin::ASN1Block) -> Option<Option<(&'static str, dropin:
         UTCTime(_, moment) | GeneralizedTime(_, moment) => {
             (moment.year() < 0).then_some(Some(("a year below 0 is an error", YearOutOfRange)))
         }
-        PrintableString(_, text) | IA5String(_, text) => text
-            .chars()
-            .any(|c| c > '\u{FF}')
-            .then_some(Some(("a character above 255 is an error", CharacterTooLarge))),
+        PrintableString(_, text) | IA5String(_, text) => {
+            text.chars().any(|c| c > '\u{FF}').then_some(Some(("a character above 255 is an error", CharacterTooLarge)))
+        }
         ObjectIdentifier(_, oid) => original::OID::new(numbers(oid)).as_raw().is_err().then_some(None),
         Sequence(_, items) | Set(_, items) => items.iter().find_map(first_rule),
         Explicit(_, _, _, item) => first_rule(item),

@@ -59,4 +59,3 @@ fn encode_len(_: usize) -> Vec<u8> {
 fn decode_length(_: &[u8], _: &mut usize) -> Result<usize, ASN1DecodeErr> {
     unimplemented!()
 }
-

@@ -2,8 +2,8 @@
 
 use crate::Fault;
 pub use simple_asn1_sys::Block as Record;
-pub use simple_asn1_sys::{Path, SignedParts, Value};
 use simple_asn1_sys::*;
+pub use simple_asn1_sys::{Path, SignedParts, Value};
 
 /// A moment in UTC, to the nanosecond.
 #[derive(Clone, Copy, Debug, PartialEq, Eq, PartialOrd, Ord, Hash)]

@@ -1,6 +1,6 @@
 //! Which rules of DER bytes break, and where.
 
-use crate::{Fault, calls};
+use crate::{calls, Fault};
 
 /// A rule of DER that an encoding may break: a variant for each of `simple_asn1.h`, in the order of their numbers.
 #[derive(Clone, Copy, Debug, PartialEq, Eq, Hash)]

@@ -21,7 +21,7 @@ mod paths;
 pub use builder::Builder;
 use calls::SignedParts;
 pub use calls::{Moment, Record};
-pub use departures::{Departure, Rule, departures};
+pub use departures::{departures, Departure, Rule};
 pub use fault::{Fault, FaultKind};
 pub use paths::{Paths, Value};
 

@@ -1,7 +1,7 @@
 //! Many values of a document by one call.
 
 use crate::calls::{self, Moment, Path};
-use crate::{Class, Fault, class_of, text_of};
+use crate::{class_of, text_of, Class, Fault};
 
 /// Paths to blocks: made once, and followed in many documents. A path has item numbers from 0: the first is that of a
 /// block at the top level, each other that of an item of the one before.

@@ -60,8 +60,7 @@ pub fn read<T>(octets: &[u8], make: impl FnOnce(&[Block]) -> T) -> Result<T, Out
 pub fn fault(octets: &[u8]) -> (sys::Fault, String) {
     let mut text = vec![0; 64];
     loop {
-        let fault =
-            unsafe { sys::simple_asn1_fault(octets.as_ptr(), octets.len(), text.as_mut_ptr(), text.len()) };
+        let fault = unsafe { sys::simple_asn1_fault(octets.as_ptr(), octets.len(), text.as_mut_ptr(), text.len()) };
         match fault.text.status {
             sys::OK => {
                 text.truncate(fault.text.count);
@@ -129,15 +128,11 @@ pub fn raw_bits(octets: &[u8], bits: usize, out: &mut Vec<u8>) -> Result<(), Out
 }
 
 pub fn raw_oid(components: &[u64], out: &mut Vec<u8>) -> Result<(), Outcome> {
-    append(out, 32, |out, room| unsafe {
-        sys::simple_asn1_raw_oid(components.as_ptr(), components.len(), out, room)
-    })
+    append(out, 32, |out, room| unsafe { sys::simple_asn1_raw_oid(components.as_ptr(), components.len(), out, room) })
 }
 
 pub fn raw_text(tag: u64, text: &str, out: &mut Vec<u8>) -> Result<(), Outcome> {
-    append(out, text.len(), |out, room| unsafe {
-        sys::simple_asn1_raw_text(tag, text.as_ptr(), text.len(), out, room)
-    })
+    append(out, text.len(), |out, room| unsafe { sys::simple_asn1_raw_text(tag, text.as_ptr(), text.len(), out, room) })
 }
 
 pub fn raw_time(tag: u64, moment: &Moment, out: &mut Vec<u8>) -> Result<(), Outcome> {

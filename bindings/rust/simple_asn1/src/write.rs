@@ -53,9 +53,9 @@ impl Records {
                 out.extend_from_slice(&number.to_signed_bytes_be());
                 Ok(())
             }),
-            ASN1Block::BitString(_, bits, octets) => self.leaf(3, |out| {
-                calls::raw_bits(octets, *bits, out).map_err(error(ASN1EncodeErr::BitStringLength))
-            }),
+            ASN1Block::BitString(_, bits, octets) => {
+                self.leaf(3, |out| calls::raw_bits(octets, *bits, out).map_err(error(ASN1EncodeErr::BitStringLength)))
+            }
             ASN1Block::OctetString(_, octets) => self.leaf(4, |out| {
                 out.extend_from_slice(octets);
                 Ok(())

@@ -48,7 +48,15 @@ fn no_more_blocks_stand_around_one_than_is_set() {
 
 /// The size of a NULL in so many SEQUENCEs with the shortest headers.
 fn blocks_size(levels: usize) -> usize {
-    (0..levels).fold(2, |size, _| size + if size < 128 { 2 } else if size < 256 { 3 } else { 4 })
+    (0..levels).fold(2, |size, _| {
+        size + if size < 128 {
+            2
+        } else if size < 256 {
+            3
+        } else {
+            4
+        }
+    })
 }
 
 static READ: AtomicUsize = AtomicUsize::new(0);

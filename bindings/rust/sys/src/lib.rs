@@ -192,7 +192,8 @@ extern "C" {
     pub fn simple_asn1_dotted(contents: *const u8, size: usize, out: *mut u8, room: usize) -> Outcome;
     pub fn simple_asn1_shortest_oid(contents: *const u8, size: usize, out: *mut u8, room: usize) -> Outcome;
     pub fn simple_asn1_component(contents: *const u8, size: usize, index: usize) -> Outcome;
-    pub fn simple_asn1_header(octets: *const u8, size: usize, offset: usize, block: *mut Block, room: usize) -> Outcome;
+    pub fn simple_asn1_header(octets: *const u8, size: usize, offset: usize, block: *mut Block, room: usize)
+        -> Outcome;
     pub fn simple_asn1_tag(octets: *const u8, size: usize, offset: usize, out: *mut u8, room: usize) -> Outcome;
     pub fn simple_asn1_tag_octets(octets: *const u8, size: usize, offset: usize) -> Outcome;
     pub fn simple_asn1_fault(octets: *const u8, size: usize, out: *mut u8, room: usize) -> Fault;
