@@ -1,3 +1,4 @@
+-- For `sink::is_octet`: what it returns is right.
 use Rattle.std.proofs.Common.{◌≡◌, ◌==◌, ◌∷◌, ◌↔◌, [], ℕ, List, length, slice_index, arith}
 use Rattle.std.specs.Prelude.{IsTrue}
 use Rattle.std.proofs.lemmas.Bool.Decides.{Decides-eqb}
