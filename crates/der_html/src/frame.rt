@@ -1,4 +1,5 @@
-// The beginning and the end of a page, the same of every dump.
+// The beginning and the end of a page, the same of every dump. The beginning allows the script at the end by its hash,
+// which `checks/page` compares.
 ghost use Rattle.std.specs.Prelude.{OnOk};
 ghost use Rattle.der_html.specs.Page.{IsLonger};
 
@@ -6,9 +7,9 @@ use std::alloc::AllocError;
 
 const HEAD: &str = "<!DOCTYPE html>
 <html lang=\"en\"><head><meta charset=\"utf-8\"><title>der_dump</title>
-<meta name=\"viewport\" content=\"width=device-width\">
-<meta http-equiv=\"Content-Security-Policy\"
- content=\"default-src 'none'; style-src 'unsafe-inline'; script-src 'unsafe-inline'\">
+<meta name=\"viewport\" content=\"width=device-width, initial-scale=1\">
+<meta http-equiv=\"Content-Security-Policy\" content=\"default-src 'none'; style-src 'unsafe-inline';
+ script-src 'sha256-tnVdHXJ6mlXEgoLHidNVNFVN3+pSCPzcjWg10CpKgIw='\">
 <style>
 :root { color-scheme: light dark; --paper: #fff; --ink: #1c2024; --faint: #d9dde2; --pointed: #eef1f4;
  --header: #ffd479; --contents: #b9dcff; --fault: #b3261e }
@@ -29,6 +30,14 @@ section { display: flex; gap: 1rem; align-items: flex-start; border-bottom: 1px 
  width: calc(48ch + 2rem); max-height: 100vh; overflow-y: auto; white-space: pre-wrap;
  border-left: 1px solid var(--faint) }
 .octets:empty { display: none }
+/* on a phone the bytes stand below, and lines are broken */
+@media (max-width: 60rem) {
+ section { display: block }
+ .tree { padding: .5rem }
+ .tree p, .tree summary { white-space: pre-wrap; overflow-wrap: anywhere; width: auto; min-width: 0 }
+ .octets { position: sticky; top: auto; bottom: 0; width: auto; max-height: 30vh; padding: .5rem;
+  background: var(--paper); border-left: none; border-top: 1px solid var(--faint) }
+}
 ::highlight(header) { background: var(--header) }
 ::highlight(contents) { background: var(--contents) }
 </style></head><body>
