@@ -1,4 +1,4 @@
-//! The calls of `simple_asn1.h`. All unsafe code is in this file.
+//! The calls of `simple_asn1.h`. All unsafe code is in this file and in `growing`.
 
 use simple_asn1_sys as sys;
 use std::alloc::{handle_alloc_error, Layout};
@@ -83,6 +83,12 @@ pub fn header(octets: &[u8], offset: usize) -> Option<Block> {
 
 pub fn time(octets: &[u8], offset: usize) -> Moment {
     unsafe { sys::simple_asn1_time(octets.as_ptr(), octets.len(), offset) }
+}
+
+/// These octets as text, if they are ASCII. `from_utf8` would look at each octet of a short text by itself.
+pub fn ascii(octets: &[u8]) -> Option<String> {
+    // SAFETY: ASCII is UTF-8.
+    octets.is_ascii().then(|| unsafe { String::from_utf8_unchecked(octets.to_vec()) })
 }
 
 /// The text of a value that was read.

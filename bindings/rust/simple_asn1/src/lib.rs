@@ -5,6 +5,7 @@ mod block;
 mod calls;
 mod convert;
 mod error;
+mod growing;
 mod oid;
 mod read;
 mod write;

@@ -40,15 +40,29 @@ impl OID {
         self.components().iter().map(|component| T::try_from(component).map_err(|_| ASN1DecodeErr::Overflow)).collect()
     }
 
-    /// What contents octets that were read mean.
-    pub(crate) fn of_contents(contents: &[u8]) -> OID {
-        let components = OnceLock::new();
-        if contents.len() > SHORT {
-            return OID(Origin::Long(Box::new(Long { octets: contents.into(), components })));
+    /// What so many contents octets at the front mean, which were read. Others may stand behind them.
+    #[inline(always)]
+    pub(crate) fn of_front(octets: &[u8], size: usize) -> OID {
+        if size > SHORT {
+            return OID::of_many(&octets[..size]);
         }
+        let short = match octets.first_chunk() {
+            // faster than a copy of so few octets by their number
+            Some(front) => (u128::from_le_bytes(*front) & !(u128::MAX << (8 * size))).to_le_bytes(),
+            None => {
+                let mut short = [0; 16];
+                short[..size].copy_from_slice(&octets[..size]);
+                short
+            }
+        };
         let mut octets = [0; SHORT];
-        octets[..contents.len()].copy_from_slice(contents);
-        OID(Origin::Short { size: contents.len() as u8, octets, components })
+        octets.copy_from_slice(&short[..SHORT]);
+        OID(Origin::Short { size: size as u8, octets, components: OnceLock::new() })
+    }
+
+    #[cold]
+    fn of_many(contents: &[u8]) -> OID {
+        OID(Origin::Long(Box::new(Long { octets: contents.into(), components: OnceLock::new() })))
     }
 
     /// The contents octets that it was read from.

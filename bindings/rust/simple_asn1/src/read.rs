@@ -1,9 +1,10 @@
 //! The tree of the records of a document.
 
 use crate::calls::{self, Block};
+use crate::growing::{only, Growing};
 use crate::{base128, ASN1Block, ASN1Class, ASN1DecodeErr, BigInt, BigUint, OID};
 use simple_asn1_sys as sys;
-use std::mem;
+use std::mem::{self, MaybeUninit};
 use std::sync::atomic::{AtomicUsize, Ordering::Relaxed};
 use time::{Date, Month, PrimitiveDateTime, Time};
 
@@ -40,101 +41,88 @@ pub fn set_max_depth(depth: usize) {
 /// assert_eq!(blocks, [ASN1Block::Sequence(0, vec![ASN1Block::Integer(2, BigInt::from(-1))])]);
 /// ```
 pub fn from_der(i: &[u8]) -> Result<Vec<ASN1Block>, ASN1DecodeErr> {
-    match calls::read(i, |records| Tree::new(i, records, MAX_DEPTH.load(Relaxed)).build()) {
+    match calls::read(i, |records| build(i, records, MAX_DEPTH.load(Relaxed))) {
         Ok(blocks) => blocks,
         Err(fault) if has_empty_group_before(i, fault.offset) => Err(ASN1DecodeErr::EmptyBuffer),
         Err(_) => Err(fault(i)),
     }
 }
 
-/// A block whose items are being built: its record, and the items and the end of the block around it.
-struct Frame<'a> {
-    record: &'a Block,
-    items: Vec<ASN1Block>,
-    end: usize,
-}
-
-/// No certificate nests more deeply.
-const USUAL_DEPTH: usize = 16;
-
-struct Tree<'a> {
-    octets: &'a [u8],
-    records: &'a [Block],
-    frames: Vec<Frame<'a>>,
-    /// Those of the innermost block so far, and the index at which it ends.
-    items: Vec<ASN1Block>,
-    end: usize,
-    max_depth: usize,
-}
-
-impl<'a> Tree<'a> {
-    fn new(octets: &'a [u8], records: &'a [Block], max_depth: usize) -> Tree<'a> {
-        let frames = Vec::with_capacity(USUAL_DEPTH);
-        Tree { octets, records, frames, items: Vec::with_capacity(1), end: records.len(), max_depth }
-    }
-
-    /// The blocks. `EmptyBuffer` if a SEQUENCE or SET is empty, outside any attempt to read a block of another class;
-    /// `Overflow` if the blocks nest too deeply.
-    fn build(mut self) -> Result<Vec<ASN1Block>, ASN1DecodeErr> {
-        let mut index = 0;
-        loop {
-            while index == self.end {
-                let Some(frame) = self.frames.pop() else { return Ok(self.items) };
-                self.close(frame);
-            }
-            let record = &self.records[index];
-            index = match record {
-                Block { tag_class: 0, tag: 16 | 17, contents: 0, .. } => {
-                    self.give_up_attempt().ok_or(ASN1DecodeErr::EmptyBuffer)?
-                }
-                Block { tag_class: 0, tag: 16 | 17, .. } | Block { tag_class: 1.., items: 1, .. } => {
-                    if self.frames.len() >= self.max_depth {
-                        return Err(ASN1DecodeErr::Overflow);
-                    }
-                    self.open(record);
-                    index + 1
-                }
-                _ => {
-                    let block = leaf(self.octets, record);
-                    self.items.push(block);
-                    record.next
-                }
-            };
+/// The blocks of these records. `EmptyBuffer` if a SEQUENCE or SET is empty, outside any attempt to read a block of
+/// another class; `Overflow` if the blocks nest too deeply.
+fn build(octets: &[u8], records: &[Block], max_depth: usize) -> Result<Vec<ASN1Block>, ASN1DecodeErr> {
+    let mut blocks = Vec::with_capacity(1);
+    match add_blocks(octets, records, max_depth, &mut blocks) {
+        Ok(()) => Ok(blocks),
+        Err(fault) => {
+            discard(blocks);
+            Err(fault)
         }
     }
+}
 
-    fn open(&mut self, record: &'a Block) {
-        let items = mem::replace(&mut self.items, Vec::with_capacity(record.items));
-        self.frames.push(Frame { record, items, end: self.end });
-        self.end = record.next;
-    }
-
-    fn close(&mut self, frame: Frame) {
-        let mut items = mem::replace(&mut self.items, frame.items);
-        self.end = frame.end;
-        let offset = frame.record.offset;
-        self.items.push(match (frame.record.tag_class, frame.record.tag) {
-            (0, 16) => ASN1Block::Sequence(offset, items),
-            (0, _) => ASN1Block::Set(offset, items),
-            (class, _) => {
-                let item = items.pop().expect("its record has one item");
-                ASN1Block::Explicit(class_of(class), offset, tag_of(self.octets, frame.record), Box::new(item))
-            }
-        });
-    }
-
-    /// The innermost attempt stays as it came, and the index after it is next; `None` if there is none.
-    fn give_up_attempt(&mut self) -> Option<usize> {
-        loop {
-            let frame = self.frames.pop();
-            let around = frame.as_ref().map(|frame| (frame.record, frame.end));
-            discard(mem::replace(&mut self.items, frame.map(|frame| frame.items).unwrap_or_default()));
-            let (record, end) = around?;
-            self.end = end;
+fn add_blocks(
+    octets: &[u8],
+    records: &[Block],
+    max_depth: usize,
+    blocks: &mut Vec<ASN1Block>,
+) -> Result<(), ASN1DecodeErr> {
+    let document = Block { next: records.len(), ..Block::default() };
+    let mut growing = Growing::new(&document, blocks);
+    let mut index = 0;
+    loop {
+        while index == growing.record().next {
+            let Some((block, record)) = growing.close() else { return Ok(()) };
             if record.tag_class != 0 {
-                self.items.push(unknown(self.octets, record));
-                return Some(record.next);
+                make_explicit(octets, record, block);
             }
+        }
+        let record = &records[index];
+        if !holds_blocks(record) {
+            growing.push(|slot| write_leaf(slot, octets, record));
+            index = record.next;
+        } else if is_empty_group(record) {
+            index = give_up_attempt(octets, &mut growing).ok_or(ASN1DecodeErr::EmptyBuffer)?;
+        } else if growing.depth() < max_depth {
+            growing.open(record);
+            index += 1;
+        } else {
+            return Err(ASN1DecodeErr::Overflow);
+        }
+    }
+}
+
+/// Whether a block is read as one that holds others.
+#[inline(always)]
+fn holds_blocks(record: &Block) -> bool {
+    match record.tag_class {
+        0 => matches!(record.tag, 16 | 17),
+        _ => record.items == 1,
+    }
+}
+
+/// Whether it is a SEQUENCE or SET without contents octets.
+#[inline(always)]
+fn is_empty_group(record: &Block) -> bool {
+    matches!(record, Block { tag_class: 0, tag: 16 | 17, contents: 0, .. })
+}
+
+/// Makes an explicit block of the SEQUENCE or SET of its one item, as which it was opened.
+fn make_explicit(octets: &[u8], record: &Block, block: &mut ASN1Block) {
+    if let ASN1Block::Sequence(offset, items) | ASN1Block::Set(offset, items) = block {
+        let (class, tag) = (class_of(record.tag_class), tag_of(octets, record));
+        *block = ASN1Block::Explicit(class, *offset, tag, only(mem::take(items)));
+    }
+}
+
+/// The innermost attempt stays as it came, and the index after it is next; `None` if there is none.
+#[cold]
+fn give_up_attempt(octets: &[u8], growing: &mut Growing) -> Option<usize> {
+    loop {
+        let (block, record) = growing.close()?;
+        if record.tag_class != 0 {
+            discard(vec![mem::replace(block, unknown(octets, record))]);
+            return Some(record.next);
         }
     }
 }
@@ -159,37 +147,48 @@ fn class_of(number: u8) -> ASN1Class {
     }
 }
 
-/// A block that holds no others.
-fn leaf(octets: &[u8], record: &Block) -> ASN1Block {
+/// Writes a block that holds no others. In the loop above, all of its values would not stay in registers.
+#[inline(never)]
+fn write_leaf<'s>(slot: &'s mut MaybeUninit<ASN1Block>, octets: &[u8], record: &Block) -> &'s mut ASN1Block {
     let offset = record.offset;
     let contents = contents_of(octets, record);
     if record.tag_class != 0 {
-        return unknown(octets, record);
+        return slot.write(unknown(octets, record));
     }
     match record.tag {
-        1 => ASN1Block::Boolean(offset, contents[0] != 0),
-        2 => ASN1Block::Integer(offset, BigInt::from_signed_bytes_be(contents)),
+        1 => slot.write(ASN1Block::Boolean(offset, contents[0] != 0)),
+        2 => slot.write(ASN1Block::Integer(offset, integer(contents))),
         3 => match contents {
-            [] => ASN1Block::BitString(offset, 0, Vec::new()),
-            [unused, bits @ ..] => ASN1Block::BitString(offset, 8 * bits.len() - usize::from(*unused), bits.to_vec()),
+            [] => slot.write(ASN1Block::BitString(offset, 0, Vec::new())),
+            [unused, bits @ ..] => {
+                slot.write(ASN1Block::BitString(offset, 8 * bits.len() - usize::from(*unused), bits.to_vec()))
+            }
         },
-        4 => ASN1Block::OctetString(offset, contents.to_vec()),
-        5 => ASN1Block::Null(offset),
-        6 => ASN1Block::ObjectIdentifier(offset, OID::of_contents(contents)),
-        12 => ASN1Block::UTF8String(offset, text_of(octets, record)),
-        19 => ASN1Block::PrintableString(offset, text_of(octets, record)),
-        20 => ASN1Block::TeletexString(offset, text_of(octets, record)),
-        22 => ASN1Block::IA5String(offset, text_of(octets, record)),
-        23 => ASN1Block::UTCTime(offset, moment_of(octets, record)),
-        24 => ASN1Block::GeneralizedTime(offset, moment_of(octets, record)),
-        28 => ASN1Block::UniversalString(offset, text_of(octets, record)),
-        30 => ASN1Block::BMPString(offset, text_of(octets, record)),
-        _ => unknown(octets, record),
+        4 => slot.write(ASN1Block::OctetString(offset, contents.to_vec())),
+        5 => slot.write(ASN1Block::Null(offset)),
+        6 => {
+            let front = from_contents(octets, record);
+            slot.write(ASN1Block::ObjectIdentifier(offset, OID::of_front(front, contents.len())))
+        }
+        12 => slot.write(ASN1Block::UTF8String(offset, text_of(octets, record))),
+        19 => slot.write(ASN1Block::PrintableString(offset, text_of(octets, record))),
+        20 => slot.write(ASN1Block::TeletexString(offset, text_of(octets, record))),
+        22 => slot.write(ASN1Block::IA5String(offset, text_of(octets, record))),
+        23 => slot.write(ASN1Block::UTCTime(offset, moment_of(octets, record))),
+        24 => slot.write(ASN1Block::GeneralizedTime(offset, moment_of(octets, record))),
+        28 => slot.write(ASN1Block::UniversalString(offset, text_of(octets, record))),
+        30 => slot.write(ASN1Block::BMPString(offset, text_of(octets, record))),
+        _ => slot.write(unknown(octets, record)),
     }
 }
 
 fn contents_of<'a>(octets: &'a [u8], record: &Block) -> &'a [u8] {
-    &octets[record.offset + record.header..][..record.contents]
+    &from_contents(octets, record)[..record.contents]
+}
+
+/// The octets of the document from the contents octets of a block on.
+fn from_contents<'a>(octets: &'a [u8], record: &Block) -> &'a [u8] {
+    &octets[record.offset + record.header..]
 }
 
 fn unknown(octets: &[u8], record: &Block) -> ASN1Block {
@@ -206,13 +205,24 @@ pub(crate) fn tag_of(octets: &[u8], record: &Block) -> BigUint {
     }
 }
 
+/// So many octets of an INTEGER are turned round on the stack. A serial number has up to 20.
+const USUAL_INTEGER: usize = 24;
+
+/// In two's complement. `num-bigint` takes the octets from the last one, and would turn them round on the heap.
+fn integer(contents: &[u8]) -> BigInt {
+    let mut room = [0; USUAL_INTEGER];
+    let Some(turned) = room.get_mut(..contents.len()) else { return BigInt::from_signed_bytes_be(contents) };
+    turned.iter_mut().zip(contents.iter().rev()).for_each(|(turned, octet)| *turned = *octet);
+    BigInt::from_signed_bytes_le(turned)
+}
+
 /// The contents octets of all strings are their text in UTF-8, but for an IA5String's above 7F.
 fn text_of(octets: &[u8], record: &Block) -> String {
     let contents = contents_of(octets, record);
-    if record.tag == 22 && !contents.is_ascii() {
-        return calls::text(octets, record.offset, 2 * record.contents);
-    }
-    String::from_utf8(contents.to_vec()).expect("the text was read")
+    calls::ascii(contents).unwrap_or_else(|| match record.tag {
+        22 => calls::text(octets, record.offset, 2 * record.contents),
+        _ => String::from_utf8(contents.to_vec()).expect("the text was read"),
+    })
 }
 
 fn moment_of(octets: &[u8], record: &Block) -> PrimitiveDateTime {
@@ -247,16 +257,21 @@ fn has_empty_group_before(octets: &[u8], fault: usize) -> bool {
     false
 }
 
-/// Whether one of them is empty, or the offset of the fault.
+/// Whether one of them is empty, outside any attempt; or the offset of the fault.
 fn read_alone(octets: &[u8]) -> Result<bool, usize> {
-    calls::read(octets, |records| match Tree::new(octets, records, usize::MAX).build() {
-        Ok(blocks) => {
-            discard(blocks);
-            false
+    calls::read(octets, has_empty_group).map_err(|fault| fault.offset)
+}
+
+fn has_empty_group(records: &[Block]) -> bool {
+    let mut index = 0;
+    while let Some(record) = records.get(index) {
+        if is_empty_group(record) {
+            return true;
         }
-        Err(_) => true,
-    })
-    .map_err(|fault| fault.offset)
+        // a block of another class is an attempt, whatever it holds
+        index = if record.tag_class == 0 { index + 1 } else { record.next };
+    }
+    false
 }
 
 #[cold]

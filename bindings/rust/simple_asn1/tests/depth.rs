@@ -41,6 +41,17 @@ fn no_more_blocks_stand_around_one_than_is_set() {
     let blocks = from_der(&nested(2000, 0x30)).unwrap();
     assert_eq!(to_der(&blocks[0]).unwrap().len(), blocks_size(2000));
     assert_eq!(from_der(&to_der(&blocks[0]).unwrap()).as_ref(), Ok(&blocks));
+    // what was read before an empty SEQUENCE goes away without a stack for each level, however deeply it nests
+    set_max_depth(usize::MAX);
+    for leading in [0x30, 0x31] {
+        let mut octets = nested(40_000, leading);
+        let end = octets.len();
+        octets[end - 2] = 0x30;
+        assert_eq!(from_der(&octets), Err(ASN1DecodeErr::EmptyBuffer));
+        assert_eq!(from_der(&[&octets[..], &[1, 0]].concat()), Err(ASN1DecodeErr::EmptyBuffer));
+        let attempt = [&[0xA0, 0x84], &(end as u32).to_be_bytes()[..], &octets[..]].concat();
+        assert!(matches!(from_der(&attempt).as_deref(), Ok([ASN1Block::Unknown(..)])));
+    }
     set_max_depth(0);
     assert!(from_der(&[5, 0, 0xC0, 2, 5, 0xFF]).is_ok());
     assert_eq!(from_der(&[5, 0, 0x30, 2, 5, 0]), Err(ASN1DecodeErr::Overflow));
