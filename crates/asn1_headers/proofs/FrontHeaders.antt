@@ -13,26 +13,31 @@ use Rattle.asn1_headers.proofs.Prefixes.{identifier_alone}
 -- what begins with no identifier octets begins with no header
 pub none_without_identifier : (octets : List ℕ) → BeginsWithNo IsSomeIdentifier octets → HasNoHeader octets
 none_without_identifier octets none header rest (identifier, len, is, (tag, i), l) q =
-    let whole : octets ≡ identifier ++ (len ++ rest) = q ∙ (ap (λ z. z ++ rest) is ∙ append_assoc identifier len rest) in
+    let whole : octets ≡ identifier ++ (len ++ rest) =
+    q ∙ (ap (λ z. z ++ rest) is ∙ append_assoc identifier len rest) in
     let e : take (length identifier) octets ≡ identifier =
     ap (take (length identifier)) whole ∙ take_at identifier (len ++ rest) (length identifier) refl in
     none tag (length identifier) (subst (λ z. IsSomeIdentifier z tag) (sym e) i)
 
--- so does what has no length octets after its identifier octets, which are the only ones
+-- octets that have no length octets behind their identifier octets begin with no header
 pub none_without_length :
-    (octets : List ℕ) (s m : ℕ) → s ≤ length octets → IsSomeIdentifier (take s octets) m → BeginsWithNo IsLength (drop s octets) →
+    (octets : List ℕ) (s m : ℕ) → s ≤ length octets → IsSomeIdentifier (take s octets) m
+    → BeginsWithNo IsLength (drop s octets) →
     HasNoHeader octets
 none_without_length octets s m fits (c, j, found) none header rest (identifier, len, is, (tag, (d, k, i)), (n, l)) q =
-    let whole : octets ≡ identifier ++ (len ++ rest) = q ∙ (ap (λ z. z ++ rest) is ∙ append_assoc identifier len rest) in
+    let whole : octets ≡ identifier ++ (len ++ rest) =
+    q ∙ (ap (λ z. z ++ rest) is ∙ append_assoc identifier len rest) in
     let parts : take s octets ++ drop s octets ≡ identifier ++ (len ++ rest) = take-append-drop s octets ∙ whole in
     let same = identifier_alone (take s octets) identifier (drop s octets) (len ++ rest) c d j k m tag found i parts in
     let size : length identifier ≡ s = sym (ap length same.octets) ∙ length-take-le s octets fits in
     let behind : drop s octets ≡ len ++ rest = ap (drop s) whole ∙ drop_at identifier (len ++ rest) s size in
-    let e : take (length len) (drop s octets) ≡ len = ap (take (length len)) behind ∙ take_at len rest (length len) refl in
+    let e : take (length len) (drop s octets) ≡ len =
+    ap (take (length len)) behind ∙ take_at len rest (length len) refl in
     none n (length len) (subst (λ z. IsLength z n) (sym e) l)
 
 -- identifier octets that are not there
-pub identifier_missed : (place : ℕ) (octets : List ℕ) (e : ASN1DecodeErr) → OutOfMemoryOr (IsIncomplete IsSomeIdentifier octets) e
+pub identifier_missed : (place : ℕ) (octets : List ℕ) (e : ASN1DecodeErr)
+    → OutOfMemoryOr (IsIncomplete IsSomeIdentifier octets) e
     → OutOfMemoryOr (HeaderFault place octets) e
 identifier_missed place octets e (inl memory) = inl memory
 identifier_missed place octets e (inr (f, missing)) =
@@ -47,14 +52,16 @@ pub length_missed : (place : ℕ) (octets s rest : List ℕ) (c : ASN1Class) (k 
     → IsIdentifier s c k n → octets ≡ s ++ rest
     → ((m j : ℕ) → IsLength (take j rest) m → ⊥) → e ≡ length_fault rest → HeaderFault place octets e
 length_missed place octets s [] c k n e t d missing h =
-    subst (HeaderFault place octets) (sym h) (no_identifier (λ s' r c' k' n' b t' d'. let q = identifier_alone s s' [] (b ∷ r) c c' k k' n n' t t'
+    subst (HeaderFault place octets) (sym h)
+    (no_identifier (λ s' r c' k' n' b t' d'. let q = identifier_alone s s' [] (b ∷ r) c c' k k' n n' t t'
     (sym d ∙ d') in let f : [] ≡ b ∷ r = q.rest in cc))
 length_missed place octets s (b ∷ rest) c k n e t d missing h =
     no_length s b rest c k n t d (λ l r m u f. missing m (length l)
     (subst (λ z. IsLength z m) (sym (ap (take (length l)) f ∙ take_at l r (length l) refl)) u)) h
 
 -- identifier octets up to an index stand at the front
-pub identifier_taken : (octets : List ℕ) (index : ℕ) (c : ASN1Class) (k : Bool) (n : ℕ) → IsIdentifier (slice_range octets 0 index) c k n
+pub identifier_taken : (octets : List ℕ) (index : ℕ) (c : ASN1Class) (k : Bool) (n : ℕ)
+    → IsIdentifier (slice_range octets 0 index) c k n
     → IsIdentifier (take index octets) c k n
 identifier_taken octets index c k n i =
     let e : index - 0 ≡ index = omega arith in

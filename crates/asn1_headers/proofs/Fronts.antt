@@ -1,39 +1,5 @@
 -- Octets begin with a header, or their header is at fault.
-use Rattle.std.proofs.Common.{
-  ◌≡◌,
-  ℕ,
-  zero,
-  suc,
-  ◌+◌,
-  ◌*◌,
-  ◌/◌,
-  ◌%◌,
-  ◌^◌,
-  ◌-◌,
-  ◌<◌,
-  ◌≤◌,
-  Bool,
-  true,
-  false,
-  List,
-  [],
-  ◌∷◌,
-  ◌++◌,
-  ◌⊎◌,
-  inl,
-  inr,
-  length,
-  take,
-  drop,
-  refl,
-  sym,
-  ap,
-  ◌∙◌,
-  subst,
-  arith,
-  length-append,
-  append_assoc,
-}
+use Rattle.std.proofs.Common.{◌≡◌, ℕ, zero, suc, ◌+◌, ◌*◌, ◌/◌, ◌%◌, ◌^◌, ◌-◌, ◌<◌, ◌≤◌, Bool, true, false, List, [], ◌∷◌, ◌++◌, ◌⊎◌, inl, inr, length, take, drop, refl, sym, ap, ◌∙◌, subst, arith, length-append, append_assoc}
 use Rattle.std.specs.Int.Digits.{number_from_digits}
 use Rattle.std.proofs.lemmas.Bool.{cases_lt}
 use Rattle.std.proofs.lemmas.List.{take-append-drop, length-take-le}
@@ -51,34 +17,35 @@ data ContinuedFront (octets : List ℕ) : Type 0 where
   never_ends : ((s rest : List ℕ) → IsContinued s → octets ≡ s ++ rest → ⊥) → ContinuedFront octets
 
 -- continued octets are some
-continued_none : (s rest : List ℕ) → IsContinued s → [] ≡ s ++ rest → ⊥
-continued_none [] rest p e = p
-continued_none (a ∷ s) rest p e = omega (arith, ap length e)
+IsContinued-not_nil : (s rest : List ℕ) → IsContinued s → [] ≡ s ++ rest → ⊥
+IsContinued-not_nil [] rest p e = p
+IsContinued-not_nil (a ∷ s) rest p e = omega (arith, ap length e)
 
 -- an octet with bit 8 set before continued octets
 pub continued_more : (b : ℕ) (s : List ℕ) → 128 ≤ b → IsContinued s → IsContinued (b ∷ s)
 continued_more b [] h p = absurd p
 continued_more b (c ∷ s) h p = (h, p)
 
--- an octet with bit 8 set does not end them
-not_continued : (b : ℕ) (octets : List ℕ) → 128 ≤ b → ((s rest : List ℕ) → IsContinued s → octets ≡ s ++ rest → ⊥) → (s rest : List ℕ)
+-- octets that begin with no continued octets do not with an octet before them whose bit 8 is set
+not_continued-cons : (b : ℕ) (octets : List ℕ) → 128 ≤ b → ((s rest : List ℕ) → IsContinued s → octets ≡ s ++ rest → ⊥)
+    → (s rest : List ℕ)
     → IsContinued s → b ∷ octets ≡ s ++ rest → ⊥
-not_continued b octets h none [] rest p e = p
-not_continued b octets h none (a ∷ []) rest p e =
+not_continued-cons b octets h none [] rest p e = p
+not_continued-cons b octets h none (a ∷ []) rest p e =
     let d : b ≡ a = cc in
     omega (arith, h, p, d)
-not_continued b octets h none (a ∷ c ∷ s) rest p e =
+not_continued-cons b octets h none (a ∷ c ∷ s) rest p e =
     let d : octets ≡ (c ∷ s) ++ rest = cc in
     none (c ∷ s) rest p.1 d
 
--- it is one or the other
+-- octets begin with continued octets, or bit 8 is set in all
 continued_front : (octets : List ℕ) → ContinuedFront octets
-continued_front [] = never_ends continued_none
+continued_front [] = never_ends IsContinued-not_nil
 continued_front (b ∷ octets) = elim (cases_lt b 128) [
   | inl lt ↦ ends (b ∷ []) octets lt refl
   | inr ge ↦ elim (continued_front octets) [
     | ends s rest p e ↦ ends (b ∷ s) rest (continued_more b s ge p) (ap (λ l. b ∷ l) e)
-    | never_ends none ↦ never_ends (not_continued b octets ge none)
+    | never_ends none ↦ never_ends (not_continued-cons b octets ge none)
   ]
 ]
 
@@ -97,11 +64,11 @@ bit_numbered (suc zero) h = (true, refl)
 bit_numbered (suc (suc n)) h = absurd (omega (arith, h))
 
 -- a class has two bits
-class_small : (c : ASN1Class) → class_number c < 4
-class_small Universal = omega arith
-class_small Application = omega arith
-class_small ContextSpecific = omega arith
-class_small Private = omega arith
+class_number-lt : (c : ASN1Class) → class_number c < 4
+class_number-lt Universal = omega arith
+class_number-lt Application = omega arith
+class_number-lt ContextSpecific = omega arith
+class_number-lt Private = omega arith
 
 -- an octet is the leading one of some class and constructed bit
 pub leading_parts : (b : ℕ) → b < 256 → (c : ASN1Class) × (k : Bool) × (b ≡ leading_octet c k (b % 32))
@@ -114,8 +81,8 @@ leading_parts b h =
 
 -- a leading octet is an octet
 leading_small : (b : ℕ) (s : List ℕ) (c : ASN1Class) (k : Bool) (n : ℕ) → IsIdentifier (b ∷ s) c k n → b < 256
-leading_small b [] c k n p = omega (arith, p.0, p.1, class_small c, bit_small k)
-leading_small b (d ∷ s) c k n p = omega (arith, p.0, class_small c, bit_small k)
+leading_small b [] c k n p = omega (arith, p.0, p.1, class_number-lt c, bit_small k)
+leading_small b (d ∷ s) c k n p = omega (arith, p.0, class_number-lt c, bit_small k)
 
 -- a leading octet that ends in 31, and a base-128 number
 pub long_identifier : (b : ℕ) (s : List ℕ) (c : ASN1Class) (k : Bool) (n : ℕ) → b ≡ leading_octet c k 31 → IsBase128 s n
@@ -125,33 +92,38 @@ long_identifier b (d ∷ s) c k n e p = (e, p)
 
 -- the octets begin with identifier octets, or with none
 data IdentifierFront (octets : List ℕ) : Type 0 where
-  identified : (s rest : List ℕ) (c : ASN1Class) (k : Bool) (n : ℕ) → IsIdentifier s c k n → octets ≡ s ++ rest → IdentifierFront octets
-  not_identified : ((s rest : List ℕ) (c : ASN1Class) (k : Bool) (n : ℕ) → IsIdentifier s c k n → octets ≡ s ++ rest → ⊥)
+  identified : (s rest : List ℕ) (c : ASN1Class) (k : Bool) (n : ℕ) → IsIdentifier s c k n → octets ≡ s ++ rest
+      → IdentifierFront octets
+  not_identified : ((s rest : List ℕ) (c : ASN1Class) (k : Bool) (n : ℕ) → IsIdentifier s c k n → octets ≡ s ++ rest
+      → ⊥)
       → IdentifierFront octets
 
 -- a number that is no octet leads no identifier octets
-no_octet : (b : ℕ) (octets : List ℕ) → 256 ≤ b → (s rest : List ℕ) (c : ASN1Class) (k : Bool) (n : ℕ) → IsIdentifier s c k n
+no_octet : (b : ℕ) (octets : List ℕ) → 256 ≤ b → (s rest : List ℕ) (c : ASN1Class) (k : Bool) (n : ℕ)
+    → IsIdentifier s c k n
     → b ∷ octets ≡ s ++ rest → ⊥
 no_octet b octets h [] rest c k n p e = p
 no_octet b octets h (a ∷ s) rest c k n p e =
     let d : b ≡ a = cc in
     omega (arith, h, d, leading_small a s c k n p)
 
--- nor does an octet that ends in 31 before no base-128 number
-no_long_identifier : (b : ℕ) (octets : List ℕ) → 31 ≤ b % 32 → ((s rest : List ℕ) → IsContinued s → octets ≡ s ++ rest → ⊥)
+-- an octet that ends in 31 leads no identifier octets, if no base-128 number comes behind it
+no_identifier_from_31 : (b : ℕ) (octets : List ℕ) → 31 ≤ b % 32
+    → ((s rest : List ℕ) → IsContinued s → octets ≡ s ++ rest → ⊥)
     → (s rest : List ℕ) (c : ASN1Class) (k : Bool) (n : ℕ) → IsIdentifier s c k n → b ∷ octets ≡ s ++ rest → ⊥
-no_long_identifier b octets h none [] rest c k n p e = p
-no_long_identifier b octets h none (a ∷ []) rest c k n p e =
+no_identifier_from_31 b octets h none [] rest c k n p e = p
+no_identifier_from_31 b octets h none (a ∷ []) rest c k n p e =
     let d : b ≡ a = cc in
     let f : b ≡ leading_octet c k n = d ∙ p.1 in
     omega (arith, h, f, p.0)
-no_long_identifier b octets h none (a ∷ d ∷ s) rest c k n p e =
+no_identifier_from_31 b octets h none (a ∷ d ∷ s) rest c k n p e =
     let r : octets ≡ (d ∷ s) ++ rest = cc in
     none (d ∷ s) rest p.1.continued r
 
--- it is one or the other
+-- octets begin with identifier octets, or with none
 identifier_front : (octets : List ℕ) → IdentifierFront octets
-identifier_front [] = not_identified (λ s rest c k n p e. omega (arith, identifier_some s c k n p, ap length e, length-append s rest))
+identifier_front [] =
+    not_identified (λ s rest c k n p e. omega (arith, identifier_some s c k n p, ap length e, length-append s rest))
 identifier_front (b ∷ octets) = elim (cases_lt b 256) [
   | inr ge ↦ not_identified (no_octet b octets ge)
   | inl lt ↦
@@ -159,7 +131,7 @@ identifier_front (b ∷ octets) = elim (cases_lt b 256) [
       elim (cases_lt (b % 32) 31) [
         | inl low ↦ identified (b ∷ []) octets c k (b % 32) (low, e) refl
         | inr high ↦ elim (continued_front octets) [
-          | never_ends none ↦ not_identified (no_long_identifier b octets high none)
+          | never_ends none ↦ not_identified (no_identifier_from_31 b octets high none)
           | ends s rest p d ↦
               let f : b % 32 ≡ 31 = omega (arith, high) in
               identified (b ∷ s) rest c k (low_bits_number s) (long_identifier b s c k (low_bits_number s) (e
@@ -185,7 +157,7 @@ length_shape b octets (a ∷ l) rest m (inr p) e =
     let r : octets ≡ l ++ rest = cc in
     inr (omega (arith, d, p.0, p.1), omega (arith, d, p.0, ap length r, length-append l rest))
 
--- it is one or the other
+-- octets begin with length octets, or with none
 length_front : (octets : List ℕ) → LengthFront octets
 length_front [] = not_measured (λ l rest m p e. none l rest m p e)
   where
@@ -202,7 +174,8 @@ length_front (b ∷ octets) = elim (cases_lt b 128) [
           [ inl h ↦ omega (arith, h, ge) | inr h ↦ omega (arith, h.1, short) ])
       | inr enough ↦
           let h = length-take-le (b - 128) octets enough in
-          measured (b ∷ take (b - 128) octets) (drop (b - 128) octets) (number_from_digits 256 (take (b - 128) octets)) (inr (
+          measured (b ∷ take (b - 128) octets) (drop (b - 128) octets) (number_from_digits 256 (take (b - 128) octets))
+          (inr (
             omega (arith, h, ge),
             omega (arith, h, few),
             refl,
@@ -213,12 +186,14 @@ length_front (b ∷ octets) = elim (cases_lt b 128) [
 
 -- at the front stands an encoding, or the header is at fault
 pub data EncodingFront (place : ℕ) (octets : List ℕ) : Type 0 where
-  begins : (x rest : List ℕ) (c : ASN1Class) (k : Bool) (n : ℕ) (contents : List ℕ) (h : ℕ) → Encoding x c k n contents h → octets ≡ x ++ rest
+  begins : (x rest : List ℕ) (c : ASN1Class) (k : Bool) (n : ℕ) (contents : List ℕ) (h : ℕ)
+      → Encoding x c k n contents h → octets ≡ x ++ rest
       → EncodingFront place octets
   begins_not : (e : DecodeFault) → HeaderFault place octets e → EncodingFront place octets
 
 -- what follows identifier and length octets
-contents_front : (place : ℕ) (octets s l rest : List ℕ) (c : ASN1Class) (k : Bool) (n m : ℕ) → IsIdentifier s c k n → IsLength l m
+contents_front : (place : ℕ) (octets s l rest : List ℕ) (c : ASN1Class) (k : Bool) (n m : ℕ) → IsIdentifier s c k n
+    → IsLength l m
     → octets ≡ s ++ (l ++ rest)
     → EncodingFront place octets
 contents_front place octets s l rest c k n m t u g = elim (cases_lt (place + (length s + length l) + m) (2 ^ 64)) [
@@ -242,7 +217,8 @@ contents_front place octets s l rest c k n m t u g = elim (cases_lt (place + (le
     regroup a b c d = simp append_assoc
 
 -- what follows identifier octets
-length_front_after : (place : ℕ) (octets s rest : List ℕ) (c : ASN1Class) (k : Bool) (n : ℕ) → IsIdentifier s c k n → octets ≡ s ++ rest
+length_front_after : (place : ℕ) (octets s rest : List ℕ) (c : ASN1Class) (k : Bool) (n : ℕ) → IsIdentifier s c k n
+    → octets ≡ s ++ rest
     → EncodingFront place octets
 length_front_after place octets s [] c k n t g = begins_not incomplete (no_identifier (λ s' rest c' k' n' b t' g'.
     let q = identifier_alone s s' [] (b ∷ rest) c c' k k' n n' t t' (sym g ∙ g') in
@@ -252,7 +228,7 @@ length_front_after place octets s (b ∷ rest) c k n t g = elim (length_front (b
   | measured l r m u e ↦ contents_front place octets s l r c k n m t u (g ∙ ap (λ z. s ++ z) e)
 ]
 
--- it is one or the other
+-- an encoding stands at the front of octets, or their header is at fault
 pub encoding_front : (place : ℕ) (octets : List ℕ) → EncodingFront place octets
 encoding_front place octets = elim (identifier_front octets) [
   | not_identified none ↦ begins_not incomplete (no_identifier (λ s rest c k n b t g. none s (b ∷ rest) c k n t g))

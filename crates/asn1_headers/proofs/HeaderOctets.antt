@@ -1,23 +1,5 @@
 -- Octets at the front of a slice that are, or are not, identifier and length octets.
-use Rattle.std.proofs.Common.{
-  ◌≡◌,
-  ℕ,
-  zero,
-  suc,
-  ◌+◌,
-  ◌*◌,
-  ◌%◌,
-  ◌^◌,
-  ◌<◌,
-  ◌≤◌,
-  List,
-  [],
-  ◌∷◌,
-  length,
-  get_or,
-  take,
-  arith,
-}
+use Rattle.std.proofs.Common.{◌≡◌, ℕ, zero, suc, ◌+◌, ◌*◌, ◌%◌, ◌^◌, ◌<◌, ◌≤◌, List, [], ◌∷◌, length, get_or, take, arith}
 use Rattle.std.specs.Int.Digits.{digits_of}
 use Rattle.std.proofs.lemmas.Int.Digits.{length-digits_of-le}
 use Rattle.std.proofs.Math.Nat.{pow-le-pow_right}
@@ -25,7 +7,8 @@ use Rattle.asn1_numbers.specs.Base128.{IsContinued, IsBase128}
 use Rattle.asn1_headers.specs.Header.{BeginsWithNo, IsSomeIdentifier}
 
 -- octets up to the first whose bit 8 is clear
-pub continued_at : (octets : List ℕ) (i : ℕ) → i < length octets → get_or octets i 0 < 128 → ((j : ℕ) → j < i → 128 ≤ get_or octets j 0)
+pub continued_at : (octets : List ℕ) (i : ℕ) → i < length octets → get_or octets i 0 < 128
+    → ((j : ℕ) → j < i → 128 ≤ get_or octets j 0)
     → IsContinued (take (suc i) octets)
 continued_at [] i h lt high = absurd (omega (arith, h))
 continued_at (b ∷ []) zero h lt high = lt
@@ -35,20 +18,24 @@ continued_at (b ∷ c ∷ octets) (suc i) h lt high =
     (high 0 (omega arith), continued_at (c ∷ octets) i (omega (arith, h)) lt (λ j l. high (suc j) (omega (arith, l))))
 
 -- octets whose bit 8 is always set end no number
-pub not_continued : (octets : List ℕ) (k : ℕ) → ((j : ℕ) → j < length octets → 128 ≤ get_or octets j 0) → IsContinued (take k octets) → ⊥
+pub not_continued : (octets : List ℕ) (k : ℕ) → ((j : ℕ) → j < length octets → 128 ≤ get_or octets j 0)
+    → IsContinued (take k octets) → ⊥
 not_continued [] zero high e = e
 not_continued [] (suc k) high e = e
 not_continued (b ∷ octets) zero high e = e
 not_continued (b ∷ []) (suc zero) high e = omega (arith, e, high 0 (omega arith))
 not_continued (b ∷ []) (suc (suc k)) high e = omega (arith, e, high 0 (omega arith))
 not_continued (b ∷ c ∷ octets) (suc zero) high e = omega (arith, e, high 0 (omega arith))
-not_continued (b ∷ c ∷ octets) (suc (suc k)) high e = not_continued (c ∷ octets) (suc k) (λ j l. high (suc j) (omega (arith, l))) e.1
+not_continued (b ∷ c ∷ octets) (suc (suc k)) high e =
+    not_continued (c ∷ octets) (suc k) (λ j l. high (suc j) (omega (arith, l))) e.1
 
 -- a leading octet that announces a number that does not come
-pub no_long_identifier : (b : ℕ) (rest : List ℕ) → b % 32 ≡ 31 → BeginsWithNo IsBase128 rest → BeginsWithNo IsSomeIdentifier (b ∷ rest)
+pub no_long_identifier : (b : ℕ) (rest : List ℕ) → b % 32 ≡ 31 → BeginsWithNo IsBase128 rest
+    → BeginsWithNo IsSomeIdentifier (b ∷ rest)
 no_long_identifier b rest low missing n k = go rest k low missing
   where
-    go : (rest : List ℕ) (k : ℕ) → b % 32 ≡ 31 → BeginsWithNo IsBase128 rest → IsSomeIdentifier (take k (b ∷ rest)) n → ⊥
+    go : (rest : List ℕ) (k : ℕ) → b % 32 ≡ 31 → BeginsWithNo IsBase128 rest → IsSomeIdentifier (take k (b ∷ rest)) n
+        → ⊥
     go rest zero low missing (c, k, t) = t
     go [] (suc zero) low missing (c, k, t) = omega (arith, t.0, t.1, low)
     go [] (suc (suc i)) low missing (c, k, t) = omega (arith, t.0, t.1, low)

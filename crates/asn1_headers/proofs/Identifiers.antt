@@ -1,33 +1,12 @@
 -- Identifier octets at the front.
-use Rattle.std.proofs.Common.{
-  ◌≡◌,
-  ◌≢◌,
-  ℕ,
-  suc,
-  ◌+◌,
-  ◌%◌,
-  ◌<◌,
-  ◌≤◌,
-  List,
-  [],
-  ◌∷◌,
-  get_or,
-  take,
-  refl,
-  sym,
-  ap,
-  ◌∙◌,
-  subst,
-  arith,
-  length,
-}
+use Rattle.std.proofs.Common.{◌≡◌, ◌≢◌, ℕ, suc, ◌+◌, ◌%◌, ◌<◌, ◌≤◌, List, [], ◌∷◌, get_or, take, refl, sym, ap, ◌∙◌, subst, arith, length}
 use Rattle.std.proofs.lemmas.List.{take_at}
 use Rattle.asn1_numbers.specs.Base128.{IsBase128, low_bits_number}
 use Rattle.asn1_headers.specs.Header.{IsIdentifier, IsSomeIdentifier, leading_octet}
 use Rattle.asn1_headers.proofs.HeaderOctets.{continued_at}
 use Rattle.asn1_headers.proofs.Fronts.{leading_parts, long_identifier}
 
--- one identifier octet
+-- a tag number below 31 has one identifier octet
 pub short_identifier_at : (octets rest : List ℕ) (b : ℕ) → octets ≡ b ∷ rest → b < 256 → b % 32 ≢ 31
     → (tag : ℕ) × IsSomeIdentifier (take 1 octets) tag
 short_identifier_at octets rest b e h ne =
@@ -36,7 +15,7 @@ short_identifier_at octets rest b e h ne =
     let t : take 1 octets ≡ b ∷ [] = ap (take 1) e ∙ take_at (b ∷ []) rest 1 refl in
     (b % 32, (c, k, subst (λ z. IsIdentifier z c k (b % 32)) (sym t) (lt, p)))
 
--- more of them
+-- a tag number from 31 on has more identifier octets
 pub long_identifier_at :
     (octets rest : List ℕ) (b i : ℕ) → octets ≡ b ∷ rest → b < 256 → b % 32 ≡ 31 → i < length rest →
     get_or rest i 0 < 128 → ((j : ℕ) → j < i → 128 ≤ get_or rest j 0) →

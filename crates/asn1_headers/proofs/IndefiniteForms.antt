@@ -16,6 +16,7 @@ module _ (octets behind : List ℕ) (s m : ℕ) (class : _) (constructed : Bool)
       let size : length identifier ≡ s = sym (ap length same.octets) ∙ length-take-le s octets fits in
       (same.constructed, (rest, back ∙ (ap (drop s) whole ∙ drop_at identifier (128 ∷ rest) s size)))
 
+  -- constructed identifier octets before 80 (hexadecimal) are a header of the form
   form_there : (rest : List ℕ) → constructed ≡ true → behind ≡ 128 ∷ rest → HasIndefiniteForm octets
   form_there rest is_so is = (
     take s octets,
@@ -24,7 +25,7 @@ module _ (octets behind : List ℕ) (s m : ℕ) (class : _) (constructed : Bool)
     (class, m, subst (λ z. IsIdentifier (take s octets) class z m) is_so found),
   )
 
-  -- whether the octet behind them is 80
+  -- constructed identifier octets begin a header of the form exactly where the octet behind them is 80 (hexadecimal)
   pub form_of_constructed :
       (has r : Bool) → constructed ≡ true → IsTrue has ↔ ((rest : List ℕ) × (behind ≡ 128 ∷ rest)) → r ≡ has →
       IsTrue r ↔ HasIndefiniteForm octets
@@ -33,5 +34,7 @@ module _ (octets behind : List ℕ) (s m : ℕ) (class : _) (constructed : Bool)
     λ h. let (bits, there) = form_alone h in e ∙ from there,
   )
 
+  -- primitive identifier octets begin no header of the form
   pub form_of_primitive : (r : Bool) → constructed ≡ false → r ≡ false → IsTrue r ↔ HasIndefiniteForm octets
-  form_of_primitive r is_not e = (λ t. absurd (cc (t, e)), λ h. let (bits, there) = form_alone h in absurd (cc (bits, is_not)))
+  form_of_primitive r is_not e =
+      (λ t. absurd (cc (t, e)), λ h. let (bits, there) = form_alone h in absurd (cc (bits, is_not)))

@@ -1,29 +1,5 @@
 -- No identifier octets, length octets or encoding begin others.
-use Rattle.std.proofs.Common.{
-  ◌≡◌,
-  ℕ,
-  zero,
-  suc,
-  ◌+◌,
-  ◌<◌,
-  Bool,
-  true,
-  false,
-  List,
-  [],
-  ◌∷◌,
-  ◌++◌,
-  inl,
-  inr,
-  length,
-  refl,
-  sym,
-  ap,
-  ◌∙◌,
-  arith,
-  append_assoc,
-  length-append,
-}
+use Rattle.std.proofs.Common.{◌≡◌, ℕ, zero, suc, ◌+◌, ◌<◌, Bool, true, false, List, [], ◌∷◌, ◌++◌, inl, inr, length, refl, sym, ap, ◌∙◌, arith, append_assoc, length-append}
 use Rattle.std.specs.Int.Digits.{number_from_digits}
 use Rattle.asn1_headers.specs.declared.header.ASN1Class.{ASN1Class}
 use Rattle.asn1_headers.specs.declared.header.ASN1Class.TheVariants.{Universal, Application, ContextSpecific, Private}
@@ -35,11 +11,16 @@ pub identifier_some : (s : List ℕ) (c : ASN1Class) (k : Bool) (n : ℕ) → Is
 identifier_some [] c k n t = absurd t
 identifier_some (b ∷ s) c k n t = omega arith
 
--- so an encoding has octets
+-- an encoding has octets
 pub encoding_some : (octets : List ℕ) (c : ASN1Class) (k : Bool) (n : ℕ) (contents : List ℕ) (h : ℕ)
     → Encoding octets c k n contents h → 0 < length octets
 encoding_some octets c k n contents h f =
-    omega (arith, identifier_some f.identifier c k n f.identifier_octets, ap length f.whole, length-append f.identifier (f.len ++ contents))
+    omega (
+      arith,
+      identifier_some f.identifier c k n f.identifier_octets,
+      ap length f.whole,
+      length-append f.identifier (f.len ++ contents),
+    )
 
 -- two splits of one list at one place are one
 pub same_split : (s t x y : List ℕ) → length s ≡ length t → s ++ x ≡ t ++ y → (s ≡ t) × (x ≡ y)
@@ -78,24 +59,24 @@ class_with (suc zero) = Application
 class_with (suc (suc zero)) = ContextSpecific
 class_with (suc (suc (suc n))) = Private
 
--- it is the one that they came from
-class_with_number : (c : ASN1Class) → class_with (class_number c) ≡ c
+-- the two bits of a class are those of that class
+class_with-class_number : (c : ASN1Class) → class_with (class_number c) ≡ c
 unfolding class_with
-class_with_number Universal = refl
-class_with_number Application = refl
-class_with_number ContextSpecific = refl
-class_with_number Private = refl
+class_with-class_number Universal = refl
+class_with-class_number Application = refl
+class_with-class_number ContextSpecific = refl
+class_with-class_number Private = refl
 
 -- primitive or constructed, of one bit
 bit_with : ℕ → Bool
 bit_with zero = false
 bit_with (suc n) = true
 
--- it is the one that the bit came from
-bit_with_number : (b : Bool) → bit_with (constructed_bit b) ≡ b
+-- the bit of primitive or constructed is that of which it is
+bit_with-constructed_bit : (b : Bool) → bit_with (constructed_bit b) ≡ b
 unfolding bit_with
-bit_with_number true = refl
-bit_with_number false = refl
+bit_with-constructed_bit true = refl
+bit_with-constructed_bit false = refl
 
 -- the constructed bit is one bit
 pub bit_small : (b : Bool) → constructed_bit b < 2
@@ -108,17 +89,18 @@ pub record SameLeading (c d : ASN1Class) (j k : Bool) (m n : ℕ) : Type 0 where
   pub constructed : j ≡ k
   pub low : m ≡ n
 
-pub same_class :
+-- a leading octet has one class, one constructed bit and one tag number below 32
+pub leading_octet-same :
     (c d : ASN1Class) (j k : Bool) (m n : ℕ) → m < 32 → n < 32 → leading_octet c j m ≡ leading_octet d k n →
     SameLeading c d j k m n
-same_class c d j k m n lm ln e =
+leading_octet-same c d j k m n lm ln e =
     let p = bit_small j in
     let q = bit_small k in
     let f : class_number c ≡ class_number d = omega (arith, e, p, q, lm, ln) in
     let g : constructed_bit j ≡ constructed_bit k = omega (arith, e, p, q, lm, ln, f) in
     record {
-      class = sym (class_with_number c) ∙ ap class_with f ∙ class_with_number d;
-      constructed = sym (bit_with_number j) ∙ ap bit_with g ∙ bit_with_number k;
+      class = sym (class_with-class_number c) ∙ ap class_with f ∙ class_with-class_number d;
+      constructed = sym (bit_with-constructed_bit j) ∙ ap bit_with g ∙ bit_with-constructed_bit k;
       low = omega (arith, e, f, g);
     }
 
@@ -152,20 +134,20 @@ identifier_alone (a ∷ s) [] x y c d j k m n p q e = absurd q
 identifier_alone (a ∷ []) (b ∷ []) x y c d j k m n p q e =
     let h : a ≡ b = cc in
     let r : x ≡ y = cc in
-    let i = same_class c d j k m n (omega (arith, p.0)) (omega (arith, q.0)) (sym p.1 ∙ h ∙ q.1) in
+    let i = leading_octet-same c d j k m n (omega (arith, p.0)) (omega (arith, q.0)) (sym p.1 ∙ h ∙ q.1) in
     record { octets = cc; rest = r; class = i.class; constructed = i.constructed; tag = i.low }
 identifier_alone (a ∷ []) (b ∷ v ∷ t) x y c d j k m n p q e =
     let h : a ≡ b = cc in
-    let i = same_class c d j k m 31 (omega (arith, p.0)) (omega arith) (sym p.1 ∙ h ∙ q.0) in
+    let i = leading_octet-same c d j k m 31 (omega (arith, p.0)) (omega arith) (sym p.1 ∙ h ∙ q.0) in
     absurd (omega (arith, i.low, p.0))
 identifier_alone (a ∷ u ∷ s) (b ∷ []) x y c d j k m n p q e =
     let h : a ≡ b = cc in
-    let i = same_class c d j k 31 n (omega arith) (omega (arith, q.0)) (sym p.0 ∙ h ∙ q.1) in
+    let i = leading_octet-same c d j k 31 n (omega arith) (omega (arith, q.0)) (sym p.0 ∙ h ∙ q.1) in
     absurd (omega (arith, i.low, q.0))
 identifier_alone (a ∷ u ∷ s) (b ∷ v ∷ t) x y c d j k m n p q e =
     let h : a ≡ b = cc in
     let r : (u ∷ s) ++ x ≡ (v ∷ t) ++ y = cc in
-    let i = same_class c d j k 31 31 (omega arith) (omega arith) (sym p.0 ∙ h ∙ q.0) in
+    let i = leading_octet-same c d j k 31 31 (omega arith) (omega arith) (sym p.0 ∙ h ∙ q.0) in
     let f = base128_alone (u ∷ s) (v ∷ t) x y m n p.1 q.1 r in
     let g : u ∷ s ≡ v ∷ t = f.octets in
     record { octets = cc; rest = f.rest; class = i.class; constructed = i.constructed; tag = f.number }
@@ -193,7 +175,8 @@ length_alone (a ∷ s) (b ∷ t) x y m n (inr (p, _, f)) (inr (q, _, g)) e =
     record { octets = o; rest = i.1; number = f ∙ ap (number_from_digits 256) r ∙ sym g }
 
 -- what two encodings at the front of one list share
-pub record SameEncoding (xs ys : List ℕ) (c d : ASN1Class) (j k : Bool) (m n : ℕ) (v w : List ℕ) (g h : ℕ) (r q : List ℕ) : Type 0 where
+pub record SameEncoding (xs ys : List ℕ) (c d : ASN1Class) (j k : Bool) (m n : ℕ) (v w : List ℕ) (g h : ℕ)
+    (r q : List ℕ) : Type 0 where
   pub octets : xs ≡ ys
   pub class : c ≡ d
   pub constructed : j ≡ k
@@ -203,12 +186,15 @@ pub record SameEncoding (xs ys : List ℕ) (c d : ASN1Class) (j k : Bool) (m n :
   pub rest : r ≡ q
 
 -- an encoding begins no other
-pub encoding_alone : (xs ys : List ℕ) (c d : ASN1Class) (j k : Bool) (m n : ℕ) (v w : List ℕ) (g h : ℕ) (r q : List ℕ) → Encoding xs c j m v g
+pub encoding_alone : (xs ys : List ℕ) (c d : ASN1Class) (j k : Bool) (m n : ℕ) (v w : List ℕ) (g h : ℕ) (r q : List ℕ)
+    → Encoding xs c j m v g
     → Encoding ys d k n w h → xs ++ r ≡ ys ++ q → SameEncoding xs ys c d j k m n v w g h r q
 encoding_alone xs ys c d j k m n v w g h r q F G e =
-    let e1 : F.identifier ++ (F.len ++ (v ++ r)) ≡ G.identifier ++ (G.len ++ (w ++ q)) = sym (regroup F.identifier F.len v r)
+    let e1 : F.identifier ++ (F.len ++ (v ++ r)) ≡ G.identifier ++ (G.len ++ (w ++ q)) =
+    sym (regroup F.identifier F.len v r)
     ∙ (ap (λ z. z ++ r) (sym F.whole) ∙ e ∙ ap (λ z. z ++ q) G.whole) ∙ regroup G.identifier G.len w q in
-    let t = identifier_alone F.identifier G.identifier (F.len ++ (v ++ r)) (G.len ++ (w ++ q)) c d j k m n F.identifier_octets G.identifier_octets e1 in
+    let t = identifier_alone F.identifier G.identifier (F.len ++ (v ++ r)) (G.len ++ (w ++ q)) c d j k m n
+    F.identifier_octets G.identifier_octets e1 in
     let l = length_alone F.len G.len (v ++ r) (w ++ q) (length v) (length w) F.length_octets G.length_octets t.rest in
     let b = same_split v w r q l.number l.rest in
     record {

@@ -1,37 +1,5 @@
 -- The shortest forms of headers are such forms, and no others are shorter or as short.
-use Rattle.std.proofs.Common.{
-  ◌≡◌,
-  ◌≢◌,
-  ℕ,
-  zero,
-  suc,
-  ◌+◌,
-  ◌*◌,
-  ◌/◌,
-  ◌%◌,
-  ◌^◌,
-  ◌<◌,
-  ◌≤◌,
-  Bool,
-  List,
-  [],
-  ◌∷◌,
-  ◌++◌,
-  inl,
-  inr,
-  length,
-  get_or,
-  map,
-  refl,
-  sym,
-  ap,
-  ◌∙◌,
-  subst,
-  arith,
-  length-append,
-  append_assoc,
-  append-nil,
-}
+use Rattle.std.proofs.Common.{◌≡◌, ◌≢◌, ℕ, zero, suc, ◌+◌, ◌*◌, ◌/◌, ◌%◌, ◌^◌, ◌<◌, ◌≤◌, Bool, List, [], ◌∷◌, ◌++◌, inl, inr, length, get_or, map, refl, sym, ap, ◌∙◌, subst, arith, length-append, append_assoc, append-nil}
 use Rattle.std.specs.Int.Digits.{digits_of, AllBelowBase, number_from_digits, number_from_digits_after}
 use Rattle.std.specs.List.{All}
 use Rattle.std.proofs.Math.Nat.{pow-suc}
@@ -46,23 +14,25 @@ use Rattle.asn1_numbers.specs.Base128.{IsBase128, IsContinued, shortest_base128}
 use Rattle.asn1_numbers.specs.Inner.Natural.{HasNoLeadingZeros}
 use Rattle.asn1_headers.specs.Header.{IsIdentifier, IsLength, leading_octet, shortest_identifier, shortest_length}
 use Rattle.asn1_numbers.proofs.Base128Digits.{short_push}
-use Rattle.asn1_numbers.proofs.Base128Forms.{length_shortest}
+use Rattle.asn1_numbers.proofs.Base128Forms.{length-shortest_base128 as length-shortest_base128-digits}
 use Rattle.asn1_headers.proofs.Fronts.{continued_more, long_identifier}
 use Rattle.asn1_headers.proofs.Prefixes.{identifier_some}
 
 -- digits with bit 8 set, and a last octet
-marked_continued : (ds : List ℕ) (d : ℕ) → d < 128 → IsContinued (map (λ d. 128 + d) ds ++ d ∷ [])
-marked_continued [] d h = h
-marked_continued (e ∷ ds) d h = continued_more (128 + e) (map (λ d. 128 + d) ds ++ d ∷ []) (omega arith) (marked_continued ds d h)
+IsContinued-marked : (ds : List ℕ) (d : ℕ) → d < 128 → IsContinued (map (λ d. 128 + d) ds ++ d ∷ [])
+IsContinued-marked [] d h = h
+IsContinued-marked (e ∷ ds) d h =
+    continued_more (128 + e) (map (λ d. 128 + d) ds ++ d ∷ []) (omega arith) (IsContinued-marked ds d h)
 
 -- their low bits are the digits
-marked_low : (ds : List ℕ) (d : ℕ) → AllBelowBase 128 ds → d < 128 → map (λ b. b % 128) (map (λ d. 128 + d) ds ++ d ∷ []) ≡ ds ++ d ∷ []
-marked_low [] d all h =
+map-low_bits-marked : (ds : List ℕ) (d : ℕ) → AllBelowBase 128 ds → d < 128
+    → map (λ b. b % 128) (map (λ d. 128 + d) ds ++ d ∷ []) ≡ ds ++ d ∷ []
+map-low_bits-marked [] d all h =
     let e : d % 128 ≡ d = omega (arith, h) in
     cc
-marked_low (a ∷ ds) d all h =
+map-low_bits-marked (a ∷ ds) d all h =
     let e : (128 + a) % 128 ≡ a = omega (arith, all.0) in
-    let t = marked_low ds d all.1 h in
+    let t = map-low_bits-marked ds d all.1 h in
     cc
 
 -- the shortest base-128 number is one
@@ -70,13 +40,18 @@ pub shortest_base128_is : (n : ℕ) → IsBase128 (shortest_base128 n) n
 shortest_base128_is n =
     let ds = digits_of 128 (n / 128) in
     let last : n % 128 < 128 = omega arith in
-    let low = marked_low ds (n % 128) (all_below_base_digits_of 128 (n / 128) (omega arith)) last in
+    let low = map-low_bits-marked ds (n % 128) (all_below_base_digits_of 128 (n / 128) (omega arith)) last in
     record {
-      continued = marked_continued ds (n % 128) last;
-      value = omega (arith, ap (number_from_digits 128) low, number_push 128 ds (n % 128), number_digits_of 128 (n / 128) (omega arith));
+      continued = IsContinued-marked ds (n % 128) last;
+      value = omega (
+        arith,
+        ap (number_from_digits 128) low,
+        number_push 128 ds (n % 128),
+        number_digits_of 128 (n / 128) (omega arith),
+      );
     }
 
--- the shortest length octets are such
+-- the shortest length octets are length octets
 pub shortest_length_is : (n : ℕ) → n < 2 ^ 64 → IsLength (shortest_length n) n
 shortest_length_is n h =
     let ds = digits_of 256 n in
@@ -87,7 +62,7 @@ shortest_length_is n h =
           (inr (refl, length-digits_of-le 256 8 n (omega arith) h, sym (number_digits_of 256 n (omega arith))))
     ]
 
--- the shortest identifier octets are such
+-- the shortest identifier octets are identifier octets
 pub shortest_identifier_is : (c : ASN1Class) (k : Bool) (n : ℕ) → IsIdentifier (shortest_identifier c k n) c k n
 shortest_identifier_is c k n =
     let short = leading_octet c k n ∷ [] in
@@ -99,11 +74,11 @@ shortest_identifier_is c k n =
     ]
 
 -- low bits are base-128 digits
-low_below : (octets : List ℕ) → AllBelowBase 128 (map (λ b. b % 128) octets)
-low_below [] = tt
-low_below (b ∷ octets) = (omega arith, low_below octets)
+AllBelowBase-low_bits : (octets : List ℕ) → AllBelowBase 128 (map (λ b. b % 128) octets)
+AllBelowBase-low_bits [] = tt
+AllBelowBase-low_bits (b ∷ octets) = (omega arith, AllBelowBase-low_bits octets)
 
--- one octet for each digit
+-- the shortest base-128 number has an octet for each digit
 length-shortest_base128 : (n : ℕ) → length (shortest_base128 n) ≡ length (digits_of 128 (n / 128)) + 1
 length-shortest_base128 n =
     let ds = digits_of 128 (n / 128) in
@@ -114,7 +89,7 @@ pub shortest_base128_le : (octets : List ℕ) (n : ℕ) → IsBase128 octets n �
 shortest_base128_le [] n p = absurd p.continued
 shortest_base128_le (b ∷ octets) n p =
     let low = map (λ b. b % 128) (b ∷ octets) in
-    let below = number_lt 128 low (low_below (b ∷ octets)) in
+    let below = number_lt 128 low (AllBelowBase-low_bits (b ∷ octets)) in
     let size : length low ≡ suc (length octets) = length-map (b ∷ octets) (λ b. b % 128) in
     let power : 128 ^ length low ≡ 128 ^ length octets * 128 = ap (λ k. 128 ^ k) size ∙ pow-suc 128 (length octets) in
     let few : n / 128 < 128 ^ length octets = omega (arith, below, power, p.value) in
@@ -127,7 +102,9 @@ shortest_identifier_le octets c k n p =
     let short = leading_octet c k n ∷ [] in
     let long = leading_octet c k 31 ∷ shortest_base128 n in
     elim (cases_lt n 31) [
-      | inl lt ↦ subst (λ s. length s ≤ length octets) (cond_below n 31 short long lt) (omega (arith, identifier_some octets c k n p))
+      | inl lt ↦
+          subst (λ s. length s ≤ length octets) (cond_below n 31 short long lt)
+          (omega (arith, identifier_some octets c k n p))
       | inr ge ↦ subst (λ s. length s ≤ length octets) (cond_above n 31 short long long ge refl) (long_le octets p ge)
     ]
   where
@@ -137,14 +114,16 @@ shortest_identifier_le octets c k n p =
     long_le (b ∷ d ∷ octets) q h = omega (arith, shortest_base128_le (d ∷ octets) n q.1)
 
 -- no length octets of the same length are fewer
-pub shortest_length_le : (octets : List ℕ) (n : ℕ) → All (λ b. b < 256) octets → IsLength octets n → length (shortest_length n) ≤ length octets
+pub shortest_length_le : (octets : List ℕ) (n : ℕ) → All (λ b. b < 256) octets → IsLength octets n
+    → length (shortest_length n) ≤ length octets
 shortest_length_le [] n all p = absurd p
 shortest_length_le (b ∷ octets) n all p =
     let ds = digits_of 256 n in
     let long = (128 + length ds) ∷ ds in
     elim (cases_lt n 128) [
       | inl lt ↦ subst (λ s. length s ≤ length (b ∷ octets)) (cond_below n 128 (n ∷ []) long lt) (omega arith)
-      | inr ge ↦ subst (λ s. length s ≤ length (b ∷ octets)) (cond_above n 128 (n ∷ []) long long ge refl) (long_le p ge)
+      | inr ge ↦
+          subst (λ s. length s ≤ length (b ∷ octets)) (cond_above n 128 (n ∷ []) long long ge refl) (long_le p ge)
     ]
   where
     below : AllBelowBase 256 octets
@@ -153,7 +132,8 @@ shortest_length_le (b ∷ octets) n all p =
     long_le : IsLength (b ∷ octets) n → 128 ≤ n → suc (length (digits_of 256 n)) ≤ suc (length octets)
     long_le (inl (small, _, e)) h = absurd (omega (arith, small, e, h))
     long_le (inr (_, _, e)) h =
-        let small : n < 256 ^ length octets = subst (λ z. z < 256 ^ length octets) (sym e) (number_lt 256 octets below) in
+        let small : n < 256 ^ length octets =
+        subst (λ z. z < 256 ^ length octets) (sym e) (number_lt 256 octets below) in
         omega (arith, length-digits_of-le 256 (length octets) n (omega arith) small)
 
 -- as many digits of the same number, after digits of some numbers, are the same, and so are those numbers
@@ -170,7 +150,8 @@ same_digits b m n (x ∷ xs) (y ∷ ys) p q l e =
     (quotient, cc)
 
 -- as many continued octets with the same bits 7 to 1 are the same
-same_continued : (xs ys : List ℕ) → IsContinued xs → IsContinued ys → AllBelowBase 256 xs → AllBelowBase 256 ys → length xs ≡ length ys
+same_continued : (xs ys : List ℕ) → IsContinued xs → IsContinued ys → AllBelowBase 256 xs → AllBelowBase 256 ys
+    → length xs ≡ length ys
     → map (λ b. b % 128) xs ≡ map (λ b. b % 128) ys → xs ≡ ys
 same_continued [] ys p q s t l e = absurd p
 same_continued (x ∷ xs) [] p q s t l e = absurd q
@@ -188,9 +169,10 @@ same_continued (x ∷ c ∷ xs) (y ∷ d ∷ ys) p q s t l e =
     cc
 
 -- digits with bit 8 set, and a last octet, are octets
-marked_small : (ds : List ℕ) (d : ℕ) → AllBelowBase 128 ds → d < 128 → AllBelowBase 256 (map (λ d. 128 + d) ds ++ d ∷ [])
-marked_small [] d all h = (omega (arith, h), tt)
-marked_small (a ∷ ds) d all h = (omega (arith, all.0), marked_small ds d all.1 h)
+AllBelowBase-marked : (ds : List ℕ) (d : ℕ) → AllBelowBase 128 ds → d < 128
+    → AllBelowBase 256 (map (λ d. 128 + d) ds ++ d ∷ [])
+AllBelowBase-marked [] d all h = (omega (arith, h), tt)
+AllBelowBase-marked (a ∷ ds) d all h = (omega (arith, all.0), AllBelowBase-marked ds d all.1 h)
 
 -- no others of the same base-128 number are as short
 pub shortest_base128_only : (octets : List ℕ) (n : ℕ) → All (λ b. b < 256) octets → IsBase128 octets n
@@ -199,22 +181,30 @@ shortest_base128_only octets n all p few =
     let short = shortest_base128 n in
     let q = shortest_base128_is n in
     let size : length octets ≡ length short = omega (arith, few, shortest_base128_le octets n p) in
-    let small = marked_small (digits_of 128 (n / 128)) (n % 128) (all_below_base_digits_of 128 (n / 128) (omega arith)) (omega arith) in
+    let small =
+    AllBelowBase-marked (digits_of 128 (n / 128)) (n % 128) (all_below_base_digits_of 128 (n / 128) (omega arith))
+    (omega arith) in
     let digits : length (map (λ b. b % 128) octets) ≡ length (map (λ b. b % 128) short) =
     length-map octets (λ b. b % 128) ∙ size ∙ sym (length-map short (λ b. b % 128)) in
-    let low = same_digits 128 0 0 (map (λ b. b % 128) octets) (map (λ b. b % 128) short) (low_below octets) (low_below short) digits
+    let low =
+    same_digits 128 0 0 (map (λ b. b % 128) octets) (map (λ b. b % 128) short) (AllBelowBase-low_bits octets)
+    (AllBelowBase-low_bits short) digits
     (sym p.value ∙ q.value) in
     same_continued octets short p.continued q.continued (recursion_from_All _ _ all) small size low.1
 
 -- no other identifier octets of the same fields are as short
-pub shortest_identifier_only : (octets : List ℕ) (c : ASN1Class) (k : Bool) (n : ℕ) → All (λ b. b < 256) octets → IsIdentifier octets c k n
+pub shortest_identifier_only : (octets : List ℕ) (c : ASN1Class) (k : Bool) (n : ℕ) → All (λ b. b < 256) octets
+    → IsIdentifier octets c k n
     → length octets ≤ length (shortest_identifier c k n) → octets ≡ shortest_identifier c k n
 shortest_identifier_only octets c k n all p few =
     let short = leading_octet c k n ∷ [] in
     let long = leading_octet c k 31 ∷ shortest_base128 n in
     elim (cases_lt n 31) [
-      | inl lt ↦ subst (λ s. length octets ≤ length s → octets ≡ s) (cond_below n 31 short long lt) (short_only octets p) few
-      | inr ge ↦ subst (λ s. length octets ≤ length s → octets ≡ s) (cond_above n 31 short long long ge refl) (long_only octets all p ge) few
+      | inl lt ↦
+          subst (λ s. length octets ≤ length s → octets ≡ s) (cond_below n 31 short long lt) (short_only octets p) few
+      | inr ge ↦
+          subst (λ s. length octets ≤ length s → octets ≡ s) (cond_above n 31 short long long ge refl)
+          (long_only octets all p ge) few
     ]
   where
     short_only : (octets : List ℕ) → IsIdentifier octets c k n → length octets ≤ 1 → octets ≡ leading_octet c k n ∷ []
@@ -229,7 +219,9 @@ shortest_identifier_only octets c k n all p few =
     long_only (b ∷ []) small q ge h = absurd (omega (arith, q.0, ge))
     long_only (b ∷ d ∷ octets) small q ge h =
         let leading : b ≡ leading_octet c k 31 = q.0 in
-        let rest = shortest_base128_only (d ∷ octets) n (All-drop (λ b. b < 256) 1 (b ∷ d ∷ octets) small) q.1 (omega (arith, h)) in
+        let rest =
+        shortest_base128_only (d ∷ octets) n (All-drop (λ b. b < 256) 1 (b ∷ d ∷ octets) small) q.1
+        (omega (arith, h)) in
         cc
 
 -- no other length octets of the same length are as short, but that 80 (hexadecimal) is as short as 00
@@ -240,12 +232,15 @@ shortest_length_only (b ∷ octets) n all other p few =
     let ds = digits_of 256 n in
     let long = (128 + length ds) ∷ ds in
     elim (cases_lt n 128) [
-      | inl lt ↦ subst (λ s. length (b ∷ octets) ≤ length s → b ∷ octets ≡ s) (cond_below n 128 (n ∷ []) long lt) (short_only octets other p) few
+      | inl lt ↦
+          subst (λ s. length (b ∷ octets) ≤ length s → b ∷ octets ≡ s) (cond_below n 128 (n ∷ []) long lt)
+          (short_only octets other p) few
       | inr ge ↦ subst (λ s. length s ≤ length (b ∷ octets) → length (b ∷ octets) ≤ length s → b ∷ octets ≡ s)
           (cond_above n 128 (n ∷ []) long long ge refl) (long_only p ge) (shortest_length_le (b ∷ octets) n all p) few
     ]
   where
-    short_only : (octets : List ℕ) → b ∷ octets ≢ 128 ∷ [] → IsLength (b ∷ octets) n → suc (length octets) ≤ 1 → b ∷ octets ≡ n ∷ []
+    short_only : (octets : List ℕ) → b ∷ octets ≢ 128 ∷ [] → IsLength (b ∷ octets) n → suc (length octets) ≤ 1
+        → b ∷ octets ≡ n ∷ []
     short_only [] other (inl (_, _, e)) h = ap (λ b. b ∷ []) (sym e)
     short_only [] other (inr q) h = absurd (other (ap (λ b. b ∷ []) q.0))
     short_only (c ∷ octets) other q h = absurd (omega (arith, h))
@@ -256,7 +251,8 @@ shortest_length_only (b ∷ octets) n all other p few =
     long_only (inl (small, _, e)) ge least few = absurd (omega (arith, small, e, ge))
     long_only (inr (size, _, e)) ge least few =
         let small = (recursion_from_All (λ b. b < 256) (b ∷ octets) all).1 in
-        let same = (same_digits 256 0 0 octets (digits_of 256 n) small (all_below_base_digits_of 256 n (omega arith)) (omega (
+        let same =
+        (same_digits 256 0 0 octets (digits_of 256 n) small (all_below_base_digits_of 256 n (omega arith)) (omega (
           arith,
           least,
           few,
@@ -265,9 +261,9 @@ shortest_length_only (b ∷ octets) n all other p few =
         cc
 
 -- with bit 8 set, a digit above 0 is not 80 (hexadecimal)
-marked_leading : (ds rest : List ℕ) (d : ℕ) → 0 < get_or ds 0 0 → map (λ d. 128 + d) ds ++ d ∷ [] ≢ 128 ∷ rest
-marked_leading [] rest d some e = omega (arith, some)
-marked_leading (a ∷ ds) rest d some e =
+marked-not_80 : (ds rest : List ℕ) (d : ℕ) → 0 < get_or ds 0 0 → map (λ d. 128 + d) ds ++ d ∷ [] ≢ 128 ∷ rest
+marked-not_80 [] rest d some e = omega (arith, some)
+marked-not_80 (a ∷ ds) rest d some e =
     let first : 128 + a ≡ 128 = cc in
     omega (arith, some, first)
 
@@ -279,14 +275,18 @@ shortest_base128_leading n rest = leading (n / 128) (n % 128) (omega arith)
     leading zero last h e =
         let first : last ≡ 128 = cc in
         omega (arith, h, first)
-    leading (suc front) last h e = marked_leading (digits_of 128 (suc front)) rest last (first_digits_of 128 (suc front) (omega arith) (omega arith)) e
+    leading (suc front) last h e =
+        marked-not_80 (digits_of 128 (suc front)) rest last
+        (first_digits_of 128 (suc front) (omega arith) (omega arith)) e
 
 -- digits after some that have no leading zeros
-no_zeros_after : (front ds : List ℕ) → HasNoLeadingZeros front → 0 < length front → AllBelowBase 128 ds → HasNoLeadingZeros (front ++ ds)
-no_zeros_after front [] short some all = subst HasNoLeadingZeros (sym (append-nil front)) short
-no_zeros_after front (d ∷ ds) short some all =
+HasNoLeadingZeros-append : (front ds : List ℕ) → HasNoLeadingZeros front → 0 < length front → AllBelowBase 128 ds
+    → HasNoLeadingZeros (front ++ ds)
+HasNoLeadingZeros-append front [] short some all = subst HasNoLeadingZeros (sym (append-nil front)) short
+HasNoLeadingZeros-append front (d ∷ ds) short some all =
     let more : 0 < length (front ++ d ∷ []) = omega (arith, length-append front (d ∷ [])) in
-    subst HasNoLeadingZeros (append_assoc front (d ∷ []) ds) (no_zeros_after (front ++ d ∷ []) ds (short_push front d short all.0 (inr some)) more all.1)
+    subst HasNoLeadingZeros (append_assoc front (d ∷ []) ds)
+    (HasNoLeadingZeros-append (front ++ d ∷ []) ds (short_push front d short all.0 (inr some)) more all.1)
 
 -- octets of a base-128 number that do not begin with 80 (hexadecimal) are the shortest
 pub shortest_base128_not_leading :
@@ -301,9 +301,12 @@ shortest_base128_not_leading (b ∷ c ∷ octets) n all p other =
     let some : 0 < b % 128 = omega (arith, below, not, p.continued.0) in
     let low = map (λ b. b % 128) (b ∷ c ∷ octets) in
     let first : HasNoLeadingZeros (b % 128 ∷ []) = short_push [] (b % 128) refl (omega arith) (inl some) in
-    let short : low ≡ digits_of 128 n = no_zeros_after (b % 128 ∷ []) (map (λ b. b % 128) (c ∷ octets)) first (omega arith) (low_below (c ∷ octets))
+    let short : low ≡ digits_of 128 n =
+    HasNoLeadingZeros-append (b % 128 ∷ []) (map (λ b. b % 128) (c ∷ octets)) first (omega arith)
+    (AllBelowBase-low_bits (c ∷ octets))
     ∙
     ap (digits_of 128) (sym p.value) in
     let size : length low ≡ length (b ∷ c ∷ octets) = length-map (b ∷ c ∷ octets) (λ b. b % 128) in
-    let many : length (shortest_base128 n) ≡ length (digits_of 128 n) = length_shortest n (omega (arith, ap length short, size)) in
+    let many : length (shortest_base128 n) ≡ length (digits_of 128 n) =
+    length-shortest_base128-digits n (omega (arith, ap length short, size)) in
     shortest_base128_only (b ∷ c ∷ octets) n all p (omega (arith, many, ap length short, size))

@@ -49,8 +49,8 @@ abbrev pub UnlessOutOfMemory : {A : Type 0} → Result A ASN1DecodeErr → Type 
 UnlessOutOfMemory (Ok x) P = P
 UnlessOutOfMemory (Err e) P = (e ≡ OutOfMemory) ⊎ P
 
--- the fault is one that octets can have in reading: no class that doesn't exist, no overflow, not that memory ran out,
--- and not that a block is not canonical
+-- the fault is one that octets can have in reading: no class that does not exist, no overflow, no memory that ran out,
+-- and no block that is not canonical
 abbrev pub IsOfReading : DecodeFault → Type 0
 IsOfReading empty_buffer = Unit {0}
 IsOfReading (bad_boolean_length n) = Unit {0}

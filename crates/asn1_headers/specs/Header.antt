@@ -68,7 +68,7 @@ IsSomeIdentifier octets tag = (class : ASN1Class) × (constructed : Bool)
 abbrev pub BeginsWithNo : (List ℕ → ℕ → Type 0) → List ℕ → Type 0
 BeginsWithNo Means octets = (n k : ℕ) → Means (take k octets) n → ⊥
 
--- so they are incomplete
+-- octets are incomplete if they begin with none that have the meaning
 abbrev pub IsIncomplete : (List ℕ → ℕ → Type 0) → List ℕ → DecodeFault → Type 0
 IsIncomplete Means octets fault = (fault ≡ incomplete) × BeginsWithNo Means octets
 

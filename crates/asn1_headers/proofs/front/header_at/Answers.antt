@@ -1,3 +1,4 @@
+-- For `front::header_at`: what it returns is right (`none`, `fault`, `found`, `form`).
 use Rattle.std.proofs.Common.{◌∙◌, inl, inr, take, drop, sym, arith}
 use Rattle.std.proofs.Math.Seq.{take-add}
 use Rattle.std.proofs.lemmas.List.{take-append-drop}

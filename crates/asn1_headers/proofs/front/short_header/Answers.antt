@@ -1,3 +1,4 @@
+-- For `front::short_header`: what it returns is right (`none`, `fault`, `found`).
 use Rattle.std.proofs.Common.{◌∷◌, [], inl, inr, refl, ap, length, take, arith, subst}
 use Rattle.std.proofs.lemmas.Result.{err_from_is_err_and}
 use Rattle.asn1_headers.specs.Header.{IsIdentifier}
@@ -28,7 +29,8 @@ returns-clause-found c =
       identifier = c.args._leading ∷ [];
       len = c.args.length ∷ [];
       front_is = ap (take 2) e;
-      fields = low_identifier c.args._leading c.args.length rest n found.class found.constructed found.tag c.requires.low
+      fields = low_identifier c.args._leading c.args.length rest n found.class found.constructed found.tag
+          c.requires.low
           found.ensures.moved.0 (subst (λ z. IsIdentifier (take n z) found.class found.constructed found.tag) e is);
       length_octets = inl (c.requires.short, refl, refl);
     }

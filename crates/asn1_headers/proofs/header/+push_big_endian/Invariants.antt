@@ -1,3 +1,4 @@
+-- For `header::push_big_endian`: what grows less, so that it ends.
 use Rattle.asn1_headers.proofs.header.+push_big_endian.Given as goal
 
 abbrev pub decreases-push_big_endian : goal.decreases-push_big_endian

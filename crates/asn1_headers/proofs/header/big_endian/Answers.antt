@@ -1,3 +1,4 @@
+-- For `header::big_endian`: no sum or product is too large.
 use Rattle.std.proofs.Common.{arith}
 use Rattle.asn1_headers.proofs.HeaderOctets.{room_for_octet}
 use Rattle.asn1_headers.proofs.header.big_endian.Goals as goal

@@ -1,3 +1,4 @@
+-- For `header::identifier_at`: what it returns is right (`found`, `none`).
 use Rattle.std.proofs.Common.{arith, subst, sym}
 use Rattle.asn1_headers.specs.Header.{BeginsWithNo, IsSomeIdentifier}
 use Rattle.asn1_headers.proofs.HeaderOctets.{not_continued, no_long_identifier}
@@ -7,7 +8,8 @@ use Rattle.asn1_headers.proofs.header.identifier_at.Goals as goal
 pub returns-then-first-ne31-clause-found : goal.returns-then-first-ne31-clause-found
 returns-then-first-ne31-clause-found c =
     let e = c.in-Some.ensures.cases in
-    let p = short_identifier_at c.args.octets.now c.in-Some.rest.now c.in-Some.first.now e.0 (omega arith) c.if-first-ne31.true in
+    let p = short_identifier_at c.args.octets.now c.in-Some.rest.now c.in-Some.first.now e.0 (omega arith)
+    c.if-first-ne31.true in
     (omega arith, omega (arith, e.1), p.0, p.1)
 
 pub returns-in_default-last_octet_at-clause-none :
@@ -21,6 +23,7 @@ pub returns-clause-found : goal.returns-clause-found
 returns-clause-found c =
     let e = c.in-Some.ensures.cases in
     let f = c.in-Some-last_octet_at.ensures in
-    let p = long_identifier_at c.args.octets.now c.in-Some.rest.now c.in-Some.first.now c.in-Some-last_octet_at.last e.0 (omega arith) c.if-first-ne31.false
+    let p = long_identifier_at c.args.octets.now c.in-Some.rest.now c.in-Some.first.now c.in-Some-last_octet_at.last e.0
+    (omega arith) c.if-first-ne31.false
     f.found.0 f.found.1 f.before in
     (omega arith, omega (arith, e.1, f.found.0), p.0, p.1)

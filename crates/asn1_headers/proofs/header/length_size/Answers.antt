@@ -1,3 +1,4 @@
+-- For `header::length_size`: what it returns is right (`most`) and no sum or product is too large.
 use Rattle.std.proofs.Common.{arith}
 use Rattle.std.proofs.lemmas.Grind.{common_steps}
 use Rattle.asn1_headers.proofs.HeaderOctets.{few_octets}

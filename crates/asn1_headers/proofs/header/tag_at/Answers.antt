@@ -1,3 +1,4 @@
+-- For `header::tag_at`: what it returns is right (`refused`).
 use Rattle.std.proofs.Common.{arith, ◌≡◌, ◌∷◌, subst, sym, inl, inr}
 use Rattle.std.proofs.lemmas.Grind.{common_steps}
 use Rattle.std.proofs.lemmas.Result.{err_from_is_err_and}

@@ -1,3 +1,4 @@
+-- For `types::universal_name`: what it returns is right.
 use Rattle.std.proofs.Common.{None, arith, sym}
 use Rattle.std.proofs.lemmas.List.{get_or_past}
 use Rattle.asn1_headers.specs.Names.{universal_names}
