@@ -5,6 +5,7 @@ simple_asn1. Issuers, types of keys and last years are counted, and lines at fau
 lost worker was to read is read by another one; Dask's dashboard shows how far the parts are."""
 import base64
 import collections
+import functools
 import os
 import sys
 
@@ -13,18 +14,38 @@ import simple_asn1
 PART = 1 << 22  # bytes of a log that one task reads
 
 
-def facts(octets):
-    items = simple_asn1.read(octets)[0][0].items
-    # the version, [0], may be left out
-    issuer, validity, _, key = items[2 + (items[0].tag_class == 2) :][:4]
-    names = [f"{name[0].oid}={getattr(name[1], 'text', name[1].octets.hex())}" for names in issuer for name in names]
-    kinds = [kind.oid for kind in key[0] if hasattr(kind, "oid")]
-    return [("issuer", ", ".join(names)), ("key", " ".join(kinds)), ("until", str(validity[1].moment.year))]
+# Of a certificate (RFC 5280, section 4.1): what comes first, and then the issuer, the end of the validity and the type
+# of the key, without a version before them and with one
+PATHS = simple_asn1.Paths(
+    (0, 0, 0), (0, 0, 2), (0, 0, 3, 1), (0, 0, 5, 0), (0, 0, 3), (0, 0, 4, 1), (0, 0, 6, 0)
+)  # fmt: skip
+
+
+def names(octets):
+    """The attributes of a Name, of which it has any number."""
+    attributes = [attribute for names in simple_asn1.read(octets)[0] for attribute in names]
+    return ", ".join(f"{it[0].oid}={getattr(it[1], 'text', it[1].octets.hex())}" for it in attributes)
+
+
+def kinds(octets):
+    """The OBJECT IDENTIFIERs of an AlgorithmIdentifier."""
+    return " ".join(kind.oid for kind in simple_asn1.read(octets)[0] if hasattr(kind, "oid"))
+
+
+def facts(octets, names, kinds):
+    simple_asn1.check(octets)
+    first, *found = PATHS.values(octets)
+    issuer, until, key = found[3:] if first and first.tag_class == 2 else found[:3]
+    if not (issuer and until and key):
+        raise LookupError("it is no certificate")
+    return [("issuer", names(issuer.octets)), ("key", kinds(key.octets)), ("until", str(until.moment.year))]
 
 
 def count(path, start, end=None):
     """For the lines that begin from `start` to `end`: how many they are, their counts, and which are at fault."""
     number, counts, faults = 0, collections.Counter(), []
+    # most certificates have one of a few issuers
+    known_names, known_kinds = functools.lru_cache(4096)(names), functools.lru_cache(4096)(kinds)
     with open(path, "rb") as log:
         log.seek(max(start - 1, 0))
         if start:
@@ -32,7 +53,8 @@ def count(path, start, end=None):
         while (end is None or log.tell() < end) and (line := log.readline()):
             number += 1
             try:
-                counts.update(facts(base64.b64decode(line.rstrip(), validate=True)))
+                octets = base64.b64decode(line.rstrip(), validate=True)
+                counts.update(facts(octets, known_names, known_kinds))
             except (ValueError, LookupError) as why:
                 faults.append((number, f"{type(why).__name__}: {why}"))
     return number, counts, faults
