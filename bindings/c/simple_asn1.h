@@ -5,6 +5,16 @@
  * ensure that each pointer has as many bytes or records behind it as the number after it says (it may be null if that
  * is 0), and that no output overlaps an input.
  *
+ * What a call holds in memory while it runs, beside the caller's:
+ *
+ * - simple_asn1_read: no more records than there is room for, or than 4,096, and 64 bytes for each level of nesting
+ *   that is open at a time. simple_asn1_check: these levels alone.
+ * - simple_asn1_read_strict: the same. But a document that is not seen at once to be canonical takes its blocks, up to
+ *   40 bytes for each of its bytes.
+ * - simple_asn1_rewrite and simple_asn1_write: of canonical bytes little; of others their blocks, and what is written.
+ * - simple_asn1_outline, simple_asn1_values and simple_asn1_signed: a record for each block, whatever the room. That is
+ *   up to 32 bytes for each byte. simple_asn1_departures: 16 bytes for each departure.
+ *
  * Where it is not X.690's BER, and what strict reading accepts though DER forbids it:
  *
  * - OBJECT IDENTIFIER: the first subidentifier is one octet. 88 37 is 2.56.55, where X.690 has 2.999.
@@ -167,10 +177,12 @@ typedef struct simple_asn1_signed_parts { /* next and depth of the records are 0
 uint32_t simple_asn1_version(void);
 
 /* Writes the record of each block of a document, in order. At most size / 2 are needed. Records after those that are
- * written stay as they are; with any other status than SIMPLE_ASN1_OK all do. */
+ * written stay as they are; with any other status than SIMPLE_ASN1_OK all do. Blocks beyond the room are counted alone:
+ * so the number of a large document's records can be asked for without room, and just that room given then. */
 simple_asn1_outcome simple_asn1_read(const uint8_t *octets, size_t size, simple_asn1_block *blocks, size_t room);
 
-/* The same, for documents in canonical form (DER) only. */
+/* The same, for documents in canonical form (DER) only. A document of more than 8,192 bytes is read twice, unless there
+ * is room for size / 2 records. */
 simple_asn1_outcome simple_asn1_read_strict(const uint8_t *octets, size_t size, simple_asn1_block *blocks, size_t room);
 
 /* The same by headers alone: contents octets of leaves are not checked, so a document with faults in them can be walked

@@ -2,7 +2,7 @@ pub mod Structures
 pub mod Entries
 pub mod Begun
 pub mod Standing
-mod Listed
+pub mod Listed
 mod Iterating
 mod Answered
 mod Values

@@ -1,3 +1,4 @@
 -- What private contracts name, but no public one.
 pub mod Prepended
 pub mod InRecords
+pub mod Fronts

@@ -9,6 +9,7 @@ mod departures;
 mod dotted;
 mod encoding;
 mod fault;
+mod front;
 mod header;
 mod identifier;
 mod integer;
@@ -25,6 +26,7 @@ mod spelled;
 mod spelling;
 mod status;
 mod text;
+mod within;
 
 ghost use Rattle.std.specs.Prelude.{◌≡◌, ◌↔◌, ◌+◌, ◌*◌, ◌≤◌, ℕ, List, length};
 ghost use Rattle.asn1_der.specs.Der.{IsDer};
@@ -87,10 +89,11 @@ use crate::identifier::{identifier_at, put_identifier};
 use crate::integer::{integer_at, put_integer};
 use crate::moment::{moment_at, put_moment};
 use crate::paths::put_values;
-use crate::putting::{all_put, put_octets, put_records};
+use crate::putting::{all_put, put_found, put_octets, put_records};
 use crate::raw::{put_raw_bits, put_raw_identifier, put_raw_moment, put_raw_text};
 use crate::reading::{
-    Fault, canonical_octets, check, read_headers, read_records, read_records_strict,
+    Fault, canonical_octets, check, find_records, find_records_strict, read_headers, read_records,
+    read_records_strict,
 };
 use crate::record::{
     Block, DepartureRecord, IntegerAnswer, MomentAnswer, Outcome, Path, SignedAnswer, Value,
@@ -116,9 +119,11 @@ pub extern "C" fn simple_asn1_version() -> u32
 ///
 /// Returns their number; `NO_ROOM` with the number that is needed, if there is less room; or the number of the first
 /// fault, with the offset of the block at fault. After an error nothing is written. Records after those that are
-/// written stay as they are. It takes memory for the records, which are put there when all are known, and 64 bytes for
-/// each open level of nesting; all of it is given back. Room for both is doubled as they grow. Stack use does not grow
-/// with nesting.
+/// written stay as they are.
+///
+/// Records are put there when all are known. Until then they take memory, but for no more of them than there is room
+/// for, or than 4,096: the others are counted alone, so that little is held without room. Each open level of nesting
+/// takes 64 bytes. All of it is given back. Stack use does not grow with nesting.
 #[unsafe(no_mangle)]
 pub extern "C" fn simple_asn1_read(alloc: Global, octets: &[u8], blocks: &mut [Block]) -> Outcome
     ensures answer { AnswersRead octets.now blocks.old blocks.new result }
@@ -126,14 +131,35 @@ pub extern "C" fn simple_asn1_read(alloc: Global, octets: &[u8], blocks: &mut [B
     // Half as many records as octets are room enough.
     ensures few { (ns : Nodes) → IsStructure octets.now ns → 2 * length (nodes_in_order ns) ≤ length octets.now }
 {
+    if octets.len() / 2 > blocks.len().max(FEW) {
+        return read_within(alloc, octets, blocks);
+    }
     match read_records(alloc, octets) {
         Ok(outline) => put_records(outline.entries(), blocks),
         Err(fault) => refused_outcome(fault),
     }
 }
 
+// So many records take little memory: where a document has no more, or where there is room for all that it may have,
+// they are kept, and not counted.
+const FEW: usize = 4096;
+
+// The same, where no more entries are kept than there is room for.
+fn read_within(alloc: Global, octets: &[u8], blocks: &mut [Block]) -> Outcome
+    ensures answer { AnswersRead octets.now blocks.old blocks.new result }
+    ensures few { (ns : Nodes) → IsStructure octets.now ns → 2 * length (nodes_in_order ns) ≤ length octets.now }
+{
+    match find_records(alloc, octets, blocks.len()) {
+        Ok(found) => put_found(&found, blocks),
+        Err(fault) => refused_outcome(fault),
+    }
+}
+
 /// Reads a document in canonical form (X.690 10, 11) into records, as [`simple_asn1_read`] does. For another document
 /// it returns `NOT_CANONICAL`, with the offset of the first top-level block that is not in its canonical octets.
+///
+/// A document of more than 8,192 octets is read twice, unless there is room for half as many records as octets. One that
+/// a quick look does not find to be canonical takes memory for its blocks.
 #[unsafe(no_mangle)]
 pub extern "C" fn simple_asn1_read_strict(
     alloc: Global,
@@ -142,8 +168,21 @@ pub extern "C" fn simple_asn1_read_strict(
 ) -> Outcome
     ensures { AnswersReadStrict octets.now blocks.old blocks.new result }
 {
+    if octets.len() / 2 > blocks.len().max(FEW) {
+        return read_strict_within(alloc, octets, blocks);
+    }
     match read_records_strict(alloc, octets) {
         Ok(outline) => put_records(outline.entries(), blocks),
+        Err(fault) => refused_outcome(fault),
+    }
+}
+
+// The same, where no more entries are kept than there is room for.
+fn read_strict_within(alloc: Global, octets: &[u8], blocks: &mut [Block]) -> Outcome
+    ensures { AnswersReadStrict octets.now blocks.old blocks.new result }
+{
+    match find_records_strict(alloc, octets, blocks.len()) {
+        Ok(found) => put_found(&found, blocks),
         Err(fault) => refused_outcome(fault),
     }
 }
@@ -151,7 +190,7 @@ pub extern "C" fn simple_asn1_read_strict(
 /// Reads the encodings of a document by their headers alone (X.690 8.1.1) into records, as [`simple_asn1_read`] does.
 /// The contents octets of leaves are not looked into. SEQUENCE and SET (8.9 to 8.12) hold encodings; so do constructed
 /// encodings of another class (8.14), or they stay as they came, without items. The error is the first fault of a
-/// header, with the offset of its encoding.
+/// header, with the offset of its encoding. It takes memory for a record of each encoding, whatever the room.
 #[unsafe(no_mangle)]
 pub extern "C" fn simple_asn1_outline(alloc: Global, octets: &[u8], blocks: &mut [Block]) -> Outcome
     ensures answer { AnswersOutline octets.now blocks.old blocks.new result }
@@ -213,7 +252,9 @@ pub extern "C" fn simple_asn1_departures(
 }
 
 /// Writes the canonical octets of a document at the front of the room, and returns their number; or `NO_ROOM` with
-/// that number, if there is less room, or the first fault, as [`simple_asn1_read`] does: then nothing is written.
+/// that number, if there is less room, or the first fault, as [`simple_asn1_read`] does: then nothing is written. A
+/// document that a quick look does not find to be canonical takes memory for its blocks and for what is written, also
+/// without room.
 #[unsafe(no_mangle)]
 pub extern "C" fn simple_asn1_rewrite(alloc: Global, octets: &[u8], room: &mut [u8]) -> Outcome
     ensures { AnswersRewrite octets.now room.old room.new result }
@@ -300,7 +341,7 @@ pub extern "C" fn simple_asn1_oid(
 
 /// The records of the content, the algorithm's OBJECT IDENTIFIER and the signature of the signed triple that a
 /// document begins with; `next` and `depth` are 0 in them. `NOT_SIGNED` if it begins with another block; for any other
-/// input the first fault, as [`simple_asn1_read`].
+/// input the first fault, as [`simple_asn1_read`]. It takes memory for a record of each block.
 #[unsafe(no_mangle)]
 pub extern "C" fn simple_asn1_signed(alloc: Global, octets: &[u8]) -> SignedAnswer
     ensures { AnswersSigned octets.now result }

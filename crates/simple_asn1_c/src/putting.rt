@@ -1,11 +1,14 @@
 // Octets and records into room that the caller has.
-ghost use Rattle.std.specs.Prelude.{◌≡◌, map};
+ghost use Rattle.std.specs.Prelude.{◌≡◌, List, length, map};
+ghost use Rattle.asn1_outline.specs.declared.entry.Entry.{Entry};
+ghost use Rattle.simple_asn1_c.specs.Inner.Fronts.{IsFound};
 ghost use Rattle.simple_asn1_c.specs.Records.{block_of};
 ghost use Rattle.simple_asn1_c.specs.Room.{ArePut};
 ghost use Rattle.simple_asn1_c.specs.Status.{done, no_room};
 
 use crate::record::{Block, Outcome, block_of};
 use crate::status::{DONE, NO_ROOM};
+use crate::within::Found;
 use asn1_outline::entry::Entry;
 
 pub fn put_octets(octets: &[u8], room: &mut [u8]) -> Outcome
@@ -31,6 +34,17 @@ pub fn put_records(entries: &[Entry], room: &mut [Block]) -> Outcome
         room[k] = block_of(&entries[k]);
     }
     all_put(count)
+}
+
+// Puts the records of all entries that were found.
+pub fn put_found(found: &Found, room: &mut [Block]) -> Outcome
+    ensures { (all : List Entry) → IsFound (length room.old) all found.now
+        → ArePut (map block_of all) room.old room.new result }
+{
+    match found {
+        Found::Entries(entries) => put_records(entries.as_slice(), room),
+        Found::Count(count) => not_enough(*count),
+    }
 }
 
 pub fn all_put(count: usize) -> Outcome

@@ -1,5 +1,5 @@
 // Entries of documents, or the number of their fault with its place.
-ghost use Rattle.std.specs.Prelude.{◌≡◌, ◌≢◌, ◌⊎◌, ℕ, IfErr, IfOk, MatchOption, OnOk};
+ghost use Rattle.std.specs.Prelude.{◌≡◌, ◌≢◌, ◌⊎◌, ℕ, List, IfErr, IfOk, MatchOption, OnOk};
 ghost use Rattle.simple_asn1.specs.Canonical.{all_canonical};
 ghost use Rattle.simple_asn1.specs.Fault.{DecodeFault, OutOfMemoryOr, fault_of};
 ghost use Rattle.simple_asn1.specs.Grammar.{IsDocument, FirstFault};
@@ -8,17 +8,20 @@ ghost use Rattle.simple_asn1.specs.Strict.{StrictFault};
 ghost use Rattle.simple_asn1.specs.Tree.{Trees};
 ghost use Rattle.asn1_outline.specs.Entries.{AreEntriesOf};
 ghost use Rattle.asn1_outline.specs.Outlines.{entries_in};
+ghost use Rattle.asn1_outline.specs.declared.entry.Entry.{Entry};
 ghost use Rattle.simple_asn1.specs.Shapes.{HasShapes, Shapes, entries_of};
 ghost use Rattle.simple_asn1.specs.Walked.{walked_entries};
 ghost use Rattle.simple_asn1_c.specs.Answers.{IsNoMemory, IsRefused, IsRefusedByHeader, IsRefusedStrict};
+ghost use Rattle.simple_asn1_c.specs.Inner.Fronts.{IsFound};
 ghost use Rattle.simple_asn1_c.specs.Status.{status_of};
 ghost use Rattle.asn1_headers.specs.declared.error.ASN1DecodeErr.TheVariants.{OutOfMemory};
 
 use crate::status::{NO_MEMORY, NOT_CANONICAL, status_of_fault};
+use crate::within::{Found, entries_within};
 use asn1_outline::outline::Outline;
 use simple_asn1::{
-    ASN1DecodeErr, Headers, LocatedErr, check_document, law_one_reading, outline_strict,
-    rewrite_unless_canonical,
+    ASN1DecodeErr, Headers, LocatedErr, check_document, discard, from_der_strict, law_one_reading,
+    outline_strict, rewrite_unless_canonical,
 };
 use std::alloc::Global;
 
@@ -71,6 +74,66 @@ pub fn fault_at(located: &LocatedErr) -> Fault
             status: status_of_fault(&located.error),
             offset: located.offset,
         },
+    }
+}
+
+// The entries of a document, where there is room for so many, or else their number.
+pub fn find_records(alloc: Global, octets: &[u8], room: usize) -> Result<Found, Fault>
+    ensures document { IfOk result (λ found. (bs : Trees ℕ) × (all : List Entry) × IsDocument octets.now bs
+        × AreEntriesOf octets.now bs all × IsFound room all found) }
+    ensures fault { IfErr result
+        (λ f. IsNoMemory f.status f.offset ⊎ IsRefused octets.now f.status f.offset) }
+{
+    match entries_within(alloc, octets, room) {
+        Ok(found) => Ok(found),
+        Err(located) => Err(fault_at(&located)),
+    }
+}
+
+// Those of one in canonical form.
+pub fn find_records_strict(alloc: Global, octets: &[u8], room: usize) -> Result<Found, Fault>
+    ensures document { IfOk result (λ found. (bs : Trees ℕ) × (all : List Entry) × CanonicalDocument octets.now bs
+        × AreEntriesOf octets.now bs all × IsFound room all found) }
+    ensures fault { IfErr result
+        (λ f. IsNoMemory f.status f.offset ⊎ IsRefusedStrict octets.now f.status f.offset) }
+{
+    law_one_reading();
+    let found = match find_records(alloc, octets, room) {
+        Ok(found) => found,
+        Err(fault) => return Err(fault),
+    };
+    match check_strict(alloc, octets) {
+        Ok(()) => Ok(found),
+        Err(fault) => Err(fault),
+    }
+}
+
+// Whether octets are a document in canonical form. Blocks are built only where a quick look does not find that they
+// are.
+fn check_strict(alloc: Global, octets: &[u8]) -> Result<(), Fault>
+    ensures document { OnOk result ((bs : Trees ℕ) × CanonicalDocument octets.now bs) }
+    ensures fault { IfErr result
+        (λ f. IsNoMemory f.status f.offset ⊎ IsRefusedStrict octets.now f.status f.offset) }
+{
+    match canonical_octets(alloc, octets) {
+        Ok(None) => Ok(()),
+        Ok(Some(_)) => check_blocks(alloc, octets),
+        Err(fault) => Err(fault),
+    }
+}
+
+// The same, by its blocks.
+fn check_blocks(alloc: Global, octets: &[u8]) -> Result<(), Fault>
+    ensures document { OnOk result ((bs : Trees ℕ) × CanonicalDocument octets.now bs) }
+    ensures fault { IfErr result
+        (λ f. IsNoMemory f.status f.offset ⊎ IsRefusedStrict octets.now f.status f.offset) }
+{
+    match from_der_strict(alloc, octets) {
+        Ok(blocks) => {
+            discard(blocks);
+            Ok(())
+        }
+        Err(e) => Err(strict_fault(alloc, octets, &e)),
     }
 }
 

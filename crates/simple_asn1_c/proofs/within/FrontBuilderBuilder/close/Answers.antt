@@ -1,0 +1,16 @@
+use Rattle.std.proofs.Common.{subst, sym}
+use Rattle.asn1_blocks.specs.Inner.ReaderSteps.{HasEndedIn, in_frame}
+use Rattle.asn1_outline.proofs.Listed.{if_ok}
+use Rattle.simple_asn1_c.specs.Inner.Fronts.{holds_front}
+use Rattle.simple_asn1_c.proofs.Fronts.{front_ended}
+use Rattle.simple_asn1_c.proofs.within.FrontBuilderBuilder.close.Goals as goal
+
+pub returns : goal.returns
+returns c =
+    let x = c.args._octets.now in
+    let f = in_frame c.args._extent c.args.items in
+    let a = c.args.self.now in
+    let b = c.seal.new.self in
+    let i = c.args.parent.now in
+    if_ok c.add.result
+    (λ u. subst (λ z. HasEndedIn holds_front x f c.args._depth a i b z) (sym u) (front_ended x a b f i c.args._depth c.seal.ensures)) c.add.ensures

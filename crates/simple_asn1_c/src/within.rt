@@ -1,0 +1,276 @@
+// Documents into entries, of which no more are kept than the caller has room for: what is held is bounded by that room
+// and by the frames that are open.
+ghost use Rattle.std.specs.Prelude.{◌≡◌, ◌+◌, ◌<◌, ◌≤◌, ◌^◌, ◌++◌, ◌∷◌, [], ℕ, List, IfErr, IfOk, IsTrue, OnOk, false, length, suc, take, vec_capacity, vec_len};
+ghost use Rattle.asn1_headers.specs.Fault.{OutOfMemoryOr};
+ghost use Rattle.asn1_headers.specs.declared.error.ASN1DecodeErr.TheVariants.{OutOfMemory};
+ghost use Rattle.asn1_blocks.specs.Grammar.{FirstFaultAt, IsDocument};
+ghost use Rattle.asn1_blocks.specs.Places.{HeaderFound};
+ghost use Rattle.asn1_blocks.specs.Tree.{Trees};
+ghost use Rattle.asn1_outline.specs.Entries.{AreEntriesOf};
+ghost use Rattle.asn1_outline.specs.Listing.{IsBegun, sealed};
+ghost use Rattle.asn1_outline.specs.declared.entry.Entry.{Entry};
+ghost use Rattle.simple_asn1_c.specs.Inner.Fronts.{IsFound, IsFront, holds_front};
+
+use crate::front::FrontBuilder;
+use asn1_blocks::contents::check_contents;
+use asn1_blocks::parsed::PlacedHeader;
+use asn1_blocks::reading::{Builder, Extent, out_of_memory, read_into};
+use asn1_headers::error::{ASN1DecodeErr, LocatedErr};
+use asn1_headers::header::HeaderCount;
+use asn1_outline::entry::Entry;
+use asn1_outline::listing::{EntryItems, begun};
+use std::alloc::{AllocError, Global};
+
+// Of so many octets at most it is guessed how many blocks they hold: one for 8, which few certificates have more than.
+const RESERVED: usize = 4096;
+
+// More blocks are not counted: no octets hold so many.
+const MOST: usize = 1 << 62;
+
+// The entries of a document, where there is room for all, or else their number.
+#[derive(Drop)]
+pub enum Found {
+    Entries(Vec<Entry>),
+    Count(usize),
+}
+
+// The entries of a document, where there is room for them.
+pub fn entries_within(alloc: Global, octets: &[u8], room: usize) -> Result<Found, LocatedErr>
+    ensures document { IfOk result (λ found. (bs : Trees ℕ) × (all : List Entry) × IsDocument octets.now bs
+        × AreEntriesOf octets.now bs all × IsFound room all found) }
+    ensures refused { IfErr result
+        (λ e. OutOfMemoryOr (λ fault. FirstFaultAt octets.now fault e.offset) e.error) }
+{
+    let Ok(builder) = FrontBuilder::with_room(alloc, octets.len(), room) else {
+        return Err(out_of_memory(0));
+    };
+    let items = EntryItems { entry: 0, count: 0 };
+    let mut count = HeaderCount::new();
+    match read_into(alloc, octets, builder, items, &mut count) {
+        Ok((builder, _)) => found_of(octets, builder, room),
+        Err(located) => Err(located),
+    }
+}
+
+// What was found by reading to the end: all entries, or how many there are.
+fn found_of(_octets: &[u8], builder: FrontBuilder, room: usize) -> Result<Found, LocatedErr>
+    requires { (bs : Trees ℕ) × (all : List Entry) × IsDocument _octets.now bs
+        × AreEntriesOf _octets.now bs all × IsFront builder all }
+    ensures document { IfOk result (λ found. (bs : Trees ℕ) × (all : List Entry) × IsDocument _octets.now bs
+        × AreEntriesOf _octets.now bs all × IsFound room all found) }
+    ensures refused { IfErr result (λ e. e.error ≡ OutOfMemory) }
+{
+    let count = builder.count();
+    let FrontBuilder { kept, beyond, .. } = builder;
+    if beyond == 0 {
+        return Ok(Found::Entries(kept));
+    }
+    if count > room {
+        return Ok(Found::Count(count));
+    }
+    // not reached: a builder with this room leaves no entry out that there is room for
+    Err(out_of_memory(0))
+}
+
+impl Builder for FrontBuilder {
+    type Items = EntryItems;
+
+    ghost holds = { holds_front };
+
+    #[inline(always)]
+    fn open(
+        &mut self,
+        _alloc: Global,
+        octets: &[u8],
+        header: &PlacedHeader,
+        offset: usize,
+        depth: usize,
+    ) -> Result<EntryItems, AllocError> {
+        let entry = self.count();
+        let block = started(octets, header, offset, entry, depth);
+        self.add(block, octets.len())?;
+        Ok(EntryItems { entry, count: 0 })
+    }
+
+    #[inline(always)]
+    fn leaf(
+        &mut self,
+        alloc: Global,
+        octets: &[u8],
+        items: &mut EntryItems,
+        header: PlacedHeader,
+        offset: usize,
+        depth: usize,
+    ) -> Result<(), ASN1DecodeErr> {
+        let entry = self.count();
+        let block = started(octets, &header, offset, entry, depth);
+        check_contents(alloc, &header, &octets[header.start..header.end])?;
+        self.add(block, octets.len())?;
+        Ok(items.add()?)
+    }
+
+    #[inline(always)]
+    fn close(
+        &mut self,
+        _alloc: Global,
+        _octets: &[u8],
+        _extent: Extent,
+        items: EntryItems,
+        parent: &mut EntryItems,
+        _depth: usize,
+    ) -> Result<(), AllocError> {
+        self.seal(items);
+        parent.add()
+    }
+
+    #[cold]
+    fn keep(
+        &mut self,
+        _alloc: Global,
+        _octets: &[u8],
+        _extent: Extent,
+        items: EntryItems,
+        parent: &mut EntryItems,
+        _depth: usize,
+    ) -> Result<(), AllocError> {
+        self.cut(items.entry);
+        parent.add()
+    }
+}
+
+impl FrontBuilder {
+    // No entries of a document of this size, of which so many may be kept.
+    fn with_room(alloc: Global, size: usize, room: usize) -> Result<FrontBuilder, AllocError>
+        ensures { IfOk result (λ builder. IsFront builder []) }
+    {
+        let guess = size.min(RESERVED) / 8;
+        let kept = Vec::with_capacity(alloc, guess.min(room))?;
+        Ok(FrontBuilder {
+            kept,
+            beyond: 0,
+            room,
+        })
+    }
+
+    // How many blocks there are.
+    #[inline(always)]
+    fn count(&self) -> usize
+        ensures sum { result ≡ vec_len self.now.kept + self.now.beyond }
+        ensures count { (all : List Entry) → IsFront self.now all → result ≡ length all }
+        ensures small { result < 2 ^ 63 }
+    {
+        self.kept.len() + self.beyond
+    }
+
+    // Adds an entry of a document of this size.
+    #[inline(always)]
+    fn add(&mut self, block: Entry, size: usize) -> Result<(), AllocError>
+        ensures { (all : List Entry) → IsFront self.old all → OnOk result (IsFront self.new (all ++ block ∷ [])) }
+    {
+        if !self.has_room(block.offset, size)? {
+            return self.add_beyond();
+        }
+        self.kept.push_reserved(block);
+        Ok(())
+    }
+
+    // Whether there is room for the entry of a block at the offset, in a document of this size.
+    #[inline(always)]
+    fn has_room(&mut self, offset: usize, size: usize) -> Result<bool, AllocError>
+        ensures kept { self.new.kept.items ≡ self.old.kept.items }
+        ensures beyond { self.new.beyond ≡ self.old.beyond }
+        ensures room { IfOk result (λ yes. IsTrue yes → vec_len self.new.kept < vec_capacity self.new.kept) }
+        ensures full { IfOk result (λ yes. yes ≡ false → self.new.room ≤ vec_len self.new.kept) }
+    {
+        if self.kept.len() < self.kept.capacity() {
+            return Ok(true);
+        }
+        self.makes_room(offset, size)
+    }
+
+    // The same where no memory is left: it is taken for as many blocks in the rest of the document as in what was read,
+    // and an eighth more, and for as many again as are kept at least. So a long list is moved a few times.
+    #[cold]
+    #[inline(never)]
+    fn makes_room(&mut self, offset: usize, size: usize) -> Result<bool, AllocError>
+        ensures kept { self.new.kept.items ≡ self.old.kept.items }
+        ensures beyond { self.new.beyond ≡ self.old.beyond }
+        ensures room { IfOk result (λ yes. IsTrue yes → vec_len self.new.kept < vec_capacity self.new.kept) }
+        ensures full { IfOk result (λ yes. yes ≡ false → self.new.room ≤ vec_len self.new.kept) }
+    {
+        let kept = self.kept.len();
+        if kept >= self.room {
+            return Ok(false);
+        }
+        let each = (offset / kept.max(1)).max(1);
+        let rest = size.saturating_sub(offset) / each;
+        let guess = rest.saturating_add(rest / 8).max(kept).max(1);
+        match self.kept.reserve_exact(guess.min(self.room - kept)) {
+            Ok(()) => Ok(true),
+            Err(_) => {
+                self.kept.reserve_exact(1)?;
+                Ok(true)
+            }
+        }
+    }
+
+    // One block more, whose entry is not kept.
+    #[cold]
+    #[inline(never)]
+    fn add_beyond(&mut self) -> Result<(), AllocError>
+        requires { self.old.room ≤ vec_len self.old.kept }
+        ensures kept { self.new.kept ≡ self.old.kept }
+        ensures beyond { OnOk result (self.new.beyond ≡ suc self.old.beyond) }
+    {
+        if self.count() >= MOST {
+            return Err(AllocError);
+        }
+        self.beyond += 1;
+        Ok(())
+    }
+
+    // The entry of a frame, if it is kept, holds the frame's blocks, which are all those after it.
+    #[inline(always)]
+    fn seal(&mut self, items: EntryItems)
+        ensures { (all : List Entry) → IsFront self.old all
+            → IsFront self.new (sealed all items.entry items.count) }
+    {
+        let next = self.count();
+        if items.entry >= self.kept.len() {
+            return;
+        }
+        let entry = &mut self.kept[items.entry];
+        entry.items = items.count;
+        entry.next = next;
+    }
+
+    // There are no blocks after the one with this entry.
+    fn cut(&mut self, entry: usize)
+        ensures { (all : List Entry) → IsFront self.old all → IsFront self.new (take (suc entry) all) }
+    {
+        let kept = self.kept.len();
+        if entry < kept {
+            self.kept.truncate(entry + 1);
+            self.beyond = 0;
+        } else if entry - kept < self.beyond {
+            self.beyond = entry - kept + 1;
+        }
+    }
+}
+
+// The entry of an encoding, which holds no blocks so far.
+#[inline(always)]
+fn started(
+    _octets: &[u8],
+    header: &PlacedHeader,
+    offset: usize,
+    entry: usize,
+    depth: usize,
+) -> Entry
+    requires found { (limit : ℕ) × (HeaderFound _octets.now offset limit header.now)
+        × (limit ≤ length _octets.now) }
+    requires next { suc entry < 2 ^ 64 }
+    ensures { IsBegun _octets.now offset entry depth result }
+{
+    begun(header, offset, entry, depth)
+}
