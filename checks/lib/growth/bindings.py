@@ -6,7 +6,8 @@ INTEGER, and many items.
 KIND is `c`, `rust` or `python`, of which PROGRAM is given a call and a file, and prints the processor time of the call
 in microseconds and a status; or `json`, for `der_dump`. It fails where twice the size takes more than three times as
 long, or where 100 kB take more than a second. The decimal digits of one long number take quadratic time: there the
-second alone counts.
+second alone counts. Of `memory`, PROGRAM is given a call alone, and prints how many kB it takes for 100 MB without room
+for what it writes, a status and a count.
 """
 import json
 import os
@@ -79,6 +80,18 @@ CALLS = {
     "json": {shape: {OK: "--json"} for shape in SHAPES},
 }
 
+# what each call without room answers of NULLs: a status and a count. `kept` reads [0] around them that stays as it came
+NO_ROOM = 11
+MEMORY = {
+    "read": (NO_ROOM, 50_000_000),
+    "kept": (NO_ROOM, 1),
+    "read_strict": (NO_ROOM, 50_000_000),
+    "check": (OK, 0),
+    "rewrite": (NO_ROOM, 100_000_000),
+    "departures": (OK, 0),
+}
+MOST_KILOBYTES = 4_096
+
 
 def ran(kind, program, call, path):
     """Processor time in microseconds, and status."""
@@ -107,14 +120,30 @@ def is_well(times, is_quadratic):
     return times[-1] <= MOST_SECONDS and (is_quadratic or not grows)
 
 
+def memory(program):
+    """How many calls took too much memory, or answered something else."""
+    wrong = 0
+    for call, wanted in MEMORY.items():
+        said = subprocess.run([program, call], stdout=subprocess.PIPE, check=True).stdout.split()
+        kilobytes, *answer = map(int, said)
+        good = kilobytes <= MOST_KILOBYTES and tuple(answer) == wanted
+        wrong += not good
+        print(f"growth: {call} of 100 MB without room takes {kilobytes} kB" + ("" if good else ": WRONG"), flush=True)
+    return wrong
+
+
 def main():
     work, wrong, tried = sys.argv[1], 0, 0
+    programs = dict(word.split("=", 1) for word in sys.argv[2:])
+    if "memory" in programs:
+        wrong += memory(programs.pop("memory"))
+        tried += len(MEMORY)
     for shape, make in SHAPES.items():
         paths = [os.path.join(work, f"{size}.der") for size in SIZES]
         for path, size in zip(paths, SIZES):
             with open(path, "wb") as file:
                 file.write(make(size))
-        for kind, program in (word.split("=", 1) for word in sys.argv[2:]):
+        for kind, program in programs.items():
             for status, calls in CALLS[kind].get(shape, {}).items():
                 for call in calls.split():
                     name, is_quadratic = call.rstrip("*"), call.endswith("*")
