@@ -112,7 +112,7 @@ class Records:
 
     __slots__ = ("_memory", "_count", "_words")
 
-    def __init__(self, memory: bytes, count: int) -> None:
+    def __init__(self, memory: Union[bytes, memoryview], count: int) -> None:
         self._memory = memory
         self._count = count
         self._words = memoryview(memory).cast("N")
@@ -249,8 +249,12 @@ def _spare() -> Tuple[memoryview, int]:
         return _memory(_FIRST_SIZE)
 
 
-def _written(call: Callable[..., Any], octets: bytes, record_size: int) -> bytes:
-    """The records of this size that a call writes."""
+def _written(call: Callable[..., Any], octets: bytes, record_size: int) -> Union[bytes, memoryview]:
+    """The records of this size that a call writes.
+
+    Where there are more than the first room has, the first call only counts them, and the second gets just the room
+    that they need. That room is handed out as it is.
+    """
     size = len(octets)
     spare = memory, address = _spare()
     answer = call(octets, size, address, _FIRST_SIZE // record_size)
@@ -258,8 +262,8 @@ def _written(call: Callable[..., Any], octets: bytes, record_size: int) -> bytes
     if status == _NO_ROOM:
         memory, address = _memory(count * record_size)
         answer = call(octets, size, address, count)
-        status, count = answer.status, answer.count
-    records = bytes(memory[: count * record_size])
+        status = answer.status
+    records = memory if memory is not spare[0] else bytes(memory[: count * record_size])
     _SPARE.append(spare)
     if status != _OK:
         raise refusal(status, answer.offset)

@@ -51,7 +51,10 @@ class Bits(NamedTuple):
 
 
 class Document:
-    """A document and the record of each of its blocks. `read`, `read_strict`, `outline` and `read_pem` make it."""
+    """A document and the record of each of its blocks. `read`, `read_strict`, `outline` and `read_pem` make it.
+
+    It holds the octets and 64 bytes for each block. While it is read, the library holds as much for each block again.
+    """
 
     def __init__(self, octets: Octets, *, strict: bool = False, by_headers: bool = False) -> None:
         self._octets = octets_of(octets)

@@ -42,7 +42,8 @@ fn sized(room: usize, call: impl Fn(*mut u8, usize) -> Outcome) -> Result<Vec<u8
 const FIRST_ROOM: usize = 1024;
 
 /// Room for the most records that the octets can need would be 32 octets for each octet. So a document with more
-/// records than the first room is read again, with room for as many as it has.
+/// records than the first room is read again, with room for just as many as it has: the first call holds no more of
+/// them than fit into the first room, and counts the others.
 fn records<R: Clone + Default>(octets: &[u8], call: impl Fn(*mut R, usize) -> Outcome) -> Result<Vec<R>, Fault> {
     let mut records = vec![R::default(); FIRST_ROOM.min(octets.len() / 2)];
     let mut answer = call(records.as_mut_ptr(), records.len());

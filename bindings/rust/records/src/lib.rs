@@ -33,7 +33,8 @@ pub fn version() -> u32 {
     calls::version()
 }
 
-/// A document, with the record of each of its blocks.
+/// A document, with the record of each of its blocks: 64 bytes for each, and twice that while it is read. If there are
+/// more than 1,024 blocks it is read twice: the first call counts them, and the second gets just the room they need.
 #[derive(Clone, Debug)]
 pub struct Document<'a> {
     octets: &'a [u8],
