@@ -3,6 +3,7 @@ import array
 import base64
 import concurrent.futures
 import copy
+import ctypes
 import datetime
 import pickle
 import random
@@ -304,6 +305,21 @@ class Objects(unittest.TestCase):
         block = simple_asn1.read(octets.finish())[0]
         with concurrent.futures.ThreadPoolExecutor(8) as pool:
             self.assertEqual(list(pool.map(lambda item: item.text, block.items * 20)), texts * 20)
+
+    def test_no_type_is_made_for_a_size(self):
+        # ctypes keeps the type of an array for each size
+        def types():
+            return len(ctypes.Array.__subclasses__())
+
+        before = types()
+        for size in (1, 5, 70, 700, 7000):
+            document = simple_asn1.read(b"\x05\x00" * size)
+            self.assertEqual(simple_asn1.write(document.octets, document.records), document.octets)
+            found = Paths(*[(index,) for index in range(size)]).values(document.octets)
+            self.assertEqual([value.offset for value in found], [2 * index for index in range(size)])
+            self.assertEqual(only(f"04 82 {size:04X} {'78' * size}").contents, b"x" * size)
+            self.assertEqual(only(f"0C 82 {size:04X} {'78' * size}").text, "x" * size)
+        self.assertEqual(types(), before)
 
     def test_they_are_shown(self):
         document = simple_asn1.read(DOCUMENT)

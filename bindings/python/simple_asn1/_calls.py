@@ -1,6 +1,7 @@
 """The calls of simple_asn1.h, by ctypes. Octets are passed to C only here: each call takes the `bytes` of octets_of."""
 import ctypes
 import functools
+import operator
 import os
 import pathlib
 import re
@@ -112,9 +113,9 @@ class Records:
 
     __slots__ = ("_memory", "_count", "_words")
 
-    def __init__(self, memory: Union[bytes, memoryview], count: int) -> None:
+    def __init__(self, memory: Union[bytes, memoryview]) -> None:
         self._memory = memory
-        self._count = count
+        self._count = len(memory) // _SIZE
         self._words = memoryview(memory).cast("N")
 
     def __len__(self) -> int:
@@ -219,8 +220,8 @@ def _library() -> Any:
 
 _LIBRARY = _library()
 
-# no time has more contents octets, and most headers have no more
-_MOST_TIME, _USUAL_HEADER = 32, 6
+# most headers have no more octets
+_USUAL_HEADER = 6
 
 _OK, _NO_ROOM = int(Status.OK), int(Status.NO_ROOM)
 
@@ -238,7 +239,7 @@ _SPARE: List[Tuple[memoryview, int]] = []
 
 def _memory(size: int) -> Tuple[memoryview, int]:
     """New memory and its address. A buffer of ctypes would need a new type for each size."""
-    memory = bytearray(size)
+    memory = bytearray(size or 1)
     return memoryview(memory), ctypes.addressof(ctypes.c_char.from_buffer(memory))
 
 
@@ -249,30 +250,32 @@ def _spare() -> Tuple[memoryview, int]:
         return _memory(_FIRST_SIZE)
 
 
-def _written(call: Callable[..., Any], octets: bytes, record_size: int) -> Union[bytes, memoryview]:
-    """The records of this size that a call writes.
+def _written(call: Callable[..., Any], *arguments: Any, size: int = 1, room: int = 0) -> Union[bytes, memoryview]:
+    """The octets, or the records of this size, that a call with these arguments writes.
 
-    Where there are more than the first room has, the first call only counts them, and the second gets just the room
-    that they need. That room is handed out as it is.
+    It has room for so many at least. Where that is too little the first call only counts them, and the second gets
+    just the room that they need. Memory that was made for a call is handed out as it is.
     """
-    size = len(octets)
     spare = memory, address = _spare()
-    answer = call(octets, size, address, _FIRST_SIZE // record_size)
+    if room * size > _FIRST_SIZE:
+        memory, address = _memory(room * size)
+    answer = call(*arguments, address, len(memory) // size)
     status, count = answer.status, answer.count
     if status == _NO_ROOM:
-        memory, address = _memory(count * record_size)
-        answer = call(octets, size, address, count)
-        status = answer.status
-    records = memory if memory is not spare[0] else bytes(memory[: count * record_size])
+        memory, address = _memory(count * size)
+        answer = call(*arguments, address, count)
+        status, count = answer.status, answer.count
+    written: Union[bytes, memoryview] = memory[: count * size]
+    if memory is spare[0]:
+        written = bytes(written)
     _SPARE.append(spare)
     if status != _OK:
         raise refusal(status, answer.offset)
-    return records
+    return written
 
 
 def _read(call: Callable[..., Any], octets: bytes) -> Records:
-    records = _written(call, octets, _SIZE)
-    return Records(records, len(records) // _SIZE)
+    return Records(_written(call, octets, len(octets), size=_SIZE))
 
 
 def read(octets: bytes) -> Records:
@@ -289,55 +292,33 @@ def outline(octets: bytes) -> Records:
 
 def departures(octets: bytes) -> Iterable[Any]:
     """The offset of each departure from DER, and the number of its rule."""
-    return _DEPARTURE.iter_unpack(_written(_LIBRARY.simple_asn1_departures, octets, _DEPARTURE.size))
+    call, size = _LIBRARY.simple_asn1_departures, _DEPARTURE.size
+    return _DEPARTURE.iter_unpack(_written(call, octets, len(octets), size=size))
 
 
 class Places:
     """Paths as the library takes them."""
 
     def __init__(self, paths: Sequence[Sequence[int]]) -> None:
-        steps = [number for path in paths for number in path]
-        if not all(0 <= number <= _MOST_STEP for number in steps):  # ctypes cuts numbers that do not fit
+        steps = [operator.index(number) for path in paths for number in path]
+        if not all(0 <= number <= _MOST_STEP for number in steps):
             raise ValueError("the numbers of a path begin with 0")
-        self.steps = (ctypes.c_size_t * len(steps))(*steps)
-        self.paths = (Path * len(paths))()
+        self._steps, steps_address = _memory(len(steps) * _WORD)
+        struct.pack_into(f"@{len(steps)}N", self._steps, 0, *steps)
+        self._paths, paths_address = _memory(len(paths) * ctypes.sizeof(Path))
         start = 0
-        for place, path in zip(self.paths, paths):
+        for index, path in enumerate(paths):
+            place = Path.from_buffer(self._paths, index * ctypes.sizeof(Path))
             place.start, place.length = start, len(path)
             start += len(path)
         self.count = len(paths)
-        self.arguments = ctypes.addressof(self.steps), len(steps), ctypes.addressof(self.paths), len(paths)
+        self.arguments = steps_address, len(steps), paths_address, self.count
 
 
 def values(octets: bytes, places: Places) -> Iterable[Any]:
     """The fields of what each path leads to."""
-    spare = memory, address = _spare()
-    count = places.count
-    size = count * _FOUND.size
-    if size > _FIRST_SIZE:
-        memory, address = _memory(size)
-    answer = _LIBRARY.simple_asn1_values(octets, len(octets), *places.arguments, address, count)
-    found = bytes(memory[:size])
-    _SPARE.append(spare)
-    if answer.status != _OK:
-        raise refusal(answer.status, answer.offset)
-    return _FOUND.iter_unpack(found)
-
-
-def _sized(call: Callable[..., Any], room: int, *arguments: Any) -> bytes:
-    """The octets that a call writes. It is made with this room at least, and once more only if that is too little."""
-    spare = memory, address = _spare()
-    if room > _FIRST_SIZE:
-        memory, address = _memory(room)
-    answer = call(*arguments, address, len(memory))
-    if answer.status == _NO_ROOM:
-        memory, address = _memory(answer.count)
-        answer = call(*arguments, address, len(memory))
-    written = bytes(memory[: answer.count])
-    _SPARE.append(spare)
-    if answer.status != _OK:
-        raise refusal(answer.status, answer.offset)
-    return written
+    call, size, room = _LIBRARY.simple_asn1_values, _FOUND.size, places.count
+    return _FOUND.iter_unpack(_written(call, octets, len(octets), *places.arguments, size=size, room=room))
 
 
 def check(octets: bytes) -> None:
@@ -347,18 +328,18 @@ def check(octets: bytes) -> None:
 
 
 def rewrite(octets: bytes) -> bytes:
-    return _sized(_LIBRARY.simple_asn1_rewrite, len(octets), octets, len(octets))
+    return bytes(_written(_LIBRARY.simple_asn1_rewrite, octets, len(octets), room=len(octets)))
 
 
 def write(octets: bytes, records: Sequence[Record]) -> bytes:
-    blocks: List[Block] = []
+    memory, address = _memory(len(records) * _SIZE)
     for index, record in enumerate(records):
-        blocks.append(Block(*record))
-        if record_of(blocks[index]) != record:  # ctypes cuts numbers that do not fit
-            raise refusal(Status.BAD_RECORD, index)
-    array = (Block * len(blocks))(*blocks)
-    room = len(octets) + _USUAL_HEADER * len(blocks)
-    return _sized(_LIBRARY.simple_asn1_write, room, octets, len(octets), array, len(blocks))
+        try:
+            _RECORD.pack_into(memory, index * _SIZE, *record)
+        except struct.error:  # a number that does not fit
+            raise refusal(Status.BAD_RECORD, index) from None
+    room = len(octets) + _USUAL_HEADER * len(records)
+    return _written(_LIBRARY.simple_asn1_write, octets, len(octets), address, len(records), room=room)
 
 
 def int64(octets: bytes, offset: int) -> int:
@@ -378,11 +359,16 @@ def time(octets: bytes, offset: int) -> Tuple[int, ...]:
 
 def text(octets: bytes, record: Record) -> str:
     """The text of the string with this record. Only an IA5String's octets above 7F become longer."""
+    if record.tag_class == 0 and record.tag in STRINGS:
+        start = record.offset + record.header
+        plain = plain_text(octets[start : start + record.contents])
+        if plain is not None:
+            return plain
     return text_at(octets, record.offset, 2 * record.contents if record.tag == 22 else record.contents)
 
 
 def text_at(octets: bytes, offset: int, room: int) -> str:
-    return _sized(_LIBRARY.simple_asn1_text, room, octets, len(octets), offset).decode()
+    return _written(_LIBRARY.simple_asn1_text, octets, len(octets), offset, room=room).decode()
 
 
 # the tag numbers of the strings that have a text
@@ -404,11 +390,17 @@ def oid(octets: bytes, record: Record) -> str:
     Its first octet gives at most five characters, as in 2.175, and each other at most four: so the text is never made
     twice, which can take long.
     """
-    return oid_at(octets, record.offset, record.contents if (record.tag_class, record.tag) == (0, 6) else 0)
+    contents = record.contents if (record.tag_class, record.tag) == (0, 6) else 0
+    if 0 < contents <= USUAL_OID:
+        start = record.offset + record.header
+        usual = usual_oid(octets[start : start + contents])
+        if usual is not None:
+            return usual
+    return oid_at(octets, record.offset, contents)
 
 
 def oid_at(octets: bytes, offset: int, contents: int) -> str:
-    return _sized(_LIBRARY.simple_asn1_oid, 4 * contents + 1, octets, len(octets), offset).decode()
+    return _written(_LIBRARY.simple_asn1_oid, octets, len(octets), offset, room=4 * contents + 1).decode()
 
 
 # the most contents octets of an OBJECT IDENTIFIER whose text is kept
@@ -434,30 +426,30 @@ def signed(octets: bytes) -> List[Record]:
 
 
 def put_boolean(value: bool) -> bytes:
-    return _sized(_LIBRARY.simple_asn1_put_boolean, 1, int(bool(value)))
+    return _written(_LIBRARY.simple_asn1_put_boolean, int(bool(value)))
 
 
 def put_integer(value: int) -> bytes:
     """Of any size. What does not fit 64 bits is in two's complement already, in whatever number of octets."""
     if not -(2**63) <= value < 2**63:
         return value.to_bytes(value.bit_length() // 8 + 1, "big", signed=True)
-    return _sized(_LIBRARY.simple_asn1_put_int64, 8, value)
+    return _written(_LIBRARY.simple_asn1_put_int64, value)
 
 
 def put_bits(octets: bytes, length: int) -> bytes:
     if not 0 <= length <= 8 * len(octets):  # ctypes cuts numbers that do not fit
         raise refusal(Status.RANGE, 0)
-    return _sized(_LIBRARY.simple_asn1_put_bits, len(octets) + 1, octets, len(octets), length)
+    return _written(_LIBRARY.simple_asn1_put_bits, octets, len(octets), length, room=len(octets) + 1)
 
 
 def put_oid(text: str) -> bytes:
     octets = text.encode()
-    return _sized(_LIBRARY.simple_asn1_put_oid, len(octets), octets, len(octets))
+    return _written(_LIBRARY.simple_asn1_put_oid, octets, len(octets), room=len(octets))
 
 
 def put_text(tag: int, text: str) -> bytes:
     octets = text.encode()
-    return _sized(_LIBRARY.simple_asn1_put_text, len(octets), _tag(tag), octets, len(octets))
+    return _written(_LIBRARY.simple_asn1_put_text, _tag(tag), octets, len(octets), room=len(octets))
 
 
 def put_time(tag: int, moment: Sequence[int]) -> bytes:
@@ -465,7 +457,7 @@ def put_time(tag: int, moment: Sequence[int]) -> bytes:
     fields = MomentAnswer(Status.OK, *moment)
     if [getattr(fields, name) for name, *_ in MomentAnswer._fields_[1:]] != list(moment):
         raise refusal(Status.DATE, 0)
-    return _sized(_LIBRARY.simple_asn1_put_time, _MOST_TIME, _tag(tag), ctypes.byref(fields))
+    return _written(_LIBRARY.simple_asn1_put_time, _tag(tag), ctypes.byref(fields))
 
 
 def _tag(tag: int) -> int:

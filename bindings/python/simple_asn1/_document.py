@@ -79,7 +79,7 @@ class Document:
     @property
     def blocks(self) -> List["Block"]:
         """The blocks at the top level."""
-        return list(iter(self))
+        return self._all_among(0, len(self._blocks))
 
     @property
     def all_blocks(self) -> List["Block"]:
@@ -88,6 +88,9 @@ class Document:
 
     def _among(self, start: int, end: int) -> Iterator["Block"]:
         return map(partial(Block, self), self._blocks.level(start, end))
+
+    def _all_among(self, start: int, end: int) -> List["Block"]:
+        return [Block(self, index) for index in self._blocks.level(start, end)]
 
     def _level(self, start: int, end: int) -> Sequence[int]:
         """The indices of the blocks at a level, by their number. They are found when they are first asked for."""
@@ -196,7 +199,8 @@ class Block:
     @property
     def items(self) -> List["Block"]:
         """The blocks directly inside it."""
-        return list(iter(self))
+        document = self._document
+        return document._all_among(self._index + 1, document._blocks.next(self._index))
 
     def __iter__(self) -> Iterator["Block"]:
         """Over its items."""
@@ -242,7 +246,7 @@ class Block:
     @property
     def moment(self) -> Moment:
         """The moment of a UTCTime or GeneralizedTime."""
-        return made(Moment, _calls.time(self._document._octets, self.record.offset))
+        return made(Moment, _calls.time(self._document._octets, (self._made or self.record).offset))
 
     @property
     def datetime(self) -> DateTime:
@@ -252,7 +256,7 @@ class Block:
     @property
     def text(self) -> str:
         """The text of a string, of any kind."""
-        return _calls.text(self._document._octets, self.record)
+        return _calls.text(self._document._octets, self._made or self.record)
 
     @property
     def oid(self) -> str:
@@ -260,7 +264,7 @@ class Block:
 
         For a component of thousands of bytes this takes quadratic time.
         """
-        return _calls.oid(self._document._octets, self.record)
+        return _calls.oid(self._document._octets, self._made or self.record)
 
     @property
     def bits(self) -> Bits:
