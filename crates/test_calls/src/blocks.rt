@@ -63,6 +63,17 @@ pub fn oid(alloc: Global, block: &ASN1Block) -> Answer {
     }
 }
 
+pub fn enumerated(alloc: Global, block: &ASN1Block) -> Answer {
+    value(alloc, block.enumerated(alloc)?)
+}
+
+pub fn ascii_text(alloc: Global, block: &ASN1Block) -> Answer {
+    match block.ascii_text() {
+        Some(text) => Ok(characters_text(alloc, text)?),
+        None => Ok(String::from_str(alloc, "-")?),
+    }
+}
+
 pub fn items(alloc: Global, block: &ASN1Block) -> Answer {
     let Some(items) = sequence_items(block) else {
         return Ok(String::from_str(alloc, "-")?);
@@ -85,7 +96,12 @@ pub fn implicit(alloc: Global, document: &Document) -> Answer {
     for block in document.blocks() {
         items.push(block.clone(alloc)?)?;
     }
-    let block = build::implicit(alloc, ASN1Class::ContextSpecific, 0, items)?;
+    implicit_of(alloc, 0, items)
+}
+
+// What is written of the items under the implicit tag, and the items of that.
+pub fn implicit_of(alloc: Global, tag: u64, items: Vec<ASN1Block>) -> Answer {
+    let block = build::implicit(alloc, ASN1Class::ContextSpecific, tag, items)?;
     let written = octets_text(alloc, &to_der(alloc, &block)?)?;
     let items = held_items(alloc, &block)?;
     Ok(format!(in alloc; "{written} items {items}")?)

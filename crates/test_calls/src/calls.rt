@@ -1,7 +1,9 @@
 // The calls by their names. Each function has those of a family, and asks the next one of any other name.
 use crate::arguments::of;
 use crate::refusal::{Answer, said};
-use crate::{blocks, documents, errors, headers, identifiers, made, numbers, points};
+use crate::{
+    blocks, documents, errors, headers, identifiers, made, makers, numbers, outlines, points,
+};
 use simple_asn1::{ASN1Block, Document, OID};
 use std::alloc::Global;
 use test_notation::class_name;
@@ -11,6 +13,7 @@ pub fn answer(alloc: Global, name: &str, octets: &[u8]) -> Answer {
     match name {
         "read" => of(alloc, octets, documents::read),
         "count" => documents::count(alloc, octets),
+        "first" => documents::first(alloc, octets),
         "place" => documents::place(alloc, octets),
         "rewrite" => documents::rewritten(alloc, octets),
         "strict" => documents::strict(alloc, octets),
@@ -40,9 +43,56 @@ fn of_blocks(alloc: Global, name: &str, octets: &[u8]) -> Answer {
         "moment" => of_each(alloc, octets, blocks::moment),
         "bits" => of_each(alloc, octets, blocks::bits),
         "oid" => of_each(alloc, octets, blocks::oid),
+        "enumerated" => of_each(alloc, octets, blocks::enumerated),
+        "ascii_text" => of_each(alloc, octets, blocks::ascii_text),
         "sequence_items" => of_each(alloc, octets, blocks::items),
         "items_of" => of_each(alloc, octets, blocks::held_items),
         "build::implicit" => of(alloc, octets, blocks::implicit),
+        _ => of_outline(alloc, name, octets),
+    }
+}
+
+fn of_outline(alloc: Global, name: &str, octets: &[u8]) -> Answer {
+    match name {
+        "Outline::boolean" => outlines::each(alloc, octets, outlines::boolean),
+        "Outline::integer" => outlines::each(alloc, octets, outlines::integer),
+        "Outline::bits" => outlines::each(alloc, octets, outlines::bits),
+        "Outline::octets" => outlines::each(alloc, octets, outlines::octets),
+        "Outline::oid" => outlines::each(alloc, octets, outlines::oid),
+        "Outline::enumerated" => outlines::each(alloc, octets, outlines::enumerated),
+        "Outline::text" => outlines::each(alloc, octets, outlines::text),
+        "Outline::ascii_text" => outlines::each(alloc, octets, outlines::ascii_text),
+        "Outline::moment" => outlines::each(alloc, octets, outlines::moment),
+        _ => of_maker(alloc, name, octets),
+    }
+}
+
+fn of_maker(alloc: Global, name: &str, octets: &[u8]) -> Answer {
+    match name {
+        "build::boolean" => makers::boolean(alloc, octets),
+        "build::integer" => makers::integer(alloc, octets),
+        "build::big_integer" => makers::big_integer(alloc, octets),
+        "build::bit_string" => makers::bit_string(alloc, octets),
+        "build::octet_string" => makers::octet_string(alloc, octets),
+        "build::null" => makers::null(alloc, octets),
+        "build::object_identifier" => makers::object_identifier(alloc, octets),
+        "build::enumerated" => makers::enumerated(alloc, octets),
+        _ => of_other_maker(alloc, name, octets),
+    }
+}
+
+fn of_other_maker(alloc: Global, name: &str, octets: &[u8]) -> Answer {
+    match name {
+        "build::utf8_string" => makers::utf8_string(alloc, octets),
+        "build::printable_string" => makers::printable_string(alloc, octets),
+        "build::ia5_string" => makers::ia5_string(alloc, octets),
+        "build::utc_time" => makers::utc_time(alloc, octets),
+        "build::generalized_time" => makers::generalized_time(alloc, octets),
+        "build::sequence" => makers::sequence(alloc, octets),
+        "build::set" => makers::set(alloc, octets),
+        "build::explicit" => makers::explicit(alloc, octets),
+        "build::implicit(31)" => makers::implicit(alloc, octets),
+        "build::implicit_primitive" => makers::implicit_primitive(alloc, octets),
         _ => of_identifier(alloc, name, octets),
     }
 }

@@ -1,8 +1,8 @@
 // Calls that read documents.
 use crate::refusal::{Answer, Refusal, ran_out, said};
 use simple_asn1::{
-    ASN1DecodeErr, Document, HeaderCount, TripleErr, discard, encoding_at, from_der_counted,
-    from_der_located, from_der_strict, is_der, read_signed, rewrite,
+    ASN1DecodeErr, Document, HeaderCount, Outline, TripleErr, discard, encoding_at,
+    from_der_counted, from_der_located, from_der_strict, is_der, read_signed, rewrite,
 };
 use std::alloc::Global;
 use test_notation::{blocks_text, components_text, octets_text};
@@ -10,6 +10,22 @@ use test_notation::{blocks_text, components_text, octets_text};
 // The blocks of the document.
 pub fn read(alloc: Global, document: &Document) -> Answer {
     Ok(blocks_text(alloc, document.blocks())?)
+}
+
+// The offsets of the first block of a tree and of an outline. Both have one, so neither index is tested.
+pub fn first(alloc: Global, octets: &[u8]) -> Answer {
+    let document = Document::from_der(alloc, octets)?;
+    let outline = Outline::from_der(alloc, octets)?;
+    let (block, entry) = (first_block(&document), first_entry(&outline));
+    Ok(format!(in alloc; "{block} {entry}")?)
+}
+
+fn first_block(document: &Document) -> usize {
+    document.blocks()[0].offset()
+}
+
+fn first_entry(outline: &Outline<'_>) -> usize {
+    outline.entries()[0].offset
 }
 
 // The blocks of the document, or its first fault with its place.

@@ -154,7 +154,7 @@ fn unknown(alloc: Global, fields: &[u8]) -> Result<Option<ASN1Block>, AllocError
     Ok(Some(ASN1Block::Unknown(class, constructed, OFFSET, tag, contents)))
 }
 
-fn moment_of(fields: &[u8]) -> Option<DateTime> {
+pub fn moment_of(fields: &[u8]) -> Option<DateTime> {
     let [y, z, month, day, hour, minute, second, a, b, c, d] = fields else {
         return None;
     };

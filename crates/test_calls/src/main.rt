@@ -13,7 +13,9 @@ mod headers;
 mod identifiers;
 mod lines;
 mod made;
+mod makers;
 mod numbers;
+mod outlines;
 mod points;
 mod refusal;
 

@@ -5,8 +5,6 @@
 #[cfg(test)]
 mod blocks;
 #[cfg(test)]
-mod build;
-#[cfg(test)]
 mod convert;
 #[cfg(test)]
 mod documents;

@@ -18,7 +18,7 @@ fn an_entry_says_where_its_block_is(rt: HostRuntime) -> Result<(), Fail> {
     let document = octets(alloc, DOCUMENT)?;
     let outline = Outline::from_der(alloc, &document)?;
     assert_eq!(rt; outline.entries().len(), 9);
-    assert_eq!(rt; outline.octets().len(), 40);
+    assert_eq!(rt; outline.document().len(), 40);
     let Some(explicit) = outline.entries().get(7) else {
         return Err("no entry".into());
     };
@@ -145,7 +145,7 @@ fn by_headers_an_odd_string_is_walked(rt: HostRuntime) -> Result<(), Fail> {
     let document = octets(alloc, ODD)?;
     assert!(rt; Outline::from_der(alloc, &document).is_err());
     let headers = Headers::read(alloc, &document)?;
-    assert_eq!(rt; headers.octets().len(), 9);
+    assert_eq!(rt; headers.document().len(), 9);
     let places = headers
         .entries()
         .iter()
