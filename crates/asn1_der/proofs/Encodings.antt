@@ -10,12 +10,14 @@ use Rattle.asn1_blocks.specs.Places.{IsEncoding}
 use Rattle.asn1_der.specs.Der.{AreDerEncodings, IsDerEncoding, IsInOrder, IsRightAlone, IsShortest, more_encodings, no_encodings, of_other_constructed, of_other_primitive, of_primitive_type, of_sequence, of_set}
 use Rattle.asn1_der.specs.Steps.{IsWhole}
 
--- the shortest encoding is one
-shortest_encoding : (x : List ℕ) (c : ASN1Class) (k : Bool) (n : ℕ) (v : List ℕ) → length x < 2 ^ 64 → IsShortest x c k n v → (h : ℕ) × Encoding x c k n v h
-shortest_encoding x c k n v small s =
+-- octets in the shortest form are an encoding
+encoding_of_shortest : (x : List ℕ) (c : ASN1Class) (k : Bool) (n : ℕ) (v : List ℕ) → length x < 2 ^ 64
+    → IsShortest x c k n v → (h : ℕ) × Encoding x c k n v h
+encoding_of_shortest x c k n v small s =
     let i = shortest_identifier c k n in
     let l = shortest_length (length v) in
-    let size : length v < 2 ^ 64 = omega (arith, small, ap length s.whole, length-append i (l ++ v), length-append l v) in (
+    let size : length v < 2 ^ 64 =
+    omega (arith, small, ap length s.whole, length-append i (l ++ v), length-append l v) in (
       length i + length l,
       record {
         identifier = i;
@@ -27,7 +29,7 @@ shortest_encoding x c k n v small s =
       },
     )
 
--- some fields with it
+-- octets that are in the shortest form, with some fields
 pub record IsSomeWhole (x : List ℕ) : Type 0 where
   pub c : ASN1Class
   pub k : Bool
@@ -39,18 +41,20 @@ some_whole : (x : List ℕ) → IsDerEncoding x → IsSomeWhole x
 some_whole x (of_primitive_type {tag = n} s r t h) = record { c = Universal; k = false; n = n; v = _; shortest = s }
 some_whole x (of_sequence {tag = n} s t other items d) = record { c = Universal; k = true; n = n; v = _; shortest = s }
 some_whole x (of_set s items d o) = record { c = Universal; k = true; n = 17; v = _; shortest = s }
-some_whole x (of_other_constructed {class = c} {tag = n} other s items d) = record { c = c; k = true; n = n; v = _; shortest = s }
-some_whole x (of_other_primitive {class = c} {tag = n} other s) = record { c = c; k = false; n = n; v = _; shortest = s }
+some_whole x (of_other_constructed {class = c} {tag = n} other s items d) =
+    record { c = c; k = true; n = n; v = _; shortest = s }
+some_whole x (of_other_primitive {class = c} {tag = n} other s) =
+    record { c = c; k = false; n = n; v = _; shortest = s }
 
 -- an encoding of DER is one by its header
 pub der_encoding : (x : List ℕ) → length x < 2 ^ 64 → IsDerEncoding x →
     (c : ASN1Class) × (k : Bool) × (n : ℕ) × (v : List ℕ) × (h : ℕ) × Encoding x c k n v h
 der_encoding x small d =
     let s = some_whole x d in
-    let e = shortest_encoding x s.c s.k s.n s.v small s.shortest in
+    let e = encoding_of_shortest x s.c s.k s.n s.v small s.shortest in
     (s.c, s.k, s.n, s.v, e.0, e.1)
 
--- its length has the shortest form
+-- the length of an encoding has the shortest form
 pub record IsLengthShortest (x : List ℕ) : Type 0 where
   pub found : IsEncoding x
   pub shortest : found.encoding.len ≡ shortest_length (length found.contents)
@@ -60,7 +64,8 @@ length_shortest x small d =
     let s = some_whole x d in
     let i = shortest_identifier s.c s.k s.n in
     let l = shortest_length (length s.v) in
-    let size : length s.v < 2 ^ 64 = omega (arith, small, ap length s.shortest.whole, length-append i (l ++ s.v), length-append l s.v) in
+    let size : length s.v < 2 ^ 64 =
+    omega (arith, small, ap length s.shortest.whole, length-append i (l ++ s.v), length-append l s.v) in
     record {
       found = record {
         class = s.c;
@@ -80,13 +85,20 @@ length_shortest x small d =
       shortest = refl;
     }
 
--- one has octets
-pub encoding_some : (x : List ℕ) (c : ASN1Class) (k : Bool) (n : ℕ) (v : List ℕ) (h : ℕ) → Encoding x c k n v h → 0 < length x
+-- an encoding has octets
+pub encoding_some : (x : List ℕ) (c : ASN1Class) (k : Bool) (n : ℕ) (v : List ℕ) (h : ℕ) → Encoding x c k n v h
+    → 0 < length x
 encoding_some x c k n v h e =
-    omega (arith, ap length e.whole, length-append e.identifier (e.len ++ v), identifier_some e.identifier c k n e.identifier_octets)
+    omega (
+      arith,
+      ap length e.whole,
+      length-append e.identifier (e.len ++ v),
+      identifier_some e.identifier c k n e.identifier_octets,
+    )
 
 -- octets have one list of items
-pub items_alone : (x y : List ℕ) (is js : List (List ℕ)) → length x < 2 ^ 64 → x ≡ y → AreDerEncodings x is → AreDerEncodings y js → is ≡ js
+pub items_alone : (x y : List ℕ) (is js : List (List ℕ)) → length x < 2 ^ 64 → x ≡ y → AreDerEncodings x is
+    → AreDerEncodings y js → is ≡ js
 items_alone x y is js small e no_encodings no_encodings = refl
 items_alone x y is js small e no_encodings (more_encodings {first = f} {rest = r} w d ds) =
     let zero : length (f ++ r) ≡ 0 = ap length (sym w) ∙ ap length (sym e) in
@@ -98,7 +110,8 @@ items_alone x y is js small e (more_encodings {first = f} {rest = r} w d ds) no_
     let z : length f ≡ 0 = omega (arith, zero, length-append f r) in
     let (c, k, n, v, h, p) = der_encoding f (omega (arith, z)) d in
     absurd (omega (arith, z, encoding_some f c k n v h p))
-items_alone x y is js small e (more_encodings {first = f} {rest = r} {items = fs} w d ds) (more_encodings {first = g} {rest = q} {items = gs} u b bs) =
+items_alone x y is js small e (more_encodings {first = f} {rest = r} {items = fs} w d ds)
+    (more_encodings {first = g} {rest = q} {items = gs} u b bs) =
     let long : length x ≡ length f + length r = ap length w ∙ length-append f r in
     let long' : length x ≡ length g + length q = ap length e ∙ (ap length u ∙ length-append g q) in
     let (c, k, n, v, h, p) = der_encoding f (omega (arith, long, small)) d in
@@ -108,17 +121,17 @@ items_alone x y is js small e (more_encodings {first = f} {rest = r} {items = fs
     let more : fs ≡ gs = items_alone r q fs gs (omega (arith, long, small)) same.rest ds bs in
     cc
 
-right_other : (c : ASN1Class) (k : Bool) (n : ℕ) (v : List ℕ) → c ≢ Universal → IsRightAlone c k n v
-right_other Universal k n v other = absurd (other refl)
-right_other Application k n v other = tt
-right_other ContextSpecific k n v other = tt
-right_other Private k n v other = tt
+IsRightAlone-other_class : (c : ASN1Class) (k : Bool) (n : ℕ) (v : List ℕ) → c ≢ Universal → IsRightAlone c k n v
+IsRightAlone-other_class Universal k n v other = absurd (other refl)
+IsRightAlone-other_class Application k n v other = tt
+IsRightAlone-other_class ContextSpecific k n v other = tt
+IsRightAlone-other_class Private k n v other = tt
 
--- with the fields of the header
-retold :
+-- equal fields have the same properties
+IsWhole-same_fields :
     (x : List ℕ) (c c' : ASN1Class) (k k' : Bool) (n n' : ℕ) (v v' : List ℕ) → c ≡ c' → k ≡ k' → n ≡ n' → v ≡ v' →
     IsWhole x c' k' n' v' → IsWhole x c k n v
-retold x c c' k k' n n' v v' ec ek en ev w =
+IsWhole-same_fields x c c' k k' n n' v v' ec ek en ev w =
     subst (λ z. IsWhole x z k n v) (sym ec)
     (subst (λ z. IsWhole x c' z n v) (sym ek)
     (subst (λ z. IsWhole x c' k' z v) (sym en)
@@ -133,7 +146,8 @@ whole_of x small (of_sequence {contents = v} {tag = n} s t other items d) =
 whole_of x small (of_set {contents = v} s items d o) =
     let i = shortest_identifier Universal true 17 in
     let l = shortest_length (length v) in
-    let size : length v < 2 ^ 64 = omega (arith, small, ap length s.whole, length-append i (l ++ v), length-append l v) in (
+    let size : length v < 2 ^ 64 =
+    omega (arith, small, ap length s.whole, length-append i (l ++ v), length-append l v) in (
       Universal,
       true,
       17,
@@ -144,9 +158,9 @@ whole_of x small (of_set {contents = v} s items d o) =
       },
     )
 whole_of x small (of_other_constructed {contents = v} {class = c} {tag = n} other s items d) =
-    (c, true, n, v, record { alone = (s, right_other c true n v other); items = λ e. (items, d) })
+    (c, true, n, v, record { alone = (s, IsRightAlone-other_class c true n v other); items = λ e. (items, d) })
 whole_of x small (of_other_primitive {contents = v} {class = c} {tag = n} other s) =
-    (c, false, n, v, record { alone = (s, right_other c false n v other); items = λ e. absurd cc })
+    (c, false, n, v, record { alone = (s, IsRightAlone-other_class c false n v other); items = λ e. absurd cc })
 
 -- an encoding of DER is asked for it with the fields of its header
 pub der_whole :
@@ -154,12 +168,13 @@ pub der_whole :
     IsDerEncoding x → IsWhole x c k n v
 der_whole x c k n v h small e d =
     let (c', k', n', v', w) = whole_of x small d in
-    let (h', e') = shortest_encoding x c' k' n' v' small w.alone.0 in
+    let (h', e') = encoding_of_shortest x c' k' n' v' small w.alone.0 in
     let same = encoding_alone x x c c' k k' n n' v v' h h' [] [] e e' refl in
-    retold x c c' k k' n n' v v' same.class same.constructed same.tag same.contents w
+    IsWhole-same_fields x c c' k k' n n' v v' same.class same.constructed same.tag same.contents w
 
--- and that is all
-pub whole_der : (x : List ℕ) (c : ASN1Class) (k : Bool) (n : ℕ) (v : List ℕ) → IsWhole x c k n v → IsDerEncoding x
+-- octets with the properties that an encoding of DER has are one
+pub whole_der : (x : List ℕ) (c : ASN1Class) (k : Bool) (n : ℕ) (v : List ℕ) → IsWhole x c k n v
+    → IsDerEncoding x
 whole_der x Universal false n v w = of_primitive_type w.alone.0 w.alone.1.0 w.alone.1.1 w.alone.1.2
 whole_der x Universal true n v w =
     let (items, d) = w.items refl in
@@ -172,9 +187,12 @@ whole_der x Universal true n v w =
             of_set (subst (λ z. IsShortest x Universal true z v) e w.alone.0) items d (w.alone.1.1 e items d)
       ]
     ]
-whole_der x Application true n v w = let (items, d) = w.items refl in of_other_constructed (λ e. cc) w.alone.0 items d
-whole_der x ContextSpecific true n v w = let (items, d) = w.items refl in of_other_constructed (λ e. cc) w.alone.0 items d
-whole_der x Private true n v w = let (items, d) = w.items refl in of_other_constructed (λ e. cc) w.alone.0 items d
+whole_der x Application true n v w = let (items, d) =
+    w.items refl in of_other_constructed (λ e. cc) w.alone.0 items d
+whole_der x ContextSpecific true n v w = let (items, d) =
+    w.items refl in of_other_constructed (λ e. cc) w.alone.0 items d
+whole_der x Private true n v w = let (items, d) =
+    w.items refl in of_other_constructed (λ e. cc) w.alone.0 items d
 whole_der x Application false n v w = of_other_primitive (λ e. cc) w.alone.0
 whole_der x ContextSpecific false n v w = of_other_primitive (λ e. cc) w.alone.0
 whole_der x Private false n v w = of_other_primitive (λ e. cc) w.alone.0

@@ -44,7 +44,9 @@ first_of rest part after [] all e i w =
     ))
 first_of rest part after (p ∷ ps) all e i w =
     let j = All-head IsEncoding p ps all in
-    let same = encoding_alone part p i.class j.class i.constructed j.constructed i.tag j.tag i.contents j.contents i.header j.header
+    let same =
+    encoding_alone part p i.class j.class i.constructed j.constructed i.tag j.tag i.contents j.contents i.header
+    j.header
     after (concat ps) i.encoding j.encoding (sym w ∙ e) in
     record { more = ps; is = ap (λ z. z ∷ ps) (sym same.octets); whole = same.rest }
 
@@ -69,7 +71,8 @@ left_more order items None rest part after d i w may =
     }
 left_more order items (Some first) rest part after d i w may =
     let f = first_of rest part after d.later (All-drop IsEncoding 1 (first ∷ d.later) d.all) d.whole i w in
-    let same = subst (λ z. Ascend (MayStandBefore order) items ↔ Ascend (MayStandBefore order) (first ∷ z)) f.is d.same in
+    let same =
+    subst (λ z. Ascend (MayStandBefore order) items ↔ Ascend (MayStandBefore order) (first ∷ z)) f.is d.same in
     record {
       later = f.more;
       all = All-drop IsEncoding 1 (first ∷ part ∷ f.more) (subst (λ z. All IsEncoding (first ∷ z)) f.is d.all);
@@ -88,21 +91,21 @@ follows order before first next found is h =
     (All-head IsEncoding next [] (All-drop IsEncoding 1 (first ∷ next ∷ []) all)))
 
 -- the encoding behind the last one that was passed is one
-pub behind_all :
+pub is_encoding_behind :
     (order : Order) (items : List (List ℕ)) (before : Option (List ℕ)) (rest part : List ℕ) →
     IsLeft order items before rest → IsEncoding part → All IsEncoding (behind before (part ∷ []))
-behind_all order items None rest part d i = All-cons IsEncoding part [] i (All-nil IsEncoding)
-behind_all order items (Some first) rest part d i =
+is_encoding_behind order items None rest part d i = All-cons IsEncoding part [] i (All-nil IsEncoding)
+is_encoding_behind order items (Some first) rest part d i =
     All-cons IsEncoding first (part ∷ []) (All-head IsEncoding first d.later d.all)
     (All-cons IsEncoding part [] i (All-nil IsEncoding))
 
--- where one may not stand there, they do not ascend
-pub left_never :
+-- where an encoding may not stand behind the one before it, the items do not ascend
+pub not_ascending :
     (order : Order) (items : List (List ℕ)) (before : Option (List ℕ)) (rest part after : List ℕ) →
     IsLeft order items before rest → IsEncoding part → rest ≡ part ++ after →
     (MayFollow (MayStandBefore order) before part → ⊥) → Ascend (MayStandBefore order) items → ⊥
-left_never order items None rest part after d i w never a = never tt
-left_never order items (Some first) rest part after d i w never a =
+not_ascending order items None rest part after d i w never a = never tt
+not_ascending order items (Some first) rest part after d i w never a =
     let f = first_of rest part after d.later (All-drop IsEncoding 1 (first ∷ d.later) d.all) d.whole i w in
     never (subst (λ z. Ascend (MayStandBefore order) (first ∷ z)) f.is (d.same.0 a)).0
 
@@ -110,19 +113,22 @@ ended : (order : Order) (before : Option (List ℕ)) → Ascend (MayStandBefore 
 ended order None = tt
 ended order (Some first) = tt
 
--- where none is left, they do
-pub left_none :
+-- where no encoding is left, the items ascend
+pub ascending :
     (order : Order) (items : List (List ℕ)) (before : Option (List ℕ)) (rest : List ℕ) →
     IsLeft order items before rest → HasNoEncodingAt rest 0 → Ascend (MayStandBefore order) items
-left_none order items before rest d none = d.same.1 (none_later d.later (later_all before d.later d.all) d.whole)
+ascending order items before rest d none = d.same.1 (none_later d.later (later_all before d.later d.all) d.whole)
   where
-    later_all : (before : Option (List ℕ)) (later : List (List ℕ)) → All IsEncoding (behind before later) → All IsEncoding later
+    later_all : (before : Option (List ℕ)) (later : List (List ℕ)) → All IsEncoding (behind before later)
+        → All IsEncoding later
     later_all None later all = all
     later_all (Some first) later all = All-drop IsEncoding 1 (first ∷ later) all
 
-    none_later : (later : List (List ℕ)) → All IsEncoding later → rest ≡ concat later → Ascend (MayStandBefore order) (behind before later)
+    none_later : (later : List (List ℕ)) → All IsEncoding later → rest ≡ concat later
+        → Ascend (MayStandBefore order) (behind before later)
     none_later [] all e = ended order before
-    none_later (p ∷ ps) all e = absurd (none p (record { rest = concat ps; at_offset = e; encoding = All-head IsEncoding p ps all }))
+    none_later (p ∷ ps) all e =
+        absurd (none p (record { rest = concat ps; at_offset = e; encoding = All-head IsEncoding p ps all }))
 
 -- what stands behind the encoding at the front
 pub behind_encoding :
@@ -132,6 +138,7 @@ behind_encoding octets part after at is =
     let l : length part ≤ length octets = omega (arith, ap length at.at_offset, length-append part at.rest) in
     let least : min (length part) (length octets) ≡ length part = omega (arith, l) in
     let e : after ≡ at.rest =
-    is ∙ (ap (λ m. drop m octets) least ∙ (ap (drop (length part)) at.at_offset ∙ drop_at part at.rest (length part) refl))
+    is ∙ (ap (λ m. drop m octets) least
+    ∙ (ap (drop (length part)) at.at_offset ∙ drop_at part at.rest (length part) refl))
     in
     at.at_offset ∙ ap (λ z. part ++ z) (sym e)

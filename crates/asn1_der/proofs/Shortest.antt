@@ -15,12 +15,13 @@ use Rattle.asn1_blocks.proofs.ReadSteps.{slice_join, slice_length}
 use Rattle.asn1_der.specs.Der.{IsShortest}
 use Rattle.asn1_der.specs.Steps.{IsHeaderOf, is_short}
 
--- as many octets were compared as there are
+-- where as many octets were compared as there are, they are the same exactly if all were
 pub compared_whole :
     (a c : Comparison) (xs : List ℕ) → compared a xs c → IsTrue a.same → length a.rest.now ≡ length xs →
     IsTrue c.same ↔ (a.rest.now ≡ xs)
 compared_whole a c xs p same size =
-    let none : c.rest.now ≡ [] = nil_from_length c.rest.now (omega (arith, ap length p.1, length-append p.0 c.rest.now, p.2, size)) in
+    let none : c.rest.now ≡ [] =
+    nil_from_length c.rest.now (omega (arith, ap length p.1, length-append p.0 c.rest.now, p.2, size)) in
     let all : a.rest.now ≡ p.0 = p.1 ∙ (ap (λ z. p.0 ++ z) none ∙ append-nil p.0) in
     (λ t. all ∙ (p.3.0 t).1, λ e. p.3.1 (same, sym all ∙ e))
 
@@ -65,7 +66,7 @@ header_front x i s e c k n before order within f =
       length_octets = subst (λ z. IsLength f.len z) size f.length_octets;
     }
 
--- where they are two, they are the shortest
+-- two octets that are identifier and length octets are the shortest
 pub short_front :
     (front : List ℕ) (c : ASN1Class) (k : Bool) (n m : ℕ) → IsHeaderOf front c k n m → is_short front ≡ true →
     front ≡ shortest_identifier c k n ++ shortest_length m

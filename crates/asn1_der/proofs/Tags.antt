@@ -12,37 +12,38 @@ use Rattle.std.proofs.lemmas.Int.Digits.{number_digits_of}
 use Rattle.std.proofs.lemmas.List.{length-map}
 use Rattle.asn1_numbers.specs.Base128.{IsBase128, base128_number, shortest_base128}
 use Rattle.asn1_numbers.proofs.DigitOrder.{digits_order}
-use Rattle.asn1_headers.specs.Header.{IsIdentifier, class_number}
-use Rattle.asn1_headers.specs.declared.header.ASN1Class.{ASN1Class}
-use Rattle.asn1_headers.proofs.Prefixes.{bit_small, encoding_alone}
+use Rattle.asn1_headers.proofs.Prefixes.{encoding_alone}
 use Rattle.asn1_blocks.specs.Places.{IsEncoding}
 use Rattle.asn1_der.specs.Der.{HasLessTag, is_less_tag}
 use Rattle.asn1_der.specs.Steps.{IsFront}
 
-then_equal : (r : Ordering) → ordering_then r Equal ≡ r
-then_equal Less = refl
-then_equal Equal = refl
-then_equal Greater = refl
+ordering_then-Equal : (r : Ordering) → ordering_then r Equal ≡ r
+ordering_then-Equal Less = refl
+ordering_then-Equal Equal = refl
+ordering_then-Equal Greater = refl
 
-then_assoc : (r s t : Ordering) → ordering_then r (ordering_then s t) ≡ ordering_then (ordering_then r s) t
-then_assoc Less s t = refl
-then_assoc Equal s t = refl
-then_assoc Greater s t = refl
+ordering_then-assoc : (r s t : Ordering) → ordering_then r (ordering_then s t) ≡ ordering_then (ordering_then r s) t
+ordering_then-assoc Less s t = refl
+ordering_then-assoc Equal s t = refl
+ordering_then-assoc Greater s t = refl
 
 -- numbers are ordered as they are with another number added
-cmp_later : (k x y : ℕ) → nat_cmp (k + x) (k + y) ≡ nat_cmp x y
-cmp_later k x y = sym (by_rank (nat_cmp x y) refl (ranked x y (nat_cmp x y) refl))
+nat_cmp-add : (k x y : ℕ) → nat_cmp (k + x) (k + y) ≡ nat_cmp x y
+nat_cmp-add k x y = sym (by_rank (nat_cmp x y) refl (ranked x y (nat_cmp x y) refl))
   where
-    by_rank : (r : Ordering) → r ≡ nat_cmp x y → MatchOrdering r (x < y) (x ≡ y) (y < x) → nat_cmp x y ≡ nat_cmp (k + x) (k + y)
+    by_rank : (r : Ordering) → r ≡ nat_cmp x y → MatchOrdering r (x < y) (x ≡ y) (y < x)
+        → nat_cmp x y ≡ nat_cmp (k + x) (k + y)
     by_rank Less e h = sym e ∙ nat_cmp_is (k + x) (k + y) Less (omega (arith, h))
     by_rank Equal e h = sym e ∙ nat_cmp_is (k + x) (k + y) Equal (omega (arith, h))
     by_rank Greater e h = sym e ∙ nat_cmp_is (k + x) (k + y) Greater (omega (arith, h))
 
--- as they are by their quotients, and then by their remainders
-cmp_by_quotient : (m n : ℕ) → ordering_then (nat_cmp (m / 128) (n / 128)) (nat_cmp (m % 128) (n % 128)) ≡ nat_cmp m n
-cmp_by_quotient m n = by_quotient (nat_cmp (m / 128) (n / 128)) (ranked (m / 128) (n / 128) (nat_cmp (m / 128) (n / 128)) refl)
+-- numbers are ordered by their quotients, and then by their remainders
+nat_cmp-div-mod : (m n : ℕ) → ordering_then (nat_cmp (m / 128) (n / 128)) (nat_cmp (m % 128) (n % 128)) ≡ nat_cmp m n
+nat_cmp-div-mod m n =
+    by_quotient (nat_cmp (m / 128) (n / 128)) (ranked (m / 128) (n / 128) (nat_cmp (m / 128) (n / 128)) refl)
   where
-    by_rest : (s : Ordering) → m / 128 ≡ n / 128 → MatchOrdering s (m % 128 < n % 128) (m % 128 ≡ n % 128) (n % 128 < m % 128) → s ≡ nat_cmp m n
+    by_rest : (s : Ordering) → m / 128 ≡ n / 128
+        → MatchOrdering s (m % 128 < n % 128) (m % 128 ≡ n % 128) (n % 128 < m % 128) → s ≡ nat_cmp m n
     by_rest Less e h = nat_cmp_is m n Less (omega (arith, e, h))
     by_rest Equal e h = nat_cmp_is m n Equal (omega (arith, e, h))
     by_rest Greater e h = nat_cmp_is m n Greater (omega (arith, e, h))
@@ -50,33 +51,37 @@ cmp_by_quotient m n = by_quotient (nat_cmp (m / 128) (n / 128)) (ranked (m / 128
     by_quotient : (r : Ordering) → MatchOrdering r (m / 128 < n / 128) (m / 128 ≡ n / 128) (n / 128 < m / 128)
         → ordering_then r (nat_cmp (m % 128) (n % 128)) ≡ nat_cmp m n
     by_quotient Less h = nat_cmp_is m n Less (omega (arith, h))
-    by_quotient Equal h = by_rest (nat_cmp (m % 128) (n % 128)) h (ranked (m % 128) (n % 128) (nat_cmp (m % 128) (n % 128)) refl)
+    by_quotient Equal h =
+        by_rest (nat_cmp (m % 128) (n % 128)) h (ranked (m % 128) (n % 128) (nat_cmp (m % 128) (n % 128)) refl)
     by_quotient Greater h = nat_cmp_is m n Greater (omega (arith, h))
 
 -- digits with bit 8 set, and a last octet, are ordered as the digits are, and then as the last octets
-marked_order : (xs ys : List ℕ) (a b : ℕ) → length xs ≡ length ys
+slice_cmp-marked : (xs ys : List ℕ) (a b : ℕ) → length xs ≡ length ys
     → slice_cmp nat_cmp (map (λ d. 128 + d) xs ++ a ∷ []) (map (λ d. 128 + d) ys ++ b ∷ [])
     ≡ ordering_then (slice_cmp nat_cmp xs ys) (nat_cmp a b)
-marked_order [] [] a b e = then_equal (nat_cmp a b)
-marked_order [] (y ∷ ys) a b e = absurd (omega (arith, e))
-marked_order (x ∷ xs) [] a b e = absurd (omega (arith, e))
-marked_order (x ∷ xs) (y ∷ ys) a b e =
-    ap (λ r. ordering_then r (slice_cmp nat_cmp (map (λ d. 128 + d) xs ++ a ∷ []) (map (λ d. 128 + d) ys ++ b ∷ []))) (cmp_later 128 x y)
-    ∙ (ap (λ s. ordering_then (nat_cmp x y) s) (marked_order xs ys a b (omega (arith, e)))
-    ∙ then_assoc (nat_cmp x y) (slice_cmp nat_cmp xs ys) (nat_cmp a b))
+slice_cmp-marked [] [] a b e = ordering_then-Equal (nat_cmp a b)
+slice_cmp-marked [] (y ∷ ys) a b e = absurd (omega (arith, e))
+slice_cmp-marked (x ∷ xs) [] a b e = absurd (omega (arith, e))
+slice_cmp-marked (x ∷ xs) (y ∷ ys) a b e =
+    ap (λ r. ordering_then r (slice_cmp nat_cmp (map (λ d. 128 + d) xs ++ a ∷ []) (map (λ d. 128 + d) ys ++ b ∷ [])))
+    (nat_cmp-add 128 x y)
+    ∙ (ap (λ s. ordering_then (nat_cmp x y) s) (slice_cmp-marked xs ys a b (omega (arith, e)))
+    ∙ ordering_then-assoc (nat_cmp x y) (slice_cmp nat_cmp xs ys) (nat_cmp a b))
 
+-- the shortest base-128 number has an octet more than its quotient has digits
 size : (n : ℕ) → length (shortest_base128 n) ≡ 1 + length (digits_of 128 (n / 128))
 size n =
     let ds = digits_of 128 (n / 128) in
     omega (arith, length-append (map (λ d. 128 + d) ds) (n % 128 ∷ []), length-map ds (λ d. 128 + d))
 
 -- of shortest base-128 numbers the number of octets decides, and then the first octet that differs
-pub shortest_order : (m n : ℕ)
+pub nat_cmp-shortest_base128 : (m n : ℕ)
     → ordering_then (nat_cmp (length (shortest_base128 m)) (length (shortest_base128 n)))
     (slice_cmp nat_cmp (shortest_base128 m) (shortest_base128 n)) ≡ nat_cmp m n
-shortest_order m n =
+nat_cmp-shortest_base128 m n =
     ap (λ r. ordering_then r (slice_cmp nat_cmp (shortest_base128 m) (shortest_base128 n))) lengths
-    ∙ by_length (nat_cmp (length ds) (length es)) refl (ranked (length ds) (length es) (nat_cmp (length ds) (length es)) refl)
+    ∙ by_length (nat_cmp (length ds) (length es)) refl
+    (ranked (length ds) (length es) (nat_cmp (length ds) (length es)) refl)
   where
     ds : List ℕ
     ds = digits_of 128 (m / 128)
@@ -86,7 +91,7 @@ shortest_order m n =
 
     lengths : nat_cmp (length (shortest_base128 m)) (length (shortest_base128 n)) ≡ nat_cmp (length ds) (length es)
     lengths = ap (λ z. nat_cmp z (length (shortest_base128 n))) (size m)
-        ∙ (ap (λ z. nat_cmp (1 + length ds) z) (size n) ∙ cmp_later 1 (length ds) (length es))
+        ∙ (ap (λ z. nat_cmp (1 + length ds) z) (size n) ∙ nat_cmp-add 1 (length ds) (length es))
 
     fronts : base128_number ds ≡ m / 128
     fronts = number_digits_of 128 (m / 128) (omega arith)
@@ -104,45 +109,34 @@ shortest_order m n =
     by_digits : (r : Ordering) → r ≡ nat_cmp (length ds) (length es)
         → ordering_then (ordering_then r (slice_cmp nat_cmp ds es)) lows ≡ nat_cmp m n
     by_digits r e =
-        ap (λ z. ordering_then z lows) (ap (λ z. ordering_then z (slice_cmp nat_cmp ds es)) e ∙ order) ∙ cmp_by_quotient m n
+        ap (λ z. ordering_then z lows) (ap (λ z. ordering_then z (slice_cmp nat_cmp ds es)) e ∙ order)
+        ∙ nat_cmp-div-mod m n
 
     by_length : (r : Ordering) → r ≡ nat_cmp (length ds) (length es)
         → MatchOrdering r (length ds < length es) (length ds ≡ length es) (length es < length ds)
         → ordering_then r (slice_cmp nat_cmp (shortest_base128 m) (shortest_base128 n)) ≡ nat_cmp m n
     by_length Less e h = by_digits Less e
-    by_length Equal e h = marked_order ds es (m % 128) (n % 128) h ∙ by_digits Equal e
+    by_length Equal e h = slice_cmp-marked ds es (m % 128) (n % 128) h ∙ by_digits Equal e
     by_length Greater e h = by_digits Greater e
 
--- without an octet 80 in front they are the same number
-pub behind_leading : (octets : List ℕ) (n : ℕ) → get_or octets 0 0 ≡ 128 → IsBase128 octets n → IsBase128 (drop 1 octets) n
-behind_leading [] n e p = absurd p.continued
-behind_leading (a ∷ []) n e p = absurd (omega (arith, e, p.continued))
-behind_leading (a ∷ b ∷ octets) n e p =
+-- octets of a base-128 number that begin with 80 are of the same number without it
+pub IsBase128-behind_80 : (octets : List ℕ) (n : ℕ) → get_or octets 0 0 ≡ 128 → IsBase128 octets n
+    → IsBase128 (drop 1 octets) n
+IsBase128-behind_80 [] n e p = absurd p.continued
+IsBase128-behind_80 (a ∷ []) n e p = absurd (omega (arith, e, p.continued))
+IsBase128-behind_80 (a ∷ b ∷ octets) n e p =
     let low : 0 ≡ a % 128 = omega (arith, e) in
     record {
       continued = p.continued.1;
       value = subst (λ z. n ≡ number_from_digits 128 (z ∷ map (λ b. b % 128) (b ∷ octets))) (sym low) p.value;
     }
 
--- a tag number below 31 is one as well
-pub low_number : (b : ℕ) (c : ASN1Class) (k : Bool) (n : ℕ) → IsIdentifier (b ∷ []) c k n → IsBase128 (b % 32 ∷ []) n
-low_number b c k n (low, e) =
-    let is : b % 32 ≡ n = omega (arith, e, low, bit_small k) in
-    record { continued = omega (arith, is, low); value = omega (arith, is, low) }
-
-pub high_number : (b : ℕ) (octets : List ℕ) (c : ASN1Class) (k : Bool) (n : ℕ) → 0 < length octets → IsIdentifier (b ∷ octets) c k n → IsBase128 octets n
-high_number b [] c k n some p = absurd (omega (arith, some))
-high_number b (d ∷ octets) c k n some p = p.1
-
-pub class_bits : (b : ℕ) (octets : List ℕ) (c : ASN1Class) (k : Bool) (n : ℕ) → IsIdentifier (b ∷ octets) c k n → b / 64 ≡ class_number c
-class_bits b [] c k n (low, e) = omega (arith, e, low, bit_small k)
-class_bits b (d ∷ octets) c k n (e, p) = omega (arith, e, bit_small k)
-
 -- encodings have one tag each
-pub less_tag :
-    (x y : List ℕ) (e : IsEncoding x) (f : IsEncoding y) (found : Bool) → found ≡ is_less_tag e.class e.tag f.class f.tag →
+pub HasLessTag-fields :
+    (x y : List ℕ) (e : IsEncoding x) (f : IsEncoding y) (found : Bool)
+    → found ≡ is_less_tag e.class e.tag f.class f.tag →
     IsTrue found ↔ HasLessTag x y
-less_tag x y e f found is = (
+HasLessTag-fields x y e f found is = (
   λ t. (
     e.class,
     e.tag,
@@ -153,36 +147,39 @@ less_tag x y e f found is = (
     sym is ∙ t,
   ),
   λ (c, m, d, n, p, q, less).
-      let a = encoding_alone x x e.class c e.constructed p.constructed e.tag m e.contents p.contents e.header p.header [] []
+      let a = encoding_alone x x e.class c e.constructed p.constructed e.tag m e.contents p.contents e.header p.header
+      [] []
       e.encoding p.encoding refl in
-      let b = encoding_alone y y f.class d f.constructed q.constructed f.tag n f.contents q.contents f.header q.header [] []
+      let b = encoding_alone y y f.class d f.constructed q.constructed f.tag n f.contents q.contents f.header q.header
+      [] []
       f.encoding q.encoding refl in
       is ∙ (ap (λ z. is_less_tag z e.tag f.class f.tag) a.class ∙ (ap (λ z. is_less_tag c z f.class f.tag) a.tag
       ∙ (ap (λ z. is_less_tag c m z f.tag) b.class ∙ (ap (λ z. is_less_tag c m d z) b.tag ∙ less)))),
 )
 
--- so they are compared
+-- numbers are compared by the lengths of their shortest octets, and then by these octets
 pub compared :
     (m n : ℕ) (xs ys : List ℕ) (a b r : Ordering) → xs ≡ shortest_base128 m → ys ≡ shortest_base128 n →
     a ≡ nat_cmp (length xs) (length ys) → b ≡ slice_cmp nat_cmp xs ys → r ≡ ordering_then a b → r ≡ nat_cmp m n
 compared m n xs ys a b r e f h i j =
     j ∙ (ap (λ z. ordering_then z b) h ∙ (ap (λ z. ordering_then (nat_cmp (length xs) (length ys)) z) i
     ∙ (ap (λ z. ordering_then (nat_cmp (length z) (length ys)) (slice_cmp nat_cmp z ys)) e
-    ∙ (ap (λ z. ordering_then (nat_cmp (length (shortest_base128 m)) (length z)) (slice_cmp nat_cmp (shortest_base128 m) z)) f
-    ∙ shortest_order m n))))
+    ∙ (ap (λ z. ordering_then (nat_cmp (length (shortest_base128 m)) (length z))
+    (slice_cmp nat_cmp (shortest_base128 m) z)) f
+    ∙ nat_cmp-shortest_base128 m n))))
 
-pub less_is : (m n : ℕ) (r : Ordering) → r ≡ nat_cmp m n → r ≡ Less → true ≡ nat_lt m n
-less_is m n r e h =
+pub is_less_number-Less : (m n : ℕ) (r : Ordering) → r ≡ nat_cmp m n → r ≡ Less → true ≡ nat_lt m n
+is_less_number-Less m n r e h =
     let lt : m < n = ranked m n Less (sym h ∙ e) in
     grind (arith, lt)
 
-pub less_is_not : (m n : ℕ) (r : Ordering) → r ≡ nat_cmp m n → (r ≡ Less → ⊥) → false ≡ nat_lt m n
-less_is_not m n r e h = elim (cases_lt m n) [
+pub is_less_number-not_Less : (m n : ℕ) (r : Ordering) → r ≡ nat_cmp m n → (r ≡ Less → ⊥) → false ≡ nat_lt m n
+is_less_number-not_Less m n r e h = elim (cases_lt m n) [
   | inl lt ↦ absurd (h (e ∙ sym (nat_cmp_is m n Less lt)))
   | inr ge ↦ grind (arith, ge)
 ]
 
--- its identifier octets stand at the front of an encoding
+-- the identifier octets of an encoding stand at its front
 pub identifier_front : (x : List ℕ) (e : IsEncoding x) → IsFront e.encoding.identifier x
 identifier_front x e = record {
   tag = e.tag;

@@ -1,5 +1,5 @@
 -- What is left of octets, encoding by encoding.
-use Rattle.std.proofs.Common.{◌≡◌, ℕ, ◌-◌, ◌<◌, ◌≤◌, ◌^◌, true, List, [], ◌∷◌, ◌++◌, length, sym, ap, ◌∙◌, subst, arith, length-append}
+use Rattle.std.proofs.Common.{◌≡◌, ℕ, ◌-◌, ◌<◌, ◌≤◌, ◌^◌, true, List, [], ◌∷◌, ◌++◌, length, sym, ap, ◌∙◌, subst, arith, length-append, drop, reverse, take}
 use Rattle.std.specs.Prelude.{◌↔◌}
 use Rattle.std.specs.List.{slice_range}
 use Rattle.asn1_headers.specs.Fault.{DecodeFault}
@@ -11,9 +11,7 @@ use Rattle.asn1_blocks.proofs.Faults.{header_no_encoding}
 use Rattle.asn1_blocks.proofs.ReadSteps.{slice_join, slice_length}
 use Rattle.asn1_der.specs.Der.{AreDerEncodings, IsDerEncoding, more_encodings, no_encodings}
 use Rattle.asn1_der.specs.Steps.{AreDer, AreDerUpTo, AreEnds, IsDerAlone, IsWhole}
-use Rattle.std.proofs.Common.{drop, reverse, take}
 use Rattle.std.proofs.lemmas.List.{reverse-append}
-use Rattle.asn1_der.specs.Der.{IsDer}
 use Rattle.asn1_der.proofs.Encodings.{der_encoding, der_whole, whole_der}
 
 -- encodings of DER that are some octets, by the first
@@ -50,14 +48,19 @@ module _ (x : List ℕ) (small : length x < 2 ^ 64) (i e : ℕ) (within : e ≤ 
 
     pub ahead : AreDer (slice_range x i e) → IsAhead x e i h
     ahead (items, ds) =
-        let s = split_some (slice_range x i e) items (omega (arith, all_size, f.starts_after, f.order, f.ends_within)) ds in
-        let long : length s.first ≤ length x = omega (arith, all_size, within, ap length s.whole, length-append s.first s.rest) in
+        let s = split_some (slice_range x i e) items (omega (arith, all_size, f.starts_after, f.order, f.ends_within))
+        ds in
+        let long : length s.first ≤ length x =
+        omega (arith, all_size, within, ap length s.whole, length-append s.first s.rest) in
         let (c, k, n, v, g, p) = der_encoding s.first (omega (arith, long, small)) s.der in
-        let same = encoding_alone (slice_range x i h.end) s.first h.class c h.constructed k h.tag n (slice_range x h.start h.end) v (h.start - i) g
+        let same =
+        encoding_alone (slice_range x i h.end) s.first h.class c h.constructed k h.tag n
+        (slice_range x h.start h.end) v (h.start - i) g
         (slice_range x h.end e) s.rest f.encoding p (sym join ∙ s.whole) in
         let der : IsDerEncoding (slice_range x i h.end) = subst IsDerEncoding (sym same.octets) s.der in
         record {
-          whole = der_whole (slice_range x i h.end) h.class h.constructed h.tag (slice_range x h.start h.end) (h.start - i)
+          whole = der_whole (slice_range x i h.end) h.class h.constructed h.tag (slice_range x h.start h.end)
+              (h.start - i)
               (omega (arith, size, small, within, f.ends_within)) f.encoding der;
           behind = subst AreDer (sym same.rest) s.more;
         }
@@ -67,17 +70,21 @@ module _ (x : List ℕ) (small : length x < 2 ^ 64) (i e : ℕ) (within : e ≤ 
         let (items, ds) = a.behind in (
           slice_range x i h.end ∷ items,
           more_encodings join
-              (whole_der (slice_range x i h.end) h.class h.constructed h.tag (slice_range x h.start h.end) a.whole) ds,
+              (whole_der (slice_range x i h.end) h.class h.constructed h.tag (slice_range x h.start h.end)
+              a.whole) ds,
         )
 
-  -- none are where a header is at fault
-  pub none_at_fault : (fault : DecodeFault) → i < e → HeaderFault (i - i) (slice_range x i e) fault → AreDer (slice_range x i e) → ⊥
-  none_at_fault fault more w (items, ds) =
+  -- octets whose header is at fault are not DER
+  pub not_der_at_fault : (fault : DecodeFault) → i < e → HeaderFault (i - i) (slice_range x i e) fault
+      → AreDer (slice_range x i e) → ⊥
+  not_der_at_fault fault more w (items, ds) =
       let all_size : length (slice_range x i e) ≡ e - i = slice_length x i e (omega (arith, more)) within in
       let s = split_some (slice_range x i e) items (omega (arith, all_size, more)) ds in
-      let long : length s.first ≤ length x = omega (arith, all_size, within, ap length s.whole, length-append s.first s.rest) in
+      let long : length s.first ≤ length x =
+      omega (arith, all_size, within, ap length s.whole, length-append s.first s.rest) in
       let (c, k, n, v, g, p) = der_encoding s.first (omega (arith, long, small)) s.der in
-      header_no_encoding (i - i) (slice_range x i e) s.first s.rest fault c k n v g w (omega (arith, all_size, within, small)) s.whole p
+      header_no_encoding (i - i) (slice_range x i e) s.first s.rest fault c k n v g w
+      (omega (arith, all_size, within, small)) s.whole p
 
 -- ends one after another are no further than the last
 pub ends_within : (i : ℕ) (es : List ℕ) (n : ℕ) → AreEnds i es n → i ≤ n
@@ -127,7 +134,3 @@ passed x i e es h small within f primitive alone = (
     q.1,
   ),
 )
-
--- octets are DER where some are encodings of DER
-pub some_der : (x : List ℕ) → 0 < length x → AreDer x ↔ IsDer x
-some_der x some = (λ a. record { some = some; items = a.0; encodings = a.1 }, λ d. (d.items, d.encodings))

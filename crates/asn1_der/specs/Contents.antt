@@ -1,6 +1,5 @@
 -- Contents octets of primitive encodings of class Universal, as DER has them, by the tag number.
-use Rattle.std.specs.Prelude.{◌≡◌, ◌==◌, ◌&&◌, ◌||◌, ◌++◌, ℕ, ◌+◌, ◌*◌, ◌%◌, ◌^◌, nat_lt, Bool, true, false, not, MatchBool}
-use Rattle.std.specs.Prelude.{if◌then◌else◌, List, [], ◌∷◌, length, codes}
+use Rattle.std.specs.Prelude.{◌≡◌, ◌==◌, ◌&&◌, ◌||◌, ◌++◌, ℕ, ◌+◌, ◌*◌, ◌%◌, ◌^◌, nat_lt, Bool, true, false, not, MatchBool, if◌then◌else◌, List, [], ◌∷◌, length, codes}
 use Rattle.std.specs.Char.{is_ascii, is_ascii_digit}
 use Rattle.std.specs.List.{list_all, list_any}
 use Rattle.std.specs.Str.{byte, is_utf8}

@@ -1,6 +1,5 @@
 -- Contents octets with octets that they do not take.
-use Rattle.std.specs.Prelude.{◌==◌, ◌&&◌, ◌||◌, ℕ, ◌-◌, nat_lt, Bool, true, false, not, if◌then◌else◌}
-use Rattle.std.specs.Prelude.{List, [], ◌∷◌, get_or, length}
+use Rattle.std.specs.Prelude.{◌==◌, ◌&&◌, ◌||◌, ℕ, ◌-◌, nat_lt, Bool, true, false, not, if◌then◌else◌, List, [], ◌∷◌, get_or, length}
 use Rattle.std.specs.Str.{byte}
 use Rattle.asn1_numbers.specs.Octets.{digit}
 

@@ -1,6 +1,5 @@
 -- What is found step by step. Private contracts alone name these.
-use Rattle.std.specs.Prelude.{◌≡◌, ◌++◌, ◌≤◌, ℕ, Bool, true, false, List, [], ◌∷◌, slice_range}
-use Rattle.std.specs.Prelude.{◌==◌, ◌&&◌, ◌%◌, nat_lt, not, Option, None, Some}
+use Rattle.std.specs.Prelude.{◌≡◌, ◌++◌, ◌≤◌, ℕ, Bool, true, false, List, [], ◌∷◌, slice_range, ◌==◌, ◌&&◌, ◌%◌, nat_lt, not, Option, None, Some}
 use Rattle.asn1_headers.specs.Header.{IsIdentifier, IsLength, IsSomeIdentifier}
 use Rattle.asn1_der.specs.declared.order.Order.{Order}
 use Rattle.asn1_der.specs.declared.order.Order.TheVariants.{Tags, Octets}
@@ -11,7 +10,7 @@ use Rattle.asn1_der.specs.Der.{AreDerEncodings, HasLessTag, HasNoGreaterOctets, 
 abbrev pub AreDer : List ℕ → Type 0
 AreDer octets = (items : List (List ℕ)) × AreDerEncodings octets items
 
--- so from the index to the first end, and from each end to the next
+-- octets are DER from the index to the first end, and from each end to the next
 abbrev pub AreDerUpTo : List ℕ → ℕ → List ℕ → Type 0
 AreDerUpTo octets index [] = Unit {0}
 AreDerUpTo octets index (end ∷ ends) = AreDer (slice_range octets index end) × AreDerUpTo octets end ends
@@ -38,7 +37,7 @@ pub record IsFront (identifier octets : List ℕ) : Type 0 where
   pub is : IsSomeIdentifier identifier tag
   pub whole : octets ≡ identifier ++ rest
 
--- which encoding may stand before which
+-- whether an encoding may stand before another, by each order
 abbrev pub MayStandBefore : Order → List ℕ → List ℕ → Type 0
 MayStandBefore Tags = HasLessTag
 MayStandBefore Octets = HasNoGreaterOctets
@@ -48,7 +47,7 @@ abbrev pub MayFollow : (List ℕ → List ℕ → Type 0) → Option (List ℕ) 
 MayFollow May None next = Unit {0}
 MayFollow May (Some first) next = May first next
 
--- these behind another, if there is one
+-- encodings behind another, if there is one
 abbrev pub behind : Option (List ℕ) → List (List ℕ) → List (List ℕ)
 behind None items = items
 behind (Some first) items = first ∷ items

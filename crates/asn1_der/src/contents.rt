@@ -1,16 +1,9 @@
 // Contents octets of primitive encodings of class Universal.
-ghost use Rattle.std.specs.Prelude.{◌≡◌, ◌++◌, ◌↔◌, List, [], IsTrue, ℕ, codes, length};
+ghost use Rattle.std.specs.Prelude.{◌≡◌, ◌↔◌, [], IsTrue, codes};
 ghost use Rattle.std.specs.Char.{is_ascii};
 ghost use Rattle.std.specs.List.{list_all};
 ghost use Rattle.std.specs.Str.{is_utf8 as is_utf8_is};
-ghost use Rattle.asn1_leaves.specs.Contents.Text.{is_printable};
-ghost use Rattle.asn1_der.specs.Contents.{HasDerContents, HasDerTime, IsGeneralizedTime, IsMoment, IsUtcTime, IsWithinMoment};
-ghost use Rattle.asn1_der.specs.Contents.{are_bmp as are_bmp_is, are_of_time as are_of_time_is};
-ghost use Rattle.asn1_der.specs.Contents.{are_subidentifiers as are_subidentifiers_is};
-ghost use Rattle.asn1_der.specs.Contents.{are_universal as are_universal_is, has_der_octets as has_der_octets_is};
-ghost use Rattle.asn1_der.specs.Contents.{is_bit_string as is_bit_string_is, is_boolean as is_boolean_is};
-ghost use Rattle.asn1_der.specs.Contents.{is_integer as is_integer_is, is_iri as is_iri_is, is_numeric, is_visible};
-ghost use Rattle.asn1_der.specs.Contents.{is_of_time as is_of_time_is, is_scalar_value as is_scalar_value_is};
+ghost use Rattle.asn1_der.specs.Contents.{HasDerContents, HasDerTime, IsGeneralizedTime, IsMoment, IsUtcTime, IsWithinMoment, are_bmp as are_bmp_is, are_of_time as are_of_time_is, are_subidentifiers as are_subidentifiers_is, are_universal as are_universal_is, has_der_octets as has_der_octets_is, is_bit_string as is_bit_string_is, is_boolean as is_boolean_is, is_iri as is_iri_is, is_numeric, is_visible, is_of_time as is_of_time_is, is_scalar_value as is_scalar_value_is};
 
 use crate::padding::{has_padded_component, has_padded_fraction, is_padded_number, last_octet};
 use crate::real::is_real;

@@ -4,8 +4,7 @@ ghost use Rattle.asn1_headers.specs.declared.header.ASN1Class.TheVariants.{Unive
 ghost use Rattle.asn1_headers.specs.Header.{shortest_identifier, shortest_length};
 ghost use Rattle.asn1_blocks.specs.Places.{HeaderFound};
 ghost use Rattle.asn1_der.specs.Der.{IsRightAlone, is_constructed_type as is_constructed_type_is, is_reserved as is_reserved_is};
-ghost use Rattle.asn1_der.specs.Steps.{AreDer, IsDerAlone, IsHeaderOf, IsWhole};
-ghost use Rattle.asn1_der.specs.Steps.{is_short as is_short_is};
+ghost use Rattle.asn1_der.specs.Steps.{AreDer, IsDerAlone, IsHeaderOf, IsWhole, is_short as is_short_is};
 
 use crate::contents::has_der_contents;
 use crate::order::is_in_order;

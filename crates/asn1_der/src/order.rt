@@ -5,8 +5,7 @@ ghost use Rattle.asn1_numbers.specs.Base128.{IsBase128, shortest_base128};
 ghost use Rattle.asn1_headers.specs.declared.header.ASN1Class.{ASN1Class};
 ghost use Rattle.asn1_headers.specs.Header.{IsIdentifier};
 ghost use Rattle.asn1_blocks.specs.Places.{IsEncoding};
-ghost use Rattle.asn1_der.specs.Der.{AreDerEncodings, Ascend, HasLessTag, IsInOrder};
-ghost use Rattle.asn1_der.specs.Der.{is_less_tag, is_not_greater as is_not_greater_is};
+ghost use Rattle.asn1_der.specs.Der.{AreDerEncodings, Ascend, HasLessTag, IsInOrder, is_less_tag, is_not_greater as is_not_greater_is};
 ghost use Rattle.asn1_der.specs.Steps.{IsFront, MayFollow, MayStandBefore, behind};
 
 use asn1_blocks::encoding::encoding_at;

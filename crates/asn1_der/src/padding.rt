@@ -1,8 +1,6 @@
 // Contents octets with octets that they do not take.
 ghost use Rattle.std.specs.Prelude.{◌≡◌};
-ghost use Rattle.asn1_der.specs.Padding.{has_padded_component as has_padded_component_is};
-ghost use Rattle.asn1_der.specs.Padding.{has_padded_fraction as has_padded_fraction_is};
-ghost use Rattle.asn1_der.specs.Padding.{is_padded_number as is_padded_number_is, last_octet as last_octet_is};
+ghost use Rattle.asn1_der.specs.Padding.{has_padded_component as has_padded_component_is, has_padded_fraction as has_padded_fraction_is, is_padded_number as is_padded_number_is, last_octet as last_octet_is};
 
 // Where the point of a GeneralizedTime stands that has a fraction of a second.
 const POINT: usize = 14;

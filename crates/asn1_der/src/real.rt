@@ -2,12 +2,7 @@
 ghost use Rattle.std.specs.Prelude.{◌≡◌, ◌≤◌, ◌∷◌, length};
 ghost use Rattle.std.specs.Char.{is_ascii_digit};
 ghost use Rattle.std.specs.List.{list_all};
-ghost use Rattle.asn1_der.specs.Real.{behind_minus as behind_minus_is, digit_count as digit_count_is};
-ghost use Rattle.asn1_der.specs.Real.{ends_in_exponent as ends_in_exponent_is, is_binary as is_binary_is};
-ghost use Rattle.asn1_der.specs.Real.{is_decimal as is_decimal_is, is_decimal_exponent as is_decimal_exponent_is};
-ghost use Rattle.asn1_der.specs.Real.{is_decimal_mantissa as is_decimal_mantissa_is};
-ghost use Rattle.asn1_der.specs.Real.{is_odd_mantissa as is_odd_mantissa_is, is_real as is_real_is};
-ghost use Rattle.asn1_der.specs.Real.{is_scaled as is_scaled_is, is_unpadded as is_unpadded_is};
+ghost use Rattle.asn1_der.specs.Real.{behind_minus as behind_minus_is, digit_count as digit_count_is, ends_in_exponent as ends_in_exponent_is, is_binary as is_binary_is, is_decimal as is_decimal_is, is_decimal_exponent as is_decimal_exponent_is, is_decimal_mantissa as is_decimal_mantissa_is, is_odd_mantissa as is_odd_mantissa_is, is_real as is_real_is, is_scaled as is_scaled_is, is_unpadded as is_unpadded_is};
 
 use crate::padding::{is_padded_number, last_octet};
 
@@ -21,7 +16,7 @@ pub fn is_real(contents: &[u8]) -> bool
     }
 }
 
-// The same by the first octet and those behind it.
+// Whether contents octets of a REAL are DER, by the first octet and those behind it.
 fn is_encoded(first: u8, octets: &[u8]) -> bool
     ensures { result ≡ is_real_is (first ∷ octets.now) }
 {

@@ -1,3 +1,4 @@
+-- For `contents::are_bmp`: what each turn of its loop keeps and what grows less, so that it ends.
 use Rattle.std.proofs.Common.{◌≡◌, length}
 use Rattle.asn1_der.specs.Contents.{are_bmp}
 use Rattle.asn1_der.proofs.contents.are_bmp.Given as goal

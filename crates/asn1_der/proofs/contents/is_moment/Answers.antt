@@ -1,3 +1,4 @@
+-- For `contents::is_moment`: what it returns is right.
 use Rattle.std.proofs.Common.{refl}
 use Rattle.asn1_leaves.specs.Contents.Moment.{moment_of}
 use Rattle.asn1_der.specs.Contents.{IsMoment}

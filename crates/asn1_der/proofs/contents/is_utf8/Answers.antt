@@ -1,3 +1,4 @@
+-- For `contents::is_utf8`: what it returns is right.
 use Rattle.std.proofs.Common.{◌≡◌, Bool, false, refl, sym, true}
 use Rattle.std.proofs.lemmas.Str.{IsUtf8-from_is_utf8, is_utf8-from_IsUtf8}
 use Rattle.std.specs.Str.{is_utf8}

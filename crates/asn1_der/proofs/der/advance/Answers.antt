@@ -1,3 +1,4 @@
+-- For `der::advance`: what it returns is right and `is_der_alone` may be called.
 use Rattle.std.proofs.Common.{◌≡◌, ◌<◌, ◌^◌, ◌++◌, [], ◌∷◌, ap, arith, false, length, length-append, reverse, subst, sym, true}
 use Rattle.asn1_der.specs.Steps.{AreDerUpTo, AreEnds}
 use Rattle.asn1_der.proofs.Turns.{ahead, ends_within, opened, passed, turned}
@@ -38,7 +39,15 @@ returns-in_ok-push c =
         λ p. let q = both.0 p in (q.0, subst (λ z. AreDerUpTo x h.end z) (sym round) q.1),
         λ q. both.1 (q.0, subst (λ z. AreDerUpTo x h.end z) round q.1),
       );
-      fewer = omega (arith, ap length pushed, length-append w.outer.items (w.end ∷ []), f.starts_after, f.order, f.ends_within, within);
+      fewer = omega (
+        arith,
+        ap length pushed,
+        length-append w.outer.items (w.end ∷ []),
+        f.starts_after,
+        f.order,
+        f.ends_within,
+        within,
+      );
     }
 
 pub returns-else-header : goal.returns-else-header

@@ -1,3 +1,4 @@
+-- For `der::close`: what it returns is right.
 use Rattle.std.proofs.Common.{◌≡◌, ◌++◌, [], ◌∷◌, ap, arith, length, length-append, reverse, subst, sym}
 use Rattle.std.proofs.lemmas.Grind.{common_steps}
 use Rattle.asn1_der.specs.Steps.{AreDerUpTo, AreEnds}

@@ -1,3 +1,4 @@
+-- For `der::is_der`: what each turn of its loop keeps and what grows less, so that it ends.
 use Rattle.std.specs.Prelude.{◌↔◌}
 use Rattle.asn1_der.specs.Steps.{AreDer}
 use Rattle.asn1_der.specs.Turns.{IsLeftDer, IsPlaced, left}

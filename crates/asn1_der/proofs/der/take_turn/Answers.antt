@@ -1,5 +1,6 @@
+-- For `der::take_turn`: what it returns is right and `header_within` may be called.
 use Rattle.std.proofs.Common.{◌≡◌, ◌≢◌, ◌<◌, ◌^◌, arith, false, inl, inr, length, reverse, true}
-use Rattle.asn1_der.proofs.Turns.{ends_within, none_at_fault}
+use Rattle.asn1_der.proofs.Turns.{ends_within, not_der_at_fault}
 use Rattle.asn1_der.proofs.der.take_turn.Goals as goal
 
 pub header_within-requires-clause-more : goal.header_within-requires-clause-more
@@ -24,5 +25,5 @@ returns-else-is_out_of_memory c p =
       | inl memory ↦ let is : c.is_out_of_memory.result ≡ true = c.is_out_of_memory.ensures.1 memory in
           let not : c.is_out_of_memory.result ≡ false = c.if-is_out_of_memory.false in
           absurd cc
-      | inr fault ↦ none_at_fault x small w.index w.end within _ (omega (arith, c.requires.0, other)) fault p.0
+      | inr fault ↦ not_der_at_fault x small w.index w.end within _ (omega (arith, c.requires.0, other)) fault p.0
     ]

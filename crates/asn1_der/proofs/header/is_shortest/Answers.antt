@@ -1,3 +1,4 @@
+-- For `header::is_shortest`: what it returns is right.
 use Rattle.std.proofs.Common.{◌-◌, ◌∙◌, refl, sym}
 use Rattle.asn1_der.proofs.Shortest.{short_front}
 use Rattle.asn1_der.proofs.header.is_shortest.Goals as goal

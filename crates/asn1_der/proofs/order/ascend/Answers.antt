@@ -1,6 +1,7 @@
+-- For `order::ascend`: its loop keeps its invariant and what it returns is right.
 use Rattle.std.proofs.Common.{◌≡◌, ap, drop, refl, ◌∙◌, false}
 use Rattle.std.specs.Prelude.{option_map}
-use Rattle.asn1_der.proofs.Orders.{behind_all, behind_encoding, left_more, left_never, left_none}
+use Rattle.asn1_der.proofs.Orders.{is_encoding_behind, behind_encoding, left_more, not_ascending, ascending}
 use Rattle.asn1_der.proofs.order.ascend.Goals as goal
 
 pub loop-encoding-preserved : goal.loop-encoding-preserved
@@ -13,7 +14,9 @@ loop-encoding-preserved c items all whole =
     let found = c.in-Some.ensures.found in
     let split = behind_encoding rest part after found (c.split_at.ensures.back ∙ ap (λ m. drop m rest) c.min.ensures) in
     let left = c.loop-encoding.invariant items all whole in
-    let may = (c.may_follow.ensures (behind_all order items before rest part left found.encoding)).0 c.if-not-may_follow.false in
+    let may =
+    (c.may_follow.ensures (is_encoding_behind order items before rest part left found.encoding)).0
+    c.if-not-may_follow.false in
     left_more order items before rest part after left found.encoding split may
 
 pub returns-then-not-may_follow : goal.returns-then-not-may_follow
@@ -27,13 +30,14 @@ returns-then-not-may_follow c items all whole = (
       let found = c.in-Some.ensures.found in
       let left = c.loop-encoding.invariant items all whole in
       let no : c.may_follow.result ≡ false = c.if-not-may_follow.true in
-      let may = c.may_follow.ensures (behind_all order items before rest part left found.encoding) in
-      absurd (left_never order items before rest part found.rest left found.encoding found.at_offset (λ m. let is = may.1 m in absurd cc) ascend),
+      let may = c.may_follow.ensures (is_encoding_behind order items before rest part left found.encoding) in
+      absurd (not_ascending order items before rest part found.rest left found.encoding found.at_offset
+      (λ m. let is = may.1 m in absurd cc) ascend),
 )
 
 pub returns : goal.returns
 returns c items all whole = (
-  λ t. left_none c.args.order items (option_map (λ b. b.now) c.loop-encoding.before) c.loop-encoding.rest.now
+  λ t. ascending c.args.order items (option_map (λ b. b.now) c.loop-encoding.before) c.loop-encoding.rest.now
       (c.loop-encoding.invariant items all whole) c.in_default.ensures.none,
   λ ascend. refl,
 )

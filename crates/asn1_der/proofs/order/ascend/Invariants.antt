@@ -1,3 +1,4 @@
+-- For `order::ascend`: what each turn of its loop keeps and what grows less, so that it ends.
 use Rattle.std.proofs.Common.{◌≡◌, ℕ, List, length}
 use Rattle.std.specs.Prelude.{option_map}
 use Rattle.std.specs.List.{All, concat}

@@ -1,3 +1,4 @@
+-- For `order::is_in_order`: what it returns is right.
 use Rattle.std.proofs.Common.{◌≡◌, ◌<◌, ◌^◌, arith, false, inl, inr, length}
 use Rattle.asn1_der.proofs.Orders.{are_items}
 use Rattle.asn1_der.proofs.order.is_in_order.Goals as goal

@@ -1,14 +1,17 @@
-use Rattle.asn1_der.proofs.Tags.{compared, less_is, less_is_not}
+-- For `order::is_less_number`: what it returns is right.
+use Rattle.asn1_der.proofs.Tags.{compared, is_less_number-Less, is_less_number-not_Less}
 use Rattle.asn1_der.proofs.order.is_less_number.Goals as goal
 
 pub returns-in-Less : goal.returns-in-Less
 returns-in-Less c m n first next =
-    less_is m n c.then-order.result
-    (compared m n c.args.first.now c.args.next.now c.cmp.result c.cmp-2.result c.then-order.result first next c.cmp.ensures c.cmp-2.ensures
+    is_less_number-Less m n c.then-order.result
+    (compared m n c.args.first.now c.args.next.now c.cmp.result c.cmp-2.result c.then-order.result first next
+    c.cmp.ensures c.cmp-2.ensures
     c.then-order.ensures) c.in-Less.is
 
 pub returns-in_default : goal.returns-in_default
 returns-in_default c m n first next =
-    less_is_not m n c.then-order.result
-    (compared m n c.args.first.now c.args.next.now c.cmp.result c.cmp-2.result c.then-order.result first next c.cmp.ensures c.cmp-2.ensures
+    is_less_number-not_Less m n c.then-order.result
+    (compared m n c.args.first.now c.args.next.now c.cmp.result c.cmp-2.result c.then-order.result first next
+    c.cmp.ensures c.cmp-2.ensures
     c.then-order.ensures) c.in_default.not-Less

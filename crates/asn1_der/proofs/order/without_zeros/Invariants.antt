@@ -1,3 +1,4 @@
+-- For `order::without_zeros`: what each turn of its loop keeps and what grows less, so that it ends.
 use Rattle.std.proofs.Common.{ℕ, length}
 use Rattle.asn1_numbers.specs.Base128.{IsBase128}
 use Rattle.asn1_numbers.specs.Octets.{AreOctets}

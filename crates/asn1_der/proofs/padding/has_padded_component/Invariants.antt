@@ -1,3 +1,4 @@
+-- For `padding::has_padded_component`: what each turn of its loop keeps.
 use Rattle.std.proofs.Common.{◌≡◌, drop}
 use Rattle.asn1_der.specs.Padding.{has_padded_component, is_padded_from}
 use Rattle.asn1_der.proofs.padding.has_padded_component.Given as goal

@@ -1,8 +1,9 @@
+-- For `real::digit_count`: what each turn of its loop keeps.
 use Rattle.std.proofs.Common.{◌≡◌, ◌+◌, drop}
 use Rattle.asn1_der.specs.Real.{digit_count}
 use Rattle.asn1_der.proofs.real.digit_count.Given as goal
 
--- so many digits were passed, and those that are left come to them
+-- For `real::digit_count`: the digits that were passed are counted, and those that are left come to them.
 abbrev pub invariant-loop-c : goal.invariant-loop-c
 invariant-loop-c l = record {
   passed : l.count ≡ l.c-index;
