@@ -158,8 +158,8 @@ fn read_within(alloc: Global, octets: &[u8], blocks: &mut [Block]) -> Outcome
 /// Reads a document in canonical form (X.690 10, 11) into records, as [`simple_asn1_read`] does. For another document
 /// it returns `NOT_CANONICAL`, with the offset of the first top-level block that is not in its canonical octets.
 ///
-/// A document of more than 8,192 octets is read twice, unless there is room for half as many records as octets. One that
-/// a quick look does not find to be canonical takes memory for its blocks.
+/// A document of more than 8,192 octets is read twice, unless there is room for half as many records as octets. One
+/// that a quick look does not find to be canonical takes memory for its blocks.
 #[unsafe(no_mangle)]
 pub extern "C" fn simple_asn1_read_strict(
     alloc: Global,
