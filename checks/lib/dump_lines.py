@@ -101,6 +101,8 @@ BLOCKS = ("01 01 FF", "02 01 05", "03 02 04 B0", "04 02 0A BC", "05 00", "06 02 
           "06 03 55 04 03", "22 00", "1F 1F 04 31 39 38 35", "1F 25 01 31")
 MISSING = object()
 MEMBERS = ("offset", "header", "size", "depth", "class", "constructed", "tag", "type", "value")
+PADDED = {"rule": "PaddedInteger", "section": "8.3.2", "text": "number not in the fewest bytes"}
+INDEFINITE = {"rule": "IndefiniteLength", "section": "10.1", "text": "indefinite length"}
 REFUSED = [
     *(((3, name), MISSING) for name in MEMBERS),
     ((3, "other"), 1),
@@ -117,9 +119,10 @@ REFUSED = [
     ((9, "value"), "2050-11-23T00:43:05Z"), ((9, "value"), "2026-11-23 00:43:05"),
     ((10, "value"), "2026-11-23T00:43:05.50Z"), ((11, "constructed"), False), ((11, "value"), "0500"),
     ((13, "value"), "5"), ((13, "value"), 1.5), ((14, "value"), 1), ((14, "value"), None), ((15, "not_der"), None),
-    ((15, "not_der"), ["padded"]), ((15, "not_der"), "indefinite length"),
+    ((15, "not_der"), ["padded"]), ((15, "not_der"), [INDEFINITE]),
+    ((15, "not_der"), []), ((15, "not_der"), "padded"), ((15, "not_der", 0, "section"), MISSING),
     ((16, "value"), "4"), ((16, "value"), 41), ((16, "type"), None), ((16, "shown"), "A"), ((16, "name"), "A"),
-    ((19, "not_der"), MISSING), ((19, "not_der"), "padded"), ((19, "size"), 4), ((19, "constructed"), False),
+    ((19, "not_der"), MISSING), ((19, "not_der"), [PADDED]), ((19, "size"), 4), ((19, "constructed"), False),
     ((19, "value"), ""), ((19, "fault"), {"offset": 0, "text": ""}),
     ((20, "header"), 0), ((20, "header"), 3), ((20, "size"), 3), ((20, "size"), None), ((20, "value"), 0),
     ((20, "not_der"), "padded"), ((20, "type"), "NULL"),
@@ -141,20 +144,20 @@ REFUSED_FAULTS = [
     *(((row, "fault", "code"), MISSING) for row in (1, 4, 5, 6, 7)),
     *(((row, "blocks"), [{}]) for row in (1, 2, 4, 5, 6, 7)),
     ((1, "value"), True), ((1, "value"), None), ((1, "shown"), "00ff"), ((1, "constructed"), True),
-    ((2, "value"), ""), ((2, "constructed"), True), ((2, "not_der"), MISSING), ((2, "not_der"), "padded"),
+    ((2, "value"), ""), ((2, "constructed"), True), ((2, "not_der"), MISSING), ((2, "not_der"), [PADDED]),
     ((4, "value"), ""), ((4, "value"), None), ((4, "header"), 1), ((4, "size"), 0), ((4, "size"), None),
     ((4, "class"), "universal"), ((4, "constructed"), False), ((4, "tag"), 5), ((4, "type"), "NULL"),
-    ((4, "not_der"), "padded"),
+    ((4, "not_der"), [PADDED]),
     ((5, "value"), "040341"), ((5, "shown"), MISSING), ((5, "shown"), "truncated"), ((5, "size"), None),
     ((6, "value"), None), ((6, "value"), "4"), ((6, "shown"), MISSING),
     ((7, "size"), 2), ((7, "header"), 1), ((7, "tag"), 1), ((7, "type"), None), ((7, "value"), ""),
-    ((7, "constructed"), True), ((7, "class"), "private"), ((7, "not_der"), "padded"),
+    ((7, "constructed"), True), ((7, "class"), "private"), ((7, "not_der"), [PADDED]),
 ]
 REFUSED_LINES = [
     {}, [], None, {"blocks": []}, {"blocks": {}}, {"file": "a"}, {"fault": {}}, {"fault": ""}, {"fault": {"offset": 1}},
     {"fault": {"text": 1}}, {"fault": {"text": "", "offset": "1"}}, {"fault": {"text": "", "other": 1}},
-    {"not_der": []}, {"not_der": "padded"}, {"not_der": [{"offset": 1}]}, {"not_der": [{"text": ""}]},
-    {"not_der": [{"offset": -1, "text": ""}]}, {"fault": {"text": ""}, "not_der": [{"offset": 1, "text": ""}]},
+    {"not_der": []}, {"not_der": "padded"}, {"not_der": [{"offset": 1}]}, {"not_der": [PADDED]},
+    {"not_der": [PADDED | {"offset": -1}]}, {"fault": {"text": ""}, "not_der": [PADDED | {"offset": 1}]},
     {"fault": {"text": ""}, "file": None}, {"fault": {"text": ""}, "label": 1}, {"fault": {"text": ""}, "other": 1},
 ]
 
@@ -251,7 +254,8 @@ def is_of_line(row, inside, line):
         return False
     mark, offset, header, contents, spaces, words = found.groups()
     numbers = (str(row["offset"]), str(row["header"]), contents_size(row), 2 * min(row["depth"], MOST_LEVELS))
-    start, end = words_of(row), f" (not DER: {row['not_der']})" if "not_der" in row else ""
+    told = ", ".join(it["text"] for it in row.get("not_der", []))
+    start, end = words_of(row), f" (not DER: {told})" if told else ""
     return (
         (mark == ">") == inside and (offset, header, contents, len(spaces)) == numbers
         and words.startswith(start) and words[len(start):len(start) + 1] in ("", " ", ":", ",")

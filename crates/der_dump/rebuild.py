@@ -46,8 +46,8 @@ REALS = {"0": b"", "PLUS-INFINITY": b"\x40", "MINUS-INFINITY": b"\x41", "NOT-A-N
 # where the marks of DATE, TIME-OF-DAY, DATE-TIME and DURATION stand, by their tags
 MARKS = {31: (4, 7), 32: (2, 5), 33: (4, 7, 10, 13, 16), 34: (0,)}
 IRIS = {35, 36}
-# what `not_der` says of blocks whose bytes the other members do not tell
-LOST = "true must be FF"
+# the rule in `not_der` of blocks whose bytes the other members do not tell
+LOST = "BooleanValue"
 INDEFINITE = b"\x80"
 END = b"\x00\x00"
 
@@ -206,8 +206,9 @@ def checked_header(row):
     """The identifier and length octets, if the row tells its block."""
     if "fault" in row:
         raise Different(row, row["fault"]["text"])
-    if LOST in row.get("not_der", ""):
-        raise Different(row, f"not DER: {row['not_der']}")
+    for broken in row.get("not_der", []):
+        if broken["rule"] == LOST:
+            raise Different(row, f"not DER: {broken['text']}")
     header = header_of(row)
     if len(header) != row["header"]:
         raise Different(row, f"the header has {row['header']} bytes, the shortest has {len(header)}")

@@ -2,6 +2,7 @@
 -- indefinite one (8.1.3.6), whose contents octets are followed to their end-of-contents octets 00 00 (8.1.5).
 use Rattle.std.specs.Prelude.{◌≡◌, ◌≢◌, ◌==◌, ◌&&◌, ◌⊎◌, ◌++◌, ℕ, suc, ◌+◌, ◌<◌, Bool, true, false, not, if◌then◌else◌, MatchBool}
 use Rattle.std.specs.Prelude.{Option, None, Some, List, [], ◌∷◌, length}
+use Rattle.std.specs.Option.{option_to_list}
 use Rattle.asn1_headers.specs.declared.header.ASN1Class.{ASN1Class}
 use Rattle.asn1_headers.specs.declared.header.ASN1Class.TheVariants.{Universal}
 use Rattle.asn1_headers.specs.Fault.{DecodeFault, empty_buffer, incomplete}
@@ -79,6 +80,21 @@ pub record OwnRules (identifier len : List ℕ) (class : ASN1Class) (constructed
       Found (identifier ≡ shortest_identifier class constructed tag) (identifier_rule tag) of_identifier
   pub length_found : LengthFound len (length contents) of_length
   pub type_found : TypeFound (is_indefinite len) class constructed tag contents of_type
+
+-- of the contents octets of a constructed encoding of the definite form: they are encodings (8.1.2.5)
+abbrev pub ItemsFound : Bool → List ℕ → List ℕ → Option Rule → Type 0
+ItemsFound constructed len contents found =
+    MatchBool (is_looked_into constructed len) (Found (AreEncodings 0 contents) NotEncodings found) (found ≡ None)
+
+-- all that an encoding breaks, without what encodings inside it break
+pub record AreBroken (identifier len : List ℕ) (class : ASN1Class) (constructed : Bool) (tag : ℕ) (contents : List ℕ)
+    (rules : List Rule) : Type 0 where
+  pub own : OwnRules identifier len class constructed tag contents
+  pub of_items : Option Rule
+  pub items_found : ItemsFound constructed len contents of_items
+  pub rules_are : rules ≡
+      option_to_list own.of_identifier ++ (option_to_list own.of_length
+      ++ (option_to_list own.of_type ++ option_to_list of_items))
 
 abbrev pub listed : ℕ → Option Rule → List Departure
 listed offset None = []

@@ -15,7 +15,7 @@ use asn1_headers::header::{HeaderCount, identifier_at};
 use std::alloc::Global;
 
 // Identifier octets at the front, and what is behind them; nothing where there are none.
-fn split_identifier(octets: &[u8]) -> (&[u8], &[u8])
+pub fn split_identifier(octets: &[u8]) -> (&[u8], &[u8])
     ensures { (identifier behind : List ℕ) (tag : ℕ) → IsSomeIdentifier identifier tag →
         octets.now ≡ identifier ++ behind → (result.0.now ≡ identifier) × (result.1.now ≡ behind) }
 {

@@ -2,6 +2,7 @@
 //!
 //! [`departures`] lists them in the order of their offsets, in a loop over the headers. `specs/Departures` says what
 //! the list has, by `Rules`, which has the clauses of the standard and the rule that each encoding breaks.
+//! [`broken_rules`] is for a caller that goes over the headers itself: what one encoding breaks.
 #![tactic(auto)]
 
 mod encodings;
@@ -9,7 +10,9 @@ mod laws;
 mod listing;
 mod own;
 mod rule;
+mod single;
 
 pub use laws::law_departures;
 pub use listing::departures;
 pub use rule::{Departure, Rule};
+pub use single::broken_rules;

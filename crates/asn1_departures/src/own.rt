@@ -56,7 +56,7 @@ fn push_rule(
     Ok(())
 }
 
-fn identifier_found(identifier: &[u8], header: &PlacedHeader) -> Option<Rule>
+pub fn identifier_found(identifier: &[u8], header: &PlacedHeader) -> Option<Rule>
     ensures { Found (identifier.now ≡ shortest_identifier header.now.class header.now.constructed header.now.tag)
         (identifier_rule header.now.tag) result }
 {
@@ -101,7 +101,7 @@ fn is_shortest_identifier(identifier: &[u8], header: &PlacedHeader) -> bool
     comparison.same
 }
 
-fn length_found(len: &[u8], size: usize) -> Option<Rule>
+pub fn length_found(len: &[u8], size: usize) -> Option<Rule>
     ensures { LengthFound len.now size result }
 {
     if is_indefinite(len) {
@@ -129,7 +129,7 @@ fn is_shortest_length(len: &[u8], size: usize) -> bool
     comparison.same
 }
 
-fn type_found(
+pub fn type_found(
     alloc: Global,
     indefinite: bool,
     header: &PlacedHeader,

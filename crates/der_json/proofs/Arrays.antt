@@ -3,9 +3,9 @@ use Rattle.std.proofs.Common.{◌≡◌, ◌+◌, ◌<◌, ℕ, List, [], ◌∷
 use Rattle.std.proofs.lemmas.List.{append_assoc, append-nil, map-append, take_more}
 use Rattle.serde_json.specs.Written.{comma_if, compact_text, items_text}
 use Rattle.serde_json.specs.Data.{Data}
-use Rattle.der_json.specs.Json.{fault_json, fault_told, items_of}
-use Rattle.der_json.specs.declared.fault.Fault.{Fault}
-use Rattle.der_json.specs.Rows.{are_some, texts}
+use Rattle.der_json.specs.Json.{items_of}
+use Rattle.der_json.specs.Rows.{texts}
+use Rattle.der_lines.specs.Marks.{are_some}
 
 module _ {A : Type 0} (json : A → Data) where
   -- one more, behind others
@@ -61,20 +61,39 @@ pub joined : (out x y z a b c : List ℕ) → a ≡ out ++ x → b ≡ a ++ y �
 joined out x y z a b c d e f =
     f ∙ (ap (λ v. v ++ z) (e ∙ ap (λ v. v ++ y) d) ∙ (append_assoc (out ++ x) y z ∙ append_assoc out x (y ++ z)))
 
--- one fault more was put of those at an index
-pub one_fault :
-    (faults : List Fault) (i : ℕ) (x : Fault) (later : Bool) (before middle comma after : List ℕ) → i < length faults →
-    x ≡ get_or faults i x → later ≡ are_some (map fault_told (take i faults)) →
-    middle ≡ before ++ texts fault_json false (map fault_told (take i faults)) → comma ≡ middle ++ comma_if later →
-    after ≡ comma ++ compact_text (fault_json (fault_told x)) →
-    (true ≡ are_some (map fault_told (take (i + 1) faults)))
-    × (after ≡ before ++ texts fault_json false (map fault_told (take (i + 1) faults)))
-one_fault faults i x later before middle comma after within is some m c e =
-    let told = map fault_told (take i faults) in
-    let more : map fault_told (take (i + 1) faults) ≡ told ++ fault_told x ∷ [] =
-    ap (map fault_told) (take_more faults i x within ∙ ap (λ z. take i faults ++ z ∷ []) (sym is))
-    ∙ map-append fault_told (take i faults) (x ∷ []) in (
-      some_more told (fault_told x) ∙ ap are_some (sym more),
-      one_text fault_json told (fault_told x) later before middle comma after some m c e
-          ∙ ap (λ z. before ++ texts fault_json false z) (sym more),
+-- one more was put of those at an index
+pub one_more :
+    {A B : Type 0} (json : B → Data) (told : A → B) (xs : List A) (i : ℕ) (x : A) (later : Bool)
+    (before middle comma after : List ℕ) → i < length xs →
+    x ≡ get_or xs i x → later ≡ are_some (map told (take i xs)) →
+    middle ≡ before ++ texts json false (map told (take i xs)) → comma ≡ middle ++ comma_if later →
+    after ≡ comma ++ compact_text (json (told x)) →
+    (true ≡ are_some (map told (take (i + 1) xs)))
+    × (after ≡ before ++ texts json false (map told (take (i + 1) xs)))
+one_more json told xs i x later before middle comma after within is some m c e =
+    let told_before = map told (take i xs) in
+    let more : map told (take (i + 1) xs) ≡ told_before ++ told x ∷ [] =
+    ap (map told) (take_more xs i x within ∙ ap (λ z. take i xs ++ z ∷ []) (sym is))
+    ∙ map-append told (take i xs) (x ∷ []) in (
+      some_more told_before (told x) ∙ ap are_some (sym more),
+      one_text json told_before (told x) later before middle comma after some m c e
+          ∙ ap (λ z. before ++ texts json false z) (sym more),
+    )
+
+-- so of one that is read at the index
+pub one_read :
+    {A B : Type 0} (json : B → Data) (told : A → B) (xs : List A) (i : ℕ) (d : A) (later : Bool)
+    (before middle comma after : List ℕ) → i < length xs → later ≡ are_some (map told (take i xs)) →
+    middle ≡ before ++ texts json false (map told (take i xs)) → comma ≡ middle ++ comma_if later →
+    after ≡ comma ++ compact_text (json (told (get_or xs i d))) →
+    (true ≡ are_some (map told (take (i + 1) xs)))
+    × (after ≡ before ++ texts json false (map told (take (i + 1) xs)))
+one_read json told xs i d later before middle comma after within some m c e =
+    let told_before = map told (take i xs) in
+    let x = get_or xs i d in
+    let more : map told (take (i + 1) xs) ≡ told_before ++ told x ∷ [] =
+    ap (map told) (take_more xs i d within) ∙ map-append told (take i xs) (x ∷ []) in (
+      some_more told_before (told x) ∙ ap are_some (sym more),
+      one_text json told_before (told x) later before middle comma after some m c e
+          ∙ ap (λ z. before ++ texts json false z) (sym more),
     )

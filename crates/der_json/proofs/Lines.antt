@@ -1,15 +1,15 @@
 -- The text of an object, member by member.
-use Rattle.std.proofs.Common.{arith, length, map, true, ◌<◌, ◌==◌, ◌≡◌, ℕ, List, [], ◌∷◌, ◌++◌, ◌∙◌, false, codes, refl, sym, ap}
+use Rattle.std.proofs.Common.{arith, length, true, ◌<◌, ◌==◌, ◌≡◌, ℕ, List, [], ◌∷◌, ◌++◌, ◌∙◌, false, codes, refl, sym, ap}
 use Rattle.std.specs.Prelude.{Option, None, Some}
 use Rattle.std.proofs.lemmas.List.{append_assoc, nil_from_length}
 use Rattle.serde_json.proofs.OnLiterals.{serde_json_on_literals}
 use Rattle.serde_json.specs.Data.{Members, array, member, no_members, object, string}
 use Rattle.serde_json.specs.Written.{compact_text, has_float, items_text}
-use Rattle.der_json.specs.Json.{Row, ToldFault, fault_json, items_of, line_text, member_if, number_if, refusal_json}
+use Rattle.der_json.specs.Json.{Departed, Row, ToldFault, departed_json, fault_json, items_of, line_text, member_if, number_if, refusal_json}
 use Rattle.std.proofs.lemmas.Bool.Decides.{nat_tests}
-use Rattle.der_json.specs.Json.{fault_told, is_der, marks_text, row_json, rows_text}
-use Rattle.der_json.specs.declared.fault.Fault.{Fault}
-use Rattle.der_json.specs.Rows.{end_text, told_text}
+use Rattle.der_json.specs.Json.{is_der, marks_text, row_json, rows_text}
+use Rattle.der_json.specs.declared.rows.Departure.{Departure}
+use Rattle.der_json.specs.Rows.{end_text, told_marks, told_text}
 
 -- a text behind its name, and what follows it
 behind : (name text rest : List ℕ) → (name ++ text) ++ (rest ++ 10 ∷ []) ≡ (name ++ (text ++ rest)) ++ 10 ∷ []
@@ -50,13 +50,13 @@ document_line origin rows =
     ap (λ z. codes "{\"blocks\":[" ++ z)
     (sym (append_assoc (items_text false (items_of row_json rows)) (end_text origin) (10 ∷ [])))
 
-pub marks_line : (origin : Members) (marks : List ToldFault)
-    → codes "{\"not_der\":[" ++ (items_text false (items_of fault_json marks) ++ (end_text origin ++ 10 ∷ []))
-    ≡ compact_text (object (member (codes "not_der") (array (items_of fault_json marks)) origin)) ++ 10 ∷ []
+pub marks_line : (origin : Members) (marks : List Departed)
+    → codes "{\"not_der\":[" ++ (items_text false (items_of departed_json marks) ++ (end_text origin ++ 10 ∷ []))
+    ≡ compact_text (object (member (codes "not_der") (array (items_of departed_json marks)) origin)) ++ 10 ∷ []
 unfolding serde_json_on_literals
 marks_line origin marks =
     ap (λ z. codes "{\"not_der\":[" ++ z)
-    (sym (append_assoc (items_text false (items_of fault_json marks)) (end_text origin) (10 ∷ [])))
+    (sym (append_assoc (items_text false (items_of departed_json marks)) (end_text origin) (10 ∷ [])))
 
 pub refusal_line : (origin : Members) (fault : ToldFault)
     → codes "{\"fault\":" ++ (compact_text (fault_json fault) ++ (end_text origin ++ 10 ∷ []))
@@ -84,16 +84,16 @@ some_of n e = grind (arith, nat_tests)
 
 -- the line of marks, where there are none, and some
 pub no_marks :
-    (faults : List Fault) (origin : Members) → (length faults == 0) ≡ true →
-    (true ≡ is_der (map fault_told faults)) × (marks_text (map fault_told faults) origin ≡ [])
+    (faults : List Departure) (origin : Members) → (length faults == 0) ≡ true →
+    (true ≡ is_der (told_marks faults)) × (marks_text (told_marks faults) origin ≡ [])
 no_marks [] origin e = (refl, refl)
 no_marks (x ∷ xs) origin e = let none = none_of (length (x ∷ xs)) e in absurd (omega (arith, none))
 
 pub some_marks :
-    (faults : List Fault) (origin : Members) → (length faults == 0) ≡ false →
-    (false ≡ is_der (map fault_told faults))
-    × (marks_text (map fault_told faults) origin
-    ≡ line_text (object (member (codes "not_der") (array (items_of fault_json (map fault_told faults))) origin)))
+    (faults : List Departure) (origin : Members) → (length faults == 0) ≡ false →
+    (false ≡ is_der (told_marks faults))
+    × (marks_text (told_marks faults) origin
+    ≡ line_text (object (member (codes "not_der") (array (items_of departed_json (told_marks faults))) origin)))
 some_marks [] origin e = let some = some_of 0 e in absurd (omega (arith, some))
 some_marks (x ∷ xs) origin e = (refl, refl)
 

@@ -1,13 +1,14 @@
 -- The object of a row, member by member.
-use Rattle.std.proofs.Common.{◌≡◌, ℕ, List, [], ◌∷◌, ◌++◌, codes, false, refl, true, ap, ◌∙◌}
+use Rattle.std.proofs.Common.{◌≡◌, ◌<◌, ℕ, List, [], ◌∷◌, ◌++◌, arith, codes, false, length, refl, true, ap, ◌∙◌}
 use Rattle.std.proofs.lemmas.List.{append_assoc}
 use Rattle.serde_json.proofs.OnLiterals.{serde_json_on_literals}
 use Rattle.std.specs.Prelude.{Option, None, Some}
 use Rattle.serde_json.specs.Data.{Data, Items, Members, number, string, unsigned}
 use Rattle.serde_json.specs.View.{view}
-use Rattle.serde_json.specs.Written.{compact_text, items_text, members_text}
-use Rattle.der_json.specs.Json.{ToldFault, blocks_if, boolean_or_null, number_or_null, text_or_null, fault_if, member_if, row_json}
-use Rattle.der_json.specs.Rows.{blocks_text, fault_text, first_members, last_members, row_of, told_text}
+use Rattle.serde_json.specs.Written.{compact_text, has_float, items_text, members_text}
+use Rattle.der_lines.specs.Marks.{Told}
+use Rattle.der_json.specs.Json.{Departed, ToldFault, items_of, rule_json, blocks_if, boolean_or_null, number_or_null, text_or_null, fault_if, member_if, row_json, rules_if}
+use Rattle.der_json.specs.Rows.{blocks_text, fault_text, first_members, last_members, row_of, rules_text, told_text}
 use Rattle.der_json.specs.declared.object.Object.{Object}
 
 -- one text put after another
@@ -48,11 +49,11 @@ fault_end None others rest e = e
 fault_end (Some f) others rest e = ap (λ z. fault_text (Some f) ++ z) e
 
 not_der_end :
-    (words : Option (List ℕ)) (others : Members) (rest : List ℕ) → rest ≡ members_text true others →
-    told_text (codes ",\"not_der\":") words ++ rest ≡ members_text true (member_if (codes "not_der") words others)
+    (told : List Told) (others : Members) (rest : List ℕ) → rest ≡ members_text true others →
+    rules_text told ++ rest ≡ members_text true (rules_if told others)
 unfolding serde_json_on_literals
-not_der_end None others rest e = e
-not_der_end (Some t) others rest e = ap (λ z. (codes ",\"not_der\":" ++ compact_text (string t)) ++ z) e
+not_der_end [] others rest e = e
+not_der_end (t ∷ more) others rest e = ap (λ z. rules_text (t ∷ more) ++ z) e
 
 shown_end :
     (words : Option (List ℕ)) (others : Members) (rest : List ℕ) → rest ≡ members_text true others →
@@ -70,23 +71,23 @@ name_end (Some t) others rest e = ap (λ z. (codes ",\"name\":" ++ compact_text 
 
 -- the members that not every object has, and the closing bracket
 others_end :
-    (name shown words : Option (List ℕ)) (fault : Option ToldFault) (inside : Option Items) →
+    (name shown : Option (List ℕ)) (told : List Told) (fault : Option ToldFault) (inside : Option Items) →
     (told_text (codes ",\"name\":") name ++ (told_text (codes ",\"shown\":") shown
-    ++ (told_text (codes ",\"not_der\":") words ++ fault_text fault))) ++ (blocks_text inside ++ 125 ∷ [])
+    ++ (rules_text told ++ fault_text fault))) ++ (blocks_text inside ++ 125 ∷ [])
     ≡ members_text true (member_if (codes "name") name (member_if (codes "shown") shown
-    (member_if (codes "not_der") words (fault_if fault (blocks_if inside)))))
-others_end name shown words fault inside =
+    (rules_if told (fault_if fault (blocks_if inside)))))
+others_end name shown told fault inside =
     let end = blocks_text inside ++ 125 ∷ [] in
     let last = fault_end fault (blocks_if inside) end (blocks_end inside) in
-    let marked = not_der_end words (fault_if fault (blocks_if inside)) _ last in
-    let beside = shown_end shown (member_if (codes "not_der") words (fault_if fault (blocks_if inside))) _ marked in
+    let marked = not_der_end told (fault_if fault (blocks_if inside)) _ last in
+    let beside = shown_end shown (rules_if told (fault_if fault (blocks_if inside))) _ marked in
     let n = told_text (codes ",\"name\":") name in
     let s = told_text (codes ",\"shown\":") shown in
-    let d = told_text (codes ",\"not_der\":") words in
+    let d = rules_text told in
     let f = fault_text fault in
     joined_front n (s ++ (d ++ f)) end (s ++ (d ++ (f ++ end)))
     (joined_front s (d ++ f) end (d ++ (f ++ end)) (append_assoc d f end))
-    ∙ name_end name (member_if (codes "shown") shown (member_if (codes "not_der") words (fault_if fault (blocks_if inside)))) _ beside
+    ∙ name_end name (member_if (codes "shown") shown (rules_if told (fault_if fault (blocks_if inside)))) _ beside
 
 nine_front :
     (m0 m1 m2 m3 m4 m5 m6 m7 m8 rest : List ℕ) →
@@ -98,21 +99,21 @@ nine_front m0 m1 m2 m3 m4 m5 m6 m7 m8 rest =
 
 -- an object
 pub object_text :
-    (object : Object) (inside : Option Items) →
+    (object : Object) (inside : Option Items) (marks : List Departed) →
     first_members object ++ (last_members object ++ (blocks_text inside ++ 125 ∷ []))
-    ≡ compact_text (row_json (row_of object inside))
+    ≡ compact_text (row_json (row_of object inside marks))
 unfolding serde_json_on_literals
-object_text object inside =
+object_text object inside marks =
     let m0 = codes "{\"offset\":" ++ compact_text (number (unsigned object.offset)) in
     let m1 = codes ",\"header\":" ++ compact_text (number (unsigned object.header)) in
     let m2 = codes ",\"size\":" ++ compact_text (number_or_null object.size) in
     let m3 = codes ",\"depth\":" ++ compact_text (number (unsigned object.depth)) in
-    let m4 = codes ",\"class\":" ++ compact_text (text_or_null (row_of object inside).class) in
+    let m4 = codes ",\"class\":" ++ compact_text (text_or_null (row_of object inside marks).class) in
     let m5 = codes ",\"constructed\":" ++ compact_text (boolean_or_null object.tag.constructed) in
     let m6 = codes ",\"tag\":" ++ compact_text (view object.tag.number) in
-    let m7 = codes ",\"type\":" ++ compact_text (text_or_null (row_of object inside).kind) in
+    let m7 = codes ",\"type\":" ++ compact_text (text_or_null (row_of object inside marks).kind) in
     let m8 = codes ",\"value\":" ++ compact_text (view object.value) in
-    let row = row_of object inside in
+    let row = row_of object inside marks in
     nine_front m0 m1 m2 m3 m4 m5 m6 m7 m8 (last_members object ++ (blocks_text inside ++ 125 ∷ []))
     ∙ ap (λ z. m0 ++ (m1 ++ (m2 ++ (m3 ++ (m4 ++ (m5 ++ (m6 ++ (m7 ++ (m8 ++ z)))))))))
     (others_end row.name row.beside row.not_der row.fault inside)
@@ -123,3 +124,19 @@ pub blocks_put :
     b ≡ out ++ blocks_text (Some items)
 unfolding serde_json_on_literals
 blocks_put out a b items d e = put_after out (codes ",\"blocks\":[") (items_text false items) a b d e
+
+-- the member of the rules that are broken
+pub rules_put :
+    (out a b : List ℕ) (told : List Told) → 0 < length told → a ≡ out ++ codes ",\"not_der\":[" →
+    b ≡ a ++ items_text false (items_of rule_json told) → b ≡ out ++ rules_text told
+unfolding serde_json_on_literals
+rules_put out a b [] some d e = absurd (omega (arith, some))
+rules_put out a b (t ∷ more) some d e =
+    put_after out (codes ",\"not_der\":[") (items_text false (items_of rule_json (t ∷ more))) a b d e
+
+pub no_rules : (told : List Told) → length told ≡ 0 → rules_text told ≡ []
+no_rules [] e = refl
+no_rules (x ∷ told) e = absurd (omega (arith, e))
+
+pub rule_exact : (told : Told) → has_float (rule_json told) ≡ false
+rule_exact told = refl

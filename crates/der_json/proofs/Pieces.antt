@@ -34,7 +34,8 @@ use Rattle.der_json.specs.Json.{AreShown, IsJudged, IsOpenedValue, IsRowOf, cut_
 use Rattle.der_lines.specs.Segments.{AreSegmentsOf}
 use Rattle.der_json.specs.Json.{of_none, of_segments}
 use Rattle.der_json.specs.Json.{named_fault, of_encoding, of_end, of_stray_form, of_unreadable, with_contents, with_encodings}
-use Rattle.der_json.specs.Json.{with_no_value, with_value, words_fault}
+use Rattle.der_json.specs.Json.{Departed, with_no_value, with_value, words_fault}
+use Rattle.asn1_departures.specs.declared.rule.Rule.{Rule}
 use Rattle.der_json.specs.Rows.{IsHeaderTag, IsLeafValueOf, IsMeantValue, IsPieceValue, IsTagOf, kind_size}
 use Rattle.der_json.specs.Rows.{row_of, told_at, wrong_json}
 use Rattle.der_json.specs.declared.object.Object.{Object}
@@ -180,7 +181,7 @@ slice_size left a b l m =
     let t : length (take (b - a) (drop a left)) ≡ b - a = length-take-le (b - a) (drop a left) (omega (arith, d, m)) in
     omega (arith, t, l)
 
-module _ (left : List ℕ) (offset depth : ℕ) (marked : Bool) (object : Object) (inside : Option Items)
+module _ (left : List ℕ) (offset depth : ℕ) (rules : List Rule) (object : Object) (inside : Option Items) (marks : List Departed)
     (fault : Option PieceFault) (told_is : option_map fault_told object.fault ≡ option_map (told_at object.offset) fault) where
   -- an encoding with the header
   encoding_row :
@@ -188,10 +189,10 @@ module _ (left : List ℕ) (offset depth : ℕ) (marked : Bool) (object : Object
       object.size ≡ (if header.is_indefinite then None
       else Some (taken header.is_indefinite (header.size + header.announced) (length left))) →
       IsHeaderTag header object.tag →
-      IsJudged left (header_front offset depth marked header) object.offset header.class header.constructed header.tag
+      IsJudged left (header_front offset depth rules header) object.offset header.class header.constructed header.tag
       (is_stray_form header.constructed (drop (length h.identifier) left)) (view object.value)
       (option_map fault_told object.fault) →
-      IsRowOf left (header_front offset depth marked header) (row_of object inside)
+      IsRowOf left (header_front offset depth rules header) (row_of object inside marks)
   encoding_row header h size tag judged = of_encoding (record {
     class = header.class;
     constructed = header.constructed;
@@ -223,7 +224,7 @@ module _ (left : List ℕ) (offset depth : ℕ) (marked : Bool) (object : Object
       IsOpenedFault stray offset fault →
       MatchOption fault (IsOpenedValue header.class header.tag contents header.is_indefinite (view object.value))
       (λ _. view object.value ≡ null) →
-      IsJudged left (header_front offset depth marked header) object.offset header.class header.constructed header.tag
+      IsJudged left (header_front offset depth rules header) object.offset header.class header.constructed header.tag
       stray (view object.value) (option_map fault_told object.fault)
   opened_judged header stray contents o e (inl (is, there)) v =
       let (words, told) = told_nameless offset object.offset fault there in
@@ -264,7 +265,7 @@ module _ (left : List ℕ) (offset depth : ℕ) (marked : Bool) (object : Object
       contents ≡ slice_range left header.size (header.size + header.announced) →
       IsLeafMeaning left header (drop (length h.identifier) left) offset meaning fault →
       IsLeafValueOf header contents meaning fault (view object.value) →
-      IsJudged left (header_front offset depth marked header) object.offset header.class header.constructed header.tag
+      IsJudged left (header_front offset depth rules header) object.offset header.class header.constructed header.tag
       (is_stray_form header.constructed (drop (length h.identifier) left)) (view object.value)
       (option_map fault_told object.fault)
   leaf_judged header h contents meaning whole o e (inl (stray, nothing, there)) v =
@@ -282,7 +283,7 @@ module _ (left : List ℕ) (offset depth : ℕ) (marked : Bool) (object : Object
   pub row_is :
       (kind : Kind) → object.size ≡ kind_size kind → IsTagOf kind object.tag →
       IsPieceValue kind fault (view object.value) → IsKind left offset kind fault →
-      IsRowOf left (kind_front offset depth marked kind) (row_of object inside)
+      IsRowOf left (kind_front offset depth rules false kind) (row_of object inside marks)
   row_is (EndOfContents size) s t v k = of_end (record {
     words = refl;
     size = s;

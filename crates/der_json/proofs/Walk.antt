@@ -3,9 +3,8 @@ use Rattle.std.proofs.Common.{◌≡◌, ℕ, suc, ◌+◌, ◌-◌, ◌<◌, Bo
 use Rattle.std.proofs.Common.{slice_range, refl, sym, ap, ◌∙◌, subst, arith}
 use Rattle.std.proofs.lemmas.List.{append_assoc, append-nil, map-append}
 use Rattle.std.proofs.lemmas.Slice.Zip.{all_zipped_more}
-use Rattle.std.specs.Prelude.{IfSome, Option, None, Some, option_map, string_bytes}
+use Rattle.std.specs.Prelude.{IfSome, Option, None, Some, option_map}
 use Rattle.std.specs.List.{AllZip}
-use Rattle.std.specs.Option.{is_some}
 use Rattle.serde_json.specs.Data.{Items}
 use Rattle.serde_json.specs.Written.{comma_if, compact_text, items_text}
 use Rattle.der_lines.specs.Dump.{AreFrontsOf, Front, StandAt}
@@ -16,9 +15,10 @@ use Rattle.der_lines.specs.declared.nested.Nested.{Nested}
 use Rattle.der_lines.specs.declared.piece.Piece.{Piece}
 use Rattle.der_lines.specs.declared.place.Place.{Place}
 use Rattle.der_lines.specs.declared.walk.Walk.{Walk}
-use Rattle.der_json.specs.Json.{AreInside, AreRows, IsInside, IsRow, Row, ToldFault, earlier_of, fault_offsets, fault_told}
+use Rattle.der_json.specs.Json.{AreInside, AreRows, Departed, IsInside, IsRow, Row, ToldFault, earlier_of, fault_offsets, fault_told}
 use Rattle.der_json.specs.Json.{first_fault, items_of, mark_of, marks_at, marks_of, row_json, told_offset}
-use Rattle.der_json.specs.Rows.{AreRowsAt, IsArray, IsNestedJson, IsObject, are_some, found_marks, row_of, texts, told_at}
+use Rattle.der_json.specs.Rows.{AreRowsAt, IsArray, IsNestedJson, IsObject, found_marks, row_of, texts, told_at}
+use Rattle.der_lines.specs.Marks.{are_some, told_of}
 use Rattle.der_json.specs.declared.object.Object.{Object}
 use Rattle.der_json.specs.declared.rows.Found.{Found}
 use Rattle.der_json.proofs.Arrays.{all_texts, one_text, some_more}
@@ -27,21 +27,22 @@ use Rattle.der_json.proofs.Pieces.{fault_there}
 -- what stands inside contents octets
 inside_by :
     (documents : ℕ) (here : Place) (contents : List ℕ) (offset deep : ℕ) (nested : Option Nested)
-    (inside : Option Items) → here.documents ≡ documents → deep ≡ suc here.depth →
+    (inside : Option Items) (marks : List Departed) → here.documents ≡ documents → deep ≡ suc here.depth →
     IfSome nested (λ n. (0 < here.documents) × StandAt contents n.before n.octets.now) →
-    IsNestedJson here offset nested inside → IsInside (AreInside documents) contents offset deep inside
-inside_by documents here contents offset deep None inside d e holding is =
-    subst (IsInside (AreInside documents) contents offset deep) (sym is) tt
-inside_by zero here contents offset deep (Some n) inside d e (more, stand) is = absurd (omega (arith, more, d))
-inside_by (suc k) here contents offset deep (Some n) inside d e (more, stand) (items, is, (rows, are, json)) =
+    IsNestedJson here offset nested inside marks → IsInside (AreInside documents) contents offset deep inside marks
+inside_by documents here contents offset deep None inside marks d e holding (is, none) =
+    subst (λ z. IsInside (AreInside documents) contents offset deep z marks) (sym is) none
+inside_by zero here contents offset deep (Some n) inside marks d e (more, stand) is = absurd (omega (arith, more, d))
+inside_by (suc k) here contents offset deep (Some n) inside marks d e (more, stand) (items, is, (rows, are, json, told)) =
     let fewer : here.documents - 1 ≡ k = omega (arith, d) in
-    let moved : AreRows (AreInside k) n.octets.now (offset + n.before) deep rows =
-    subst (λ z. AreRows (AreInside k) n.octets.now (offset + n.before) z rows) (sym e)
-    (subst (λ z. AreRows (AreInside z) n.octets.now (offset + n.before) (suc here.depth) rows) fewer are) in
-    subst (IsInside (AreInside (suc k)) contents offset deep) (sym is) (n.before, n.octets.now, stand, (rows, moved, json))
+    let moved : AreRows (AreInside k) true n.octets.now (offset + n.before) deep rows =
+    subst (λ z. AreRows (AreInside k) true n.octets.now (offset + n.before) z rows) (sym e)
+    (subst (λ z. AreRows (AreInside z) true n.octets.now (offset + n.before) (suc here.depth) rows) fewer are) in
+    subst (λ z. IsInside (AreInside (suc k)) contents offset deep z marks) (sym is)
+    (n.before, n.octets.now, stand, (rows, moved, json, told))
 
 abbrev IsRowAt : Place → List ℕ → Front → Row → Type 0
-IsRowAt place octets = IsRow (AreInside place.documents) octets place.base place.depth
+IsRowAt place octets = IsRow (AreInside place.documents) place.is_inside octets place.base place.depth
 
 -- what was put up to where the walk is
 pub record RowsTo (place : Place) (octets : List ℕ) (walk : Walk) (later : Bool) (found : Found) (a b : List ℕ)
@@ -102,10 +103,6 @@ first_more : (rs : List Row) (r : Row) → earlier_of (first_fault rs) r.fault �
 first_more [] r = earlier_none r.fault
 first_more (x ∷ xs) r = earlier_after x.fault (first_fault xs) r.fault ∙ ap (earlier_of x.fault) (first_more xs r)
 
-mark_there : {A : Type 0} → (words : A → List ℕ) (mark : Option A) → is_some (option_map words mark) ≡ is_some mark
-mark_there words None = refl
-mark_there words (Some text) = refl
-
 told_offsets :
     (base offset at : ℕ) (fault : Option PieceFault) (told : Option ToldFault) → told ≡ option_map (told_at at) fault →
     at ≡ base + offset → IfSome fault (λ f. f.offset ≡ offset) →
@@ -117,30 +114,32 @@ told_offsets base offset at (Some f) told e o there =
 -- one more
 pub rows_more :
     (place : Place) (octets : List ℕ) (old new : Walk) (piece : Piece) (object : Object) (inside : Option Items)
-    (later : Bool) (found next : Found) (a b comma c : List ℕ) (p : Passes old new piece) →
+    (marks : List Departed) (later : Bool) (found next : Found) (a b comma c : List ℕ) (p : Passes old new piece) →
     RowsTo place octets old later found a b → IsObject p.left piece object →
-    IsNestedJson piece.place (object.offset + object.header) piece.nested inside →
-    comma ≡ b ++ comma_if later → c ≡ comma ++ compact_text (row_json (row_of object inside)) →
-    found_marks next ≡ found_marks found ++ marks_at object.offset (option_map string_bytes object.not_der) →
+    IsNestedJson piece.place (object.offset + object.header) piece.nested inside marks →
+    comma ≡ b ++ comma_if later → c ≡ comma ++ compact_text (row_json (row_of object inside marks)) →
+    found_marks next ≡ found_marks found ++ (marks_at object.offset (map told_of object.not_der.items) ++ marks) →
     option_map fault_told next.first ≡ earlier_of (option_map fault_told found.first) (option_map fault_told object.fault) →
     RowsTo place octets new true next a c
-rows_more place octets old new piece object inside later found next a b comma c p s o nested put_comma put mm nn =
+rows_more place octets old new piece object inside marks later found next a b comma c p s o nested put_comma put mm nn =
     let g = front_of p.levels piece in
-    let row = row_of object inside in
+    let row = row_of object inside marks in
     let own = fault_offset piece.fault in
     let base : piece.place.base ≡ place.base = p.base ∙ ap (λ z. z.base) s.same_place in
     let offset : object.offset ≡ place.base + piece.offset = o.offset_is ∙ ap (λ z. z + piece.offset) base in
     let is : IsRowAt place octets g row = record {
       left = p.left;
       position = subst (λ z. StandAt z piece.offset p.left) s.same_octets p.position;
-      row_of = o.row p.levels inside;
+      row_of = o.row p.levels inside marks;
       offset = offset;
       header = o.header_is;
       depth = o.depth_is ∙ (p.depth ∙ ap (λ z. z.depth + p.levels) s.same_place);
-      marked = mark_there string_bytes object.not_der ∙ o.marked;
+      has_spare_bits = piece.breaches.has_spare_bits;
+      told = o.told;
+      no_list = λ out. p.no_list ((p.inside ∙ ap (λ z. z.is_inside) s.same_place) ∙ out);
       inside = inside_by place.documents piece.place
           (slice_range p.left (kind_header piece.kind) (kind_header piece.kind + kind_contents piece.kind))
-          (object.offset + object.header) (suc object.depth) piece.nested inside
+          (object.offset + object.header) (suc object.depth) piece.nested inside marks
           (p.documents ∙ ap (λ z. z.documents) s.same_place) (ap suc o.depth_is) p.holding nested;
     } in
     record {

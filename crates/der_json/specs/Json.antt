@@ -1,9 +1,9 @@
 -- What is written of octets as JSON: an object that has a row for each line of a dump of them, and the first fault.
-use Rattle.std.specs.Prelude.{◌≡◌, ◌⊎◌, ⊤, ℕ, zero, suc, ◌+◌, ◌<◌, ◌≤◌, ◌==◌, ◌&&◌, ℤ, unsigned_abs, nat_lt}
+use Rattle.std.specs.Prelude.{◌≡◌, ◌⊎◌, ℕ, zero, suc, ◌+◌, ◌<◌, ◌≤◌, ◌==◌, ◌&&◌, ℤ, unsigned_abs, nat_lt}
 use Rattle.std.specs.Prelude.{Bool, true, false, if◌then◌else◌, List, [], ◌∷◌, ◌++◌, codes, drop, length, map}
 use Rattle.std.specs.Prelude.{Option, None, Some, option_map, string_bytes}
 use Rattle.std.specs.List.{AllZip, slice_range}
-use Rattle.std.specs.Option.{is_none, is_some, option_to_list}
+use Rattle.std.specs.Option.{is_none, option_to_list}
 use Rattle.std.specs.Str.{chars}
 use Rattle.hex.specs.Hex.{encode_lower}
 use Rattle.jiff.specs.Names.{iso_datetime_text}
@@ -31,6 +31,7 @@ use Rattle.asn1_blocks.specs.Tree.{octet_string, null as null_leaf, object_ident
 use Rattle.asn1_blocks.specs.Tree.{utc_time, generalized_time}
 use Rattle.der_lines.specs.Dump.{AreFrontsOf, Front, StandAt, is_stray_form, is_wide, size_in}
 use Rattle.der_lines.specs.Headers.{is_gone_into}
+use Rattle.der_lines.specs.Marks.{Told, told_rules}
 use Rattle.der_lines.specs.Segments.{AreSegmentsOf}
 use Rattle.der_values.specs.Strings.{has_words, is_string}
 use Rattle.der_json.specs.declared.fault.Fault.{Fault}
@@ -201,10 +202,15 @@ pub data IsJudged (octets : List ℕ) (front : Front) (offset : ℕ) (class : AS
       AreShown offset class tag (slice_range octets front.header (front.header + front.contents)) value fault →
       IsJudged octets front offset class constructed tag stray value fault
 
+-- a rule that is broken, by an encoding at the offset
+pub record Departed : Type 0 where
+  pub offset : ℕ
+  pub told : Told
+
 -- what the object of a block tells: how many octets stand before it, how many its identifier and length octets are, how
 -- many it has as far as they are there, and how many blocks are around it; its class, its constructed bit, its tag and
--- its type; its value, its name, what is shown beside the value, what is not DER in it, and its fault; and the objects
--- of what stands inside its octets
+-- its type; its value, its name, what is shown beside the value, the rules of DER that it breaks, and its fault; and the
+-- objects of what stands inside its octets, and the rules that are broken there
 pub record Row : Type 0 where
   pub offset : ℕ
   pub header : ℕ
@@ -217,9 +223,10 @@ pub record Row : Type 0 where
   pub value : Data
   pub name : Option (List ℕ)
   pub beside : Option (List ℕ)
-  pub not_der : Option (List ℕ)
+  pub not_der : List Told
   pub fault : Option ToldFault
   pub inside : Option Items
+  pub marks_inside : List Departed
 
 -- end-of-contents octets, of which there are two, or none where they are missing
 pub record IsEndRow (front : Front) (row : Row) : Type 0 where
@@ -289,16 +296,40 @@ abbrev pub fault_if : Option ToldFault → Members → Members
 fault_if None others = others
 fault_if (Some fault) others = member (codes "fault") (fault_json fault) others
 
+-- the object of a rule that is broken
+abbrev pub rule_members : Told → Members
+rule_members told =
+    member (codes "rule") (string told.name)
+    (member (codes "section") (string told.section)
+    (member (codes "text") (string told.words) no_members))
+
+abbrev pub rule_json : Told → Data
+rule_json told = object (rule_members told)
+
+-- so with the offset of the encoding
+abbrev pub departed_json : Departed → Data
+departed_json departed =
+    object (member (codes "offset") (number (unsigned departed.offset)) (rule_members departed.told))
+
 abbrev pub blocks_if : Option Items → Members
 blocks_if None = no_members
 blocks_if (Some items) = member (codes "blocks") (array items) no_members
+
+-- an array of the objects of these
+abbrev pub items_of : {A : Type 0} → (A → Data) → List A → Items
+items_of json [] = no_items
+items_of json (x ∷ xs) = item (json x) (items_of json xs)
+
+abbrev pub rules_if : List Told → Members → Members
+rules_if [] others = others
+rules_if (told ∷ more) others = member (codes "not_der") (array (items_of rule_json (told ∷ more))) others
 
 -- the members that not every object has
 abbrev pub rest_members : Row → Members
 rest_members row =
     member_if (codes "name") row.name
     (member_if (codes "shown") row.beside
-    (member_if (codes "not_der") row.not_der
+    (rules_if row.not_der
     (fault_if row.fault (blocks_if row.inside))))
 
 abbrev pub row_json : Row → Data
@@ -313,31 +344,29 @@ row_json row =
     (member (codes "type") (text_or_null row.kind)
     (member (codes "value") row.value (rest_members row))))))))))
 
--- an array of the objects of these
-abbrev pub items_of : {A : Type 0} → (A → Data) → List A → Items
-items_of json [] = no_items
-items_of json (x ∷ xs) = item (json x) (items_of json xs)
-
--- objects of what stands inside contents octets that stand so many octets later, inside so many blocks: if there are
--- any, something holds of them
+-- objects of what stands inside contents octets that stand so many octets later, inside so many blocks, and the rules
+-- that are broken there: if there are any, something holds of them
 abbrev pub IsInside :
-    (List ℕ → ℕ → ℕ → Items → Type 0) → List ℕ → ℕ → ℕ → Option Items → Type 0
-IsInside Inside contents base deep None = ⊤
-IsInside Inside contents base deep (Some items) = Inside contents base deep items
+    (List ℕ → ℕ → ℕ → Items → List Departed → Type 0) → List ℕ → ℕ → ℕ → Option Items → List Departed → Type 0
+IsInside Inside contents base deep None marks = marks ≡ []
+IsInside Inside contents base deep (Some items) marks = Inside contents base deep items marks
 
--- the object of what has a line in a dump of the octets, which stand so many octets later, inside so many blocks
-pub record IsRow (Inside : List ℕ → ℕ → ℕ → Items → Type 0) (octets : List ℕ) (base deep : ℕ)
-    (front : Front) (row : Row) : Type 0 where
+-- the object of what has a line in a dump of the octets, which stand so many octets later, inside so many blocks, and
+-- inside octets of a string or not. Around octets of a string may stand what tells that they are a list of named bits
+pub record IsRow (Inside : List ℕ → ℕ → ℕ → Items → List Departed → Type 0) (in_string : Bool) (octets : List ℕ)
+    (base deep : ℕ) (front : Front) (row : Row) : Type 0 where
   pub left : List ℕ
   pub position : StandAt octets front.offset left
   pub row_of : IsRowOf left front row
   pub offset : row.offset ≡ base + front.offset
   pub header : row.header ≡ front.header
   pub depth : row.depth ≡ deep + front.depth
-  pub marked : is_some row.not_der ≡ front.marked
+  pub has_spare_bits : Bool
+  pub told : row.not_der ≡ told_rules front.rules has_spare_bits
+  pub no_list : in_string ≡ false → has_spare_bits ≡ false
   pub inside :
       IsInside Inside (slice_range left front.header (front.header + front.contents)) (row.offset + row.header)
-      (suc row.depth) row.inside
+      (suc row.depth) row.inside row.marks_inside
 
 -- the first of two faults, and of those of rows
 abbrev pub earlier_of : Option ToldFault → Option ToldFault → Option ToldFault
@@ -358,40 +387,39 @@ fault_offsets [] = []
 fault_offsets (row ∷ later) = told_offset row.fault ++ fault_offsets later
 
 -- rows of octets, one for each line of a dump of them, whose faults they have
-pub record AreRows (Inside : List ℕ → ℕ → ℕ → Items → Type 0) (octets : List ℕ) (base deep : ℕ)
-    (rows : List Row) : Type 0 where
+pub record AreRows (Inside : List ℕ → ℕ → ℕ → Items → List Departed → Type 0) (in_string : Bool) (octets : List ℕ)
+    (base deep : ℕ) (rows : List Row) : Type 0 where
   pub fronts : List Front
   pub faults : List ℕ
   pub read : AreFrontsOf octets fronts faults
-  pub told : AllZip (IsRow Inside octets base deep) fronts rows
+  pub told : AllZip (IsRow Inside in_string octets base deep) fronts rows
   pub faults_are : fault_offsets rows ≡ map (λ offset. base + offset) faults
 
--- rows of octets that stand in contents octets; so many documents may be shown inside one another
-abbrev pub AreInside : ℕ → List ℕ → ℕ → ℕ → Items → Type 0
-AreInside zero contents base deep items = ⊥
-AreInside (suc documents) contents base deep items =
-    (before : ℕ) × (octets : List ℕ) × StandAt contents before octets
-    × ((rows : List Row) × AreRows (AreInside documents) octets (base + before) deep rows
-    × (items ≡ items_of row_json rows))
+-- the rules that are broken, by a block at the offset, and by those of rows and inside them
+abbrev pub marks_at : ℕ → List Told → List Departed
+marks_at offset told = map (λ t. record { offset = offset; told = t }) told
 
--- rows of a document, in which eight may be shown
-abbrev pub AreRowsOf : List ℕ → List Row → Type 0
-AreRowsOf octets = AreRows (AreInside 8) octets 0 0
+abbrev pub mark_of : Row → List Departed
+mark_of row = marks_at row.offset row.not_der ++ row.marks_inside
 
--- what is not DER in a block at the offset, if anything is, and in those of rows
-abbrev pub marks_at : ℕ → Option (List ℕ) → List ToldFault
-marks_at offset None = []
-marks_at offset (Some words) = words_fault offset words ∷ []
-
-abbrev pub mark_of : Row → List ToldFault
-mark_of row = marks_at row.offset row.not_der
-
-abbrev pub marks_of : List Row → List ToldFault
+abbrev pub marks_of : List Row → List Departed
 marks_of [] = []
 marks_of (row ∷ later) = mark_of row ++ marks_of later
 
+-- rows of octets that stand in contents octets; so many documents may be shown inside one another
+abbrev pub AreInside : ℕ → List ℕ → ℕ → ℕ → Items → List Departed → Type 0
+AreInside zero contents base deep items marks = ⊥
+AreInside (suc documents) contents base deep items marks =
+    (before : ℕ) × (octets : List ℕ) × StandAt contents before octets
+    × ((rows : List Row) × AreRows (AreInside documents) true octets (base + before) deep rows
+    × (items ≡ items_of row_json rows) × (marks ≡ marks_of rows))
+
+-- rows of a document, in which eight may be shown
+abbrev pub AreRowsOf : List ℕ → List Row → Type 0
+AreRowsOf octets = AreRows (AreInside 8) false octets 0 0
+
 -- nothing is not DER
-abbrev pub is_der : List ToldFault → Bool
+abbrev pub is_der : List Departed → Bool
 is_der [] = true
 is_der (mark ∷ marks) = false
 
@@ -421,10 +449,10 @@ first_text None origin = []
 first_text (Some fault) origin = line_text (refusal_json fault origin)
 
 -- the line of what is not DER, where anything is
-abbrev pub marks_text : List ToldFault → Members → List ℕ
+abbrev pub marks_text : List Departed → Members → List ℕ
 marks_text [] origin = []
 marks_text (mark ∷ marks) origin =
-    line_text (object (member (codes "not_der") (array (items_of fault_json (mark ∷ marks))) origin))
+    line_text (object (member (codes "not_der") (array (items_of departed_json (mark ∷ marks))) origin))
 
 -- the line that there are no octets
 abbrev pub IsEmptyLine : Members → List ℕ → Type 0

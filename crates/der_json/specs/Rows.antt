@@ -16,6 +16,7 @@ use Rattle.serde_json.specs.Data.{Data, Items, Members, array, null, number, str
 use Rattle.serde_json.specs.View.{view}
 use Rattle.serde_json.specs.Written.{comma_if, compact_text, has_float, items_text, members_text}
 use Rattle.der_lines.specs.Headers.{is_gone_into}
+use Rattle.der_lines.specs.Marks.{Told, are_some, told_of, told_rules}
 use Rattle.der_lines.specs.Pieces.{IsKind, front_of, kind_header}
 use Rattle.der_lines.specs.declared.faults.Fault.{Fault as PieceFault}
 use Rattle.der_lines.specs.declared.leaf.Meaning.{Meaning}
@@ -26,16 +27,17 @@ use Rattle.der_lines.specs.declared.piece.Kind.TheVariants.{Cut, EndOfContents, 
 use Rattle.der_lines.specs.declared.piece.Piece.{Piece}
 use Rattle.der_lines.specs.declared.place.Place.{Place}
 use Rattle.der_values.specs.Strings.{has_words}
-use Rattle.der_json.specs.Json.{AreInside, AreRows, AreRowsOf, IsOpenedValue, IsRowOf, IsValueOf, Row, ToldFault}
+use Rattle.der_json.specs.Json.{AreInside, AreRows, AreRowsOf, Departed, IsOpenedValue, IsRowOf, IsValueOf, Row, ToldFault, rule_json}
 use Rattle.der_json.specs.Json.{boolean_or_null, fault_json, fault_told, first_fault, items_of, marks_of, natural_json}
 use Rattle.der_json.specs.Json.{number_or_null, other_value, row_json, rows_text, text_or_null}
 use Rattle.der_json.specs.declared.object.Object.{Object}
 use Rattle.der_json.specs.declared.object.Tag.{Tag}
+use Rattle.der_json.specs.declared.rows.Departure.{Departure}
 use Rattle.der_json.specs.declared.rows.Found.{Found}
 
 -- what an object tells, and what stands inside
-abbrev pub row_of : Object → Option Items → Row
-row_of object inside = record {
+abbrev pub row_of : Object → Option Items → List Departed → Row
+row_of object inside marks = record {
   offset = object.offset;
   header = object.header;
   size = object.size;
@@ -47,9 +49,10 @@ row_of object inside = record {
   value = view object.value;
   name = option_map string_bytes object.name;
   beside = option_map string_bytes object.shown;
-  not_der = option_map string_bytes object.not_der;
+  not_der = map told_of object.not_der.items;
   fault = option_map fault_told object.fault;
   inside = inside;
+  marks_inside = marks;
 }
 
 -- none of it is a float
@@ -147,8 +150,9 @@ pub record IsObject (left : List ℕ) (piece : Piece) (object : Object) : Type 0
   pub offset_is : object.offset ≡ piece.place.base + piece.offset
   pub header_is : object.header ≡ kind_header piece.kind
   pub depth_is : object.depth ≡ piece.place.depth
-  pub row : (depth : ℕ) (inside : Option Items) → IsRowOf left (front_of depth piece) (row_of object inside)
-  pub marked : is_some object.not_der ≡ is_some piece.mark
+  pub row : (depth : ℕ) (inside : Option Items) (marks : List Departed)
+      → IsRowOf left (front_of depth piece) (row_of object inside marks)
+  pub told : map told_of object.not_der.items ≡ told_rules piece.breaches.rules.items piece.breaches.has_spare_bits
   pub fault_is : option_map fault_told object.fault ≡ option_map (told_at object.offset) piece.fault
   pub exact : IsExact object
 
@@ -175,12 +179,17 @@ abbrev pub fault_text : Option ToldFault → List ℕ
 fault_text None = []
 fault_text (Some fault) = codes ",\"fault\":" ++ compact_text (fault_json fault)
 
+-- the member of the rules that are broken, where some are
+abbrev pub rules_text : List Told → List ℕ
+rules_text [] = []
+rules_text (told ∷ more) = codes ",\"not_der\":" ++ compact_text (array (items_of rule_json (told ∷ more)))
+
 -- those that not every object has, but for blocks
 abbrev pub last_members : Object → List ℕ
 last_members object =
     told_text (codes ",\"name\":") (option_map string_bytes object.name)
     ++ (told_text (codes ",\"shown\":") (option_map string_bytes object.shown)
-    ++ (told_text (codes ",\"not_der\":") (option_map string_bytes object.not_der)
+    ++ (rules_text (map told_of object.not_der.items)
     ++ fault_text (option_map fault_told object.fault)))
 
 -- the member of blocks inside octets, where there are some
@@ -193,18 +202,19 @@ abbrev pub texts : {A : Type 0} → (A → Data) → Bool → List A → List �
 texts json later [] = []
 texts json later (x ∷ xs) = comma_if later ++ (compact_text (json x) ++ texts json true xs)
 
--- whether there are any
-abbrev pub are_some : {A : Type 0} → List A → Bool
-are_some [] = false
-are_some (x ∷ xs) = true
-
 -- what was found in encodings
-abbrev pub found_marks : Found → List ToldFault
-found_marks found = map fault_told found.marks.items
+abbrev pub departed_of : Departure → Departed
+departed_of departure = record { offset = departure.offset; told = told_of departure.told }
+
+abbrev pub told_marks : List Departure → List Departed
+told_marks marks = map departed_of marks
+
+abbrev pub found_marks : Found → List Departed
+found_marks found = told_marks found.marks.items
 
 -- rows of octets at the place
 abbrev pub AreRowsAt : Place → List ℕ → List Row → Type 0
-AreRowsAt place octets = AreRows (AreInside place.documents) octets place.base place.depth
+AreRowsAt place octets = AreRows (AreInside place.documents) place.is_inside octets place.base place.depth
 
 -- the objects of octets at the place, and the end of their array; and what was found in them
 abbrev pub IsArray : Place → List ℕ → Found → List ℕ → Type 0
@@ -219,14 +229,15 @@ IsRowsLine octets origin found text =
     (rows : List Row) × AreRowsOf octets rows × (found_marks found ≡ marks_of rows)
     × (option_map fault_told found.first ≡ first_fault rows) × (text ≡ rows_text rows origin)
 
--- objects of the octets, if there are any, in contents octets that stand at the offset of the document
-abbrev pub IsNestedJson : Place → ℕ → Option Nested → Option Items → Type 0
-IsNestedJson place offset None inside = inside ≡ None
-IsNestedJson place offset (Some nested) inside =
+-- objects of the octets, if there are any, in contents octets that stand at the offset of the document, and the rules
+-- that are broken there
+abbrev pub IsNestedJson : Place → ℕ → Option Nested → Option Items → List Departed → Type 0
+IsNestedJson place offset None inside marks = (inside ≡ None) × (marks ≡ [])
+IsNestedJson place offset (Some nested) inside marks =
     (items : Items) × (inside ≡ Some items)
     × ((rows : List Row)
-    × AreRows (AreInside (place.documents - 1)) nested.octets.now (offset + nested.before)
-    (suc place.depth) rows × (items ≡ items_of row_json rows))
+    × AreRows (AreInside (place.documents - 1)) true nested.octets.now (offset + nested.before)
+    (suc place.depth) rows × (items ≡ items_of row_json rows) × (marks ≡ marks_of rows))
 
 -- the end of an object that has these members after its first
 abbrev pub end_text : Members → List ℕ

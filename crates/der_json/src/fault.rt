@@ -1,8 +1,8 @@
 // Faults as objects of JSON.
-ghost use Rattle.std.specs.Prelude.{◌≡◌, ℕ, List, IfOk, string_bytes};
+ghost use Rattle.std.specs.Prelude.{◌≡◌, ℕ, List, IfOk};
 ghost use Rattle.serde_json.specs.View.{view};
 ghost use Rattle.asn1_headers.specs.Fault.{fault_of};
-ghost use Rattle.der_json.specs.Json.{fault_json, fault_told, named_fault, words_fault};
+ghost use Rattle.der_json.specs.Json.{fault_json, fault_told, named_fault};
 ghost use Rattle.der_json.specs.Rows.{told_at};
 
 use asn1_headers::error::ASN1DecodeErr;
@@ -40,17 +40,6 @@ pub fn placed(fault: faults::Fault, offset: usize) -> Fault
         code: fault.code,
         offset: Some(offset),
         words: fault.words,
-    }
-}
-
-// A fault in words alone.
-pub fn fault_in_words(offset: usize, words: String) -> Fault
-    ensures { fault_told result ≡ words_fault offset (string_bytes words) }
-{
-    Fault {
-        code: None,
-        offset: Some(offset),
-        words,
     }
 }
 

@@ -16,7 +16,7 @@
 //! | `value` | what it holds: the next table |
 //! | `name` | the name of an object identifier, of bits that are set, or of a GeneralName, if it has one |
 //! | `shown` | hex digits of an INTEGER of five octets or more, of a long OBJECT IDENTIFIER; printed text; an address |
-//! | `not_der` | what is not DER in it, if anything is, in the words of `der_rules` |
+//! | `not_der` | the rules of DER that it breaks, if it breaks some: an array of the third table |
 //! | `fault` | what is wrong with it, if anything is |
 //! | `blocks` | such objects of the encodings inside its octets, where a dump shows some |
 //!
@@ -32,6 +32,12 @@
 //! | any other that is primitive: OCTET STRING, `[0]` | its contents octets in hex digits |
 //! | NULL, SEQUENCE, SET, and what is constructed | `null`; of a constructed string that of its segments, joined |
 //!
+//! | Member of a rule | What |
+//! |---|---|
+//! | `rule` | its name, as the library has it, `LongLength`; or `NamedBits` |
+//! | `section` | where X.690 says it: `10.1` |
+//! | `text` | what is wrong, in words |
+//!
 //! Contents octets of these types that have no value are in hex digits, too. Hex digits are twice as many as octets; a
 //! text of characters has as many as the contents.
 //!
@@ -43,8 +49,8 @@
 //! the members `file` and `label` to each line, of each that is known. Faults inside octets of strings count for
 //! nothing.
 //!
-//! [`push_strict_json`] adds a line of what is not DER, if anything is: `not_der` is an array of objects with `offset`
-//! and `text`.
+//! [`push_strict_json`] adds a line of what is not DER, if anything is, also inside octets of strings: `not_der` is an
+//! array of such rules, each with the `offset` of its encoding in front.
 //!
 //! Numbers beyond 2^53 - 1 are texts since `jq` and JavaScript round them, as RFC 7493 (section 2.2) lets readers do.
 #![tactic(auto)]

@@ -1,14 +1,16 @@
 // Objects of blocks.
-ghost use Rattle.std.specs.Prelude.{◌≡◌, ◌++◌, false, IfOk, OnOk, option_map, string_bytes};
+ghost use Rattle.std.specs.Prelude.{◌≡◌, ◌++◌, false, IfOk, OnOk, map, option_map, string_bytes};
 ghost use Rattle.serde_json.specs.View.{view};
-ghost use Rattle.serde_json.specs.Written.{compact_text, has_float};
-ghost use Rattle.der_json.specs.Json.{boolean_or_null as boolean_or_null_is, fault_json, fault_told};
+ghost use Rattle.serde_json.specs.Written.{comma_if, compact_text, has_float, items_text};
+ghost use Rattle.der_lines.specs.Marks.{told_of};
+ghost use Rattle.der_json.specs.Json.{boolean_or_null as boolean_or_null_is, fault_json, fault_told, items_of, rule_json};
 ghost use Rattle.der_json.specs.Json.{number_or_null as number_or_null_is, text_or_null as text_or_null_is};
-ghost use Rattle.der_json.specs.Rows.{IsExact, fault_text, first_members, last_members, told_text};
+ghost use Rattle.der_json.specs.Rows.{IsExact, fault_text, first_members, last_members, rules_text, told_text};
 
 use crate::fault::{Fault, fault_value};
 use crate::member::{push_member, push_text};
-use serde_json::Value;
+use der_lines::marks::ToldRule;
+use serde_json::{Value, json};
 use std::alloc::{AllocError, Global};
 
 // What it tells of a tag: its class, whether the encoding is constructed, its number, and how its type is called.
@@ -32,7 +34,7 @@ pub struct Object {
     pub value: Value,
     pub name: Option<String>,
     pub shown: Option<String>,
-    pub not_der: Option<String>,
+    pub not_der: Vec<ToldRule>,
     pub fault: Option<Fault>,
 }
 
@@ -63,7 +65,7 @@ impl Object {
     {
         push_words(alloc, b",\"name\":", &self.name, out)?;
         push_words(alloc, b",\"shown\":", &self.shown, out)?;
-        push_words(alloc, b",\"not_der\":", &self.not_der, out)?;
+        push_rules(alloc, &self.not_der, out)?;
         push_fault(alloc, &self.fault, out)?;
         Ok(())
     }
@@ -113,6 +115,50 @@ fn push_words(
         Some(words) => push_text(alloc, name, words, out),
         None => Ok(()),
     }
+}
+
+// Puts the member of the rules that are broken, if some are.
+fn push_rules(alloc: Global, told: &[ToldRule], out: &mut Vec<u8>) -> Result<(), AllocError>
+    ensures { OnOk result (out.new.items ≡ out.old.items ++ rules_text (map told_of told.now)) }
+{
+    if told.is_empty() {
+        return Ok(());
+    }
+    out.extend_from_slice(b",\"not_der\":[")?;
+    push_list(alloc, told, out)?;
+    Ok(())
+}
+
+// Puts the objects of these, and the end of an array.
+fn push_list(alloc: Global, told: &[ToldRule], out: &mut Vec<u8>) -> Result<(), AllocError>
+    ensures { OnOk result (out.new.items
+        ≡ out.old.items ++ items_text false (items_of rule_json (map told_of told.now))) }
+{
+    let mut is_later = false;
+    for rule in told {
+        push_comma(is_later, out)?;
+        let object = rule_value(alloc, rule)?;
+        push_member(alloc, b"", &object, out)?;
+        is_later = true;
+    }
+    out.push(b']')?;
+    Ok(())
+}
+
+// A rule that is broken, as an object.
+fn rule_value(alloc: Global, rule: &ToldRule) -> Result<Value, AllocError>
+    ensures { IfOk result (λ v. view v ≡ rule_json (told_of rule.now)) }
+{
+    json!(in alloc; {"rule": rule.name, "section": rule.section, "text": rule.text})
+}
+
+pub fn push_comma(is_later: bool, out: &mut Vec<u8>) -> Result<(), AllocError>
+    ensures { OnOk result (out.new.items ≡ out.old.items ++ comma_if is_later) }
+{
+    if is_later {
+        out.push(b',')?;
+    }
+    Ok(())
 }
 
 // Puts the member of a fault, if there is one.

@@ -43,7 +43,7 @@ pub fn object_of(alloc: Global, names: &Names, piece: Piece<'_>) -> Result<Objec
         value: value_of(alloc, &piece)?,
         name: said.name,
         shown: said.shown,
-        not_der: piece.mark,
+        not_der: piece.breaches.told(alloc)?,
         fault: placed_if(piece.fault, offset),
     })
 }

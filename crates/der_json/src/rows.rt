@@ -1,32 +1,41 @@
 // The objects of a document, in the order of its lines.
-ghost use Rattle.std.specs.Prelude.{◌≡◌, ◌++◌, ◌+◌, ◌<◌, IfOk, IfSome, OnOk, Option, option_map, string_bytes};
+ghost use Rattle.std.specs.Prelude.{◌≡◌, ◌++◌, ◌+◌, ◌<◌, IfOk, IfSome, OnOk, Option, map, option_map};
 ghost use Rattle.serde_json.specs.Data.{Items};
-ghost use Rattle.serde_json.specs.Written.{comma_if, compact_text};
+ghost use Rattle.serde_json.specs.Written.{compact_text};
 ghost use Rattle.der_lines.specs.Dump.{Adds};
+ghost use Rattle.der_lines.specs.Marks.{told_of};
 ghost use Rattle.der_json.specs.Json.{earlier_of, fault_told, marks_at, row_json};
-ghost use Rattle.der_json.specs.Rows.{IsArray, IsExact, IsNestedJson, blocks_text, found_marks, row_of};
+ghost use Rattle.der_json.specs.Rows.{IsArray, IsExact, IsNestedJson, blocks_text, found_marks, row_of, told_marks};
 
-use crate::fault::{Fault, fault_in_words};
-use crate::object::Object;
+use crate::fault::Fault;
+use crate::object::{Object, push_comma};
 use crate::piece::object_of;
+use der_lines::marks::ToldRule;
 use der_lines::nested::Nested;
 use der_lines::place::{Place, sum_of};
 use der_lines::walk::Walk;
 use der_names::Names;
 use std::alloc::{AllocError, Global};
 
-// What was found in a document: what is not DER, and the first fault.
+// A rule that is broken, by an encoding at the offset of the document.
+#[derive(Drop)]
+pub struct Departure {
+    pub offset: usize,
+    pub told: ToldRule,
+}
+
+// What was found in a document: the rules that are broken, also inside octets of strings, and the first fault.
 #[derive(Drop)]
 pub struct Found {
-    pub marks: Vec<Fault>,
+    pub marks: Vec<Departure>,
     pub first: Option<Fault>,
 }
 
 impl Found {
-    // Keeps what one more object tells.
-    fn keep(&mut self, object: Object) -> Result<(), AllocError>
-        ensures marks { OnOk result (found_marks self.new
-            ≡ found_marks self.old ++ marks_at object.offset (option_map string_bytes object.not_der)) }
+    // Keeps what one more object tells, and the rules that are broken inside it.
+    fn keep(&mut self, object: Object, mut inside: Vec<Departure>) -> Result<(), AllocError>
+        ensures marks { OnOk result (found_marks self.new ≡ found_marks self.old
+            ++ (marks_at object.offset (map told_of object.not_der.items) ++ told_marks inside.items)) }
         ensures first { OnOk result (option_map fault_told self.new.first
             ≡ earlier_of (option_map fault_told self.old.first) (option_map fault_told object.fault)) }
     {
@@ -36,14 +45,31 @@ impl Found {
             fault,
             ..
         } = object;
-        if let Some(words) = not_der {
-            self.marks.push(fault_in_words(offset, words))?;
-        }
+        push_marks(offset, &not_der, &mut self.marks)?;
+        self.marks.append(&mut inside)?;
         if self.first.is_none() {
             self.first = fault;
         }
         Ok(())
     }
+}
+
+// Keeps the rules that an encoding at the offset breaks.
+fn push_marks(
+    offset: usize,
+    told: &[ToldRule],
+    marks: &mut Vec<Departure>,
+) -> Result<(), AllocError>
+    ensures { OnOk result (told_marks marks.new.items
+        ≡ told_marks marks.old.items ++ marks_at offset (map told_of told.now)) }
+{
+    for rule in told {
+        marks.push(Departure {
+            offset,
+            told: *rule,
+        })?;
+    }
+    Ok(())
 }
 
 // Puts the objects of octets, with commas between them, and the end of an array. What was found in them.
@@ -67,15 +93,15 @@ pub fn push_rows(
         let (here, nested) = (piece.place, piece.nested);
         let object = object_of(alloc, names, piece)?;
         push_comma(is_later, out)?;
-        push_object(alloc, names, &object, nested, here, out)?;
-        found.keep(object)?;
+        let inside = push_object(alloc, names, &object, nested, here, out)?;
+        found.keep(object, inside)?;
         is_later = true;
     }
     out.push(b']')?;
     Ok(found)
 }
 
-// Puts the object, of a piece at the place, with the blocks inside its contents octets.
+// Puts the object, of a piece at the place, with the blocks inside its contents octets. The rules that these break.
 #[cycle(rows)]
 fn push_object(
     alloc: Global,
@@ -84,22 +110,24 @@ fn push_object(
     nested: Option<Nested<'_>>,
     place: Place,
     out: &mut Vec<u8>,
-) -> Result<(), AllocError>
+) -> Result<Vec<Departure>, AllocError>
     requires exact { IsExact object.now }
     requires more { IfSome nested (λ _. 0 < place.documents) }
-    ensures { OnOk result ((inside : Option Items)
-        × IsNestedJson place (object.now.offset + object.now.header) nested.entry inside
-        × (out.new.items ≡ out.old.items ++ compact_text (row_json (row_of object.now inside)))) }
+    ensures { IfOk result (λ marks. (inside : Option Items)
+        × IsNestedJson place (object.now.offset + object.now.header) nested.entry inside (told_marks marks.items)
+        × (out.new.items ≡ out.old.items
+        ++ compact_text (row_json (row_of object.now inside (told_marks marks.items))))) }
 {
     object.push_first(alloc, out)?;
     object.push_others(alloc, out)?;
     let before = sum_of(object.offset, object.header)?;
-    push_nested(alloc, names, nested, before, place, out)?;
+    let marks = push_nested(alloc, names, nested, before, place, out)?;
     out.push(b'}')?;
-    Ok(())
+    Ok(marks)
 }
 
 // Puts the member of the blocks inside contents octets, which stand at the offset of the document, if there are any.
+// The rules that they break.
 #[cycle(rows)]
 fn push_nested(
     alloc: Global,
@@ -108,25 +136,17 @@ fn push_nested(
     offset: usize,
     place: Place,
     out: &mut Vec<u8>,
-) -> Result<(), AllocError>
+) -> Result<Vec<Departure>, AllocError>
     requires { IfSome nested (λ _. 0 < place.documents) }
-    ensures { OnOk result ((inside : Option Items) × IsNestedJson place offset nested.entry inside
+    ensures { IfOk result (λ marks. (inside : Option Items)
+        × IsNestedJson place offset nested.entry inside (told_marks marks.items)
         × (out.new.items ≡ out.old.items ++ blocks_text inside)) }
 {
     let Some(nested) = nested else {
-        return Ok(());
+        return Ok(Vec::new(alloc));
     };
     out.extend_from_slice(b",\"blocks\":[")?;
     let inside = place.inside(sum_of(offset, nested.before)?)?;
-    push_rows(alloc, names, nested.octets, inside, out)?;
-    Ok(())
-}
-
-pub fn push_comma(is_later: bool, out: &mut Vec<u8>) -> Result<(), AllocError>
-    ensures { OnOk result (out.new.items ≡ out.old.items ++ comma_if is_later) }
-{
-    if is_later {
-        out.push(b',')?;
-    }
-    Ok(())
+    let found = push_rows(alloc, names, nested.octets, inside, out)?;
+    Ok(found.marks)
 }

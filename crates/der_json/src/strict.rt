@@ -1,20 +1,23 @@
 // A document that has to be DER, as lines of JSON.
-ghost use Rattle.std.specs.Prelude.{◌≡◌, ◌++◌, ◌&&◌, false, IfOk, OnOk, map};
+ghost use Rattle.std.specs.Prelude.{◌≡◌, ◌++◌, ◌&&◌, false, IfOk, OnOk};
+ghost use Rattle.serde_json.specs.View.{view};
 ghost use Rattle.serde_json.specs.Written.{items_text};
 ghost use Rattle.der_lines.specs.Dump.{Adds};
-ghost use Rattle.der_json.specs.Json.{IsStrictJsonOf, fault_json, fault_told, is_der, items_of, marks_text};
+ghost use Rattle.der_json.specs.Json.{IsStrictJsonOf, departed_json, is_der, items_of, marks_text};
 ghost use Rattle.der_json.specs.Json.{told_of};
+ghost use Rattle.der_json.specs.Rows.{departed_of, told_marks};
 
-use crate::fault::Fault;
 use crate::line::{Origin, push_blocks, push_empty, push_end, push_first};
-use crate::object::push_fault_object;
-use crate::rows::push_comma;
+use crate::member::push_member;
+use crate::object::push_comma;
+use crate::rows::Departure;
 use der_names::Names;
+use serde_json::{Value, json};
 use std::alloc::{AllocError, Global};
 
 /// Puts the octets at the end as [`push_json`](crate::push_json) does, where they have to be DER. Behind the line of
-/// the blocks stands one of what is not DER, if anything is, with the offset of each:
-/// `{"not_der":[{"offset":..,"text":".."},..]}`. Last is the line of the first fault, if there is one. Whether all is
+/// the blocks stands one of what is not DER, if anything is, also inside strings, with the offset of each:
+/// `{"not_der":[{"offset":..,"rule":"..","section":"..","text":".."},..]}`. Last is the line of the first fault, if there is one. Whether all is
 /// DER, and nothing is at fault.
 ///
 /// It takes memory as `push_json` does, and for the list; the only error is that it ran out, after which some of the
@@ -49,12 +52,12 @@ fn both(is_der: bool, is_right: bool) -> bool
 fn push_marks(
     alloc: Global,
     origin: Origin<'_>,
-    marks: &[Fault],
+    marks: &[Departure],
     out: &mut Vec<u8>,
 ) -> Result<bool, AllocError>
-    ensures right { IfOk result (λ right. right ≡ is_der (map fault_told marks.now)) }
+    ensures right { IfOk result (λ right. right ≡ is_der (told_marks marks.now)) }
     ensures text { OnOk result (out.new.items
-        ≡ out.old.items ++ marks_text (map fault_told marks.now) (told_of origin.entry)) }
+        ≡ out.old.items ++ marks_text (told_marks marks.now) (told_of origin.entry)) }
 {
     if marks.is_empty() {
         return Ok(true);
@@ -66,16 +69,27 @@ fn push_marks(
 }
 
 // Puts the objects of these, and the end of an array.
-fn push_list(alloc: Global, marks: &[Fault], out: &mut Vec<u8>) -> Result<(), AllocError>
+fn push_list(alloc: Global, marks: &[Departure], out: &mut Vec<u8>) -> Result<(), AllocError>
     ensures { OnOk result (out.new.items
-        ≡ out.old.items ++ items_text false (items_of fault_json (map fault_told marks.now))) }
+        ≡ out.old.items ++ items_text false (items_of departed_json (told_marks marks.now))) }
 {
     let mut is_later = false;
     for mark in marks {
         push_comma(is_later, out)?;
-        push_fault_object(alloc, b"", mark, out)?;
+        let object = departure_value(alloc, mark)?;
+        push_member(alloc, b"", &object, out)?;
         is_later = true;
     }
     out.push(b']')?;
     Ok(())
+}
+
+// A rule that is broken, as an object with the offset of the encoding.
+fn departure_value(alloc: Global, departure: &Departure) -> Result<Value, AllocError>
+    ensures { IfOk result (λ v. view v ≡ departed_json (departed_of departure.now)) }
+{
+    let told = departure.told;
+    json!(in alloc; {
+        "offset": departure.offset, "rule": told.name, "section": told.section, "text": told.text
+    })
 }

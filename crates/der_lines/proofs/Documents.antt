@@ -2,12 +2,13 @@
 use Rattle.std.proofs.Common.{◌≡◌, ℕ, Bool, true, false, List, [], ◌∷◌, ◌++◌, take, refl, sym, ap, ◌∙◌, subst, append_assoc, append-nil}
 use Rattle.std.specs.Prelude.{Option, None, Some, Result, Ok, Err, IfOk}
 use Rattle.std.specs.declared.alloc.AllocError.{AllocError}
-use Rattle.der_lines.specs.Dump.{Adds, AreFaultLines, Front, IsDump, IsDumpOfSome, StandsInside, down_to}
-use Rattle.der_lines.specs.Dump.{marked_offsets, verdict_of, wrong_offsets}
-use Rattle.der_lines.specs.Steps.{IsFirstFault, IsLast, IsWholeDump, marks_by, outer}
+use Rattle.der_lines.specs.Dump.{Adds, AreFaultLines, AreMarked, Front, IsDump, IsDumpOfSome, StandsInside, down_to}
+use Rattle.der_lines.specs.Dump.{verdict_of, wrong_offsets}
+use Rattle.der_lines.specs.Steps.{IsFirstFault, IsLast, IsWholeDump, counted, mark_offsets, marks_by, outer}
 use Rattle.der_lines.specs.declared.document.Verdict.{Verdict}
 use Rattle.der_lines.specs.declared.document.Verdict.TheVariants.{Refused}
 use Rattle.der_lines.specs.declared.encodings.Found.{Found}
+use Rattle.der_lines.specs.declared.encodings.Marked.{Marked}
 use Rattle.der_lines.specs.declared.faults.Fault.{Fault}
 use Rattle.der_lines.specs.declared.place.Place.{Place}
 use Rattle.der_lines.proofs.Dumps.{fault_line, fault_lines_join}
@@ -44,33 +45,45 @@ outermost_dump place octets most fronts text i z m dump =
     (subst (λ y. IsDump (StandsInside y octets) (outer place.is_inside place.most_depth fronts) text) z dump))
 
 wrong_is :
-    (strict : Bool) (fronts : List Front) (faults : List ℕ) →
-    marks_by strict (marked_offsets fronts) ++ take 1 faults ≡ wrong_offsets strict fronts faults
-wrong_is true fronts faults = refl
-wrong_is false fronts faults = refl
+    (strict : Bool) (marks : List Marked) (faults : List ℕ) →
+    mark_offsets (marks_by strict marks) ++ take 1 faults ≡ wrong_offsets strict (mark_offsets marks) faults
+wrong_is true marks faults = refl
+wrong_is false marks faults = refl
+
+outermost_marked :
+    (place : Place) (octets : List ℕ) (fronts : List Front) (marks : List ℕ) → place.is_inside ≡ false →
+    place.base ≡ 0 → AreMarked (StandsInside place.base octets) (counted place.is_inside fronts) marks →
+    AreMarked (StandsInside 0 octets) fronts marks
+outermost_marked place octets fronts marks i z marked =
+    subst (λ y. AreMarked (StandsInside 0 octets) (counted y fronts) marks) i
+    (subst (λ y. AreMarked (StandsInside y octets) (counted place.is_inside fronts) marks) z marked)
 
 pub some_put :
-    (place : Place) (strict : Bool) (octets : List ℕ) (most : Option ℕ) (found : Found) (marks a b c d : List ℕ)
-    (verdict : Result Verdict AllocError) → place.is_inside ≡ false → place.base ≡ 0 → place.most_depth ≡ most →
+    (place : Place) (strict : Bool) (octets : List ℕ) (most : Option ℕ) (found : Found) (marks : List Marked)
+    (a b c d : List ℕ) (verdict : Result Verdict AllocError) → place.is_inside ≡ false → place.base ≡ 0 → place.most_depth ≡ most →
     marks ≡ marks_by strict found.marks.items → Adds (IsWholeDump place octets found) a b →
-    Adds (AreFaultLines marks) b c → IfOk verdict (λ v. Adds (IsLast found.fault marks v) c d) →
+    Adds (AreFaultLines (mark_offsets marks)) b c →
+    IfOk verdict (λ v. Adds (IsLast found.fault (mark_offsets marks) v) c d) →
     IfOk verdict (λ v. Adds (IsDumpOfSome strict most octets v) a d)
 some_put place strict octets most found marks a b c d (Err e) i z m these put lines last = last
 some_put place strict octets most found marks a b c d (Ok v) i z m these (x, p, put) (y, q, lines) (w, r, last) =
-    let wrong : marks ++ take 1 put.faults ≡ wrong_offsets strict put.fronts put.faults =
-    ap (λ z. z ++ take 1 put.faults) (these ∙ ap (marks_by strict) put.marks) ∙ wrong_is strict put.fronts put.faults in
-    let (all, is) = lines_told found.fault marks put.faults y w v put.told lines last in
+    let all_marks = mark_offsets found.marks.items in
+    let wrong : mark_offsets marks ++ take 1 put.faults ≡ wrong_offsets strict all_marks put.faults =
+    ap (λ z. mark_offsets z ++ take 1 put.faults) these ∙ wrong_is strict found.marks.items put.faults in
+    let (all, is) = lines_told found.fault (mark_offsets marks) put.faults y w v put.told lines last in
     let whole : d ≡ a ++ (x ++ (y ++ w)) = rw (r, q, p) (simp append_assoc) in (
       x ++ (y ++ w),
       whole,
       (
         put.fronts,
         put.faults,
+        all_marks,
         x,
         y ++ w,
         refl,
         put.read,
         outermost_dump place octets most put.fronts x i z m put.dump,
+        outermost_marked place octets put.fronts all_marks i z put.marks,
         subst (λ z. AreFaultLines z (y ++ w)) wrong all,
         is ∙ ap verdict_of wrong,
       ),

@@ -1,5 +1,5 @@
 -- Lines are put after lines.
-use Rattle.std.proofs.Common.{◌≡◌, ◌≢◌, ◌==◌, ℕ, zero, suc, ◌+◌, ◌-◌, List, [], ◌∷◌, ◌++◌, codes, drop, if◌then◌else◌, replicate}
+use Rattle.std.proofs.Common.{◌≡◌, ◌≢◌, ◌==◌, ℕ, zero, suc, ◌+◌, ◌-◌, ◌<◌, List, [], ◌∷◌, ◌++◌, codes, drop, if◌then◌else◌, replicate}
 use Rattle.std.proofs.Common.{Bool, true, false, refl, sym, ap, ◌∙◌, subst, append_assoc, append-nil, arith, length}
 use Rattle.std.proofs.lemmas.List.{drop-drop}
 use Rattle.std.proofs.lemmas.Bool.{eqb-false, eqb-true}
@@ -7,8 +7,9 @@ use Rattle.std.proofs.lemmas.List.Elements.{All-cons, All-head, All-nil, All-tai
 use Rattle.std.specs.Fmt.{decimal}
 use Rattle.std.specs.Prelude.{Option, Result, Ok, Err, OnOk}
 use Rattle.std.specs.declared.alloc.AllocError.{AllocError}
-use Rattle.der_lines.specs.Dump.{Adds, AreFaultLines, Front, IsBlockLine, IsDump, IsFaultLine, IsInsideLine, IsLine, IsMark, IsNote, IsOneLine}
+use Rattle.der_lines.specs.Dump.{Adds, AreFaultLines, Front, IsBlockLine, IsDump, IsFaultLine, IsInsideLine, IsLine, IsNote, IsOneLine}
 use Rattle.der_lines.specs.Dump.{StandAt, StandsInside, block_line, down_to, inside_line, is_too_deep, no_lines, on_one_line, right_of}
+use Rattle.der_lines.specs.Marks.{Told, mark_text, told_rules, words_text}
 use Rattle.der_lines.specs.Steps.{IsLineOf, IsLineUnless, outer, start_text}
 
 -- a dump after a dump
@@ -106,10 +107,12 @@ stays_on_one_line (b ∷ text) one =
 -- the parts of the line of an encoding
 pub line_put :
     (a b c d e k g text : List ℕ) (width : ℕ) (f : Front) → b ≡ a ++ right_of width f.offset → c ≡ b ++ 32 ∷ [] →
-    d ≡ c ++ start_text f → e ≡ d ++ on_one_line text → Adds (IsMark f.marked) e k → g ≡ k ++ 10 ∷ [] →
+    d ≡ c ++ start_text f → e ≡ d ++ on_one_line text → k ≡ e ++ mark_text (told_rules f.rules f.has_spare_bits) →
+    g ≡ k ++ 10 ∷ [] →
     Adds (IsLine (IsBlockLine f)) a g
-line_put a b c d e k g text width f p q r s (mark, m, is) t =
+line_put a b c d e k g text width f p q r s m t =
     let said = on_one_line text in
+    let mark = mark_text (told_rules f.rules f.has_spare_bits) in
     let spaces = width - length (decimal f.offset) in
     let line : List ℕ = replicate spaces 32 ++ (decimal f.offset ++ (32 ∷ start_text f ++ (said ++ mark))) in
     let whole : g ≡ a ++ (line ++ 10 ∷ []) = rw (t, m, s, r, q, p) (simp append_assoc) in (
@@ -124,7 +127,7 @@ line_put a b c d e k g text width f p q r s (mark, m, is) t =
           mark = mark;
           line_is = simp append_assoc;
           one = has_one_line text;
-          mark_is = is;
+          mark_is = refl;
         },
       ),
     )
@@ -191,17 +194,24 @@ inside_deeper octets part base m further f at e s =
       earlier = s.earlier;
       others = s.others;
       among = s.among;
-      place = record { offset = omega (arith, o, e); header = l.header; contents = l.contents; indefinite = l.indefinite; words = l.words; marked = l.marked };
+      place = record { offset = omega (arith, o, e); header = l.header; contents = l.contents; indefinite = l.indefinite; words = l.words; rules = l.rules };
     }
 
 -- a mark
+pub no_mark : (told : List Told) → length told ≡ 0 → mark_text told ≡ []
+no_mark [] e = refl
+no_mark (x ∷ told) e = absurd (omega (arith, e))
+
+some_mark : (told : List Told) → 0 < length told → mark_text told ≡ codes " (not DER: " ++ (words_text false told ++ codes ")")
+some_mark [] some = absurd (omega (arith, some))
+some_mark (x ∷ told) some = refl
+
 pub mark_put :
-    (a b c d words : List ℕ) → b ≡ a ++ codes " (not DER: " → c ≡ b ++ on_one_line words → d ≡ c ++ 41 ∷ [] →
-    Adds (IsMark true) a d
-mark_put a b c d words p q r =
-    let mark = codes " (not DER: " ++ (on_one_line words ++ codes ")") in
-    let whole : d ≡ a ++ mark = rw (r, q, p) (simp append_assoc) in
-    (mark, whole, (on_one_line words, has_one_line words, refl))
+    (a b c d : List ℕ) (told : List Told) → 0 < length told → b ≡ a ++ codes " (not DER: " →
+    c ≡ b ++ words_text false told → d ≡ c ++ 41 ∷ [] → d ≡ a ++ mark_text told
+mark_put a b c d told some p q r =
+    let whole : d ≡ a ++ (codes " (not DER: " ++ (words_text false told ++ codes ")")) = rw (r, q, p) (simp append_assoc) in
+    whole ∙ ap (λ z. a ++ z) (sym (some_mark told some))
 
 -- lines of faults
 pub fault_line : (offset : ℕ) (text : List ℕ) → IsLine (IsFaultLine offset) text → AreFaultLines (offset ∷ []) text

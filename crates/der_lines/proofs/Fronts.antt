@@ -3,16 +3,16 @@ use Rattle.std.proofs.Common.{◌≡◌, ◌⊎◌, inl, inr, ℕ, ◌+◌, ◌-
 use Rattle.std.proofs.Common.{drop, slice_range, refl, sym, ap, ◌∙◌, subst, append_assoc, append-nil, arith}
 use Rattle.std.proofs.lemmas.List.{take-append-drop}
 use Rattle.std.specs.Prelude.{Option, None, Some}
-use Rattle.std.specs.Option.{is_some}
-use Rattle.der_lines.specs.Dump.{AreFrontsOf, Front, IsDump, IsLater, StandAt, StandsInside, marked_offsets, no_lines}
-use Rattle.der_lines.specs.Pieces.{IsPieceDump, Passes, fault_offset, front_at, front_of, kind_contents, kind_header, shown_front}
-use Rattle.der_lines.specs.Steps.{IsAhead, IsFirstFault, IsWholeDump, earlier_fault, marked_offset, outer}
+use Rattle.der_lines.specs.Dump.{AreFrontsOf, AreMarked, Front, IsDump, IsLater, StandAt, StandsInside, marked_offset, no_lines, no_more}
+use Rattle.der_lines.specs.Pieces.{IsPieceDump, Passes, StandsInPiece, fault_offset, front_of, kind_contents, kind_front, kind_header, shown_front}
+use Rattle.der_lines.specs.Steps.{IsAhead, IsFirstFault, IsWholeDump, counted, earlier_fault, mark_offsets, outer}
 use Rattle.der_lines.specs.declared.encodings.Found.{Found}
 use Rattle.der_lines.specs.declared.faults.Fault.{Fault}
 use Rattle.der_lines.specs.declared.piece.Piece.{Piece}
 use Rattle.der_lines.specs.declared.place.Place.{Place}
 use Rattle.der_lines.specs.declared.walk.Walk.{Walk}
 use Rattle.der_lines.proofs.Dumps.{dump_join, dump_map, inside_deeper, outer_join, outer_none, start_dump}
+use Rattle.der_lines.proofs.Told.{counted_join, counted_none, marked_join, marked_map, marked_one}
 
 abbrev pub IsAmong : List Front → Front → Type 0
 IsAmong fronts f = (earlier others : List Front) × (fronts ≡ earlier ++ f ∷ others)
@@ -31,7 +31,7 @@ pub record ShownTo (place : Place) (octets : List ℕ) (walk : Walk) (first : Op
   pub goes_on : (later : List Front) (more : List ℕ) → IsAhead walk.cursor later more
       → AreFrontsOf octets (fronts ++ later) (faults ++ more)
   pub told : IsFirstFault faults first
-  pub marks_are : marks ≡ marked_offsets fronts
+  pub marked : AreMarked (IsSoFar place.base octets fronts) (counted place.is_inside fronts) marks
   pub dump : IsDump (IsSoFar place.base octets fronts) (outer place.is_inside place.most_depth fronts) text
 
 pub shown_none :
@@ -45,7 +45,7 @@ shown_none place octets walk o p ahead = record {
   same_place = p;
   goes_on = ahead;
   told = refl;
-  marks_are = refl;
+  marked = no_more (counted_none place.is_inside) refl;
   dump = no_lines (outer_none place.is_inside place.most_depth) refl;
 }
 
@@ -55,6 +55,13 @@ line_is :
     IsDump P (outer inside most (f ∷ [])) text → IsDump P (outer inside most (g ∷ [])) text
 line_is P true most f g text e dump = dump
 line_is P false most f g text e dump = subst (λ z. IsDump P (outer false most (z ∷ [])) text) (e refl) dump
+
+-- the first mark
+mark_is :
+    (P : Front → Type 0) (inside : Bool) (f g : Front) (marks : List ℕ) → (inside ≡ false → f ≡ g) →
+    AreMarked P (counted inside (f ∷ [])) marks → AreMarked P (counted inside (g ∷ [])) marks
+mark_is P true f g marks e marked = marked
+mark_is P false f g marks e marked = subst (λ z. AreMarked P (counted false (z ∷ [])) marks) (e refl) marked
 
 so_far_more :
     (base : ℕ) (octets : List ℕ) (fronts : List Front) (g p : Front) → IsSoFar base octets fronts p →
@@ -75,82 +82,107 @@ told_more :
 told_more faults own None told none t = subst (λ z. IsFirstFault (z ++ own) told) (sym none) t
 told_more faults own (Some fault) told (later, e) t = (later ++ own, ap (λ z. z ++ own) e)
 
-marked_one : (marked : Bool) (offset : ℕ) → (if marked then offset ∷ [] else []) ≡ marked_offset marked offset
-marked_one true offset = refl
-marked_one false offset = refl
-
-marked_next :
-    (marked : Bool) (offset : ℕ) (xs ys zs : List ℕ) → xs ≡ ys ++ zs →
-    (if marked then offset ∷ xs else xs) ≡ (if marked then offset ∷ ys else ys) ++ zs
-marked_next true offset xs ys zs e = ap (λ z. offset ∷ z) e
-marked_next false offset xs ys zs e = e
-
-marked_more : (fronts : List Front) (g : Front) → marked_offsets (fronts ++ g ∷ []) ≡ marked_offsets fronts ++ marked_offset g.marked g.offset
-marked_more [] g = marked_one g.marked g.offset
-marked_more (f ∷ fronts) g = marked_next f.marked f.offset _ _ _ (marked_more fronts g)
-
 told_one : (fault : Option Fault) → IsFirstFault (fault_offset fault) fault
 told_one None = refl
 told_one (Some fault) = ([], refl)
 
--- the line of one more, and those inside it
-piece_dump :
-    (place : Place) (octets : List ℕ) (fronts : List Front) (old new : Walk) (piece : Piece) (text : List ℕ)
-    (p : Passes old new piece) → old.place ≡ place → old.cursor.octets.now ≡ octets →
-    (place.is_inside ≡ false → (place.base ≡ 0) × (place.depth ≡ 0)) → IsPieceDump p.left piece text →
-    IsDump (IsSoFar place.base octets (fronts ++ front_of p.levels piece ∷ []))
-    (outer place.is_inside place.most_depth (front_of p.levels piece ∷ [])) text
-piece_dump place octets fronts old new piece text p same same_octets outside put =
-    let f = front_of p.levels piece in
-    let g = shown_front piece in
-    let P = IsSoFar place.base octets (fronts ++ f ∷ []) in
-    let base : piece.place.base ≡ place.base = p.base ∙ ap (λ z. z.base) same in
-    let header = kind_header piece.kind in
-    let slice = slice_range p.left header (header + kind_contents piece.kind) in
-    let further = piece.place.base + (piece.offset + header) in
-    let stands : StandAt octets piece.offset p.left = subst (λ z. StandAt z piece.offset p.left) same_octets p.position in
-    let within = left_stands p.left slice header (header + kind_contents piece.kind) refl in
-    let deeper = dump_map (StandsInside further slice) P
-    (λ h s. inr (inside_deeper octets p.left place.base piece.offset (place.base + piece.offset) h stands refl
-    (inside_deeper p.left slice (place.base + piece.offset) header further h within (omega (arith, base)) s)))
-    [] put.rest put.inside in
-    let later : IsLater place.base f g = record {
-      offset = ap (λ z. z + piece.offset) base;
-      header = refl;
-      contents = refl;
-      indefinite = refl;
-      words = refl;
-      marked = refl;
-    } in
-    let own : P g = inl (f, (fronts, [], refl), later) in
-    let line = start_dump P piece.place.is_inside piece.place.most_depth g put.first put.line own in
-    let here : IsDump P (outer place.is_inside place.most_depth (g ∷ [])) put.first =
-    subst (λ z. IsDump P (outer z place.most_depth (g ∷ [])) put.first) (p.inside ∙ ap (λ z. z.is_inside) same)
-    (subst (λ z. IsDump P (outer piece.place.is_inside z (g ∷ [])) put.first) (p.most ∙ ap (λ z. z.most_depth) same) line) in
-    let first = line_is P place.is_inside place.most_depth g f put.first
-    (λ out. let (no_base, no_depth) = outside out in
-    let deep : old.place.depth ≡ place.depth = ap (λ z. z.depth) same in
-    ap (λ z. front_at z piece.place.depth piece) (omega (arith, base, no_base))
-    ∙ ap (λ z. front_at piece.offset z piece) (omega (arith, p.depth, deep, no_depth)))
-    here in
-    let all = dump_join P (outer place.is_inside place.most_depth (f ∷ [])) [] put.first put.rest first deeper in
-    subst (λ z. IsDump P (outer place.is_inside place.most_depth (f ∷ [])) z) (sym put.text_is)
-    (subst (λ z. IsDump P z (put.first ++ put.rest)) (append-nil (outer place.is_inside place.most_depth (f ∷ []))) all)
+-- the line of a piece is of one of these
+module _ (place : Place) (octets : List ℕ) (fronts : List Front) (old new : Walk) (piece : Piece)
+    (p : Passes old new piece) (same : old.place ≡ place) (same_octets : old.cursor.octets.now ≡ octets)
+    (outside : place.is_inside ≡ false → (place.base ≡ 0) × (place.depth ≡ 0)) where
+  abbrev one_more : List Front
+  one_more = fronts ++ front_of p.levels piece ∷ []
+
+  base_is : piece.place.base ≡ place.base
+  base_is = p.base ∙ ap (λ z. z.base) same
+
+  inside_is : piece.place.is_inside ≡ place.is_inside
+  inside_is = p.inside ∙ ap (λ z. z.is_inside) same
+
+  own_shown : IsSoFar place.base octets one_more (shown_front piece)
+  own_shown =
+      let f = front_of p.levels piece in
+      let later : IsLater place.base f (shown_front piece) = record {
+        offset = ap (λ z. z + piece.offset) base_is;
+        header = refl;
+        contents = refl;
+        indefinite = refl;
+        words = refl;
+        rules = refl;
+      } in
+      inl (f, (fronts, [], refl), later)
+
+  -- outside of strings it is what the walk came to
+  shown_outside : place.is_inside ≡ false → shown_front piece ≡ front_of p.levels piece
+  shown_outside out =
+      let (no_base, no_depth) = outside out in
+      let deep : old.place.depth ≡ place.depth = ap (λ z. z.depth) same in
+      let rules = piece.breaches.rules.items in
+      let spare = piece.breaches.has_spare_bits in
+      ap (λ z. kind_front z piece.place.depth rules spare piece.kind) (omega (arith, base_is, no_base))
+      ∙ (ap (λ z. kind_front piece.offset z rules spare piece.kind) (omega (arith, p.depth, deep, no_depth))
+      ∙ ap (λ z. kind_front piece.offset p.levels rules z piece.kind) (p.no_list (inside_is ∙ out)))
+
+  deeper : (h : Front) → StandsInPiece p.left piece h → IsSoFar place.base octets one_more h
+  deeper h s =
+      let header = kind_header piece.kind in
+      let slice = slice_range p.left header (header + kind_contents piece.kind) in
+      let further = piece.place.base + (piece.offset + header) in
+      let stands : StandAt octets piece.offset p.left = subst (λ z. StandAt z piece.offset p.left) same_octets p.position in
+      let within = left_stands p.left slice header (header + kind_contents piece.kind) refl in
+      inr (inside_deeper octets p.left place.base piece.offset (place.base + piece.offset) h stands refl
+      (inside_deeper p.left slice (place.base + piece.offset) header further h within (omega (arith, base_is)) s))
+
+  -- the line of one more, and those inside it
+  piece_dump :
+      (marks text : List ℕ) → IsPieceDump p.left piece marks text →
+      IsDump (IsSoFar place.base octets one_more) (outer place.is_inside place.most_depth (front_of p.levels piece ∷ [])) text
+  piece_dump marks text put =
+      let f = front_of p.levels piece in
+      let g = shown_front piece in
+      let P = IsSoFar place.base octets one_more in
+      let rest = dump_map (StandsInPiece p.left piece) P deeper [] put.rest put.inside in
+      let line = start_dump P piece.place.is_inside piece.place.most_depth g put.first put.line own_shown in
+      let here : IsDump P (outer place.is_inside place.most_depth (g ∷ [])) put.first =
+      subst (λ z. IsDump P (outer z place.most_depth (g ∷ [])) put.first) inside_is
+      (subst (λ z. IsDump P (outer piece.place.is_inside z (g ∷ [])) put.first) (p.most ∙ ap (λ z. z.most_depth) same) line) in
+      let first = line_is P place.is_inside place.most_depth g f put.first shown_outside here in
+      let all = dump_join P (outer place.is_inside place.most_depth (f ∷ [])) [] put.first put.rest first rest in
+      subst (λ z. IsDump P (outer place.is_inside place.most_depth (f ∷ [])) z) (sym put.text_is)
+      (subst (λ z. IsDump P z (put.first ++ put.rest)) (append-nil (outer place.is_inside place.most_depth (f ∷ []))) all)
+
+  -- the mark of one more, and those inside it
+  piece_marked :
+      (marks text : List ℕ) → IsPieceDump p.left piece marks text →
+      AreMarked (IsSoFar place.base octets one_more) (counted place.is_inside (front_of p.levels piece ∷ []))
+      (marked_offset (shown_front piece) ++ marks)
+  piece_marked marks text put =
+      let f = front_of p.levels piece in
+      let g = shown_front piece in
+      let P = IsSoFar place.base octets one_more in
+      let rest = marked_map (StandsInPiece p.left piece) P deeper [] marks put.marked in
+      let first = mark_is P place.is_inside g f (marked_offset g) shown_outside (marked_one P place.is_inside g own_shown) in
+      subst (λ z. AreMarked P z (marked_offset g ++ marks)) (append-nil (counted place.is_inside (f ∷ [])))
+      (marked_join P (counted place.is_inside (f ∷ [])) [] (marked_offset g) marks first rest)
 
 pub shown_more :
     (place : Place) (octets : List ℕ) (old new : Walk) (piece : Piece) (first : Option Fault)
-    (marks more_marks text own : List ℕ) (p : Passes old new piece) →
-    more_marks ≡ marks ++ marked_offset (is_some piece.mark) piece.offset →
+    (marks more_marks inside text own : List ℕ) (p : Passes old new piece) →
+    more_marks ≡ marks ++ (marked_offset (shown_front piece) ++ inside) →
     (place.is_inside ≡ false → (place.base ≡ 0) × (place.depth ≡ 0)) → ShownTo place octets old first marks text →
-    IsPieceDump p.left piece own →
+    IsPieceDump p.left piece inside own →
     ShownTo place octets new (earlier_fault first piece.fault) more_marks (text ++ own)
-shown_more place octets old new piece first marks more_marks text own p put_marks outside s put =
+shown_more place octets old new piece first marks more_marks inside text own p put_marks outside s put =
     let g = front_of p.levels piece in
     let faults = fault_offset piece.fault in
     let P = IsSoFar place.base octets (s.fronts ++ g ∷ []) in
-    let one = piece_dump place octets s.fronts old new piece own p s.same_place s.same_octets outside put in
-    let before = dump_map (IsSoFar place.base octets s.fronts) P (λ q h. so_far_more place.base octets s.fronts g q h)
-    (outer place.is_inside place.most_depth s.fronts) text s.dump
+    let one = piece_dump place octets s.fronts old new piece p s.same_place s.same_octets outside inside own put in
+    let mark = piece_marked place octets s.fronts old new piece p s.same_place s.same_octets outside inside own put in
+    let weaker : (q : Front) → IsSoFar place.base octets s.fronts q → P q =
+    λ q h. so_far_more place.base octets s.fronts g q h in
+    let before = dump_map (IsSoFar place.base octets s.fronts) P weaker (outer place.is_inside place.most_depth s.fronts) text s.dump
+    in
+    let marks_before = marked_map (IsSoFar place.base octets s.fronts) P weaker (counted place.is_inside s.fronts) marks s.marked
     in
     record {
       fronts = s.fronts ++ g ∷ [];
@@ -162,8 +194,10 @@ shown_more place octets old new piece first marks more_marks text own p put_mark
           (subst (AreFrontsOf octets (s.fronts ++ g ∷ later)) (sym (append_assoc s.faults faults more))
           (s.goes_on (g ∷ later) (faults ++ more) (p.ahead later more ahead)));
       told = told_more s.faults faults first piece.fault s.told (told_one piece.fault);
-      marks_are = put_marks ∙ (ap (λ z. z ++ marked_offset (is_some piece.mark) piece.offset) s.marks_are
-          ∙ sym (marked_more s.fronts g));
+      marked = subst (AreMarked P (counted place.is_inside (s.fronts ++ g ∷ []))) (sym put_marks)
+          (subst (λ x. AreMarked P x (marks ++ (marked_offset (shown_front piece) ++ inside)))
+          (sym (counted_join place.is_inside s.fronts (g ∷ [])))
+          (marked_join P _ _ marks (marked_offset (shown_front piece) ++ inside) marks_before mark));
       dump = subst (λ x. IsDump P x (text ++ own)) (sym (outer_join place.is_inside place.most_depth s.fronts (g ∷ [])))
           (dump_join P _ _ text own before one);
     }
@@ -184,13 +218,13 @@ closed base octets fronts faults p read (inl (f, (earlier, others, e), l)) =
       earlier = earlier;
       others = others;
       among = e;
-      place = record { offset = omega (arith, o); header = l.header; contents = l.contents; indefinite = l.indefinite; words = l.words; marked = l.marked };
+      place = record { offset = omega (arith, o); header = l.header; contents = l.contents; indefinite = l.indefinite; words = l.words; rules = l.rules };
     }
 closed base octets fronts faults p read (inr inside) = inside
 
 pub shown_all :
     (place : Place) (octets : List ℕ) (walk : Walk) (found : Found) (text : List ℕ) →
-    IsAhead walk.cursor [] [] → ShownTo place octets walk found.fault found.marks.items text →
+    IsAhead walk.cursor [] [] → ShownTo place octets walk found.fault (mark_offsets found.marks.items) text →
     IsWholeDump place octets found text
 shown_all place octets walk found text ended s =
     let all : AreFrontsOf octets s.fronts s.faults =
@@ -202,7 +236,9 @@ shown_all place octets walk found text ended s =
       faults = s.faults;
       read = all;
       told = s.told;
-      marks = s.marks_are;
+      marks = marked_map (IsSoFar place.base octets s.fronts) (StandsInside place.base octets)
+          (λ p h. closed place.base octets s.fronts s.faults p all h) (counted place.is_inside s.fronts)
+          (mark_offsets found.marks.items) s.marked;
       dump = dump_map (IsSoFar place.base octets s.fronts) (StandsInside place.base octets)
           (λ p h. closed place.base octets s.fronts s.faults p all h) (outer place.is_inside place.most_depth s.fronts) text s.dump;
     }

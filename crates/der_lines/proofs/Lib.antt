@@ -7,3 +7,5 @@ pub mod Fronts
 mod Headers
 mod Seeking
 mod Segments
+pub mod Lengths
+pub mod Told

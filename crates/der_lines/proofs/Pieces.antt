@@ -4,17 +4,18 @@ use Rattle.std.proofs.Common.{drop, length, take, slice_range, refl, sym, ap, �
 use Rattle.std.proofs.Math.Seq.{take-add}
 use Rattle.std.proofs.lemmas.List.{length-drop, length-take-le}
 use Rattle.std.specs.Prelude.{◌↔◌, ◌&&◌, IsTrue, Option, None, Some}
+use Rattle.asn1_departures.specs.declared.rule.Rule.{Rule}
 use Rattle.asn1_headers.specs.Fault.{DecodeFault}
 use Rattle.asn1_headers.specs.Front.{BeginsWithHeader, HasIndefiniteForm, IsAtFront}
 use Rattle.asn1_headers.specs.Header.{Encoding, IsLength}
 use Rattle.asn1_headers.specs.declared.front.Header.{Header}
 use Rattle.asn1_headers.specs.declared.header.ASN1Class.{ASN1Class}
-use Rattle.der_lines.specs.Dump.{Adds, IsDump, IsFirst, IsJudged, StandAt, StandsInside, begins_with_end, cut_short}
-use Rattle.der_lines.specs.Dump.{is_stray_form, of_cut, of_stray_form, taken, with_encodings, with_no_value, with_value}
+use Rattle.der_lines.specs.Dump.{Adds, AreMarked, IsDump, IsFirst, IsJudged, StandAt, StandsInside, begins_with_end, cut_short}
+use Rattle.der_lines.specs.Dump.{is_stray_form, of_cut, of_stray_form, of_whole, taken, with_encodings, with_no_value, with_value}
 use Rattle.der_lines.specs.Headers.{is_gone_into}
 use Rattle.der_lines.specs.Pieces.{IsFault, IsFirstPiece, IsLeafMeaning, IsMeaning, IsNamed, IsNameless, IsOpenedFault}
-use Rattle.der_lines.specs.Pieces.{IsPiece, fault_offset, front_of}
-use Rattle.der_lines.specs.Steps.{IsMarkedFirst, IsTaken, IsWholeDump, StartsNext, StartsWith, header_front, outer}
+use Rattle.der_lines.specs.Pieces.{IsNestedDump, IsPiece, StandsInPiece, fault_offset, front_of, kind_contents, kind_header}
+use Rattle.der_lines.specs.Steps.{AreFirstRules, AreRulesFound, IsTaken, IsWholeDump, StartsNext, StartsWith, counted, header_front, mark_offsets, outer}
 use Rattle.der_lines.specs.Dump.{Front}
 use Rattle.der_lines.specs.declared.cursor.Left.{Left}
 use Rattle.der_lines.specs.declared.cursor.Step.{Step}
@@ -26,6 +27,7 @@ use Rattle.der_lines.specs.declared.leaf.Meaning.TheVariants.{Nothing, Text, Val
 use Rattle.der_lines.specs.declared.piece.Piece.{Piece}
 use Rattle.der_lines.specs.declared.place.Place.{Place}
 use Rattle.der_lines.proofs.Dumps.{dump_map, inside_deeper}
+use Rattle.der_lines.proofs.Told.{marked_map}
 use Rattle.der_lines.proofs.Seeking.{header_size}
 
 pub starts_next :
@@ -47,6 +49,7 @@ next_piece left offset place piece e some p = record {
   offset_is = p.offset_is;
   place_is = p.place_is;
   holding = p.holding;
+  no_list = p.no_list;
 }
 
 -- where a fault stands
@@ -64,17 +67,17 @@ pub nameless_at : (offset : ℕ) (fault : Option Fault) → IsFault (IsNameless 
 nameless_at offset fault = fault_at (IsNameless offset) offset fault (λ f is. is.0)
 
 -- the encoding with the header that begins the octets is judged so
-abbrev pub IsJudgedAs : (left : List ℕ) → ℕ → ℕ → Bool → (header : Header) → IsAtFront left header → List ℕ → Type 0
-IsJudgedAs left offset depth marked header h faults =
-    IsJudged left (header_front offset depth marked header) header.class header.constructed header.tag
+abbrev pub IsJudgedAs : (left : List ℕ) → ℕ → ℕ → List Rule → (header : Header) → IsAtFront left header → List ℕ → Type 0
+IsJudgedAs left offset depth rules header h faults =
+    IsJudged left (header_front offset depth rules header) header.class header.constructed header.tag
     (is_stray_form header.constructed (drop (length h.identifier) left)) faults
 
 begins :
-    (left : List ℕ) (offset depth : ℕ) (marked : Bool) (header : Header) (opened : Bool) (faults : List ℕ)
+    (left : List ℕ) (offset depth : ℕ) (rules : List Rule) (header : Header) (opened : Bool) (faults : List ℕ)
     (h : IsAtFront left header) → opened ≡ is_gone_into header.class header.constructed header.tag →
-    IsTrue header.is_indefinite ↔ HasIndefiniteForm left → IsJudgedAs left offset depth marked header h faults →
-    IsMarkedFirst left header marked → IsFirst left offset depth (header_front offset depth marked header) opened faults
-begins left offset depth marked header opened faults h o form judged m = record {
+    IsTrue header.is_indefinite ↔ HasIndefiniteForm left → IsJudgedAs left offset depth rules header h faults →
+    AreFirstRules left header rules → IsFirst left offset depth (header_front offset depth rules header) opened faults
+begins left offset depth rules header opened faults h o form judged m = record {
   class = header.class;
   constructed = header.constructed;
   tag = header.tag;
@@ -85,7 +88,8 @@ begins left offset depth marked header opened faults h o form judged m = record 
   opened_is = o;
   form = form;
   judged = judged;
-  marked = m h;
+  rules = m h;
+  no_list = refl;
 }
 
 taken_cut : (indefinite : Bool) (n there : ℕ) → there < n → there ≡ taken indefinite n there
@@ -97,32 +101,32 @@ pub cut_starts :
     (left : List ℕ) (offset depth : ℕ) (header : Header) (step : Step) (faults : List ℕ) → IsAtFront left header →
     length left < header.size + header.announced → IsTrue header.is_indefinite ↔ HasIndefiniteForm left →
     IsTaken header (length left) step → faults ≡ offset ∷ [] →
-    StartsWith left offset depth (header_front offset depth false header) step faults
+    StartsWith left offset depth (header_front offset depth [] header) step faults
 cut_starts left offset depth header (Into first all indefinite) faults h l form (o, p, q, i) e = (
   p,
   q ∙ taken_cut header.is_indefinite (header.size + header.announced) (length left) l,
   i,
-  begins left offset depth false header true faults h (sym o) form (cut_short l e) (λ f. of_cut l refl),
+  begins left offset depth [] header true faults h (sym o) form (cut_short l e) (λ f. of_cut l refl),
 )
 cut_starts left offset depth header (Past all) faults h l form (o, q) e =
     inl (
       q ∙ taken_cut header.is_indefinite (header.size + header.announced) (length left) l,
-      begins left offset depth false header false faults h (sym o) form (cut_short l e) (λ f. of_cut l refl),
+      begins left offset depth [] header false faults h (sym o) form (cut_short l e) (λ f. of_cut l refl),
     )
 cut_starts left offset depth header (Out all) faults h l form none e = absurd none
 
 -- one that is whole
 pub whole_starts :
-    (left : List ℕ) (offset depth : ℕ) (marked : Bool) (header : Header) (size : ℕ) (step : Step) (faults : List ℕ)
+    (left : List ℕ) (offset depth : ℕ) (rules : List Rule) (header : Header) (size : ℕ) (step : Step) (faults : List ℕ)
     (h : IsAtFront left header) → IsTrue header.is_indefinite ↔ HasIndefiniteForm left →
-    IsJudgedAs left offset depth marked header h faults → IsMarkedFirst left header marked → IsTaken header size step →
+    IsJudgedAs left offset depth rules header h faults → AreFirstRules left header rules → IsTaken header size step →
     size ≡ taken header.is_indefinite (header.size + header.announced) (length left) →
-    StartsWith left offset depth (header_front offset depth marked header) step faults
-whole_starts left offset depth marked header size (Into first all indefinite) faults h form judged m (o, p, q, i) is =
-    (p, q ∙ is, i, begins left offset depth marked header true faults h (sym o) form judged m)
-whole_starts left offset depth marked header size (Past all) faults h form judged m (o, q) is =
-    inl (q ∙ is, begins left offset depth marked header false faults h (sym o) form judged m)
-whole_starts left offset depth marked header size (Out all) faults h form judged m none is = absurd none
+    StartsWith left offset depth (header_front offset depth rules header) step faults
+whole_starts left offset depth rules header size (Into first all indefinite) faults h form judged m (o, p, q, i) is =
+    (p, q ∙ is, i, begins left offset depth rules header true faults h (sym o) form judged m)
+whole_starts left offset depth rules header size (Past all) faults h form judged m (o, q) is =
+    inl (q ∙ is, begins left offset depth rules header false faults h (sym o) form judged m)
+whole_starts left offset depth rules header size (Out all) faults h form judged m none is = absurd none
 
 -- the octets of a whole encoding
 pub front_encoding :
@@ -146,56 +150,72 @@ front_encoding left contents s n c k t h l e =
 
 -- what is wrong with an encoding that is gone into
 pub opened_judged :
-    (left : List ℕ) (offset depth : ℕ) (marked : Bool) (header : Header) (fault : Option Fault)
+    (left : List ℕ) (offset depth : ℕ) (rules : List Rule) (header : Header) (fault : Option Fault)
     (h : IsAtFront left header) → header.size + header.announced ≤ length left →
     is_gone_into header.class header.constructed header.tag ≡ true →
     IsOpenedFault (is_stray_form header.constructed (drop (length h.identifier) left)) offset fault →
-    IsJudgedAs left offset depth marked header h (fault_offset fault)
-opened_judged left offset depth marked header fault h l o (inl (stray, is)) =
+    IsJudgedAs left offset depth rules header h (fault_offset fault)
+opened_judged left offset depth rules header fault h l o (inl (stray, is)) =
     of_stray_form stray (nameless_at offset fault is)
-opened_judged left offset depth marked header fault h l o (inr (stray, none)) =
+opened_judged left offset depth rules header fault h l o (inr (stray, none)) =
     with_encodings l o stray (ap fault_offset none)
 
 meaning_judged :
-    (left : List ℕ) (offset depth : ℕ) (marked : Bool) (header : Header) (meaning : Meaning) (fault : Option Fault)
+    (left : List ℕ) (offset depth : ℕ) (rules : List Rule) (header : Header) (meaning : Meaning) (fault : Option Fault)
     (h : IsAtFront left header) → header.size + header.announced ≤ length left →
     is_gone_into header.class header.constructed header.tag ≡ false →
     is_stray_form header.constructed (drop (length h.identifier) left) ≡ false →
     IsMeaning header.class header.constructed header.tag
     (slice_range left header.size (header.size + header.announced)) offset meaning fault →
-    IsJudgedAs left offset depth marked header h (fault_offset fault)
-meaning_judged left offset depth marked header (Text form text) fault h l o stray (wide, none) =
+    IsJudgedAs left offset depth rules header h (fault_offset fault)
+meaning_judged left offset depth rules header (Text form text) fault h l o stray (wide, none) =
     with_value l o stray (inl wide) (ap fault_offset none)
-meaning_judged left offset depth marked header Value fault h l o stray (right, none) =
+meaning_judged left offset depth rules header Value fault h l o stray (right, none) =
     with_value l o stray
     (inr (right (take (header.size + header.announced) left) header.size
     (front_encoding left (slice_range left header.size (header.size + header.announced)) header.size header.announced
     header.class header.constructed header.tag h l refl)))
     (ap fault_offset none)
-meaning_judged left offset depth marked header Nothing fault h l o stray (u, (found, wrong, is)) =
+meaning_judged left offset depth rules header Nothing fault h l o stray (u, (found, wrong, is)) =
     with_no_value l o u found wrong (named_at offset found fault is)
 
 -- and with one that is not
 pub leaf_judged :
-    (left : List ℕ) (offset depth : ℕ) (marked : Bool) (header : Header) (meaning : Meaning) (fault : Option Fault)
+    (left : List ℕ) (offset depth : ℕ) (rules : List Rule) (header : Header) (meaning : Meaning) (fault : Option Fault)
     (h : IsAtFront left header) → header.size + header.announced ≤ length left →
     is_gone_into header.class header.constructed header.tag ≡ false →
     IsLeafMeaning left header (drop (length h.identifier) left) offset meaning fault →
-    IsJudgedAs left offset depth marked header h (fault_offset fault)
-leaf_judged left offset depth marked header meaning fault h l o (inl (stray, nothing, is)) =
+    IsJudgedAs left offset depth rules header h (fault_offset fault)
+leaf_judged left offset depth rules header meaning fault h l o (inl (stray, nothing, is)) =
     of_stray_form stray (nameless_at offset fault is)
-leaf_judged left offset depth marked header meaning fault h l o (inr (stray, is)) =
-    meaning_judged left offset depth marked header meaning fault h l o stray is
+leaf_judged left offset depth rules header meaning fault h l o (inr (stray, is)) =
+    meaning_judged left offset depth rules header meaning fault h l o stray is
 
--- the lines of encodings inside contents octets
+-- the rules of a whole encoding
+pub whole_rules :
+    (left : List ℕ) (header : Header) (rules : List Rule) → header.size + header.announced ≤ length left →
+    AreRulesFound left header rules → AreFirstRules left header rules
+whole_rules left header rules whole found front = of_whole whole (found front)
+
+-- the lines of encodings inside contents octets, and their marks
 pub nested_adds :
-    (inside : Place) (contents octets : List ℕ) (base before : ℕ) (told : Found) (a b : List ℕ) → StandAt contents before octets →
-    inside.is_inside ≡ true → inside.base ≡ base + before → Adds (IsWholeDump inside octets told) a b →
-    Adds (IsDump (StandsInside base contents) []) a b
-nested_adds inside contents octets base before told a b stand is_inside further (text, e, put) = (
-  text,
-  e,
-  dump_map (StandsInside inside.base octets) (StandsInside base contents)
-      (λ p s. inside_deeper contents octets base before inside.base p stand further s) [] text
-      (subst (λ z. IsDump (StandsInside inside.base octets) (outer z inside.most_depth put.fronts) text) is_inside put.dump),
-)
+    (inside : Place) (left : List ℕ) (piece : Piece) (octets : List ℕ) (before : ℕ) (told : Found) (a b : List ℕ) →
+    StandAt (slice_range left (kind_header piece.kind) (kind_header piece.kind + kind_contents piece.kind)) before octets →
+    inside.is_inside ≡ true → inside.base ≡ piece.place.base + (piece.offset + kind_header piece.kind) + before →
+    Adds (IsWholeDump inside octets told) a b → Adds (IsNestedDump left piece (mark_offsets told.marks.items)) a b
+nested_adds inside left piece octets before told a b stand is_inside further (text, e, put) =
+    let header = kind_header piece.kind in
+    let base = piece.place.base + (piece.offset + header) in
+    let contents = slice_range left header (header + kind_contents piece.kind) in
+    let deeper : (f : Front) → StandsInside inside.base octets f → StandsInPiece left piece f =
+    λ f s. inside_deeper contents octets base before inside.base f stand further s in
+    let marks = mark_offsets told.marks.items in (
+      text,
+      e,
+      (
+        dump_map (StandsInside inside.base octets) (StandsInPiece left piece) deeper [] text
+            (subst (λ z. IsDump (StandsInside inside.base octets) (outer z inside.most_depth put.fronts) text) is_inside put.dump),
+        marked_map (StandsInside inside.base octets) (StandsInPiece left piece) deeper [] marks
+            (subst (λ z. AreMarked (StandsInside inside.base octets) (counted z put.fronts) marks) is_inside put.marks),
+      ),
+    )

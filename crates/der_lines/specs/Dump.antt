@@ -14,9 +14,10 @@ use Rattle.asn1_blocks.specs.Tree.{Tree}
 use Rattle.asn1_headers.specs.Front.{BeginsWithHeader, HasIndefiniteForm, HasNoHeader}
 use Rattle.der_lines.specs.Headers.{is_gone_into}
 use Rattle.der_lines.specs.declared.cursor.End.{End}
-use Rattle.der_rules.specs.LengthForm.{has_indefinite_length}
-use Rattle.der_rules.specs.Rules.{AreBreaches, is_breach}
-use Rattle.der_rules.specs.declared.breaches.Breaches.{Breaches}
+use Rattle.asn1_departures.specs.Departures.{AreBroken}
+use Rattle.asn1_departures.specs.declared.rule.Rule.{Rule}
+use Rattle.der_lines.specs.LengthForm.{has_indefinite_length}
+use Rattle.der_lines.specs.Marks.{are_some, mark_text, told_rules}
 use Rattle.der_lines.specs.declared.document.Verdict.{Verdict}
 use Rattle.der_lines.specs.declared.document.Verdict.TheVariants.{AllRead, Refused}
 use Rattle.asn1_headers.specs.Names.{type_name}
@@ -36,7 +37,8 @@ tag_words Private tag = codes "[PRIVATE " ++ (tag_number tag ++ codes "]")
 
 -- what the line of an encoding begins with: its offset, the sizes of its header and of the contents octets that it
 -- announces, whether its length is of the indefinite form, which announces none, how many encodings are around it, and
--- its tag in words; and whether it ends with a mark
+-- its tag in words; and what its mark says: the rules of DER that it breaks, and whether it is a list of named bits with
+-- a 0 at its end (X.690 11.2.2)
 pub record Front : Type 0 where
   pub offset : ℕ
   pub header : ℕ
@@ -44,7 +46,8 @@ pub record Front : Type 0 where
   pub indefinite : Bool
   pub depth : ℕ
   pub words : List ℕ
-  pub marked : Bool
+  pub rules : List Rule
+  pub has_spare_bits : Bool
 
 -- that of octets at the offset which begin with no header: there are so many
 abbrev pub unreadable : ℕ → ℕ → ℕ → Front
@@ -55,7 +58,8 @@ unreadable offset size depth = record {
   indefinite = false;
   depth = depth;
   words = codes "unreadable";
-  marked = false;
+  rules = [];
+  has_spare_bits = false;
 }
 
 -- that of end-of-contents octets at the offset: there are two of them (X.690 8.1.5), or none where they are missing
@@ -67,7 +71,8 @@ end_of_contents offset size depth = record {
   indefinite = false;
   depth = depth;
   words = codes "end-of-contents";
-  marked = false;
+  rules = [];
+  has_spare_bits = false;
 }
 
 -- strings that the library takes for UTF-8 where X.690 has other characters: TeletexString, UniversalString, BMPString
@@ -102,18 +107,17 @@ pub data IsJudged (octets : List ℕ) (front : Front) (class : ASN1Class) (const
       LeafFault tag (slice_range octets front.header (front.header + front.contents)) fault →
       faults ≡ front.offset ∷ [] → IsJudged octets front class constructed tag stray faults
 
--- an encoding that begins the octets, with these identifier octets, is marked: where it is whole, and breaks a rule of
--- BER or DER, whether or not it has a value
-pub data IsMarked (octets identifier : List ℕ) (size announced : ℕ) (class : ASN1Class) (constructed : Bool)
-    (tag : ℕ) (marked : Bool) : Type 0 where
+-- an encoding that begins the octets, with these identifier and length octets, breaks these rules of DER, where it is
+-- whole: those that the library lists at its offset, whether or not it has a value
+pub data AreRules (octets identifier len : List ℕ) (size announced : ℕ) (class : ASN1Class) (constructed : Bool)
+    (tag : ℕ) (rules : List Rule) : Type 0 where
   of_cut :
-      length octets < size + announced → marked ≡ false →
-      IsMarked octets identifier size announced class constructed tag marked
+      length octets < size + announced → rules ≡ [] →
+      AreRules octets identifier len size announced class constructed tag rules
   of_whole :
-      size + announced ≤ length octets → (found : Breaches) →
-      AreBreaches found octets (drop (length identifier) octets) announced class constructed tag
-      (slice_range octets size (size + announced)) →
-      marked ≡ is_breach found → IsMarked octets identifier size announced class constructed tag marked
+      size + announced ≤ length octets →
+      AreBroken identifier len class constructed tag (slice_range octets size (size + announced)) rules →
+      AreRules octets identifier len size announced class constructed tag rules
 
 -- an encoding begins the octets, which stand at the offset, inside so many others. Its contents octets may be cut short
 pub record IsFirst (octets : List ℕ) (offset depth : ℕ) (front : Front) (opened : Bool) (faults : List ℕ)
@@ -130,8 +134,9 @@ pub record IsFirst (octets : List ℕ) (offset depth : ℕ) (front : Front) (ope
   pub judged :
       IsJudged octets front class constructed tag (is_stray_form constructed (drop (length header.identifier) octets))
       faults
-  pub marked :
-      IsMarked octets header.identifier front.header front.contents class constructed tag front.marked
+  pub rules :
+      AreRules octets header.identifier header.len front.header front.contents class constructed tag front.rules
+  pub no_list : front.has_spare_bits ≡ false
 
 -- how many octets an encoding takes at most, of so many: those that its header announces, or in the indefinite form all
 abbrev pub taken : Bool → ℕ → ℕ → ℕ
@@ -207,11 +212,9 @@ pub data AreFronts (octets : List ℕ) : ℕ → List End → List Front → Lis
       fronts ≡ first ∷ later_fronts → faults ≡ own ++ later_faults →
       AreFronts octets offset ends fronts faults
 
--- the offsets of those that are marked
-abbrev pub marked_offsets : List Front → List ℕ
-marked_offsets [] = []
-marked_offsets (front ∷ fronts) =
-    if front.marked then front.offset ∷ marked_offsets fronts else marked_offsets fronts
+-- the offset of one that is marked
+abbrev pub marked_offset : Front → List ℕ
+marked_offset front = if are_some (told_rules front.rules front.has_spare_bits) then front.offset ∷ [] else []
 
 -- so of all octets
 abbrev pub AreFrontsOf : List ℕ → List Front → List ℕ → Type 0
@@ -240,11 +243,6 @@ right_of width n = replicate (width - length (decimal n)) space ++ decimal n
 abbrev pub indentation : ℕ → List ℕ
 indentation depth = replicate (2 * min depth 40) space
 
--- what a line ends with that is marked: what is wrong, on one line; any other with nothing
-abbrev pub IsMark : Bool → List ℕ → Type 0
-IsMark true mark = (words : List ℕ) × IsOneLine words × (mark ≡ codes " (not DER: " ++ (words ++ codes ")"))
-IsMark false mark = mark ≡ []
-
 -- the size of the contents octets as a line has it, on the right of seven columns: a number, or `inf` where the length
 -- is of the indefinite form
 abbrev pub contents_column : Bool → ℕ → List ℕ
@@ -262,7 +260,7 @@ pub record IsBlockLine (front : Front) (line : List ℕ) : Type 0 where
       ++ (contents_column front.indefinite front.contents ++ (space ∷ space ∷ []
       ++ (indentation front.depth ++ (front.words ++ (said ++ mark)))))))))
   pub one : IsOneLine said
-  pub mark_is : IsMark front.marked mark
+  pub mark_is : mark ≡ mark_text (told_rules front.rules front.has_spare_bits)
 
 -- the line of one that stands inside octets of another: `>`, and then as any
 pub record IsInsideLine (front : Front) (line : List ℕ) : Type 0 where
@@ -289,14 +287,15 @@ pub record IsFaultLine (offset : ℕ) (line : List ℕ) : Type 0 where
 abbrev pub StandAt : List ℕ → ℕ → List ℕ → Type 0
 StandAt octets before part = (rest : List ℕ) × (drop before octets ≡ part ++ rest)
 
--- the same at an offset greater by so much, inside however many
+-- the same at an offset greater by so much, inside however many. Around octets of a string may stand what tells that
+-- they are a list of named bits
 pub record IsLater (base : ℕ) (front later : Front) : Type 0 where
   pub offset : later.offset ≡ base + front.offset
   pub header : later.header ≡ front.header
   pub contents : later.contents ≡ front.contents
   pub indefinite : later.indefinite ≡ front.indefinite
   pub words : later.words ≡ front.words
-  pub marked : later.marked ≡ front.marked
+  pub rules : later.rules ≡ front.rules
 
 -- it is of an encoding in octets among these, which stand so many octets later than these
 pub record StandsInside (base : ℕ) (octets : List ℕ) (later : Front) : Type 0 where
@@ -325,6 +324,18 @@ pub data IsDump (Inside : Front → Type 0) : List Front → List ℕ → Type 0
       text ≡ line ++ line_feed ∷ rest → IsInsideLine front line → Inside front →
       IsDump Inside fronts rest → IsDump Inside fronts text
 
+-- the offsets of encodings that are marked, in order: of these, and of some inside octets, for which something holds
+pub data AreMarked (Inside : Front → Type 0) : List Front → List ℕ → Type 0 where
+  no_more : {fronts : List Front} {offsets : List ℕ} → fronts ≡ [] → offsets ≡ [] → AreMarked Inside fronts offsets
+  one :
+      {fronts : List Front} {offsets : List ℕ} (front : Front) (later : List Front) (rest : List ℕ) →
+      fronts ≡ front ∷ later → offsets ≡ marked_offset front ++ rest → AreMarked Inside later rest →
+      AreMarked Inside fronts offsets
+  one_inside :
+      {fronts : List Front} {offsets : List ℕ} (front : Front) (rest : List ℕ) →
+      offsets ≡ marked_offset front ++ rest → Inside front → AreMarked Inside fronts rest →
+      AreMarked Inside fronts offsets
+
 -- a line of some kind, and octet 0A, which ends it
 abbrev pub IsLine : (List ℕ → Type 0) → List ℕ → Type 0
 IsLine Is text = (line : List ℕ) × (text ≡ line ++ line_feed ∷ []) × Is line
@@ -337,9 +348,9 @@ AreFaultLines (offset ∷ offsets) text =
     × AreFaultLines offsets later
 
 -- what is wrong with a document: the first fault; and where it has to be DER, each encoding that is marked before it
-abbrev pub wrong_offsets : Bool → List Front → List ℕ → List ℕ
-wrong_offsets false fronts faults = take 1 faults
-wrong_offsets true fronts faults = marked_offsets fronts ++ take 1 faults
+abbrev pub wrong_offsets : Bool → List ℕ → List ℕ → List ℕ
+wrong_offsets false marks faults = take 1 faults
+wrong_offsets true marks faults = marks ++ take 1 faults
 
 -- all was read of a document of which nothing is wrong
 abbrev pub verdict_of : List ℕ → Verdict
@@ -349,10 +360,11 @@ verdict_of (offset ∷ offsets) = Refused
 -- the lines of octets, which have to be DER or not, down to the most depth, and a line for each that is wrong with them
 abbrev pub IsDumpOfSome : Bool → Option ℕ → List ℕ → Verdict → List ℕ → Type 0
 IsDumpOfSome strict most octets verdict text =
-    (fronts : List Front) × (faults lines last : List ℕ) × (text ≡ lines ++ last)
+    (fronts : List Front) × (faults marks lines last : List ℕ) × (text ≡ lines ++ last)
     × AreFrontsOf octets fronts faults × IsDump (StandsInside 0 octets) (down_to most fronts) lines
-    × AreFaultLines (wrong_offsets strict fronts faults) last
-    × (verdict ≡ verdict_of (wrong_offsets strict fronts faults))
+    × AreMarked (StandsInside 0 octets) fronts marks
+    × AreFaultLines (wrong_offsets strict marks faults) last
+    × (verdict ≡ verdict_of (wrong_offsets strict marks faults))
 
 -- so, or of no octets that there are none
 abbrev pub IsDumpOf : Bool → Option ℕ → List ℕ → Verdict → List ℕ → Type 0

@@ -6,3 +6,5 @@ pub mod Seek
 pub mod SeekSteps
 pub mod Segments
 pub mod Steps
+pub mod LengthForm
+pub mod Marks

@@ -2,7 +2,7 @@
 -- Private contracts alone name these.
 use Rattle.std.specs.Prelude.{◌≡◌, ◌⊎◌, ℕ, ◌+◌, ◌<◌, ◌≤◌, Bool, true, false, List, [], ◌∷◌, ◌++◌, codes, drop, length}
 use Rattle.std.specs.Prelude.{IfSome, MatchOption, Option, None, Some, option_map, slice_range}
-use Rattle.std.specs.Option.{is_some}
+use Rattle.asn1_departures.specs.declared.rule.Rule.{Rule}
 use Rattle.asn1_headers.specs.Fault.{DecodeFault, incomplete}
 use Rattle.asn1_headers.specs.Front.{IsAtFront}
 use Rattle.asn1_headers.specs.Header.{Encoding}
@@ -13,7 +13,7 @@ use Rattle.asn1_headers.specs.declared.header.ASN1Class.TheVariants.{Universal}
 use Rattle.asn1_blocks.specs.Contents.{LeafFault}
 use Rattle.asn1_blocks.specs.Grammar.{Encodes}
 use Rattle.asn1_blocks.specs.Tree.{Tree}
-use Rattle.der_lines.specs.Dump.{Front, IsDump, StandAt, StandsInside, is_stray_form, is_wide, tag_words, taken}
+use Rattle.der_lines.specs.Dump.{AreMarked, Front, IsDump, StandAt, StandsInside, is_stray_form, is_wide, tag_words, taken}
 use Rattle.der_lines.specs.Headers.{is_gone_into}
 use Rattle.der_lines.specs.Steps.{IsAhead, IsStart, StartsNext, StartsWith, to_go}
 use Rattle.der_lines.specs.declared.cursor.Left.{Left}
@@ -128,23 +128,21 @@ kind_words (Opened header contents) = tag_words header.class header.tag
 kind_words (Leaf header contents meaning) = tag_words header.class header.tag
 
 -- what the line of a piece of the kind begins with, at the offset, inside so many encodings
-abbrev pub kind_front : ℕ → ℕ → Bool → Kind → Front
-kind_front offset depth marked kind = record {
+abbrev pub kind_front : ℕ → ℕ → List Rule → Bool → Kind → Front
+kind_front offset depth rules spare kind = record {
   offset = offset;
   header = kind_header kind;
   contents = kind_contents kind;
   indefinite = kind_indefinite kind;
   depth = depth;
   words = kind_words kind;
-  marked = marked;
+  rules = rules;
+  has_spare_bits = spare;
 }
 
-abbrev pub front_at : ℕ → ℕ → Piece → Front
-front_at offset depth piece = kind_front offset depth (is_some piece.mark) piece.kind
-
--- so in the octets that it is a piece of
+-- so in the octets that it is a piece of, by which no list of named bits is told
 abbrev pub front_of : ℕ → Piece → Front
-front_of depth piece = front_at piece.offset depth piece
+front_of depth piece = kind_front piece.offset depth piece.breaches.rules.items false piece.kind
 
 -- encodings inside its contents octets
 abbrev pub IsHolding : List ℕ → Kind → Place → Option Nested → Type 0
@@ -160,6 +158,7 @@ pub record IsPieceAs (Starts : ℕ → Front → Step → List ℕ → Type 0) (
   pub offset_is : piece.offset ≡ offset
   pub place_is : piece.place ≡ place
   pub holding : IsHolding left piece.kind place piece.nested
+  pub no_list : place.is_inside ≡ false → piece.breaches.has_spare_bits ≡ false
 
 abbrev pub IsFirstPiece : List ℕ → ℕ → Place → Piece → Type 0
 IsFirstPiece left offset = IsPieceAs (StartsWith left offset) left offset
@@ -181,20 +180,33 @@ pub record Passes (old new : Walk) (piece : Piece) : Type 0 where
   pub documents : piece.place.documents ≡ old.place.documents
   pub most : piece.place.most_depth ≡ old.place.most_depth
   pub holding : IsHolding left piece.kind piece.place piece.nested
+  pub no_list : piece.place.is_inside ≡ false → piece.breaches.has_spare_bits ≡ false
   pub less : to_go new.cursor < to_go old.cursor
   pub same_octets : new.cursor.octets.now ≡ old.cursor.octets.now
   pub same_place : new.place ≡ old.place
 
 -- what the line of a piece begins with in the document
 abbrev pub shown_front : Piece → Front
-shown_front piece = front_at (piece.place.base + piece.offset) piece.place.depth piece
+shown_front piece =
+    kind_front (piece.place.base + piece.offset) piece.place.depth piece.breaches.rules.items
+    piece.breaches.has_spare_bits piece.kind
 
--- the line of a piece, and lines of encodings inside its contents octets
-pub record IsPieceDump (left : List ℕ) (piece : Piece) (text : List ℕ) : Type 0 where
+-- of what stands inside the contents octets of a piece
+abbrev pub StandsInPiece : List ℕ → Piece → Front → Type 0
+StandsInPiece left piece =
+    StandsInside (piece.place.base + (piece.offset + kind_header piece.kind))
+    (slice_range left (kind_header piece.kind) (kind_header piece.kind + kind_contents piece.kind))
+
+-- the lines of encodings inside contents octets, and where the marked ones stand
+abbrev pub IsNestedDump : List ℕ → Piece → List ℕ → List ℕ → Type 0
+IsNestedDump left piece marks text =
+    IsDump (StandsInPiece left piece) [] text × AreMarked (StandsInPiece left piece) [] marks
+
+-- the line of a piece, and lines of encodings inside its contents octets, of which these are marked
+pub record IsPieceDump (left : List ℕ) (piece : Piece) (marks text : List ℕ) : Type 0 where
   pub first : List ℕ
   pub rest : List ℕ
   pub text_is : text ≡ first ++ rest
   pub line : IsStart piece.place (shown_front piece) first
-  pub inside :
-      IsDump (StandsInside (piece.place.base + (piece.offset + kind_header piece.kind))
-      (slice_range left (kind_header piece.kind) (kind_header piece.kind + kind_contents piece.kind))) [] rest
+  pub inside : IsDump (StandsInPiece left piece) [] rest
+  pub marked : AreMarked (StandsInPiece left piece) [] marks

@@ -1,11 +1,10 @@
 -- What is put step by step. Private contracts alone name these.
 use Rattle.std.specs.Prelude.{◌≡◌, ◌⊎◌, ◌&&◌, ℕ, ◌+◌, ◌<◌, Option, Bool, true, false, List, [], ◌∷◌, ◌++◌, drop, length}
 use Rattle.std.specs.Prelude.{⊤, ◌↔◌, ◌≤◌, ◌*◌, ◌-◌, IsTrue, reverse, slice_range}
-use Rattle.std.specs.Prelude.{MatchOption, None, Some}
+use Rattle.std.specs.Prelude.{MatchOption, None, Some, map}
 use Rattle.asn1_headers.specs.declared.header.ASN1Class.TheVariants.{Universal}
-use Rattle.std.specs.Option.{is_some}
 use Rattle.der_lines.specs.Dump.{AreFronts, AreFrontsOf, Front, IsBlockLine, IsDump, IsFirst, IsInsideLine}
-use Rattle.der_lines.specs.Dump.{IsFaultLine, IsLine, IsMarked, marked_offsets, verdict_of}
+use Rattle.der_lines.specs.Dump.{AreMarked, AreRules, IsFaultLine, IsLine, marked_offset, verdict_of}
 use Rattle.der_lines.specs.declared.document.Verdict.{Verdict}
 use Rattle.der_lines.specs.declared.document.Verdict.TheVariants.{Refused}
 use Rattle.der_lines.specs.Dump.{StandsInside, down_to, indentation, is_too_deep, right_of, size_in, tag_words}
@@ -20,6 +19,9 @@ use Rattle.der_lines.specs.declared.cursor.Left.{Left}
 use Rattle.der_lines.specs.declared.cursor.Step.{Step}
 use Rattle.der_lines.specs.declared.cursor.Step.TheVariants.{Into, Out, Past}
 use Rattle.der_lines.specs.declared.encodings.Found.{Found}
+use Rattle.der_lines.specs.declared.encodings.Marked.{Marked}
+use Rattle.asn1_departures.specs.Departures.{AreBroken}
+use Rattle.asn1_departures.specs.declared.rule.Rule.{Rule}
 use Rattle.der_lines.specs.declared.faults.Fault.{Fault}
 use Rattle.asn1_headers.specs.declared.front.Header.{Header}
 use Rattle.der_lines.specs.declared.lines.LineStart.{LineStart}
@@ -41,19 +43,21 @@ front_of start = record {
   indefinite = start.is_indefinite;
   depth = start.depth;
   words = start.words.now;
-  marked = is_some start.mark;
+  rules = start.breaches.now.rules.items;
+  has_spare_bits = start.breaches.now.has_spare_bits;
 }
 
 -- that of an encoding with the header
-abbrev pub header_front : ℕ → ℕ → Bool → Header → Front
-header_front offset depth marked header = record {
+abbrev pub header_front : ℕ → ℕ → List Rule → Header → Front
+header_front offset depth rules header = record {
   offset = offset;
   header = header.size;
   contents = header.announced;
   indefinite = header.is_indefinite;
   depth = depth;
   words = tag_words header.class header.tag;
-  marked = marked;
+  rules = rules;
+  has_spare_bits = false;
 }
 
 -- what a line has behind its offset and a space
@@ -62,11 +66,16 @@ start_text front =
     right_of 2 front.header ++ (space ∷ [] ++ (contents_column front.indefinite front.contents
     ++ (space ∷ space ∷ [] ++ (indentation front.depth ++ front.words))))
 
--- the encoding with the header is marked, which begins the octets
-abbrev pub IsMarkedFirst : List ℕ → Header → Bool → Type 0
-IsMarkedFirst left header marked =
-    (front : IsAtFront left header) → IsMarked left front.identifier header.size header.announced header.class
-    header.constructed header.tag marked
+-- the encoding with the header breaks these rules, which begins the octets; so where it is whole
+abbrev pub AreFirstRules : List ℕ → Header → List Rule → Type 0
+AreFirstRules left header rules =
+    (front : IsAtFront left header) → AreRules left front.identifier front.len header.size header.announced header.class
+    header.constructed header.tag rules
+
+abbrev pub AreRulesFound : List ℕ → Header → List Rule → Type 0
+AreRulesFound left header rules =
+    (front : IsAtFront left header) → AreBroken front.identifier front.len header.class header.constructed header.tag
+    (slice_range left header.size (header.size + header.announced)) rules
 
 -- a line, inside octets of a string or not
 abbrev pub IsLineOf : Bool → Front → List ℕ → Type 0
@@ -187,10 +196,14 @@ abbrev pub earlier_fault : Option Fault → Option Fault → Option Fault
 earlier_fault None next = next
 earlier_fault (Some fault) next = Some fault
 
--- the offset, if something stands there that is marked
-abbrev pub marked_offset : Bool → ℕ → List ℕ
-marked_offset true offset = offset ∷ []
-marked_offset false offset = []
+-- those of which the marks count that stand inside no octets of a string
+abbrev pub counted : Bool → List Front → List Front
+counted true fronts = []
+counted false fronts = fronts
+
+-- where marks stand
+abbrev pub mark_offsets : List Marked → List ℕ
+mark_offsets marks = map (λ m. m.offset) marks
 
 -- the lines of octets
 pub record IsWholeDump (place : Place) (octets : List ℕ) (found : Found) (text : List ℕ) : Type 0 where
@@ -198,11 +211,11 @@ pub record IsWholeDump (place : Place) (octets : List ℕ) (found : Found) (text
   pub faults : List ℕ
   pub read : AreFrontsOf octets fronts faults
   pub told : IsFirstFault faults found.fault
-  pub marks : found.marks.items ≡ marked_offsets fronts
+  pub marks : AreMarked (StandsInside place.base octets) (counted place.is_inside fronts) (mark_offsets found.marks.items)
   pub dump : IsDump (StandsInside place.base octets) (outer place.is_inside place.most_depth fronts) text
 
 -- marks, where they are wrong
-abbrev pub marks_by : Bool → List ℕ → List ℕ
+abbrev pub marks_by : Bool → List Marked → List Marked
 marks_by true marks = marks
 marks_by false marks = []
 

@@ -1,12 +1,12 @@
 // The lines of a document.
 ghost use Rattle.std.specs.Prelude.{◌≡◌, IfOk, OnOk, false, true};
 ghost use Rattle.der_lines.specs.Dump.{Adds, AreFaultLines, IsDumpOf, IsDumpOfSome, IsFaultLine, IsLine};
-ghost use Rattle.der_lines.specs.Steps.{IsLast, marks_by as marks_are};
+ghost use Rattle.der_lines.specs.Steps.{IsLast, mark_offsets, marks_by as marks_are};
 
-use crate::encodings::{Found, push_encodings};
+use crate::encodings::{Found, Marked, push_encodings};
 use crate::faults::push_fault_line;
 use crate::lines::push_fault;
-use crate::marks::words_at;
+use crate::marks::push_words;
 use crate::place::outermost;
 use crate::style::Style;
 use asn1_headers::error::ASN1DecodeErr;
@@ -51,9 +51,10 @@ pub fn push_document(
 
 /// Puts the lines of octets as `push_document` does, and then what is wrong with them where they have to be DER: a line
 /// with the offset of each encoding whose line has a mark, and what its mark says; and last the first fault. Where
-/// there is no such line the verdict is `AllRead`. Octets inside strings count for nothing there.
+/// there is no such line the verdict is `AllRead`. Inside strings the marks count as well where lines go into them, a
+/// fault for nothing.
 ///
-/// It takes a word more for each encoding that has a mark.
+/// It takes memory for each encoding that has a mark.
 ///
 /// # Errors
 /// Memory ran out.
@@ -102,47 +103,39 @@ fn push_lines(
 {
     let found = push_encodings(alloc, names, octets, outermost(style), out)?;
     let marks = marks_by(is_strict, &found.marks);
-    push_marks(alloc, octets, marks, out)?;
+    push_marks(alloc, marks, out)?;
     push_last(&found, marks, out)
 }
 
 // Marks, where they are wrong.
-fn marks_by(is_strict: bool, marks: &[usize]) -> &[usize]
+fn marks_by(is_strict: bool, marks: &[Marked]) -> &[Marked]
     ensures { result.now ≡ marks_are is_strict marks.now }
 {
     if is_strict { marks } else { &[] }
 }
 
 // Puts a line for each mark.
-fn push_marks(
-    alloc: Global,
-    octets: &[u8],
-    marks: &[usize],
-    out: &mut Vec<u8>,
-) -> Result<(), AllocError>
-    ensures { OnOk result (Adds (AreFaultLines marks.now) out.old.items out.new.items) }
+fn push_marks(alloc: Global, marks: &[Marked], out: &mut Vec<u8>) -> Result<(), AllocError>
+    ensures { OnOk result (Adds (AreFaultLines (mark_offsets marks.now)) out.old.items out.new.items) }
 {
-    for offset in marks {
-        push_mark_line(alloc, octets, *offset, out)?;
+    for mark in marks {
+        push_mark_line(alloc, mark, out)?;
     }
     Ok(())
 }
 
-fn push_mark_line(
-    alloc: Global,
-    octets: &[u8],
-    offset: usize,
-    out: &mut Vec<u8>,
-) -> Result<(), AllocError>
-    ensures { OnOk result (Adds (IsLine (IsFaultLine offset)) out.old.items out.new.items) }
+fn push_mark_line(alloc: Global, mark: &Marked, out: &mut Vec<u8>) -> Result<(), AllocError>
+    ensures { OnOk result (Adds (IsLine (IsFaultLine mark.now.offset)) out.old.items out.new.items) }
 {
-    let words = words_at(alloc, octets, offset)?;
-    push_fault(offset, words.as_bytes(), out)
+    let mut said = Vec::new(alloc);
+    said.extend_from_slice(b"not DER: ")?;
+    push_words(&mark.told, &mut said)?;
+    push_fault(mark.offset, &said, out)
 }
 
 // Puts the line of the first fault, if there is one, behind those of marks.
-fn push_last(found: &Found, marks: &[usize], out: &mut Vec<u8>) -> Result<Verdict, AllocError>
-    ensures { IfOk result (λ verdict. Adds (IsLast found.now.fault marks.now verdict)
+fn push_last(found: &Found, marks: &[Marked], out: &mut Vec<u8>) -> Result<Verdict, AllocError>
+    ensures { IfOk result (λ verdict. Adds (IsLast found.now.fault (mark_offsets marks.now) verdict)
         out.old.items out.new.items) }
 {
     match &found.fault {

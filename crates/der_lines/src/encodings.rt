@@ -1,13 +1,13 @@
 // The lines of octets, one for each piece, and of what stands inside octets of strings.
 ghost use Rattle.std.specs.Prelude.{[], ◌≡◌, ◌+◌, ◌<◌, ◌++◌, ℕ, List, false, IfOk, IfSome, OnOk, slice_range};
-ghost use Rattle.std.specs.Option.{is_some};
-ghost use Rattle.der_lines.specs.Dump.{Adds, IsDump, StandsInside};
-ghost use Rattle.der_lines.specs.Pieces.{IsHolding, IsPieceDump, kind_contents, kind_header, kind_words, shown_front};
-ghost use Rattle.der_lines.specs.Steps.{IsStart, IsWholeDump, earlier_fault, marked_offset};
+ghost use Rattle.der_lines.specs.Dump.{Adds, marked_offset};
+ghost use Rattle.der_lines.specs.Pieces.{IsHolding, IsNestedDump, IsPieceDump, kind_words, shown_front};
+ghost use Rattle.der_lines.specs.Steps.{IsStart, IsWholeDump, earlier_fault, mark_offsets};
 
 use crate::faults::Fault;
 use crate::leaf::Meaning;
 use crate::lines::{LineStart, push_line};
+use crate::marks::ToldRule;
 use crate::piece::{Kind, Piece};
 use crate::place::{Place, is_too_deep, sum_of};
 use crate::scalars::write_after_space;
@@ -17,26 +17,52 @@ use crate::walk::Walk;
 use der_names::Names;
 use std::alloc::{AllocError, Global};
 
-// What is wrong with octets: the first fault, and the offsets of encodings that have a mark.
+// Where an encoding stands that has a mark, in the document, and which rules the mark tells.
+#[derive(Drop)]
+pub struct Marked {
+    pub offset: usize,
+    pub told: Vec<ToldRule>,
+}
+
+// What is wrong with octets: the first fault, and the encodings that have a mark, with those inside octets of strings.
 #[derive(Drop)]
 pub struct Found {
     pub fault: Option<Fault>,
-    pub marks: Vec<usize>,
+    pub marks: Vec<Marked>,
 }
 
 impl Found {
-    // Keeps what is wrong with one more piece.
-    fn keep(&mut self, piece: Piece<'_>) -> Result<(), AllocError>
+    // Keeps what is wrong with one more piece, and the marks inside it.
+    fn keep(
+        &mut self,
+        alloc: Global,
+        piece: Piece<'_>,
+        mut inside: Vec<Marked>,
+    ) -> Result<(), AllocError>
         ensures fault { OnOk result (self.new.fault ≡ earlier_fault self.old.fault piece.entry.fault) }
-        ensures marks { OnOk result (self.new.marks.items
-            ≡ self.old.marks.items ++ marked_offset (is_some piece.entry.mark) piece.entry.offset) }
+        ensures marks { OnOk result (mark_offsets self.new.marks.items ≡ mark_offsets self.old.marks.items
+            ++ (marked_offset (shown_front piece.entry) ++ mark_offsets inside.items)) }
     {
-        if piece.mark.is_some() {
-            self.marks.push(piece.offset)?;
-        }
+        self.mark(alloc, &piece)?;
+        self.marks.append(&mut inside)?;
         if self.fault.is_none() {
             self.fault = piece.fault;
         }
+        Ok(())
+    }
+
+    // Keeps the mark of a piece, if it has one.
+    fn mark(&mut self, alloc: Global, piece: &Piece<'_>) -> Result<(), AllocError>
+        ensures fault { OnOk result (self.new.fault ≡ self.old.fault) }
+        ensures marks { OnOk result (mark_offsets self.new.marks.items
+            ≡ mark_offsets self.old.marks.items ++ marked_offset (shown_front piece.now)) }
+    {
+        let told = piece.breaches.told(alloc)?;
+        if told.is_empty() {
+            return Ok(());
+        }
+        let offset = piece.document_offset()?;
+        self.marks.push(Marked { offset, told })?;
         Ok(())
     }
 }
@@ -59,32 +85,34 @@ pub fn push_encodings(
     };
     let mut walk = Walk::over(alloc, octets, place)?;
     while let Some(piece) = walk.next(alloc)? {
-        push_piece(alloc, names, &piece, out)?;
-        found.keep(piece)?;
+        let inside = push_piece(alloc, names, &piece, out)?;
+        found.keep(alloc, piece, inside)?;
     }
     Ok(found)
 }
 
-// Puts the line of a piece, and those of encodings inside its contents octets.
+// Puts the line of a piece, and those of encodings inside its contents octets, and gives the marks of these.
 #[cycle(encodings)]
 fn push_piece(
     alloc: Global,
     names: &Names,
     piece: &Piece<'_>,
     out: &mut Vec<u8>,
-) -> Result<(), AllocError>
+) -> Result<Vec<Marked>, AllocError>
     requires { IfSome piece.now.nested (λ _. 0 < piece.now.place.documents) }
-    ensures { OnOk result ((left : List ℕ) → IsHolding left piece.now.kind piece.now.place piece.now.nested
-        → Adds (IsPieceDump left piece.now) out.old.items out.new.items) }
+    ensures { IfOk result (λ marks. (left : List ℕ)
+        → IsHolding left piece.now.kind piece.now.place piece.now.nested
+        → Adds (IsPieceDump left piece.now (mark_offsets marks.items)) out.old.items out.new.items) }
 {
     let words = piece.words(alloc)?;
     let said = said_of(alloc, names, piece)?;
-    push_start(piece, &words, &said, out)?;
+    push_start(alloc, piece, &words, &said, out)?;
     push_nested(alloc, names, piece, out)
 }
 
 // Puts the line, unless it stands too deep.
 fn push_start(
+    alloc: Global,
     piece: &Piece<'_>,
     words: &str,
     said: &str,
@@ -104,32 +132,31 @@ fn push_start(
         is_indefinite: piece.is_indefinite(),
         depth: place.depth,
         words,
-        mark: piece.mark.as_deref(),
+        breaches: &piece.breaches,
     };
-    push_line(place.is_inside, start, said, out)
+    push_line(alloc, place.is_inside, start, said, out)
 }
 
-// Puts the lines of encodings inside contents octets, if there are any.
+// Puts the lines of encodings inside contents octets, if there are any, and gives their marks.
 #[cycle(encodings)]
 fn push_nested(
     alloc: Global,
     names: &Names,
     piece: &Piece<'_>,
     out: &mut Vec<u8>,
-) -> Result<(), AllocError>
+) -> Result<Vec<Marked>, AllocError>
     requires { IfSome piece.now.nested (λ _. 0 < piece.now.place.documents) }
-    ensures { OnOk result ((left : List ℕ) → IsHolding left piece.now.kind piece.now.place piece.now.nested
-        → Adds (IsDump (StandsInside (piece.now.place.base + (piece.now.offset + kind_header piece.now.kind))
-        (slice_range left (kind_header piece.now.kind) (kind_header piece.now.kind + kind_contents piece.now.kind)))
-        []) out.old.items out.new.items) }
+    ensures { IfOk result (λ marks. (left : List ℕ)
+        → IsHolding left piece.now.kind piece.now.place piece.now.nested
+        → Adds (IsNestedDump left piece.now (mark_offsets marks.items)) out.old.items out.new.items) }
 {
     let Some(nested) = piece.nested else {
-        return Ok(());
+        return Ok(Vec::new(alloc));
     };
     let offset = sum_of(piece.document_offset()?, piece.header_size())?;
     let inside = piece.place.inside(sum_of(offset, nested.before)?)?;
-    push_encodings(alloc, names, nested.octets, inside, out)?;
-    Ok(())
+    let found = push_encodings(alloc, names, nested.octets, inside, out)?;
+    Ok(found.marks)
 }
 
 // What is said of a piece, behind its words.

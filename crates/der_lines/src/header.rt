@@ -1,6 +1,8 @@
 // The headers of encodings, by their octets.
 ghost use Rattle.std.specs.Prelude.{◌≡◌, ◌↔◌, ◌==◌, ◌+◌, ◌≤◌, IfOk, IfSome, IsTrue};
-ghost use Rattle.std.specs.Prelude.{MatchOption, drop, length, true};
+ghost use Rattle.std.specs.Prelude.{MatchOption, ◌++◌, List, ℕ, drop, length, true};
+ghost use Rattle.asn1_headers.specs.Header.{IsSomeIdentifier};
+ghost use Rattle.der_lines.specs.LengthForm.{has_indefinite_length as has_indefinite_length_is};
 ghost use Rattle.asn1_headers.specs.declared.header.ASN1Class.TheVariants.{Universal};
 ghost use Rattle.asn1_headers.specs.Front.{HasIndefiniteForm, HasNoHeader, IsAtFront};
 ghost use Rattle.der_lines.specs.Dump.{is_stray_form, taken};
@@ -10,9 +12,8 @@ ghost use Rattle.der_lines.specs.Steps.{IsTaken};
 use crate::cursor::Step;
 use asn1_headers::error::ASN1DecodeErr;
 use asn1_headers::front::{Header, read_header};
-use asn1_headers::header::{ASN1Class, HeaderCount};
+use asn1_headers::header::{ASN1Class, HeaderCount, identifier_at};
 use asn1_numbers::number::big_uint::BigUint;
-use der_rules::has_indefinite_length;
 use std::alloc::{AllocError, Global};
 
 // Whether the contents octets are encodings: those of a constructed encoding, and of a SEQUENCE or SET.
@@ -85,6 +86,36 @@ pub fn has_stray_form(octets: &[u8], header: &Header) -> bool
 {
     let is_indefinite = has_indefinite_length(octets, header);
     is_indefinite && !header.constructed
+}
+
+// What stands behind identifier octets at the front; nothing where there are none.
+fn behind_identifier(octets: &[u8]) -> &[u8]
+    ensures { (identifier behind : List ℕ) (tag : ℕ) → IsSomeIdentifier identifier tag →
+        octets.now ≡ identifier ++ behind → result.now ≡ behind }
+{
+    match identifier_at(octets) {
+        Some(size) => octets.split_at(size).1,
+        None => &[],
+    }
+}
+
+// Whether the length at the front has the indefinite form, also where the encoding is primitive, whose length has to be
+// definite.
+fn has_indefinite_length(octets: &[u8], _header: &Header) -> bool
+    requires { IsAtFront octets.now _header.now }
+    ensures { (front : IsAtFront octets.now _header.now) →
+        result ≡ has_indefinite_length_is (drop (length front.identifier) octets.now) }
+{
+    is_indefinite_length(behind_identifier(octets))
+}
+
+fn is_indefinite_length(behind: &[u8]) -> bool
+    ensures { result ≡ has_indefinite_length_is behind.now }
+{
+    match behind {
+        [first, ..] => *first == 128,
+        [] => false,
+    }
 }
 
 // The header of an encoding that is whole, where one begins the octets. Of the indefinite form it may be cut short.

@@ -1,13 +1,14 @@
 // Lines, each put at the end of what is written.
 ghost use Rattle.std.specs.Prelude.{◌≡◌, ◌==◌, ◌++◌, OnOk, if◌then◌else◌, replicate, true};
-ghost use Rattle.der_lines.specs.Dump.{Adds, IsBlockLine, IsFaultLine, IsLine, IsMark, IsNote, IsOneLine};
+ghost use Rattle.der_lines.specs.Dump.{Adds, IsBlockLine, IsFaultLine, IsLine, IsNote, IsOneLine};
 ghost use Rattle.der_lines.specs.Dump.{contents_column, on_one_line, right_of};
-ghost use Rattle.std.specs.Option.{is_some};
+ghost use Rattle.der_lines.specs.Marks.{mark_text, told_rules};
 ghost use Rattle.der_lines.specs.Steps.{IsLineOf, front_of, mark_of, start_text};
 
+use crate::marks::{Breaches, push_words};
 use itoa::Buffer;
 use memchr::memchr;
-use std::alloc::AllocError;
+use std::alloc::{AllocError, Global};
 
 // How a line that is no line of a block begins.
 #[derive(Clone, Copy, Drop)]
@@ -67,7 +68,7 @@ fn plain(b: u8) -> u8
 
 // What the line of an encoding begins with: its offset, the sizes of its header and of the contents octets that it
 // announces, whether its length is of the indefinite form, how many encodings are around it, and its tag in words; and
-// what is said in its mark, if it has one.
+// what of DER it breaks.
 #[derive(Clone, Copy)]
 pub struct LineStart<'a> {
     pub offset: usize,
@@ -76,7 +77,7 @@ pub struct LineStart<'a> {
     pub is_indefinite: bool,
     pub depth: usize,
     pub words: &'a str,
-    pub mark: Option<&'a str>,
+    pub breaches: &'a Breaches,
 }
 
 // Puts a number, with spaces before it where it has fewer digits than the width.
@@ -120,6 +121,7 @@ fn push_start(start: LineStart<'_>, out: &mut Vec<u8>) -> Result<(), AllocError>
 
 // The line of an encoding. Its offset takes so many characters with the spaces before it.
 fn push_block_line(
+    alloc: Global,
     width: usize,
     start: LineStart<'_>,
     said: &str,
@@ -131,20 +133,22 @@ fn push_block_line(
     out.push(b' ')?;
     push_start(start, out)?;
     push_plain(said.as_bytes(), out)?;
-    push_mark(start.mark, out)?;
+    push_mark(alloc, start.breaches, out)?;
     out.push(b'\n')?;
     Ok(())
 }
 
 // Puts the mark of an encoding that is not DER, if it has one.
-fn push_mark(mark: Option<&str>, out: &mut Vec<u8>) -> Result<(), AllocError>
-    ensures { OnOk result (Adds (IsMark (is_some mark.entry)) out.old.items out.new.items) }
+fn push_mark(alloc: Global, breaches: &Breaches, out: &mut Vec<u8>) -> Result<(), AllocError>
+    ensures { OnOk result (out.new.items ≡ out.old.items
+        ++ mark_text (told_rules breaches.now.rules.items breaches.now.has_spare_bits)) }
 {
-    let Some(words) = mark else {
+    let told = breaches.told(alloc)?;
+    if told.is_empty() {
         return Ok(());
-    };
+    }
     out.extend_from_slice(b" (not DER: ")?;
-    push_plain(words.as_bytes(), out)?;
+    push_words(&told, out)?;
     out.push(b')')?;
     Ok(())
 }
@@ -185,6 +189,7 @@ fn mark_octet(mark: Mark) -> u8
 
 // The line of an encoding, which begins with `>` where it stands inside octets of another.
 pub fn push_line(
+    alloc: Global,
     is_inside: bool,
     start: LineStart<'_>,
     said: &str,
@@ -193,8 +198,8 @@ pub fn push_line(
     ensures { OnOk result (Adds (IsLine (IsLineOf is_inside (front_of start.entry))) out.old.items out.new.items) }
 {
     if !is_inside {
-        return push_block_line(OFFSET_WIDTH, start, said, out);
+        return push_block_line(alloc, OFFSET_WIDTH, start, said, out);
     }
     out.push(b'>')?;
-    push_block_line(OFFSET_WIDTH - 1, start, said, out)
+    push_block_line(alloc, OFFSET_WIDTH - 1, start, said, out)
 }

@@ -10,7 +10,7 @@ use crate::cursor::{Left, Step};
 use crate::faults::{Fault, fault_at};
 use crate::header::{has_stray_form, holds_encodings, size_of, step_of};
 use crate::leaf::{Meaning, Read, read_contents};
-use crate::marks::mark_of;
+use crate::marks::{Breaches, find_breaches};
 use crate::nested::{Nested, nested_in};
 use crate::place::{Place, sum_of};
 use crate::strings::string_tag;
@@ -44,8 +44,8 @@ pub struct Piece<'a> {
     // how many octets stand before it among these
     pub offset: usize,
     pub kind: Kind<'a>,
-    // what its mark says, if it has one
-    pub mark: Option<String>,
+    // what of DER it breaks
+    pub breaches: Breaches,
     pub fault: Option<Fault>,
     // how it is gone on after it
     pub step: Step,
@@ -142,13 +142,13 @@ pub fn read_piece<'a>(
         return missing_end(alloc, left, offset, place);
     }
     if left.begins_with_end() {
-        return Ok(end(left, offset, place));
+        return Ok(end(alloc, left, offset, place));
     }
     first_piece(alloc, left.octets, offset, place)
 }
 
 // End-of-contents octets.
-fn end<'a>(_left: Left<'a>, offset: usize, place: Place) -> Piece<'a>
+fn end<'a>(alloc: Global, _left: Left<'a>, offset: usize, place: Place) -> Piece<'a>
     requires within { _left.is_indefinite ≡ true }
     requires there { begins_with_end _left.octets.now ≡ true }
     ensures { IsPiece _left.entry offset place result }
@@ -157,7 +157,7 @@ fn end<'a>(_left: Left<'a>, offset: usize, place: Place) -> Piece<'a>
         place,
         offset,
         kind: Kind::EndOfContents(2),
-        mark: None,
+        breaches: Breaches::none(alloc),
         fault: None,
         step: Step::Out(2),
         nested: None,
@@ -184,7 +184,7 @@ fn missing_end<'a>(
         place,
         offset,
         kind: Kind::EndOfContents(0),
-        mark: None,
+        breaches: Breaches::none(alloc),
         fault: Some(fault),
         step: Step::Out(0),
         nested: None,
@@ -231,7 +231,7 @@ fn unreadable<'a>(
         place,
         offset,
         kind: Kind::Unreadable(left),
-        mark: None,
+        breaches: Breaches::none(alloc),
         fault: Some(fault_at(alloc, offset, error)?),
         step: Step::Past(left.len()),
         nested: None,
@@ -257,7 +257,7 @@ fn cut<'a>(
         place,
         offset,
         kind: Kind::Cut(header, contents),
-        mark: None,
+        breaches: Breaches::none(alloc),
         fault: Some(fault_at(alloc, offset, &ASN1DecodeErr::Incomplete)?),
         step,
         nested: None,
@@ -280,14 +280,14 @@ fn opened<'a>(
 {
     let size = size_of(left, &header);
     let contents = &left[header.size..size];
-    let mark = mark_of(alloc, left, &header)?;
+    let breaches = find_breaches(alloc, left, &header, place)?;
     let fault = opened_fault(alloc, left, &header, offset)?;
     let step = step_of(&header, size);
     Ok(Piece {
         place,
         offset,
         kind: Kind::Opened(header, contents),
-        mark,
+        breaches,
         fault,
         step,
         nested: None,
@@ -337,7 +337,7 @@ fn leaf<'a>(
     ensures { IfOk result (λ piece. IsFirstPiece left.now offset place piece) }
 {
     let contents = &left[header.size..header.size + header.announced];
-    let mark = mark_of(alloc, left, &header)?;
+    let breaches = find_breaches(alloc, left, &header, place)?;
     let nested = nested_in(alloc, &header, contents, place)?;
     let Read { meaning, fault } = read_leaf(alloc, left, &header, offset)?;
     let step = step_of(&header, size_of(left, &header));
@@ -345,7 +345,7 @@ fn leaf<'a>(
         place,
         offset,
         kind: Kind::Leaf(header, contents, meaning),
-        mark,
+        breaches,
         fault,
         step,
         nested,

@@ -1,5 +1,4 @@
 use Rattle.std.proofs.Common.{refl}
-use Rattle.std.specs.Option.{is_some}
 use Rattle.der_json.proofs.Pieces.{row_is}
 use Rattle.der_json.proofs.piece.object_of.Goals as goal
 
@@ -12,9 +11,9 @@ returns c = λ left kind.
       offset_is = c.in_ok-offset.ensures;
       header_is = c.header_size.ensures;
       depth_is = refl;
-      row = λ depth inside. row_is left piece.offset depth (is_some piece.mark) _ inside piece.fault c.placed_if.ensures
+      row = λ depth inside marks. row_is left piece.offset depth piece.breaches.rules.items _ inside marks piece.fault c.placed_if.ensures
           piece.kind c.in_ok-size_of.ensures tag.told value.told kind;
-      marked = refl;
+      told = c.in_ok-told.ensures;
       fault_is = c.placed_if.ensures;
       exact = (tag.exact, value.exact);
     }

@@ -1,8 +1,8 @@
-use Rattle.std.proofs.Common.{◌≡◌, ◌∙◌, ◌+◌, ◌-◌, ◌++◌, ◌∷◌, [], ap, arith, map, refl, subst, suc, sym}
+use Rattle.std.proofs.Common.{◌≡◌, ◌∙◌, ◌+◌, ◌-◌, ◌++◌, ◌∷◌, [], ap, arith, refl, subst, suc, sym, true}
 use Rattle.std.proofs.lemmas.List.{append-nil}
 use Rattle.std.specs.Prelude.{None, Some}
-use Rattle.der_json.specs.Json.{AreInside, AreRows, fault_told, items_of, row_json}
-use Rattle.der_json.specs.Rows.{IsNestedJson, blocks_text, first_members, last_members}
+use Rattle.der_json.specs.Json.{AreInside, AreRows, items_of, row_json}
+use Rattle.der_json.specs.Rows.{IsNestedJson, blocks_text, first_members, last_members, told_marks}
 use Rattle.der_lines.specs.Pieces.{Passes}
 use Rattle.der_lines.specs.Steps.{IsAhead}
 use Rattle.der_json.proofs.Members.{blocks_put, object_text, put_after}
@@ -13,19 +13,20 @@ pub push_object-returns : goal.push_object-returns
 push_object-returns t c =
     let out = c.args.out.now.items in
     let object = c.args.object.now in
-    let (inside, nested, put) = c.in_ok-push_nested.ensures in
+    let (inside, nested, put) = c.in_ok-marks.ensures in
+    let marks = told_marks c.in_ok-marks.marks.items in
     let last = put_after c.push_others.new.out.items (blocks_text inside) (125 ∷ []) c.push_nested.new.out.items _ put
     c.in_ok-push.ensures.items in
     let others = put_after c.push_first.new.out.items (last_members object) _ c.push_others.new.out.items _
     c.in_ok-push_others.ensures last in
     let whole = put_after out (first_members object) _ c.push_first.new.out.items _ c.in_ok-push_first.ensures others in
-    let stands = subst (λ z. IsNestedJson c.args.place z c.args.nested inside) c.in_ok-before.ensures nested in
-    (inside, stands, whole ∙ ap (λ z. out ++ z) (object_text object inside))
+    let stands = subst (λ z. IsNestedJson c.args.place z c.args.nested inside marks) c.in_ok-before.ensures nested in
+    (inside, stands, whole ∙ ap (λ z. out ++ z) (object_text object inside marks))
 
 pub push_nested-returns-in_default : goal.push_nested-returns-in_default
 push_nested-returns-in_default t c = (
   None,
-  subst (λ z. IsNestedJson c.args.place c.args.offset z None) (sym c.in_default.is) refl,
+  subst (λ z. IsNestedJson c.args.place c.args.offset z None _) (sym c.in_default.is) (refl, ap told_marks c.new.ensures.items),
   sym (append-nil c.args.out.now.items),
 )
 
@@ -35,15 +36,16 @@ push_nested-returns t c =
     let nested = c.in-Some.nested in
     let inside = c.in_ok-inside.inside in
     let i = c.in_ok-inside.ensures in
-    let (text, put, (rows, are, marks, first, is)) = c.in_ok-push_rows.ensures in
+    let (text, put, (rows, are, marks, first, is)) = c.in_ok-found.ensures in
     let items = items_of row_json rows in
     let fewer : inside.documents ≡ place.documents - 1 = omega (arith, i.fewer) in
-    let moved : AreRows (AreInside (place.documents - 1)) nested.octets.now (c.args.offset + nested.before) (suc place.depth) rows =
-    subst (λ z. AreRows (AreInside (place.documents - 1)) nested.octets.now (c.args.offset + nested.before) z rows) i.depth
-    (subst (λ z. AreRows (AreInside (place.documents - 1)) nested.octets.now z inside.depth rows) (i.base ∙ c.in_ok-sum_of.ensures)
-    (subst (λ z. AreRows (AreInside z) nested.octets.now inside.base inside.depth rows) fewer are)) in (
+    let moved : AreRows (AreInside (place.documents - 1)) true nested.octets.now (c.args.offset + nested.before) (suc place.depth) rows =
+    subst (λ z. AreRows (AreInside (place.documents - 1)) true nested.octets.now (c.args.offset + nested.before) z rows) i.depth
+    (subst (λ z. AreRows (AreInside (place.documents - 1)) true nested.octets.now z inside.depth rows) (i.base ∙ c.in_ok-sum_of.ensures)
+    (subst (λ z. AreRows (AreInside z) true nested.octets.now inside.base inside.depth rows) fewer
+    (subst (λ z. AreRows (AreInside inside.documents) z nested.octets.now inside.base inside.depth rows) i.inside are))) in (
       Some items,
-      subst (λ z. IsNestedJson place c.args.offset z (Some items)) (sym c.in-Some.is) (items, refl, (rows, moved, refl)),
+      subst (λ z. IsNestedJson place c.args.offset z (Some items) _) (sym c.in-Some.is) (items, refl, (rows, moved, refl, marks)),
       blocks_put c.args.out.now.items c.extend_from_slice.new.self.items c.push_rows.new.out.items items
           c.in_ok-extend_from_slice.ensures.items (put ∙ ap (λ z. c.extend_from_slice.new.self.items ++ z) is),
     )
@@ -52,15 +54,15 @@ pub push_rows-loop-walk-init : goal.push_rows-loop-walk-init
 push_rows-loop-walk-init t c =
     let o = c.in_ok-walk.ensures in
     rows_none c.args.place c.args.octets.now c.in_ok-walk.walk _ c.args.out.now.items o.octets o.place o.ahead
-    (ap (map fault_told) c.new.ensures.items) refl
+    (ap told_marks c.new.ensures.items) refl
 
 pub push_rows-loop-walk-preserved : goal.push_rows-loop-walk-preserved
 push_rows-loop-walk-preserved t c =
     let piece = c.in-Some.piece in
     let p : Passes c.loop-walk.walk c.next.new.self piece = rw c.in-Some.is at c.in_ok-piece.ensures in
-    let (inside, nested, put) = c.in_ok-push_object.ensures in
+    let (inside, nested, put) = c.in_ok-inside.ensures in
     let k = c.in_ok-keep.ensures in
-    rows_more c.args.place c.args.octets.now c.loop-walk.walk c.next.new.self piece c.in_ok-object.object inside
+    rows_more c.args.place c.args.octets.now c.loop-walk.walk c.next.new.self piece c.in_ok-object.object inside (told_marks c.in_ok-inside.inside.items)
     c.loop-walk.is_later c.loop-walk.found c.keep.new.self c.args.out.now.items c.loop-walk.out.items
     c.push_comma.new.out.items c.push_object.new.out.items p c.loop-walk.invariant (c.in_ok-object.ensures p.left p.kind)
     nested c.in_ok-push_comma.ensures put k.marks k.first

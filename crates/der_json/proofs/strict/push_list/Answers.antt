@@ -1,8 +1,9 @@
-use Rattle.std.proofs.Common.{append-nil, arith, map, refl, subst, sym, ◌≡◌, ◌++◌, false}
+use Rattle.std.proofs.Common.{[], append-nil, arith, refl, subst, sym, ◌≡◌, ◌++◌, false}
 use Rattle.std.proofs.lemmas.List.{take_all}
-use Rattle.der_json.specs.Json.{fault_json, fault_told}
-use Rattle.der_json.specs.Rows.{texts}
-use Rattle.der_json.proofs.Arrays.{all_texts, one_fault}
+use Rattle.der_json.specs.Json.{departed_json}
+use Rattle.der_json.specs.Rows.{departed_of, texts, told_marks}
+use Rattle.der_json.proofs.Arrays.{all_texts, one_more}
+use Rattle.der_json.proofs.Members.{put_same}
 use Rattle.der_json.proofs.strict.push_list.Goals as goal
 
 pub loop-mark-init : goal.loop-mark-init
@@ -11,15 +12,15 @@ loop-mark-init c = record { some = refl; put = sym (append-nil c.args.out.now.it
 pub loop-mark-preserved : goal.loop-mark-preserved
 loop-mark-preserved c =
     let (some, put) =
-    one_fault c.args.marks.now c.loop-mark.mark-index c.mark-item.result c.loop-mark.is_later c.args.out.now.items c.loop-mark.out.items
-    c.push_comma.new.out.items c.push_fault_object.new.out.items c.loop-mark-test.true c.mark-item.is c.loop-mark.invariant.some
-    c.loop-mark.invariant.put c.in_ok-push_comma.ensures c.in_ok-push_fault_object.ensures in
+    one_more departed_json departed_of c.args.marks.now c.loop-mark.mark-index c.mark-item.result c.loop-mark.is_later c.args.out.now.items c.loop-mark.out.items
+    c.push_comma.new.out.items c.push_member.new.out.items c.loop-mark-test.true c.mark-item.is c.loop-mark.invariant.some
+    c.loop-mark.invariant.put c.in_ok-push_comma.ensures (put_same _ [] _ _ _ c.in_ok-push_member.ensures c.in_ok-object.ensures) in
     record { some = some; put = put }
 
 pub returns : goal.returns
 returns c =
     let marks = c.args.marks.now in
     let out = c.args.out.now.items in
-    let put = subst (λ z. c.loop-mark.out.items ≡ out ++ texts fault_json false (map fault_told z))
+    let put = subst (λ z. c.loop-mark.out.items ≡ out ++ texts departed_json false (told_marks z))
     (take_all c.loop-mark.mark-index marks (omega arith)) c.loop-mark.invariant.put in
-    all_texts fault_json (map fault_told marks) out c.loop-mark.out.items c.push.new.self.items put c.in_ok-push.ensures.items
+    all_texts departed_json (told_marks marks) out c.loop-mark.out.items c.push.new.self.items put c.in_ok-push.ensures.items

@@ -1,7 +1,7 @@
-use Rattle.std.proofs.Common.{◌++◌, ◌∷◌, [], ◌∙◌, ap, append-nil, codes, false, map, sym}
+use Rattle.std.proofs.Common.{◌++◌, ◌∷◌, [], ◌∙◌, ap, append-nil, codes, false, sym}
 use Rattle.serde_json.specs.Written.{items_text}
-use Rattle.der_json.specs.Json.{fault_json, fault_told, items_of, told_of}
-use Rattle.der_json.specs.Rows.{end_text}
+use Rattle.der_json.specs.Json.{departed_json, items_of, told_of}
+use Rattle.der_json.specs.Rows.{end_text, told_marks}
 use Rattle.der_json.proofs.Arrays.{joined}
 use Rattle.der_json.proofs.Lines.{marks_line, no_marks, some_marks}
 use Rattle.der_json.proofs.strict.push_marks.Goals as goal
@@ -16,10 +16,10 @@ pub returns : goal.returns
 returns c =
     let origin = told_of c.args.origin in
     let out = c.args.out.now.items in
-    let marks = map fault_told c.args.marks.now in
+    let marks = told_marks c.args.marks.now in
     let (right, some) = some_marks c.args.marks.now origin (sym c.is_empty.ensures ∙ c.if-is_empty.false) in
     let put =
-    joined out (codes "{\"not_der\":[") (items_text false (items_of fault_json marks)) (end_text origin ++ 10 ∷ []) _ _ _
+    joined out (codes "{\"not_der\":[") (items_text false (items_of departed_json marks)) (end_text origin ++ 10 ∷ []) _ _ _
     c.in_ok-extend_from_slice.ensures.items c.in_ok-push_list.ensures c.in_ok-push_end.ensures
     ∙ ap (λ z. out ++ z) (marks_line origin marks) in
     record { right = right; text = put ∙ ap (λ z. out ++ z) (sym some) }

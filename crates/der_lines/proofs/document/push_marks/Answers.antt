@@ -1,17 +1,21 @@
-use Rattle.std.proofs.Common.{[], ◌∷◌, ◌++◌, get_or, subst, sym, take, arith}
-use Rattle.std.proofs.lemmas.Grind.{take_at_read}
+use Rattle.std.proofs.Common.{◌≡◌, ◌+◌, [], ◌∷◌, ◌++◌, ap, arith, subst, sym, take, ◌∙◌}
+use Rattle.std.proofs.lemmas.List.{map-append, take_more}
 use Rattle.der_lines.specs.Dump.{Adds, AreFaultLines}
+use Rattle.der_lines.specs.Steps.{mark_offsets}
 use Rattle.der_lines.proofs.Dumps.{adds_both, fault_line, fault_lines_join}
 use Rattle.der_lines.proofs.document.push_marks.Goals as goal
 
-pub loop-offset-preserved : goal.loop-offset-preserved
-loop-offset-preserved c =
+pub loop-mark-preserved : goal.loop-mark-preserved
+loop-mark-preserved c =
     let marks = c.args.marks.now in
-    let i = c.loop-offset.offset-index in
-    let offset = get_or marks i 0 in
-    let (same, more) = take_at_read marks i 0 (omega (arith, c.loop-offset-test.true)) in
+    let i = c.loop-mark.mark-index in
+    let mark = c.mark-item.result in
+    let more : mark_offsets (take (i + 1) marks) ≡ mark_offsets (take i marks) ++ mark.offset ∷ [] =
+    ap mark_offsets (take_more marks i mark c.loop-mark-test.true ∙ ap (λ z. take i marks ++ z ∷ []) (sym c.mark-item.is))
+    ∙ map-append (λ m. m.offset) (take i marks) (mark ∷ []) in
     subst (λ z. Adds (AreFaultLines z) c.args.out.now.items c.push_mark_line.new.out.items) (sym more)
-    (adds_both _ _ (AreFaultLines (take i marks ++ offset ∷ [])) c.args.out.now.items c.loop-offset.out.items
+    (adds_both _ _ (AreFaultLines (mark_offsets (take i marks) ++ mark.offset ∷ [])) c.args.out.now.items c.loop-mark.out.items
     c.push_mark_line.new.out.items
-    (λ text line lines last. fault_lines_join (take i marks) (offset ∷ []) text line lines (fault_line offset line last))
-    c.loop-offset.invariant c.in_ok-push_mark_line.ensures)
+    (λ text line lines last. fault_lines_join (mark_offsets (take i marks)) (mark.offset ∷ []) text line lines
+    (fault_line mark.offset line last))
+    c.loop-mark.invariant c.in_ok-push_mark_line.ensures)

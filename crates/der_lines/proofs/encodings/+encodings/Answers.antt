@@ -1,19 +1,18 @@
-use Rattle.std.proofs.Common.{◌≡◌, ◌+◌, [], arith, refl, subst, sym}
+use Rattle.std.proofs.Common.{◌≡◌, ◌+◌, [], ap, arith, refl, subst, sym}
 use Rattle.std.specs.Prelude.{None}
-use Rattle.der_lines.specs.Dump.{no_lines}
-use Rattle.der_lines.specs.Pieces.{Passes, kind_contents, kind_header}
-use Rattle.der_lines.specs.Steps.{IsAhead, earlier_fault}
+use Rattle.der_lines.specs.Dump.{no_lines, no_more}
+use Rattle.der_lines.specs.Pieces.{Passes, kind_header}
+use Rattle.der_lines.specs.Steps.{IsAhead, earlier_fault, mark_offsets}
 use Rattle.der_lines.proofs.Dumps.{adds_as, adds_both, adds_none}
 use Rattle.der_lines.proofs.Fronts.{ShownTo, shown_all, shown_more, shown_none}
 use Rattle.der_lines.proofs.Pieces.{nested_adds}
-use Rattle.std.proofs.Common.{slice_range}
 use Rattle.der_lines.proofs.encodings.+encodings.Goals as goal
 
 pub push_encodings-loop-walk-init : goal.push_encodings-loop-walk-init
 push_encodings-loop-walk-init t c =
     let o = c.in_ok-walk.ensures in
     adds_none (ShownTo c.args.place c.args.octets.now c.in_ok-walk.walk None _) _
-    (subst (λ m. ShownTo c.args.place c.args.octets.now c.in_ok-walk.walk None m []) (sym c.new.ensures.items)
+    (subst (λ m. ShownTo c.args.place c.args.octets.now c.in_ok-walk.walk None m []) (sym (ap mark_offsets c.new.ensures.items))
     (shown_none c.args.place c.args.octets.now c.in_ok-walk.walk o.octets o.place o.ahead))
 
 pub push_encodings-loop-walk-preserved : goal.push_encodings-loop-walk-preserved
@@ -25,8 +24,8 @@ push_encodings-loop-walk-preserved t c =
     let p : Passes c.loop-walk.walk c.next.new.self piece = rw c.in-Some.is at c.in_ok-piece.ensures in
     let k = c.in_ok-keep.ensures in
     let all = adds_both _ _ (ShownTo place octets c.next.new.self (earlier_fault found.fault piece.fault) _) _ _ _
-    (λ text own s put. shown_more place octets c.loop-walk.walk c.next.new.self piece found.fault _ _ text own p k.marks
-    c.requires s put) c.loop-walk.invariant (c.in_ok-push_piece.ensures p.left p.holding)
+    (λ text own s put. shown_more place octets c.loop-walk.walk c.next.new.self piece found.fault _ _ _ text own p k.marks
+    c.requires s put) c.loop-walk.invariant (c.in_ok-inside.ensures p.left p.holding)
     in
     rw (k.fault) all
 
@@ -37,7 +36,8 @@ push_encodings-returns t c =
     c.loop-walk.invariant
 
 pub push_nested-returns-in_default : goal.push_nested-returns-in_default
-push_nested-returns-in_default t c = λ left holding. adds_none _ _ (no_lines refl refl)
+push_nested-returns-in_default t c = λ left holding.
+    adds_none _ _ (no_lines refl refl, no_more refl (ap mark_offsets c.new.ensures.items))
 
 pub push_nested-returns : goal.push_nested-returns
 push_nested-returns t c = λ left holding.
@@ -48,5 +48,5 @@ push_nested-returns t c = λ left holding.
     let (documents, stands) = rw c.in-Some.is at holding in
     let base : c.in_ok-inside.inside.base ≡ piece.place.base + (piece.offset + header) + nested.before =
     omega (arith, i.base, c.in_ok-sum_of.ensures, c.in_ok-offset.ensures, c.in_ok-document_offset.ensures, c.header_size.ensures) in
-    nested_adds c.in_ok-inside.inside (slice_range left header (header + kind_contents piece.kind)) nested.octets.now
-    (piece.place.base + (piece.offset + header)) nested.before _ _ _ stands i.inside base c.in_ok-push_encodings.ensures
+    nested_adds c.in_ok-inside.inside left piece nested.octets.now nested.before c.in_ok-found.found _ _ stands i.inside base
+    c.in_ok-found.ensures

@@ -1,10 +1,25 @@
-use Rattle.std.proofs.Common.{subst, sym}
-use Rattle.std.specs.Option.{is_some}
-use Rattle.der_lines.specs.Dump.{Adds, IsMark}
-use Rattle.der_lines.proofs.Dumps.{mark_put}
+use Rattle.std.proofs.Common.{◌≡◌, ◌++◌, ◌<◌, ◌∙◌, ap, append-nil, arith, false, length, map, sym}
+use Rattle.std.proofs.lemmas.Grind.{common_steps}
+use Rattle.std.proofs.lemmas.List.{length-map}
+use Rattle.der_lines.specs.Marks.{mark_text, told_of, told_rules, words_text}
+use Rattle.der_lines.proofs.Dumps.{mark_put, no_mark}
 use Rattle.der_lines.proofs.lines.push_mark.Goals as goal
+
+pub returns-then-is_empty : goal.returns-then-is_empty
+returns-then-is_empty c =
+    let out = c.args.out.now.items in
+    let told = c.in_ok-told.told.items in
+    let none : length told ≡ 0 = grind (arith, common_steps) in
+    let empty : length (map told_of told) ≡ 0 = length-map told told_of ∙ none in
+    let is = ap mark_text (sym c.in_ok-told.ensures) ∙ no_mark (map told_of told) empty in
+    sym (ap (λ z. out ++ z) is ∙ append-nil out)
 
 pub returns : goal.returns
 returns c =
-    subst (λ z. Adds (IsMark (is_some z)) c.args.out.now.items c.push.new.self.items) (sym c.in-Some.is)
-    (mark_put _ _ _ _ c.as_bytes.result.now c.in_ok-extend_from_slice.ensures.items c.in_ok-push_plain.ensures c.in_ok-push.ensures.items)
+    let told = c.in_ok-told.told.items in
+    let some : 0 < length told = grind (arith, common_steps) in
+    let there : 0 < length (map told_of told) = omega (arith, some, length-map told told_of) in
+    mark_put _ _ _ _ (map told_of told) there c.in_ok-extend_from_slice.ensures.items
+    (c.in_ok-push_words.ensures ∙ ap (λ z. c.extend_from_slice.new.self.items ++ words_text false (map told_of z)) c.deref.ensures.value)
+    c.in_ok-push.ensures.items
+    ∙ ap (λ z. c.args.out.now.items ++ mark_text z) c.in_ok-told.ensures

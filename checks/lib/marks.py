@@ -1,0 +1,74 @@
+"""Documents, and whether what der_dump lists of them as not DER is what a plain reader lists."""
+import base64
+import itertools
+import json
+
+import departures
+from certificates import certificates
+from changed import each_changed, indefinite, joined
+
+COUNT = 500  # documents a run
+STEP = 13  # one changed octet of so many is tried
+SEQUENCES = ("SEQUENCE", "SET")
+
+
+def documents(folder, rows):
+    """Certificates, the smallest with octets changed, and rows of encodings, put together and changed."""
+    found = sorted(certificates(folder), key=len)
+    yield from found
+    yield from itertools.islice(each_changed(found[0]), 0, None, STEP)
+    with open(rows) as lines:
+        parts = [bytes.fromhex(it) for it in lines if it.strip() and not it.startswith("#")]
+    for octets in parts:
+        if len(octets) < 12:
+            yield from itertools.islice(each_changed(octets), 0, None, STEP)
+    for seed in range(10000):
+        yield joined(parts, seed)
+        yield indefinite(parts, seed)
+
+
+def tasks(some):
+    rest = filter(None, some)
+    return iter(lambda: list(itertools.islice(rest, COUNT)), [])
+
+
+def pem(some):
+    """The documents as objects of PEM, each with its number."""
+    text = lambda octets: base64.encodebytes(octets).decode()
+    return "".join(f"-----BEGIN X{i}-----\n{text(it)}-----END X{i}-----\n" for i, it in enumerate(some))
+
+
+def passed_over(blocks):
+    """The ranges of octets in which the reader lists nothing, though der_dump goes into them."""
+    for block in blocks:
+        rules = [it["rule"] for it in block.get("not_der", [])]
+        if "NotEncodings" in rules or (block["type"] in SEQUENCES and block["constructed"] is False):
+            yield range(block["offset"] + 1, block["offset"] + block["size"])
+
+
+def marks_in(blocks, listed):
+    """The marks that the reader has to list, of those that der_dump lists."""
+    own = {it["offset"] for it in blocks if "not_der" in it}
+    ranges = list(passed_over(blocks))
+    return [(it["offset"], it["rule"]) for it in listed
+            if it["offset"] in own and it["rule"] != "NamedBits" and not any(it["offset"] in r for r in ranges)]
+
+
+def wrong_marks(some, printed):
+    """How many of the documents have marks, and those that are listed otherwise, with both lists."""
+    lines = {}
+    for line in printed.splitlines():
+        read = json.loads(line)
+        lines.setdefault(int(read["label"][1:]), {}).update(read)
+    wrong, broken = [], 0
+    for number, octets in enumerate(some):
+        rules = departures.departures(octets)
+        if isinstance(rules, int):
+            continue
+        shown = lines[number]
+        marks = marks_in(shown["blocks"], shown.get("not_der", []))
+        inside = [it for it in shown.get("not_der", []) if (it["offset"], it["rule"]) not in marks]
+        broken += bool(marks)
+        if marks != list(map(tuple, rules)) or (not rules and not inside and "not_der" in shown):
+            wrong.append((octets, marks, rules))
+    return broken, wrong

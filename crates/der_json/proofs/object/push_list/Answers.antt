@@ -1,0 +1,29 @@
+use Rattle.std.proofs.Common.{[], append-nil, arith, map, refl, subst, sym, ◌∙◌, ◌≡◌, ◌++◌, ap, false}
+use Rattle.std.proofs.lemmas.List.{take_all}
+use Rattle.serde_json.specs.Written.{has_float}
+use Rattle.der_json.specs.Json.{rule_json}
+use Rattle.der_json.specs.Rows.{texts}
+use Rattle.der_lines.specs.Marks.{told_of}
+use Rattle.der_json.proofs.Arrays.{all_texts, one_read}
+use Rattle.der_json.proofs.Members.{put_same, rule_exact}
+use Rattle.der_json.proofs.object.push_list.Goals as goal
+
+pub loop-rule-init : goal.loop-rule-init
+loop-rule-init c = record { some = refl; put = sym (append-nil c.args.out.now.items) }
+
+pub loop-rule-preserved : goal.loop-rule-preserved
+loop-rule-preserved c =
+    let (some, put) =
+    one_read rule_json told_of c.args.told.now c.loop-rule.rule-index _ c.loop-rule.is_later c.args.out.now.items
+    c.loop-rule.out.items c.push_comma.new.out.items c.push_member.new.out.items c.loop-rule-test.true
+    c.loop-rule.invariant.some c.loop-rule.invariant.put c.in_ok-push_comma.ensures
+    (put_same _ [] _ _ _ c.in_ok-push_member.ensures c.in_ok-object.ensures) in
+    record { some = some; put = put }
+
+pub returns : goal.returns
+returns c =
+    let told = c.args.told.now in
+    let out = c.args.out.now.items in
+    let put = subst (λ z. c.loop-rule.out.items ≡ out ++ texts rule_json false (map told_of z))
+    (take_all c.loop-rule.rule-index told (omega arith)) c.loop-rule.invariant.put in
+    all_texts rule_json (map told_of told) out c.loop-rule.out.items c.push.new.self.items put c.in_ok-push.ensures.items

@@ -1,0 +1,11 @@
+use Rattle.std.proofs.Common.{◌≡◌, ◌++◌, map, take}
+use Rattle.der_json.specs.Json.{marks_at}
+use Rattle.der_json.specs.Rows.{told_marks}
+use Rattle.der_lines.specs.Marks.{told_of}
+use Rattle.der_json.proofs.rows.push_marks.Given as goal
+
+-- those before this one are kept
+abbrev pub invariant-loop-rule : goal.invariant-loop-rule
+invariant-loop-rule l =
+    told_marks l.marks.items
+    ≡ told_marks l.fn.marks.items ++ marks_at l.offset (map told_of (take l.rule-index l.told))

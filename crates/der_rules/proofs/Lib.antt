@@ -1,2 +1,0 @@
-mod Ascending
-mod Lengths

@@ -1,4 +1,0 @@
-pub mod Rules
-pub mod LengthForm
-pub mod Order
-pub mod Steps
