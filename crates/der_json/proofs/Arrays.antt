@@ -62,25 +62,6 @@ joined out x y z a b c d e f =
     f ∙ (ap (λ v. v ++ z) (e ∙ ap (λ v. v ++ y) d) ∙ (append_assoc (out ++ x) y z ∙ append_assoc out x (y ++ z)))
 
 -- one more was put of those at an index
-pub one_more :
-    {A B : Type 0} (json : B → Data) (told : A → B) (xs : List A) (i : ℕ) (x : A) (later : Bool)
-    (before middle comma after : List ℕ) → i < length xs →
-    x ≡ get_or xs i x → later ≡ are_some (map told (take i xs)) →
-    middle ≡ before ++ texts json false (map told (take i xs)) → comma ≡ middle ++ comma_if later →
-    after ≡ comma ++ compact_text (json (told x)) →
-    (true ≡ are_some (map told (take (i + 1) xs)))
-    × (after ≡ before ++ texts json false (map told (take (i + 1) xs)))
-one_more json told xs i x later before middle comma after within is some m c e =
-    let told_before = map told (take i xs) in
-    let more : map told (take (i + 1) xs) ≡ told_before ++ told x ∷ [] =
-    ap (map told) (take_more xs i x within ∙ ap (λ z. take i xs ++ z ∷ []) (sym is))
-    ∙ map-append told (take i xs) (x ∷ []) in (
-      some_more told_before (told x) ∙ ap are_some (sym more),
-      one_text json told_before (told x) later before middle comma after some m c e
-          ∙ ap (λ z. before ++ texts json false z) (sym more),
-    )
-
--- so of one that is read at the index
 pub one_read :
     {A B : Type 0} (json : B → Data) (told : A → B) (xs : List A) (i : ℕ) (d : A) (later : Bool)
     (before middle comma after : List ℕ) → i < length xs → later ≡ are_some (map told (take i xs)) →

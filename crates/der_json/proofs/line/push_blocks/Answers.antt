@@ -19,7 +19,9 @@ returns c =
     let o = c.outermost.ensures in
     let octets = c.args.octets.now in
     let whole : AreRowsOf octets rows =
-    subst (λ z. AreRows (AreInside 8) octets 0 z rows) o.depth
-    (subst (λ z. AreRows (AreInside 8) octets z c.outermost.result.depth rows) o.base
-    (subst (λ z. AreRows (AreInside z) octets c.outermost.result.base c.outermost.result.depth rows) o.documents are)) in
+    subst (λ z. AreRows (AreInside 8) false octets 0 z rows) o.depth
+    (subst (λ z. AreRows (AreInside 8) false octets z c.outermost.result.depth rows) o.base
+    (subst (λ z. AreRows (AreInside z) false octets c.outermost.result.base c.outermost.result.depth rows) o.documents
+    (subst (λ z. AreRows (AreInside c.outermost.result.documents) z octets c.outermost.result.base
+    c.outermost.result.depth rows) o.outside are))) in
     (rows_text rows origin, line, (rows, whole, marks, first, refl))

@@ -2,7 +2,7 @@ use Rattle.std.proofs.Common.{◌≡◌, ◌∙◌, ◌+◌, ◌-◌, ◌++◌, 
 use Rattle.std.proofs.lemmas.List.{append-nil}
 use Rattle.std.specs.Prelude.{None, Some}
 use Rattle.der_json.specs.Json.{AreInside, AreRows, items_of, row_json}
-use Rattle.der_json.specs.Rows.{IsNestedJson, blocks_text, first_members, last_members, told_marks}
+use Rattle.der_json.specs.Rows.{IsNestedJson, blocks_text, first_members, found_marks, last_members, told_marks}
 use Rattle.der_lines.specs.Pieces.{Passes}
 use Rattle.der_lines.specs.Steps.{IsAhead}
 use Rattle.der_json.proofs.Members.{blocks_put, object_text, put_after}
@@ -26,7 +26,7 @@ push_object-returns t c =
 pub push_nested-returns-in_default : goal.push_nested-returns-in_default
 push_nested-returns-in_default t c = (
   None,
-  subst (λ z. IsNestedJson c.args.place c.args.offset z None _) (sym c.in_default.is) (refl, ap told_marks c.new.ensures.items),
+  subst (λ z. IsNestedJson c.args.place c.args.offset z None (told_marks c.new.result.items)) (sym c.in_default.is) (refl, ap told_marks c.new.ensures.items),
   sym (append-nil c.args.out.now.items),
 )
 
@@ -45,7 +45,7 @@ push_nested-returns t c =
     (subst (λ z. AreRows (AreInside z) true nested.octets.now inside.base inside.depth rows) fewer
     (subst (λ z. AreRows (AreInside inside.documents) z nested.octets.now inside.base inside.depth rows) i.inside are))) in (
       Some items,
-      subst (λ z. IsNestedJson place c.args.offset z (Some items) _) (sym c.in-Some.is) (items, refl, (rows, moved, refl, marks)),
+      subst (λ z. IsNestedJson place c.args.offset z (Some items) (found_marks c.in_ok-found.found)) (sym c.in-Some.is) (items, refl, (rows, moved, refl, marks)),
       blocks_put c.args.out.now.items c.extend_from_slice.new.self.items c.push_rows.new.out.items items
           c.in_ok-extend_from_slice.ensures.items (put ∙ ap (λ z. c.extend_from_slice.new.self.items ++ z) is),
     )

@@ -2,7 +2,7 @@ use Rattle.std.proofs.Common.{[], append-nil, arith, refl, subst, sym, ◌≡◌
 use Rattle.std.proofs.lemmas.List.{take_all}
 use Rattle.der_json.specs.Json.{departed_json}
 use Rattle.der_json.specs.Rows.{departed_of, texts, told_marks}
-use Rattle.der_json.proofs.Arrays.{all_texts, one_more}
+use Rattle.der_json.proofs.Arrays.{all_texts, one_read}
 use Rattle.der_json.proofs.Members.{put_same}
 use Rattle.der_json.proofs.strict.push_list.Goals as goal
 
@@ -12,8 +12,8 @@ loop-mark-init c = record { some = refl; put = sym (append-nil c.args.out.now.it
 pub loop-mark-preserved : goal.loop-mark-preserved
 loop-mark-preserved c =
     let (some, put) =
-    one_more departed_json departed_of c.args.marks.now c.loop-mark.mark-index c.mark-item.result c.loop-mark.is_later c.args.out.now.items c.loop-mark.out.items
-    c.push_comma.new.out.items c.push_member.new.out.items c.loop-mark-test.true c.mark-item.is c.loop-mark.invariant.some
+    one_read departed_json departed_of c.args.marks.now c.loop-mark.mark-index _ c.loop-mark.is_later c.args.out.now.items c.loop-mark.out.items
+    c.push_comma.new.out.items c.push_member.new.out.items c.loop-mark-test.true c.loop-mark.invariant.some
     c.loop-mark.invariant.put c.in_ok-push_comma.ensures (put_same _ [] _ _ _ c.in_ok-push_member.ensures c.in_ok-object.ensures) in
     record { some = some; put = put }
 
