@@ -82,10 +82,10 @@ pub front_kept :
     (x : List ℕ) (a b : FrontBuilder) (f : OpenFrame EntryItems) (i : EntryItems) (depth : ℕ) →
     ((all : List Entry) → IsFront a all → IsFront b (take (suc f.items.entry) all)) → HasKept holds_front x f depth a i b (one_more i)
 front_kept x a b f i depth is = record {
-  holds = λ inside lost e fs ts us rest k d m kind none (all, w, held).
+  holds = λ inside lost e fs ts us rest k d m here tried none (all, w, held).
       let v = is all w in
       let step = kept x (whole_builder a all w) (whole_builder b (take (suc f.items.entry) all) v) f i depth refl in
-      (take (suc f.items.entry) all, v, step.holds inside lost e fs ts us rest k d m kind none held);
+      (take (suc f.items.entry) all, v, step.holds inside lost e fs ts us rest k d m here tried none held);
 }
 
 -- an entry that is not kept is changed among the others
