@@ -2,4 +2,5 @@ pub mod Arrays
 pub mod Lines
 pub mod Members
 pub mod Pieces
+pub mod Tokens
 pub mod Walk
