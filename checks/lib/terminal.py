@@ -1,4 +1,4 @@
-"""What der_dump shows on a terminal, and which names it takes from the file of dumpasn1: terminal.py PROGRAM
+"""What der_dump shows on a terminal and says where output fails, and the names of dumpasn1's file: terminal.py PROGRAM
 
 Lines are colored on a terminal unless NO_COLOR says otherwise, and without the sequences they are the plain lines. Of
 a long input it is told there how much was read. Each identifier that /etc/dumpasn1/dumpasn1.cfg names has that name.
@@ -81,6 +81,15 @@ is_so("nothing is told elsewhere of a long input", error == b"")
 shown, told = run([], long, "stderr")
 is_so("the output of a long input", shown == output)
 is_so("a long input is told of", b"\r8 MB read" in told and told.endswith(b"\r\x1b[K"))
+is_so("a short input is not told of", b"\r7 MB read" not in told)
+
+with open("/dev/full", "wb") as full:
+    ran = subprocess.run([PROGRAM, "--help"], stdout=full, stderr=subprocess.PIPE)
+is_so("help that can't be written has status 2", ran.returncode == 2)
+# the reader of the output goes after its first bytes
+many = b"\x05\x00" * 100000
+ran = subprocess.run(["sh", "-c", '"$0" | head -c 1', PROGRAM], input=many, capture_output=True)
+is_so("a reader that has gone is not told", (ran.stdout, ran.stderr) == (b" ", b""))
 
 if NAMES.exists():
     named = names_of(NAMES.read_text(encoding="latin-1"))

@@ -1,1 +1,5 @@
 mod LineFronts
+mod Numbers
+mod Parts
+mod Times
+mod Utf8

@@ -1,6 +1,5 @@
 -- A text whose first line loses its front: an object that begins in the line which ends another is read from there.
 use Rattle.std.proofs.Common.{◌≡◌, ◌<◌, ◌≤◌, ◌==◌, ℕ, zero, suc, Bool, true, false, List, [], ◌∷◌, drop, length, refl, sym, ap, ◌∙◌, arith}
-use Rattle.std.proofs.lemmas.List.{drop_all}
 use Rattle.der_io.specs.Characters.{line_feed}
 use Rattle.der_io.specs.Lines.{lines_of, onto_first_line}
 use Rattle.der_forms.specs.Forms.{begins_object}

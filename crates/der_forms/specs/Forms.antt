@@ -1,14 +1,8 @@
 -- The forms in which an input has its documents, told apart by its octets.
 use Rattle.std.specs.Prelude.{ℕ, Bool, true, false, not, ◌==◌, ◌||◌, ◌&&◌, nat_le, List, [], ◌∷◌, ◌++◌, if◌then◌else◌, codes}
-use Rattle.std.specs.Prelude.{drop, take, Result, Ok, Err}
+use Rattle.std.specs.Prelude.{drop, length, nat_lt, take}
 use Rattle.std.specs.Char.{is_ascii_hexdigit, is_ascii_whitespace}
 use Rattle.std.specs.List.{list_all, list_any, prefix_len, starts_with}
-use Rattle.base64.specs.Engines.{standard}
-use Rattle.base64.specs.GeneralPurpose.{decode_of as decode_base64}
-use Rattle.base64.specs.declared.decode.DecodeError.{DecodeError}
-use Rattle.hex.specs.Hex.{decode_of as decode_hex}
-use Rattle.hex.specs.declared.error.FromHexError.{FromHexError}
-use Rattle.der_io.specs.Lines.{lines_of}
 use Rattle.der_io.specs.Characters.{colon, comma, hyphen, left_brace, right_brace, space, tilde, vertical_bar}
 
 -- what an input is
@@ -83,41 +77,61 @@ abbrev pub begins_space : List ℕ → Bool
 begins_space [] = true
 begins_space (b ∷ text) = is_ascii_whitespace b
 
--- the text comes in columns as `od -t x1` prints them: an offset of seven digits, and pairs of hex digits
+-- the text comes in columns as `od -t x1` prints them: an offset of seven octal digits, and pairs of hex digits
 abbrev pub has_octets : List ℕ → Bool
 has_octets text = begins (codes "0000000 ") text && begins_space (drop 10 text)
+
+-- so as `od -A x -t x1` prints them: an offset of six hex digits
+abbrev pub has_hex_offsets : List ℕ → Bool
+has_hex_offsets text = begins (codes "000000 ") text && begins_space (drop 9 text)
+
+-- a binary digit
+abbrev pub is_binary : ℕ → Bool
+is_binary b = b == 48 || b == 49
+
+-- the text comes in columns of bits, as `xxd -b` prints them: eight binary digits for an octet
+abbrev pub has_bits : List ℕ → Bool
+has_bits text =
+    begins (codes "00000000: ") text
+    && (nat_le 18 (length text) && (list_all is_binary (take 8 (drop 10 text)) && begins_space (drop 18 text)))
 
 -- the text comes in columns, as `xxd`, `hexdump -C` and `od -t x1` print them: offset, digits, and maybe characters
 abbrev pub has_columns : List ℕ → Bool
 has_columns text =
     begins (codes "00000000: ") text
     || (begins (codes "00000000  ") text && list_any (λ b. b == vertical_bar) text)
-    || has_octets text
+    || (has_octets text || has_hex_offsets text)
 
--- the text begins with an offset, and then comes in another way, as that of `hexdump` and `od`: in words whose octets
--- are turned round, or in octal digits
+-- the text begins with an offset, and then comes in another way, as that of `hexdump`, `od` and `xxd -b`: in words whose
+-- octets are turned round, in octal digits or in bits
 abbrev pub has_other_columns : List ℕ → Bool
-has_other_columns text = (begins (codes "0000000 ") text && not (has_octets text)) || begins (codes "000000 ") text
+has_other_columns text =
+    (begins (codes "0000000 ") text && not (has_octets text))
+    || ((begins (codes "000000 ") text && not (has_hex_offsets text)) || has_bits text)
 
 -- what stands before these words, or all where they do not stand there
 abbrev pub up_to : List ℕ → List ℕ → List ℕ
 up_to words [] = []
 up_to words (b ∷ text) = if begins words (b ∷ text) then [] else b ∷ up_to words text
 
--- the column of digits in a line after seven digits of an offset
-abbrev pub octets_column : List ℕ → List ℕ
-octets_column line = if list_all is_ascii_hexdigit (take 7 line) then drop 7 line else line
+-- the words stand in the text
+abbrev pub has_words : List ℕ → List ℕ → Bool
+has_words words text = nat_lt (length (up_to words text)) (length text)
 
--- the column of digits in a line: after eight digits of an offset, up to two spaces where `:` ends the offset, and else
--- up to a `|`; or after seven
+-- the offset in a line: the hex digits at its front
+abbrev pub offset_of : List ℕ → List ℕ
+offset_of line = take (prefix_len is_ascii_hexdigit line) line
+
+-- the digits behind an offset: up to two spaces where `:` ends the offset, and else up to a `|` or `>`, at which a column
+-- of characters begins
+abbrev pub column_behind : List ℕ → List ℕ
+column_behind text =
+    if begins (codes ":") text then up_to (codes "  ") (drop 1 text) else up_to (codes "|") (up_to (codes ">") text)
+
+-- the column of digits in a line, behind six digits of an offset or more
 abbrev pub column_of : List ℕ → List ℕ
 column_of line =
-    if list_all is_ascii_hexdigit (take 8 line)
-    then
-    (if begins (codes ":") (drop 8 line)
-    then up_to (codes "  ") (drop 9 line)
-    else up_to (codes "|") (drop 8 line))
-    else octets_column line
+    if nat_le 6 (length (offset_of line)) then column_behind (drop (length (offset_of line)) line) else line
 
 -- what may be the digits of the lines, which come in columns or do not
 abbrev pub digits_of : Bool → List (List ℕ) → List ℕ
@@ -129,32 +143,3 @@ digits_of in_columns (line ∷ lines) =
 abbrev pub but_spaces : List ℕ → List ℕ
 but_spaces [] = []
 but_spaces (b ∷ text) = if is_ascii_whitespace b then but_spaces text else b ∷ but_spaces text
-
-abbrev pub of_hex_digits : Result (List ℕ) FromHexError → InputForm
-of_hex_digits (Ok octets) = spelled octets
-of_hex_digits (Err e) = odd_digits
-
--- base 64 is told from words by its first octet, that of a SEQUENCE
-abbrev pub of_base64 : Result (List ℕ) DecodeError → InputForm
-of_base64 (Ok octets) = if begins (48 ∷ []) octets then spelled octets else other_text
-of_base64 (Err e) = other_text
-
--- what may be digits are some, and all of them are; and else it may be base 64
-abbrev pub form_of_symbols : List ℕ → List ℕ → InputForm
-form_of_symbols digits symbols =
-    if all_of_some is_ascii_hexdigit digits then of_hex_digits (decode_hex digits)
-    else of_base64 (decode_base64 standard symbols)
-
-abbrev pub form_of_text : List ℕ → InputForm
-form_of_text text =
-    if has_other_columns text then other_text
-    else form_of_symbols (digits_of (has_columns text) (lines_of text)) (but_spaces text)
-
-abbrev pub form_but_mark : List ℕ → InputForm
-form_but_mark text =
-    if has_object (lines_of text) then objects
-    else if all_of_some is_printed text then form_of_text text else plain_octets
-
--- the form of an input
-abbrev pub form_is : List ℕ → InputForm
-form_is input = form_but_mark (but_mark input)

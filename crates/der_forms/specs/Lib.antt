@@ -1,3 +1,7 @@
+pub mod Columns
 pub mod Forms
+pub mod Known
 pub mod Objects
 pub mod Shown
+pub mod Sources
+pub mod Texts

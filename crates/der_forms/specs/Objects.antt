@@ -1,7 +1,8 @@
 -- The objects of PEM (RFC 7468), one after another.
-use Rattle.std.specs.Prelude.{ℕ, Bool, true, false, ◌==◌, nat_lt, List, [], ◌∷◌, ◌++◌, drop, length, if◌then◌else◌, codes}
+use Rattle.std.specs.Prelude.{ℕ, Bool, true, false, ◌==◌, ◌&&◌, List, [], ◌∷◌, ◌++◌, drop, length, if◌then◌else◌, codes}
 use Rattle.std.specs.Prelude.{Option, Some, None}
 use Rattle.std.specs.List.{list_any}
+use Rattle.std.specs.Option.{option_and_then}
 use Rattle.std.specs.Result.{result_ok}
 use Rattle.std.specs.Str.{bytes_eq}
 use Rattle.base64.specs.Engines.{standard}
@@ -9,11 +10,13 @@ use Rattle.base64.specs.GeneralPurpose.{decode_of as decode_base64}
 use Rattle.der_forms.specs.declared.objects.Ending.{Ending}
 use Rattle.der_forms.specs.declared.objects.Ending.TheVariants.{Closed, Joined, Missing, OtherLabel}
 use Rattle.der_io.specs.Lines.{lines_of}
-use Rattle.der_forms.specs.Forms.{InputForm, begins, begins_object, but_indent, but_mark, but_spaces, form_is}
+use Rattle.der_forms.specs.Forms.{InputForm, begins, begins_object, but_indent, but_mark, but_spaces, has_words}
 use Rattle.der_forms.specs.Forms.{objects, odd_digits, other_text, plain_octets, spelled, up_to}
+use Rattle.der_forms.specs.Known.{form_is}
+use Rattle.der_forms.specs.Texts.{text_of}
 use Rattle.der_io.specs.Characters.{colon}
 
--- an object: its label, its octets, or none where it is encrypted or no base 64, and how it ends
+-- an object: its label, its octets, or none where they are not to be read, and how it ends
 pub record Object : Type 0 where
   pub label : List ℕ
   pub octets : Option (List ℕ)
@@ -43,17 +46,22 @@ abbrev pub symbols_in : List (List ℕ) → List ℕ
 symbols_in [] = []
 symbols_in (line ∷ lines) = if ends_object line then [] else symbols_of line ++ symbols_in lines
 
--- the octets of an object that begins before the lines, or none where it is encrypted or no base 64
+-- the octets of a private key in the form of OpenSSH, which is not DER
+abbrev pub is_openssh : List ℕ → Bool
+is_openssh octets = begins (codes "openssh-key-v1") octets && begins (0 ∷ []) (drop 14 octets)
+
+abbrev pub but_openssh : List ℕ → Option (List ℕ)
+but_openssh octets = if is_openssh octets then None else Some octets
+
+-- the octets of an object that begins before the lines, or none where it is encrypted, no base 64, or not DER
 abbrev pub octets_in : List (List ℕ) → Option (List ℕ)
-octets_in lines = if is_encrypted lines then None else result_ok (decode_base64 standard (symbols_in lines))
+octets_in lines =
+    if is_encrypted lines then None
+    else option_and_then but_openssh (result_ok (decode_base64 standard (symbols_in lines)))
 
 -- the label in a line that ends an object: what stands between `-----END ` and `-----`
 abbrev pub end_label_in : List ℕ → List ℕ
 end_label_in line = up_to (codes "-----") (drop 9 (but_indent line))
-
--- the words stand in the text
-abbrev pub has_words : List ℕ → List ℕ → Bool
-has_words words text = nat_lt (length (up_to words text)) (length text)
 
 -- how a line ends an object with this label
 abbrev pub ending_by : List ℕ → List ℕ → Ending
@@ -111,6 +119,10 @@ document_in odd_digits input = None
 document_in other_text input = None
 document_in plain_octets input = Some input
 
--- the octets of the document that an input has, the first one of PEM
+-- the octets of the document that a text has, the first one of PEM
+abbrev pub document_in_text : List ℕ → Option (List ℕ)
+document_in_text text = document_in (form_is text) text
+
+-- the octets of the document that an input has
 abbrev pub document_of : List ℕ → Option (List ℕ)
-document_of input = document_in (form_is input) input
+document_of input = document_in_text (text_of input)

@@ -4,14 +4,16 @@ use Rattle.std.specs.Result.{result_ok}
 use Rattle.der_forms.specs.Forms.{InputForm, objects, odd_digits, other_text, plain_octets, spelled}
 use Rattle.der_forms.specs.Objects.{Object}
 use Rattle.der_forms.specs.declared.input.Form.{Form}
-use Rattle.der_forms.specs.declared.input.Form.TheVariants.{Pem, Spelled, OddDigits, Text, Der}
+use Rattle.der_forms.specs.declared.input.Form.TheVariants.{Pem, Spelled, OddDigits, OtherColumns, LeftOut, Text, Der}
 use Rattle.der_forms.specs.declared.objects.PemObject.{PemObject}
 
 abbrev pub shown : Form → InputForm
 shown Pem = objects
 shown (Spelled octets) = spelled octets.items
 shown OddDigits = odd_digits
-shown Text = other_text
+shown OtherColumns = other_text
+shown (LeftOut line) = other_text
+shown (Text line) = other_text
 shown Der = plain_octets
 
 abbrev pub shown_object : PemObject → Object

@@ -1,10 +1,13 @@
 // Text in base 64.
-ghost use Rattle.std.specs.Prelude.{◌≡◌, Err, IfOk, MatchResult, Ok};
-ghost use Rattle.base64.specs.Engines.{standard};
+ghost use Rattle.std.specs.Prelude.{◌≡◌, Err, IfOk, MatchOption, MatchResult, None, Ok, Some};
+ghost use Rattle.std.specs.Result.{result_ok};
+ghost use Rattle.base64.specs.Engines.{standard, standard_pad_indifferent, url_safe_pad_indifferent};
 ghost use Rattle.base64.specs.GeneralPurpose.{decode_of};
 ghost use Rattle.der_forms.specs.Forms.{but_spaces};
 
-use base64::engine::general_purpose::STANDARD;
+use base64::engine::general_purpose::{
+    STANDARD, STANDARD_PAD_INDIFFERENT, URL_SAFE_PAD_INDIFFERENT,
+};
 use base64::{DecodeAllocError, DecodeError};
 use std::alloc::{AllocError, Global};
 
@@ -31,5 +34,31 @@ pub fn decode(alloc: Global, symbols: &[u8]) -> Result<Result<Vec<u8>, DecodeErr
         Ok(octets) => Ok(Ok(octets)),
         Err(DecodeAllocError::OutOfMemory) => Err(AllocError),
         Err(DecodeAllocError::DecodeError(e)) => Ok(Err(e)),
+    }
+}
+
+// What they spell where the padding may be wanting, if anything.
+pub fn decode_unpadded(alloc: Global, symbols: &[u8]) -> Result<Option<Vec<u8>>, AllocError>
+    ensures { IfOk result (λ decoded. MatchOption decoded
+        (result_ok (decode_of standard_pad_indifferent symbols.now) ≡ None)
+        (λ octets. result_ok (decode_of standard_pad_indifferent symbols.now) ≡ Some octets.items)) }
+{
+    match STANDARD_PAD_INDIFFERENT.decode(alloc, symbols) {
+        Ok(octets) => Ok(Some(octets)),
+        Err(DecodeAllocError::OutOfMemory) => Err(AllocError),
+        Err(DecodeAllocError::DecodeError(_)) => Ok(None),
+    }
+}
+
+// What they spell with `-` and `_` for `+` and `/`, if anything.
+pub fn decode_url(alloc: Global, symbols: &[u8]) -> Result<Option<Vec<u8>>, AllocError>
+    ensures { IfOk result (λ decoded. MatchOption decoded
+        (result_ok (decode_of url_safe_pad_indifferent symbols.now) ≡ None)
+        (λ octets. result_ok (decode_of url_safe_pad_indifferent symbols.now) ≡ Some octets.items)) }
+{
+    match URL_SAFE_PAD_INDIFFERENT.decode(alloc, symbols) {
+        Ok(octets) => Ok(Some(octets)),
+        Err(DecodeAllocError::OutOfMemory) => Err(AllocError),
+        Err(DecodeAllocError::DecodeError(_)) => Ok(None),
     }
 }

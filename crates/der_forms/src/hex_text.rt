@@ -1,5 +1,5 @@
 // Text in hex digits.
-ghost use Rattle.std.specs.Prelude.{◌≡◌, ◌++◌, ◌==◌, IfOk, MatchOption, None, Ok, OnOk};
+ghost use Rattle.std.specs.Prelude.{◌≡◌, ◌++◌, ◌==◌, IfOk, MatchOption, None, Ok, OnOk, drop};
 ghost use Rattle.std.specs.Char.{is_ascii_hexdigit};
 ghost use Rattle.std.specs.List.{list_all};
 ghost use Rattle.std.specs.Result.{result_ok};
@@ -9,13 +9,17 @@ ghost use Rattle.der_forms.specs.Forms.{
   begins_prefix,
   begins_space,
   but_separators,
+  column_behind,
   column_of,
   digits_of,
+  has_bits,
   has_columns,
+  has_hex_offsets,
   has_octets,
   has_other_columns,
+  is_binary,
   is_separator,
-  octets_column,
+  offset_of,
 };
 ghost use Rattle.der_io.specs.Lines.{lines_of};
 
@@ -24,8 +28,18 @@ use der_io::split_line;
 use hex::FromHexError;
 use std::alloc::{AllocError, Global};
 
-// Where the first pair of digits ends in what `od -t x1` prints.
-const FIRST_PAIR_END: usize = 10;
+// Where the first pair of digits ends in what `od -t x1` and `od -A x -t x1` print.
+const OCTAL_PAIR_END: usize = 10;
+
+const HEX_PAIR_END: usize = 9;
+
+// Where the first eight bits stand in what `xxd -b` prints.
+const BITS_START: usize = 10;
+
+const BITS_END: usize = 18;
+
+// How many digits an offset has at least.
+const LEAST_OFFSET: usize = 6;
 
 // What may be the digits of a text.
 pub fn digits_in(alloc: Global, text: &[u8]) -> Result<Vec<u8>, AllocError>
@@ -46,27 +60,72 @@ pub fn digits_in(alloc: Global, text: &[u8]) -> Result<Vec<u8>, AllocError>
     Ok(digits)
 }
 
-fn is_in_columns(text: &[u8]) -> bool
+// Whether the text comes in columns, with an offset before the digits.
+pub fn is_in_columns(text: &[u8]) -> bool
     ensures { result ≡ has_columns text.now }
 {
     text.starts_with(b"00000000: ")
         || (text.starts_with(b"00000000  ") && text.contains(&b'|'))
         || has_octets(text)
+        || has_hex_offsets(text)
 }
 
 // Whether the text comes in columns as `od -t x1` prints them.
-fn has_octets(text: &[u8]) -> bool
+pub fn has_octets(text: &[u8]) -> bool
     ensures { result ≡ has_octets text.now }
 {
-    let (_, behind_pair) = text.split_at(text.len().min(FIRST_PAIR_END));
-    text.starts_with(b"0000000 ") && begins_space(behind_pair)
+    text.starts_with(b"0000000 ") && begins_space(behind(OCTAL_PAIR_END, text))
 }
 
-// Whether the text comes in columns of another kind, as `hexdump` and `od` print them by default.
+// Whether the text comes in columns as `od -A x -t x1` prints them.
+fn has_hex_offsets(text: &[u8]) -> bool
+    ensures { result ≡ has_hex_offsets text.now }
+{
+    text.starts_with(b"000000 ") && begins_space(behind(HEX_PAIR_END, text))
+}
+
+// What stands behind so many characters.
+fn behind(count: usize, text: &[u8]) -> &[u8]
+    ensures { result.now ≡ drop count text.now }
+{
+    let (_, after) = text.split_at(text.len().min(count));
+    after
+}
+
+// Whether the text comes in columns of bits, as `xxd -b` prints them.
+fn has_bits(text: &[u8]) -> bool
+    ensures { result ≡ has_bits text.now }
+{
+    text.starts_with(b"00000000: ")
+        && text.len() >= BITS_END
+        && are_all_binary(&text[BITS_START..BITS_END])
+        && begins_space(&text[BITS_END..])
+}
+
+fn are_all_binary(text: &[u8]) -> bool
+    ensures { result ≡ list_all is_binary text.now }
+{
+    for b in text {
+        if !is_binary(*b) {
+            return false;
+        }
+    }
+    true
+}
+
+fn is_binary(b: u8) -> bool
+    ensures { result ≡ is_binary b }
+{
+    b == b'0' || b == b'1'
+}
+
+// Whether the text comes in columns of another kind, as `hexdump` and `od` print them by default, and `xxd -b`.
 pub fn has_other_columns(text: &[u8]) -> bool
     ensures { result ≡ has_other_columns text.now }
 {
-    (text.starts_with(b"0000000 ") && !has_octets(text)) || text.starts_with(b"000000 ")
+    (text.starts_with(b"0000000 ") && !has_octets(text))
+        || (text.starts_with(b"000000 ") && !has_hex_offsets(text))
+        || has_bits(text)
 }
 
 fn begins_space(text: &[u8]) -> bool
@@ -78,32 +137,45 @@ fn begins_space(text: &[u8]) -> bool
     }
 }
 
+// The offset in a line: the hex digits at its front.
+pub fn offset_of(line: &[u8]) -> &[u8]
+    ensures { result.now ≡ offset_of line.now }
+{
+    let mut rest = line;
+    while !rest.is_empty() {
+        if !rest[0].is_ascii_hexdigit() {
+            return &line[..line.len() - rest.len()];
+        }
+        rest = &rest[1..];
+    }
+    line
+}
+
 // The column of digits in a line.
-fn digits_column(line: &[u8]) -> &[u8]
+pub fn digits_column(line: &[u8]) -> &[u8]
     ensures { result.now ≡ column_of line.now }
 {
-    let offset = &line[..line.len().min(8)];
-    if !are_all_digits(offset) {
-        return octets_column(line);
-    }
-    let after = &line[offset.len()..];
-    if after.starts_with(b":") {
-        part_before(b"  ", &after[1..])
+    let size = offset_of(line).len();
+    if size >= LEAST_OFFSET {
+        column_behind(behind(size, line))
     } else {
-        part_before(b"|", after)
+        line
     }
 }
 
-// That of a line as `od -t x1` prints it.
-fn octets_column(line: &[u8]) -> &[u8]
-    ensures { result.now ≡ octets_column line.now }
+// The column of digits behind an offset.
+fn column_behind(text: &[u8]) -> &[u8]
+    ensures { result.now ≡ column_behind text.now }
 {
-    let (offset, after) = line.split_at(line.len().min(7));
-    if are_all_digits(offset) { after } else { line }
+    if text.starts_with(b":") {
+        part_before(b"  ", &text[1..])
+    } else {
+        part_before(b"|", part_before(b">", text))
+    }
 }
 
 // Puts what is left of the text without its separators.
-fn push_digits(text: &[u8], digits: &mut Vec<u8>) -> Result<(), AllocError>
+pub fn push_digits(text: &[u8], digits: &mut Vec<u8>) -> Result<(), AllocError>
     ensures { OnOk result (digits.new.items ≡ digits.old.items ++ but_separators text.now) }
 {
     let mut rest = text;
@@ -122,13 +194,13 @@ fn push_digits(text: &[u8], digits: &mut Vec<u8>) -> Result<(), AllocError>
 }
 
 // Whether the text begins with what may stand before two digits.
-fn begins_prefix(text: &[u8]) -> bool
+pub fn begins_prefix(text: &[u8]) -> bool
     ensures { result ≡ begins_prefix text.now }
 {
     text.starts_with(b"0x") || text.starts_with(b"\\x")
 }
 
-fn may_separate(b: u8) -> bool
+pub fn may_separate(b: u8) -> bool
     ensures { result ≡ is_separator b }
 {
     b.is_ascii_whitespace() || b == b':' || b == b',' || b == b'-' || b == b'{' || b == b'}'

@@ -1,13 +1,21 @@
 // What an input is, and the document that it has.
 ghost use Rattle.std.specs.Prelude.{◌≡◌, ◌⊎◌, IfOk, IfErr, None, Some};
-ghost use Rattle.der_forms.specs.Forms.{all_of_some, form_is, form_of_text, is_printed};
-ghost use Rattle.der_forms.specs.Objects.{document_of as document_is, first_of, objects_of};
+ghost use Rattle.base64.specs.GeneralPurpose.{decode_of as decode_base64};
+ghost use Rattle.base64.specs.Engines.{standard, url_safe_pad_indifferent};
+ghost use Rattle.std.specs.Result.{result_ok};
+ghost use Rattle.der_forms.specs.Forms.{all_of_some, but_spaces, is_printed, other_text};
+ghost use Rattle.der_forms.specs.Known.{are_words, fits_one, fits_three, fits_two, form_is, form_of_text, if_sequence, of_hex_digits};
+ghost use Rattle.hex.specs.Hex.{decode_of as decode_hex};
+ghost use Rattle.der_forms.specs.Known.{is_in_words, is_sequence, length_fits, of_base64, of_loose_base64, of_symbols};
+ghost use Rattle.der_forms.specs.Objects.{document_in_text, document_of as document_is, first_of, objects_of};
 ghost use Rattle.der_forms.specs.Shown.{shown};
 ghost use Rattle.der_forms.specs.declared.input.FormFault.TheVariants.{OutOfMemory};
 
 use crate::lines::{Lines, is_pem, without_mark};
 use crate::objects::{PemFault, fault_of_end, next_object};
-use crate::{base64_text, hex_text};
+use crate::text::text_of;
+use crate::unknown::{form_left_out, form_unknown};
+use crate::{base64_text, hex_text, left_out, source_text};
 use std::alloc::{AllocError, Global};
 use thiserror::Error;
 
@@ -20,13 +28,19 @@ pub enum Form {
     Spelled(Vec<u8>),
     /// An odd number of hex digits.
     OddDigits,
-    /// Any other text of printed characters of ASCII, or of white space.
-    Text,
+    /// Columns of words, of octal digits or of bits, as `hexdump`, `od` and `xxd -b` print them.
+    OtherColumns,
+    /// Hex digits with a line `*` for others, in this line, counted from 1. No offset says how many, or the offsets are
+    /// wrong.
+    LeftOut(usize),
+    /// Any other text. This line of it, counted from 1, is the first in no form that is read.
+    Text(usize),
     /// The octets of a document, as they are.
     Der,
 }
 
-/// What an input is, by its octets alone. The only error is that memory ran out.
+/// What an input is, by its octets alone. Text in UTF-16, and PEM on one line, are first made text by [`text_of`]. The
+/// only error is that memory ran out.
 pub fn form_of(alloc: Global, input: &[u8]) -> Result<Form, AllocError>
     ensures { IfOk result (λ form. shown form ≡ form_is input.now) }
 {
@@ -35,6 +49,8 @@ pub fn form_of(alloc: Global, input: &[u8]) -> Result<Form, AllocError>
         Ok(Form::Pem)
     } else if is_printed_text(text) {
         text_form(alloc, text)
+    } else if are_words(text) {
+        Ok(form_unknown(text))
     } else {
         Ok(Form::Der)
     }
@@ -44,19 +60,133 @@ fn text_form(alloc: Global, text: &[u8]) -> Result<Form, AllocError>
     ensures { IfOk result (λ form. shown form ≡ form_of_text text.now) }
 {
     if hex_text::has_other_columns(text) {
-        return Ok(Form::Text);
+        Ok(Form::OtherColumns)
+    } else if hex_text::is_in_columns(text) && left_out::are_some_left_out(text) {
+        match left_out::digits_in(alloc, text)? {
+            Some(digits) if hex_text::are_digits(&digits) => form_of_digits(alloc, &digits),
+            _ => Ok(form_left_out(text)),
+        }
+    } else {
+        symbols_form(alloc, text)
     }
+}
+
+// The form of text without lines left out.
+fn symbols_form(alloc: Global, text: &[u8]) -> Result<Form, AllocError>
+    ensures { IfOk result (λ form. shown form ≡ of_symbols text.now) }
+{
     let digits = hex_text::digits_in(alloc, text)?;
     if hex_text::are_digits(&digits) {
-        return match hex_text::decode(alloc, &digits)? {
-            Some(octets) => Ok(Form::Spelled(octets)),
-            None => Ok(Form::OddDigits),
-        };
+        return form_of_digits(alloc, &digits);
     }
+    match source_text::digits_in(alloc, text)? {
+        Some(digits) if hex_text::are_digits(&digits) => form_of_digits(alloc, &digits),
+        _ => base64_form(alloc, text),
+    }
+}
+
+fn form_of_digits(alloc: Global, digits: &[u8]) -> Result<Form, AllocError>
+    ensures { IfOk result (λ form. shown form ≡ of_hex_digits (decode_hex digits.now)) }
+{
+    match hex_text::decode(alloc, digits)? {
+        Some(octets) => Ok(Form::Spelled(octets)),
+        None => Ok(Form::OddDigits),
+    }
+}
+
+fn base64_form(alloc: Global, text: &[u8]) -> Result<Form, AllocError>
+    ensures { IfOk result (λ form. shown form
+        ≡ of_base64 (decode_base64 standard (but_spaces text.now)) (but_spaces text.now)) }
+{
     let symbols = base64_text::without_spaces(alloc, text)?;
     match base64_text::decode(alloc, &symbols)? {
         Ok(octets) if octets.starts_with(&[0x30]) => Ok(Form::Spelled(octets)),
-        _ => Ok(Form::Text),
+        Ok(_) => Ok(form_unknown(text)),
+        Err(_) => loose_base64_form(alloc, &symbols, text),
+    }
+}
+
+// The form of base64 without its padding, or of base64url.
+fn loose_base64_form(alloc: Global, symbols: &[u8], text: &[u8]) -> Result<Form, AllocError>
+    ensures { IfOk result (λ form. shown form ≡ of_loose_base64 symbols.now) }
+{
+    match base64_text::decode_unpadded(alloc, symbols)? {
+        Some(octets) => {
+            if is_sequence(&octets) {
+                return Ok(Form::Spelled(octets));
+            }
+            url_form(alloc, symbols, text)
+        }
+        None => url_form(alloc, symbols, text),
+    }
+}
+
+// The form of base64url.
+fn url_form(alloc: Global, symbols: &[u8], text: &[u8]) -> Result<Form, AllocError>
+    ensures { IfOk result (λ form. shown form
+        ≡ if_sequence (result_ok (decode_base64 url_safe_pad_indifferent symbols.now)) other_text) }
+{
+    match base64_text::decode_url(alloc, symbols)? {
+        Some(octets) => {
+            if is_sequence(&octets) {
+                return Ok(Form::Spelled(octets));
+            }
+            Ok(form_unknown(text))
+        }
+        None => Ok(form_unknown(text)),
+    }
+}
+
+// Whether the octets are one SEQUENCE, to their end.
+fn is_sequence(octets: &[u8]) -> bool
+    ensures { result ≡ is_sequence octets.now }
+{
+    match octets {
+        [0x30, length @ ..] => length_fits(length),
+        _ => false,
+    }
+}
+
+fn length_fits(octets: &[u8]) -> bool
+    ensures { result ≡ length_fits octets.now }
+{
+    let [n, rest @ ..] = octets else {
+        return false;
+    };
+    match *n {
+        0x81 => fits_one(rest),
+        0x82 => fits_two(rest),
+        0x83 => fits_three(rest),
+        n => n < 0x80 && usize::from(n) == rest.len(),
+    }
+}
+
+fn fits_one(octets: &[u8]) -> bool
+    ensures { result ≡ fits_one octets.now }
+{
+    match octets {
+        [a, rest @ ..] => usize::from(*a) == rest.len(),
+        _ => false,
+    }
+}
+
+fn fits_two(octets: &[u8]) -> bool
+    ensures { result ≡ fits_two octets.now }
+{
+    match octets {
+        [a, b, rest @ ..] => 256 * usize::from(*a) + usize::from(*b) == rest.len(),
+        _ => false,
+    }
+}
+
+fn fits_three(octets: &[u8]) -> bool
+    ensures { result ≡ fits_three octets.now }
+{
+    match octets {
+        [a, b, c, rest @ ..] => {
+            65536 * usize::from(*a) + 256 * usize::from(*b) + usize::from(*c) == rest.len()
+        }
+        _ => false,
     }
 }
 
@@ -77,6 +207,31 @@ fn may_be_printed(b: u8) -> bool
     (b' '..=b'~').contains(&b) || b.is_ascii_whitespace()
 }
 
+// Whether the octets are words in UTF-8.
+fn are_words(octets: &[u8]) -> bool
+    ensures { result ≡ are_words octets.now }
+{
+    are_all_in_words(octets) && std::str::from_utf8(octets).is_ok()
+}
+
+fn are_all_in_words(octets: &[u8]) -> bool
+    ensures { result ≡ all_of_some is_in_words octets.now }
+{
+    for b in octets {
+        if !may_be_in_words(*b) {
+            return false;
+        }
+    }
+    !octets.is_empty()
+}
+
+// Whether the octet may be in words: a form feed is the identifier octet of a UTF8String.
+fn may_be_in_words(b: u8) -> bool
+    ensures { result ≡ is_in_words b }
+{
+    b >= 0x80 || (may_be_printed(b) && b != 0x0C)
+}
+
 /// Why an input has no document to be read.
 #[derive(Debug, Drop, Error, PartialEq)]
 pub enum FormFault {
@@ -86,12 +241,21 @@ pub enum FormFault {
     /// An odd number of hex digits.
     #[error("odd number of hex digits")]
     OddDigits,
-    /// It is text in no form that is known.
-    #[error("unknown text: DER, PEM, padded base64 and hex digits (plain, xxd, hexdump -C, od -t x1) are read")]
-    Text,
+    /// Columns of words, of octal digits or of bits.
+    #[error("columns of words, octal digits or bits are not read: print them by xxd, hexdump -C or od -t x1")]
+    OtherColumns,
+    /// Hex digits with lines left out, in this line, but not how many.
+    #[error("line {0}: the offsets do not tell how many lines `*` stands for")]
+    LeftOut(usize),
+    /// It is text in no form that is known. The line is the first in none.
+    #[error("line {0}: unknown text: DER, PEM, base64 and hex digits (plain, in C, by xxd, hexdump -C, od -t x1) are read")]
+    Text(usize),
     /// Its first object is encrypted.
     #[error("encrypted, not read")]
     Encrypted,
+    /// Its first object is a private key in the form of OpenSSH.
+    #[error("OpenSSH private key, not DER: ssh-keygen -p -m PEM -f FILE converts it")]
+    OpenSsh,
     /// A line of its first object is not base64: its number, from 1.
     #[error("line {0}: invalid base64")]
     NoBase64(usize),
@@ -115,12 +279,25 @@ pub fn document_of(alloc: Global, input: Vec<u8>) -> Result<Vec<u8>, FormFault>
     ensures octets { IfOk result (λ octets. document_is input.items ≡ Some octets.items) }
     ensures fault { IfErr result (λ e. (e ≡ OutOfMemory) ⊎ (document_is input.items ≡ None)) }
 {
-    match form_of(alloc, &input) {
-        Ok(Form::Pem) => first_object(alloc, &input),
+    match text_of(alloc, input) {
+        Ok(text) => document_in(alloc, text),
+        Err(_) => Err(FormFault::OutOfMemory),
+    }
+}
+
+// The octets of a text's document.
+fn document_in(alloc: Global, text: Vec<u8>) -> Result<Vec<u8>, FormFault>
+    ensures octets { IfOk result (λ octets. document_in_text text.items ≡ Some octets.items) }
+    ensures fault { IfErr result (λ e. (e ≡ OutOfMemory) ⊎ (document_in_text text.items ≡ None)) }
+{
+    match form_of(alloc, &text) {
+        Ok(Form::Pem) => first_object(alloc, &text),
         Ok(Form::Spelled(octets)) => Ok(octets),
         Ok(Form::OddDigits) => Err(FormFault::OddDigits),
-        Ok(Form::Text) => Err(FormFault::Text),
-        Ok(Form::Der) => Ok(input),
+        Ok(Form::OtherColumns) => Err(FormFault::OtherColumns),
+        Ok(Form::LeftOut(line)) => Err(FormFault::LeftOut(line)),
+        Ok(Form::Text(line)) => Err(FormFault::Text(line)),
+        Ok(Form::Der) => Ok(text),
         Err(_) => Err(FormFault::OutOfMemory),
     }
 }
@@ -133,7 +310,7 @@ fn first_object(alloc: Global, input: &[u8]) -> Result<Vec<u8>, FormFault>
         return Err(FormFault::OutOfMemory);
     };
     let Some((object, after)) = next else {
-        return Err(FormFault::Text);
+        return Err(FormFault::Text(1));
     };
     let bad_end = fault_of_end(&object, after.before);
     match object.octets {
@@ -142,6 +319,7 @@ fn first_object(alloc: Global, input: &[u8]) -> Result<Vec<u8>, FormFault>
             None => Ok(octets),
         },
         Err(PemFault::Encrypted) => Err(FormFault::Encrypted),
+        Err(PemFault::OpenSsh) => Err(FormFault::OpenSsh),
         Err(PemFault::NoBase64(line)) => Err(FormFault::NoBase64(line)),
     }
 }

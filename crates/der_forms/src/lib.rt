@@ -1,15 +1,22 @@
 //! The forms in which documents come: as they are, in PEM, in hex digits or in base64.
 //!
-//! [`form_of`] tells what an input is, by its octets alone. Of PEM, [`next_object`] takes one object after another;
+//! [`text_of`] makes UTF-16 text in UTF-8, and gives PEM its lines. [`form_of`] tells what an input is, by its octets
+//! alone. Of PEM, [`next_object`] takes one object after another;
 //! [`document_of`] is for programs that want one document.
 #![tactic(auto)]
 
 mod base64_text;
+mod breaks;
 mod hex_text;
 mod input;
+mod left_out;
 mod lines;
 mod objects;
+mod source_text;
+mod text;
+mod unknown;
 
 pub use input::{Form, FormFault, document_of, form_of};
 pub use lines::Lines;
 pub use objects::{Ending, PemFault, PemObject, fault_of_end, next_object};
+pub use text::text_of;

@@ -7,10 +7,11 @@ ghost use Rattle.der_forms.specs.Forms.{
   but_indent,
   but_mark,
   has_object,
+  has_words,
   is_text_octet,
   up_to,
 };
-ghost use Rattle.der_forms.specs.Objects.{end_label_in, ends_object, has_words, label_in};
+ghost use Rattle.der_forms.specs.Objects.{end_label_in, ends_object, label_in};
 ghost use Rattle.der_io.specs.Lines.{lines_of};
 
 use der_io::split_line;
@@ -50,7 +51,7 @@ pub fn without_mark(input: &[u8]) -> &[u8]
     }
 }
 
-fn without_indent(line: &[u8]) -> &[u8]
+pub fn without_indent(line: &[u8]) -> &[u8]
     ensures { result.now ≡ but_indent line.now }
 {
     line.trim_ascii_start()
@@ -138,7 +139,7 @@ pub fn part_before<'a>(words: &[u8], text: &'a [u8]) -> &'a [u8]
     text
 }
 
-fn is_text(line: &[u8]) -> bool
+pub fn is_text(line: &[u8]) -> bool
     ensures { result ≡ list_all is_text_octet line.now }
 {
     for b in line {

@@ -4,7 +4,7 @@ ghost use Rattle.std.specs.Prelude.{IfOk, MatchOption, OnOk, Option};
 ghost use Rattle.std.specs.List.{list_any};
 ghost use Rattle.std.specs.Option.{option_map};
 ghost use Rattle.std.specs.Result.{result_ok};
-ghost use Rattle.der_forms.specs.Objects.{ending_by, ending_in, ends_object, is_encrypted, object_in, objects_in, octets_in};
+ghost use Rattle.der_forms.specs.Objects.{ending_by, ending_in, ends_object, is_encrypted, is_openssh, object_in, objects_in, octets_in};
 ghost use Rattle.der_forms.specs.Objects.{symbols_in, symbols_of};
 ghost use Rattle.der_forms.specs.Shown.{shown_object};
 ghost use Rattle.der_forms.specs.declared.objects.Ending.TheVariants.{Closed};
@@ -23,6 +23,8 @@ use std::alloc::{AllocError, Global};
 pub enum PemFault {
     /// It is encrypted.
     Encrypted,
+    /// It is a private key in the form of OpenSSH.
+    OpenSsh,
     /// A line is not base64: its number, from 1.
     NoBase64(usize),
 }
@@ -224,12 +226,20 @@ fn octets_of(
         return Ok(Err(PemFault::Encrypted));
     }
     match decode(alloc, &body.symbols)? {
+        Ok(octets) if is_openssh(&octets) => Ok(Err(PemFault::OpenSsh)),
         Ok(octets) => Ok(Ok(octets)),
         Err(fault) => {
             let place = place_of(&fault, body.symbols.len());
             Ok(Err(PemFault::NoBase64(line_of(lines, place))))
         }
     }
+}
+
+// Whether the octets are a private key in the form of OpenSSH.
+fn is_openssh(octets: &[u8]) -> bool
+    ensures { result ≡ is_openssh octets.now }
+{
+    octets.starts_with(b"openssh-key-v1") && octets[14..].starts_with(&[0])
 }
 
 // How many symbols stand before the one at fault, the last one where their number is at fault.

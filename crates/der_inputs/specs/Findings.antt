@@ -2,7 +2,9 @@
 -- offset.
 use Rattle.std.specs.Prelude.{◌≡◌, ◌⊎◌, ℕ, List, [], ◌∷◌, Option, Some, None}
 use Rattle.std.specs.List.{flat_map}
-use Rattle.der_forms.specs.Forms.{InputForm, form_is, objects, odd_digits, other_text, plain_octets, spelled}
+use Rattle.der_forms.specs.Forms.{InputForm, objects, odd_digits, other_text, plain_octets, spelled}
+use Rattle.der_forms.specs.Known.{form_is}
+use Rattle.der_forms.specs.Texts.{text_of}
 use Rattle.der_forms.specs.Objects.{Object, document_of, objects_of}
 use Rattle.der_forms.specs.declared.objects.Ending.{Ending}
 use Rattle.der_forms.specs.declared.objects.Ending.TheVariants.{Closed}
@@ -35,9 +37,13 @@ in_form odd_digits input = unlabelled None ∷ []
 in_form other_text input = unlabelled None ∷ []
 in_form plain_octets input = unlabelled (Some input) ∷ []
 
--- so in its own
+-- what a text has, or octets
+abbrev pub findings_in : List ℕ → List Finding
+findings_in text = in_form (form_is text) text
+
+-- what an input has
 abbrev pub findings_of : List ℕ → List Finding
-findings_of input = in_form (form_is input) input
+findings_of input = findings_in (text_of input)
 
 -- the block that begins at the offset in the document of an input, the first one of PEM; or that none does
 abbrev pub IsBlockAt : ℕ → List ℕ → Option (List ℕ) → Type 0

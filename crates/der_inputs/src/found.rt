@@ -3,12 +3,13 @@ ghost use Rattle.std.specs.Prelude.{◌≡◌, ◌++◌, ◌∷◌, [], if◌the
 ghost use Rattle.std.specs.List.{flat_map};
 ghost use Rattle.der_forms.specs.Objects.{objects_of as objects_are};
 ghost use Rattle.der_forms.specs.Shown.{shown_object};
-ghost use Rattle.der_inputs.specs.Findings.{IsBlockAt, IsContentsAt, findings_of, of_object, unlabelled};
+ghost use Rattle.der_inputs.specs.Findings.{IsBlockAt, IsContentsAt, findings_in, findings_of, of_object, unlabelled};
 ghost use Rattle.der_inputs.specs.Parts.{finding_in, octets_in};
 ghost use Rattle.der_lines.specs.Elements.{HasContents, IsElement};
 
 use der_forms::{
     Form, FormFault, Lines, PemFault, PemObject, document_of, fault_of_end, form_of, next_object,
+    text_of,
 };
 use der_lines::{behind_header, block_at};
 use std::alloc::{AllocError, Global};
@@ -24,12 +25,22 @@ pub struct Found {
 pub fn documents_of(alloc: Global, input: Vec<u8>) -> Result<Vec<Found>, AllocError>
     ensures { IfOk result (λ found. map finding_in found.items ≡ findings_of input.items) }
 {
-    match form_of(alloc, &input)? {
-        Form::Pem => objects_of(alloc, &input),
+    let text = text_of(alloc, input)?;
+    documents_in(alloc, text)
+}
+
+// Each document of a text, or of octets, and what is wrong with its form.
+fn documents_in(alloc: Global, text: Vec<u8>) -> Result<Vec<Found>, AllocError>
+    ensures { IfOk result (λ found. map finding_in found.items ≡ findings_in text.items) }
+{
+    match form_of(alloc, &text)? {
+        Form::Pem => objects_of(alloc, &text),
         Form::Spelled(octets) => alone(alloc, Ok(octets)),
         Form::OddDigits => fault_alone(alloc, &FormFault::OddDigits),
-        Form::Text => fault_alone(alloc, &FormFault::Text),
-        Form::Der => alone(alloc, Ok(input)),
+        Form::OtherColumns => fault_alone(alloc, &FormFault::OtherColumns),
+        Form::LeftOut(line) => fault_alone(alloc, &FormFault::LeftOut(line)),
+        Form::Text(line) => fault_alone(alloc, &FormFault::Text(line)),
+        Form::Der => alone(alloc, Ok(text)),
     }
 }
 
@@ -49,8 +60,12 @@ pub fn alone(alloc: Global, octets: Result<Vec<u8>, String>) -> Result<Vec<Found
 fn fault_alone(alloc: Global, fault: &FormFault) -> Result<Vec<Found>, AllocError>
     ensures { IfOk result (λ found. map finding_in found.items ≡ unlabelled None ∷ []) }
 {
-    let why = format!(in alloc; "{fault}")?;
+    let why = text_of_fault(alloc, fault)?;
     alone(alloc, Err(why))
+}
+
+fn text_of_fault(alloc: Global, fault: &FormFault) -> Result<String, AllocError> {
+    format!(in alloc; "{fault}")
 }
 
 fn objects_of(alloc: Global, input: &[u8]) -> Result<Vec<Found>, AllocError>
@@ -112,8 +127,11 @@ fn octets_of(
 {
     match octets {
         Ok(octets) => Ok(Ok(octets)),
-        Err(PemFault::Encrypted) => Ok(Err(String::from_str(alloc, "encrypted, not read")?)),
-        Err(PemFault::NoBase64(line)) => Ok(Err(format!(in alloc; "line {line}: invalid base64")?)),
+        Err(PemFault::Encrypted) => Ok(Err(text_of_fault(alloc, &FormFault::Encrypted)?)),
+        Err(PemFault::OpenSsh) => Ok(Err(text_of_fault(alloc, &FormFault::OpenSsh)?)),
+        Err(PemFault::NoBase64(line)) => {
+            Ok(Err(text_of_fault(alloc, &FormFault::NoBase64(line))?))
+        }
     }
 }
 
@@ -128,7 +146,7 @@ pub fn block_of(
     let document = match document_of(alloc, input) {
         Ok(document) => document,
         Err(FormFault::OutOfMemory) => return Err(AllocError),
-        Err(fault) => return Ok(Err(format!(in alloc; "{fault}")?)),
+        Err(fault) => return Ok(Err(text_of_fault(alloc, &fault)?)),
     };
     match block_at(alloc, &document, offset)? {
         Some(block) => Ok(Ok(copy_of(alloc, block)?)),

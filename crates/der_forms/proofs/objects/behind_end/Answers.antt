@@ -1,4 +1,4 @@
-use Rattle.std.proofs.Common.{◌≡◌, ◌<◌, ◌≤◌, ◌∙◌, ap, drop, false, length, sym, arith}
+use Rattle.std.proofs.Common.{◌∙◌, ap, drop, false, length, sym, arith}
 use Rattle.std.proofs.lemmas.List.{drop_all}
 use Rattle.der_io.specs.Lines.{lines_of}
 use Rattle.der_forms.specs.Objects.{objects_in}

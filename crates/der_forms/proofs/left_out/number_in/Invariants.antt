@@ -1,0 +1,10 @@
+use Rattle.std.proofs.Common.{◌≡◌, ◌<◌, ◌^◌, length}
+use Rattle.der_forms.specs.Columns.{number_after}
+use Rattle.der_forms.proofs.left_out.number_in.Given as goal
+
+abbrev pub invariant-loop-rest : goal.invariant-loop-rest
+invariant-loop-rest l =
+    (number_after l.is_octal l.number l.rest ≡ number_after l.is_octal 0 l.digits) × (l.number < 2 ^ 29)
+
+abbrev pub decreases-loop-rest : goal.decreases-loop-rest
+decreases-loop-rest l = length l.rest

@@ -1,0 +1,9 @@
+use Rattle.std.proofs.Common.{◌≡◌, ◌++◌}
+use Rattle.der_forms.specs.Columns.{times}
+use Rattle.der_forms.proofs.left_out.push_times.Given as goal
+
+abbrev pub invariant-loop-left : goal.invariant-loop-left
+invariant-loop-left l = l.digits.items ++ times l.left l.last ≡ l.fn.digits.items ++ times l.count l.last
+
+abbrev pub decreases-loop-left : goal.decreases-loop-left
+decreases-loop-left l = l.left

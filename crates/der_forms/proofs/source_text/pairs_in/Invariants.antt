@@ -1,0 +1,11 @@
+use Rattle.std.proofs.Common.{◌≡◌, [], length}
+use Rattle.der_forms.specs.Sources.{pairs_after}
+use Rattle.der_forms.specs.declared.source_text.Due.TheVariants.{Prefix}
+use Rattle.der_forms.proofs.source_text.pairs_in.Given as goal
+
+abbrev pub invariant-loop-rest : goal.invariant-loop-rest
+invariant-loop-rest l =
+    pairs_after l.digits.items l.due l.rest ≡ pairs_after [] Prefix l.text
+
+abbrev pub decreases-loop-rest : goal.decreases-loop-rest
+decreases-loop-rest l = length l.rest

@@ -1,0 +1,106 @@
+-- The form of an input, by its text.
+use Rattle.std.specs.Prelude.{ℕ, Bool, false, not, ◌==◌, ◌||◌, ◌&&◌, ◌+◌, ◌*◌, nat_le, nat_lt, List, [], ◌∷◌}
+use Rattle.std.specs.Prelude.{Option, Some, None, Result, Ok, Err, drop, if◌then◌else◌, length}
+use Rattle.std.specs.Char.{is_ascii_hexdigit}
+use Rattle.std.specs.Result.{result_ok}
+use Rattle.std.specs.Str.{is_utf8}
+use Rattle.base64.specs.Engines.{standard, standard_pad_indifferent, url_safe_pad_indifferent}
+use Rattle.base64.specs.GeneralPurpose.{decode_of as decode_base64}
+use Rattle.base64.specs.declared.decode.DecodeError.{DecodeError}
+use Rattle.hex.specs.Hex.{decode_of as decode_hex}
+use Rattle.hex.specs.declared.error.FromHexError.{FromHexError}
+use Rattle.der_io.specs.Lines.{lines_of}
+use Rattle.der_forms.specs.Columns.{placed_digits, some_left_out}
+use Rattle.der_forms.specs.Forms.{InputForm, objects, odd_digits, other_text, plain_octets, spelled}
+use Rattle.der_forms.specs.Forms.{all_of_some, begins, but_mark, but_spaces, digits_of, has_columns, has_object}
+use Rattle.der_forms.specs.Forms.{has_other_columns, is_printed}
+use Rattle.der_forms.specs.Sources.{source_digits}
+
+abbrev pub of_hex_digits : Result (List ℕ) FromHexError → InputForm
+of_hex_digits (Ok octets) = spelled octets
+of_hex_digits (Err e) = odd_digits
+
+-- as many octets follow a number of one, two or three octets as it says
+abbrev pub fits_one : List ℕ → Bool
+fits_one [] = false
+fits_one (a ∷ rest) = a == length rest
+
+abbrev pub fits_two : List ℕ → Bool
+fits_two [] = false
+fits_two (a ∷ []) = false
+fits_two (a ∷ b ∷ rest) = 256 * a + b == length rest
+
+abbrev pub fits_three : List ℕ → Bool
+fits_three [] = false
+fits_three (a ∷ []) = false
+fits_three (a ∷ b ∷ []) = false
+fits_three (a ∷ b ∷ c ∷ rest) = 65536 * a + 256 * b + c == length rest
+
+-- length octets of the definite form, and as many octets behind them as they say
+abbrev pub length_fits : List ℕ → Bool
+length_fits [] = false
+length_fits (n ∷ rest) =
+    if nat_lt n 128 then n == length rest
+    else if n == 129 then fits_one rest
+    else if n == 130 then fits_two rest
+    else if n == 131 then fits_three rest
+    else false
+
+-- the octets are one SEQUENCE, to their end
+abbrev pub is_sequence : List ℕ → Bool
+is_sequence octets = begins (48 ∷ []) octets && length_fits (drop 1 octets)
+
+abbrev pub if_sequence : Option (List ℕ) → InputForm → InputForm
+if_sequence None form = form
+if_sequence (Some octets) form = if is_sequence octets then spelled octets else form
+
+-- base 64 without its padding, or with `-` and `_` for `+` and `/` (RFC 4648, section 5), is told from words by its
+-- octets, which are one SEQUENCE
+abbrev pub of_loose_base64 : List ℕ → InputForm
+of_loose_base64 symbols =
+    if_sequence (result_ok (decode_base64 standard_pad_indifferent symbols))
+    (if_sequence (result_ok (decode_base64 url_safe_pad_indifferent symbols)) other_text)
+
+-- and with its padding by its first octet, that of a SEQUENCE
+abbrev pub of_base64 : Result (List ℕ) DecodeError → List ℕ → InputForm
+of_base64 (Ok octets) symbols = if begins (48 ∷ []) octets then spelled octets else other_text
+of_base64 (Err e) symbols = of_loose_base64 symbols
+
+-- the digits that a form has, if it has some
+abbrev pub if_digits : Option (List ℕ) → InputForm → InputForm
+if_digits None form = form
+if_digits (Some digits) form =
+    if all_of_some is_ascii_hexdigit digits then of_hex_digits (decode_hex digits) else form
+
+-- hex digits with separators between them; or a source; or else it may be base 64
+abbrev pub of_symbols : List ℕ → InputForm
+of_symbols text =
+    if_digits (Some (digits_of (has_columns text) (lines_of text)))
+    (if_digits (source_digits text)
+    (of_base64 (decode_base64 standard (but_spaces text)) (but_spaces text)))
+
+-- columns with lines left out agree with their offsets
+abbrev pub form_of_text : List ℕ → InputForm
+form_of_text text =
+    if has_other_columns text then other_text
+    else if has_columns text && some_left_out (lines_of text) then if_digits (placed_digits text) other_text
+    else of_symbols text
+
+-- a character of ASCII that is printed, or white space but a form feed, the identifier octet of a UTF8String; or an
+-- octet of any other character
+abbrev pub is_in_words : ℕ → Bool
+is_in_words b = nat_le 128 b || (is_printed b && not (b == 12))
+
+-- the octets are words in UTF-8
+abbrev pub are_words : List ℕ → Bool
+are_words octets = all_of_some is_in_words octets && is_utf8 octets
+
+abbrev pub form_but_mark : List ℕ → InputForm
+form_but_mark text =
+    if has_object (lines_of text) then objects
+    else if all_of_some is_printed text then form_of_text text
+    else if are_words text then other_text else plain_octets
+
+-- the form of an input
+abbrev pub form_is : List ℕ → InputForm
+form_is input = form_but_mark (but_mark input)

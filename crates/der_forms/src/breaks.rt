@@ -1,0 +1,223 @@
+// The line breaks of PEM that came on one line, or with its line breaks spelled.
+ghost use Rattle.std.specs.Prelude.{◌≡◌, ◌++◌, if◌then◌else◌, IfOk, OnOk};
+ghost use Rattle.std.specs.Char.{is_ascii_whitespace};
+ghost use Rattle.der_forms.specs.Texts.{
+  begins_begin,
+  begins_by,
+  begins_end,
+  behind_label as behind_label_is,
+  behind_opening as behind_opening_is,
+  behind_words as behind_words_is,
+  broken,
+  is_filler,
+  kept,
+  lacks_break as lacks_break_is,
+  more_hyphens as more_hyphens_is,
+  place_behind as place_behind_is,
+  unfolded as unfolded_is,
+  with_breaks as with_breaks_are,
+};
+ghost use Rattle.der_forms.specs.declared.breaks.Place.TheVariants.{Blank as blank, Label as label, Words as words};
+
+use std::alloc::{AllocError, Global};
+
+// How many hyphens end a label.
+const HYPHENS: u8 = 5;
+
+// Where a place in a text is.
+#[derive(Clone, Copy, Drop)]
+pub enum Place {
+    // Behind nothing but white space in its line.
+    Blank,
+    // Behind words.
+    Words,
+    // In the words that begin an object.
+    Opening,
+    // In the label of an object that begins, behind so many hyphens.
+    Label(u8),
+    // Behind what ends an object.
+    Ended,
+}
+
+// The text with a line feed for each line break that is spelled, and for each carriage return alone.
+pub fn with_breaks(alloc: Global, text: &[u8]) -> Result<Vec<u8>, AllocError>
+    ensures { IfOk result (λ broken. broken.items ≡ with_breaks_are text.now) }
+{
+    let mut broken = Vec::new(alloc);
+    let mut rest = text;
+    while !rest.is_empty() {
+        if rest.starts_with(b"\\n") {
+            broken.push(b'\n')?;
+            rest = &rest[2..];
+        } else if rest.starts_with(b"\\r") {
+            rest = &rest[2..];
+        } else if rest.starts_with(b"\\/") {
+            rest = &rest[1..];
+        } else {
+            broken.push(kept(rest[0], &rest[1..]))?;
+            rest = &rest[1..];
+        }
+    }
+    Ok(broken)
+}
+
+// The octet before the text, or a line feed for a carriage return alone.
+fn kept(b: u8, text: &[u8]) -> u8
+    ensures { result ≡ kept b text.now }
+{
+    if b == b'\r' && !text.starts_with(b"\n") {
+        b'\n'
+    } else {
+        b
+    }
+}
+
+// The text with each line break that PEM wants.
+pub fn unfolded(alloc: Global, text: &[u8]) -> Result<Vec<u8>, AllocError>
+    ensures { IfOk result (λ whole. whole.items ≡ unfolded_is blank text.now) }
+{
+    let mut whole = Vec::new(alloc);
+    let mut place = Place::Blank;
+    let mut rest = text;
+    while !rest.is_empty() {
+        push_broken(lacks_break(place, rest), rest[0], &mut whole)?;
+        place = place_behind(place, rest);
+        rest = &rest[1..];
+    }
+    Ok(whole)
+}
+
+// Pushes an octet, behind a line break where one is wanting.
+fn push_broken(is_wanting: bool, b: u8, whole: &mut Vec<u8>) -> Result<(), AllocError>
+    ensures { OnOk result (whole.new.items ≡ whole.old.items ++ broken is_wanting b) }
+{
+    if is_wanting {
+        whole.extend_from_slice(&[b'\n', b])
+    } else {
+        whole.extend_from_slice(&[b])
+    }
+}
+
+fn begins_begin(text: &[u8]) -> bool
+    ensures { result ≡ begins_begin text.now }
+{
+    text.starts_with(b"-----BEGIN ")
+}
+
+fn begins_end(text: &[u8]) -> bool
+    ensures { result ≡ begins_end text.now }
+{
+    text.starts_with(b"-----END ")
+}
+
+fn begins_filler(text: &[u8]) -> bool
+    ensures { result ≡ begins_by is_filler text.now }
+{
+    match text.first() {
+        Some(b) => b.is_ascii_whitespace() || *b == b'-',
+        None => false,
+    }
+}
+
+fn begins_space(text: &[u8]) -> bool
+    ensures { result ≡ begins_by is_ascii_whitespace text.now }
+{
+    match text.first() {
+        Some(b) => b.is_ascii_whitespace(),
+        None => false,
+    }
+}
+
+// Whether a line break is wanting before the text.
+fn lacks_break(place: Place, text: &[u8]) -> bool
+    ensures { result ≡ lacks_break_is place text.now }
+{
+    match place {
+        Place::Blank | Place::Opening | Place::Ended => false,
+        Place::Words => begins_begin(text) || begins_end(text),
+        Place::Label(hyphens) => {
+            hyphens == HYPHENS && (begins_end(text) || !begins_filler(text))
+        }
+    }
+}
+
+// The place behind the first octet of the text.
+fn place_behind(place: Place, text: &[u8]) -> Place
+    ensures { result ≡ place_behind_is place text.now }
+{
+    match place {
+        Place::Blank if begins_space(text) => behind_words(Place::Blank, text),
+        Place::Blank => behind_words(Place::Words, text),
+        Place::Words => behind_words(Place::Words, text),
+        Place::Opening => behind_opening(text),
+        Place::Label(hyphens) => behind_label(hyphens, text),
+        Place::Ended => behind_words(Place::Ended, text),
+    }
+}
+
+// The place behind the first octet of a text that is in no label.
+fn behind_words(place: Place, text: &[u8]) -> Place
+    ensures { result ≡ behind_words_is place text.now }
+{
+    if text.starts_with(b"\n") {
+        Place::Blank
+    } else if begins_begin(text) {
+        Place::Opening
+    } else if begins_end(text) {
+        Place::Ended
+    } else {
+        place
+    }
+}
+
+// The place behind the first octet in the words that begin an object.
+fn behind_opening(text: &[u8]) -> Place
+    ensures { result ≡ behind_opening_is text.now }
+{
+    if text.starts_with(b"\n") {
+        Place::Blank
+    } else if text.starts_with(b" ") {
+        Place::Label(0)
+    } else {
+        Place::Opening
+    }
+}
+
+// One hyphen more, up to five.
+fn more_hyphens(hyphens: u8) -> u8
+    ensures { result ≡ more_hyphens_is hyphens }
+{
+    if hyphens < HYPHENS {
+        hyphens + 1
+    } else {
+        HYPHENS
+    }
+}
+
+// The place behind the first octet in a label.
+fn behind_label(hyphens: u8, text: &[u8]) -> Place
+    ensures { result ≡ behind_label_is hyphens text.now }
+{
+    if text.starts_with(b"\n") {
+        Place::Blank
+    } else if hyphens == HYPHENS && begins_end(text) {
+        Place::Ended
+    } else if text.starts_with(b"-") {
+        Place::Label(more_hyphens(hyphens))
+    } else if hyphens == HYPHENS {
+        behind_hyphens(text)
+    } else {
+        Place::Label(0)
+    }
+}
+
+// The place behind the hyphens that end a label and the first octet of the text.
+fn behind_hyphens(text: &[u8]) -> Place
+    ensures { result ≡ (if begins_by is_ascii_whitespace text.now then label 5 else words) }
+{
+    if begins_space(text) {
+        Place::Label(HYPHENS)
+    } else {
+        Place::Words
+    }
+}
