@@ -1,5 +1,5 @@
 // The columns of a line of a dump.
-use memchr::memmem::find;
+use memchr::memmem::{find, rfind};
 use std::str;
 
 // The offset of an encoding, the sizes of its header and contents octets, and how many encodings are around it.
@@ -97,8 +97,9 @@ fn says_error(line: &[u8]) -> bool {
     false
 }
 
+// Whether the name of an error stands at the end of a line, before its mark.
 fn ends_with_error(line: &[u8]) -> bool {
-    let Some(words) = line.strip_suffix(b")") else {
+    let Some(words) = without_mark(line).strip_suffix(b")") else {
         return false;
     };
     for name in ERRORS {
@@ -107,4 +108,12 @@ fn ends_with_error(line: &[u8]) -> bool {
         }
     }
     false
+}
+
+// The line without the mark at its end, which says what is not DER.
+fn without_mark(line: &[u8]) -> &[u8] {
+    match rfind(line, b" (not DER: ") {
+        Some(start) if line.ends_with(b")") => line.split_at(start.min(line.len())).0,
+        _ => line,
+    }
 }
