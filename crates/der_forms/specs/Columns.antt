@@ -57,8 +57,8 @@ digits_before false before last (Some offset) = if length before == 2 * offset t
 abbrev pub digits_in_column : List ℕ → List ℕ
 digits_in_column line = but_separators (column_of line)
 
--- the digits of lines in columns, each at its offset, behind these digits, the last of which are those of the last line;
--- none where they do not agree with their offsets
+-- the digits of lines in columns, each at its offset, behind these digits, the last of which are those of the last
+-- line; none where they do not agree with their offsets
 abbrev pub digits_after : Bool → List ℕ → List ℕ → Bool → List (List ℕ) → Option (List ℕ)
 digits_after is_octal before last false [] = Some before
 digits_after is_octal before last true [] = None

@@ -102,8 +102,8 @@ has_columns text =
     || (begins (codes "00000000  ") text && list_any (λ b. b == vertical_bar) text)
     || (has_octets text || has_hex_offsets text)
 
--- the text begins with an offset, and then comes in another way, as that of `hexdump`, `od` and `xxd -b`: in words whose
--- octets are turned round, in octal digits or in bits
+-- the text begins with an offset, and then comes in another way, as that of `hexdump`, `od` and `xxd -b`: in words
+-- whose octets are turned round, in octal digits or in bits
 abbrev pub has_other_columns : List ℕ → Bool
 has_other_columns text =
     (begins (codes "0000000 ") text && not (has_octets text))
@@ -122,8 +122,8 @@ has_words words text = nat_lt (length (up_to words text)) (length text)
 abbrev pub offset_of : List ℕ → List ℕ
 offset_of line = take (prefix_len is_ascii_hexdigit line) line
 
--- the digits behind an offset: up to two spaces where `:` ends the offset, and else up to a `|` or `>`, at which a column
--- of characters begins
+-- the digits behind an offset: up to two spaces where `:` ends the offset, and else up to a `|` or `>`, at which a
+-- column of characters begins
 abbrev pub column_behind : List ℕ → List ℕ
 column_behind text =
     if begins (codes ":") text then up_to (codes "  ") (drop 1 text) else up_to (codes "|") (up_to (codes ">") text)

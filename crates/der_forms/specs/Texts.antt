@@ -34,8 +34,8 @@ in_utf8 input =
 abbrev pub kept : ℕ → List ℕ → ℕ
 kept b text = if b == carriage_return && not (begins (line_feed ∷ []) text) then line_feed else b
 
--- the text with a line feed for each carriage return alone and for each `\n`, without `\r`, and with `/` for `\/`, as in
--- strings of JSON
+-- the text with a line feed for each carriage return alone and for each `\n`, without `\r`, and with `/` for `\/`, as
+-- in strings of JSON
 abbrev pub with_breaks : List ℕ → List ℕ
 with_breaks [] = []
 with_breaks (b ∷ text) =

@@ -80,8 +80,8 @@ pub fn next_object<'a>(
     Ok(Some((object, body.after)))
 }
 
-/// The line at which the object ends wrongly, and why; `last` is the number of lines before those that follow it. A line
-/// that ends it and begins another object is one of these.
+/// The line at which the object ends wrongly, and why; `last` is the number of lines before those that follow it. A
+/// line that ends it and begins another object is one of these.
 pub fn fault_of_end(object: &PemObject<'_>, last: usize) -> Option<(usize, &'static str)>
     ensures { MatchOption result (object.now.ending ≡ Closed) (λ _. object.now.ending ≢ Closed) }
 {

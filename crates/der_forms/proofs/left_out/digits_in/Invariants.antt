@@ -5,7 +5,8 @@ use Rattle.der_forms.proofs.left_out.digits_in.Given as goal
 
 abbrev pub invariant-loop-rest : goal.invariant-loop-rest
 invariant-loop-rest l =
-    digits_after l.is_octal l.rows.digits.items l.rows.last.items l.rows.is_left_out (lines_of l.rest) ≡ placed_digits l.text
+    digits_after l.is_octal l.rows.digits.items l.rows.last.items l.rows.is_left_out (lines_of l.rest)
+    ≡ placed_digits l.text
 
 abbrev pub decreases-loop-rest : goal.decreases-loop-rest
 decreases-loop-rest l = length l.rest
