@@ -21,6 +21,13 @@ const FIRST_NULLS: &[u8] = b"= A
       7  2       0    NULL
 ";
 
+// How lines begin of such a document whose last octets are no encoding.
+const FIRST_OF_OTHERS: &[u8] = b"= A
+      0  5   66000  SEQUENCE (not DER: contents that are not encodings)
+      5  2       0    NULL
+      7  2       0    NULL
+";
+
 const LAST_NULL: &[u8] = b"
   66003  2       0    NULL
 ";
@@ -35,15 +42,15 @@ const NO_END: &[u8] = b"
 fn a_long_sequence_is_shown_once(rt: HostRuntime) -> Result<(), Fail> {
     let alloc = rt.alloc();
     let names = Names::new(alloc)?;
-    for (last, ending, lines) in [
-        ([0x05, 0x00], LAST_NULL, 33_002),
-        ([0x30, 0x80], NO_END, 33_004),
+    for (last, beginning, ending, lines) in [
+        ([0x05, 0x00], FIRST_NULLS, LAST_NULL, 33_002),
+        ([0x30, 0x80], FIRST_OF_OTHERS, NO_END, 33_004),
     ] {
         let octets = sequence_of_nulls(alloc, last)?;
         let mut out = Vec::new(alloc);
         push_label(alloc, b"A", &mut out)?;
         push_document(alloc, &names, Style::default(), &octets, &mut out)?;
-        assert!(rt; out.starts_with(FIRST_NULLS));
+        assert!(rt; out.starts_with(beginning));
         assert!(rt; out.ends_with(ending));
         assert_eq!(rt; out.iter().filter(|octet| **octet == b'\n').count(), lines);
     }
