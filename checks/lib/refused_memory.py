@@ -16,6 +16,9 @@ RAN_OUT = (2, b"", b"out of memory\n")
 # lines of each kind in one run of der_tool, the last of them empty, and their answers
 TOGETHER = ("0280\n3000\nzz\n0489\n",
             "ok 020100\nok 3000\nbadhex\nrefused LengthTooLarge 9\nrefused EmptyBuffer")
+# calls that read an `Outline`, which guesses room for its entries, and asks for less where that much is refused: so
+# one refused allocation of such a line may leave the answer as it is
+GUESSING = ("Outline::", "first")
 if test:
     RAN_OUT = (101, b"", b"error: AllocError\nthe test failed: its result gives status 1\n")
 
@@ -52,14 +55,18 @@ def ran(line, number, mark):
 def refused_in_turn(at, line, answer):
     """How many allocations were refused, and what was wrong."""
     number, wrong, mark = 0, [], f"{work}/refused{at}"
+    right = (0, f"{answer}\n".encode(), b"")
+    guesses = 1 if called(line, answer).startswith(GUESSING) else 0
     while True:
         number += 1
         ended, met = ran(line, number, mark)
         if not met:
-            if ended != (0, f"{answer}\n".encode(), b""):
+            if ended != right:
                 wrong.append(f"none refused: {ended}"[:200])
             return number - 1, wrong
-        if ended != RAN_OUT:
+        if ended == right and guesses:
+            guesses -= 1
+        elif ended != RAN_OUT:
             wrong.append(f"allocation {number} refused: {ended}"[:200])
 
 
