@@ -1,9 +1,9 @@
 -- A string of ASCII is its own text.
-use Rattle.std.proofs.Common.{◌≡◌, ◌<◌, ◌==◌, ◌||◌, ◌&&◌, ℕ, Bool, true, false, not, List, [], ◌∷◌, inl, inr, sym, ap, subst, ◌∙◌, arith}
+use Rattle.std.proofs.Common.{◌≡◌, ◌<◌, ◌==◌, ◌||◌, ◌&&◌, ℕ, Bool, true, false, not, List, [], ◌∷◌, inl, inr, arith}
 use Rattle.std.specs.Prelude.{nat_le, nat_lt, if◌then◌else◌}
 use Rattle.std.specs.List.{list_all}
 use Rattle.std.specs.Str.{IsAscii}
-use Rattle.std.proofs.lemmas.Bool.{and_parts, cases_Bool, or_cases}
+use Rattle.std.proofs.lemmas.Bool.{and_parts, or_cases}
 use Rattle.std.proofs.lemmas.Bool.Decides.{nat_tests}
 use Rattle.std.proofs.lemmas.Str.Ascii.{IsAscii-cons, IsAscii-nil}
 use Rattle.asn1_blocks.specs.UnknownValues.{is_ascii_character, is_general, is_numeric, is_visible}
@@ -22,14 +22,16 @@ general_below c e =
     let p = and_parts (nat_lt c 128) (not ((c == 14) || (c == 15) || (c == 27))) e in
     grind (arith, nat_tests, p.0)
 
-chosen : (a b : Bool) (x y z : Bool) (P : Type 0) → (if a then x else if b then y else z) ≡ true → (x ≡ true → P) → (y ≡ true → P) → (z ≡ true → P) → P
+chosen : (a b : Bool) (x y z : Bool) (P : Type 0) → (if a then x else if b then y else z) ≡ true → (x ≡ true → P) →
+    (y ≡ true → P) → (z ≡ true → P) → P
 chosen true b x y z P e f g h = f e
 chosen false true x y z P e f g h = g e
 chosen false false x y z P e f g h = h e
 
 ascii_below : (tag c : ℕ) → is_ascii_character tag c ≡ true → c < 128
 ascii_below tag c e =
-    chosen (tag == 18) (tag == 26) (is_numeric c) (is_visible c) (is_general c) (c < 128) e (numeric_below c) (visible_below c) (general_below c)
+    chosen (tag == 18) (tag == 26) (is_numeric c) (is_visible c) (is_general c) (c < 128) e (numeric_below c)
+    (visible_below c) (general_below c)
 
 pub characters_ascii : (tag : ℕ) (cs : List ℕ) → list_all (is_ascii_character tag) cs ≡ true → IsAscii cs
 characters_ascii tag [] e = IsAscii-nil

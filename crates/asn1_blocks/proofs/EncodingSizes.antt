@@ -1,25 +1,5 @@
 -- The size of an encoding, by its header.
-use Rattle.std.proofs.Common.{
-  ◌≡◌,
-  ℕ,
-  ◌+◌,
-  ◌<◌,
-  ◌≤◌,
-  List,
-  [],
-  ◌++◌,
-  length,
-  take,
-  drop,
-  refl,
-  sym,
-  ap,
-  ◌∙◌,
-  subst,
-  arith,
-  length-append,
-  length-drop,
-}
+use Rattle.std.proofs.Common.{◌≡◌, ℕ, ◌+◌, ◌<◌, ◌≤◌, List, [], ◌++◌, length, take, drop, refl, sym, ap, ◌∙◌, subst, arith, length-append, length-drop}
 use Rattle.std.proofs.lemmas.List.{take-append-drop, take_at, length-take-le}
 use Rattle.std.proofs.Math.Seq.{take-add}
 use Rattle.std.proofs.Math.ListN.{drop_of_length-le}
@@ -30,7 +10,8 @@ use Rattle.asn1_headers.proofs.Prefixes.{identifier_alone, length_alone, encodin
 use Rattle.asn1_blocks.proofs.Faults.{length_first, split_encoding}
 
 -- no encoding stands where there are no identifier octets
-pub no_identifier_here : (octets : List ℕ) → BeginsWithNo IsSomeIdentifier octets → (x rest : List ℕ) → octets ≡ x ++ rest → IsEncoding x → ⊥
+pub no_identifier_here : (octets : List ℕ) → BeginsWithNo IsSomeIdentifier octets → (x rest : List ℕ) →
+    octets ≡ x ++ rest → IsEncoding x → ⊥
 no_identifier_here octets missing x rest e p =
     let f = p.encoding in
     let w = split_encoding octets x rest p.class p.constructed p.tag p.contents p.header f e in
@@ -38,7 +19,8 @@ no_identifier_here octets missing x rest e p =
       p.class,
       p.constructed,
       subst (λ z. IsIdentifier z p.class p.constructed p.tag)
-          (sym (ap (take (length f.identifier)) w ∙ take_at f.identifier (f.len ++ (p.contents ++ rest)) (length f.identifier) refl)) f.identifier_octets,
+          (sym (ap (take (length f.identifier)) w
+          ∙ take_at f.identifier (f.len ++ (p.contents ++ rest)) (length f.identifier) refl)) f.identifier_octets,
     )
 
 -- what follows the identifier octets of an encoding
@@ -49,7 +31,8 @@ after_identifier :
 after_identifier octets i tag (_, _, t) x rest e p =
     let f = p.encoding in
     let w = split_encoding octets x rest p.class p.constructed p.tag p.contents p.header f e in
-    let q = identifier_alone (take i octets) f.identifier (drop i octets) (f.len ++ (p.contents ++ rest)) _ _ _ _ _ _ t f.identifier_octets
+    let q = identifier_alone (take i octets) f.identifier (drop i octets) (f.len ++ (p.contents ++ rest)) _ _ _ _ _ _ t
+    f.identifier_octets
     (take-append-drop i octets ∙ w) in
     (q.octets, q.rest)
 
@@ -72,9 +55,20 @@ pub no_contents_here :
 no_contents_here octets i l m tag t le u few short x rest e p =
     let a = after_identifier octets i tag t x rest e p in
     let f = p.encoding in
-    let q = length_alone (take l (drop i octets)) f.len (drop l (drop i octets)) (p.contents ++ rest) m (length p.contents) u f.length_octets
+    let q = length_alone (take l (drop i octets)) f.len (drop l (drop i octets)) (p.contents ++ rest) m
+    (length p.contents) u f.length_octets
     (take-append-drop l (drop i octets) ∙ a.1) in
-    omega (arith, short, few, le, q.number, ap length q.rest, length-append p.contents rest, length-drop l (drop i octets), length-drop i octets)
+    omega (
+      arith,
+      short,
+      few,
+      le,
+      q.number,
+      ap length q.rest,
+      length-append p.contents rest,
+      length-drop l (drop i octets),
+      length-drop i octets,
+    )
 
 -- the encoding that is there
 pub encoding_here :
@@ -84,7 +78,8 @@ pub encoding_here :
 encoding_here octets i l m tag (c, k, t) le u few fits =
     let r = drop i octets in
     let v = take m (drop l r) in
-    let n : length v ≡ m = length-take-le m (drop l r) (omega (arith, fits, few, le, length-drop l r, length-drop i octets)) in
+    let n : length v ≡ m =
+    length-take-le m (drop l r) (omega (arith, fits, few, le, length-drop l r, length-drop i octets)) in
     let e : i + l + m ≡ i + (l + m) = omega arith in
     record {
       class = c;
@@ -103,11 +98,17 @@ encoding_here octets i l m tag (c, k, t) le u few fits =
     }
 
 -- no encoding stands past the end
-pub none_past_end : (document : List ℕ) (offset : ℕ) → length document < offset → (octets : List ℕ) → EncodingAt document offset octets → ⊥
+pub none_past_end : (document : List ℕ) (offset : ℕ) → length document < offset → (octets : List ℕ) →
+    EncodingAt document offset octets → ⊥
 none_past_end document offset h octets p =
     let x = p.encoding in
     let e : drop offset document ≡ [] = drop_of_length-le document (omega (arith, h)) in
-    omega (arith, encoding_some octets _ _ _ _ _ x.encoding, ap length (sym e ∙ p.at_offset), length-append octets p.rest)
+    omega (
+      arith,
+      encoding_some octets _ _ _ _ _ x.encoding,
+      ap length (sym e ∙ p.at_offset),
+      length-append octets p.rest,
+    )
 
 -- an encoding has two octets or more
 pub encoding_two : (octets : List ℕ) → IsEncoding octets → 2 ≤ length octets
@@ -124,6 +125,8 @@ encoding_two octets p =
     )
 
 -- what stands at the offset of a tree of a document
-pub encoding_of : (document : List ℕ) (offset : ℕ) (octets : List ℕ) → TreeAt document offset octets → EncodingAt document offset octets
+pub encoding_of : (document : List ℕ) (offset : ℕ) (octets : List ℕ) → TreeAt document offset octets →
+    EncodingAt document offset octets
 encoding_of document offset octets t =
-    subst (λ z. EncodingAt document z octets) t.offset_is (octets_encoding document t.all t.tree octets t.read t.own_octets)
+    subst (λ z. EncodingAt document z octets) t.offset_is
+    (octets_encoding document t.all t.tree octets t.read t.own_octets)

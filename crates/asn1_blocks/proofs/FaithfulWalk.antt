@@ -1,5 +1,5 @@
 -- Steps of the walk over all blocks of a tree.
-use Rattle.std.proofs.Common.{◌≡◌, ◌↔◌, ℕ, List, [], ◌∷◌, ◌++◌, sym, subst}
+use Rattle.std.proofs.Common.{◌↔◌, ℕ, List, [], ◌∷◌, ◌++◌, sym, subst}
 use Rattle.asn1_blocks.specs.declared.block.ASN1Block.{ASN1Block}
 use Rattle.asn1_blocks.specs.Tree.{Tree, leaf, group, explicit, unknown}
 use Rattle.asn1_blocks.specs.Faithful.{IsFaithful, AreFaithful}
@@ -21,11 +21,13 @@ faithful_from (group o g bs) f h = h
 faithful_from (explicit c o n b) f h = (f, h.0)
 faithful_from (unknown c k o n v) f h = f
 
-faithful_join : (xs ys : List ASN1Block) → AreFaithful (views xs) → AreFaithful (views ys) → AreFaithful (views (xs ++ ys))
+faithful_join : (xs ys : List ASN1Block) → AreFaithful (views xs) → AreFaithful (views ys) →
+    AreFaithful (views (xs ++ ys))
 faithful_join [] ys f h = h
 faithful_join (x ∷ xs) ys f h = (f.0, faithful_join xs ys f.1 h)
 
-faithful_split : (xs ys : List ASN1Block) → AreFaithful (views (xs ++ ys)) → AreFaithful (views xs) × AreFaithful (views ys)
+faithful_split : (xs ys : List ASN1Block) → AreFaithful (views (xs ++ ys)) →
+    AreFaithful (views xs) × AreFaithful (views ys)
 faithful_split [] ys f = (tt, f)
 faithful_split (x ∷ xs) ys f = let s = faithful_split xs ys f.1 in ((f.0, s.0), s.1)
 
@@ -47,15 +49,3 @@ passes whole before after b rest n alone =
     let p : AreFaithful (views (b ∷ n.rest)) = (faithful_from (view b) alone (subst AreFaithful n.holds s.0), s.1) in
     subst (λ z. AreFaithful (views z)) (sym n.first) p in
     (λ h. down (rest.0 h), λ h. rest.1 (up h))
-
--- one that is not settles it
-pub settles :
-    (whole before after : List ASN1Block) (b : ASN1Block) → IsDecidedBy whole before → IsNext b before after →
-    (IsFaithfulAlone (view b) → ⊥) → AreFaithful (views whole) → ⊥
-settles whole before after b rest n alone h =
-    let p : AreFaithful (views (b ∷ n.rest)) = subst (λ z. AreFaithful (views z)) n.first (rest.0 h) in
-    alone (faithful_parts (view b) p.0).0
-
--- nothing is ahead
-pub all_pass : (whole ahead : List ASN1Block) → IsDecidedBy whole ahead → ahead ≡ [] → AreFaithful (views whole)
-all_pass whole ahead rest e = rest.1 (subst (λ z. AreFaithful (views z)) (sym e) tt)

@@ -10,21 +10,7 @@ use Rattle.asn1_blocks.specs.Tree.{Leaf, Trees, no_trees, more_trees}
 use Rattle.asn1_blocks.specs.Contents.{leaf_tag, group_tag, IsUnknownTag, LeafContents, LeafFault}
 use Rattle.asn1_blocks.specs.Places.{IsEncoding}
 use Rattle.asn1_headers.specs.HeaderFault.{HeaderFault, no_identifier, no_length, too_far, too_long}
-use Rattle.asn1_blocks.specs.Grammar.{
-  IsBlock,
-  of_other_class,
-  of_unknown_tag,
-  of_leaf,
-  of_group,
-  AreBlocks,
-  no_blocks,
-  more_blocks,
-  EncodesAll,
-  BlocksFaultAt,
-  in_header,
-  in_contents,
-  in_item,
-}
+use Rattle.asn1_blocks.specs.Grammar.{IsBlock, of_other_class, of_unknown_tag, of_leaf, of_group, AreBlocks, no_blocks, more_blocks, EncodesAll, BlocksFaultAt, in_header, in_contents, in_item}
 use Rattle.asn1_blocks.specs.Inner.BlockFault.{BlockFaultAt, at_header, at_leaf, at_item}
 use Rattle.asn1_blocks.proofs.Leaves.{leaf_no_group, leaf_no_fault, leaf_fault_tag, leaf_tag_known, leaf_tag_no_group, unknown_known}
 use Rattle.asn1_headers.proofs.Prefixes.{encoding_alone, identifier_alone, length_alone}
@@ -33,10 +19,14 @@ use Rattle.asn1_blocks.proofs.OneReading.{block_some, encodes_block}
 
 -- a block is an encoding
 pub block_encoding : (octets : List ℕ) → IsBlock octets → IsEncoding octets
-block_encoding octets (of_other_class f ne) = record { class = _; constructed = _; tag = _; contents = _; header = _; encoding = f }
-block_encoding octets (of_unknown_tag f ne) = record { class = _; constructed = _; tag = _; contents = _; header = _; encoding = f }
-block_encoding octets (of_leaf f l e p) = record { class = _; constructed = _; tag = _; contents = _; header = _; encoding = f }
-block_encoding octets (of_group f g e q) = record { class = _; constructed = _; tag = _; contents = _; header = _; encoding = f }
+block_encoding octets (of_other_class f ne) =
+    record { class = _; constructed = _; tag = _; contents = _; header = _; encoding = f }
+block_encoding octets (of_unknown_tag f ne) =
+    record { class = _; constructed = _; tag = _; contents = _; header = _; encoding = f }
+block_encoding octets (of_leaf f l e p) =
+    record { class = _; constructed = _; tag = _; contents = _; header = _; encoding = f }
+block_encoding octets (of_group f g e q) =
+    record { class = _; constructed = _; tag = _; contents = _; header = _; encoding = f }
 
 -- a block begins no other
 pub block_alone : (xs ys r q : List ℕ) → IsBlock xs → IsBlock ys → xs ++ r ≡ ys ++ q → (xs ≡ ys) × (r ≡ q)
@@ -52,11 +42,13 @@ tree_count no_trees = 0
 tree_count (more_trees b bs) = suc (tree_count bs)
 
 -- contents octets that are a block encode one tree
-pub one_block : (o : ℕ) (contents : List ℕ) (bs : Trees ℕ) → EncodesAll o contents bs → IsBlock contents → tree_count bs ≡ 1
+pub one_block : (o : ℕ) (contents : List ℕ) (bs : Trees ℕ) → EncodesAll o contents bs → IsBlock contents →
+    tree_count bs ≡ 1
 one_block o contents no_trees s b = absurd (omega (arith, block_some contents b, ap length s))
 one_block o contents (more_trees b no_trees) s a = refl
 one_block o contents (more_trees b (more_trees c bs)) s a =
-    let f = block_alone contents s.first [] s.rest a (encodes_block o s.first b s.item) (append-nil contents ∙ s.whole) in
+    let f = block_alone contents s.first [] s.rest a (encodes_block o s.first b s.item)
+    (append-nil contents ∙ s.whole) in
     let t = s.items in
     let p = block_some t.first (encodes_block _ t.first c t.item) in
     absurd (omega (arith, p, ap length (f.1 ∙ t.whole), length-append t.first t.rest))
@@ -67,11 +59,13 @@ blocks_after all front rest e no_blocks bs = subst AreBlocks e bs
 blocks_after all front rest e (more_blocks {x = x} {rest = r} d b fs) no_blocks =
     absurd (omega (arith, block_some x b, ap length e, ap length d, length-append front rest, length-append x r))
 blocks_after all front rest e (more_blocks {x = x} {rest = r} d b fs) (more_blocks {x = y} {rest = q} d' b' bs) =
-    let f = block_alone x y (r ++ rest) q b b' (sym (append_assoc x r rest) ∙ ap (λ z. z ++ rest) (sym d) ∙ sym e ∙ d') in
+    let f = block_alone x y (r ++ rest) q b b'
+    (sym (append_assoc x r rest) ∙ ap (λ z. z ++ rest) (sym d) ∙ sym e ∙ d') in
     blocks_after q r rest (sym f.1) fs bs
 
 -- the first of some blocks
-pub first_block : (octets : List ℕ) → AreBlocks octets → 0 < length octets → (x : List ℕ) × (rest : List ℕ) × (octets ≡ x ++ rest) × IsBlock x
+pub first_block : (octets : List ℕ) → AreBlocks octets → 0 < length octets →
+    (x : List ℕ) × (rest : List ℕ) × (octets ≡ x ++ rest) × IsBlock x
 first_block octets no_blocks h = absurd (omega (arith, h))
 first_block octets (more_blocks {x = x} {rest = r} d b bs) h = (x, r, d, b)
 
@@ -82,7 +76,8 @@ pub data UniversalContents (n : ℕ) (contents : List ℕ) : Type 0 where
   is_group : (g : GroupKind) → n ≡ group_tag g → AreBlocks contents → UniversalContents n contents
 
 -- so are the contents octets of a block of class Universal
-pub universal_contents : (x : List ℕ) (k : Bool) (n : ℕ) (contents : List ℕ) (h : ℕ) → Encoding x Universal k n contents h → IsBlock x
+pub universal_contents : (x : List ℕ) (k : Bool) (n : ℕ) (contents : List ℕ) (h : ℕ) →
+    Encoding x Universal k n contents h → IsBlock x
     → UniversalContents n contents
 universal_contents x k n contents h f (of_other_class g ne) =
     let s = encoding_alone _ _ _ _ _ _ _ _ _ _ _ _ [] [] f g refl in
@@ -98,7 +93,8 @@ universal_contents x k n contents h f (of_group g j t bs) =
     is_group j (s.tag ∙ t) (subst AreBlocks (sym s.contents) bs)
 
 -- an encoding at the front, by its parts
-pub split_encoding : (octets x rest : List ℕ) (c : ASN1Class) (k : Bool) (n : ℕ) (contents : List ℕ) (h : ℕ) (f : Encoding x c k n contents h)
+pub split_encoding : (octets x rest : List ℕ) (c : ASN1Class) (k : Bool) (n : ℕ) (contents : List ℕ) (h : ℕ)
+    (f : Encoding x c k n contents h)
     → octets ≡ x ++ rest → octets ≡ f.identifier ++ (f.len ++ (contents ++ rest))
 split_encoding octets x rest c k n contents h f e = e ∙ ap (λ z. z ++ rest) f.whole ∙ simp append_assoc
 
@@ -121,8 +117,10 @@ length_first [] n p = absurd p
 length_first (b ∷ r) n p = (b, r, refl)
 
 -- no encoding stands where a header is at fault
-pub header_no_encoding : (offset : ℕ) (octets x rest : List ℕ) (e : DecodeFault) (c' : ASN1Class) (k' : Bool) (n' : ℕ) (contents : List ℕ) (h' : ℕ)
-    → HeaderFault offset octets e → offset + length octets < 2 ^ 64 → octets ≡ x ++ rest → Encoding x c' k' n' contents h' → ⊥
+pub header_no_encoding : (offset : ℕ) (octets x rest : List ℕ) (e : DecodeFault) (c' : ASN1Class) (k' : Bool) (n' : ℕ)
+    (contents : List ℕ) (h' : ℕ)
+    → HeaderFault offset octets e → offset + length octets < 2 ^ 64 → octets ≡ x ++ rest →
+    Encoding x c' k' n' contents h' → ⊥
 header_no_encoding offset octets x rest e c' k' n' contents h' (no_identifier missing) small d f =
     let (a, r, l) = length_first f.len (length contents) f.length_octets in
     missing f.identifier (r ++ (contents ++ rest)) c' k' n' a f.identifier_octets
@@ -135,7 +133,17 @@ header_no_encoding offset octets x rest e c' k' n' contents h' (too_far s l r c 
     let q = identifier_alone s f.identifier (l ++ r) (f.len ++ (contents ++ rest)) c c' k k' n n' t f.identifier_octets
     (sym g ∙ split_encoding octets x rest _ _ _ _ _ f d) in
     let v = length_alone l f.len r (contents ++ rest) m (length contents) u f.length_octets q.rest in
-    omega (arith, far, small, v.number, ap length v.rest, ap length g, length-append s (l ++ r), length-append l r, length-append contents rest)
+    omega (
+      arith,
+      far,
+      small,
+      v.number,
+      ap length v.rest,
+      ap length g,
+      length-append s (l ++ r),
+      length-append l r,
+      length-append contents rest,
+    )
 header_no_encoding offset octets x rest e c' k' n' contents h' (too_long s l r c k n m t u g near long) small d f =
     let q = identifier_alone s f.identifier (l ++ r) (f.len ++ (contents ++ rest)) c c' k k' n n' t f.identifier_octets
     (sym g ∙ split_encoding octets x rest _ _ _ _ _ f d) in
@@ -143,7 +151,8 @@ header_no_encoding offset octets x rest e c' k' n' contents h' (too_long s l r c
     omega (arith, long, v.number, ap length v.rest, length-append contents rest)
 
 -- no block stands where a header is at fault
-header_no_block : (offset : ℕ) (octets x rest : List ℕ) (e : DecodeFault) → HeaderFault offset octets e → offset + length octets < 2 ^ 64
+header_no_block : (offset : ℕ) (octets x rest : List ℕ) (e : DecodeFault) → HeaderFault offset octets e →
+    offset + length octets < 2 ^ 64
     → octets ≡ x ++ rest → IsBlock x → ⊥
 header_no_block offset octets x rest e w small d b =
     let F = block_encoding x b in
@@ -158,8 +167,10 @@ contents_there octets y r x rest k n contents h g f d b =
     universal_contents y k n contents h f (subst IsBlock (sym q.octets) b)
 
 -- those of a leaf are not at fault
-leaf_no_block : (n : ℕ) (contents : List ℕ) (e : DecodeFault) → LeafFault n contents e → UniversalContents n contents → ⊥
-leaf_no_block n contents e p (is_unknown u) = false≢true (sym (unknown_known n u) ∙ leaf_tag_known n (leaf_fault_tag n contents e p))
+leaf_no_block : (n : ℕ) (contents : List ℕ) (e : DecodeFault) → LeafFault n contents e → UniversalContents n contents →
+    ⊥
+leaf_no_block n contents e p (is_unknown u) =
+    false≢true (sym (unknown_known n u) ∙ leaf_tag_known n (leaf_fault_tag n contents e p))
 leaf_no_block n contents e p (is_leaf l t q) = leaf_no_fault n contents e l t q p
 leaf_no_block n contents e p (is_group g t bs) = leaf_tag_no_group n g (leaf_fault_tag n contents e p) t
 
@@ -170,30 +181,39 @@ group_holds g contents (is_leaf l t p) = absurd (leaf_no_group l g (sym t))
 group_holds g contents (is_group i t bs) = bs
 
 -- octets at fault are no blocks
-pub blocks_fault_no_blocks : (octets : List ℕ) (e : DecodeFault) (o : ℕ) → BlocksFaultAt octets e o → length octets < 2 ^ 64
+pub blocks_fault_no_blocks : (octets : List ℕ) (e : DecodeFault) (o : ℕ) → BlocksFaultAt octets e o →
+    length octets < 2 ^ 64
     → AreBlocks octets → ⊥
 blocks_fault_no_blocks octets e o (in_header front rest d fs some w) small bs =
     let (x, r, g, b) = first_block rest (blocks_after octets front rest d fs bs) some in
     header_no_block (length front) rest x r e w (omega (arith, small, ap length d, length-append front rest)) g b
-blocks_fault_no_blocks octets e o (in_contents {contents = v} {constructed = k} {tag = n} {header = h} front y rest d fs f l) small bs =
+blocks_fault_no_blocks octets e o
+    (in_contents {contents = v} {constructed = k} {tag = n} {header = h} front y rest d fs f l) small bs =
     let all = y ++ rest in
-    let (x, r, g, b) = first_block all (blocks_after octets front all d fs bs) (encoding_first y rest Universal k n v h f) in
+    let (x, r, g, b) = first_block all (blocks_after octets front all d fs bs)
+    (encoding_first y rest Universal k n v h f) in
     leaf_no_block n v e l (contents_there all y rest x r k n v h refl f g b)
-blocks_fault_no_blocks octets e o (in_item {contents = v} {constructed = k} {header = h} {inside = i} front y rest d fs j f p) small bs =
+blocks_fault_no_blocks octets e o
+    (in_item {contents = v} {constructed = k} {header = h} {inside = i} front y rest d fs j f p) small bs =
     let all = y ++ rest in
     let n = group_tag j in
-    let (x, r, g, b) = first_block all (blocks_after octets front all d fs bs) (encoding_first y rest Universal k n v h f) in
+    let (x, r, g, b) = first_block all (blocks_after octets front all d fs bs)
+    (encoding_first y rest Universal k n v h f) in
     let within = encoding_within all y rest Universal k n v h f refl in
     blocks_fault_no_blocks v e i p (omega (arith, small, ap length d, length-append front all, within))
     (group_holds j v (contents_there all y rest x r k n v h refl f g b))
 
 -- where the first block is at fault, no block stands
-pub block_fault_no_block : (offset : ℕ) (octets x rest : List ℕ) (e : DecodeFault) (o : ℕ) → BlockFaultAt offset octets e o
+pub block_fault_no_block : (offset : ℕ) (octets x rest : List ℕ) (e : DecodeFault) (o : ℕ) →
+    BlockFaultAt offset octets e o
     → offset + length octets < 2 ^ 64 → octets ≡ x ++ rest → IsBlock x → ⊥
-block_fault_no_block offset octets x rest e o (at_header w) small d b = header_no_block offset octets x rest e w small d b
-block_fault_no_block offset octets x rest e o (at_leaf y r {constructed = k} {tag = n} {contents = v} {header = h} g f l) small d b =
+block_fault_no_block offset octets x rest e o (at_header w) small d b =
+    header_no_block offset octets x rest e w small d b
+block_fault_no_block offset octets x rest e o
+    (at_leaf y r {constructed = k} {tag = n} {contents = v} {header = h} g f l) small d b =
     leaf_no_block n v e l (contents_there octets y r x rest k n v h g f d b)
-block_fault_no_block offset octets x rest e o (at_item y r {constructed = k} {contents = v} {header = h} {inside = i} g j f p) small d b =
+block_fault_no_block offset octets x rest e o
+    (at_item y r {constructed = k} {contents = v} {header = h} {inside = i} g j f p) small d b =
     let n = group_tag j in
     blocks_fault_no_blocks v e i p (omega (arith, small, encoding_within octets y r Universal k n v h f g))
     (group_holds j v (contents_there octets y r x rest k n v h g f d b))

@@ -19,7 +19,8 @@ pub record FaultyBlock (octets : List ℕ) (e : DecodeFault) (offset : ℕ) : Ty
   pub offset_is : offset ≡ length front + inside
 
 -- an encoding and more are some octets
-pub encoding_first : (x rest : List ℕ) (c : ASN1Class) (k : Bool) (n : ℕ) (contents : List ℕ) (h : ℕ) → Encoding x c k n contents h
+pub encoding_first : (x rest : List ℕ) (c : ASN1Class) (k : Bool) (n : ℕ) (contents : List ℕ) (h : ℕ) →
+    Encoding x c k n contents h
     → 0 < length (x ++ rest)
 encoding_first x rest c k n contents h f = omega (arith, encoding_some x c k n contents h f, length-append x rest)
 
@@ -56,7 +57,8 @@ faulty_block octets e o (in_item {header = h} {inside = i} front x rest g bs y f
 }
 
 -- and so the other way round
-pub fault_after : (octets front rest : List ℕ) (e : DecodeFault) (i : ℕ) → octets ≡ front ++ rest → AreBlocks front → 0 < length rest
+pub fault_after : (octets front rest : List ℕ) (e : DecodeFault) (i : ℕ) → octets ≡ front ++ rest → AreBlocks front →
+    0 < length rest
     → BlockFaultAt (length front) rest e i → BlocksFaultAt octets e (length front + i)
 fault_after octets front rest e i g bs some (at_header w) =
     let o : length front ≡ length front + 0 = omega arith in
@@ -64,4 +66,5 @@ fault_after octets front rest e i g bs some (at_header w) =
 fault_after octets front rest e i g bs some (at_leaf x r d f l) =
     let o : length front ≡ length front + 0 = omega arith in
     subst (BlocksFaultAt octets e) o (in_contents front x r (g ∙ ap (λ z. front ++ z) d) bs f l)
-fault_after octets front rest e i g bs some (at_item x r d y f p) = in_item front x r (g ∙ ap (λ z. front ++ z) d) bs y f p
+fault_after octets front rest e i g bs some (at_item x r d y f p) =
+    in_item front x r (g ∙ ap (λ z. front ++ z) d) bs y f p

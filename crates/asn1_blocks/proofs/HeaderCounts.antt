@@ -1,40 +1,9 @@
 -- The number of headers that a reader begins.
-use Rattle.std.proofs.Common.{
-  ◌≡◌,
-  ℕ,
-  ◌+◌,
-  ◌<◌,
-  ◌≤◌,
-  Bool,
-  List,
-  [],
-  ◌++◌,
-  length,
-  refl,
-  sym,
-  ap,
-  ◌∙◌,
-  subst,
-  arith,
-  length-append,
-  append_assoc,
-  append-nil,
-}
+use Rattle.std.proofs.Common.{◌≡◌, ℕ, ◌+◌, ◌<◌, ◌≤◌, Bool, List, [], ◌++◌, length, refl, sym, ap, ◌∙◌, subst, arith, length-append, append_assoc, append-nil}
 use Rattle.asn1_headers.specs.declared.header.ASN1Class.{ASN1Class}
 use Rattle.asn1_headers.specs.Header.{Encoding}
 use Rattle.asn1_blocks.specs.Grammar.{IsBlock, AreBlocks, no_blocks, more_blocks}
-use Rattle.asn1_blocks.specs.HeadersBegun.{
-  IsReadInside,
-  HeadersBegun,
-  begun_none,
-  begun_some,
-  BegunInside,
-  inside_first,
-  nothing_inside,
-  BegunAfter,
-  after_first,
-  nothing_after,
-}
+use Rattle.asn1_blocks.specs.HeadersBegun.{IsReadInside, HeadersBegun, begun_none, begun_some, BegunInside, inside_first, nothing_inside, BegunAfter, after_first, nothing_after}
 use Rattle.asn1_headers.proofs.Prefixes.{encoding_alone, identifier_some, encoding_some}
 use Rattle.asn1_blocks.proofs.OneReading.{block_some}
 use Rattle.asn1_blocks.proofs.Faults.{block_encoding, block_alone}
@@ -69,10 +38,17 @@ mutual
   after_alone octets m n (nothing_after shut) (nothing_after shut') = refl
 
 -- an encoding is a header and its contents octets
-pub encoding_length : (x : List ℕ) (c : ASN1Class) (k : Bool) (n : ℕ) (contents : List ℕ) (h : ℕ) → Encoding x c k n contents h
+pub encoding_length : (x : List ℕ) (c : ASN1Class) (k : Bool) (n : ℕ) (contents : List ℕ) (h : ℕ) →
+    Encoding x c k n contents h
     → (length x ≡ h + length contents) × (0 < h)
 encoding_length x c k n contents h f = (
-  omega (arith, f.size, ap length f.whole, length-append f.identifier (f.len ++ contents), length-append f.len contents),
+  omega (
+    arith,
+    f.size,
+    ap length f.whole,
+    length-append f.identifier (f.len ++ contents),
+    length-append f.len contents,
+  ),
   omega (arith, f.size, identifier_some f.identifier c k n f.identifier_octets),
 )
 
@@ -82,22 +58,29 @@ begun_le octets n (begun_none e) = omega arith
 begun_le octets n (begun_some some a b (nothing_inside shut) (nothing_after shut') g) = omega (arith, g, some)
 begun_le octets n (begun_some some a b (nothing_inside shut) (after_first x r e B C) g) =
     omega (arith, g, begun_le r b C, block_some x B, ap length e, length-append x r)
-begun_le octets n (begun_some some a b (inside_first x r {class = c} {constructed = k} {tag = t} {contents = contents} {header = h} e F o B) (nothing_after shut) g) =
+begun_le octets n (begun_some some a b
+    (inside_first x r {class = c} {constructed = k} {tag = t} {contents = contents} {header = h} e F o B)
+    (nothing_after shut) g) =
     let l = encoding_length x c k t contents h F in
     omega (arith, g, begun_le contents a B, l.0, l.1, ap length e, length-append x r)
-begun_le octets n (begun_some some a b (inside_first x r {class = c} {constructed = k} {tag = t} {contents = contents} {header = h} e F o B) (after_first y q d A C) g) =
+begun_le octets n (begun_some some a b
+    (inside_first x r {class = c} {constructed = k} {tag = t} {contents = contents} {header = h} e F o B)
+    (after_first y q d A C) g) =
     let l = encoding_length x c k t contents h F in
     let G = block_encoding y A in
     let s = encoding_alone _ _ _ _ _ _ _ _ _ _ _ _ r q F G.encoding (sym e ∙ d) in
     omega (arith, g, begun_le contents a B, begun_le q b C, l.0, l.1, ap length e, length-append x r, ap length s.rest)
 
 -- the same first block, with more after it
-inside_more : (octets rest x r : List ℕ) (a : ℕ) → octets ≡ x ++ r → IsBlock x → BegunInside octets a → BegunInside (octets ++ rest) a
-inside_more octets rest x r a e b (inside_first y q d F o B) = inside_first y (q ++ rest) (ap (λ z. z ++ rest) d ∙ append_assoc y q rest) F o B
+inside_more : (octets rest x r : List ℕ) (a : ℕ) → octets ≡ x ++ r → IsBlock x → BegunInside octets a →
+    BegunInside (octets ++ rest) a
+inside_more octets rest x r a e b (inside_first y q d F o B) =
+    inside_first y (q ++ rest) (ap (λ z. z ++ rest) d ∙ append_assoc y q rest) F o B
 inside_more octets rest x r a e b (nothing_inside shut) =
     let G = block_encoding x b in
     nothing_inside (λ y q c k n contents h d F o.
-    let s = encoding_alone _ _ _ _ _ _ _ _ _ _ _ _ q (r ++ rest) F G.encoding (sym d ∙ ap (λ z. z ++ rest) e ∙ append_assoc x r rest) in
+    let s = encoding_alone _ _ _ _ _ _ _ _ _ _ _ _ q (r ++ rest) F G.encoding
+    (sym d ∙ ap (λ z. z ++ rest) e ∙ append_assoc x r rest) in
     shut y r c k n contents h (e ∙ ap (λ z. z ++ r) (sym s.octets)) F o)
 
 -- blocks, and what follows them
@@ -109,15 +92,18 @@ begun_join front rest a b no_blocks (begun_none e) B =
 begun_join front rest a b no_blocks (begun_some some c d i f g) B = absurd (omega (arith, some))
 begun_join front rest a b (more_blocks {x = x} {rest = r} e k ks) (begun_none d) B =
     absurd (omega (arith, block_some x k, ap length e, ap length d, length-append x r))
-begun_join front rest a b (more_blocks {x = x} {rest = r} e k ks) (begun_some some c d i (nothing_after shut) g) B = absurd (shut x r e k)
-begun_join front rest a b (more_blocks {x = x} {rest = r} e k ks) (begun_some some c d i (after_first y q e' k' C) g) B =
+begun_join front rest a b (more_blocks {x = x} {rest = r} e k ks) (begun_some some c d i (nothing_after shut) g) B =
+    absurd (shut x r e k)
+begun_join front rest a b (more_blocks {x = x} {rest = r} e k ks) (begun_some some c d i (after_first y q e' k' C) g)
+    B =
     let s = block_alone x y r q k k' (sym e ∙ e') in
     let t = begun_join r rest d b ks (subst (λ z. HeadersBegun z d) (sym s.1) C) B in
     begun_some (omega (arith, some, length-append front rest)) c (d + b) (inside_more front rest x r c e k i)
     (after_first x (r ++ rest) (ap (λ z. z ++ rest) e ∙ append_assoc x r rest) k t) (omega (arith, g))
 
 -- a block that is read inside
-pub begun_opened : (x : List ℕ) (c : ASN1Class) (k : Bool) (n : ℕ) (contents : List ℕ) (h a : ℕ) → Encoding x c k n contents h
+pub begun_opened : (x : List ℕ) (c : ASN1Class) (k : Bool) (n : ℕ) (contents : List ℕ) (h a : ℕ) →
+    Encoding x c k n contents h
     → IsReadInside c k n → IsBlock x
     → HeadersBegun contents a → HeadersBegun x (1 + a)
 begun_opened x c k n contents h a F o b B =
@@ -125,7 +111,8 @@ begun_opened x c k n contents h a F o b B =
     (after_first x [] (sym (append-nil x)) b (begun_none refl)) (omega arith)
 
 -- nothing is begun inside an encoding that is not read inside
-pub nothing_inside_first : (octets x rest : List ℕ) (c : ASN1Class) (k : Bool) (n : ℕ) (contents : List ℕ) (h : ℕ) → Encoding x c k n contents h
+pub nothing_inside_first : (octets x rest : List ℕ) (c : ASN1Class) (k : Bool) (n : ℕ) (contents : List ℕ) (h : ℕ) →
+    Encoding x c k n contents h
     → octets ≡ x ++ rest → (IsReadInside c k n → ⊥) → BegunInside octets 0
 nothing_inside_first octets x rest c k n contents h f d shut = nothing_inside (λ y q c' j m v g e G p.
     let s = encoding_alone _ _ _ _ _ _ _ _ _ _ _ _ rest q f G (sym d ∙ e) in
@@ -133,8 +120,10 @@ nothing_inside_first octets x rest c k n contents h f d shut = nothing_inside (�
     (subst (λ z. IsReadInside c' j z) (sym s.tag) p))))
 
 -- a block that is not read inside
-pub begun_leaf : (x : List ℕ) (c : ASN1Class) (k : Bool) (n : ℕ) (contents : List ℕ) (h : ℕ) → Encoding x c k n contents h
+pub begun_leaf : (x : List ℕ) (c : ASN1Class) (k : Bool) (n : ℕ) (contents : List ℕ) (h : ℕ) →
+    Encoding x c k n contents h
     → (IsReadInside c k n → ⊥) → IsBlock x → HeadersBegun x 1
 begun_leaf x c k n contents h F o b =
-    begun_some (encoding_some x c k n contents h F) 0 0 (nothing_inside_first x x [] c k n contents h F (sym (append-nil x)) o)
+    begun_some (encoding_some x c k n contents h F) 0 0
+    (nothing_inside_first x x [] c k n contents h F (sym (append-nil x)) o)
     (after_first x [] (sym (append-nil x)) b (begun_none refl)) refl

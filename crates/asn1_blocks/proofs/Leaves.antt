@@ -1,31 +1,6 @@
 -- What is known of leaves and groups by their tags: for each leaf a line that names the facts of its own module. The
 -- other lemmas of the grammar build on these alone.
-use Rattle.std.proofs.Common.{
-  ◌≡◌,
-  ℕ,
-  ◌<◌,
-  ◌^◌,
-  ◌==◌,
-  ◌||◌,
-  ◌↔◌,
-  Bool,
-  not,
-  true,
-  false,
-  List,
-  [],
-  None,
-  length,
-  lit<,
-  inl,
-  inr,
-  refl,
-  sym,
-  ap,
-  ◌∙◌,
-  subst,
-  arith,
-}
+use Rattle.std.proofs.Common.{◌≡◌, ℕ, ◌<◌, ◌^◌, ◌==◌, ◌||◌, ◌↔◌, Bool, not, true, false, List, [], None, length, lit<, inl, inr, refl, sym, ap, ◌∙◌, subst, arith}
 use Rattle.std.specs.Prelude.{pos, All, if◌then◌else◌}
 use Rattle.std.proofs.lemmas.Bool.{false≢true, cases_Bool, or_cases, or_right, eqb-true}
 use Rattle.asn1_blocks.specs.declared.block.GroupKind.{GroupKind}
@@ -35,28 +10,7 @@ use Rattle.asn1_numbers.specs.Octets.{AreOctets}
 use Rattle.asn1_numbers.specs.TwosComplement.{signed_number}
 use Rattle.asn1_leaves.specs.StringKind.{StringKind, utf8, printable, teletex, ia5, universal, bmp}
 use Rattle.asn1_blocks.specs.Tree.{Leaf, boolean, integer, bit_string, octet_string, null, object_identifier, text, utc_time, generalized_time}
-use Rattle.asn1_blocks.specs.Contents.{
-  string_tag,
-  leaf_tag,
-  group_tag,
-  is_string_tag,
-  is_leaf_tag,
-  is_group_tag,
-  is_known_tag,
-  IsUnknownTag,
-  IsFaithfulLeaf,
-  LeafContents,
-  LeafFault,
-  of_boolean,
-  of_bit_string,
-  of_object_identifier,
-  of_utc_time,
-  of_generalized_time,
-  of_text,
-  leaf_contents,
-  leaf_write_fault,
-  normalized_leaf,
-}
+use Rattle.asn1_blocks.specs.Contents.{string_tag, leaf_tag, group_tag, is_string_tag, is_leaf_tag, is_group_tag, is_known_tag, IsUnknownTag, IsFaithfulLeaf, LeafContents, LeafFault, of_boolean, of_bit_string, of_object_identifier, of_utc_time, of_generalized_time, of_text, leaf_contents, leaf_write_fault, normalized_leaf}
 use Rattle.asn1_leaves.specs.Contents.Boolean.{BooleanFault}
 use Rattle.asn1_leaves.specs.Contents.BitString.{BitStringFault}
 use Rattle.asn1_leaves.specs.Contents.GeneralizedTime.{GeneralizedTimeFault}
@@ -67,67 +21,11 @@ use Rattle.asn1_leaves.specs.Contents.Text.{text_form, TextContents, TextFault}
 use Rattle.asn1_numbers.proofs.SignedNumbers.{signed_number_of_shortest}
 use Rattle.asn1_leaves.proofs.Leaves.Boolean.{boolean_alone, boolean_fault_alone, boolean_no_fault, boolean_meaning, boolean_fault_of_reading, boolean_again}
 use Rattle.asn1_leaves.proofs.Leaves.Integer.{integer_alone}
-use Rattle.asn1_leaves.proofs.Leaves.BitString.{
-  bit_string_alone,
-  bit_string_fault_alone,
-  bit_string_no_fault,
-  bit_string_meaning,
-  bit_string_fault_of_reading,
-  bit_string_writable,
-  bit_string_again,
-  bit_string_fits,
-  bit_string_kept,
-  bit_string_read,
-  bit_string_same,
-}
-use Rattle.asn1_leaves.proofs.Leaves.GeneralizedTime.{
-  generalized_time_alone,
-  generalized_time_fault_alone,
-  generalized_time_no_fault,
-  generalized_time_meaning,
-  generalized_time_of_reading,
-  generalized_time_writable,
-  generalized_time_again,
-  generalized_time_fits,
-  generalized_time_kept,
-  generalized_time_read,
-}
-use Rattle.asn1_leaves.proofs.Leaves.ObjectIdentifier.{
-  object_identifier_alone,
-  object_identifier_fault_alone,
-  object_identifier_no_fault,
-  object_identifier_meaning,
-  object_identifier_fault_of_reading,
-  object_identifier_writable,
-  object_identifier_again,
-  object_identifier_fits,
-  object_identifier_kept,
-  object_identifier_read,
-}
-use Rattle.asn1_leaves.proofs.Leaves.UtcTime.{
-  utc_time_alone,
-  utc_time_fault_alone,
-  utc_time_no_fault,
-  utc_time_meaning,
-  utc_time_of_reading,
-  utc_time_writable,
-  utc_time_again,
-  utc_time_fits,
-  utc_time_kept,
-  utc_time_read,
-}
-use Rattle.asn1_leaves.proofs.Leaves.Text.{
-  text_alone,
-  text_fault_alone,
-  text_no_fault,
-  text_meaning,
-  text_fault_of_reading,
-  text_writable,
-  text_again,
-  text_fits,
-  text_kept,
-  text_read,
-}
+use Rattle.asn1_leaves.proofs.Leaves.BitString.{bit_string_alone, bit_string_fault_alone, bit_string_no_fault, bit_string_meaning, bit_string_fault_of_reading, bit_string_writable, bit_string_again, bit_string_fits, bit_string_kept, bit_string_read, bit_string_same}
+use Rattle.asn1_leaves.proofs.Leaves.GeneralizedTime.{generalized_time_alone, generalized_time_fault_alone, generalized_time_no_fault, generalized_time_meaning, generalized_time_of_reading, generalized_time_writable, generalized_time_again, generalized_time_fits, generalized_time_kept, generalized_time_read}
+use Rattle.asn1_leaves.proofs.Leaves.ObjectIdentifier.{object_identifier_alone, object_identifier_fault_alone, object_identifier_no_fault, object_identifier_meaning, object_identifier_fault_of_reading, object_identifier_writable, object_identifier_again, object_identifier_fits, object_identifier_kept, object_identifier_read}
+use Rattle.asn1_leaves.proofs.Leaves.UtcTime.{utc_time_alone, utc_time_fault_alone, utc_time_no_fault, utc_time_meaning, utc_time_of_reading, utc_time_writable, utc_time_again, utc_time_fits, utc_time_kept, utc_time_read}
+use Rattle.asn1_leaves.proofs.Leaves.Text.{text_alone, text_fault_alone, text_no_fault, text_meaning, text_fault_of_reading, text_writable, text_again, text_fits, text_kept, text_read}
 
 -- the tag of a string of characters is that of one, and one of the low ones
 string_tag_is : (kind : StringKind) → is_string_tag (string_tag kind) ≡ true
@@ -205,7 +103,10 @@ group_known Set = refl
 
 -- any other tag is unknown
 unknown_of : (n : ℕ) → is_known_tag n ≡ false → IsUnknownTag n
-unknown_of n e = (λ l t. false≢true (sym e ∙ (ap is_known_tag t ∙ leaf_known l)), λ g t. false≢true (sym e ∙ (ap is_known_tag t ∙ group_known g)))
+unknown_of n e = (
+  λ l t. false≢true (sym e ∙ (ap is_known_tag t ∙ leaf_known l)),
+  λ g t. false≢true (sym e ∙ (ap is_known_tag t ∙ group_known g)),
+)
 
 -- no tag is that of a leaf and of a group
 pub leaf_tag_no_group : (n : ℕ) (g : GroupKind) → is_leaf_tag n ≡ true → n ≡ group_tag g → ⊥
@@ -251,18 +152,22 @@ alike l (text k ds) e = no_string_tag (leaf_tag l) k refl e
 alike l m e = omega (arith, e)
 
 -- contents octets of one tag mean at most one leaf
-pub leaf_alone : (l m : Leaf) (contents : List ℕ) → leaf_tag l ≡ leaf_tag m → LeafContents l contents → LeafContents m contents → l ≡ m
+pub leaf_alone : (l m : Leaf) (contents : List ℕ) → leaf_tag l ≡ leaf_tag m → LeafContents l contents →
+    LeafContents m contents → l ≡ m
 leaf_alone (boolean a) (boolean b) contents e p q = ap boolean (boolean_alone a b contents p q)
 leaf_alone (integer m) (integer n) contents e p q = ap integer (integer_alone m n contents p q)
 leaf_alone (bit_string m v) (bit_string n w) contents e p q = let r = bit_string_alone m n v w contents p q in cc
 leaf_alone (octet_string v) (octet_string w) contents e p q = ap octet_string (p ∙ sym q)
 leaf_alone null null contents e p q = refl
-leaf_alone (object_identifier ms) (object_identifier ns) contents e p q = ap object_identifier (object_identifier_alone ms ns contents p q)
+leaf_alone (object_identifier ms) (object_identifier ns) contents e p q =
+    ap object_identifier (object_identifier_alone ms ns contents p q)
 leaf_alone (utc_time m) (utc_time n) contents e p q = ap utc_time (utc_time_alone m n contents p q)
-leaf_alone (generalized_time m) (generalized_time n) contents e p q = ap generalized_time (generalized_time_alone m n contents p q)
+leaf_alone (generalized_time m) (generalized_time n) contents e p q =
+    ap generalized_time (generalized_time_alone m n contents p q)
 leaf_alone (text j cs) (text k ds) contents e p q =
     let f : j ≡ k = alike (text j cs) (text k ds) e in
-    let g : cs ≡ ds = text_alone (text_form j) cs ds contents p (subst (λ z. TextContents (text_form z) ds contents) (sym f) q) in
+    let g : cs ≡ ds = text_alone (text_form j) cs ds contents p
+    (subst (λ z. TextContents (text_form z) ds contents) (sym f) q) in
     cc
 leaf_alone l m contents e p q = absurd (alike l m e)
 
@@ -299,7 +204,8 @@ by_leaf n contents e (of_text kind t f) = record { leaf = text kind []; tag = t;
 pub leaf_fault_tag : (n : ℕ) (contents : List ℕ) (e : DecodeFault) → LeafFault n contents e → is_leaf_tag n ≡ true
 leaf_fault_tag n contents e f = let l = by_leaf n contents e f in ap is_leaf_tag l.tag ∙ leaf_tag_is l.leaf
 
-no_fault : (l m : Leaf) (contents : List ℕ) (e : DecodeFault) → leaf_tag l ≡ leaf_tag m → LeafContents l contents → FaultOf m contents e → ⊥
+no_fault : (l m : Leaf) (contents : List ℕ) (e : DecodeFault) → leaf_tag l ≡ leaf_tag m → LeafContents l contents →
+    FaultOf m contents e → ⊥
 no_fault (boolean a) (boolean b) contents e t p f = boolean_no_fault a contents e p f
 no_fault l (integer n) contents e t p f = f
 no_fault (bit_string n v) (bit_string k w) contents e t p f = bit_string_no_fault n v contents e p f
@@ -316,15 +222,18 @@ no_fault l m contents e t p f = alike l m t
 -- contents octets at fault mean no leaf
 pub leaf_no_fault : (n : ℕ) (contents : List ℕ) (e : DecodeFault) (l : Leaf) → n ≡ leaf_tag l → LeafContents l contents
     → LeafFault n contents e → ⊥
-leaf_no_fault n contents e l t p f = let m = by_leaf n contents e f in no_fault l m.leaf contents e (sym t ∙ m.tag) p m.fault
+leaf_no_fault n contents e l t p f = let m = by_leaf n contents e f in
+    no_fault l m.leaf contents e (sym t ∙ m.tag) p m.fault
 
-fault_alone : (l m : Leaf) (contents : List ℕ) (e d : DecodeFault) → leaf_tag l ≡ leaf_tag m → FaultOf l contents e → FaultOf m contents d → e ≡ d
+fault_alone : (l m : Leaf) (contents : List ℕ) (e d : DecodeFault) → leaf_tag l ≡ leaf_tag m → FaultOf l contents e →
+    FaultOf m contents d → e ≡ d
 fault_alone (boolean a) (boolean b) contents e d t p q = boolean_fault_alone contents e d p q
 fault_alone (integer n) m contents e d t p q = absurd p
 fault_alone (bit_string n v) (bit_string k w) contents e d t p q = bit_string_fault_alone contents e d p q
 fault_alone (octet_string v) m contents e d t p q = absurd p
 fault_alone null m contents e d t p q = absurd p
-fault_alone (object_identifier ms) (object_identifier ns) contents e d t p q = object_identifier_fault_alone contents e d p q
+fault_alone (object_identifier ms) (object_identifier ns) contents e d t p q =
+    object_identifier_fault_alone contents e d p q
 fault_alone (utc_time m) (utc_time n) contents e d t p q = utc_time_fault_alone contents e d p q
 fault_alone (generalized_time m) (generalized_time n) contents e d t p q = generalized_time_fault_alone contents e d p q
 fault_alone (text j cs) (text k ds) contents e d t p q =
@@ -333,7 +242,8 @@ fault_alone (text j cs) (text k ds) contents e d t p q =
 fault_alone l m contents e d t p q = absurd (alike l m t)
 
 -- the fault is one
-pub leaf_fault_alone : (n : ℕ) (contents : List ℕ) (e d : DecodeFault) → LeafFault n contents e → LeafFault n contents d → e ≡ d
+pub leaf_fault_alone : (n : ℕ) (contents : List ℕ) (e d : DecodeFault) → LeafFault n contents e →
+    LeafFault n contents d → e ≡ d
 leaf_fault_alone n contents e d f g =
     let l = by_leaf n contents e f in
     let m = by_leaf n contents d g in
@@ -362,20 +272,26 @@ pub data LeafMeaning (n : ℕ) (contents : List ℕ) : Type 0 where
 -- which, for the tag of a leaf
 meaning : (l : Leaf) (n : ℕ) (contents : List ℕ) → n ≡ leaf_tag l → LeafMeaning n contents
 meaning (boolean b) n contents t =
-    elim (boolean_meaning contents) [ inl m ↦ means_leaf (boolean m.0) t m.1 | inr f ↦ means_fault f.0 (of_boolean t f.1) ]
+    elim (boolean_meaning contents)
+    [ inl m ↦ means_leaf (boolean m.0) t m.1 | inr f ↦ means_fault f.0 (of_boolean t f.1) ]
 meaning (integer z) n contents t = means_leaf (integer (signed_number contents)) t refl
 meaning (bit_string k v) n contents t =
-    elim (bit_string_meaning contents) [ inl m ↦ means_leaf (bit_string m.0 m.1) t m.2 | inr f ↦ means_fault f.0 (of_bit_string t f.1) ]
+    elim (bit_string_meaning contents)
+    [ inl m ↦ means_leaf (bit_string m.0 m.1) t m.2 | inr f ↦ means_fault f.0 (of_bit_string t f.1) ]
 meaning (octet_string v) n contents t = means_leaf (octet_string contents) t refl
 meaning null n contents t = means_leaf null t tt
 meaning (object_identifier ns) n contents t =
-    elim (object_identifier_meaning contents) [ inl m ↦ means_leaf (object_identifier m.0) t m.1 | inr f ↦ means_fault f.0 (of_object_identifier t f.1) ]
+    elim (object_identifier_meaning contents)
+    [ inl m ↦ means_leaf (object_identifier m.0) t m.1 | inr f ↦ means_fault f.0 (of_object_identifier t f.1) ]
 meaning (utc_time m) n contents t =
-    elim (utc_time_meaning contents) [ inl m ↦ means_leaf (utc_time m.0) t m.1 | inr f ↦ means_fault f.0 (of_utc_time t f.1) ]
+    elim (utc_time_meaning contents)
+    [ inl m ↦ means_leaf (utc_time m.0) t m.1 | inr f ↦ means_fault f.0 (of_utc_time t f.1) ]
 meaning (generalized_time m) n contents t =
-    elim (generalized_time_meaning contents) [ inl m ↦ means_leaf (generalized_time m.0) t m.1 | inr f ↦ means_fault f.0 (of_generalized_time t f.1) ]
+    elim (generalized_time_meaning contents)
+    [ inl m ↦ means_leaf (generalized_time m.0) t m.1 | inr f ↦ means_fault f.0 (of_generalized_time t f.1) ]
 meaning (text kind cs) n contents t =
-    elim (text_meaning (text_form kind) contents) [ inl m ↦ means_leaf (text kind m.0) t m.1 | inr f ↦ means_fault f.0 (of_text kind t f.1) ]
+    elim (text_meaning (text_form kind) contents)
+    [ inl m ↦ means_leaf (text kind m.0) t m.1 | inr f ↦ means_fault f.0 (of_text kind t f.1) ]
 
 -- a string of characters by its tag
 string_of_tag : (n : ℕ) → is_string_tag n ≡ true → (l : Leaf) × (n ≡ leaf_tag l)
@@ -387,39 +303,48 @@ string_of_tag n e = elim (or_cases ((n == 12) || (n == 19) || (n == 20) || (n ==
       | inr a ↦ (text ia5 [], eqb-true n 22 a)
       | inl e ↦ elim (or_cases ((n == 12) || (n == 19)) (n == 20) e) [
         | inr a ↦ (text teletex [], eqb-true n 20 a)
-        | inl e ↦ elim (or_cases (n == 12) (n == 19) e) [ inl a ↦ (text utf8 [], eqb-true n 12 a) | inr a ↦ (text printable [], eqb-true n 19 a) ]
+        | inl e ↦ elim (or_cases (n == 12) (n == 19) e)
+            [ inl a ↦ (text utf8 [], eqb-true n 12 a) | inr a ↦ (text printable [], eqb-true n 19 a) ]
       ]
     ]
   ]
 ]
 
 -- a leaf by its tag
-leaf_of_low_tag : (n : ℕ) → ((n == 1) || (n == 2) || (n == 3) || (n == 4) || (n == 5)) ≡ true → (l : Leaf) × (n ≡ leaf_tag l)
+leaf_of_low_tag : (n : ℕ) → ((n == 1) || (n == 2) || (n == 3) || (n == 4) || (n == 5)) ≡ true →
+    (l : Leaf) × (n ≡ leaf_tag l)
 leaf_of_low_tag n e = elim (or_cases ((n == 1) || (n == 2) || (n == 3) || (n == 4)) (n == 5) e) [
   | inr a ↦ (null, eqb-true n 5 a)
   | inl e ↦ elim (or_cases ((n == 1) || (n == 2) || (n == 3)) (n == 4) e) [
     | inr a ↦ (octet_string [], eqb-true n 4 a)
     | inl e ↦ elim (or_cases ((n == 1) || (n == 2)) (n == 3) e) [
       | inr a ↦ (bit_string 0 [], eqb-true n 3 a)
-      | inl e ↦ elim (or_cases (n == 1) (n == 2) e) [ inl a ↦ (boolean true, eqb-true n 1 a) | inr a ↦ (integer (pos 0), eqb-true n 2 a) ]
+      | inl e ↦ elim (or_cases (n == 1) (n == 2) e)
+          [ inl a ↦ (boolean true, eqb-true n 1 a) | inr a ↦ (integer (pos 0), eqb-true n 2 a) ]
     ]
   ]
 ]
 
 leaf_of_tag : (n : ℕ) → is_leaf_tag n ≡ true → (l : Leaf) × (n ≡ leaf_tag l)
-leaf_of_tag n e = elim (or_cases ((n == 1) || (n == 2) || (n == 3) || (n == 4) || (n == 5) || (n == 6) || (n == 23) || (n == 24)) (is_string_tag n) e) [
-  | inr a ↦ string_of_tag n a
-  | inl e ↦ elim (or_cases ((n == 1) || (n == 2) || (n == 3) || (n == 4) || (n == 5) || (n == 6) || (n == 23)) (n == 24) e) [
-    | inr a ↦ (generalized_time some_moment, eqb-true n 24 a)
-    | inl e ↦ elim (or_cases ((n == 1) || (n == 2) || (n == 3) || (n == 4) || (n == 5) || (n == 6)) (n == 23) e) [
-      | inr a ↦ (utc_time some_moment, eqb-true n 23 a)
-      | inl e ↦ elim (or_cases ((n == 1) || (n == 2) || (n == 3) || (n == 4) || (n == 5)) (n == 6) e) [
-        | inr a ↦ (object_identifier [], eqb-true n 6 a)
-        | inl e ↦ leaf_of_low_tag n e
-      ]
+leaf_of_tag n e = elim
+    (or_cases ((n == 1) || (n == 2) || (n == 3) || (n == 4) || (n == 5) || (n == 6) || (n == 23) || (n == 24))
+    (is_string_tag n) e) [
+      | inr a ↦ string_of_tag n a
+      | inl e ↦ elim (or_cases
+          ((n == 1) || (n == 2) || (n == 3) || (n == 4) || (n == 5) || (n == 6) || (n == 23)) (n == 24)
+          e) [
+            | inr a ↦ (generalized_time some_moment, eqb-true n 24 a)
+            | inl e ↦ elim (or_cases
+                ((n == 1) || (n == 2) || (n == 3) || (n == 4) || (n == 5) || (n == 6)) (n == 23)
+                e) [
+                  | inr a ↦ (utc_time some_moment, eqb-true n 23 a)
+                  | inl e ↦ elim (or_cases ((n == 1) || (n == 2) || (n == 3) || (n == 4) || (n == 5)) (n == 6) e) [
+                    | inr a ↦ (object_identifier [], eqb-true n 6 a)
+                    | inl e ↦ leaf_of_low_tag n e
+                  ]
+                ]
+          ]
     ]
-  ]
-]
 
 -- it is one or the other
 pub leaf_total : (n : ℕ) (contents : List ℕ) → is_leaf_tag n ≡ true → length contents < 2 ^ 64 → LeafMeaning n contents
@@ -437,7 +362,8 @@ tag_kind n = elim (cases_Bool (is_known_tag n)) [
   | inr e ↦ unknown_tag (unknown_of n e)
   | inl e ↦ elim (or_cases (is_leaf_tag n) (is_group_tag n) e) [
     | inl a ↦ leaf_tag_of a
-    | inr a ↦ elim (or_cases (n == 16) (n == 17) a) [ inl b ↦ group_tag_of Sequence (eqb-true n 16 b) | inr b ↦ group_tag_of Set (eqb-true n 17 b) ]
+    | inr a ↦ elim (or_cases (n == 16) (n == 17) a)
+        [ inl b ↦ group_tag_of Sequence (eqb-true n 16 b) | inr b ↦ group_tag_of Set (eqb-true n 17 b) ]
   ]
 ]
 
@@ -447,7 +373,8 @@ unknown_known n u = elim (cases_Bool (is_known_tag n)) [
   | inr e ↦ e
   | inl e ↦ elim (or_cases (is_leaf_tag n) (is_group_tag n) e) [
     | inl a ↦ let l = leaf_of_tag n a in absurd (u.0 l.0 l.1)
-    | inr a ↦ elim (or_cases (n == 16) (n == 17) a) [ inl b ↦ absurd (u.1 Sequence (eqb-true n 16 b)) | inr b ↦ absurd (u.1 Set (eqb-true n 17 b)) ]
+    | inr a ↦ elim (or_cases (n == 16) (n == 17) a)
+        [ inl b ↦ absurd (u.1 Sequence (eqb-true n 16 b)) | inr b ↦ absurd (u.1 Set (eqb-true n 17 b)) ]
   ]
 ]
 
@@ -457,7 +384,8 @@ unknown_said n true e = (λ f. absurd (false≢true f), λ u. absurd (false≢tr
 unknown_said n false e = (λ t. unknown_of n (sym e), λ u. refl)
 
 -- a leaf that was read from octets can be written
-pub leaf_writable : (l : Leaf) (contents : List ℕ) → All (λ b. b < 256) contents → LeafContents l contents → leaf_write_fault l ≡ None
+pub leaf_writable : (l : Leaf) (contents : List ℕ) → All (λ b. b < 256) contents → LeafContents l contents →
+    leaf_write_fault l ≡ None
 leaf_writable (boolean b) contents all p = refl
 leaf_writable (integer n) contents all p = refl
 leaf_writable (bit_string n v) contents all p = bit_string_writable n v contents all p
@@ -505,7 +433,8 @@ leaf_kept (generalized_time m) w p = generalized_time_kept m w p
 leaf_kept (text kind cs) w p = text_kept (text_form kind) cs w p
 
 -- what is left of a leaf that was read from octets is faithful
-pub leaf_read : (l : Leaf) (contents : List ℕ) → AreOctets contents → LeafContents l contents → IsFaithfulLeaf (normalized_leaf l)
+pub leaf_read : (l : Leaf) (contents : List ℕ) → AreOctets contents → LeafContents l contents →
+    IsFaithfulLeaf (normalized_leaf l)
 leaf_read (boolean b) contents all p = tt
 leaf_read (integer n) contents all p = tt
 leaf_read (bit_string n v) contents all p = bit_string_read n v contents all p

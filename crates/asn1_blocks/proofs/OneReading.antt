@@ -1,24 +1,5 @@
 -- Octets encode at most one tree.
-use Rattle.std.proofs.Common.{
-  ◌≡◌,
-  ℕ,
-  ◌+◌,
-  ◌<◌,
-  List,
-  [],
-  ◌++◌,
-  inl,
-  inr,
-  length,
-  refl,
-  sym,
-  ap,
-  ◌∙◌,
-  subst,
-  arith,
-  append-nil,
-  length-append,
-}
+use Rattle.std.proofs.Common.{◌≡◌, ℕ, ◌+◌, ◌<◌, List, [], ◌++◌, inl, inr, length, refl, sym, ap, ◌∙◌, subst, arith, append-nil, length-append}
 use Rattle.asn1_headers.specs.Header.{Encoding}
 use Rattle.asn1_blocks.specs.Tree.{Tree, Trees, leaf, group, explicit, unknown, no_trees, more_trees}
 use Rattle.asn1_blocks.specs.Contents.{LeafContents}
@@ -33,19 +14,25 @@ mutual
   encodes_block o octets (group p g bs) s = of_group s.4 g refl (encodes_blocks (o + s.3) s.2 bs s.5)
   encodes_block o octets (explicit c p n b) s = of_other_class s.4 s.1
   encodes_block o octets (unknown c k p n v) s =
-      elim s.3 [ inl u ↦ of_unknown_tag (subst (λ d. Encoding octets d k n v s.1) u.0 s.2) u.1 | inr u ↦ of_other_class s.2 u.0 ]
+      elim s.3 [
+        | inl u ↦ of_unknown_tag (subst (λ d. Encoding octets d k n v s.1) u.0 s.2) u.1
+        | inr u ↦ of_other_class
+            s.2 u.0
+      ]
 
   -- and those that encode trees are blocks
   pub encodes_blocks : (o : ℕ) (octets : List ℕ) (bs : Trees ℕ) → EncodesAll o octets bs → AreBlocks octets
   encodes_blocks o octets no_trees s = subst AreBlocks (sym s) no_blocks
-  encodes_blocks o octets (more_trees b bs) s = more_blocks s.whole (encodes_block o s.first b s.item) (encodes_blocks (o + length s.first) s.rest bs s.items)
+  encodes_blocks o octets (more_trees b bs) s =
+      more_blocks s.whole (encodes_block o s.first b s.item) (encodes_blocks (o + length s.first) s.rest bs s.items)
 
 -- octets that encode a tree encode it alone
 pub only : (o : ℕ) (octets : List ℕ) (b : Tree ℕ) → Encodes o octets b → EncodesAll o octets (more_trees b no_trees)
 only o octets b s = record { first = octets; rest = []; whole = sym (append-nil octets); item = s; items = refl }
 
 -- and so the other way round
-pub only_tree : (o : ℕ) (octets : List ℕ) (b : Tree ℕ) → EncodesAll o octets (more_trees b no_trees) → Encodes o octets b
+pub only_tree : (o : ℕ) (octets : List ℕ) (b : Tree ℕ) → EncodesAll o octets (more_trees b no_trees) →
+    Encodes o octets b
 only_tree o octets b s =
     let whole : octets ≡ s.first = s.whole ∙ (ap (λ z. s.first ++ z) s.items ∙ append-nil s.first) in
     subst (λ z. Encodes o z b) (sym whole) s.item
@@ -82,7 +69,8 @@ mutual
       let f = encoding_alone _ _ _ _ _ _ _ _ _ _ _ _ r q s.4 t.4 e in
       let i : g ≡ g' = group_alone g g' f.tag in
       let b = all_alone (o + s.3) s.2 bs cs s.5
-      (subst (λ z. EncodesAll (o + z) s.2 cs) (sym f.header) (subst (λ z. EncodesAll (o + t.3) z cs) (sym f.contents) t.5)) in
+      (subst (λ z. EncodesAll (o + z) s.2 cs) (sym f.header)
+      (subst (λ z. EncodesAll (o + t.3) z cs) (sym f.contents) t.5)) in
       let h : p ≡ p' = s.0 ∙ sym t.0 in
       (f.octets, cc, f.rest)
   encodes_alone o xs ys r q (group p g bs) (explicit c p' n b) s t e =
@@ -100,7 +88,8 @@ mutual
   encodes_alone o xs ys r q (explicit c p n a) (explicit d p' m b) s t e =
       let f = encoding_alone _ _ _ _ _ _ _ _ _ _ _ _ r q s.4 t.4 e in
       let g = encodes_alone (o + s.3) s.2 s.2 [] [] a b s.5
-      (subst (λ z. Encodes (o + z) s.2 b) (sym f.header) (subst (λ z. Encodes (o + t.3) z b) (sym f.contents) t.5)) refl in
+      (subst (λ z. Encodes (o + z) s.2 b) (sym f.header) (subst (λ z. Encodes (o + t.3) z b) (sym f.contents) t.5))
+      refl in
       let h : p ≡ p' = s.0 ∙ sym t.0 in
       let i : a ≡ b = g.1 in
       let j = f.class in
@@ -136,7 +125,8 @@ mutual
       (f.octets, cc, f.rest)
 
   -- octets encode at most one list of trees
-  pub all_alone : (o : ℕ) (octets : List ℕ) (xs ys : Trees ℕ) → EncodesAll o octets xs → EncodesAll o octets ys → xs ≡ ys
+  pub all_alone : (o : ℕ) (octets : List ℕ) (xs ys : Trees ℕ) → EncodesAll o octets xs → EncodesAll o octets ys →
+      xs ≡ ys
   all_alone o octets no_trees no_trees s t = refl
   all_alone o octets no_trees (more_trees b bs) s t =
       let p = block_some t.first (encodes_block o t.first b t.item) in
@@ -148,5 +138,6 @@ mutual
       let f = encodes_alone o s.first t.first s.rest t.rest a b s.item t.item (sym s.whole ∙ t.whole) in
       let h : a ≡ b = f.1 in
       let g = all_alone (o + length s.first) s.rest xs ys s.items
-      (subst (λ z. EncodesAll (o + length z) s.rest ys) (sym f.0) (subst (λ z. EncodesAll (o + length t.first) z ys) (sym f.2) t.items)) in
+      (subst (λ z. EncodesAll (o + length z) s.rest ys) (sym f.0)
+      (subst (λ z. EncodesAll (o + length t.first) z ys) (sym f.2) t.items)) in
       cc

@@ -1,28 +1,5 @@
 -- A header at the front of what is left of contents octets, and its place in the document.
-use Rattle.std.proofs.Common.{
-  ◌≡◌,
-  ℕ,
-  ◌+◌,
-  ◌-◌,
-  ◌<◌,
-  ◌≤◌,
-  ◌^◌,
-  Bool,
-  List,
-  ◌++◌,
-  length,
-  take,
-  drop,
-  length-drop,
-  refl,
-  sym,
-  ap,
-  ◌∙◌,
-  subst,
-  arith,
-  length-append,
-  append_assoc,
-}
+use Rattle.std.proofs.Common.{◌≡◌, ℕ, ◌+◌, ◌-◌, ◌<◌, ◌≤◌, ◌^◌, Bool, List, ◌++◌, length, take, drop, length-drop, refl, sym, ap, ◌∙◌, subst, arith, length-append, append_assoc}
 use Rattle.std.proofs.lemmas.List.{length-take-le, take-append-drop, take-take}
 use Rattle.std.specs.List.{slice_range}
 use Rattle.asn1_headers.specs.declared.header.ASN1Class.{ASN1Class}
@@ -51,16 +28,20 @@ module _ (rest : List ℕ) (size announced : ℕ) (class : ASN1Class) (construct
       ∙ (ap (λ z. z ++ drop size rest) front.front_is ∙ append_assoc front.identifier front.len (drop size rest))
 
   -- its contents octets would end past a usize
-  pub far_at : (before offset : ℕ) → before ≡ offset + size → 2 ^ 64 ≤ before + announced → HeaderFault offset rest (length_too_large announced)
+  pub far_at : (before offset : ℕ) → before ≡ offset + size → 2 ^ 64 ≤ before + announced →
+      HeaderFault offset rest (length_too_large announced)
   far_at before offset e far =
-      too_far front.identifier front.len (drop size rest) class constructed tag announced front.fields front.length_octets parts
+      too_far front.identifier front.len (drop size rest) class constructed tag announced front.fields
+      front.length_octets parts
       (omega (arith, e, header_size, far)) refl
 
   -- they are more than what is left
-  pub long_at : (before offset : ℕ) → before ≡ offset + size → before + announced < 2 ^ 64 → length rest - size < announced
+  pub long_at : (before offset : ℕ) → before ≡ offset + size → before + announced < 2 ^ 64 →
+      length rest - size < announced
       → HeaderFault offset rest incomplete
   long_at before offset e near long =
-      too_long front.identifier front.len (drop size rest) class constructed tag announced front.fields front.length_octets parts
+      too_long front.identifier front.len (drop size rest) class constructed tag announced front.fields
+      front.length_octets parts
       (omega (arith, e, header_size, near)) (omega (arith, length-drop size rest, long))
 
 -- a header whose contents octets fit
@@ -84,14 +65,17 @@ placed octets offset limit size announced class constructed tag front more withi
     let some = header_size rest size announced class constructed tag front in
     let ends : end ≤ limit = omega (arith, l, w, fits, more) in
     let header : slice_range octets offset start ≡ front.identifier ++ front.len =
-    ap (λ n. take n (drop offset octets)) (omega arith) ∙ (sym (take-take size (limit - offset) (drop offset octets) (omega (arith, l, w))) ∙ front.front_is) in
+    ap (λ n. take n (drop offset octets)) (omega arith)
+    ∙ (sym (take-take size (limit - offset) (drop offset octets) (omega (arith, l, w))) ∙ front.front_is) in
     record {
       encoding = record {
         identifier = front.identifier;
         len = front.len;
         identifier_octets = front.fields;
         length_octets =
-            subst (IsLength front.len) (omega (arith, slice_length octets start end (omega arith) (omega (arith, ends, within)))) front.length_octets;
+            subst (IsLength front.len)
+            (omega (arith, slice_length octets start end (omega arith) (omega (arith, ends, within))))
+            front.length_octets;
         whole =
             slice_join octets offset start end (omega arith) (omega arith)
             ∙ (ap (λ z. z ++ contents) header ∙ append_assoc front.identifier front.len contents);

@@ -3,8 +3,8 @@ use Rattle.std.proofs.Common.{◌≡◌, ℕ, ◌+◌, ◌-◌, ◌≤◌, Bool,
 use Rattle.std.specs.List.{slice_range}
 use Rattle.std.proofs.Math.Seq.{take-add}
 use Rattle.asn1_headers.specs.declared.header.ASN1Class.{ASN1Class}
-use Rattle.asn1_blocks.specs.declared.block.ASN1Block.{ASN1Block, Unknown, the_lemmas}
-use Rattle.asn1_blocks.specs.View.{view, views}
+use Rattle.asn1_blocks.specs.declared.block.ASN1Block.{Unknown, the_lemmas}
+use Rattle.asn1_blocks.specs.View.{view}
 use Rattle.asn1_blocks.specs.Tree.{Tree, Trees, unknown, no_trees, more_trees}
 use Rattle.asn1_blocks.specs.Grammar.{Encodes, EncodesAll}
 use Rattle.asn1_blocks.proofs.OneReading.{only}
@@ -14,7 +14,8 @@ with_last no_trees b = more_trees b no_trees
 with_last (more_trees x xs) b = more_trees x (with_last xs b)
 
 -- one more block at the end
-pub encodes_more : (o : ℕ) (octets last : List ℕ) (bs : Trees ℕ) (b : Tree ℕ) → EncodesAll o octets bs → Encodes (o + length octets) last b
+pub encodes_more : (o : ℕ) (octets last : List ℕ) (bs : Trees ℕ) (b : Tree ℕ) → EncodesAll o octets bs →
+    Encodes (o + length octets) last b
     → EncodesAll o (octets ++ last) (with_last bs b)
 encodes_more o octets last no_trees b s t =
     subst (λ z. EncodesAll o z (more_trees b no_trees)) (sym (ap (λ z. z ++ last) s))
@@ -28,22 +29,21 @@ encodes_more o octets last (more_trees x xs) b s t = record {
       (subst (λ z. Encodes z last b) (omega (arith, ap length s.whole, length-append s.first s.rest)) t);
 }
 
-pub views_push : (bs : List ASN1Block) (b : ASN1Block) → views (bs ++ b ∷ []) ≡ with_last (views bs) (view b)
-views_push [] b = refl
-views_push (x ∷ bs) b = ap (more_trees (view x)) (views_push bs b)
-
 pub slice_length : (octets : List ℕ) (i j : ℕ) → i ≤ j → j ≤ length octets → length (slice_range octets i j) ≡ j - i
 slice_length octets i j h l = omega (arith, length-take (j - i) (drop i octets), length-drop i octets)
 
-pub slice_join : (octets : List ℕ) (i j k : ℕ) → i ≤ j → j ≤ k → slice_range octets i k ≡ slice_range octets i j ++ slice_range octets j k
+pub slice_join : (octets : List ℕ) (i j k : ℕ) → i ≤ j → j ≤ k →
+    slice_range octets i k ≡ slice_range octets i j ++ slice_range octets j k
 slice_join octets i j k h l =
     let e : k - i ≡ (j - i) + (k - j) = omega arith in
     ap (λ n. take n (drop i octets)) e ∙ (take-add (j - i) (k - j) (drop i octets)
-    ∙ ap (λ r. take (j - i) (drop i octets) ++ take (k - j) r) (drop-drop (j - i) i octets ∙ ap (λ n. drop n octets) (omega arith)))
+    ∙ ap (λ r. take (j - i) (drop i octets) ++ take (k - j) r)
+    (drop-drop (j - i) i octets ∙ ap (λ n. drop n octets) (omega arith)))
 
 pub no_octets : (contents : List ℕ) → length contents ≡ 0 → contents ≡ []
 no_octets [] e = refl
 no_octets (b ∷ contents) e = absurd (omega (arith, e))
 
-pub view-Unknown : (c : ASN1Class) (k : Bool) (o t : ℕ) (v : Vec ℕ Global) → view (Unknown c k o t v) ≡ unknown c k o t v.items
+pub view-Unknown : (c : ASN1Class) (k : Bool) (o t : ℕ) (v : Vec ℕ Global) →
+    view (Unknown c k o t v) ≡ unknown c k o t v.items
 view-Unknown c k o t v = search (rules, the_lemmas)

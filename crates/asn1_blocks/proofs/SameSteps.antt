@@ -1,24 +1,5 @@
 -- Steps of the comparison of two lists of blocks.
-use Rattle.std.proofs.Common.{
-  ◌≡◌,
-  ℕ,
-  ◌≤◌,
-  ◌<◌,
-  zero,
-  suc,
-  List,
-  [],
-  ◌∷◌,
-  ◌++◌,
-  length,
-  length-append,
-  get_or,
-  refl,
-  sym,
-  ap,
-  ◌∙◌,
-  arith,
-}
+use Rattle.std.proofs.Common.{◌≡◌, ℕ, ◌≤◌, ◌<◌, zero, suc, List, [], ◌∷◌, ◌++◌, length, length-append, get_or, refl, sym, ap, ◌∙◌, arith}
 use Rattle.asn1_blocks.specs.declared.block.ASN1Block.{ASN1Block}
 use Rattle.asn1_blocks.specs.HeadersBegun.{blocks_in, all_blocks_in}
 use Rattle.asn1_blocks.specs.Tree.{Tree, leaf, group, explicit, unknown, shape, shapes}
@@ -98,7 +79,8 @@ split (a ∷ xs) (b ∷ ys) x y n e =
     let k = h.0 in
     (cc, h.1)
 
-join : (xs ys : List ASN1Block) (x y : ASN1Block) → AreSame xs ys → shape (view x) ≡ shape (view y) → AreSame (xs ++ x ∷ []) (ys ++ y ∷ [])
+join : (xs ys : List ASN1Block) (x y : ASN1Block) → AreSame xs ys → shape (view x) ≡ shape (view y) →
+    AreSame (xs ++ x ∷ []) (ys ++ y ∷ [])
 join [] [] x y e f = cc
 join [] (b ∷ ys) x y e f = absurd (omega (arith, same_length [] (b ∷ ys) e))
 join (a ∷ xs) [] x y e f = absurd (omega (arith, same_length (a ∷ xs) [] e))
@@ -113,15 +95,22 @@ pub record HaveLasts (v w xs ys : List ASN1Block) (x y : ASN1Block) : Type 0 whe
   pub fronts : AreSame v w → AreSame xs ys
   pub own : AreSame v w → own_shape (view x) ≡ own_shape (view y)
   pub held : AreSame v w → shapes (inside (view x)) ≡ shapes (inside (view y))
-  pub whole : AreSame xs ys → own_shape (view x) ≡ own_shape (view y) → shapes (inside (view x)) ≡ shapes (inside (view y)) → AreSame v w
+  pub whole : AreSame xs ys → own_shape (view x) ≡ own_shape (view y) →
+      shapes (inside (view x)) ≡ shapes (inside (view y)) → AreSame v w
 
-pub lasts : (v w xs ys : List ASN1Block) (x y : ASN1Block) → v ≡ xs ++ x ∷ [] → w ≡ ys ++ y ∷ [] → HaveLasts v w xs ys x y
+pub lasts : (v w xs ys : List ASN1Block) (x y : ASN1Block) → v ≡ xs ++ x ∷ [] → w ≡ ys ++ y ∷ [] →
+    HaveLasts v w xs ys x y
 lasts v w xs ys x y e f =
     let p = ap (λ z. shapes (views z)) e in
     let q = ap (λ z. shapes (views z)) f in
-    let n : AreSame v w → length xs ≡ length ys = λ s. omega
-    (arith, same_length (xs ++ x ∷ []) (ys ++ y ∷ []) (sym p ∙ (s ∙ q)), length-append xs (x ∷ []), length-append ys (y ∷ [])) in
-    let t : AreSame v w → AreSame xs ys × (shape (view x) ≡ shape (view y)) = λ s. split xs ys x y (n s) (sym p ∙ (s ∙ q)) in
+    let n : AreSame v w → length xs ≡ length ys = λ s. omega (
+      arith,
+      same_length (xs ++ x ∷ []) (ys ++ y ∷ []) (sym p ∙ (s ∙ q)),
+      length-append xs (x ∷ []),
+      length-append ys (y ∷ []),
+    ) in
+    let t : AreSame v w →
+    AreSame xs ys × (shape (view x) ≡ shape (view y)) = λ s. split xs ys x y (n s) (sym p ∙ (s ∙ q)) in
     record {
       fronts = λ s. (t s).0;
       own = λ s. own_of (view x) (view y) (t s).1;
@@ -130,14 +119,16 @@ lasts v w xs ys x y e f =
     }
 
 -- fewer blocks are before the last one, and inside it
-pub fewer_blocks : (v xs : List ASN1Block) (x : ASN1Block) → v ≡ xs ++ x ∷ [] → (all_blocks_in (views xs) < all_blocks_in (views v))
+pub fewer_blocks : (v xs : List ASN1Block) (x : ASN1Block) → v ≡ xs ++ x ∷ [] →
+    (all_blocks_in (views xs) < all_blocks_in (views v))
     × (all_blocks_in (inside (view x)) < all_blocks_in (views v))
 fewer_blocks v xs x e =
     let n = ap (λ z. all_blocks_in (views z)) e ∙ blocks_push xs x in
     (omega (arith, n, some_block (view x)), omega (arith, n, blocks_inside_of (view x)))
 
 -- no more blocks are in one of a list than in all
-pub blocks_at : (xs : List ASN1Block) (i : ℕ) (x : ASN1Block) → i < length xs → x ≡ get_or xs i x → blocks_in (view x) ≤ all_blocks_in (views xs)
+pub blocks_at : (xs : List ASN1Block) (i : ℕ) (x : ASN1Block) → i < length xs → x ≡ get_or xs i x →
+    blocks_in (view x) ≤ all_blocks_in (views xs)
 blocks_at [] i x h e = absurd (omega (arith, h))
 blocks_at (a ∷ xs) zero x h e = omega (arith, ap (λ z. blocks_in (view z)) e)
 blocks_at (a ∷ xs) (suc i) x h e = omega (arith, blocks_at xs i x (omega (arith, h)) e)

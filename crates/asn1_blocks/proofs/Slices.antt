@@ -1,47 +1,11 @@
 -- The octets of a tree of a document, and documents one after another.
-use Rattle.std.proofs.Common.{
-  ◌≡◌,
-  ℕ,
-  ◌+◌,
-  ◌-◌,
-  List,
-  [],
-  ◌++◌,
-  ◌↔◌,
-  length,
-  take,
-  drop,
-  sym,
-  ap,
-  ◌∙◌,
-  subst,
-  arith,
-  length-append,
-  append_assoc,
-  append-nil,
-}
+use Rattle.std.proofs.Common.{◌≡◌, ℕ, ◌+◌, ◌-◌, List, [], ◌++◌, ◌↔◌, length, take, drop, sym, ap, ◌∙◌, subst, arith, length-append, append_assoc, append-nil}
 use Rattle.std.specs.List.{slice_range}
 use Rattle.std.proofs.lemmas.List.{take_at, drop_at}
 use Rattle.asn1_blocks.specs.Tree.{Tree, Trees, leaf, group, explicit, unknown, no_trees, more_trees}
 use Rattle.asn1_blocks.specs.View.{tree_offset}
 use Rattle.asn1_blocks.specs.Grammar.{Encodes, EncodesAll, IsDocument}
-use Rattle.asn1_blocks.specs.Places.{
-  with_offsets,
-  all_with_offsets,
-  rebased,
-  all_later,
-  joined,
-  end_before,
-  StandsIn,
-  itself,
-  in_group,
-  in_explicit,
-  StandsAmong,
-  in_first,
-  in_later,
-  HasOctets,
-  EncodingAt,
-}
+use Rattle.asn1_blocks.specs.Places.{with_offsets, all_with_offsets, rebased, all_later, joined, end_before, StandsIn, itself, in_group, in_explicit, StandsAmong, in_first, in_later, HasOctets, EncodingAt}
 use Rattle.asn1_headers.proofs.Prefixes.{encoding_alone}
 use Rattle.asn1_blocks.proofs.OneReading.{block_some, encodes_block, only}
 use Rattle.asn1_blocks.proofs.Faults.{block_encoding}
@@ -85,7 +49,8 @@ mutual
     rest = s.rest;
     whole = s.whole;
     item = encodes_at f o q s.first b h s.item;
-    items = encodes_all_at f (o + length s.first) (q + length s.first) s.rest bs (further f o q (length s.first) h) s.items;
+    items = encodes_all_at f (o + length s.first) (q + length s.first) s.rest bs (further f o q (length s.first) h)
+        s.items;
   }
 
 -- b stands in the octets i, and ends at j
@@ -118,20 +83,38 @@ mutual
   pub found_in :
       (a : Tree ℕ) (e : ℕ) (b : Tree ℕ) (j : ℕ) (i u x v : List ℕ) → i ≡ u ++ (x ++ v) →
       e ≡ length u + length x → Encodes (length u) x a → StandsIn a e b j → IsFoundIn i b j
-  found_in a e b j i u x v w n s itself = record { before = u; octets = x; behind = v; whole = w; ends = n; encoded = s }
+  found_in a e b j i u x v w n s itself =
+      record { before = u; octets = x; behind = v; whole = w; ends = n; encoded = s }
   found_in a e b j i u x v w n s (in_group {bs = bs} t) =
       let f = s.4 in
       let h : length u + s.3 ≡ length (u ++ (f.identifier ++ f.len)) = omega
       (arith, f.size, length-append u (f.identifier ++ f.len), length-append f.identifier f.len) in
-      found_among bs e b j i (u ++ (f.identifier ++ f.len)) s.2 v (open_contents i u x v w f.identifier f.len s.2 f.whole)
-      (omega (arith, n, h, f.size, ap length f.whole, length-append f.identifier (f.len ++ s.2), length-append f.len s.2))
+      found_among bs e b j i (u ++ (f.identifier ++ f.len)) s.2 v
+      (open_contents i u x v w f.identifier f.len s.2 f.whole)
+      (omega (
+        arith,
+        n,
+        h,
+        f.size,
+        ap length f.whole,
+        length-append f.identifier (f.len ++ s.2),
+        length-append f.len s.2,
+      ))
       (subst (λ z. EncodesAll z s.2 bs) h s.5) t
   found_in a e b j i u x v w n s (in_explicit {a = y} t) =
       let f = s.4 in
       let h : length u + s.3 ≡ length (u ++ (f.identifier ++ f.len)) = omega
       (arith, f.size, length-append u (f.identifier ++ f.len), length-append f.identifier f.len) in
       found_in y e b j i (u ++ (f.identifier ++ f.len)) s.2 v (open_contents i u x v w f.identifier f.len s.2 f.whole)
-      (omega (arith, n, h, f.size, ap length f.whole, length-append f.identifier (f.len ++ s.2), length-append f.len s.2))
+      (omega (
+        arith,
+        n,
+        h,
+        f.size,
+        ap length f.whole,
+        length-append f.identifier (f.len ++ s.2),
+        length-append f.len s.2,
+      ))
       (subst (λ z. Encodes z s.2 y) h s.5) t
 
   pub found_among :
@@ -139,7 +122,8 @@ mutual
       e ≡ length u + length x → EncodesAll (length u) x bs → StandsAmong bs e b j → IsFoundIn i b j
   found_among bs e b j i u x v w n s (in_first {a = a} {bs = cs} t) =
       found_in a (end_before cs e) b j i u s.first (s.rest ++ v) (open_first i u x v w s.first s.rest s.whole)
-      (end_is (length u + length s.first) e s.rest cs s.items (omega (arith, n, ap length s.whole, length-append s.first s.rest))) s.item t
+      (end_is (length u + length s.first) e s.rest cs s.items
+      (omega (arith, n, ap length s.whole, length-append s.first s.rest))) s.item t
   found_among bs e b j i u x v w n s (in_later {bs = cs} t) =
       let h : length u + length s.first ≡ length (u ++ s.first) = omega (arith, length-append u s.first) in
       found_among cs e b j i (u ++ s.first) s.rest v (open_rest i u x v w s.first s.rest s.whole)
@@ -147,13 +131,15 @@ mutual
       (subst (λ z. EncodesAll z s.rest cs) h s.items) t
 
 -- the slice where octets stand
-pub slice_here : (i u x v : List ℕ) (o j : ℕ) → i ≡ u ++ (x ++ v) → o ≡ length u → j ≡ length u + length x → slice_range i o j ≡ x
+pub slice_here : (i u x v : List ℕ) (o j : ℕ) → i ≡ u ++ (x ++ v) → o ≡ length u → j ≡ length u + length x →
+    slice_range i o j ≡ x
 slice_here i u x v o j w p q =
     let e : j - o ≡ length x = omega (arith, p, q) in
     ap (λ z. take (j - o) (drop o z)) w ∙ ap (take (j - o)) (drop_at u (x ++ v) o (sym p)) ∙ take_at x v (j - o) (sym e)
 
 -- octets that encode a tree are a document of it
-pub encodes_document : (o : ℕ) (x : List ℕ) (b : Tree ℕ) → Encodes o x b → IsDocument x (more_trees (rebased b) no_trees)
+pub encodes_document : (o : ℕ) (x : List ℕ) (b : Tree ℕ) → Encodes o x b →
+    IsDocument x (more_trees (rebased b) no_trees)
 encodes_document o x b s =
     let p = encodes_offset o x b s in
     record {
@@ -176,7 +162,8 @@ pub found_octets :
 found_octets i bs b octets d h =
     let f = found_among bs (length i) b h.end i [] i [] (sym (append-nil i)) (omega arith) d.blocks h.place in
     let o = encodes_offset (length f.before) f.octets b f.encoded in
-    let e : octets ≡ f.octets = h.octets_are ∙ slice_here i f.before f.octets f.behind (tree_offset b) h.end f.whole o f.ends in
+    let e : octets ≡ f.octets =
+    h.octets_are ∙ slice_here i f.before f.octets f.behind (tree_offset b) h.end f.whole o f.ends in
     record {
       before = f.before;
       behind = f.behind;
@@ -186,7 +173,8 @@ found_octets i bs b octets d h =
     }
 
 -- they are an encoding at its offset
-pub octets_encoding : (i : List ℕ) (bs : Trees ℕ) (b : Tree ℕ) (octets : List ℕ) → IsDocument i bs → HasOctets i bs b octets
+pub octets_encoding : (i : List ℕ) (bs : Trees ℕ) (b : Tree ℕ) (octets : List ℕ) → IsDocument i bs →
+    HasOctets i bs b octets
     → EncodingAt i (tree_offset b) octets
 octets_encoding i bs b octets d h =
     let f = found_octets i bs b octets d h in
@@ -199,7 +187,8 @@ octets_encoding i bs b octets d h =
 -- one encoding stands at an offset
 pub encoding_at_alone : (i : List ℕ) (o : ℕ) (x y : List ℕ) → EncodingAt i o x → EncodingAt i o y → x ≡ y
 encoding_at_alone i o x y p q =
-    (encoding_alone _ _ _ _ _ _ _ _ _ _ _ _ p.rest q.rest p.encoding.encoding q.encoding.encoding (sym p.at_offset ∙ q.at_offset)).octets
+    (encoding_alone _ _ _ _ _ _ _ _ _ _ _ _ p.rest q.rest p.encoding.encoding q.encoding.encoding
+    (sym p.at_offset ∙ q.at_offset)).octets
 
 -- so it is that of the tree
 pub encoding_at_octets :
@@ -216,7 +205,8 @@ encodes_joined o x y no_trees ys s t =
     let e : o + length x ≡ o = omega (arith, ap length s) in
     subst (λ z. EncodesAll o z ys) (sym (ap (λ z. z ++ y) s)) (subst (λ z. EncodesAll z y ys) e t)
 encodes_joined o x y (more_trees b xs) ys s t =
-    let e : o + length x ≡ (o + length s.first) + length s.rest = omega (arith, ap length s.whole, length-append s.first s.rest) in
+    let e : o + length x ≡ (o + length s.first) + length s.rest =
+    omega (arith, ap length s.whole, length-append s.first s.rest) in
     record {
       first = s.first;
       rest = s.rest ++ y;
@@ -230,5 +220,6 @@ pub documents_joined : (i k : List ℕ) (xs ys : Trees ℕ) → IsDocument i xs 
     → IsDocument (i ++ k) (joined xs (all_later (length i) ys))
 documents_joined i k xs ys d e = record {
   some = omega (arith, d.some, length-append i k);
-  blocks = encodes_joined 0 i k xs (all_later (length i) ys) d.blocks (encodes_all_at (λ z. z + length i) 0 (0 + length i) k ys (λ n. omega arith) e.blocks);
+  blocks = encodes_joined 0 i k xs (all_later (length i) ys) d.blocks
+      (encodes_all_at (λ z. z + length i) 0 (0 + length i) k ys (λ n. omega arith) e.blocks);
 }

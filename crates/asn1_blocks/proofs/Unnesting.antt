@@ -1,11 +1,12 @@
 -- How many blocks are left where a block is taken apart.
-use Rattle.std.proofs.Common.{◌≡◌, ◌+◌, ◌<◌, ℕ, List, [], ◌∷◌, ◌++◌, length, get_or, set, arith}
+use Rattle.std.proofs.Common.{◌≡◌, ◌+◌, ◌<◌, ℕ, List, [], ◌∷◌, ◌++◌, arith}
 use Rattle.asn1_blocks.specs.declared.block.ASN1Block.{ASN1Block}
 use Rattle.asn1_blocks.specs.Tree.{Tree, leaf, group, explicit, unknown}
 use Rattle.asn1_blocks.specs.HeadersBegun.{blocks_in, all_blocks_in}
 use Rattle.asn1_blocks.specs.View.{view, views}
 
-pub blocks_push : (bs : List ASN1Block) (b : ASN1Block) → all_blocks_in (views (bs ++ b ∷ [])) ≡ all_blocks_in (views bs) + blocks_in (view b)
+pub blocks_push : (bs : List ASN1Block) (b : ASN1Block) →
+    all_blocks_in (views (bs ++ b ∷ [])) ≡ all_blocks_in (views bs) + blocks_in (view b)
 blocks_push [] b = omega arith
 blocks_push (a ∷ bs) b = omega (arith, blocks_push bs b)
 
@@ -14,9 +15,3 @@ some_block (leaf o l) = omega arith
 some_block (group o g bs) = omega arith
 some_block (explicit c o n b) = omega arith
 some_block (unknown c k o n v) = omega arith
-
--- another block in the place of the first
-pub blocks_set : (bs : List ASN1Block) (b c : ASN1Block) → 0 < length bs
-    → all_blocks_in (views (set bs 0 c)) + blocks_in (view (get_or bs 0 b)) ≡ all_blocks_in (views bs) + blocks_in (view c)
-blocks_set [] b c h = absurd (omega (arith, h))
-blocks_set (a ∷ bs) b c h = omega arith

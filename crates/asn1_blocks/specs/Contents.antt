@@ -9,42 +9,12 @@ use Rattle.asn1_blocks.specs.Tree.{Leaf, boolean, integer, bit_string, octet_str
 use Rattle.asn1_headers.specs.Fault.{DecodeFault}
 use Rattle.asn1_leaves.specs.Contents.Boolean.{BooleanContents, BooleanFault, boolean_contents}
 use Rattle.asn1_leaves.specs.Contents.Integer.{IntegerContents, integer_contents}
-use Rattle.asn1_leaves.specs.Contents.BitString.{
-  BitStringContents,
-  BitStringFault,
-  IsFaithfulBitString,
-  bit_string_contents,
-  bit_string_write_fault,
-  written_bits,
-}
-use Rattle.asn1_leaves.specs.Contents.GeneralizedTime.{
-  GeneralizedTimeContents,
-  GeneralizedTimeFault,
-  IsFaithfulGeneralizedTime,
-  generalized_time_contents,
-}
+use Rattle.asn1_leaves.specs.Contents.BitString.{BitStringContents, BitStringFault, IsFaithfulBitString, bit_string_contents, bit_string_write_fault, written_bits}
+use Rattle.asn1_leaves.specs.Contents.GeneralizedTime.{GeneralizedTimeContents, GeneralizedTimeFault, IsFaithfulGeneralizedTime, generalized_time_contents}
 use Rattle.asn1_leaves.specs.Contents.Moment.{moment_write_fault}
-use Rattle.asn1_leaves.specs.Contents.ObjectIdentifier.{
-  IsFaithfulObjectIdentifier,
-  ObjectIdentifierContents,
-  ObjectIdentifierFault,
-  object_identifier_contents,
-  object_identifier_write_fault,
-}
-use Rattle.asn1_leaves.specs.Contents.UtcTime.{
-  IsFaithfulUtcTime,
-  UtcTimeContents,
-  UtcTimeFault,
-  utc_time_contents,
-}
-use Rattle.asn1_leaves.specs.Contents.Text.{
-  text_form,
-  HasCharacters,
-  TextContents,
-  TextFault,
-  text_contents,
-  text_write_fault,
-}
+use Rattle.asn1_leaves.specs.Contents.ObjectIdentifier.{IsFaithfulObjectIdentifier, ObjectIdentifierContents, ObjectIdentifierFault, object_identifier_contents, object_identifier_write_fault}
+use Rattle.asn1_leaves.specs.Contents.UtcTime.{IsFaithfulUtcTime, UtcTimeContents, UtcTimeFault, utc_time_contents}
+use Rattle.asn1_leaves.specs.Contents.Text.{text_form, HasCharacters, TextContents, TextFault, text_contents, text_write_fault}
 
 -- the tag number of a string of characters (X.680 table 8)
 abbrev pub string_tag : StringKind → ℕ

@@ -3,18 +3,7 @@ use Rattle.std.specs.Prelude.{◌≢◌}
 use Rattle.asn1_headers.specs.declared.header.ASN1Class.TheVariants.{Universal}
 use Rattle.asn1_blocks.specs.Contents.{IsFaithfulLeaf, normalized_leaf}
 use Rattle.asn1_blocks.specs.Grammar.{StaysAsItCame}
-use Rattle.asn1_blocks.specs.Tree.{
-  Tree,
-  Trees,
-  leaf,
-  group,
-  explicit,
-  unknown,
-  no_trees,
-  more_trees,
-  mapped,
-  all_mapped,
-}
+use Rattle.asn1_blocks.specs.Tree.{Tree, Trees, leaf, group, explicit, unknown, no_trees, more_trees, mapped, all_mapped}
 
 -- the tree whose bit strings of no bits have no octets
 abbrev pub normalized : {O : Type 0} → Tree O → Tree O

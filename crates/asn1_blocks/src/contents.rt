@@ -1,6 +1,6 @@
 // What differs from kind to kind of block: which module reads and pushes the contents octets of a tag, one for each
 // kind that has a rule; and how a block is copied and compared beside the blocks that it holds.
-ghost use Rattle.std.specs.Prelude.{◌≡◌, ◌↔◌, ◌⊎◌, ◌≤◌, ℕ, List, length, false, None, Some, IfOk, IfErr, IfSome, IsTrue, MatchOption, OnOk};
+ghost use Rattle.std.specs.Prelude.{◌≡◌, ◌↔◌, ◌⊎◌, ◌≤◌, ℕ, List, length, false, None, Some, IfOk, IfErr, IsTrue, MatchOption, OnOk};
 ghost use Rattle.std.specs.Str.{chars};
 ghost use Rattle.asn1_headers.specs.declared.header.ASN1Class.TheVariants.{Universal};
 ghost use Rattle.asn1_blocks.specs.Contents.{LeafFault, is_known_tag, is_leaf_tag, string_tag};

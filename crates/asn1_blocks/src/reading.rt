@@ -1,5 +1,5 @@
 // Reading, whatever is built of the blocks: one loop over the frames that are open, so that no function calls itself.
-ghost use Rattle.std.specs.Prelude.{◌≡◌, ◌≢◌, ◌↔◌, ℕ, ◌+◌, ◌-◌, ◌<◌, ◌≤◌, ◌^◌, ◌⊎◌, ◌++◌, ◌∷◌, [], List, length, reverse, IfOk, IfErr, IsTrue, MatchResult, OnOk};
+ghost use Rattle.std.specs.Prelude.{◌≡◌, ◌≢◌, ◌↔◌, ℕ, ◌+◌, ◌-◌, ◌<◌, ◌≤◌, ◌^◌, ◌⊎◌, ◌∷◌, List, length, reverse, IfOk, IfErr, IsTrue, MatchResult, OnOk};
 ghost use Rattle.asn1_headers.specs.declared.error.ASN1DecodeErr.TheVariants.{OutOfMemory};
 ghost use Rattle.asn1_headers.specs.Fault.{OutOfMemoryOr, fault_of};
 ghost use Rattle.asn1_blocks.specs.Grammar.{FirstFaultAt};

@@ -35,7 +35,8 @@ length_found_alone len n f g p q = by_form (is_indefinite len) p q
     by_form false p q = found_alone (len ≡ shortest_length n) LongLength f g p q
 
 type_found_alone :
-    (b : Bool) (c : ASN1Class) (k : Bool) (n : ℕ) (v : List ℕ) (f g : Option Rule) → TypeFound b c k n v f → TypeFound b c k n v g → f ≡ g
+    (b : Bool) (c : ASN1Class) (k : Bool) (n : ℕ) (v : List ℕ) (f g : Option Rule) → TypeFound b c k n v f →
+    TypeFound b c k n v g → f ≡ g
 type_found_alone true Universal k n v f g p q = p ∙ sym q
 type_found_alone false Universal k n v f g p q = found_alone (IsRightAlone Universal k n v) (type_rule k n v) f g p q
 type_found_alone b Application k n v f g p q = p ∙ sym q
@@ -48,15 +49,19 @@ own_alone :
     own_departures o r ≡ own_departures o s
 own_alone o id len c k n v r s =
     let i : r.of_identifier ≡ s.of_identifier =
-    found_alone (id ≡ shortest_identifier c k n) (identifier_rule n) r.of_identifier s.of_identifier r.identifier_found s.identifier_found in
-    let l : r.of_length ≡ s.of_length = length_found_alone len (length v) r.of_length s.of_length r.length_found s.length_found in
-    let t : r.of_type ≡ s.of_type = type_found_alone (is_indefinite len) c k n v r.of_type s.of_type r.type_found s.type_found in
+    found_alone (id ≡ shortest_identifier c k n) (identifier_rule n) r.of_identifier s.of_identifier r.identifier_found
+    s.identifier_found in
+    let l : r.of_length ≡ s.of_length =
+    length_found_alone len (length v) r.of_length s.of_length r.length_found s.length_found in
+    let t : r.of_type ≡ s.of_type =
+    type_found_alone (is_indefinite len) c k n v r.of_type s.of_type r.type_found s.type_found in
     ap (λ z. listed o z ++ (listed o r.of_length ++ listed o r.of_type)) i
     ∙ (ap (λ z. listed o s.of_identifier ++ (listed o z ++ listed o r.of_type)) l
     ∙ ap (λ z. listed o s.of_identifier ++ (listed o s.of_length ++ listed o z)) t)
 
 -- what is listed of an encoding in front, and of what is behind it
-record ListsFrom (u o : ℕ) (id len : List ℕ) (c : ASN1Class) (k : Bool) (n : ℕ) (v : List ℕ) (h size : ℕ) (rest : List ℕ) (found : List Departure)
+record ListsFrom (u o : ℕ) (id len : List ℕ) (c : ASN1Class) (k : Bool) (n : ℕ) (v : List ℕ) (h size : ℕ)
+    (rest : List ℕ) (found : List Departure)
     : Type 0 where
   own : OwnRules id len c k n v
   inside : List Departure
@@ -67,16 +72,19 @@ record ListsFrom (u o : ℕ) (id len : List ℕ) (c : ASN1Class) (k : Bool) (n :
 
 -- encodings at the front of one list have the same identifier octets
 same_identifier :
-    (xs ys : List ℕ) (c d : ASN1Class) (j k : Bool) (m n : ℕ) (v w : List ℕ) (g h : ℕ) (F : Encoding xs c j m v g) (G : Encoding ys d k n w h) →
+    (xs ys : List ℕ) (c d : ASN1Class) (j k : Bool) (m n : ℕ) (v w : List ℕ) (g h : ℕ) (F : Encoding xs c j m v g)
+    (G : Encoding ys d k n w h) →
     xs ≡ ys → F.identifier ≡ G.identifier
 same_identifier xs ys c d j k m n v w g h F G e =
-    (identifier_alone F.identifier G.identifier (F.len ++ v) (G.len ++ w) c d j k m n F.identifier_octets G.identifier_octets
+    (identifier_alone F.identifier G.identifier (F.len ++ v) (G.len ++ w) c d j k m n F.identifier_octets
+    G.identifier_octets
     (sym F.whole ∙ (e ∙ G.whole))).octets
 
 module _ (u o : ℕ) (found : List Departure) where
   -- with the fields of another header that are the same
   retold :
-      (id id' len len' : List ℕ) (c c' : ASN1Class) (k k' : Bool) (n n' : ℕ) (v v' : List ℕ) (h h' size size' : ℕ) (rest rest' : List ℕ) →
+      (id id' len len' : List ℕ) (c c' : ASN1Class) (k k' : Bool) (n n' : ℕ) (v v' : List ℕ) (h h' size size' : ℕ)
+      (rest rest' : List ℕ) →
       id ≡ id' → len ≡ len' → c ≡ c' → k ≡ k' → n ≡ n' → v ≡ v' → h ≡ h' → size ≡ size' → rest ≡ rest' →
       ListsFrom u o id' len' c' k' n' v' h' size' rest' found → ListsFrom u o id len c k n v h size rest found
   retold id id' len len' c c' k k' n n' v v' h h' size size' rest rest' ei el ec ek en ev eh es er l =
@@ -93,7 +101,8 @@ module _ (u o : ℕ) (found : List Departure) where
   -- where an encoding stands in front, it is what is listed first
   listed_next :
       (x first rest : List ℕ) (m : IsNext u x first rest) → Lists u o x found →
-      ListsFrom u o m.encoding.identifier m.encoding.len m.class m.constructed m.tag m.contents m.header (length first) rest found
+      ListsFrom u o m.encoding.identifier m.encoding.len m.class m.constructed m.tag m.contents m.header (length first)
+      rest found
   listed_next x first rest m (none_left z e f) =
       absurd (omega (
         arith,
@@ -104,24 +113,31 @@ module _ (u o : ℕ) (found : List Departure) where
       ))
   listed_next x first rest m (encoding_listed {first = f} {rest = q} {inside = inside} {later = later} n r i ls all) =
       let e : first ++ rest ≡ f ++ q = sym m.whole ∙ n.whole in
-      let same = encoding_alone first f m.class n.class m.constructed n.constructed m.tag n.tag m.contents n.contents m.header n.header rest q
+      let same = encoding_alone first f m.class n.class m.constructed n.constructed m.tag n.tag m.contents n.contents
+      m.header n.header rest q
       m.encoding n.encoding e in
-      let id = same_identifier first f m.class n.class m.constructed n.constructed m.tag n.tag m.contents n.contents m.header n.header
+      let id = same_identifier first f m.class n.class m.constructed n.constructed m.tag n.tag m.contents n.contents
+      m.header n.header
       m.encoding n.encoding same.octets in
-      let len = same_length first f m.class n.class m.constructed n.constructed m.tag n.tag m.contents n.contents m.header n.header rest q
+      let len = same_length first f m.class n.class m.constructed n.constructed m.tag n.tag m.contents n.contents
+      m.header n.header rest q
       m.encoding n.encoding e in
-      retold m.encoding.identifier n.encoding.identifier m.encoding.len n.encoding.len m.class n.class m.constructed n.constructed m.tag n.tag
+      retold m.encoding.identifier n.encoding.identifier m.encoding.len n.encoding.len m.class n.class m.constructed
+      n.constructed m.tag n.tag
       m.contents n.contents m.header n.header (length first) (length f) rest q
       id len same.class same.constructed same.tag same.contents same.header (ap length same.octets) same.rest
       (record { own = r; inside = inside; later = later; inside_is = i; later_is = ls; all = all })
   listed_next x first rest m (end_listed more e ls) =
-      absurd (m.no_end (omega (arith, more)) (is_end x first rest _ m.class m.constructed m.tag m.contents m.header m.encoding m.whole e))
+      absurd (m.no_end (omega (arith, more))
+      (is_end x first rest _ m.class m.constructed m.tag m.contents m.header m.encoding m.whole e))
 
   -- where end-of-contents octets do, what is listed is behind them
-  listed_end : (x rest : List ℕ) (fewer : ℕ) → u ≡ fewer + 1 → x ≡ 0 ∷ 0 ∷ rest → Lists u o x found → Lists fewer (o + 2) rest found
+  listed_end : (x rest : List ℕ) (fewer : ℕ) → u ≡ fewer + 1 → x ≡ 0 ∷ 0 ∷ rest → Lists u o x found →
+      Lists fewer (o + 2) rest found
   listed_end x rest fewer more e (none_left z e' f) = absurd (omega (arith, more, z))
   listed_end x rest fewer more e (encoding_listed {first = f} {rest = q} n r i ls all) =
-      absurd (n.no_end (omega (arith, more)) (is_end x f q rest n.class n.constructed n.tag n.contents n.header n.encoding n.whole e))
+      absurd (n.no_end (omega (arith, more))
+      (is_end x f q rest n.class n.constructed n.tag n.contents n.header n.encoding n.whole e))
   listed_end x rest fewer more e (end_listed {fewer = g} {rest = q} more' e' ls) =
       let same : q ≡ rest = cc in
       let count : g ≡ fewer = omega (arith, more, more') in
@@ -152,11 +168,13 @@ mutual
   -- octets have one list
   pub lists_alone : (u o : ℕ) (x : List ℕ) (xs ys : List Departure) → Lists u o x xs → Lists u o x ys → xs ≡ ys
   lists_alone u o x xs ys (none_left z e f) l = f ∙ sym (listed_none u o ys x z e l)
-  lists_alone u o x xs ys (encoding_listed {first = first} {rest = rest} {inside = inside} {later = later} n r i ls all) l =
+  lists_alone u o x xs ys (encoding_listed {first = first} {rest = rest} {inside = inside} {later = later} n r i ls all)
+      l =
       let m = listed_next u o ys x first rest n l in
       let own = own_alone o n.encoding.identifier n.encoding.len n.class n.constructed n.tag n.contents r m.own in
       let within : inside ≡ m.inside =
-      inside_alone o (o + n.header) (is_looked_into n.constructed n.encoding.len) n.contents inside m.inside i m.inside_is in
+      inside_alone o (o + n.header) (is_looked_into n.constructed n.encoding.len) n.contents inside m.inside i
+      m.inside_is in
       let behind : later ≡ m.later =
       lists_alone (unended_behind u n.constructed n.encoding.len) (o + length first) rest later m.later ls m.later_is in
       all ∙ (ap (λ z. z ++ (inside ++ later)) own
@@ -166,7 +184,8 @@ mutual
       lists_alone fewer (o + 2) rest xs ys ls (listed_end u o ys x rest fewer more e l)
 
   inside_alone :
-      (o s : ℕ) (b : Bool) (v : List ℕ) (xs ys : List Departure) → ListsInside o s b v xs → ListsInside o s b v ys → xs ≡ ys
+      (o s : ℕ) (b : Bool) (v : List ℕ) (xs ys : List Departure) → ListsInside o s b v xs → ListsInside o s b v ys →
+      xs ≡ ys
   inside_alone o s b v xs ys (nothing_inside f e) (nothing_inside f' e') = e ∙ sym e'
   inside_alone o s b v xs ys (nothing_inside f e) (encodings_inside t ls) = absurd cc
   inside_alone o s b v xs ys (nothing_inside f e) (no_encodings_inside t never e') = absurd cc
@@ -181,7 +200,8 @@ mutual
 
 -- no header in front of encodings is at fault
 front_no_fault :
-    (u o : ℕ) (x : List ℕ) (e : DecodeFault) → o + length x < 2 ^ 64 → 0 < length x → HeaderFault o x e → AreEncodings u x → ⊥
+    (u o : ℕ) (x : List ℕ) (e : DecodeFault) → o + length x < 2 ^ 64 → 0 < length x → HeaderFault o x e →
+    AreEncodings u x → ⊥
 front_no_fault u o x e small some f (no_more z none) = omega (arith, some, ap length none)
 front_no_fault u o x e small some f (next {first = first} {rest = rest} n a) =
     header_no_encoding o x first rest e n.class n.constructed n.tag n.contents n.header f small n.whole n.encoding
@@ -190,35 +210,43 @@ front_no_fault u o x e small some f (end_of_contents {rest = rest} more w a) =
 
 -- and none behind the first of them
 encodings_no_fault :
-    (u o place : ℕ) (x : List ℕ) (e : DecodeFault) → o + length x < 2 ^ 64 → AreEncodings u x → HeaderFaultBehind u o x place e → ⊥
+    (u o place : ℕ) (x : List ℕ) (e : DecodeFault) → o + length x < 2 ^ 64 → AreEncodings u x →
+    HeaderFaultBehind u o x place e → ⊥
 encodings_no_fault u o place x e small a (at_front some f) = front_no_fault u o x e small some f a
 encodings_no_fault u o place x e small a (unended_at_end some none) = omega (arith, some, at_end u x none a)
 encodings_no_fault u o place x e small a (behind {first = first} {rest = rest} n f) =
     encodings_no_fault (unended_behind u n.constructed n.encoding.len) (o + length first) place rest e
     (omega (arith, small, ap length n.whole, length-append first rest)) (behind_next u x first rest n a) f
 encodings_no_fault u o place x e small a (behind_end_of_contents {fewer = fewer} {rest = rest} more w f) =
-    encodings_no_fault fewer (o + 2) place rest e (omega (arith, small, ap length w)) (behind_end u fewer x rest more w a) f
+    encodings_no_fault fewer (o + 2) place rest e (omega (arith, small, ap length w))
+    (behind_end u fewer x rest more w a) f
 
 -- so encodings one after another have no fault
-pub no_fault : (x : List ℕ) (place : ℕ) (e : DecodeFault) → length x < 2 ^ 64 → 0 < length x → AreEncodings 0 x → NoEncodingsFault x place e → ⊥
+pub no_fault : (x : List ℕ) (place : ℕ) (e : DecodeFault) → length x < 2 ^ 64 → 0 < length x → AreEncodings 0 x →
+    NoEncodingsFault x place e → ⊥
 no_fault x place e small some a (inl f) = omega (arith, some, ap length f.0)
 no_fault x place e small some a (inr f) = encodings_no_fault 0 0 place x e (omega (arith, small)) a f
 
-pub der_no_fault : (x : List ℕ) (place : ℕ) (e : DecodeFault) → length x < 2 ^ 64 → IsDer x → NoEncodingsFault x place e → ⊥
+pub der_no_fault : (x : List ℕ) (place : ℕ) (e : DecodeFault) → length x < 2 ^ 64 → IsDer x →
+    NoEncodingsFault x place e → ⊥
 der_no_fault x place e small d f = no_fault x place e small d.some (der_encodings x d.items small d.encodings) f
 
 -- what is behind the encoding in front
 same_behind :
-    (u o q : ℕ) (x first rest : List ℕ) (e : DecodeFault) (n : IsNext u x first rest) (f r : List ℕ) (m : IsNext u x f r) →
+    (u o q : ℕ) (x first rest : List ℕ) (e : DecodeFault) (n : IsNext u x first rest) (f r : List ℕ)
+    (m : IsNext u x f r) →
     HeaderFaultBehind (unended_behind u m.constructed m.encoding.len) (o + length f) r q e →
     HeaderFaultBehind (unended_behind u n.constructed n.encoding.len) (o + length first) rest q e
 same_behind u o q x first rest e n f r m h =
     let w : first ++ rest ≡ f ++ r = sym n.whole ∙ m.whole in
-    let same = encoding_alone first f n.class m.class n.constructed m.constructed n.tag m.tag n.contents m.contents n.header m.header rest r
+    let same = encoding_alone first f n.class m.class n.constructed m.constructed n.tag m.tag n.contents m.contents
+    n.header m.header rest r
     n.encoding m.encoding w in
-    let len = same_length first f n.class m.class n.constructed m.constructed n.tag m.tag n.contents m.contents n.header m.header rest r
+    let len = same_length first f n.class m.class n.constructed m.constructed n.tag m.tag n.contents m.contents n.header
+    m.header rest r
     n.encoding m.encoding w in
-    subst (λ z. HeaderFaultBehind (unended_behind u n.constructed n.encoding.len) (o + length z) rest q e) (sym same.octets)
+    subst (λ z. HeaderFaultBehind (unended_behind u n.constructed n.encoding.len) (o + length z) rest q e)
+    (sym same.octets)
     (subst (λ z. HeaderFaultBehind (unended_behind u n.constructed n.encoding.len) (o + length f) z q e) (sym same.rest)
     (subst (λ z. HeaderFaultBehind (unended_behind u n.constructed z) (o + length f) r q e) (sym len)
     (subst (λ z. HeaderFaultBehind (unended_behind u z m.encoding.len) (o + length f) r q e) (sym same.constructed) h)))
@@ -234,31 +262,41 @@ no_octets u x first rest n none =
       length-append first rest,
     )
 
-front_no_next : (u o : ℕ) (x first rest : List ℕ) (e : DecodeFault) → o + length x < 2 ^ 64 → HeaderFault o x e → IsNext u x first rest → ⊥
+front_no_next : (u o : ℕ) (x first rest : List ℕ) (e : DecodeFault) → o + length x < 2 ^ 64 → HeaderFault o x e →
+    IsNext u x first rest → ⊥
 front_no_next u o x first rest e small f n =
     header_no_encoding o x first rest e n.class n.constructed n.tag n.contents n.header f small n.whole n.encoding
 
-front_no_end : (o : ℕ) (x rest : List ℕ) (e : DecodeFault) → o + length x < 2 ^ 64 → HeaderFault o x e → x ≡ 0 ∷ 0 ∷ rest → ⊥
-front_no_end o x rest e small f w = header_no_encoding o x (0 ∷ 0 ∷ []) rest e Universal false 0 [] 2 f small w end_encoding
+front_no_end : (o : ℕ) (x rest : List ℕ) (e : DecodeFault) → o + length x < 2 ^ 64 → HeaderFault o x e →
+    x ≡ 0 ∷ 0 ∷ rest → ⊥
+front_no_end o x rest e small f w =
+    header_no_encoding o x (0 ∷ 0 ∷ []) rest e Universal false 0 [] 2 f small w end_encoding
 
-next_no_end : (u fewer : ℕ) (x first rest later : List ℕ) → IsNext u x first rest → u ≡ fewer + 1 → x ≡ 0 ∷ 0 ∷ later → ⊥
+next_no_end : (u fewer : ℕ) (x first rest later : List ℕ) → IsNext u x first rest → u ≡ fewer + 1 → x ≡ 0 ∷ 0 ∷ later →
+    ⊥
 next_no_end u fewer x first rest later n more w =
-    n.no_end (omega (arith, more)) (is_end x first rest later n.class n.constructed n.tag n.contents n.header n.encoding n.whole w)
+    n.no_end (omega (arith, more))
+    (is_end x first rest later n.class n.constructed n.tag n.contents n.header n.encoding n.whole w)
 
 -- there is one fault, at one place
 fault_alone :
-    (u o p q : ℕ) (x : List ℕ) (e d : DecodeFault) → o + length x < 2 ^ 64 → HeaderFaultBehind u o x p e → HeaderFaultBehind u o x q d →
+    (u o p q : ℕ) (x : List ℕ) (e d : DecodeFault) → o + length x < 2 ^ 64 → HeaderFaultBehind u o x p e →
+    HeaderFaultBehind u o x q d →
     (p ≡ q) × (e ≡ d)
 fault_alone u o p q x e d small (at_front some f) (at_front more g) = (refl, header_fault_alone o x e d f g)
-fault_alone u o p q x e d small (at_front some f) (unended_at_end more none) = absurd (omega (arith, some, ap length none))
+fault_alone u o p q x e d small (at_front some f) (unended_at_end more none) =
+    absurd (omega (arith, some, ap length none))
 fault_alone u o p q x e d small (at_front some f) (behind {first = first} {rest = rest} n g) =
     absurd (front_no_next u o x first rest e small f n)
-fault_alone u o p q x e d small (at_front some f) (behind_end_of_contents {rest = rest} more w g) = absurd (front_no_end o x rest e small f w)
-fault_alone u o p q x e d small (unended_at_end some none) (at_front more g) = absurd (omega (arith, more, ap length none))
+fault_alone u o p q x e d small (at_front some f) (behind_end_of_contents {rest = rest} more w g) =
+    absurd (front_no_end o x rest e small f w)
+fault_alone u o p q x e d small (unended_at_end some none) (at_front more g) =
+    absurd (omega (arith, more, ap length none))
 fault_alone u o p q x e d small (unended_at_end some none) (unended_at_end more none') = (refl, refl)
 fault_alone u o p q x e d small (unended_at_end some none) (behind {first = first} {rest = rest} n g) =
     absurd (no_octets u x first rest n none)
-fault_alone u o p q x e d small (unended_at_end some none) (behind_end_of_contents more w g) = absurd (omega (arith, ap length w, ap length none))
+fault_alone u o p q x e d small (unended_at_end some none) (behind_end_of_contents more w g) =
+    absurd (omega (arith, ap length w, ap length none))
 fault_alone u o p q x e d small (behind {first = first} {rest = rest} n f) (at_front more g) =
     absurd (front_no_next u o x first rest d small g n)
 fault_alone u o p q x e d small (behind {first = first} {rest = rest} n f) (unended_at_end some none) =
@@ -266,13 +304,18 @@ fault_alone u o p q x e d small (behind {first = first} {rest = rest} n f) (unen
 fault_alone u o p q x e d small (behind {first = first} {rest = rest} n f) (behind {first = y} {rest = r} m g) =
     fault_alone (unended_behind u n.constructed n.encoding.len) (o + length first) p q rest e d
     (omega (arith, small, ap length n.whole, length-append first rest)) f (same_behind u o q x first rest d n y r m g)
-fault_alone u o p q x e d small (behind {first = first} {rest = rest} n f) (behind_end_of_contents {fewer = fewer} {rest = r} more w g) =
+fault_alone u o p q x e d small (behind {first = first} {rest = rest} n f)
+    (behind_end_of_contents {fewer = fewer} {rest = r} more w g) =
     absurd (next_no_end u fewer x first rest r n more w)
-fault_alone u o p q x e d small (behind_end_of_contents {rest = rest} more w f) (at_front some g) = absurd (front_no_end o x rest d small g w)
-fault_alone u o p q x e d small (behind_end_of_contents more w f) (unended_at_end some none) = absurd (omega (arith, ap length w, ap length none))
-fault_alone u o p q x e d small (behind_end_of_contents {fewer = fewer} {rest = rest} more w f) (behind {first = y} {rest = r} m g) =
+fault_alone u o p q x e d small (behind_end_of_contents {rest = rest} more w f) (at_front some g) =
+    absurd (front_no_end o x rest d small g w)
+fault_alone u o p q x e d small (behind_end_of_contents more w f) (unended_at_end some none) =
+    absurd (omega (arith, ap length w, ap length none))
+fault_alone u o p q x e d small (behind_end_of_contents {fewer = fewer} {rest = rest} more w f)
+    (behind {first = y} {rest = r} m g) =
     absurd (next_no_end u fewer x y r rest m more w)
-fault_alone u o p q x e d small (behind_end_of_contents {fewer = a} {rest = rest} more w f) (behind_end_of_contents {fewer = b} {rest = r} more' w' g) =
+fault_alone u o p q x e d small (behind_end_of_contents {fewer = a} {rest = rest} more w f)
+    (behind_end_of_contents {fewer = b} {rest = r} more' w' g) =
     let same : r ≡ rest = cc in
     let count : b ≡ a = omega (arith, more, more') in
     fault_alone a (o + 2) p q rest e d (omega (arith, small, ap length w)) f
@@ -286,7 +329,8 @@ of_none {x = x} none (behind {first = first} {rest = rest} n f) = no_octets 0 x 
 of_none none (behind_end_of_contents more w f) = omega (arith, ap length w, ap length none)
 
 pub one_fault :
-    (x : List ℕ) (p q : ℕ) (e d : DecodeFault) → length x < 2 ^ 64 → NoEncodingsFault x p e → NoEncodingsFault x q d → (p ≡ q) × (e ≡ d)
+    (x : List ℕ) (p q : ℕ) (e d : DecodeFault) → length x < 2 ^ 64 → NoEncodingsFault x p e → NoEncodingsFault x q d →
+    (p ≡ q) × (e ≡ d)
 one_fault x p q e d small (inl f) (inl g) = (f.1 ∙ sym g.1, f.2 ∙ sym g.2)
 one_fault x p q e d small (inl f) (inr g) = absurd (of_none f.0 g)
 one_fault x p q e d small (inr f) (inl g) = absurd (of_none g.0 f)

@@ -26,10 +26,13 @@ pub same_length :
     (F : Encoding xs c j m v g) (G : Encoding ys d k n w h) → xs ++ r ≡ ys ++ q → F.len ≡ G.len
 same_length xs ys c d j k m n v w g h r q F G e =
     let one : xs ++ r ≡ F.identifier ++ (F.len ++ (v ++ r)) =
-    ap (λ z. z ++ r) F.whole ∙ (append_assoc F.identifier (F.len ++ v) r ∙ ap (λ z. F.identifier ++ z) (append_assoc F.len v r)) in
+    ap (λ z. z ++ r) F.whole
+    ∙ (append_assoc F.identifier (F.len ++ v) r ∙ ap (λ z. F.identifier ++ z) (append_assoc F.len v r)) in
     let two : ys ++ q ≡ G.identifier ++ (G.len ++ (w ++ q)) =
-    ap (λ z. z ++ q) G.whole ∙ (append_assoc G.identifier (G.len ++ w) q ∙ ap (λ z. G.identifier ++ z) (append_assoc G.len w q)) in
-    let i = identifier_alone F.identifier G.identifier (F.len ++ (v ++ r)) (G.len ++ (w ++ q)) c d j k m n F.identifier_octets G.identifier_octets
+    ap (λ z. z ++ q) G.whole
+    ∙ (append_assoc G.identifier (G.len ++ w) q ∙ ap (λ z. G.identifier ++ z) (append_assoc G.len w q)) in
+    let i = identifier_alone F.identifier G.identifier (F.len ++ (v ++ r)) (G.len ++ (w ++ q)) c d j k m n
+    F.identifier_octets G.identifier_octets
     (sym one ∙ (e ∙ two)) in
     (length_alone F.len G.len (v ++ r) (w ++ q) (length v) (length w) F.length_octets G.length_octets i.rest).octets
 
@@ -65,21 +68,25 @@ behind_next u x first rest n (no_more z e) =
     ))
 behind_next u x first rest n (next {first = f} {rest = r} m a) =
     let e : first ++ rest ≡ f ++ r = sym n.whole ∙ m.whole in
-    let same = encoding_alone first f n.class m.class n.constructed m.constructed n.tag m.tag n.contents m.contents n.header m.header rest r
+    let same = encoding_alone first f n.class m.class n.constructed m.constructed n.tag m.tag n.contents m.contents
+    n.header m.header rest r
     n.encoding m.encoding e in
-    let len = same_length first f n.class m.class n.constructed m.constructed n.tag m.tag n.contents m.contents n.header m.header rest r
+    let len = same_length first f n.class m.class n.constructed m.constructed n.tag m.tag n.contents m.contents n.header
+    m.header rest r
     n.encoding m.encoding e in
     subst (λ z. AreEncodings (unended_behind u n.constructed n.encoding.len) z) (sym same.rest)
     (subst (λ z. AreEncodings (unended_behind u n.constructed z) r) (sym len)
     (subst (λ z. AreEncodings (unended_behind u z m.encoding.len) r) (sym same.constructed) a))
 behind_next u x first rest n (end_of_contents {fewer = f} more z a) =
-    absurd (n.no_end (omega (arith, more)) (is_end x first rest _ n.class n.constructed n.tag n.contents n.header n.encoding n.whole z))
+    absurd (n.no_end (omega (arith, more))
+    (is_end x first rest _ n.class n.constructed n.tag n.contents n.header n.encoding n.whole z))
 
 pub behind_end :
     (u fewer : ℕ) (x rest : List ℕ) → u ≡ fewer + 1 → x ≡ 0 ∷ 0 ∷ rest → AreEncodings u x → AreEncodings fewer rest
 behind_end u fewer x rest more e (no_more z none) = absurd (omega (arith, more, z))
 behind_end u fewer x rest more e (next {first = f} {rest = r} m a) =
-    absurd (m.no_end (omega (arith, more)) (is_end x f r rest m.class m.constructed m.tag m.contents m.header m.encoding m.whole e))
+    absurd (m.no_end (omega (arith, more))
+    (is_end x f r rest m.class m.constructed m.tag m.contents m.header m.encoding m.whole e))
 behind_end u fewer x rest more e (end_of_contents {fewer = f} {rest = r} more' e' a) =
     let same : r ≡ rest = cc in
     let count : f ≡ fewer = omega (arith, more, more') in
@@ -116,7 +123,8 @@ shortest_definite n = elim (cases_lt n 128) [
 ]
 
 -- encodings of DER are encodings
-pub der_encodings : (x : List ℕ) (items : List (List ℕ)) → length x < 2 ^ 64 → AreDerEncodings x items → AreEncodings 0 x
+pub der_encodings : (x : List ℕ) (items : List (List ℕ)) → length x < 2 ^ 64 → AreDerEncodings x items →
+    AreEncodings 0 x
 der_encodings x items small no_encodings = no_more refl refl
 der_encodings x items small (more_encodings {first = f} {rest = r} {items = is} w d ds) =
     let size : length x ≡ length f + length r = ap length w ∙ length-append f r in
@@ -142,7 +150,8 @@ der_encodings x items small (more_encodings {first = f} {rest = r} {items = is} 
 
 -- identifier octets at the front are those that are there
 pub front_identifier :
-    (octets identifier behind : List ℕ) (tag number size : ℕ) → IsSomeIdentifier identifier tag → octets ≡ identifier ++ behind →
+    (octets identifier behind : List ℕ) (tag number size : ℕ) → IsSomeIdentifier identifier tag →
+    octets ≡ identifier ++ behind →
     IsSomeIdentifier (take size octets) number → (take size octets ≡ identifier) × (drop size octets ≡ behind)
 front_identifier octets identifier behind tag number size (c, k, is) whole (d, j, found) =
     let same = identifier_alone (take size octets) identifier (drop size octets) behind d c j k number tag found is
@@ -184,7 +193,10 @@ step_end u x behind t is =
     let (some, front) = at_end_parts u x t in
     let whole : x ≡ 0 ∷ 0 ∷ behind = end_front x front ∙ ap (λ z. 0 ∷ 0 ∷ z) (sym is) in
     record {
-      same = (λ a. behind_end u (u - 1) x behind (omega (arith, some)) whole a, λ a. end_of_contents (omega (arith, some)) whole a);
+      same = (
+        λ a. behind_end u (u - 1) x behind (omega (arith, some)) whole a,
+        λ a. end_of_contents (omega (arith, some)) whole a,
+      );
       fewer = omega (arith, ap length whole);
       room = omega (arith, ap length whole);
     }

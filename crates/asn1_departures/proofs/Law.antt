@@ -37,11 +37,13 @@ none_found : (Asked : Type 0) (rule : Rule) (found : Option Rule) → Found Aske
 none_found Asked rule found (kept a) e = refl
 none_found Asked rule found (broken b) e = absurd (b e)
 
-definite : (b : Bool) (found : Option Rule) (P : Type 0) → MatchBool b (found ≡ Some IndefiniteLength) P → found ≡ None → (b ≡ false) × P
+definite : (b : Bool) (found : Option Rule) (P : Type 0) → MatchBool b (found ≡ Some IndefiniteLength) P →
+    found ≡ None → (b ≡ false) × P
 definite true found P h e = absurd cc
 definite false found P h e = (refl, h)
 
-by_length : (b : Bool) (found : Option Rule) (P : Type 0) → b ≡ false → MatchBool b (found ≡ Some IndefiniteLength) P → P
+by_length : (b : Bool) (found : Option Rule) (P : Type 0) → b ≡ false → MatchBool b (found ≡ Some IndefiniteLength) P →
+    P
 by_length true found P e h = absurd cc
 by_length false found P e h = h
 
@@ -53,13 +55,15 @@ looked : (k : Bool) (len : List ℕ) → is_indefinite len ≡ false → is_look
 looked true len e = ap not e
 looked false len e = refl
 
-type_asked : (c : ASN1Class) (k : Bool) (n : ℕ) (v : List ℕ) (found : Option Rule) → TypeFound false c k n v found → found ≡ None → IsRightAlone c k n v
+type_asked : (c : ASN1Class) (k : Bool) (n : ℕ) (v : List ℕ) (found : Option Rule) → TypeFound false c k n v found →
+    found ≡ None → IsRightAlone c k n v
 type_asked Universal k n v found h e = asked (IsRightAlone Universal k n v) (type_rule k n v) found h e
 type_asked Application k n v found h e = tt
 type_asked ContextSpecific k n v found h e = tt
 type_asked Private k n v found h e = tt
 
-type_none : (c : ASN1Class) (k : Bool) (n : ℕ) (v : List ℕ) (found : Option Rule) → TypeFound false c k n v found → IsRightAlone c k n v → found ≡ None
+type_none : (c : ASN1Class) (k : Bool) (n : ℕ) (v : List ℕ) (found : Option Rule) → TypeFound false c k n v found →
+    IsRightAlone c k n v → found ≡ None
 type_none Universal k n v found h a = none_found (IsRightAlone Universal k n v) (type_rule k n v) found h a
 type_none Application k n v found h a = h
 type_none ContextSpecific k n v found h a = h
@@ -74,12 +78,14 @@ own_none :
     (o : ℕ) (x id len : List ℕ) (c : ASN1Class) (k : Bool) (n : ℕ) (v : List ℕ) (r : OwnRules id len c k n v) →
     x ≡ id ++ (len ++ v) → own_departures o r ≡ [] → IsAlone x id len c k n v
 own_none o x id len c k n v r w e =
-    let id_none = not_listed o r.of_identifier (none_first (listed o r.of_identifier) (listed o r.of_length ++ listed o r.of_type) e) in
+    let id_none = not_listed o r.of_identifier
+    (none_first (listed o r.of_identifier) (listed o r.of_length ++ listed o r.of_type) e) in
     let more = none_second (listed o r.of_identifier) (listed o r.of_length ++ listed o r.of_type) e in
     let len_none = not_listed o r.of_length (none_first (listed o r.of_length) (listed o r.of_type) more) in
     let type_none = not_listed o r.of_type (none_second (listed o r.of_length) (listed o r.of_type) more) in
     let i = asked (id ≡ shortest_identifier c k n) (identifier_rule n) r.of_identifier r.identifier_found id_none in
-    let l = definite (is_indefinite len) r.of_length (Found (len ≡ shortest_length (length v)) LongLength r.of_length) r.length_found len_none in
+    let l = definite (is_indefinite len) r.of_length (Found (len ≡ shortest_length (length v)) LongLength r.of_length)
+    r.length_found len_none in
     let s = asked (len ≡ shortest_length (length v)) LongLength r.of_length l.1 len_none in
     let t = type_asked c k n v r.of_type (subst (λ z. TypeFound z c k n v r.of_type) l.0 r.type_found) type_none in
     record {
@@ -93,23 +99,35 @@ own_none o x id len c k n v r w e =
 mutual
   -- where none are listed, the octets are DER
   pub der_of_none :
-      (u o : ℕ) (x : List ℕ) (found : List Departure) → Lists u o x found → u ≡ 0 → length x < 2 ^ 64 → found ≡ [] → AreDer x
-  der_of_none u o x found (none_left z e f) zero small none = ([], subst (λ z. AreDerEncodings z []) (sym e) no_encodings)
-  der_of_none u o x found (encoding_listed {first = first} {rest = rest} {inside = inside} {later = later} n r i ls f) zero small none =
+      (u o : ℕ) (x : List ℕ) (found : List Departure) → Lists u o x found → u ≡ 0 → length x < 2 ^ 64 → found ≡ [] →
+      AreDer x
+  der_of_none u o x found (none_left z e f) zero small none =
+      ([], subst (λ z. AreDerEncodings z []) (sym e) no_encodings)
+  der_of_none u o x found (encoding_listed {first = first} {rest = rest} {inside = inside} {later = later} n r i ls f)
+      zero small none =
       let own = own_departures o r in
       let all : own ++ (inside ++ later) ≡ [] = sym f ∙ none in
       let more = none_second own (inside ++ later) all in
-      let a = own_none o first n.encoding.identifier n.encoding.len n.class n.constructed n.tag n.contents r n.encoding.whole
+      let a = own_none o first n.encoding.identifier n.encoding.len n.class n.constructed n.tag n.contents r
+      n.encoding.whole
       (none_first own (inside ++ later) all) in
       let size : length x ≡ length first + length rest = ap length n.whole ∙ length-append first rest in
       let part : length first ≡ length n.encoding.identifier + (length n.encoding.len + length n.contents) =
-      omega (arith, ap length n.encoding.whole, length-append n.encoding.identifier (n.encoding.len ++ n.contents), length-append n.encoding.len n.contents) in
+      omega (
+        arith,
+        ap length n.encoding.whole,
+        length-append n.encoding.identifier (n.encoding.len ++ n.contents),
+        length-append n.encoding.len n.contents,
+      ) in
       let (items, ds) = der_of_none (unended_behind u n.constructed n.encoding.len) (o + length first) rest later ls
-      (behind_closed u n.constructed n.encoding.len a.definite ∙ zero) (omega (arith, small, size)) (none_second inside later more) in
+      (behind_closed u n.constructed n.encoding.len a.definite ∙ zero) (omega (arith, small, size))
+      (none_second inside later more) in
       let d : IsDerEncoding first = whole_der first n.class n.constructed n.tag n.contents (record {
         alone = a.alone;
-        items = inside_der o (o + n.header) (is_looked_into n.constructed n.encoding.len) n.contents inside i n.constructed
-            (looked n.constructed n.encoding.len a.definite) (omega (arith, small, size, part)) (none_first inside later more);
+        items = inside_der o (o + n.header) (is_looked_into n.constructed n.encoding.len) n.contents inside i
+            n.constructed
+            (looked n.constructed n.encoding.len a.definite) (omega (arith, small, size, part))
+            (none_first inside later more);
       }) in
       (first ∷ items, more_encodings n.whole d ds)
   der_of_none u o x found (end_listed more e ls) zero small none = absurd (omega (arith, more, zero))
@@ -127,15 +145,19 @@ record HasShortest (id len : List ℕ) (c : ASN1Class) (k : Bool) (n : ℕ) (siz
   len_is : len ≡ shortest_length size
 
 has_shortest :
-    (x : List ℕ) (c : ASN1Class) (k : Bool) (n : ℕ) (v : List ℕ) (h : ℕ) (e : Encoding x c k n v h) → length x < 2 ^ 64 →
+    (x : List ℕ) (c : ASN1Class) (k : Bool) (n : ℕ) (v : List ℕ) (h : ℕ) (e : Encoding x c k n v h) →
+    length x < 2 ^ 64 →
     IsShortest x c k n v → HasShortest e.identifier e.len c k n (length v)
 has_shortest x c k n v h e small s =
     let i = shortest_identifier c k n in
     let l = shortest_length (length v) in
-    let size : length v < 2 ^ 64 = omega (arith, small, ap length s.whole, length-append i (l ++ v), length-append l v) in
-    let a = identifier_alone e.identifier i (e.len ++ v) (l ++ v) c c k k n n e.identifier_octets (shortest_identifier_is c k n)
+    let size : length v < 2 ^ 64 =
+    omega (arith, small, ap length s.whole, length-append i (l ++ v), length-append l v) in
+    let a = identifier_alone e.identifier i (e.len ++ v) (l ++ v) c c k k n n e.identifier_octets
+    (shortest_identifier_is c k n)
     (sym e.whole ∙ s.whole) in
-    let b = length_alone e.len l v v (length v) (length v) e.length_octets (shortest_length_is (length v) size) a.rest in
+    let b = length_alone e.len l v v (length v) (length v) e.length_octets (shortest_length_is (length v) size)
+    a.rest in
     record { identifier = a.octets; len_is = b.octets }
 
 -- encodings of DER by the first
@@ -154,40 +176,60 @@ split_next x first rest n small (items, no_encodings) =
 split_next x first rest n small (items, more_encodings {first = f} {rest = r} {items = is} w d ds) =
     let size : length x ≡ length f + length r = ap length w ∙ length-append f r in
     let (c, k, t, v, h, e) = der_encoding f (omega (arith, small, size)) d in
-    let same = encoding_alone first f n.class c n.constructed k n.tag t n.contents v n.header h rest r n.encoding e (sym n.whole ∙ w) in
-    record { der = subst IsDerEncoding (sym same.octets) d; more = (is, subst (λ z. AreDerEncodings z is) (sym same.rest) ds) }
+    let same = encoding_alone first f n.class c n.constructed k n.tag t n.contents v n.header h rest r n.encoding e
+    (sym n.whole ∙ w) in
+    record {
+      der = subst IsDerEncoding (sym same.octets) d;
+      more =
+          (is, subst (λ z. AreDerEncodings z is) (sym same.rest) ds);
+    }
 
 own_of_alone :
     (o : ℕ) (id len : List ℕ) (c : ASN1Class) (k : Bool) (n : ℕ) (v : List ℕ) (r : OwnRules id len c k n v) →
     id ≡ shortest_identifier c k n → len ≡ shortest_length (length v) → IsRightAlone c k n v → own_departures o r ≡ []
 own_of_alone o id len c k n v r i l t =
     let definite : is_indefinite len ≡ false = ap is_indefinite l ∙ shortest_definite (length v) in
-    let a : r.of_identifier ≡ None = none_found (id ≡ shortest_identifier c k n) (identifier_rule n) r.of_identifier r.identifier_found i in
+    let a : r.of_identifier ≡ None =
+    none_found (id ≡ shortest_identifier c k n) (identifier_rule n) r.of_identifier r.identifier_found i in
     let b : r.of_length ≡ None = none_found (len ≡ shortest_length (length v)) LongLength r.of_length
-    (by_length (is_indefinite len) r.of_length (Found (len ≡ shortest_length (length v)) LongLength r.of_length) definite r.length_found) l in
-    let d : r.of_type ≡ None = type_none c k n v r.of_type (subst (λ z. TypeFound z c k n v r.of_type) definite r.type_found) t in
+    (by_length (is_indefinite len) r.of_length (Found (len ≡ shortest_length (length v)) LongLength r.of_length)
+    definite r.length_found) l in
+    let d : r.of_type ≡ None =
+    type_none c k n v r.of_type (subst (λ z. TypeFound z c k n v r.of_type) definite r.type_found) t in
     ap (λ z. listed o z ++ (listed o r.of_length ++ listed o r.of_type)) a
     ∙ (ap (λ z. listed o z ++ listed o r.of_type) b ∙ ap (listed o) d)
 
 mutual
   -- and of DER none are listed
   pub none_of_der :
-      (u o : ℕ) (x : List ℕ) (found : List Departure) → Lists u o x found → u ≡ 0 → length x < 2 ^ 64 → AreDer x → found ≡ []
+      (u o : ℕ) (x : List ℕ) (found : List Departure) → Lists u o x found → u ≡ 0 → length x < 2 ^ 64 → AreDer x →
+      found ≡ []
   none_of_der u o x found (none_left z e f) zero small d = f
-  none_of_der u o x found (encoding_listed {first = first} {rest = rest} {inside = inside} {later = later} n r i ls f) zero small d =
+  none_of_der u o x found (encoding_listed {first = first} {rest = rest} {inside = inside} {later = later} n r i ls f)
+      zero small d =
       let s = split_next x first rest (subst (λ z. IsNext z x first rest) zero n) small d in
       let size : length x ≡ length first + length rest = ap length n.whole ∙ length-append first rest in
       let part : length first ≡ length n.encoding.identifier + (length n.encoding.len + length n.contents) =
-      omega (arith, ap length n.encoding.whole, length-append n.encoding.identifier (n.encoding.len ++ n.contents), length-append n.encoding.len n.contents) in
+      omega (
+        arith,
+        ap length n.encoding.whole,
+        length-append n.encoding.identifier (n.encoding.len ++ n.contents),
+        length-append n.encoding.len n.contents,
+      ) in
       let w : IsWhole first n.class n.constructed n.tag n.contents =
       der_whole first n.class n.constructed n.tag n.contents n.header (omega (arith, small, size)) n.encoding s.der in
-      let short = has_shortest first n.class n.constructed n.tag n.contents n.header n.encoding (omega (arith, small, size)) w.alone.0 in
-      let definite : is_indefinite n.encoding.len ≡ false = ap is_indefinite short.len_is ∙ shortest_definite (length n.contents) in
+      let short = has_shortest first n.class n.constructed n.tag n.contents n.header n.encoding
+      (omega (arith, small, size)) w.alone.0 in
+      let definite : is_indefinite n.encoding.len ≡ false =
+      ap is_indefinite short.len_is ∙ shortest_definite (length n.contents) in
       let own : own_departures o r ≡ [] =
-      own_of_alone o n.encoding.identifier n.encoding.len n.class n.constructed n.tag n.contents r short.identifier short.len_is w.alone.1 in
-      let within : inside ≡ [] = inside_none o (o + n.header) (is_looked_into n.constructed n.encoding.len) n.contents inside i n.constructed
+      own_of_alone o n.encoding.identifier n.encoding.len n.class n.constructed n.tag n.contents r short.identifier
+      short.len_is w.alone.1 in
+      let within : inside ≡ [] =
+      inside_none o (o + n.header) (is_looked_into n.constructed n.encoding.len) n.contents inside i n.constructed
       (looked n.constructed n.encoding.len definite) (omega (arith, small, size, part)) w.items in
-      let behind : later ≡ [] = none_of_der (unended_behind u n.constructed n.encoding.len) (o + length first) rest later ls
+      let behind : later ≡ [] =
+      none_of_der (unended_behind u n.constructed n.encoding.len) (o + length first) rest later ls
       (behind_closed u n.constructed n.encoding.len definite ∙ zero) (omega (arith, small, size)) s.more in
       f ∙ (ap (λ z. z ++ (inside ++ later)) own ∙ (ap (λ z. z ++ later) within ∙ behind))
   none_of_der u o x found (end_listed more e ls) zero small d = absurd (omega (arith, more, zero))
@@ -196,14 +238,17 @@ mutual
       (o s : ℕ) (b : Bool) (v : List ℕ) (found : List Departure) → ListsInside o s b v found → (k : Bool) → b ≡ k →
       length v < 2 ^ 64 → (k ≡ true → AreDer v) → found ≡ []
   inside_none o s b v found (nothing_inside f z) k same small d = z
-  inside_none o s b v found (encodings_inside t ls) k same small d = none_of_der 0 s v found ls refl small (d (sym same ∙ t))
+  inside_none o s b v found (encodings_inside t ls) k same small d =
+      none_of_der 0 s v found ls refl small (d (sym same ∙ t))
   inside_none o s b v found (no_encodings_inside t never e) k same small d =
       let (items, ds) = d (sym same ∙ t) in absurd (never (der_encodings v items small ds))
 
 -- none are listed exactly if the octets are DER
 pub law :
-    (x : List ℕ) (found : List Departure) → 0 < length x → length x < 2 ^ 64 → Lists 0 0 x found → (found ≡ []) ↔ IsDer x
+    (x : List ℕ) (found : List Departure) → 0 < length x → length x < 2 ^ 64 → Lists 0 0 x found →
+    (found ≡ []) ↔ IsDer x
 law x found some small ls = (
-  λ e. let (items, ds) = der_of_none 0 0 x found ls refl small e in record { some = some; items = items; encodings = ds },
+  λ e. let (items, ds) = der_of_none 0 0 x found ls refl small e in
+      record { some = some; items = items; encodings = ds },
   λ d. none_of_der 0 0 x found ls refl small (d.items, d.encodings),
 )

@@ -1,8 +1,8 @@
 -- What is left of octets, encoding by encoding.
-use Rattle.std.proofs.Common.{◌≡◌, ℕ, ◌+◌, ◌-◌, ◌<◌, ◌≤◌, Bool, true, false, List, [], ◌∷◌, ◌++◌, drop, length, refl, reverse, sym, ap, ◌∙◌, subst, take, arith, append-nil, append_assoc, length-append}
+use Rattle.std.proofs.Common.{◌≡◌, ℕ, ◌+◌, ◌-◌, ◌<◌, ◌≤◌, Bool, true, false, List, [], ◌∷◌, ◌++◌, drop, length, refl, reverse, sym, ap, ◌∙◌, subst, take, arith, append_assoc, length-append}
 use Rattle.std.specs.List.{slice_range}
 use Rattle.std.specs.Prelude.{suc, if◌then◌else◌, not}
-use Rattle.std.proofs.lemmas.List.{drop_at, reverse-append, take_at}
+use Rattle.std.proofs.lemmas.List.{drop_at, reverse-append}
 use Rattle.asn1_headers.specs.Fault.{DecodeFault}
 use Rattle.asn1_departures.proofs.Fronts.{at_end_parts, end_front, no_end_front}
 use Rattle.asn1_headers.specs.Header.{Encoding, IsLength}
@@ -35,12 +35,15 @@ module _ (x : List ℕ) (i e : ℕ) (h : PlacedHeader) (f : HeaderFound x i e h)
   pub size : length (slice_range x i h.end) ≡ h.end - i
   size = slice_length x i h.end before (omega (arith, f.ends_within, within))
 
-  module _ (id len : List ℕ) (p : IsParted (slice_range x i h.start) id len h.class h.constructed h.tag (h.end - h.start)) where
+  module _ (id len : List ℕ)
+      (p : IsParted (slice_range x i h.start) id len h.class h.constructed h.tag (h.end - h.start)) where
     -- the encoding with this header
-    pub encoding_of : Encoding (slice_range x i h.end) h.class h.constructed h.tag (slice_range x h.start h.end) (h.start - i)
+    pub encoding_of : Encoding (slice_range x i h.end) h.class h.constructed h.tag (slice_range x h.start h.end)
+        (h.start - i)
     encoding_of =
         let v = slice_range x h.start h.end in
-        let inside : length v ≡ h.end - h.start = slice_length x h.start h.end f.order (omega (arith, f.ends_within, within)) in
+        let inside : length v ≡ h.end - h.start =
+        slice_length x h.start h.end f.order (omega (arith, f.ends_within, within)) in
         let front : length (slice_range x i h.start) ≡ h.start - i =
         slice_length x i h.start (omega (arith, f.starts_after)) (omega (arith, f.order, f.ends_within, within)) in
         record {
@@ -68,7 +71,8 @@ module _ (x : List ℕ) (i e : ℕ) (h : PlacedHeader) (f : HeaderFound x i e h)
 
       -- its departures, those inside it, and those behind it
       pub listed_next :
-          (r : OwnRules id len h.class h.constructed h.tag (slice_range x h.start h.end)) (inside later : List Departure) →
+          (r : OwnRules id len h.class h.constructed h.tag (slice_range x h.start h.end))
+          (inside later : List Departure) →
           ListsInside i h.start (is_looked_into h.constructed len) (slice_range x h.start h.end) inside →
           Lists (unended_behind u h.constructed len) h.end (slice_range x h.end e) later →
           Lists u i (slice_range x i e) (own_departures i r ++ (inside ++ later))
@@ -77,7 +81,8 @@ module _ (x : List ℕ) (i e : ℕ) (h : PlacedHeader) (f : HeaderFound x i e h)
           let at : i + (h.start - i) ≡ h.start = omega (arith, f.starts_after) in
           let to : i + length (slice_range x i h.end) ≡ h.end = omega (arith, size, before) in
           encoding_listed next_of r
-          (subst (λ z. ListsInside i z (is_looked_into h.constructed len) (slice_range x h.start h.end) inside) (sym at) ins)
+          (subst (λ z. ListsInside i z (is_looked_into h.constructed len) (slice_range x h.start h.end) inside) (sym at)
+          ins)
           (subst (λ z. Lists (unended_behind u h.constructed len) z (slice_range x h.end e) later) (sym to) ls)
           refl
 
@@ -91,7 +96,8 @@ regrouped a b c d g =
 -- so what is behind an encoding, and what it has, is all
 pub passed :
     (x : List ℕ) (u i v j e : ℕ) (es : List Extent) (own inside found later : List Departure) →
-    ((more : List Departure) → Lists v j (slice_range x j e) more → Lists u i (slice_range x i e) (own ++ (inside ++ more))) →
+    ((more : List Departure) → Lists v j (slice_range x j e) more →
+    Lists u i (slice_range x i e) (own ++ (inside ++ more))) →
     ListsUpTo x j (record { end = e; unended = v } ∷ es) later →
     (old : List Departure) × ListsUpTo x i (record { end = e; unended = u } ∷ es) old
     × ((found ++ (own ++ inside)) ++ later ≡ found ++ old)
@@ -107,12 +113,14 @@ pub opened :
     ((inside more : List Departure) → Lists 0 s (slice_range x s t) inside → Lists u t (slice_range x t e) more →
     Lists u i (slice_range x i e) (own ++ (inside ++ more))) →
     ListsUpTo x s (record { end = t; unended = 0 } ∷ record { end = e; unended = u } ∷ es) later →
-    (old : List Departure) × ListsUpTo x i (record { end = e; unended = u } ∷ es) old × ((found ++ own) ++ later ≡ found ++ old)
+    (old : List Departure) × ListsUpTo x i (record { end = e; unended = u } ∷ es) old ×
+    ((found ++ own) ++ later ≡ found ++ old)
 opened x u i s t e es own found later step (a, b, la, (c, d, lc, ld, g), w) = (
   (own ++ (a ++ c)) ++ d,
   (own ++ (a ++ c), d, step a c la lc, ld, refl),
   ap (λ z. (found ++ own) ++ z) (w ∙ ap (λ z. a ++ z) g)
-      ∙ (append_assoc found own (a ++ (c ++ d)) ∙ ap (λ z. found ++ z) (ap (λ z. own ++ z) (sym (append_assoc a c d)) ∙ sym (append_assoc own (a ++ c) d))),
+      ∙ (append_assoc found own (a ++ (c ++ d))
+      ∙ ap (λ z. found ++ z) (ap (λ z. own ++ z) (sym (append_assoc a c d)) ∙ sym (append_assoc own (a ++ c) d))),
 )
 
 -- end-of-contents octets, and what is behind them
@@ -125,8 +133,11 @@ end_slice x i e order within front =
     let two : i + 2 ≤ e = omega (arith, ap length whole, slice_length x i e order within) in
     let join : y ≡ slice_range x i (i + 2) ++ slice_range x (i + 2) e = slice_join x i (i + 2) e (omega arith) two in
     let size : length (slice_range x i (i + 2)) ≡ 2 =
-    slice_length x i (i + 2) (omega arith) (omega (arith, two, within)) ∙ omega arith in
-    (two, whole ∙ ap (λ z. 0 ∷ 0 ∷ z) (ap (drop 2) join ∙ drop_at (slice_range x i (i + 2)) (slice_range x (i + 2) e) 2 size))
+    slice_length x i (i + 2) (omega arith) (omega (arith, two, within)) ∙ omega arith in (
+      two,
+      whole ∙ ap (λ z. 0 ∷ 0 ∷ z)
+          (ap (drop 2) join ∙ drop_at (slice_range x i (i + 2)) (slice_range x (i + 2) e) 2 size),
+    )
 
 pub ended :
     (x : List ℕ) (u i e : ℕ) (es : List Extent) (later : List Departure) → 0 < u → i ≤ e → e ≤ length x →
@@ -145,7 +156,8 @@ none_listed x u i e none h = none_left none (no_slice x i e h) refl
 
 -- a fault behind an encoding
 pub found_next :
-    (x : List ℕ) (i e : ℕ) (h : PlacedHeader) (f : HeaderFound x i e h) (u : ℕ) → is_at_end u (slice_range x i e) ≡ false →
+    (x : List ℕ) (i e : ℕ) (h : PlacedHeader) (f : HeaderFound x i e h) (u : ℕ) →
+    is_at_end u (slice_range x i e) ≡ false →
     IsNext u (slice_range x i e) (slice_range x i h.end) (slice_range x h.end e)
 found_next x i e h f u t =
     let w : slice_range x i e ≡ slice_range x i h.end ++ slice_range x h.end e =
@@ -162,7 +174,8 @@ found_next x i e h f u t =
     }
 
 pub fault_behind :
-    (x : List ℕ) (i : ℕ) (h : PlacedHeader) (f : HeaderFound x i (length x) h) (u v : ℕ) (o : Bool) (place : ℕ) (fault : DecodeFault) →
+    (x : List ℕ) (i : ℕ) (h : PlacedHeader) (f : HeaderFound x i (length x) h) (u v : ℕ) (o : Bool) (place : ℕ)
+    (fault : DecodeFault) →
     is_at_end u (rest_of x i) ≡ false → o ≡ is_open h.constructed f.encoding.len → v ≡ (if o then suc u else u) →
     HeaderFaultBehind v h.end (rest_of x h.end) place fault → HeaderFaultBehind u i (rest_of x i) place fault
 unfolding found_next
@@ -180,7 +193,8 @@ pub fault_behind_end :
     HeaderFaultBehind (u - 1) (i + 2) (rest_of x (i + 2)) place fault → HeaderFaultBehind u i (rest_of x i) place fault
 fault_behind_end x i u place fault more t w =
     let (some, front) = at_end_parts u (rest_of x i) t in
-    behind_end_of_contents (omega (arith, some)) (end_slice x i (length x) (omega (arith, more)) (omega arith) front).1 w
+    behind_end_of_contents (omega (arith, some)) (end_slice x i (length x) (omega (arith, more)) (omega arith) front).1
+    w
 
 -- with the encoding that was found and those behind it, all are listed
 pub all_behind :
@@ -235,18 +249,3 @@ looked_primitive false len e = refl
 pub looked_at : (k : Bool) (len : List ℕ) → k ≡ true → is_open k len ≡ false → is_looked_into k len ≡ true
 looked_at true len e f = ap not f
 looked_at false len e f = absurd cc
-
--- at first all are those of the octets
-pub first_lists :
-    (x : List ℕ) (all : List Departure) →
-    (later : List Departure) × ListsUpTo x 0 (record { end = length x; unended = 0 } ∷ []) later × (all ≡ [] ++ later) →
-    Lists 0 0 x all
-first_lists x all (later, (a, b, la, lb, w), is) =
-    let same : all ≡ a = is ∙ (w ∙ (ap (λ z. a ++ z) lb ∙ append-nil a)) in
-    let whole : slice_range x 0 (length x) ≡ x = slice_whole x in
-    subst (λ z. Lists 0 0 x z) (sym same) (subst (λ z. Lists 0 0 z a) whole la)
-  where
-    slice_whole : (x : List ℕ) → slice_range x 0 (length x) ≡ x
-    slice_whole x =
-        let all : length x - 0 ≡ length x = omega arith in
-        ap (λ n. take n x) all ∙ (ap (take (length x)) (sym (append-nil x)) ∙ take_at x [] (length x) refl)

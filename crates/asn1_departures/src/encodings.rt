@@ -1,7 +1,7 @@
 // Encodings one after another by their headers.
 ghost use Rattle.std.specs.Prelude.{◌≡◌, ◌↔◌, false, ◌++◌, ◌-◌, ◌≤◌, ◌<◌, ◌+◌, ◌^◌, Bool, List, ℕ, suc, if◌then◌else◌, IfErr, IfOk, IfNone, IfSome, IsTrue, length};
 ghost use Rattle.asn1_headers.specs.Fault.{OutOfMemoryOr};
-ghost use Rattle.asn1_headers.specs.Header.{IsIdentifier, IsLength, IsSomeIdentifier};
+ghost use Rattle.asn1_headers.specs.Header.{IsIdentifier, IsSomeIdentifier};
 ghost use Rattle.asn1_headers.specs.declared.header.ASN1Class.{ASN1Class};
 ghost use Rattle.asn1_blocks.specs.Places.{HeaderFound, IsEncoding};
 ghost use Rattle.asn1_der.specs.Steps.{IsHeaderOf};

@@ -1,5 +1,5 @@
 // The departures of octets from DER, by a loop that keeps where the open encodings end.
-ghost use Rattle.std.specs.Prelude.{◌≡◌, ◌≢◌, ◌↔◌, ◌++◌, ◌<◌, ◌≤◌, [], List, IfErr, IfOk, IsTrue, length, slice_range, false};
+ghost use Rattle.std.specs.Prelude.{◌≡◌, ◌↔◌, ◌<◌, ◌≤◌, [], List, IfErr, IfOk, IsTrue, length, slice_range, false};
 ghost use Rattle.asn1_headers.specs.Fault.{OutOfMemoryOr};
 ghost use Rattle.asn1_blocks.specs.Places.{HeaderFound};
 ghost use Rattle.asn1_der.specs.Der.{IsDer};

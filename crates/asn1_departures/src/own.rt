@@ -1,8 +1,8 @@
 // What one encoding breaks by itself.
-ghost use Rattle.std.specs.Prelude.{◌≡◌, ◌↔◌, ◌++◌, ◌-◌, ◌≤◌, List, ℕ, Bool, true, false, IfOk, IsTrue, length, nat_lt};
+ghost use Rattle.std.specs.Prelude.{◌≡◌, ◌↔◌, ◌++◌, ◌-◌, true, false, IfOk, IsTrue, nat_lt};
 ghost use Rattle.asn1_headers.specs.declared.header.ASN1Class.TheVariants.{Universal};
-ghost use Rattle.asn1_headers.specs.Header.{IsIdentifier, IsLength, shortest_identifier, shortest_length};
-ghost use Rattle.asn1_der.specs.Der.{AreDerEncodings, IsInOrder, IsRightAlone};
+ghost use Rattle.asn1_headers.specs.Header.{shortest_identifier, shortest_length};
+ghost use Rattle.asn1_der.specs.Der.{IsRightAlone};
 ghost use Rattle.asn1_departures.specs.Departures.{Found, LengthFound, OwnRules, TypeFound, listed, own_departures};
 ghost use Rattle.asn1_departures.specs.Rules.{bits_rule as bits_rule_is, contents_rule as contents_rule_is};
 ghost use Rattle.asn1_departures.specs.Rules.{form_rule as form_rule_is, identifier_rule, is_string as is_string_is};

@@ -26,13 +26,18 @@ pub all_behind : (x y : List ℕ) → AreOctets (x ++ y) → AreOctets y
 all_behind x y all = subst AreOctets (drop_at x y (length x) refl) (All-drop (λ b. b < 256) (length x) (x ++ y) all)
 
 -- the contents octets of an encoding
-pub contents_octets : (x : List ℕ) (c : ASN1Class) (k : Bool) (n : ℕ) (v : List ℕ) (h : ℕ) → Encoding x c k n v h → AreOctets x → AreOctets v
-contents_octets x c k n v h e all = all_behind e.len v (all_behind e.identifier (e.len ++ v) (subst AreOctets e.whole all))
+pub contents_octets : (x : List ℕ) (c : ASN1Class) (k : Bool) (n : ℕ) (v : List ℕ) (h : ℕ) → Encoding x c k n v h →
+    AreOctets x → AreOctets v
+contents_octets x c k n v h e all =
+    all_behind e.len v (all_behind e.identifier (e.len ++ v) (subst AreOctets e.whole all))
 
-pub contents_le : (x : List ℕ) (c : ASN1Class) (k : Bool) (n : ℕ) (v : List ℕ) (h : ℕ) → Encoding x c k n v h → length v ≤ length x
-contents_le x c k n v h e = omega (arith, ap length e.whole, length-append e.identifier (e.len ++ v), length-append e.len v)
+pub contents_le : (x : List ℕ) (c : ASN1Class) (k : Bool) (n : ℕ) (v : List ℕ) (h : ℕ) → Encoding x c k n v h →
+    length v ≤ length x
+contents_le x c k n v h e =
+    omega (arith, ap length e.whole, length-append e.identifier (e.len ++ v), length-append e.len v)
 
-pub contents_small : (x : List ℕ) (c : ASN1Class) (k : Bool) (n : ℕ) (v : List ℕ) (h : ℕ) → Encoding x c k n v h → length x < 2 ^ 64 → length v < 2 ^ 64
+pub contents_small : (x : List ℕ) (c : ASN1Class) (k : Bool) (n : ℕ) (v : List ℕ) (h : ℕ) → Encoding x c k n v h →
+    length x < 2 ^ 64 → length v < 2 ^ 64
 contents_small x c k n v h e small =
     omega (arith, small, contents_le x c k n v h e)
 
@@ -55,11 +60,13 @@ leaf_type (generalized_time m) = refl
 
 -- an encoding of DER of a type that is not constructed is primitive
 pub primitive_right :
-    (n : ℕ) (k : Bool) (v : List ℕ) → is_constructed_type n ≡ false → IsRightAlone Universal k n v → (k ≡ false) × HasDerContents n v
+    (n : ℕ) (k : Bool) (v : List ℕ) → is_constructed_type n ≡ false → IsRightAlone Universal k n v →
+    (k ≡ false) × HasDerContents n v
 primitive_right n true v e r = absurd (false≢true (sym e ∙ r.0))
 primitive_right n false v e r = (refl, r.2)
 
-pub leaf_right : (l : Leaf) (k : Bool) (v : List ℕ) → IsRightAlone Universal k (leaf_tag l) v → (k ≡ false) × HasDerContents (leaf_tag l) v
+pub leaf_right : (l : Leaf) (k : Bool) (v : List ℕ) → IsRightAlone Universal k (leaf_tag l) v →
+    (k ≡ false) × HasDerContents (leaf_tag l) v
 leaf_right l k v r = primitive_right (leaf_tag l) k v (leaf_type l) r
 
 group_type : (g : GroupKind) → is_constructed_type (group_tag g) ≡ true
@@ -77,11 +84,16 @@ pub record IsSplit (first rest : List ℕ) : Type 0 where
   pub more : AreDer rest
 
 pub split :
-    (x first rest : List ℕ) (c : ASN1Class) (k : Bool) (n : ℕ) (v : List ℕ) (h : ℕ) → Encoding first c k n v h → x ≡ first ++ rest →
+    (x first rest : List ℕ) (c : ASN1Class) (k : Bool) (n : ℕ) (v : List ℕ) (h : ℕ) → Encoding first c k n v h →
+    x ≡ first ++ rest →
     length x < 2 ^ 64 → AreDer x → IsSplit first rest
 split x first rest c k n v h e whole small (items, no_encodings) =
     absurd (omega (arith, encoding_some first c k n v h e, ap length whole, length-append first rest))
 split x first rest c k n v h e whole small (items, more_encodings {first = f} {rest = r} {items = is} w d ds) =
     let (c', k', n', v', h', e') = der_encoding f (omega (arith, small, ap length w, length-append f r)) d in
     let same = encoding_alone first f c c' k k' n n' v v' h h' rest r e e' (sym whole ∙ w) in
-    record { der = subst IsDerEncoding (sym same.octets) d; more = (is, subst (λ z. AreDerEncodings z is) (sym same.rest) ds) }
+    record {
+      der = subst IsDerEncoding (sym same.octets) d;
+      more =
+          (is, subst (λ z. AreDerEncodings z is) (sym same.rest) ds);
+    }

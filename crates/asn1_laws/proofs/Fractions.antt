@@ -52,7 +52,8 @@ least q m unit n positive (inr some) e = omega (arith, e, some)
 
 -- digits that do not end in 0, as many as there are places or fewer
 pub fraction_is :
-    (k unit : ℕ) (digits : List ℕ) → unit ≡ 10 ^ k → list_all is_ascii_digit digits ≡ true → 0 < length digits → length digits ≤ suc k →
+    (k unit : ℕ) (digits : List ℕ) → unit ≡ 10 ^ k → list_all is_ascii_digit digits ≡ true → 0 < length digits →
+    length digits ≤ suc k →
     last_octet digits ≢ 48 → IsFraction k unit digits
 fraction_is k unit [] e all some few last = absurd (omega (arith, some))
 fraction_is k unit (d ∷ []) e all some few last =

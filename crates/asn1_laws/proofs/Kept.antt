@@ -13,7 +13,8 @@ use Rattle.asn1_laws.proofs.Times.{generalized_time_kept, generalized_time_other
 
 -- it is written as it came, unless it is one of those
 pub leaf_kept :
-    (l : Leaf) (contents : List ℕ) → AreOctets contents → LeafContents l contents → HasDerContents (leaf_tag l) contents →
+    (l : Leaf) (contents : List ℕ) → AreOctets contents → LeafContents l contents →
+    HasDerContents (leaf_tag l) contents →
     is_written_otherwise (leaf_tag l) contents ≡ false → contents ≡ leaf_contents l
 leaf_kept (boolean b) contents all p der plain = boolean_kept b contents p der.0
 leaf_kept (integer n) contents all p der plain = integer_kept n contents all p der.0

@@ -28,7 +28,8 @@ boolean_octet x t = elim (cases_Bool (x == 0)) [
       eqb-true x 255 is ∙ sym (ap (λ b. if not b then 255 else 0) e)
 ]
 
-pub boolean_kept : (b : Bool) (contents : List ℕ) → BooleanContents b contents → is_boolean contents ≡ true → contents ≡ boolean_contents b
+pub boolean_kept : (b : Bool) (contents : List ℕ) → BooleanContents b contents → is_boolean contents ≡ true →
+    contents ≡ boolean_contents b
 boolean_kept b contents (x, e, is) der =
     let octet = boolean_octet x (sym (ap is_boolean e) ∙ der) in
     e ∙ (ap (λ z. z ∷ []) octet ∙ ap (λ z. (if z then 255 else 0) ∷ []) (sym is))
@@ -40,12 +41,15 @@ not_padded b c t e = elim (cases_lt c 128) [
   | inr high ↦ grind (arith, nat_tests, t, e, high)
 ]
 
-pub integer_kept : (n : ℤ) (contents : List ℕ) → AreOctets contents → IntegerContents n contents → is_integer contents ≡ true → contents ≡ shortest_octets n
+pub integer_kept : (n : ℤ) (contents : List ℕ) → AreOctets contents → IntegerContents n contents →
+    is_integer contents ≡ true → contents ≡ shortest_octets n
 integer_kept n [] all is der = absurd cc
 integer_kept n (b ∷ []) all is der =
-    shortest_signed b [] (recursion_from_All (λ x. x < 256) (b ∷ []) all) (λ some. absurd (omega (arith, some))) ∙ ap shortest_octets (sym is)
+    shortest_signed b [] (recursion_from_All (λ x. x < 256) (b ∷ []) all) (λ some. absurd (omega (arith, some)))
+    ∙ ap shortest_octets (sym is)
 integer_kept n (b ∷ c ∷ more) all is der =
-    shortest_signed b (c ∷ more) (recursion_from_All (λ x. x < 256) (b ∷ c ∷ more) all) (λ some. not_padded b c (not_true _ der)) ∙ ap shortest_octets (sym is)
+    shortest_signed b (c ∷ more) (recursion_from_All (λ x. x < 256) (b ∷ c ∷ more) all)
+    (λ some. not_padded b c (not_true _ der)) ∙ ap shortest_octets (sym is)
   where
     not_true : (b : Bool) → not b ≡ true → b ≡ false
     not_true true e = absurd cc
@@ -53,7 +57,8 @@ integer_kept n (b ∷ c ∷ more) all is der =
 
 -- a BIT STRING
 some_are_not_none : (n : ℕ) → (suc n == 0) ≡ false
-some_are_not_none n = elim (cases_Bool (suc n == 0)) [ inl e ↦ absurd (omega (arith, eqb-true (suc n) 0 e)) | inr e ↦ e ]
+some_are_not_none n =
+    elim (cases_Bool (suc n == 0)) [ inl e ↦ absurd (omega (arith, eqb-true (suc n) 0 e)) | inr e ↦ e ]
 
 pub bit_string_some : (n : ℕ) (v : List ℕ) → 0 < n → bit_string_contents n v ≡ (8 * length v - n) ∷ v
 bit_string_some zero v some = absurd (omega (arith, some))
@@ -63,7 +68,8 @@ pub few_unused : (unused first : ℕ) (more : List ℕ) → is_bit_string (unuse
 few_unused unused first more t = let e = (and_parts (nat_lt unused 8) _ t).0 in grind (arith, nat_tests, e)
 
 pub bit_string_kept :
-    (n : ℕ) (v contents : List ℕ) → BitStringContents n v contents → is_bit_string contents ≡ true → has_no_bits contents ≡ false →
+    (n : ℕ) (v contents : List ℕ) → BitStringContents n v contents → is_bit_string contents ≡ true →
+    has_no_bits contents ≡ false →
     contents ≡ bit_string_contents n v
 bit_string_kept n v [] p der some = absurd cc
 bit_string_kept n v (u ∷ []) p der some = absurd cc
@@ -87,18 +93,23 @@ bit_string_other n v (u ∷ first ∷ more) p der e = elim (cases_Bool (has_no_b
 ]
 
 -- an OBJECT IDENTIFIER
-none_leads : (begins : Bool) (octets : List ℕ) → is_padded_from begins octets ≡ false → (length octets ≡ 0 → IsTrue begins)
+none_leads : (begins : Bool) (octets : List ℕ) → is_padded_from begins octets ≡ false →
+    (length octets ≡ 0 → IsTrue begins)
     → (0 < length octets → last_octet octets < 128) → NoneLeads begins octets
 none_leads begins [] padded ended last = ended refl
 none_leads begins (b ∷ octets) padded ended last = (
   λ t e. false≢true (sym padded ∙ leading begins b octets t e),
-  none_leads (nat_lt b 128) octets (later begins b octets padded) (λ none. ends b octets none (last (omega arith))) (λ some. more b octets some (last (omega arith))),
+  none_leads (nat_lt b 128) octets (later begins b octets padded) (λ none. ends b octets none (last (omega arith)))
+      (λ some. more b octets some (last (omega arith))),
 )
   where
-    leading : (begins : Bool) (b : ℕ) (octets : List ℕ) → IsTrue begins → b ≡ 128 → is_padded_from begins (b ∷ octets) ≡ true
-    leading begins b octets t e = ap (λ z. (z && (b == 128)) || is_padded_from (nat_lt b 128) octets) t ∙ grind (arith, nat_tests, e)
+    leading : (begins : Bool) (b : ℕ) (octets : List ℕ) → IsTrue begins → b ≡ 128 →
+        is_padded_from begins (b ∷ octets) ≡ true
+    leading begins b octets t e =
+        ap (λ z. (z && (b == 128)) || is_padded_from (nat_lt b 128) octets) t ∙ grind (arith, nat_tests, e)
 
-    later : (begins : Bool) (b : ℕ) (octets : List ℕ) → is_padded_from begins (b ∷ octets) ≡ false → is_padded_from (nat_lt b 128) octets ≡ false
+    later : (begins : Bool) (b : ℕ) (octets : List ℕ) → is_padded_from begins (b ∷ octets) ≡ false →
+        is_padded_from (nat_lt b 128) octets ≡ false
     later begins b octets t = second (begins && (b == 128)) (is_padded_from (nat_lt b 128) octets) t
       where
         second : (x y : Bool) → (x || y) ≡ false → y ≡ false
@@ -113,16 +124,19 @@ none_leads begins (b ∷ octets) padded ended last = (
     more b [] some low = absurd (omega (arith, some))
     more b (c ∷ octets) some low = omega (arith, low, last_after b c octets)
 
-behind_first : (b : ℕ) (rest : List ℕ) → is_padded_from true (b ∷ rest) ≡ false → goes_on_with_80 (b ∷ rest) ≡ false → is_padded_from true rest ≡ false
+behind_first : (b : ℕ) (rest : List ℕ) → is_padded_from true (b ∷ rest) ≡ false → goes_on_with_80 (b ∷ rest) ≡ false →
+    is_padded_from true rest ≡ false
 behind_first b [] padded on = refl
 behind_first b (c ∷ more) padded on = elim (cases_lt b 128) [
   | inl low ↦ let ends : nat_lt b 128 ≡ true = grind (arith, nat_tests, low) in
-      subst (λ z. is_padded_from z (c ∷ more) ≡ false) ends (second (true && (b == 128)) (is_padded_from (nat_lt b 128) (c ∷ more)) padded)
+      subst (λ z. is_padded_from z (c ∷ more) ≡ false) ends
+      (second (true && (b == 128)) (is_padded_from (nat_lt b 128) (c ∷ more)) padded)
   | inr high ↦ let high' : nat_lt 127 b ≡ true = grind (arith, nat_tests, high) in
       let other : (c == 128) ≡ false = sym (ap (λ z. z && (c == 128)) high') ∙ on in
       let goes : nat_lt b 128 ≡ false = grind (arith, nat_tests, high) in
       let rest : is_padded_from false (c ∷ more) ≡ false =
-      subst (λ z. is_padded_from z (c ∷ more) ≡ false) goes (second (true && (b == 128)) (is_padded_from (nat_lt b 128) (c ∷ more)) padded) in
+      subst (λ z. is_padded_from z (c ∷ more) ≡ false) goes
+      (second (true && (b == 128)) (is_padded_from (nat_lt b 128) (c ∷ more)) padded) in
       ap (λ z. (true && z) || is_padded_from (nat_lt c 128) more) other ∙ rest
 ]
   where
@@ -137,7 +151,8 @@ pub record AreWell (octets : List ℕ) : Type 0 where
 
 pub are_well : (octets : List ℕ) → are_subidentifiers octets ≡ true → AreWell octets
 are_well octets t =
-    let p = and_parts (nat_lt 0 (length octets) && nat_lt (last_octet octets) 128) (not (has_padded_component octets)) t in
+    let p = and_parts (nat_lt 0 (length octets) && nat_lt (last_octet octets) 128) (not (has_padded_component octets))
+    t in
     let q = and_parts (nat_lt 0 (length octets)) (nat_lt (last_octet octets) 128) p.0 in
     let low = q.1 in
     record { last = grind (arith, nat_tests, low); unpadded = not_true (has_padded_component octets) p.1 }
@@ -147,16 +162,19 @@ are_well octets t =
     not_true false e = refl
 
 pub object_identifier_kept :
-    (ns contents : List ℕ) → AreOctets contents → ObjectIdentifierContents ns contents → are_subidentifiers contents ≡ true →
+    (ns contents : List ℕ) → AreOctets contents → ObjectIdentifierContents ns contents →
+    are_subidentifiers contents ≡ true →
     goes_on_with_80 contents ≡ false → contents ≡ object_identifier_contents ns
 object_identifier_kept ns [] all p der on = absurd cc
 object_identifier_kept ns (b ∷ rest) all p der on =
     let well = are_well (b ∷ rest) der in
     let leads : NoneLeads true rest =
-    none_leads true rest (behind_first b rest well.unpadded on) (λ none. refl) (λ some. last_of_more b rest some well.last) in
+    none_leads true rest (behind_first b rest well.unpadded on) (λ none. refl)
+    (λ some. last_of_more b rest some well.last) in
     short_object_identifier ns b rest all leads p
   where
-    last_of_more : (b : ℕ) (octets : List ℕ) → 0 < length octets → last_octet (b ∷ octets) < 128 → last_octet octets < 128
+    last_of_more : (b : ℕ) (octets : List ℕ) → 0 < length octets → last_octet (b ∷ octets) < 128 →
+        last_octet octets < 128
     last_of_more b [] some low = absurd (omega (arith, some))
     last_of_more b (c ∷ octets) some low = omega (arith, low, last_after b c octets)
 
@@ -166,7 +184,8 @@ continued_some [] p = absurd p
 continued_some (b ∷ octets) p = omega arith
 
 -- octets that do not begin with 80, and others behind them
-other_front : (first rest more : List ℕ) → 0 < length first → ((more : List ℕ) → first ≢ 128 ∷ more) → first ++ rest ≢ 128 ∷ more
+other_front : (first rest more : List ℕ) → 0 < length first → ((more : List ℕ) → first ≢ 128 ∷ more) →
+    first ++ rest ≢ 128 ∷ more
 other_front [] rest more some other e = omega (arith, some)
 other_front (a ∷ first) rest more some other e =
     let is : a ≡ 128 = cc in
@@ -187,11 +206,13 @@ written_not_80 : (b : ℕ) (ns : List ℕ) → goes_on_with_80 (b ∷ flat_map s
 written_not_80 b [] = refl
 written_not_80 b (n ∷ ns) =
     not_80_next b (shortest_base128 n ++ flat_map shortest_base128 ns) (λ more.
-    other_front (shortest_base128 n) (flat_map shortest_base128 ns) more (continued_some (shortest_base128 n) (shortest_base128_is n).continued) (shortest_base128_leading n))
+    other_front (shortest_base128 n) (flat_map shortest_base128 ns) more
+    (continued_some (shortest_base128 n) (shortest_base128_is n).continued) (shortest_base128_leading n))
 
 -- an octet 80 is not written there
 pub object_identifier_other :
-    (ns contents : List ℕ) → ObjectIdentifierContents ns contents → contents ≡ object_identifier_contents ns → goes_on_with_80 contents ≡ false
+    (ns contents : List ℕ) → ObjectIdentifierContents ns contents → contents ≡ object_identifier_contents ns →
+    goes_on_with_80 contents ≡ false
 object_identifier_other [] contents p e = absurd p
 object_identifier_other (x ∷ []) contents p e = absurd p
 object_identifier_other (x ∷ y ∷ ns) contents p e = ap goes_on_with_80 e ∙ written_not_80 (40 * x + y) ns

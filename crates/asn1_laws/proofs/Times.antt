@@ -12,9 +12,6 @@ use Rattle.asn1_der.specs.Padding.{has_padded_fraction, last_octet}
 use Rattle.asn1_laws.specs.Spellings.{has_many_digits}
 use Rattle.asn1_laws.proofs.Fractions.{digit_range, fraction_few, fraction_is}
 
-second_size : (m : Moment) → length (to_second m) ≡ 14
-second_size m = refl
-
 -- what is written of some nanoseconds, or of none
 pub some_fraction : (n : ℕ) → 0 < n → written_fraction n ≡ 46 ∷ fraction_digits 9 tenth n
 some_fraction n some = elim (cases_Bool (n == 0)) [
@@ -28,7 +25,8 @@ pub before_last : (front digits : List ℕ) (z : ℕ) → 0 < length digits →
 before_last front digits z some =
     let size = length-append front (digits ++ z ∷ []) in
     let more = length-append digits (z ∷ []) in
-    let place : length (front ++ (digits ++ z ∷ [])) - 2 ≡ length front + (length digits - 1) = omega (arith, size, more, some) in
+    let place : length (front ++ (digits ++ z ∷ [])) - 2 ≡ length front + (length digits - 1) =
+    omega (arith, size, more, some) in
     ap (λ i. get_or (front ++ (digits ++ z ∷ [])) i 0) place
     ∙ (get_or-append-add front (digits ++ z ∷ []) (length digits - 1) 0
     ∙ get_or_append_left digits (z ∷ []) 0 (length digits - 1) (omega (arith, some)))
@@ -52,16 +50,20 @@ module _ (contents : List ℕ) (size : 15 < length contents) where
   without_point : (get_or contents 14 0 == 46) ≡ false → has_padded_fraction contents ≡ true
   without_point e =
       ap₂ (λ x y. x && y) long
-      (no_point_true (get_or contents 14 0 == 46) (get_or contents (length contents - 2) 0 == 48) (get_or contents (length contents - 2) 0 == 46) e)
+      (no_point_true (get_or contents 14 0 == 46) (get_or contents (length contents - 2) 0 == 48)
+      (get_or contents (length contents - 2) 0 == 46) e)
 
   -- or it ends in 0, or has no digit
-  padded_end : (get_or contents (length contents - 2) 0 ≡ 48) ⊎ (get_or contents (length contents - 2) 0 ≡ 46) → has_padded_fraction contents ≡ true
+  padded_end : (get_or contents (length contents - 2) 0 ≡ 48) ⊎ (get_or contents (length contents - 2) 0 ≡ 46) →
+      has_padded_fraction contents ≡ true
   padded_end h =
       ap₂ (λ x y. x && y) long
-      (either_true (get_or contents 14 0 == 46) (get_or contents (length contents - 2) 0 == 48) (get_or contents (length contents - 2) 0 == 46) (is h))
+      (either_true (get_or contents 14 0 == 46) (get_or contents (length contents - 2) 0 == 48)
+      (get_or contents (length contents - 2) 0 == 46) (is h))
     where
       is : (get_or contents (length contents - 2) 0 ≡ 48) ⊎ (get_or contents (length contents - 2) 0 ≡ 46)
-          → ((get_or contents (length contents - 2) 0 == 48) ≡ true) ⊎ ((get_or contents (length contents - 2) 0 == 46) ≡ true)
+          → ((get_or contents (length contents - 2) 0 == 48) ≡ true)
+          ⊎ ((get_or contents (length contents - 2) 0 == 46) ≡ true)
       is (inl e) = inl (ap (λ z. z == 48) e)
       is (inr e) = inr (ap (λ z. z == 46) e)
 
@@ -87,29 +89,35 @@ module _ (m : Moment) where
   bare_point : has_padded_fraction (to_second m ++ (46 ∷ 90 ∷ [])) ≡ true
   bare_point =
       let whole = to_second m ++ (46 ∷ 90 ∷ []) in
-      padded_end whole (omega (arith, whole_size (46 ∷ 90 ∷ []))) (inr (before_last (to_second m) (46 ∷ []) 90 (omega arith)))
+      padded_end whole (omega (arith, whole_size (46 ∷ 90 ∷ [])))
+      (inr (before_last (to_second m) (46 ∷ []) 90 (omega arith)))
 
   -- digits that are not padding do not end in 0
-  last_digit : (digits : List ℕ) → 0 < length digits → has_padded_fraction (to_second m ++ (46 ∷ (digits ++ 90 ∷ []))) ≡ false → last_octet digits ≢ 48
+  last_digit : (digits : List ℕ) → 0 < length digits →
+      has_padded_fraction (to_second m ++ (46 ∷ (digits ++ 90 ∷ []))) ≡ false → last_octet digits ≢ 48
   last_digit digits some unpadded zero_at_end =
       let whole = to_second m ++ (46 ∷ (digits ++ 90 ∷ [])) in
       let more = length-append digits (90 ∷ []) in
       let same : (to_second m ++ 46 ∷ []) ++ (digits ++ 90 ∷ []) ≡ whole = refl in
-      let is : get_or whole (length whole - 2) 0 ≡ 48 = before_last (to_second m ++ 46 ∷ []) digits 90 some ∙ zero_at_end in
+      let is : get_or whole (length whole - 2) 0 ≡ 48 =
+      before_last (to_second m ++ 46 ∷ []) digits 90 some ∙ zero_at_end in
       false≢true (sym unpadded ∙ padded_end whole (omega (arith, whole_size (46 ∷ (digits ++ 90 ∷ [])), more)) (inl is))
 
   -- what is written of the nanoseconds
-  end_written : (digits end : List ℕ) → list_all is_ascii_digit digits ≡ true → m.nanosecond ≡ fraction_number tenth digits
+  end_written : (digits end : List ℕ) → list_all is_ascii_digit digits ≡ true →
+      m.nanosecond ≡ fraction_number tenth digits
       → (end ≡ digits ++ 90 ∷ []) ⊎ (end ≡ 46 ∷ (digits ++ 90 ∷ [])) → has_padded_fraction (to_second m ++ end) ≡ false
       → length end ≤ 11 → end ≡ written_fraction m.nanosecond ++ 90 ∷ []
   end_written [] end all is (inl e) unpadded few = e ∙ ap (λ z. written_fraction z ++ 90 ∷ []) (sym is)
   end_written (d ∷ ds) end all is (inl e) unpadded few =
-      absurd (false≢true (sym unpadded ∙ (ap (λ z. has_padded_fraction (to_second m ++ z)) e ∙ bare_digits (d ∷ ds) all (omega arith))))
+      absurd (false≢true (sym unpadded
+      ∙ (ap (λ z. has_padded_fraction (to_second m ++ z)) e ∙ bare_digits (d ∷ ds) all (omega arith))))
   end_written [] end all is (inr e) unpadded few =
       absurd (false≢true (sym unpadded ∙ (ap (λ z. has_padded_fraction (to_second m ++ z)) e ∙ bare_point)))
   end_written (d ∷ ds) end all is (inr e) unpadded few =
       let digits = d ∷ ds in
-      let last = last_digit digits (omega arith) (sym (ap (λ z. has_padded_fraction (to_second m ++ z)) e) ∙ unpadded) in
+      let last = last_digit digits (omega arith)
+      (sym (ap (λ z. has_padded_fraction (to_second m ++ z)) e) ∙ unpadded) in
       let size : length digits ≤ 9 = omega (arith, few, ap length e, length-append digits (90 ∷ [])) in
       let f = fraction_is 8 tenth digits refl all (omega arith) size last in
       let written : written_fraction m.nanosecond ≡ 46 ∷ digits =
@@ -117,11 +125,13 @@ module _ (m : Moment) where
       e ∙ sym (ap (λ z. z ++ 90 ∷ []) written)
 
 pub generalized_time_kept :
-    (m : Moment) (contents : List ℕ) → GeneralizedTimeContents m contents → has_padded_fraction contents ≡ false → has_many_digits contents ≡ false →
+    (m : Moment) (contents : List ℕ) → GeneralizedTimeContents m contents → has_padded_fraction contents ≡ false →
+    has_many_digits contents ≡ false →
     contents ≡ generalized_time_contents m
 generalized_time_kept m contents p unpadded few =
     let size : length contents ≤ 25 = grind (arith, nat_tests, few) in
-    let end = end_written m p.digits p.end p.is_end.0 p.nanosecond p.is_end.1 (sym (ap has_padded_fraction p.octets) ∙ unpadded)
+    let end = end_written m p.digits p.end p.is_end.0 p.nanosecond p.is_end.1
+    (sym (ap has_padded_fraction p.octets) ∙ unpadded)
     (omega (arith, size, ap length p.octets, whole_size m p.end)) in
     p.octets ∙ ap (λ z. to_second m ++ z) end
 
@@ -132,8 +142,16 @@ fraction_size n = elim (cases_lt 0 n) [
   | inr none ↦ let zero : n ≡ 0 = omega (arith, none) in omega (arith, ap (λ z. length (written_fraction z)) zero)
 ]
 
-pub generalized_time_other : (m : Moment) (contents : List ℕ) → contents ≡ generalized_time_contents m → has_many_digits contents ≡ false
+pub generalized_time_other : (m : Moment) (contents : List ℕ) → contents ≡ generalized_time_contents m →
+    has_many_digits contents ≡ false
 generalized_time_other m contents e =
     let end = written_fraction m.nanosecond ++ 90 ∷ [] in
-    let size : length contents ≤ 25 = omega (arith, ap length e, whole_size m end, length-append (written_fraction m.nanosecond) (90 ∷ []), fraction_size m.nanosecond) in
+    let size : length contents ≤ 25 =
+    omega (
+      arith,
+      ap length e,
+      whole_size m end,
+      length-append (written_fraction m.nanosecond) (90 ∷ []),
+      fraction_size m.nanosecond,
+    ) in
     grind (arith, nat_tests, size)

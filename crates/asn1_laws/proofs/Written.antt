@@ -44,26 +44,32 @@ mutual
       let r = leaf_reserved l in
       of_primitive_type (is_written Universal false (leaf_tag l) (leaf_contents l)) r.0 r.1 (leaf_der l f t)
   der_of_tree (group o Sequence bs) f t =
-      of_sequence (is_written Universal true 16 (all_canonical bs)) refl (λ e. absurd (omega (arith, e))) (each_canonical bs) (der_of_trees bs f t)
+      of_sequence (is_written Universal true 16 (all_canonical bs)) refl (λ e. absurd (omega (arith, e)))
+      (each_canonical bs) (der_of_trees bs f t)
   der_of_tree (group o Set bs) f t =
       of_set (is_written Universal true 17 (all_canonical bs)) (each_canonical bs) (der_of_trees bs f t.0) t.1
   der_of_tree (explicit c o n b) f t =
       of_other_constructed f.0 (is_written c true n (canonical b)) (canonical b ∷ [])
       (more_encodings (sym (append-nil (canonical b))) (der_of_tree b f.1 t) no_encodings)
-  der_of_tree (unknown c k o n v) f t = whole_der (shortest_encoding c k n v) c k n v (record { alone = (is_written c k n v, t.0); items = t.1 })
+  der_of_tree (unknown c k o n v) f t =
+      whole_der (shortest_encoding c k n v) c k n v (record { alone = (is_written c k n v, t.0); items = t.1 })
 
-  der_of_trees : (bs : Trees ℕ) → AreFaithful bs → AreDerTrees bs → AreDerEncodings (all_canonical bs) (each_canonical bs)
+  der_of_trees : (bs : Trees ℕ) → AreFaithful bs → AreDerTrees bs →
+      AreDerEncodings (all_canonical bs) (each_canonical bs)
   der_of_trees no_trees f t = no_encodings
   der_of_trees (more_trees b bs) f t = more_encodings refl (der_of_tree b f.0 t.0) (der_of_trees bs f.1 t.1)
 
 -- what an encoding that is written has to be
-whole_of : (c : ASN1Class) (k : Bool) (n : ℕ) (v : List ℕ) → length (shortest_encoding c k n v) < 2 ^ 64 → IsDerEncoding (shortest_encoding c k n v)
+whole_of : (c : ASN1Class) (k : Bool) (n : ℕ) (v : List ℕ) → length (shortest_encoding c k n v) < 2 ^ 64 →
+    IsDerEncoding (shortest_encoding c k n v)
     → IsWhole (shortest_encoding c k n v) c k n v
 whole_of c k n v small d =
-    der_whole (shortest_encoding c k n v) c k n v (header_size c k n v) small (shortest_encodes c k n v (omega (arith, small, contents_le c k n v))) d
+    der_whole (shortest_encoding c k n v) c k n v (header_size c k n v) small
+    (shortest_encodes c k n v (omega (arith, small, contents_le c k n v))) d
 
 -- the first that is written, and the others
-first_written : (b : Tree ℕ) (rest whole : List ℕ) → whole ≡ canonical b ++ rest → length whole < 2 ^ 64 → AreDer whole → IsDerEncoding (canonical b) × AreDer rest
+first_written : (b : Tree ℕ) (rest whole : List ℕ) → whole ≡ canonical b ++ rest → length whole < 2 ^ 64 →
+    AreDer whole → IsDerEncoding (canonical b) × AreDer rest
 first_written b rest whole e small d =
     let G = canonical_encoding b (omega (arith, small, ap length e, length-append (canonical b) rest)) in
     let s = split whole (canonical b) rest G.class G.constructed G.tag G.contents G.header G.encoding e small d in
@@ -80,7 +86,8 @@ mutual
       trees_of_der bs (omega (arith, small, contents_le Universal true 16 (all_canonical bs))) f (w.items refl)
   tree_of_der (group o Set bs) small f d =
       let w = whole_of Universal true 17 (all_canonical bs) small d in
-      let t = trees_of_der bs (omega (arith, small, contents_le Universal true 17 (all_canonical bs))) f (w.items refl) in
+      let t = trees_of_der bs (omega (arith, small, contents_le Universal true 17 (all_canonical bs))) f
+      (w.items refl) in
       (t, w.alone.1.1 refl (each_canonical bs) (der_of_trees bs f t))
   tree_of_der (explicit c o n b) small f d =
       let w = whole_of c true n (canonical b) small d in
@@ -90,7 +97,8 @@ mutual
       let w = whole_of c k n v small d in
       (w.alone.1, w.items)
 
-  trees_of_der : (bs : Trees ℕ) → length (all_canonical bs) < 2 ^ 64 → AreFaithful bs → AreDer (all_canonical bs) → AreDerTrees bs
+  trees_of_der : (bs : Trees ℕ) → length (all_canonical bs) < 2 ^ 64 → AreFaithful bs → AreDer (all_canonical bs) →
+      AreDerTrees bs
   trees_of_der no_trees small f d = tt
   trees_of_der (more_trees b bs) small f d =
       let size = length-append (canonical b) (all_canonical bs) in
@@ -100,7 +108,8 @@ mutual
 -- what is written of a faithful tree is DER exactly if
 pub written_one : (b : Tree ℕ) → length (canonical b) < 2 ^ 64 → IsFaithful b → IsDer (canonical b) ↔ IsDerTree b
 written_one b small f = (
-  λ d. tree_of_der b small f (first_written b [] (canonical b) (sym (append-nil (canonical b))) small (d.items, d.encodings)).0,
+  λ d. tree_of_der b small f
+      (first_written b [] (canonical b) (sym (append-nil (canonical b))) small (d.items, d.encodings)).0,
   λ t. record {
     some = canonical_some b;
     items = canonical b ∷ [];
@@ -110,7 +119,8 @@ written_one b small f = (
 
 -- and of trees, joined
 pub written_joined :
-    (bs : Trees ℕ) → bs ≢ no_trees → length (all_canonical bs) < 2 ^ 64 → AreFaithful bs → IsDer (all_canonical bs) ↔ AreDerTrees bs
+    (bs : Trees ℕ) → bs ≢ no_trees → length (all_canonical bs) < 2 ^ 64 → AreFaithful bs →
+    IsDer (all_canonical bs) ↔ AreDerTrees bs
 written_joined bs some small f = (
   λ d. trees_of_der bs small f (d.items, d.encodings),
   λ t. record { some = octets bs some; items = each_canonical bs; encodings = der_of_trees bs f t },

@@ -58,10 +58,12 @@ bits_alike n [] some enough = absurd (omega (arith, some, enough))
 bits_alike n (first ∷ more) some enough =
     let v = first ∷ more in
     let is : nat_lt 0 n ≡ true = grind (arith, nat_tests, some) in
-    ap (λ z. z && (last_octet v % (2 ^ (8 * length v - n)) == 0)) (few_bits n (8 * length v) (8 * length v - n) enough refl)
+    ap (λ z. z && (last_octet v % (2 ^ (8 * length v - n)) == 0))
+    (few_bits n (8 * length v) (8 * length v - n) enough refl)
     ∙ ap (λ z. z && nat_lt (8 * length v) (n + 8) && (last_octet v % (2 ^ (8 * length v - n)) == 0)) (sym is)
 
-bit_string_alike : (n : ℕ) (v : List ℕ) → IsFaithfulBitString n v → is_bit_string (bit_string_contents n v) ≡ are_der_bits n v
+bit_string_alike : (n : ℕ) (v : List ℕ) → IsFaithfulBitString n v →
+    is_bit_string (bit_string_contents n v) ≡ are_der_bits n v
 bit_string_alike zero v f = refl
 bit_string_alike (suc n) v (inl f) = absurd (omega (arith, f.0))
 bit_string_alike (suc n) v (inr (some, enough, few, fits)) =
@@ -73,7 +75,8 @@ record AreEnded (octets : List ℕ) : Type 0 where
   pub last : 0 < length octets → last_octet octets < 128
   pub unpadded : is_padded_from true octets ≡ false
 
-not_leading : (begins : Bool) (b : ℕ) (front : List ℕ) → (begins ≡ true → (more : List ℕ) → b ∷ front ≢ 128 ∷ more) → (begins && (b == 128)) ≡ false
+not_leading : (begins : Bool) (b : ℕ) (front : List ℕ) → (begins ≡ true → (more : List ℕ) → b ∷ front ≢ 128 ∷ more) →
+    (begins && (b == 128)) ≡ false
 not_leading false b front other = refl
 not_leading true b front other = elim (cases_Bool (b == 128)) [
   | inl e ↦ absurd (other refl front (ap (λ z. z ∷ front) (eqb-true b 128 e)))
@@ -81,7 +84,8 @@ not_leading true b front other = elim (cases_Bool (b == 128)) [
 ]
 
 continued_ended :
-    (first rest : List ℕ) (begins : Bool) → IsContinued first → (begins ≡ true → (more : List ℕ) → first ≢ 128 ∷ more) → AreEnded rest →
+    (first rest : List ℕ) (begins : Bool) → IsContinued first → (begins ≡ true → (more : List ℕ) → first ≢ 128 ∷ more) →
+    AreEnded rest →
     (is_padded_from begins (first ++ rest) ≡ false) × (last_octet (first ++ rest) < 128)
 continued_ended [] rest begins p other e = absurd p
 continued_ended (b ∷ []) rest begins p other e =
@@ -90,7 +94,8 @@ continued_ended (b ∷ []) rest begins p other e =
       last_of b rest p e.last,
     )
   where
-    last_of : (b : ℕ) (rest : List ℕ) → b < 128 → (0 < length rest → last_octet rest < 128) → last_octet (b ∷ rest) < 128
+    last_of : (b : ℕ) (rest : List ℕ) → b < 128 → (0 < length rest → last_octet rest < 128) →
+        last_octet (b ∷ rest) < 128
     last_of b [] low h = low
     last_of b (c ∷ rest) low h = omega (arith, last_after b c rest, h (omega arith))
 continued_ended (b ∷ c ∷ first) rest begins (high, p) other e =
@@ -110,9 +115,11 @@ components_ended (n ∷ ns) =
 -- behind an octet with bit 8 set
 behind_high : (n : ℕ) (ns : List ℕ) → is_padded_from false (flat_map shortest_base128 (n ∷ ns)) ≡ false
 behind_high n ns =
-    (continued_ended (shortest_base128 n) (flat_map shortest_base128 ns) false (shortest_base128_is n).continued (λ t. absurd (false≢true t)) (components_ended ns)).0
+    (continued_ended (shortest_base128 n) (flat_map shortest_base128 ns) false (shortest_base128_is n).continued
+    (λ t. absurd (false≢true t)) (components_ended ns)).0
 
-well : (octets : List ℕ) → 0 < length octets → last_octet octets < 128 → has_padded_component octets ≡ false → are_subidentifiers octets ≡ true
+well : (octets : List ℕ) → 0 < length octets → last_octet octets < 128 → has_padded_component octets ≡ false →
+    are_subidentifiers octets ≡ true
 well octets some low unpadded =
     let a : nat_lt 0 (length octets) ≡ true = grind (arith, nat_tests, some) in
     let b : nat_lt (last_octet octets) 128 ≡ true = grind (arith, nat_tests, low) in
@@ -125,29 +132,38 @@ nothing_and false b e = refl
 
 padded_not_well : (octets : List ℕ) → has_padded_component octets ≡ true → are_subidentifiers octets ≡ false
 padded_not_well octets e =
-    nothing_and (nat_lt 0 (length octets) && nat_lt (last_octet octets) 128) (not (has_padded_component octets)) (ap not e)
+    nothing_and (nat_lt 0 (length octets) && nat_lt (last_octet octets) 128) (not (has_padded_component octets))
+    (ap not e)
 
 unended_not_well : (octets : List ℕ) → 128 ≤ last_octet octets → are_subidentifiers octets ≡ false
 unended_not_well octets high =
     let b : nat_lt (last_octet octets) 128 ≡ false = grind (arith, nat_tests, high) in
-    ap (λ z. z && not (has_padded_component octets)) (nothing_and (nat_lt 0 (length octets)) (nat_lt (last_octet octets) 128) b)
+    ap (λ z. z && not (has_padded_component octets))
+    (nothing_and (nat_lt 0 (length octets)) (nat_lt (last_octet octets) 128) b)
 
-last_of_all : (b : ℕ) (rest : List ℕ) → (0 < length rest → last_octet rest < 128) → (length rest ≡ 0 → b < 128) → last_octet (b ∷ rest) < 128
+last_of_all : (b : ℕ) (rest : List ℕ) → (0 < length rest → last_octet rest < 128) → (length rest ≡ 0 → b < 128) →
+    last_octet (b ∷ rest) < 128
 last_of_all b [] h low = low refl
 last_of_all b (c ∷ rest) h low = omega (arith, last_after b c rest, h (omega arith))
 
 shortest_some : (n : ℕ) (ns : List ℕ) → 0 < length (flat_map shortest_base128 (n ∷ ns))
 shortest_some n ns =
-    omega (arith, continued_some (shortest_base128 n) (shortest_base128_is n).continued, length-append (shortest_base128 n) (flat_map shortest_base128 ns))
+    omega (
+      arith,
+      continued_some (shortest_base128 n) (shortest_base128_is n).continued,
+      length-append (shortest_base128 n) (flat_map shortest_base128 ns),
+    )
 
 -- an octet in front, and the subidentifiers of other components
 front_alike :
-    (b : ℕ) (ns : List ℕ) → are_subidentifiers (b ∷ flat_map shortest_base128 ns) ≡ (nat_lt b 128 || (nat_lt 128 b && nat_lt 0 (length ns)))
+    (b : ℕ) (ns : List ℕ) →
+    are_subidentifiers (b ∷ flat_map shortest_base128 ns) ≡ (nat_lt b 128 || (nat_lt 128 b && nat_lt 0 (length ns)))
 front_alike b ns = elim (cases_lt b 128) [
   | inl low ↦ let is : nat_lt b 128 ≡ true = grind (arith, nat_tests, low) in
       let other : (b == 128) ≡ false = grind (arith, nat_tests, low) in
       let rest = components_ended ns in
-      well (b ∷ flat_map shortest_base128 ns) (omega arith) (last_of_all b (flat_map shortest_base128 ns) rest.last (λ none. low))
+      well (b ∷ flat_map shortest_base128 ns) (omega arith)
+      (last_of_all b (flat_map shortest_base128 ns) rest.last (λ none. low))
       (ap₂ (λ x y. x || is_padded_from y (flat_map shortest_base128 ns)) other is ∙ rest.unpadded)
       ∙ sym (ap (λ z. z || (nat_lt 128 b && nat_lt 0 (length ns))) is)
   | inr high ↦ elim (cases_lt 128 b) [
@@ -175,12 +191,14 @@ front_alike b ns = elim (cases_lt b 128) [
         let goes : nat_lt b 128 ≡ false = grind (arith, nat_tests, above) in
         let other : (b == 128) ≡ false = grind (arith, nat_tests, above) in
         let more : nat_lt 0 (length (n ∷ ns)) ≡ true = grind (arith, nat_tests) in
-        well (b ∷ rest) (omega arith) (last_of_all b rest ended.last (λ none. absurd (omega (arith, none, shortest_some n ns))))
+        well (b ∷ rest) (omega arith)
+        (last_of_all b rest ended.last (λ none. absurd (omega (arith, none, shortest_some n ns))))
         (ap₂ (λ x y. x || is_padded_from y rest) other goes ∙ behind_high n ns)
         ∙ (sym more ∙ sym (right_is b above (nat_lt 0 (length (n ∷ ns)))))
 
 object_identifier_alike :
-    (ns : List ℕ) → IsFaithfulObjectIdentifier ns → are_subidentifiers (object_identifier_contents ns) ≡ are_der_components ns
+    (ns : List ℕ) → IsFaithfulObjectIdentifier ns →
+    are_subidentifiers (object_identifier_contents ns) ≡ are_der_components ns
 object_identifier_alike [] f = absurd cc
 object_identifier_alike (x ∷ []) f = absurd cc
 object_identifier_alike (x ∷ y ∷ ns) f = front_alike (40 * x + y) ns

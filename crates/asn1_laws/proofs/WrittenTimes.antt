@@ -40,8 +40,10 @@ last_digit k unit n positive some below none =
     let digit_some : 0 < n / unit = above_none n (n / unit) (n % unit) unit some (div-add-mod' n unit) zero_left in
     let alone : fraction_digits (suc k) unit n ≡ (48 + n / unit) ∷ [] =
     digits_step (suc k) unit n (omega arith) some
-    ∙ ap (λ z. (48 + n / unit) ∷ z) (ap (λ z. fraction_digits (suc k - 1) (unit / 10) z) zero_left ∙ digits_none (suc k - 1) (unit / 10)) in
-    subst EndsAboveZero (sym alone) (record { some = omega arith; last = (omega (arith, digit_some), omega (arith, few)) })
+    ∙ ap (λ z. (48 + n / unit) ∷ z)
+    (ap (λ z. fraction_digits (suc k - 1) (unit / 10) z) zero_left ∙ digits_none (suc k - 1) (unit / 10)) in
+    subst EndsAboveZero (sym alone)
+    (record { some = omega arith; last = (omega (arith, digit_some), omega (arith, few)) })
 
 -- the digits of a number above 0 end so
 digits_end : (k unit n : ℕ) → unit ≡ 10 ^ k → 0 < n → n < 10 * unit → EndsAboveZero (fraction_digits (suc k) unit n)
@@ -59,15 +61,18 @@ digits_end (suc k) unit n e some below =
       | inl more ↦ subst EndsAboveZero
           (sym (digits_step (suc (suc k)) unit n (omega arith) some
           ∙ ap (λ j. (48 + n / unit) ∷ fraction_digits j (unit / 10) (n % unit)) places))
-          (one_more (48 + n / unit) (fraction_digits (suc k) (unit / 10) (n % unit)) (digits_end k (unit / 10) (n % unit) lower more small))
+          (one_more (48 + n / unit) (fraction_digits (suc k) (unit / 10) (n % unit))
+          (digits_end k (unit / 10) (n % unit) lower more small))
     ]
 
 -- a point, and an octet before the last that is neither 0 nor a point
-unpadded : (long : Bool) (a b : ℕ) → a ≡ 46 → IsAboveZero b → (long && (not (a == 46) || (b == 48) || (b == 46))) ≡ false
+unpadded : (long : Bool) (a b : ℕ) → a ≡ 46 → IsAboveZero b →
+    (long && (not (a == 46) || (b == 48) || (b == 46))) ≡ false
 unpadded true a b point above = grind (arith, nat_tests, point, above)
 unpadded false a b point above = refl
 
-fraction_unpadded : (m : Moment) (n : ℕ) → n < 1000000000 → has_padded_fraction (to_second m ++ (written_fraction n ++ 90 ∷ [])) ≡ false
+fraction_unpadded : (m : Moment) (n : ℕ) → n < 1000000000 →
+    has_padded_fraction (to_second m ++ (written_fraction n ++ 90 ∷ [])) ≡ false
 fraction_unpadded m n small = elim (cases_lt 0 n) [
   | inr none ↦ let zero_left : n ≡ 0 = omega (arith, none) in
       ap (λ z. has_padded_fraction (to_second m ++ (written_fraction z ++ 90 ∷ []))) zero_left ∙ whole

@@ -1,8 +1,8 @@
 // Laws over the definitions alone: where DER by X.690 and what this library reads and writes are the same.
 ghost use Rattle.asn1_laws.specs.Laws.{DerIsCanonical, DerIsRead, WrittenIsDer};
 
-/// A law, with no code. All DER that a slice can hold is read, with two exceptions. A TeletexString, a UniversalString or
-/// a BMPString, which have codes of their own in DER (X.690 8.23), is rejected where it is no UTF-8. A BIT STRING is
+/// A law, with no code. All DER that a slice can hold is read, with two exceptions. A TeletexString, a UniversalString
+/// or a BMPString, which have codes of their own in DER (X.690 8.23), is rejected where it is no UTF-8. A BIT STRING is
 /// rejected where a `usize` cannot count its bits.
 ///
 /// ```rust

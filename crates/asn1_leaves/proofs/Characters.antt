@@ -32,7 +32,8 @@ octets_scalars (c ∷ cs) all =
     let h : c < 256 = All-head (λ b. b < 256) c cs all in
     and_from _ _ (low_scalar c (omega arith)) (octets_scalars cs (All-tail (λ b. b < 256) c cs all))
 
-below_if_any : (c : ℕ) (ds : List ℕ) → list_all (λ d. nat_lt d 128) ds ≡ true → list_any (λ d. c == d) ds ≡ true → c < 128
+below_if_any : (c : ℕ) (ds : List ℕ) → list_all (λ d. nat_lt d 128) ds ≡ true → list_any (λ d. c == d) ds ≡ true →
+    c < 128
 below_if_any c [] all e = cc
 below_if_any c (d ∷ ds) all e =
     let p = and_parts (nat_lt d 128) (list_all (λ d. nat_lt d 128) ds) all in
@@ -77,7 +78,8 @@ fits_first c cs e = elim (cases_lt c 256) [
 -- the character at a place, and those after it
 pub fault_at : (cs : List ℕ) (n c : ℕ) → (n < length cs) × (c ≡ get_or cs n c)
     → octet_write_fault (drop n cs) ≡ octet_write_fault (c ∷ drop (n + 1) cs)
-fault_at cs n c h = at_drop_more octet_write_fault cs n c h.0 ∙ ap (λ x. octet_write_fault (x ∷ drop (n + 1) cs)) (sym h.1)
+fault_at cs n c h = at_drop_more octet_write_fault cs n c h.0
+    ∙ ap (λ x. octet_write_fault (x ∷ drop (n + 1) cs)) (sym h.1)
 
 -- characters that are octets fit an octet
 octets_fit : (cs : List ℕ) → All (λ b. b < 256) cs → list_all (λ c. nat_lt c 256) cs ≡ true
@@ -93,13 +95,15 @@ octets_writable cs all = let e = octets_fit cs all in rw e refl
 
 -- all of ASCII can be
 pub ascii_writable : (cs : List ℕ) → IsAscii cs → octet_write_fault cs ≡ None
-ascii_writable cs a = octets_writable cs (All-weaker (λ b. b < 128) (λ b. b < 256) (λ b h. omega arith) cs (All-from_ascii cs a))
+ascii_writable cs a =
+    octets_writable cs (All-weaker (λ b. b < 128) (λ b. b < 256) (λ b h. omega arith) cs (All-from_ascii cs a))
 
 -- where there is no fault, all fit
 pub octet_write_none : (cs : List ℕ) → octet_write_fault cs ≡ None → list_all (λ c. nat_lt c 256) cs ≡ true
 octet_write_none cs e = elim (cases_Bool (list_all (λ c. nat_lt c 256) cs)) [
   | inl fit ↦ fit
-  | inr not ↦ let f : Some CharacterTooLarge ≡ None = sym (ap (λ b. if b then None else Some CharacterTooLarge) not) ∙ e in cc
+  | inr not ↦ let f : Some CharacterTooLarge ≡ None =
+      sym (ap (λ b. if b then None else Some CharacterTooLarge) not) ∙ e in cc
 ]
 
 -- characters of a PrintableString fit an octet
@@ -111,7 +115,8 @@ printable_write_none (c ∷ cs) e =
     fault_below c cs (omega (arith, h)) ∙ printable_write_none cs p.1
 
 -- the octets of a text are characters of a PrintableString exactly if its characters are
-pub printable_bytes : (bs : List ℕ) → IsUtf8 bs → (list_all is_printable bs ≡ true) ↔ (list_all is_printable (chars bs) ≡ true)
+pub printable_bytes : (bs : List ℕ) → IsUtf8 bs →
+    (list_all is_printable bs ≡ true) ↔ (list_all is_printable (chars bs) ≡ true)
 printable_bytes bs u =
     let back : list_all is_printable (chars bs) ≡ true → list_all is_printable bs ≡ true = λ q.
     let a = printable_ascii (chars bs) q in

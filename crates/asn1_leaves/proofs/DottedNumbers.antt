@@ -6,7 +6,6 @@ use Rattle.std.specs.Fmt.{HasWritten, IsPlainFormatter}
 use Rattle.std.specs.List.{flat_map, slice_range, slice_split}
 use Rattle.std.specs.declared.fmt.Formatter.{Formatter}
 use Rattle.std.proofs.Output.{has_written_append, has_written_of_eq}
-use Rattle.std.proofs.lemmas.List.{drop_all}
 use Rattle.asn1_numbers.specs.Base128.{IsBase128}
 use Rattle.std.proofs.lemmas.Bool.{ne_eqb}
 use Rattle.std.proofs.lemmas.Grind.{flat_map-append}
@@ -21,7 +20,8 @@ use Rattle.asn1_leaves.proofs.PushedNumbers.{next_number}
 
 -- one more
 pub pointed_more : (ns : List ℕ) (n : ℕ) → flat_map pointed ns ++ pointed n ≡ flat_map pointed (ns ++ n ∷ [])
-pointed_more ns n = sym (flat_map-append pointed ns (n ∷ []) ∙ ap (λ l. flat_map pointed ns ++ l) (append-nil (pointed n)))
+pointed_more ns n = sym
+    (flat_map-append pointed ns (n ∷ []) ∙ ap (λ l. flat_map pointed ns ++ l) (append-nil (pointed n)))
 
 -- the first has no point before it
 pub dotted_first : (n : ℕ) (ns : List ℕ) → dotted_decimal (n ∷ ns) ≡ natural_numeral n ++ flat_map pointed ns
@@ -42,7 +42,8 @@ dotted_two x y ns low_x low_y =
 no_point : (n : ℕ) → All (λ b. (b == 46) ≡ false) (natural_numeral n)
 no_point n =
     All-from_get_or (λ b. (b == 46) ≡ false) (natural_numeral n) 0
-    (λ k h. ne_eqb (get_or (natural_numeral n) k 0) 46 (λ e. omega (arith, digits_of_numeral n (natural_numeral n) refl k h, e)))
+    (λ k h. ne_eqb (get_or (natural_numeral n) k 0) 46
+    (λ e. omega (arith, digits_of_numeral n (natural_numeral n) refl k h, e)))
 
 -- cut at the points
 cut_again : (n : ℕ) (ns : List ℕ) → slice_split (λ b. b == 46) (dotted_decimal (n ∷ ns)) ≡ map natural_numeral (n ∷ ns)
@@ -51,7 +52,8 @@ cut_again n (m ∷ ns) =
     slice_split_at (λ b. b == 46) (natural_numeral n) 46 (dotted_decimal (m ∷ ns)) (no_point n) refl
     ∙ ap (λ l. natural_numeral n ∷ l) (cut_again m ns)
 
-pub dotted_parts : (text ns : List ℕ) → IsDottedDecimal text ns → slice_split (λ b. b == 46) text ≡ map natural_numeral ns
+pub dotted_parts : (text ns : List ℕ) → IsDottedDecimal text ns →
+    slice_split (λ b. b == 46) text ≡ map natural_numeral ns
 dotted_parts text [] dotted = absurd (dotted.1 refl)
 dotted_parts text (n ∷ ns) dotted = ap (slice_split (λ b. b == 46)) dotted.0 ∙ cut_again n ns
 
@@ -100,23 +102,16 @@ written_more took f g h octets i j n forward inside p (within, (done, all, befor
         append_assoc done (n ∷ []) (numbers_after 0 (drop j octets)) ∙ ap (λ z. done ++ z) (sym next) ∙ all,
         λ plain.
             let so_far = before plain in
-            has_written_of_eq took f (flat_map pointed done ++ pointed n) (flat_map pointed (done ++ n ∷ [])) h (pointed_more done n)
+            has_written_of_eq took f (flat_map pointed done ++ pointed n) (flat_map pointed (done ++ n ∷ [])) h
+            (pointed_more done n)
             (has_written_append took f (flat_map pointed done) g (pointed n) h so_far (write so_far.plain)),
       ),
     )
-
--- and after all of them those are
-pub written_all : {W : Type 0} (took : W → List ℕ → W → Type 0) (f g : Formatter W) (octets : List ℕ) (i : ℕ)
-    → length octets ≤ i → AreWritten took f g octets i → IsPlainFormatter f
-    → HasWritten took f (flat_map pointed (numbers_after 0 octets)) g
-written_all took f g octets i end (within, (done, all, before)) plain =
-    let none = ap (numbers_after 0) (drop_all i octets end) in
-    let whole : done ≡ numbers_after 0 octets = sym (append-nil done) ∙ ap (λ z. done ++ z) (sym none) ∙ all in
-    has_written_of_eq took f (flat_map pointed done) (flat_map pointed (numbers_after 0 octets)) g (ap (flat_map pointed) whole) (before plain)
 
 -- one list after another
 pub written_both : {W : Type 0} (took : W → List ℕ → W → Type 0) (f g h : Formatter W) (text first rest : List ℕ)
     → first ++ rest ≡ text → HasWritten took f first g → (IsPlainFormatter g → HasWritten took g rest h)
     → HasWritten took f text h
 written_both took f g h text first rest e before write =
-    has_written_of_eq took f (first ++ rest) text h e (has_written_append took f first g rest h before (write before.plain))
+    has_written_of_eq took f (first ++ rest) text h e
+    (has_written_append took f first g rest h before (write before.plain))

@@ -1,43 +1,12 @@
 -- The components that are found in contents octets are those that they mean.
-use Rattle.std.proofs.Common.{
-  ◌≡◌,
-  ℕ,
-  ◌+◌,
-  ◌*◌,
-  ◌%◌,
-  inl,
-  inr,
-  List,
-  [],
-  ◌∷◌,
-  ◌++◌,
-  map,
-  refl,
-  sym,
-  ap,
-  ◌∙◌,
-  subst,
-  arith,
-  ◌≤◌,
-  None,
-  length,
-  Bool,
-  false,
-  ◌==◌,
-}
+use Rattle.std.proofs.Common.{◌≡◌, ℕ, ◌+◌, ◌*◌, ◌%◌, inl, inr, List, [], ◌∷◌, ◌++◌, map, refl, sym, ap, ◌∙◌, subst, arith, ◌≤◌, None, length, Bool, false, ◌==◌}
 use Rattle.std.specs.Int.Digits.{number_from_digits_after}
 use Rattle.std.specs.Cmp.Lexicographic.{pointwise}
 use Rattle.std.proofs.lemmas.Bool.Decides.{Decides-eqb, Decides-like, same_from_decides}
 use Rattle.std.proofs.lemmas.Slice.Eq.{slice_eq-Decides}
 use Rattle.asn1_numbers.specs.Octets.{AreOctets}
 use Rattle.asn1_numbers.specs.Base128.{IsContinued, low_bits_number}
-use Rattle.asn1_leaves.specs.Contents.ObjectIdentifier.{
-  AreFirstTwo,
-  ObjectIdentifierContents,
-  Subidentifiers,
-  object_identifier_contents,
-  object_identifier_write_fault,
-}
+use Rattle.asn1_leaves.specs.Contents.ObjectIdentifier.{AreFirstTwo, ObjectIdentifierContents, Subidentifiers, object_identifier_contents, object_identifier_write_fault}
 use Rattle.asn1_leaves.specs.Inner.IdentifierForms.{HaveShortContents, IsShortForm, components_of, first_component, numbers_after, second_component}
 use Rattle.asn1_leaves.proofs.Leaves.ObjectIdentifier.{object_identifier_again, object_identifier_writable}
 
@@ -75,7 +44,8 @@ components_found (x ∷ y ∷ ns) contents (b, octets, e, f, s) =
     ap components_of e ∙ cc
 
 -- of what is written they are those that were written
-pub components_written : (ns : List ℕ) → object_identifier_write_fault ns ≡ None → components_of (object_identifier_contents ns) ≡ ns
+pub components_written : (ns : List ℕ) → object_identifier_write_fault ns ≡ None →
+    components_of (object_identifier_contents ns) ≡ ns
 components_written ns fits = components_found ns (object_identifier_contents ns) (object_identifier_again ns fits)
 
 -- so what is written is a form of them
@@ -85,7 +55,8 @@ written_form ns short =
     (subst HaveShortContents found short, ap object_identifier_contents found)
 
 -- contents octets that are written of their components are a form of them
-pub short_form : (ns contents : List ℕ) → AreOctets contents → ObjectIdentifierContents ns contents → contents ≡ object_identifier_contents ns
+pub short_form : (ns contents : List ℕ) → AreOctets contents → ObjectIdentifierContents ns contents →
+    contents ≡ object_identifier_contents ns
     → length contents ≤ 24
     → IsShortForm contents
 short_form ns contents all p e short =
@@ -96,11 +67,15 @@ short_form ns contents all p e short =
     )
 
 -- they mean these components
-pub short_meant : (contents : List ℕ) → IsShortForm contents → ObjectIdentifierContents (components_of contents) contents
-short_meant contents (fits, e) = subst (ObjectIdentifierContents (components_of contents)) (sym e) (object_identifier_again (components_of contents) fits.0)
+pub short_meant : (contents : List ℕ) → IsShortForm contents →
+    ObjectIdentifierContents (components_of contents) contents
+short_meant contents (fits, e) =
+    subst (ObjectIdentifierContents (components_of contents)) (sym e)
+    (object_identifier_again (components_of contents) fits.0)
 
 -- the octets of two short forms are equal where their components are
-pub octets_equal : (x y ms ns : List ℕ) (r : Bool) → IsShortForm x → IsShortForm y → components_of x ≡ ms → components_of y ≡ ns
+pub octets_equal : (x y ms ns : List ℕ) (r : Bool) → IsShortForm x → IsShortForm y → components_of x ≡ ms →
+    components_of y ≡ ns
     → r ≡ pointwise (λ m n. m == n) x y → r ≡ pointwise (λ m n. m == n) ms ns
 octets_equal x y ms ns r p q e f equal =
     same_from_decides r (pointwise (λ m n. m == n) ms ns)
@@ -114,8 +89,10 @@ octets_equal x y ms ns r p q e f equal =
 pub forms_differ : (ms ns : List ℕ) → HaveShortContents ms → (HaveShortContents ns → ⊥)
     → (false ≡ pointwise (λ m n. m == n) ms ns) × (false ≡ pointwise (λ m n. m == n) ns ms)
 forms_differ ms ns short none = (
-  same_from_decides false (pointwise (λ m n. m == n) ms ns) (λ h. cc, λ e. absurd (none (subst HaveShortContents e short)))
+  same_from_decides false (pointwise (λ m n. m == n) ms ns)
+      (λ h. cc, λ e. absurd (none (subst HaveShortContents e short)))
       (slice_eq-Decides Decides-eqb ms ns (pointwise (λ m n. m == n) ms ns) refl),
-  same_from_decides false (pointwise (λ m n. m == n) ns ms) (λ h. cc, λ e. absurd (none (subst HaveShortContents (sym e) short)))
+  same_from_decides false (pointwise (λ m n. m == n) ns ms)
+      (λ h. cc, λ e. absurd (none (subst HaveShortContents (sym e) short)))
       (slice_eq-Decides Decides-eqb ns ms (pointwise (λ m n. m == n) ns ms) refl),
 )

@@ -10,7 +10,8 @@ use Rattle.asn1_leaves.proofs.SliceSplit.{slice_split}
 use Rattle.asn1_leaves.proofs.Subidentifiers.{none_after}
 
 -- one more at the end
-pub numbers_end : {T : Type 0} (has : ℕ → Type 0) (is_number : T → ℕ → Type 0) (xs : List T) (x : T) (ns : List ℕ) (n : ℕ)
+pub numbers_end : {T : Type 0} (has : ℕ → Type 0) (is_number : T → ℕ → Type 0) (xs : List T) (x : T) (ns : List ℕ)
+    (n : ℕ)
     → AreNumbers has is_number xs ns → has n → is_number x n → AreNumbers has is_number (xs ++ x ∷ []) (ns ++ n ∷ [])
 numbers_end has is_number [] x [] n p h i = (h, i, tt)
 numbers_end has is_number [] x (m ∷ ns) n p h i = absurd p
@@ -39,7 +40,8 @@ ArePushed has is_number before now octets i =
     × ((ns : List ℕ) → AreNumbers has is_number before ns → AreNumbers has is_number now (ns ++ done)))
     × (((ns : List ℕ) → Subidentifiers ns (drop i octets) → ⊥) → (ns : List ℕ) → Subidentifiers ns octets → ⊥)
 
-pub pushed_more : {T : Type 0} (has : ℕ → Type 0) (is_number : T → ℕ → Type 0) (before now new : List T) (octets : List ℕ) (i j n : ℕ)
+pub pushed_more : {T : Type 0} (has : ℕ → Type 0) (is_number : T → ℕ → Type 0) (before now new : List T)
+    (octets : List ℕ) (i j n : ℕ)
     → i ≤ j → j ≤ length octets → IsBase128 (slice_range octets i j) n → ArePushed has is_number before now octets i
     → ((ns : List ℕ) → AreNumbers has is_number now ns → AreNumbers has is_number new (ns ++ n ∷ []))
     → ArePushed has is_number before new octets j
@@ -51,11 +53,13 @@ pushed_more has is_number before now new octets i j n forward inside p (within, 
         append_assoc done (n ∷ []) (numbers_after 0 (drop j octets)) ∙ ap (λ z. done ++ z) (sym next) ∙ all,
         λ ns a. subst (AreNumbers has is_number new) (append_assoc ns done (n ∷ [])) (push (ns ++ done) (pushed ns a)),
       ),
-      λ h. none (none_after (slice_range octets i j) (drop j octets) n p h (drop i octets) (slice_split octets i j forward)),
+      λ h. none (none_after (slice_range octets i j) (drop j octets) n p h (drop i octets)
+          (slice_split octets i j forward)),
     )
 
 -- octets after the first that mean components are subidentifiers
-pub rest_meant : (ns : List ℕ) (b : ℕ) (octets : List ℕ) → ObjectIdentifierContents ns (b ∷ octets) → (ms : List ℕ) × Subidentifiers ms octets
+pub rest_meant : (ns : List ℕ) (b : ℕ) (octets : List ℕ) → ObjectIdentifierContents ns (b ∷ octets) →
+    (ms : List ℕ) × Subidentifiers ms octets
 rest_meant [] b octets p = absurd p
 rest_meant (x ∷ []) b octets p = absurd p
 rest_meant (x ∷ y ∷ ns) b octets (c, rest, e, f, s) =

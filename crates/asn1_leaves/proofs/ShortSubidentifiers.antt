@@ -1,31 +1,5 @@
 -- Subidentifiers none of which begins with 80 (hexadecimal) have their shortest forms.
-use Rattle.std.proofs.Common.{
-  ◌≡◌,
-  ◌≢◌,
-  ℕ,
-  ◌<◌,
-  Bool,
-  true,
-  List,
-  [],
-  ◌∷◌,
-  ◌++◌,
-  length,
-  refl,
-  sym,
-  ap,
-  ◌∙◌,
-  subst,
-  arith,
-  nat_lt,
-  IsTrue,
-  ◌+◌,
-  ◌*◌,
-  ◌≤◌,
-  ◌⊎◌,
-  inl,
-  inr,
-}
+use Rattle.std.proofs.Common.{◌≡◌, ◌≢◌, ℕ, ◌<◌, Bool, true, List, [], ◌∷◌, ◌++◌, length, refl, sym, ap, ◌∙◌, subst, arith, nat_lt, IsTrue, ◌+◌, ◌*◌, ◌≤◌, ◌⊎◌, inl, inr}
 use Rattle.std.specs.List.{flat_map}
 use Rattle.std.proofs.lemmas.Bool.{cases_lt}
 use Rattle.std.proofs.lemmas.List.{drop_at, take_at}
@@ -44,7 +18,8 @@ NoneLeads begins [] = IsTrue begins
 NoneLeads begins (b ∷ octets) = (IsTrue begins → b ≢ 128) × NoneLeads (nat_lt b 128) octets
 
 -- so it is after the first
-none_after : (first rest : List ℕ) (begins : Bool) → IsContinued first → NoneLeads begins (first ++ rest) → NoneLeads true rest
+none_after : (first rest : List ℕ) (begins : Bool) → IsContinued first → NoneLeads begins (first ++ rest) →
+    NoneLeads true rest
 none_after [] rest begins p h = absurd p
 none_after (b ∷ []) rest begins p h =
     let ends : nat_lt b 128 ≡ true = grind (arith, p) in
@@ -65,8 +40,12 @@ short_subidentifiers [] octets all h s = s
 short_subidentifiers (n ∷ ns) octets all h (first, rest, e, p, s) =
     let whole = subst AreOctets e all in
     let none = subst (NoneLeads true) e h in
-    let front : AreOctets first = subst AreOctets (take_at first rest (length first) refl) (All-take (λ b. b < 256) (length first) (first ++ rest) whole) in
-    let back : AreOctets rest = subst AreOctets (drop_at first rest (length first) refl) (All-drop (λ b. b < 256) (length first) (first ++ rest) whole) in
+    let front : AreOctets first =
+    subst AreOctets (take_at first rest (length first) refl)
+    (All-take (λ b. b < 256) (length first) (first ++ rest) whole) in
+    let back : AreOctets rest =
+    subst AreOctets (drop_at first rest (length first) refl)
+    (All-drop (λ b. b < 256) (length first) (first ++ rest) whole) in
     let here = shortest_base128_not_leading first n front p (λ more. none_first first rest more p.continued none) in
     let others = short_subidentifiers ns rest back (none_after first rest true p.continued none) s in
     e ∙ (ap (λ z. z ++ rest) here ∙ ap (λ z. shortest_base128 n ++ z) others)
@@ -91,22 +70,32 @@ none_left [] begins n ended = ended
 none_left (b ∷ octets) begins n ended = absurd (omega (arith, n))
 
 -- and then they are subidentifiers
-pub numbers_stand : (octets : List ℕ) (begins : Bool) → NoneLeads begins octets → (ns : List ℕ) × Subidentifiers ns octets
+pub numbers_stand : (octets : List ℕ) (begins : Bool) → NoneLeads begins octets →
+    (ns : List ℕ) × Subidentifiers ns octets
 numbers_stand [] begins h = ([], refl)
 numbers_stand (b ∷ octets) begins h = by_rest (numbers_stand octets (nat_lt b 128) h.1) (cases_lt b 128)
   where
-    by_rest : ((ns : List ℕ) × Subidentifiers ns octets) → (b < 128) ⊎ (128 ≤ b) → (ns : List ℕ) × Subidentifiers ns (b ∷ octets)
-    by_rest (ns, s) (inl low) = (low_bits_number (b ∷ []) ∷ ns, (b ∷ [], octets, refl, record { continued = low; value = refl }, s))
+    by_rest : ((ns : List ℕ) × Subidentifiers ns octets) → (b < 128) ⊎ (128 ≤ b) →
+        (ns : List ℕ) × Subidentifiers ns (b ∷ octets)
+    by_rest (ns, s) (inl low) =
+        (low_bits_number (b ∷ []) ∷ ns, (b ∷ [], octets, refl, record { continued = low; value = refl }, s))
     by_rest ([], s) (inr high) =
         let ends : IsTrue (nat_lt b 128) = subst (NoneLeads (nat_lt b 128)) s h.1 in
         absurd (grind (arith, ends, high))
     by_rest (n ∷ ns, s) (inr high) = (
       low_bits_number (b ∷ s.0) ∷ ns,
-      (b ∷ s.0, s.1, ap (λ z. b ∷ z) s.2, record { continued = continued_more b s.0 high s.3.continued; value = refl }, s.4),
+      (
+        b ∷ s.0,
+        s.1,
+        ap (λ z. b ∷ z) s.2,
+        record { continued = continued_more b s.0 high s.3.continued; value = refl },
+        s.4,
+      ),
     )
 
 -- with one octet before them they mean components
-pub components_stand : (b : ℕ) (octets : List ℕ) → NoneLeads true octets → (ns : List ℕ) × ObjectIdentifierContents ns (b ∷ octets)
+pub components_stand : (b : ℕ) (octets : List ℕ) → NoneLeads true octets →
+    (ns : List ℕ) × ObjectIdentifierContents ns (b ∷ octets)
 components_stand b octets h =
     let f = first_two b in
     let s = numbers_stand octets true h in

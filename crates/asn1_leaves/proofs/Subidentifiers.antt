@@ -14,8 +14,13 @@ use Rattle.asn1_headers.proofs.Shortest.{shortest_base128_is}
 pub subidentifiers_more : (ns octets last : List ℕ) (n : ℕ) → Subidentifiers ns octets → IsBase128 last n
     → Subidentifiers (ns ++ n ∷ []) (octets ++ last)
 subidentifiers_more [] octets last n s t = (last, [], ap (λ z. z ++ last) s ∙ sym (append-nil last), t, refl)
-subidentifiers_more (m ∷ ms) octets last n s t =
-    (s.0, s.1 ++ last, ap (λ z. z ++ last) s.2 ∙ append_assoc s.0 s.1 last, s.3, subidentifiers_more ms s.1 last n s.4 t)
+subidentifiers_more (m ∷ ms) octets last n s t = (
+  s.0,
+  s.1 ++ last,
+  ap (λ z. z ++ last) s.2 ∙ append_assoc s.0 s.1 last,
+  s.3,
+  subidentifiers_more ms s.1 last n s.4 t,
+)
 
 -- where octets after the first subidentifier are none, neither are all of them
 pub none_after : (first rest : List ℕ) (n : ℕ) → IsBase128 first n
@@ -28,10 +33,12 @@ none_after (a ∷ first) rest n t none octets e (m ∷ ms) s =
     none ms (subst (Subidentifiers ms) (sym p.1) s.4)
 
 -- octets that begin with no base-128 number are no subidentifiers
-none_first : (octets : List ℕ) → 0 < length octets → BeginsWithNo IsBase128 octets → (ns : List ℕ) → Subidentifiers ns octets → ⊥
+none_first : (octets : List ℕ) → 0 < length octets → BeginsWithNo IsBase128 octets → (ns : List ℕ) →
+    Subidentifiers ns octets → ⊥
 none_first octets some missing [] s = absurd (omega (arith, some, ap length s))
 none_first octets some missing (m ∷ ms) s =
-    missing m (length s.0) (subst (λ z. IsBase128 z m) (sym (ap (λ z. take (length s.0) z) s.2 ∙ take_at s.0 s.1 (length s.0) refl)) s.3)
+    missing m (length s.0)
+    (subst (λ z. IsBase128 z m) (sym (ap (λ z. take (length s.0) z) s.2 ∙ take_at s.0 s.1 (length s.0) refl)) s.3)
 
 -- a fault of the first is one of all
 pub first_fault : (octets : List ℕ) (e : DecodeFault) → 0 < length octets → IsIncomplete IsBase128 octets e
@@ -46,8 +53,10 @@ begun (b ∷ first) p h = omega (arith, h)
 -- they have one list of numbers
 pub subidentifiers_alone : (ms ns octets : List ℕ) → Subidentifiers ms octets → Subidentifiers ns octets → ms ≡ ns
 subidentifiers_alone [] [] octets s t = refl
-subidentifiers_alone [] (n ∷ ns) octets s t = absurd (begun t.0 t.3.continued (omega (arith, ap length (sym s ∙ t.2), length-append t.0 t.1)))
-subidentifiers_alone (m ∷ ms) [] octets s t = absurd (begun s.0 s.3.continued (omega (arith, ap length (sym t ∙ s.2), length-append s.0 s.1)))
+subidentifiers_alone [] (n ∷ ns) octets s t =
+    absurd (begun t.0 t.3.continued (omega (arith, ap length (sym s ∙ t.2), length-append t.0 t.1)))
+subidentifiers_alone (m ∷ ms) [] octets s t =
+    absurd (begun s.0 s.3.continued (omega (arith, ap length (sym t ∙ s.2), length-append s.0 s.1)))
 subidentifiers_alone (m ∷ ms) (n ∷ ns) octets s t =
     let p = continued_alone s.0 t.0 s.1 t.1 s.3.continued t.3.continued (sym s.2 ∙ t.2) in
     let e : m ≡ n = s.3.value ∙ ap low_bits_number p.0 ∙ sym t.3.value in
@@ -64,10 +73,12 @@ continued_less b [] high p = absurd (omega (arith, high, p))
 continued_less b (c ∷ first) high p = p.1
 
 -- a lone octet whose bit 8 is set ends no number
-unfinished : (b : ℕ) (octets first rest : List ℕ) → 128 ≤ b → octets ≡ [] → b ∷ octets ≡ first ++ rest → IsContinued first → ⊥
+unfinished : (b : ℕ) (octets first rest : List ℕ) → 128 ≤ b → octets ≡ [] → b ∷ octets ≡ first ++ rest →
+    IsContinued first → ⊥
 unfinished b octets [] rest high none whole p = p
 unfinished b octets (a ∷ []) rest high none whole p = let h : b ≡ a = cc in omega (arith, h, high, p)
-unfinished b octets (a ∷ c ∷ first) rest high none whole p = omega (arith, ap length whole, ap length none, length-append (a ∷ c ∷ first) rest)
+unfinished b octets (a ∷ c ∷ first) rest high none whole p =
+    omega (arith, ap length whole, ap length none, length-append (a ∷ c ∷ first) rest)
 
 -- one before octets that are no subidentifiers makes none of them
 still_none : (b : ℕ) (octets first rest ms : List ℕ) → 128 ≤ b → ((ns : List ℕ) → Subidentifiers ns octets → ⊥)
@@ -76,10 +87,12 @@ still_none b octets [] rest ms high none whole p others = p
 still_none b octets (a ∷ first) rest ms high none whole p others =
     let h : b ≡ a = cc in
     let e : octets ≡ first ++ rest = cc in
-    let more : IsBase128 first (low_bits_number first) = record { continued = continued_less a first (omega (arith, h, high)) p; value = refl } in
+    let more : IsBase128 first (low_bits_number first) =
+    record { continued = continued_less a first (omega (arith, h, high)) p; value = refl } in
     none (low_bits_number first ∷ ms) (first, rest, e, more, others)
 
-first_unfinished : (b : ℕ) (octets : List ℕ) → octets ≡ [] → 128 ≤ b → (ns : List ℕ) → Subidentifiers ns (b ∷ octets) → ⊥
+first_unfinished : (b : ℕ) (octets : List ℕ) → octets ≡ [] → 128 ≤ b → (ns : List ℕ) → Subidentifiers ns (b ∷ octets) →
+    ⊥
 first_unfinished b octets none high [] s = omega (arith, ap length s)
 first_unfinished b octets none high (m ∷ ms) s = unfinished b octets s.0 s.1 high none s.2 s.3.continued
 
@@ -93,17 +106,27 @@ more_before : (b c : ℕ) (octets : List ℕ) → (ns : List ℕ) × Subidentifi
     → (ns : List ℕ) × Subidentifiers ns (b ∷ c ∷ octets)
 more_before b c octets ([], s) = absurd (omega (arith, ap length s))
 more_before b c octets (n ∷ ns, s) = elim (cases_lt b 128) [
-  | inl low ↦ (low_bits_number (b ∷ []) ∷ n ∷ ns, (b ∷ [], c ∷ octets, refl, record { continued = low; value = refl }, s))
+  | inl low ↦ (
+    low_bits_number (b ∷ []) ∷ n ∷ ns,
+    (b ∷ [], c ∷ octets, refl, record { continued = low; value = refl }, s),
+  )
   | inr high ↦ (
     low_bits_number (b ∷ s.0) ∷ ns,
-    (b ∷ s.0, s.1, ap (λ z. b ∷ z) s.2, record { continued = continued_more b s.0 high s.3.continued; value = refl }, s.4),
+    (
+      b ∷ s.0,
+      s.1,
+      ap (λ z. b ∷ z) s.2,
+      record { continued = continued_more b s.0 high s.3.continued; value = refl },
+      s.4,
+    ),
   )
 ]
 
 none_before : (b : ℕ) (octets : List ℕ) → ((ns : List ℕ) → Subidentifiers ns octets → ⊥) → (ns : List ℕ)
     → Subidentifiers ns (b ∷ octets) → ⊥
 none_before b octets none = elim (cases_lt b 128) [
-  | inl low ↦ none_after (b ∷ []) octets (low_bits_number (b ∷ [])) (record { continued = low; value = refl }) none (b ∷ octets) refl
+  | inl low ↦ none_after (b ∷ []) octets (low_bits_number (b ∷ [])) (record { continued = low; value = refl }) none
+      (b ∷ octets) refl
   | inr high ↦ first_of_none b octets none high
 ]
 
@@ -113,13 +136,17 @@ last_after : (b c : ℕ) (octets : List ℕ)
 last_after b c octets = simp sub-one
 
 -- octets are subidentifiers of some numbers, where the last ends one
-pub subidentifiers_ended : (octets : List ℕ) → get_or octets (length octets - 1) 0 < 128 → (ns : List ℕ) × Subidentifiers ns octets
+pub subidentifiers_ended : (octets : List ℕ) → get_or octets (length octets - 1) 0 < 128 →
+    (ns : List ℕ) × Subidentifiers ns octets
 subidentifiers_ended [] low = ([], refl)
-subidentifiers_ended (b ∷ []) low = (low_bits_number (b ∷ []) ∷ [], (b ∷ [], [], refl, record { continued = low; value = refl }, refl))
-subidentifiers_ended (b ∷ c ∷ octets) low = more_before b c octets (subidentifiers_ended (c ∷ octets) (omega (arith, low, last_after b c octets)))
+subidentifiers_ended (b ∷ []) low =
+    (low_bits_number (b ∷ []) ∷ [], (b ∷ [], [], refl, record { continued = low; value = refl }, refl))
+subidentifiers_ended (b ∷ c ∷ octets) low =
+    more_before b c octets (subidentifiers_ended (c ∷ octets) (omega (arith, low, last_after b c octets)))
 
 -- and of none, where it does not
-pub subidentifiers_unended : (octets : List ℕ) → 128 ≤ get_or octets (length octets - 1) 0 → (ns : List ℕ) → Subidentifiers ns octets → ⊥
+pub subidentifiers_unended : (octets : List ℕ) → 128 ≤ get_or octets (length octets - 1) 0 → (ns : List ℕ) →
+    Subidentifiers ns octets → ⊥
 subidentifiers_unended [] high ns s = omega (arith, high)
 subidentifiers_unended (b ∷ []) high ns s = first_unfinished b [] refl high ns s
 subidentifiers_unended (b ∷ c ∷ octets) high ns s =
@@ -128,4 +155,5 @@ subidentifiers_unended (b ∷ c ∷ octets) high ns s =
 -- the shortest forms are subidentifiers
 pub subidentifiers_shortest : (ns : List ℕ) → Subidentifiers ns (flat_map shortest_base128 ns)
 subidentifiers_shortest [] = refl
-subidentifiers_shortest (n ∷ ns) = (shortest_base128 n, flat_map shortest_base128 ns, refl, shortest_base128_is n, subidentifiers_shortest ns)
+subidentifiers_shortest (n ∷ ns) =
+    (shortest_base128 n, flat_map shortest_base128 ns, refl, shortest_base128_is n, subidentifiers_shortest ns)

@@ -4,27 +4,12 @@ ghost use Rattle.std.specs.Prelude.{IfOk, IfErr, IfSome, IfNone, IsTrue, OnOk};
 ghost use Rattle.std.specs.Fmt.{WritesOnOk};
 ghost use Rattle.std.specs.List.{flat_map};
 ghost use Rattle.asn1_headers.specs.Fault.{OutOfMemoryOr};
-ghost use Rattle.asn1_leaves.specs.Contents.ObjectIdentifier.{
-  IsFaithfulObjectIdentifier,
-  ObjectIdentifierContents,
-  ObjectIdentifierFault,
-  Subidentifiers,
-  object_identifier_contents,
-  object_identifier_write_fault,
-};
+ghost use Rattle.asn1_leaves.specs.Contents.ObjectIdentifier.{IsFaithfulObjectIdentifier, ObjectIdentifierContents, ObjectIdentifierFault, Subidentifiers, object_identifier_contents, object_identifier_write_fault};
 ghost use Rattle.asn1_leaves.specs.DottedDecimal.{IsDottedDecimal, dotted_decimal};
-ghost use Rattle.asn1_leaves.specs.Inner.IdentifierForms.{
-  HaveShortContents,
-  IsShortForm,
-  components_of,
-  numbers_after,
-  pointed,
-};
+ghost use Rattle.asn1_leaves.specs.Inner.IdentifierForms.{HaveShortContents, IsShortForm, components_of, numbers_after, pointed};
 ghost use Rattle.asn1_numbers.specs.FittingNumbers.{AreNumbers, HasNotAll};
 ghost use Rattle.asn1_headers.specs.declared.error.ASN1DecodeErr.TheVariants.{Overflow, OutOfMemory};
-ghost use Rattle.asn1_headers.specs.declared.error.ASN1EncodeErr.TheVariants.{
-  OutOfMemory as no_memory,
-};
+ghost use Rattle.asn1_headers.specs.declared.error.ASN1EncodeErr.TheVariants.{OutOfMemory as no_memory};
 
 use crate::contents::object_identifier;
 use crate::contents::object_identifier::{component_count, first_two};

@@ -41,13 +41,7 @@ fn append(octets: &[u8], out: &mut Vec<u8>)
 
 // At its end, without growing.
 impl Sink for Vec<u8> {
-    ghost use Rattle.asn1_numbers.specs.Inner.Sinks.{
-      vec_pushes,
-      vec_room,
-      vec_pushes_none,
-      vec_pushes_more,
-      vec_room_after,
-    };
+    ghost use Rattle.asn1_numbers.specs.Inner.Sinks.{vec_pushes, vec_room, vec_pushes_none, vec_pushes_more, vec_room_after};
 
     ghost room = { vec_room };
 
@@ -70,13 +64,7 @@ impl Sink for Vec<u8> {
 
 // At its end, in the room that it has.
 impl<const N: usize> Sink for ArrayVec<u8, N> {
-    ghost use Rattle.asn1_numbers.specs.Inner.ArraySinks.{
-      array_pushes,
-      array_room,
-      array_pushes_none,
-      array_pushes_more,
-      array_room_after,
-    };
+    ghost use Rattle.asn1_numbers.specs.Inner.ArraySinks.{array_pushes, array_room, array_pushes_none, array_pushes_more, array_room_after};
 
     ghost room = { array_room N };
 
@@ -107,13 +95,7 @@ pub struct Comparison<'a> {
 }
 
 impl<'a> Sink for Comparison<'a> {
-    ghost use Rattle.asn1_numbers.specs.Inner.Comparisons.{
-      compared,
-      left,
-      compared_none,
-      compared_more,
-      left_after,
-    };
+    ghost use Rattle.asn1_numbers.specs.Inner.Comparisons.{compared, left, compared_none, compared_more, left_after};
 
     ghost room = { left };
 

@@ -13,9 +13,12 @@ abbrev pub AreOfDocument : List ℕ → List Entry → Type 0
 AreOfDocument octets es = (bs : Trees ℕ) × IsDocument octets bs × AreEntriesOf octets bs es
 
 -- which is the only one
-pub only_entries : (octets : List ℕ) (es : List Entry) (bs : Trees ℕ) → AreOfDocument octets es → IsDocument octets bs → AreEntriesOf octets bs es
-only_entries octets es bs (cs, d, are) e = subst (λ z. AreEntriesOf octets z es) (all_alone 0 octets cs bs d.blocks e.blocks) are
+pub only_entries : (octets : List ℕ) (es : List Entry) (bs : Trees ℕ) → AreOfDocument octets es → IsDocument octets bs →
+    AreEntriesOf octets bs es
+only_entries octets es bs (cs, d, are) e =
+    subst (λ z. AreEntriesOf octets z es) (all_alone 0 octets cs bs d.blocks e.blocks) are
 
-pub none_refused : (octets : List ℕ) (es : List Entry) (fault : DecodeFault) (o : ℕ) → length octets < 2 ^ 64 → AreOfDocument octets es
+pub none_refused : (octets : List ℕ) (es : List Entry) (fault : DecodeFault) (o : ℕ) → length octets < 2 ^ 64 →
+    AreOfDocument octets es
     → FirstFaultAt octets fault o → ⊥
 none_refused octets es fault o small (bs, d, are) p = document_no_fault octets bs fault small d (o, p)

@@ -9,7 +9,8 @@ use Rattle.asn1_outline.specs.Entries.{HasHeaderAt, HasTag}
 
 -- it says what stands at its offset
 pub begun_header :
-    (x : List ℕ) (offset limit : ℕ) (h : PlacedHeader) (tag items next depth : ℕ) → HeaderFound x offset limit h → limit ≤ length x → HasTag h.tag tag →
+    (x : List ℕ) (offset limit : ℕ) (h : PlacedHeader) (tag items next depth : ℕ) → HeaderFound x offset limit h →
+    limit ≤ length x → HasTag h.tag tag →
     HasHeaderAt x (record {
       class = h.class;
       constructed = h.constructed;
@@ -24,8 +25,10 @@ pub begun_header :
 begun_header x offset limit h tag items next depth found within is =
     let octets = slice_range x offset h.end in
     let contents = slice_range x h.start h.end in
-    let l : length contents ≡ h.end - h.start = slice_length x h.start h.end found.order (omega (arith, found.ends_within, within)) in
-    let w : drop offset x ≡ octets ++ drop h.end x = slice_split x offset h.end (omega (arith, found.starts_after, found.order)) in (
+    let l : length contents ≡ h.end - h.start =
+    slice_length x h.start h.end found.order (omega (arith, found.ends_within, within)) in
+    let w : drop offset x ≡ octets ++ drop h.end x =
+    slice_split x offset h.end (omega (arith, found.starts_after, found.order)) in (
       octets,
       record {
         rest = drop h.end x;

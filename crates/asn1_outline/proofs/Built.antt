@@ -26,7 +26,8 @@ use Rattle.asn1_outline.proofs.Standing.{encoding_of}
 
 -- the octets behind a header that was found are those of the tree there
 pub encoded_here :
-    (x : List ℕ) (b : Tree ℕ) (octets : List ℕ) (o : ℕ) (g : PlacedHeader) → IsEncodedIn x b octets → o ≡ tree_offset b → HeaderFound x o (length x) g →
+    (x : List ℕ) (b : Tree ℕ) (octets : List ℕ) (o : ℕ) (g : PlacedHeader) → IsEncodedIn x b octets →
+    o ≡ tree_offset b → HeaderFound x o (length x) g →
     Encodes o (slice_range x o g.end) b
 encoded_here x b octets o g s at found =
     let y = slice_range x o g.end in
@@ -48,7 +49,8 @@ encoded_here x b octets o g s at found =
 
 module _ (x : List ℕ) (o : ℕ) (y : List ℕ) (n : ℕ) (v : List ℕ) (h : ℕ) (bs : Trees ℕ) where
   -- a SEQUENCE or SET
-  pub group_there : (k : Bool) (g : GroupKind) (b : Tree ℕ) → Encoding y Universal k (group_tag g) v h → Encodes o y b → Holds x b bs
+  pub group_there : (k : Bool) (g : GroupKind) (b : Tree ℕ) → Encoding y Universal k (group_tag g) v h → Encodes o y b →
+      Holds x b bs
       → b ≡ group o g bs
   group_there k g (leaf p l) e s q =
       absurd (leaf_no_group l g (same_encoding y _ _ _ _ _ _ _ _ _ _ s.4 e).tag)
@@ -67,7 +69,8 @@ module _ (x : List ℕ) (o : ℕ) (y : List ℕ) (n : ℕ) (v : List ℕ) (h : �
 
   module _ (c : ASN1Class) (other : c ≢ Universal) (e : Encoding y c true n v h) where
     -- an encoding of another class around one block
-    pub explicit_there : (b t : Tree ℕ) → Encodes o y b → Holds x b bs → bs ≡ more_trees t no_trees → b ≡ explicit c o n t
+    pub explicit_there : (b t : Tree ℕ) → Encodes o y b → Holds x b bs → bs ≡ more_trees t no_trees →
+        b ≡ explicit c o n t
     explicit_there (leaf p l) t s q one = absurd (other (sym (same_encoding y _ _ _ _ _ _ _ _ _ _ s.4 e).class))
     explicit_there (group p i items) t s q one = absurd (other (sym (same_encoding y _ _ _ _ _ _ _ _ _ _ s.4 e).class))
     explicit_there (explicit d p m a) t s q one =
@@ -83,7 +86,8 @@ module _ (x : List ℕ) (o : ℕ) (y : List ℕ) (n : ℕ) (v : List ℕ) (h : �
         absurd (elim s.3 [
           | inl known ↦ other (sym z.class ∙ known.0)
           | inr rest ↦ elim q [
-            | inl (bit, place, u, f) ↦ rest.1 (bit, encodes_block place w t (only_tree place w t (subst (EncodesAll place w) one f)))
+            | inl (bit, place, u, f) ↦ rest.1
+                (bit, encodes_block place w t (only_tree place w t (subst (EncodesAll place w) one f)))
             | inr (none, held) ↦ no_more t (sym one ∙ none)
           ]
         ])
@@ -92,7 +96,8 @@ module _ (x : List ℕ) (o : ℕ) (y : List ℕ) (n : ℕ) (v : List ℕ) (h : �
         no_more t r = absurd (cc)
 
     -- and one that stays as it came
-    pub kept_there : (b : Tree ℕ) → Encodes o y b → Holds x b bs → ((t : Tree ℕ) → bs ≡ more_trees t no_trees → ⊥) → b ≡ unknown c true o n v
+    pub kept_there : (b : Tree ℕ) → Encodes o y b → Holds x b bs → ((t : Tree ℕ) → bs ≡ more_trees t no_trees → ⊥) →
+        b ≡ unknown c true o n v
     kept_there (leaf p l) s q none = absurd (other (sym (same_encoding y _ _ _ _ _ _ _ _ _ _ s.4 e).class))
     kept_there (group p i items) s q none = absurd (other (sym (same_encoding y _ _ _ _ _ _ _ _ _ _ s.4 e).class))
     kept_there (explicit d p m a) s q none = absurd (none a q)
@@ -106,41 +111,49 @@ module _ (x : List ℕ) (o : ℕ) (y : List ℕ) (n : ℕ) (v : List ℕ) (h : �
         cc
 
 -- the tree of a node at the offset where a header was found
-module _ (x : List ℕ) (o : ℕ) (n : Node) (g : PlacedHeader) (found : HeaderFound x o (length x) g) (at : IsNodeAt x o n) where
-  here : Encodes o (slice_range x o g.end) (node_tree n)
-  here = encoded_here x (node_tree n) at.octets o g at.encoded at.offset found
+module _ (x : List ℕ) (o : ℕ) (n : Node) (g : PlacedHeader) (found : HeaderFound x o (length x) g) (at : IsNodeAt x o n)
+  where
+    here : Encodes o (slice_range x o g.end) (node_tree n)
+    here = encoded_here x (node_tree n) at.octets o g at.encoded at.offset found
 
-  pub group_at : (kind : GroupKind) → g.class ≡ Universal → g.tag ≡ group_tag kind → node_tree n ≡ group o kind (nodes_trees (node_items n))
-  group_at kind class tag =
-      let y = slice_range x o g.end in
-      let v = slice_range x g.start g.end in
-      let e = subst (λ z. Encoding y z g.constructed (group_tag kind) v (g.start - o)) class
-      (subst (λ z. Encoding y g.class g.constructed z v (g.start - o)) tag found.encoding) in
-      group_there x o y 0 v (g.start - o) (nodes_trees (node_items n)) g.constructed kind (node_tree n) e here at.holds
+    pub group_at : (kind : GroupKind) → g.class ≡ Universal → g.tag ≡ group_tag kind →
+        node_tree n ≡ group o kind (nodes_trees (node_items n))
+    group_at kind class tag =
+        let y = slice_range x o g.end in
+        let v = slice_range x g.start g.end in
+        let e = subst (λ z. Encoding y z g.constructed (group_tag kind) v (g.start - o)) class
+        (subst (λ z. Encoding y g.class g.constructed z v (g.start - o)) tag found.encoding) in
+        group_there x o y 0 v (g.start - o) (nodes_trees (node_items n)) g.constructed kind (node_tree n) e here
+        at.holds
 
-  pub leaf_at : (b : Tree ℕ) → ((octets : List ℕ) (h : ℕ) → Encoding octets g.class g.constructed g.tag (slice_range x g.start g.end) h → Encodes o octets b)
-      → b ≡ node_tree n
-  leaf_at b means =
-      let y = slice_range x o g.end in
-      let (_, same, _) = encodes_alone o y y [] [] b (node_tree n) (means y (g.start - o) found.encoding) here refl in
-      same
+    pub leaf_at : (b : Tree ℕ) →
+        ((octets : List ℕ) (h : ℕ) → Encoding octets g.class g.constructed g.tag (slice_range x g.start g.end) h →
+        Encodes o octets b)
+        → b ≡ node_tree n
+    leaf_at b means =
+        let y = slice_range x o g.end in
+        let (_, same, _) = encodes_alone o y y [] [] b (node_tree n) (means y (g.start - o) found.encoding) here refl in
+        same
 
-  module _ (other : g.class ≢ Universal) (set : g.constructed ≡ true) where
-    around_it : Encoding (slice_range x o g.end) g.class true g.tag (slice_range x g.start g.end) (g.start - o)
-    around_it = subst (λ z. Encoding (slice_range x o g.end) g.class z g.tag (slice_range x g.start g.end) (g.start - o)) set found.encoding
+    module _ (other : g.class ≢ Universal) (set : g.constructed ≡ true) where
+      around_it : Encoding (slice_range x o g.end) g.class true g.tag (slice_range x g.start g.end) (g.start - o)
+      around_it = subst (λ z. Encoding (slice_range x o g.end) g.class z g.tag (slice_range x g.start g.end)
+          (g.start - o)) set found.encoding
 
-    pub explicit_at : (t : Tree ℕ) → items_of n ≡ t ∷ [] → node_tree n ≡ explicit g.class o g.tag t
-    explicit_at t one =
-        let bs = nodes_trees (node_items n) in
-        let only : bs ≡ more_trees t no_trees = sym (trees_listed bs) ∙ ap trees_of one in
-        explicit_there x o (slice_range x o g.end) g.tag (slice_range x g.start g.end) (g.start - o) bs g.class other around_it
-        (node_tree n) t here at.holds only
+      pub explicit_at : (t : Tree ℕ) → items_of n ≡ t ∷ [] → node_tree n ≡ explicit g.class o g.tag t
+      explicit_at t one =
+          let bs = nodes_trees (node_items n) in
+          let only : bs ≡ more_trees t no_trees = sym (trees_listed bs) ∙ ap trees_of one in
+          explicit_there x o (slice_range x o g.end) g.tag (slice_range x g.start g.end) (g.start - o) bs g.class other
+          around_it
+          (node_tree n) t here at.holds only
 
-    pub kept_at : length (items_of n) ≢ 1 → node_tree n ≡ unknown g.class true o g.tag (slice_range x g.start g.end)
-    kept_at many =
-        let bs = nodes_trees (node_items n) in
-        kept_there x o (slice_range x o g.end) g.tag (slice_range x g.start g.end) (g.start - o) bs g.class other around_it
-        (node_tree n) here at.holds (λ t only. many (ap (λ z. length (listed z)) only))
+      pub kept_at : length (items_of n) ≢ 1 → node_tree n ≡ unknown g.class true o g.tag (slice_range x g.start g.end)
+      kept_at many =
+          let bs = nodes_trees (node_items n) in
+          kept_there x o (slice_range x o g.end) g.tag (slice_range x g.start g.end) (g.start - o) bs g.class other
+          around_it
+          (node_tree n) here at.holds (λ t only. many (ap (λ z. length (listed z)) only))
 
 -- what holds of a value holds of it otherwise
 pub for_ok : {A E : Type 0} (r : Result A E) (P Q : A → Type 0) → IfOk r P → ((a : A) → P a → Q a) → IfOk r Q
@@ -150,23 +163,28 @@ for_ok (Err e) P Q h f = tt
 pub map_reverse : {A B : Type 0} (f : A → B) (xs : List A) → map f (reverse xs) ≡ reverse (map f xs)
 map_reverse f [] = refl
 map_reverse f (x ∷ xs) =
-    ap (map f) (reverse-append (x ∷ []) xs) ∙ map-append f (reverse xs) (x ∷ []) ∙ ap (λ z. z ++ f x ∷ []) (map_reverse f xs)
+    ap (map f) (reverse-append (x ∷ []) xs) ∙ map-append f (reverse xs) (x ∷ [])
+    ∙ ap (λ z. z ++ f x ∷ []) (map_reverse f xs)
     ∙ sym (reverse-append (f x ∷ []) (map f xs))
 
 -- lists of one length in equal lists
 pub split_same : {A : Type 0} (s t x y : List A) → length s ≡ length t → s ++ x ≡ t ++ y → (s ≡ t) × (x ≡ y)
 split_same s t x y l e =
-    let n = length s in
-    (sym (take_at s x n refl) ∙ ap (take n) e ∙ take_at t y n (sym l), sym (drop_at s x n refl) ∙ ap (drop n) e ∙ drop_at t y n (sym l))
+    let n = length s in (
+      sym (take_at s x n refl) ∙ ap (take n) e ∙ take_at t y n (sym l),
+      sym (drop_at s x n refl) ∙ ap (drop n) e ∙ drop_at t y n (sym l),
+    )
 
 -- a constructed encoding of another class, whatever is inside
 pub tagged_is :
-    (x : List ℕ) (o : ℕ) (n : Node) (g : PlacedHeader) (found : HeaderFound x o (length x) g) (at : IsNodeAt x o n) (inside : List ASN1Block) (t : Tree ℕ) →
+    (x : List ℕ) (o : ℕ) (n : Node) (g : PlacedHeader) (found : HeaderFound x o (length x) g) (at : IsNodeAt x o n)
+    (inside : List ASN1Block) (t : Tree ℕ) →
     g.class ≢ Universal → g.constructed ≡ true → map view inside ≡ items_of n →
     ((item : ASN1Block) → inside ≡ item ∷ [] → t ≡ explicit g.class o g.tag (view item)) →
     (length inside ≢ 1 → t ≡ unknown g.class true o g.tag (slice_range x g.start g.end)) → t ≡ node_tree n
 tagged_is x o n g found at [] t other set own one kept =
     kept (λ e. omega (arith, e)) ∙ sym (kept_at x o n g found at other set (λ e. omega (arith, e, ap length own)))
-tagged_is x o n g found at (b ∷ []) t other set own one kept = one b refl ∙ sym (explicit_at x o n g found at other set (view b) (sym own))
+tagged_is x o n g found at (b ∷ []) t other set own one kept =
+    one b refl ∙ sym (explicit_at x o n g found at other set (view b) (sym own))
 tagged_is x o n g found at (a ∷ b ∷ bs) t other set own one kept =
     kept (λ e. omega (arith, e)) ∙ sym (kept_at x o n g found at other set (λ e. omega (arith, e, ap length own)))

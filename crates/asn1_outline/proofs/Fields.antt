@@ -19,13 +19,16 @@ use Rattle.asn1_outline.proofs.Standing.{encoding_of}
 use Rattle.asn1_outline.proofs.Values.{contents_of}
 
 -- the entry's fields are those of the tree's octets
-module _ (x : List ℕ) (b : Tree ℕ) (r : Entry) (y : List ℕ) (c : ASN1Class) (k : Bool) (n : ℕ) (v : List ℕ) (h : ℕ) (e : IsEntryOf x b r)
+module _ (x : List ℕ) (b : Tree ℕ) (r : Entry) (y : List ℕ) (c : ASN1Class) (k : Bool) (n : ℕ) (v : List ℕ) (h : ℕ)
+    (e : IsEntryOf x b r)
     (s : IsEncodedIn x b y) (f : Encoding y c k n v h) where
   same_fields : (octets : List ℕ) (at : EncodingAt x r.offset octets) (own : HasHeader octets r)
       → SameEncoding octets y r.class c r.constructed k own.tag n own.contents v r.header h [] []
   same_fields octets at own =
-      let same = encoding_at_alone x (tree_offset b) octets y (subst (λ o. EncodingAt x o octets) e.offset_is at) (encoding_of x b y s) in
-      encoding_alone octets y r.class c r.constructed k own.tag n own.contents v r.header h [] [] own.encoding f (ap (λ z. z ++ []) same)
+      let same = encoding_at_alone x (tree_offset b) octets y (subst (λ o. EncodingAt x o octets) e.offset_is at)
+      (encoding_of x b y s) in
+      encoding_alone octets y r.class c r.constructed k own.tag n own.contents v r.header h [] [] own.encoding f
+      (ap (λ z. z ++ []) same)
 
   pub header_is : r.header ≡ h
   header_is = let (octets, at, own) = e.header in (same_fields octets at own).header
@@ -34,7 +37,8 @@ module _ (x : List ℕ) (b : Tree ℕ) (r : Entry) (y : List ℕ) (c : ASN1Class
   contents_are = let (octets, at, own) = e.header in own.contents_field ∙ ap length (same_fields octets at own).contents
 
 -- octets are an encoding in one way
-pub same_encoding : (y : List ℕ) (c d : ASN1Class) (j k : Bool) (m n : ℕ) (v w : List ℕ) (g h : ℕ) → Encoding y c j m v g → Encoding y d k n w h
+pub same_encoding : (y : List ℕ) (c d : ASN1Class) (j k : Bool) (m n : ℕ) (v w : List ℕ) (g h : ℕ) →
+    Encoding y c j m v g → Encoding y d k n w h
     → SameEncoding y y c d j k m n v w g h [] []
 same_encoding y c d j k m n v w g h p q = encoding_alone y y c d j k m n v w g h [] [] p q refl
 
@@ -95,14 +99,17 @@ module _ (x : List ℕ) (r : Entry) where
   explicit_to (explicit class p m b) ns holds e count is =
       let c = contents_of x (explicit class p m b) r e in
       let s = c.encoded in
-      let z = same_encoding c.octets class r.class true r.constructed m c.tag s.2 c.contents s.3 r.header s.4 c.encoding in
+      let z = same_encoding c.octets class r.class true r.constructed m c.tag s.2 c.contents s.3 r.header s.4
+      c.encoding in
       (λ u. s.1 (z.class ∙ u), count ∙ one_node_in ns b holds)
   explicit_to (unknown class k p m v) ns holds e count is = absurd (false≢true is)
 
-  pub explicit_is : (n : Node) (said : Bool) → IsNode x n → IsEntryOf x (node_tree n) r → r.items ≡ node_count (node_items n)
+  pub explicit_is : (n : Node) (said : Bool) → IsNode x n → IsEntryOf x (node_tree n) r →
+      r.items ≡ node_count (node_items n)
       → (said ≡ true ↔ ((r.class ≢ Universal) × (r.items ≡ 1))) → said ≡ is_explicit (node_tree n)
   explicit_is (node b ns) said is e count (to, from) =
-      both said (is_explicit b) (λ y. explicit_from b ns is.0 e count (to y)) (λ y. from (explicit_to b ns is.0 e count y))
+      both said (is_explicit b) (λ y. explicit_from b ns is.0 e count (to y))
+      (λ y. from (explicit_to b ns is.0 e count y))
     where
       both : (a b : Bool) → (a ≡ true → b ≡ true) → (b ≡ true → a ≡ true) → a ≡ b
       both true true f g = refl

@@ -37,27 +37,33 @@ get_here (x ∷ rs) zero r rest e =
     ap Some same
 get_here (x ∷ rs) (suc i) r rest e = get_here rs i r rest e
 
-pub one_further : {A : Type 0} (rs : List A) (i : ℕ) (r : A) (rest : List A) → drop i rs ≡ r ∷ rest → drop (i + 1) rs ≡ rest
+pub one_further : {A : Type 0} (rs : List A) (i : ℕ) (r : A) (rest : List A) → drop i rs ≡ r ∷ rest →
+    drop (i + 1) rs ≡ rest
 one_further rs i r rest e = sym (drop_on 1 i rs) ∙ ap (drop 1) e
 
 -- each entry stands at its index
-pub side_by_side_entries : (all : List Entry) (n i : ℕ) (rs after : List Entry) → drop i all ≡ rs ++ after → All (HasEntryIn all) (side_by_side n i rs)
+pub side_by_side_entries : (all : List Entry) (n i : ℕ) (rs after : List Entry) → drop i all ≡ rs ++ after →
+    All (HasEntryIn all) (side_by_side n i rs)
 side_by_side_entries all n i [] after e k d h = absurd (omega (arith, h))
 side_by_side_entries all zero i (r ∷ rs) after e zero d h = get_here all i r (rs ++ after) e
 side_by_side_entries all zero i (r ∷ rs) after e (suc k) d h =
-    side_by_side_entries all (r.next - (i + 1)) (i + 1) rs after (one_further all i r (rs ++ after) e) k d (omega (arith, h))
+    side_by_side_entries all (r.next - (i + 1)) (i + 1) rs after (one_further all i r (rs ++ after) e) k d
+    (omega (arith, h))
 side_by_side_entries all (suc n) i (r ∷ rs) after e k d h =
     side_by_side_entries all n (i + 1) rs after (one_further all i r (rs ++ after) e) k d h
 
 -- the entries are of nodes that stand in order from the index on: each leads over those inside it
 abbrev pub LeadOver : List Node → ℕ → List Entry → Type 0
-LeadOver whole i rs = (k : ℕ) → k < length rs → (get_or rs k no_entry).next ≡ i + k + length (node_in_order (get_or whole (i + k) no_node))
+LeadOver whole i rs = (k : ℕ) → k < length rs →
+    (get_or rs k no_entry).next ≡ i + k + length (node_in_order (get_or whole (i + k) no_node))
 
 -- so side by side they are of these nodes alone
 pub side_by_side_trees :
-    (whole : List Node) (ns : Nodes) (i : ℕ) (rs : List Entry) (rest : List Node) → drop i whole ≡ nodes_in_order ns ++ rest →
+    (whole : List Node) (ns : Nodes) (i : ℕ) (rs : List Entry) (rest : List Node) →
+    drop i whole ≡ nodes_in_order ns ++ rest →
     length rs ≡ length (nodes_in_order ns) → LeadOver whole i rs →
-    trees_of (map (λ (item : ℕ × Entry). node_tree (get_or whole item.0 no_node)) (side_by_side 0 i rs)) ≡ nodes_trees ns
+    trees_of (map (λ (item : ℕ × Entry). node_tree (get_or whole item.0 no_node)) (side_by_side 0 i rs))
+    ≡ nodes_trees ns
 side_by_side_trees whole no_nodes i [] rest e l over = refl
 side_by_side_trees whole no_nodes i (r ∷ rs) rest e l over = absurd (omega (arith, l))
 side_by_side_trees whole (more_nodes (node b ms) ns) i [] rest e l over = absurd (omega (arith, l))
@@ -67,15 +73,19 @@ side_by_side_trees whole (more_nodes (node b ms) ns) i (r ∷ rs) rest e l over 
     let size = length inside in
     let front = node b ms ∷ inside in
     let whole_is : drop i whole ≡ front ++ (behind ++ rest) = e ∙ append_assoc front behind rest in
-    let here : get_or whole (i + 0) no_node ≡ node b ms = sym (get_or-drop i whole 0 no_node) ∙ ap (λ z. get_or z 0 no_node) whole_is in
+    let here : get_or whole (i + 0) no_node ≡ node b ms =
+    sym (get_or-drop i whole 0 no_node) ∙ ap (λ z. get_or z 0 no_node) whole_is in
     let lead : r.next ≡ i + 0 + suc size = over 0 (omega arith) ∙ ap (λ z. i + 0 + length (node_in_order z)) here in
     let many : suc (length rs) ≡ suc (size + length behind) = l ∙ ap suc (length-append inside behind) in
     let j = i + suc size in
     let skip : r.next - (i + 1) ≡ size = omega (arith, lead) in
     let at : i + 1 + min size (length rs) ≡ j = omega (arith, many) in
     let next : side_by_side (r.next - (i + 1)) (i + 1) rs ≡ side_by_side 0 j (drop size rs) =
-    ap (λ z. side_by_side z (i + 1) rs) skip ∙ skip_first size (i + 1) rs ∙ ap (λ z. side_by_side 0 z (drop size rs)) at in
-    let further : drop j whole ≡ behind ++ rest = sym (drop_on (suc size) i whole) ∙ ap (drop (suc size)) whole_is ∙ drop_at front (behind ++ rest) (suc size) refl in
+    ap (λ z. side_by_side z (i + 1) rs) skip ∙ skip_first size (i + 1) rs
+    ∙ ap (λ z. side_by_side 0 z (drop size rs)) at in
+    let further : drop j whole ≡ behind ++ rest =
+    sym (drop_on (suc size) i whole) ∙ ap (drop (suc size)) whole_is
+    ∙ drop_at front (behind ++ rest) (suc size) refl in
     let fewer : length (drop size rs) ≡ length behind = omega (arith, length-drop size rs, many) in
     let leads : LeadOver whole j (drop size rs) = λ k h.
     let to : i + suc (size + k) ≡ j + k = omega arith in
@@ -84,8 +94,10 @@ side_by_side_trees whole (more_nodes (node b ms) ns) i (r ∷ rs) rest e l over 
     ∙ ap (λ z. z + length (node_in_order (get_or whole z no_node))) to in
     let others = side_by_side_trees whole ns j (drop size rs) rest further fewer leads in
     let same : i ≡ i + 0 = omega arith in
-    let tree : node_tree (get_or whole i no_node) ≡ b = ap (λ z. node_tree (get_or whole z no_node)) same ∙ ap node_tree here in
-    ap (λ z. more_trees (node_tree (get_or whole i no_node)) (trees_of (map (λ (item : ℕ × Entry). node_tree (get_or whole item.0 no_node)) z))) next
+    let tree : node_tree (get_or whole i no_node) ≡ b =
+    ap (λ z. node_tree (get_or whole z no_node)) same ∙ ap node_tree here in
+    ap (λ z. more_trees (node_tree (get_or whole i no_node))
+    (trees_of (map (λ (item : ℕ × Entry). node_tree (get_or whole item.0 no_node)) z))) next
     ∙ ap (more_trees (node_tree (get_or whole i no_node))) others
     ∙ ap (λ z. more_trees z (nodes_trees ns)) tree
 
@@ -112,26 +124,35 @@ mutual
             let (rest, e) = node_goes_on n k lt in
             let own = node_in_order (get_or front k no_node) in
             let there : drop k (front ++ behind) ≡ own ++ (rest ++ behind) =
-            drop-append-le k front behind (omega (arith, lt)) ∙ ap (λ z. z ++ behind) e ∙ append_assoc own rest behind in
-            (rest ++ behind, there ∙ ap (λ z. node_in_order z ++ (rest ++ behind)) (sym (get_or_append_left front behind no_node k lt)))
+            drop-append-le k front behind (omega (arith, lt)) ∙ ap (λ z. z ++ behind) e
+            ∙ append_assoc own rest behind in (
+              rest ++ behind,
+              there
+                  ∙ ap (λ z. node_in_order z ++ (rest ++ behind)) (sym (get_or_append_left front behind no_node k lt)),
+            )
         | inr ge ↦
             let size = length front in
             let (rest, e) = nodes_go_on ns (k - size) (omega (arith, h, ge, length-append front behind)) in
             let at : k ≡ size + (k - size) = omega (arith, ge) in
             let there : drop k (front ++ behind) ≡ drop (k - size) behind =
             ap (λ z. drop z (front ++ behind)) at ∙ sym (drop_on (k - size) size (front ++ behind))
-            ∙ ap (drop (k - size)) (drop_at front behind size refl) in
-            (rest, there ∙ e ∙ ap (λ z. node_in_order z ++ rest) (sym (get_or-append_right front behind size k no_node refl ge)))
+            ∙ ap (drop (k - size)) (drop_at front behind size refl) in (
+              rest,
+              there ∙ e ∙ ap (λ z. node_in_order z ++ rest)
+                  (sym (get_or-append_right front behind size k no_node refl ge)),
+            )
       ]
 
 -- one step past an entry and those inside it
 pub stepped :
-    (all : Bool) (i inside : ℕ) (r : Entry) (rs rest : List Entry) → all ≡ false → rs ≡ r ∷ rest → inside ≡ min (r.next - (i + 1)) (length rest) →
+    (all : Bool) (i inside : ℕ) (r : Entry) (rs rest : List Entry) → all ≡ false → rs ≡ r ∷ rest →
+    inside ≡ min (r.next - (i + 1)) (length rest) →
     still_to_come all i rs ≡ (i, r) ∷ still_to_come all (i + 1 + inside) (drop inside rest)
 stepped all i inside r rs rest side whole count =
     let n = r.next - (i + 1) in
     let behind : drop n rest ≡ drop inside rest = sym (drop_min n rest) ∙ ap (λ z. drop z rest) (sym count) in
     let next : side_by_side n (i + 1) rest ≡ still_to_come false (i + 1 + inside) (drop inside rest) =
-    skip_first n (i + 1) rest ∙ ap (λ z. side_by_side 0 (i + 1 + z) (drop n rest)) (sym count) ∙ ap (side_by_side 0 (i + 1 + inside)) behind in
+    skip_first n (i + 1) rest ∙ ap (λ z. side_by_side 0 (i + 1 + z) (drop n rest)) (sym count)
+    ∙ ap (side_by_side 0 (i + 1 + inside)) behind in
     ap (λ z. still_to_come z i rs) side ∙ ap (side_by_side 0 i) whole
     ∙ ap (λ z. (i, r) ∷ z) (next ∙ ap (λ z. still_to_come z (i + 1 + inside) (drop inside rest)) (sym side))

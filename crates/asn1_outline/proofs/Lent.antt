@@ -15,17 +15,21 @@ use Rattle.asn1_outline.proofs.Iterating.{nodes_go_on, order_of}
 use Rattle.asn1_outline.proofs.Structures.{structure_alone}
 use Rattle.asn1_outline.proofs.Values.{entry_of_node}
 
-module _ (octets : List ℕ) (es : List Entry) (ns : Nodes) (k : ℕ) (lent : ∥ IsOutline octets es ∥₁) (d : IsStructure octets ns) where
-  entries_of : (cs : Trees ℕ) → IsDocument octets cs → AreEntriesOf octets cs es → AreEntries octets 0 (nodes_in_order ns) (nodes_depths 0 ns) es
+module _ (octets : List ℕ) (es : List Entry) (ns : Nodes) (k : ℕ) (lent : ∥ IsOutline octets es ∥₁)
+    (d : IsStructure octets ns) where
+  entries_of : (cs : Trees ℕ) → IsDocument octets cs → AreEntriesOf octets cs es →
+      AreEntries octets 0 (nodes_in_order ns) (nodes_depths 0 ns) es
   entries_of cs e are =
       let own : IsStructure octets are.nodes = (subst (IsDocument octets) (sym are.trees) e, are.structure) in
-      subst (λ z. AreEntries octets 0 (nodes_in_order z) (nodes_depths 0 z) es) (structure_alone octets are.nodes ns own d) are.entries
+      subst (λ z. AreEntries octets 0 (nodes_in_order z) (nodes_depths 0 z) es)
+      (structure_alone octets are.nodes ns own d) are.entries
 
   as_many : AreEntries octets 0 (nodes_in_order ns) (nodes_depths 0 ns) es → length es ≡ length (nodes_in_order ns)
   as_many are = entries_length octets 0 (nodes_in_order ns) (nodes_depths 0 ns) es are
 
   -- a proposition that follows from whose entry stands at the index
-  pub at_entry : (Q : Type 0) → IsProp Q → k < length es → (IsEntryOf octets (tree_at ns k) (get_or es k no_entry) → Q) → Q
+  pub at_entry : (Q : Type 0) → IsProp Q → k < length es →
+      (IsEntryOf octets (tree_at ns k) (get_or es k no_entry) → Q) → Q
   at_entry Q prop h f = ∥∥₁_elim lent prop
       (λ x. let (cs, e, are) = x in
       let own = entries_of cs e are in
@@ -72,16 +76,19 @@ module _ (octets : List ℕ) (es : List Entry) (ns : Nodes) (k : ℕ) (lent : �
   no_tree_there h = ap node_tree (no_node_there h)
 
   -- so of what was looked up
-  pub found_entry : (items : List Entry) (entry : Entry) → items ≡ es → (k < length items) × ((r : Entry) → entry ≡ get_or items k r)
+  pub found_entry : (items : List Entry) (entry : Entry) → items ≡ es →
+      (k < length items) × ((r : Entry) → entry ≡ get_or items k r)
       → (Q : Type 0) → IsProp Q → (IsEntryOf octets (tree_at ns k) entry → Q) → Q
   found_entry items entry same (h, is) Q prop f =
       at_entry Q prop (subst (λ z. k < length z) same h)
       (λ e. f (subst (IsEntryOf octets (tree_at ns k)) (sym (is no_entry ∙ ap (λ z. get_or z k no_entry) same)) e))
 
-  pub found_items : (items : List Entry) (entry : Entry) → items ≡ es → (k < length items) × ((r : Entry) → entry ≡ get_or items k r)
+  pub found_items : (items : List Entry) (entry : Entry) → items ≡ es →
+      (k < length items) × ((r : Entry) → entry ≡ get_or items k r)
       → entry.items ≡ node_count (node_items (node_at ns k))
   found_items items entry same (h, is) =
-      ap (λ (z : Entry). z.items) (is no_entry ∙ ap (λ z. get_or z k no_entry) same) ∙ items_at (subst (λ z. k < length z) same h)
+      ap (λ (z : Entry). z.items) (is no_entry ∙ ap (λ z. get_or z k no_entry) same)
+      ∙ items_at (subst (λ z. k < length z) same h)
 
   pub none_there : (items : List Entry) → items ≡ es → length items ≤ k → tree_at ns k ≡ no_tree
   none_there items same h = no_tree_there (subst (λ z. length z ≤ k) same h)
@@ -93,15 +100,18 @@ option_prop None x f set = set x None
 option_prop (Some a) x f set = set x (Some (f a))
 
 -- what was looked up is the entry at the index
-pub looked_up : (es items : List Entry) (k : ℕ) (entry : Entry) → items ≡ es → (k < length items) × ((r : Entry) → entry ≡ get_or items k r)
+pub looked_up : (es items : List Entry) (k : ℕ) (entry : Entry) → items ≡ es →
+    (k < length items) × ((r : Entry) → entry ≡ get_or items k r)
     → (k < length es) × (entry ≡ get_or es k no_entry)
-looked_up es items k entry same (h, is) = (subst (λ z. k < length z) same h, is no_entry ∙ ap (λ z. get_or z k no_entry) same)
+looked_up es items k entry same (h, is) =
+    (subst (λ z. k < length z) same h, is no_entry ∙ ap (λ z. get_or z k no_entry) same)
 
 -- the index after an entry and those inside it is one of the list, or its end
 module _ (octets : List ℕ) (es : List Entry) (k : ℕ) (lent : ∥ IsOutline octets es ∥₁) (h : k < length es) where
   pub next_within : (k + 1 ≤ (get_or es k no_entry).next) × ((get_or es k no_entry).next ≤ length es)
   next_within =
-      let prop : IsProp ((k + 1 ≤ (get_or es k no_entry).next) × ((get_or es k no_entry).next ≤ length es)) = hlevel props in
+      let prop : IsProp ((k + 1 ≤ (get_or es k no_entry).next) × ((get_or es k no_entry).next ≤ length es)) =
+      hlevel props in
       ∥∥₁_elim lent prop (λ x.
       let (cs, e, are) = x in
       let ns = are.nodes in
@@ -112,14 +122,16 @@ module _ (octets : List ℕ) (es : List Entry) (k : ℕ) (lent : ∥ IsOutline o
       let whole = ap length on ∙ length-append (node_in_order (node_at ns k)) rest in
       let some = ap length (order_of (node_at ns k)) in
       let first : k + 1 ≤ (get_or es k no_entry).next = omega (arith, next, some) in
-      let last : (get_or es k no_entry).next ≤ length es = omega (arith, next, whole, many, h, length-drop k (nodes_in_order ns)) in
+      let last : (get_or es k no_entry).next ≤ length es =
+      omega (arith, next, whole, many, h, length-drop k (nodes_in_order ns)) in
       (first, last))
 
 -- an outline has an entry
 some_nodes : (octets : List ℕ) (ns : Nodes) → IsDocument octets (nodes_trees ns) → 0 < length (nodes_in_order ns)
 some_nodes octets no_nodes d = absurd (omega (arith, d.some, ap length d.blocks))
 some_nodes octets (more_nodes (node b ms) ns) d =
-    let size : length (nodes_in_order (more_nodes (node b ms) ns)) ≡ suc (length (nodes_in_order ms ++ nodes_in_order ns)) = refl in
+    let size : length (nodes_in_order (more_nodes (node b ms) ns))
+    ≡ suc (length (nodes_in_order ms ++ nodes_in_order ns)) = refl in
     omega (arith, size)
 
 pub some_entries : (octets : List ℕ) (es : List Entry) → ∥ IsOutline octets es ∥₁ → 0 < length es

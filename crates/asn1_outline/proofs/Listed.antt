@@ -42,7 +42,8 @@ one_more i = record i { count = i.count + 1 }
 
 -- one block more, and its entries
 more_trees_of :
-    (x : List ℕ) (i j d : ℕ) (ts : List (Tree ℕ)) (n : Node) (rs ss : List Entry) → j ≡ i + length rs → IsNode x n → AreOfTrees x i d ts rs →
+    (x : List ℕ) (i j d : ℕ) (ts : List (Tree ℕ)) (n : Node) (rs ss : List Entry) → j ≡ i + length rs → IsNode x n →
+    AreOfTrees x i d ts rs →
     AreEntries x j (node_in_order n) (node_depths d n) ss → AreOfTrees x i d (ts ++ node_tree n ∷ []) (rs ++ ss)
 more_trees_of x i j d ts n rs ss at is a e = record {
   nodes = a.nodes ++ n ∷ [];
@@ -53,15 +54,20 @@ more_trees_of x i j d ts n rs ss at is a e = record {
 
 -- the frame has one block more, and these entries more
 all_added :
-    (x : List ℕ) (rs ss : List Entry) (e : Extent) (i : EntryItems) (gs : List (OpenFrame EntryItems)) (ts : List (Tree ℕ)) (rest : List (List (Tree ℕ)))
-    (n : Node) → IsNode x n → AreEntries x (length rs) (node_in_order n) (node_depths (length gs) n) ss → AllHold x rs (in_frame e i) gs ts rest →
+    (x : List ℕ) (rs ss : List Entry) (e : Extent) (i : EntryItems) (gs : List (OpenFrame EntryItems))
+    (ts : List (Tree ℕ)) (rest : List (List (Tree ℕ)))
+    (n : Node) → IsNode x n → AreEntries x (length rs) (node_in_order n) (node_depths (length gs) n) ss →
+    AllHold x rs (in_frame e i) gs ts rest →
     AllHold x (rs ++ ss) (in_frame e (one_more i)) gs (ts ++ node_tree n ∷ []) rest
-all_added x rs ss e i [] ts [] n is w a =
-    (omega (arith, a.0, length-append ts (node_tree n ∷ [])), more_trees_of x 0 (length rs) 0 ts n rs ss (omega arith) is a.1 w)
+all_added x rs ss e i [] ts [] n is w a = (
+  omega (arith, a.0, length-append ts (node_tree n ∷ [])),
+  more_trees_of x 0 (length rs) 0 ts n rs ss (omega arith) is a.1 w,
+)
 all_added x rs ss e i [] ts (us ∷ rest) n is w a = absurd a
 all_added x rs ss e i (h ∷ gs) ts [] n is w a = absurd a
 all_added x rs ss e i (h ∷ gs) ts (us ∷ rest) n is w a =
-    let size : length rs ≡ suc i.entry + length a.own = omega (arith, ap length a.whole, length-append a.front (a.head ∷ a.own), a.entry) in
+    let size : length rs ≡ suc i.entry + length a.own =
+    omega (arith, ap length a.whole, length-append a.front (a.head ∷ a.own), a.entry) in
     record {
       front = a.front;
       head = a.head;
@@ -76,8 +82,10 @@ all_added x rs ss e i (h ∷ gs) ts (us ∷ rest) n is w a =
 
 -- a new frame inside
 all_opened :
-    (x : List ℕ) (rs : List Entry) (r : Entry) (f g : OpenFrame EntryItems) (gs : List (OpenFrame EntryItems)) (trees : List (List (Tree ℕ))) →
-    IsBegun x f.extent.offset f.items.entry (length gs) r → f.items.entry ≡ length rs → f.items.count ≡ 0 → all_hold x rs (g ∷ gs) trees →
+    (x : List ℕ) (rs : List Entry) (r : Entry) (f g : OpenFrame EntryItems) (gs : List (OpenFrame EntryItems))
+    (trees : List (List (Tree ℕ))) →
+    IsBegun x f.extent.offset f.items.entry (length gs) r → f.items.entry ≡ length rs → f.items.count ≡ 0 →
+    all_hold x rs (g ∷ gs) trees →
     all_hold x (rs ++ r ∷ []) (f ∷ g ∷ gs) ([] ∷ trees)
 all_opened x rs r f g gs [] b at none a = absurd a
 all_opened x rs r f g gs (us ∷ rest) b at none a = record {
@@ -93,8 +101,10 @@ all_opened x rs r f g gs (us ∷ rest) b at none a = record {
 }
 
 pub opened :
-    (x : List ℕ) (h : PlacedHeader) (offset depth : ℕ) (a b : EntryBuilder) (i : EntryItems) (r : Entry) → IsBegun x offset i.entry depth r →
-    i.entry ≡ length a.entries.items → i.count ≡ 0 → b.entries.items ≡ a.entries.items ++ r ∷ [] → HasOpened builder_holds x h offset depth a i b
+    (x : List ℕ) (h : PlacedHeader) (offset depth : ℕ) (a b : EntryBuilder) (i : EntryItems) (r : Entry) →
+    IsBegun x offset i.entry depth r →
+    i.entry ≡ length a.entries.items → i.count ≡ 0 → b.entries.items ≡ a.entries.items ++ r ∷ [] →
+    HasOpened builder_holds x h offset depth a i b
 opened x h offset depth a b i r begun at none is = record {
   holds = λ kind f fs trees d k w.
       let e = opened_at offset kind h in
@@ -104,8 +114,10 @@ opened x h offset depth a b i r begun at none is = record {
 }
 
 -- a leaf, or an encoding that is not read inside, holds none
-none_held : (x : List ℕ) (o e : ℕ) (h : PlacedHeader) (t : Tree ℕ) (v : List ℕ) (i : ℕ) → tree_items t ≡ None → Encodes o (slice_range x o e) t
-    → Encoding (slice_range x o e) h.class h.constructed h.tag v i → (IsReadInside h.class h.constructed h.tag → ⊥) → Holds x t no_trees
+none_held : (x : List ℕ) (o e : ℕ) (h : PlacedHeader) (t : Tree ℕ) (v : List ℕ) (i : ℕ) → tree_items t ≡ None →
+    Encodes o (slice_range x o e) t
+    → Encoding (slice_range x o e) h.class h.constructed h.tag v i → (IsReadInside h.class h.constructed h.tag → ⊥) →
+    Holds x t no_trees
 none_held x o e h (leaf p l) v i none s found shut = refl
 none_held x o e h (group p g bs) v i none s found shut = absurd (cc)
 none_held x o e h (explicit c p n b) v i none s found shut = absurd (cc)
@@ -116,7 +128,8 @@ none_held x o e h (unknown c k p n w) v i none s found shut =
 
 -- a block that holds none stands at the header
 pub leaf_built :
-    (x : List ℕ) (h : PlacedHeader) (offset limit depth : ℕ) (a b : EntryBuilder) (i : EntryItems) (r : Entry) → HeaderFound x offset limit h →
+    (x : List ℕ) (h : PlacedHeader) (offset limit depth : ℕ) (a b : EntryBuilder) (i : EntryItems) (r : Entry) →
+    HeaderFound x offset limit h →
     (IsReadInside h.class h.constructed h.tag → ⊥) → IsSingleAt offset (slice_range x offset h.end) →
     IsBegun x offset (length a.entries.items) depth r → b.entries.items ≡ a.entries.items ++ r ∷ [] →
     HasLeaf builder_holds x offset h.end depth a i b (one_more i)
@@ -136,14 +149,16 @@ leaf_built x h offset limit depth a b i r found shut (t, none, encoded) begun is
     }
 
 -- the entries up to one that stands after some
-pub take_after : (front : List Entry) (r : Entry) (own : List Entry) → take (suc (length front)) (front ++ r ∷ own) ≡ front ++ r ∷ []
+pub take_after : (front : List Entry) (r : Entry) (own : List Entry) →
+    take (suc (length front)) (front ++ r ∷ own) ≡ front ++ r ∷ []
 take_after [] r own = refl
 take_after (y ∷ front) r own = ap (λ z. y ∷ z) (take_after front r own)
 
 pub sealed_after : (front : List Entry) (r : Entry) (own : List Entry) (items : ℕ)
     → sealed (front ++ r ∷ own) (length front) items ≡ front ++ with_items items (length (front ++ r ∷ own)) r ∷ own
 sealed_after front r own items =
-    ap (λ z. set (front ++ r ∷ own) (length front) (with_items items (length (front ++ r ∷ own)) z)) (get_or-append_seam front r own no_entry)
+    ap (λ z. set (front ++ r ∷ own) (length front) (with_items items (length (front ++ r ∷ own)) z))
+    (get_or-append_seam front r own no_entry)
     ∙ set-append_seam front r own (with_items items (length (front ++ r ∷ own)) r)
 
 -- an encoding of another class, and its contents octets
@@ -161,18 +176,23 @@ tagged x a start end lt le at = record {
 
 -- a frame that ended holds the blocks that it has
 attempt_holds :
-    (x : List ℕ) (a : other.Attempt) (s e : ℕ) (ts : List (Tree ℕ)) (bs : Trees ℕ) → trees_of ts ≡ bs → a.offset < s → s ≤ e → IsAttemptAt x a s e →
+    (x : List ℕ) (a : other.Attempt) (s e : ℕ) (ts : List (Tree ℕ)) (bs : Trees ℕ) → trees_of ts ≡ bs → a.offset < s →
+    s ≤ e → IsAttemptAt x a s e →
     EncodesAll s (slice_range x s e) (trees_of ts) → Holds x (attempted x a s e ts) bs
-attempt_holds x a s e [] bs same lt le at w = inl (refl, s, tagged x a s e lt le at, subst (EncodesAll s (slice_range x s e)) same w)
+attempt_holds x a s e [] bs same lt le at w =
+    inl (refl, s, tagged x a s e lt le at, subst (EncodesAll s (slice_range x s e)) same w)
 attempt_holds x a s e (t ∷ []) bs same lt le at w = sym same
-attempt_holds x a s e (t ∷ u ∷ ts) bs same lt le at w = inl (refl, s, tagged x a s e lt le at, subst (EncodesAll s (slice_range x s e)) same w)
+attempt_holds x a s e (t ∷ u ∷ ts) bs same lt le at w =
+    inl (refl, s, tagged x a s e lt le at, subst (EncodesAll s (slice_range x s e)) same w)
 
-attempted_offset : (x : List ℕ) (a : other.Attempt) (s e : ℕ) (ts : List (Tree ℕ)) → tree_offset (attempted x a s e ts) ≡ a.offset
+attempted_offset : (x : List ℕ) (a : other.Attempt) (s e : ℕ) (ts : List (Tree ℕ)) →
+    tree_offset (attempted x a s e ts) ≡ a.offset
 attempted_offset x a s e [] = refl
 attempted_offset x a s e (t ∷ []) = refl
 attempted_offset x a s e (t ∷ u ∷ ts) = refl
 
-ended_holds : (x : List ℕ) (e : Extent) (ts : List (Tree ℕ)) (t : Tree ℕ) (bs : Trees ℕ) → trees_of ts ≡ bs → EndsAs x e ts t
+ended_holds : (x : List ℕ) (e : Extent) (ts : List (Tree ℕ)) (t : Tree ℕ) (bs : Trees ℕ) → trees_of ts ≡ bs →
+    EndsAs x e ts t
     → Holds x t bs × (tree_offset t ≡ e.offset)
 ended_holds x e ts t bs same w = go e.kind refl
   where
@@ -187,28 +207,36 @@ ended_holds x e ts t bs same w = go e.kind refl
         (subst (λ z. Holds x z bs) (sym is) holds, ap tree_offset is ∙ (attempted_offset x a e.start e.end ts ∙ here))
 
 -- the entry of a frame
-pub entry_within : (x : List ℕ) (rs : List Entry) (f h : OpenFrame EntryItems) (gs : List (OpenFrame EntryItems)) (trees : List (List (Tree ℕ)))
+pub entry_within : (x : List ℕ) (rs : List Entry) (f h : OpenFrame EntryItems) (gs : List (OpenFrame EntryItems))
+    (trees : List (List (Tree ℕ)))
     → all_hold x rs (f ∷ h ∷ gs) trees → f.items.entry < length rs
 entry_within x rs f h gs [] a = absurd a
 entry_within x rs f h gs (ts ∷ []) a = absurd a
-entry_within x rs f h gs (ts ∷ us ∷ rest) a = omega (arith, ap length a.whole, length-append a.front (a.head ∷ a.own), a.entry)
+entry_within x rs f h gs (ts ∷ us ∷ rest) a =
+    omega (arith, ap length a.whole, length-append a.front (a.head ∷ a.own), a.entry)
 
 -- the frame ended: its entry is of all that it holds
 pub ended : (x : List ℕ) (a b : EntryBuilder) (f : OpenFrame EntryItems) (i : EntryItems) (depth : ℕ)
-    → b.entries.items ≡ sealed a.entries.items f.items.entry f.items.count → HasEndedIn builder_holds x f depth a i b (one_more i)
+    → b.entries.items ≡ sealed a.entries.items f.items.entry f.items.count →
+    HasEndedIn builder_holds x f depth a i b (one_more i)
 ended x a b f i depth is = record {
   holds = λ e fs ts us rest t d ends w.
       let rs = a.entries.items in
       let blocks = w.blocks in
-      let same : trees_of ts ≡ nodes_trees (nodes_of blocks.nodes) = sym (ap trees_of blocks.trees) ∙ trees_nodes blocks.nodes in
+      let same : trees_of ts ≡ nodes_trees (nodes_of blocks.nodes) =
+      sym (ap trees_of blocks.trees) ∙ trees_nodes blocks.nodes in
       let (holds, place) = ended_holds x f.extent ts t (nodes_trees (nodes_of blocks.nodes)) same ends in
       let n = node t (nodes_of blocks.nodes) in
-      let size : length rs ≡ length w.front + suc (length w.own) = ap length w.whole ∙ length-append w.front (w.head ∷ w.own) in
-      let count : f.items.count ≡ length blocks.nodes = w.count ∙ (sym (ap length blocks.trees) ∙ length-map blocks.nodes node_tree) in
+      let size : length rs ≡ length w.front + suc (length w.own) =
+      ap length w.whole ∙ length-append w.front (w.head ∷ w.own) in
+      let count : f.items.count ≡ length blocks.nodes =
+      w.count ∙ (sym (ap length blocks.trees) ∙ length-map blocks.nodes node_tree) in
       let all = nodes_of blocks.nodes in
-      let own = subst (λ z. AreEntries x (suc z) (nodes_in_order all) (nodes_depths (suc (length fs)) all) w.own) w.entry blocks.entries in
+      let own = subst (λ z. AreEntries x (suc z) (nodes_in_order all) (nodes_depths (suc (length fs)) all) w.own)
+      w.entry blocks.entries in
       let begun = subst (λ z. IsBegun x f.extent.offset z (length fs) w.head) w.entry w.begun in
-      let entries = sealed_entry x f.extent.offset (length w.front) (length fs) f.items.count (length rs) t blocks.nodes w.head w.own place count size
+      let entries = sealed_entry x f.extent.offset (length w.front) (length fs) f.items.count (length rs) t blocks.nodes
+      w.head w.own place count size
       begun own in
       let new = with_items f.items.count (length rs) w.head ∷ w.own in
       let made : sealed rs f.items.entry f.items.count ≡ w.front ++ new =
@@ -221,7 +249,8 @@ ended x a b f i depth is = record {
 }
 
 -- frames that were dropped leave what those around hold
-pub record IsLeft (x : List ℕ) (rs : List Entry) (f : OpenFrame EntryItems) (gs : List (OpenFrame EntryItems)) (ts : List (Tree ℕ))
+pub record IsLeft (x : List ℕ) (rs : List Entry) (f : OpenFrame EntryItems) (gs : List (OpenFrame EntryItems))
+    (ts : List (Tree ℕ))
     (rest : List (List (Tree ℕ))) : Type 0 where
   pub front : List Entry
   pub more : List Entry
@@ -229,10 +258,13 @@ pub record IsLeft (x : List ℕ) (rs : List Entry) (f : OpenFrame EntryItems) (g
   pub holds : AllHold x front f gs ts rest
 
 inner_left :
-    (x : List ℕ) (rs : List Entry) (k : OpenFrame EntryItems) (inside : List (OpenFrame EntryItems)) (f : OpenFrame EntryItems)
-    (gs : List (OpenFrame EntryItems)) (l : List (Tree ℕ)) (lost : List (List (Tree ℕ))) (ts : List (Tree ℕ)) (rest : List (List (Tree ℕ))) →
+    (x : List ℕ) (rs : List Entry) (k : OpenFrame EntryItems) (inside : List (OpenFrame EntryItems))
+    (f : OpenFrame EntryItems)
+    (gs : List (OpenFrame EntryItems)) (l : List (Tree ℕ)) (lost : List (List (Tree ℕ))) (ts : List (Tree ℕ))
+    (rest : List (List (Tree ℕ))) →
     length inside ≡ length lost → AllHold x rs k (inside ++ f ∷ gs) l (lost ++ ts ∷ rest) → IsLeft x rs f gs ts rest
-inner_left x rs k [] f gs l [] ts rest m a = record { front = a.front; more = a.head ∷ a.own; whole = a.whole; holds = a.around }
+inner_left x rs k [] f gs l [] ts rest m a =
+    record { front = a.front; more = a.head ∷ a.own; whole = a.whole; holds = a.around }
 inner_left x rs k [] f gs l (u ∷ lost) ts rest m a = absurd (omega (arith, m))
 inner_left x rs k (y ∷ inside) f gs l [] ts rest m a = absurd (omega (arith, m))
 inner_left x rs k (y ∷ inside) f gs l (u ∷ lost) ts rest m a =
@@ -241,13 +273,15 @@ inner_left x rs k (y ∷ inside) f gs l (u ∷ lost) ts rest m a =
     record { front = w.front; more = w.more ++ a.head ∷ a.own; whole = all; holds = w.holds }
 
 frames_left :
-    (x : List ℕ) (rs : List Entry) (inside : List (OpenFrame EntryItems)) (f : OpenFrame EntryItems) (gs : List (OpenFrame EntryItems))
+    (x : List ℕ) (rs : List Entry) (inside : List (OpenFrame EntryItems)) (f : OpenFrame EntryItems)
+    (gs : List (OpenFrame EntryItems))
     (lost : List (List (Tree ℕ))) (ts : List (Tree ℕ)) (rest : List (List (Tree ℕ))) → length inside ≡ length lost →
     all_hold x rs (inside ++ f ∷ gs) (lost ++ ts ∷ rest) → IsLeft x rs f gs ts rest
 frames_left x rs [] f gs [] ts rest m a = record { front = rs; more = []; whole = sym (append-nil rs); holds = a }
 frames_left x rs [] f gs (u ∷ lost) ts rest m a = absurd (omega (arith, m))
 frames_left x rs (y ∷ inside) f gs [] ts rest m a = absurd (omega (arith, m))
-frames_left x rs (y ∷ inside) f gs (u ∷ lost) ts rest m a = inner_left x rs y inside f gs u lost ts rest (omega (arith, m)) a
+frames_left x rs (y ∷ inside) f gs (u ∷ lost) ts rest m a =
+    inner_left x rs y inside f gs u lost ts rest (omega (arith, m)) a
 
 -- a fault ended the attempt: there are no entries after its own
 pub kept : (x : List ℕ) (a b : EntryBuilder) (f : OpenFrame EntryItems) (i : EntryItems) (depth : ℕ)
@@ -268,11 +302,13 @@ kept x a b f i depth is = record {
       let at = subst (λ z. IsBegun x k.offset z (length fs) w.head) w.entry place in
       let own = begun_entry x k.offset (length w.front) (length fs) t w.head refl at in
       subst (λ z. AllHold x z (in_frame e (one_more i)) fs (us ++ t ∷ []) rest) (sym (is ∙ made))
-      (all_added x w.front (w.head ∷ []) e i fs us rest (node t no_nodes) (inr (refl, λ (other, bit, are). none are), tt) own w.around);
+      (all_added x w.front (w.head ∷ []) e i fs us rest (node t no_nodes)
+      (inr (refl, λ (other, bit, are). none are), tt) own w.around);
 }
 
 -- in the end the entries are those of the document
-pub document_entries : (x : List ℕ) (rs : List Entry) (ts : List (Tree ℕ)) → IsDocument x (trees_of ts) → AreOfTrees x 0 0 ts rs
+pub document_entries : (x : List ℕ) (rs : List Entry) (ts : List (Tree ℕ)) → IsDocument x (trees_of ts) →
+    AreOfTrees x 0 0 ts rs
     → (bs : Trees ℕ) × IsDocument x bs × AreEntriesOf x bs rs
 document_entries x rs ts d a =
     let trees : nodes_trees (nodes_of a.nodes) ≡ trees_of ts = sym (trees_nodes a.nodes) ∙ ap trees_of a.trees in

@@ -19,7 +19,8 @@ drop_listed (more_nodes n ns) s = drop_listed ns s
 
 mutual
   roots_in : (n : Node) (s : List Node) → roots (node_in_order n ++ s) ≡ node_tree n ∷ roots s
-  roots_in (node b ns) s = ap (λ z. b ∷ drop (node_count ns) z) (roots_among ns s) ∙ ap (λ z. b ∷ z) (drop_listed ns (roots s))
+  roots_in (node b ns) s =
+      ap (λ z. b ∷ drop (node_count ns) z) (roots_among ns s) ∙ ap (λ z. b ∷ z) (drop_listed ns (roots s))
 
   roots_among : (ns : Nodes) (s : List Node) → roots (nodes_in_order ns ++ s) ≡ listed (nodes_trees ns) ++ roots s
   roots_among no_nodes s = refl

@@ -15,20 +15,24 @@ use Rattle.asn1_blocks.proofs.ReadSteps.{slice_join, slice_length}
 use Rattle.asn1_outline.specs.Shapes.{AreShapes, FirstHeaderFaultAt, HasItems, HasShapes, HeadersFaultAt, Shapes, as_it_came, in_header, in_item, in_later, more_shapes, no_more, not_read, one_more, read_inside}
 
 -- at a place there is one header
-header_alone : (x : List ℕ) (p e : ℕ) (h g : PlacedHeader) → e ≤ length x → HeaderFound x p e h → HeaderFound x p e g → h ≡ g
+header_alone : (x : List ℕ) (p e : ℕ) (h g : PlacedHeader) → e ≤ length x → HeaderFound x p e h → HeaderFound x p e g →
+    h ≡ g
 header_alone x p e h g within f f' =
     let y = slice_range x p h.end in
     let z = slice_range x p g.end in
     let whole : y ++ drop h.end x ≡ z ++ drop g.end x =
-    sym (slice_split x p h.end (omega (arith, f.starts_after, f.order))) ∙ slice_split x p g.end (omega (arith, f'.starts_after, f'.order)) in
-    let s = encoding_alone y z h.class g.class h.constructed g.constructed h.tag g.tag _ _ _ _ (drop h.end x) (drop g.end x) f.encoding f'.encoding whole in
+    sym (slice_split x p h.end (omega (arith, f.starts_after, f.order)))
+    ∙ slice_split x p g.end (omega (arith, f'.starts_after, f'.order)) in
+    let s = encoding_alone y z h.class g.class h.constructed g.constructed h.tag g.tag _ _ _ _ (drop h.end x)
+    (drop g.end x) f.encoding f'.encoding whole in
     let class : h.class ≡ g.class = s.class in
     let constructed : h.constructed ≡ g.constructed = s.constructed in
     let tag : h.tag ≡ g.tag = s.tag in
     let start : h.start ≡ g.start = omega (arith, s.header, f.starts_after, f'.starts_after) in
     let l = slice_length x p h.end (omega (arith, f.starts_after, f.order)) (omega (arith, f.ends_within, within)) in
     let m = slice_length x p g.end (omega (arith, f'.starts_after, f'.order)) (omega (arith, f'.ends_within, within)) in
-    let end : h.end ≡ g.end = omega (arith, l, m, ap length s.octets, f.starts_after, f.order, f'.starts_after, f'.order) in
+    let end : h.end ≡ g.end =
+    omega (arith, l, m, ap length s.octets, f.starts_after, f.order, f'.starts_after, f'.order) in
     let same : h ≡ g =
     ap (λ z. record { class = z; constructed = h.constructed; tag = h.tag; start = h.start; end = h.end }) class
     ∙ ap (λ z. record { class = g.class; constructed = z; tag = h.tag; start = h.start; end = h.end }) constructed
@@ -38,46 +42,63 @@ header_alone x p e h g within f f' =
     same
 
 -- and none where one is at fault
-header_no_fault : (x : List ℕ) (s p e : ℕ) (h : PlacedHeader) (fault : DecodeFault) → length x < 2 ^ 64 → e ≤ length x → HeaderFound x p e h
+header_no_fault : (x : List ℕ) (s p e : ℕ) (h : PlacedHeader) (fault : DecodeFault) → length x < 2 ^ 64 → e ≤ length x →
+    HeaderFound x p e h
     → HeaderFault (p - s) (slice_range x p e) fault → ⊥
 header_no_fault x s p e h fault small within f w =
     let before : p ≤ h.end = omega (arith, f.starts_after, f.order) in
     let l = slice_length x p e (omega (arith, before, f.ends_within)) within in
-    header_no_encoding (p - s) (slice_range x p e) (slice_range x p h.end) (slice_range x h.end e) fault h.class h.constructed h.tag _ _ w
+    header_no_encoding (p - s) (slice_range x p e) (slice_range x p h.end) (slice_range x h.end e) fault h.class
+    h.constructed h.tag _ _ w
     (omega (arith, l, small, within, before, f.ends_within)) (slice_join x p h.end e before f.ends_within) f.encoding
 
 module _ (x : List ℕ) (small : length x < 2 ^ 64) where
   mutual
-    shapes_no_fault : (s p e : ℕ) (a : Shapes) (fault : DecodeFault) (o : ℕ) → e ≤ length x → AreShapes x p e a → HeadersFaultAt x s p e fault o → ⊥
+    shapes_no_fault : (s p e : ℕ) (a : Shapes) (fault : DecodeFault) (o : ℕ) → e ≤ length x → AreShapes x p e a →
+        HeadersFaultAt x s p e fault o → ⊥
     shapes_no_fault s p e a fault o within (no_more end) (in_header more w) = omega (arith, end, more)
-    shapes_no_fault s p e a fault o within (no_more end) (in_item f u i q) = omega (arith, end, f.starts_after, f.order, f.ends_within)
-    shapes_no_fault s p e a fault o within (no_more end) (in_later f i q) = omega (arith, end, f.starts_after, f.order, f.ends_within)
-    shapes_no_fault s p e a fault o within (one_more f i r) (in_header more w) = header_no_fault x s p e _ fault small within f w
-    shapes_no_fault s p e a fault o within (one_more {header = h} {items = items} f i r) (in_item {header = g} f' u j q) =
+    shapes_no_fault s p e a fault o within (no_more end) (in_item f u i q) =
+        omega (arith, end, f.starts_after, f.order, f.ends_within)
+    shapes_no_fault s p e a fault o within (no_more end) (in_later f i q) =
+        omega (arith, end, f.starts_after, f.order, f.ends_within)
+    shapes_no_fault s p e a fault o within (one_more f i r) (in_header more w) =
+        header_no_fault x s p e _ fault small within f w
+    shapes_no_fault s p e a fault o within (one_more {header = h} {items = items} f i r)
+        (in_item {header = g} f' u j q) =
         let same : g ≡ h = header_alone x p e g h within f' f in
         let q' = subst (λ z. HeadersFaultAt x z.start z.start z.end fault o) same q in
-        items_no_fault h items fault o (omega (arith, f.ends_within, within)) i (ap (λ (z : PlacedHeader). z.class) (sym same) ∙ u)
+        items_no_fault h items fault o (omega (arith, f.ends_within, within)) i
+        (ap (λ (z : PlacedHeader). z.class) (sym same) ∙ u)
         (subst (λ z. IsReadInside z.class z.constructed z.tag) same j) q'
     shapes_no_fault s p e a fault o within (one_more {header = h} {rest = rest} f i r) (in_later {header = g} f' j q) =
         let same : g ≡ h = header_alone x p e g h within f' f in
         shapes_no_fault s h.end e rest fault o within r (subst (λ z. HeadersFaultAt x s z.end e fault o) same q)
 
-    items_no_fault : (h : PlacedHeader) (a : Shapes) (fault : DecodeFault) (o : ℕ) → h.end ≤ length x → HasItems x h a → h.class ≡ Universal
+    items_no_fault : (h : PlacedHeader) (a : Shapes) (fault : DecodeFault) (o : ℕ) → h.end ≤ length x → HasItems x h a →
+        h.class ≡ Universal
         → IsReadInside h.class h.constructed h.tag → HeadersFaultAt x h.start h.start h.end fault o → ⊥
-    items_no_fault h a fault o within (read_inside i are) u j q = shapes_no_fault h.start h.start h.end a fault o within are q
+    items_no_fault h a fault o within (read_inside i are) u j q =
+        shapes_no_fault h.start h.start h.end a fault o within are q
     items_no_fault h a fault o within (as_it_came other c p) u j q = other u
     items_no_fault h a fault o within (not_read shut) u j q = shut j
 
   mutual
     shapes_alone : (p e : ℕ) (a b : Shapes) → e ≤ length x → AreShapes x p e a → AreShapes x p e b → a ≡ b
     shapes_alone p e a b within (no_more end) (no_more end') = refl
-    shapes_alone p e a b within (no_more end) (one_more f i r) = absurd (omega (arith, end, f.starts_after, f.order, f.ends_within))
-    shapes_alone p e a b within (one_more f i r) (no_more end) = absurd (omega (arith, end, f.starts_after, f.order, f.ends_within))
-    shapes_alone p e a b within (one_more {header = h} {items = items} {rest = rest} f i r) (one_more {header = g} {items = items'} {rest = rest'} f' i' r') =
+    shapes_alone p e a b within (no_more end) (one_more f i r) =
+        absurd (omega (arith, end, f.starts_after, f.order, f.ends_within))
+    shapes_alone p e a b within (one_more f i r) (no_more end) =
+        absurd (omega (arith, end, f.starts_after, f.order, f.ends_within))
+    shapes_alone p e a b within (one_more {header = h} {items = items} {rest = rest} f i r)
+        (one_more {header = g} {items = items'} {rest = rest'} f' i' r') =
         let same : g ≡ h = header_alone x p e g h within f' f in
-        let inside : items ≡ items' = items_alone h items items' (omega (arith, f.ends_within, within)) i (subst (λ z. HasItems x z items') same i') in
-        let after : rest ≡ rest' = shapes_alone h.end e rest rest' within r (subst (λ z. AreShapes x z.end e rest') same r') in
-        ap (λ z. more_shapes p z items rest) (sym same) ∙ ap (λ z. more_shapes p g z rest) inside ∙ ap (λ z. more_shapes p g items' z) after
+        let inside : items ≡ items' =
+        items_alone h items items' (omega (arith, f.ends_within, within)) i
+        (subst (λ z. HasItems x z items') same i') in
+        let after : rest ≡ rest' =
+        shapes_alone h.end e rest rest' within r (subst (λ z. AreShapes x z.end e rest') same r') in
+        ap (λ z. more_shapes p z items rest) (sym same) ∙ ap (λ z. more_shapes p g z rest) inside
+        ∙ ap (λ z. more_shapes p g items' z) after
 
     items_alone : (h : PlacedHeader) (a b : Shapes) → h.end ≤ length x → HasItems x h a → HasItems x h b → a ≡ b
     items_alone h a b within (read_inside i are) (read_inside i' are') = shapes_alone h.start h.end a b within are are'
@@ -92,22 +113,31 @@ module _ (x : List ℕ) (small : length x < 2 ^ 64) where
     items_alone h a b within (not_read shut) (as_it_came other c p) = refl
     items_alone h a b within (not_read shut) (not_read shut') = refl
 
-  fault_alone : (s p e : ℕ) (a b : DecodeFault) (o q : ℕ) → e ≤ length x → HeadersFaultAt x s p e a o → HeadersFaultAt x s p e b q
+  fault_alone : (s p e : ℕ) (a b : DecodeFault) (o q : ℕ) → e ≤ length x → HeadersFaultAt x s p e a o →
+      HeadersFaultAt x s p e b q
       → (a ≡ b) × (o ≡ q)
-  fault_alone s p e a b o q within (in_header more w) (in_header more' w') = (header_fault_alone (p - s) (slice_range x p e) a b w w', refl)
-  fault_alone s p e a b o q within (in_header more w) (in_item f u i t) = absurd (header_no_fault x s p e _ a small within f w)
-  fault_alone s p e a b o q within (in_header more w) (in_later f i t) = absurd (header_no_fault x s p e _ a small within f w)
-  fault_alone s p e a b o q within (in_item f u i t) (in_header more w) = absurd (header_no_fault x s p e _ b small within f w)
-  fault_alone s p e a b o q within (in_later f i t) (in_header more w) = absurd (header_no_fault x s p e _ b small within f w)
+  fault_alone s p e a b o q within (in_header more w) (in_header more' w') =
+      (header_fault_alone (p - s) (slice_range x p e) a b w w', refl)
+  fault_alone s p e a b o q within (in_header more w) (in_item f u i t) =
+      absurd (header_no_fault x s p e _ a small within f w)
+  fault_alone s p e a b o q within (in_header more w) (in_later f i t) =
+      absurd (header_no_fault x s p e _ a small within f w)
+  fault_alone s p e a b o q within (in_item f u i t) (in_header more w) =
+      absurd (header_no_fault x s p e _ b small within f w)
+  fault_alone s p e a b o q within (in_later f i t) (in_header more w) =
+      absurd (header_no_fault x s p e _ b small within f w)
   fault_alone s p e a b o q within (in_item {header = h} f u i t) (in_item {header = g} f' u' i' t') =
       let same : g ≡ h = header_alone x p e g h within f' f in
-      fault_alone h.start h.start h.end a b o q (omega (arith, f.ends_within, within)) t (subst (λ z. HeadersFaultAt x z.start z.start z.end b q) same t')
+      fault_alone h.start h.start h.end a b o q (omega (arith, f.ends_within, within)) t
+      (subst (λ z. HeadersFaultAt x z.start z.start z.end b q) same t')
   fault_alone s p e a b o q within (in_item {header = h} f u i t) (in_later {header = g} {items = items} f' i' t') =
       let same : g ≡ h = header_alone x p e g h within f' f in
-      absurd (items_no_fault h items a o (omega (arith, f.ends_within, within)) (subst (λ z. HasItems x z items) same i') u i t)
+      absurd (items_no_fault h items a o (omega (arith, f.ends_within, within))
+      (subst (λ z. HasItems x z items) same i') u i t)
   fault_alone s p e a b o q within (in_later {header = h} {items = items} f i t) (in_item {header = g} f' u i' t') =
       let same : h ≡ g = header_alone x p e h g within f f' in
-      absurd (items_no_fault g items b q (omega (arith, f'.ends_within, within)) (subst (λ z. HasItems x z items) same i) u i' t')
+      absurd (items_no_fault g items b q (omega (arith, f'.ends_within, within))
+      (subst (λ z. HasItems x z items) same i) u i' t')
   fault_alone s p e a b o q within (in_later {header = h} f i t) (in_later {header = g} f' i' t') =
       let same : g ≡ h = header_alone x p e g h within f' f in
       fault_alone s h.end e a b o q within t (subst (λ z. HeadersFaultAt x s z.end e b q) same t')
@@ -115,7 +145,8 @@ module _ (x : List ℕ) (small : length x < 2 ^ 64) where
   pub has_shapes_alone : (a b : Shapes) → HasShapes x a → HasShapes x b → a ≡ b
   has_shapes_alone a b h g = shapes_alone 0 (length x) a b (omega arith) h.shapes g.shapes
 
-  pub has_shapes_no_fault : (a : Shapes) (fault : DecodeFault) (o : ℕ) → HasShapes x a → FirstHeaderFaultAt x fault o → ⊥
+  pub has_shapes_no_fault : (a : Shapes) (fault : DecodeFault) (o : ℕ) → HasShapes x a → FirstHeaderFaultAt x fault o →
+      ⊥
   has_shapes_no_fault a fault o h (inl (none, is, at)) = omega (arith, h.some, ap length none)
   has_shapes_no_fault a fault o h (inr w) = shapes_no_fault 0 0 (length x) a fault o (omega arith) h.shapes w
 
@@ -124,8 +155,11 @@ module _ (x : List ℕ) (small : length x < 2 ^ 64) where
   fault_some s p e fault o (in_item f u i t) = omega (arith, f.starts_after, f.order, f.ends_within)
   fault_some s p e fault o (in_later f i t) = omega (arith, f.starts_after, f.order, f.ends_within)
 
-  pub first_header_fault_alone : (a b : DecodeFault) (o q : ℕ) → FirstHeaderFaultAt x a o → FirstHeaderFaultAt x b q → (a ≡ b) × (o ≡ q)
+  pub first_header_fault_alone : (a b : DecodeFault) (o q : ℕ) → FirstHeaderFaultAt x a o → FirstHeaderFaultAt x b q →
+      (a ≡ b) × (o ≡ q)
   first_header_fault_alone a b o q (inl (none, is, at)) (inl (none', is', at')) = (is ∙ sym is', at ∙ sym at')
-  first_header_fault_alone a b o q (inl (none, is, at)) (inr w) = absurd (omega (arith, ap length none, fault_some 0 0 (length x) b q w))
-  first_header_fault_alone a b o q (inr w) (inl (none, is, at)) = absurd (omega (arith, ap length none, fault_some 0 0 (length x) a o w))
+  first_header_fault_alone a b o q (inl (none, is, at)) (inr w) =
+      absurd (omega (arith, ap length none, fault_some 0 0 (length x) b q w))
+  first_header_fault_alone a b o q (inr w) (inl (none, is, at)) =
+      absurd (omega (arith, ap length none, fault_some 0 0 (length x) a o w))
   first_header_fault_alone a b o q (inr w) (inr w') = fault_alone 0 0 (length x) a b o q (omega arith) w w'

@@ -16,7 +16,8 @@ count_nodes [] = refl
 count_nodes (n ∷ ns) = ap suc (count_nodes ns)
 
 -- one node more
-pub are_more : (x : List ℕ) (ns : List Node) (n : Node) → AreNodes x (nodes_of ns) → IsNode x n → AreNodes x (nodes_of (ns ++ n ∷ []))
+pub are_more : (x : List ℕ) (ns : List Node) (n : Node) → AreNodes x (nodes_of ns) → IsNode x n →
+    AreNodes x (nodes_of (ns ++ n ∷ []))
 are_more x [] n are is = (is, tt)
 are_more x (m ∷ ns) n are is = (are.0, are_more x ns n are.1 is)
 
@@ -26,11 +27,14 @@ holds_alone x (leaf o l) bs cs p q = p ∙ sym q
 holds_alone x (group o g items) bs cs p q = p ∙ sym q
 holds_alone x (explicit c o n b) bs cs p q = p ∙ sym q
 holds_alone x (unknown c k o n v) bs cs (inl (i, p, t, e)) (inl (j, q, u, f)) =
-    let same = encoding_alone t.octets u.octets c c true true n n v v t.header u.header t.rest u.rest t.encoding u.encoding (sym t.at_offset ∙ u.at_offset) in
+    let same = encoding_alone t.octets u.octets c c true true n n v v t.header u.header t.rest u.rest t.encoding
+    u.encoding (sym t.at_offset ∙ u.at_offset) in
     let place : q ≡ p = u.start_is ∙ ap (λ z. o + z) (sym same.header) ∙ sym t.start_is in
     all_alone p v bs cs e (subst (λ z. EncodesAll z v cs) place f)
-holds_alone x (unknown c k o n v) bs cs (inl (i, p, t, e)) (inr (none, other)) = absurd (other (t.other, i, encodes_blocks p v bs e))
-holds_alone x (unknown c k o n v) bs cs (inr (none, other)) (inl (i, p, t, e)) = absurd (other (t.other, i, encodes_blocks p v cs e))
+holds_alone x (unknown c k o n v) bs cs (inl (i, p, t, e)) (inr (none, other)) =
+    absurd (other (t.other, i, encodes_blocks p v bs e))
+holds_alone x (unknown c k o n v) bs cs (inr (none, other)) (inl (i, p, t, e)) =
+    absurd (other (t.other, i, encodes_blocks p v cs e))
 holds_alone x (unknown c k o n v) bs cs (inr (none, other)) (inr (same, more)) = none ∙ sym same
 
 mutual
@@ -59,4 +63,5 @@ mutual
 
 -- so has a document
 pub structure_alone : (x : List ℕ) (ns ms : Nodes) → IsStructure x ns → IsStructure x ms → ns ≡ ms
-structure_alone x ns ms (d, p) (e, q) = nodes_alone x ns ms (all_alone 0 x (nodes_trees ns) (nodes_trees ms) d.blocks e.blocks) p q
+structure_alone x ns ms (d, p) (e, q) =
+    nodes_alone x ns ms (all_alone 0 x (nodes_trees ns) (nodes_trees ms) d.blocks e.blocks) p q

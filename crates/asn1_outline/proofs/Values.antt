@@ -51,7 +51,8 @@ contents_of x b r e =
     let (y, at, h) = e.header in
     let own = e.encoded in
     let there = encoding_of x b e.octets own in
-    let same : y ≡ e.octets = encoding_at_alone x (tree_offset b) y e.octets (subst (λ n. EncodingAt x n y) e.offset_is at) there in
+    let same : y ≡ e.octets =
+    encoding_at_alone x (tree_offset b) y e.octets (subst (λ n. EncodingAt x n y) e.offset_is at) there in
     let stands : drop r.offset x ≡ y ++ at.rest = at.at_offset in
     let size : length y ≡ r.header + r.contents = omega (
       arith,
@@ -71,11 +72,13 @@ contents_of x b r e =
       encoded = subst (λ z. Encodes (tree_offset b) z b) (sym same) own.encoded;
       number = h.tag_field;
       within = omega (arith, size, some, ap length stands, length-append y at.rest, length-drop r.offset x);
-      are = slice_at x h.contents at.rest (r.offset + r.header) (r.offset + r.header + r.contents) after (omega (arith, h.contents_field));
+      are = slice_at x h.contents at.rest (r.offset + r.header) (r.offset + r.header + r.contents) after
+          (omega (arith, h.contents_field));
     }
 
 -- octets have one header
-one : (y : List ℕ) (c d : ASN1Class) (j k : Bool) (m n : ℕ) (v w : List ℕ) (g h : ℕ) → Encoding y c j m v g → Encoding y d k n w h
+one : (y : List ℕ) (c d : ASN1Class) (j k : Bool) (m n : ℕ) (v w : List ℕ) (g h : ℕ) → Encoding y c j m v g →
+    Encoding y d k n w h
     → SameEncoding y y c d j k m n v w g h [] []
 one y c d j k m n v w g h p q = encoding_alone y y c d j k m n v w g h [] [] p q refl
 
@@ -86,11 +89,13 @@ small_tag n field m (low, high) e s = elim (cases_lt n (2 ^ 64)) [
   | inr ge ↦ absurd (omega (arith, high ge, e, s))
 ]
 
-integer_leaf : (l : Leaf) (v w : List ℕ) → leaf_tag l ≡ 2 → v ≡ w → LeafContents l v → leaf_integer l ≡ Some (signed_number w)
+integer_leaf : (l : Leaf) (v w : List ℕ) → leaf_tag l ≡ 2 → v ≡ w → LeafContents l v →
+    leaf_integer l ≡ Some (signed_number w)
 integer_leaf l v w t e m = ap leaf_integer (leaf_alone l (integer (signed_number w)) v t m (ap signed_number (sym e)))
 
 -- the tree of an INTEGER's contents octets
-integer_tree : (o : ℕ) (y : List ℕ) (b : Tree ℕ) (k : Bool) (w : List ℕ) (h : ℕ) → Encodes o y b → Encoding y Universal k 2 w h
+integer_tree : (o : ℕ) (y : List ℕ) (b : Tree ℕ) (k : Bool) (w : List ℕ) (h : ℕ) → Encodes o y b →
+    Encoding y Universal k 2 w h
     → tree_integer b ≡ Some (signed_number w)
 integer_tree o y (leaf p l) k w h s e =
     let z = one y Universal Universal s.1 k (leaf_tag l) 2 s.2 w s.3 h s.4 e in
@@ -118,10 +123,12 @@ is_integer x b r e class tag =
     let t = small_tag c.tag r.tag 2 c.number tag (omega arith) in
     let own = subst (λ z. Encoding c.octets z r.constructed c.tag c.contents r.header) class c.encoding in
     let two = subst (λ z. Encoding c.octets Universal r.constructed z c.contents r.header) t own in
-    integer_tree (tree_offset b) c.octets b r.constructed c.contents r.header c.encoded two ∙ ap (λ z. Some (signed_number z)) (sym c.are)
+    integer_tree (tree_offset b) c.octets b r.constructed c.contents r.header c.encoded two
+    ∙ ap (λ z. Some (signed_number z)) (sym c.are)
 
 -- any other tree is none
-no_integer_leaf : (o : ℕ) (y : List ℕ) (b : Tree ℕ) (c : ASN1Class) (k : Bool) (n : ℕ) (w : List ℕ) (h : ℕ) → Encodes o y b → Encoding y c k n w h
+no_integer_leaf : (o : ℕ) (y : List ℕ) (b : Tree ℕ) (c : ASN1Class) (k : Bool) (n : ℕ) (w : List ℕ) (h : ℕ) →
+    Encodes o y b → Encoding y c k n w h
     → ((c ≡ Universal) × (n ≡ 2) → ⊥) → tree_integer b ≡ None
 no_integer_leaf o y (leaf p (integer m)) c k n w h s e other =
     let z = one y Universal c s.1 k 2 n s.2 w s.3 h s.4 e in
@@ -131,7 +138,8 @@ no_integer_leaf o y (group p g bs) c k n w h s e other = refl
 no_integer_leaf o y (explicit d p m b) c k n w h s e other = refl
 no_integer_leaf o y (unknown d j p m v) c k n w h s e other = refl
 
-pub is_no_integer : (x : List ℕ) (b : Tree ℕ) (r : Entry) → IsEntryOf x b r → ((r.class ≡ Universal) × (r.tag ≡ 2) → ⊥) → tree_integer b ≡ None
+pub is_no_integer : (x : List ℕ) (b : Tree ℕ) (r : Entry) → IsEntryOf x b r →
+    ((r.class ≡ Universal) × (r.tag ≡ 2) → ⊥) → tree_integer b ≡ None
 is_no_integer x b r e other =
     let c = contents_of x b r e in
     no_integer_leaf (tree_offset b) c.octets b r.class r.constructed c.tag c.contents r.header c.encoded c.encoding
@@ -142,7 +150,8 @@ pub is_within : (x : List ℕ) (b : Tree ℕ) (r : Entry) → IsEntryOf x b r �
 is_within x b r e = (contents_of x b r e).within
 
 -- the tree of an entry of class Universal with the tag of a leaf
-leaf_encoded : (o : ℕ) (y : List ℕ) (b : Tree ℕ) (k : Bool) (n : ℕ) (w : List ℕ) (h : ℕ) → is_leaf_tag n ≡ true → Encodes o y b → Encoding y Universal k n w h
+leaf_encoded : (o : ℕ) (y : List ℕ) (b : Tree ℕ) (k : Bool) (n : ℕ) (w : List ℕ) (h : ℕ) → is_leaf_tag n ≡ true →
+    Encodes o y b → Encoding y Universal k n w h
     → IsLeafOf o n w b
 leaf_encoded o y (leaf p l) k n w h t s e =
     let z = one y Universal Universal s.1 k (leaf_tag l) n s.2 w s.3 h s.4 e in
@@ -163,23 +172,28 @@ leaf_encoded o y (unknown c j p m v) k n w h t s e =
     not_known : true ≡ false → ⊥
     not_known q = absurd (cc)
 
-pub is_leaf : (x : List ℕ) (b : Tree ℕ) (r : Entry) (n : ℕ) → IsEntryOf x b r → r.class ≡ Universal → r.tag ≡ n → n < 64 → is_leaf_tag n ≡ true
+pub is_leaf : (x : List ℕ) (b : Tree ℕ) (r : Entry) (n : ℕ) → IsEntryOf x b r → r.class ≡ Universal → r.tag ≡ n →
+    n < 64 → is_leaf_tag n ≡ true
     → IsLeafOf (tree_offset b) n (slice_range x (r.offset + r.header) (r.offset + r.header + r.contents)) b
 is_leaf x b r n e class tag small t =
     let c = contents_of x b r e in
     let own = subst (λ z. Encoding c.octets z r.constructed c.tag c.contents r.header) class c.encoding in
-    let two = subst (λ z. Encoding c.octets Universal r.constructed z c.contents r.header) (small_tag c.tag r.tag n c.number tag small) own in
-    subst (λ z. IsLeafOf (tree_offset b) n z b) (sym c.are) (leaf_encoded (tree_offset b) c.octets b r.constructed n c.contents r.header t c.encoded two)
+    let two = subst (λ z. Encoding c.octets Universal r.constructed z c.contents r.header)
+    (small_tag c.tag r.tag n c.number tag small) own in
+    subst (λ z. IsLeafOf (tree_offset b) n z b) (sym c.are)
+    (leaf_encoded (tree_offset b) c.octets b r.constructed n c.contents r.header t c.encoded two)
 
 -- it is the leaf that the contents octets mean
-pub leaf_is : (o n : ℕ) (v : List ℕ) (b : Tree ℕ) (l : Leaf) → IsLeafOf o n v b → n ≡ leaf_tag l → LeafContents l v → (p : ℕ) × (b ≡ leaf p l)
+pub leaf_is : (o n : ℕ) (v : List ℕ) (b : Tree ℕ) (l : Leaf) → IsLeafOf o n v b → n ≡ leaf_tag l → LeafContents l v →
+    (p : ℕ) × (b ≡ leaf p l)
 leaf_is o n v (leaf p m) l s t e = (p, ap (leaf p) (leaf_alone m l v (sym s.1 ∙ t) s.2 e))
 leaf_is o n v (group p g bs) l s t e = absurd s
 leaf_is o n v (explicit c p m b) l s t e = absurd s
 leaf_is o n v (unknown c k p m w) l s t e = absurd s
 
 -- and they have no fault
-pub leaf_faultless : (o n : ℕ) (v : List ℕ) (b : Tree ℕ) (fault : DecodeFault) → IsLeafOf o n v b → LeafFault n v fault → ⊥
+pub leaf_faultless : (o n : ℕ) (v : List ℕ) (b : Tree ℕ) (fault : DecodeFault) → IsLeafOf o n v b →
+    LeafFault n v fault → ⊥
 leaf_faultless o n v (leaf p m) fault s f = leaf_no_fault n v fault m s.1 s.2 f
 leaf_faultless o n v (group p g bs) fault s f = s
 leaf_faultless o n v (explicit c p m b) fault s f = s
@@ -188,24 +202,30 @@ leaf_faultless o n v (unknown c k p m w) fault s f = s
 string_leaf : (kind : StringKind) → (string_tag kind < 64) × (is_leaf_tag (string_tag kind) ≡ true)
 string_leaf kind = (string_tag_small kind, leaf_tag_is (text kind []))
 
-pub is_text : (x : List ℕ) (b : Tree ℕ) (r : Entry) (kind : StringKind) (cs : List ℕ) → IsEntryOf x b r → r.class ≡ Universal → r.tag ≡ string_tag kind
-    → TextContents (text_form kind) cs (slice_range x (r.offset + r.header) (r.offset + r.header + r.contents)) → tree_text b ≡ Some cs
+pub is_text : (x : List ℕ) (b : Tree ℕ) (r : Entry) (kind : StringKind) (cs : List ℕ) → IsEntryOf x b r →
+    r.class ≡ Universal → r.tag ≡ string_tag kind
+    → TextContents (text_form kind) cs (slice_range x (r.offset + r.header) (r.offset + r.header + r.contents)) →
+    tree_text b ≡ Some cs
 is_text x b r kind cs e class tag means =
     let (small, t) = string_leaf kind in
     let v = slice_range x (r.offset + r.header) (r.offset + r.header + r.contents) in
-    let (p, same) = leaf_is (tree_offset b) (string_tag kind) v b (text kind cs) (is_leaf x b r (string_tag kind) e class tag small t) refl means in
+    let (p, same) = leaf_is (tree_offset b) (string_tag kind) v b (text kind cs)
+    (is_leaf x b r (string_tag kind) e class tag small t) refl means in
     ap tree_text same
 
-pub is_no_faulty_text : (x : List ℕ) (b : Tree ℕ) (r : Entry) (kind : StringKind) (fault : DecodeFault) → IsEntryOf x b r → r.class ≡ Universal
+pub is_no_faulty_text : (x : List ℕ) (b : Tree ℕ) (r : Entry) (kind : StringKind) (fault : DecodeFault) →
+    IsEntryOf x b r → r.class ≡ Universal
     → r.tag ≡ string_tag kind
     → TextFault (text_form kind) (slice_range x (r.offset + r.header) (r.offset + r.header + r.contents)) fault → ⊥
 is_no_faulty_text x b r kind fault e class tag f =
     let (small, t) = string_leaf kind in
     let v = slice_range x (r.offset + r.header) (r.offset + r.header + r.contents) in
-    leaf_faultless (tree_offset b) (string_tag kind) v b fault (is_leaf x b r (string_tag kind) e class tag small t) (of_text kind refl f)
+    leaf_faultless (tree_offset b) (string_tag kind) v b fault (is_leaf x b r (string_tag kind) e class tag small t)
+    (of_text kind refl f)
 
 -- a tree of no string
-no_text_leaf : (o : ℕ) (y : List ℕ) (b : Tree ℕ) (c : ASN1Class) (k : Bool) (n : ℕ) (w : List ℕ) (h : ℕ) → Encodes o y b → Encoding y c k n w h
+no_text_leaf : (o : ℕ) (y : List ℕ) (b : Tree ℕ) (c : ASN1Class) (k : Bool) (n : ℕ) (w : List ℕ) (h : ℕ) →
+    Encodes o y b → Encoding y c k n w h
     → ((kind : StringKind) → (c ≡ Universal) × (n ≡ string_tag kind) → ⊥) → tree_text b ≡ None
 no_text_leaf o y (leaf p (text kind cs)) c k n w h s e other =
     let z = one y Universal c s.1 k (string_tag kind) n s.2 w s.3 h s.4 e in
@@ -215,7 +235,8 @@ no_text_leaf o y (group p g bs) c k n w h s e other = refl
 no_text_leaf o y (explicit d p m b) c k n w h s e other = refl
 no_text_leaf o y (unknown d j p m v) c k n w h s e other = refl
 
-pub is_no_text : (x : List ℕ) (b : Tree ℕ) (r : Entry) → IsEntryOf x b r → ((kind : StringKind) → (r.class ≡ Universal) × (r.tag ≡ string_tag kind) → ⊥)
+pub is_no_text : (x : List ℕ) (b : Tree ℕ) (r : Entry) → IsEntryOf x b r →
+    ((kind : StringKind) → (r.class ≡ Universal) × (r.tag ≡ string_tag kind) → ⊥)
     → tree_text b ≡ None
 is_no_text x b r e other =
     let c = contents_of x b r e in
@@ -223,7 +244,8 @@ is_no_text x b r e other =
     (λ kind (d, t). other kind (d, c.number.0 (omega (arith, t, (string_leaf kind).0)) ∙ t))
 
 -- each entry of a document is of its node's tree
-pub entry_of_node : (x : List ℕ) (ns : Nodes) (rs : List Entry) → IsStructure x ns → AreEntries x 0 (nodes_in_order ns) (nodes_depths 0 ns) rs
+pub entry_of_node : (x : List ℕ) (ns : Nodes) (rs : List Entry) → IsStructure x ns →
+    AreEntries x 0 (nodes_in_order ns) (nodes_depths 0 ns) rs
     → (k : ℕ) → k < length (nodes_in_order ns) → IsEntryOf x (tree_at ns k) (get_or rs k no_entry)
 entry_of_node x ns rs d are k h =
     let w = entry_at x 0 (nodes_in_order ns) (nodes_depths 0 ns) rs are k h in
@@ -238,12 +260,15 @@ each_of_its_tree x bs rs d all k h =
     entry_of_node x ns rs own all.entries k (omega (arith, h, l))
 
 -- a tree of class Universal with a leaf's tag alone is a leaf with it
-pub no_leaf_with : (x : List ℕ) (b : Tree ℕ) (r : Entry) (n : ℕ) → IsEntryOf x b r → n < 64 → ((r.class ≡ Universal) × (r.tag ≡ n) → ⊥)
+pub no_leaf_with : (x : List ℕ) (b : Tree ℕ) (r : Entry) (n : ℕ) → IsEntryOf x b r → n < 64 →
+    ((r.class ≡ Universal) × (r.tag ≡ n) → ⊥)
     → IsNoLeafWith n b
 no_leaf_with x b r n e small other o l is tag =
     let c = contents_of x b r e in
-    let s : Encodes (tree_offset b) c.octets (leaf o l) = subst (λ z. Encodes (tree_offset b) c.octets z) is c.encoded in
-    let z = one c.octets Universal r.class s.1 r.constructed (leaf_tag l) c.tag s.2 c.contents s.3 r.header s.4 c.encoding in
+    let s : Encodes (tree_offset b) c.octets (leaf o l) =
+    subst (λ z. Encodes (tree_offset b) c.octets z) is c.encoded in
+    let z = one c.octets Universal r.class s.1 r.constructed (leaf_tag l) c.tag s.2 c.contents s.3 r.header s.4
+    c.encoding in
     let number : c.tag ≡ n = sym z.tag ∙ tag in
     other (sym z.class, c.number.0 (omega (arith, number, small)) ∙ number)
 
@@ -286,7 +311,8 @@ octets_found now None b h = no_octets b h
 octets_found now (Some v) b h = are_octets (tree_offset b) (now v) b h
 
 -- a primitive encoding of class Universal whose tag number has no rule stays as it came
-primitive_encoded : (o : ℕ) (y : List ℕ) (b : Tree ℕ) (n : ℕ) (w : List ℕ) (h : ℕ) → is_known_tag n ≡ false → Encodes o y b
+primitive_encoded : (o : ℕ) (y : List ℕ) (b : Tree ℕ) (n : ℕ) (w : List ℕ) (h : ℕ) → is_known_tag n ≡ false →
+    Encodes o y b
     → Encoding y Universal false n w h → IsPrimitive n w b
 primitive_encoded o y (leaf p l) n w h t s e =
     let z = one y Universal Universal s.1 false (leaf_tag l) n s.2 w s.3 h s.4 e in
@@ -305,18 +331,24 @@ primitive_encoded o y (unknown c j p m v) n w h t s e =
     let contents = z.contents in
     cc
 
-pub is_primitive : (x : List ℕ) (b : Tree ℕ) (r : Entry) → IsEntryOf x b r → r.class ≡ Universal → r.constructed ≡ false → r.tag < 64
-    → is_known_tag r.tag ≡ false → IsPrimitive r.tag (slice_range x (r.offset + r.header) (r.offset + r.header + r.contents)) b
+pub is_primitive : (x : List ℕ) (b : Tree ℕ) (r : Entry) → IsEntryOf x b r → r.class ≡ Universal →
+    r.constructed ≡ false → r.tag < 64
+    → is_known_tag r.tag ≡ false →
+    IsPrimitive r.tag (slice_range x (r.offset + r.header) (r.offset + r.header + r.contents)) b
 is_primitive x b r e class constructed small t =
     let c = contents_of x b r e in
     let own = subst (λ z. Encoding c.octets z r.constructed c.tag c.contents r.header) class c.encoding in
     let two = subst (λ z. Encoding c.octets Universal z c.tag c.contents r.header) constructed own in
-    let three = subst (λ z. Encoding c.octets Universal false z c.contents r.header) (small_tag c.tag r.tag r.tag c.number refl small) two in
-    subst (λ z. IsPrimitive r.tag z b) (sym c.are) (primitive_encoded (tree_offset b) c.octets b r.tag c.contents r.header t c.encoded three)
+    let three = subst (λ z. Encoding c.octets Universal false z c.contents r.header)
+    (small_tag c.tag r.tag r.tag c.number refl small) two in
+    subst (λ z. IsPrimitive r.tag z b) (sym c.are)
+    (primitive_encoded (tree_offset b) c.octets b r.tag c.contents r.header t c.encoded three)
 
-pub primitive_found : {A : Type 0} (now : A → List ℕ) (found : Option A) (x : List ℕ) (b : Tree ℕ) (r : Entry) → IsEntryOf x b r
+pub primitive_found : {A : Type 0} (now : A → List ℕ) (found : Option A) (x : List ℕ) (b : Tree ℕ) (r : Entry) →
+    IsEntryOf x b r
     → r.class ≡ Universal → r.constructed ≡ false → r.tag < 64 → is_known_tag r.tag ≡ false
-    → MatchOption found (length x < r.offset + r.header + r.contents) (λ v. now v ≡ slice_range x (r.offset + r.header) (r.offset + r.header + r.contents))
+    → MatchOption found (length x < r.offset + r.header + r.contents)
+    (λ v. now v ≡ slice_range x (r.offset + r.header) (r.offset + r.header + r.contents))
     → MatchOption found (IsNoPrimitive b) (λ v. IsPrimitive r.tag (now v) b)
 primitive_found now None x b r e class constructed small t h = absurd (omega (arith, h, is_within x b r e))
 primitive_found now (Some v) x b r e class constructed small t h =
@@ -327,7 +359,8 @@ pub primitive_entry : (x : List ℕ) (b : Tree ℕ) (r : Entry) (n : ℕ) (v : L
     → (r.class ≡ Universal) × (r.constructed ≡ false) × (n < 2 ^ 64 → r.tag ≡ n)
 primitive_entry x b r n v e is =
     let c = contents_of x b r e in
-    let s : Encodes (tree_offset b) c.octets (unknown Universal false (tree_offset b) n v) = subst (λ z. Encodes (tree_offset b) c.octets z) is c.encoded in
+    let s : Encodes (tree_offset b) c.octets (unknown Universal false (tree_offset b) n v) =
+    subst (λ z. Encodes (tree_offset b) c.octets z) is c.encoded in
     let z = one c.octets Universal r.class false r.constructed n c.tag v c.contents s.1 r.header s.2 c.encoding in
     (sym z.class, sym z.constructed, λ small. c.number.0 (omega (arith, small, z.tag)) ∙ sym z.tag)
 
@@ -353,7 +386,8 @@ no_ascii_text (group o g bs) other = refl
 no_ascii_text (explicit c o n b) other = refl
 
 -- nor has the tree of an entry with another tag number
-pub not_enumerated : (x : List ℕ) (b : Tree ℕ) (r : Entry) → IsEntryOf x b r → (r.tag ≡ 10 → ⊥) → tree_enumerated b ≡ None
+pub not_enumerated : (x : List ℕ) (b : Tree ℕ) (r : Entry) → IsEntryOf x b r → (r.tag ≡ 10 → ⊥) →
+    tree_enumerated b ≡ None
 not_enumerated x (unknown Universal false o n v) r e other = elim (cases_Bool (n == 10)) [
   | inl here ↦
       let ten : n ≡ 10 = grind (arith, nat_tests, here) in
@@ -377,10 +411,12 @@ ascii_small n e = elim (or_cases ((n == 18) || (n == 26)) (n == 27) e) [
   ]
 ]
 
-pub not_ascii_text : (x : List ℕ) (b : Tree ℕ) (r : Entry) → IsEntryOf x b r → is_ascii_tag r.tag ≡ false → tree_ascii_text b ≡ None
+pub not_ascii_text : (x : List ℕ) (b : Tree ℕ) (r : Entry) → IsEntryOf x b r → is_ascii_tag r.tag ≡ false →
+    tree_ascii_text b ≡ None
 not_ascii_text x (unknown Universal false o n v) r e other = elim (cases_Bool (is_ascii_tag n)) [
   | inl here ↦
-      let same = (primitive_entry x (unknown Universal false o n v) r n v e refl).2 (omega (arith, ascii_small n here)) in
+      let same = (primitive_entry x (unknown Universal false o n v) r n v e refl).2
+      (omega (arith, ascii_small n here)) in
       absurd (false≢true (sym other ∙ ap is_ascii_tag same ∙ here))
   | inr there ↦ ap (λ z. if z && list_all (is_ascii_character n) v then Some v else None) there
 ]
@@ -401,7 +437,8 @@ no_moment (explicit c o n b) other more = refl
 no_moment (unknown c k o n v) other more = refl
 
 -- a tree has the tag number of its octets
-tag_encoded : (o : ℕ) (y : List ℕ) (b : Tree ℕ) (c : ASN1Class) (k : Bool) (n : ℕ) (w : List ℕ) (h : ℕ) → Encodes o y b → Encoding y c k n w h
+tag_encoded : (o : ℕ) (y : List ℕ) (b : Tree ℕ) (c : ASN1Class) (k : Bool) (n : ℕ) (w : List ℕ) (h : ℕ) →
+    Encodes o y b → Encoding y c k n w h
     → tree_tag b ≡ n
 tag_encoded o y (leaf p l) c k n w h s e = (one y Universal c s.1 k (leaf_tag l) n s.2 w s.3 h s.4 e).tag
 tag_encoded o y (group p g bs) c k n w h s e = (one y Universal c s.1 k (group_tag g) n s.2 w s.3 h s.4 e).tag
@@ -440,10 +477,13 @@ pub tag_is : (x : List ℕ) (b : Tree ℕ) (r : Entry) (end : ℕ) (c : ASN1Clas
 tag_is x b r end c k n e own =
     let i = identified x b r e in
     let rest = drop (end - r.offset) (drop r.offset x) in
-    let whole : slice_range x r.offset end ++ rest ≡ i.identifier ++ i.after = take-append-drop (end - r.offset) (drop r.offset x) ∙ i.stands in
-    (identifier_alone (slice_range x r.offset end) i.identifier rest i.after c i.class k i.constructed n (tree_tag b) own i.are whole).tag
+    let whole : slice_range x r.offset end ++ rest ≡ i.identifier ++ i.after =
+    take-append-drop (end - r.offset) (drop r.offset x) ∙ i.stands in
+    (identifier_alone (slice_range x r.offset end) i.identifier rest i.after c i.class k i.constructed n (tree_tag b)
+    own i.are whole).tag
 
-pub tag_stands : (x : List ℕ) (b : Tree ℕ) (r : Entry) → IsEntryOf x b r → BeginsWithNo IsSomeIdentifier (drop r.offset x) → ⊥
+pub tag_stands : (x : List ℕ) (b : Tree ℕ) (r : Entry) → IsEntryOf x b r →
+    BeginsWithNo IsSomeIdentifier (drop r.offset x) → ⊥
 tag_stands x b r e none =
     let i = identified x b r e in
     let front : take (length i.identifier) (drop r.offset x) ≡ i.identifier =

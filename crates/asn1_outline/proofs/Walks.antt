@@ -43,7 +43,8 @@ group_class Attempt h is other = absurd (other refl)
 -- the entry of an encoding, and those of what is inside it
 abbrev pub with_inside : ℕ → PlacedHeader → Shapes → ℕ → ℕ → List Entry
 with_inside offset h items at depth =
-    shape_entry offset h (shape_count items) (suc at + length (entries_of (suc at) (suc depth) items)) depth ∷ entries_of (suc at) (suc depth) items
+    shape_entry offset h (shape_count items) (suc at + length (entries_of (suc at) (suc depth) items))
+    depth ∷ entries_of (suc at) (suc depth) items
 
 -- nothing is read yet
 pub read_none : (x : List ℕ) (s e i d : ℕ) → s ≤ e → e ≤ length x → IsReadTo x s e s i d 0 []
@@ -59,7 +60,8 @@ read_none x s e i d order within = record {
 }
 
 -- one encoding more
-read_more : (x : List ℕ) (s e p i d n at : ℕ) (own : List Entry) (h : PlacedHeader) (items : Shapes) → at ≡ i + length own → IsReadTo x s e p i d n own
+read_more : (x : List ℕ) (s e p i d n at : ℕ) (own : List Entry) (h : PlacedHeader) (items : Shapes) →
+    at ≡ i + length own → IsReadTo x s e p i d n own
     → HeaderFound x p e h → HasItems x h items → IsReadTo x s e h.end i d (n + 1) (own ++ with_inside p h items at d)
 read_more x s e p i d n at own h items here w f inside =
     let new = with_inside p h items at d in
@@ -94,17 +96,25 @@ places x f [] p rs w = record { from = w.read.from; to = w.read.to; within = w.r
 places x f (g ∷ gs) p rs w = record { from = w.read.from; to = w.read.to; within = w.read.within }
 
 -- the innermost frame has one encoding more
-pub taken : (x : List ℕ) (f : Framed) (gs : List Framed) (p : ℕ) (rs : List Entry) (h : PlacedHeader) (items : Shapes) → AreOpen x f gs p rs
-    → HeaderFound x p f.extent.end h → HasItems x h items → AreOpen x (counted f) gs h.end (rs ++ with_inside p h items (length rs) (length gs))
+pub taken : (x : List ℕ) (f : Framed) (gs : List Framed) (p : ℕ) (rs : List Entry) (h : PlacedHeader) (items : Shapes) →
+    AreOpen x f gs p rs
+    → HeaderFound x p f.extent.end h → HasItems x h items →
+    AreOpen x (counted f) gs h.end (rs ++ with_inside p h items (length rs) (length gs))
 taken x f [] p rs h items w found inside = record {
   start = w.start;
   end = w.end;
-  read = read_more x f.extent.start f.extent.end p 0 0 f.items.count (length rs) rs h items (omega arith) w.read found inside;
+  read = read_more x f.extent.start f.extent.end p 0 0 f.items.count (length rs) rs h items (omega arith) w.read found
+      inside;
 }
 taken x f (g ∷ gs) p rs h items w found inside =
     let new = with_inside p h items (length rs) (length (g ∷ gs)) in
     let at : length rs ≡ suc f.items.entry + length w.own =
-    omega (arith, ap length w.whole, w.entry, length-append w.front (shape_entry w.offset w.header 0 (suc f.items.entry) (length gs) ∷ w.own)) in
+    omega (
+      arith,
+      ap length w.whole,
+      w.entry,
+      length-append w.front (shape_entry w.offset w.header 0 (suc f.items.entry) (length gs) ∷ w.own),
+    ) in
     record {
       offset = w.offset;
       header = w.header;
@@ -117,18 +127,22 @@ taken x f (g ∷ gs) p rs h items w found inside =
       start = w.start;
       end = w.end;
       kind = w.kind;
-      read = read_more x f.extent.start f.extent.end p (suc f.items.entry) (suc (length gs)) f.items.count (length rs) w.own h items at w.read found inside;
+      read = read_more x f.extent.start f.extent.end p (suc f.items.entry) (suc (length gs)) f.items.count (length rs)
+          w.own h items at w.read found inside;
       around = w.around;
     }
 
 -- a frame begins in it
-pub entered : (x : List ℕ) (f g : Framed) (gs : List Framed) (p : ℕ) (rs : List Entry) (h : PlacedHeader) → AreOpen x g gs p rs → HeaderFound x p g.extent.end h
-    → IsReadInside h.class h.constructed h.tag → f.extent.start ≡ h.start → f.extent.end ≡ h.end → f.items.entry ≡ length rs → f.items.count ≡ 0
+pub entered : (x : List ℕ) (f g : Framed) (gs : List Framed) (p : ℕ) (rs : List Entry) (h : PlacedHeader) →
+    AreOpen x g gs p rs → HeaderFound x p g.extent.end h
+    → IsReadInside h.class h.constructed h.tag → f.extent.start ≡ h.start → f.extent.end ≡ h.end →
+    f.items.entry ≡ length rs → f.items.count ≡ 0
     → IsKindOf f.extent.kind h
     → AreOpen x f (g ∷ gs) h.start (rs ++ shape_entry p h 0 (suc (length rs)) (length gs) ∷ [])
 entered x f g gs p rs h w found inside start end entry none kind =
     let v = places x g gs p rs w in
-    let read = read_none x h.start h.end (suc f.items.entry) (suc (length gs)) found.order (omega (arith, found.ends_within, v.within)) in
+    let read = read_none x h.start h.end (suc f.items.entry) (suc (length gs)) found.order
+    (omega (arith, found.ends_within, v.within)) in
     record {
       offset = p;
       header = h;
@@ -141,14 +155,16 @@ entered x f g gs p rs h w found inside start end entry none kind =
       start = start;
       end = end;
       kind = kind;
-      read = subst (λ z. IsReadTo x f.extent.start f.extent.end h.start (suc f.items.entry) (suc (length gs)) z []) (sym none)
+      read = subst (λ z. IsReadTo x f.extent.start f.extent.end h.start (suc f.items.entry) (suc (length gs)) z [])
+          (sym none)
           (subst (λ z. IsReadTo x z f.extent.end h.start (suc f.items.entry) (suc (length gs)) 0 []) (sym start)
           (subst (λ z. IsReadTo x h.start z h.start (suc f.items.entry) (suc (length gs)) 0 []) (sym end) read));
       around = w;
     }
 
 -- the innermost frame ended
-pub closed : (x : List ℕ) (f g : Framed) (gs : List Framed) (p : ℕ) (rs : List Entry) → p ≡ f.extent.end → AreOpen x f (g ∷ gs) p rs
+pub closed : (x : List ℕ) (f g : Framed) (gs : List Framed) (p : ℕ) (rs : List Entry) → p ≡ f.extent.end →
+    AreOpen x f (g ∷ gs) p rs
     → AreOpen x (counted g) gs p (sealed rs f.items.entry f.items.count)
 closed x f g gs p rs ended w =
     let h = w.header in
@@ -160,15 +176,19 @@ closed x f g gs p rs ended w =
     (subst (λ z. AreShapes x z h.end all) w.start (subst (λ z. AreShapes x f.extent.start z all) w.end are)) in
     let made = taken x g gs w.offset w.front h all w.around w.found inside in
     let at : AreOpen x (counted g) gs p (w.front ++ with_inside w.offset h all (length w.front) d) =
-    subst (λ z. AreOpen x (counted g) gs z (w.front ++ with_inside w.offset h all (length w.front) d)) (sym w.end ∙ sym ended) made in
+    subst (λ z. AreOpen x (counted g) gs z (w.front ++ with_inside w.offset h all (length w.front) d))
+    (sym w.end ∙ sym ended) made in
     let size : length rs ≡ length w.front + suc (length w.own) =
     ap length w.whole ∙ length-append w.front (shape_entry w.offset h 0 (suc f.items.entry) d ∷ w.own) in
     let own : entries_of (suc (length w.front)) (suc d) all ≡ w.own =
     ap (λ z. entries_of (suc z) (suc d) all) (sym w.entry) ∙ w.read.entries no_shapes ∙ append-nil w.own in
     let count : shape_count all ≡ n = omega (arith, w.read.counted no_shapes) in
-    let next : suc (length w.front) + length (entries_of (suc (length w.front)) (suc d) all) ≡ length rs = omega (arith, ap length own, size) in
-    let same : w.front ++ with_inside w.offset h all (length w.front) d ≡ w.front ++ shape_entry w.offset h n (length rs) d ∷ w.own =
-    ap (λ z. w.front ++ shape_entry w.offset h z (suc (length w.front) + length (entries_of (suc (length w.front)) (suc d) all)) d
+    let next : suc (length w.front) + length (entries_of (suc (length w.front)) (suc d) all) ≡ length rs =
+    omega (arith, ap length own, size) in
+    let same : w.front ++ with_inside w.offset h all (length w.front) d ≡ w.front
+    ++ shape_entry w.offset h n (length rs) d ∷ w.own =
+    ap (λ z. w.front ++ shape_entry w.offset h z
+    (suc (length w.front) + length (entries_of (suc (length w.front)) (suc d) all)) d
     ∷ entries_of (suc (length w.front)) (suc d) all) count
     ∙ ap (λ z. w.front ++ shape_entry w.offset h n z d ∷ entries_of (suc (length w.front)) (suc d) all) next
     ∙ ap (λ z. w.front ++ shape_entry w.offset h n (length rs) d ∷ z) own in
@@ -181,26 +201,36 @@ closed x f g gs p rs ended w =
     subst (AreOpen x (counted g) gs p) (same ∙ sym seal) at
 
 -- there is an entry of the innermost frame
-pub entry_within : (x : List ℕ) (f g : Framed) (gs : List Framed) (p : ℕ) (rs : List Entry) → AreOpen x f (g ∷ gs) p rs → f.items.entry < length rs
+pub entry_within : (x : List ℕ) (f g : Framed) (gs : List Framed) (p : ℕ) (rs : List Entry) →
+    AreOpen x f (g ∷ gs) p rs → f.items.entry < length rs
 entry_within x f g gs p rs w =
-    omega (arith, ap length w.whole, w.entry, length-append w.front (shape_entry w.offset w.header 0 (suc f.items.entry) (length gs) ∷ w.own))
+    omega (
+      arith,
+      ap length w.whole,
+      w.entry,
+      length-append w.front (shape_entry w.offset w.header 0 (suc f.items.entry) (length gs) ∷ w.own),
+    )
 
 -- a fault in the innermost frame, an attempt, which stays as it came
-pub kept : (x : List ℕ) (f g : Framed) (gs : List Framed) (p : ℕ) (rs front more : List Entry) (fault : DecodeFault) (o : ℕ) → rs ≡ front ++ more
-    → AreOpen x f (g ∷ gs) p front → HeadersFaultAt x f.extent.start p f.extent.end fault o → is_tried f.extent.kind ≡ true
+pub kept : (x : List ℕ) (f g : Framed) (gs : List Framed) (p : ℕ) (rs front more : List Entry) (fault : DecodeFault)
+    (o : ℕ) → rs ≡ front ++ more
+    → AreOpen x f (g ∷ gs) p front → HeadersFaultAt x f.extent.start p f.extent.end fault o →
+    is_tried f.extent.kind ≡ true
     → AreOpen x (counted g) gs f.extent.end (take (suc f.items.entry) rs)
 kept x f g gs p rs front more fault o whole w q tries =
     let h = w.header in
     let d = length gs in
     let q' : HeadersFaultAt x h.start h.start h.end fault o =
-    subst (λ z. HeadersFaultAt x z z h.end fault o) w.start (subst (λ z. HeadersFaultAt x f.extent.start f.extent.start z fault o) w.end (w.read.fault fault o q)) in
+    subst (λ z. HeadersFaultAt x z z h.end fault o) w.start
+    (subst (λ z. HeadersFaultAt x f.extent.start f.extent.start z fault o) w.end (w.read.fault fault o q)) in
     let other : h.class ≢ Universal = attempt_class f.extent.kind h w.kind tries in
     let bit : h.constructed ≡ true = elim w.inside [ inl u ↦ absurd (other u.0) | inr u ↦ u.1 ] in
     let made = taken x g gs w.offset w.front h no_shapes w.around w.found (as_it_came other bit q') in
     let head = shape_entry w.offset h 0 (suc f.items.entry) d in
     let own : w.front ++ with_inside w.offset h no_shapes (length w.front) d ≡ w.front ++ head ∷ [] =
     ap (λ z. w.front ++ shape_entry w.offset h 0 z d ∷ []) (omega (arith, w.entry)) in
-    let all : rs ≡ w.front ++ head ∷ (w.own ++ more) = whole ∙ ap (λ z. z ++ more) w.whole ∙ append_assoc w.front (head ∷ w.own) more in
+    let all : rs ≡ w.front ++ head ∷ (w.own ++ more) =
+    whole ∙ ap (λ z. z ++ more) w.whole ∙ append_assoc w.front (head ∷ w.own) more in
     let cut : take (suc f.items.entry) rs ≡ w.front ++ head ∷ [] =
     ap (take (suc f.items.entry)) all
     ∙ ap (λ z. take (suc z) (w.front ++ head ∷ (w.own ++ more))) w.entry
@@ -209,21 +239,25 @@ kept x f g gs p rs front more fault o whole w q tries =
     (subst (AreOpen x (counted g) gs h.end) (own ∙ sym cut) made)
 
 -- or a group, whose fault is one of the frame around it
-pub record IsOut (x : List ℕ) (g : Framed) (gs : List Framed) (rs : List Entry) (fault : DecodeFault) (o : ℕ) : Type 0 where
-  pub reached : ℕ
-  pub front : List Entry
-  pub more : List Entry
-  pub whole : rs ≡ front ++ more
-  pub opened : AreOpen x g gs reached front
-  pub stops : HeadersFaultAt x g.extent.start reached g.extent.end fault o
+pub record IsOut (x : List ℕ) (g : Framed) (gs : List Framed) (rs : List Entry) (fault : DecodeFault) (o : ℕ) : Type 0
+  where
+    pub reached : ℕ
+    pub front : List Entry
+    pub more : List Entry
+    pub whole : rs ≡ front ++ more
+    pub opened : AreOpen x g gs reached front
+    pub stops : HeadersFaultAt x g.extent.start reached g.extent.end fault o
 
-pub out : (x : List ℕ) (f g : Framed) (gs : List Framed) (p : ℕ) (rs front more : List Entry) (fault : DecodeFault) (o : ℕ) → rs ≡ front ++ more
-    → AreOpen x f (g ∷ gs) p front → HeadersFaultAt x f.extent.start p f.extent.end fault o → (is_tried f.extent.kind ≡ true → ⊥) → IsOut x g gs rs fault o
+pub out : (x : List ℕ) (f g : Framed) (gs : List Framed) (p : ℕ) (rs front more : List Entry) (fault : DecodeFault)
+    (o : ℕ) → rs ≡ front ++ more
+    → AreOpen x f (g ∷ gs) p front → HeadersFaultAt x f.extent.start p f.extent.end fault o →
+    (is_tried f.extent.kind ≡ true → ⊥) → IsOut x g gs rs fault o
 out x f g gs p rs front more fault o whole w q group =
     let h = w.header in
     let head = shape_entry w.offset h 0 (suc f.items.entry) (length gs) in
     let q' : HeadersFaultAt x h.start h.start h.end fault o =
-    subst (λ z. HeadersFaultAt x z z h.end fault o) w.start (subst (λ z. HeadersFaultAt x f.extent.start f.extent.start z fault o) w.end (w.read.fault fault o q)) in
+    subst (λ z. HeadersFaultAt x z z h.end fault o) w.start
+    (subst (λ z. HeadersFaultAt x f.extent.start f.extent.start z fault o) w.end (w.read.fault fault o q)) in
     record {
       reached = w.offset;
       front = w.front;
@@ -234,7 +268,8 @@ out x f g gs p rs front more fault o whole w q group =
     }
 
 -- the frame around it ends behind it
-pub end_after : (x : List ℕ) (f g : Framed) (gs : List Framed) (p : ℕ) (rs : List Entry) → AreOpen x f (g ∷ gs) p rs → f.extent.end ≤ g.extent.end
+pub end_after : (x : List ℕ) (f g : Framed) (gs : List Framed) (p : ℕ) (rs : List Entry) → AreOpen x f (g ∷ gs) p rs →
+    f.extent.end ≤ g.extent.end
 end_after x f g gs p rs w = omega (arith, w.end, w.found.ends_within)
 
 -- with no frame open but the document's
@@ -243,21 +278,27 @@ pub whole_read : (x : List ℕ) (f : Framed) (p : ℕ) (rs : List Entry) → p �
 whole_read x f p rs ended w =
     let all = w.read.and_then no_shapes in
     let are = w.read.shapes no_shapes (no_more ended) in
-    let own : entries_of 0 0 all ≡ rs = w.read.entries no_shapes ∙ append-nil rs in
-    (all, subst (λ z. AreShapes x z (length x) all) w.start (subst (λ z. AreShapes x f.extent.start z all) w.end are), sym own)
+    let own : entries_of 0 0 all ≡ rs = w.read.entries no_shapes ∙ append-nil rs in (
+      all,
+      subst (λ z. AreShapes x z (length x) all) w.start (subst (λ z. AreShapes x f.extent.start z all) w.end are),
+      sym own,
+    )
 
-pub whole_fault : (x : List ℕ) (f : Framed) (p : ℕ) (rs : List Entry) (fault : DecodeFault) (o : ℕ) → AreOpen x f [] p rs
+pub whole_fault : (x : List ℕ) (f : Framed) (p : ℕ) (rs : List Entry) (fault : DecodeFault) (o : ℕ) →
+    AreOpen x f [] p rs
     → HeadersFaultAt x f.extent.start p f.extent.end fault o → HeadersFaultAt x 0 0 (length x) fault o
 whole_fault x f p rs fault o w q =
     subst (λ z. HeadersFaultAt x z z (length x) fault o) w.start
     (subst (λ z. HeadersFaultAt x f.extent.start f.extent.start z fault o) w.end (w.read.fault fault o q))
 
 -- the same frames, place and entries
-pub same_open : (x : List ℕ) (f f' : Framed) (gs gs' : List Framed) (p p' : ℕ) (rs rs' : List Entry) → f' ≡ f → gs' ≡ gs → p' ≡ p → rs' ≡ rs
+pub same_open : (x : List ℕ) (f f' : Framed) (gs gs' : List Framed) (p p' : ℕ) (rs rs' : List Entry) → f' ≡ f →
+    gs' ≡ gs → p' ≡ p → rs' ≡ rs
     → AreOpen x f gs p rs → AreOpen x f' gs' p' rs'
 same_open x f f' gs gs' p p' rs rs' a b c d w =
     subst (AreOpen x f' gs' p') (sym d)
-    (subst (λ z. AreOpen x f' gs' z rs) (sym c) (subst (λ z. AreOpen x f' z p rs) (sym b) (subst (λ z. AreOpen x z gs p rs) (sym a) w)))
+    (subst (λ z. AreOpen x f' gs' z rs) (sym c)
+    (subst (λ z. AreOpen x f' z p rs) (sym b) (subst (λ z. AreOpen x z gs p rs) (sym a) w)))
 
 -- the last frame of a list is the first of those from the innermost on
 pub turned_round : (xs ys : List Framed) (g : Framed) → xs ≡ ys ++ g ∷ [] → reverse xs ≡ g ∷ reverse ys
@@ -270,12 +311,20 @@ one_item_more i = record { entry = i.entry; count = i.count + 1 }
 module _ (x : List ℕ) (w : Walk) where
   -- a leaf is taken
   pub leaf_taken :
-      (h : PlacedHeader) (b : EntryBuilder) (i : EntryItems) → IsReading x w → HeaderFound x w.index w.inner.extent.end h →
+      (h : PlacedHeader) (b : EntryBuilder) (i : EntryItems) → IsReading x w →
+      HeaderFound x w.index w.inner.extent.end h →
       HasItems x h no_shapes →
       b.entries.items ≡ w.builder.entries.items
       ++ shape_entry w.index h 0 (suc (length w.builder.entries.items)) (length w.outer.items) ∷ [] →
       i ≡ one_item_more w.inner.items →
-      GoesOn x (record { inner = record w.inner { items = i }; outer = w.outer; index = h.end; builder = b; fault = w.fault })
+      GoesOn x (record {
+        inner = record w.inner { items = i };
+        outer = w.outer;
+        index = h.end;
+        builder = b;
+        fault =
+            w.fault;
+      })
       (left (length x) w.index w.outer.items)
   leaf_taken h b i walking found inside pushed more =
       let rs = w.builder.entries.items in
@@ -294,7 +343,8 @@ module _ (x : List ℕ) (w : Walk) where
 
   -- a frame is entered
   pub frame_entered :
-      (h : PlacedHeader) (b : EntryBuilder) (n : ℕ) (kind : FrameKind) (r : Walk) → IsReading x w → HeaderFound x w.index w.inner.extent.end h →
+      (h : PlacedHeader) (b : EntryBuilder) (n : ℕ) (kind : FrameKind) (r : Walk) → IsReading x w →
+      HeaderFound x w.index w.inner.extent.end h →
       IsReadInside h.class h.constructed h.tag → IsKindOf kind h →
       n ≡ length w.builder.entries.items →
       b.entries.items ≡ w.builder.entries.items
@@ -326,32 +376,45 @@ module _ (x : List ℕ) (w : Walk) where
         );
       }
 
-  module _ (g : Framed) (outer : Vec Framed Global) (fault : DecodeFault) (o most : ℕ) (faulty : IsFaulty x w fault o most) (popped : w.outer.items ≡ outer.items ++ g ∷ []) where
+  module _ (g : Framed) (outer : Vec Framed Global) (fault : DecodeFault) (o most : ℕ)
+      (faulty : IsFaulty x w fault o most) (popped : w.outer.items ≡ outer.items ++ g ∷ []) where
     inside_it : AreOpen x w.inner (g ∷ reverse outer.items) faulty.reached faulty.front
-    inside_it = subst (λ z. AreOpen x w.inner z faulty.reached faulty.front) (turned_round w.outer.items outer.items g popped) faulty.opened
+    inside_it = subst (λ z. AreOpen x w.inner z faulty.reached faulty.front)
+        (turned_round w.outer.items outer.items g popped) faulty.opened
 
     -- an attempt stays as it came
     pub faulty_kept :
         (b : EntryBuilder) (i : EntryItems) → is_tried w.inner.extent.kind ≡ true →
         b.entries.items ≡ take (suc w.inner.items.entry) w.builder.entries.items → i ≡ one_item_more g.items →
-        GoesOn x (record { inner = record g { items = i }; outer = outer; index = w.inner.extent.end; builder = b; fault = w.fault }) most
+        GoesOn x (record {
+          inner = record g { items = i };
+          outer = outer;
+          index = w.inner.extent.end;
+          builder =
+              b;
+          fault = w.fault;
+        }) most
     faulty_kept b i tries cut more =
         let gs = reverse outer.items in
         let rs = w.builder.entries.items in
-        let now = kept x w.inner g gs faulty.reached rs faulty.front faulty.more fault o faulty.whole inside_it faulty.stops tries in
+        let now = kept x w.inner g gs faulty.reached rs faulty.front faulty.more fault o faulty.whole inside_it
+        faulty.stops tries in
         record {
-          reading = same_open x (counted g) (record g { items = i }) gs gs w.inner.extent.end w.inner.extent.end _ b.entries.items
+          reading = same_open x (counted g) (record g { items = i }) gs gs w.inner.extent.end w.inner.extent.end _
+              b.entries.items
               (ap (λ (z : EntryItems). record g { items = z }) more) refl refl cut now;
           nearer = omega (arith, faulty.nearer, ap length popped, length-append outer.items (g ∷ []));
         }
 
     -- a group hands the fault on
     pub faulty_out : (is_tried w.inner.extent.kind ≡ true → ⊥)
-        → IsFaulty x (record { inner = g; outer = outer; index = w.index; builder = w.builder; fault = w.fault }) fault o most
+        → IsFaulty x (record { inner = g; outer = outer; index = w.index; builder = w.builder; fault = w.fault }) fault
+        o most
     faulty_out group =
         let gs = reverse outer.items in
         let rs = w.builder.entries.items in
-        let on = out x w.inner g gs faulty.reached rs faulty.front faulty.more fault o faulty.whole inside_it faulty.stops group in
+        let on = out x w.inner g gs faulty.reached rs faulty.front faulty.more fault o faulty.whole inside_it
+        faulty.stops group in
         let after = end_after x w.inner g gs faulty.reached faulty.front inside_it in
         record {
           reached = on.reached;
@@ -371,7 +434,9 @@ module _ (x : List ℕ) (w : Walk) where
       (subst (λ z. AreOpen x w.inner (reverse z) faulty.reached faulty.front) none faulty.opened) faulty.stops
 
   -- where a step leads
-  pub turned : (most : ℕ) (step : Result (Unit {0}) AllocError) (t : Turn) (r : Walk) → Leads step w t r → OnOk step (GoesOn x w most)
+  pub turned : (most : ℕ) (step : Result (Unit {0}) AllocError) (t : Turn) (r : Walk) → Leads step w t r →
+      OnOk step (GoesOn x w most)
       → HasTurned x t r most
-  turned most (Ok u) t r is on = subst (λ z. HasTurned x z r most) (sym is.0) (subst (λ z. GoesOn x z most) (sym is.1) on)
+  turned most (Ok u) t r is on =
+      subst (λ z. HasTurned x z r most) (sym is.0) (subst (λ z. GoesOn x z most) (sym is.1) on)
   turned most (Err a) t r is on = subst (λ z. HasTurned x z r most) (sym is.0) (inl is.1)

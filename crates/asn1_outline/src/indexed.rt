@@ -166,8 +166,8 @@ impl<'a> Outline<'a> {
     }
 
     /// The number of the ENUMERATED (X.690 8.4) at the index; `None` for any other block, and past the end. As
-    /// [`ASN1Block::enumerated`] has it, there is also none where the encoding is constructed, or has no contents octets
-    /// or not the shortest.
+    /// [`ASN1Block::enumerated`] has it, there is also none where the encoding is constructed, has no contents octets,
+    /// or has not the shortest.
     ///
     /// [`ASN1Block::enumerated`]: asn1_blocks::block::ASN1Block::enumerated
     pub fn enumerated(&self, alloc: Global, index: usize) -> Result<Option<BigInt>, AllocError>

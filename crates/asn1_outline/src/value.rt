@@ -1,5 +1,5 @@
 // What is read of an entry, with the octets of its document: the readers of its contents octets.
-ghost use Rattle.std.specs.Prelude.{◌≡◌, ◌≢◌, ◌⊎◌, ◌↔◌, ℕ, ◌+◌, ◌<◌, List, length, slice_range, None, Some, false, true, IfErr, IfOk, IsOkAnd, IsTrue, MatchOption, MatchResult, option_map};
+ghost use Rattle.std.specs.Prelude.{◌≡◌, ◌≢◌, ◌⊎◌, ◌↔◌, ℕ, ◌+◌, ◌<◌, length, slice_range, None, Some, false, true, IfErr, IfOk, IsOkAnd, IsTrue, MatchOption, MatchResult, option_map};
 ghost use Rattle.asn1_headers.specs.Fault.{OutOfMemoryOr};
 ghost use Rattle.asn1_headers.specs.Names.{type_name as name_of_type};
 ghost use Rattle.asn1_leaves.specs.Contents.GeneralizedTime.{GeneralizedTimeContents, GeneralizedTimeFault};

@@ -55,7 +55,8 @@ pub painted :
     (p : Paint) (t a b c d : List ℕ) → b ≡ a ++ sequence p → c ≡ b ++ t → d ≡ c ++ sequence Plain → Paints t a d
 painted p t a b c d e f g =
     same_text (t ++ []) t a d (append-nil t)
-    (paints_then t [] a c d (paints_then [] t a b c (paints_paint p a b e) (paints_part t b c f)) (paints_paint Plain c d g))
+    (paints_then t [] a c d (paints_then [] t a b c (paints_paint p a b e) (paints_part t b c f))
+    (paints_paint Plain c d g))
 
 -- the parts of a line, each behind another
 pub four_parts :

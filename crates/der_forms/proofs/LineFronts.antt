@@ -91,6 +91,7 @@ length-first_line-le [] = omega arith
 length-first_line-le (b ∷ text) = length-first_line_cons b text (b == line_feed) refl (length-first_line-le text)
 
 -- no line is longer than its text
-pub length-line-le : (text line : List ℕ) (later : List (List ℕ)) → lines_of text ≡ line ∷ later → length line ≤ length text
+pub length-line-le : (text line : List ℕ) (later : List (List ℕ)) → lines_of text ≡ line ∷ later →
+    length line ≤ length text
 length-line-le text line later e =
     omega (arith, length-first_line-le text, ap (λ ls. length (first_line ls)) e)

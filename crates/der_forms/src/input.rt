@@ -248,7 +248,7 @@ pub enum FormFault {
     #[error("line {0}: the offsets do not tell how many lines `*` stands for")]
     LeftOut(usize),
     /// It is text in no form that is known. The line is the first in none.
-    #[error("line {0}: unknown text: DER, PEM, base64 and hex digits (plain, in C, by xxd, hexdump -C, od -t x1) are read")]
+    #[error("line {0}: unknown text: DER, PEM, base64, hex digits (plain, in C, xxd, hexdump -C, od -t x1) are read")]
     Text(usize),
     /// Its first object is encrypted.
     #[error("encrypted, not read")]

@@ -1,5 +1,5 @@
 // Hex digits in columns with lines left out, as `hexdump`, `od` and `xxd -a` print them.
-ghost use Rattle.std.specs.Prelude.{◌≡◌, ◌^◌, ◌++◌, ◌∷◌, ◌<◌, ℕ, List, if◌then◌else◌, length, IfOk, IfSome, MatchOption};
+ghost use Rattle.std.specs.Prelude.{◌≡◌, ◌^◌, ◌++◌, ◌∷◌, ◌<◌, ℕ, List, if◌then◌else◌, IfOk, IfSome, MatchOption};
 ghost use Rattle.std.specs.Prelude.{None, OnOk, Some};
 ghost use Rattle.std.specs.Char.{is_ascii_whitespace};
 ghost use Rattle.std.specs.List.{list_all};

@@ -1,16 +1,7 @@
 // Lines of an input, and which of them begin and end objects.
 ghost use Rattle.std.specs.Prelude.{◌≡◌, MatchOption, codes, false, true};
 ghost use Rattle.std.specs.List.{list_all};
-ghost use Rattle.der_forms.specs.Forms.{
-  begins,
-  begins_object,
-  but_indent,
-  but_mark,
-  has_object,
-  has_words,
-  is_text_octet,
-  up_to,
-};
+ghost use Rattle.der_forms.specs.Forms.{begins, begins_object, but_indent, but_mark, has_object, has_words, is_text_octet, up_to};
 ghost use Rattle.der_forms.specs.Objects.{end_label_in, ends_object, label_in};
 ghost use Rattle.der_io.specs.Lines.{lines_of};
 

@@ -1,7 +1,6 @@
 // The objects of PEM, one after another.
 ghost use Rattle.std.specs.Prelude.{◌≡◌, ◌≢◌, ◌∷◌, ◌++◌, ◌<◌, ◌≤◌, ℕ, List, [], true, false, length};
-ghost use Rattle.std.specs.Prelude.{IfOk, MatchOption, OnOk, Option};
-ghost use Rattle.std.specs.List.{list_any};
+ghost use Rattle.std.specs.Prelude.{IfOk, MatchOption, OnOk};
 ghost use Rattle.std.specs.Option.{option_map};
 ghost use Rattle.std.specs.Result.{result_ok};
 ghost use Rattle.der_forms.specs.Objects.{ending_by, ending_in, ends_object, is_encrypted, is_openssh, object_in, objects_in, octets_in};

@@ -33,9 +33,11 @@ pub shows_then :
 shows_then xs ys us vs a b c s t =
     record {
       pieces = s.pieces ++ t.pieces;
-      lines_are = lines_more s.pieces t.pieces ∙ both (lines_in s.pieces) (lines_in t.pieces) xs ys s.lines_are t.lines_are;
+      lines_are = lines_more s.pieces t.pieces
+          ∙ both (lines_in s.pieces) (lines_in t.pieces) xs ys s.lines_are t.lines_are;
       octets_are =
-          octets_more s.pieces t.pieces ∙ both (octets_in s.pieces) (octets_in t.pieces) us vs s.octets_are t.octets_are;
+          octets_more s.pieces t.pieces
+          ∙ both (octets_in s.pieces) (octets_in t.pieces) us vs s.octets_are t.octets_are;
       after_is =
           t.after_is
           ∙ (ap (λ z. z ++ flat_map written t.pieces) s.after_is

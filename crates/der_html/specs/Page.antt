@@ -2,24 +2,7 @@
 use Rattle.std.specs.Prelude.{◌≡◌, ℕ, ◌/◌, ◌%◌, ◌==◌, if◌then◌else◌, List, [], ◌∷◌, ◌++◌, codes, decimal, slice_index}
 use Rattle.std.specs.List.{flat_map}
 use Rattle.der_html.specs.declared.markup.Markup.{Markup}
-use Rattle.der_html.specs.declared.markup.Markup.TheVariants.{
-  SectionStart,
-  OctetsStart,
-  SectionEnd,
-  GroupStart,
-  GroupFaultStart,
-  GroupOpened,
-  GroupEnd,
-  LineStart,
-  FaultStart,
-  LineOpened,
-  LineEnd,
-  Offset,
-  HeaderSize,
-  ContentsSize,
-  Indefinite,
-  ValueEnd,
-}
+use Rattle.der_html.specs.declared.markup.Markup.TheVariants.{SectionStart, OctetsStart, SectionEnd, GroupStart, GroupFaultStart, GroupOpened, GroupEnd, LineStart, FaultStart, LineOpened, LineEnd, Offset, HeaderSize, ContentsSize, Indefinite, ValueEnd}
 
 -- what stands for a character, in text and in an attribute (HTML, 13.1.4): the five that have a meaning there
 -- have names

@@ -1,5 +1,5 @@
 // The lines of a dump as a tree that folds, and the octets beside them.
-ghost use Rattle.std.specs.Prelude.{◌≡◌, ◌∷◌, [], OnOk};
+ghost use Rattle.std.specs.Prelude.{◌∷◌, [], OnOk};
 ghost use Rattle.der_io.specs.Lines.{lines_of};
 ghost use Rattle.der_html.specs.Page.{Shows};
 

@@ -18,12 +18,14 @@ title_pushed name other a b e h = subst (λ z. Adds (IsTitle z) a b) e h
 
 -- JSON of octets, strictly or not
 pub read_pushed :
-    (octets : List ℕ) (origin : Members) (right : Bool) (verdict : Verdict) (a b : List ℕ) → is_all_read verdict ≡ right →
+    (octets : List ℕ) (origin : Members) (right : Bool) (verdict : Verdict) (a b : List ℕ) →
+    is_all_read verdict ≡ right →
     Adds (IsJsonOf octets origin right) a b → Adds (IsOctetsJson false octets origin verdict) a b
 read_pushed octets origin right verdict a b same h = subst (λ z. Adds (IsJsonOf octets origin z) a b) (sym same) h
 
 pub strictly_pushed :
-    (octets : List ℕ) (origin : Members) (right : Bool) (verdict : Verdict) (a b : List ℕ) → is_all_read verdict ≡ right →
+    (octets : List ℕ) (origin : Members) (right : Bool) (verdict : Verdict) (a b : List ℕ) →
+    is_all_read verdict ≡ right →
     Adds (IsStrictJsonOf octets origin right) a b → Adds (IsOctetsJson true octets origin verdict) a b
 strictly_pushed octets origin right verdict a b same h =
     subst (λ z. Adds (IsStrictJsonOf octets origin z) a b) (sym same) h

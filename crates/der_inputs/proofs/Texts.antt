@@ -51,13 +51,14 @@ shown_more Is f all i x read one both a b c l at is (verdicts, e, earlier) last 
     )
 
 -- what one more object has
-module _ {X Y : Type 0} (h : X → List Y) (old all : List Y) (left : List X) (earlier : old ++ flat_map h left ≡ all) where
-  pub found_more :
-      (x : X) (later : List X) (new : List Y) → left ≡ x ∷ later → new ≡ old ++ h x → new ++ flat_map h later ≡ all
-  found_more x later new e f =
-      ap (λ z. z ++ flat_map h later) f
-      ∙ (append_assoc old (h x) (flat_map h later)
-      ∙ (ap (λ z. old ++ z) (sym (flat_map-cons h x later)) ∙ (ap (λ z. old ++ flat_map h z) (sym e) ∙ earlier)))
+module _ {X Y : Type 0} (h : X → List Y) (old all : List Y) (left : List X) (earlier : old ++ flat_map h left ≡ all)
+  where
+    pub found_more :
+        (x : X) (later : List X) (new : List Y) → left ≡ x ∷ later → new ≡ old ++ h x → new ++ flat_map h later ≡ all
+    found_more x later new e f =
+        ap (λ z. z ++ flat_map h later) f
+        ∙ (append_assoc old (h x) (flat_map h later)
+        ∙ (ap (λ z. old ++ z) (sym (flat_map-cons h x later)) ∙ (ap (λ z. old ++ flat_map h z) (sym e) ∙ earlier)))
 
-  pub all_found : left ≡ [] → old ≡ all
-  all_found e = sym (append-nil old) ∙ (ap (λ z. old ++ flat_map h z) (sym e) ∙ earlier)
+    pub all_found : left ≡ [] → old ≡ all
+    all_found e = sym (append-nil old) ∙ (ap (λ z. old ++ flat_map h z) (sym e) ∙ earlier)

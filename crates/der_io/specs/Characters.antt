@@ -19,9 +19,6 @@ exclamation_mark = 33
 abbrev pub quotation_mark : ℕ
 quotation_mark = 34
 
-abbrev pub number_sign : ℕ
-number_sign = 35
-
 abbrev pub comma : ℕ
 comma = 44
 

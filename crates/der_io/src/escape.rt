@@ -2,17 +2,7 @@
 ghost use Rattle.std.specs.Prelude.{◌≡◌, ◌++◌, IfOk, OnOk, string_bytes};
 ghost use Rattle.std.specs.Int.{is_in_range};
 ghost use Rattle.std.specs.Str.{chars};
-ghost use Rattle.der_io.specs.Escaped.{
-  all_escaped,
-  escape_of,
-  escape_of_octet,
-  escape_of_other,
-  escaped as escaped_is,
-  is_control as is_control_by,
-  is_mark as is_mark_by,
-  is_shown as is_shown_by,
-  is_special as is_special_by,
-};
+ghost use Rattle.der_io.specs.Escaped.{all_escaped, escape_of, escape_of_octet, escape_of_other, escaped as escaped_is, is_control as is_control_by, is_mark as is_mark_by, is_shown as is_shown_by, is_special as is_special_by};
 
 use std::alloc::{AllocError, Global};
 use std::str;

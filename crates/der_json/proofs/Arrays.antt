@@ -9,11 +9,13 @@ use Rattle.der_lines.specs.Marks.{are_some}
 
 module _ {A : Type 0} (json : A → Data) where
   -- one more, behind others
-  texts_later : (xs : List A) (x : A) → texts json true (xs ++ x ∷ []) ≡ texts json true xs ++ (comma_if true ++ compact_text (json x))
+  texts_later : (xs : List A) (x : A) →
+      texts json true (xs ++ x ∷ []) ≡ texts json true xs ++ (comma_if true ++ compact_text (json x))
   texts_later [] x = ap (λ z. 44 ∷ z) (append-nil (compact_text (json x)))
   texts_later (y ∷ xs) x =
       ap (λ z. 44 ∷ (compact_text (json y) ++ z)) (texts_later xs x)
-      ∙ ap (λ z. 44 ∷ z) (sym (append_assoc (compact_text (json y)) (texts json true xs) (comma_if true ++ compact_text (json x))))
+      ∙ ap (λ z. 44 ∷ z) (sym
+      (append_assoc (compact_text (json y)) (texts json true xs) (comma_if true ++ compact_text (json x))))
 
   pub texts_more : (xs : List A) (x : A)
       → texts json false (xs ++ x ∷ []) ≡ texts json false xs ++ (comma_if (are_some xs) ++ compact_text (json x))
@@ -37,16 +39,19 @@ module _ {A : Type 0} (json : A → Data) where
   -- one more was put, behind a comma where others stand before it
   pub one_text :
       (xs : List A) (x : A) (later : Bool) (before middle comma after : List ℕ) → later ≡ are_some xs →
-      middle ≡ before ++ texts json false xs → comma ≡ middle ++ comma_if later → after ≡ comma ++ compact_text (json x) →
+      middle ≡ before ++ texts json false xs → comma ≡ middle ++ comma_if later →
+      after ≡ comma ++ compact_text (json x) →
       after ≡ before ++ texts json false (xs ++ x ∷ [])
   one_text xs x later before middle comma after some m c e =
       e ∙ (ap (λ z. z ++ compact_text (json x)) (c ∙ (ap (λ z. z ++ comma_if later) m))
       ∙ (append_assoc (before ++ texts json false xs) (comma_if later) (compact_text (json x))
       ∙ append_assoc before (texts json false xs) (comma_if later ++ compact_text (json x))
-      ∙ ap (λ z. before ++ z) (ap (λ z. texts json false xs ++ (comma_if z ++ compact_text (json x))) some ∙ sym (texts_more xs x))))
+      ∙ ap (λ z. before ++ z)
+      (ap (λ z. texts json false xs ++ (comma_if z ++ compact_text (json x))) some ∙ sym (texts_more xs x))))
 
   -- all were, and the closing bracket
-  pub all_texts : (xs : List A) (before middle after : List ℕ) → middle ≡ before ++ texts json false xs → after ≡ middle ++ 93 ∷ []
+  pub all_texts : (xs : List A) (before middle after : List ℕ) → middle ≡ before ++ texts json false xs →
+      after ≡ middle ++ 93 ∷ []
       → after ≡ before ++ items_text false (items_of json xs)
   all_texts xs before middle after m e =
       e ∙ (ap (λ z. z ++ 93 ∷ []) m ∙ (append_assoc before (texts json false xs) (93 ∷ [])

@@ -67,7 +67,8 @@ refusal_line origin fault =
     (sym (append_assoc (compact_text (fault_json fault)) (end_text origin) (10 ∷ [])))
 
 fault_exact_of : (code : Option (List ℕ)) (offset : Option ℕ) (words : List ℕ) →
-    has_float (object (member_if (codes "code") code (number_if (codes "offset") offset (member (codes "text") (string words) no_members)))) ≡ false
+    has_float (object (member_if (codes "code") code
+    (number_if (codes "offset") offset (member (codes "text") (string words) no_members)))) ≡ false
 fault_exact_of None None words = refl
 fault_exact_of None (Some n) words = refl
 fault_exact_of (Some c) None words = refl

@@ -5,7 +5,7 @@ use Rattle.serde_json.proofs.OnLiterals.{serde_json_on_literals}
 use Rattle.std.specs.Prelude.{Option, None, Some}
 use Rattle.serde_json.specs.Data.{Data, Items, Members, number, string, unsigned}
 use Rattle.serde_json.specs.View.{view}
-use Rattle.serde_json.specs.Written.{compact_text, has_float, items_text, members_text}
+use Rattle.serde_json.specs.Written.{compact_text, items_text, members_text}
 use Rattle.der_lines.specs.Marks.{Told}
 use Rattle.der_json.specs.Json.{Departed, ToldFault, items_of, rule_json, blocks_if, boolean_or_null, number_or_null, text_or_null, fault_if, member_if, row_json, rules_if}
 use Rattle.der_json.specs.Rows.{blocks_text, fault_text, first_members, last_members, row_of, rules_text, told_text}
@@ -137,6 +137,3 @@ rules_put out a b (t ∷ more) some d e =
 pub no_rules : (told : List Told) → length told ≡ 0 → rules_text told ≡ []
 no_rules [] e = refl
 no_rules (x ∷ told) e = absurd (omega (arith, e))
-
-pub rule_exact : (told : Told) → has_float (rule_json told) ≡ false
-rule_exact told = refl

@@ -40,12 +40,14 @@ use Rattle.der_json.specs.Rows.{IsHeaderTag, IsLeafValueOf, IsMeantValue, IsPiec
 use Rattle.der_json.specs.Rows.{row_of, told_at, wrong_json}
 use Rattle.der_json.specs.declared.object.Object.{Object}
 
-pub primitive_of : (class : ASN1Class) (constructed : Bool) (tag : ℕ) → is_gone_into class constructed tag ≡ false → constructed ≡ false
+pub primitive_of : (class : ASN1Class) (constructed : Bool) (tag : ℕ) → is_gone_into class constructed tag ≡ false →
+    constructed ≡ false
 primitive_of class true tag e = absurd (false≢true (sym e))
 primitive_of class false tag e = refl
 
 -- contents octets that mean a block have no fault
-no_leaf_fault : (tag : ℕ) (contents : List ℕ) (e : DecodeFault) → LeafFault tag contents e → UniversalContents tag contents → ⊥
+no_leaf_fault : (tag : ℕ) (contents : List ℕ) (e : DecodeFault) → LeafFault tag contents e →
+    UniversalContents tag contents → ⊥
 no_leaf_fault tag contents e wrong (is_unknown u) =
     false≢true (sym (unknown_known tag u) ∙ leaf_tag_known tag (leaf_fault_tag tag contents e wrong))
 no_leaf_fault tag contents e wrong (is_leaf l t q) = leaf_no_fault tag contents e l t q wrong
@@ -80,7 +82,8 @@ told_nameless offset at (Some f) (o, code) = (
 )
 
 -- a fault of a piece stands where the piece does
-there_by : (Is : PieceFault → Type 0) (offset : ℕ) (fault : Option PieceFault) → ((f : PieceFault) → Is f → f.offset ≡ offset)
+there_by : (Is : PieceFault → Type 0) (offset : ℕ) (fault : Option PieceFault) →
+    ((f : PieceFault) → Is f → f.offset ≡ offset)
     → IsFault Is fault → IfSome fault (λ f. f.offset ≡ offset)
 there_by Is offset None turn none = absurd none
 there_by Is offset (Some f) turn is = turn f is
@@ -98,7 +101,8 @@ meaning_there :
     IfSome fault (λ f. f.offset ≡ offset)
 meaning_there class constructed tag contents offset (Text form text) fault (wide, none) = there_none offset fault none
 meaning_there class constructed tag contents offset Value fault (right, none) = there_none offset fault none
-meaning_there class constructed tag contents offset Nothing fault (u, (found, wrong, is)) = there_named offset found fault is
+meaning_there class constructed tag contents offset Nothing fault (u, (found, wrong, is)) =
+    there_named offset found fault is
 
 pub fault_there :
     (left : List ℕ) (offset : ℕ) (kind : Kind) (fault : Option PieceFault) → IsKind left offset kind fault →
@@ -109,7 +113,8 @@ fault_there left offset (Unreadable octets) fault (same, (found, is)) = there_na
 fault_there left offset (Cut header contents) fault (h, l, e, is) = there_named offset incomplete fault is
 fault_there left offset (Opened header contents) fault (h, whole, o, e, inl (stray, is)) =
     there_by (IsNameless offset) offset fault (λ f is. is.0) is
-fault_there left offset (Opened header contents) fault (h, whole, o, e, inr (stray, none)) = there_none offset fault none
+fault_there left offset (Opened header contents) fault (h, whole, o, e, inr (stray, none)) =
+    there_none offset fault none
 fault_there left offset (Leaf header contents meaning) fault (h, whole, o, e, inl (stray, nothing, is)) =
     there_by (IsNameless offset) offset fault (λ f is. is.0) is
 fault_there left offset (Leaf header contents meaning) fault (h, whole, o, e, inr (stray, is)) =
@@ -149,7 +154,8 @@ meant_opened :
     IsOpenedValue header.class header.tag contents header.is_indefinite value
 meant_opened header contents joined (Text form text) fault value k u segments (wide, none) (words, v) =
     of_segments u joined segments 0 (in_their_form wide words v refl)
-meant_opened header contents joined Value fault value k u segments (right, none) (inl (nothing, wrong)) = of_none nothing
+meant_opened header contents joined Value fault value k u segments (right, none) (inl (nothing, wrong)) =
+    of_none nothing
 meant_opened header contents joined Value fault value k u segments (right, none) (inr (tree, turn, v)) =
     of_segments u joined segments 0 (with_value tree turn v refl)
 meant_opened header contents joined Nothing fault value k u segments is v = absurd v
@@ -181,8 +187,10 @@ slice_size left a b l m =
     let t : length (take (b - a) (drop a left)) ≡ b - a = length-take-le (b - a) (drop a left) (omega (arith, d, m)) in
     omega (arith, t, l)
 
-module _ (left : List ℕ) (offset depth : ℕ) (rules : List Rule) (object : Object) (inside : Option Items) (marks : List Departed)
-    (fault : Option PieceFault) (told_is : option_map fault_told object.fault ≡ option_map (told_at object.offset) fault) where
+module _ (left : List ℕ) (offset depth : ℕ) (rules : List Rule) (object : Object) (inside : Option Items)
+    (marks : List Departed)
+    (fault : Option PieceFault)
+    (told_is : option_map fault_told object.fault ≡ option_map (told_at object.offset) fault) where
   -- an encoding with the header
   encoding_row :
       (header : Header) (h : IsAtFront left header) →
@@ -219,8 +227,10 @@ module _ (left : List ℕ) (offset depth : ℕ) (rules : List Rule) (object : Ob
       let (words, told) = told_named offset object.offset incomplete fault is in inr (zero, (words, told_is ∙ told))
 
   opened_judged :
-      (header : Header) (stray : Bool) (contents : List ℕ) → is_gone_into header.class header.constructed header.tag ≡ true →
-      contents ≡ slice_range left header.size (taken header.is_indefinite (header.size + header.announced) (length left)) →
+      (header : Header) (stray : Bool) (contents : List ℕ) →
+      is_gone_into header.class header.constructed header.tag ≡ true →
+      contents ≡ slice_range left header.size
+      (taken header.is_indefinite (header.size + header.announced) (length left)) →
       IsOpenedFault stray offset fault →
       MatchOption fault (IsOpenedValue header.class header.tag contents header.is_indefinite (view object.value))
       (λ _. view object.value ≡ null) →
@@ -232,7 +242,8 @@ module _ (left : List ℕ) (offset depth : ℕ) (rules : List Rule) (object : Ob
   opened_judged header stray contents o e (inr (is, none)) v =
       with_encodings o
       (subst (λ z. IsOpenedValue header.class header.tag z header.is_indefinite (view object.value)) e
-      (subst (λ z. MatchOption z (IsOpenedValue header.class header.tag contents header.is_indefinite (view object.value))
+      (subst (λ z. MatchOption z
+      (IsOpenedValue header.class header.tag contents header.is_indefinite (view object.value))
       (λ _. view object.value ≡ null)) none v))
       (no_fault none)
 
@@ -240,14 +251,16 @@ module _ (left : List ℕ) (offset depth : ℕ) (rules : List Rule) (object : Ob
       (header : Header) (h : IsAtFront left header) (meaning : Meaning) → header.size + header.announced ≤ length left →
       IsMeaning header.class header.constructed header.tag
       (slice_range left header.size (header.size + header.announced)) offset meaning fault →
-      IsLeafValueOf header (slice_range left header.size (header.size + header.announced)) meaning fault (view object.value) →
+      IsLeafValueOf header (slice_range left header.size (header.size + header.announced)) meaning fault
+      (view object.value) →
       AreShown object.offset header.class header.tag (slice_range left header.size (header.size + header.announced))
       (view object.value) (option_map fault_told object.fault)
   meaning_shown header h (Text form text) whole (wide, none) (words, v) = in_their_form wide words v (no_fault none)
   meaning_shown header h Value whole (right, none) (inl (nothing, (u, (found, wrong)))) =
       let contents = slice_range left header.size (header.size + header.announced) in
       let octets = take (header.size + header.announced) left in
-      let encoding = front_encoding left contents header.size header.announced header.class header.constructed header.tag
+      let encoding = front_encoding left contents header.size header.announced header.class header.constructed
+      header.tag
       h whole refl in
       let (b, encodes) = right octets header.size encoding in
       absurd (right_no_fault octets header.class header.constructed header.tag contents header.size b found u encoding
@@ -313,10 +326,12 @@ module _ (left : List ℕ) (offset depth : ℕ) (rules : List Rule) (object : Ob
       let d : length (drop header.size left) ≡ length left - header.size = length-drop header.size left in
       let there : length contents.now ≡ length (drop header.size left) = ap length e in
       encoding_row header h
-      (s ∙ size_by header.is_indefinite _ (header.size + header.announced) (length left) (λ _. omega (arith, d, there, l, h.within)))
+      (s ∙ size_by header.is_indefinite _ (header.size + header.announced) (length left)
+      (λ _. omega (arith, d, there, l, h.within)))
       t
       (cut_short l
-      (v ∙ ap (λ z. if is_gone_into header.class header.constructed header.tag then null else string (encode_lower z)) e)
+      (v ∙ ap (λ z. if is_gone_into header.class header.constructed header.tag then null else string (encode_lower z))
+      e)
       words (told_is ∙ told))
   row_is (Opened header contents) s t v (h, whole, o, e, is) =
       let all = header.size + header.announced in
@@ -331,7 +346,8 @@ module _ (left : List ℕ) (offset depth : ℕ) (rules : List Rule) (object : Ob
   row_is (Leaf header contents meaning) s t v (h, whole, o, e, is) =
       let all = header.size + header.announced in
       let n : length contents.now ≡ length (slice_range left header.size all) = ap length e in
-      let m : header.size + length (slice_range left header.size all) ≡ all = slice_size left header.size all (omega arith) whole in
+      let m : header.size + length (slice_range left header.size all) ≡ all =
+      slice_size left header.size all (omega arith) whole in
       encoding_row header h
       (s ∙ size_by header.is_indefinite _ all (length left) (λ _. omega (arith, n, m, whole)))
       t (leaf_judged header h contents.now meaning whole o e is v)

@@ -33,7 +33,8 @@ inside_by :
 inside_by documents here contents offset deep None inside marks d e holding (is, none) =
     subst (λ z. IsInside (AreInside documents) contents offset deep z marks) (sym is) none
 inside_by zero here contents offset deep (Some n) inside marks d e (more, stand) is = absurd (omega (arith, more, d))
-inside_by (suc k) here contents offset deep (Some n) inside marks d e (more, stand) (items, is, (rows, are, json, told)) =
+inside_by (suc k) here contents offset deep (Some n) inside marks d e (more, stand)
+    (items, is, (rows, are, json, told)) =
     let fewer : here.documents - 1 ≡ k = omega (arith, d) in
     let moved : AreRows (AreInside k) true n.octets.now (offset + n.before) deep rows =
     subst (λ z. AreRows (AreInside k) true n.octets.now (offset + n.before) z rows) (sym e)
@@ -83,7 +84,8 @@ rows_none place octets walk found a o p ahead none no_fault = record {
 
 marks_more : (rs : List Row) (r : Row) → marks_of (rs ++ r ∷ []) ≡ marks_of rs ++ mark_of r
 marks_more [] r = append-nil (mark_of r)
-marks_more (x ∷ xs) r = ap (λ z. mark_of x ++ z) (marks_more xs r) ∙ sym (append_assoc (mark_of x) (marks_of xs) (mark_of r))
+marks_more (x ∷ xs) r =
+    ap (λ z. mark_of x ++ z) (marks_more xs r) ∙ sym (append_assoc (mark_of x) (marks_of xs) (mark_of r))
 
 offsets_more : (rs : List Row) (r : Row) → fault_offsets (rs ++ r ∷ []) ≡ fault_offsets rs ++ told_offset r.fault
 offsets_more [] r = append-nil (told_offset r.fault)
@@ -119,7 +121,8 @@ pub rows_more :
     IsNestedJson piece.place (object.offset + object.header) piece.nested inside marks →
     comma ≡ b ++ comma_if later → c ≡ comma ++ compact_text (row_json (row_of object inside marks)) →
     found_marks next ≡ found_marks found ++ (marks_at object.offset (map told_of object.not_der.items) ++ marks) →
-    option_map fault_told next.first ≡ earlier_of (option_map fault_told found.first) (option_map fault_told object.fault) →
+    option_map fault_told next.first
+    ≡ earlier_of (option_map fault_told found.first) (option_map fault_told object.fault) →
     RowsTo place octets new true next a c
 rows_more place octets old new piece object inside marks later found next a b comma c p s o nested put_comma put mm nn =
     let g = front_of p.levels piece in

@@ -209,7 +209,8 @@ pub record Departed : Type 0 where
 
 -- what the object of a block tells: how many octets stand before it, how many its identifier and length octets are, how
 -- many it has as far as they are there, and how many blocks are around it; its class, its constructed bit, its tag and
--- its type; its value, its name, what is shown beside the value, the rules of DER that it breaks, and its fault; and the
+-- its type; its value, its name, what is shown beside the value, the rules of DER that it breaks, and its fault; and
+-- the
 -- objects of what stands inside its octets, and the rules that are broken there
 pub record Row : Type 0 where
   pub offset : ℕ

@@ -16,7 +16,7 @@ use Rattle.serde_json.specs.Data.{Data, Items, Members, array, null, number, str
 use Rattle.serde_json.specs.View.{view}
 use Rattle.serde_json.specs.Written.{comma_if, compact_text, has_float, items_text, members_text}
 use Rattle.der_lines.specs.Headers.{is_gone_into}
-use Rattle.der_lines.specs.Marks.{Told, are_some, told_of, told_rules}
+use Rattle.der_lines.specs.Marks.{Told, told_of, told_rules}
 use Rattle.der_lines.specs.Pieces.{IsKind, front_of, kind_header}
 use Rattle.der_lines.specs.declared.faults.Fault.{Fault as PieceFault}
 use Rattle.der_lines.specs.declared.leaf.Meaning.{Meaning}

@@ -17,8 +17,8 @@ use der_values::{Role, address_text, bit_names, general_name};
 use std::alloc::{AllocError, Global};
 use std::str;
 
-// A name, of an object identifier, of bits, or of what stands in an extension; and the octets of a long integer or object
-// identifier in hex digits, or octets as text.
+// A name, of an object identifier, of bits, or of what stands in an extension; and the octets of a long integer or
+// object identifier in hex digits, or octets as text.
 #[derive(Drop)]
 pub struct Beside {
     pub name: Option<String>,

@@ -17,8 +17,8 @@ use std::alloc::{AllocError, Global};
 
 /// Puts the octets at the end as [`push_json`](crate::push_json) does, where they have to be DER. Behind the line of
 /// the blocks stands one of what is not DER, if anything is, also inside strings, with the offset of each:
-/// `{"not_der":[{"offset":..,"rule":"..","section":"..","text":".."},..]}`. Last is the line of the first fault, if there is one. Whether all is
-/// DER, and nothing is at fault.
+/// `{"not_der":[{"offset":..,"rule":"..","section":"..","text":".."},..]}`. Last is the line of the first fault, if
+/// there is one. Whether all is DER, and nothing is at fault.
 ///
 /// It takes memory as `push_json` does, and for the list; the only error is that it ran out, after which some of the
 /// lines may have been put.

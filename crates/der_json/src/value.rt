@@ -133,8 +133,8 @@ fn moment_value(alloc: Global, moment: &DateTime) -> Result<Value, AllocError>
     Ok(Value::String(format!(in alloc; "{moment}Z")?))
 }
 
-// The value of contents octets of a primitive encoding with the header that mean something, if they do. Of a string that
-// the library takes for UTF-8, though X.690 has other characters, it is these.
+// The value of contents octets of a primitive encoding with the header that mean something, if they do. Of a string
+// that the library takes for UTF-8, though X.690 has other characters, it is these.
 pub fn meant_value(
     alloc: Global,
     header: &Header,

@@ -70,7 +70,8 @@ step_goes m n left f (Out size) own later more at (within, is, inr (zero, none, 
 -- contents octets that have ended were left
 left_ahead :
     (octets : List ℕ) (offset : ℕ) (old new : List End) (fronts : List Front) (faults : List ℕ) →
-    HasLeft octets offset old new → AreFronts octets offset new fronts faults → AreFronts octets offset old fronts faults
+    HasLeft octets offset old new → AreFronts octets offset new fronts faults →
+    AreFronts octets offset old fronts faults
 left_ahead octets offset old new fronts faults (none_left e) h =
     subst (λ z. AreFronts octets offset z fronts faults) (sym e) h
 left_ahead octets offset old new fronts faults (one_left end around e form none left) h =
@@ -187,7 +188,14 @@ pub left_less :
     HasLeft n.octets.now n.offset (ends_of m) (ends_of n) → to_go n ≤ to_go m
 left_less m n o g left =
     let l : length n.octets.now ≡ length m.octets.now = ap length o in
-    omega (arith, l, g, left_fewer n.octets.now n.offset (ends_of m) (ends_of n) left, length-reverse n.ends.items, length-reverse m.ends.items)
+    omega (
+      arith,
+      l,
+      g,
+      left_fewer n.octets.now n.offset (ends_of m) (ends_of n) left,
+      length-reverse n.ends.items,
+      length-reverse m.ends.items,
+    )
 
 pub step_kept : (m n : Cursor) (step : Step) → Goes step m n → n.octets.now ≡ m.octets.now
 step_kept m n (Into header size indefinite) (o, g, e) = o

@@ -35,7 +35,8 @@ lines_told (Some fault) marks faults a b verdict (later, is) lines (v, last) =
     )
 
 outermost_dump :
-    (place : Place) (octets : List ℕ) (most : Option ℕ) (fronts : List Front) (text : List ℕ) → place.is_inside ≡ false →
+    (place : Place) (octets : List ℕ) (most : Option ℕ) (fronts : List Front) (text : List ℕ) →
+    place.is_inside ≡ false →
     place.base ≡ 0 → place.most_depth ≡ most →
     IsDump (StandsInside place.base octets) (outer place.is_inside place.most_depth fronts) text →
     IsDump (StandsInside 0 octets) (down_to most fronts) text
@@ -60,7 +61,8 @@ outermost_marked place octets fronts marks i z marked =
 
 pub some_put :
     (place : Place) (strict : Bool) (octets : List ℕ) (most : Option ℕ) (found : Found) (marks : List Marked)
-    (a b c d : List ℕ) (verdict : Result Verdict AllocError) → place.is_inside ≡ false → place.base ≡ 0 → place.most_depth ≡ most →
+    (a b c d : List ℕ) (verdict : Result Verdict AllocError) → place.is_inside ≡ false → place.base ≡ 0 →
+    place.most_depth ≡ most →
     marks ≡ marks_by strict found.marks.items → Adds (IsWholeDump place octets found) a b →
     Adds (AreFaultLines (mark_offsets marks)) b c →
     IfOk verdict (λ v. Adds (IsLast found.fault (mark_offsets marks) v) c d) →

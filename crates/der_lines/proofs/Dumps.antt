@@ -3,7 +3,7 @@ use Rattle.std.proofs.Common.{◌≡◌, ◌≢◌, ◌==◌, ℕ, zero, suc, �
 use Rattle.std.proofs.Common.{Bool, true, false, refl, sym, ap, ◌∙◌, subst, append_assoc, append-nil, arith, length}
 use Rattle.std.proofs.lemmas.List.{drop-drop}
 use Rattle.std.proofs.lemmas.Bool.{eqb-false, eqb-true}
-use Rattle.std.proofs.lemmas.List.Elements.{All-cons, All-head, All-nil, All-tail}
+use Rattle.std.proofs.lemmas.List.Elements.{All-cons, All-nil}
 use Rattle.std.specs.Fmt.{decimal}
 use Rattle.std.specs.Prelude.{Option, Result, Ok, Err, OnOk}
 use Rattle.std.specs.declared.alloc.AllocError.{AllocError}
@@ -13,23 +13,28 @@ use Rattle.der_lines.specs.Marks.{Told, mark_text, told_rules, words_text}
 use Rattle.der_lines.specs.Steps.{IsLineOf, IsLineUnless, outer, start_text}
 
 -- a dump after a dump
-pub dump_join : (P : Front → Type 0) (fs gs : List Front) (a b : List ℕ) → IsDump P fs a → IsDump P gs b → IsDump P (fs ++ gs) (a ++ b)
+pub dump_join : (P : Front → Type 0) (fs gs : List Front) (a b : List ℕ) → IsDump P fs a → IsDump P gs b →
+    IsDump P (fs ++ gs) (a ++ b)
 dump_join P fs gs a b (no_lines p q) h = rw (p, q) h
 dump_join P fs gs a b (block_line f later line rest p q l d) h =
     block_line f (later ++ gs) line (rest ++ b) (ap (λ z. z ++ gs) p)
     (ap (λ z. z ++ b) q ∙ append_assoc line (10 ∷ rest) b) l (dump_join P later gs rest b d h)
 dump_join P fs gs a b (inside_line f line rest q l i d) h =
-    inside_line f line (rest ++ b) (ap (λ z. z ++ b) q ∙ append_assoc line (10 ∷ rest) b) l i (dump_join P fs gs rest b d h)
+    inside_line f line (rest ++ b) (ap (λ z. z ++ b) q ∙ append_assoc line (10 ∷ rest) b) l i
+    (dump_join P fs gs rest b d h)
 
 -- what holds of those inside may be weaker
-pub dump_map : (P Q : Front → Type 0) → ((f : Front) → P f → Q f) → (fs : List Front) (a : List ℕ) → IsDump P fs a → IsDump Q fs a
+pub dump_map : (P Q : Front → Type 0) → ((f : Front) → P f → Q f) → (fs : List Front) (a : List ℕ) → IsDump P fs a →
+    IsDump Q fs a
 dump_map P Q m fs a (no_lines p q) = no_lines p q
-dump_map P Q m fs a (block_line f later line rest p q l d) = block_line f later line rest p q l (dump_map P Q m later rest d)
+dump_map P Q m fs a (block_line f later line rest p q l d) =
+    block_line f later line rest p q l (dump_map P Q m later rest d)
 dump_map P Q m fs a (inside_line f line rest q l i d) = inside_line f line rest q l (m f i) (dump_map P Q m fs rest d)
 
 -- a text of another kind
 pub adds_as :
-    (Is Other : List ℕ → Type 0) (a b : List ℕ) → ((text : List ℕ) → Is text → Other text) → Adds Is a b → Adds Other a b
+    (Is Other : List ℕ → Type 0) (a b : List ℕ) → ((text : List ℕ) → Is text → Other text) → Adds Is a b →
+    Adds Other a b
 adds_as Is Other a b turn (text, e, is) = (text, e, turn text is)
 
 -- nothing
@@ -62,7 +67,8 @@ pub start_dump :
     (P : Front → Type 0) (inside : Bool) (most : Option ℕ) (f : Front) (text : List ℕ) →
     IsLineUnless (is_too_deep most f.depth) inside f text → P f → IsDump P (outer inside most (f ∷ [])) text
 start_dump P inside most f text line i =
-    subst (λ z. IsDump P z text) (sym (outer_one inside most f)) (dump_unless P inside (is_too_deep most f.depth) f text line i)
+    subst (λ z. IsDump P z text) (sym (outer_one inside most f))
+    (dump_unless P inside (is_too_deep most f.depth) f text line i)
 
 down_to_join_one :
     (q : Bool) (f : Front) (xs ys zs : List Front) → xs ≡ ys ++ zs →
@@ -73,7 +79,8 @@ down_to_join_one false f xs ys zs e = ap (λ z. f ∷ z) e
 down_to_join : (most : Option ℕ) (fs gs : List Front) → down_to most (fs ++ gs) ≡ down_to most fs ++ down_to most gs
 down_to_join most [] gs = refl
 down_to_join most (f ∷ fs) gs =
-    down_to_join_one (is_too_deep most f.depth) f (down_to most (fs ++ gs)) (down_to most fs) (down_to most gs) (down_to_join most fs gs)
+    down_to_join_one (is_too_deep most f.depth) f (down_to most (fs ++ gs)) (down_to most fs) (down_to most gs)
+    (down_to_join most fs gs)
 
 pub outer_join :
     (inside : Bool) (most : Option ℕ) (fs gs : List Front) →
@@ -93,16 +100,12 @@ is_no_end b false is e = eqb-false b 10 is e
 pub has_one_line : (text : List ℕ) → IsOneLine (on_one_line text)
 has_one_line [] = All-nil (λ b. b ≢ 10)
 has_one_line (b ∷ text) =
-    All-cons (λ b. b ≢ 10) (if b == 10 then 32 else b) (on_one_line text) (is_no_end b (b == 10) refl) (has_one_line text)
+    All-cons (λ b. b ≢ 10) (if b == 10 then 32 else b) (on_one_line text) (is_no_end b (b == 10) refl)
+    (has_one_line text)
 
 stays : (b : ℕ) (q : Bool) → (b == 10) ≡ q → b ≢ 10 → (if q then 32 else b) ≡ b
 stays b true is other = absurd (other (eqb-true b 10 is))
 stays b false is other = refl
-
-pub stays_on_one_line : (text : List ℕ) → IsOneLine text → on_one_line text ≡ text
-stays_on_one_line [] one = refl
-stays_on_one_line (b ∷ text) one =
-    rw (stays b (b == 10) refl (All-head (λ b. b ≢ 10) b text one), stays_on_one_line text (All-tail (λ b. b ≢ 10) b text one)) refl
 
 -- the parts of the line of an encoding
 pub line_put :
@@ -134,7 +137,8 @@ line_put a b c d e k g text width f p q r s m t =
 
 -- the line of an encoding after its mark
 pub inside_put :
-    (a b c : List ℕ) (f : Front) → b ≡ a ++ 62 ∷ [] → Adds (IsLine (IsBlockLine f)) b c → Adds (IsLine (IsInsideLine f)) a c
+    (a b c : List ℕ) (f : Front) → b ≡ a ++ 62 ∷ [] → Adds (IsLine (IsBlockLine f)) b c →
+    Adds (IsLine (IsInsideLine f)) a c
 inside_put a b c f p (text, is, (line, e, l)) = (
   62 ∷ text,
   is ∙ (ap (λ z. z ++ text) p ∙ append_assoc a (62 ∷ []) text),
@@ -157,8 +161,10 @@ note_put a b c d e text mark p q r s =
     (line ++ 10 ∷ [], whole, (line, refl, refl))
 
 -- the parts of the line of a fault
-pub fault_put : (a b c d e f g text : List ℕ) (offset : ℕ) → b ≡ a ++ codes "! error at offset " → c ≡ b ++ decimal offset
-    → d ≡ c ++ 58 ∷ [] → e ≡ d ++ 32 ∷ [] → f ≡ e ++ on_one_line text → g ≡ f ++ 10 ∷ [] → Adds (IsLine (IsFaultLine offset)) a g
+pub fault_put : (a b c d e f g text : List ℕ) (offset : ℕ) → b ≡ a ++ codes "! error at offset " →
+    c ≡ b ++ decimal offset
+    → d ≡ c ++ 58 ∷ [] → e ≡ d ++ 32 ∷ [] → f ≡ e ++ on_one_line text → g ≡ f ++ 10 ∷ [] →
+    Adds (IsLine (IsFaultLine offset)) a g
 fault_put a b c d e f g text offset p q r s t u =
     let said = on_one_line text in
     let line : List ℕ = codes "! error at offset " ++ decimal offset ++ 58 ∷ 32 ∷ said in
@@ -171,10 +177,14 @@ drop-append zero xs ys = (ys, refl)
 drop-append (suc n) [] ys = (drop (suc n) ys, refl)
 drop-append (suc n) (x ∷ xs) ys = drop-append n xs ys
 
-pub stand_deeper : (octets part inner : List ℕ) (m n : ℕ) → StandAt octets m part → StandAt part n inner → StandAt octets (m + n) inner
+pub stand_deeper : (octets part inner : List ℕ) (m n : ℕ) → StandAt octets m part → StandAt part n inner →
+    StandAt octets (m + n) inner
 stand_deeper octets part inner m n (rest, p) (after, q) =
-    let (zs, r) = drop-append n part rest in
-    (after ++ zs, sym (drop-drop n m octets) ∙ (ap (drop n) p ∙ (r ∙ (ap (λ z. z ++ zs) q ∙ append_assoc inner after zs))))
+    let (zs, r) = drop-append n part rest in (
+      after ++ zs,
+      sym (drop-drop n m octets)
+          ∙ (ap (drop n) p ∙ (r ∙ (ap (λ z. z ++ zs) q ∙ append_assoc inner after zs))),
+    )
 
 -- what stands inside octets that stand at a place stands inside the whole
 pub inside_deeper :
@@ -194,7 +204,15 @@ inside_deeper octets part base m further f at e s =
       earlier = s.earlier;
       others = s.others;
       among = s.among;
-      place = record { offset = omega (arith, o, e); header = l.header; contents = l.contents; indefinite = l.indefinite; words = l.words; rules = l.rules };
+      place = record {
+        offset = omega (arith, o, e);
+        header = l.header;
+        contents = l.contents;
+        indefinite =
+            l.indefinite;
+        words = l.words;
+        rules = l.rules;
+      };
     }
 
 -- a mark
@@ -202,7 +220,8 @@ pub no_mark : (told : List Told) → length told ≡ 0 → mark_text told ≡ []
 no_mark [] e = refl
 no_mark (x ∷ told) e = absurd (omega (arith, e))
 
-some_mark : (told : List Told) → 0 < length told → mark_text told ≡ codes " (not DER: " ++ (words_text false told ++ codes ")")
+some_mark : (told : List Told) → 0 < length told →
+    mark_text told ≡ codes " (not DER: " ++ (words_text false told ++ codes ")")
 some_mark [] some = absurd (omega (arith, some))
 some_mark (x ∷ told) some = refl
 
@@ -210,7 +229,8 @@ pub mark_put :
     (a b c d : List ℕ) (told : List Told) → 0 < length told → b ≡ a ++ codes " (not DER: " →
     c ≡ b ++ words_text false told → d ≡ c ++ 41 ∷ [] → d ≡ a ++ mark_text told
 mark_put a b c d told some p q r =
-    let whole : d ≡ a ++ (codes " (not DER: " ++ (words_text false told ++ codes ")")) = rw (r, q, p) (simp append_assoc) in
+    let whole : d ≡ a ++ (codes " (not DER: " ++ (words_text false told ++ codes ")")) =
+    rw (r, q, p) (simp append_assoc) in
     whole ∙ ap (λ z. a ++ z) (sym (some_mark told some))
 
 -- lines of faults

@@ -70,7 +70,8 @@ form_of xs behind (identifier, e, is) = (identifier, behind, e, is)
 pub behind_alone :
     (xs a b : List ℕ) → StandsBehindIndefinite xs a → StandsBehindIndefinite xs b → a ≡ b
 behind_alone xs a b (identifier, e, (class, tag, i)) (identifier', e', (class', tag', i')) =
-    let same = identifier_alone identifier identifier' (128 ∷ a) (128 ∷ b) class class' true true tag tag' i i' (sym e ∙ e') in
+    let same = identifier_alone identifier identifier' (128 ∷ a) (128 ∷ b) class class' true true tag tag' i i'
+    (sym e ∙ e') in
     let rest : 128 ∷ a ≡ 128 ∷ b = same.rest in
     cc rest
 
@@ -87,14 +88,16 @@ form_alone part rest e (identifier, behind, is, (class, tag, i)) =
     sym (ap (λ z. z ++ rest) f.whole ∙ (append_assoc f.identifier (f.len ++ e.contents) rest
     ∙ ap (λ z. f.identifier ++ z) (append_assoc f.len e.contents rest))) ∙ is in
     let same =
-    identifier_alone f.identifier identifier (f.len ++ (e.contents ++ rest)) (128 ∷ behind) e.class class e.constructed true
+    identifier_alone f.identifier identifier (f.len ++ (e.contents ++ rest)) (128 ∷ behind) e.class class e.constructed
+    true
     e.tag tag f.identifier_octets i whole in
     let none : IsLength (128 ∷ []) 0 = inr (refl, omega arith, refl) in
     let len =
     length_alone f.len (128 ∷ []) (e.contents ++ rest) behind (length e.contents) 0 f.length_octets none same.rest in (
       identifier,
       e.contents,
-      f.whole ∙ (ap (λ z. z ++ (f.len ++ e.contents)) same.octets ∙ ap (λ z. identifier ++ (z ++ e.contents)) len.octets),
+      f.whole ∙ (ap (λ z. z ++ (f.len ++ e.contents)) same.octets
+          ∙ ap (λ z. identifier ++ (z ++ e.contents)) len.octets),
       (class, tag, i),
     )
 
@@ -189,7 +192,8 @@ module _ (xs : List ℕ) (not : begins_with_end xs ≡ false) where
         to (contents, more, e, one_more first rest f n (of_definite_form d first_one) others, later) =
             let w = whole_of xs contents first rest more e f in
             let same =
-            encoding_alone part first _ _ _ _ _ _ _ _ _ _ left (rest ++ 0 ∷ 0 ∷ more) encoding.encoding first_one.encoding
+            encoding_alone part first _ _ _ _ _ _ _ _ _ _ left (rest ++ 0 ∷ 0 ∷ more) encoding.encoding
+            first_one.encoding
             (sym whole ∙ w) in
             (rest, more, same.rest, others, later)
         to (contents, more, e, one_more first rest f n (of_indefinite_form inner standing inside) others, later) =
@@ -200,7 +204,8 @@ module _ (xs : List ℕ) (not : begins_with_end xs ≡ false) where
         from : Closes (suc depth) left after → Closes (suc depth) xs after
         from (rest, more, e, others, later) =
             let element : IsElement part =
-            of_definite_form (λ form. definite (subst HasIndefiniteForm (sym whole) (form_longer part left form))) encoding in (
+            of_definite_form (λ form. definite (subst HasIndefiniteForm (sym whole) (form_longer part left form)))
+            encoding in (
               part ++ rest,
               more,
               whole ∙ (ap (λ z. part ++ z) e ∙ sym (regrouped part rest more)),
@@ -212,13 +217,15 @@ module _ (xs : List ℕ) (not : begins_with_end xs ≡ false) where
     pub goes_nowhere :
         (depth : ℕ) → HasNoEncodingAt xs 0 → (after : List ℕ) → Closes (suc depth) xs after → ⊥
     goes_nowhere depth none after (contents, more, e, no_more empty, later) = never_ends contents more e empty
-    goes_nowhere depth none after (contents, more, e, one_more first rest f n (of_definite_form d encoding) others, later) =
+    goes_nowhere depth none after
+        (contents, more, e, one_more first rest f n (of_definite_form d encoding) others, later) =
         none first (record {
           rest = rest ++ 0 ∷ 0 ∷ more;
           at_offset = whole_of xs contents first rest more e f;
           encoding = encoding;
         })
-    goes_nowhere depth none after (contents, more, e, one_more first rest f n (of_indefinite_form inner standing inside) others, later) =
+    goes_nowhere depth none after
+        (contents, more, e, one_more first rest f n (of_indefinite_form inner standing inside) others, later) =
         let w = whole_of xs contents first rest more e f in
         definite (subst HasIndefiniteForm (sym w)
         (form_longer first (rest ++ 0 ∷ 0 ∷ more) (form_of first (inner ++ end_octets) standing)))
@@ -262,7 +269,8 @@ module _ (xs behind : List ℕ) (standing : StandsBehindIndefinite xs behind) wh
       let ends : behind ≡ (contents ++ end_octets) ++ after =
       e ∙ (ap (λ z. contents ++ 0 ∷ 0 ∷ z) f ∙ sym (append_assoc contents end_octets after)) in
       let w : xs ≡ first ++ after =
-      is ∙ (ap (λ z. identifier ++ 128 ∷ z) ends ∙ sym (append_assoc identifier (128 ∷ (contents ++ end_octets)) after)) in
+      is ∙ (ap (λ z. identifier ++ 128 ∷ z) ends
+      ∙ sym (append_assoc identifier (128 ∷ (contents ++ end_octets)) after)) in
       let front = front_of xs first after w in
       record {
         rest = after;
@@ -275,7 +283,8 @@ module _ (xs behind : List ℕ) (standing : StandsBehindIndefinite xs behind) wh
     where
       without : IsElement element → ⊥
       without (of_definite_form definite encoding) =
-          definite (form_alone element at.rest encoding (subst HasIndefiniteForm at.at_front (form_of xs behind standing)))
+          definite (form_alone element at.rest encoding
+          (subst HasIndefiniteForm at.at_front (form_of xs behind standing)))
       without (of_indefinite_form contents here inside) =
           let there : StandsBehindIndefinite xs ((contents ++ end_octets) ++ at.rest) =
           subst (λ z. StandsBehindIndefinite z ((contents ++ end_octets) ++ at.rest)) (sym at.at_front)
@@ -291,7 +300,8 @@ behind_part xs part ys at is =
     let fits : length part ≤ length xs = omega (arith, ap length at.at_offset, length-append part at.rest) in
     let least : min (length part) (length xs) ≡ length part = omega (arith, fits) in
     let rest : ys ≡ at.rest =
-    is ∙ (ap (λ m. drop m xs) least ∙ (ap (drop (length part)) at.at_offset ∙ drop_at part at.rest (length part) refl)) in
+    is ∙ (ap (λ m. drop m xs) least
+    ∙ (ap (drop (length part)) at.at_offset ∙ drop_at part at.rest (length part) refl)) in
     at.at_offset ∙ ap (λ z. part ++ z) (sym rest)
 
 -- what is passed where some contents octets are open
@@ -355,9 +365,11 @@ pub behind_form :
     HasIndefiniteForm xs → StandsBehindIndefinite xs (drop s xs)
 behind_form xs s n c k t h (identifier, behind, e, (class, tag, i)) =
     let whole : h.identifier ++ (h.len ++ drop s xs) ≡ identifier ++ 128 ∷ behind =
-    sym (sym (take-append-drop s xs) ∙ (ap (λ z. z ++ drop s xs) h.front_is ∙ append_assoc h.identifier h.len (drop s xs)))
+    sym (sym (take-append-drop s xs)
+    ∙ (ap (λ z. z ++ drop s xs) h.front_is ∙ append_assoc h.identifier h.len (drop s xs)))
     ∙ e in
-    let same = identifier_alone h.identifier identifier (h.len ++ drop s xs) (128 ∷ behind) c class k true t tag h.fields i whole in
+    let same = identifier_alone h.identifier identifier (h.len ++ drop s xs) (128 ∷ behind) c class k true t tag
+    h.fields i whole in
     let none : IsLength (128 ∷ []) 0 = inr (refl, omega arith, refl) in
     let len = length_alone h.len (128 ∷ []) (drop s xs) behind n 0 h.length_octets none same.rest in
     (identifier, e ∙ ap (λ z. identifier ++ 128 ∷ z) (sym len.rest), (class, tag, i))

@@ -1,5 +1,5 @@
 -- How far the lines of octets were put.
-use Rattle.std.proofs.Common.{◌≡◌, ◌⊎◌, inl, inr, ℕ, ◌+◌, ◌-◌, Bool, true, false, List, [], ◌∷◌, ◌++◌, if◌then◌else◌}
+use Rattle.std.proofs.Common.{◌≡◌, ◌⊎◌, inl, inr, ℕ, ◌+◌, ◌-◌, Bool, true, false, List, [], ◌∷◌, ◌++◌}
 use Rattle.std.proofs.Common.{drop, slice_range, refl, sym, ap, ◌∙◌, subst, append_assoc, append-nil, arith}
 use Rattle.std.proofs.lemmas.List.{take-append-drop}
 use Rattle.std.specs.Prelude.{Option, None, Some}
@@ -71,10 +71,13 @@ so_far_more base octets fronts g p (inl (f, (earlier, others, e), l)) =
 so_far_more base octets fronts g p (inr inside) = inr inside
 
 -- what is left stands at the offset
-pub left_stands : (octets left : List ℕ) (offset end : ℕ) → left ≡ slice_range octets offset end → StandAt octets offset left
+pub left_stands : (octets left : List ℕ) (offset end : ℕ) → left ≡ slice_range octets offset end →
+    StandAt octets offset left
 left_stands octets left offset end e =
-    let rest = drop offset octets in
-    (drop (end - offset) rest, sym (take-append-drop (end - offset) rest) ∙ ap (λ z. z ++ drop (end - offset) rest) (sym e))
+    let rest = drop offset octets in (
+      drop (end - offset) rest,
+      sym (take-append-drop (end - offset) rest) ∙ ap (λ z. z ++ drop (end - offset) rest) (sym e),
+    )
 
 told_more :
     (faults own : List ℕ) (first told : Option Fault) → IsFirstFault faults first → IsFirstFault own told →
@@ -128,7 +131,8 @@ module _ (place : Place) (octets : List ℕ) (fronts : List Front) (old new : Wa
       let header = kind_header piece.kind in
       let slice = slice_range p.left header (header + kind_contents piece.kind) in
       let further = piece.place.base + (piece.offset + header) in
-      let stands : StandAt octets piece.offset p.left = subst (λ z. StandAt z piece.offset p.left) same_octets p.position in
+      let stands : StandAt octets piece.offset p.left =
+      subst (λ z. StandAt z piece.offset p.left) same_octets p.position in
       let within = left_stands p.left slice header (header + kind_contents piece.kind) refl in
       inr (inside_deeper octets p.left place.base piece.offset (place.base + piece.offset) h stands refl
       (inside_deeper p.left slice (place.base + piece.offset) header further h within (omega (arith, base_is)) s))
@@ -136,7 +140,8 @@ module _ (place : Place) (octets : List ℕ) (fronts : List Front) (old new : Wa
   -- the line of one more, and those inside it
   piece_dump :
       (marks text : List ℕ) → IsPieceDump p.left piece marks text →
-      IsDump (IsSoFar place.base octets one_more) (outer place.is_inside place.most_depth (front_of p.levels piece ∷ [])) text
+      IsDump (IsSoFar place.base octets one_more)
+      (outer place.is_inside place.most_depth (front_of p.levels piece ∷ [])) text
   piece_dump marks text put =
       let f = front_of p.levels piece in
       let g = shown_front piece in
@@ -145,11 +150,13 @@ module _ (place : Place) (octets : List ℕ) (fronts : List Front) (old new : Wa
       let line = start_dump P piece.place.is_inside piece.place.most_depth g put.first put.line own_shown in
       let here : IsDump P (outer place.is_inside place.most_depth (g ∷ [])) put.first =
       subst (λ z. IsDump P (outer z place.most_depth (g ∷ [])) put.first) inside_is
-      (subst (λ z. IsDump P (outer piece.place.is_inside z (g ∷ [])) put.first) (p.most ∙ ap (λ z. z.most_depth) same) line) in
+      (subst (λ z. IsDump P (outer piece.place.is_inside z (g ∷ [])) put.first) (p.most ∙ ap (λ z. z.most_depth) same)
+      line) in
       let first = line_is P place.is_inside place.most_depth g f put.first shown_outside here in
       let all = dump_join P (outer place.is_inside place.most_depth (f ∷ [])) [] put.first put.rest first rest in
       subst (λ z. IsDump P (outer place.is_inside place.most_depth (f ∷ [])) z) (sym put.text_is)
-      (subst (λ z. IsDump P z (put.first ++ put.rest)) (append-nil (outer place.is_inside place.most_depth (f ∷ []))) all)
+      (subst (λ z. IsDump P z (put.first ++ put.rest)) (append-nil (outer place.is_inside place.most_depth (f ∷ [])))
+      all)
 
   -- the mark of one more, and those inside it
   piece_marked :
@@ -161,7 +168,8 @@ module _ (place : Place) (octets : List ℕ) (fronts : List Front) (old new : Wa
       let g = shown_front piece in
       let P = IsSoFar place.base octets one_more in
       let rest = marked_map (StandsInPiece p.left piece) P deeper [] marks put.marked in
-      let first = mark_is P place.is_inside g f (marked_offset g) shown_outside (marked_one P place.is_inside g own_shown) in
+      let first = mark_is P place.is_inside g f (marked_offset g) shown_outside
+      (marked_one P place.is_inside g own_shown) in
       subst (λ z. AreMarked P z (marked_offset g ++ marks)) (append-nil (counted place.is_inside (f ∷ [])))
       (marked_join P (counted place.is_inside (f ∷ [])) [] (marked_offset g) marks first rest)
 
@@ -180,9 +188,11 @@ shown_more place octets old new piece first marks more_marks inside text own p p
     let mark = piece_marked place octets s.fronts old new piece p s.same_place s.same_octets outside inside own put in
     let weaker : (q : Front) → IsSoFar place.base octets s.fronts q → P q =
     λ q h. so_far_more place.base octets s.fronts g q h in
-    let before = dump_map (IsSoFar place.base octets s.fronts) P weaker (outer place.is_inside place.most_depth s.fronts) text s.dump
+    let before = dump_map (IsSoFar place.base octets s.fronts) P weaker
+    (outer place.is_inside place.most_depth s.fronts) text s.dump
     in
-    let marks_before = marked_map (IsSoFar place.base octets s.fronts) P weaker (counted place.is_inside s.fronts) marks s.marked
+    let marks_before = marked_map (IsSoFar place.base octets s.fronts) P weaker (counted place.is_inside s.fronts) marks
+    s.marked
     in
     record {
       fronts = s.fronts ++ g ∷ [];
@@ -203,7 +213,8 @@ shown_more place octets old new piece first marks more_marks inside text own p p
     }
 
 closed :
-    (base : ℕ) (octets : List ℕ) (fronts : List Front) (faults : List ℕ) (p : Front) → AreFrontsOf octets fronts faults →
+    (base : ℕ) (octets : List ℕ) (fronts : List Front) (faults : List ℕ) (p : Front) →
+    AreFrontsOf octets fronts faults →
     IsSoFar base octets fronts p → StandsInside base octets p
 closed base octets fronts faults p read (inl (f, (earlier, others, e), l)) =
     let o : p.offset ≡ base + f.offset = l.offset in
@@ -218,7 +229,15 @@ closed base octets fronts faults p read (inl (f, (earlier, others, e), l)) =
       earlier = earlier;
       others = others;
       among = e;
-      place = record { offset = omega (arith, o); header = l.header; contents = l.contents; indefinite = l.indefinite; words = l.words; rules = l.rules };
+      place = record {
+        offset = omega (arith, o);
+        header = l.header;
+        contents = l.contents;
+        indefinite =
+            l.indefinite;
+        words = l.words;
+        rules = l.rules;
+      };
     }
 closed base octets fronts faults p read (inr inside) = inside
 
@@ -240,5 +259,6 @@ shown_all place octets walk found text ended s =
           (λ p h. closed place.base octets s.fronts s.faults p all h) (counted place.is_inside s.fronts)
           (mark_offsets found.marks.items) s.marked;
       dump = dump_map (IsSoFar place.base octets s.fronts) (StandsInside place.base octets)
-          (λ p h. closed place.base octets s.fronts s.faults p all h) (outer place.is_inside place.most_depth s.fronts) text s.dump;
+          (λ p h. closed place.base octets s.fronts s.faults p all h) (outer place.is_inside place.most_depth s.fronts)
+          text s.dump;
     }

@@ -44,7 +44,8 @@ pub next_piece :
     (left.is_indefinite && begins_with_end left.octets.now) ≡ false → 0 < length left.octets.now →
     IsFirstPiece left.octets.now offset place piece → IsPiece left offset place piece
 next_piece left offset place piece e some p = record {
-  starts = λ depth. starts_next left offset depth (front_of depth piece) piece.step (fault_offset piece.fault) e some (p.starts depth);
+  starts = λ depth. starts_next left offset depth (front_of depth piece) piece.step (fault_offset piece.fault) e some
+      (p.starts depth);
   kind = p.kind;
   offset_is = p.offset_is;
   place_is = p.place_is;
@@ -63,11 +64,13 @@ pub named_at : (offset : ℕ) (found : DecodeFault) (fault : Option Fault) → I
     → fault_offset fault ≡ offset ∷ []
 named_at offset found fault = fault_at (IsNamed offset found) offset fault (λ f is. is.0)
 
-pub nameless_at : (offset : ℕ) (fault : Option Fault) → IsFault (IsNameless offset) fault → fault_offset fault ≡ offset ∷ []
+pub nameless_at : (offset : ℕ) (fault : Option Fault) → IsFault (IsNameless offset) fault →
+    fault_offset fault ≡ offset ∷ []
 nameless_at offset fault = fault_at (IsNameless offset) offset fault (λ f is. is.0)
 
 -- the encoding with the header that begins the octets is judged so
-abbrev pub IsJudgedAs : (left : List ℕ) → ℕ → ℕ → List Rule → (header : Header) → IsAtFront left header → List ℕ → Type 0
+abbrev pub IsJudgedAs : (left : List ℕ) → ℕ → ℕ → List Rule → (header : Header) → IsAtFront left header → List ℕ →
+    Type 0
 IsJudgedAs left offset depth rules header h faults =
     IsJudged left (header_front offset depth rules header) header.class header.constructed header.tag
     (is_stray_form header.constructed (drop (length h.identifier) left)) faults
@@ -144,7 +147,8 @@ front_encoding left contents s n c k t h l e =
       length_octets = subst (IsLength h.len) (sym size) h.length_octets;
       whole = take-add s n left
           ∙ (ap (λ z. z ++ take n (drop s left)) h.front_is
-          ∙ (append_assoc h.identifier h.len (take n (drop s left)) ∙ ap (λ z. h.identifier ++ (h.len ++ z)) (sym cut)));
+          ∙ (append_assoc h.identifier h.len (take n (drop s left))
+          ∙ ap (λ z. h.identifier ++ (h.len ++ z)) (sym cut)));
       size = header_size left s n c k t h;
     }
 
@@ -200,7 +204,8 @@ whole_rules left header rules whole found front = of_whole whole (found front)
 -- the lines of encodings inside contents octets, and their marks
 pub nested_adds :
     (inside : Place) (left : List ℕ) (piece : Piece) (octets : List ℕ) (before : ℕ) (told : Found) (a b : List ℕ) →
-    StandAt (slice_range left (kind_header piece.kind) (kind_header piece.kind + kind_contents piece.kind)) before octets →
+    StandAt (slice_range left (kind_header piece.kind) (kind_header piece.kind + kind_contents piece.kind)) before
+    octets →
     inside.is_inside ≡ true → inside.base ≡ piece.place.base + (piece.offset + kind_header piece.kind) + before →
     Adds (IsWholeDump inside octets told) a b → Adds (IsNestedDump left piece (mark_offsets told.marks.items)) a b
 nested_adds inside left piece octets before told a b stand is_inside further (text, e, put) =
@@ -214,7 +219,8 @@ nested_adds inside left piece octets before told a b stand is_inside further (te
       e,
       (
         dump_map (StandsInside inside.base octets) (StandsInPiece left piece) deeper [] text
-            (subst (λ z. IsDump (StandsInside inside.base octets) (outer z inside.most_depth put.fronts) text) is_inside put.dump),
+            (subst (λ z. IsDump (StandsInside inside.base octets) (outer z inside.most_depth put.fronts) text) is_inside
+            put.dump),
         marked_map (StandsInside inside.base octets) (StandsInPiece left piece) deeper [] marks
             (subst (λ z. AreMarked (StandsInside inside.base octets) (counted z put.fronts) marks) is_inside put.marks),
       ),

@@ -55,12 +55,19 @@ pub header_alone :
 header_alone octets s n c k t s' n' c' k' t' h g =
     let whole = sym (front_parts octets s n c k t h) ∙ front_parts octets s' n' c' k' t' g in
     let i =
-    identifier_alone h.identifier g.identifier (h.len ++ drop s octets) (g.len ++ drop s' octets) c c' k k' t t' h.fields
+    identifier_alone h.identifier g.identifier (h.len ++ drop s octets) (g.len ++ drop s' octets) c c' k k' t t'
+    h.fields
     g.fields whole
     in
     let l = length_alone h.len g.len (drop s octets) (drop s' octets) n n' h.length_octets g.length_octets i.rest in
     let size : s ≡ s' =
-    omega (arith, header_size octets s n c k t h, header_size octets s' n' c' k' t' g, ap length i.octets, ap length l.octets)
+    omega (
+      arith,
+      header_size octets s n c k t h,
+      header_size octets s' n' c' k' t' g,
+      ap length i.octets,
+      ap length l.octets,
+    )
     in
     record { size = size; announced = l.number; class = i.class; constructed = i.constructed; tag = i.tag }
 
@@ -93,9 +100,11 @@ pub holds_alone :
     Holds c k t v b' i' → SameInside b b' i i'
 holds_alone c k t v b b' i i' (holds_blocks g z e) (holds_blocks g' z' e') =
     record { before = z ∙ sym z'; inside = e ∙ sym e' }
-holds_alone c k t v b b' i i' (holds_blocks g z e) (holds_octets p q r z' e' a') = absurd (not_both c k t 4 p q r refl g)
+holds_alone c k t v b b' i i' (holds_blocks g z e) (holds_octets p q r z' e' a') =
+    absurd (not_both c k t 4 p q r refl g)
 holds_alone c k t v b b' i i' (holds_blocks g z e) (holds_bits p q r z' e' a') = absurd (not_both c k t 3 p q r refl g)
-holds_alone c k t v b b' i i' (holds_octets p q r z e a) (holds_blocks g' z' e') = absurd (not_both c k t 4 p q r refl g')
+holds_alone c k t v b b' i i' (holds_octets p q r z e a) (holds_blocks g' z' e') =
+    absurd (not_both c k t 4 p q r refl g')
 holds_alone c k t v b b' i i' (holds_octets p q r z e a) (holds_octets p' q' r' z' e' a') =
     record { before = z ∙ sym z'; inside = e ∙ sym e' }
 holds_alone c k t v b b' i i' (holds_octets p q r z e a) (holds_bits p' q' r' z' e' a') = absurd (omega (arith, r, r'))
@@ -159,35 +168,44 @@ leads_alone o xs d a a' ys ys' _ _ (behind_end p i e f) (behind_indefinite s' n'
     absurd (open_end o a xs p i not')
 leads_alone o xs d a a' ys ys' _ _ (behind_element s n c k t not h form p e f) (behind_end p' i' e' f') =
     absurd (open_end o a' xs p' i' not)
-leads_alone o xs d a a' ys ys' _ _ (behind_element s n c k t _ h _ p e f) (behind_element s' n' c' k' t' _ h' _ p' e' f') =
+leads_alone o xs d a a' ys ys' _ _ (behind_element s n c k t _ h _ p e f)
+    (behind_element s' n' c' k' t' _ h' _ p' e' f') =
     let same = header_alone xs s n c k t s' n' c' k' t' h h' in
     let sum : s + n ≡ s' + n' = omega (arith, same.size, same.announced) in
     record { around = p ∙ sym p'; others = e ∙ (ap (λ z. drop z xs) sum ∙ sym e'); later = omega (arith, sum, f, f') }
-leads_alone o xs d a a' ys ys' _ _ (behind_element s n c k t _ h _ _ _ f) (inside_element s' n' c' k' t' _ _ h' _ _ _ m' f') =
+leads_alone o xs d a a' ys ys' _ _ (behind_element s n c k t _ h _ _ _ f)
+    (inside_element s' n' c' k' t' _ _ h' _ _ _ m' f') =
     let same = header_alone xs s n c k t s' n' c' k' t' h h' in
     absurd (omega (arith, same.size, same.announced, f, f', m'))
-leads_alone o xs d a a' ys ys' _ _ (behind_element _ _ _ _ _ _ _ form _ _ _) (behind_indefinite _ _ _ _ _ _ _ form' _ _ _) =
+leads_alone o xs d a a' ys ys' _ _ (behind_element _ _ _ _ _ _ _ form _ _ _)
+    (behind_indefinite _ _ _ _ _ _ _ form' _ _ _) =
     absurd (form form')
 leads_alone o xs d a a' ys ys' _ _ (inside_element s n c k t b not h form p e m f) (behind_end p' i' e' f') =
     absurd (open_end o a' xs p' i' not)
-leads_alone o xs d a a' ys ys' _ _ (inside_element s n c k t _ _ h _ _ _ m f) (behind_element s' n' c' k' t' _ h' _ _ _ f') =
+leads_alone o xs d a a' ys ys' _ _ (inside_element s n c k t _ _ h _ _ _ m f)
+    (behind_element s' n' c' k' t' _ h' _ _ _ f') =
     let same = header_alone xs s n c k t s' n' c' k' t' h h' in
     absurd (omega (arith, same.size, same.announced, f, f', m))
-leads_alone o xs d a a' ys ys' _ _ (inside_element s n c k t b _ h _ p e _ f) (inside_element s' n' c' k' t' b' _ h' _ p' e' _ f') =
+leads_alone o xs d a a' ys ys' _ _ (inside_element s n c k t b _ h _ p e _ f)
+    (inside_element s' n' c' k' t' b' _ h' _ p' e' _ f') =
     let same = header_alone xs s n c k t s' n' c' k' t' h h' in
     let one =
     holds_alone c k t (take n (drop s xs)) b b' ys ys' e (holds_moved xs s n c k t s' n' c' k' t' b' ys' same e')
     in
     record { around = p ∙ sym p'; others = one.inside; later = omega (arith, same.size, one.before, f, f') }
-leads_alone o xs d a a' ys ys' _ _ (inside_element _ _ _ _ _ _ _ _ form _ _ _ _) (behind_indefinite _ _ _ _ _ _ _ form' _ _ _) =
+leads_alone o xs d a a' ys ys' _ _ (inside_element _ _ _ _ _ _ _ _ form _ _ _ _)
+    (behind_indefinite _ _ _ _ _ _ _ form' _ _ _) =
     absurd (form form')
 leads_alone o xs d a a' ys ys' _ _ (behind_indefinite s n c k t not h form p e f) (behind_end p' i' e' f') =
     absurd (open_end o a' xs p' i' not)
-leads_alone o xs d a a' ys ys' _ _ (behind_indefinite _ _ _ _ _ _ _ form _ _ _) (behind_element _ _ _ _ _ _ _ form' _ _ _) =
+leads_alone o xs d a a' ys ys' _ _ (behind_indefinite _ _ _ _ _ _ _ form _ _ _)
+    (behind_element _ _ _ _ _ _ _ form' _ _ _) =
     absurd (form' form)
-leads_alone o xs d a a' ys ys' _ _ (behind_indefinite _ _ _ _ _ _ _ form _ _ _) (inside_element _ _ _ _ _ _ _ _ form' _ _ _ _) =
+leads_alone o xs d a a' ys ys' _ _ (behind_indefinite _ _ _ _ _ _ _ form _ _ _)
+    (inside_element _ _ _ _ _ _ _ _ form' _ _ _ _) =
     absurd (form' form)
-leads_alone o xs d a a' ys ys' _ _ (behind_indefinite s n c k t _ h _ p e f) (behind_indefinite s' n' c' k' t' _ h' _ p' e' f') =
+leads_alone o xs d a a' ys ys' _ _ (behind_indefinite s n c k t _ h _ p e f)
+    (behind_indefinite s' n' c' k' t' _ h' _ p' e' f') =
     let same = header_alone xs s n c k t s' n' c' k' t' h h' in
     record {
       around = p ∙ sym p';
@@ -293,7 +311,8 @@ pub found_in :
     ((block : List ℕ) → BeginsIn 0 xs offset block ↔ BeginsIn depth left distance block) →
     ends_contents depth left ≡ false → IfOk r (λ o. MatchOption o (HasNoElement left) (λ e. ElementAt left e.now)) →
     IfOk r (λ o. MatchOption o (HasNoBlockAt xs offset) (λ block. BeginsAt xs offset block.now))
-found_in xs left offset depth distance (Ok o) z same not found = found_at xs left offset depth distance o z same not found
+found_in xs left offset depth distance (Ok o) z same not found =
+    found_at xs left offset depth distance o z same not found
 found_in xs left offset depth distance (Err e) z same not found = tt
 
 -- at the end of contents octets no element begins
@@ -332,7 +351,8 @@ encodings_after octets part after at is = (some, fits, (to, λ more. one_first p
     behind : after ≡ at.rest
     behind =
         let least : min (length part) (length octets) ≡ length part = omega (arith, fits) in
-        is ∙ (ap (λ m. drop m octets) least ∙ (ap (drop (length part)) at.at_offset ∙ drop_at part at.rest (length part) refl))
+        is ∙ (ap (λ m. drop m octets) least
+        ∙ (ap (drop (length part)) at.at_offset ∙ drop_at part at.rest (length part) refl))
 
     whole : octets ≡ part ++ after
     whole = at.at_offset ∙ ap (λ z. part ++ z) (sym behind)

@@ -50,8 +50,10 @@ segments_back tag m n before after o g left h =
 pub segment_goes :
     (tag : ℕ) (m n : Cursor) (left : Left) (step : Step) (before between after : List ℕ) → IsLeftOf m left →
     IsSegment tag left step before between → Goes step m n → AreLeft tag n between after → AreLeft tag m before after
-segment_goes tag m n left (Into header size indefinite) before between after at (announced, h, l, form, is, same) (o, g, ends) later =
-    let inside = end_at (m.offset + taken indefinite (header + announced) (length left.octets.now)) indefinite ∷ ends_of m in
+segment_goes tag m n left (Into header size indefinite) before between after at (announced, h, l, form, is, same)
+    (o, g, ends) later =
+    let inside = end_at (m.offset + taken indefinite (header + announced) (length left.octets.now)) indefinite ∷ ends_of
+    m in
     let y : ends_of n ≡ inside = ends ∙ ap (λ z. end_at (m.offset + z) indefinite ∷ ends_of m) is in
     constructed_one left.octets.now at.end at.around header announced indefinite at.ends_are at.octets_are h l form
     (subst (λ z. AreSegments tag m.octets.now (m.offset + header) inside z after) same
@@ -68,7 +70,8 @@ segment_goes tag m n left (Out size) before between after at (within, begins, tw
     (segments_are tag n m.octets.now (m.offset + 2) at.around between after o x (ends ∙ ap (drop 1) at.ends_are) later))
 
 pub segment_takes :
-    (tag : ℕ) (left : Left) (step : Step) (before after : List ℕ) → IsSegment tag left step before after → Takes step left
+    (tag : ℕ) (left : Left) (step : Step) (before after : List ℕ) → IsSegment tag left step before after →
+    Takes step left
 segment_takes tag left (Into header size indefinite) before after (announced, h, l, form, is, same) =
     let some = header_some left.octets.now header announced Universal true (segment_tag tag) h in
     (some, omega (arith, l, some))
@@ -78,7 +81,8 @@ segment_takes tag left (Past size) before after (header, announced, h, l, is, jo
 segment_takes tag left (Out size) before after is = tt
 
 as_segment :
-    (left : List ℕ) (header : Header) (constructed : Bool) (tag : ℕ) → IsAtFront left header → header.class ≡ Universal →
+    (left : List ℕ) (header : Header) (constructed : Bool) (tag : ℕ) → IsAtFront left header →
+    header.class ≡ Universal →
     header.constructed ≡ constructed → header.tag ≡ tag →
     BeginsWithHeader left header.size header.announced Universal constructed tag
 as_segment left header constructed tag front c k t =
@@ -102,5 +106,11 @@ pub primitive_segment :
     header.tag ≡ segment_tag tag →
     Joins tag before (slice_range left.octets.now header.size (header.size + header.announced)) after →
     IsSegment tag left (Past (header.size + header.announced)) before after
-primitive_segment tag left header before after front whole c k t joins =
-    (header.size, header.announced, as_segment left.octets.now header false (segment_tag tag) front c k t, whole, refl, joins)
+primitive_segment tag left header before after front whole c k t joins = (
+  header.size,
+  header.announced,
+  as_segment left.octets.now header false (segment_tag tag) front c k t,
+  whole,
+  refl,
+  joins,
+)

@@ -37,7 +37,8 @@ tag_words Private tag = codes "[PRIVATE " ++ (tag_number tag ++ codes "]")
 
 -- what the line of an encoding begins with: its offset, the sizes of its header and of the contents octets that it
 -- announces, whether its length is of the indefinite form, which announces none, how many encodings are around it, and
--- its tag in words; and what its mark says: the rules of DER that it breaks, and whether it is a list of named bits with
+-- its tag in words; and what its mark says: the rules of DER that it breaks, and whether it is a list of named bits
+-- with
 -- a 0 at its end (X.690 11.2.2)
 pub record Front : Type 0 where
   pub offset : ℕ

@@ -4,7 +4,7 @@ use Rattle.std.specs.Prelude.{⊤, ◌↔◌, ◌≤◌, ◌*◌, ◌-◌, IsTru
 use Rattle.std.specs.Prelude.{MatchOption, None, Some, map}
 use Rattle.asn1_headers.specs.declared.header.ASN1Class.TheVariants.{Universal}
 use Rattle.der_lines.specs.Dump.{AreFronts, AreFrontsOf, Front, IsBlockLine, IsDump, IsFirst, IsInsideLine}
-use Rattle.der_lines.specs.Dump.{AreMarked, AreRules, IsFaultLine, IsLine, marked_offset, verdict_of}
+use Rattle.der_lines.specs.Dump.{AreMarked, AreRules, IsFaultLine, IsLine, verdict_of}
 use Rattle.der_lines.specs.declared.document.Verdict.{Verdict}
 use Rattle.der_lines.specs.declared.document.Verdict.TheVariants.{Refused}
 use Rattle.der_lines.specs.Dump.{StandsInside, down_to, indentation, is_too_deep, right_of, size_in, tag_words}
@@ -211,7 +211,8 @@ pub record IsWholeDump (place : Place) (octets : List ℕ) (found : Found) (text
   pub faults : List ℕ
   pub read : AreFrontsOf octets fronts faults
   pub told : IsFirstFault faults found.fault
-  pub marks : AreMarked (StandsInside place.base octets) (counted place.is_inside fronts) (mark_offsets found.marks.items)
+  pub marks : AreMarked (StandsInside place.base octets) (counted place.is_inside fronts)
+      (mark_offsets found.marks.items)
   pub dump : IsDump (StandsInside place.base octets) (outer place.is_inside place.most_depth fronts) text
 
 -- marks, where they are wrong

@@ -1,5 +1,5 @@
 // The lines of octets, one for each piece, and of what stands inside octets of strings.
-ghost use Rattle.std.specs.Prelude.{[], ◌≡◌, ◌+◌, ◌<◌, ◌++◌, ℕ, List, false, IfOk, IfSome, OnOk, slice_range};
+ghost use Rattle.std.specs.Prelude.{◌≡◌, ◌+◌, ◌<◌, ◌++◌, ℕ, List, false, IfOk, IfSome, OnOk};
 ghost use Rattle.der_lines.specs.Dump.{Adds, marked_offset};
 ghost use Rattle.der_lines.specs.Pieces.{IsHolding, IsNestedDump, IsPieceDump, kind_words, shown_front};
 ghost use Rattle.der_lines.specs.Steps.{IsStart, IsWholeDump, earlier_fault, mark_offsets};

@@ -16,8 +16,8 @@
 //! Encodings inside the bytes of a string have lines that begin with `>`. What is wrong with an encoding is said on its
 //! line, and the first fault again on the last line, which begins with `!`; what came of it is the [`Verdict`]. Where
 //! the library reads otherwise than X.690, on purpose, lines show what X.690 has. What breaks a rule of DER has a mark
-//! at the end of its line, with the rules that `asn1_departures` finds, and [`push_strict_document`] lists it. [`push_fault_line`] puts the line of a fault
-//! that others find.
+//! at the end of its line, with the rules that `asn1_departures` finds, and [`push_strict_document`] lists it.
+//! [`push_fault_line`] puts the line of a fault that others find.
 //!
 //! [`push_label`] and [`push_refusal`] put the other lines of what is written: `=` and the label of a document, `!` and
 //! why there is none. [`block_at`] finds a block by its offset, and [`behind_header`] its contents octets.

@@ -3,7 +3,7 @@ ghost use Rattle.std.specs.Prelude.{◌≡◌, ◌↔◌, ◌+◌, ◌<◌, ◌�
 ghost use Rattle.asn1_headers.specs.Front.{HasIndefiniteForm, HasNoHeader, IsAtFront};
 ghost use Rattle.der_lines.specs.Dump.{begins_with_end, is_stray_form};
 ghost use Rattle.der_lines.specs.Headers.{is_gone_into};
-ghost use Rattle.der_lines.specs.Pieces.{IsFault, IsFirstPiece, IsLeafMeaning, IsNameless, IsNamed, IsOpenedFault, IsPiece};
+ghost use Rattle.der_lines.specs.Pieces.{IsFirstPiece, IsLeafMeaning, IsNameless, IsOpenedFault, IsPiece};
 ghost use Rattle.der_lines.specs.Pieces.{kind_contents, kind_header, kind_indefinite, kind_words};
 
 use crate::cursor::{Left, Step};

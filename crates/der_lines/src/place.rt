@@ -92,8 +92,8 @@ impl Place {
         })
     }
 
-    // That of octets inside a string which stands here; these stand at the offset of the document. One document fewer is
-    // shown in them.
+    // The place of octets inside a string which stands here; these stand at the offset of the document. One document
+    // fewer is shown in them.
     pub fn inside(self, offset: usize) -> Result<Place, AllocError>
         requires { 0 < self.documents }
         ensures inside { IfOk result (λ p. p.is_inside ≡ true) }

@@ -92,8 +92,8 @@ pub fn opened_text(
     Ok(said)
 }
 
-// What is said of an encoding that is cut short: how many of the contents octets are there that it announces, and which,
-// if they are no encodings.
+// What is said of an encoding that is cut short: how many of the contents octets are there that it announces, and
+// which, if they are no encodings.
 pub fn cut_text(
     alloc: Global,
     header: &Header,

@@ -1,30 +1,5 @@
 -- Each input has one output that answers it.
-use Rattle.std.proofs.Common.{
-  ◌≡◌,
-  ◌==◌,
-  ◌<◌,
-  ◌≤◌,
-  ◌^◌,
-  ◌++◌,
-  ◌⊎◌,
-  ℕ,
-  zero,
-  suc,
-  List,
-  [],
-  ◌∷◌,
-  length,
-  Result,
-  Ok,
-  Err,
-  inl,
-  inr,
-  refl,
-  sym,
-  ap,
-  ◌∙◌,
-  arith,
-}
+use Rattle.std.proofs.Common.{◌≡◌, ◌==◌, ◌<◌, ◌≤◌, ◌^◌, ◌++◌, ◌⊎◌, ℕ, zero, suc, List, [], ◌∷◌, length, Result, Ok, Err, inl, inr, refl, sym, ap, ◌∙◌, arith}
 use Rattle.std.specs.Prelude.{MatchResult, codes}
 use Rattle.std.proofs.lemmas.Bool.{cond_both}
 use Rattle.hex.specs.declared.error.FromHexError.{FromHexError}
@@ -64,7 +39,8 @@ lines_within (b ∷ input) (suc n) h =
     )) (λ _. onto_within b (lines_of input) n all)
 
 -- the octets of a line are fewer than its digits
-few_octets : (line octets : List ℕ) (n : ℕ) → length line ≤ n → n < 2 ^ 64 → decode_of line ≡ Ok octets → length octets < 2 ^ 64
+few_octets : (line octets : List ℕ) (n : ℕ) → length line ≤ n → n < 2 ^ 64 → decode_of line ≡ Ok octets →
+    length octets < 2 ^ 64
 few_octets line octets n within small is = omega (arith, within, small, (decode_of-ok line octets is).2)
 
 -- of all octets one thing is said
@@ -72,13 +48,16 @@ record Settled (reading : Reading) : Type 0 where
   either :
       (octets : List ℕ) → length octets < 2 ^ 64 →
       ((canonical : List ℕ) × IsAccepted reading octets canonical) ⊎ ((e : DecodeFault) × IsRefused reading octets e)
-  not_both : (octets a : List ℕ) (e : DecodeFault) → length octets < 2 ^ 64 → IsAccepted reading octets a → IsRefused reading octets e → ⊥
+  not_both : (octets a : List ℕ) (e : DecodeFault) → length octets < 2 ^ 64 → IsAccepted reading octets a →
+      IsRefused reading octets e → ⊥
   one : (octets a b : List ℕ) → IsAccepted reading octets a → IsAccepted reading octets b → a ≡ b
-  one_fault : (octets : List ℕ) (e d : DecodeFault) → length octets < 2 ^ 64 → IsRefused reading octets e → IsRefused reading octets d → e ≡ d
+  one_fault : (octets : List ℕ) (e d : DecodeFault) → length octets < 2 ^ 64 → IsRefused reading octets e →
+      IsRefused reading octets d → e ≡ d
 
 settled : Unambiguous → StrictReading → (reading : Reading) → Settled reading
 settled law strict Lenient = record {
-  either = λ octets small. elim (law.either octets small) [ inl d ↦ inl (all_canonical d.0, (d.0, d.1, refl)) | inr f ↦ inr f ];
+  either = λ octets small. elim (law.either octets small)
+      [ inl d ↦ inl (all_canonical d.0, (d.0, d.1, refl)) | inr f ↦ inr f ];
   not_both = λ octets a e small d f. law.not_both octets d.0 e small d.1 f;
   one = λ octets a b d e. d.2 ∙ (ap all_canonical (law.one_document octets d.0 e.0 d.1 e.1) ∙ sym e.2);
   one_fault = law.one_fault;
@@ -93,7 +72,8 @@ settled law strict Strict = record {
 one_verdict :
     (reading : Reading) → Settled reading → (octets a b : List ℕ) → length octets < 2 ^ 64 →
     IsVerdict reading octets a → IsVerdict reading octets b → a ≡ b
-one_verdict reading law octets a b small (inl d) (inl e) = d.2 ∙ (ap (λ s. codes "ok " ++ encode_upper s) (law.one octets d.0 e.0 d.1 e.1) ∙ sym e.2)
+one_verdict reading law octets a b small (inl d) (inl e) =
+    d.2 ∙ (ap (λ s. codes "ok " ++ encode_upper s) (law.one octets d.0 e.0 d.1 e.1) ∙ sym e.2)
 one_verdict reading law octets a b small (inl d) (inr f) = absurd (law.not_both octets d.0 f.0 small d.1 f.1)
 one_verdict reading law octets a b small (inr f) (inl d) = absurd (law.not_both octets d.0 f.0 small d.1 f.1)
 one_verdict reading law octets a b small (inr f) (inr g) =
@@ -102,14 +82,18 @@ one_verdict reading law octets a b small (inr f) (inr g) =
 some_verdict : (reading : Reading) → Settled reading → (octets : List ℕ) → length octets < 2 ^ 64
     → (answer : List ℕ) × IsVerdict reading octets answer
 some_verdict reading law octets small =
-    elim (law.either octets small) [ inl d ↦ (codes "ok " ++ encode_upper d.0, inl (d.0, d.1, refl)) | inr f ↦ (refusal f.0, inr (f.0, f.1, refl)) ]
+    elim (law.either octets small) [
+      | inl d ↦ (codes "ok " ++ encode_upper d.0, inl (d.0, d.1, refl))
+      | inr f ↦ (refusal f.0, inr (f.0, f.1, refl))
+    ]
 
 one_answer :
     (reading : Reading) → Settled reading → (line a b : List ℕ) (n : ℕ) → length line ≤ n → n < 2 ^ 64 →
     IsAnswer reading line a → IsAnswer reading line b → a ≡ b
 one_answer reading law line a b n within small u v = go (decode_of line) refl u v
   where
-    go : (r : Result (List ℕ) FromHexError) → decode_of line ≡ r → MatchResult r (λ octets. IsVerdict reading octets a) (λ _. a ≡ codes "badhex")
+    go : (r : Result (List ℕ) FromHexError) → decode_of line ≡ r →
+        MatchResult r (λ octets. IsVerdict reading octets a) (λ _. a ≡ codes "badhex")
         → MatchResult r (λ octets. IsVerdict reading octets b) (λ _. b ≡ codes "badhex") → a ≡ b
     go (Ok octets) is u v = one_verdict reading law octets a b (few_octets line octets n within small is) u v
     go (Err e) is u v = u ∙ sym v
@@ -125,7 +109,8 @@ some_answer reading law line n within small = go (decode_of line) refl
     go (Err e) is = (codes "badhex", refl)
 
 one_of_lines :
-    (reading : Reading) → Settled reading → (lines : List (List ℕ)) (a b : List ℕ) (n : ℕ) → AreWithin n lines → n < 2 ^ 64 →
+    (reading : Reading) → Settled reading → (lines : List (List ℕ)) (a b : List ℕ) (n : ℕ) → AreWithin n lines →
+    n < 2 ^ 64 →
     AreLineAnswers reading lines a → AreLineAnswers reading lines b → a ≡ b
 one_of_lines reading law [] a b n all small u v = u ∙ sym v
 one_of_lines reading law (line ∷ lines) a b n all small u v =
@@ -149,11 +134,13 @@ pub some_output :
     Unambiguous → StrictReading → (reading : Reading) (input : List ℕ) → length input < 2 ^ 64 →
     (output : List ℕ) × AreLineAnswers reading (lines_of input) output
 some_output law strict reading input small =
-    some_of_lines reading (settled law strict reading) (lines_of input) (length input) (lines_within input (length input) (omega arith)) small
+    some_of_lines reading (settled law strict reading) (lines_of input) (length input)
+    (lines_within input (length input) (omega arith)) small
 
 -- and no other
 pub one_output :
     Unambiguous → StrictReading → (reading : Reading) (input a b : List ℕ) → length input < 2 ^ 64 →
     AreLineAnswers reading (lines_of input) a → AreLineAnswers reading (lines_of input) b → a ≡ b
 one_output law strict reading input a b small u v =
-    one_of_lines reading (settled law strict reading) (lines_of input) a b (length input) (lines_within input (length input) (omega arith)) small u v
+    one_of_lines reading (settled law strict reading) (lines_of input) a b (length input)
+    (lines_within input (length input) (omega arith)) small u v

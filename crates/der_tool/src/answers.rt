@@ -1,14 +1,6 @@
 // The answers to lines, each a document in hex digits.
 ghost use Rattle.std.specs.Prelude.{◌≡◌, ◌++◌, ℕ, List, IfErr, IfOk, OnOk, string_bytes};
-ghost use Rattle.der_tool.specs.Answers.{
-  AreAnswers,
-  IsAccepted,
-  IsAnswer,
-  IsRefused,
-  IsVerdict,
-  number_after,
-  refusal,
-};
+ghost use Rattle.der_tool.specs.Answers.{AreAnswers, IsAccepted, IsAnswer, IsRefused, IsVerdict, number_after, refusal};
 ghost use Rattle.der_tool.specs.declared.answers.Reading.TheVariants.{Strict};
 ghost use Rattle.simple_asn1.specs.Fault.{OutOfMemoryOr, fault_of};
 

@@ -39,7 +39,8 @@ one_of false false false x y z bs f g h e = absurd (cc)
 
 pub string_utf8 : (tag : ℕ) (bs : List ℕ) → is_string tag bs ≡ true → IsUtf8 bs
 string_utf8 tag bs e =
-    one_of (tag == 18) (has_printed_characters tag) (is_iri tag) (list_all is_numeric bs) (list_all is_printed bs) (is_utf8 bs) bs
+    one_of (tag == 18) (has_printed_characters tag) (is_iri tag) (list_all is_numeric bs) (list_all is_printed bs)
+    (is_utf8 bs) bs
     (all_utf8 is_numeric numeric_small bs) (all_utf8 is_printed printed_small bs) (IsUtf8-from_is_utf8 bs) e
 
 pub no_utf8 : (bs : List ℕ) → (IsUtf8 bs → ⊥) → false ≡ is_utf8 bs

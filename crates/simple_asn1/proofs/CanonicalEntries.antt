@@ -38,7 +38,8 @@ here :
     (x y rest : List ℕ) (o : ℕ) (c : ASN1Class) (k : Bool) (n : ℕ) (v : List ℕ) (h : ℕ) → drop o x ≡ y ++ rest →
     Encoding y c k n v h → HasCanonicalAt x o → IsCanonicalEncoding y c k n v
 here x y rest o c k n v h s e there =
-    let same = encoding_alone there.octets y there.class c there.constructed k there.tag n there.contents v there.header h
+    let same = encoding_alone there.octets y there.class c there.constructed k there.tag n there.contents v there.header
+    h
     there.at_offset.rest rest there.encoding e (sym there.at_offset.at_offset ∙ s) in
     let q0 = there.canonical in
     let q1 = subst (λ z. IsCanonicalEncoding z there.class there.constructed there.tag there.contents) same.octets q0 in
@@ -73,7 +74,8 @@ rest_in : (x : List ℕ) (place : ℕ) (v first after rest : List ℕ) → drop 
     → drop (place + length first) x ≡ after ++ rest
 rest_in x place v first after rest s e =
     let size = length first in
-    let two : drop size (drop place x) ≡ drop (place + size) x = drop-drop size place x ∙ ap (λ z. drop z x) (omega arith) in
+    let two : drop size (drop place x) ≡ drop (place + size) x =
+    drop-drop size place x ∙ ap (λ z. drop z x) (omega arith) in
     sym two ∙ ap (drop size) (first_in x place v first after rest s e) ∙ drop_at first (after ++ rest) size refl
 
 -- a canonical encoding with other names of its fields
@@ -84,7 +86,8 @@ renamed c j k n v w y e p q = e ∙ ap (λ z. shortest_encoding c z n v) p ∙ a
 mutual
   node_canonical :
       (x : List ℕ) (n : Node) (y rest : List ℕ) → drop (tree_offset (node_tree n)) x ≡ y ++ rest →
-      Encodes (tree_offset (node_tree n)) y (node_tree n) → IsNode x n → AllStand x (node_in_order n) → y ≡ canonical (node_tree n)
+      Encodes (tree_offset (node_tree n)) y (node_tree n) → IsNode x n → AllStand x (node_in_order n) →
+      y ≡ canonical (node_tree n)
   node_canonical x (node (leaf o l) ns) y rest s e is all =
       let is_canonical = here x y rest o Universal e.1 (leaf_tag l) e.2 e.3 s e.4 all.0 in
       renamed Universal e.1 false (leaf_tag l) e.2 (leaf_contents l) y is_canonical.shortest
@@ -106,14 +109,16 @@ mutual
   node_canonical x (node (unknown c k o n v) ns) y rest s e is all = (here x y rest o c k n v e.1 s e.2 all.0).shortest
 
   nodes_canonical :
-      (x : List ℕ) (ns : Nodes) (place : ℕ) (v rest : List ℕ) → drop place x ≡ v ++ rest → EncodesAll place v (nodes_trees ns) →
+      (x : List ℕ) (ns : Nodes) (place : ℕ) (v rest : List ℕ) → drop place x ≡ v ++ rest →
+      EncodesAll place v (nodes_trees ns) →
       AreNodes x ns → AllStand x (nodes_in_order ns) → v ≡ all_canonical (nodes_trees ns)
   nodes_canonical x no_nodes place v rest s e are all = e
   nodes_canonical x (more_nodes n ns) place v rest s e are all =
       let both = parted x (node_in_order n) (nodes_in_order ns) all in
       let at = encodes_offset place e.first (node_tree n) e.item in
       let front = first_in x place v e.first e.rest rest s e.whole in
-      let first = node_canonical x n e.first (e.rest ++ rest) (subst (λ z. drop z x ≡ e.first ++ (e.rest ++ rest)) (sym at) front)
+      let first = node_canonical x n e.first (e.rest ++ rest)
+      (subst (λ z. drop z x ≡ e.first ++ (e.rest ++ rest)) (sym at) front)
       (subst (λ z. Encodes z e.first (node_tree n)) (sym at) e.item) are.0 both.0 in
       let behind = rest_in x place v e.first e.rest rest s e.whole in
       let later = nodes_canonical x ns (place + length e.first) e.rest rest behind e.items are.1 both.1 in
@@ -122,7 +127,8 @@ mutual
 -- the octets of a document all of whose entries are found to be canonical
 pub entries_canonical :
     (x : List ℕ) (bs cs : Trees ℕ) (rs : List Entry) → AreEntriesOf x bs rs →
-    ((k : ℕ) → k < length rs → HasCanonicalAt x (get_or rs k no_entry).offset) → IsDocument x cs → IsDocument x bs → x ≡ all_canonical cs
+    ((k : ℕ) → k < length rs → HasCanonicalAt x (get_or rs k no_entry).offset) → IsDocument x cs → IsDocument x bs →
+    x ≡ all_canonical cs
 entries_canonical x bs cs rs are all d e =
     let ns = are.nodes in
     let order = nodes_in_order ns in
@@ -141,7 +147,8 @@ pub header_of :
 header_of x bs rs are k h =
     let order = nodes_in_order are.nodes in
     let depths = nodes_depths 0 are.nodes in
-    (entry_at x 0 order depths rs are.entries k (omega (arith, h, entries_length x 0 order depths rs are.entries))).header
+    (entry_at x 0 order depths rs are.entries k
+    (omega (arith, h, entries_length x 0 order depths rs are.entries))).header
 
 -- the slice where octets stand
 slice_at : (x v rest : List ℕ) (s e : ℕ) → drop s x ≡ v ++ rest → length v ≡ e - s → slice_range x s e ≡ v
@@ -211,17 +218,22 @@ module _ (x y v : List ℕ) (r : Entry) (n : ℕ) (at : EncodingAt x r.offset y)
       let i = e.identifier in
       let l = e.len in
       let one : length (shortest_identifier r.class r.constructed n) ≡ 1 =
-      ap length (sym (cond_below n 31 (leading_octet r.class r.constructed n ∷ []) (leading_octet r.class r.constructed 31 ∷ shortest_base128 n) low)) in
+      ap length (sym (cond_below n 31 (leading_octet r.class r.constructed n ∷ [])
+      (leading_octet r.class r.constructed 31 ∷ shortest_base128 n) low)) in
       let place : r.offset + (r.header - 1) ≡ r.offset + r.header - 1 = omega (arith, two_octets) in
       let last : get_or (drop r.offset x) (r.header - 1) 0 ≡ get_or x (r.offset + r.header - 1) 0 =
       get_or-drop r.offset x (r.header - 1) 0 ∙ ap (λ z. get_or x z 0) place in
-      let not : length v ≡ 0 → get_or (drop r.offset x) (r.header - 1) 0 ≢ 128 = λ none is. other (size ∙ none) (sym last ∙ is) in
-      let count : length (shortest_identifier r.class r.constructed n) + length (shortest_length (length v)) ≡ r.header =
+      let not : length v ≡ 0 →
+      get_or (drop r.offset x) (r.header - 1) 0 ≢ 128 = λ none is. other (size ∙ none) (sym last ∙ is) in
+      let count : length (shortest_identifier r.class r.constructed n) + length (shortest_length (length v))
+      ≡ r.header =
       omega (arith, one, same, ap (λ z. length (shortest_length z)) size) in
-      let begins = shortest_front (drop r.offset x) header_of_fields (All-drop (λ b. b < 256) r.offset x all) at_front not count in
+      let begins = shortest_front (drop r.offset x) header_of_fields (All-drop (λ b. b < 256) r.offset x all) at_front
+      not count in
       let si = shortest_identifier r.class r.constructed n in
       let sl = shortest_length (length v) in
-      e.whole ∙ sym (append_assoc i l v) ∙ ap (λ z. z ++ v) (sym at_front.front_is ∙ begins.shortest) ∙ append_assoc si sl v
+      e.whole ∙ sym (append_assoc i l v) ∙ ap (λ z. z ++ v) (sym at_front.front_is ∙ begins.shortest)
+      ∙ append_assoc si sl v
 
 -- so of an entry whose header has no more
 pub shortest_at :
@@ -252,7 +264,8 @@ pub entry_header : (x : List ℕ) (r : Entry) → HasHeaderAt x r → 2 ≤ r.he
 entry_header x r (y, at, h) = two_octets x y h.contents r h.tag at h.contents_field h.encoding
 
 -- a canonical SEQUENCE or SET, leaf, and encoding of another class
-canonical_at : (x : List ℕ) (r : Entry) → (s : HasShortestAt x r) → IsCanonicalEncoding s.octets r.class r.constructed r.tag s.contents
+canonical_at : (x : List ℕ) (r : Entry) → (s : HasShortestAt x r) →
+    IsCanonicalEncoding s.octets r.class r.constructed r.tag s.contents
     → HasCanonicalAt x r.offset
 canonical_at x r s is = record {
   octets = s.octets;
@@ -266,7 +279,8 @@ canonical_at x r s is = record {
   canonical = is;
 }
 
-pub group_at : (x : List ℕ) (r : Entry) → HasShortestAt x r → (r.tag ≡ 16) ⊎ (r.tag ≡ 17) → r.constructed ≡ true → HasCanonicalAt x r.offset
+pub group_at : (x : List ℕ) (r : Entry) → HasShortestAt x r → (r.tag ≡ 16) ⊎ (r.tag ≡ 17) → r.constructed ≡ true →
+    HasCanonicalAt x r.offset
 group_at x r s is constructed = canonical_at x r s (record {
   shortest = s.shortest;
   group = λ u g t. constructed;
@@ -281,7 +295,8 @@ group_at x r s is constructed = canonical_at x r s (record {
     ]
 
 pub leaf_at :
-    (x w : List ℕ) (r : Entry) → HasShortestAt x r → r.constructed ≡ false → w ≡ slice_range x (r.offset + r.header) (r.offset + r.header + r.contents) →
+    (x w : List ℕ) (r : Entry) → HasShortestAt x r → r.constructed ≡ false →
+    w ≡ slice_range x (r.offset + r.header) (r.offset + r.header + r.contents) →
     AreCanonicalContents Universal false r.tag w → HasCanonicalAt x r.offset
 leaf_at x w r s primitive is keeps =
     let there : w ≡ s.contents = is ∙ contents_there x s.octets s.contents r r.tag s.at_offset s.size s.encoding in

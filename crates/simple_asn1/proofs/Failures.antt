@@ -93,7 +93,8 @@ mutual
   -- a tree is faithful if each block of it is faithful alone
   pub faithful_of_all : (t : Tree ℕ) → All IsFaithfulAlone (in_order t) → IsFaithful t
   faithful_of_all (leaf o l) h = All-head IsFaithfulAlone (leaf o l) [] h
-  faithful_of_all (group o g bs) h = all_faithful_of_all bs (All-tail IsFaithfulAlone (group o g bs) (all_in_order bs) h)
+  faithful_of_all (group o g bs) h =
+      all_faithful_of_all bs (All-tail IsFaithfulAlone (group o g bs) (all_in_order bs) h)
   faithful_of_all (explicit class o tag b) h = (
     All-head IsFaithfulAlone (explicit class o tag b) (in_order b) h,
     faithful_of_all b (All-tail IsFaithfulAlone (explicit class o tag b) (in_order b) h),
@@ -111,7 +112,8 @@ mutual
   -- and then each is
   pub all_of_faithful : (t : Tree ℕ) → IsFaithful t → All IsFaithfulAlone (in_order t)
   all_of_faithful (leaf o l) f = All-cons IsFaithfulAlone (leaf o l) [] f (All-nil IsFaithfulAlone)
-  all_of_faithful (group o g bs) f = All-cons IsFaithfulAlone (group o g bs) (all_in_order bs) tt (all_of_all_faithful bs f)
+  all_of_faithful (group o g bs) f =
+      All-cons IsFaithfulAlone (group o g bs) (all_in_order bs) tt (all_of_all_faithful bs f)
   all_of_faithful (explicit class o tag b) f =
       All-cons IsFaithfulAlone (explicit class o tag b) (in_order b) f.0 (all_of_faithful b f.1)
   all_of_faithful (unknown class k o tag contents) f =
@@ -150,13 +152,15 @@ same_place (x ∷ xs) (y ∷ ys) s t after rest a b e n m f g =
 -- a tree has one first failure
 pub one_failure : (t : Tree ℕ) (i j : ℕ) (a b : Unfaithful) → FailsFirst t i a → FailsFirst t j b → (i ≡ j) × (a ≡ b)
 one_failure t i j a b h k =
-    let s = same_place h.before k.before h.failing k.failing h.after k.after a b (sym h.order ∙ k.order) h.none_before k.none_before
+    let s = same_place h.before k.before h.failing k.failing h.after k.after a b (sym h.order ∙ k.order) h.none_before
+    k.none_before
     h.fails k.fails in
     (h.index_is ∙ (s.0 ∙ sym k.index_is), s.1)
 
 -- the trees up to a place are faithful alone, and the one there fails
 pub fails_here :
-    (t d : Tree ℕ) (order : List (Tree ℕ)) (index : ℕ) (reason : Unfaithful) → order ≡ in_order t → index < length order →
+    (t d : Tree ℕ) (order : List (Tree ℕ)) (index : ℕ) (reason : Unfaithful) → order ≡ in_order t →
+    index < length order →
     All IsFaithfulAlone (take index order) → FailsBy (get_or order index d) reason → FailsFirst t index reason
 fails_here t d order index reason e l h f = record {
   before = take index order;
@@ -190,13 +194,15 @@ tree_there order i b is = ap (λ (z : Bor ASN1Block). view z.now) is ∙ sym (ge
 -- one more block is faithful alone
 pub more_alone :
     (order : List (Bor ASN1Block)) (i : ℕ) (b : Bor ASN1Block) → i < length order → b ≡ get_or order i b →
-    All IsFaithfulAlone (take i (trees_of order)) → IsFaithfulAlone (view b.now) → All IsFaithfulAlone (take (i + 1) (trees_of order))
+    All IsFaithfulAlone (take i (trees_of order)) → IsFaithfulAlone (view b.now) →
+    All IsFaithfulAlone (take (i + 1) (trees_of order))
 more_alone order i b l is h f =
     All-more IsFaithfulAlone (trees_of order) i (view b.now) (omega (arith, l, length-trees_of order)) h
     (subst IsFaithfulAlone (tree_there order i b is) f)
 
 -- the order of one block
-one_order : (t : Tree ℕ) (order : List (Bor ASN1Block)) → trees_of order ≡ all_in_order (more_trees t no_trees) → trees_of order ≡ in_order t
+one_order : (t : Tree ℕ) (order : List (Bor ASN1Block)) → trees_of order ≡ all_in_order (more_trees t no_trees) →
+    trees_of order ≡ in_order t
 one_order t order e = e ∙ append-nil (in_order t)
 
 -- this one fails
@@ -205,12 +211,14 @@ pub found_here :
     trees_of order ≡ all_in_order (more_trees t no_trees) → i < length order → b ≡ get_or order i b →
     All IsFaithfulAlone (take i (trees_of order)) → FailsBy (view b.now) reason → FailsFirst t i reason
 found_here t order i b reason e l is h f =
-    fails_here t (view b.now) (trees_of order) i reason (one_order t order e) (omega (arith, l, length-trees_of order)) h
+    fails_here t (view b.now) (trees_of order) i reason (one_order t order e) (omega (arith, l, length-trees_of order))
+    h
     (subst (λ z. FailsBy z reason) (tree_there order i b is) f)
 
 -- none fails
 pub none_found :
-    (t : Tree ℕ) (order : List (Bor ASN1Block)) (i : ℕ) → trees_of order ≡ all_in_order (more_trees t no_trees) → length order ≤ i →
+    (t : Tree ℕ) (order : List (Bor ASN1Block)) (i : ℕ) → trees_of order ≡ all_in_order (more_trees t no_trees) →
+    length order ≤ i →
     All IsFaithfulAlone (take i (trees_of order)) → IsFaithful t
 none_found t order i e l h =
     let all : All IsFaithfulAlone (trees_of order) =
@@ -218,7 +226,8 @@ none_found t order i e l h =
     faithful_of_all t (subst (All IsFaithfulAlone) (one_order t order e) all)
 
 -- and the error that names it is one
-pub same_error : (t : Tree ℕ) (i j : ℕ) (a b : Unfaithful) → FailsFirst t i a → FailsFirst t j b → NotFaithful i a ≡ NotFaithful j b
+pub same_error : (t : Tree ℕ) (i j : ℕ) (a b : Unfaithful) → FailsFirst t i a → FailsFirst t j b →
+    NotFaithful i a ≡ NotFaithful j b
 same_error t i j a b h k =
     let one = one_failure t i j a b h k in
     ap (λ n. NotFaithful n a) one.0 ∙ ap (NotFaithful j) one.1

@@ -76,7 +76,8 @@ made_of_several class tag xs t several e writable small = subst (IsMadeOf class 
       let no_block : IsBlock (all_canonical (views xs)) → ⊥ = λ b.
       several
       (sym (placed_count 0 (views xs) ∙ count_views xs)
-      ∙ one_block 0 (all_canonical (views xs)) (all_placed 0 (views xs)) (all_canonical_encodes 0 (views xs) small f) b) in
+      ∙ one_block 0 (all_canonical (views xs)) (all_placed 0 (views xs)) (all_canonical_encodes 0 (views xs) small f)
+      b) in
       inr (ne, λ p. no_block p.1);
 }
 
@@ -99,7 +100,8 @@ made_of class tag (x ∷ y ∷ xs) (Ok b) one other =
     made_of_several class tag (x ∷ y ∷ xs) (view b) more h.0 h.1 h.2
 
 pub made_from :
-    (class : ASN1Class) (tag number : ℕ) (xs held : List ASN1Block) (r : Result ASN1Block ASN1EncodeErr) → held ≡ xs → number ≡ tag →
+    (class : ASN1Class) (tag number : ℕ) (xs held : List ASN1Block) (r : Result ASN1Block ASN1EncodeErr) → held ≡ xs →
+    number ≡ tag →
     ((item : ASN1Block) → held ≡ item ∷ [] → IfOk r (λ b. view b ≡ explicit class 0 number (view item))) →
     (length held ≢ 1 → IfOk r (λ b. (view b ≡ unknown class true 0 number (all_canonical (views held)))
     × (first_write_fault (views held) ≡ None) × FitInSlice (all_canonical (views held)))) →

@@ -20,7 +20,6 @@ use Rattle.simple_asn1.specs.Canonical.{shortest_encoding, canonical, all_canoni
 use Rattle.asn1_blocks.specs.Grammar.{Encodes, EncodesAll}
 use Rattle.asn1_blocks.specs.Places.{joined}
 use Rattle.simple_asn1.specs.Inner.InPlace.{AreCanonical, AreCanonicalContents, BeginsShortest, IsOfGroup, LeavesBoth}
-use Rattle.std.proofs.lemmas.Bool.Decides.{nat_tests}
 use Rattle.asn1_headers.proofs.Prefixes.{encoding_alone, identifier_alone, identifier_some, length_alone, same_split}
 use Rattle.asn1_blocks.proofs.OneReading.{block_some, encodes_block, only}
 use Rattle.asn1_blocks.proofs.Faults.{block_encoding}
@@ -35,7 +34,8 @@ regroup i s c x = sym (append_assoc i (s ++ c) x ∙ ap (λ z. i ++ z) (append_a
 joined_canonical : (xs ys : Trees ℕ) → all_canonical (joined xs ys) ≡ all_canonical xs ++ all_canonical ys
 joined_canonical no_trees ys = refl
 joined_canonical (more_trees b xs) ys =
-    ap (λ z. canonical b ++ z) (joined_canonical xs ys) ∙ sym (append_assoc (canonical b) (all_canonical xs) (all_canonical ys))
+    ap (λ z. canonical b ++ z) (joined_canonical xs ys)
+    ∙ sym (append_assoc (canonical b) (all_canonical xs) (all_canonical ys))
 
 -- an encoding whose header is canonical, and what stands there in place of its contents octets
 record Front (s contents own r rest : List ℕ) (c d : ASN1Class) (j k : Bool) (n p m : ℕ) : Type 0 where
@@ -53,13 +53,17 @@ front :
     x ≡ shortest_identifier d k p ++ (shortest_length m ++ (own ++ rest)) →
     Front s contents own r rest c d j k n p m
 front x s r contents own rest c d j k n p h m w F small e =
-    let e1 : F.identifier ++ (F.len ++ (contents ++ r)) ≡ shortest_identifier d k p ++ (shortest_length m ++ (own ++ rest)) =
+    let e1 : F.identifier ++ (F.len ++ (contents ++ r)) ≡ shortest_identifier d k p
+    ++ (shortest_length m ++ (own ++ rest)) =
     regroup F.identifier F.len contents r ∙ (ap (λ z. z ++ r) (sym F.whole) ∙ (sym w ∙ e)) in
-    let t = identifier_alone F.identifier (shortest_identifier d k p) (F.len ++ (contents ++ r)) (shortest_length m ++ (own ++ rest)) c d j k n p
+    let t = identifier_alone F.identifier (shortest_identifier d k p) (F.len ++ (contents ++ r))
+    (shortest_length m ++ (own ++ rest)) c d j k n p
     F.identifier_octets (shortest_identifier_is d k p) e1 in
-    let l = length_alone F.len (shortest_length m) (contents ++ r) (own ++ rest) (length contents) m F.length_octets (shortest_length_is m small) t.rest in
+    let l = length_alone F.len (shortest_length m) (contents ++ r) (own ++ rest) (length contents) m F.length_octets
+    (shortest_length_is m small) t.rest in
     record {
-      encoding = F.whole ∙ (ap (λ z. z ++ (F.len ++ contents)) t.octets ∙ (ap (λ z. shortest_identifier d k p ++ (z ++ contents)) l.octets ∙
+      encoding = F.whole ∙ (ap (λ z. z ++ (F.len ++ contents)) t.octets
+          ∙ (ap (λ z. shortest_identifier d k p ++ (z ++ contents)) l.octets ∙
           ap (λ z. shortest_identifier d k p ++ (shortest_length z ++ contents)) (sym l.number)));
       whole = l.rest;
       size = l.number;
@@ -74,7 +78,8 @@ all_front :
     y ++ z ≡ all_canonical bs ++ w → (y ≡ all_canonical bs) × (z ≡ w)
 all_front o y z w no_trees small s e = (s, ap (λ q. q ++ z) (sym s) ∙ e)
 all_front o y z w (more_trees b bs) small s e =
-    let d : s.first ++ (s.rest ++ z) ≡ canonical b ++ (all_canonical bs ++ w) = sym (append_assoc s.first s.rest z) ∙ (ap (λ q. q ++ z) (sym s.whole) ∙
+    let d : s.first ++ (s.rest ++ z) ≡ canonical b ++ (all_canonical bs ++ w) =
+    sym (append_assoc s.first s.rest z) ∙ (ap (λ q. q ++ z) (sym s.whole) ∙
     (e ∙ append_assoc (canonical b) (all_canonical bs) w)) in
     let n : length (y ++ z) ≡ length s.first + length (s.rest ++ z) =
     ap length (ap (λ q. q ++ z) s.whole ∙ append_assoc s.first s.rest z) ∙ length-append s.first (s.rest ++ z) in
@@ -90,7 +95,13 @@ all_front o y z w (more_trees b bs) small s e =
 pub none_canonical : (x : List ℕ) → length x ≡ 0 → AreCanonical x
 none_canonical x none o no_trees s = s
 none_canonical x none o (more_trees b bs) s =
-    absurd (omega (arith, none, block_some s.first (encodes_block o s.first b s.item), ap length s.whole, length-append s.first s.rest))
+    absurd (omega (
+      arith,
+      none,
+      block_some s.first (encodes_block o s.first b s.item),
+      ap length s.whole,
+      length-append s.first s.rest,
+    ))
 
 -- encodings of the same fields and contents octets are the same
 same_encoding : (c d : ASN1Class) (j k : Bool) (m n : ℕ) (v w : List ℕ) → c ≡ d → j ≡ k → m ≡ n → v ≡ w
@@ -99,7 +110,8 @@ same_encoding c d j k m n v w p q r s = ap (λ z. shortest_encoding z j m v) p �
     ∙ (ap (λ z. shortest_encoding d k z v) r ∙ ap (λ z. shortest_encoding d k n z) s))
 
 -- a canonical encoding, and canonical octets after it
-both : (o : ℕ) (x s r rest written : List ℕ) (bs : Trees ℕ) → x ≡ s ++ r → EncodesAll o r bs → s ≡ written → r ≡ rest → AreCanonical rest
+both : (o : ℕ) (x s r rest written : List ℕ) (bs : Trees ℕ) → x ≡ s ++ r → EncodesAll o r bs → s ≡ written → r ≡ rest →
+    AreCanonical rest
     → x ≡ written ++ all_canonical bs
 both o x s r rest written bs w t here then after =
     w ∙ (ap (λ z. z ++ r) here ∙ ap (λ z. written ++ z) (then ∙ after o bs (subst (λ z. EncodesAll o z bs) then t)))
@@ -110,11 +122,19 @@ own_small : (x own rest : List ℕ) (c : ASN1Class) (k : Bool) (n : ℕ) → len
 own_small x own rest c k n few e =
     let i = shortest_identifier c k n in
     let l = shortest_length (length own) in
-    omega (arith, few, ap length e, length-append i (l ++ (own ++ rest)), length-append l (own ++ rest), length-append own rest)
+    omega (
+      arith,
+      few,
+      ap length e,
+      length-append i (l ++ (own ++ rest)),
+      length-append l (own ++ rest),
+      length-append own rest,
+    )
 
 -- past an encoding that is no SEQUENCE or SET
 past : (x own rest : List ℕ) (c : ASN1Class) (k : Bool) (n : ℕ) → length x < 2 ^ 64 → AreCanonicalContents c k n own
-    → x ≡ shortest_identifier c k n ++ (shortest_length (length own) ++ (own ++ rest)) → AreCanonical rest → AreCanonical x
+    → x ≡ shortest_identifier c k n ++ (shortest_length (length own) ++ (own ++ rest)) → AreCanonical rest →
+    AreCanonical x
 past x own rest c k n few keeps e after o no_trees s = s
 past x own rest c k n few keeps e after o (more_trees (leaf p l) bs) s =
     let one = s.item in
@@ -137,9 +157,12 @@ past x own rest c k n few keeps e after o (more_trees (explicit d p m b) bs) s =
     let q = same_split one.2 own s.rest rest f.size f.whole in
     let within = keeps.within (λ u. one.1 (f.class ∙ u)) (sym f.constructed) in
     let place = o + one.3 in
-    let item : EncodesAll place own (more_trees b no_trees) = only place own b (subst (λ z. Encodes place z b) q.0 one.5) in
+    let item : EncodesAll place own (more_trees b no_trees) =
+    only place own b (subst (λ z. Encodes place z b) q.0 one.5) in
     let written : own ≡ canonical b = within place (more_trees b no_trees) item ∙ append-nil (canonical b) in
-    let here = f.encoding ∙ same_encoding c d k true n m one.2 (canonical b) (sym f.class) (sym f.constructed) (sym f.tag) (q.0 ∙ written) in
+    let here = f.encoding
+    ∙ same_encoding c d k true n m one.2 (canonical b) (sym f.class) (sym f.constructed) (sym f.tag)
+    (q.0 ∙ written) in
     both (o + length s.first) x s.first s.rest rest (canonical (explicit d p m b)) bs s.whole s.items here q.1 after
 past x own rest c k n few keeps e after o (more_trees (unknown d j p m v) bs) s =
     let one = s.item in
@@ -151,11 +174,13 @@ past x own rest c k n few keeps e after o (more_trees (unknown d j p m v) bs) s 
 
 -- into a SEQUENCE or SET
 into : (x rest : List ℕ) (g : GroupKind) (m : ℕ) → length x < 2 ^ 64 → m < 2 ^ 64
-    → x ≡ shortest_identifier Universal true (group_tag g) ++ (shortest_length m ++ rest) → AreCanonical rest → AreCanonical x
+    → x ≡ shortest_identifier Universal true (group_tag g) ++ (shortest_length m ++ rest) → AreCanonical rest →
+    AreCanonical x
 into x rest g m few small e after o no_trees s = s
 into x rest g m few small e after o (more_trees (leaf p l) bs) s =
     let one = s.item in
-    let f = front x s.first s.rest one.2 [] rest Universal Universal one.1 true (leaf_tag l) (group_tag g) one.3 m s.whole one.4
+    let f = front x s.first s.rest one.2 [] rest Universal Universal one.1 true (leaf_tag l) (group_tag g) one.3 m
+    s.whole one.4
     small e in
     absurd (leaf_no_group l g f.tag)
 into x rest g m few small e after o (more_trees (explicit d p n b) bs) s =
@@ -171,7 +196,8 @@ into x rest g m few small e after o (more_trees (group p h held) bs) s =
     let contents = one.2 in
     let r = s.rest in
     let place = o + one.3 in
-    let f = front x s.first r contents [] rest Universal Universal one.1 true (group_tag h) (group_tag g) one.3 m s.whole one.4
+    let f = front x s.first r contents [] rest Universal Universal one.1 true (group_tag h) (group_tag g) one.3 m
+    s.whole one.4
     small e in
     let F = one.4 in
     let size : o + length s.first ≡ place + length contents = omega (
@@ -181,12 +207,17 @@ into x rest g m few small e after o (more_trees (group p h held) bs) s =
       length-append F.identifier (F.len ++ contents),
       length-append F.len contents,
     ) in
-    let fits : length (contents ++ r) < 2 ^ 64 = omega (arith, few, size, ap length s.whole, length-append s.first r, length-append contents r) in
+    let fits : length (contents ++ r) < 2 ^ 64 =
+    omega (arith, few, size, ap length s.whole, length-append s.first r, length-append contents r) in
     let all : EncodesAll place (contents ++ r) (joined held bs) =
     encodes_joined place contents r held bs one.5 (subst (λ z. EncodesAll z r bs) size s.items) in
-    let written = f.whole ∙ (after place (joined held bs) (subst (λ z. EncodesAll place z (joined held bs)) f.whole all) ∙ joined_canonical held bs) in
+    let written = f.whole
+    ∙ (after place (joined held bs) (subst (λ z. EncodesAll place z (joined held bs)) f.whole all)
+    ∙ joined_canonical held bs) in
     let v = all_front place contents r (all_canonical bs) held fits one.5 written in
-    let here = f.encoding ∙ same_encoding Universal Universal true true (group_tag g) (group_tag h) contents (all_canonical held) refl refl (sym f.tag) v.0 in
+    let here = f.encoding
+    ∙ same_encoding Universal Universal true true (group_tag g) (group_tag h) contents (all_canonical held) refl
+    refl (sym f.tag) v.0 in
     s.whole ∙ (ap (λ z. z ++ r) here ∙ ap (λ z. canonical (group p h held) ++ z) v.1)
 
 -- length octets are some
@@ -200,7 +231,8 @@ length_some n =
     ]
 
 -- a header takes two octets or more
-fewer : (x own rest : List ℕ) (c : ASN1Class) (k : Bool) (n m : ℕ) → x ≡ shortest_identifier c k n ++ (shortest_length m ++ (own ++ rest))
+fewer : (x own rest : List ℕ) (c : ASN1Class) (k : Bool) (n m : ℕ) →
+    x ≡ shortest_identifier c k n ++ (shortest_length m ++ (own ++ rest))
     → length own + length rest + 2 ≤ length x
 fewer x own rest c k n m e =
     let i = shortest_identifier c k n in
@@ -216,7 +248,8 @@ fewer x own rest c k n m e =
     )
 
 -- contents octets of a tag without a rule
-pub unruled : (c : ASN1Class) (k : Bool) (n : ℕ) (own : List ℕ) → (c ≡ Universal → is_known_tag n ≡ false) → (c ≢ Universal → k ≡ true → ⊥)
+pub unruled : (c : ASN1Class) (k : Bool) (n : ℕ) (own : List ℕ) → (c ≡ Universal → is_known_tag n ≡ false) →
+    (c ≢ Universal → k ≡ true → ⊥)
     → AreCanonicalContents c k n own
 unruled c k n own plain closed = record {
   no_group = λ u g e. false≢true (sym (plain u) ∙ ap is_known_tag e ∙ group_known g);
@@ -227,7 +260,8 @@ unruled c k n own plain closed = record {
 
 -- what an encoding leaves that holds no octets to be gone over
 leaves : (x own rest : List ℕ) (c : ASN1Class) (k : Bool) (n : ℕ) → length x < 2 ^ 64
-    → x ≡ shortest_identifier c k n ++ (shortest_length (length own) ++ (own ++ rest)) → AreCanonicalContents c k n own → LeavesBoth x [] rest
+    → x ≡ shortest_identifier c k n ++ (shortest_length (length own) ++ (own ++ rest)) →
+    AreCanonicalContents c k n own → LeavesBoth x [] rest
 leaves x own rest c k n few e keeps = record {
   canonical = λ none after. past x own rest c k n few keeps e after;
   fewer = omega (arith, fewer x own rest c k n (length own) e);
@@ -235,7 +269,8 @@ leaves x own rest c k n few e keeps = record {
 
 -- one of another class leaves its contents octets
 leaves_within : (x own rest : List ℕ) (c : ASN1Class) (k : Bool) (n : ℕ) → length x < 2 ^ 64
-    → x ≡ shortest_identifier c k n ++ (shortest_length (length own) ++ (own ++ rest)) → c ≢ Universal → LeavesBoth x own rest
+    → x ≡ shortest_identifier c k n ++ (shortest_length (length own) ++ (own ++ rest)) → c ≢ Universal →
+    LeavesBoth x own rest
 leaves_within x own rest c k n few e other = record {
   canonical = λ inside after. past x own rest c k n few (record {
     no_group = λ u. absurd (other u);
@@ -254,12 +289,9 @@ leaves_group x rest g m few small e = record {
   fewer = fewer x [] rest Universal true (group_tag g) m e;
 }
 
--- tag numbers from 31 on have no rule
-pub high_tag : (n : ℕ) → 31 ≤ n → is_known_tag n ≡ false
-high_tag n high = grind (arith, nat_tests, high)
-
 -- the last octet of a header whose length octets are 80 alone
-last_octet : (x i l : List ℕ) (size : ℕ) → size ≤ length x → take size x ≡ i ++ l → l ≡ 128 ∷ [] → get_or x (size - 1) 0 ≡ 128
+last_octet : (x i l : List ℕ) (size : ℕ) → size ≤ length x → take size x ≡ i ++ l → l ≡ 128 ∷ [] →
+    get_or x (size - 1) 0 ≡ 128
 last_octet x i l size within front one =
     let f : take size x ≡ i ++ 128 ∷ [] = front ∙ ap (λ z. i ++ z) one in
     let n = length-take-le size x within in
@@ -283,7 +315,8 @@ parts : (x i l : List ℕ) (size : ℕ) → All (λ b. b < 256) x → take size 
 parts x i l size all whole =
     let front : All (λ b. b < 256) (i ++ l) = subst (All (λ b. b < 256)) whole (All-take (λ b. b < 256) size x all) in
     record {
-      identifier = subst (All (λ b. b < 256)) (take-append_seam i l) (All-take (λ b. b < 256) (length i) (i ++ l) front);
+      identifier = subst (All (λ b. b < 256)) (take-append_seam i l)
+          (All-take (λ b. b < 256) (length i) (i ++ l) front);
       len = subst (All (λ b. b < 256)) (drop-append_seam i l) (All-drop (λ b. b < 256) (length i) (i ++ l) front);
     }
 
@@ -303,8 +336,10 @@ shortest_fits x h all f =
     )
 
 -- a header with no more octets than these
-pub shortest_front : (x : List ℕ) (h : Header) → All (λ b. b < 256) x → IsAtFront x h → (h.announced ≡ 0 → get_or x (h.size - 1) 0 ≢ 128)
-    → length (shortest_identifier h.class h.constructed h.tag) + length (shortest_length h.announced) ≡ h.size → BeginsShortest x h
+pub shortest_front : (x : List ℕ) (h : Header) → All (λ b. b < 256) x → IsAtFront x h →
+    (h.announced ≡ 0 → get_or x (h.size - 1) 0 ≢ 128)
+    → length (shortest_identifier h.class h.constructed h.tag) + length (shortest_length h.announced) ≡ h.size →
+    BeginsShortest x h
 shortest_front x h all f other same =
     let i = f.identifier in
     let l = f.len in
@@ -317,7 +352,8 @@ shortest_front x h all f other same =
     record {
       within = f.within;
       shortest = f.front_is ∙ ap₂ (λ s t. s ++ t)
-          (shortest_identifier_only i h.class h.constructed h.tag p.identifier f.fields (omega (arith, size, a, b, same)))
+          (shortest_identifier_only i h.class h.constructed h.tag p.identifier f.fields
+          (omega (arith, size, a, b, same)))
           (shortest_length_only l h.announced p.len not f.length_octets (omega (arith, size, a, b, same)));
     }
 
@@ -331,15 +367,18 @@ shortest_whole x rest h f behind =
     ∙ (ap (λ z. z ++ drop h.size x) f.shortest ∙ (ap (λ z. (i ++ l) ++ z) (sym behind) ∙ append_assoc i l rest))
 
 -- an encoding of it, whose contents octets are there
-pub own_whole : (x rest own after : List ℕ) (h : Header) → BeginsShortest x h → rest ≡ drop h.size x → rest ≡ own ++ after → length own ≡ h.announced
+pub own_whole : (x rest own after : List ℕ) (h : Header) → BeginsShortest x h → rest ≡ drop h.size x →
+    rest ≡ own ++ after → length own ≡ h.announced
     → x ≡ shortest_identifier h.class h.constructed h.tag ++ (shortest_length (length own) ++ (own ++ after))
 own_whole x rest own after h f behind whole size =
     let i = shortest_identifier h.class h.constructed h.tag in
     shortest_whole x rest h f behind
-    ∙ (ap (λ z. i ++ (shortest_length h.announced ++ z)) whole ∙ ap (λ z. i ++ (shortest_length z ++ (own ++ after))) (sym size))
+    ∙ (ap (λ z. i ++ (shortest_length h.announced ++ z)) whole
+    ∙ ap (λ z. i ++ (shortest_length z ++ (own ++ after))) (sym size))
 
 -- a SEQUENCE or SET leaves all octets after it
-pub past_group : (x rest : List ℕ) (h : Header) → length x < 2 ^ 64 → h.announced < 2 ^ 64 → BeginsShortest x h → rest ≡ drop h.size x
+pub past_group : (x rest : List ℕ) (h : Header) → length x < 2 ^ 64 → h.announced < 2 ^ 64 → BeginsShortest x h →
+    rest ≡ drop h.size x
     → IsOfGroup h → LeavesBoth x [] rest
 past_group x rest h few small f behind is = elim is.2 [ inl tag ↦ of Sequence tag | inr tag ↦ of Set tag ]
   where
@@ -351,26 +390,31 @@ past_group x rest h few small f behind is = elim is.2 [ inl tag ↦ of Sequence 
         ))
 
 -- an encoding of class Universal whose contents octets are canonical leaves those after it
-pub past_universal : (x rest own after : List ℕ) (h : Header) → length x < 2 ^ 64 → BeginsShortest x h → rest ≡ drop h.size x → rest ≡ own ++ after
-    → length own ≡ h.announced → h.class ≡ Universal → AreCanonicalContents Universal h.constructed h.tag own → LeavesBoth x [] after
+pub past_universal : (x rest own after : List ℕ) (h : Header) → length x < 2 ^ 64 → BeginsShortest x h →
+    rest ≡ drop h.size x → rest ≡ own ++ after
+    → length own ≡ h.announced → h.class ≡ Universal → AreCanonicalContents Universal h.constructed h.tag own →
+    LeavesBoth x [] after
 past_universal x rest own after h few f behind whole size class keeps =
     leaves x own after h.class h.constructed h.tag few (own_whole x rest own after h f behind whole size)
     (subst (λ z. AreCanonicalContents z h.constructed h.tag own) (sym class) keeps)
 
 -- one of another class leaves its contents octets too, if it is constructed
-pub past_constructed : (x rest own after : List ℕ) (h : Header) → length x < 2 ^ 64 → BeginsShortest x h → rest ≡ drop h.size x → rest ≡ own ++ after
+pub past_constructed : (x rest own after : List ℕ) (h : Header) → length x < 2 ^ 64 → BeginsShortest x h →
+    rest ≡ drop h.size x → rest ≡ own ++ after
     → length own ≡ h.announced → h.class ≢ Universal → LeavesBoth x own after
 past_constructed x rest own after h few f behind whole size other =
     leaves_within x own after h.class h.constructed h.tag few (own_whole x rest own after h f behind whole size) other
 
-pub past_primitive : (x rest own after : List ℕ) (h : Header) → length x < 2 ^ 64 → BeginsShortest x h → rest ≡ drop h.size x → rest ≡ own ++ after
+pub past_primitive : (x rest own after : List ℕ) (h : Header) → length x < 2 ^ 64 → BeginsShortest x h →
+    rest ≡ drop h.size x → rest ≡ own ++ after
     → length own ≡ h.announced → h.class ≢ Universal → h.constructed ≡ false → LeavesBoth x [] after
 past_primitive x rest own after h few f behind whole size other primitive =
     leaves x own after h.class h.constructed h.tag few (own_whole x rest own after h f behind whole size)
     (unruled h.class h.constructed h.tag own (λ u. absurd (other u)) (λ not k. false≢true (sym primitive ∙ k)))
 
 -- octets that begin with a header of class Universal in two octets
-short_whole : (x rest : List ℕ) (k : Bool) (b n m : ℕ) → n < 31 → b ≡ leading_octet Universal k n → m < 128 → x ≡ b ∷ m ∷ rest
+short_whole : (x rest : List ℕ) (k : Bool) (b n m : ℕ) → n < 31 → b ≡ leading_octet Universal k n → m < 128 →
+    x ≡ b ∷ m ∷ rest
     → x ≡ shortest_identifier Universal k n ++ (shortest_length m ++ rest)
 short_whole x rest k b n m low is short e =
     let ds = digits_of 256 m in
@@ -378,13 +422,15 @@ short_whole x rest k b n m low is short e =
     (cond_below n 31 (leading_octet Universal k n ∷ []) (leading_octet Universal k 31 ∷ shortest_base128 n) low)
     (cond_below m 128 (m ∷ []) ((128 + length ds) ∷ ds) short))
 
-pub short_group : (x rest : List ℕ) (b m : ℕ) → length x < 2 ^ 64 → m < 128 → (b ≡ 48) ⊎ (b ≡ 49) → x ≡ b ∷ m ∷ rest → LeavesBoth x [] rest
+pub short_group : (x rest : List ℕ) (b m : ℕ) → length x < 2 ^ 64 → m < 128 → (b ≡ 48) ⊎ (b ≡ 49) → x ≡ b ∷ m ∷ rest →
+    LeavesBoth x [] rest
 short_group x rest b m few short is e = elim is [
   | inl at ↦ leaves_group x rest Sequence m few (omega arith) (short_whole x rest true b 16 m (omega arith) at short e)
   | inr at ↦ leaves_group x rest Set m few (omega arith) (short_whole x rest true b 17 m (omega arith) at short e)
 ]
 
-pub short_leaf : (x own after : List ℕ) (b m : ℕ) → length x < 2 ^ 64 → b < 31 → m < 128 → length own ≡ m → x ≡ b ∷ m ∷ (own ++ after)
+pub short_leaf : (x own after : List ℕ) (b m : ℕ) → length x < 2 ^ 64 → b < 31 → m < 128 → length own ≡ m →
+    x ≡ b ∷ m ∷ (own ++ after)
     → AreCanonicalContents Universal false b own → LeavesBoth x [] after
 short_leaf x own after b m few low short size e keeps =
     leaves x own after Universal false b few

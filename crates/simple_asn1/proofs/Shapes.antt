@@ -4,21 +4,7 @@ use Rattle.asn1_headers.specs.declared.header.ASN1Class.TheVariants.{Universal}
 use Rattle.simple_asn1.specs.Canonical.{all_canonical, canonical, first_of, first_write_fault, shortest_encoding, write_fault}
 use Rattle.asn1_blocks.specs.Contents.{group_tag, leaf_contents, leaf_tag}
 use Rattle.asn1_blocks.specs.Faithful.{IsFaithful, AreFaithful, all_normalized}
-use Rattle.asn1_blocks.specs.Tree.{
-  Leaf,
-  Tree,
-  Trees,
-  leaf,
-  group,
-  explicit,
-  unknown,
-  no_trees,
-  more_trees,
-  mapped,
-  all_mapped,
-  shape,
-  shapes,
-}
+use Rattle.asn1_blocks.specs.Tree.{Leaf, Tree, Trees, leaf, group, explicit, unknown, no_trees, more_trees, mapped, all_mapped, shape, shapes}
 use Rattle.asn1_blocks.proofs.Leaves.{leaf_same_contents, leaf_same_tag}
 
 module _ {O P : Type 0} (f : O → P) (h : Leaf → Leaf) (same_tag : (l : Leaf) → leaf_tag (h l) ≡ leaf_tag l)
@@ -36,7 +22,8 @@ module _ {O P : Type 0} (f : O → P) (h : Leaf → Leaf) (same_tag : (l : Leaf)
     all_canonical_mapped : (bs : Trees O) → all_canonical (all_mapped f h bs) ≡ all_canonical bs
     all_canonical_mapped no_trees = refl
     all_canonical_mapped (more_trees b bs) =
-        ap (λ z. z ++ all_canonical (all_mapped f h bs)) (canonical_mapped b) ∙ ap (λ z. canonical b ++ z) (all_canonical_mapped bs)
+        ap (λ z. z ++ all_canonical (all_mapped f h bs)) (canonical_mapped b)
+        ∙ ap (λ z. canonical b ++ z) (all_canonical_mapped bs)
 
 pub canonical_shape : {O : Type 0} (b : Tree O) → canonical (shape b) ≡ canonical b
 canonical_shape b = canonical_mapped (λ _. tt) (λ l. l) (λ l. refl) (λ l. refl) b
@@ -58,7 +45,8 @@ mutual
   pub write_fault_shapes : {O : Type 0} (bs : Trees O) → first_write_fault (shapes bs) ≡ first_write_fault bs
   write_fault_shapes no_trees = refl
   write_fault_shapes (more_trees b bs) =
-      ap (λ z. first_of z (first_write_fault (shapes bs))) (write_fault_shape b) ∙ ap (first_of (write_fault b)) (write_fault_shapes bs)
+      ap (λ z. first_of z (first_write_fault (shapes bs))) (write_fault_shape b)
+      ∙ ap (first_of (write_fault b)) (write_fault_shapes bs)
 
 mutual
   pub faithful_shape : {O : Type 0} (b : Tree O) → IsFaithful (shape b) ≡ IsFaithful b
@@ -69,9 +57,11 @@ mutual
 
   faithful_shapes : {O : Type 0} (bs : Trees O) → AreFaithful (shapes bs) ≡ AreFaithful bs
   faithful_shapes no_trees = refl
-  faithful_shapes (more_trees b bs) = ap (λ z. z × AreFaithful (shapes bs)) (faithful_shape b) ∙ ap (λ z. IsFaithful b × z) (faithful_shapes bs)
+  faithful_shapes (more_trees b bs) =
+      ap (λ z. z × AreFaithful (shapes bs)) (faithful_shape b) ∙ ap (λ z. IsFaithful b × z) (faithful_shapes bs)
 
-pub written_alike : {O P : Type 0} (a : Tree O) (b : Tree P) → shape a ≡ shape b → (canonical a ≡ canonical b) × (write_fault a ≡ write_fault b)
+pub written_alike : {O P : Type 0} (a : Tree O) (b : Tree P) → shape a ≡ shape b →
+    (canonical a ≡ canonical b) × (write_fault a ≡ write_fault b)
 written_alike a b e = (
   sym (canonical_shape a) ∙ (ap canonical e ∙ canonical_shape b),
   sym (write_fault_shape a) ∙ (ap write_fault e ∙ write_fault_shape b),

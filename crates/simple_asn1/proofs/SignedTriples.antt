@@ -1,31 +1,5 @@
 -- What is no signed triple, and what follows where a document begins with one.
-use Rattle.std.proofs.Common.{
-  ◌≡◌,
-  ◌≢◌,
-  ◌+◌,
-  ◌-◌,
-  ◌++◌,
-  ℕ,
-  List,
-  [],
-  ◌∷◌,
-  length,
-  get_or,
-  drop,
-  min,
-  refl,
-  sym,
-  ap,
-  subst,
-  ◌∙◌,
-  inl,
-  inr,
-  arith,
-  length-append,
-  Result,
-  Ok,
-  Err,
-}
+use Rattle.std.proofs.Common.{◌≡◌, ◌≢◌, ◌+◌, ◌-◌, ◌++◌, ℕ, List, [], ◌∷◌, length, get_or, drop, min, refl, sym, ap, subst, ◌∙◌, inl, inr, arith, length-append, Result, Ok, Err}
 use Rattle.std.specs.Prelude.{◌⊎◌, MatchResult, IfOk, IfErr, IsErrAnd, slice_range}
 use Rattle.std.proofs.lemmas.List.{length-take}
 use Rattle.asn1_blocks.specs.declared.block.ASN1Block.{ASN1Block}
@@ -41,17 +15,7 @@ use Rattle.simple_asn1.specs.Laws.Unambiguous.{Unambiguous}
 use Rattle.simple_asn1.specs.Laws.Slices.{BlockAlone}
 use Rattle.asn1_numbers.specs.Octets.{FitInSlice}
 use Rattle.asn1_blocks.specs.Places.{HasOctets, rebased, in_first, in_later, in_group, itself}
-use Rattle.simple_asn1.specs.SignedTrees.{
-  SignedParts,
-  BeginWithSigned,
-  HasFields,
-  IsOfAnotherShape,
-  IsSigned,
-  ReadsSigned,
-  algorithm_tree,
-  signed_tree,
-  signed_trees,
-}
+use Rattle.simple_asn1.specs.SignedTrees.{SignedParts, BeginWithSigned, HasFields, IsOfAnotherShape, IsSigned, ReadsSigned, algorithm_tree, signed_tree, signed_trees}
 use Rattle.simple_asn1.specs.Inner.Algorithm.{IsAlgorithm}
 use Rattle.asn1_blocks.specs.Tree.{Tree, Trees, leaf, group, bit_string, object_identifier, no_trees, more_trees}
 use Rattle.asn1_blocks.specs.View.{tree_offset, view, views}
@@ -80,7 +44,8 @@ no_signature t p o (a ∷ b ∷ c ∷ d ∷ items) z h i e other f = let g = sym
 
 -- the parts of three items
 pub parts_of_three :
-    (t : Tree ℕ) (o : ℕ) (items : List ASN1Block) (x y z : ASN1Block) (algorithm : List ℕ) (n : ℕ) (v : List ℕ) → length items ≡ 3 →
+    (t : Tree ℕ) (o : ℕ) (items : List ASN1Block) (x y z : ASN1Block) (algorithm : List ℕ) (n : ℕ) (v : List ℕ) →
+    length items ≡ 3 →
     x ≡ get_or items 0 x → y ≡ get_or items 1 y → z ≡ get_or items 2 z → t ≡ group o Sequence (views items) →
     IsAlgorithm (view y) algorithm → view z ≡ leaf (tree_offset (view z)) (bit_string n v) →
     (p : SignedParts) × (t ≡ signed_tree p) × (view x ≡ p.content) × (tree_offset (view y) ≡ p.algorithm_offset)
@@ -101,7 +66,8 @@ parts_of_three t o (q ∷ r ∷ s ∷ []) x y z algorithm n v h i j k e (u, w, r
     signature = v;
   },
   let first : view q ≡ view x = ap view (sym i) in
-      let second : view r ≡ group u Sequence (more_trees (leaf w (object_identifier algorithm)) rest) = ap view (sym j) ∙ a in
+      let second : view r ≡ group u Sequence (more_trees (leaf w (object_identifier algorithm)) rest) =
+      ap view (sym j) ∙ a in
       let third : view s ≡ leaf (tree_offset (view z)) (bit_string n v) = ap view (sym k) ∙ b in
       e ∙ cc,
   refl,
@@ -113,7 +79,8 @@ parts_of_three t o (q ∷ r ∷ s ∷ []) x y z algorithm n v h i j k e (u, w, r
 parts_of_three t o (l ∷ m ∷ s ∷ d ∷ items) x y z algorithm n v h i j k e a b = cc
 
 has_content : (octets : List ℕ) (p : SignedParts) (rest : Trees ℕ) (content : List ℕ) →
-    content ≡ slice_range octets (tree_offset p.content) p.algorithm_offset → HasOctets octets (signed_trees p rest) p.content content
+    content ≡ slice_range octets (tree_offset p.content) p.algorithm_offset →
+    HasOctets octets (signed_trees p rest) p.content content
 has_content octets p rest content e =
     record { end = p.algorithm_offset; place = in_first (in_group (in_first itself)); octets_are = e }
 
@@ -128,12 +95,15 @@ begins : BlockAlone → (octets : List ℕ) (p : SignedParts) (rest : Trees ℕ)
 begins law octets p rest bs d e =
     let t = subst (IsDocument octets) e d in
     let o = tree_offset p.content in
-    let alone = law.alone octets (signed_trees p rest) p.content (slice_range octets o p.algorithm_offset) t (has_content octets p rest _ refl) in
+    let alone = law.alone octets (signed_trees p rest) p.content (slice_range octets o p.algorithm_offset) t
+    (has_content octets p rest _ refl) in
     let cut : length (slice_range octets o p.algorithm_offset) ≡ min (p.algorithm_offset - o) (length (drop o octets)) =
     length-take (p.algorithm_offset - o) (drop o octets) in
-    let (before, behind, whole, at) = law.position octets (signed_trees p rest) (algorithm_tree p) _ t (has_algorithm octets p rest) in
+    let (before, behind, whole, at) =
+    law.position octets (signed_trees p rest) (algorithm_tree p) _ t (has_algorithm octets p rest) in
     let some = alone.some in
-    let all : length octets ≡ length before + length (slice_range octets p.algorithm_offset p.signature_offset ++ behind) =
+    let all : length octets
+    ≡ length before + length (slice_range octets p.algorithm_offset p.signature_offset ++ behind) =
     ap length whole ∙ length-append before _ in
     record {
       trees = e;
@@ -142,7 +112,8 @@ begins law octets p rest bs d e =
     }
 
 -- trees have one triple: what is read of one is read of the other
-same_fields : (octets : List ℕ) (t : SignedTriple) (p q : SignedParts) (xs ys : Trees ℕ) → signed_trees p xs ≡ signed_trees q ys →
+same_fields : (octets : List ℕ) (t : SignedTriple) (p q : SignedParts) (xs ys : Trees ℕ) →
+    signed_trees p xs ≡ signed_trees q ys →
     HasFields octets q t → HasFields octets p t
 same_fields octets t p q xs ys e h =
     let content : p.content ≡ q.content = cc in
@@ -165,10 +136,12 @@ IsRead octets t = Decodes (λ bs r. ReadsSigned bs octets r) octets t
 abbrev pub IsRefused : List ℕ → TripleErr → Type 0
 IsRefused octets e = DecodeFails (λ bs r. ReadsSigned bs octets r) (λ f e. e ≡ Codec f) octets e
 
-fields_of : Unambiguous → (octets : List ℕ) (t : SignedTriple) → IsRead octets t → (p : SignedParts) → IsSigned octets p → HasFields octets p t
+fields_of : Unambiguous → (octets : List ℕ) (t : SignedTriple) → IsRead octets t → (p : SignedParts) →
+    IsSigned octets p → HasFields octets p t
 fields_of law octets t is p (xs, e) =
     let (q, begin, fields) = is.is_read in
-    same_fields octets t p q xs is.rest (law.one_document octets (signed_trees p xs) is.trees e is.document ∙ begin.trees) fields
+    same_fields octets t p q xs is.rest
+    (law.one_document octets (signed_trees p xs) is.trees e is.document ∙ begin.trees) fields
 
 only_memory : Unambiguous → BlockAlone → (octets : List ℕ) → FitInSlice octets → (e : TripleErr) → IsRefused octets e →
     (p : SignedParts) → IsSigned octets p →
@@ -182,17 +155,21 @@ only_memory law parts octets small e (inr (f, inr at, g)) p (xs, s) =
 
 another_shape : BlockAlone → (octets : List ℕ) → IsRefused octets Shape → IsOfAnotherShape octets
 another_shape law octets (inl (bs, d, inl e)) = cc
-another_shape law octets (inl (bs, d, inr (e, other))) = (bs, d, λ p rest e. other p rest (begins law octets p rest bs d e))
+another_shape law octets (inl (bs, d, inr (e, other))) =
+    (bs, d, λ p rest e. other p rest (begins law octets p rest bs d e))
 another_shape law octets (inr (f, _, e)) = cc
 
 pub kept_content : Unambiguous → (octets : List ℕ) (r : Result SignedTriple TripleErr) → IfOk r (IsRead octets) →
     IfOk r (λ t. (p : SignedParts) (rest : Trees ℕ) → IsDocument octets (signed_trees p rest) →
     HasOctets octets (signed_trees p rest) p.content t.content.items)
-kept_content law octets (Ok t) is = λ p rest d. has_content octets p rest t.content.items (fields_of law octets t is p (rest, d)).content
+kept_content law octets (Ok t) is =
+    λ p rest d. has_content octets p rest t.content.items (fields_of law octets t is p (rest, d)).content
 kept_content law octets (Err e) is = tt
 
-pub content_alone : Unambiguous → BlockAlone → (octets : List ℕ) (r : Result SignedTriple TripleErr) → IfOk r (IsRead octets) →
-    IfOk r (λ t. (p : SignedParts) → IsSigned octets p → IsDocument t.content.items (more_trees (rebased p.content) no_trees))
+pub content_alone : Unambiguous → BlockAlone → (octets : List ℕ) (r : Result SignedTriple TripleErr) →
+    IfOk r (IsRead octets) →
+    IfOk r (λ t. (p : SignedParts) → IsSigned octets p →
+    IsDocument t.content.items (more_trees (rebased p.content) no_trees))
 content_alone law parts octets (Ok t) is = λ p s.
     parts.alone octets (signed_trees p s.0) p.content t.content.items s.1
     (has_content octets p s.0 t.content.items (fields_of law octets t is p s).content)
@@ -203,13 +180,16 @@ pub shape_is_another : BlockAlone → (octets : List ℕ) (r : Result SignedTrip
 shape_is_another law octets (Ok t) is = tt
 shape_is_another law octets (Err e) is = λ s. another_shape law octets (subst (IsRefused octets) s is)
 
-pub accepted : Unambiguous → BlockAlone → (octets : List ℕ) → FitInSlice octets → (r : Result SignedTriple TripleErr) → IfOk r (IsRead octets) →
-    IfErr r (IsRefused octets) → (p : SignedParts) → IsSigned octets p → MatchResult r (HasFields octets p) (λ e. e ≡ Codec OutOfMemory)
+pub accepted : Unambiguous → BlockAlone → (octets : List ℕ) → FitInSlice octets → (r : Result SignedTriple TripleErr) →
+    IfOk r (IsRead octets) →
+    IfErr r (IsRefused octets) → (p : SignedParts) → IsSigned octets p →
+    MatchResult r (HasFields octets p) (λ e. e ≡ Codec OutOfMemory)
 accepted law parts octets small (Ok t) is _ p s = fields_of law octets t is p s
 accepted law parts octets small (Err e) _ is p s = only_memory law parts octets small e is p s
 
 -- a document of another shape is refused for it
-pub another_refused : Unambiguous → (octets : List ℕ) → FitInSlice octets → (r : Result SignedTriple TripleErr) → IfOk r (IsRead octets) →
+pub another_refused : Unambiguous → (octets : List ℕ) → FitInSlice octets → (r : Result SignedTriple TripleErr) →
+    IfOk r (IsRead octets) →
     IfErr r (IsRefused octets) → IsOfAnotherShape octets → IsErrAnd r (λ e. (e ≡ Shape) ⊎ (e ≡ Codec OutOfMemory))
 another_refused law octets small (Ok t) is _ (bs, d, other) =
     let (q, begin, fields) = is.is_read in
@@ -217,4 +197,5 @@ another_refused law octets small (Ok t) is _ (bs, d, other) =
 another_refused law octets small (Err e) _ (inl (xs, x, inl memory)) s = inr memory
 another_refused law octets small (Err e) _ (inl (xs, x, inr (shape, none))) s = inl shape
 another_refused law octets small (Err e) _ (inr (f, inl memory, from)) s = inr (from ∙ ap Codec memory)
-another_refused law octets small (Err e) _ (inr (f, inr at, from)) (bs, d, other) = absurd (law.not_both octets bs (fault_of f) small d at)
+another_refused law octets small (Err e) _ (inr (f, inr at, from)) (bs, d, other) =
+    absurd (law.not_both octets bs (fault_of f) small d at)

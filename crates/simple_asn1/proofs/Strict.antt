@@ -1,48 +1,5 @@
 -- Canonical documents.
-use Rattle.std.proofs.Common.{
-  ◌≡◌,
-  ◌≢◌,
-  ℕ,
-  ◌+◌,
-  ◌<◌,
-  ◌≤◌,
-  ◌^◌,
-  Bool,
-  true,
-  false,
-  List,
-  [],
-  ◌++◌,
-  ◌⊎◌,
-  ◌↔◌,
-  inl,
-  inr,
-  length,
-  refl,
-  sym,
-  ap,
-  ◌∙◌,
-  subst,
-  arith,
-  length-append,
-  append_assoc,
-  append-nil,
-  take,
-  drop,
-  length-drop,
-  get_or,
-  None,
-  Result,
-  Ok,
-  Err,
-  Vec,
-  Global,
-  IfOk,
-  IfErr,
-  IsErrAnd,
-  IsTrue,
-  MatchResult,
-}
+use Rattle.std.proofs.Common.{◌≡◌, ◌≢◌, ℕ, ◌+◌, ◌<◌, ◌≤◌, ◌^◌, Bool, true, false, List, [], ◌++◌, ◌⊎◌, ◌↔◌, inl, inr, length, refl, sym, ap, ◌∙◌, subst, arith, length-append, append_assoc, append-nil, take, drop, length-drop, get_or, None, Result, Ok, Err, Vec, Global, IfOk, IfErr, IsErrAnd, IsTrue, MatchResult}
 use Rattle.std.specs.List.{slice_range}
 use Rattle.std.proofs.lemmas.List.{take-append-drop, length-take-le, drop_at, drop_more}
 use Rattle.asn1_blocks.specs.declared.block.ASN1Block.{ASN1Block}
@@ -128,7 +85,8 @@ pub record Step (i : List ℕ) (o : ℕ) (b : Tree ℕ) (bs : Trees ℕ) (e : �
   pub left : EncodesAll e (drop e i) bs
   pub whole : drop o i ≡ slice_range i o e ++ drop e i
   -- what decides of the trees after the first
-  pub first_is : (n : ℕ) → slice_range i o e ≡ canonical b → FirstNotCanonical i bs n → FirstNotCanonical i (more_trees b bs) n
+  pub first_is : (n : ℕ) → slice_range i o e ≡ canonical b → FirstNotCanonical i bs n →
+      FirstNotCanonical i (more_trees b bs) n
   pub first_here : slice_range i o e ≢ canonical b → FirstNotCanonical i (more_trees b bs) o
 
 pub step :
@@ -138,7 +96,8 @@ step i o b bs e h d s =
     let u = take o i in
     let l : length u ≡ o = length-take-le o i h in
     let w : i ≡ u ++ drop o i = sym (take-append-drop o i) in
-    let t : EncodesAll (length u) (drop o i) (more_trees b bs) = subst (λ z. EncodesAll z (drop o i) (more_trees b bs)) (sym l) s in
+    let t : EncodesAll (length u) (drop o i) (more_trees b bs) =
+    subst (λ z. EncodesAll z (drop o i) (more_trees b bs)) (sym l) s in
     let p = octets_here i u (drop o i) b bs w t in
     let n : e ≡ o + length t.first = omega (arith, d, p.end, l) in
     let k : length (u ++ t.first) ≡ e = omega (arith, n, l, length-append u t.first) in
@@ -146,7 +105,8 @@ step i o b bs e h d s =
     let len : length (drop o i) ≡ length t.first + length t.rest = ap length t.whole ∙ length-append t.first t.rest in
     let to : e ≤ length i = omega (arith, n, len, length-drop o i, h) in
     let r : drop e i ≡ t.rest = ap (drop e) p.whole ∙ drop_at (u ++ t.first) t.rest e k in
-    let same : top_octets i b bs ≡ slice_range i o e = ap (λ z. slice_range i z (end_before bs (length i))) at ∙ ap (slice_range i o) (sym d) in
+    let same : top_octets i b bs ≡ slice_range i o e =
+    ap (λ z. slice_range i z (end_before bs (length i))) at ∙ ap (slice_range i o) (sym d) in
     let after : EncodesAll e t.rest bs = subst (λ z. EncodesAll z t.rest bs) k p.after in
     let ordered : o ≤ e = omega (arith, n) in
     record {
@@ -167,16 +127,19 @@ views_from bs i b h e = ap views (drop_more bs i b h) ∙ ap (λ z. more_trees (
 
 -- where those from a place on can be written, the one at the place can be, and those after it
 pub writable_from :
-    (bs : List ASN1Block) (i : ℕ) (b : ASN1Block) → i < length bs → b ≡ get_or bs i b → first_write_fault (views (drop i bs)) ≡ None →
+    (bs : List ASN1Block) (i : ℕ) (b : ASN1Block) → i < length bs → b ≡ get_or bs i b →
+    first_write_fault (views (drop i bs)) ≡ None →
     (write_fault (view b) ≡ None) × (first_write_fault (views (drop (i + 1) bs)) ≡ None)
 writable_from bs i b h e f =
-    none_of_both (write_fault (view b)) (first_write_fault (views (drop (i + 1) bs))) (sym (ap first_write_fault (views_from bs i b h e)) ∙ f)
+    none_of_both (write_fault (view b)) (first_write_fault (views (drop (i + 1) bs)))
+    (sym (ap first_write_fault (views_from bs i b h e)) ∙ f)
 
 -- octets that are compared with as many are the same exactly if the comparison says so
 pub compared_whole : (a b : Comparison) (xs : List ℕ) → compared a xs b → length xs ≡ length a.rest.now → IsTrue a.same
     → IsTrue b.same ↔ (a.rest.now ≡ xs)
 compared_whole a b xs (front, whole, size, same) n s =
-    let all : a.rest.now ≡ front = (same_split a.rest.now front [] b.rest.now (omega (arith, n, size)) (append-nil a.rest.now ∙ whole)).0 in
+    let all : a.rest.now ≡ front =
+    (same_split a.rest.now front [] b.rest.now (omega (arith, n, size)) (append-nil a.rest.now ∙ whole)).0 in
     (λ h. all ∙ (same.0 h).1, λ e. same.1 (s, sym all ∙ e))
 
 -- what is written of trees is, of each, where it stands
@@ -188,18 +151,22 @@ written_stand (more_trees b bs) i u x w small s e =
     let l = ap length e ∙ length-append (canonical b) (all_canonical bs) in
     let F = block_encoding s.first (encodes_block (length u) s.first b s.item) in
     let G = canonical_encoding b (omega (arith, small, l)) in
-    let h = encoding_alone _ _ _ _ _ _ _ _ _ _ _ _ s.rest (all_canonical bs) F.encoding G.encoding (sym s.whole ∙ e) in (
+    let h = encoding_alone _ _ _ _ _ _ _ _ _ _ _ _ s.rest (all_canonical bs) F.encoding G.encoding (sym s.whole ∙ e)
+    in (
       p.octets ∙ h.octets,
-      written_stand bs i (u ++ s.first) s.rest p.whole (omega (arith, small, ap length s.whole, length-append s.first s.rest))
+      written_stand bs i (u ++ s.first) s.rest p.whole
+          (omega (arith, small, ap length s.whole, length-append s.first s.rest))
           p.after h.rest,
     )
 
 -- and the other way round
-stand_written : (bs : Trees ℕ) (i u x : List ℕ) → i ≡ u ++ x → EncodesAll (length u) x bs → EachIsCanonical i bs → x ≡ all_canonical bs
+stand_written : (bs : Trees ℕ) (i u x : List ℕ) → i ≡ u ++ x → EncodesAll (length u) x bs → EachIsCanonical i bs →
+    x ≡ all_canonical bs
 stand_written no_trees i u x w s c = s
 stand_written (more_trees b bs) i u x w s c =
     let p = octets_here i u x b bs w s in
-    s.whole ∙ (ap (λ z. z ++ s.rest) (sym p.octets ∙ c.0) ∙ ap (λ z. canonical b ++ z) (stand_written bs i (u ++ s.first) s.rest p.whole p.after c.1))
+    s.whole ∙ (ap (λ z. z ++ s.rest) (sym p.octets ∙ c.0)
+    ∙ ap (λ z. canonical b ++ z) (stand_written bs i (u ++ s.first) s.rest p.whole p.after c.1))
 
 -- each stands so, or one is the first that does not
 stand_or_first : (i : List ℕ) (bs : Trees ℕ) → EachIsCanonical i bs ⊎ ((n : ℕ) × FirstNotCanonical i bs n)
@@ -223,17 +190,21 @@ first_alone i (more_trees b bs) m n (inl p) (inr q) = absurd (p.0 q.0)
 first_alone i (more_trees b bs) m n (inr p) (inl q) = absurd (q.0 p.0)
 first_alone i (more_trees b bs) m n (inr p) (inr q) = first_alone i bs m n p.1 q.1
 
-pub stand_exactly : (i : List ℕ) (bs : Trees ℕ) → length i < 2 ^ 64 → IsDocument i bs → (i ≡ all_canonical bs) ↔ EachIsCanonical i bs
-stand_exactly i bs small d = (λ e. written_stand bs i [] i refl small d.blocks e, λ s. stand_written bs i [] i refl d.blocks s)
+pub stand_exactly : (i : List ℕ) (bs : Trees ℕ) → length i < 2 ^ 64 → IsDocument i bs →
+    (i ≡ all_canonical bs) ↔ EachIsCanonical i bs
+stand_exactly i bs small d =
+    (λ e. written_stand bs i [] i refl small d.blocks e, λ s. stand_written bs i [] i refl d.blocks s)
 
 -- a canonical document has no tree that is not canonical
-canonical_no_first : (i : List ℕ) (bs cs : Trees ℕ) (n : ℕ) → length i < 2 ^ 64 → CanonicalDocument i bs → IsDocument i cs
+canonical_no_first : (i : List ℕ) (bs cs : Trees ℕ) (n : ℕ) → length i < 2 ^ 64 → CanonicalDocument i bs →
+    IsDocument i cs
     → FirstNotCanonical i cs n → ⊥
 canonical_no_first i bs cs n small d a f =
     let same : cs ≡ bs = all_alone 0 i cs bs a.blocks d.0.blocks in
     stand_no_first i bs n ((stand_exactly i bs small d.0).0 d.1) (subst (λ z. FirstNotCanonical i z n) same f)
 
-pub strict_either : (i : List ℕ) → length i < 2 ^ 64 → ((bs : Trees ℕ) × CanonicalDocument i bs) ⊎ ((e : DecodeFault) × StrictFault i e)
+pub strict_either : (i : List ℕ) → length i < 2 ^ 64 →
+    ((bs : Trees ℕ) × CanonicalDocument i bs) ⊎ ((e : DecodeFault) × StrictFault i e)
 strict_either i small = elim (document_or_fault i small) [
   | inr f ↦ inr (f.0, inl f.1)
   | inl d ↦ elim (stand_or_first i d.0) [
@@ -242,11 +213,13 @@ strict_either i small = elim (document_or_fault i small) [
   ]
 ]
 
-pub strict_not_both : (i : List ℕ) (bs : Trees ℕ) (e : DecodeFault) → length i < 2 ^ 64 → CanonicalDocument i bs → StrictFault i e → ⊥
+pub strict_not_both : (i : List ℕ) (bs : Trees ℕ) (e : DecodeFault) → length i < 2 ^ 64 → CanonicalDocument i bs →
+    StrictFault i e → ⊥
 strict_not_both i bs e small d (inl f) = document_no_fault i bs e small d.0 f
 strict_not_both i bs e small d (inr (n, (cs, a, f), g)) = canonical_no_first i bs cs n small d a f
 
-pub strict_fault_alone : (i : List ℕ) (e d : DecodeFault) → length i < 2 ^ 64 → StrictFault i e → StrictFault i d → e ≡ d
+pub strict_fault_alone : (i : List ℕ) (e d : DecodeFault) → length i < 2 ^ 64 → StrictFault i e → StrictFault i d →
+    e ≡ d
 strict_fault_alone i e d small (inl p) (inl q) = first_fault_alone i e d p q small
 strict_fault_alone i e d small (inl p) (inr (n, (bs, a, f), g)) = absurd (document_no_fault i bs e small a p)
 strict_fault_alone i e d small (inr (n, (bs, a, f), g)) (inl q) = absurd (document_no_fault i bs d small a q)

@@ -1,36 +1,5 @@
 -- What blocks write, by the list of all blocks in tree order.
-use Rattle.std.proofs.Common.{
-  ◌≡◌,
-  ℕ,
-  zero,
-  suc,
-  ◌+◌,
-  ◌-◌,
-  ◌≤◌,
-  ◌<◌,
-  Option,
-  Some,
-  None,
-  List,
-  [],
-  ◌∷◌,
-  ◌++◌,
-  length,
-  take,
-  drop,
-  refl,
-  sym,
-  ap,
-  subst,
-  ◌∙◌,
-  arith,
-  append_assoc,
-  append-nil,
-  length-append,
-  get_or,
-  set,
-  map,
-}
+use Rattle.std.proofs.Common.{◌≡◌, ℕ, zero, suc, ◌+◌, ◌-◌, ◌≤◌, ◌<◌, Option, Some, None, List, [], ◌∷◌, ◌++◌, length, take, drop, refl, sym, ap, subst, ◌∙◌, arith, append_assoc, append-nil, length-append, get_or, set, map}
 use Rattle.std.specs.List.{sum}
 use Rattle.std.specs.Prelude.{Result, Ok, Err, IfOk}
 use Rattle.std.proofs.lemmas.Grind.{common_steps}
@@ -51,7 +20,8 @@ use Rattle.simple_asn1.specs.declared.write.measure.Measured.{Measured}
 use Rattle.asn1_blocks.proofs.BlockLists.{count, count_views}
 use Rattle.asn1_blocks.proofs.TreeOrders.{from_place}
 
-pub canonical_parts : (b : Tree ℕ) → canonical b ≡ identifier_of b ++ (shortest_length (length (contents_of b)) ++ contents_of b)
+pub canonical_parts : (b : Tree ℕ) →
+    canonical b ≡ identifier_of b ++ (shortest_length (length (contents_of b)) ++ contents_of b)
 canonical_parts (leaf o l) = refl
 canonical_parts (group o g bs) = refl
 canonical_parts (explicit c o n b) = refl
@@ -71,20 +41,25 @@ own_parts b =
     canonical_parts b ∙ (ap (λ z. identifier_of b ++ (shortest_length (length (contents_of b)) ++ z)) (contents_parts b)
     ∙ regroup (identifier_of b) (shortest_length (length (contents_of b))) (own_contents b) (all_canonical (inside b)))
 
-canonical_join : (xs ys : List ASN1Block) → all_canonical (views (xs ++ ys)) ≡ all_canonical (views xs) ++ all_canonical (views ys)
+canonical_join : (xs ys : List ASN1Block) →
+    all_canonical (views (xs ++ ys)) ≡ all_canonical (views xs) ++ all_canonical (views ys)
 canonical_join [] ys = refl
 canonical_join (x ∷ xs) ys =
-    ap (λ z. canonical (view x) ++ z) (canonical_join xs ys) ∙ sym (append_assoc (canonical (view x)) (all_canonical (views xs)) (all_canonical (views ys)))
+    ap (λ z. canonical (view x) ++ z) (canonical_join xs ys)
+    ∙ sym (append_assoc (canonical (view x)) (all_canonical (views xs)) (all_canonical (views ys)))
 
 -- the octets of trees are those that the blocks write themselves
-pub own_order : (order blocks : List ASN1Block) → IsInTreeOrder order blocks → all_own_octets order ≡ all_canonical (views blocks)
+pub own_order : (order blocks : List ASN1Block) → IsInTreeOrder order blocks →
+    all_own_octets order ≡ all_canonical (views blocks)
 own_order [] blocks h = ap (λ z. all_canonical (views z)) (sym h)
 own_order (b ∷ order) blocks (after, n, h) =
     let r : all_own_octets order ≡ all_canonical (inside (view b)) ++ all_canonical (views n.rest) =
     own_order order after h ∙ (ap (λ z. all_canonical (views z)) n.then
     ∙ (canonical_join n.held n.rest ∙ ap (λ z. all_canonical z ++ all_canonical (views n.rest)) n.holds)) in
-    ap (λ z. own_octets (view b) ++ z) r ∙ (sym (append_assoc (own_octets (view b)) (all_canonical (inside (view b))) (all_canonical (views n.rest)))
-    ∙ (ap (λ z. z ++ all_canonical (views n.rest)) (sym (own_parts (view b))) ∙ ap (λ z. all_canonical (views z)) (sym n.first)))
+    ap (λ z. own_octets (view b) ++ z) r
+    ∙ (sym (append_assoc (own_octets (view b)) (all_canonical (inside (view b))) (all_canonical (views n.rest)))
+    ∙ (ap (λ z. z ++ all_canonical (views n.rest)) (sym (own_parts (view b)))
+    ∙ ap (λ z. all_canonical (views z)) (sym n.first)))
 
 first_of_none : (a : Option ASN1EncodeErr) → a ≡ first_of a None
 first_of_none None = refl
@@ -100,7 +75,8 @@ fault_parts (group o g bs) = refl
 fault_parts (explicit c o n b) = first_of_none (write_fault b)
 fault_parts (unknown c k o n v) = refl
 
-faults_join : (xs ys : List ASN1Block) → first_write_fault (views (xs ++ ys)) ≡ first_of (first_write_fault (views xs)) (first_write_fault (views ys))
+faults_join : (xs ys : List ASN1Block) →
+    first_write_fault (views (xs ++ ys)) ≡ first_of (first_write_fault (views xs)) (first_write_fault (views ys))
 faults_join [] ys = refl
 faults_join (x ∷ xs) ys = ap (λ z. first_of (write_fault (view x)) z) (faults_join xs ys)
     ∙ first_of_assoc (write_fault (view x)) (first_write_fault (views xs)) (first_write_fault (views ys))
@@ -111,14 +87,18 @@ pub fault_next : (b : ASN1Block) (before after : List ASN1Block) → IsNext b be
 fault_next b before after n =
     let rest = first_write_fault (views n.rest) in
     ap (λ z. first_write_fault (views z)) n.first
-    ∙ (ap (λ z. first_of z rest) (fault_parts (view b)) ∙ (sym (first_of_assoc (own_fault (view b)) (first_write_fault (inside (view b))) rest)
+    ∙ (ap (λ z. first_of z rest) (fault_parts (view b))
+    ∙ (sym (first_of_assoc (own_fault (view b)) (first_write_fault (inside (view b))) rest)
     ∙ ap (λ z. first_of (own_fault (view b)) z)
-    (sym (ap (λ z. first_write_fault (views z)) n.then ∙ (faults_join n.held n.rest ∙ ap (λ z. first_of (first_write_fault z) rest) n.holds)))))
+    (sym (ap (λ z. first_write_fault (views z)) n.then
+    ∙ (faults_join n.held n.rest ∙ ap (λ z. first_of (first_write_fault z) rest) n.holds)))))
 
 -- and the first fault is the first of the blocks' own
-pub fault_order : (order blocks : List ASN1Block) → IsInTreeOrder order blocks → first_own_fault order ≡ first_write_fault (views blocks)
+pub fault_order : (order blocks : List ASN1Block) → IsInTreeOrder order blocks →
+    first_own_fault order ≡ first_write_fault (views blocks)
 fault_order [] blocks h = ap (λ z. first_write_fault (views z)) (sym h)
-fault_order (b ∷ order) blocks (after, n, h) = ap (λ z. first_of (own_fault (view b)) z) (fault_order order after h) ∙ sym (fault_next b blocks after n)
+fault_order (b ∷ order) blocks (after, n, h) =
+    ap (λ z. first_of (own_fault (view b)) z) (fault_order order after h) ∙ sym (fault_next b blocks after n)
 
 -- the sizes of blocks, the first last
 abbrev pub sizes_back : List ASN1Block → List ℕ
@@ -128,7 +108,8 @@ sizes_back (b ∷ bs) = sizes_back bs ++ length (canonical (view b)) ∷ []
 back_join : (xs ys : List ASN1Block) → sizes_back (xs ++ ys) ≡ sizes_back ys ++ sizes_back xs
 back_join [] ys = sym (append-nil (sizes_back ys))
 back_join (x ∷ xs) ys =
-    ap (λ z. z ++ length (canonical (view x)) ∷ []) (back_join xs ys) ∙ append_assoc (sizes_back ys) (sizes_back xs) (length (canonical (view x)) ∷ [])
+    ap (λ z. z ++ length (canonical (view x)) ∷ []) (back_join xs ys)
+    ∙ append_assoc (sizes_back ys) (sizes_back xs) (length (canonical (view x)) ∷ [])
 
 length_back : (bs : List ASN1Block) → length (sizes_back bs) ≡ length bs
 length_back [] = refl
@@ -152,32 +133,40 @@ pub record Step (b : ASN1Block) (left : List ASN1Block) (sizes : List ℕ) (m n 
   pub after : take (m - n) sizes ++ length (canonical (view b)) ∷ [] ≡ sizes_back left
 
 -- n blocks are held
-pub step : (b : ASN1Block) (left after : List ASN1Block) (sizes : List ℕ) (m n : ℕ) → IsNext b left after → m ≡ length sizes
+pub step : (b : ASN1Block) (left after : List ASN1Block) (sizes : List ℕ) (m n : ℕ) → IsNext b left after →
+    m ≡ length sizes
     → sizes ≡ sizes_back after
     → n ≡ count (inside (view b)) → Step b left sizes m n
 step b left after sizes m n x w s k =
     let j : sizes ≡ sizes_back x.rest ++ sizes_back x.held = s ∙ (ap sizes_back x.then ∙ back_join x.held x.rest) in
     let u : length x.held ≡ n = sym (count_views x.held) ∙ (ap count x.holds ∙ sym k) in
-    let t : length sizes ≡ length (sizes_back x.rest) + length (sizes_back x.held) = ap length j ∙ length-append (sizes_back x.rest) (sizes_back x.held) in
+    let t : length sizes ≡ length (sizes_back x.rest) + length (sizes_back x.held) =
+    ap length j ∙ length-append (sizes_back x.rest) (sizes_back x.held) in
     let q : length (sizes_back x.rest) ≡ m - n = omega (arith, t, length_back x.held, u, w) in
     record {
       enough = omega (arith, t, length_back x.held, u, w);
       sum_inside = ap (λ z. sum (drop (m - n) z)) j
-          ∙ (ap sum (drop_at (sizes_back x.rest) (sizes_back x.held) (m - n) q) ∙ (sum_back x.held ∙ ap (λ z. length (all_canonical z)) x.holds));
-      after = ap (λ z. z ++ length (canonical (view b)) ∷ []) (ap (λ z. take (m - n) z) j ∙ take_at (sizes_back x.rest) (sizes_back x.held) (m - n) q)
+          ∙ (ap sum (drop_at (sizes_back x.rest) (sizes_back x.held) (m - n) q)
+          ∙ (sum_back x.held ∙ ap (λ z. length (all_canonical z)) x.holds));
+      after = ap (λ z. z ++ length (canonical (view b)) ∷ [])
+          (ap (λ z. take (m - n) z) j ∙ take_at (sizes_back x.rest) (sizes_back x.held) (m - n) q)
           ∙ ap sizes_back (sym x.first);
     }
 
 -- the same at a place of the list
-pub step_at : (order : List ASN1Block) (i j : ℕ) (b : ASN1Block) (sizes : List ℕ) (m : ℕ) (held : List ASN1Block) → j + 1 ≡ i → i ≤ length order
-    → b ≡ get_or order j b → m ≡ length sizes → ((left : List ASN1Block) → IsInTreeOrder (drop i order) left → sizes ≡ sizes_back left)
-    → views held ≡ inside (view b) → (left : List ASN1Block) → IsInTreeOrder (drop j order) left → Step b left sizes m (length held)
+pub step_at : (order : List ASN1Block) (i j : ℕ) (b : ASN1Block) (sizes : List ℕ) (m : ℕ) (held : List ASN1Block) →
+    j + 1 ≡ i → i ≤ length order
+    → b ≡ get_or order j b → m ≡ length sizes →
+    ((left : List ASN1Block) → IsInTreeOrder (drop i order) left → sizes ≡ sizes_back left)
+    → views held ≡ inside (view b) → (left : List ASN1Block) → IsInTreeOrder (drop j order) left →
+    Step b left sizes m (length held)
 step_at order i j b sizes m held e l g w s k left h =
     let p = from_place order left i j b e l g h in
     step b left p.after sizes m (length held) p.next w (s p.after p.ordered) (sym (count_views held) ∙ ap count k)
 
 -- the number at a place of a list of numbers, of which those before it are by f and the others by g
-pub place_at : (f g : ASN1Block → ℕ) (order : List ASN1Block) (i j : ℕ) (x : ASN1Block) (sizes : List ℕ) → j + 1 ≡ i → i ≤ length order
+pub place_at : (f g : ASN1Block → ℕ) (order : List ASN1Block) (i j : ℕ) (x : ASN1Block) (sizes : List ℕ) → j + 1 ≡ i →
+    i ≤ length order
     → x ≡ get_or order j x
     → sizes ≡ map f (take i order) ++ map g (drop i order)
     → (get_or sizes j 0 ≡ f x) × (set sizes j (g x) ≡ map f (take j order) ++ map g (drop j order))
@@ -206,8 +195,10 @@ length_canonical b =
       length-append (shortest_length (length (contents_of b))) (contents_of b),
     )
 
-pub length_contents : (b : Tree ℕ) → length (contents_of b) ≡ length (own_contents b) + length (all_canonical (inside b))
-length_contents b = omega (arith, ap length (contents_parts b), length-append (own_contents b) (all_canonical (inside b)))
+pub length_contents : (b : Tree ℕ) →
+    length (contents_of b) ≡ length (own_contents b) + length (all_canonical (inside b))
+length_contents b = omega
+    (arith, ap length (contents_parts b), length-append (own_contents b) (all_canonical (inside b)))
 
 -- the sum of all sizes
 pub total_of : (r : Result ℕ ASN1EncodeErr) (t : ℕ) (order : List ASN1Block) → IfOk r (λ s. s ≡ t)
@@ -241,24 +232,30 @@ own_fault_at (x ∷ list) zero m h e f =
     let P : Measured → Type 0 = λ y. own_fault (view y.block.now) ≡ None in
     subst P (sym e) (none_of_both (own_fault (view x.block.now)) (first_own_fault (measured_blocks list)) f).0
 own_fault_at (x ∷ list) (suc i) m h e f =
-    own_fault_at list i m (omega (arith, h)) e (none_of_both (own_fault (view x.block.now)) (first_own_fault (measured_blocks list)) f).1
+    own_fault_at list i m (omega (arith, h)) e
+    (none_of_both (own_fault (view x.block.now)) (first_own_fault (measured_blocks list)) f).1
 
 own_join : (xs : List Measured) (m : Measured)
-    → all_own_octets (measured_blocks (xs ++ m ∷ [])) ≡ all_own_octets (measured_blocks xs) ++ own_octets (view m.block.now)
+    → all_own_octets (measured_blocks (xs ++ m ∷ [])) ≡ all_own_octets (measured_blocks xs)
+    ++ own_octets (view m.block.now)
 own_join [] m = append-nil (own_octets (view m.block.now))
 own_join (x ∷ xs) m =
     ap (λ z. own_octets (view x.block.now) ++ z) (own_join xs m)
-    ∙ sym (append_assoc (own_octets (view x.block.now)) (all_own_octets (measured_blocks xs)) (own_octets (view m.block.now)))
+    ∙ sym (append_assoc (own_octets (view x.block.now)) (all_own_octets (measured_blocks xs))
+    (own_octets (view m.block.now)))
 
 -- its octets come after those of the blocks before
 pub own_at : (list : List Measured) (i : ℕ) (m : Measured) → i < length list → m ≡ get_or list i m
-    → all_own_octets (measured_blocks (take (i + 1) list)) ≡ all_own_octets (measured_blocks (take i list)) ++ own_octets (view m.block.now)
+    → all_own_octets (measured_blocks (take (i + 1) list)) ≡ all_own_octets (measured_blocks (take i list))
+    ++ own_octets (view m.block.now)
 own_at list i m h e =
-    ap (λ z. all_own_octets (measured_blocks z)) (take_more list i m h ∙ ap (λ z. take i list ++ z ∷ []) (sym e)) ∙ own_join (take i list) m
+    ap (λ z. all_own_octets (measured_blocks z)) (take_more list i m h ∙ ap (λ z. take i list ++ z ∷ []) (sym e))
+    ∙ own_join (take i list) m
 
 -- and are among those of all
 pub own_fits : (list : List Measured) (i : ℕ) (m : Measured) → i < length list → m ≡ get_or list i m
-    → length (all_own_octets (measured_blocks (take i list))) + length (own_octets (view m.block.now)) ≤ length (all_own_octets (measured_blocks list))
+    → length (all_own_octets (measured_blocks (take i list))) + length (own_octets (view m.block.now)) ≤ length
+    (all_own_octets (measured_blocks list))
 own_fits [] i m h e = absurd (omega (arith, h))
 own_fits (x ∷ list) zero m h e =
     omega (

@@ -5,30 +5,9 @@ use Rattle.asn1_headers.specs.declared.header.ASN1Class.TheVariants.{Universal}
 use Rattle.asn1_blocks.specs.BlockParts.{in_order}
 use Rattle.asn1_blocks.specs.Contents.{IsFaithfulLeaf}
 use Rattle.asn1_blocks.specs.Grammar.{StaysAsItCame}
-use Rattle.asn1_blocks.specs.Tree.{
-  Leaf,
-  Tree,
-  bit_string,
-  explicit,
-  generalized_time,
-  group,
-  leaf,
-  object_identifier,
-  text,
-  unknown,
-  utc_time,
-}
+use Rattle.asn1_blocks.specs.Tree.{Leaf, Tree, bit_string, explicit, generalized_time, group, leaf, object_identifier, text, unknown, utc_time}
 use Rattle.simple_asn1.specs.declared.write.faithful.Unfaithful.{Unfaithful}
-use Rattle.simple_asn1.specs.declared.write.faithful.Unfaithful.TheVariants.{
-  BitString,
-  Characters,
-  ExplicitUniversal,
-  GeneralizedTime,
-  KnownTag,
-  ObjectIdentifier,
-  OneBlock,
-  UtcTime,
-}
+use Rattle.simple_asn1.specs.declared.write.faithful.Unfaithful.TheVariants.{BitString, Characters, ExplicitUniversal, GeneralizedTime, KnownTag, ObjectIdentifier, OneBlock, UtcTime}
 
 -- what a leaf can fail in
 abbrev pub leaf_failure : Leaf → Option Unfaithful

@@ -38,24 +38,33 @@ pub leaf_block : (tag : ℕ) (contents : List ℕ) → length contents < 2 ^ 64 
 leaf_block tag contents small (l, is, meant, written) offset =
     let h = header_size Universal false tag contents in
     let e = subst (λ z. Encoding (shortest_encoding Universal false tag contents) Universal false z contents h) is
-    (shortest_is Universal false tag contents small) in
-    (leaf offset l, (refl, false, contents, h, e, meant), ap₂ (λ s t. shortest_encoding Universal false s t) (sym is) written)
+    (shortest_is Universal false tag contents small) in (
+      leaf offset l,
+      (refl, false, contents, h, e, meant),
+      ap₂ (λ s t. shortest_encoding Universal false s t) (sym is) written,
+    )
 
 -- one that is not read as more
 pub unknown_block : (class : ASN1Class) (constructed : Bool) (tag : ℕ) (contents : List ℕ) → length contents < 2 ^ 64
     → StaysAsItCame class constructed tag contents → IsCanonicalBlock (shortest_encoding class constructed tag contents)
 unknown_block class constructed tag contents small stays offset =
-    let h = header_size class constructed tag contents in
-    (unknown class constructed offset tag contents, (refl, h, shortest_is class constructed tag contents small, stays), refl)
+    let h = header_size class constructed tag contents in (
+      unknown class constructed offset tag contents,
+      (refl, h, shortest_is class constructed tag contents small, stays),
+      refl,
+    )
 
-pub universal_leaf_block : (class : ASN1Class) (constructed : Bool) (tag : ℕ) (contents : List ℕ) → length contents < 2 ^ 64
+pub universal_leaf_block : (class : ASN1Class) (constructed : Bool) (tag : ℕ) (contents : List ℕ) →
+    length contents < 2 ^ 64
     → class ≡ Universal → constructed ≡ false → AreWrittenOfLeaf tag contents
     → IsCanonicalBlock (shortest_encoding class constructed tag contents)
 universal_leaf_block class constructed tag contents small u primitive written =
     subst (λ z. IsCanonicalBlock (shortest_encoding z constructed tag contents)) (sym u)
-    (subst (λ z. IsCanonicalBlock (shortest_encoding Universal z tag contents)) (sym primitive) (leaf_block tag contents small written))
+    (subst (λ z. IsCanonicalBlock (shortest_encoding Universal z tag contents)) (sym primitive)
+    (leaf_block tag contents small written))
 
-pub universal_unknown_block : (class : ASN1Class) (constructed : Bool) (tag : ℕ) (contents : List ℕ) → length contents < 2 ^ 64
+pub universal_unknown_block : (class : ASN1Class) (constructed : Bool) (tag : ℕ) (contents : List ℕ) →
+    length contents < 2 ^ 64
     → class ≡ Universal → IsUnknownTag tag → IsCanonicalBlock (shortest_encoding class constructed tag contents)
 universal_unknown_block class constructed tag contents small u without =
     unknown_block class constructed tag contents small (inl (u, without))
@@ -77,8 +86,11 @@ all_encoded : (xs : List (List ℕ)) → AreCanonicalBlocks xs → (offset : ℕ
 all_encoded [] all offset = (no_trees, refl, refl)
 all_encoded (x ∷ xs) all offset =
     let (b, e, w) = all.0 offset in
-    let (bs, es, ws) = all_encoded xs all.1 (offset + length x) in
-    (more_trees b bs, record { first = x; rest = concat xs; whole = refl; item = e; items = es }, ap₂ (λ s t. s ++ t) w ws)
+    let (bs, es, ws) = all_encoded xs all.1 (offset + length x) in (
+      more_trees b bs,
+      record { first = x; rest = concat xs; whole = refl; item = e; items = es },
+      ap₂ (λ s t. s ++ t) w ws,
+    )
 
 -- the encoding of a SEQUENCE or SET
 pub group_block : (tag : ℕ) (xs : List (List ℕ)) (g : GroupKind) → tag ≡ group_tag g → length (concat xs) < 2 ^ 64
@@ -92,24 +104,32 @@ group_block tag xs g is small all offset =
     (group offset g bs, (refl, true, contents, h, e, es), ap₂ (λ s t. shortest_encoding Universal true s t) (sym is) w)
 
 -- of an empty one
-pub empty_group : (class : ASN1Class) (constructed : Bool) (tag : ℕ) (contents : List ℕ) → class ≡ Universal → constructed ≡ true
-    → (g : GroupKind) → tag ≡ group_tag g → [] ≡ contents → IsCanonicalBlock (shortest_encoding class constructed tag contents)
+pub empty_group : (class : ASN1Class) (constructed : Bool) (tag : ℕ) (contents : List ℕ) → class ≡ Universal →
+    constructed ≡ true
+    → (g : GroupKind) → tag ≡ group_tag g → [] ≡ contents →
+    IsCanonicalBlock (shortest_encoding class constructed tag contents)
 empty_group class constructed tag contents u k g is none =
     subst (λ z. IsCanonicalBlock (shortest_encoding z constructed tag contents)) (sym u)
     (subst (λ z. IsCanonicalBlock (shortest_encoding Universal z tag contents)) (sym k)
-    (subst (λ z. IsCanonicalBlock (shortest_encoding Universal true tag z)) none (group_block tag [] g is (omega arith) tt)))
+    (subst (λ z. IsCanonicalBlock (shortest_encoding Universal true tag z)) none
+    (group_block tag [] g is (omega arith) tt)))
 
 -- one of another class around a block
 explicit_block : (class : ASN1Class) (tag : ℕ) (x : List ℕ) → class ≢ Universal → length x < 2 ^ 64 → IsCanonicalBlock x
     → IsCanonicalBlock (shortest_encoding class true tag x)
 explicit_block class tag x other small is offset =
     let h = header_size class true tag x in
-    let (b, e, w) = is (offset + h) in
-    (explicit class offset tag b, (refl, other, x, h, shortest_is class true tag x small, e), ap (λ z. shortest_encoding class true tag z) w)
+    let (b, e, w) = is (offset + h) in (
+      explicit class offset tag b,
+      (refl, other, x, h, shortest_is class true tag x small, e),
+      ap (λ z. shortest_encoding class true tag z) w,
+    )
 
 -- one that holds blocks
-pub holding_block : (class : ASN1Class) (tag items : ℕ) (xs : List (List ℕ)) → HoldsBlocks class tag items → items ≡ length xs
-    → length (concat xs) < 2 ^ 64 → AreCanonicalBlocks xs → IsCanonicalBlock (shortest_encoding class true tag (concat xs))
+pub holding_block : (class : ASN1Class) (tag items : ℕ) (xs : List (List ℕ)) → HoldsBlocks class tag items →
+    items ≡ length xs
+    → length (concat xs) < 2 ^ 64 → AreCanonicalBlocks xs →
+    IsCanonicalBlock (shortest_encoding class true tag (concat xs))
 holding_block class tag items xs (inl (u, g, is)) count small all =
     subst (λ z. IsCanonicalBlock (shortest_encoding z true tag (concat xs))) (sym u) (group_block tag xs g is small all)
 holding_block class tag items [] (inr (other, one)) count small all = absurd (omega (arith, one, count))

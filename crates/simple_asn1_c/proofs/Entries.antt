@@ -14,7 +14,8 @@ use Rattle.simple_asn1_c.specs.Records.{AreRecords, HasHeader, IsRecordAt, block
 use Rattle.simple_asn1_c.specs.declared.record.Block.{Block}
 
 -- the octets of a tree have the header that stands at its entry
-pub header_stands : (x : List ℕ) (b : Tree ℕ) (e : Entry) (octets : List ℕ) → HasHeaderAt x e → e.offset ≡ tree_offset b → IsEncodedIn x b octets
+pub header_stands : (x : List ℕ) (b : Tree ℕ) (e : Entry) (octets : List ℕ) → HasHeaderAt x e →
+    e.offset ≡ tree_offset b → IsEncodedIn x b octets
     → HasHeader octets (block_of e)
 header_stands x b e octets (y, at, h) o s =
     let there = encoding_of x b octets s in
@@ -33,7 +34,8 @@ header_stands x b e octets (y, at, h) o s =
     subst (λ w. HasHeader w (block_of e)) (encoding_at_alone x (tree_offset b) y octets here there) own
 
 -- the records of a document
-pub entries_records : (x : List ℕ) (ns : Nodes) (es : List Entry) → IsStructure x ns → AreEntries x 0 (nodes_in_order ns) (nodes_depths 0 ns) es
+pub entries_records : (x : List ℕ) (ns : Nodes) (es : List Entry) → IsStructure x ns →
+    AreEntries x 0 (nodes_in_order ns) (nodes_depths 0 ns) es
     → AreRecords x ns (map block_of es)
 entries_records x ns es d are k h =
     let w = entry_at x 0 (nodes_in_order ns) (nodes_depths 0 ns) es are k h in
@@ -53,8 +55,10 @@ entries_records x ns es d are k h =
 
 -- one record more is put
 pub put_next : (es : List Entry) (room : List Block) (k : ℕ) → k < length es → length es ≤ length room
-    → set (map block_of (take k es) ++ drop k room) k (block_of (get_or es k no_entry)) ≡ map block_of (take (suc k) es) ++ drop (suc k) room
+    → set (map block_of (take k es) ++ drop k room) k (block_of (get_or es k no_entry)) ≡ map block_of (take (suc k) es)
+    ++ drop (suc k) room
 put_next [] room k h l = absurd (omega (arith, h))
 put_next (e ∷ es) [] k h l = absurd (omega (arith, l))
 put_next (e ∷ es) (r ∷ room) zero h l = refl
-put_next (e ∷ es) (r ∷ room) (suc k) h l = ap (λ z. block_of e ∷ z) (put_next es room k (omega (arith, h)) (omega (arith, l)))
+put_next (e ∷ es) (r ∷ room) (suc k) h l =
+    ap (λ z. block_of e ∷ z) (put_next es room k (omega (arith, h)) (omega (arith, l)))

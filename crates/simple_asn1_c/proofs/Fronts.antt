@@ -1,5 +1,5 @@
 -- Builders that keep the first entries, and builders of all of them that hold the same.
-use Rattle.std.proofs.Common.{◌≡◌, ℕ, suc, ◌+◌, ◌-◌, ◌^◌, ◌<◌, ◌≤◌, ◌++◌, List, [], ◌∷◌, get_or, length, set, take, refl, sym, ap, ◌∙◌, subst, arith, length-append, suc-add, zero-add}
+use Rattle.std.proofs.Common.{◌≡◌, ℕ, suc, ◌+◌, ◌-◌, ◌<◌, ◌≤◌, ◌++◌, List, [], ◌∷◌, get_or, length, set, take, refl, sym, ap, ◌∙◌, subst, arith, length-append, suc-add, zero-add}
 use Rattle.std.specs.List.{slice_range}
 use Rattle.std.proofs.lemmas.List.{get_or_append_left, length-set, length-take-le, set-append_left, take_all}
 use Rattle.std.proofs.Math.Seq.{take-append-add}
@@ -38,21 +38,25 @@ whole_builder b all w = record {
 }
 
 pub front_opened :
-    (x : List ℕ) (h : PlacedHeader) (offset depth : ℕ) (a b : FrontBuilder) (i : EntryItems) (r : Entry) → IsBegun x offset i.entry depth r →
+    (x : List ℕ) (h : PlacedHeader) (offset depth : ℕ) (a b : FrontBuilder) (i : EntryItems) (r : Entry) →
+    IsBegun x offset i.entry depth r →
     ((all : List Entry) → IsFront a all → i.entry ≡ length all) → i.count ≡ 0 →
     ((all : List Entry) → IsFront a all → IsFront b (all ++ r ∷ [])) → HasOpened holds_front x h offset depth a i b
 front_opened x h offset depth a b i r begun at none is = record {
   holds = λ kind f fs trees d k (all, w, held).
       let v = is all w in
-      let step = opened x h offset depth (whole_builder a all w) (whole_builder b (all ++ r ∷ []) v) i r begun (at all w) none refl in
+      let step = opened x h offset depth (whole_builder a all w) (whole_builder b (all ++ r ∷ []) v) i r begun
+      (at all w) none refl in
       (all ++ r ∷ [], v, step.holds kind f fs trees d k held);
 }
 
 pub front_leaf :
     (x : List ℕ) (h : PlacedHeader) (offset limit depth : ℕ) (a b : FrontBuilder) (i : EntryItems) (r : Entry) (n : ℕ) →
-    HeaderFound x offset limit h → (IsReadInside h.class h.constructed h.tag → ⊥) → IsSingleAt offset (slice_range x offset h.end) →
+    HeaderFound x offset limit h → (IsReadInside h.class h.constructed h.tag → ⊥) →
+    IsSingleAt offset (slice_range x offset h.end) →
     IsBegun x offset n depth r → ((all : List Entry) → IsFront a all → n ≡ length all) →
-    ((all : List Entry) → IsFront a all → IsFront b (all ++ r ∷ [])) → HasLeaf holds_front x offset h.end depth a i b (one_more i)
+    ((all : List Entry) → IsFront a all → IsFront b (all ++ r ∷ [])) →
+    HasLeaf holds_front x offset h.end depth a i b (one_more i)
 front_leaf x h offset limit depth a b i r n found shut (t, none, encoded) begun at is = record {
   tree = t;
   encoded = encoded;
@@ -61,26 +65,34 @@ front_leaf x h offset limit depth a b i r n found shut (t, none, encoded) begun 
         let v = is all w in
         let y = slice_range x offset h.end in
         let own = subst (λ z. IsBegun x offset z depth r) (at all w) begun in
-        let step = leaf_built x h offset limit depth (whole_builder a all w) (whole_builder b (all ++ r ∷ []) v) i r found shut (t, none, encoded) own refl in
+        let step = leaf_built x h offset limit depth (whole_builder a all w) (whole_builder b (all ++ r ∷ []) v) i r
+        found shut (t, none, encoded) own refl in
         let same = (encodes_alone offset y y [] [] step.tree t step.encoded encoded refl).1 in
-        let next = step.more.holds e fs ts rest d held in
-        (all ++ r ∷ [], v, subst (λ z. all_hold x (all ++ r ∷ []) (in_frame e (one_more i) ∷ fs) ((ts ++ z ∷ []) ∷ rest)) same next);
+        let next = step.more.holds e fs ts rest d held in (
+          all ++ r ∷ [],
+          v,
+          subst
+              (λ z. all_hold x (all ++ r ∷ []) (in_frame e (one_more i) ∷ fs) ((ts ++ z ∷ []) ∷ rest)) same next,
+        );
   };
 }
 
 pub front_ended :
     (x : List ℕ) (a b : FrontBuilder) (f : OpenFrame EntryItems) (i : EntryItems) (depth : ℕ) →
-    ((all : List Entry) → IsFront a all → IsFront b (sealed all f.items.entry f.items.count)) → HasEndedIn holds_front x f depth a i b (one_more i)
+    ((all : List Entry) → IsFront a all → IsFront b (sealed all f.items.entry f.items.count)) →
+    HasEndedIn holds_front x f depth a i b (one_more i)
 front_ended x a b f i depth is = record {
   holds = λ e fs ts us rest t d ends (all, w, held).
       let v = is all w in
-      let step = ended x (whole_builder a all w) (whole_builder b (sealed all f.items.entry f.items.count) v) f i depth refl in
+      let step = ended x (whole_builder a all w) (whole_builder b (sealed all f.items.entry f.items.count) v) f i depth
+      refl in
       (sealed all f.items.entry f.items.count, v, step.holds e fs ts us rest t d ends held);
 }
 
 pub front_kept :
     (x : List ℕ) (a b : FrontBuilder) (f : OpenFrame EntryItems) (i : EntryItems) (depth : ℕ) →
-    ((all : List Entry) → IsFront a all → IsFront b (take (suc f.items.entry) all)) → HasKept holds_front x f depth a i b (one_more i)
+    ((all : List Entry) → IsFront a all → IsFront b (take (suc f.items.entry) all)) →
+    HasKept holds_front x f depth a i b (one_more i)
 front_kept x a b f i depth is = record {
   holds = λ inside lost e fs ts us rest k d m here tried none (all, w, held).
       let v = is all w in
@@ -91,9 +103,11 @@ front_kept x a b f i depth is = record {
 -- an entry that is not kept is changed among the others
 set_behind : {A : Type 0} (xs ys : List A) (n : ℕ) (a : A) → set (xs ++ ys) (length xs + n) a ≡ xs ++ set ys n a
 set_behind [] ys n a = ap (λ k. set ys k a) (zero-add n)
-set_behind (x ∷ xs) ys n a = ap (λ k. set (x ∷ (xs ++ ys)) k a) (suc-add (length xs) n) ∙ ap (λ z. x ∷ z) (set_behind xs ys n a)
+set_behind (x ∷ xs) ys n a =
+    ap (λ k. set (x ∷ (xs ++ ys)) k a) (suc-add (length xs) n) ∙ ap (λ z. x ∷ z) (set_behind xs ys n a)
 
-pub sealed_behind : (b : FrontBuilder) (all : List Entry) (entry items : ℕ) → length b.kept.items ≤ entry → IsFront b all → IsFront b (sealed all entry items)
+pub sealed_behind : (b : FrontBuilder) (all : List Entry) (entry items : ℕ) → length b.kept.items ≤ entry →
+    IsFront b all → IsFront b (sealed all entry items)
 sealed_behind b all entry items le w =
     let own = length b.kept.items in
     let new = with_items items (length all) (get_or all entry no_entry) in
@@ -107,35 +121,42 @@ sealed_behind b all entry items le w =
 
 -- one that is kept is changed there
 pub sealed_within :
-    (b c : FrontBuilder) (all : List Entry) (entry items next : ℕ) (r : Entry) → entry < length b.kept.items → IsFront b all →
-    r ≡ get_or b.kept.items entry no_entry → next ≡ length all → c.kept.items ≡ set b.kept.items entry (with_items items next r) →
+    (b c : FrontBuilder) (all : List Entry) (entry items next : ℕ) (r : Entry) → entry < length b.kept.items →
+    IsFront b all →
+    r ≡ get_or b.kept.items entry no_entry → next ≡ length all →
+    c.kept.items ≡ set b.kept.items entry (with_items items next r) →
     c.beyond ≡ b.beyond → IsFront c (sealed all entry items)
 sealed_within b c all entry items next r lt w is at new same =
     let there : r ≡ get_or all entry no_entry =
     is ∙ sym (ap (λ z. get_or z entry no_entry) w.whole ∙ get_or_append_left b.kept.items w.others no_entry entry lt) in
     let made = with_items items (length all) (get_or all entry no_entry) in
     let put : c.kept.items ≡ set b.kept.items entry made =
-    new ∙ ap (λ z. set b.kept.items entry (with_items items z r)) at ∙ ap (λ z. set b.kept.items entry (with_items items (length all) z)) there in
+    new ∙ ap (λ z. set b.kept.items entry (with_items items z r)) at
+    ∙ ap (λ z. set b.kept.items entry (with_items items (length all) z)) there in
     record {
       others = w.others;
-      whole = ap (λ z. set z entry made) w.whole ∙ set-append_left b.kept.items w.others entry made lt ∙ ap (λ z. z ++ w.others) (sym put);
+      whole = ap (λ z. set z entry made) w.whole ∙ set-append_left b.kept.items w.others entry made lt
+          ∙ ap (λ z. z ++ w.others) (sym put);
       count = w.count ∙ sym same;
     }
 
 -- those up to a place behind the ones that are kept
 pub cut_behind :
-    (b c : FrontBuilder) (all : List Entry) (n : ℕ) → length b.kept.items ≤ n → n - length b.kept.items ≤ b.beyond → IsFront b all →
+    (b c : FrontBuilder) (all : List Entry) (n : ℕ) → length b.kept.items ≤ n → n - length b.kept.items ≤ b.beyond →
+    IsFront b all →
     c.kept.items ≡ b.kept.items → c.beyond ≡ n - length b.kept.items → IsFront c (take n all)
 cut_behind b c all n le few w same beyond =
     let own = length b.kept.items in
     let at : own + (n - own) ≡ n = omega (arith, le) in
     record {
       others = take (n - own) w.others;
-      whole = ap (take n) w.whole ∙ ap (λ z. take z (b.kept.items ++ w.others)) (sym at) ∙ take-append-add b.kept.items w.others (n - own)
+      whole = ap (take n) w.whole ∙ ap (λ z. take z (b.kept.items ++ w.others)) (sym at)
+          ∙ take-append-add b.kept.items w.others (n - own)
           ∙ ap (λ z. z ++ take (n - own) w.others) (sym same);
       count = length-take-le (n - own) w.others (omega (arith, few, w.count)) ∙ sym beyond;
     }
 
 -- or behind all
-pub cut_none : (b : FrontBuilder) (all : List Entry) (n : ℕ) → length b.kept.items + b.beyond ≤ n → IsFront b all → IsFront b (take n all)
+pub cut_none : (b : FrontBuilder) (all : List Entry) (n : ℕ) → length b.kept.items + b.beyond ≤ n → IsFront b all →
+    IsFront b (take n all)
 cut_none b all n le w = subst (IsFront b) (sym (take_all n all (omega (arith, le, front_length b all w)))) w

@@ -18,7 +18,8 @@ some_header x is none =
     (e.whole ∙ sym (append_assoc e.identifier e.len v))
 
 -- the header at its front is its own, and the contents octets follow
-pub front_found : (x : List ℕ) (size m : ℕ) (c : ASN1Class) (k : Bool) (n : ℕ) → IsEncoding x → BeginsWithHeader x size m c k n
+pub front_found : (x : List ℕ) (size m : ℕ) (c : ASN1Class) (k : Bool) (n : ℕ) → IsEncoding x →
+    BeginsWithHeader x size m c k n
     → Encoding x c k n (drop size x) size × (m ≡ length (drop size x))
 front_found x size m c k n is f =
     let e = is.encoding in
@@ -26,7 +27,8 @@ front_found x size m c k n is f =
     let w = drop size x in
     let parts : x ≡ f.identifier ++ (f.len ++ w) =
     sym (take-append-drop size x) ∙ (ap (λ z. z ++ w) f.front_is ∙ append_assoc f.identifier f.len w) in
-    let same = identifier_alone e.identifier f.identifier (e.len ++ v) (f.len ++ w) is.class c is.constructed k is.tag n e.identifier_octets
+    let same = identifier_alone e.identifier f.identifier (e.len ++ v) (f.len ++ w) is.class c is.constructed k is.tag n
+    e.identifier_octets
     f.fields (sym e.whole ∙ parts) in
     let lens = length_alone e.len f.len v w (length v) m e.length_octets f.length_octets same.rest in
     let count : m ≡ length w = sym lens.number ∙ ap length lens.rest in (
@@ -46,16 +48,23 @@ pub some_identifier : (x : List ℕ) → IsEncoding x → BeginsWithNo IsSomeIde
 some_identifier x is none =
     let e = is.encoding in
     let i = e.identifier in
-    let front : take (length i) x ≡ i = ap (take (length i)) e.whole ∙ take_at i (e.len ++ is.contents) (length i) refl in
-    none is.tag (length i) (is.class, is.constructed, subst (λ z. IsIdentifier z is.class is.constructed is.tag) (sym front) e.identifier_octets)
+    let front : take (length i) x ≡ i =
+    ap (take (length i)) e.whole ∙ take_at i (e.len ++ is.contents) (length i) refl in
+    none is.tag (length i) (
+      is.class,
+      is.constructed,
+      subst (λ z. IsIdentifier z is.class is.constructed is.tag) (sym front) e.identifier_octets,
+    )
 
 -- identifier octets at the front are its own
-pub identifier_found : (x : List ℕ) (size n : ℕ) (c : ASN1Class) (k : Bool) → (is : IsEncoding x) → size ≤ length x → IsIdentifier (take size x) c k n
+pub identifier_found : (x : List ℕ) (size n : ℕ) (c : ASN1Class) (k : Bool) → (is : IsEncoding x) → size ≤ length x →
+    IsIdentifier (take size x) c k n
     → length is.encoding.identifier ≡ size
 identifier_found x size n c k is within found =
     let e = is.encoding in
     let v = is.contents in
-    let same = identifier_alone e.identifier (take size x) (e.len ++ v) (drop size x) is.class c is.constructed k is.tag n e.identifier_octets
+    let same = identifier_alone e.identifier (take size x) (e.len ++ v) (drop size x) is.class c is.constructed k is.tag
+    n e.identifier_octets
     found (sym e.whole ∙ sym (take-append-drop size x)) in
     ap length same.octets ∙ length-take-le size x within
 
@@ -67,7 +76,8 @@ universal_number ContextSpecific e = absurd (omega (arith, e))
 universal_number Private e = absurd (omega (arith, e))
 
 -- the contents octets are what follows the header
-pub contents_behind : (x : List ℕ) (c : ASN1Class) (k : Bool) (n : ℕ) (v : List ℕ) (h : ℕ) → Encoding x c k n v h → drop h x ≡ v
+pub contents_behind : (x : List ℕ) (c : ASN1Class) (k : Bool) (n : ℕ) (v : List ℕ) (h : ℕ) → Encoding x c k n v h →
+    drop h x ≡ v
 contents_behind x c k n v h e =
     let i = e.identifier in
     let l = e.len in

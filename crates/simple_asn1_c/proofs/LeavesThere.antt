@@ -23,7 +23,8 @@ small_tag n field m (low, high) e s = elim (cases_lt n (2 ^ 64)) [
 ]
 
 module _ (octets : List ℕ) (offset : ℕ) where
-  pub leaf_here : (l : Leaf) (v : List ℕ) → UniversalAt octets offset (leaf_tag l) v → LeafContents l v → IsLeafAt octets offset l
+  pub leaf_here : (l : Leaf) (v : List ℕ) → UniversalAt octets offset (leaf_tag l) v → LeafContents l v →
+      IsLeafAt octets offset l
   leaf_here l v u means =
       let s : Encodes 0 u.whole (leaf 0 l) = (refl, u.constructed, v, u.header, u.encoding, means) in
       let some = block_some u.whole (encodes_block 0 u.whole (leaf 0 l) s) in
@@ -44,21 +45,25 @@ module _ (octets : List ℕ) (offset : ℕ) where
       }
 
   -- one encoding stands there
-  pub one_universal : (m n : ℕ) (v w : List ℕ) → UniversalAt octets offset m v → UniversalAt octets offset n w → (m ≡ n) × (v ≡ w)
+  pub one_universal : (m n : ℕ) (v w : List ℕ) → UniversalAt octets offset m v → UniversalAt octets offset n w →
+      (m ≡ n) × (v ≡ w)
   one_universal m n v w a b =
       let same = encoding_at_alone octets offset a.whole b.whole a.at b.at in
       let here = subst (λ z. Encoding z Universal a.constructed m v a.header) same a.encoding in
-      let e = encoding_alone b.whole b.whole Universal Universal a.constructed b.constructed m n v w a.header b.header [] [] here b.encoding refl in
+      let e = encoding_alone b.whole b.whole Universal Universal a.constructed b.constructed m n v w a.header b.header
+      [] [] here b.encoding refl in
       (e.tag, e.contents)
 
   -- contents octets at fault are the first fault
-  first_fault : (n : ℕ) (v : List ℕ) (u : UniversalAt octets offset n v) (fault : DecodeFault) → LeafFault n v fault → FirstFault u.whole fault
+  first_fault : (n : ℕ) (v : List ℕ) (u : UniversalAt octets offset n v) (fault : DecodeFault) → LeafFault n v fault →
+      FirstFault u.whole fault
   first_fault n v u fault f =
       let x = u.whole in
       (0, inr (in_contents [] x [] (sym (append-nil x)) no_blocks u.encoding f))
 
   -- a kind, whose values are leaves with one of these tags
-  module _ (Value : Type 0) (IsTag : ℕ → Type 0) (leaf_of : Value → (l : Leaf) × IsTag (leaf_tag l) × IsLeafAt octets offset l) where
+  module _ (Value : Type 0) (IsTag : ℕ → Type 0)
+      (leaf_of : Value → (l : Leaf) × IsTag (leaf_tag l) × IsLeafAt octets offset l) where
     none_there : (s : ℕ) → ((n : ℕ) (v : List ℕ) → IsTag n → UniversalAt octets offset n v → ⊥) → s ≡ no_such_value
         → IsMissing Value IsTag octets offset s
     none_there s none e = inr (
@@ -69,12 +74,14 @@ module _ (octets : List ℕ) (offset : ℕ) where
       is_of_another_kind e none,
     )
 
-    pub nothing_there : (status s : ℕ) → (status ≡ no_memory) ⊎ ((status ≡ no_such_value) × ((n : ℕ) (v : List ℕ) → UniversalAt octets offset n v → ⊥))
+    pub nothing_there : (status s : ℕ) →
+        (status ≡ no_memory) ⊎ ((status ≡ no_such_value) × ((n : ℕ) (v : List ℕ) → UniversalAt octets offset n v → ⊥))
         → s ≡ status → IsMissing Value IsTag octets offset s
     nothing_there status s (inl m) e = inl (e ∙ m)
     nothing_there status s (inr (m, none)) e = none_there s (λ n v t u. none n v u) (e ∙ m)
 
-    pub another_there : (s n field : ℕ) (v : List ℕ) → UniversalAt octets offset n v → HasTag n field → ((m : ℕ) → IsTag m → m < 2 ^ 64)
+    pub another_there : (s n field : ℕ) (v : List ℕ) → UniversalAt octets offset n v → HasTag n field →
+        ((m : ℕ) → IsTag m → m < 2 ^ 64)
         → (IsTag field → ⊥) → s ≡ no_such_value → IsMissing Value IsTag octets offset s
     another_there s n field v u (exact, capped) small other e =
         none_there s (λ m w t a.
@@ -82,7 +89,8 @@ module _ (octets : List ℕ) (offset : ℕ) where
         let number : field ≡ n = exact (subst (λ z. z < 2 ^ 64) same (small m t)) in
         other (subst IsTag (same ∙ sym number) t)) e
 
-    pub fault_there : (s n : ℕ) (v : List ℕ) → IsTag n → UniversalAt octets offset n v → (fault : DecodeFault) → LeafFault n v fault
+    pub fault_there : (s n : ℕ) (v : List ℕ) → IsTag n → UniversalAt octets offset n v → (fault : DecodeFault) →
+        LeafFault n v fault
         → s ≡ status_of fault → IsMissing Value IsTag octets offset s
     fault_there s n v t u fault f e = inr (
       (λ value.

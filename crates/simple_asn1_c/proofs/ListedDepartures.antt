@@ -4,30 +4,9 @@ use Rattle.std.specs.Prelude.{◌↔◌}
 use Rattle.asn1_departures.specs.Departures.{AreDepartures, NoEncodingsFault}
 use Rattle.asn1_departures.specs.declared.rule.Departure.{Departure}
 use Rattle.asn1_der.specs.Der.{IsDer}
-use Rattle.simple_asn1.specs.Fault.{
-  DecodeFault,
-  bad_boolean_length,
-  empty_buffer,
-  incomplete,
-  invalid_bit_string_length,
-  invalid_class,
-  invalid_date_value,
-  length_too_large,
-  not_canonical,
-  out_of_memory,
-  overflow,
-  printable_string_failure,
-  utf8_failure,
-}
+use Rattle.simple_asn1.specs.Fault.{DecodeFault, bad_boolean_length, empty_buffer, incomplete, invalid_bit_string_length, invalid_class, invalid_date_value, length_too_large, not_canonical, out_of_memory, overflow, printable_string_failure, utf8_failure}
 use Rattle.simple_asn1_c.specs.Answers.{IsNoMemory}
-use Rattle.simple_asn1_c.specs.Departures.{
-  AnswersDepartures,
-  IsNoEncodings,
-  are_no_encodings,
-  departure_record,
-  had_no_memory_to_list,
-  were_listed,
-}
+use Rattle.simple_asn1_c.specs.Departures.{AnswersDepartures, IsNoEncodings, are_no_encodings, departure_record, had_no_memory_to_list, were_listed}
 use Rattle.simple_asn1_c.specs.Room.{ArePut}
 use Rattle.simple_asn1_c.specs.Status.{done, status_of}
 use Rattle.simple_asn1_c.specs.declared.record.DepartureRecord.{DepartureRecord}
@@ -36,13 +15,16 @@ use Rattle.simple_asn1_c.proofs.Outcomes.{Tells, no_memory_told}
 
 pub departures_answer :
     (octets : List ℕ) (all found : List Departure) (before after : List DepartureRecord) (o : Outcome) → found ≡ all →
-    AreDepartures octets all → (all ≡ []) ↔ IsDer octets → ArePut (map departure_record found) before after o → AnswersDepartures octets before after o
+    AreDepartures octets all → (all ≡ []) ↔ IsDer octets → ArePut (map departure_record found) before after o →
+    AnswersDepartures octets before after o
 departures_answer octets all found before after o e are same put =
     were_listed all are same (subst (λ z. ArePut (map departure_record z) before after o) e put)
 
-pub departures_refused : (octets : List ℕ) (before : List DepartureRecord) (o : Outcome) (status offset : ℕ) → Tells o status offset
+pub departures_refused : (octets : List ℕ) (before : List DepartureRecord) (o : Outcome) (status offset : ℕ) →
+    Tells o status offset
     → IsNoMemory status offset ⊎ IsNoEncodings octets status offset → AnswersDepartures octets before before o
-departures_refused octets before o status offset told (inl m) = had_no_memory_to_list (no_memory_told o status offset told m) told.2 refl
+departures_refused octets before o status offset told (inl m) =
+    had_no_memory_to_list (no_memory_told o status offset told m) told.2 refl
 departures_refused octets before o status offset (s, p, c) (inr (fault, first, e)) =
     are_no_encodings (fault, subst (λ z. NoEncodingsFault octets z fault) (sym p) first, s ∙ e) c refl
 
@@ -62,14 +44,18 @@ not_done (invalid_class n) e = absurd (omega (arith, e))
 not_done overflow e = absurd (omega (arith, e))
 
 -- none are counted where there are none
-none_counted : (found : List Departure) (count : ℕ) → count ≡ length (map departure_record found) → (count ≡ 0) ↔ (found ≡ [])
+none_counted : (found : List Departure) (count : ℕ) → count ≡ length (map departure_record found) →
+    (count ≡ 0) ↔ (found ≡ [])
 none_counted [] count e = ((λ z. refl), (λ none. e))
 none_counted (d ∷ found) count e = ((λ z. absurd (omega (arith, e, z))), (λ none. cc))
 
-pub none_for_der : (octets : List ℕ) (before after : List DepartureRecord) (o : Outcome) → AnswersDepartures octets before after o
+pub none_for_der : (octets : List ℕ) (before after : List DepartureRecord) (o : Outcome) →
+    AnswersDepartures octets before after o
     → o.status ≡ done → (o.count ≡ 0) ↔ IsDer octets
 none_for_der octets before after o (were_listed found are same put) e =
     let none = none_counted found o.count put.0 in
     ((λ z. same.0 (none.0 z)), (λ der. none.1 (same.1 der)))
-none_for_der octets before after o (are_no_encodings (fault, at, status) count kept) e = absurd (not_done fault (sym status ∙ e))
-none_for_der octets before after o (had_no_memory_to_list (status, place) count kept) e = absurd (omega (arith, status, e))
+none_for_der octets before after o (are_no_encodings (fault, at, status) count kept) e =
+    absurd (not_done fault (sym status ∙ e))
+none_for_der octets before after o (had_no_memory_to_list (status, place) count kept) e =
+    absurd (omega (arith, status, e))

@@ -17,25 +17,30 @@ pub item_more : (rs : List Entry) (index end step : ℕ) → 0 < step → index 
 item_more rs index end zero some below = absurd (omega (arith, some))
 item_more rs index end (suc step) some below =
     let one : step ≡ suc step - 1 = omega arith in
-    sym (cond_below index end (item_from rs (entry_at rs index).next end step) None below) ∙ ap (item_from rs (entry_at rs index).next end) one
+    sym (cond_below index end (item_from rs (entry_at rs index).next end step) None below)
+    ∙ ap (item_from rs (entry_at rs index).next end) one
 
 abbrev pub no_path : Path
 no_path = record { start = 0; length = 0 }
 
 -- one value more is put
-pub value_put : {A B : Type 0} (f : A → B) (xs : List A) (room : List B) (k : ℕ) (d : A) → k < length xs → length xs ≤ length room
+pub value_put : {A B : Type 0} (f : A → B) (xs : List A) (room : List B) (k : ℕ) (d : A) → k < length xs →
+    length xs ≤ length room
     → set (map f (take k xs) ++ drop k room) k (f (get_or xs k d)) ≡ map f (take (suc k) xs) ++ drop (suc k) room
 value_put f [] room k d h l = absurd (omega (arith, h))
 value_put f (x ∷ xs) [] k d h l = absurd (omega (arith, l))
 value_put f (x ∷ xs) (r ∷ room) zero d h l = refl
-value_put f (x ∷ xs) (r ∷ room) (suc k) d h l = ap (λ z. f x ∷ z) (value_put f xs room k d (omega (arith, h)) (omega (arith, l)))
+value_put f (x ∷ xs) (r ∷ room) (suc k) d h l =
+    ap (λ z. f x ∷ z) (value_put f xs room k d (omega (arith, h)) (omega (arith, l)))
 
 -- the magnitude, by whether the first bit is set
 pub magnitude_by : (octets : List ℕ) (negative : Bool) → (IsTrue negative ↔ (128 ≤ get_or octets 0 0))
     → number_from_digits 256 (magnitude_digits negative octets) ≡ magnitude_of octets
-magnitude_by octets true is = ap (λ t. number_from_digits 256 (magnitude_digits t octets)) (sym (le-leb 128 (get_or octets 0 0) (is.0 refl)))
+magnitude_by octets true is =
+    ap (λ t. number_from_digits 256 (magnitude_digits t octets)) (sym (le-leb 128 (get_or octets 0 0) (is.0 refl)))
 magnitude_by octets false is = elim (cases_lt (get_or octets 0 0) 128) [
-  | inl below ↦ ap (λ t. number_from_digits 256 (magnitude_digits t octets)) (sym (lt-leb 128 (get_or octets 0 0) below))
+  | inl below ↦ ap (λ t. number_from_digits 256 (magnitude_digits t octets))
+      (sym (lt-leb 128 (get_or octets 0 0) below))
   | inr above ↦ let no : false ≡ true = is.1 above in cc
 ]
 
@@ -43,7 +48,8 @@ magnitude_by octets false is = elim (cases_lt (get_or octets 0 0) 128) [
 pub none_fits : (octets : List ℕ) → 2 ^ 63 ≤ magnitude_of octets → None ≡ fitting (signed_number octets)
 none_fits octets large = elim (cases_lt (get_or octets 0 0) 128) [
   | inl below ↦
-      cond_above (magnitude_of octets) (2 ^ 63) (Some (pos (magnitude_of octets))) None None large refl ∙ ap fitting (sym (signed_below octets below))
+      cond_above (magnitude_of octets) (2 ^ 63) (Some (pos (magnitude_of octets))) None None large refl
+      ∙ ap fitting (sym (signed_below octets below))
   | inr above ↦
       cond_above (magnitude_of octets) (2 ^ 63) (Some (negsuc (magnitude_of octets))) None None large refl
       ∙ ap fitting (sym (signed_above octets above))
@@ -52,12 +58,8 @@ none_fits octets large = elim (cases_lt (get_or octets 0 0) 128) [
 pub natural_fits : (octets : List ℕ) → get_or octets 0 0 < 128 → magnitude_of octets < 2 ^ 63
     → Some (pos (magnitude_of octets)) ≡ fitting (signed_number octets)
 natural_fits octets below small =
-    cond_below (magnitude_of octets) (2 ^ 63) (Some (pos (magnitude_of octets))) None small ∙ ap fitting (sym (signed_below octets below))
-
-pub negative_fits : (octets : List ℕ) → 128 ≤ get_or octets 0 0 → magnitude_of octets < 2 ^ 63
-    → Some (negsuc (magnitude_of octets)) ≡ fitting (signed_number octets)
-negative_fits octets above small =
-    cond_below (magnitude_of octets) (2 ^ 63) (Some (negsuc (magnitude_of octets))) None small ∙ ap fitting (sym (signed_above octets above))
+    cond_below (magnitude_of octets) (2 ^ 63) (Some (pos (magnitude_of octets))) None small
+    ∙ ap fitting (sym (signed_below octets below))
 
 some_same : {A : Type 0} {x y : A} → Some x ≡ Some y → x ≡ y
 some_same e = cc

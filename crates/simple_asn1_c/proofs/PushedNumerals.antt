@@ -27,11 +27,13 @@ digit_numeral (suc m) low =
     let last : suc m % 10 ≡ suc m = omega (arith, low) in
     sym (
     natural_some (suc m) (omega arith)
-    ∙ ap (map digit) (digits_of_step 10 (suc m) (omega arith) (omega arith) ∙ (λ i. digits_of 10 (none i) ++ (last i ∷ [])))
+    ∙ ap (map digit) (digits_of_step 10 (suc m) (omega arith) (omega arith)
+    ∙ (λ i. digits_of 10 (none i) ++ (last i ∷ [])))
     )
 
 -- the components of contents octets, one after another
-pub dotted_pushed : (contents rest : List ℕ) (b x y : ℕ) (text one two all : List ℕ) → contents ≡ b ∷ rest → AreFirstTwo x y b
+pub dotted_pushed : (contents rest : List ℕ) (b x y : ℕ) (text one two all : List ℕ) → contents ≡ b ∷ rest →
+    AreFirstTwo x y b
     → one ≡ text ++ natural_numeral x → two ≡ one ++ pointed y → all ≡ two ++ flat_map pointed (numbers_after 0 rest)
     → all ≡ text ++ dotted_decimal (components_of contents)
 dotted_pushed contents rest b x y text one two all e pair first second others =
@@ -39,7 +41,8 @@ dotted_pushed contents rest b x y text one two all e pair first second others =
     let y_is : second_component b ≡ y = second_found x y b pair in
     let ns = numbers_after 0 rest in
     let components : x ∷ y ∷ ns ≡ components_of contents = sym (ap components_of e ∙ cc) in
-    let whole : text ++ (natural_numeral x ++ (pointed y ++ flat_map pointed ns)) ≡ text ++ dotted_decimal (components_of contents) =
+    let whole : text ++ (natural_numeral x ++ (pointed y ++ flat_map pointed ns)) ≡ text
+    ++ dotted_decimal (components_of contents) =
     ap (λ z. text ++ z) (sym (dotted_first x (y ∷ ns)) ∙ ap dotted_decimal components) in
     others
     ∙ ap (λ z. z ++ flat_map pointed ns) (second ∙ ap (λ z. z ++ pointed y) first)

@@ -47,21 +47,24 @@ ascii_all : (cs : List ℕ) → All (λ b. b < 128) cs → list_all is_ascii cs 
 ascii_all [] all = refl
 ascii_all (c ∷ cs) all =
     let h : c < 128 = All-head (λ b. b < 128) c cs all in
-    and_from (is_ascii c) (list_all is_ascii cs) (grind (arith, nat_tests, h)) (ascii_all cs (All-tail (λ b. b < 128) c cs all))
+    and_from (is_ascii c) (list_all is_ascii cs) (grind (arith, nat_tests, h))
+    (ascii_all cs (All-tail (λ b. b < 128) c cs all))
 
 -- a text is ASCII exactly if its characters are
 pub ascii_text : (text : List ℕ) → IsUtf8 text → list_all is_ascii (chars text) ≡ true → IsAscii text
 ascii_text text u e =
     let a = all_ascii (chars text) e in
     let same : encode_utf8_all (chars text) ≡ chars text =
-    ap encode_utf8_all (sym (chars-IsAscii (chars text) a)) ∙ encodes-chars (chars text) (IsUtf8-from_ascii (chars text) a) in
+    ap encode_utf8_all (sym (chars-IsAscii (chars text) a))
+    ∙ encodes-chars (chars text) (IsUtf8-from_ascii (chars text) a) in
     subst IsAscii (sym same ∙ encodes-chars text u) a
 
 pub ascii_characters : (text : List ℕ) → IsAscii text → list_all is_ascii (chars text) ≡ true
 ascii_characters text a = ap (list_all is_ascii) (chars-IsAscii text a) ∙ ascii_all text (All-from_ascii text a)
 
 -- the contents octets of allowed characters are their UTF-8
-pub allowed_octets : (form : TextForm) (text : List ℕ) → IsUtf8 text → AreAllowed form (chars text) → text_contents form (chars text) ≡ text
+pub allowed_octets : (form : TextForm) (text : List ℕ) → IsUtf8 text → AreAllowed form (chars text) →
+    text_contents form (chars text) ≡ text
 allowed_octets Utf8 text u a = encodes-chars text u
 allowed_octets Printable text u a = chars-IsAscii text (printable_ascii text ((printable_bytes text u).1 a))
 allowed_octets Octets text u a = chars-IsAscii text (ascii_text text u a)

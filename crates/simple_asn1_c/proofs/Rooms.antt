@@ -81,7 +81,8 @@ rest_room first (n ∷ ns) v (s, rest, whole, is, others) =
     omega (arith, joined, more, own, some, ap length whole, length-append s rest)
 
 -- the components of contents octets
-pub dotted_room : (ns v : List ℕ) → AreOctets v → ObjectIdentifierContents ns v → length (dotted_decimal ns) ≤ 4 * length v + 1
+pub dotted_room : (ns v : List ℕ) → AreOctets v → ObjectIdentifierContents ns v →
+    length (dotted_decimal ns) ≤ 4 * length v + 1
 dotted_room [] v all h = absurd h
 dotted_room (x ∷ []) v all h = absurd h
 dotted_room (x ∷ y ∷ ns) v all (b, rest, whole, (number, low, side), others) =
@@ -98,42 +99,52 @@ dotted_room (x ∷ y ∷ ns) v all (b, rest, whole, (number, low, side), others)
     omega (arith, joined, more, one, two, ap length whole)
 
 -- so many octets are put of them, or none
-pub dotted_few : (v before after : List ℕ) (o : Outcome) → AreOctets v → AnswersDotted v before after o → o.count ≤ 4 * length v + 1
+pub dotted_few : (v before after : List ℕ) (o : Outcome) → AreOctets v → AnswersDotted v before after o →
+    o.count ≤ 4 * length v + 1
 dotted_few v before after o all (mean_components ns is put) = omega (arith, put.0, dotted_room ns v all is)
 dotted_few v before after o all (mean_no_components fault is put) = omega (arith, put.2)
 dotted_few v before after o all (had_no_memory_for_components put) = omega (arith, put.2)
 
 -- the contents octets of what stands at an offset are octets
-contents_octets : (octets : List ℕ) (offset tag : ℕ) (v : List ℕ) → AreOctets octets → UniversalAt octets offset tag v → AreOctets v
+contents_octets : (octets : List ℕ) (offset tag : ℕ) (v : List ℕ) → AreOctets octets → UniversalAt octets offset tag v →
+    AreOctets v
 contents_octets octets offset tag v all u =
     let whole = u.whole in
-    let here : AreOctets (whole ++ u.at.rest) = subst AreOctets u.at.at_offset (All-drop (λ b. b < 256) offset octets all) in
+    let here : AreOctets (whole ++ u.at.rest) =
+    subst AreOctets u.at.at_offset (All-drop (λ b. b < 256) offset octets all) in
     let front : AreOctets whole =
-    subst AreOctets (take_at whole u.at.rest (length whole) refl) (All-take (λ b. b < 256) (length whole) (whole ++ u.at.rest) here) in
-    subst AreOctets (contents_behind whole Universal u.constructed tag v u.header u.encoding) (All-drop (λ b. b < 256) u.header whole front)
+    subst AreOctets (take_at whole u.at.rest (length whole) refl)
+    (All-take (λ b. b < 256) (length whole) (whole ++ u.at.rest) here) in
+    subst AreOctets (contents_behind whole Universal u.constructed tag v u.header u.encoding)
+    (All-drop (λ b. b < 256) u.header whole front)
 
 pub identifier_few : (octets : List ℕ) (offset : ℕ) (before after : List ℕ) (o : Outcome) → AreOctets octets
-    → AnswersIdentifier octets offset before after o → (tag : ℕ) (v : List ℕ) → UniversalAt octets offset tag v → o.count ≤ 4 * length v + 1
+    → AnswersIdentifier octets offset before after o → (tag : ℕ) (v : List ℕ) → UniversalAt octets offset tag v →
+    o.count ≤ 4 * length v + 1
 identifier_few octets offset before after o all (identifier_was_found ns is put) tag v u =
     let w = leaf_there octets offset (object_identifier ns) is in
     let same : w.contents ≡ v = (one_universal octets offset 6 tag w.contents v w.universal u).1 in
     let means = subst (ObjectIdentifierContents ns) same w.meaning in
     omega (arith, put.0, dotted_room ns v (contents_octets octets offset tag v all u) means)
-identifier_few octets offset before after o all (identifier_is_missing missing place count same) tag v u = omega (arith, count)
+identifier_few octets offset before after o all (identifier_is_missing missing place count same) tag v u =
+    omega (arith, count)
 
 -- the tag number of an encoding
-tag_room : (s : List ℕ) (c : ASN1Class) (k : Bool) (n : ℕ) → IsIdentifier s c k n → length (natural_numeral n) ≤ 3 * length s
+tag_room : (s : List ℕ) (c : ASN1Class) (k : Bool) (n : ℕ) → IsIdentifier s c k n →
+    length (natural_numeral n) ≤ 3 * length s
 tag_room [] c k n h = absurd h
 tag_room (b ∷ []) c k n h = numeral_below n 3 (omega arith) (omega (arith, h.0))
 tag_room (b ∷ d ∷ s) c k n h = omega (arith, numeral_of_base128 (d ∷ s) n h.1)
 
-pub tag_few : (octets : List ℕ) (offset : ℕ) (before after : List ℕ) (o : Outcome) → AnswersTag octets offset before after o
+pub tag_few : (octets : List ℕ) (offset : ℕ) (before after : List ℕ) (o : Outcome) →
+    AnswersTag octets offset before after o
     → (x : List ℕ) → (at : EncodingAt octets offset x) → o.count ≤ 3 * at.encoding.header
 tag_few octets offset before after o (tag_was_found tag (y, there, class, constructed, contents, header, e) put) x at =
     let same : y ≡ x = encoding_at_alone octets offset y x there at in
     let f = at.encoding.encoding in
     let own = at.encoding in
-    let z = encoding_alone y x class own.class constructed own.constructed tag own.tag contents own.contents header own.header [] [] e f
+    let z = encoding_alone y x class own.class constructed own.constructed tag own.tag contents own.contents header
+    own.header [] [] e f
     (ap (λ w. w ++ []) same) in
     let room = tag_room e.identifier class constructed tag e.identifier_octets in
     omega (arith, put.0, room, e.size, z.header)

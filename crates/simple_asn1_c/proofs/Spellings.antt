@@ -1,36 +1,5 @@
 -- One record more is spelled.
-use Rattle.std.proofs.Common.{
-  ◌≡◌,
-  ℕ,
-  zero,
-  suc,
-  ◌+◌,
-  ◌-◌,
-  ◌<◌,
-  ◌≤◌,
-  ◌^◌,
-  Bool,
-  true,
-  List,
-  [],
-  ◌∷◌,
-  ◌++◌,
-  drop,
-  get_or,
-  length,
-  take,
-  refl,
-  sym,
-  subst,
-  ap,
-  ◌∙◌,
-  arith,
-  length-append,
-  append_assoc,
-  Result,
-  Ok,
-  Err,
-}
+use Rattle.std.proofs.Common.{◌≡◌, ℕ, zero, suc, ◌+◌, ◌-◌, ◌<◌, ◌≤◌, ◌^◌, Bool, true, List, [], ◌∷◌, ◌++◌, drop, get_or, length, take, refl, sym, subst, ap, ◌∙◌, arith, length-append, append_assoc, Result, Ok, Err}
 use Rattle.std.specs.Prelude.{IfErr, IsTrue, nat_lt}
 use Rattle.std.specs.List.{concat}
 use Rattle.std.proofs.Math.Seq.{get_or-append_seam}
@@ -50,7 +19,8 @@ starts_count [] = refl
 starts_count (x ∷ xs) = omega (arith, starts_count xs, length-append (starts_of xs) (length (concat xs) ∷ []))
 
 -- without the first encodings
-take_starts_of : (k : ℕ) (xs : List (List ℕ)) → k ≤ length xs → take (length xs - k) (starts_of xs) ≡ starts_of (drop k xs)
+take_starts_of : (k : ℕ) (xs : List (List ℕ)) → k ≤ length xs →
+    take (length xs - k) (starts_of xs) ≡ starts_of (drop k xs)
 take_starts_of zero xs h =
     let n : length xs - zero ≡ length (starts_of xs) = omega (arith, starts_count xs) in
     ap (λ z. take z (starts_of xs)) n ∙ take-length (starts_of xs)
@@ -62,7 +32,8 @@ take_starts_of (suc k) (x ∷ xs) h =
     ∙ take_starts_of k xs (omega (arith, h))
 
 -- where the last of the first encodings begins
-start_of_last : (k : ℕ) (xs : List (List ℕ)) → suc k ≤ length xs → get_or (starts_of xs) (length xs - suc k) 0 ≡ length (concat (drop (suc k) xs))
+start_of_last : (k : ℕ) (xs : List (List ℕ)) → suc k ≤ length xs →
+    get_or (starts_of xs) (length xs - suc k) 0 ≡ length (concat (drop (suc k) xs))
 start_of_last k [] h = absurd (omega (arith, h))
 start_of_last zero (x ∷ xs) h =
     let n : length (x ∷ xs) - suc zero ≡ length (starts_of xs) = omega (arith, starts_count xs) in
@@ -70,15 +41,18 @@ start_of_last zero (x ∷ xs) h =
 start_of_last (suc k) (x ∷ xs) h =
     let n : length (x ∷ xs) - suc (suc k) ≡ length xs - suc k = omega arith in
     let l : length xs - suc k < length (starts_of xs) = omega (arith, h, starts_count xs) in
-    ap (λ z. get_or (starts_of (x ∷ xs)) z 0) n ∙ get_or_append_left (starts_of xs) (length (concat xs) ∷ []) 0 (length xs - suc k) l
+    ap (λ z. get_or (starts_of (x ∷ xs)) z 0) n
+    ∙ get_or_append_left (starts_of xs) (length (concat xs) ∷ []) 0 (length xs - suc k) l
     ∙ start_of_last k xs (omega (arith, h))
 
 -- there is an encoding for each place, and each begins among the octets
-module _ (octets : List ℕ) (rs : List Block) (spelled starts : List ℕ) (was : Bool) (state : IsState octets rs spelled starts was) where
+module _ (octets : List ℕ) (rs : List Block) (spelled starts : List ℕ) (was : Bool)
+    (state : IsState octets rs spelled starts was) where
   pub encodings_count : length starts ≡ length state.xs
   encodings_count = ap length state.places ∙ starts_count state.xs
 
-  pub start_within : (k start : ℕ) → 0 < k → k ≤ length starts → start ≡ get_or starts (length starts - k) 0 → start ≤ length spelled
+  pub start_within : (k start : ℕ) → 0 < k → k ≤ length starts → start ≡ get_or starts (length starts - k) 0 →
+      start ≤ length spelled
   start_within zero start some few began = absurd (omega (arith, some))
   start_within (suc k) start some few began =
       let xs = state.xs in
@@ -88,7 +62,13 @@ module _ (octets : List ℕ) (rs : List Block) (spelled starts : List ℕ) (was 
       ∙ ap (λ z. get_or (starts_of xs) (z - suc k) 0) (starts_count xs) ∙ start_of_last k xs fits in
       let whole : concat (take (suc k) xs) ++ concat (drop (suc k) xs) ≡ concat xs =
       sym (concat-append (take (suc k) xs) (drop (suc k) xs)) ∙ ap concat (take-append-drop (suc k) xs) in
-      omega (arith, at, ap length state.joined, ap length whole, length-append (concat (take (suc k) xs)) (concat (drop (suc k) xs)))
+      omega (
+        arith,
+        at,
+        ap length state.joined,
+        ap length whole,
+        length-append (concat (take (suc k) xs)) (concat (drop (suc k) xs)),
+      )
 
 module _ (octets : List ℕ) (r : Block) (class : ASN1Class) (is : class_number class ≡ r.tag_class)
     (rs : List Block) (spelled starts new_spelled new_starts : List ℕ) (was now : Bool)
@@ -112,29 +92,42 @@ module _ (octets : List ℕ) (r : Block) (class : ASN1Class) (is : class_number 
       record {
         xs = shortest_encoding class (nat_lt 0 r.constructed) r.tag v ∷ xs;
         spells = spells_contents r class is low none within state.spells;
-        joined = headed ∙ ap (λ z. i ++ (l ++ z)) inner ∙ sym (append_assoc i (l ++ v) (concat xs) ∙ ap (λ z. i ++ z) (append_assoc l v (concat xs)));
-        places = started ∙ ap (λ z. z ++ length spelled ∷ []) state.places ∙ ap (λ z. starts_of xs ++ length z ∷ []) state.joined;
+        joined = headed ∙ ap (λ z. i ++ (l ++ z)) inner
+            ∙ sym (append_assoc i (l ++ v) (concat xs) ∙ ap (λ z. i ++ z) (append_assoc l v (concat xs)));
+        places = started ∙ ap (λ z. z ++ length spelled ∷ []) state.places
+            ∙ ap (λ z. starts_of xs ++ length z ∷ []) state.joined;
         found = λ yes. (this yes, state.found (so_far yes));
       }
 
   -- with the encodings that follow it
   pub items_more :
-      (start size : ℕ) (left : List ℕ) → r.tag < greatest_tag → 0 < r.items → r.items ≤ length starts → left ≡ take (length starts - r.items) starts →
+      (start size : ℕ) (left : List ℕ) → r.tag < greatest_tag → 0 < r.items → r.items ≤ length starts →
+      left ≡ take (length starts - r.items) starts →
       start ≡ get_or starts (length starts - r.items) 0 → size + start ≡ length spelled →
       new_spelled ≡ shortest_identifier class true r.tag ++ (shortest_length size ++ spelled) →
-      new_starts ≡ left ++ start ∷ [] → size < 2 ^ 64 → (IsTrue now → IsTrue was) → (IsTrue now → HoldsBlocks class r.tag r.items) →
+      new_starts ≡ left ++ start ∷ [] → size < 2 ^ 64 → (IsTrue now → IsTrue was) →
+      (IsTrue now → HoldsBlocks class r.tag r.items) →
       IsState octets (r ∷ rs) new_spelled new_starts now
   items_more start size left low some few taken began sized headed started small so_far this =
       let k = r.items in
       let count : length starts ≡ length xs = ap length state.places ∙ starts_count xs in
       let fits : k ≤ length xs = omega (arith, few, count) in
-      let whole : concat (take k xs) ++ concat (drop k xs) ≡ concat xs = sym (concat-append (take k xs) (drop k xs)) ∙ ap concat (take-append-drop k xs) in
+      let whole : concat (take k xs) ++ concat (drop k xs) ≡ concat xs =
+      sym (concat-append (take k xs) (drop k xs)) ∙ ap concat (take-append-drop k xs) in
       let at : start ≡ length (concat (drop k xs)) =
-      began ∙ ap (λ z. get_or z (length z - k) 0) state.places ∙ ap (λ z. get_or (starts_of xs) (z - k) 0) (starts_count xs)
+      began ∙ ap (λ z. get_or z (length z - k) 0) state.places
+      ∙ ap (λ z. get_or (starts_of xs) (z - k) 0) (starts_count xs)
       ∙ begins k some fits in
       let i = shortest_identifier class true r.tag in
       let inside : size ≡ length (concat (take k xs)) =
-      omega (arith, sized, at, ap length state.joined, ap length whole, length-append (concat (take k xs)) (concat (drop k xs))) in
+      omega (
+        arith,
+        sized,
+        at,
+        ap length state.joined,
+        ap length whole,
+        length-append (concat (take k xs)) (concat (drop k xs)),
+      ) in
       let v = concat (take k xs) in
       let l = shortest_length (length v) in
       let rest : left ≡ starts_of (drop k xs) =
@@ -143,11 +136,14 @@ module _ (octets : List ℕ) (r : Block) (class : ASN1Class) (is : class_number 
       record {
         xs = shortest_encoding class true r.tag v ∷ drop k xs;
         spells = spells_items r class is low some fits state.spells;
-        joined = headed ∙ ap (λ z. i ++ (shortest_length z ++ spelled)) inside ∙ ap (λ z. i ++ (l ++ z)) (state.joined ∙ sym whole)
-            ∙ sym (append_assoc i (l ++ v) (concat (drop k xs)) ∙ ap (λ z. i ++ z) (append_assoc l v (concat (drop k xs))));
+        joined = headed ∙ ap (λ z. i ++ (shortest_length z ++ spelled)) inside
+            ∙ ap (λ z. i ++ (l ++ z)) (state.joined ∙ sym whole)
+            ∙ sym (append_assoc i (l ++ v) (concat (drop k xs))
+            ∙ ap (λ z. i ++ z) (append_assoc l v (concat (drop k xs))));
         places = started ∙ ap (λ z. z ++ start ∷ []) rest ∙ ap (λ z. starts_of (drop k xs) ++ z ∷ []) at;
         found = λ yes. (
-          holding_block class r.tag k (take k xs) (this yes) (sym (length-take-le k xs fits)) (subst (λ z. z < 2 ^ 64) inside small)
+          holding_block class r.tag k (take k xs) (this yes) (sym (length-take-le k xs fits))
+              (subst (λ z. z < 2 ^ 64) inside small)
               (blocks_take k xs (state.found (so_far yes))),
           blocks_drop k xs (state.found (so_far yes)),
         );
@@ -159,9 +155,12 @@ module _ (octets : List ℕ) (r : Block) (class : ASN1Class) (is : class_number 
 
 -- a record that holds more than there are can't be put
 pub too_many :
-    (octets : List ℕ) (r : Block) (spelled starts : List ℕ) (was : Bool) (E : Type 0) (bad : E) (put : Result (Unit {0}) E) →
+    (octets : List ℕ) (r : Block) (spelled starts : List ℕ) (was : Bool) (E : Type 0) (bad : E)
+    (put : Result (Unit {0}) E) →
     IfErr put (λ e. e ≡ bad → (rs : List Block) → IsState octets rs spelled starts was → length starts < r.items) →
-    IfErr put (λ e. e ≡ bad → (rs : List Block) → (s : IsState octets rs spelled starts was) → IsUnspellable octets s.xs r)
+    IfErr put (λ e. e ≡ bad → (rs : List Block) → (s : IsState octets rs spelled starts was) →
+    IsUnspellable octets s.xs r)
 too_many octets r spelled starts was E bad (Ok x) h = h
 too_many octets r spelled starts was E bad (Err e) h =
-    λ same rs s. let few = h same rs s in has_too_many (omega (arith, few, encodings_count octets rs spelled starts was s))
+    λ same rs s. let few = h same rs s in
+    has_too_many (omega (arith, few, encodings_count octets rs spelled starts was s))

@@ -35,12 +35,14 @@ record Tagged (x : List ℕ) (b : Tree ℕ) (tag : ℕ) : Type 0 where
   header : ℕ
   encoding : Encoding octets Universal constructed tag contents header
 
-tagged : (x : List ℕ) (n : Node) (i d tag : ℕ) (e : Entry) (y : List ℕ) → IsEntry x n i d e → IsEncodedIn x (node_tree n) y → tag < 64 → IsUniversal tag e
+tagged : (x : List ℕ) (n : Node) (i d tag : ℕ) (e : Entry) (y : List ℕ) → IsEntry x n i d e →
+    IsEncodedIn x (node_tree n) y → tag < 64 → IsUniversal tag e
     → Tagged x (node_tree n) tag
 tagged x n i d tag e y is s small (class, number) =
     let b = node_tree n in
     let (octets, at, h) = is.header in
-    let same = encoding_at_alone x (tree_offset b) octets y (subst (λ o. EncodingAt x o octets) is.offset at) (encoding_of x b y s) in
+    let same = encoding_at_alone x (tree_offset b) octets y (subst (λ o. EncodingAt x o octets) is.offset at)
+    (encoding_of x b y s) in
     let t = small_tag h.tag e.tag tag h.tag_field number small in
     let own = subst (λ c. Encoding octets c e.constructed h.tag h.contents e.header) class h.encoding in
     record {
@@ -56,41 +58,50 @@ tagged x n i d tag e y is s small (class, number) =
 sequence_of : (x : List ℕ) (b : Tree ℕ) → Tagged x b 16 → (bs : Trees ℕ) × (b ≡ group (tree_offset b) Sequence bs)
 sequence_of x (leaf p l) t =
     let s = t.encoded in
-    let z = encoding_alone t.octets t.octets Universal Universal s.1 t.constructed (leaf_tag l) 16 s.2 t.contents s.3 t.header [] [] s.4 t.encoding refl in
+    let z = encoding_alone t.octets t.octets Universal Universal s.1 t.constructed (leaf_tag l) 16 s.2 t.contents s.3
+    t.header [] [] s.4 t.encoding refl in
     absurd (leaf_tag_no_group (leaf_tag l) Sequence (leaf_tag_is l) z.tag)
 sequence_of x (group p Sequence bs) t = (bs, refl)
 sequence_of x (group p Set bs) t =
     let s = t.encoded in
-    let z = encoding_alone t.octets t.octets Universal Universal s.1 t.constructed 17 16 s.2 t.contents s.3 t.header [] [] s.4 t.encoding refl in
+    let z = encoding_alone t.octets t.octets Universal Universal s.1 t.constructed 17 16 s.2 t.contents s.3 t.header []
+    [] s.4 t.encoding refl in
     absurd (omega (arith, z.tag))
 sequence_of x (explicit c p n b) t =
     let s = t.encoded in
-    let z = encoding_alone t.octets t.octets c Universal true t.constructed n 16 s.2 t.contents s.3 t.header [] [] s.4 t.encoding refl in
+    let z = encoding_alone t.octets t.octets c Universal true t.constructed n 16 s.2 t.contents s.3 t.header [] [] s.4
+    t.encoding refl in
     absurd (s.1 z.class)
 sequence_of x (unknown c k p n v) t =
     let s = t.encoded in
-    let z = encoding_alone t.octets t.octets c Universal k t.constructed n 16 v t.contents s.1 t.header [] [] s.2 t.encoding refl in
+    let z = encoding_alone t.octets t.octets c Universal k t.constructed n 16 v t.contents s.1 t.header [] [] s.2
+    t.encoding refl in
     absurd (elim s.3 [ inl known ↦ known.1.1 Sequence z.tag | inr other ↦ other.0 z.class ])
 
 -- a leaf with the tag number
-leaf_of : (x : List ℕ) (b : Tree ℕ) (m : Leaf) → Tagged x b (leaf_tag m) → (l : Leaf) × (leaf_tag l ≡ leaf_tag m) × (b ≡ leaf (tree_offset b) l)
+leaf_of : (x : List ℕ) (b : Tree ℕ) (m : Leaf) → Tagged x b (leaf_tag m) →
+    (l : Leaf) × (leaf_tag l ≡ leaf_tag m) × (b ≡ leaf (tree_offset b) l)
 leaf_of x (leaf p l) m t =
     let s = t.encoded in
     let n = leaf_tag m in
-    let z = encoding_alone t.octets t.octets Universal Universal s.1 t.constructed (leaf_tag l) n s.2 t.contents s.3 t.header [] [] s.4 t.encoding refl in
+    let z = encoding_alone t.octets t.octets Universal Universal s.1 t.constructed (leaf_tag l) n s.2 t.contents s.3
+    t.header [] [] s.4 t.encoding refl in
     (l, z.tag, refl)
 leaf_of x (group p g bs) m t =
     let s = t.encoded in
     let n = leaf_tag m in
-    let z = encoding_alone t.octets t.octets Universal Universal s.1 t.constructed (group_tag g) n s.2 t.contents s.3 t.header [] [] s.4 t.encoding refl in
+    let z = encoding_alone t.octets t.octets Universal Universal s.1 t.constructed (group_tag g) n s.2 t.contents s.3
+    t.header [] [] s.4 t.encoding refl in
     absurd (leaf_tag_no_group n g (leaf_tag_is m) (sym z.tag))
 leaf_of x (explicit c p n b) m t =
     let s = t.encoded in
-    let z = encoding_alone t.octets t.octets c Universal true t.constructed n (leaf_tag m) s.2 t.contents s.3 t.header [] [] s.4 t.encoding refl in
+    let z = encoding_alone t.octets t.octets c Universal true t.constructed n (leaf_tag m) s.2 t.contents s.3 t.header
+    [] [] s.4 t.encoding refl in
     absurd (s.1 z.class)
 leaf_of x (unknown c k p n v) m t =
     let s = t.encoded in
-    let z = encoding_alone t.octets t.octets c Universal k t.constructed n (leaf_tag m) v t.contents s.1 t.header [] [] s.2 t.encoding refl in
+    let z = encoding_alone t.octets t.octets c Universal k t.constructed n (leaf_tag m) v t.contents s.1 t.header [] []
+    s.2 t.encoding refl in
     absurd (elim s.3 [ inl known ↦ known.1.0 m z.tag | inr other ↦ other.0 z.class ])
 
 no_string : (kind : StringKind) → string_tag kind < 7 → ⊥
@@ -125,22 +136,27 @@ three_is (generalized_time m) e = absurd (omega (arith, e))
 
 -- and the other way: the entry of octets of class Universal with a small tag number
 universal_entry :
-    (x : List ℕ) (n : Node) (i d tag : ℕ) (e : Entry) (y : List ℕ) (k : Bool) (v : List ℕ) (h : ℕ) → IsEntry x n i d e → IsEncodedIn x (node_tree n) y →
+    (x : List ℕ) (n : Node) (i d tag : ℕ) (e : Entry) (y : List ℕ) (k : Bool) (v : List ℕ) (h : ℕ) → IsEntry x n i d e →
+    IsEncodedIn x (node_tree n) y →
     Encoding y Universal k tag v h → tag < 64 → IsUniversal tag e
 universal_entry x n i d tag e y k v h is s f small =
     let b = node_tree n in
     let (octets, at, own) = is.header in
-    let same = encoding_at_alone x (tree_offset b) octets y (subst (λ o. EncodingAt x o octets) is.offset at) (encoding_of x b y s) in
-    let z = encoding_alone octets y e.class Universal e.constructed k own.tag tag own.contents v e.header h [] [] own.encoding f (ap (λ w. w ++ []) same) in
+    let same = encoding_at_alone x (tree_offset b) octets y (subst (λ o. EncodingAt x o octets) is.offset at)
+    (encoding_of x b y s) in
+    let z = encoding_alone octets y e.class Universal e.constructed k own.tag tag own.contents v e.header h [] []
+    own.encoding f (ap (λ w. w ++ []) same) in
     (z.class, own.tag_field.0 (omega (arith, z.tag, small)) ∙ z.tag)
 
 drop_on : {A : Type 0} (m n : ℕ) (xs : List A) → drop m (drop n xs) ≡ drop (n + m) xs
 drop_on m n xs = drop-drop m n xs
 
 -- past the first of these
-past : {A : Type 0} (xs front rest : List A) (k j : ℕ) → drop k xs ≡ front ++ rest → j ≡ k + length front → drop j xs ≡ rest
+past : {A : Type 0} (xs front rest : List A) (k j : ℕ) → drop k xs ≡ front ++ rest → j ≡ k + length front →
+    drop j xs ≡ rest
 past xs front rest k j e at =
-    ap (λ z. drop z xs) at ∙ sym (drop_on (length front) k xs) ∙ ap (drop (length front)) e ∙ drop_at front rest (length front) refl
+    ap (λ z. drop z xs) at ∙ sym (drop_on (length front) k xs) ∙ ap (drop (length front)) e
+    ∙ drop_at front rest (length front) refl
 
 first_of : (n : Node) (rest : List Node) → get_or (node_in_order n ++ rest) 0 no_node ≡ n
 first_of (node b ns) rest = refl
@@ -152,7 +168,8 @@ some_in (node b ns) = omega arith
 abbrev pub part : Entry → Block
 part e = record (block_of e) { next = 0; depth = 0 }
 
-module _ (x : List ℕ) (es : List Entry) (ns : Nodes) (d : IsStructure x ns) (are : AreEntries x 0 (nodes_in_order ns) (nodes_depths 0 ns) es) where
+module _ (x : List ℕ) (es : List Entry) (ns : Nodes) (d : IsStructure x ns)
+    (are : AreEntries x 0 (nodes_in_order ns) (nodes_depths 0 ns) es) where
   -- the node at an index, and its entry
   record Found (k : ℕ) (n : Node) : Type 0 where
     within : k < length (nodes_in_order ns)
@@ -170,7 +187,8 @@ module _ (x : List ℕ) (es : List Entry) (ns : Nodes) (d : IsStructure x ns) (a
       omega (arith, ap length e, length-drop k all, length-append (node_in_order n) rest, some_in n) in
       let same : k ≡ k + 0 = omega arith in
       let is : node_at ns k ≡ n =
-      ap (λ z. get_or all z no_node) same ∙ sym (get_or-drop k all 0 no_node) ∙ ap (λ z. get_or z 0 no_node) e ∙ first_of n rest in
+      ap (λ z. get_or all z no_node) same ∙ sym (get_or-drop k all 0 no_node) ∙ ap (λ z. get_or z 0 no_node) e
+      ∙ first_of n rest in
       let (y, s, h) = structure_stands x ns d k within in
       let deep = get_or (nodes_depths 0 ns) k 0 in
       let own = node_entry x 0 all (nodes_depths 0 ns) es are k within in
@@ -179,7 +197,8 @@ module _ (x : List ℕ) (es : List Entry) (ns : Nodes) (d : IsStructure x ns) (a
         within = within;
         is = is;
         depth = deep;
-        entry = subst (λ z. IsEntry x z k deep (entry_at es k)) is (subst (λ z. IsEntry x (node_at ns k) z deep (entry_at es k)) here own);
+        entry = subst (λ z. IsEntry x z k deep (entry_at es k)) is
+            (subst (λ z. IsEntry x (node_at ns k) z deep (entry_at es k)) here own);
         octets = y;
         encoded = subst (λ z. IsEncodedIn x (node_tree z) y) is s;
         holds = subst (IsNode x) is h;
@@ -218,7 +237,8 @@ module _ (x : List ℕ) (es : List Entry) (ns : Nodes) (d : IsStructure x ns) (a
 held_in : (x : List ℕ) (b : Tree ℕ) (o : ℕ) (bs held : Trees ℕ) → b ≡ group o Sequence bs → Holds x b held → held ≡ bs
 held_in x b o bs held e h = subst (λ z. Holds x z held) e h
 
-held_by : (x : List ℕ) (b : Tree ℕ) (bs held : Trees ℕ) → b ≡ group (tree_offset b) Sequence bs → Holds x b held → held ≡ bs
+held_by : (x : List ℕ) (b : Tree ℕ) (bs held : Trees ℕ) → b ≡ group (tree_offset b) Sequence bs → Holds x b held →
+    held ≡ bs
 held_by x b bs held e h = held_in x b (tree_offset b) bs held e h
 
 -- the entries of a document begin with a signed triple of these parts
@@ -255,18 +275,21 @@ module _ (x : List ℕ) (es : List Entry) (t ab : Tree ℕ) (c i s : Node) (is r
     at_whole = found x es all d are 0 whole (nodes_in_order rest) refl
 
     at_content : Found x es all d are 1 c
-    at_content = found x es all d are 1 c (node_in_order algorithm ++ (node_in_order s ++ ([] ++ nodes_in_order rest))) inside
+    at_content = found x es all d are 1 c (node_in_order algorithm ++ (node_in_order s ++ ([] ++ nodes_in_order rest)))
+        inside
 
     at_algorithm : Found x es all d are (entry_at es 1).next algorithm
     at_algorithm =
         let after = node_in_order s ++ ([] ++ nodes_in_order rest) in
         found x es all d are (entry_at es 1).next algorithm after
-        (past (nodes_in_order all) (node_in_order c) (node_in_order algorithm ++ after) 1 (entry_at es 1).next inside at_content.entry.next)
+        (past (nodes_in_order all) (node_in_order c) (node_in_order algorithm ++ after) 1 (entry_at es 1).next inside
+        at_content.entry.next)
 
     behind : drop (entry_at es 1).next (nodes_in_order all)
         ≡ node_in_order algorithm ++ (node_in_order s ++ ([] ++ nodes_in_order rest))
     behind =
-        past (nodes_in_order all) (node_in_order c) (node_in_order algorithm ++ (node_in_order s ++ ([] ++ nodes_in_order rest))) 1
+        past (nodes_in_order all) (node_in_order c)
+        (node_in_order algorithm ++ (node_in_order s ++ ([] ++ nodes_in_order rest))) 1
         (entry_at es 1).next inside at_content.entry.next
 
     at_identifier : Found x es all d are ((entry_at es 1).next + 1) i
@@ -276,7 +299,8 @@ module _ (x : List ℕ) (es : List Entry) (t ab : Tree ℕ) (c i s : Node) (is r
         let front : drop (entry_at es 1).next (nodes_in_order all) ≡ (algorithm ∷ []) ++ (node_in_order i ++ more) =
         behind ∙ ap (λ w. algorithm ∷ w) (append_assoc (node_in_order i) (nodes_in_order is) after) in
         found x es all d are ((entry_at es 1).next + 1) i more
-        (past (nodes_in_order all) (algorithm ∷ []) (node_in_order i ++ more) (entry_at es 1).next ((entry_at es 1).next + 1) front refl)
+        (past (nodes_in_order all) (algorithm ∷ []) (node_in_order i ++ more) (entry_at es 1).next
+        ((entry_at es 1).next + 1) front refl)
 
     at_signature : Found x es all d are (entry_at es (entry_at es 1).next).next s
     at_signature =
@@ -289,17 +313,22 @@ module _ (x : List ℕ) (es : List Entry) (t ab : Tree ℕ) (c i s : Node) (is r
     pub signed_here : BeginWithTriple es → SignedThere x es
     signed_here begin =
         let w = at_whole in
-        let (bs, group_is) = sequence_of x t (tagged x whole 0 w.depth 16 (entry_at es 0) w.octets w.entry w.encoded (omega arith) begin.whole) in
+        let (bs, group_is) = sequence_of x t
+        (tagged x whole 0 w.depth 16 (entry_at es 0) w.octets w.entry w.encoded (omega arith) begin.whole) in
         let f = at_algorithm in
         let (others, algorithm_is) = sequence_of x ab
-        (tagged x algorithm (entry_at es 1).next f.depth 16 (entry_at es (entry_at es 1).next) f.octets f.entry f.encoded (omega arith) begin.algorithm) in
+        (tagged x algorithm (entry_at es 1).next f.depth 16 (entry_at es (entry_at es 1).next) f.octets f.entry
+        f.encoded (omega arith) begin.algorithm) in
         let g = at_identifier in
         let (l, six, leaf_is) = leaf_of x (node_tree i) (object_identifier [])
-        (tagged x i ((entry_at es 1).next + 1) g.depth 6 (entry_at es ((entry_at es 1).next + 1)) g.octets g.entry g.encoded (omega arith) begin.identifier) in
+        (tagged x i ((entry_at es 1).next + 1) g.depth 6 (entry_at es ((entry_at es 1).next + 1)) g.octets g.entry
+        g.encoded (omega arith) begin.identifier) in
         let (components, identifier_is) = six_is l six in
         let q = at_signature in
         let (m, three, last_is) = leaf_of x (node_tree s) (bit_string 0 [])
-        (tagged x s (entry_at es (entry_at es 1).next).next q.depth 3 (entry_at es (entry_at es (entry_at es 1).next).next) q.octets q.entry q.encoded (omega arith) begin.signature) in
+        (tagged x s (entry_at es (entry_at es 1).next).next q.depth 3
+        (entry_at es (entry_at es (entry_at es 1).next).next) q.octets q.entry q.encoded (omega arith)
+        begin.signature) in
         let (bits, octets, signature_is) = three_is m three in
         let p : SignedParts = record {
           offset = tree_offset t;
@@ -312,12 +341,14 @@ module _ (x : List ℕ) (es : List Entry) (t ab : Tree ℕ) (c i s : Node) (is r
           bits = bits;
           signature = octets;
         } in
-        let held : nodes_trees (more_nodes c (more_nodes algorithm (more_nodes s no_nodes))) ≡ bs = held_by x t bs _ group_is w.holds.0 in
+        let held : nodes_trees (more_nodes c (more_nodes algorithm (more_nodes s no_nodes))) ≡ bs =
+        held_by x t bs _ group_is w.holds.0 in
         let algorithm_held : nodes_trees (more_nodes i is) ≡ others = held_by x ab others _ algorithm_is f.holds.0 in
         let named : node_tree i ≡ identifier_tree p = leaf_is ∙ ap (leaf (tree_offset (node_tree i))) identifier_is in
         let last : node_tree s ≡ signature_tree p = last_is ∙ ap (leaf (tree_offset (node_tree s))) signature_is in
         let second_is : ab ≡ algorithm_tree p =
-        algorithm_is ∙ ap (group (tree_offset ab) Sequence) (sym algorithm_held ∙ ap (λ z. more_trees z (nodes_trees is)) named) in
+        algorithm_is ∙ ap (group (tree_offset ab) Sequence)
+        (sym algorithm_held ∙ ap (λ z. more_trees z (nodes_trees is)) named) in
         let signed : t ≡ signed_tree p =
         group_is ∙ ap (group (tree_offset t) Sequence) (sym held
         ∙ ap (λ z. more_trees (node_tree c) (more_trees z (more_trees (node_tree s) no_trees))) second_is
@@ -331,7 +362,8 @@ module _ (x : List ℕ) (es : List Entry) (t ab : Tree ℕ) (c i s : Node) (is r
         }
 
     -- one has these tags
-    pub triple_here : (p : SignedParts) → t ≡ signed_tree p → ab ≡ algorithm_tree p → node_tree i ≡ identifier_tree p → node_tree s ≡ signature_tree p
+    pub triple_here : (p : SignedParts) → t ≡ signed_tree p → ab ≡ algorithm_tree p → node_tree i ≡ identifier_tree p →
+        node_tree s ≡ signature_tree p
         → BeginWithTriple es
     triple_here p whole_is algorithm_is identifier_is signature_is =
         let w = at_whole in
@@ -343,19 +375,27 @@ module _ (x : List ℕ) (es : List Entry) (t ab : Tree ℕ) (c i s : Node) (is r
         let eg = subst (λ z. Encodes (tree_offset (node_tree i)) g.octets z) identifier_is g.encoded.encoded in
         let eq = subst (λ z. Encodes (tree_offset (node_tree s)) q.octets z) signature_is q.encoded.encoded in
         record {
-          whole = universal_entry x whole 0 w.depth 16 (entry_at es 0) w.octets ew.1 ew.2 ew.3 w.entry w.encoded ew.4 (omega arith);
+          whole = universal_entry x whole 0 w.depth 16 (entry_at es 0) w.octets ew.1 ew.2 ew.3 w.entry w.encoded ew.4
+              (omega arith);
           three = w.entry.items;
-          algorithm = universal_entry x algorithm (entry_at es 1).next f.depth 16 (entry_at es (entry_at es 1).next) f.octets ef.1 ef.2 ef.3 f.entry f.encoded ef.4 (omega arith);
+          algorithm = universal_entry x algorithm (entry_at es 1).next f.depth 16 (entry_at es (entry_at es 1).next)
+              f.octets ef.1 ef.2 ef.3 f.entry f.encoded ef.4 (omega arith);
           some = omega (arith, f.entry.items);
-          identifier = universal_entry x i ((entry_at es 1).next + 1) g.depth 6 (entry_at es ((entry_at es 1).next + 1)) g.octets eg.1 eg.2 eg.3 g.entry g.encoded eg.4 (omega arith);
-          signature = universal_entry x s (entry_at es (entry_at es 1).next).next q.depth 3 (entry_at es (entry_at es (entry_at es 1).next).next) q.octets eq.1 eq.2 eq.3 q.entry q.encoded eq.4 (omega arith);
+          identifier = universal_entry x i ((entry_at es 1).next + 1) g.depth 6 (entry_at es ((entry_at es 1).next + 1))
+              g.octets eg.1 eg.2 eg.3 g.entry g.encoded eg.4 (omega arith);
+          signature = universal_entry x s (entry_at es (entry_at es 1).next).next q.depth 3
+              (entry_at es (entry_at es (entry_at es 1).next).next) q.octets eq.1 eq.2 eq.3 q.entry q.encoded eq.4
+              (omega arith);
         }
 
 -- with nothing inside the second of three its entry has no items
 none_inside : (x : List ℕ) (es : List Entry) (t ab : Tree ℕ) (c s : Node) (rest : Nodes)
-    → (d : IsStructure x (more_nodes (node t (more_nodes c (more_nodes (node ab no_nodes) (more_nodes s no_nodes)))) rest))
-    → AreEntries x 0 (nodes_in_order (more_nodes (node t (more_nodes c (more_nodes (node ab no_nodes) (more_nodes s no_nodes)))) rest))
-    (nodes_depths 0 (more_nodes (node t (more_nodes c (more_nodes (node ab no_nodes) (more_nodes s no_nodes)))) rest)) es
+    → (d : IsStructure x (more_nodes (node t (more_nodes c (more_nodes (node ab no_nodes) (more_nodes s no_nodes))))
+    rest))
+    → AreEntries x 0 (nodes_in_order
+    (more_nodes (node t (more_nodes c (more_nodes (node ab no_nodes) (more_nodes s no_nodes)))) rest))
+    (nodes_depths 0 (more_nodes (node t (more_nodes c (more_nodes (node ab no_nodes) (more_nodes s no_nodes)))) rest))
+    es
     → (entry_at es (entry_at es 1).next).items ≡ 0
 none_inside x es t ab c s rest d are =
     let n = node ab no_nodes in
@@ -365,24 +405,29 @@ none_inside x es t ab c s rest d are =
     let inside : drop 1 (nodes_in_order ns) ≡ front ++ (node_in_order n ++ after) =
     append_assoc front (node_in_order n ++ (node_in_order s ++ [])) (nodes_in_order rest) in
     let first = found x es ns d are 1 c (node_in_order n ++ after) inside in
-    let behind = past (nodes_in_order ns) front (node_in_order n ++ after) 1 (entry_at es 1).next inside first.entry.next in
+    let behind = past (nodes_in_order ns) front (node_in_order n ++ after) 1 (entry_at es 1).next inside
+    first.entry.next in
     (found x es ns d are (entry_at es 1).next n after behind).entry.items
 
 -- the whole of a document's entries: begun with a triple
 module _ (x : List ℕ) (es : List Entry) where
   signed_from_items : (t : Tree ℕ) (ms rest : Nodes) → IsStructure x (more_nodes (node t ms) rest)
-      → AreEntries x 0 (nodes_in_order (more_nodes (node t ms) rest)) (nodes_depths 0 (more_nodes (node t ms) rest)) es → BeginWithTriple es
+      → AreEntries x 0 (nodes_in_order (more_nodes (node t ms) rest)) (nodes_depths 0 (more_nodes (node t ms) rest))
+      es → BeginWithTriple es
       → node_count ms ≡ 3 → SignedThere x es
   signed_from_items t no_nodes rest d are begin three = absurd (omega (arith, three))
   signed_from_items t (more_nodes c no_nodes) rest d are begin three = absurd (omega (arith, three))
   signed_from_items t (more_nodes c (more_nodes n no_nodes)) rest d are begin three = absurd (omega (arith, three))
   signed_from_items t (more_nodes c (more_nodes (node ab no_nodes) (more_nodes s no_nodes))) rest d are begin three =
       absurd (omega (arith, begin.some, none_inside x es t ab c s rest d are))
-  signed_from_items t (more_nodes c (more_nodes (node ab (more_nodes i is)) (more_nodes s no_nodes))) rest d are begin three =
+  signed_from_items t (more_nodes c (more_nodes (node ab (more_nodes i is)) (more_nodes s no_nodes))) rest d are begin
+      three =
       signed_here x es t ab c i s is rest d are begin
-  signed_from_items t (more_nodes c (more_nodes n (more_nodes s (more_nodes m ms)))) rest d are begin three = absurd (omega (arith, three))
+  signed_from_items t (more_nodes c (more_nodes n (more_nodes s (more_nodes m ms)))) rest d are begin three =
+      absurd (omega (arith, three))
 
-  pub signed_from : (ns : Nodes) → IsStructure x ns → AreEntries x 0 (nodes_in_order ns) (nodes_depths 0 ns) es → BeginWithTriple es → SignedThere x es
+  pub signed_from : (ns : Nodes) → IsStructure x ns → AreEntries x 0 (nodes_in_order ns) (nodes_depths 0 ns) es →
+      BeginWithTriple es → SignedThere x es
   signed_from no_nodes d are begin = absurd (omega (arith, d.0.some, ap length d.0.blocks))
   signed_from (more_nodes (node t ms) rest) d are begin =
       let ns = more_nodes (node t ms) rest in
@@ -390,7 +435,8 @@ module _ (x : List ℕ) (es : List Entry) where
       signed_from_items t ms rest d are begin (sym w.entry.items ∙ begin.three)
 
   -- and the other way
-  pub triple_from : (ns : Nodes) (p : SignedParts) (after : Trees ℕ) → IsStructure x ns → AreEntries x 0 (nodes_in_order ns) (nodes_depths 0 ns) es
+  pub triple_from : (ns : Nodes) (p : SignedParts) (after : Trees ℕ) → IsStructure x ns →
+      AreEntries x 0 (nodes_in_order ns) (nodes_depths 0 ns) es
       → nodes_trees ns ≡ signed_trees p after → BeginWithTriple es
   triple_from no_nodes p after d are e =
       let none : no_trees ≡ signed_trees p after = e in
@@ -402,8 +448,10 @@ module _ (x : List ℕ) (es : List Entry) where
     where
       triple_from_inner : (t ab : Tree ℕ) (c s : Node) (bs rest : Nodes) (p : SignedParts)
           → IsStructure x (more_nodes (node t (more_nodes c (more_nodes (node ab bs) (more_nodes s no_nodes)))) rest)
-          → AreEntries x 0 (nodes_in_order (more_nodes (node t (more_nodes c (more_nodes (node ab bs) (more_nodes s no_nodes)))) rest))
-          (nodes_depths 0 (more_nodes (node t (more_nodes c (more_nodes (node ab bs) (more_nodes s no_nodes)))) rest)) es
+          → AreEntries x 0 (nodes_in_order
+          (more_nodes (node t (more_nodes c (more_nodes (node ab bs) (more_nodes s no_nodes)))) rest))
+          (nodes_depths 0 (more_nodes (node t (more_nodes c (more_nodes (node ab bs) (more_nodes s no_nodes)))) rest))
+          es
           → t ≡ signed_tree p → ab ≡ algorithm_tree p → node_tree s ≡ signature_tree p
           → nodes_trees bs ≡ more_trees (identifier_tree p) p.parameters → BeginWithTriple es
       triple_from_inner t ab c s no_nodes rest p d are first second last e =
@@ -415,13 +463,17 @@ module _ (x : List ℕ) (es : List Entry) where
           triple_here x es t ab c i s is rest d are p first second named last
 
       triple_from_items : (t : Tree ℕ) (ms rest : Nodes) (p : SignedParts) → IsStructure x (more_nodes (node t ms) rest)
-          → AreEntries x 0 (nodes_in_order (more_nodes (node t ms) rest)) (nodes_depths 0 (more_nodes (node t ms) rest)) es → t ≡ signed_tree p
-          → nodes_trees ms ≡ more_trees p.content (more_trees (algorithm_tree p) (more_trees (signature_tree p) no_trees)) → BeginWithTriple es
+          → AreEntries x 0 (nodes_in_order (more_nodes (node t ms) rest)) (nodes_depths 0 (more_nodes (node t ms) rest))
+          es → t ≡ signed_tree p
+          → nodes_trees ms ≡ more_trees p.content
+          (more_trees (algorithm_tree p) (more_trees (signature_tree p) no_trees)) → BeginWithTriple es
       triple_from_items t no_nodes rest p d are first e =
-          let none : no_trees ≡ more_trees p.content (more_trees (algorithm_tree p) (more_trees (signature_tree p) no_trees)) = e in
+          let none : no_trees ≡ more_trees p.content
+          (more_trees (algorithm_tree p) (more_trees (signature_tree p) no_trees)) = e in
           absurd (cc)
       triple_from_items t (more_nodes c no_nodes) rest p d are first e =
-          let none : more_trees (node_tree c) no_trees ≡ more_trees p.content (more_trees (algorithm_tree p) (more_trees (signature_tree p) no_trees)) = e in
+          let none : more_trees (node_tree c) no_trees
+          ≡ more_trees p.content (more_trees (algorithm_tree p) (more_trees (signature_tree p) no_trees)) = e in
           absurd (cc)
       triple_from_items t (more_nodes c (more_nodes n no_nodes)) rest p d are first e =
           let none : more_trees (node_tree c) (more_trees (node_tree n) no_trees)
@@ -432,8 +484,10 @@ module _ (x : List ℕ) (es : List Entry) where
           ≡ more_trees p.content (more_trees (algorithm_tree p) (more_trees (signature_tree p) no_trees)) = e in
           let second : ab ≡ algorithm_tree p = cc in
           let last : node_tree s ≡ signature_tree p = cc in
-          triple_from_inner t ab c s bs rest p d are first second last (held_in x ab p.algorithm_offset _ (nodes_trees bs) second d.1.0.1.1.0.0)
+          triple_from_inner t ab c s bs rest p d are first second last
+          (held_in x ab p.algorithm_offset _ (nodes_trees bs) second d.1.0.1.1.0.0)
       triple_from_items t (more_nodes c (more_nodes n (more_nodes s (more_nodes m ms)))) rest p d are first e =
-          let none : more_trees (node_tree c) (more_trees (node_tree n) (more_trees (node_tree s) (more_trees (node_tree m) (nodes_trees ms))))
+          let none : more_trees (node_tree c)
+          (more_trees (node_tree n) (more_trees (node_tree s) (more_trees (node_tree m) (nodes_trees ms))))
           ≡ more_trees p.content (more_trees (algorithm_tree p) (more_trees (signature_tree p) no_trees)) = e in
           absurd (cc)

@@ -5,19 +5,23 @@ use Rattle.simple_asn1.specs.Structure.{AreNodes, IsNode, IsStructure, Node, Nod
 use Rattle.asn1_outline.proofs.Standing.{first_stands, held_in, rest_stands}
 
 mutual
-  two_in : (x : List ℕ) (n : Node) (place : ℕ) (y rest : List ℕ) → drop place x ≡ y ++ rest → Encodes place y (node_tree n) → IsNode x n
+  two_in : (x : List ℕ) (n : Node) (place : ℕ) (y rest : List ℕ) → drop place x ≡ y ++ rest →
+      Encodes place y (node_tree n) → IsNode x n
       → 2 * length (node_in_order n) ≤ length y
   two_in x (node b ns) place y rest s e is =
       let h = held_in x place b y rest (nodes_trees ns) s e is.0 in
       let more = two_among x ns h.place h.contents h.rest h.at_offset h.encoded is.1 in
       omega (arith, more, h.shorter)
 
-  two_among : (x : List ℕ) (ns : Nodes) (place : ℕ) (v rest : List ℕ) → drop place x ≡ v ++ rest → EncodesAll place v (nodes_trees ns) → AreNodes x ns
+  two_among : (x : List ℕ) (ns : Nodes) (place : ℕ) (v rest : List ℕ) → drop place x ≡ v ++ rest →
+      EncodesAll place v (nodes_trees ns) → AreNodes x ns
       → 2 * length (nodes_in_order ns) ≤ length v
   two_among x no_nodes place v rest s e are = omega arith
   two_among x (more_nodes n ns) place v rest s e are =
-      let here = two_in x n place e.first (e.rest ++ rest) (first_stands x place v e.first e.rest rest s e.whole) e.item are.0 in
-      let after = two_among x ns (place + length e.first) e.rest rest (rest_stands x place v e.first e.rest rest s e.whole) e.items are.1 in
+      let here = two_in x n place e.first (e.rest ++ rest) (first_stands x place v e.first e.rest rest s e.whole) e.item
+      are.0 in
+      let after = two_among x ns (place + length e.first) e.rest rest
+      (rest_stands x place v e.first e.rest rest s e.whole) e.items are.1 in
       let joined = length-append (node_in_order n) (nodes_in_order ns) in
       omega (arith, here, after, ap length e.whole, length-append e.first e.rest, joined)
 

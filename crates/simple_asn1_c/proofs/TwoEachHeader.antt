@@ -10,22 +10,32 @@ use Rattle.asn1_outline.proofs.Standing.{two_more}
 -- a header has two octets
 two_octets : (x : List ℕ) (p e : ℕ) (h : PlacedHeader) → e ≤ length x → HeaderFound x p e h → p + 2 ≤ h.start
 two_octets x p e h within f =
-    let more = two_more (slice_range x p h.end) h.class h.constructed h.tag (slice_range x h.start h.end) (h.start - p) f.encoding in
+    let more = two_more (slice_range x p h.end) h.class h.constructed h.tag (slice_range x h.start h.end) (h.start - p)
+    f.encoding in
     let all = slice_length x p h.end (omega (arith, f.starts_after, f.order)) (omega (arith, f.ends_within, within)) in
     let contents = slice_length x h.start h.end f.order (omega (arith, f.ends_within, within)) in
     omega (arith, more, all, contents, f.starts_after, f.order)
 
 mutual
-  two_each_shape : (x : List ℕ) (p e i d : ℕ) (all : Shapes) → e ≤ length x → AreShapes x p e all → 2 * length (entries_of i d all) + p ≤ e
+  two_each_shape : (x : List ℕ) (p e i d : ℕ) (all : Shapes) → e ≤ length x → AreShapes x p e all →
+      2 * length (entries_of i d all) + p ≤ e
   two_each_shape x p e i d all within (no_more end) = omega (arith, end)
   two_each_shape x p e i d all within (one_more {header = h} {items = items} {rest = rest} f has are) =
       let next = suc i + length (entries_of (suc i) (suc d) items) in
       let own = two_octets x p e h within f in
       let inside = two_each_item x h (suc i) (suc d) items (omega (arith, f.ends_within, within)) f.order has in
       let after = two_each_shape x h.end e next d rest within are in
-      omega (arith, own, inside, after, f.order, length-append (entries_of (suc i) (suc d) items) (entries_of next d rest))
+      omega (
+        arith,
+        own,
+        inside,
+        after,
+        f.order,
+        length-append (entries_of (suc i) (suc d) items) (entries_of next d rest),
+      )
 
-  two_each_item : (x : List ℕ) (h : PlacedHeader) (i d : ℕ) (all : Shapes) → h.end ≤ length x → h.start ≤ h.end → HasItems x h all
+  two_each_item : (x : List ℕ) (h : PlacedHeader) (i d : ℕ) (all : Shapes) → h.end ≤ length x → h.start ≤ h.end →
+      HasItems x h all
       → 2 * length (entries_of i d all) + h.start ≤ h.end
   two_each_item x h i d all within order (read_inside is are) = two_each_shape x h.start h.end i d all within are
   two_each_item x h i d all within order (as_it_came other bit fault) = omega (arith, order)

@@ -2,29 +2,11 @@
 use Rattle.std.specs.Prelude.{◌≡◌, ◌⊎◌, ◌+◌, ◌<◌, ◌≤◌, ◌^◌, ℕ, All, Bool, List, [], ◌∷◌, drop, length, take}
 use Rattle.std.specs.Prelude.{unsigned_abs}
 use Rattle.asn1_headers.specs.declared.header.ASN1Class.{ASN1Class}
-use Rattle.asn1_leaves.specs.Contents.ObjectIdentifier.{
-  ObjectIdentifierContents,
-  ObjectIdentifierFault,
-  object_identifier_contents,
-}
+use Rattle.asn1_leaves.specs.Contents.ObjectIdentifier.{ObjectIdentifierContents, ObjectIdentifierFault, object_identifier_contents}
 use Rattle.asn1_numbers.specs.Base128.{IsBase128}
 use Rattle.asn1_numbers.specs.Decimal.{natural_numeral}
 use Rattle.simple_asn1.specs.DottedDecimal.{dotted_decimal}
-use Rattle.simple_asn1.specs.Fault.{
-  DecodeFault,
-  bad_boolean_length,
-  empty_buffer,
-  incomplete,
-  invalid_bit_string_length,
-  invalid_class,
-  invalid_date_value,
-  length_too_large,
-  not_canonical,
-  out_of_memory,
-  overflow,
-  printable_string_failure,
-  utf8_failure,
-}
+use Rattle.simple_asn1.specs.Fault.{DecodeFault, bad_boolean_length, empty_buffer, incomplete, invalid_bit_string_length, invalid_class, invalid_date_value, length_too_large, not_canonical, out_of_memory, overflow, printable_string_failure, utf8_failure}
 use Rattle.simple_asn1.specs.Grammar.{FirstFaultAt, IsDocument}
 use Rattle.simple_asn1.specs.Header.{BeginsWithNo, Encoding}
 use Rattle.simple_asn1.specs.Places.{EncodingAt, HasNoEncodingAt}

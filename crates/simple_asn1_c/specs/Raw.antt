@@ -2,15 +2,7 @@
 use Rattle.std.specs.Prelude.{◌≡◌, ◌⊎◌, ◌<◌, ℕ, List, None, Some, IsUtf8, nat_lt}
 use Rattle.std.specs.Str.{chars}
 use Rattle.asn1_headers.specs.declared.error.ASN1EncodeErr.{ASN1EncodeErr}
-use Rattle.asn1_headers.specs.declared.error.ASN1EncodeErr.TheVariants.{
-  BitStringLength,
-  CharacterTooLarge,
-  ObjectIdentHasTooFewFields,
-  ObjectIdentVal1TooLarge,
-  ObjectIdentVal2TooLarge,
-  OutOfMemory,
-  YearOutOfRange,
-}
+use Rattle.asn1_headers.specs.declared.error.ASN1EncodeErr.TheVariants.{BitStringLength, CharacterTooLarge, ObjectIdentHasTooFewFields, ObjectIdentVal1TooLarge, ObjectIdentVal2TooLarge, OutOfMemory, YearOutOfRange}
 use Rattle.asn1_headers.specs.declared.header.ASN1Class.{ASN1Class}
 use Rattle.asn1_leaves.specs.Contents.BitString.{bit_string_contents, bit_string_write_fault}
 use Rattle.asn1_leaves.specs.Contents.GeneralizedTime.{generalized_time_contents}
@@ -27,15 +19,7 @@ use Rattle.simple_asn1_c.specs.Answers.{IsNoMemory}
 use Rattle.simple_asn1_c.specs.Puts.{ArePutIf, IsNotPut}
 use Rattle.simple_asn1_c.specs.Room.{ArePut}
 use Rattle.simple_asn1_c.specs.Spelled.{IsBadAt, IsSpelled}
-use Rattle.simple_asn1_c.specs.Status.{
-  bad_record,
-  no_memory,
-  no_such_value,
-  not_a_date,
-  not_oid,
-  not_utf8,
-  out_of_range,
-}
+use Rattle.simple_asn1_c.specs.Status.{bad_record, no_memory, no_such_value, not_a_date, not_oid, not_utf8, out_of_range}
 use Rattle.simple_asn1_c.specs.Values.{IsMomentTag, IsTextTag}
 use Rattle.simple_asn1_c.specs.declared.record.Block.{Block}
 use Rattle.simple_asn1_c.specs.declared.record.Outcome.{Outcome}

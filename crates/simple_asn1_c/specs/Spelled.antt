@@ -1,26 +1,5 @@
 -- The octets that records spell.
-use Rattle.std.specs.Prelude.{
-  ◌≡◌,
-  ℕ,
-  ◌+◌,
-  ◌-◌,
-  ◌^◌,
-  ◌<◌,
-  ◌≤◌,
-  ◌++◌,
-  Bool,
-  IsTrue,
-  true,
-  List,
-  [],
-  ◌∷◌,
-  drop,
-  get_or,
-  length,
-  nat_lt,
-  slice_range,
-  take,
-}
+use Rattle.std.specs.Prelude.{◌≡◌, ℕ, ◌+◌, ◌-◌, ◌^◌, ◌<◌, ◌≤◌, ◌++◌, Bool, IsTrue, true, List, [], ◌∷◌, drop, get_or, length, nat_lt, slice_range, take}
 use Rattle.std.specs.List.{concat}
 use Rattle.simple_asn1.specs.Canonical.{shortest_encoding}
 use Rattle.simple_asn1.specs.Header.{class_number}

@@ -11,18 +11,7 @@ use Rattle.simple_asn1.specs.Fault.{DecodeFault}
 use Rattle.simple_asn1.specs.Grammar.{IsDocument, FirstFault}
 use Rattle.simple_asn1.specs.Header.{Encoding}
 use Rattle.simple_asn1.specs.Places.{EncodingAt}
-use Rattle.simple_asn1.specs.Tree.{
-  Leaf,
-  Trees,
-  generalized_time,
-  integer,
-  leaf,
-  more_trees,
-  no_trees,
-  object_identifier,
-  text,
-  utc_time,
-}
+use Rattle.simple_asn1.specs.Tree.{Leaf, Trees, generalized_time, integer, leaf, more_trees, no_trees, object_identifier, text, utc_time}
 use Rattle.simple_asn1_c.specs.Room.{ArePut}
 use Rattle.simple_asn1_c.specs.Status.{done, no_memory, no_such_value, out_of_range, status_of}
 use Rattle.simple_asn1_c.specs.declared.record.IntegerAnswer.{IntegerAnswer}

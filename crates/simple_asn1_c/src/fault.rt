@@ -1,5 +1,5 @@
 // The first fault of octets that are no document, with what it says.
-ghost use Rattle.std.specs.Prelude.{◌≡◌, ◌≢◌, [], ℕ};
+ghost use Rattle.std.specs.Prelude.{◌≡◌, []};
 ghost use Rattle.asn1_headers.specs.declared.error.ASN1DecodeErr.TheVariants.{OutOfMemory};
 ghost use Rattle.simple_asn1.specs.Fault.{fault_of};
 ghost use Rattle.simple_asn1_c.specs.Contents.{AnswersFault, fault_number, fault_text};

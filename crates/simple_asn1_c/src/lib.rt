@@ -33,52 +33,14 @@ ghost use Rattle.asn1_der.specs.Der.{IsDer};
 ghost use Rattle.simple_asn1.specs.Places.{EncodingAt};
 ghost use Rattle.simple_asn1.specs.Shapes.{HasShapes, Shapes, entries_of};
 ghost use Rattle.simple_asn1.specs.Structure.{IsStructure, Nodes, nodes_in_order};
-ghost use Rattle.simple_asn1_c.specs.Answers.{
-  AnswersCheck,
-  AnswersOutline,
-  AnswersRead,
-  AnswersReadStrict,
-  AnswersRewrite,
-  AnswersSigned,
-  AnswersWrite,
-};
-ghost use Rattle.simple_asn1_c.specs.Contents.{
-  AnswersComponent,
-  AnswersComponents,
-  AnswersDotted,
-  AnswersFault,
-  AnswersHeader,
-  AnswersShortest,
-  AnswersTag,
-  AnswersTagOctets,
-};
+ghost use Rattle.simple_asn1_c.specs.Answers.{AnswersCheck, AnswersOutline, AnswersRead, AnswersReadStrict, AnswersRewrite, AnswersSigned, AnswersWrite};
+ghost use Rattle.simple_asn1_c.specs.Contents.{AnswersComponent, AnswersComponents, AnswersDotted, AnswersFault, AnswersHeader, AnswersShortest, AnswersTag, AnswersTagOctets};
 ghost use Rattle.simple_asn1_c.specs.Departures.{AnswersDepartures};
 ghost use Rattle.simple_asn1_c.specs.Paths.{AnswersValues};
-ghost use Rattle.simple_asn1_c.specs.Puts.{
-  AnswersPutBits,
-  AnswersPutBoolean,
-  AnswersPutIdentifier,
-  AnswersPutInteger,
-  AnswersPutMoment,
-  AnswersPutText,
-  moment_in,
-};
-ghost use Rattle.simple_asn1_c.specs.Raw.{
-  AnswersEncoding,
-  AnswersRawBits,
-  AnswersRawIdentifier,
-  AnswersRawMoment,
-  AnswersRawText,
-  AnswersSpell,
-};
+ghost use Rattle.simple_asn1_c.specs.Puts.{AnswersPutBits, AnswersPutBoolean, AnswersPutIdentifier, AnswersPutInteger, AnswersPutMoment, AnswersPutText, moment_in};
+ghost use Rattle.simple_asn1_c.specs.Raw.{AnswersEncoding, AnswersRawBits, AnswersRawIdentifier, AnswersRawMoment, AnswersRawText, AnswersSpell};
 ghost use Rattle.simple_asn1_c.specs.Status.{done};
-ghost use Rattle.simple_asn1_c.specs.Values.{
-  AnswersIdentifier,
-  AnswersInteger,
-  AnswersMoment,
-  AnswersText,
-  UniversalAt,
-};
+ghost use Rattle.simple_asn1_c.specs.Values.{AnswersIdentifier, AnswersInteger, AnswersMoment, AnswersText, UniversalAt};
 
 use crate::bits::{put_bits, put_boolean};
 use crate::components::{component_at, put_components, put_dotted, put_shortest};

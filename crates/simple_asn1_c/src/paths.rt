@@ -1,16 +1,7 @@
 // The encodings that paths name, by the entries of their document, and their values.
 ghost use Rattle.std.specs.Prelude.{◌≡◌, ◌+◌, ◌<◌, ◌≤◌, IfSome, length, map};
 ghost use Rattle.asn1_outline.specs.Shapes.{contents_octets};
-ghost use Rattle.simple_asn1_c.specs.Paths.{
-  index_at,
-  integer_in,
-  item_from,
-  items_end,
-  no_value,
-  path_in,
-  value_of,
-  value_with,
-};
+ghost use Rattle.simple_asn1_c.specs.Paths.{index_at, integer_in, item_from, items_end, no_value, path_in, value_of, value_with};
 ghost use Rattle.simple_asn1_c.specs.Room.{ArePut};
 
 use crate::header::class_number_of;

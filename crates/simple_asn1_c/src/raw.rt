@@ -1,19 +1,12 @@
 // Contents octets of values as they are, whether or not they would be read back.
-ghost use Rattle.std.specs.Prelude.{◌≡◌, ◌⊎◌, None, IfErr, IfOk};
+ghost use Rattle.std.specs.Prelude.{◌≡◌, ◌⊎◌, None};
 ghost use Rattle.std.specs.Str.{chars};
 ghost use Rattle.asn1_leaves.specs.Contents.GeneralizedTime.{generalized_time_contents};
 ghost use Rattle.asn1_leaves.specs.Contents.Moment.{IsValid, moment_of};
 ghost use Rattle.asn1_leaves.specs.Contents.Text.{text_contents, text_write_fault};
 ghost use Rattle.asn1_leaves.specs.Contents.UtcTime.{utc_time_contents};
 ghost use Rattle.simple_asn1_c.specs.Puts.{ArePutIf, IsNotPut, moment_in};
-ghost use Rattle.simple_asn1_c.specs.Raw.{
-  AnswersRawBits,
-  AnswersRawIdentifier,
-  AnswersRawMoment,
-  AnswersRawText,
-  component_place,
-  component_status,
-};
+ghost use Rattle.simple_asn1_c.specs.Raw.{AnswersRawBits, AnswersRawIdentifier, AnswersRawMoment, AnswersRawText, component_place, component_status};
 ghost use Rattle.simple_asn1_c.specs.Room.{ArePut};
 ghost use Rattle.simple_asn1_c.specs.Status.{no_memory, out_of_range};
 

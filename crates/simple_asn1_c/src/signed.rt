@@ -1,6 +1,5 @@
 // The parts of a signed triple.
 ghost use Rattle.std.specs.Prelude.{◌≡◌};
-ghost use Rattle.simple_asn1.specs.Grammar.{IsDocument};
 ghost use Rattle.asn1_outline.specs.Entries.{IsOutline};
 ghost use Rattle.simple_asn1_c.specs.Answers.{AnswersSigned, HasNoParts};
 ghost use Rattle.simple_asn1_c.specs.Records.{block_of};

@@ -1,5 +1,5 @@
 // Encodings as they are described: of records, and of one with a tag number of any size.
-ghost use Rattle.std.specs.Prelude.{◌≡◌, IfOk, nat_lt};
+ghost use Rattle.std.specs.Prelude.{◌≡◌, IfOk};
 ghost use Rattle.simple_asn1.specs.Canonical.{shortest_encoding};
 ghost use Rattle.simple_asn1_c.specs.Raw.{AnswersEncoding, AnswersSpell};
 

@@ -1,28 +1,5 @@
 // The octets that records spell, put from the last to the first, and whether they are found to be canonical.
-ghost use Rattle.std.specs.Prelude.{
-  ◌≡◌,
-  ◌⊎◌,
-  ◌-◌,
-  ◌+◌,
-  ◌<◌,
-  ◌≤◌,
-  ◌++◌,
-  ◌∷◌,
-  [],
-  List,
-  ℕ,
-  IfErr,
-  IfNone,
-  IfOk,
-  IfSome,
-  IsTrue,
-  MatchOption,
-  OnOk,
-  get_or,
-  length,
-  nat_lt,
-  take,
-};
+ghost use Rattle.std.specs.Prelude.{◌≡◌, ◌⊎◌, ◌-◌, ◌+◌, ◌<◌, ◌≤◌, ◌++◌, ◌∷◌, [], List, IfErr, IfNone, IfOk, IfSome, IsTrue, MatchOption, OnOk, get_or, length, take};
 ghost use Rattle.std.specs.Int.Digits.{digits_of};
 ghost use Rattle.simple_asn1.specs.Canonical.{shortest_encoding};
 ghost use Rattle.simple_asn1.specs.ReadBack.{IsCanonicalDocument};

@@ -1,9 +1,9 @@
 //! Lists which rules of DER octets break, for each line of its standard input.
 //!
 //! A line has the octets in hex digits, with spaces or without, and perhaps a comment from a `#` on. Its answer is one
-//! line: each departure as the offset and the name of the rule, as `2 LongLength, 7 Order`, or `none`, or why the octets
-//! are no encodings, as `refused Incomplete at 4`. A line that is no hex is answered by `badline`, and one without
-//! anything but a comment by an empty line.
+//! line: each departure as the offset and the name of the rule, as `2 LongLength, 7 Order`, or `none`, or why the
+//! octets are no encodings, as `refused Incomplete at 4`. A line that is no hex is answered by `badline`, and one
+//! without anything but a comment by an empty line.
 //!
 //! The rows of `stdin` and their answers in `stdout` are tests. Both are written by hand from X.690.
 #![tactic(auto)]

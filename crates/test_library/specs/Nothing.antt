@@ -1,6 +1,5 @@
 -- What is read of no trees, as a type that has one value.
 use Rattle.std.specs.Prelude.{◌≡◌, ℕ}
-use Rattle.std.proofs.Common.{refl}
 use Rattle.simple_asn1.specs.Tree.{Trees, no_trees, more_trees, shapes}
 
 module _ {T : Type 0} (one : (x y : T) → y ≡ x) where

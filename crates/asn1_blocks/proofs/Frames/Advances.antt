@@ -24,7 +24,8 @@ trees_push : (ts : List (Tree ℕ)) (t : Tree ℕ) → trees_of (ts ++ t ∷ [])
 trees_push [] t = refl
 trees_push (x ∷ ts) t = ap (more_trees x) (trees_push ts t)
 
-follows_read : (octets : List ℕ) (f : Frame) (p q n m : ℕ) (t : Tree ℕ) → IsReadTo octets f p n → Follows octets f p q t m
+follows_read : (octets : List ℕ) (f : Frame) (p q n m : ℕ) (t : Tree ℕ) → IsReadTo octets f p n →
+    Follows octets f p q t m
     → IsReadTo octets (grown f t) q (n + m)
 follows_read octets f p q n m t r w =
     let s = f.extent.start in
@@ -32,7 +33,8 @@ follows_read octets f p q n m t r w =
     let last = slice_range octets p q in
     let len : length front ≡ p - s = slice_length octets s p r.from (omega (arith, r.to, r.within)) in
     let whole : slice_range octets s q ≡ front ++ last = slice_join octets s p q r.from (omega (arith, w.from)) in
-    let here : Encodes (s + length front) last t = subst (λ z. Encodes z last t) (omega (arith, len, r.from)) w.encoded in
+    let here : Encodes (s + length front) last t =
+    subst (λ z. Encodes z last t) (omega (arith, len, r.from)) w.encoded in
     let more = encodes_more s front last (trees_of f.trees) t r.encoded here in
     let all = subst (λ z. EncodesAll s (front ++ last) z) (sym (trees_push f.trees t)) more in
     let j = begun_join front last n m (encodes_blocks s front (trees_of f.trees) r.encoded) r.begun w.begun in
@@ -45,10 +47,15 @@ follows_read octets f p q n m t r w =
     }
 
 -- one tree more in the innermost frame
-pub opened_more : (octets : List ℕ) (f : Frame) (gs : List Frame) (p q n m : ℕ) (t : Tree ℕ) → AreOpen octets f gs p n → Follows octets f p q t m
+pub opened_more : (octets : List ℕ) (f : Frame) (gs : List Frame) (p q n m : ℕ) (t : Tree ℕ) → AreOpen octets f gs p n →
+    Follows octets f p q t m
     → AreOpen octets (grown f t) gs q (n + m)
 opened_more octets f [] p q n m t o w =
-    record { whole = record { kind = o.whole.kind; start = o.whole.start; end = o.whole.end }; read = follows_read octets f p q n m t o.read w }
+    record {
+      whole = record { kind = o.whole.kind; start = o.whole.start; end = o.whole.end };
+      read =
+          follows_read octets f p q n m t o.read w;
+    }
 opened_more octets f (g ∷ gs) p q n m t o w =
     record {
       before = o.before;
@@ -67,7 +74,8 @@ pub record Places (octets : List ℕ) (f : Frame) (p : ℕ) : Type 0 where
   pub to : p ≤ f.extent.end
   pub within : f.extent.end ≤ length octets
 
-pub opened_places : (octets : List ℕ) (f : Frame) (gs : List Frame) (p n : ℕ) → AreOpen octets f gs p n → Places octets f p
+pub opened_places : (octets : List ℕ) (f : Frame) (gs : List Frame) (p n : ℕ) → AreOpen octets f gs p n →
+    Places octets f p
 opened_places octets f [] p n o = record { from = o.read.from; to = o.read.to; within = o.read.within }
 opened_places octets f (g ∷ gs) p n o = record { from = o.read.from; to = o.read.to; within = o.read.within }
 
@@ -80,16 +88,10 @@ read_bound octets f p n r =
 pub opened_bound : (octets : List ℕ) (f : Frame) (gs : List Frame) (p n : ℕ) → AreOpen octets f gs p n → n ≤ p
 opened_bound octets f [] p n o = omega (arith, read_bound octets f p n o.read)
 opened_bound octets f (g ∷ gs) p n o =
-    omega (arith, read_bound octets f p o.own o.read, opened_bound octets g gs f.extent.offset o.before o.around, o.after, o.total)
-
--- also with the block that follows
-pub follows_bound : (octets : List ℕ) (f : Frame) (gs : List Frame) (p q n m : ℕ) (t : Tree ℕ) → AreOpen octets f gs p n → Follows octets f p q t m
-    → n + m ≤ length octets
-follows_bound octets f gs p q n m t o w =
-    let v = opened_places octets f gs p n o in
-    let l = slice_length octets p q (omega (arith, w.from)) (omega (arith, w.to, v.within)) in
-    omega (arith, opened_bound octets f gs p n o, begun_le (slice_range octets p q) m w.begun, l, w.to, w.from, v.within)
-
--- the block that follows stands behind its first octet
-pub follows_as : (octets : List ℕ) (f : Frame) (p q : ℕ) (a b : Tree ℕ) (n : ℕ) → b ≡ a → Follows octets f p q a n → Follows octets f p q b n
-follows_as octets f p q a b n e w = subst (λ z. Follows octets f p q z n) (sym e) w
+    omega (
+      arith,
+      read_bound octets f p o.own o.read,
+      opened_bound octets g gs f.extent.offset o.before o.around,
+      o.after,
+      o.total,
+    )

@@ -23,7 +23,8 @@ pub record IsDocumentRead (octets : List ℕ) (f : Frame) (n : ℕ) : Type 0 whe
   pub encoded : EncodesAll 0 octets (trees_of f.trees)
   pub begun : HeadersBegun octets n
 
-pub end_document : (octets : List ℕ) (f : Frame) (n : ℕ) → AreOpen octets f [] f.extent.end n → IsDocumentRead octets f n
+pub end_document : (octets : List ℕ) (f : Frame) (n : ℕ) → AreOpen octets f [] f.extent.end n →
+    IsDocumentRead octets f n
 end_document octets f n o =
     let d = whole_document octets f o.whole.start o.whole.end in
     let all = subst (λ z. EncodesAll f.extent.start z (trees_of f.trees)) d o.read.encoded in
@@ -34,7 +35,8 @@ end_document octets f n o =
 
 -- a group
 pub close_group : (octets : List ℕ) (f g : Frame) (gs : List Frame) (n : ℕ) (y : GroupKind) → f.extent.kind ≡ Group y
-    → AreOpen octets f (g ∷ gs) f.extent.end n → IsClosed octets g gs f.extent.end (group f.extent.offset y (trees_of f.trees)) n
+    → AreOpen octets f (g ∷ gs) f.extent.end n →
+    IsClosed octets g gs f.extent.end (group f.extent.offset y (trees_of f.trees)) n
 close_group octets f g gs n y k o =
     let x = f.extent.offset in
     let s = f.extent.start in
@@ -55,7 +57,8 @@ close_group octets f g gs n y k o =
         from = omega (arith, o.after, o.read.from, o.read.to);
         to = o.ends_within;
         encoded = (refl, bit, contents, s - x, F, subst (λ i. EncodesAll i contents trees) at o.read.encoded);
-        begun = begun_opened (slice_range octets x z) Universal bit (group_tag y) contents (s - x) o.own F (inl (refl, group_tag_is y)) is_block o.read.begun;
+        begun = begun_opened (slice_range octets x z) Universal bit (group_tag y) contents (s - x) o.own F
+            (inl (refl, group_tag_is y)) is_block o.read.begun;
       };
       total = o.total;
     }
@@ -63,12 +66,15 @@ close_group octets f g gs n y k o =
 -- around contents octets that are these trees, the encoding of an attempt encodes the tree
 abbrev pub Means : other.Attempt → List ℕ → List (Tree ℕ) → Tree ℕ → Type 0
 Means a contents ts t =
-    (all : List ℕ) (h : ℕ) → a.class ≢ Universal → Encoding all a.class true a.tag contents h → EncodesAll (a.offset + h) contents (trees_of ts)
+    (all : List ℕ) (h : ℕ) → a.class ≢ Universal → Encoding all a.class true a.tag contents h →
+    EncodesAll (a.offset + h) contents (trees_of ts)
     → Encodes a.offset all t
 
 -- an attempt
-pub close_attempt : (octets : List ℕ) (f g : Frame) (gs : List Frame) (n : ℕ) (a : other.Attempt) (t : Tree ℕ) → a.offset ≡ f.extent.offset
-    → IsAttemptAt octets a f.extent.start f.extent.end → Means a (slice_range octets f.extent.start f.extent.end) f.trees t → AreOpen octets f (g ∷ gs) f.extent.end n
+pub close_attempt : (octets : List ℕ) (f g : Frame) (gs : List Frame) (n : ℕ) (a : other.Attempt) (t : Tree ℕ) →
+    a.offset ≡ f.extent.offset
+    → IsAttemptAt octets a f.extent.start f.extent.end →
+    Means a (slice_range octets f.extent.start f.extent.end) f.trees t → AreOpen octets f (g ∷ gs) f.extent.end n
     → IsClosed octets g gs f.extent.end t n
 close_attempt octets f g gs n a t here H means o =
     let s = f.extent.start in
@@ -85,8 +91,10 @@ close_attempt octets f g gs n a t here H means o =
       follows = record {
         from = omega (arith, here, o.after, o.read.from, o.read.to);
         to = o.ends_within;
-        encoded = means all (s - a.offset) H.other F (subst (λ i. EncodesAll i contents (trees_of f.trees)) at o.read.encoded);
-        begun = begun_opened all a.class true a.tag contents (s - a.offset) o.own F (inr (H.other, refl)) (of_other_class F H.other) o.read.begun;
+        encoded = means all (s - a.offset) H.other F
+            (subst (λ i. EncodesAll i contents (trees_of f.trees)) at o.read.encoded);
+        begun = begun_opened all a.class true a.tag contents (s - a.offset) o.own F (inr (H.other, refl))
+            (of_other_class F H.other) o.read.begun;
       };
       total = o.total;
     }
@@ -107,22 +115,27 @@ other_means octets a s e ts many all h ne F r =
     λ z. many (sym (count_trees ts) ∙ one_block (a.offset + h) (slice_range octets s e) (trees_of ts) r z) in
     (refl, h, F, inr (ne, λ z. no_block z.1))
 
-attempt_means : (octets : List ℕ) (a : other.Attempt) (s e : ℕ) (ts : List (Tree ℕ)) → Means a (slice_range octets s e) ts (attempted octets a s e ts)
+attempt_means : (octets : List ℕ) (a : other.Attempt) (s e : ℕ) (ts : List (Tree ℕ)) →
+    Means a (slice_range octets s e) ts (attempted octets a s e ts)
 attempt_means octets a s e [] = other_means octets a s e [] (λ z. absurd (omega (arith, z)))
 attempt_means octets a s e (t ∷ []) = one_means a (slice_range octets s e) t
 attempt_means octets a s e (t ∷ u ∷ ts) = other_means octets a s e (t ∷ u ∷ ts) (λ z. absurd (omega (arith, z)))
 
 -- the tree of a frame that is not the document
-pub ended : (octets : List ℕ) (kind : FrameKind) (o s e : ℕ) (ts : List (Tree ℕ)) → IsHeaded octets kind o s e → (t : Tree ℕ) × IsEnded octets kind o s e ts t
+pub ended : (octets : List ℕ) (kind : FrameKind) (o s e : ℕ) (ts : List (Tree ℕ)) → IsHeaded octets kind o s e →
+    (t : Tree ℕ) × IsEnded octets kind o s e ts t
 ended octets Whole o s e ts H = absurd H
 ended octets (Group g) o s e ts H = (group o g (trees_of ts), refl)
 ended octets Attempt o s e ts (a, here, at) = (attempted octets a s e ts, (a, here, at, refl))
 
-pub inside_other : (octets : List ℕ) (f g : Frame) (gs : List Frame) (p n : ℕ) → AreOpen octets f (g ∷ gs) p n → f.extent.kind ≢ Whole
-inside_other octets f g gs p n o is = absurd (subst (λ z. IsHeaded octets z f.extent.offset f.extent.start f.extent.end) is o.headed)
+pub inside_other : (octets : List ℕ) (f g : Frame) (gs : List Frame) (p n : ℕ) → AreOpen octets f (g ∷ gs) p n →
+    f.extent.kind ≢ Whole
+inside_other octets f g gs p n o is =
+    absurd (subst (λ z. IsHeaded octets z f.extent.offset f.extent.start f.extent.end) is o.headed)
 
 -- follows in the frame around it
-pub close_frame : (octets : List ℕ) (f g : Frame) (gs : List Frame) (n : ℕ) (t : Tree ℕ) → IsEnded octets f.extent.kind f.extent.offset f.extent.start f.extent.end f.trees t
+pub close_frame : (octets : List ℕ) (f g : Frame) (gs : List Frame) (n : ℕ) (t : Tree ℕ) →
+    IsEnded octets f.extent.kind f.extent.offset f.extent.start f.extent.end f.trees t
     → AreOpen octets f (g ∷ gs) f.extent.end n → IsClosed octets g gs f.extent.end t n
 close_frame octets f g gs n t is o = go f.extent.kind refl
   where
@@ -132,7 +145,8 @@ close_frame octets f g gs n t is o = go f.extent.kind refl
         let this = subst (λ z. IsEnded octets z f.extent.offset f.extent.start f.extent.end f.trees t) d is in
         subst (λ z. IsClosed octets g gs f.extent.end z n) (sym this) (close_group octets f g gs n y d o)
     go Attempt d =
-        let (a, here, at, this) = subst (λ z. IsEnded octets z f.extent.offset f.extent.start f.extent.end f.trees t) d is in
+        let (a, here, at, this) =
+        subst (λ z. IsEnded octets z f.extent.offset f.extent.start f.extent.end f.trees t) d is in
         let means = attempt_means octets a f.extent.start f.extent.end f.trees in
         subst (λ z. IsClosed octets g gs f.extent.end z n) (sym this)
         (close_attempt octets f g gs n a (attempted octets a f.extent.start f.extent.end f.trees) here at means o)

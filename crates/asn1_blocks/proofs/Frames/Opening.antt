@@ -29,27 +29,24 @@ use Rattle.asn1_headers.proofs.Prefixes.{encoding_alone}
 use Rattle.asn1_blocks.proofs.ReadSteps.{slice_length, slice_join}
 
 -- the header found in a slice of the document, in the document
-pub encoding_here : (octets : List ℕ) (s e i a z : ℕ) (c : ASN1Class) (k : Bool) (n : ℕ) → s ≤ e → e ≤ length octets → i < a
+pub encoding_here : (octets : List ℕ) (s e i a z : ℕ) (c : ASN1Class) (k : Bool) (n : ℕ) → s ≤ e → e ≤ length octets →
+    i < a
     → a ≤ z → s + z ≤ e
     → IsEncodingBetween (slice_range octets s e) c k n i a z → IsEncodingBetween octets c k n (s + i) (s + a) (s + z)
 encoding_here octets s e i a z c k n h l lt le fits F =
-    let whole : slice_range (slice_range octets s e) i z ≡ slice_range octets (s + i) (s + z) = slice_slice octets s e i z h (omega (arith, lt, le)) fits in
-    let contents : slice_range (slice_range octets s e) a z ≡ slice_range octets (s + a) (s + z) = slice_slice octets s e a z h le fits in
+    let whole : slice_range (slice_range octets s e) i z ≡ slice_range octets (s + i) (s + z) =
+    slice_slice octets s e i z h (omega (arith, lt, le)) fits in
+    let contents : slice_range (slice_range octets s e) a z ≡ slice_range octets (s + a) (s + z) =
+    slice_slice octets s e a z h le fits in
     let size : a - i ≡ (s + a) - (s + i) = omega arith in
     subst (λ w. Encoding w c k n (slice_range octets (s + a) (s + z)) ((s + a) - (s + i))) whole
     (subst (λ w. Encoding (slice_range (slice_range octets s e) i z) c k n w ((s + a) - (s + i))) contents
-    (subst (λ w. Encoding (slice_range (slice_range octets s e) i z) c k n (slice_range (slice_range octets s e) a z) w) size F))
-
--- the same places in other words
-pub EncodingAt_moved : (octets : List ℕ) (i j a b y z : ℕ) (c : ASN1Class) (k : Bool) (n : ℕ) → i ≡ j → a ≡ b → y ≡ z
-    → IsEncodingBetween octets c k n i a y
-    → IsEncodingBetween octets c k n j b z
-EncodingAt_moved octets i j a b y z c k n e f g F =
-    subst (λ w. IsEncodingBetween octets c k n j b w) g
-    (subst (λ w. IsEncodingBetween octets c k n j w y) f (subst (λ w. IsEncodingBetween octets c k n w a y) e F))
+    (subst (λ w. Encoding (slice_range (slice_range octets s e) i z) c k n (slice_range (slice_range octets s e) a z) w)
+    size F))
 
 -- the frame of contents octets that are read as blocks
-pub headed_by : (octets : List ℕ) (kind : FrameKind) (reached limit : ℕ) (h : PlacedHeader) → IsKindOf kind h → HeaderFound octets reached limit h
+pub headed_by : (octets : List ℕ) (kind : FrameKind) (reached limit : ℕ) (h : PlacedHeader) → IsKindOf kind h →
+    HeaderFound octets reached limit h
     → IsHeaded octets kind reached h.start h.end
 headed_by octets Whole reached limit h k w = absurd k
 headed_by octets (Group g) reached limit h k w =
@@ -65,14 +62,17 @@ abbrev pub attempt_with : ASN1Class → ℕ → ℕ → other.Attempt
 attempt_with class offset tag = record { class = class; offset = offset; tag = tag }
 
 -- whichever attempt begins where the header was found, it has the header's class and tag
-pub found_alone : (octets : List ℕ) (o e : ℕ) (h : PlacedHeader) → HeaderFound octets o e h → (b : other.Attempt) (start : ℕ) → b.offset ≡ o
+pub found_alone : (octets : List ℕ) (o e : ℕ) (h : PlacedHeader) → HeaderFound octets o e h →
+    (b : other.Attempt) (start : ℕ) → b.offset ≡ o
     → IsAttemptAt octets b start e → attempt_with h.class o h.tag ≡ b
 found_alone octets o e h found b start here at =
     let behind = slice_range octets h.end e in
     let d = slice_join octets o h.end e (omega (arith, found.starts_after, found.order)) found.ends_within in
     let moved = subst (λ z. IsEncodingBetween octets b.class true b.tag z start e) here at.encoding in
-    let z = encoding_alone _ _ _ _ _ _ _ _ _ _ _ _ behind [] found.encoding moved (sym d ∙ sym (append-nil (slice_range octets o e))) in
-    ap (λ c. attempt_with c o h.tag) z.class ∙ (ap (λ i. attempt_with b.class i h.tag) (sym here) ∙ ap (attempt_with b.class b.offset) z.tag)
+    let z = encoding_alone _ _ _ _ _ _ _ _ _ _ _ _ behind [] found.encoding moved
+    (sym d ∙ sym (append-nil (slice_range octets o e))) in
+    ap (λ c. attempt_with c o h.tag) z.class
+    ∙ (ap (λ i. attempt_with b.class i h.tag) (sym here) ∙ ap (attempt_with b.class b.offset) z.tag)
 
 -- a frame is opened
 pub opened_open : (octets : List ℕ) (f h : Frame) (gs : List Frame) (p n : ℕ) → h.trees ≡ []
@@ -101,15 +101,18 @@ opened_open octets f h gs p n e H at lt le fits o =
     }
 
 -- the header is at fault
-pub header_stopping : (octets : List ℕ) (f : Frame) (gs : List Frame) (p n : ℕ) (e : DecodeFault) → length octets < 2 ^ 64 → p < f.extent.end
-    → AreOpen octets f gs p n → HeaderFault (p - f.extent.start) (slice_range octets p f.extent.end) e → IsStopping octets f gs e p (n + 1)
+pub header_stopping : (octets : List ℕ) (f : Frame) (gs : List Frame) (p n : ℕ) (e : DecodeFault) →
+    length octets < 2 ^ 64 → p < f.extent.end
+    → AreOpen octets f gs p n → HeaderFault (p - f.extent.start) (slice_range octets p f.extent.end) e →
+    IsStopping octets f gs e p (n + 1)
 header_stopping octets f gs p n e small here o u =
     let v = opened_places octets f gs p n o in
     let i = p - f.extent.start in
     let rest = slice_range octets p f.extent.end in
     let l = slice_length octets p f.extent.end v.to v.within in
     let near : i + length rest < 2 ^ 64 = omega (arith, l, v.from, v.to, v.within, small) in
-    let no_header = nothing_inside (λ x r c k t contents h g F op. header_no_encoding i rest x r e c k t contents h u near g F) in
+    let no_header = nothing_inside
+    (λ x r c k t contents h g F op. header_no_encoding i rest x r e c k t contents h u near g F) in
     let no_block = nothing_after (λ x r g b. block_fault_no_block i rest x r e 0 (at_header u) near g b) in
     record {
       reached = p;
@@ -127,8 +130,10 @@ header_stopping octets f gs p n e small here o u =
     }
 
 -- the contents octets of a leaf are at fault
-pub leaf_stopping : (octets : List ℕ) (f : Frame) (gs : List Frame) (p n : ℕ) (h : PlacedHeader) (e : DecodeFault) → length octets < 2 ^ 64
-    → HeaderFound octets p f.extent.end h → AreOpen octets f gs p n → (IsReadInside h.class h.constructed h.tag → ⊥) → h.class ≡ Universal
+pub leaf_stopping : (octets : List ℕ) (f : Frame) (gs : List Frame) (p n : ℕ) (h : PlacedHeader) (e : DecodeFault) →
+    length octets < 2 ^ 64
+    → HeaderFound octets p f.extent.end h → AreOpen octets f gs p n → (IsReadInside h.class h.constructed h.tag → ⊥) →
+    h.class ≡ Universal
     → LeafFault h.tag (slice_range octets h.start h.end) e → IsStopping octets f gs e p (n + 1)
 leaf_stopping octets f gs p n h e small found o shut u w =
     let v = opened_places octets f gs p n o in
@@ -165,8 +170,10 @@ leaf_stopping octets f gs p n h e small found o shut u w =
     }
 
 -- a leaf is read
-pub leaf_follows : (octets : List ℕ) (f : Frame) (p : ℕ) (h : PlacedHeader) (t : Tree ℕ) → HeaderFound octets p f.extent.end h
-    → (IsReadInside h.class h.constructed h.tag → ⊥) → Encodes p (slice_range octets p h.end) t → Follows octets f p h.end t 1
+pub leaf_follows : (octets : List ℕ) (f : Frame) (p : ℕ) (h : PlacedHeader) (t : Tree ℕ) →
+    HeaderFound octets p f.extent.end h
+    → (IsReadInside h.class h.constructed h.tag → ⊥) → Encodes p (slice_range octets p h.end) t →
+    Follows octets f p h.end t 1
 leaf_follows octets f p h t found shut w =
     let all = slice_range octets p h.end in
     let contents = slice_range octets h.start h.end in
@@ -174,10 +181,12 @@ leaf_follows octets f p h t found shut w =
       from = omega (arith, found.starts_after, found.order);
       to = found.ends_within;
       encoded = w;
-      begun = begun_leaf all h.class h.constructed h.tag contents (h.start - p) found.encoding shut (encodes_block p all t w);
+      begun = begun_leaf all h.class h.constructed h.tag contents (h.start - p) found.encoding shut
+          (encodes_block p all t w);
     }
 
 -- a fault that is not that memory ran out
-pub fault_here : (P : DecodeFault → Type 0) (e : ASN1DecodeErr) → OutOfMemoryOr P e → (e ≡ OutOfMemory → ⊥) → P (fault_of e)
+pub fault_here : (P : DecodeFault → Type 0) (e : ASN1DecodeErr) → OutOfMemoryOr P e → (e ≡ OutOfMemory → ⊥) →
+    P (fault_of e)
 fault_here P e (inl m) other = absurd (other m)
 fault_here P e (inr p) other = p

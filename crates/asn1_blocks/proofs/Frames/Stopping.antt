@@ -1,27 +1,5 @@
 -- A fault goes outward through frames: out of groups, to the innermost attempt or to the document.
-use Rattle.std.proofs.Common.{
-  ◌≡◌,
-  ℕ,
-  ◌+◌,
-  ◌-◌,
-  ◌<◌,
-  ◌≤◌,
-  ◌^◌,
-  true,
-  List,
-  [],
-  ◌∷◌,
-  ◌++◌,
-  inl,
-  inr,
-  length,
-  refl,
-  sym,
-  ap,
-  ◌∙◌,
-  subst,
-  arith,
-}
+use Rattle.std.proofs.Common.{◌≡◌, ℕ, ◌+◌, ◌-◌, ◌<◌, ◌≤◌, ◌^◌, true, List, [], ◌∷◌, ◌++◌, inl, inr, length, refl, sym, ap, ◌∙◌, subst, arith}
 use Rattle.std.specs.List.{slice_range}
 use Rattle.asn1_blocks.specs.declared.block.GroupKind.{GroupKind}
 use Rattle.asn1_blocks.specs.declared.reading.Attempt as owed
@@ -51,7 +29,8 @@ pub record HasFaultyContents (octets contents : List ℕ) (start : ℕ) (e : Dec
   pub begun : HeadersBegun contents n
 
 -- those of a frame where a block is at fault
-refused_read : (octets : List ℕ) (f : Frame) (p : ℕ) (e : DecodeFault) (offset a b : ℕ) → IsReadTo octets f p a → StopsAt octets f p e offset b
+refused_read : (octets : List ℕ) (f : Frame) (p : ℕ) (e : DecodeFault) (offset a b : ℕ) → IsReadTo octets f p a →
+    StopsAt octets f p e offset b
     → HasFaultyContents octets (slice_range octets f.extent.start f.extent.end) f.extent.start e offset (a + b)
 refused_read octets f p e offset a b r s =
     let from = f.extent.start in
@@ -64,7 +43,8 @@ refused_read octets f p e offset a b r s =
     let some : 0 < length rest = omega (arith, slice_length octets p to r.to r.within, s.here) in
     record {
       after = length front + s.inside;
-      fault = fault_after (slice_range octets from to) front rest e s.inside whole k some (subst (λ z. BlockFaultAt z rest e s.inside) (sym l) s.stops);
+      fault = fault_after (slice_range octets from to) front rest e s.inside whole k some
+          (subst (λ z. BlockFaultAt z rest e s.inside) (sym l) s.stops);
       innermost = omega (arith, s.innermost, r.from, l);
       begun = subst (λ z. HeadersBegun z (a + b)) (sym whole) (begun_join front rest a b k r.begun s.begun);
     }
@@ -83,7 +63,8 @@ group_stops octets g o s e y fault offset a small low lt le fits within G r =
     let d = slice_join octets o e end (omega arith) fits in
     let len = slice_length octets o end (omega arith) within in
     let stops : BlockFaultAt i rest fault ((s - o) + r.after) = at_item first behind d y G.encoding r.fault in
-    let no_block = nothing_after (λ x z c b. block_fault_no_block i rest x z fault ((s - o) + r.after) stops (omega (arith, len, small)) c b) in
+    let no_block = nothing_after
+    (λ x z c b. block_fault_no_block i rest x z fault ((s - o) + r.after) stops (omega (arith, len, small)) c b) in
     let inside = inside_first first behind d G.encoding (inl (refl, group_tag_is y)) r.begun in
     record {
       here = omega arith;
@@ -94,7 +75,8 @@ group_stops octets g o s e y fault offset a small low lt le fits within G r =
     }
 
 -- a fault leaves a group
-stop_group : (octets : List ℕ) (f g : Frame) (gs : List Frame) (e : DecodeFault) (offset n : ℕ) (y : GroupKind) → length octets < 2 ^ 64
+stop_group : (octets : List ℕ) (f g : Frame) (gs : List Frame) (e : DecodeFault) (offset n : ℕ) (y : GroupKind) →
+    length octets < 2 ^ 64
     → f.extent.kind ≡ Group y → IsStopping octets f (g ∷ gs) e offset n → IsStopping octets g gs e offset n
 stop_group octets f g gs e offset n y small k w =
     let o = w.opened in
@@ -108,13 +90,15 @@ stop_group octets f g gs e offset n y small k w =
       before = o.before;
       own = 1 + (o.own + w.own);
       opened = o.around;
-      stops = group_stops octets g x s f.extent.end y e offset (o.own + w.own) small v.from o.after (omega (arith, o.read.from, o.read.to)) o.ends_within
+      stops = group_stops octets g x s f.extent.end y e offset (o.own + w.own) small v.from o.after
+          (omega (arith, o.read.from, o.read.to)) o.ends_within
           v.within H r;
       total = omega (arith, w.total, o.total);
     }
 
 -- a fault goes on to the frame around it
-pub stop_pop : (octets : List ℕ) (f g : Frame) (gs : List Frame) (e : DecodeFault) (offset n : ℕ) → length octets < 2 ^ 64
+pub stop_pop : (octets : List ℕ) (f g : Frame) (gs : List Frame) (e : DecodeFault) (offset n : ℕ) →
+    length octets < 2 ^ 64
     → (f.extent.kind ≡ Attempt → ⊥) → IsStopping octets f (g ∷ gs) e offset n → IsStopping octets g gs e offset n
 stop_pop octets f g gs e offset n small other w = go f.extent.kind refl
   where
@@ -133,7 +117,8 @@ pub record IsClosed (octets : List ℕ) (g : Frame) (gs : List Frame) (end : ℕ
   pub total : n ≡ before + own
 
 -- contents octets with a fault are no blocks
-pub stop_no_blocks : (octets : List ℕ) (f g : Frame) (gs : List Frame) (e : DecodeFault) (offset n : ℕ) → length octets < 2 ^ 64
+pub stop_no_blocks : (octets : List ℕ) (f g : Frame) (gs : List Frame) (e : DecodeFault) (offset n : ℕ) →
+    length octets < 2 ^ 64
     → IsStopping octets f (g ∷ gs) e offset n → AreBlocks (slice_range octets f.extent.start f.extent.end) → ⊥
 stop_no_blocks octets f g gs e offset n small w =
     let o = w.opened in
@@ -144,8 +129,10 @@ stop_no_blocks octets f g gs e offset n small w =
     blocks_fault_no_blocks contents e r.after r.fault short
 
 -- a fault closes an attempt
-pub stop_attempt : (octets : List ℕ) (f g : Frame) (gs : List Frame) (e : DecodeFault) (offset n : ℕ) (a : owed.Attempt) → length octets < 2 ^ 64
-    → a.offset ≡ f.extent.offset → IsAttemptAt octets a f.extent.start f.extent.end → IsStopping octets f (g ∷ gs) e offset n
+pub stop_attempt : (octets : List ℕ) (f g : Frame) (gs : List Frame) (e : DecodeFault) (offset n : ℕ)
+    (a : owed.Attempt) → length octets < 2 ^ 64
+    → a.offset ≡ f.extent.offset → IsAttemptAt octets a f.extent.start f.extent.end →
+    IsStopping octets f (g ∷ gs) e offset n
     → IsClosed octets g gs f.extent.end (as_it_came octets a f.extent.start f.extent.end) n
 stop_attempt octets f g gs e offset n a small here H w =
     let o = w.opened in
@@ -154,7 +141,8 @@ stop_attempt octets f g gs e offset n a small here H w =
     let contents = slice_range octets s z in
     let F = H.encoding in
     let r = refused_read octets f w.reached e offset o.own w.own o.read w.stops in
-    let no_block = λ (i : (true ≡ true) × IsBlock contents). stop_no_blocks octets f g gs e offset n small w (block_is_blocks contents i.1) in
+    let no_block = λ (i : (true ≡ true) × IsBlock contents). stop_no_blocks octets f g gs e offset n small w
+    (block_is_blocks contents i.1) in
     let m = o.own + w.own in
     record {
       reached = a.offset;
@@ -165,7 +153,8 @@ stop_attempt octets f g gs e offset n a small here H w =
         from = omega (arith, here, o.after, o.read.from, o.read.to);
         to = o.ends_within;
         encoded = (refl, s - a.offset, F, inr (H.other, no_block));
-        begun = begun_opened (slice_range octets a.offset z) a.class true a.tag contents (s - a.offset) m F (inr (H.other, refl)) (of_other_class F H.other)
+        begun = begun_opened (slice_range octets a.offset z) a.class true a.tag contents (s - a.offset) m F
+            (inr (H.other, refl)) (of_other_class F H.other)
             r.begun;
       };
       total = omega (arith, w.total, o.total);
@@ -174,7 +163,8 @@ stop_attempt octets f g gs e offset n a small here H w =
 -- the contents octets of the outermost frame are the document
 pub whole_document : (octets : List ℕ) (f : Frame) → f.extent.start ≡ 0 → f.extent.end ≡ length octets
     → slice_range octets f.extent.start f.extent.end ≡ octets
-whole_document octets f s e = ap (λ z. slice_range octets z f.extent.end) s ∙ (ap (slice_range octets 0) e ∙ slice_all octets)
+whole_document octets f s e =
+    ap (λ z. slice_range octets z f.extent.end) s ∙ (ap (slice_range octets 0) e ∙ slice_all octets)
 
 -- a fault in no attempt
 pub stop_document : (octets : List ℕ) (f : Frame) (e : DecodeFault) (offset n : ℕ) → IsStopping octets f [] e offset n
@@ -185,7 +175,11 @@ stop_document octets f e offset n w =
     let begun = subst (λ z. HeadersBegun z (w.before + w.own)) d r.begun in
     let whole : BlocksFaultAt octets e r.after = subst (λ z. BlocksFaultAt z e r.after) d r.fault in
     let o : r.after ≡ offset = omega (arith, r.innermost, w.opened.whole.start) in
-    record { fault = subst (λ z. BlocksFaultAt octets e z) o whole; begun = subst (λ z. HeadersBegun octets z) (sym w.total) begun }
+    record {
+      fault = subst (λ z. BlocksFaultAt octets e z) o whole;
+      begun =
+          subst (λ z. HeadersBegun octets z) (sym w.total) begun;
+    }
 
 -- where a fault is
 pub record StoppingPlaces (octets : List ℕ) (f : Frame) (n : ℕ) : Type 0 where
@@ -193,7 +187,8 @@ pub record StoppingPlaces (octets : List ℕ) (f : Frame) (n : ℕ) : Type 0 whe
   pub within : f.extent.end ≤ length octets
   pub bound : n ≤ length octets
 
-pub stopping_places : (octets : List ℕ) (f : Frame) (gs : List Frame) (e : DecodeFault) (offset n : ℕ) → IsStopping octets f gs e offset n
+pub stopping_places : (octets : List ℕ) (f : Frame) (gs : List Frame) (e : DecodeFault) (offset n : ℕ) →
+    IsStopping octets f gs e offset n
     → StoppingPlaces octets f n
 stopping_places octets f gs e offset n w =
     let p = w.reached in

@@ -26,39 +26,48 @@ nested (x ∷ xs) n e = record { next = x; others = xs; are = refl; count = omeg
 module _ {B I : Type 0} (Holds : Holding B I) (octets : List ℕ) where
   -- the innermost frame has one tree more, and reading goes on behind it
   pub goes_on :
-      (e : Extent) (j : I) (outer : Vec (OpenFrame I) Global) (end : ℕ) (b : B) (fault : ASN1DecodeErr) (ts : List (Tree ℕ)) (rest : List (List (Tree ℕ)))
-      (t : Tree ℕ) (n most : ℕ) → left (length octets) end outer.items < most → length (reverse outer.items) ≡ length rest →
+      (e : Extent) (j : I) (outer : Vec (OpenFrame I) Global) (end : ℕ) (b : B) (fault : ASN1DecodeErr)
+      (ts : List (Tree ℕ)) (rest : List (List (Tree ℕ)))
+      (t : Tree ℕ) (n most : ℕ) → left (length octets) end outer.items < most →
+      length (reverse outer.items) ≡ length rest →
       Holds octets b (record { extent = e; items = j } ∷ reverse outer.items) ((ts ++ t ∷ []) ∷ rest) →
       IsClosed octets (record { extent = e; trees = ts }) (frames (reverse outer.items) rest) end t n →
-      GoesOn Holds octets (record { inner = record { extent = e; items = j }; outer = outer; index = end; builder = b; fault = fault }) n most
+      GoesOn Holds octets (record
+      { inner = record { extent = e; items = j }; outer = outer; index = end; builder = b; fault = fault }) n most
   goes_on e j outer end b fault ts rest t n most near m h c =
       let gs = frames (reverse outer.items) rest in
-      let more = opened_more octets (record { extent = e; trees = ts }) gs c.reached end c.before c.own t c.opened c.follows in
+      let more = opened_more octets (record { extent = e; trees = ts }) gs c.reached end c.before c.own t c.opened
+      c.follows in
       record {
         reading = record {
           trees = ts ++ t ∷ [];
           outer = rest;
           matched = m;
           holds = h;
-          opened = subst (λ z. AreOpen octets (record { extent = e; trees = ts ++ t ∷ [] }) gs end z) (sym c.total) more;
+          opened = subst (λ z. AreOpen octets (record { extent = e; trees = ts ++ t ∷ [] }) gs end z) (sym c.total)
+              more;
         };
         nearer = near;
       }
 
   -- the frame k ended inside the frame h
-  module _ (b : B) (k h : OpenFrame I) (outer : Vec (OpenFrame I) Global) (n : ℕ) (w : Reads Holds octets b k (h ∷ reverse outer.items) k.extent.end n) where
+  module _ (b : B) (k h : OpenFrame I) (outer : Vec (OpenFrame I) Global) (n : ℕ)
+      (w : Reads Holds octets b k (h ∷ reverse outer.items) k.extent.end n) where
     N : IsNested w.outer (length (reverse outer.items))
     N = nested w.outer (length (reverse outer.items)) w.matched
 
     ending : AreOpen octets (frame k w.trees) (frames (h ∷ reverse outer.items) (N.next ∷ N.others)) k.extent.end n
-    ending = subst (λ z. AreOpen octets (frame k w.trees) (frames (h ∷ reverse outer.items) z) k.extent.end n) N.are w.opened
+    ending = subst (λ z. AreOpen octets (frame k w.trees) (frames (h ∷ reverse outer.items) z) k.extent.end n) N.are
+        w.opened
 
     -- it can
     pub can_end : (depth : ℕ) → depth ≡ length outer.items → CanEnd Holds octets k depth b h.items
     can_end depth d =
-        let v = opened_places octets (frame k w.trees) (frames (h ∷ reverse outer.items) (N.next ∷ N.others)) k.extent.end n ending in
+        let v = opened_places octets (frame k w.trees) (frames (h ∷ reverse outer.items) (N.next ∷ N.others))
+        k.extent.end n ending in
         record {
-          kind = inside_other octets (frame k w.trees) (frame h N.next) (frames (reverse outer.items) N.others) k.extent.end n ending;
+          kind = inside_other octets (frame k w.trees) (frame h N.next) (frames (reverse outer.items) N.others)
+              k.extent.end n ending;
           after = ending.after;
           order = omega (arith, v.from, v.to);
           within = v.within;
@@ -73,7 +82,14 @@ module _ {B I : Type 0} (Holds : Holding B I) (octets : List ℕ) where
     pub ended_goes_on : (depth : ℕ) (c : B) (j : I) (fault : ASN1DecodeErr) (most : ℕ) → depth ≡ length outer.items →
         HasEndedIn Holds octets k depth b h.items c j → left (length octets) k.extent.end outer.items < most →
         GoesOn Holds octets
-        (record { inner = record { extent = h.extent; items = j }; outer = outer; index = k.extent.end; builder = c; fault = fault }) n most
+        (record {
+          inner = record { extent = h.extent; items = j };
+          outer = outer;
+          index = k.extent.end;
+          builder =
+              c;
+          fault = fault;
+        }) n most
     ended_goes_on depth c j fault most d is near =
         let gs = reverse outer.items in
         let (t, tree) = ended octets k.extent.kind k.extent.offset k.extent.start k.extent.end w.trees ending.headed in
@@ -85,16 +101,19 @@ module _ {B I : Type 0} (Holds : Holding B I) (octets : List ℕ) where
           order = omega (arith, ending.read.from, ending.read.to);
           encoded = ending.read.encoded;
         } in
-        let after = is.holds h.extent gs w.trees N.next N.others t (omega (arith, d, length-reverse outer.items)) whole before in
+        let after = is.holds h.extent gs w.trees N.next N.others t (omega (arith, d, length-reverse outer.items)) whole
+        before in
         let closed = close_frame octets (frame k w.trees) (frame h N.next) (frames gs N.others) n t tree ending in
         goes_on h.extent j outer k.extent.end c fault N.next N.others t n most near N.count after closed
 
   -- the document ended
-  pub document_ended : (r : Reader B I) (n : ℕ) → Reads Holds octets r.builder r.inner [] r.inner.extent.end n → HasEnded Holds octets r n
+  pub document_ended : (r : Reader B I) (n : ℕ) → Reads Holds octets r.builder r.inner [] r.inner.extent.end n →
+      HasEnded Holds octets r n
   document_ended r n w = go w.outer w.matched w.holds w.opened
     where
       go : (outer : List (List (Tree ℕ))) → 0 ≡ length outer → Holds octets r.builder (r.inner ∷ []) (w.trees ∷ outer)
-          → AreOpen octets (frame r.inner w.trees) (frames {I = I} [] outer) r.inner.extent.end n → HasEnded Holds octets r n
+          → AreOpen octets (frame r.inner w.trees) (frames {I = I} [] outer) r.inner.extent.end n →
+          HasEnded Holds octets r n
       go [] m h o =
           let d = end_document octets (frame r.inner w.trees) n o in
           record { trees = w.trees; holds = h; encoded = d.encoded; begun = d.begun }

@@ -5,7 +5,8 @@ use Rattle.asn1_headers.specs.declared.error.ASN1DecodeErr.TheVariants.{OutOfMem
 use Rattle.asn1_blocks.specs.declared.reading.Reader.{Reader}
 use Rattle.asn1_blocks.specs.Inner.ReaderSteps.{HasStepped, Holding}
 
-pub stepped_memory : {A B I : Type 0} (Holds : Holding B I) (octets : List ℕ) (t : Result A ASN1DecodeErr) (r : Reader B I) (n most : ℕ)
+pub stepped_memory : {A B I : Type 0} (Holds : Holding B I) (octets : List ℕ) (t : Result A ASN1DecodeErr)
+    (r : Reader B I) (n most : ℕ)
     → IsErr t × IsErrAnd t (λ e. e ≡ OutOfMemory)
     → HasStepped Holds octets t r n most
 stepped_memory Holds octets (Ok x) r n most h = absurd h.1

@@ -1,26 +1,5 @@
 -- The reader at a header: where it is, and what a frame inside, a leaf or a fault there leads to.
-use Rattle.std.proofs.Common.{
-  ◌≡◌,
-  ◌≢◌,
-  ℕ,
-  ◌+◌,
-  ◌-◌,
-  ◌<◌,
-  ◌≤◌,
-  ◌^◌,
-  List,
-  [],
-  ◌∷◌,
-  length,
-  reverse,
-  refl,
-  sym,
-  ap,
-  ◌∙◌,
-  subst,
-  arith,
-  length-append,
-}
+use Rattle.std.proofs.Common.{◌≡◌, ◌≢◌, ℕ, ◌+◌, ◌-◌, ◌<◌, ◌≤◌, ◌^◌, List, [], ◌∷◌, length, reverse, refl, sym, ap, ◌∙◌, subst, arith, length-append}
 use Rattle.std.specs.List.{slice_range}
 use Rattle.std.proofs.lemmas.List.{length-reverse, reverse-append}
 use Rattle.asn1_headers.specs.Fault.{DecodeFault}
@@ -54,7 +33,8 @@ module _ {B I : Type 0} (Holds : Holding B I) (octets : List ℕ) where
 
   -- a frame was opened at the header
   pub open_goes_on :
-      (a r : Reader B I) (h : PlacedHeader) (n depth : ℕ) (kind : FrameKind) (items : I) (b : B) → depth ≡ length a.outer.items → IsKindOf kind h →
+      (a r : Reader B I) (h : PlacedHeader) (n depth : ℕ) (kind : FrameKind) (items : I) (b : B) →
+      depth ≡ length a.outer.items → IsKindOf kind h →
       HasOpened Holds octets h a.index depth a.builder items b →
       IsEntered (record { inner = a.inner; outer = a.outer; index = a.index; builder = b; fault = a.fault })
       (record { extent = opened_at a.index kind h; items = items }) r →
@@ -64,12 +44,16 @@ module _ {B I : Type 0} (Holds : Holding B I) (octets : List ℕ) where
       let outer = a.outer.items in
       let f : OpenFrame I = record { extent = opened_at a.index kind h; items = items } in
       let headed = headed_by octets kind a.index a.inner.extent.end h is found in
-      let o = opened_open octets (frame a.inner w.trees) (frame f []) (frames (reverse outer) w.outer) a.index n refl headed refl found.starts_after found.order found.ends_within
+      let o = opened_open octets (frame a.inner w.trees) (frame f []) (frames (reverse outer) w.outer) a.index n refl
+      headed refl found.starts_after found.order found.ends_within
       w.opened in
-      let k = new.holds kind a.inner (reverse outer) (w.trees ∷ w.outer) (omega (arith, d, length-reverse outer)) is w.holds in
-      let around : reverse r.outer.items ≡ a.inner ∷ reverse outer = ap reverse u.outer ∙ reverse-append outer (a.inner ∷ []) in
+      let k = new.holds kind a.inner (reverse outer) (w.trees ∷ w.outer) (omega (arith, d, length-reverse outer)) is
+      w.holds in
+      let around : reverse r.outer.items ≡ a.inner ∷ reverse outer =
+      ap reverse u.outer ∙ reverse-append outer (a.inner ∷ []) in
       let all = w.trees ∷ w.outer in
-      let l : length r.outer.items ≡ length outer + 1 = omega (arith, ap length u.outer, length-append outer (a.inner ∷ [])) in
+      let l : length r.outer.items ≡ length outer + 1 =
+      omega (arith, ap length u.outer, length-append outer (a.inner ∷ [])) in
       let v = reader_places a n w in
       record {
         reading = record {
@@ -80,25 +64,38 @@ module _ {B I : Type 0} (Holds : Holding B I) (octets : List ℕ) where
               (subst (λ x. Holds octets x (r.inner ∷ a.inner ∷ reverse outer) ([] ∷ all)) (sym u.builder)
               (subst (λ x. Holds octets b (x ∷ a.inner ∷ reverse outer) ([] ∷ all)) (sym u.inner) k));
           opened = subst (λ x. AreOpen octets (frame r.inner []) (frames x all) r.index (n + 1)) (sym around)
-              (subst (λ x. AreOpen octets (frame x []) (frames (a.inner ∷ reverse outer) all) r.index (n + 1)) (sym u.inner)
-              (subst (λ x. AreOpen octets (frame f []) (frames (a.inner ∷ reverse outer) all) x (n + 1)) (sym u.index) o));
+              (subst (λ x. AreOpen octets (frame x []) (frames (a.inner ∷ reverse outer) all) r.index (n + 1))
+              (sym u.inner)
+              (subst (λ x. AreOpen octets (frame f []) (frames (a.inner ∷ reverse outer) all) x (n + 1)) (sym u.index)
+              o));
         };
         nearer = omega (arith, u.index, l, found.starts_after, found.order, found.ends_within, v.within);
       }
 
   -- a leaf stands at the header
   pub leaf_goes_on :
-      (a : Reader B I) (h : PlacedHeader) (n depth : ℕ) (b : B) (j : I) → depth ≡ length a.outer.items → HeaderFound octets a.index a.inner.extent.end h →
-      (IsReadInside h.class h.constructed h.tag → ⊥) → HasLeaf Holds octets a.index h.end depth a.builder a.inner.items b j →
+      (a : Reader B I) (h : PlacedHeader) (n depth : ℕ) (b : B) (j : I) → depth ≡ length a.outer.items →
+      HeaderFound octets a.index a.inner.extent.end h →
+      (IsReadInside h.class h.constructed h.tag → ⊥) →
+      HasLeaf Holds octets a.index h.end depth a.builder a.inner.items b j →
       IsReading Holds octets a n →
       GoesOn Holds octets
-      (record { inner = record { extent = a.inner.extent; items = j }; outer = a.outer; index = h.end; builder = b; fault = a.fault }) (n + 1)
+      (record {
+        inner = record { extent = a.inner.extent; items = j };
+        outer = a.outer;
+        index = h.end;
+        builder =
+            b;
+        fault = a.fault;
+      }) (n + 1)
       (left (length octets) a.index a.outer.items)
   leaf_goes_on a h n depth b j d found shut leaf w =
       let gs = reverse a.outer.items in
       let v = reader_places a n w in
-      let held = leaf.more.holds a.inner.extent gs w.trees w.outer (omega (arith, d, length-reverse a.outer.items)) w.holds in
-      goes_on Holds octets a.inner.extent j a.outer h.end b a.fault w.trees w.outer leaf.tree (n + 1) (left (length octets) a.index a.outer.items)
+      let held = leaf.more.holds a.inner.extent gs w.trees w.outer (omega (arith, d, length-reverse a.outer.items))
+      w.holds in
+      goes_on Holds octets a.inner.extent j a.outer h.end b a.fault w.trees w.outer leaf.tree (n + 1)
+      (left (length octets) a.index a.outer.items)
       (omega (arith, found.starts_after, found.order, found.ends_within, v.within)) w.matched held
       (record {
         reached = a.index;
@@ -138,19 +135,37 @@ module _ {B I : Type 0} (Holds : Holding B I) (octets : List ℕ) where
       let v = reader_places a n w in
       let here : a.index < a.inner.extent.end = omega (arith, v.to, ne) in
       still_faulty a e n (n + 1) w
-      (header_stopping octets (frame a.inner w.trees) (frames (reverse a.outer.items) w.outer) a.index n e small here w.opened u)
+      (header_stopping octets (frame a.inner w.trees) (frames (reverse a.outer.items) w.outer) a.index n e small here
+      w.opened u)
 
   -- the contents octets of a leaf are
-  pub leaf_faulty : (a : Reader B I) (h : PlacedHeader) (e : DecodeFault) (n : ℕ) (b : B) (j : I) → length octets < 2 ^ 64
+  pub leaf_faulty : (a : Reader B I) (h : PlacedHeader) (e : DecodeFault) (n : ℕ) (b : B) (j : I) →
+      length octets < 2 ^ 64
       → HeaderFound octets a.index a.inner.extent.end h → (IsReadInside h.class h.constructed h.tag → ⊥)
       → IsLeafFault octets h a.builder a.inner.items b j e → IsReading Holds octets a n
       → IsFaulty Holds octets
-      (record { inner = record { extent = a.inner.extent; items = j }; outer = a.outer; index = a.index; builder = b; fault = a.fault }) e (n + 1)
+      (record {
+        inner = record { extent = a.inner.extent; items = j };
+        outer = a.outer;
+        index = a.index;
+        builder =
+            b;
+        fault = a.fault;
+      }) e (n + 1)
       (left (length octets) a.index a.outer.items)
   leaf_faulty a h e n b j small found shut is w =
-      let stops = leaf_stopping octets (frame a.inner w.trees) (frames (reverse a.outer.items) w.outer) a.index n h e small found w.opened shut is.class
+      let stops = leaf_stopping octets (frame a.inner w.trees) (frames (reverse a.outer.items) w.outer) a.index n h e
+      small found w.opened shut is.class
       is.fault in
       let Faulty = λ (c : B) (k : I). IsFaulty Holds octets
-      (record { inner = record { extent = a.inner.extent; items = k }; outer = a.outer; index = a.index; builder = c; fault = a.fault }) e (n + 1)
+      (record {
+        inner = record { extent = a.inner.extent; items = k };
+        outer = a.outer;
+        index = a.index;
+        builder =
+            c;
+        fault = a.fault;
+      }) e (n + 1)
       (left (length octets) a.index a.outer.items) in
-      subst (λ z. Faulty z j) (sym is.builder) (subst (λ z. Faulty a.builder z) (sym is.items) (still_faulty a e n (n + 1) w stops))
+      subst (λ z. Faulty z j) (sym is.builder)
+      (subst (λ z. Faulty a.builder z) (sym is.items) (still_faulty a e n (n + 1) w stops))

@@ -1,28 +1,5 @@
 -- A fault goes outward through the frames of the reader.
-use Rattle.std.proofs.Common.{
-  ◌≡◌,
-  ℕ,
-  ◌<◌,
-  ◌≤◌,
-  ◌^◌,
-  List,
-  [],
-  ◌∷◌,
-  ◌++◌,
-  Global,
-  Vec,
-  length,
-  reverse,
-  true,
-  refl,
-  sym,
-  ap,
-  ◌∙◌,
-  subst,
-  arith,
-  append_assoc,
-  length-append,
-}
+use Rattle.std.proofs.Common.{◌≡◌, ℕ, ◌<◌, ◌≤◌, ◌^◌, List, [], ◌∷◌, ◌++◌, Global, Vec, length, reverse, true, refl, sym, ap, ◌∙◌, subst, arith, append_assoc, length-append}
 use Rattle.std.proofs.lemmas.Bool.{false≢true}
 use Rattle.std.proofs.lemmas.List.{length-reverse}
 use Rattle.asn1_headers.specs.declared.error.ASN1DecodeErr.{ASN1DecodeErr}
@@ -44,7 +21,8 @@ pub record IsTried (octets : List ℕ) (e : Extent) : Type 0 where
   pub offset : attempt.offset ≡ e.offset
   pub headed : IsAttemptAt octets attempt e.start e.end
 
-pub attempt_headed : (octets : List ℕ) (e : Extent) → is_tried e.kind ≡ true → IsHeaded octets e.kind e.offset e.start e.end → IsTried octets e
+pub attempt_headed : (octets : List ℕ) (e : Extent) → is_tried e.kind ≡ true →
+    IsHeaded octets e.kind e.offset e.start e.end → IsTried octets e
 attempt_headed octets e tries H = go e.kind refl
   where
     go : (kind : FrameKind) → e.kind ≡ kind → IsTried octets e
@@ -55,7 +33,8 @@ attempt_headed octets e tries H = go e.kind refl
         record { attempt = a; offset = here; headed = at }
 
 -- there is less left to do when the frame around was taken out of the list
-pub taken_nearer : {I : Type 0} (size : ℕ) (f k g : OpenFrame I) (before after : List (OpenFrame I)) → k ≡ f → before ≡ after ++ g ∷ []
+pub taken_nearer : {I : Type 0} (size : ℕ) (f k g : OpenFrame I) (before after : List (OpenFrame I)) → k ≡ f →
+    before ≡ after ++ g ∷ []
     → left size k.extent.end after < left size f.extent.end before
 taken_nearer {I} size f k g before after own is =
     let e : k.extent.end ≡ f.extent.end = ap (λ (z : OpenFrame I). z.extent.end) own in
@@ -63,28 +42,34 @@ taken_nearer {I} size f k g before after own is =
 
 module _ {B I : Type 0} (Holds : Holding B I) (octets : List ℕ) (b : B) where
   -- the frame around was taken out of the list
-  pub refused_taken : (f k g h : OpenFrame I) (before after : List (OpenFrame I)) (e : DecodeFault) (offset n : ℕ) → k ≡ f → h ≡ g
-      → before ≡ after ++ g ∷ [] → IsRefused Holds octets b f (reverse before) e offset n → IsRefused Holds octets b k (h ∷ reverse after) e offset n
+  pub refused_taken : (f k g h : OpenFrame I) (before after : List (OpenFrame I)) (e : DecodeFault) (offset n : ℕ) →
+      k ≡ f → h ≡ g
+      → before ≡ after ++ g ∷ [] → IsRefused Holds octets b f (reverse before) e offset n →
+      IsRefused Holds octets b k (h ∷ reverse after) e offset n
   refused_taken f k g h before after e offset n own new is r =
       subst (λ z. IsRefused Holds octets b k (z ∷ reverse after) e offset n) (sym new)
       (subst (λ z. IsRefused Holds octets b z (g ∷ reverse after) e offset n) (sym own)
       (subst (λ z. IsRefused Holds octets b f z e offset n) (reverse_push before after g is) r))
 
   -- no others are left: the fault is that of the document
-  pub refused_outermost : (f : OpenFrame I) (outer : List (OpenFrame I)) (e : DecodeFault) (offset n : ℕ) → length outer ≡ 0
+  pub refused_outermost : (f : OpenFrame I) (outer : List (OpenFrame I)) (e : DecodeFault) (offset n : ℕ) →
+      length outer ≡ 0
       → IsRefused Holds octets b f (reverse outer) e offset n → IsFaultyDocument octets e offset n
   refused_outermost f outer e offset n none r =
-      let alone = subst (λ z. IsStopping octets (frame f r.trees) (frames z r.outer) e offset n) (reverse_none outer none) r.stopping in
+      let alone = subst (λ z. IsStopping octets (frame f r.trees) (frames z r.outer) e offset n)
+      (reverse_none outer none) r.stopping in
       stop_document octets (frame f r.trees) e offset n alone
 
   -- a fault in the frame k inside the frame h
-  module _ (k h : OpenFrame I) (outer : Vec (OpenFrame I) Global) (e : DecodeFault) (offset n : ℕ) (small : length octets < 2 ^ 64)
+  module _ (k h : OpenFrame I) (outer : Vec (OpenFrame I) Global) (e : DecodeFault) (offset n : ℕ)
+      (small : length octets < 2 ^ 64)
       (r : IsRefused Holds octets b k (h ∷ reverse outer.items) e offset n) where
     N : IsNested r.outer (length (reverse outer.items))
     N = nested r.outer (length (reverse outer.items)) r.matched
 
     stops : IsStopping octets (frame k r.trees) (frame h N.next ∷ frames (reverse outer.items) N.others) e offset n
-    stops = subst (λ z. IsStopping octets (frame k r.trees) (frames (h ∷ reverse outer.items) z) e offset n) N.are r.stopping
+    stops = subst (λ z. IsStopping octets (frame k r.trees) (frames (h ∷ reverse outer.items) z) e offset n) N.are
+        r.stopping
 
     held : Holds octets b (r.inside ++ k ∷ h ∷ reverse outer.items) (r.lost ++ r.trees ∷ N.next ∷ N.others)
     held = subst (λ z. Holds octets b (r.inside ++ k ∷ h ∷ reverse outer.items) (r.lost ++ r.trees ∷ z)) N.are r.holds
@@ -107,7 +92,8 @@ module _ {B I : Type 0} (Holds : Holding B I) (octets : List ℕ) (b : B) where
           dropped = omega (arith, r.dropped, length-append r.inside (k ∷ []), length-append r.lost (r.trees ∷ []));
           holds = subst (λ z. Holds octets b z ((r.lost ++ r.trees ∷ []) ++ N.next ∷ N.others)) (sym joined)
               (subst (λ z. Holds octets b (r.inside ++ k ∷ h ∷ gs) z) (sym lost) held);
-          stopping = stop_pop octets (frame k r.trees) (frame h N.next) (frames gs N.others) e offset n small other_kind stops;
+          stopping = stop_pop octets (frame k r.trees) (frame h N.next) (frames gs N.others) e offset n small other_kind
+              stops;
         }
 
     -- which attempt it is, if it is one
@@ -130,12 +116,23 @@ module _ {B I : Type 0} (Holds : Holding B I) (octets : List ℕ) (b : B) where
 
     -- and then reading goes on
     pub kept_goes_on : IsTried octets k.extent → (depth : ℕ) (c : B) (j : I) (fault : ASN1DecodeErr) (most : ℕ) →
-        depth ≡ length outer.items → HasKept Holds octets k depth b h.items c j → left (length octets) k.extent.end outer.items < most →
+        depth ≡ length outer.items → HasKept Holds octets k depth b h.items c j →
+        left (length octets) k.extent.end outer.items < most →
         GoesOn Holds octets
-        (record { inner = record { extent = h.extent; items = j }; outer = outer; index = k.extent.end; builder = c; fault = fault }) n most
+        (record {
+          inner = record { extent = h.extent; items = j };
+          outer = outer;
+          index = k.extent.end;
+          builder =
+              c;
+          fault = fault;
+        }) n most
     kept_goes_on a depth c j fault most d kept near =
         let gs = reverse outer.items in
-        let none = stop_no_blocks octets (frame k r.trees) (frame h N.next) (frames gs N.others) e offset n small stops in
-        let after = kept.holds r.inside r.lost h.extent gs r.trees N.next N.others a.attempt (omega (arith, d, length-reverse outer.items)) r.dropped a.offset a.headed none held in
-        let closed = stop_attempt octets (frame k r.trees) (frame h N.next) (frames gs N.others) e offset n a.attempt small a.offset a.headed stops in
+        let none = stop_no_blocks octets (frame k r.trees) (frame h N.next) (frames gs N.others) e offset n small
+        stops in
+        let after = kept.holds r.inside r.lost h.extent gs r.trees N.next N.others a.attempt
+        (omega (arith, d, length-reverse outer.items)) r.dropped a.offset a.headed none held in
+        let closed = stop_attempt octets (frame k r.trees) (frame h N.next) (frames gs N.others) e offset n a.attempt
+        small a.offset a.headed stops in
         goes_on Holds octets h.extent j outer k.extent.end c fault N.next N.others _ n most near N.count after closed

@@ -12,9 +12,12 @@ use Rattle.asn1_blocks.proofs.Frames.Slices.{slice_none}
 module _ {B I : Type 0} (Holds : Holding B I) (octets : List ℕ) where
   -- nothing is read yet
   pub first_reading : (b : B) (items : I) (outer : List (OpenFrame I)) → outer ≡ [] → StartsEmpty Holds octets b items
-      → Reads Holds octets b (record { extent = record { kind = Whole; offset = 0; start = 0; end = length octets }; items = items }) (reverse outer) 0 0
+      → Reads Holds octets b
+      (record { extent = record { kind = Whole; offset = 0; start = 0; end = length octets }; items = items })
+      (reverse outer) 0 0
   first_reading b items outer none h =
-      let f : OpenFrame I = record { extent = record { kind = Whole; offset = 0; start = 0; end = length octets }; items = items } in
+      let f : OpenFrame I =
+      record { extent = record { kind = Whole; offset = 0; start = 0; end = length octets }; items = items } in
       let z = slice_none octets 0 in
       let first : Reads Holds octets b f [] 0 0 = record {
         trees = [];
@@ -23,26 +26,37 @@ module _ {B I : Type 0} (Holds : Holding B I) (octets : List ℕ) where
         holds = h;
         opened = record {
           whole = record { kind = refl; start = refl; end = refl };
-          read = record { from = omega arith; to = omega arith; within = omega arith; encoded = z; begun = begun_none z };
+          read = record {
+            from = omega arith;
+            to = omega arith;
+            within = omega arith;
+            encoded = z;
+            begun =
+                begun_none z;
+          };
         };
       } in
       subst (λ x. Reads Holds octets b f (reverse x) 0 0) (sym none) first
 
   -- no step is left
-  pub stepped_end : (s : Option (Result (Unit {0}) ASN1DecodeErr)) (r : Reader B I) (n most : ℕ) → s ≡ None → IsStepped Holds octets s r n most
+  pub stepped_end : (s : Option (Result (Unit {0}) ASN1DecodeErr)) (r : Reader B I) (n most : ℕ) → s ≡ None →
+      IsStepped Holds octets s r n most
       → HasEnded Holds octets r n
   stepped_end s r n most e w = subst (λ z. IsStepped Holds octets z r n most) e w
 
-  pub stepped_on : (s : Option (Result (Unit {0}) ASN1DecodeErr)) (x : Unit {0}) (r : Reader B I) (n most : ℕ) → s ≡ Some (Ok x)
+  pub stepped_on : (s : Option (Result (Unit {0}) ASN1DecodeErr)) (x : Unit {0}) (r : Reader B I) (n most : ℕ) →
+      s ≡ Some (Ok x)
       → IsStepped Holds octets s r n most → GoesOn Holds octets r n most
   stepped_on s x r n most e w = subst (λ z. IsStepped Holds octets z r n most) e w
 
-  pub stepped_wrong : (s : Option (Result (Unit {0}) ASN1DecodeErr)) (x : ASN1DecodeErr) (r : Reader B I) (n most : ℕ) → s ≡ Some (Err x)
+  pub stepped_wrong : (s : Option (Result (Unit {0}) ASN1DecodeErr)) (x : ASN1DecodeErr) (r : Reader B I) (n most : ℕ) →
+      s ≡ Some (Err x)
       → IsStepped Holds octets s r n most → OutOfMemoryOr (λ fault. IsFaulty Holds octets r fault n most) x
   stepped_wrong s x r n most e w = subst (λ z. IsStepped Holds octets z r n most) e w
 
   -- reading goes on behind a fault, or the fault is that of the document
-  pub recovered_on : (b : Bool) (r : Reader B I) (n most : ℕ) → b ≡ true → HasRecovered Holds octets b r n most → GoesOn Holds octets r n most
+  pub recovered_on : (b : Bool) (r : Reader B I) (n most : ℕ) → b ≡ true → HasRecovered Holds octets b r n most →
+      GoesOn Holds octets r n most
   recovered_on b r n most e w = subst (λ z. HasRecovered Holds octets z r n most) e w
 
   pub recovered_stop : (b : Bool) (r : Reader B I) (n most : ℕ) → b ≡ false → HasRecovered Holds octets b r n most

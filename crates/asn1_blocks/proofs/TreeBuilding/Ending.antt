@@ -39,35 +39,47 @@ attempted_other octets a s e (t ∷ []) many = absurd (many refl)
 attempted_other octets a s e (t ∷ u ∷ ts) many = refl
 
 -- what the frame is, where its kind is known
-pub ended_is : (octets : List ℕ) (kind other : FrameKind) (o s e : ℕ) (ts : List (Tree ℕ)) (t : Tree ℕ) → kind ≡ other → IsEnded octets kind o s e ts t
+pub ended_is : (octets : List ℕ) (kind other : FrameKind) (o s e : ℕ) (ts : List (Tree ℕ)) (t : Tree ℕ) → kind ≡ other →
+    IsEnded octets kind o s e ts t
     → IsEnded octets other o s e ts t
 ended_is octets kind other o s e ts t is w = subst (λ z. IsEnded octets z o s e ts t) is w
 
 -- and of an attempt, which attempt it is of
 tried_ended : (octets : List ℕ) (f : Extent) (k : other.Attempt) (ts : List (Tree ℕ)) (t : Tree ℕ) → f.kind ≡ Attempt
-    → IsAttemptAlone octets f.offset f.end k → IsEnded octets f.kind f.offset f.start f.end ts t → t ≡ attempted octets k f.start f.end ts
+    → IsAttemptAlone octets f.offset f.end k → IsEnded octets f.kind f.offset f.start f.end ts t →
+    t ≡ attempted octets k f.start f.end ts
 tried_ended octets f k ts t is alone w =
     let (b, here, at, tree) = ended_is octets f.kind Attempt f.offset f.start f.end ts t is w in
     tree ∙ ap (λ z. attempted octets z f.start f.end ts) (sym (alone b f.start here at))
 
-module _ (octets : List ℕ) (es : List Owed) (f : OpenFrame FrameBlocks) (ts : List (Tree ℕ)) (h : Holds octets es f ts) where
-  -- the one tree is owed
-  pub one_owed : f.items.owed_count ≡ 1 → length f.items.first ≡ 0 → (t : Tree ℕ) × Leads octets (drop f.items.owed_before es) (t ∷ []) × (ts ≡ t ∷ [])
-  one_owed one none =
-      let s = single h.owed (sym one ∙ h.count) in
-      let seen = ap (λ bs. map view bs ++ h.owed) (no_items f.items.first none) in
-      (s.0, subst (λ v. Leads octets (drop f.items.owed_before es) v) s.1 h.leads, h.trees ∙ (seen ∙ s.1))
+module _ (octets : List ℕ) (es : List Owed) (f : OpenFrame FrameBlocks) (ts : List (Tree ℕ)) (h : Holds octets es f ts)
+  where
+    -- the one tree is owed
+    pub one_owed : f.items.owed_count ≡ 1 → length f.items.first ≡ 0 →
+        (t : Tree ℕ) × Leads octets (drop f.items.owed_before es) (t ∷ []) × (ts ≡ t ∷ [])
+    one_owed one none =
+        let s = single h.owed (sym one ∙ h.count) in
+        let seen = ap (λ bs. map view bs ++ h.owed) (no_items f.items.first none) in
+        (s.0, subst (λ v. Leads octets (drop f.items.owed_before es) v) s.1 h.leads, h.trees ∙ (seen ∙ s.1))
 
-  pub tree_count_is : length ts ≡ length f.items.first + f.items.owed_count
-  tree_count_is = omega (arith, ap length h.trees, length-append (map view f.items.first) h.owed, length-map f.items.first view, h.count)
+    pub tree_count_is : length ts ≡ length f.items.first + f.items.owed_count
+    tree_count_is = omega (
+      arith,
+      ap length h.trees,
+      length-append (map view f.items.first) h.owed,
+      length-map f.items.first view,
+      h.count,
+    )
 
 -- another number of trees stays as it came
-pub other_ended : (octets : List ℕ) (a : other.Attempt) (s e : ℕ) (ts : List (Tree ℕ)) (t : Tree ℕ) (m : ℕ) → length ts ≡ m → (m ≡ 1 → ⊥)
+pub other_ended : (octets : List ℕ) (a : other.Attempt) (s e : ℕ) (ts : List (Tree ℕ)) (t : Tree ℕ) (m : ℕ) →
+    length ts ≡ m → (m ≡ 1 → ⊥)
     → t ≡ attempted octets a s e ts → as_it_came octets a s e ≡ t
 other_ended octets a s e ts t m count many is = sym (is ∙ attempted_other octets a s e ts (λ z. many (sym count ∙ z)))
 
 -- frames that were dropped leave what those around hold
-pub record IsLeft (octets : List ℕ) (es : List Owed) (f : OpenFrame FrameBlocks) (gs : List (OpenFrame FrameBlocks)) (ts : List (Tree ℕ))
+pub record IsLeft (octets : List ℕ) (es : List Owed) (f : OpenFrame FrameBlocks) (gs : List (OpenFrame FrameBlocks))
+    (ts : List (Tree ℕ))
     (rest : List (List (Tree ℕ))) : Type 0 where
   pub front : List Owed
   pub more : List Owed
@@ -75,32 +87,46 @@ pub record IsLeft (octets : List ℕ) (es : List Owed) (f : OpenFrame FrameBlock
   pub holds : AllHold octets front f gs ts rest
 
 inner_left :
-    (octets : List ℕ) (es : List Owed) (k : OpenFrame FrameBlocks) (inside : List (OpenFrame FrameBlocks)) (f : OpenFrame FrameBlocks)
-    (gs : List (OpenFrame FrameBlocks)) (l : List (Tree ℕ)) (lost : List (List (Tree ℕ))) (ts : List (Tree ℕ)) (rest : List (List (Tree ℕ))) →
-    length inside ≡ length lost → AllHold octets es k (inside ++ f ∷ gs) l (lost ++ ts ∷ rest) → IsLeft octets es f gs ts rest
+    (octets : List ℕ) (es : List Owed) (k : OpenFrame FrameBlocks) (inside : List (OpenFrame FrameBlocks))
+    (f : OpenFrame FrameBlocks)
+    (gs : List (OpenFrame FrameBlocks)) (l : List (Tree ℕ)) (lost : List (List (Tree ℕ))) (ts : List (Tree ℕ))
+    (rest : List (List (Tree ℕ))) →
+    length inside ≡ length lost → AllHold octets es k (inside ++ f ∷ gs) l (lost ++ ts ∷ rest) →
+    IsLeft octets es f gs ts rest
 inner_left octets es k [] f gs l [] ts rest m a =
-    record { front = take k.items.owed_before es; more = drop k.items.owed_before es; whole = sym (take-append-drop k.items.owed_before es); holds = a.1 }
+    record {
+      front = take k.items.owed_before es;
+      more = drop k.items.owed_before es;
+      whole =
+          sym (take-append-drop k.items.owed_before es);
+      holds = a.1;
+    }
 inner_left octets es k [] f gs l (u ∷ lost) ts rest m a = absurd (omega (arith, m))
 inner_left octets es k (x ∷ inside) f gs l [] ts rest m a = absurd (omega (arith, m))
 inner_left octets es k (x ∷ inside) f gs l (u ∷ lost) ts rest m a =
     let n = k.items.owed_before in
     let w = inner_left octets (take n es) x inside f gs u lost ts rest (omega (arith, m)) a.1 in
-    let all = sym (take-append-drop n es) ∙ (ap (λ z. z ++ drop n es) w.whole ∙ append_assoc w.front w.more (drop n es)) in
+    let all = sym (take-append-drop n es)
+    ∙ (ap (λ z. z ++ drop n es) w.whole ∙ append_assoc w.front w.more (drop n es)) in
     record { front = w.front; more = w.more ++ drop n es; whole = all; holds = w.holds }
 
 frames_left :
     (octets : List ℕ) (es : List Owed) (inside : List (OpenFrame FrameBlocks)) (f : OpenFrame FrameBlocks)
-    (gs : List (OpenFrame FrameBlocks)) (lost : List (List (Tree ℕ))) (ts : List (Tree ℕ)) (rest : List (List (Tree ℕ))) →
-    length inside ≡ length lost → all_hold octets es (inside ++ f ∷ gs) (lost ++ ts ∷ rest) → IsLeft octets es f gs ts rest
+    (gs : List (OpenFrame FrameBlocks)) (lost : List (List (Tree ℕ))) (ts : List (Tree ℕ))
+    (rest : List (List (Tree ℕ))) →
+    length inside ≡ length lost → all_hold octets es (inside ++ f ∷ gs) (lost ++ ts ∷ rest) →
+    IsLeft octets es f gs ts rest
 frames_left octets es [] f gs [] ts rest m a = record { front = es; more = []; whole = sym (append-nil es); holds = a }
 frames_left octets es [] f gs (u ∷ lost) ts rest m a = absurd (omega (arith, m))
 frames_left octets es (x ∷ inside) f gs [] ts rest m a = absurd (omega (arith, m))
-frames_left octets es (x ∷ inside) f gs (u ∷ lost) ts rest m a = inner_left octets es x inside f gs u lost ts rest (omega (arith, m)) a
+frames_left octets es (x ∷ inside) f gs (u ∷ lost) ts rest m a =
+    inner_left octets es x inside f gs u lost ts rest (omega (arith, m)) a
 
 -- also those around the attempt, without what it owes
 pub around_left :
     (octets : List ℕ) (es : List Owed) (inside : List (OpenFrame FrameBlocks)) (f g : OpenFrame FrameBlocks)
-    (gs : List (OpenFrame FrameBlocks)) (lost : List (List (Tree ℕ))) (ts us : List (Tree ℕ)) (rest : List (List (Tree ℕ))) →
+    (gs : List (OpenFrame FrameBlocks)) (lost : List (List (Tree ℕ))) (ts us : List (Tree ℕ))
+    (rest : List (List (Tree ℕ))) →
     length inside ≡ length lost → all_hold octets es (inside ++ f ∷ g ∷ gs) (lost ++ ts ∷ us ∷ rest) →
     AllHold octets (take f.items.owed_before es) g gs us rest
 around_left octets es inside f g gs lost ts us rest m a =
@@ -110,7 +136,8 @@ around_left octets es inside f g gs lost ts us rest m a =
     subst (λ z. AllHold octets z g gs us rest) (sym front) w.holds.1
 
 -- at first nothing is held
-pub starts_empty : (octets : List ℕ) (e : Extent) (b : TreeBuilder) (i : FrameBlocks) → b.owed.items ≡ [] → i.owed_before ≡ 0 → i.owed_count ≡ 0 → i.first ≡ []
+pub starts_empty : (octets : List ℕ) (e : Extent) (b : TreeBuilder) (i : FrameBlocks) → b.owed.items ≡ [] →
+    i.owed_before ≡ 0 → i.owed_count ≡ 0 → i.first ≡ []
     → AllHold octets b.owed.items (record { extent = e; items = i }) [] [] []
 starts_empty octets e b i none before count first =
     let f : OpenFrame FrameBlocks = record { extent = e; items = i } in
@@ -123,27 +150,22 @@ starts_empty octets e b i none before count first =
     } in
     subst (λ z. AllHold octets z f [] [] []) (sym none) (start, before)
 
--- in the end the blocks of the document are those, and what is owed leads to the others
-pub document_blocks : (octets : List ℕ) (e : Extent) (es : List Owed) (i : FrameBlocks) (ts : List (Tree ℕ))
-    → AllHold octets es (record { extent = e; items = i }) [] ts [] → map view i.first ++ after_all octets es [] ≡ ts
-document_blocks octets e es i ts (h, before) =
-    let all : after_all octets es [] ≡ h.owed = ap (λ z. after_all octets (drop z es) []) (sym before) ∙ h.leads [] in
-    ap (λ z. map view i.first ++ z) all ∙ sym h.trees
-
 -- a step that was taken, where memory was there
 pub if_ok : {A E : Type 0} {P Q : Type 0} (r : Result A E) → (P → Q) → OnOk r P → OnOk r Q
 if_ok (Ok x) f p = f p
 if_ok (Err e) f p = tt
 
 -- a new frame holds nothing
-all_opened : (octets : List ℕ) (es : List Owed) (f g : OpenFrame FrameBlocks) (gs : List (OpenFrame FrameBlocks)) (trees : List (List (Tree ℕ)))
+all_opened : (octets : List ℕ) (es : List Owed) (f g : OpenFrame FrameBlocks) (gs : List (OpenFrame FrameBlocks))
+    (trees : List (List (Tree ℕ)))
     → f.items.owed_before ≡ length es → f.items.owed_count ≡ 0 → f.items.first ≡ [] → all_hold octets es (g ∷ gs) trees
     → all_hold octets es (f ∷ g ∷ gs) ([] ∷ trees)
 all_opened octets es f g gs [] before count first h = absurd h
 all_opened octets es f g gs (ts ∷ rest) before count first h = all_open octets es f g gs ts rest before count first h
 
 pub opened :
-    (octets : List ℕ) (h : PlacedHeader) (offset depth : ℕ) (a b : TreeBuilder) (i : FrameBlocks) → b.owed ≡ a.owed → i.owed_before ≡ length b.owed.items →
+    (octets : List ℕ) (h : PlacedHeader) (offset depth : ℕ) (a b : TreeBuilder) (i : FrameBlocks) → b.owed ≡ a.owed →
+    i.owed_before ≡ length b.owed.items →
     i.owed_count ≡ 0 → i.first ≡ [] → HasOpened builder_holds octets h offset depth a i b
 opened octets h offset depth a b i same before count first = record {
   holds = λ kind f fs trees d is w.
@@ -152,20 +174,24 @@ opened octets h offset depth a b i same before count first = record {
 }
 
 -- the frame f ended: the builder a became c and then r, and the items of the frame around it were i and are j
-module _ (octets : List ℕ) (a r : TreeBuilder) (i j : FrameBlocks) (f : OpenFrame FrameBlocks) (depth : ℕ) (c : TreeBuilder) where
+module _ (octets : List ℕ) (a r : TreeBuilder) (i j : FrameBlocks) (f : OpenFrame FrameBlocks) (depth : ℕ)
+    (c : TreeBuilder) where
   module _ (same : c.owed ≡ a.owed) where
     moved : (P : List Owed → Type 0) → P a.owed.items → P c.owed.items
     moved P p = subst (λ (z : Vec Owed Global). P z.items) (sym same) p
 
-    pub group_owed : (g : GroupKind) → f.extent.kind ≡ Group g → IsOwed c i (OwedAs.Group g f.extent.offset f.items.first f.items.owed_count) r j
+    pub group_owed : (g : GroupKind) → f.extent.kind ≡ Group g →
+        IsOwed c i (OwedAs.Group g f.extent.offset f.items.first f.items.owed_count) r j
         → HasEndedIn builder_holds octets f depth a i r j
     group_owed g kind u = record {
       holds = λ e fs ts us rest t d is w.
           let o = f.extent.offset in
           let n = f.items.owed_before in
           let one = OwedAs.Group g o f.items.first f.items.owed_count in
-          let this = ended_is octets f.extent.kind (Group g) f.extent.offset f.extent.start f.extent.end ts t kind is.tree in
-          let tree : group o g (trees_of (map view f.items.first ++ w.0.owed)) ≡ t = sym (this ∙ ap (λ z. group o g (trees_of z)) w.0.trees) in
+          let this = ended_is octets f.extent.kind (Group g) f.extent.offset f.extent.start f.extent.end ts t kind
+          is.tree in
+          let tree : group o g (trees_of (map view f.items.first ++ w.0.owed)) ≡ t =
+          sym (this ∙ ap (λ z. group o g (trees_of z)) w.0.trees) in
           let grown = subst (λ z. IsGrown octets (take n a.owed.items) (a.owed.items ++ one ∷ []) z) tree
           (group_grown octets a.owed.items n w.0.owed g o f.items.owed_count f.items.first w.0.count w.0.leads) in
           owed_more octets c r i j e fs us rest (take n a.owed.items) one t u
@@ -173,16 +199,20 @@ module _ (octets : List ℕ) (a r : TreeBuilder) (i j : FrameBlocks) (f : OpenFr
     }
 
     pub group_pushed : (g : GroupKind) (b : ASN1Block) → f.extent.kind ≡ Group g → f.items.owed_count ≡ 0
-        → view b ≡ group f.extent.offset g (views f.items.first) → IsAdded c i b r j → HasEndedIn builder_holds octets f depth a i r j
+        → view b ≡ group f.extent.offset g (views f.items.first) → IsAdded c i b r j →
+        HasEndedIn builder_holds octets f depth a i r j
     group_pushed g b kind none means u = record {
       holds = λ e fs ts us rest t d is w.
           let clean = left_clean octets a.owed.items f (in_frame e i) fs ts us rest none w.0 w.1 in
-          let this = ended_is octets f.extent.kind (Group g) f.extent.offset f.extent.start f.extent.end ts t kind is.tree in
+          let this = ended_is octets f.extent.kind (Group g) f.extent.offset f.extent.start f.extent.end ts t kind
+          is.tree in
           let tree : view b ≡ t = means ∙ sym (this ∙ ap (λ z. group f.extent.offset g (trees_of z)) clean.trees) in
-          tree_more octets c r i j e fs us rest b t tree u (moved (λ z. AllHold octets z (in_frame e i) fs us rest) clean.outer);
+          tree_more octets c r i j e fs us rest b t tree u
+          (moved (λ z. AllHold octets z (in_frame e i) fs us rest) clean.outer);
     }
 
-    pub explicit_owed : (k : other.Attempt) → f.extent.kind ≡ Attempt → IsAttemptAlone octets f.extent.offset f.extent.end k → f.items.owed_count ≡ 1 → length f.items.first ≡ 0
+    pub explicit_owed : (k : other.Attempt) → f.extent.kind ≡ Attempt →
+        IsAttemptAlone octets f.extent.offset f.extent.end k → f.items.owed_count ≡ 1 → length f.items.first ≡ 0
         → IsOwed c i (OwedAs.Explicit k) r j → HasEndedIn builder_holds octets f depth a i r j
     explicit_owed k kind alone one none u = record {
       holds = λ e fs ts us rest t d is w.
@@ -196,7 +226,8 @@ module _ (octets : List ℕ) (a r : TreeBuilder) (i j : FrameBlocks) (f : OpenFr
           (moved (λ z. IsGrown octets (take n a.owed.items) (z ++ OwedAs.Explicit k ∷ []) t) grown) w.1;
     }
 
-    pub explicit_pushed : (k : other.Attempt) (b item : ASN1Block) → f.extent.kind ≡ Attempt → IsAttemptAlone octets f.extent.offset f.extent.end k → f.items.owed_count ≡ 0 → f.items.first ≡ item ∷ []
+    pub explicit_pushed : (k : other.Attempt) (b item : ASN1Block) → f.extent.kind ≡ Attempt →
+        IsAttemptAlone octets f.extent.offset f.extent.end k → f.items.owed_count ≡ 0 → f.items.first ≡ item ∷ []
         → view b ≡ around k (view item) → IsAdded c i b r j → HasEndedIn builder_holds octets f depth a i r j
     explicit_pushed k b item kind alone none one means u = record {
       holds = λ e fs ts us rest t d is w.
@@ -204,17 +235,21 @@ module _ (octets : List ℕ) (a r : TreeBuilder) (i j : FrameBlocks) (f : OpenFr
           let are : ts ≡ view item ∷ [] = clean.trees ∙ ap (map view) one in
           let this = tried_ended octets f.extent k ts t kind alone is.tree in
           let tree : view b ≡ t = means ∙ sym (this ∙ ap (attempted octets k f.extent.start f.extent.end) are) in
-          tree_more octets c r i j e fs us rest b t tree u (moved (λ z. AllHold octets z (in_frame e i) fs us rest) clean.outer);
+          tree_more octets c r i j e fs us rest b t tree u
+          (moved (λ z. AllHold octets z (in_frame e i) fs us rest) clean.outer);
     }
 
   -- what it owes goes, and it stays as it came
-  module _ (k : other.Attempt) (alone : IsAttemptAlone octets f.extent.offset f.extent.end k) (cut : c.owed.items ≡ take f.items.owed_before a.owed.items) where
-    pub kept_ended : f.extent.kind ≡ Attempt → (length f.items.first + f.items.owed_count ≡ 1 → ⊥) → IsKept octets c i k f.extent.start f.extent.end r j
+  module _ (k : other.Attempt) (alone : IsAttemptAlone octets f.extent.offset f.extent.end k)
+      (cut : c.owed.items ≡ take f.items.owed_before a.owed.items) where
+    pub kept_ended : f.extent.kind ≡ Attempt → (length f.items.first + f.items.owed_count ≡ 1 → ⊥) →
+        IsKept octets c i k f.extent.start f.extent.end r j
         → HasEndedIn builder_holds octets f depth a i r j
     kept_ended kind many u = record {
       holds = λ e fs ts us rest t d is w.
           let this = tried_ended octets f.extent k ts t kind alone is.tree in
-          let tree = other_ended octets k f.extent.start f.extent.end ts t _ (tree_count_is octets a.owed.items f ts w.0) many this in
+          let tree = other_ended octets k f.extent.start f.extent.end ts t _
+          (tree_count_is octets a.owed.items f ts w.0) many this in
           let more = kept_more octets c r i j e fs us rest k f.extent.start f.extent.end u
           (subst (λ z. AllHold octets z (in_frame e i) fs us rest) (sym cut) w.1) in
           subst (λ z. AllHold octets r.owed.items (in_frame e j) fs (us ++ z ∷ []) rest) tree more;
@@ -227,5 +262,6 @@ module _ (octets : List ℕ) (a r : TreeBuilder) (i j : FrameBlocks) (f : OpenFr
           let before = around_left octets a.owed.items inside f (in_frame e i) fs lost ts us rest m w in
           let more = kept_more octets c r i j e fs us rest k f.extent.start f.extent.end u
           (subst (λ z. AllHold octets z (in_frame e i) fs us rest) (sym cut) before) in
-          subst (λ z. AllHold octets r.owed.items (in_frame e j) fs (us ++ as_it_came octets z f.extent.start f.extent.end ∷ []) rest) same more;
+          subst (λ z. AllHold octets r.owed.items (in_frame e j) fs
+          (us ++ as_it_came octets z f.extent.start f.extent.end ∷ []) rest) same more;
     }

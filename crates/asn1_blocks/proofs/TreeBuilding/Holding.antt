@@ -1,27 +1,5 @@
 -- How frames of trees hold what they read, as blocks and as owed.
-use Rattle.std.proofs.Common.{
-  ◌≡◌,
-  ℕ,
-  ◌+◌,
-  ◌≤◌,
-  List,
-  [],
-  ◌∷◌,
-  ◌++◌,
-  length,
-  map,
-  take,
-  drop,
-  refl,
-  sym,
-  ap,
-  ◌∙◌,
-  subst,
-  arith,
-  length-append,
-  append_assoc,
-  append-nil,
-}
+use Rattle.std.proofs.Common.{◌≡◌, ℕ, ◌+◌, ◌≤◌, List, [], ◌∷◌, ◌++◌, length, map, take, drop, refl, sym, ap, ◌∙◌, subst, arith, length-append, append_assoc, append-nil}
 use Rattle.std.proofs.Math.Seq.{take-length, drop-length}
 use Rattle.std.proofs.lemmas.List.{map-append, take-append-drop, take-append-le, drop-append-le}
 use Rattle.asn1_blocks.specs.declared.block.ASN1Block.{ASN1Block}
@@ -70,18 +48,23 @@ holds_owed octets es fs f g ts t w h =
     record {
       before = omega (arith, w.before, h.before, longer);
       owed = h.owed ++ t ∷ [];
-      leads = subst (λ z. Leads octets z (h.owed ++ t ∷ [])) (sym own) (w.grown.leads (drop f.items.owed_before es) h.owed h.leads);
+      leads = subst (λ z. Leads octets z (h.owed ++ t ∷ [])) (sym own)
+          (w.grown.leads (drop f.items.owed_before es) h.owed h.leads);
       count = omega (arith, w.count, h.count, length-append h.owed (t ∷ []));
       trees = ap (λ z. z ++ t ∷ []) h.trees ∙ (seen ∙ ap (λ z. map view z ++ (h.owed ++ t ∷ [])) (sym w.first));
     }
 
-holds_pushed : (octets : List ℕ) (es : List Owed) (f g : OpenFrame FrameBlocks) (ts : List (Tree ℕ)) (b : ASN1Block) → IsPushing f g b → Holds octets es f ts
+holds_pushed : (octets : List ℕ) (es : List Owed) (f g : OpenFrame FrameBlocks) (ts : List (Tree ℕ)) (b : ASN1Block) →
+    IsPushing f g b → Holds octets es f ts
     → Holds octets es g (ts ++ view b ∷ [])
 holds_pushed octets es f g ts b w h =
     let none : h.owed ≡ [] = nothing h.owed (sym w.none ∙ h.count) in
-    let before : ts ≡ map view f.items.first = h.trees ∙ (ap (λ z. map view f.items.first ++ z) none ∙ append-nil (map view f.items.first)) in
-    let seen : map view g.items.first ≡ map view f.items.first ++ view b ∷ [] = ap (map view) w.first ∙ map-append view f.items.first (b ∷ []) in
-    let own : map view g.items.first ++ h.owed ≡ map view g.items.first = ap (λ z. map view g.items.first ++ z) none ∙ append-nil (map view g.items.first) in
+    let before : ts ≡ map view f.items.first =
+    h.trees ∙ (ap (λ z. map view f.items.first ++ z) none ∙ append-nil (map view f.items.first)) in
+    let seen : map view g.items.first ≡ map view f.items.first ++ view b ∷ [] =
+    ap (map view) w.first ∙ map-append view f.items.first (b ∷ []) in
+    let own : map view g.items.first ++ h.owed ≡ map view g.items.first =
+    ap (λ z. map view g.items.first ++ z) none ∙ append-nil (map view g.items.first) in
     record {
       before = omega (arith, w.before, h.before);
       owed = h.owed;
@@ -91,12 +74,15 @@ holds_pushed octets es f g ts b w h =
     }
 
 -- the frames around are not touched by what comes after what they owe
-around_grown : (octets : List ℕ) (es more : List Owed) (n : ℕ) (g : OpenFrame FrameBlocks) (gs : List (OpenFrame FrameBlocks)) (us : List (Tree ℕ)) (rest : List (List (Tree ℕ)))
+around_grown : (octets : List ℕ) (es more : List Owed) (n : ℕ) (g : OpenFrame FrameBlocks)
+    (gs : List (OpenFrame FrameBlocks)) (us : List (Tree ℕ)) (rest : List (List (Tree ℕ)))
     → n ≤ length es → AllHold octets (take n es) g gs us rest → AllHold octets (take n (es ++ more)) g gs us rest
-around_grown octets es more n g gs us rest h a = subst (λ z. AllHold octets z g gs us rest) (sym (take-append-le n es more h)) a
+around_grown octets es more n g gs us rest h a =
+    subst (λ z. AllHold octets z g gs us rest) (sym (take-append-le n es more h)) a
 
 -- one tree more in the innermost frame, which is owed
-pub all_owed : (octets : List ℕ) (es fs : List Owed) (f g : OpenFrame FrameBlocks) (hs : List (OpenFrame FrameBlocks)) (ts : List (Tree ℕ))
+pub all_owed : (octets : List ℕ) (es fs : List Owed) (f g : OpenFrame FrameBlocks) (hs : List (OpenFrame FrameBlocks))
+    (ts : List (Tree ℕ))
     (rest : List (List (Tree ℕ))) (t : Tree ℕ)
     → IsOwing octets es fs f g t → AllHold octets es f hs ts rest → AllHold octets fs g hs (ts ++ t ∷ []) rest
 all_owed octets es fs f g [] ts [] t w a = (holds_owed octets es fs f g ts t w a.0, w.before ∙ a.1)
@@ -108,7 +94,8 @@ all_owed octets es fs f g (h ∷ hs) ts (us ∷ rest) t w a =
     (holds_owed octets es fs f g ts t w a.0, subst (λ z. AllHold octets (take z fs) h hs us rest) (sym w.before) v)
 
 -- and as a block
-pub all_pushed : (octets : List ℕ) (es : List Owed) (f g : OpenFrame FrameBlocks) (hs : List (OpenFrame FrameBlocks)) (ts : List (Tree ℕ))
+pub all_pushed : (octets : List ℕ) (es : List Owed) (f g : OpenFrame FrameBlocks) (hs : List (OpenFrame FrameBlocks))
+    (ts : List (Tree ℕ))
     (rest : List (List (Tree ℕ))) (b : ASN1Block)
     → IsPushing f g b → AllHold octets es f hs ts rest → AllHold octets es g hs (ts ++ view b ∷ []) rest
 all_pushed octets es f g [] ts [] b w a = (holds_pushed octets es f g ts b w a.0, w.before ∙ a.1)
@@ -118,19 +105,22 @@ all_pushed octets es f g (h ∷ hs) ts (us ∷ rest) b w a =
     (holds_pushed octets es f g ts b w a.0, subst (λ n. AllHold octets (take n es) h hs us rest) (sym w.before) a.1)
 
 -- more is owed, which leads to nothing
-holds_more : (octets : List ℕ) (es fs : List Owed) (f : OpenFrame FrameBlocks) (ts : List (Tree ℕ)) → Leads octets fs [] → Holds octets es f ts
+holds_more : (octets : List ℕ) (es fs : List Owed) (f : OpenFrame FrameBlocks) (ts : List (Tree ℕ)) →
+    Leads octets fs [] → Holds octets es f ts
     → Holds octets (es ++ fs) f ts
 holds_more octets es fs f ts k h =
     let own = drop-append-le f.items.owed_before es fs h.before in
     record {
       before = omega (arith, h.before, length-append es fs);
       owed = h.owed;
-      leads = subst (λ z. Leads octets z h.owed) (sym own) (leads_nothing octets (drop f.items.owed_before es) fs h.owed h.leads k);
+      leads = subst (λ z. Leads octets z h.owed) (sym own)
+          (leads_nothing octets (drop f.items.owed_before es) fs h.owed h.leads k);
       count = h.count;
       trees = h.trees;
     }
 
-all_more : (octets : List ℕ) (es fs : List Owed) (f : OpenFrame FrameBlocks) (hs : List (OpenFrame FrameBlocks)) (ts : List (Tree ℕ)) (rest : List (List (Tree ℕ)))
+all_more : (octets : List ℕ) (es fs : List Owed) (f : OpenFrame FrameBlocks) (hs : List (OpenFrame FrameBlocks))
+    (ts : List (Tree ℕ)) (rest : List (List (Tree ℕ)))
     → Leads octets fs []
     → AllHold octets es f hs ts rest → AllHold octets (es ++ fs) f hs ts rest
 all_more octets es fs f [] ts [] k a = (holds_more octets es fs f ts k a.0, a.1)
@@ -140,18 +130,22 @@ all_more octets es fs f (h ∷ hs) ts (us ∷ rest) k a =
     (holds_more octets es fs f ts k a.0, around_grown octets es fs f.items.owed_before h hs us rest a.0.before a.1)
 
 -- a frame that count nothing is left: those around it are as they were
-pub record IsClean (octets : List ℕ) (es : List Owed) (f g : OpenFrame FrameBlocks) (hs : List (OpenFrame FrameBlocks)) (ts us : List (Tree ℕ))
+pub record IsClean (octets : List ℕ) (es : List Owed) (f g : OpenFrame FrameBlocks) (hs : List (OpenFrame FrameBlocks))
+    (ts us : List (Tree ℕ))
     (rest : List (List (Tree ℕ))) : Type 0
   where
     pub outer : AllHold octets es g hs us rest
     pub trees : ts ≡ map view f.items.first
 
-pub left_clean : (octets : List ℕ) (es : List Owed) (f g : OpenFrame FrameBlocks) (hs : List (OpenFrame FrameBlocks)) (ts us : List (Tree ℕ)) (rest : List (List (Tree ℕ)))
+pub left_clean : (octets : List ℕ) (es : List Owed) (f g : OpenFrame FrameBlocks) (hs : List (OpenFrame FrameBlocks))
+    (ts us : List (Tree ℕ)) (rest : List (List (Tree ℕ)))
     → f.items.owed_count ≡ 0
-    → Holds octets es f ts → AllHold octets (take f.items.owed_before es) g hs us rest → IsClean octets es f g hs ts us rest
+    → Holds octets es f ts → AllHold octets (take f.items.owed_before es) g hs us rest →
+    IsClean octets es f g hs ts us rest
 left_clean octets es f g hs ts us rest z own around =
     let none : own.owed ≡ [] = nothing own.owed (sym z ∙ own.count) in
-    let l : Leads octets (drop f.items.owed_before es) [] = subst (λ w. Leads octets (drop f.items.owed_before es) w) none own.leads in
+    let l : Leads octets (drop f.items.owed_before es) [] =
+    subst (λ w. Leads octets (drop f.items.owed_before es) w) none own.leads in
     let all = all_more octets (take f.items.owed_before es) (drop f.items.owed_before es) g hs us rest l around in
     record {
       outer = subst (λ w. AllHold octets w g hs us rest) (take-append-drop f.items.owed_before es) all;
@@ -159,8 +153,10 @@ left_clean octets es f g hs ts us rest z own around =
     }
 
 -- a new frame inside
-pub all_open : (octets : List ℕ) (es : List Owed) (f g : OpenFrame FrameBlocks) (hs : List (OpenFrame FrameBlocks)) (us : List (Tree ℕ)) (rest : List (List (Tree ℕ)))
-    → f.items.owed_before ≡ length es → f.items.owed_count ≡ 0 → f.items.first ≡ [] → AllHold octets es g hs us rest → AllHold octets es f (g ∷ hs) [] (us ∷ rest)
+pub all_open : (octets : List ℕ) (es : List Owed) (f g : OpenFrame FrameBlocks) (hs : List (OpenFrame FrameBlocks))
+    (us : List (Tree ℕ)) (rest : List (List (Tree ℕ)))
+    → f.items.owed_before ≡ length es → f.items.owed_count ≡ 0 → f.items.first ≡ [] → AllHold octets es g hs us rest →
+    AllHold octets es f (g ∷ hs) [] (us ∷ rest)
 all_open octets es f g hs us rest b z i a =
     let all : take f.items.owed_before es ≡ es = ap (λ n. take n es) b ∙ take-length es in
     let none : drop f.items.owed_before es ≡ [] = ap (λ n. drop n es) b ∙ drop-length es in (
@@ -174,16 +170,9 @@ all_open octets es f g hs us rest b z i a =
       subst (λ v. AllHold octets v g hs us rest) (sym all) a,
     )
 
--- the innermost of the frames
-pub hold_first : (octets : List ℕ) (es : List Owed) (f : OpenFrame FrameBlocks) (gs : List (OpenFrame FrameBlocks)) (ts : List (Tree ℕ)) (rest : List (List (Tree ℕ)))
-    → AllHold octets es f gs ts rest → Holds octets es f ts
-hold_first octets es f [] ts [] a = a.0
-hold_first octets es f [] ts (us ∷ rest) a = absurd a
-hold_first octets es f (g ∷ gs) ts [] a = absurd a
-hold_first octets es f (g ∷ gs) ts (us ∷ rest) a = a.0
-
 -- the frame that has others around it
-pub record IsNested (octets : List ℕ) (es : List Owed) (f g : OpenFrame FrameBlocks) (gs : List (OpenFrame FrameBlocks)) (ts : List (Tree ℕ))
+pub record IsNested (octets : List ℕ) (es : List Owed) (f g : OpenFrame FrameBlocks) (gs : List (OpenFrame FrameBlocks))
+    (ts : List (Tree ℕ))
     (outer : List (List (Tree ℕ))) : Type 0 where
   pub next : List (Tree ℕ)
   pub others : List (List (Tree ℕ))
@@ -191,18 +180,21 @@ pub record IsNested (octets : List ℕ) (es : List Owed) (f g : OpenFrame FrameB
   pub own : Holds octets es f ts
   pub around : AllHold octets (take f.items.owed_before es) g gs next others
 
-pub nested : (octets : List ℕ) (es : List Owed) (f g : OpenFrame FrameBlocks) (gs : List (OpenFrame FrameBlocks)) (ts : List (Tree ℕ)) (outer : List (List (Tree ℕ)))
+pub nested : (octets : List ℕ) (es : List Owed) (f g : OpenFrame FrameBlocks) (gs : List (OpenFrame FrameBlocks))
+    (ts : List (Tree ℕ)) (outer : List (List (Tree ℕ)))
     → AllHold octets es f (g ∷ gs) ts outer → IsNested octets es f g gs ts outer
 nested octets es f g gs ts [] a = absurd a
 nested octets es f g gs ts (us ∷ rest) a = record { next = us; others = rest; are = refl; own = a.0; around = a.1 }
 
 -- and the one that has none
-pub record IsAlone (octets : List ℕ) (es : List Owed) (f : OpenFrame FrameBlocks) (ts : List (Tree ℕ)) (outer : List (List (Tree ℕ))) : Type 0 where
+pub record IsAlone (octets : List ℕ) (es : List Owed) (f : OpenFrame FrameBlocks) (ts : List (Tree ℕ))
+    (outer : List (List (Tree ℕ))) : Type 0 where
   pub are : outer ≡ []
   pub own : Holds octets es f ts
   pub before : f.items.owed_before ≡ 0
 
-pub alone : (octets : List ℕ) (es : List Owed) (f : OpenFrame FrameBlocks) (ts : List (Tree ℕ)) (outer : List (List (Tree ℕ))) → AllHold octets es f [] ts outer
+pub alone : (octets : List ℕ) (es : List Owed) (f : OpenFrame FrameBlocks) (ts : List (Tree ℕ))
+    (outer : List (List (Tree ℕ))) → AllHold octets es f [] ts outer
     → IsAlone octets es f ts outer
 alone octets es f ts [] a = record { are = refl; own = a.0; before = a.1 }
 alone octets es f ts (us ∷ rest) a = absurd a

@@ -1,7 +1,7 @@
 // Copies of blocks by a loop, from the last block in tree order to the first: the copies of what a block holds are made
 // before its own.
 ghost use Rattle.std.specs.Prelude.{◌≡◌, ◌++◌, ◌≤◌, IfOk, length, reverse};
-ghost use Rattle.asn1_blocks.specs.View.{view, views};
+ghost use Rattle.asn1_blocks.specs.View.{view};
 
 use crate::block::ASN1Block;
 use crate::contents::copy_over;

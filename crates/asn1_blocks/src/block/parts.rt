@@ -1,18 +1,7 @@
 // What a block is made of, for whoever wants one thing of it and has no use for a `match`.
-ghost use Rattle.std.specs.Prelude.{◌≡◌, ◌<◌, ◌^◌, IfOk, MatchOption, None, Some, SomeIff, map, option_map};
+ghost use Rattle.std.specs.Prelude.{◌≡◌, ◌<◌, IfOk, MatchOption, None, Some, map, option_map};
 ghost use Rattle.std.specs.Str.{chars};
-ghost use Rattle.asn1_blocks.specs.BlockParts.{
-  all_in_order,
-  tree_bits,
-  tree_boolean,
-  tree_integer,
-  tree_items,
-  tree_moment,
-  tree_octets,
-  tree_oid,
-  tree_tag,
-  tree_text,
-};
+ghost use Rattle.asn1_blocks.specs.BlockParts.{all_in_order, tree_bits, tree_boolean, tree_integer, tree_items, tree_moment, tree_octets, tree_oid, tree_tag, tree_text};
 ghost use Rattle.asn1_blocks.specs.UnknownValues.{tree_ascii_text, tree_enumerated};
 ghost use Rattle.asn1_blocks.specs.View.{tree_class, view, views};
 ghost use Rattle.asn1_headers.specs.Names.{type_name as name_of_type};

@@ -1,55 +1,23 @@
 -- What is known of the contents octets of a BIT STRING.
-use Rattle.std.proofs.Common.{
-  ◌≡◌,
-  ◌==◌,
-  ℕ,
-  zero,
-  suc,
-  ◌+◌,
-  ◌-◌,
-  ◌*◌,
-  ◌<◌,
-  ◌≤◌,
-  ◌^◌,
-  ◌⊎◌,
-  false,
-  List,
-  [],
-  ◌∷◌,
-  None,
-  length,
-  inl,
-  inr,
-  refl,
-  sym,
-  ap,
-  ◌∙◌,
-  subst,
-  arith,
-}
+use Rattle.std.proofs.Common.{◌≡◌, ◌==◌, ℕ, zero, suc, ◌+◌, ◌-◌, ◌*◌, ◌<◌, ◌≤◌, ◌^◌, ◌⊎◌, false, List, [], ◌∷◌, None, length, inl, inr, refl, sym, ap, ◌∙◌, subst, arith}
 use Rattle.std.specs.Prelude.{pos, ◌-ℤ◌, All, if◌then◌else◌}
 use Rattle.std.proofs.lemmas.Bool.{cases_Bool, cases_lt, eqb-true}
 use Rattle.std.proofs.lemmas.Grind.{common_steps}
 use Rattle.std.proofs.lemmas.List.Elements.{All-head}
 use Rattle.asn1_headers.specs.Fault.{DecodeFault, IsOfReading, length_too_large, invalid_bit_string_length}
-use Rattle.asn1_leaves.specs.Contents.BitString.{
-  BitStringContents,
-  BitStringFault,
-  IsFaithfulBitString,
-  bit_string_contents,
-  bit_string_write_fault,
-  written_bits,
-}
+use Rattle.asn1_leaves.specs.Contents.BitString.{BitStringContents, BitStringFault, IsFaithfulBitString, bit_string_contents, bit_string_write_fault, written_bits}
 
 -- they mean one number of bits, and one list of octets
-pub bit_string_alone : (m n : ℕ) (v w contents : List ℕ) → BitStringContents m v contents → BitStringContents n w contents → (m ≡ n) × (v ≡ w)
+pub bit_string_alone : (m n : ℕ) (v w contents : List ℕ) → BitStringContents m v contents →
+    BitStringContents n w contents → (m ≡ n) × (v ≡ w)
 bit_string_alone m n v w [] p q = (p.0 ∙ sym q.0, p.1 ∙ sym q.1)
 bit_string_alone m n v w (u ∷ contents) p q =
     let f : v ≡ w = p.0 ∙ sym q.0 in
     (omega (arith, p.1, q.1, ap length f), f)
 
 -- they have one fault
-pub bit_string_fault_alone : (contents : List ℕ) (e d : DecodeFault) → BitStringFault contents e → BitStringFault contents d → e ≡ d
+pub bit_string_fault_alone : (contents : List ℕ) (e d : DecodeFault) → BitStringFault contents e →
+    BitStringFault contents d → e ≡ d
 bit_string_fault_alone [] e d p q = absurd p
 bit_string_fault_alone (u ∷ v) e d (inl p) (inl q) = p.1 ∙ sym q.1
 bit_string_fault_alone (u ∷ v) e d (inl p) (inr q) = absurd (omega (arith, p.0, q.0))
@@ -57,7 +25,8 @@ bit_string_fault_alone (u ∷ v) e d (inr p) (inl q) = absurd (omega (arith, p.0
 bit_string_fault_alone (u ∷ v) e d (inr (_, _, p)) (inr (_, _, q)) = p ∙ sym q
 
 -- those that mean bits have no fault
-pub bit_string_no_fault : (n : ℕ) (v contents : List ℕ) (e : DecodeFault) → BitStringContents n v contents → BitStringFault contents e → ⊥
+pub bit_string_no_fault : (n : ℕ) (v contents : List ℕ) (e : DecodeFault) → BitStringContents n v contents →
+    BitStringFault contents e → ⊥
 bit_string_no_fault n v [] e p f = f
 bit_string_no_fault n v (u ∷ contents) e (same, _, fits) (inl f) = omega (arith, fits, f.0, ap length same)
 bit_string_no_fault n v (u ∷ contents) e p (inr f) = omega (arith, p.1, f.1, ap length p.0)
@@ -114,7 +83,8 @@ bit_string_fits (suc n) v (inl f) = absurd (omega (arith, f.0))
 bit_string_fits (suc n) v (inr (_, enough, few, _)) = grind (arith, common_steps, enough, few)
 
 -- bits that can be written are faithful where what is written means them
-pub bit_string_kept : (n : ℕ) (v : List ℕ) → bit_string_write_fault n v ≡ None → BitStringContents n v (bit_string_contents n v)
+pub bit_string_kept : (n : ℕ) (v : List ℕ) → bit_string_write_fault n v ≡ None →
+    BitStringContents n v (bit_string_contents n v)
     → IsFaithfulBitString n v
 bit_string_kept zero v w p = inl (refl, p.1)
 bit_string_kept (suc n) v w p =
@@ -131,7 +101,8 @@ bit_string_read (suc n) v (u ∷ contents) all (same, bits, near) =
     let h : u < 256 = All-head (λ b. b < 256) u contents all in
     let few : 8 * length v ≤ suc n + 255 = omega (arith, h, bits, ap length same) in
     let fits : 8 * length v < 2 ^ 64 = omega (arith, near, ap length same) in
-    subst (IsFaithfulBitString (suc n)) (sym (some_left n v)) (inr (omega arith, omega (arith, bits, ap length same), few, fits))
+    subst (IsFaithfulBitString (suc n)) (sym (some_left n v))
+    (inr (omega arith, omega (arith, bits, ap length same), few, fits))
 
 -- what is not left is not written
 pub bit_string_same : (n : ℕ) (v : List ℕ) → bit_string_contents n (written_bits n v) ≡ bit_string_contents n v

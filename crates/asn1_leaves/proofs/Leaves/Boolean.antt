@@ -1,26 +1,5 @@
 -- What is known of the contents octets of a BOOLEAN.
-use Rattle.std.proofs.Common.{
-  ◌≡◌,
-  ℕ,
-  ◌==◌,
-  ◌⊎◌,
-  Bool,
-  true,
-  false,
-  not,
-  List,
-  [],
-  ◌∷◌,
-  length,
-  inl,
-  inr,
-  refl,
-  sym,
-  ap,
-  ◌∙◌,
-  subst,
-  arith,
-}
+use Rattle.std.proofs.Common.{◌≡◌, ℕ, ◌==◌, ◌⊎◌, Bool, true, false, not, List, [], ◌∷◌, length, inl, inr, refl, sym, ap, ◌∙◌, subst, arith}
 use Rattle.asn1_headers.specs.Fault.{DecodeFault, IsOfReading, bad_boolean_length}
 use Rattle.asn1_leaves.specs.Contents.Boolean.{BooleanContents, BooleanFault, boolean_contents}
 
@@ -32,15 +11,18 @@ boolean_alone a b contents (x, p, r) (y, q, s) =
     r ∙ (ap (λ z. not (z == 0)) g ∙ sym s)
 
 -- they have one fault
-pub boolean_fault_alone : (contents : List ℕ) (e d : DecodeFault) → BooleanFault contents e → BooleanFault contents d → e ≡ d
+pub boolean_fault_alone : (contents : List ℕ) (e d : DecodeFault) → BooleanFault contents e → BooleanFault contents d →
+    e ≡ d
 boolean_fault_alone contents e d p q = p.1 ∙ sym q.1
 
 -- those that mean a value have no fault
-pub boolean_no_fault : (b : Bool) (contents : List ℕ) (e : DecodeFault) → BooleanContents b contents → BooleanFault contents e → ⊥
+pub boolean_no_fault : (b : Bool) (contents : List ℕ) (e : DecodeFault) → BooleanContents b contents →
+    BooleanFault contents e → ⊥
 boolean_no_fault b contents e p f = f.0 (ap length p.1)
 
 -- all others have one
-pub boolean_meaning : (contents : List ℕ) → ((b : Bool) × BooleanContents b contents) ⊎ ((e : DecodeFault) × BooleanFault contents e)
+pub boolean_meaning : (contents : List ℕ) →
+    ((b : Bool) × BooleanContents b contents) ⊎ ((e : DecodeFault) × BooleanFault contents e)
 boolean_meaning [] = inr (bad_boolean_length 0, ((λ e. omega (arith, e)), refl))
 boolean_meaning (x ∷ []) = inl (not (x == 0), (x, refl, refl))
 boolean_meaning (x ∷ y ∷ rest) = inr (bad_boolean_length (length (x ∷ y ∷ rest)), ((λ e. omega (arith, e)), refl))

@@ -1,34 +1,5 @@
 -- Two digits, fields of two digits, and the digits of a fraction.
-use Rattle.std.proofs.Common.{
-  ◌≡◌,
-  ℕ,
-  zero,
-  suc,
-  ◌+◌,
-  ◌-◌,
-  ◌*◌,
-  ◌/◌,
-  ◌%◌,
-  ◌^◌,
-  ◌<◌,
-  ◌≤◌,
-  ◌==◌,
-  ◌++◌,
-  true,
-  inl,
-  inr,
-  List,
-  [],
-  ◌∷◌,
-  length,
-  refl,
-  sym,
-  ap,
-  ◌∙◌,
-  subst,
-  arith,
-  length-append,
-}
+use Rattle.std.proofs.Common.{◌≡◌, ℕ, zero, suc, ◌+◌, ◌-◌, ◌*◌, ◌/◌, ◌%◌, ◌^◌, ◌<◌, ◌≤◌, ◌==◌, ◌++◌, true, inl, inr, List, [], ◌∷◌, length, refl, sym, ap, ◌∙◌, subst, arith, length-append}
 use Rattle.std.specs.Prelude.{ℤ, pos, negsuc, ◌≤ℤ◌, unsigned_abs, slice_index, Option, Some, None, IfNone}
 use Rattle.std.specs.Char.{is_ascii_digit}
 use Rattle.std.specs.List.{list_all}
@@ -65,11 +36,13 @@ fields_same :
 fields_same y y' a a' b b' c c' d d' e e' f f' p q r s t u v = cc
 
 pub moment_same :
-    (m n : Moment) → m.year ≡ n.year → m.month ≡ n.month → m.day ≡ n.day → m.hour ≡ n.hour → m.minute ≡ n.minute → m.second ≡ n.second
+    (m n : Moment) → m.year ≡ n.year → m.month ≡ n.month → m.day ≡ n.day → m.hour ≡ n.hour → m.minute ≡ n.minute →
+    m.second ≡ n.second
     → m.nanosecond ≡ n.nanosecond → m ≡ n
 moment_same m n a b c d e f g =
     fields_same
-    m.year n.year m.month n.month m.day n.day m.hour n.hour m.minute n.minute m.second n.second m.nanosecond n.nanosecond
+    m.year n.year m.month n.month m.day n.day m.hour n.hour m.minute n.minute m.second n.second m.nanosecond
+    n.nanosecond
     a b c d e f g
 
 -- digits hold no point
@@ -79,7 +52,8 @@ no_point f r a e =
     false≢true w
 
 -- the digits before Z are those after the point, if there is one
-pub end_is : (end front digits f : List ℕ) → end ≡ front ++ 90 ∷ [] → FollowsPoint front digits → IsEnd f end → digits ≡ f
+pub end_is : (end front digits f : List ℕ) → end ≡ front ++ 90 ∷ [] → FollowsPoint front digits → IsEnd f end →
+    digits ≡ f
 end_is end front digits f e (inl p) (a, inl q) =
     let h : front ≡ f = append_cancel_right front f (90 ∷ []) (sym e ∙ q) in
     absurd (no_point f digits a (sym h ∙ p))
@@ -87,7 +61,8 @@ end_is end front digits f e (inl p) (a, inr q) =
     let h : front ≡ 46 ∷ f = append_cancel_right front (46 ∷ f) (90 ∷ []) (sym e ∙ q) in
     cc
 end_is end front digits f e (inr p) (a, inl q) = p.0 ∙ append_cancel_right front f (90 ∷ []) (sym e ∙ q)
-end_is end front digits f e (inr p) (a, inr q) = absurd (p.1 f (append_cancel_right front (46 ∷ f) (90 ∷ []) (sym e ∙ q)))
+end_is end front digits f e (inr p) (a, inr q) =
+    absurd (p.1 f (append_cancel_right front (46 ∷ f) (90 ∷ []) (sym e ∙ q)))
 
 -- so they are determined
 pub end_alone : (end f g : List ℕ) → IsEnd f end → IsEnd g end → f ≡ g
@@ -108,7 +83,8 @@ digit_is d h = grind (arith, nat_tests)
 -- the digits of a number are digits, and mean it
 pub fraction_again :
     (k unit n : ℕ) → unit ≡ 10 ^ k → n < 10 * unit
-    → (list_all is_ascii_digit (fraction_digits (suc k) unit n) ≡ true) × (fraction_number unit (fraction_digits (suc k) unit n) ≡ n)
+    → (list_all is_ascii_digit (fraction_digits (suc k) unit n) ≡ true) ×
+    (fraction_number unit (fraction_digits (suc k) unit n) ≡ n)
 fraction_again zero unit zero e h = (refl, refl)
 fraction_again zero unit (suc n) e h =
     let one : unit ≡ 1 = e in
@@ -134,7 +110,8 @@ pub digits_step :
     → fraction_digits places unit n ≡ (48 + n / unit) ∷ fraction_digits (places - 1) (unit / 10) (n % unit)
 digits_step zero unit n h l = absurd (omega (arith, h))
 digits_step (suc k) unit zero h l = absurd (omega (arith, l))
-digits_step (suc k) unit (suc n) h l = ap (λ z. (48 + suc n / unit) ∷ fraction_digits z (unit / 10) (suc n % unit)) {x = k} {y = suc k - 1} (omega arith)
+digits_step (suc k) unit (suc n) h l =
+    ap (λ z. (48 + suc n / unit) ∷ fraction_digits z (unit / 10) (suc n % unit)) {x = k} {y = suc k - 1} (omega arith)
 
 -- none where nothing is left
 pub digits_none : (places unit : ℕ) → fraction_digits places unit 0 ≡ []
@@ -169,7 +146,8 @@ number_two_digits n h = omega arith
 -- a moment from year 0 on is known to be valid or not
 pub valid_known : (m : Moment) → pos 0 ≤ℤ m.year → Known (IsValid m)
 valid_known m from_zero =
-    known_within (below_known (unsigned_abs m.year) 10000) (λ v. omega (arith, ints, v.four_digits, v.from_zero)) (λ year.
+    known_within (below_known (unsigned_abs m.year) 10000) (λ v. omega (arith, ints, v.four_digits, v.from_zero))
+    (λ year.
     known_within (range_known 1 12 m.month) (λ v. v.month) (λ month.
     known_within (range_known 1 (days_in_month m.year m.month) m.day) (λ v. v.day) (λ day.
     known_within (below_known m.hour 24) (λ v. v.hour) (λ hour.
@@ -247,7 +225,8 @@ end_known end = elim (last_of end) [
         let e' : end ≡ front ++ 90 ∷ [] = e ∙ ap (λ x. front ++ x ∷ []) (eqb-true z 90 y) in
         elim (cases_Bool (list_all is_ascii_digit p.0)) [
           | inl a ↦ inl (p.0, ended end front p.0 a e' p.1)
-          | inr n ↦ inr (λ d. false≢true (sym n ∙ (ap (list_all is_ascii_digit) (end_is end front p.0 d.0 e' p.1 d.1) ∙ d.1.0)))
+          | inr n ↦ inr (λ d. false≢true
+              (sym n ∙ (ap (list_all is_ascii_digit) (end_is end front p.0 d.0 e' p.1 d.1) ∙ d.1.0)))
         ]
   ]
 ]

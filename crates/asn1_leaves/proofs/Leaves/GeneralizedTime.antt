@@ -1,38 +1,5 @@
 -- Contents octets of a GeneralizedTime.
-use Rattle.std.proofs.Common.{
-  ◌≡◌,
-  ℕ,
-  zero,
-  suc,
-  ◌+◌,
-  ◌-◌,
-  ◌*◌,
-  ◌/◌,
-  ◌%◌,
-  ◌<◌,
-  ◌≤◌,
-  ◌==◌,
-  ◌++◌,
-  ◌⊎◌,
-  true,
-  false,
-  inl,
-  inr,
-  None,
-  List,
-  [],
-  ◌∷◌,
-  length,
-  take,
-  drop,
-  replicate,
-  refl,
-  sym,
-  ap,
-  ◌∙◌,
-  subst,
-  arith,
-}
+use Rattle.std.proofs.Common.{◌≡◌, ℕ, zero, suc, ◌+◌, ◌-◌, ◌*◌, ◌/◌, ◌%◌, ◌<◌, ◌≤◌, ◌==◌, ◌++◌, ◌⊎◌, true, false, inl, inr, None, List, [], ◌∷◌, length, take, drop, replicate, refl, sym, ap, ◌∙◌, subst, arith}
 use Rattle.std.specs.Prelude.{if◌then◌else◌, pos, decimal, unsigned_abs, IsAscii, IsUtf8}
 use Rattle.std.specs.Char.{is_ascii}
 use Rattle.std.specs.List.{list_all, list_any, slice_range}
@@ -45,35 +12,10 @@ use Rattle.std.proofs.lemmas.Str.{IsAscii-append, IsAscii-take, IsAscii-drop, Is
 use Rattle.std.proofs.lemmas.Str.Ascii.{IsAscii-nil, IsAscii-cons}
 use Rattle.asn1_leaves.specs.Inner.DigitFields.{IsSpelled, PairAt}
 use Rattle.asn1_leaves.specs.Contents.Moment.{Moment, IsValid, moment_write_fault}
-use Rattle.asn1_leaves.specs.Contents.GeneralizedTime.{
-  GeneralizedTimeContents,
-  GeneralizedTimeFault,
-  IsEnd,
-  IsFaithfulGeneralizedTime,
-  fraction_digits,
-  fraction_number,
-  generalized_time_contents,
-  generalized_time_fault,
-  tenth,
-  to_second,
-  with_point,
-  with_zeros,
-  written_fraction,
-}
+use Rattle.asn1_leaves.specs.Contents.GeneralizedTime.{GeneralizedTimeContents, GeneralizedTimeFault, IsEnd, IsFaithfulGeneralizedTime, fraction_digits, fraction_number, generalized_time_contents, generalized_time_fault, tenth, to_second, with_point, with_zeros, written_fraction}
 use Rattle.asn1_headers.specs.Fault.{DecodeFault, IsOfReading, invalid_date_value, utf8_fault}
 use Rattle.asn1_leaves.proofs.Leaves.Known.{octets_known}
-use Rattle.asn1_leaves.proofs.Leaves.Digits.{
-  days_few,
-  end_alone,
-  end_known,
-  fraction_again,
-  moment_same,
-  number_at,
-  number_two_digits,
-  two_digits_pair,
-  valid_known,
-  valid_writable,
-}
+use Rattle.asn1_leaves.proofs.Leaves.Digits.{days_few, end_alone, end_known, fraction_again, moment_same, number_at, number_two_digits, two_digits_pair, valid_known, valid_writable}
 
 -- fourteen octets by place are those of the moment
 pub second_spelled :
@@ -96,7 +38,8 @@ second_spelled second high low n m size hi lo q = absurd (omega (arith, size))
 
 -- and the other way round
 pub second_by_place :
-    (second : List ℕ) (high low n : ℕ) (m : Moment) → IsValid m → m.nanosecond ≡ n → second ≡ to_second m → PairAt second 0 high
+    (second : List ℕ) (high low n : ℕ) (m : Moment) → IsValid m → m.nanosecond ≡ n → second ≡ to_second m →
+    PairAt second 0 high
     → PairAt second 2 low → IsSpelled (high * 100 + low) (slice_range second 4 14) n m
 second_by_place second high low n m v f e hi lo =
     let hi' = subst (λ z. PairAt z 0 high) e hi in
@@ -128,23 +71,28 @@ zeros_ascii zero = IsAscii-nil
 zeros_ascii (suc n) = IsAscii-cons 48 (replicate n 48) (omega arith) (zeros_ascii n)
 
 point_ascii : (text : List ℕ) → IsAscii text → IsAscii (with_point text)
-point_ascii text a = elim (list_any (λ c. c == 46) text) as (λ b. IsAscii (if b then text else take 14 text ++ (46 ∷ drop 14 text))) [
-  | true ↦ a
-  | false ↦ IsAscii-append (take 14 text) (46 ∷ drop 14 text) (IsAscii-take text 14 a)
-      (IsAscii-cons 46 (drop 14 text) (omega arith) (IsAscii-drop text 14 a))
-]
+point_ascii text a = elim (list_any (λ c. c == 46) text) as
+    (λ b. IsAscii (if b then text else take 14 text ++ (46 ∷ drop 14 text))) [
+      | true ↦ a
+      | false ↦ IsAscii-append (take 14 text) (46 ∷ drop 14 text) (IsAscii-take text 14 a)
+          (IsAscii-cons 46 (drop 14 text) (omega arith) (IsAscii-drop text 14 a))
+    ]
 
 zeros_after_ascii : (text : List ℕ) → IsAscii text → IsAscii (with_zeros text)
 zeros_after_ascii text a =
     let last = length text - 1 in
-    let z = IsAscii-append (replicate (25 - length text) 48) (drop last text) (zeros_ascii (25 - length text)) (IsAscii-drop text last a) in
+    let z = IsAscii-append (replicate (25 - length text) 48) (drop last text) (zeros_ascii (25 - length text))
+    (IsAscii-drop text last a) in
     IsAscii-append (take last text) (replicate (25 - length text) 48 ++ drop last text) (IsAscii-take text last a) z
 
 pub longer_form_utf8 : (text : List ℕ) → list_all is_ascii text ≡ true → IsUtf8 (with_zeros (with_point text))
-longer_form_utf8 text e = IsUtf8-from_ascii (with_zeros (with_point text)) (zeros_after_ascii (with_point text) (point_ascii text (ascii_all text e)))
+longer_form_utf8 text e =
+    IsUtf8-from_ascii (with_zeros (with_point text))
+    (zeros_after_ascii (with_point text) (point_ascii text (ascii_all text e)))
 
 -- the faults of at least 15 octets
-pub fault_not_utf8 : (contents : List ℕ) → 15 ≤ length contents → (IsUtf8 contents → ⊥) → utf8_fault contents ≡ generalized_time_fault contents
+pub fault_not_utf8 : (contents : List ℕ) → 15 ≤ length contents → (IsUtf8 contents → ⊥) →
+    utf8_fault contents ≡ generalized_time_fault contents
 fault_not_utf8 contents h f = elim (cases_Bool (is_utf8 contents)) [
   | inl e ↦ absurd (f (IsUtf8-from_is_utf8 contents e))
   | inr e ↦ grind (arith, nat_tests, h, e)
@@ -197,7 +145,8 @@ time_is :
     → m ≡ second_moment (take 14 contents) (fraction_number tenth digits)
 time_is m contents digits p d =
     let e : drop 14 contents ≡ p.end = ap (drop 14) p.octets in
-    let f : p.digits ≡ digits = end_alone (drop 14 contents) p.digits digits (subst (λ z. IsEnd p.digits z) (sym e) p.is_end) d in
+    let f : p.digits ≡ digits =
+    end_alone (drop 14 contents) p.digits digits (subst (λ z. IsEnd p.digits z) (sym e) p.is_end) d in
     let n : m.nanosecond ≡ fraction_number tenth digits = p.nanosecond ∙ ap (fraction_number tenth) f in
     let t : to_second m ≡ take 14 contents = sym (ap (take 14) p.octets) in
     second_moment_again m p.valid ∙ (ap (λ z. second_moment z m.nanosecond) t ∙ ap (second_moment (take 14 contents)) n)
@@ -206,13 +155,15 @@ end_of : (m : Moment) (contents : List ℕ) (p : GeneralizedTimeContents m conte
 end_of m contents p = subst (λ z. IsEnd p.digits z) (sym (ap (drop 14) p.octets)) p.is_end
 
 -- contents octets mean one moment
-pub generalized_time_alone : (m n : Moment) (contents : List ℕ) → GeneralizedTimeContents m contents → GeneralizedTimeContents n contents → m ≡ n
+pub generalized_time_alone : (m n : Moment) (contents : List ℕ) → GeneralizedTimeContents m contents →
+    GeneralizedTimeContents n contents → m ≡ n
 generalized_time_alone m n contents p q =
     let d = end_of m contents p in
     time_is m contents p.digits p d ∙ sym (time_is n contents p.digits q d)
 
 -- the fault is one
-pub generalized_time_fault_alone : (contents : List ℕ) (e d : DecodeFault) → GeneralizedTimeFault contents e → GeneralizedTimeFault contents d → e ≡ d
+pub generalized_time_fault_alone : (contents : List ℕ) (e d : DecodeFault) → GeneralizedTimeFault contents e →
+    GeneralizedTimeFault contents d → e ≡ d
 generalized_time_fault_alone contents e d p q = p.1 ∙ sym q.1
 
 -- contents octets at fault mean no moment
@@ -224,10 +175,12 @@ generalized_time_no_fault m contents e p f = f.0 m p
 fault_of_reading : (contents : List ℕ) → IsOfReading (generalized_time_fault contents)
 fault_of_reading contents = elim (cases_lt (length contents) 15) [
   | inl l ↦
-      let e : generalized_time_fault contents ≡ invalid_date_value (decimal (length contents)) = grind (arith, nat_tests, l) in
+      let e : generalized_time_fault contents ≡ invalid_date_value (decimal (length contents)) =
+      grind (arith, nat_tests, l) in
       subst IsOfReading (sym e) tt
   | inr h ↦ elim (cases_Bool (is_utf8 contents)) [
-    | inr f ↦ subst IsOfReading (fault_not_utf8 contents h (λ u. false≢true (sym f ∙ is_utf8-from_IsUtf8 contents u))) tt
+    | inr f ↦ subst IsOfReading (fault_not_utf8 contents h (λ u. false≢true (sym f ∙ is_utf8-from_IsUtf8 contents u)))
+        tt
     | inl u ↦ elim (cases_Bool (list_all is_ascii contents)) [
       | inl a ↦ subst IsOfReading (fault_ascii contents h (IsUtf8-from_is_utf8 contents u) a) tt
       | inr a ↦ subst IsOfReading (fault_not_ascii contents h (IsUtf8-from_is_utf8 contents u) a) tt
@@ -235,11 +188,13 @@ fault_of_reading contents = elim (cases_lt (length contents) 15) [
   ]
 ]
 
-pub generalized_time_of_reading : (contents : List ℕ) (e : DecodeFault) → GeneralizedTimeFault contents e → IsOfReading e
+pub generalized_time_of_reading : (contents : List ℕ) (e : DecodeFault) → GeneralizedTimeFault contents e →
+    IsOfReading e
 generalized_time_of_reading contents e f = subst IsOfReading (sym f.1) (fault_of_reading contents)
 
 -- contents octets mean a moment, or they are at fault
-at_fault : (contents : List ℕ) → ((m : Moment) → GeneralizedTimeContents m contents → ⊥) → (e : DecodeFault) × GeneralizedTimeFault contents e
+at_fault : (contents : List ℕ) → ((m : Moment) → GeneralizedTimeContents m contents → ⊥) →
+    (e : DecodeFault) × GeneralizedTimeFault contents e
 at_fault contents none = (generalized_time_fault contents, (none, refl))
 
 pub generalized_time_meaning : (contents : List ℕ)
@@ -251,7 +206,8 @@ generalized_time_meaning contents = elim (end_known (drop 14 contents)) [
       elim (valid_known m (omega (arith, ints))) [
         | inr no_v ↦ inr (at_fault contents (λ n p. no_v (subst IsValid (time_is n contents d.0 p d.1) p.valid)))
         | inl v ↦ elim (octets_known (take 14 contents) (to_second m)) [
-          | inr no_s ↦ inr (at_fault contents (λ n p. no_s (ap (take 14) p.octets ∙ ap to_second (time_is n contents d.0 p d.1))))
+          | inr no_s ↦ inr (at_fault contents
+              (λ n p. no_s (ap (take 14) p.octets ∙ ap to_second (time_is n contents d.0 p d.1))))
           | inl s ↦ inl (
             m,
             record {
@@ -268,34 +224,47 @@ generalized_time_meaning contents = elim (end_known (drop 14 contents)) [
 ]
 
 -- what was read can be written
-pub generalized_time_writable : (m : Moment) (contents : List ℕ) → GeneralizedTimeContents m contents → moment_write_fault m ≡ None
+pub generalized_time_writable : (m : Moment) (contents : List ℕ) → GeneralizedTimeContents m contents →
+    moment_write_fault m ≡ None
 generalized_time_writable m contents p = valid_writable m p.valid
 
 -- what is written of a faithful moment means it
 some_fraction : (n : ℕ) → 0 < n → written_fraction n ≡ 46 ∷ fraction_digits 9 tenth n
 some_fraction n h = grind (arith, nat_tests, h)
 
-fraction_end : (n : ℕ) → n < 1000000000 → (digits : List ℕ) × IsEnd digits (written_fraction n ++ (90 ∷ [])) × (n ≡ fraction_number tenth digits)
+fraction_end : (n : ℕ) → n < 1000000000 →
+    (digits : List ℕ) × IsEnd digits (written_fraction n ++ (90 ∷ [])) × (n ≡ fraction_number tenth digits)
 fraction_end zero h = ([], (refl, inl refl), refl)
 fraction_end (suc n) h =
     let i = fraction_again 8 tenth (suc n) refl h in
     let e = some_fraction (suc n) (omega arith) in
     (fraction_digits 9 tenth (suc n), (i.0, inr (ap (λ z. z ++ (90 ∷ [])) e)), sym i.1)
 
-pub generalized_time_again : (m : Moment) → IsFaithfulGeneralizedTime m → GeneralizedTimeContents m (generalized_time_contents m)
+pub generalized_time_again : (m : Moment) → IsFaithfulGeneralizedTime m →
+    GeneralizedTimeContents m (generalized_time_contents m)
 generalized_time_again m v =
     let (digits, ends, is) = fraction_end m.nanosecond v.nanosecond in
-    record { valid = v; digits = digits; end = written_fraction m.nanosecond ++ (90 ∷ []); octets = refl; is_end = ends; nanosecond = is }
+    record {
+      valid = v;
+      digits = digits;
+      end = written_fraction m.nanosecond ++ (90 ∷ []);
+      octets = refl;
+      is_end =
+          ends;
+      nanosecond = is;
+    }
 
 -- a faithful moment can be written
 pub generalized_time_fits : (m : Moment) → IsFaithfulGeneralizedTime m → moment_write_fault m ≡ None
 generalized_time_fits m v = valid_writable m v
 
 -- a moment is faithful where what is written means it
-pub generalized_time_kept : (m : Moment) → moment_write_fault m ≡ None → GeneralizedTimeContents m (generalized_time_contents m)
+pub generalized_time_kept : (m : Moment) → moment_write_fault m ≡ None →
+    GeneralizedTimeContents m (generalized_time_contents m)
     → IsFaithfulGeneralizedTime m
 generalized_time_kept m w p = p.valid
 
 -- what was read is faithful
-pub generalized_time_read : (m : Moment) (contents : List ℕ) → GeneralizedTimeContents m contents → IsFaithfulGeneralizedTime m
+pub generalized_time_read : (m : Moment) (contents : List ℕ) → GeneralizedTimeContents m contents →
+    IsFaithfulGeneralizedTime m
 generalized_time_read m contents p = p.valid

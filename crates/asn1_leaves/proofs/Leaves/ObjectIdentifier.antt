@@ -1,41 +1,11 @@
 -- What is known of the contents octets of an OBJECT IDENTIFIER.
-use Rattle.std.proofs.Common.{
-  ◌≡◌,
-  ℕ,
-  ◌+◌,
-  ◌*◌,
-  ◌-◌,
-  ◌<◌,
-  ◌≤◌,
-  ◌⊎◌,
-  List,
-  [],
-  ◌∷◌,
-  length,
-  get_or,
-  None,
-  inl,
-  inr,
-  refl,
-  sym,
-  ◌∙◌,
-  subst,
-  arith,
-}
+use Rattle.std.proofs.Common.{◌≡◌, ℕ, ◌+◌, ◌*◌, ◌-◌, ◌<◌, ◌≤◌, ◌⊎◌, List, [], ◌∷◌, length, get_or, None, inl, inr, refl, sym, ◌∙◌, subst, arith}
 use Rattle.std.specs.Prelude.{All}
 use Rattle.std.specs.List.{flat_map}
 use Rattle.std.proofs.lemmas.Bool.{cases_lt}
 use Rattle.std.proofs.lemmas.List.Elements.{All-head}
 use Rattle.asn1_numbers.specs.Base128.{shortest_base128}
-use Rattle.asn1_leaves.specs.Contents.ObjectIdentifier.{
-  AreFirstTwo,
-  IsFaithfulObjectIdentifier,
-  ObjectIdentifierContents,
-  ObjectIdentifierFault,
-  Subidentifiers,
-  object_identifier_contents,
-  object_identifier_write_fault,
-}
+use Rattle.asn1_leaves.specs.Contents.ObjectIdentifier.{AreFirstTwo, IsFaithfulObjectIdentifier, ObjectIdentifierContents, ObjectIdentifierFault, Subidentifiers, object_identifier_contents, object_identifier_write_fault}
 use Rattle.asn1_headers.specs.Fault.{DecodeFault, IsOfReading, incomplete}
 use Rattle.asn1_leaves.proofs.Subidentifiers.{subidentifiers_alone, subidentifiers_ended, subidentifiers_shortest, subidentifiers_unended}
 
@@ -47,7 +17,8 @@ first_alone v w x y n (e, p, inr q) (f, r, inl s) = (omega (arith, e, f, r, q, s
 first_alone v w x y n (e, p, inr q) (f, r, inr s) = (q ∙ sym s, omega (arith, e, f, q, s))
 
 -- they mean one list of components
-pub object_identifier_alone : (ms ns contents : List ℕ) → ObjectIdentifierContents ms contents → ObjectIdentifierContents ns contents → ms ≡ ns
+pub object_identifier_alone : (ms ns contents : List ℕ) → ObjectIdentifierContents ms contents →
+    ObjectIdentifierContents ns contents → ms ≡ ns
 object_identifier_alone [] ns contents p q = absurd p
 object_identifier_alone (v ∷ []) ns contents p q = absurd p
 object_identifier_alone (v ∷ w ∷ ms) [] contents p q = absurd q
@@ -117,15 +88,18 @@ object_identifier_meaning (b ∷ octets) = elim (cases_lt (get_or octets (length
 ]
 
 -- it is one of reading
-pub object_identifier_fault_of_reading : (contents : List ℕ) (e : DecodeFault) → ObjectIdentifierFault contents e → IsOfReading e
+pub object_identifier_fault_of_reading : (contents : List ℕ) (e : DecodeFault) → ObjectIdentifierFault contents e →
+    IsOfReading e
 object_identifier_fault_of_reading contents e f = subst IsOfReading (sym f.0) tt
 
-first_writable : (x y b : ℕ) (ns : List ℕ) → b < 256 → AreFirstTwo x y b → object_identifier_write_fault (x ∷ y ∷ ns) ≡ None
+first_writable : (x y b : ℕ) (ns : List ℕ) → b < 256 → AreFirstTwo x y b →
+    object_identifier_write_fault (x ∷ y ∷ ns) ≡ None
 first_writable x y b ns small (e, p, inl q) = grind (arith, e, p, q, small)
 first_writable x y b ns small (e, p, inr q) = grind (arith, e, p, q, small)
 
 -- components that octets mean can be written
-pub object_identifier_writable : (ns contents : List ℕ) → All (λ b. b < 256) contents → ObjectIdentifierContents ns contents
+pub object_identifier_writable : (ns contents : List ℕ) → All (λ b. b < 256) contents →
+    ObjectIdentifierContents ns contents
     → object_identifier_write_fault ns ≡ None
 object_identifier_writable [] contents all p = absurd p
 object_identifier_writable (x ∷ []) contents all p = absurd p
@@ -133,21 +107,25 @@ object_identifier_writable (x ∷ y ∷ ns) contents all (b, rest, e, f, s) =
     first_writable x y b ns (All-head (λ b. b < 256) b rest (subst (All (λ b. b < 256)) e all)) f
 
 -- components that can be written are the first two of their octet
-written_first : (x y : ℕ) (ns : List ℕ) → object_identifier_write_fault (x ∷ y ∷ ns) ≡ None → AreFirstTwo x y (40 * x + y)
+written_first : (x y : ℕ) (ns : List ℕ) → object_identifier_write_fault (x ∷ y ∷ ns) ≡ None →
+    AreFirstTwo x y (40 * x + y)
 written_first x y ns fits = (refl, grind (arith, fits), grind (arith, fits))
 
 -- contents octets that are written of faithful components mean them
-pub object_identifier_again : (ns : List ℕ) → IsFaithfulObjectIdentifier ns → ObjectIdentifierContents ns (object_identifier_contents ns)
+pub object_identifier_again : (ns : List ℕ) → IsFaithfulObjectIdentifier ns →
+    ObjectIdentifierContents ns (object_identifier_contents ns)
 object_identifier_again [] f = cc
 object_identifier_again (x ∷ []) f = cc
-object_identifier_again (x ∷ y ∷ ns) f = (40 * x + y, flat_map shortest_base128 ns, refl, written_first x y ns f, subidentifiers_shortest ns)
+object_identifier_again (x ∷ y ∷ ns) f =
+    (40 * x + y, flat_map shortest_base128 ns, refl, written_first x y ns f, subidentifiers_shortest ns)
 
 -- and faithful components can be written
 pub object_identifier_fits : (ns : List ℕ) → IsFaithfulObjectIdentifier ns → object_identifier_write_fault ns ≡ None
 object_identifier_fits ns f = f
 
 -- components that can be written are faithful where what is written means them
-pub object_identifier_kept : (ns : List ℕ) → object_identifier_write_fault ns ≡ None → ObjectIdentifierContents ns (object_identifier_contents ns)
+pub object_identifier_kept : (ns : List ℕ) → object_identifier_write_fault ns ≡ None →
+    ObjectIdentifierContents ns (object_identifier_contents ns)
     → IsFaithfulObjectIdentifier ns
 object_identifier_kept ns fits p = fits
 

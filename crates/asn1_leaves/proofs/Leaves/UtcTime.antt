@@ -1,29 +1,5 @@
 -- Contents octets of a UTCTime.
-use Rattle.std.proofs.Common.{
-  ◌≡◌,
-  ℕ,
-  ◌+◌,
-  ◌-◌,
-  ◌*◌,
-  ◌/◌,
-  ◌%◌,
-  ◌<◌,
-  ◌≤◌,
-  ◌⊎◌,
-  inl,
-  inr,
-  List,
-  [],
-  ◌∷◌,
-  None,
-  length,
-  refl,
-  sym,
-  ap,
-  ◌∙◌,
-  subst,
-  arith,
-}
+use Rattle.std.proofs.Common.{◌≡◌, ℕ, ◌+◌, ◌-◌, ◌*◌, ◌/◌, ◌%◌, ◌≤◌, ◌⊎◌, inl, inr, List, [], ◌∷◌, None, length, refl, sym, ap, ◌∙◌, subst, arith}
 use Rattle.std.specs.Prelude.{if◌then◌else◌, nat_lt, pos, ◌≤ℤ◌, unsigned_abs, slice_index}
 use Rattle.std.specs.List.{slice_range}
 use Rattle.std.proofs.lemmas.Bool.Decides.{nat_tests}
@@ -37,7 +13,8 @@ use Rattle.asn1_leaves.proofs.Leaves.Digits.{days_few, moment_same, number_at, n
 
 -- octets by place are those that are written
 pub utc_time_spelled :
-    (contents : List ℕ) (year short : ℕ) (m : Moment) → length contents ≡ 13 → slice_index contents 12 ≡ 90 → PairAt contents 0 short
+    (contents : List ℕ) (year short : ℕ) (m : Moment) → length contents ≡ 13 → slice_index contents 12 ≡ 90 →
+    PairAt contents 0 short
     → year % 100 ≡ short → IsSpelled year (slice_range contents 2 12) 0 m → contents ≡ utc_time_contents m
 utc_time_spelled (a ∷ b ∷ c ∷ d ∷ e ∷ f ∷ g ∷ h ∷ i ∷ j ∷ k ∷ l ∷ z ∷ []) year short m size ends p s q =
     let y : unsigned_abs m.year % 100 ≡ short = ap (λ x. unsigned_abs x % 100) q.year_is ∙ s in
@@ -70,10 +47,6 @@ full_year_from : (n : ℕ) → 1950 ≤ full_year n
 unfolding full_year
 full_year_from n = grind (arith, nat_tests)
 
-full_year_to : (n : ℕ) → n < 100 → full_year n ≤ 2049
-unfolding full_year
-full_year_to n h = grind (arith, nat_tests, h)
-
 full_year_of : (y n : ℕ) → 1950 ≤ y → y ≤ 2049 → n ≡ y % 100 → y ≡ full_year n
 unfolding full_year
 full_year_of y n a b e = grind (arith, nat_tests, a, b, e)
@@ -82,7 +55,8 @@ full_year_of y n a b e = grind (arith, nat_tests, a, b, e)
 utc_moment_again : (m : Moment) → IsFaithfulUtcTime m → m ≡ utc_moment (utc_time_contents m)
 utc_moment_again m f =
     let y = unsigned_abs m.year in
-    let n : (48 + y % 100 / 10 - 48) * 10 + (48 + y % 100 % 10 - 48) ≡ y % 100 = number_two_digits (y % 100) (omega arith) in
+    let n : (48 + y % 100 / 10 - 48) * 10 + (48 + y % 100 % 10 - 48) ≡ y % 100 =
+    number_two_digits (y % 100) (omega arith) in
     let a : 1950 ≤ y = omega (arith, ints, f.from_1950) in
     let b : y ≤ 2049 = omega (arith, ints, f.to_2049, f.from_1950) in
     let g = full_year_of y ((48 + y % 100 / 10 - 48) * 10 + (48 + y % 100 % 10 - 48)) a b n in
@@ -100,15 +74,18 @@ utc_time_is : (m : Moment) (contents : List ℕ) → UtcTimeContents m contents 
 utc_time_is m contents p = utc_moment_again m p.0 ∙ ap utc_moment (sym p.1)
 
 -- contents octets mean one moment
-pub utc_time_alone : (m n : Moment) (contents : List ℕ) → UtcTimeContents m contents → UtcTimeContents n contents → m ≡ n
+pub utc_time_alone : (m n : Moment) (contents : List ℕ) → UtcTimeContents m contents → UtcTimeContents n contents →
+    m ≡ n
 utc_time_alone m n contents p q = utc_time_is m contents p ∙ sym (utc_time_is n contents q)
 
 -- the fault is one
-pub utc_time_fault_alone : (contents : List ℕ) (e d : DecodeFault) → UtcTimeFault contents e → UtcTimeFault contents d → e ≡ d
+pub utc_time_fault_alone : (contents : List ℕ) (e d : DecodeFault) → UtcTimeFault contents e → UtcTimeFault contents d →
+    e ≡ d
 utc_time_fault_alone contents e d p q = p.1 ∙ sym q.1
 
 -- contents octets at fault mean no moment
-pub utc_time_no_fault : (m : Moment) (contents : List ℕ) (e : DecodeFault) → UtcTimeContents m contents → UtcTimeFault contents e → ⊥
+pub utc_time_no_fault : (m : Moment) (contents : List ℕ) (e : DecodeFault) → UtcTimeContents m contents →
+    UtcTimeFault contents e → ⊥
 utc_time_no_fault m contents e p f = f.0 m p
 
 -- the fault is one that octets can have
@@ -122,16 +99,22 @@ faithful_known m from whole =
     known_within (below_known (unsigned_abs m.year) 2050) (λ f. omega (arith, ints, f.to_2049, from)) (λ year.
     inl (record { valid = valid; from_1950 = from; to_2049 = omega (arith, ints, year, from); whole_second = whole })))
 
-no_utc_time : (contents : List ℕ) → (UtcTimeContents (utc_moment contents) contents → ⊥) → (e : DecodeFault) × UtcTimeFault contents e
-no_utc_time contents no_m = (utc_time_fault contents, ((λ n p. no_m (subst (λ z. UtcTimeContents z contents) (utc_time_is n contents p) p)), refl))
+no_utc_time : (contents : List ℕ) → (UtcTimeContents (utc_moment contents) contents → ⊥) →
+    (e : DecodeFault) × UtcTimeFault contents e
+no_utc_time contents no_m = (
+  utc_time_fault contents,
+  ((λ n p. no_m (subst (λ z. UtcTimeContents z contents) (utc_time_is n contents p) p)), refl),
+)
 
-pub utc_time_meaning : (contents : List ℕ) → ((m : Moment) × UtcTimeContents m contents) ⊎ ((e : DecodeFault) × UtcTimeFault contents e)
+pub utc_time_meaning : (contents : List ℕ) →
+    ((m : Moment) × UtcTimeContents m contents) ⊎ ((e : DecodeFault) × UtcTimeFault contents e)
 utc_time_meaning contents =
     let m = utc_moment contents in
     let from : pos 1950 ≤ℤ m.year = omega (arith, ints, full_year_from (number_at contents 0)) in
     elim (faithful_known m from refl) [
       | inr no_f ↦ inr (no_utc_time contents (λ p. no_f p.0))
-      | inl f ↦ elim (octets_known contents (utc_time_contents m)) [ inl e ↦ inl (m, (f, e)) | inr no_e ↦ inr (no_utc_time contents (λ p. no_e p.1)) ]
+      | inl f ↦ elim (octets_known contents (utc_time_contents m))
+          [ inl e ↦ inl (m, (f, e)) | inr no_e ↦ inr (no_utc_time contents (λ p. no_e p.1)) ]
     ]
 
 -- what was read can be written
@@ -147,7 +130,8 @@ pub utc_time_fits : (m : Moment) → IsFaithfulUtcTime m → moment_write_fault 
 utc_time_fits m f = valid_writable m f.valid
 
 -- a moment is faithful where what is written means it
-pub utc_time_kept : (m : Moment) → moment_write_fault m ≡ None → UtcTimeContents m (utc_time_contents m) → IsFaithfulUtcTime m
+pub utc_time_kept : (m : Moment) → moment_write_fault m ≡ None → UtcTimeContents m (utc_time_contents m) →
+    IsFaithfulUtcTime m
 utc_time_kept m w p = p.0
 
 -- what was read is faithful

@@ -1,30 +1,8 @@
 -- Contents octets of an OBJECT IDENTIFIER (X.690 8.19). Its value is the list of its components.
-use Rattle.std.specs.Prelude.{
-  ◌≡◌,
-  ◌==◌,
-  ℕ,
-  ◌+◌,
-  ◌*◌,
-  ◌<◌,
-  ◌≤◌,
-  ◌⊎◌,
-  ◌++◌,
-  List,
-  [],
-  ◌∷◌,
-  nat_lt,
-  if◌then◌else◌,
-  Option,
-  Some,
-  None,
-}
+use Rattle.std.specs.Prelude.{◌≡◌, ◌==◌, ℕ, ◌+◌, ◌*◌, ◌<◌, ◌≤◌, ◌⊎◌, ◌++◌, List, [], ◌∷◌, nat_lt, if◌then◌else◌, Option, Some, None}
 use Rattle.std.specs.List.{flat_map}
 use Rattle.asn1_headers.specs.declared.error.ASN1EncodeErr.{ASN1EncodeErr}
-use Rattle.asn1_headers.specs.declared.error.ASN1EncodeErr.TheVariants.{
-  ObjectIdentHasTooFewFields,
-  ObjectIdentVal1TooLarge,
-  ObjectIdentVal2TooLarge,
-}
+use Rattle.asn1_headers.specs.declared.error.ASN1EncodeErr.TheVariants.{ObjectIdentHasTooFewFields, ObjectIdentVal1TooLarge, ObjectIdentVal2TooLarge}
 use Rattle.asn1_numbers.specs.Base128.{IsBase128, shortest_base128}
 use Rattle.asn1_headers.specs.Fault.{DecodeFault, incomplete}
 

@@ -3,15 +3,7 @@ ghost use Rattle.std.specs.Prelude.{◌≡◌, ◌↔◌, ◌⊎◌, ◌++◌, �
 ghost use Rattle.std.specs.Prelude.{None, Some, IfOk, IfErr, IsFalse, IsTrue, OnOk, SomeIff};
 ghost use Rattle.std.specs.List.{flat_map};
 ghost use Rattle.asn1_numbers.specs.Base128.{shortest_base128};
-ghost use Rattle.asn1_leaves.specs.Contents.ObjectIdentifier.{
-  AreFirstTwo,
-  IsFaithfulObjectIdentifier,
-  ObjectIdentifierContents,
-  ObjectIdentifierFault,
-  Subidentifiers,
-  object_identifier_contents,
-  object_identifier_write_fault,
-};
+ghost use Rattle.asn1_leaves.specs.Contents.ObjectIdentifier.{AreFirstTwo, IsFaithfulObjectIdentifier, ObjectIdentifierContents, ObjectIdentifierFault, Subidentifiers, object_identifier_contents, object_identifier_write_fault};
 ghost use Rattle.asn1_headers.specs.Fault.{OutOfMemoryOr, incomplete};
 ghost use Rattle.asn1_headers.specs.declared.error.ASN1EncodeErr.TheVariants.{OutOfMemory};
 

@@ -1,11 +1,10 @@
 // Contents octets of the strings of characters (X.690 8.23).
-ghost use Rattle.std.specs.Prelude.{◌≡◌, ◌↔◌, ◌+◌, ◌≤◌, ℕ, List, length, None, Some, IfOk, IfErr, IsTrue, OnOk, IsUtf8, encode_utf8_all, string_bytes};
+ghost use Rattle.std.specs.Prelude.{◌≡◌, ◌↔◌, ◌+◌, ◌≤◌, ℕ, List, length, None, Some, IfOk, IfErr, IsTrue, OnOk, IsUtf8, string_bytes};
 ghost use Rattle.std.specs.List.{list_all};
-ghost use Rattle.std.specs.Str.{IsAscii, all_scalars, chars};
+ghost use Rattle.std.specs.Str.{IsAscii, chars};
 ghost use Rattle.asn1_leaves.specs.Contents.Text.{HasCharacters, TextContents, TextFault, is_printable, octet_write_fault, text_contents, text_write_fault};
 ghost use Rattle.asn1_headers.specs.Fault.{OutOfMemoryOr, fault_of};
 ghost use Rattle.asn1_leaves.specs.declared.contents.text.TextForm.TheVariants.{Printable, Utf8};
-ghost use Rattle.asn1_headers.specs.declared.error.ASN1DecodeErr.TheVariants.{OutOfMemory};
 
 use asn1_headers::error::{ASN1DecodeErr, ASN1EncodeErr};
 use asn1_numbers::sink::Sink;

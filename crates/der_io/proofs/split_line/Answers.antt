@@ -6,21 +6,25 @@ use Rattle.der_io.specs.Lines.{lines_of, onto_first_line}
 use Rattle.der_io.proofs.split_line.Goals as goal
 
 -- the first line goes to the first byte 0A
-ended_line : (input : List ℕ) (n : ℕ) → n < length input → ((i : ℕ) → i < n → slice_index input i ≢ 10) → slice_index input n ≡ 10
+ended_line : (input : List ℕ) (n : ℕ) → n < length input → ((i : ℕ) → i < n → slice_index input i ≢ 10) →
+    slice_index input n ≡ 10
     → lines_of input ≡ take n input ∷ lines_of (drop (suc n) input)
 ended_line [] n l h e = absurd (omega (arith, l))
 ended_line (b ∷ input) zero l h e =
     let f : b ≡ 10 = e in
     rw f refl
 ended_line (b ∷ input) (suc n) l h e =
-    rw (ne_eqb b 10 (h 0 (omega arith))) (ap (onto_first_line b) (ended_line input n (omega arith) (λ i lt. h (suc i) (omega arith)) e))
+    rw (ne_eqb b 10 (h 0 (omega arith)))
+    (ap (onto_first_line b) (ended_line input n (omega arith) (λ i lt. h (suc i) (omega arith)) e))
 
 -- where there is none, all is one line
-last_line : (input : List ℕ) → 0 < length input → ((i : ℕ) → i < length input → slice_index input i ≢ 10) → lines_of input ≡ input ∷ []
+last_line : (input : List ℕ) → 0 < length input → ((i : ℕ) → i < length input → slice_index input i ≢ 10) →
+    lines_of input ≡ input ∷ []
 last_line [] l h = absurd (omega (arith, l))
 last_line (b ∷ []) l h = rw (ne_eqb b 10 (h 0 (omega arith))) refl
 last_line (b ∷ c ∷ input) l h =
-    rw (ne_eqb b 10 (h 0 (omega arith))) (ap (onto_first_line b) (last_line (c ∷ input) (omega arith) (λ i lt. h (suc i) (omega arith))))
+    rw (ne_eqb b 10 (h 0 (omega arith)))
+    (ap (onto_first_line b) (last_line (c ∷ input) (omega arith) (λ i lt. h (suc i) (omega arith))))
 
 take_rest : (n : ℕ) (xs : List ℕ) → take (length xs - (n + 1)) (drop (n + 1) xs) ≡ drop (suc n) xs
 take_rest n xs =
@@ -40,4 +44,5 @@ returns-in-Some-clause-first c =
     ∙ ap (λ rest. take n input ∷ lines_of rest) (sym (take_rest n input))
 
 pub returns-in-None-clause-first : goal.returns-in-None-clause-first
-returns-in-None-clause-first c = last_line c.args.input.now c.requires (no_end c.args.input.now (length c.args.input.now) c.in-None.ensures)
+returns-in-None-clause-first c =
+    last_line c.args.input.now c.requires (no_end c.args.input.now (length c.args.input.now) c.in-None.ensures)

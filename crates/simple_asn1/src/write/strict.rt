@@ -1,28 +1,11 @@
 // Reading documents that are in canonical form, and no others.
-ghost use Rattle.std.specs.Prelude.{
-  ◌≡◌,
-  ◌↔◌,
-  ℕ,
-  None,
-  drop,
-  IfOk,
-  IfErr,
-  IsErrAnd,
-  IsTrue,
-  MatchOption,
-  MatchResult,
-};
+ghost use Rattle.std.specs.Prelude.{◌≡◌, ◌↔◌, ℕ, None, drop, IfOk, IfErr, IsErrAnd, IsTrue, MatchOption, MatchResult};
 ghost use Rattle.simple_asn1.specs.Canonical.{all_canonical, first_write_fault};
 ghost use Rattle.asn1_headers.specs.Fault.{DecodeFault, OutOfMemoryOr, not_canonical};
 ghost use Rattle.asn1_blocks.specs.Grammar.{IsDocument, FirstFault};
 ghost use Rattle.asn1_blocks.specs.Places.{end_before};
 ghost use Rattle.simple_asn1.specs.ReadBack.{CanonicalDocument};
-ghost use Rattle.simple_asn1.specs.Strict.{
-  EqualByOctets,
-  FirstNotCanonical,
-  IsNotCanonicalAt,
-  StrictFault,
-};
+ghost use Rattle.simple_asn1.specs.Strict.{EqualByOctets, FirstNotCanonical, IsNotCanonicalAt, StrictFault};
 ghost use Rattle.asn1_blocks.specs.Tree.{Trees};
 ghost use Rattle.asn1_blocks.specs.View.{views};
 ghost use Rattle.asn1_headers.specs.declared.error.ASN1DecodeErr.TheVariants.{OutOfMemory};

@@ -11,4 +11,5 @@ returns-in-Ok c =
 pub returns-in-Err : goal.returns-in-Err
 returns-in-Err c =
     let f = c.in-Err.fault in
-    check_refused c.args.octets.now c.refused_outcome.result f.status f.offset c.refused_outcome.ensures c.in-Err.ensures.fault
+    check_refused c.args.octets.now c.refused_outcome.result f.status f.offset c.refused_outcome.ensures
+    c.in-Err.ensures.fault

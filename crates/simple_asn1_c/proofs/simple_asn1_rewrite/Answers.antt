@@ -13,10 +13,12 @@ pub returns-in-Ok-None : goal.returns-in-Ok-None
 returns-in-Ok-None c =
     let (bs, d, m) = c.in-Ok-None.ensures.document in
     let e = none_written _ _ c.in-Ok-None.field-0 c.in-Ok-None.field-0-is m in
-    rewrite_answer c.args.octets.now c.args.octets.now c.args.room.now c.put_octets-in-Ok-None.new.room c.put_octets-in-Ok-None.result
+    rewrite_answer c.args.octets.now c.args.octets.now c.args.room.now c.put_octets-in-Ok-None.new.room
+    c.put_octets-in-Ok-None.result
     bs d e c.put_octets-in-Ok-None.ensures
 
 pub returns-in-Err : goal.returns-in-Err
 returns-in-Err c =
     let f = c.in-Err.fault in
-    rewrite_refused c.args.octets.now c.args.room.now c.refused_outcome.result f.status f.offset c.refused_outcome.ensures c.in-Err.ensures.fault
+    rewrite_refused c.args.octets.now c.args.room.now c.refused_outcome.result f.status f.offset
+    c.refused_outcome.ensures c.in-Err.ensures.fault

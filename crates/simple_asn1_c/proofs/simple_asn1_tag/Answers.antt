@@ -2,4 +2,5 @@ use Rattle.simple_asn1_c.proofs.Rooms.{tag_few}
 use Rattle.simple_asn1_c.proofs.simple_asn1_tag.Goals as goal
 
 pub returns-clause-few : goal.returns-clause-few
-returns-clause-few c = tag_few c.args.octets.now c.args.offset c.args.room.now c.put_tag.new.room c.put_tag.result c.put_tag.ensures
+returns-clause-few c =
+    tag_few c.args.octets.now c.args.offset c.args.room.now c.put_tag.new.room c.put_tag.result c.put_tag.ensures

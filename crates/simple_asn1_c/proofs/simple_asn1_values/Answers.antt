@@ -9,11 +9,13 @@ returns-in-Ok c =
     let (all, has, are) = c.in-Ok.ensures.document in
     were_valued all has
     (subst
-    (λ z. ArePut (map (λ p. value_of c.args.octets.now z c.args.steps.now p) c.args.paths.now) c.args.values.now c.put_values.new.room c.put_values.result)
+    (λ z. ArePut (map (λ p. value_of c.args.octets.now z c.args.steps.now p) c.args.paths.now) c.args.values.now
+    c.put_values.new.room c.put_values.result)
     (c.entries.ensures ∙ are) c.put_values.ensures)
 
 pub returns-in-Err : goal.returns-in-Err
 returns-in-Err c =
     let f = c.in-Err.fault in
-    values_refused c.args.octets.now c.args.steps.now c.args.paths.now c.args.values.now c.refused_outcome.result f.status f.offset
+    values_refused c.args.octets.now c.args.steps.now c.args.paths.now c.args.values.now c.refused_outcome.result
+    f.status f.offset
     c.refused_outcome.ensures c.in-Err.ensures.fault

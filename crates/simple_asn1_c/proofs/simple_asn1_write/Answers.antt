@@ -9,7 +9,8 @@ pub returns-then-spelled : goal.returns-then-spelled
 returns-then-spelled c =
     let (bs, (d, w)) = c.in-Ok.ensures.canonical c.if-spelled.true in
     was_spelled c.in-Ok.spelled.octets.octets c.in-Ok.ensures.spelled bs d
-    (subst (λ z. ArePut z c.args.room.now c.put_octets.new.room c.put_octets.result) (c.as_slice.ensures ∙ w) c.put_octets.ensures)
+    (subst (λ z. ArePut z c.args.room.now c.put_octets.new.room c.put_octets.result) (c.as_slice.ensures ∙ w)
+    c.put_octets.ensures)
 
 pub returns-in-Ok-Some : goal.returns-in-Ok-Some
 returns-in-Ok-Some c =

@@ -12,7 +12,8 @@ use Rattle.asn1_blocks.proofs.Leaves.{unknown_tag, group_tag_of, leaf_tag_of, ta
 use Rattle.asn1_blocks.proofs.contents.check_contents.Goals as goal
 
 -- a leaf, or contents octets that have no rule
-universal_single : (k : Bool) (n : ℕ) (contents : List ℕ) → (IsReadInside Universal k n → ⊥) → IsNoLeafOrMeant n contents
+universal_single : (k : Bool) (n : ℕ) (contents : List ℕ) → (IsReadInside Universal k n → ⊥) →
+    IsNoLeafOrMeant n contents
     → (offset : ℕ) (octets : List ℕ) (h : ℕ) → Encoding octets Universal k n contents h → IsSingleAt offset octets
 universal_single k n contents shut (inr (l, t, m)) offset octets h F =
     let own = subst (λ z. Encoding octets Universal k z contents h) t F in
@@ -30,17 +31,21 @@ passed (Err e) f p = tt
 pub returns-in-Universal-clause-encoded : goal.returns-in-Universal-clause-encoded
 returns-in-Universal-clause-encoded c =
     let h = c.args.header.now in
-    let all : (d : ASN1Class) → d ≡ Universal → (IsReadInside d h.constructed h.tag → ⊥) → IsNoLeafOrMeant h.tag c.args.contents.now
-    → (offset : ℕ) (octets : List ℕ) (i : ℕ) → Encoding octets d h.constructed h.tag c.args.contents.now i → IsSingleAt offset octets =
+    let all : (d : ASN1Class) → d ≡ Universal → (IsReadInside d h.constructed h.tag → ⊥) →
+    IsNoLeafOrMeant h.tag c.args.contents.now
+    → (offset : ℕ) (octets : List ℕ) (i : ℕ) → Encoding octets d h.constructed h.tag c.args.contents.now i →
+    IsSingleAt offset octets =
     λ d e. subst (λ z. (IsReadInside z h.constructed h.tag → ⊥) → IsNoLeafOrMeant h.tag c.args.contents.now
-    → (offset : ℕ) (octets : List ℕ) (i : ℕ) → Encoding octets z h.constructed h.tag c.args.contents.now i → IsSingleAt offset octets) (sym e)
+    → (offset : ℕ) (octets : List ℕ) (i : ℕ) → Encoding octets z h.constructed h.tag c.args.contents.now i →
+    IsSingleAt offset octets) (sym e)
     (universal_single h.constructed h.tag c.args.contents.now)
     in
     passed c.check_leaf.result (all h.class c.in-Universal.is c.requires.closed) c.check_leaf.ensures.found
 
 pub returns-in-Universal-clause-refused : goal.returns-in-Universal-clause-refused
 returns-in-Universal-clause-refused c =
-    IfErr-weaker c.check_leaf.result _ _ (λ e found. elim found [ inl memory ↦ inl memory | inr fault ↦ inr (c.in-Universal.is, fault) ])
+    IfErr-weaker c.check_leaf.result _ _
+    (λ e found. elim found [ inl memory ↦ inl memory | inr fault ↦ inr (c.in-Universal.is, fault) ])
     c.check_leaf.ensures.refused
 
 pub returns-in_default : goal.returns-in_default

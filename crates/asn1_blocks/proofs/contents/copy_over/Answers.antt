@@ -9,7 +9,8 @@ use Rattle.asn1_blocks.proofs.CopySteps.{explicit_of_copy, sequence_of_copies, s
 use Rattle.asn1_blocks.proofs.contents.copy_over.Goals as goal
 
 -- what is held for an explicit block is one block
-holds_one : (held : List ASN1Block) (b : ASN1Block) (c : ASN1Class) (o n : ℕ) (inner : Box ASN1Block Global) → b ≡ Explicit c o n inner
+holds_one : (held : List ASN1Block) (b : ASN1Block) (c : ASN1Class) (o n : ℕ) (inner : Box ASN1Block Global) →
+    b ≡ Explicit c o n inner
     → views held ≡ inside (view b) → length held ≡ 1
 holds_one held b c o n inner is e = sym (count_views held)
     ∙ (ap count e ∙ ap (λ z. count (inside z)) (ap view is ∙ view_explicit c o n inner))
@@ -33,7 +34,8 @@ returns-in_ok-boxed-in-Explicit c =
     let last = only _ copy (ap length (sym c.take_last.ensures) ∙ one) in
     let e = ap views (sym (c.take_last.ensures ∙ last)) ∙ (c.requires ∙ ap (λ b. inside (view b)) r.is) in
     ap (λ n. view (Explicit r.c r.o n c.in_ok-boxed-in-Explicit.field-0)) c.in_ok-tag-in-Explicit.ensures
-    ∙ (explicit_of_copy r.c r.o r.t r.field-3 c.in_ok-boxed-in-Explicit.field-0 copy c.in_ok-boxed-in-Explicit.ensures e ∙ ap view (sym r.is))
+    ∙ (explicit_of_copy r.c r.o r.t r.field-3 c.in_ok-boxed-in-Explicit.field-0 copy c.in_ok-boxed-in-Explicit.ensures e
+    ∙ ap view (sym r.is))
 
 pub returns-in_ok-clone-in-Integer : goal.returns-in_ok-clone-in-Integer
 returns-in_ok-clone-in-Integer c =

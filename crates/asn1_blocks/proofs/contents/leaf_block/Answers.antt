@@ -15,7 +15,8 @@ use Rattle.asn1_blocks.specs.View.{view}
 use Rattle.asn1_blocks.proofs.contents.leaf_block.Goals as goal
 
 -- an encoding of another class whose contents are not read as blocks stays as it came
-stays : (c : ASN1Class) (k : Bool) (n : ℕ) (contents : List ℕ) (o : ℕ) (r : Result ASN1Block ASN1DecodeErr) → c ≢ Universal
+stays : (c : ASN1Class) (k : Bool) (n : ℕ) (contents : List ℕ) (o : ℕ) (r : Result ASN1Block ASN1DecodeErr) →
+    c ≢ Universal
     → (IsReadInside c k n → ⊥)
     → IfOk r (λ b. view b ≡ unknown c k o n contents)
     → IfOk r (λ b. (octets : List ℕ) (h : ℕ) → Encoding octets c k n contents h → Encodes o octets (view b))
@@ -25,7 +26,8 @@ stays c k n contents o (Ok b) other shut kept =
 stays c k n contents o (Err e) other shut kept = tt
 
 -- so does one of class Universal whose tag has no rule
-unknown_there : (c : ASN1Class) (k : Bool) (n : ℕ) (contents : List ℕ) (o : ℕ) (r : Result ASN1Block ASN1DecodeErr) → c ≡ Universal
+unknown_there : (c : ASN1Class) (k : Bool) (n : ℕ) (contents : List ℕ) (o : ℕ) (r : Result ASN1Block ASN1DecodeErr) →
+    c ≡ Universal
     → (IsReadInside c k n → ⊥) → is_leaf_tag n ≡ false → IfOk r (λ b. view b ≡ unknown c k o n contents)
     → IfOk r (λ b. (octets : List ℕ) (h : ℕ) → Encoding octets c k n contents h → Encodes o octets (view b))
 unknown_there c k n contents o (Err e) u shut none is = tt
@@ -38,16 +40,20 @@ unknown_there c k n contents o (Ok b) u shut none is = λ octets h f. elim (tag_
 pub returns-in-None-clause-encoded : goal.returns-in-None-clause-encoded
 returns-in-None-clause-encoded c =
     let none : is_leaf_tag c.args.header.tag ≡ false = search rules in
-    unknown_there c.args.header.class c.args.header.constructed c.args.header.tag c.args.contents.now c.args.offset c.unknown_block.result
+    unknown_there c.args.header.class c.args.header.constructed c.args.header.tag c.args.contents.now c.args.offset
+    c.unknown_block.result
     c.in-Universal.is c.requires.closed none c.unknown_block.ensures.kept
 
 pub returns-in_default-clause-encoded : goal.returns-in_default-clause-encoded
 returns-in_default-clause-encoded c =
-    stays c.args.header.class c.args.header.constructed c.args.header.tag c.args.contents.now c.args.offset c.unknown_block-in_default.result
+    stays c.args.header.class c.args.header.constructed c.args.header.tag c.args.contents.now c.args.offset
+    c.unknown_block-in_default.result
     c.in_default.not-Universal c.requires.closed c.unknown_block-in_default.ensures.kept
 
 pub returns-in_default-clause-refused : goal.returns-in_default-clause-refused
-returns-in_default-clause-refused c = IfErr-weaker c.unknown_block-in_default.result _ _ (λ e memory. inl memory) c.unknown_block-in_default.ensures.refused
+returns-in_default-clause-refused c =
+    IfErr-weaker c.unknown_block-in_default.result _ _ (λ e memory. inl memory)
+    c.unknown_block-in_default.ensures.refused
 
 pub returns-in_err-block-in-Universal-clause-refused : goal.returns-in_err-block-in-Universal-clause-refused
 returns-in_err-block-in-Universal-clause-refused c =

@@ -21,7 +21,8 @@ same_fields a b e =
 same_nanosecond : (a b : DateTime) → moment_of a ≡ moment_of b → civil_nanos a ≡ civil_nanos b
 same_nanosecond a b e =
     let day : epoch_day a.date ≡ epoch_day b.date =
-    epoch_day_same a.date b.date (ap (λ (m : Moment). m.year) e) (ap (λ (m : Moment). m.month) e) (ap (λ (m : Moment). m.day) e) in
+    epoch_day_same a.date b.date (ap (λ (m : Moment). m.year) e) (ap (λ (m : Moment). m.month) e)
+    (ap (λ (m : Moment). m.day) e) in
     let h = ap (λ (m : Moment). m.hour) e in
     let i = ap (λ (m : Moment). m.minute) e in
     let s = ap (λ (m : Moment). m.second) e in

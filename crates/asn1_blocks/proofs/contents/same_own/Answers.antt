@@ -20,7 +20,8 @@ own_alone ms ns e = cc
 pub returns-in-ObjectIdentifier-ObjectIdentifier : goal.returns-in-ObjectIdentifier-ObjectIdentifier
 returns-in-ObjectIdentifier-ObjectIdentifier c =
     let r = c.in-ObjectIdentifier-ObjectIdentifier in
-    let d = slice_eq-Decides Decides-eqb r.s r.t c.eq-in-ObjectIdentifier-ObjectIdentifier.result c.eq-in-ObjectIdentifier-ObjectIdentifier.ensures in
+    let d = slice_eq-Decides Decides-eqb r.s r.t c.eq-in-ObjectIdentifier-ObjectIdentifier.result
+    c.eq-in-ObjectIdentifier-ObjectIdentifier.ensures in
     let a : own_shape (view c.args.a.now) ≡ own r.s = ap (λ b. own_shape (view b)) r.is-0 ∙ own_is r.field-0-0 r.s in
     let b : own_shape (view c.args.b.now) ≡ own r.t = ap (λ b. own_shape (view b)) r.is-1 ∙ own_is r.field-0-1 r.t in
     (λ h. a ∙ (ap own (d.0 h) ∙ sym b), λ e. d.1 (own_alone r.s r.t (sym a ∙ (e ∙ b))))

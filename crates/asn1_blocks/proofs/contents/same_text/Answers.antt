@@ -9,5 +9,6 @@ pub returns : goal.returns
 returns c =
     let d = bytes_eq-Decides c.args.s.now c.args.t.now in (
       λ h. ap chars (d.0 (sym c.eq.ensures ∙ h)),
-      λ e. c.eq.ensures ∙ d.1 (sym (encodes-chars c.args.s.now c.utf8.s) ∙ (ap encode_utf8_all e ∙ encodes-chars c.args.t.now c.utf8.t)),
+      λ e. c.eq.ensures ∙ d.1
+          (sym (encodes-chars c.args.s.now c.utf8.s) ∙ (ap encode_utf8_all e ∙ encodes-chars c.args.t.now c.utf8.t)),
     )

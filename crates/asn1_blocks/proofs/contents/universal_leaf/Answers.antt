@@ -9,12 +9,15 @@ use Rattle.asn1_leaves.specs.Contents.Text.{text_form, TextFault}
 use Rattle.asn1_blocks.proofs.contents.universal_leaf.Goals as goal
 
 -- the fault of a string of characters goes on
-passed : (kind : StringKind) (tag : ℕ) (contents : List ℕ) (d : ASN1DecodeErr) (r : Result (Option ASN1Block) ASN1DecodeErr)
+passed : (kind : StringKind) (tag : ℕ) (contents : List ℕ) (d : ASN1DecodeErr)
+    (r : Result (Option ASN1Block) ASN1DecodeErr)
     → IsErr r × IsErrAnd r (λ e. e ≡ d)
-    → tag ≡ string_tag kind → OutOfMemoryOr (TextFault (text_form kind) contents) d → IfErr r (OutOfMemoryOr (LeafFault tag contents))
+    → tag ≡ string_tag kind → OutOfMemoryOr (TextFault (text_form kind) contents) d →
+    IfErr r (OutOfMemoryOr (LeafFault tag contents))
 passed kind tag contents d (Ok x) h t f = tt
 passed kind tag contents d (Err e) h t (inl memory) = inl (h.1 ∙ memory)
-passed kind tag contents d (Err e) h t (inr f) = inr (of_text kind t (subst (λ z. TextFault (text_form kind) contents (fault_of z)) (sym h.1) f))
+passed kind tag contents d (Err e) h t (inr f) =
+    inr (of_text kind t (subst (λ z. TextFault (text_form kind) contents (fault_of z)) (sym h.1) f))
 
 pub returns-in_err-read-in-Some-eq12-clause-refused : goal.returns-in_err-read-in-Some-eq12-clause-refused
 returns-in_err-read-in-Some-eq12-clause-refused c =

@@ -7,7 +7,8 @@ use Rattle.asn1_blocks.proofs.encoding.encoding_at.Goals as goal
 
 pub returns-then-offset-document-clause-block : goal.returns-then-offset-document-clause-block
 returns-then-offset-document-clause-block c octets t =
-    none_past_end c.args.document.now c.args.offset c.if-offset-document.true octets (encoding_of c.args.document.now c.args.offset octets t)
+    none_past_end c.args.document.now c.args.offset c.if-offset-document.true octets
+    (encoding_of c.args.document.now c.args.offset octets t)
 
 pub returns-in_default-clause-block : goal.returns-in_default-clause-block
 returns-in_default-clause-block c octets t =
@@ -15,22 +16,26 @@ returns-in_default-clause-block c octets t =
     c.in_default.ensures.none octets p.rest (c.split_at.ensures.back ∙ p.at_offset) p.encoding
 
 -- the front of what stands at the offset, as long as its header says
-stands_here : (document : List ℕ) (o n : ℕ) (rest front : List ℕ) → rest ≡ drop o document → front ≡ take n rest → IsEncoding (take n rest)
+stands_here : (document : List ℕ) (o n : ℕ) (rest front : List ℕ) → rest ≡ drop o document → front ≡ take n rest →
+    IsEncoding (take n rest)
     → EncodingAt document o front
 stands_here document o n rest front r f are = record {
   rest = drop n (drop o document);
-  at_offset = sym (take-append-drop n (drop o document)) ∙ ap (λ z. z ++ drop n (drop o document)) (sym (f ∙ ap (take n) r));
+  at_offset = sym (take-append-drop n (drop o document))
+      ∙ ap (λ z. z ++ drop n (drop o document)) (sym (f ∙ ap (take n) r));
   encoding = subst IsEncoding (sym f) are;
 }
 
 pub returns-clause-found : goal.returns-clause-found
 returns-clause-found c =
     let (_, _, are) = c.in-Some.ensures.found in
-    stands_here c.args.document.now c.args.offset c.in-Some.size _ _ c.split_at.ensures.back c.split_at-2.ensures.front are
+    stands_here c.args.document.now c.args.offset c.in-Some.size _ _ c.split_at.ensures.back c.split_at-2.ensures.front
+    are
 
 pub returns-clause-block : goal.returns-clause-block
 returns-clause-block c octets t =
     let document = c.args.document.now in
     let (_, _, are) = c.in-Some.ensures.found in
-    let here = stands_here document c.args.offset c.in-Some.size _ _ c.split_at.ensures.back c.split_at-2.ensures.front are in
+    let here = stands_here document c.args.offset c.in-Some.size _ _ c.split_at.ensures.back c.split_at-2.ensures.front
+    are in
     encoding_at_alone document c.args.offset _ octets here (encoding_of document c.args.offset octets t)

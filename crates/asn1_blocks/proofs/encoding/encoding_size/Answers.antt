@@ -12,7 +12,8 @@ returns-in_default-clause-none c = no_identifier_here c.args.octets.now c.in_def
 pub returns-in-Err-clause-none : goal.returns-in-Err-clause-none
 returns-in-Err-clause-none c =
     let (_, le, tag, t) = c.in-Some.ensures.found in
-    no_length_here c.args.octets.now c.in-Some.identifier tag t (subst (BeginsWithNo IsLength) c.split_at.ensures.back c.in-Err.ensures.refused)
+    no_length_here c.args.octets.now c.in-Some.identifier tag t
+    (subst (BeginsWithNo IsLength) c.split_at.ensures.back c.in-Err.ensures.refused)
 
 pub returns-in_default-checked_add-clause-none : goal.returns-in_default-checked_add-clause-none
 returns-in_default-checked_add-clause-none c =
@@ -24,7 +25,8 @@ returns-in_default-checked_add-clause-none c =
     let u = c.in-Ok.ensures.found in
     let e = c.split_at.ensures.back in
     let few : l ≤ length (drop i octets) = subst (λ z. l ≤ length z) e u.0 in
-    no_contents_here octets i l m tag t le (subst (λ z. IsLength (take l z) m) e u.1) few (omega (arith, c.in_default-checked_add.ensures))
+    no_contents_here octets i l m tag t le (subst (λ z. IsLength (take l z) m) e u.1) few
+    (omega (arith, c.in_default-checked_add.ensures))
 
 pub returns-then-size-octets-clause-found : goal.returns-then-size-octets-clause-found
 returns-then-size-octets-clause-found c =
@@ -39,7 +41,8 @@ returns-then-size-octets-clause-found c =
     let few : l ≤ length (drop i octets) = subst (λ z. l ≤ length z) e u.0 in
     let s : n ≡ i + l + m = omega (arith, c.in-Some-checked_add.ensures) in
     let fits : n ≤ length octets = omega arith in
-    let p : IsEncoding (take (i + l + m) octets) = encoding_here octets i l m tag t le (subst (λ z. IsLength (take l z) m) e u.1) few
+    let p : IsEncoding (take (i + l + m) octets) =
+    encoding_here octets i l m tag t le (subst (λ z. IsLength (take l z) m) e u.1) few
     (omega (arith, s, fits)) in
     let q : IsEncoding (take n octets) = subst (λ z. IsEncoding (take z octets)) (sym s) p in
     (omega (arith, encoding_two (take n octets) q, length-take-le n octets fits), fits, q)

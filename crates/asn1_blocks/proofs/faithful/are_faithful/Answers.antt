@@ -9,7 +9,8 @@ use Rattle.asn1_blocks.proofs.faithful.are_faithful.Goals as goal
 
 pub loop-walk-smaller : goal.loop-walk-smaller
 loop-walk-smaller c =
-    let n : IsNext c.in-Some.block.now (ahead c.loop-walk.walk) (ahead c.next.new.self) = rw c.in-Some.is at c.in_ok-block.ensures in
+    let n : IsNext c.in-Some.block.now (ahead c.loop-walk.walk) (ahead c.next.new.self) =
+    rw c.in-Some.is at c.in_ok-block.ensures in
     omega (arith, fewer_ahead c.in-Some.block.now (ahead c.loop-walk.walk) (ahead c.next.new.self) n)
 
 pub loop-walk-preserved : goal.loop-walk-preserved

@@ -14,15 +14,18 @@ returns-then-announced-rest-clause-refused c =
     elim (cases_lt (before + h.announced) (2 ^ 64)) [
       | inl near ↦
           inr (subst (HeaderFault offset rest) (sym (c.too_long.ensures.near near))
-          (long_at rest h.size h.announced h.class h.constructed h.tag c.in_ok-header.ensures.found before offset refl near
+          (long_at rest h.size h.announced h.class h.constructed h.tag c.in_ok-header.ensures.found before offset refl
+          near
           (omega (arith, c.if-announced-rest.true))))
       | inr far ↦
           inr (subst (HeaderFault offset rest) (sym (c.too_long.ensures.far far))
-          (far_at rest h.size h.announced h.class h.constructed h.tag c.in_ok-header.ensures.found before offset refl far))
+          (far_at rest h.size h.announced h.class h.constructed h.tag c.in_ok-header.ensures.found before offset refl
+          far))
     ]
 
 pub returns-clause-found : goal.returns-clause-found
 returns-clause-found c =
     let h = c.in_ok-header.header in
-    placed c.args.octets.now c.args.offset c.args.end h.size h.announced h.class h.constructed h.tag c.in_ok-header.ensures.found
+    placed c.args.octets.now c.args.offset c.args.end h.size h.announced h.class h.constructed h.tag
+    c.in_ok-header.ensures.found
     (omega (arith, c.requires.more)) (omega (arith, c.requires.within)) (omega (arith, c.if-announced-rest.false))

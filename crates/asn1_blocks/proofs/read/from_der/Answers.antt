@@ -7,14 +7,16 @@ pub returns-in-Ok-clause-document : goal.returns-in-Ok-clause-document
 returns-in-Ok-clause-document c = c.in-Ok.ensures.document
 
 pub returns-in-Ok-clause-accepts : goal.returns-in-Ok-clause-accepts
-returns-in-Ok-clause-accepts c = document_accepted c.args.i.now (Ok c.in-Ok.document) (omega arith) c.in-Ok.ensures.document tt
+returns-in-Ok-clause-accepts c =
+    document_accepted c.args.i.now (Ok c.in-Ok.document) (omega arith) c.in-Ok.ensures.document tt
 
 pub returns-in-Ok-clause-refuses : goal.returns-in-Ok-clause-refuses
 returns-in-Ok-clause-refuses c =
     fault_refused c.args.i.now (Ok c.in-Ok.document) (omega arith) (_, c.in-Ok.ensures.document) tt
 
 pub returns-in-Err-clause-fault : goal.returns-in-Err-clause-fault
-returns-in-Err-clause-fault c = without_place c.args.i.now c.in-Err.refusal.error c.in-Err.refusal.offset c.in-Err.ensures.refused
+returns-in-Err-clause-fault c =
+    without_place c.args.i.now c.in-Err.refusal.error c.in-Err.refusal.offset c.in-Err.ensures.refused
 
 pub returns-in-Err-clause-accepts : goal.returns-in-Err-clause-accepts
 returns-in-Err-clause-accepts c =

@@ -4,14 +4,16 @@ use Rattle.asn1_blocks.proofs.Readings.{document_accepted, fault_refused, withou
 use Rattle.asn1_blocks.proofs.read.from_der_counted.Goals as goal
 
 pub returns-in-Ok-clause-accepts : goal.returns-in-Ok-clause-accepts
-returns-in-Ok-clause-accepts c = document_accepted c.args.i.now (Ok c.in-Ok.blocks) (omega (arith, c.requires)) c.in-Ok.ensures.document tt
+returns-in-Ok-clause-accepts c =
+    document_accepted c.args.i.now (Ok c.in-Ok.blocks) (omega (arith, c.requires)) c.in-Ok.ensures.document tt
 
 pub returns-in-Ok-clause-refuses : goal.returns-in-Ok-clause-refuses
 returns-in-Ok-clause-refuses c =
     fault_refused c.args.i.now (Ok c.in-Ok.blocks) (omega (arith, c.requires)) (_, c.in-Ok.ensures.document) tt
 
 pub returns-in-Err-clause-fault : goal.returns-in-Err-clause-fault
-returns-in-Err-clause-fault c = without_place c.args.i.now c.in-Err.located.error c.in-Err.located.offset c.in-Err.ensures.refused
+returns-in-Err-clause-fault c =
+    without_place c.args.i.now c.in-Err.located.error c.in-Err.located.offset c.in-Err.ensures.refused
 
 pub returns-in-Err-clause-accepts : goal.returns-in-Err-clause-accepts
 returns-in-Err-clause-accepts c =

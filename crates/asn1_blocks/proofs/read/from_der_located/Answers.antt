@@ -5,9 +5,11 @@ use Rattle.asn1_blocks.proofs.read.from_der_located.Goals as goal
 pub returns-clause-accepts : goal.returns-clause-accepts
 returns-clause-accepts c =
     let small : length c.args.i.now < 2 ^ 64 = omega arith in
-    document_accepted_here c.args.i.now c.read_uncounted.result small c.read_uncounted.ensures.document c.read_uncounted.ensures.refused
+    document_accepted_here c.args.i.now c.read_uncounted.result small c.read_uncounted.ensures.document
+    c.read_uncounted.ensures.refused
 
 pub returns-clause-refuses : goal.returns-clause-refuses
 returns-clause-refuses c =
     let small : length c.args.i.now < 2 ^ 64 = omega arith in
-    fault_refused_here c.args.i.now c.read_uncounted.result small c.read_uncounted.ensures.document c.read_uncounted.ensures.refused
+    fault_refused_here c.args.i.now c.read_uncounted.result small c.read_uncounted.ensures.document
+    c.read_uncounted.ensures.refused

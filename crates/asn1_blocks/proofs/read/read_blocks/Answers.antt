@@ -5,5 +5,6 @@ use Rattle.asn1_blocks.proofs.read.read_blocks.Goals as goal
 
 pub read_into-requires-clause-empty : goal.read_into-requires-clause-empty
 read_into-requires-clause-empty c =
-    starts_empty c.args.i.now (record { kind = Whole; offset = 0; start = 0; end = length c.args.i.now }) (record { owed = c.new.result; outermost = None })
+    starts_empty c.args.i.now (record { kind = Whole; offset = 0; start = 0; end = length c.args.i.now })
+    (record { owed = c.new.result; outermost = None })
     (record { first = c.in-Ok.first; owed_before = 0; owed_count = 0 }) c.new.ensures.items refl refl c.in-Ok.ensures

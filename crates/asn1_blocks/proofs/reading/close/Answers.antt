@@ -8,7 +8,8 @@ use Rattle.asn1_blocks.proofs.Reader.Memory.{stepped_memory}
 use Rattle.asn1_blocks.proofs.reading.close.Goals as goal
 
 -- the frame that ended, as it was taken out of the reader
-ended : {B I : Type 0} (Holds : Holding B I) (octets : List ℕ) (r : Reader B I) (k f h : OpenFrame I) (n : ℕ) → k ≡ r.inner → h ≡ f
+ended : {B I : Type 0} (Holds : Holding B I) (octets : List ℕ) (r : Reader B I) (k f h : OpenFrame I) (n : ℕ) →
+    k ≡ r.inner → h ≡ f
     → Reads Holds octets r.builder r.inner (f ∷ reverse r.outer.items) r.inner.extent.end n
     → Reads Holds octets r.builder k (h ∷ reverse r.outer.items) k.extent.end n
 ended Holds octets r k f h n own new w =
@@ -27,13 +28,15 @@ close-requires g c =
     let k = (c.replace-items.result) in
     let h = c.replace-items.new.dest in
     let n = c.requires.reading.0 in
-    let w = ended g.B.Builder.holds c.args.octets.now r k c.args.parent h n c.replace-items.ensures.value c.replace-items.ensures.after
+    let w = ended g.B.Builder.holds c.args.octets.now r k c.args.parent h n c.replace-items.ensures.value
+    c.replace-items.ensures.after
     c.requires.reading.1 in
     let depth : c.len-depth.result ≡ length r.outer.items = grind (arith, common_steps) in
     can_end g.B.Builder.holds c.args.octets.now r.builder k h r.outer n w c.len-depth.result depth
 
 pub returns-in_err-close : goal.returns-in_err-close
-returns-in_err-close g c = record { stepped = λ n w. stepped_memory g.B.Builder.holds c.args.octets.now _ _ n _ c.from_residual.ensures }
+returns-in_err-close g c =
+    record { stepped = λ n w. stepped_memory g.B.Builder.holds c.args.octets.now _ _ n _ c.from_residual.ensures }
 
 pub returns : goal.returns
 returns g c =
@@ -46,6 +49,7 @@ returns g c =
           let own = c.replace-items.ensures.value in
           let w = ended g.B.Builder.holds octets r k c.args.parent h n own c.replace-items.ensures.after read in
           let depth : c.len-depth.result ≡ length r.outer.items = grind (arith, common_steps) in
-          ended_goes_on g.B.Builder.holds octets r.builder k h r.outer n w c.len-depth.result c.close.new.self c.close.new.parent r.fault _ depth
+          ended_goes_on g.B.Builder.holds octets r.builder k h r.outer n w c.len-depth.result c.close.new.self
+          c.close.new.parent r.fault _ depth
           c.in_ok-close.ensures (left_at octets r k c.args.parent own);
     }

@@ -14,7 +14,8 @@ returns-then-is_empty-clause-counted g c =
 pub turns-init : goal.turns-init
 turns-init g c = (
   0,
-  first_reading g.B.Builder.holds c.args.octets.now c.args.builder c.args.items c.in-Ok.outer.items c.in-Ok.ensures.items c.requires.empty,
+  first_reading g.B.Builder.holds c.args.octets.now c.args.builder c.args.items c.in-Ok.outer.items
+      c.in-Ok.ensures.items c.requires.empty,
   omega arith,
 )
 
@@ -31,13 +32,20 @@ returns-in-None-clause-document g c =
     let r = c.take_step.new.reader in
     let d = stepped_end g.B.Builder.holds c.args.octets.now c.take_step.result r t.begun _ c.in-None.is t.stepped in
     let some : 0 < length c.args.octets.now = grind (arith, common_steps) in
-    record { trees = d.trees; extent = r.inner.extent; document = record { some = some; blocks = d.encoded }; holds = d.holds }
+    record {
+      trees = d.trees;
+      extent = r.inner.extent;
+      document = record { some = some; blocks = d.encoded };
+      holds =
+          d.holds;
+    }
 
 pub returns-in-None-clause-counted : goal.returns-in-None-clause-counted
 returns-in-None-clause-counted g c =
     let (n, w, e) = c.turns.invariant in
     let t = c.take_step.ensures.stepped n c.args.count.now w e in
-    let d = stepped_end g.B.Builder.holds c.args.octets.now c.take_step.result c.take_step.new.reader t.begun _ c.in-None.is t.stepped in
+    let d = stepped_end g.B.Builder.holds c.args.octets.now c.take_step.result c.take_step.new.reader t.begun _
+    c.in-None.is t.stepped in
     (t.begun, d.begun, t.counted)
 
 pub returns-in-None-clause-grown : goal.returns-in-None-clause-grown
@@ -56,7 +64,8 @@ pub turns-smaller-in-Some-Ok : goal.turns-smaller-in-Some-Ok
 turns-smaller-in-Some-Ok g c =
     let (n, w, e) = c.turns.invariant in
     let t = c.take_step.ensures.stepped n c.args.count.now w e in
-    let on = stepped_on g.B.Builder.holds c.args.octets.now c.take_step.result _ c.take_step.new.reader t.begun _ (c.in-Some-Ok.is ∙ ap Some c.in-Some-Ok.field-0-is)
+    let on = stepped_on g.B.Builder.holds c.args.octets.now c.take_step.result _ c.take_step.new.reader t.begun _
+    (c.in-Some-Ok.is ∙ ap Some c.in-Some-Ok.field-0-is)
     t.stepped in
     on.nearer
 
@@ -64,7 +73,8 @@ pub turns-preserved-in-Some-Ok : goal.turns-preserved-in-Some-Ok
 turns-preserved-in-Some-Ok g c =
     let (n, w, e) = c.turns.invariant in
     let t = c.take_step.ensures.stepped n c.args.count.now w e in
-    let on = stepped_on g.B.Builder.holds c.args.octets.now c.take_step.result _ c.take_step.new.reader t.begun _ (c.in-Some-Ok.is ∙ ap Some c.in-Some-Ok.field-0-is)
+    let on = stepped_on g.B.Builder.holds c.args.octets.now c.take_step.result _ c.take_step.new.reader t.begun _
+    (c.in-Some-Ok.is ∙ ap Some c.in-Some-Ok.field-0-is)
     t.stepped in
     (t.begun, on.reading, t.counted)
 
@@ -72,7 +82,8 @@ pub recover-requires-clause-failed : goal.recover-requires-clause-failed
 recover-requires-clause-failed g c =
     let (n, w, e) = c.turns.invariant in
     let t = c.take_step.ensures.stepped n c.args.count.now w e in
-    let wrong = stepped_wrong g.B.Builder.holds c.args.octets.now c.take_step.result _ c.take_step.new.reader t.begun _ (c.in-Some-Err.is ∙ ap Some c.in-Some-Err.field-0-is)
+    let wrong = stepped_wrong g.B.Builder.holds c.args.octets.now c.take_step.result _ c.take_step.new.reader t.begun _
+    (c.in-Some-Err.is ∙ ap Some c.in-Some-Err.field-0-is)
     t.stepped in
     (t.begun, _, wrong)
 
@@ -80,20 +91,24 @@ pub returns-then-not-recover-clause-refused : goal.returns-then-not-recover-clau
 returns-then-not-recover-clause-refused g c =
     let (n, w, e) = c.turns.invariant in
     let t = c.take_step.ensures.stepped n c.args.count.now w e in
-    let wrong = stepped_wrong g.B.Builder.holds c.args.octets.now c.take_step.result _ c.take_step.new.reader t.begun _ (c.in-Some-Err.is ∙ ap Some c.in-Some-Err.field-0-is)
+    let wrong = stepped_wrong g.B.Builder.holds c.args.octets.now c.take_step.result _ c.take_step.new.reader t.begun _
+    (c.in-Some-Err.is ∙ ap Some c.in-Some-Err.field-0-is)
     t.stepped in
     let stops : c.recover.result ≡ false = grind (arith, common_steps) in
-    let s = recovered_stop g.B.Builder.holds c.args.octets.now c.recover.result c.recover.new.reader t.begun _ stops (c.recover.ensures.recovered t.begun _ wrong) in
+    let s = recovered_stop g.B.Builder.holds c.args.octets.now c.recover.result c.recover.new.reader t.begun _ stops
+    (c.recover.ensures.recovered t.begun _ wrong) in
     elim s [ inl memory ↦ inl memory | inr f ↦ inr (inr f.fault) ]
 
 pub returns-then-not-recover-clause-counted : goal.returns-then-not-recover-clause-counted
 returns-then-not-recover-clause-counted g c =
     let (n, w, e) = c.turns.invariant in
     let t = c.take_step.ensures.stepped n c.args.count.now w e in
-    let wrong = stepped_wrong g.B.Builder.holds c.args.octets.now c.take_step.result _ c.take_step.new.reader t.begun _ (c.in-Some-Err.is ∙ ap Some c.in-Some-Err.field-0-is)
+    let wrong = stepped_wrong g.B.Builder.holds c.args.octets.now c.take_step.result _ c.take_step.new.reader t.begun _
+    (c.in-Some-Err.is ∙ ap Some c.in-Some-Err.field-0-is)
     t.stepped in
     let stops : c.recover.result ≡ false = grind (arith, common_steps) in
-    let s = recovered_stop g.B.Builder.holds c.args.octets.now c.recover.result c.recover.new.reader t.begun _ stops (c.recover.ensures.recovered t.begun _ wrong) in
+    let s = recovered_stop g.B.Builder.holds c.args.octets.now c.recover.result c.recover.new.reader t.begun _ stops
+    (c.recover.ensures.recovered t.begun _ wrong) in
     elim s [ inl memory ↦ inl memory | inr f ↦ inr (t.begun, f.begun, t.counted) ]
 
 pub returns-then-not-recover-clause-grown : goal.returns-then-not-recover-clause-grown
@@ -112,18 +127,22 @@ pub turns-smaller : goal.turns-smaller
 turns-smaller g c =
     let (n, w, e) = c.turns.invariant in
     let t = c.take_step.ensures.stepped n c.args.count.now w e in
-    let wrong = stepped_wrong g.B.Builder.holds c.args.octets.now c.take_step.result _ c.take_step.new.reader t.begun _ (c.in-Some-Err.is ∙ ap Some c.in-Some-Err.field-0-is)
+    let wrong = stepped_wrong g.B.Builder.holds c.args.octets.now c.take_step.result _ c.take_step.new.reader t.begun _
+    (c.in-Some-Err.is ∙ ap Some c.in-Some-Err.field-0-is)
     t.stepped in
     let goes : c.recover.result ≡ true = grind (arith, common_steps) in
-    let on = recovered_on g.B.Builder.holds c.args.octets.now c.recover.result c.recover.new.reader t.begun _ goes (c.recover.ensures.recovered t.begun _ wrong) in
+    let on = recovered_on g.B.Builder.holds c.args.octets.now c.recover.result c.recover.new.reader t.begun _ goes
+    (c.recover.ensures.recovered t.begun _ wrong) in
     on.nearer
 
 pub turns-preserved : goal.turns-preserved
 turns-preserved g c =
     let (n, w, e) = c.turns.invariant in
     let t = c.take_step.ensures.stepped n c.args.count.now w e in
-    let wrong = stepped_wrong g.B.Builder.holds c.args.octets.now c.take_step.result _ c.take_step.new.reader t.begun _ (c.in-Some-Err.is ∙ ap Some c.in-Some-Err.field-0-is)
+    let wrong = stepped_wrong g.B.Builder.holds c.args.octets.now c.take_step.result _ c.take_step.new.reader t.begun _
+    (c.in-Some-Err.is ∙ ap Some c.in-Some-Err.field-0-is)
     t.stepped in
     let goes : c.recover.result ≡ true = grind (arith, common_steps) in
-    let on = recovered_on g.B.Builder.holds c.args.octets.now c.recover.result c.recover.new.reader t.begun _ goes (c.recover.ensures.recovered t.begun _ wrong) in
+    let on = recovered_on g.B.Builder.holds c.args.octets.now c.recover.result c.recover.new.reader t.begun _ goes
+    (c.recover.ensures.recovered t.begun _ wrong) in
     (t.begun, on.reading, t.counted)

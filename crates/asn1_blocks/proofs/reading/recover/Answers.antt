@@ -11,7 +11,8 @@ refuse-requires-clause-faulty g c =
     let other : c.args.e ≡ OutOfMemory → ⊥ = grind (arith, common_steps) in (
       c.requires.failed.0,
       c.requires.failed.1,
-      fault_here (λ z. IsFaulty g.B.Builder.holds c.args.octets.now c.args.reader.now z c.requires.failed.0 c.requires.failed.1) c.args.e
+      fault_here (λ z. IsFaulty g.B.Builder.holds c.args.octets.now c.args.reader.now z c.requires.failed.0
+          c.requires.failed.1) c.args.e
           c.requires.failed.2 other,
     )
 
@@ -20,5 +21,7 @@ returns g c =
     let other : c.args.e ≡ OutOfMemory → ⊥ = grind (arith, common_steps) in
     record {
       recovered = λ n most w.
-          c.refuse.ensures.recovered n most (fault_here (λ z. IsFaulty g.B.Builder.holds c.args.octets.now c.args.reader.now z n most) c.args.e w other);
+          c.refuse.ensures.recovered n most
+          (fault_here (λ z. IsFaulty g.B.Builder.holds c.args.octets.now c.args.reader.now z n most) c.args.e w
+          other);
     }

@@ -9,7 +9,8 @@ use Rattle.asn1_blocks.proofs.Reader.Popping.{reverse_none, reverse_push}
 use Rattle.asn1_blocks.proofs.reading.take_step.Goals as goal
 
 -- the innermost frame has ended inside another, which was taken out of the list
-closing : {B I : Type 0} (Holds : Holding B I) (octets : List ℕ) (r : Reader B I) (f : OpenFrame I) (after : List (OpenFrame I)) (n : ℕ)
+closing : {B I : Type 0} (Holds : Holding B I) (octets : List ℕ) (r : Reader B I) (f : OpenFrame I)
+    (after : List (OpenFrame I)) (n : ℕ)
     → r.index ≡ r.inner.extent.end → r.outer.items ≡ after ++ f ∷ []
     → IsReading Holds octets r n → Reads Holds octets r.builder r.inner (f ∷ reverse after) r.inner.extent.end n
 closing Holds octets r f after n i is w =
@@ -17,7 +18,8 @@ closing Holds octets r f after n i is w =
     (subst (λ z. Reads Holds octets r.builder r.inner (reverse r.outer.items) z n) i w)
 
 -- so there is as much left to do as before
-as_much : {B I : Type 0} (size : ℕ) (r : Reader B I) (f : OpenFrame I) (after : List (OpenFrame I)) → r.index ≡ r.inner.extent.end
+as_much : {B I : Type 0} (size : ℕ) (r : Reader B I) (f : OpenFrame I) (after : List (OpenFrame I)) →
+    r.index ≡ r.inner.extent.end
     → r.outer.items ≡ after ++ f ∷ [] → left size r.inner.extent.end (f ∷ after) ≡ left size r.index r.outer.items
 as_much size r f after i is = omega (arith, i, ap length is, length-append after (f ∷ []))
 
@@ -68,13 +70,21 @@ returns-in-None g c =
           let r = c.args.reader.now in
           let v = reader_places g.B.Builder.holds octets r n w in
           let none : length r.outer.items ≡ 0 = grind (arith, common_steps) in
-          let whole = subst (λ z. Reads g.B.Builder.holds octets r.builder r.inner z r.index n) (reverse_none r.outer.items none) w in
+          let whole = subst (λ z. Reads g.B.Builder.holds octets r.builder r.inner z r.index n)
+          (reverse_none r.outer.items none) w in
           let end = subst (λ z. Reads g.B.Builder.holds octets r.builder r.inner [] z n) c.if-reader.false whole in
           record {
             begun = n;
             counted = e;
             bounded = omega (arith, v.bound, v.to, v.within);
             stepped = document_ended g.B.Builder.holds octets
-                (record { inner = r.inner; outer = c.pop.new.self; index = r.index; builder = r.builder; fault = r.fault }) n end;
+                (record {
+                  inner = r.inner;
+                  outer = c.pop.new.self;
+                  index = r.index;
+                  builder = r.builder;
+                  fault =
+                      r.fault;
+                }) n end;
           };
     }

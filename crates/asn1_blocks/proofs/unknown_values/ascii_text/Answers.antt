@@ -16,4 +16,5 @@ pub returns : goal.returns
 returns c =
     let all : list_all (is_ascii_character c.args.tag) c.args.contents.now ≡ true = grind (arith, common_steps) in
     let tag : is_ascii_tag c.args.tag ≡ true = grind (arith, common_steps) in
-    ap (λ z. if z then Some c.args.contents.now else None) (and_from _ _ tag all) ∙ ap Some (sym c.text_of_ascii.ensures)
+    ap (λ z. if z then Some c.args.contents.now else None) (and_from _ _ tag all)
+    ∙ ap Some (sym c.text_of_ascii.ensures)

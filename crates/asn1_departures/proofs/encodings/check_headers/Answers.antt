@@ -10,5 +10,6 @@ returns-then-at-gt0-clause-refused c =
     let x = c.args.octets.now in
     let at = c.headers.at in
     let r = c.headers.invariant in
-    let nil : rest_of x at.index ≡ [] = no_slice x at.index (length x) (omega (arith, r.within, c.headers-test.false)) in
+    let nil : rest_of x at.index ≡ [] =
+    no_slice x at.index (length x) (omega (arith, r.within, c.headers-test.false)) in
     inr (inr (r.fault at.index incomplete (unended_at_end c.if-at-gt0.true nil)))

@@ -8,7 +8,8 @@ use Rattle.asn1_departures.proofs.encodings.is_open_encoding.Goals as goal
 pub returns : goal.returns
 returns c e =
     let f = e.encoding in
-    let both = c.split_identifier.ensures f.identifier (f.len ++ e.contents) e.tag (e.class, e.constructed, f.identifier_octets) f.whole in
+    let both = c.split_identifier.ensures f.identifier (f.len ++ e.contents) e.tag
+    (e.class, e.constructed, f.identifier_octets) f.whole in
     let is = c.is_constructed.ensures e.class e.constructed e.tag
     (subst (λ z. IsIdentifier z e.class e.constructed e.tag) (sym both.0) f.identifier_octets) in
     c.is_open.ensures

@@ -33,5 +33,6 @@ returns-in-Err-clause-refused c =
     omega (arith, more, slice_length x at.index (length x) (omega (arith, more)) (omega arith)) in
     elim c.in-Err.ensures.refused [
       | inl memory ↦ inl memory
-      | inr fault ↦ inr (at_front some (subst (λ z. HeaderFault z (rest_of x at.index) (fault_of c.in-Err.error)) here fault))
+      | inr fault ↦ inr (at_front some
+          (subst (λ z. HeaderFault z (rest_of x at.index) (fault_of c.in-Err.error)) here fault))
     ]

@@ -14,7 +14,8 @@ split_header-requires-clause-read c =
     let h = c.args.header.now in
     let f = c.requires.header in
     let within = extents_within w.inner.end (reverse w.outer.items) (length c.args.octets.now) c.requires.placed.2 in
-    header_front c.args.octets.now w.index h.start h.end h.class h.constructed h.tag (omega (arith, f.starts_after)) f.order
+    header_front c.args.octets.now w.index h.start h.end h.class h.constructed h.tag (omega (arith, f.starts_after))
+    f.order
     (omega (arith, f.ends_within, within)) f.encoding
 
 pub returns-then-is_open : goal.returns-then-is_open
@@ -32,7 +33,8 @@ returns-then-is_open c =
     let is : is_open h.constructed len ≡ true = sym c.is_open.ensures ∙ c.if-is_open.true in
     record {
       placed = (f.ends_within, omega (arith, p.1, f.starts_after, f.order), p.2);
-      all = all_behind x w.index w.inner.end w.inner.unended _ es h f within _ len c.split_header.ensures c.requires.no_end r []
+      all = all_behind x w.index w.inner.end w.inner.unended _ es h f within _ len c.split_header.ensures
+          c.requires.no_end r []
           c.args.found.now.items _ (behind_open w.inner.unended h.constructed len is)
           (nothing_inside (looked_open h.constructed len is) refl)
           (pushed ∙ ap (λ z. c.args.found.now.items ++ z) (sym (append-nil own)));
@@ -79,14 +81,24 @@ returns-then-are_encodings c =
       placed = (
         f.order,
         omega arith,
-        subst (λ z. AreExtents h.end z (length x)) (sym round) (f.ends_within, omega (arith, p.1, f.starts_after, f.order), p.2),
+        subst (λ z. AreExtents h.end z (length x)) (sym round)
+            (f.ends_within, omega (arith, p.1, f.starts_after, f.order), p.2),
       );
       all = λ all (later, up, e).
-          all_inside x w.index w.inner.end w.inner.unended es h f within _ len c.split_header.ensures c.requires.no_end r
+          all_inside x w.index w.inner.end w.inner.unended es h f within _ len c.split_header.ensures c.requires.no_end
+          r
           c.args.found.now.items _ (behind_closed w.inner.unended h.constructed len is)
           (looked_at h.constructed len c.if-not-header.false is) pushed all
           (later, subst (λ z. ListsUpTo x h.start (record { end = h.end; unended = 0 } ∷ z) later) round up, e);
-      fewer = omega (arith, ap length put, length-append w.outer.items (w.inner ∷ []), f.starts_after, f.order, f.ends_within, within);
+      fewer = omega (
+        arith,
+        ap length put,
+        length-append w.outer.items (w.inner ∷ []),
+        f.starts_after,
+        f.order,
+        f.ends_within,
+        within,
+      );
     }
 
 pub returns : goal.returns

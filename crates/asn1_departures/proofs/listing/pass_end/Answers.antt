@@ -14,7 +14,10 @@ returns c found =
     let two = (end_slice x w.index w.inner.end p.0 within front).0 in
     record {
       placed = (two, omega (arith, p.1), p.2);
-      all = λ all (later, up, is).
-          (later, ended x w.inner.unended w.index w.inner.end (reverse w.outer.items) later some p.0 within front up, is);
+      all = λ all (later, up, is). (
+        later,
+        ended x w.inner.unended w.index w.inner.end (reverse w.outer.items) later some p.0 within front up,
+        is,
+      );
       fewer = omega (arith, two, within);
     }

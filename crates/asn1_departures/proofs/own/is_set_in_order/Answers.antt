@@ -34,5 +34,6 @@ by_der false order x small d o f = (
 pub returns : goal.returns
 returns c =
     let small : length c.args.contents.now < 2 ^ 64 = omega arith in
-    by_der c.in_ok-is_der.field-0 c.is_in_order.result c.args.contents.now small c.in_ok-is_der.ensures c.is_in_order.ensures
+    by_der c.in_ok-is_der.field-0 c.is_in_order.result c.args.contents.now small c.in_ok-is_der.ensures
+    c.is_in_order.ensures
     c.if-is_in_order.false

@@ -13,7 +13,8 @@ definite false found P e p = p
 pub returns-then-is_shortest_length : goal.returns-then-is_shortest_length
 returns-then-is_shortest_length c =
     definite _ None (Found (c.args.len.now ≡ shortest_length c.args.size) LongLength None)
-    (sym c.is_indefinite.ensures ∙ c.if-is_indefinite.false) (kept (c.is_shortest_length.ensures.0 c.if-is_shortest_length.true))
+    (sym c.is_indefinite.ensures ∙ c.if-is_indefinite.false)
+    (kept (c.is_shortest_length.ensures.0 c.if-is_shortest_length.true))
 
 pub returns-else-is_shortest_length : goal.returns-else-is_shortest_length
 returns-else-is_shortest_length c =

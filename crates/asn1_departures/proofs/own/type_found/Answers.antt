@@ -26,7 +26,8 @@ form true n large =
     ap (λ b. if b then Some ReservedTag else if is_constructed_type n then None
     else if is_string n then Some ConstructedString else Some NotPrimitive) (reserved n large)
 form false n large =
-    ap (λ b. if b then Some ReservedTag else if is_constructed_type n then Some NotConstructed else None) (reserved n large)
+    ap (λ b. if b then Some ReservedTag else if is_constructed_type n then Some NotConstructed else None)
+    (reserved n large)
 
 wrong : (k : Bool) (n : ℕ) (v : List ℕ) → 36 < n → IsRightAlone Universal k n v → ⊥
 wrong true n v large (t, o) = let f = no_constructed_type n large in absurd cc

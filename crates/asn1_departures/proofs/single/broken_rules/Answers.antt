@@ -1,4 +1,4 @@
-use Rattle.std.proofs.Common.{◌≡◌, ◌++◌, ◌∙◌, ap, append_assoc, slice_range, subst, sym, ◌+◌}
+use Rattle.std.proofs.Common.{◌≡◌, ◌++◌, ◌∙◌, ap, append_assoc, slice_range, subst, ◌+◌}
 use Rattle.std.specs.Option.{option_to_list}
 use Rattle.asn1_headers.specs.Header.{shortest_identifier}
 use Rattle.asn1_departures.specs.Departures.{Found, ItemsFound, LengthFound, TypeFound, is_indefinite}
@@ -23,13 +23,16 @@ returns c front =
         of_identifier = i;
         of_length = l;
         of_type = t;
-        identifier_found = subst (λ z. Found (z ≡ shortest_identifier h.class h.constructed h.tag) (identifier_rule h.tag) i) identifier
-            (subst (λ z. Found (c.split_front.result.0.now ≡ shortest_identifier h.class h.constructed z) (identifier_rule z) i)
+        identifier_found = subst
+            (λ z. Found (z ≡ shortest_identifier h.class h.constructed h.tag) (identifier_rule h.tag) i) identifier
+            (subst (λ z. Found (c.split_front.result.0.now ≡ shortest_identifier h.class h.constructed z)
+            (identifier_rule z) i)
             c.in_ok-clone.ensures c.identifier_found.ensures);
         length_found = subst (λ z. LengthFound z _ l) len c.length_found.ensures;
         type_found = subst (λ z. TypeFound (is_indefinite z) h.class h.constructed h.tag contents t) len
             (subst (λ z. TypeFound z h.class h.constructed h.tag contents t) c.is_indefinite.ensures
-            (subst (λ z. TypeFound c.is_indefinite.result h.class h.constructed z contents t) c.in_ok-clone.ensures c.in_ok-of_type.ensures));
+            (subst (λ z. TypeFound c.is_indefinite.result h.class h.constructed z contents t) c.in_ok-clone.ensures
+            c.in_ok-of_type.ensures));
       };
       of_items = n;
       items_found = subst (λ z. ItemsFound h.constructed z contents n) len c.items_found.ensures;

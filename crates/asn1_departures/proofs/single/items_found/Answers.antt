@@ -5,7 +5,8 @@ use Rattle.asn1_departures.specs.declared.rule.Rule.{Rule}
 use Rattle.asn1_departures.specs.declared.rule.Rule.TheVariants.{NotEncodings}
 use Rattle.asn1_departures.proofs.single.items_found.Goals as goal
 
-not_looked_into : (b : Bool) (P : Type 0) (found : Option Rule) → b ≡ false → found ≡ None → MatchBool b P (found ≡ None)
+not_looked_into : (b : Bool) (P : Type 0) (found : Option Rule) → b ≡ false → found ≡ None →
+    MatchBool b P (found ≡ None)
 not_looked_into true P found e n = absurd cc
 not_looked_into false P found e n = n
 

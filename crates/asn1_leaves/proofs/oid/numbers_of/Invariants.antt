@@ -3,4 +3,5 @@ use Rattle.asn1_numbers.specs.FittingNumbers.{AreNumbers}
 use Rattle.asn1_leaves.proofs.oid.numbers_of.Given as goal
 
 abbrev pub invariant-loop-component : goal.invariant-loop-component
-invariant-loop-component g l = AreNumbers g.T.FromBigUint.has g.T.FromBigUint.is_number l.numbers.items (take l.component-index l.components)
+invariant-loop-component g l =
+    AreNumbers g.T.FromBigUint.has g.T.FromBigUint.is_number l.numbers.items (take l.component-index l.components)

@@ -13,7 +13,8 @@ push_numbers-requires g c =
     let b = c.in-Some.octet.now in
     let rest = c.in-Some.rest.now in
     let e : contents ≡ b ∷ rest = grind (arith, common_steps) in
-    rest_meant (components_of contents) b rest (subst (ObjectIdentifierContents (components_of contents)) e (short_meant contents c.requires))
+    rest_meant (components_of contents) b rest
+    (subst (ObjectIdentifierContents (components_of contents)) e (short_meant contents c.requires))
 
 pub returns-clause-all : goal.returns-clause-all
 returns-clause-all g c =
@@ -25,7 +26,8 @@ returns-clause-all g c =
     let x = c.in_ok-from_u64.field-0 in
     let y = c.in_ok-from_u64-2.field-0 in
     let first : first_component b ≡ x = first_found _ _ b c.first_two-first.ensures ∙ sym c.in_ok-from_u64.ensures in
-    let second : second_component b ≡ y = second_found _ _ b c.first_two-first.ensures ∙ sym c.in_ok-from_u64-2.ensures in
+    let second : second_component b ≡ y =
+    second_found _ _ b c.first_two-first.ensures ∙ sym c.in_ok-from_u64-2.ensures in
     let none : AreNumbers has is_number c.in_ok-numbers.numbers.items [] =
     subst (λ xs. AreNumbers has is_number xs []) (sym c.in_ok-numbers.ensures.items) tt in
     let one = c.in_ok-push_number.ensures.pushed [] none in

@@ -13,32 +13,43 @@ returns-in_err-number-clause-refused g c =
     let rest = drop i c.args.octets.now in
     rw (p.1, p.2) (elim c.in_err-number.ensures.refused [
       | inl memory ↦ inl memory
-      | inr missing ↦ let none = (first_fault rest _ (omega (arith, length-drop i c.args.octets.now, c.loop-index-test.true)) missing).1 in
+      | inr missing ↦ let none =
+          (first_fault rest _ (omega (arith, length-drop i c.args.octets.now, c.loop-index-test.true)) missing).1 in
           absurd (c.loop-index.invariant.2 none c.requires.0 c.requires.1)
     ])
 
 pub returns-in_err-push_number-clause-refused : goal.returns-in_err-push_number-clause-refused
 returns-in_err-push_number-clause-refused g c =
-    let p = err_from_is_err_and c.from_residual-in_err-push_number.result c.from_residual-in_err-push_number.ensures.1 in
+    let p = err_from_is_err_and c.from_residual-in_err-push_number.result
+    c.from_residual-in_err-push_number.ensures.1 in
     let octets = c.args.octets.now in
     let j = c.decode_base127.new.index in
     let has = g.T.FromBigUint.has in
     let done = c.loop-index.invariant.1.0 in
-    let next = next_number octets c.loop-index.index j c.in_ok-number.number c.in_ok-number.ensures.moved.0 c.in_ok-number.ensures.found in
+    let next = next_number octets c.loop-index.index j c.in_ok-number.number c.in_ok-number.ensures.moved.0
+    c.in_ok-number.ensures.found in
     let all = ap (λ z. done ++ z) (sym next) ∙ c.loop-index.invariant.1.1 in
     rw (p.1, p.2) (elim c.in_err-push_number.ensures.refused [
       | inl memory ↦ inl memory
-      | inr missing ↦ inr (missing.0, subst (HasNotAll has) all (missing_among has done (numbers_after 0 (drop j octets)) c.in_ok-number.number missing.1))
+      | inr missing ↦ inr (
+        missing.0,
+        subst (HasNotAll has) all
+            (missing_among has done (numbers_after 0 (drop j octets)) c.in_ok-number.number missing.1),
+      )
     ])
 
 pub loop-index-preserved-in_ok-push_number : goal.loop-index-preserved-in_ok-push_number
 loop-index-preserved-in_ok-push_number g c =
-    pushed_more g.T.FromBigUint.has g.T.FromBigUint.is_number c.args.numbers.now.items c.loop-index.numbers.items c.push_number.new.numbers.items
+    pushed_more g.T.FromBigUint.has g.T.FromBigUint.is_number c.args.numbers.now.items c.loop-index.numbers.items
+    c.push_number.new.numbers.items
     c.args.octets.now c.loop-index.index c.decode_base127.new.index c.in_ok-number.number c.in_ok-number.ensures.moved.0
-    c.in_ok-number.ensures.moved.1 c.in_ok-number.ensures.found c.loop-index.invariant c.in_ok-push_number.ensures.pushed
+    c.in_ok-number.ensures.moved.1 c.in_ok-number.ensures.found c.loop-index.invariant
+    c.in_ok-push_number.ensures.pushed
 
 pub loop-index-preserved : goal.loop-index-preserved
 loop-index-preserved g c =
-    pushed_more g.T.FromBigUint.has g.T.FromBigUint.is_number c.args.numbers.now.items c.loop-index.numbers.items c.push_number.new.numbers.items
+    pushed_more g.T.FromBigUint.has g.T.FromBigUint.is_number c.args.numbers.now.items c.loop-index.numbers.items
+    c.push_number.new.numbers.items
     c.args.octets.now c.loop-index.index c.decode_base127.new.index c.in_ok-number.number c.in_ok-number.ensures.moved.0
-    c.in_ok-number.ensures.moved.1 c.in_ok-number.ensures.found c.loop-index.invariant c.in_ok-push_number.ensures.pushed
+    c.in_ok-number.ensures.moved.1 c.in_ok-number.ensures.found c.loop-index.invariant
+    c.in_ok-push_number.ensures.pushed

@@ -6,4 +6,5 @@ use Rattle.asn1_leaves.proofs.oid.write_pointed.Given as goal
 
 abbrev pub invariant-loop-number : goal.invariant-loop-number
 invariant-loop-number g l =
-    IsPlainFormatter l.initial.f → HasWritten g.W.Write.write_str_gives l.initial.f (flat_map pointed (take l.number-index l.numbers)) l.f
+    IsPlainFormatter l.initial.f →
+    HasWritten g.W.Write.write_str_gives l.initial.f (flat_map pointed (take l.number-index l.numbers)) l.f

@@ -21,5 +21,6 @@ returns g c = λ plain ok.
     let components : x ∷ y ∷ numbers_after 0 rest ≡ components_of c.args.contents.now = sym (ap components_of e ∙ cc) in
     let text = dotted_two x y (numbers_after 0 rest) low low_second ∙ ap dotted_decimal components in
     written_both g.W.Write.write_str_gives c.args.f.now c.write.new.self c.write_subidentifiers.new.f
-    (dotted_decimal (components_of c.args.contents.now)) (decimal x ++ 46 ∷ decimal y) (flat_map pointed (numbers_after 0 rest)) text (search rules)
+    (dotted_decimal (components_of c.args.contents.now)) (decimal x ++ 46 ∷ decimal y)
+    (flat_map pointed (numbers_after 0 rest)) text (search rules)
     (λ after. c.write_subidentifiers.ensures after ok)

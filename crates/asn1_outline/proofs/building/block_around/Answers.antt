@@ -12,7 +12,8 @@ pub returns-in-Some-eq16 : goal.returns-in-Some-eq16
 returns-in-Some-eq16 c n at own =
     let g = c.args.header in
     let tag : g.tag ≡ 16 = grind (arith, common_steps) in
-    let items : views c.args.inside ≡ nodes_trees (node_items n) = ap trees_of own ∙ trees_listed (nodes_trees (node_items n)) in
+    let items : views c.args.inside ≡ nodes_trees (node_items n) =
+    ap trees_of own ∙ trees_listed (nodes_trees (node_items n)) in
     c.group_block.ensures ∙ ap (group c.args.offset Sequence) items
     ∙ sym (group_at c.args.octets.now c.args.offset n g c.requires at Sequence c.in-Universal.is tag)
 
@@ -20,7 +21,8 @@ pub returns-in-Some-eq17 : goal.returns-in-Some-eq17
 returns-in-Some-eq17 c n at own =
     let g = c.args.header in
     let tag : g.tag ≡ 17 = grind (arith, common_steps) in
-    let items : views c.args.inside ≡ nodes_trees (node_items n) = ap trees_of own ∙ trees_listed (nodes_trees (node_items n)) in
+    let items : views c.args.inside ≡ nodes_trees (node_items n) =
+    ap trees_of own ∙ trees_listed (nodes_trees (node_items n)) in
     c.group_block-in-Some-eq17.ensures ∙ ap (group c.args.offset Set) items
     ∙ sym (group_at c.args.octets.now c.args.offset n g c.requires at Set c.in-Universal.is tag)
 
@@ -39,4 +41,5 @@ returns-in_ok-tagged_block-in_default c n at own =
     let block = c.in_ok-tagged_block-in_default.field-0 in
     let said = c.in_ok-tagged_block-in_default.ensures in
     let set : c.args.header.constructed ≡ true = search rules in
-    tagged_is c.args.octets.now c.args.offset n c.args.header c.requires at c.args.inside (view block) c.in_default.not-Universal set own said.one said.other
+    tagged_is c.args.octets.now c.args.offset n c.args.header c.requires at c.args.inside (view block)
+    c.in_default.not-Universal set own said.one said.other

@@ -10,7 +10,15 @@ returns c =
     let taken : c.of.result ≡ reverse (drop at old) =
     c.of.ensures ∙ c.reverse.ensures.items ∙ ap reverse (c.into_vec-taken.ensures ∙ c.in_ok-split_off.ensures.parted) in
     record {
-      many = λ some. omega (arith, ap length taken, length-reverse (drop at old), length-drop at old, c.len.ensures, c.saturating_sub-at.ensures, some);
+      many = λ some. omega (
+        arith,
+        ap length taken,
+        length-reverse (drop at old),
+        length-drop at old,
+        c.len.ensures,
+        c.saturating_sub-at.ensures,
+        some,
+      );
       split = ap reverse (sym (take-append-drop at old)) ∙ reverse-append (take at old) (drop at old)
           ∙ ap (λ z. z ++ reverse (take at old)) (sym taken)
           ∙ ap (λ z. c.of.result ++ reverse z) (sym c.in_ok-split_off.ensures.kept);

@@ -9,7 +9,8 @@ returns c =
     let h = c.args.header.now in
     let tag = min h.tag (2 ^ 64 - 1) in
     subst (IsBegun x c.args.offset c.args.entry c.args.depth) (sym c.begun.ensures) (record {
-      header = begun_header x c.args.offset c.requires.found.0 h tag 0 (suc c.args.entry) c.args.depth c.requires.found.1 c.requires.found.2
+      header = begun_header x c.args.offset c.requires.found.0 h tag 0 (suc c.args.entry) c.args.depth
+          c.requires.found.1 c.requires.found.2
           (omega arith, omega arith);
       offset = refl;
       items = refl;

@@ -8,7 +8,8 @@ use Rattle.asn1_outline.proofs.walk.close.Goals as goal
 pub seal-requires : goal.seal-requires
 seal-requires c =
     let w = c.args.reader.now in
-    entry_within c.args._octets.now w.inner c.args.parent (reverse w.outer.items) w.index w.builder.entries.items c.requires.opened
+    entry_within c.args._octets.now w.inner c.args.parent (reverse w.outer.items) w.index w.builder.entries.items
+    c.requires.opened
 
 pub returns : goal.returns
 returns c =
@@ -20,7 +21,8 @@ returns c =
     let same = subst (AreOpen x (counted g) (reverse w.outer.items) w.index) (sym c.seal.ensures) now in
     if_ok c.add.result
     (λ more. record {
-      reading = subst (λ (z : EntryItems). AreOpen x (record g { items = z }) (reverse w.outer.items) w.index c.seal.new.self.entries.items) (sym more) same;
+      reading = subst (λ (z : EntryItems). AreOpen x (record g { items = z }) (reverse w.outer.items) w.index
+          c.seal.new.self.entries.items) (sym more) same;
       nearer = omega arith;
     })
     c.add.ensures

@@ -6,6 +6,7 @@ pub turns-init : goal.turns-init
 turns-init c =
     let x = c.args.octets.now in
     record {
-      reading = same_open x _ _ [] (reverse c.new.result.items) 0 0 [] c.in-Ok.builder.entries.items refl (ap reverse c.new.ensures.items) refl c.in-Ok.ensures
+      reading = same_open x _ _ [] (reverse c.new.result.items) 0 0 [] c.in-Ok.builder.entries.items refl
+          (ap reverse c.new.ensures.items) refl c.in-Ok.ensures
           (record { start = refl; end = refl; read = read_none x 0 (length x) 0 0 (omega arith) (omega arith) });
     }

@@ -13,7 +13,8 @@ returns-then-attempt c =
     let tries : is_tried w.inner.extent.kind ≡ true = grind (arith, common_steps) in
     turned x _ _ c.add-step.result c.turn_of.result c.turn_of.new.reader c.turn_of.ensures
     (if_ok c.add-step.result
-    (faulty_kept x w g c.pop.new.self _ _ _ c.loop-parent.invariant.faulty c.in-Some.ensures.items c.cut.new.self c.add-step.new.self tries
+    (faulty_kept x w g c.pop.new.self _ _ _ c.loop-parent.invariant.faulty c.in-Some.ensures.items c.cut.new.self
+    c.add-step.new.self tries
     c.cut.ensures)
     c.add-step.ensures)
 

@@ -7,7 +7,8 @@ use Rattle.asn1_outline.proofs.walk.refuse.Given as goal
 -- the fault has gone out of the frames that were dropped
 abbrev pub invariant-loop-parent : goal.invariant-loop-parent
 invariant-loop-parent l = record {
-  faulty : IsFaulty l._octets l.reader (fault_of l.error) l.reader.index (left (length l._octets) l.fn.reader.index l.fn.reader.outer.items);
+  faulty : IsFaulty l._octets l.reader (fault_of l.error) l.reader.index
+      (left (length l._octets) l.fn.reader.index l.fn.reader.outer.items);
 }
 
 abbrev pub decreases-loop-parent : goal.decreases-loop-parent

@@ -18,7 +18,8 @@ returns-then-is_read_inside c =
     ∙ ap (λ z. shape_entry w.index h 0 (suc z) c.len.result) n
     ∙ ap (λ z. shape_entry w.index h 0 (suc (length rs)) z) d in
     if_ok c.enter.result
-    (frame_entered c.args.octets.now w h c.push.new.self c.len-entry.result c.kind_of.result c.enter.new.reader c.requires.reading c.requires.found
+    (frame_entered c.args.octets.now w h c.push.new.self c.len-entry.result c.kind_of.result c.enter.new.reader
+    c.requires.reading c.requires.found
     inside c.kind_of.ensures n (c.in_ok-push.ensures ∙ ap (λ z. rs ++ z ∷ []) block))
     c.enter.ensures
 

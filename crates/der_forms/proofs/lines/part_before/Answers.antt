@@ -19,7 +19,8 @@ nothing words (b ∷ text) h = rw h refl
 from_place : (words text : List ℕ) (n : ℕ) (answer : Bool) → n < length text
     → answer ≡ begins words (take (length text - n) (drop n text)) → begins words (drop n text) ≡ answer
 from_place words text n answer l e =
-    ap (λ rest. begins words rest) (sym (take_all (length text - n) (drop n text) (omega (arith, length-drop n text)))) ∙ sym e
+    ap (λ rest. begins words rest) (sym (take_all (length text - n) (drop n text) (omega (arith, length-drop n text))))
+    ∙ sym e
 
 pub loop-end-preserved : goal.loop-end-preserved
 loop-end-preserved c =
@@ -28,8 +29,12 @@ loop-end-preserved c =
     let n = c.loop-end.end in
     let e : suc n ≡ n + 1 = omega arith in
     let h : begins words (drop n text) ≡ false =
-    from_place words text n c.starts_with.result c.loop-end-test.true c.starts_with.ensures.value ∙ c.if-starts_with.false in
-    (omega arith, c.loop-end.invariant.1 ∙ one_more words text n c.loop-end-test.true h ∙ ap (λ m. take m text ++ up_to words (drop m text)) e)
+    from_place words text n c.starts_with.result c.loop-end-test.true c.starts_with.ensures.value
+    ∙ c.if-starts_with.false in (
+      omega arith,
+      c.loop-end.invariant.1 ∙ one_more words text n c.loop-end-test.true h
+          ∙ ap (λ m. take m text ++ up_to words (drop m text)) e,
+    )
 
 pub returns-then-starts_with : goal.returns-then-starts_with
 returns-then-starts_with c =
@@ -37,8 +42,10 @@ returns-then-starts_with c =
     let text = c.args.text.now in
     let n = c.loop-end.end in
     let h : begins words (drop n text) ≡ true =
-    from_place words text n c.starts_with.result c.loop-end-test.true c.starts_with.ensures.value ∙ c.if-starts_with.true in
-    sym (c.loop-end.invariant.1 ∙ ap (λ rest. take n text ++ rest) (nothing words (drop n text) h) ∙ append-nil (take n text))
+    from_place words text n c.starts_with.result c.loop-end-test.true c.starts_with.ensures.value
+    ∙ c.if-starts_with.true in
+    sym (c.loop-end.invariant.1 ∙ ap (λ rest. take n text ++ rest) (nothing words (drop n text) h)
+    ∙ append-nil (take n text))
 
 pub returns : goal.returns
 returns c =

@@ -6,7 +6,8 @@ use Rattle.der_forms.proofs.objects.read_body.Given as goal
 
 abbrev pub invariant-loop-is_ended : goal.invariant-loop-is_ended
 invariant-loop-is_ended l =
-    (symbols_in (lines_of l.fn.lines.rest.now) ≡ l.symbols.items ++ (if l.is_ended then [] else symbols_in (lines_of l.rest)))
+    (symbols_in (lines_of l.fn.lines.rest.now) ≡ l.symbols.items
+    ++ (if l.is_ended then [] else symbols_in (lines_of l.rest)))
     × (is_encrypted (lines_of l.fn.lines.rest.now)
     ≡ (l.is_encrypted || (if l.is_ended then false else is_encrypted (lines_of l.rest))))
     × (objects_in true (lines_of l.fn.lines.rest.now) ≡ objects_in (not l.is_ended) (lines_of l.rest))

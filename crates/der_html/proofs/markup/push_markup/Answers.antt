@@ -6,5 +6,6 @@ use Rattle.der_html.proofs.markup.push_markup.Goals as goal
 
 pub returns : goal.returns
 returns c =
-    let pushed : c.extend_from_slice.new.self.items ≡ c.args.out.now.items ++ markup_text c.args.markup = grind (arith, common_steps) in
+    let pushed : c.extend_from_slice.new.self.items ≡ c.args.out.now.items ++ markup_text c.args.markup =
+    grind (arith, common_steps) in
     shows_markup c.args.markup _ _ pushed

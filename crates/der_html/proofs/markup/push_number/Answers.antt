@@ -6,5 +6,6 @@ use Rattle.der_html.proofs.markup.push_number.Goals as goal
 
 pub returns : goal.returns
 returns c =
-    let pushed : c.extend_from_slice.new.self.items ≡ c.args.out.now.items ++ decimal c.args.number = grind (arith, common_steps) in
+    let pushed : c.extend_from_slice.new.self.items ≡ c.args.out.now.items ++ decimal c.args.number =
+    grind (arith, common_steps) in
     shows_number c.args.number _ _ pushed

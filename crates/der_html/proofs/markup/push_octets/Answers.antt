@@ -7,5 +7,6 @@ use Rattle.der_html.proofs.markup.push_octets.Goals as goal
 
 pub returns : goal.returns
 returns c =
-    let pushed : c.loop-b.out.items ≡ c.args.out.now.items ++ flat_map hex_octet c.args.octets.now = grind (arith, common_steps) in
+    let pushed : c.loop-b.out.items ≡ c.args.out.now.items ++ flat_map hex_octet c.args.octets.now =
+    grind (arith, common_steps) in
     shows_octets c.args.octets.now _ _ pushed

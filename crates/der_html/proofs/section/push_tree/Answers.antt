@@ -22,4 +22,7 @@ pub returns : goal.returns
 returns c =
     let (shown, shows, rest) = c.loop-rest.invariant in
     let all = then_markup shown [] _ _ _ shows c.in_ok-close_folds.ensures in
-    same_shown shown _ [] [] _ _ (sym (append-nil shown) ∙ (ap (λ z. shown ++ lines_of z) (sym (none_left c.loop-rest.rest.now (grind (arith, common_steps)))) ∙ rest)) refl all
+    same_shown shown _ [] [] _ _
+    (sym (append-nil shown)
+    ∙ (ap (λ z. shown ++ lines_of z) (sym (none_left c.loop-rest.rest.now (grind (arith, common_steps)))) ∙ rest))
+    refl all

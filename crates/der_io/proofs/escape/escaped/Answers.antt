@@ -28,7 +28,8 @@ returns-in-Ok c =
     let text = c.in-Ok.ensures.cases in
     spelled string_bytes c.escaped_text.result _ _
     (of_text octets (is_utf8-from_IsUtf8 octets text.1))
-    (subst (λ z. IfOk c.escaped_text.result (λ out. string_bytes out ≡ all_escaped escape_of (chars z))) text.0 c.escaped_text.ensures)
+    (subst (λ z. IfOk c.escaped_text.result (λ out. string_bytes out ≡ all_escaped escape_of (chars z))) text.0
+    c.escaped_text.ensures)
 
 pub returns-in-Err : goal.returns-in-Err
 returns-in-Err c =

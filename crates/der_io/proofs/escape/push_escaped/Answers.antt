@@ -4,7 +4,8 @@ use Rattle.std.proofs.lemmas.Iterator.Consumers.{YieldsList-end}
 use Rattle.der_io.specs.Escaped.{all_escaped, escape_of}
 use Rattle.der_io.proofs.escape.push_escaped.Goals as goal
 
-one_more : (escape : ℕ → List ℕ) (xs : List ℕ) (x : ℕ) → all_escaped escape (xs ++ x ∷ []) ≡ all_escaped escape xs ++ escape x
+one_more : (escape : ℕ → List ℕ) (xs : List ℕ) (x : ℕ) →
+    all_escaped escape (xs ++ x ∷ []) ≡ all_escaped escape xs ++ escape x
 one_more escape [] x = append-nil (escape x)
 one_more escape (y ∷ xs) x =
     ap (λ z. escape y ++ z) (one_more escape xs x) ∙ sym (append_assoc (escape y) (all_escaped escape xs) (escape x))
@@ -24,6 +25,7 @@ loop-c-preserved c =
 
 pub returns : goal.returns
 returns c =
-    let t = YieldsList-end (YieldsList-from_chars c.args.text.now c.utf8.text cc) c.loop-c.yielded _ c.loop-c.yielded_by _ _ c.in-None.is c.next.ensures.steps in
+    let t = YieldsList-end (YieldsList-from_chars c.args.text.now c.utf8.text cc) c.loop-c.yielded _ c.loop-c.yielded_by
+    _ _ c.in-None.is c.next.ensures.steps in
     let all = sym (same_items c.loop-c.yielded) ∙ t.0 in
     c.loop-c.invariant ∙ ap (λ z. string_bytes c.args.out.now ++ all_escaped escape_of z) all

@@ -14,7 +14,8 @@ returns c =
     let (text, put, (rows, are, marks, first, is)) = c.in_ok-found.ensures in
     let line =
     joined out (codes "{\"blocks\":[") (items_text false (items_of row_json rows)) (end_text origin ++ 10 ∷ []) _ _ _
-    c.in_ok-extend_from_slice.ensures.items (put ∙ ap (λ z. c.extend_from_slice.new.self.items ++ z) is) c.in_ok-push_end.ensures
+    c.in_ok-extend_from_slice.ensures.items (put ∙ ap (λ z. c.extend_from_slice.new.self.items ++ z) is)
+    c.in_ok-push_end.ensures
     ∙ ap (λ z. out ++ z) (document_line origin rows) in
     let o = c.outermost.ensures in
     let octets = c.args.octets.now in

@@ -12,5 +12,6 @@ returns c =
     let fault = fault_told c.args.fault.now in
     let out = c.args.out.now.items in
     put_after out (codes "{\"fault\":" ++ compact_text (fault_json fault)) (end_text origin ++ 10 ∷ [])
-    c.push_fault_object.new.out.items c.push_end.new.out.items c.in_ok-push_fault_object.ensures c.in_ok-push_end.ensures
+    c.push_fault_object.new.out.items c.push_end.new.out.items c.in_ok-push_fault_object.ensures
+    c.in_ok-push_end.ensures
     ∙ ap (λ z. out ++ z) (refusal_line origin fault)

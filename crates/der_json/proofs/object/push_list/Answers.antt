@@ -1,11 +1,10 @@
-use Rattle.std.proofs.Common.{[], append-nil, arith, map, refl, subst, sym, ◌∙◌, ◌≡◌, ◌++◌, ap, false}
+use Rattle.std.proofs.Common.{[], append-nil, arith, map, refl, subst, sym, ◌≡◌, ◌++◌, false}
 use Rattle.std.proofs.lemmas.List.{take_all}
-use Rattle.serde_json.specs.Written.{has_float}
 use Rattle.der_json.specs.Json.{rule_json}
 use Rattle.der_json.specs.Rows.{texts}
 use Rattle.der_lines.specs.Marks.{told_of}
 use Rattle.der_json.proofs.Arrays.{all_texts, one_read}
-use Rattle.der_json.proofs.Members.{put_same, rule_exact}
+use Rattle.der_json.proofs.Members.{put_same}
 use Rattle.der_json.proofs.object.push_list.Goals as goal
 
 pub loop-rule-init : goal.loop-rule-init
@@ -26,4 +25,5 @@ returns c =
     let out = c.args.out.now.items in
     let put = subst (λ z. c.loop-rule.out.items ≡ out ++ texts rule_json false (map told_of z))
     (take_all c.loop-rule.rule-index told (omega arith)) c.loop-rule.invariant.put in
-    all_texts rule_json (map told_of told) out c.loop-rule.out.items c.push.new.self.items put c.in_ok-push.ensures.items
+    all_texts rule_json (map told_of told) out c.loop-rule.out.items c.push.new.self.items put
+    c.in_ok-push.ensures.items

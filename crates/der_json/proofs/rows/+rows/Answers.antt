@@ -26,7 +26,8 @@ push_object-returns t c =
 pub push_nested-returns-in_default : goal.push_nested-returns-in_default
 push_nested-returns-in_default t c = (
   None,
-  subst (λ z. IsNestedJson c.args.place c.args.offset z None (told_marks c.new.result.items)) (sym c.in_default.is) (refl, ap told_marks c.new.ensures.items),
+  subst (λ z. IsNestedJson c.args.place c.args.offset z None (told_marks c.new.result.items)) (sym c.in_default.is)
+      (refl, ap told_marks c.new.ensures.items),
   sym (append-nil c.args.out.now.items),
 )
 
@@ -39,13 +40,18 @@ push_nested-returns t c =
     let (text, put, (rows, are, marks, first, is)) = c.in_ok-found.ensures in
     let items = items_of row_json rows in
     let fewer : inside.documents ≡ place.documents - 1 = omega (arith, i.fewer) in
-    let moved : AreRows (AreInside (place.documents - 1)) true nested.octets.now (c.args.offset + nested.before) (suc place.depth) rows =
-    subst (λ z. AreRows (AreInside (place.documents - 1)) true nested.octets.now (c.args.offset + nested.before) z rows) i.depth
-    (subst (λ z. AreRows (AreInside (place.documents - 1)) true nested.octets.now z inside.depth rows) (i.base ∙ c.in_ok-sum_of.ensures)
+    let moved : AreRows (AreInside (place.documents - 1)) true nested.octets.now (c.args.offset + nested.before)
+    (suc place.depth) rows =
+    subst (λ z. AreRows (AreInside (place.documents - 1)) true nested.octets.now (c.args.offset + nested.before) z rows)
+    i.depth
+    (subst (λ z. AreRows (AreInside (place.documents - 1)) true nested.octets.now z inside.depth rows)
+    (i.base ∙ c.in_ok-sum_of.ensures)
     (subst (λ z. AreRows (AreInside z) true nested.octets.now inside.base inside.depth rows) fewer
-    (subst (λ z. AreRows (AreInside inside.documents) z nested.octets.now inside.base inside.depth rows) i.inside are))) in (
+    (subst (λ z. AreRows (AreInside inside.documents) z nested.octets.now inside.base inside.depth rows) i.inside
+    are))) in (
       Some items,
-      subst (λ z. IsNestedJson place c.args.offset z (Some items) (found_marks c.in_ok-found.found)) (sym c.in-Some.is) (items, refl, (rows, moved, refl, marks)),
+      subst (λ z. IsNestedJson place c.args.offset z (Some items) (found_marks c.in_ok-found.found)) (sym c.in-Some.is)
+          (items, refl, (rows, moved, refl, marks)),
       blocks_put c.args.out.now.items c.extend_from_slice.new.self.items c.push_rows.new.out.items items
           c.in_ok-extend_from_slice.ensures.items (put ∙ ap (λ z. c.extend_from_slice.new.self.items ++ z) is),
     )
@@ -62,9 +68,11 @@ push_rows-loop-walk-preserved t c =
     let p : Passes c.loop-walk.walk c.next.new.self piece = rw c.in-Some.is at c.in_ok-piece.ensures in
     let (inside, nested, put) = c.in_ok-inside.ensures in
     let k = c.in_ok-keep.ensures in
-    rows_more c.args.place c.args.octets.now c.loop-walk.walk c.next.new.self piece c.in_ok-object.object inside (told_marks c.in_ok-inside.inside.items)
+    rows_more c.args.place c.args.octets.now c.loop-walk.walk c.next.new.self piece c.in_ok-object.object inside
+    (told_marks c.in_ok-inside.inside.items)
     c.loop-walk.is_later c.loop-walk.found c.keep.new.self c.args.out.now.items c.loop-walk.out.items
-    c.push_comma.new.out.items c.push_object.new.out.items p c.loop-walk.invariant (c.in_ok-object.ensures p.left p.kind)
+    c.push_comma.new.out.items c.push_object.new.out.items p c.loop-walk.invariant
+    (c.in_ok-object.ensures p.left p.kind)
     nested c.in_ok-push_comma.ensures put k.marks k.first
 
 pub push_rows-returns : goal.push_rows-returns

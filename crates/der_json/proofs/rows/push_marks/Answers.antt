@@ -37,5 +37,6 @@ loop-rule-preserved c =
 pub returns : goal.returns
 returns c =
     let told = c.args.told.now in
-    subst (λ z. told_marks c.loop-rule.marks.items ≡ told_marks c.args.marks.now.items ++ marks_at c.args.offset (map told_of z))
+    subst (λ z. told_marks c.loop-rule.marks.items ≡ told_marks c.args.marks.now.items
+    ++ marks_at c.args.offset (map told_of z))
     (take_all c.loop-rule.rule-index told (omega arith)) c.loop-rule.invariant

@@ -12,9 +12,11 @@ loop-mark-init c = record { some = refl; put = sym (append-nil c.args.out.now.it
 pub loop-mark-preserved : goal.loop-mark-preserved
 loop-mark-preserved c =
     let (some, put) =
-    one_read departed_json departed_of c.args.marks.now c.loop-mark.mark-index _ c.loop-mark.is_later c.args.out.now.items c.loop-mark.out.items
+    one_read departed_json departed_of c.args.marks.now c.loop-mark.mark-index _ c.loop-mark.is_later
+    c.args.out.now.items c.loop-mark.out.items
     c.push_comma.new.out.items c.push_member.new.out.items c.loop-mark-test.true c.loop-mark.invariant.some
-    c.loop-mark.invariant.put c.in_ok-push_comma.ensures (put_same _ [] _ _ _ c.in_ok-push_member.ensures c.in_ok-object.ensures) in
+    c.loop-mark.invariant.put c.in_ok-push_comma.ensures
+    (put_same _ [] _ _ _ c.in_ok-push_member.ensures c.in_ok-object.ensures) in
     record { some = some; put = put }
 
 pub returns : goal.returns
@@ -23,4 +25,5 @@ returns c =
     let out = c.args.out.now.items in
     let put = subst (λ z. c.loop-mark.out.items ≡ out ++ texts departed_json false (told_marks z))
     (take_all c.loop-mark.mark-index marks (omega arith)) c.loop-mark.invariant.put in
-    all_texts departed_json (told_marks marks) out c.loop-mark.out.items c.push.new.self.items put c.in_ok-push.ensures.items
+    all_texts departed_json (told_marks marks) out c.loop-mark.out.items c.push.new.self.items put
+    c.in_ok-push.ensures.items

@@ -9,7 +9,8 @@ use Rattle.der_json.proofs.strict.push_marks.Goals as goal
 pub returns-then-is_empty : goal.returns-then-is_empty
 returns-then-is_empty c =
     let out = c.args.out.now.items in
-    let (right, none) = no_marks c.args.marks.now (told_of c.args.origin) (sym c.is_empty.ensures ∙ c.if-is_empty.true) in
+    let (right, none) = no_marks c.args.marks.now (told_of c.args.origin)
+    (sym c.is_empty.ensures ∙ c.if-is_empty.true) in
     record { right = right; text = sym (ap (λ z. out ++ z) none ∙ append-nil out) }
 
 pub returns : goal.returns
@@ -19,7 +20,8 @@ returns c =
     let marks = told_marks c.args.marks.now in
     let (right, some) = some_marks c.args.marks.now origin (sym c.is_empty.ensures ∙ c.if-is_empty.false) in
     let put =
-    joined out (codes "{\"not_der\":[") (items_text false (items_of departed_json marks)) (end_text origin ++ 10 ∷ []) _ _ _
+    joined out (codes "{\"not_der\":[") (items_text false (items_of departed_json marks)) (end_text origin ++ 10 ∷ []) _
+    _ _
     c.in_ok-extend_from_slice.ensures.items c.in_ok-push_list.ensures c.in_ok-push_end.ensures
     ∙ ap (λ z. out ++ z) (marks_line origin marks) in
     record { right = right; text = put ∙ ap (λ z. out ++ z) (sym some) }

@@ -20,7 +20,8 @@ returns c =
     let last = first_text (first_fault rows) origin in
     let all = ap told_marks c.deref.ensures.value ∙ marks in
     let listed = c.in_ok-is_der.ensures.text ∙ ap (λ z. c.push_blocks.new.out.items ++ marks_text z origin) all in
-    let right = c.both.ensures ∙ (ap (λ z. z && c.in_ok-is_right.is_right) (c.in_ok-is_der.ensures.right ∙ ap is_der all)
+    let right = c.both.ensures
+    ∙ (ap (λ z. z && c.in_ok-is_right.is_right) (c.in_ok-is_der.ensures.right ∙ ap is_der all)
     ∙ ap (λ z. is_der (marks_of rows) && z) (c.in_ok-is_right.ensures.right ∙ ap is_none first)) in
     let told = c.in_ok-is_right.ensures.text ∙ ap (λ z. c.push_marks.new.out.items ++ first_text z origin) first in (
       text ++ (list ++ last),

@@ -12,7 +12,8 @@ returns-in-Ok-clause-told c =
     IfOk-weaker c.value_in.result _ _
     (λ v told. inr (
       view_block c.in-Ok.block,
-      (λ octets size e. c.in-Ok.ensures.encoded octets size (rw (placed.class, placed.constructed, placed.tag, none) e)),
+      (λ octets size e. c.in-Ok.ensures.encoded octets size
+          (rw (placed.class, placed.constructed, placed.tag, none) e)),
       told,
     ))
     c.value_in.ensures.told

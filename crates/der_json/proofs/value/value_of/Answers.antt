@@ -12,24 +12,30 @@ use Rattle.der_json.proofs.value.value_of.Goals as goal
 utc_time_is : (o : ℕ) (d : DateTime) → view_block (UTCTime o d) ≡ leaf o (utc_time (moment_of d))
 utc_time_is o d = search (rules, the_lemmas)
 
-generalized_time_is : (o : ℕ) (d : DateTime) → view_block (GeneralizedTime o d) ≡ leaf o (generalized_time (moment_of d))
+generalized_time_is : (o : ℕ) (d : DateTime) →
+    view_block (GeneralizedTime o d) ≡ leaf o (generalized_time (moment_of d))
 generalized_time_is o d = search (rules, the_lemmas)
 
-identifier_is : (o : ℕ) (components : List ℕ) → view_block (ObjectIdentifier o components) ≡ leaf o (object_identifier components)
+identifier_is : (o : ℕ) (components : List ℕ) →
+    view_block (ObjectIdentifier o components) ≡ leaf o (object_identifier components)
 identifier_is o components = search (rules, the_lemmas)
 
 pub returns-in-ObjectIdentifier-clause-told : goal.returns-in-ObjectIdentifier-clause-told
 returns-in-ObjectIdentifier-clause-told c =
-    let is = ap view_block c.in-ObjectIdentifier.is ∙ identifier_is c.in-ObjectIdentifier.field-0 c.in-ObjectIdentifier.oid in
-    subst (λ t. IfOk c.identifier_value.result (λ v. IsValue c.args.contents.now t (view v))) (sym is) c.identifier_value.ensures.told
+    let is = ap view_block c.in-ObjectIdentifier.is
+    ∙ identifier_is c.in-ObjectIdentifier.field-0 c.in-ObjectIdentifier.oid in
+    subst (λ t. IfOk c.identifier_value.result (λ v. IsValue c.args.contents.now t (view v))) (sym is)
+    c.identifier_value.ensures.told
 
 pub returns-in-UTCTime-clause-told : goal.returns-in-UTCTime-clause-told
 returns-in-UTCTime-clause-told c =
     let is = ap view_block c.in-UTCTime.is ∙ utc_time_is c.in-UTCTime.field-0 c.in-UTCTime.moment in
-    subst (λ t. IfOk c.moment_value.result (λ v. IsValue c.args.contents.now t (view v))) (sym is) c.moment_value.ensures.told
+    subst (λ t. IfOk c.moment_value.result (λ v. IsValue c.args.contents.now t (view v))) (sym is)
+    c.moment_value.ensures.told
 
 pub returns-in-GeneralizedTime-clause-told : goal.returns-in-GeneralizedTime-clause-told
 returns-in-GeneralizedTime-clause-told c =
-    let is = ap view_block c.in-GeneralizedTime.is ∙ generalized_time_is c.in-GeneralizedTime.field-0 c.in-GeneralizedTime.moment in
+    let is = ap view_block c.in-GeneralizedTime.is
+    ∙ generalized_time_is c.in-GeneralizedTime.field-0 c.in-GeneralizedTime.moment in
     subst (λ t. IfOk c.moment_value-in-GeneralizedTime.result (λ v. IsValue c.args.contents.now t (view v))) (sym is)
     c.moment_value-in-GeneralizedTime.ensures.told

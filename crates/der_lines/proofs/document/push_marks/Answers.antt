@@ -1,4 +1,4 @@
-use Rattle.std.proofs.Common.{◌≡◌, ◌+◌, [], ◌∷◌, ◌++◌, ap, arith, subst, sym, take, ◌∙◌}
+use Rattle.std.proofs.Common.{◌≡◌, ◌+◌, [], ◌∷◌, ◌++◌, ap, subst, sym, take, ◌∙◌}
 use Rattle.std.proofs.lemmas.List.{map-append, take_more}
 use Rattle.der_lines.specs.Dump.{Adds, AreFaultLines}
 use Rattle.der_lines.specs.Steps.{mark_offsets}
@@ -11,10 +11,12 @@ loop-mark-preserved c =
     let i = c.loop-mark.mark-index in
     let mark = c.mark-item.result in
     let more : mark_offsets (take (i + 1) marks) ≡ mark_offsets (take i marks) ++ mark.offset ∷ [] =
-    ap mark_offsets (take_more marks i mark c.loop-mark-test.true ∙ ap (λ z. take i marks ++ z ∷ []) (sym c.mark-item.is))
+    ap mark_offsets (take_more marks i mark c.loop-mark-test.true
+    ∙ ap (λ z. take i marks ++ z ∷ []) (sym c.mark-item.is))
     ∙ map-append (λ m. m.offset) (take i marks) (mark ∷ []) in
     subst (λ z. Adds (AreFaultLines z) c.args.out.now.items c.push_mark_line.new.out.items) (sym more)
-    (adds_both _ _ (AreFaultLines (mark_offsets (take i marks) ++ mark.offset ∷ [])) c.args.out.now.items c.loop-mark.out.items
+    (adds_both _ _ (AreFaultLines (mark_offsets (take i marks) ++ mark.offset ∷ [])) c.args.out.now.items
+    c.loop-mark.out.items
     c.push_mark_line.new.out.items
     (λ text line lines last. fault_lines_join (mark_offsets (take i marks)) (mark.offset ∷ []) text line lines
     (fault_line mark.offset line last))

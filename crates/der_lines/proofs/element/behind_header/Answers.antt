@@ -17,4 +17,5 @@ returns c =
     let header = c.in-Some-2.header in
     let definite : HasIndefiniteForm octets → ⊥ = rw c.in_default.is at c.in_ok-behind.ensures in
     let front : IsAtFront octets header = rw c.in-Some-2.is at c.in_ok-header.ensures.found in
-    subst (HasContents octets) (sym c.split_at.ensures.back) (of_definite_length definite (behind_front octets header front))
+    subst (HasContents octets) (sym c.split_at.ensures.back)
+    (of_definite_length definite (behind_front octets header front))

@@ -12,7 +12,8 @@ pub push_encodings-loop-walk-init : goal.push_encodings-loop-walk-init
 push_encodings-loop-walk-init t c =
     let o = c.in_ok-walk.ensures in
     adds_none (ShownTo c.args.place c.args.octets.now c.in_ok-walk.walk None _) _
-    (subst (λ m. ShownTo c.args.place c.args.octets.now c.in_ok-walk.walk None m []) (sym (ap mark_offsets c.new.ensures.items))
+    (subst (λ m. ShownTo c.args.place c.args.octets.now c.in_ok-walk.walk None m [])
+    (sym (ap mark_offsets c.new.ensures.items))
     (shown_none c.args.place c.args.octets.now c.in_ok-walk.walk o.octets o.place o.ahead))
 
 pub push_encodings-loop-walk-preserved : goal.push_encodings-loop-walk-preserved
@@ -24,7 +25,8 @@ push_encodings-loop-walk-preserved t c =
     let p : Passes c.loop-walk.walk c.next.new.self piece = rw c.in-Some.is at c.in_ok-piece.ensures in
     let k = c.in_ok-keep.ensures in
     let all = adds_both _ _ (ShownTo place octets c.next.new.self (earlier_fault found.fault piece.fault) _) _ _ _
-    (λ text own s put. shown_more place octets c.loop-walk.walk c.next.new.self piece found.fault _ _ _ text own p k.marks
+    (λ text own s put. shown_more place octets c.loop-walk.walk c.next.new.self piece found.fault _ _ _ text own p
+    k.marks
     c.requires s put) c.loop-walk.invariant (c.in_ok-inside.ensures p.left p.holding)
     in
     rw (k.fault) all
@@ -47,6 +49,14 @@ push_nested-returns t c = λ left holding.
     let i = c.in_ok-inside.ensures in
     let (documents, stands) = rw c.in-Some.is at holding in
     let base : c.in_ok-inside.inside.base ≡ piece.place.base + (piece.offset + header) + nested.before =
-    omega (arith, i.base, c.in_ok-sum_of.ensures, c.in_ok-offset.ensures, c.in_ok-document_offset.ensures, c.header_size.ensures) in
-    nested_adds c.in_ok-inside.inside left piece nested.octets.now nested.before c.in_ok-found.found _ _ stands i.inside base
+    omega (
+      arith,
+      i.base,
+      c.in_ok-sum_of.ensures,
+      c.in_ok-offset.ensures,
+      c.in_ok-document_offset.ensures,
+      c.header_size.ensures,
+    ) in
+    nested_adds c.in_ok-inside.inside left piece nested.octets.now nested.before c.in_ok-found.found _ _ stands i.inside
+    base
     c.in_ok-found.ensures

@@ -16,7 +16,8 @@ decreases-push_encodings l = 3 * l.place.documents + 2
 -- the lines of the pieces before the walk were put
 abbrev pub invariant-push_encodings-loop-walk : goal.invariant-push_encodings-loop-walk
 invariant-push_encodings-loop-walk l =
-    Adds (ShownTo l.fn.place l.fn.octets l.walk l.found.fault (mark_offsets l.found.marks.items)) l.fn.out.items l.out.items
+    Adds (ShownTo l.fn.place l.fn.octets l.walk l.found.fault (mark_offsets l.found.marks.items)) l.fn.out.items
+    l.out.items
 
 abbrev pub decreases-push_encodings-loop-walk : goal.decreases-push_encodings-loop-walk
 decreases-push_encodings-loop-walk l = to_go l.walk.cursor

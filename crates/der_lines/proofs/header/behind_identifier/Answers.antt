@@ -10,7 +10,8 @@ returns-in-Some c identifier behind tag (class, constructed, is) whole =
     let size = c.in-Some.size in
     let (some, within, number, (other, bit, found)) = c.in-Some.ensures.found in
     let same =
-    identifier_alone (take size octets) identifier (drop size octets) behind other class bit constructed number tag found is
+    identifier_alone (take size octets) identifier (drop size octets) behind other class bit constructed number tag
+    found is
     (take-append-drop size octets ∙ whole)
     in
     c.split_at.ensures.back ∙ same.rest

@@ -4,7 +4,8 @@ use Rattle.der_lines.proofs.leaf.check.Goals as goal
 
 pub returns-in-Ok : goal.returns-in-Ok
 returns-in-Ok c = λ octets header e.
-    let (tree, alone, encoded) = c.in-Ok.ensures.encoded 0 octets header (rw (c.in_ok-clone.ensures) e) in (tree, encoded)
+    let (tree, alone, encoded) = c.in-Ok.ensures.encoded 0 octets header (rw (c.in_ok-clone.ensures) e) in
+    (tree, encoded)
 
 pub returns : goal.returns
 returns c = elim c.in-Err.ensures.refused [

@@ -11,7 +11,8 @@ no_end : (text : List ℕ) → Nowhere (Passes (is_byte 10) text) 0 (length text
 no_end text nowhere =
     All-from_get_or (λ b. b ≢ 10) text 0 (λ i lt e. nowhere i (omega arith) lt (eq-eqb (get_or text i 0) 10 e))
 
-none_found : (text : List ℕ) (found : Option ℕ) (none : Bool) → IsFirstByte (is_byte 10) text found → is_some found ≡ not none
+none_found : (text : List ℕ) (found : Option ℕ) (none : Bool) → IsFirstByte (is_byte 10) text found →
+    is_some found ≡ not none
     → none ≡ true → IsOneLine text
 none_found text None none nowhere e t = no_end text nowhere
 none_found text (Some i) true first e t = absurd (cc e)

@@ -1,7 +1,7 @@
 use Rattle.std.proofs.Common.{◌≡◌, ◌++◌, ◌<◌, ◌∙◌, ap, append-nil, arith, false, length, map, sym}
 use Rattle.std.proofs.lemmas.Grind.{common_steps}
 use Rattle.std.proofs.lemmas.List.{length-map}
-use Rattle.der_lines.specs.Marks.{mark_text, told_of, told_rules, words_text}
+use Rattle.der_lines.specs.Marks.{mark_text, told_of, words_text}
 use Rattle.der_lines.proofs.Dumps.{mark_put, no_mark}
 use Rattle.der_lines.proofs.lines.push_mark.Goals as goal
 
@@ -20,6 +20,7 @@ returns c =
     let some : 0 < length told = grind (arith, common_steps) in
     let there : 0 < length (map told_of told) = omega (arith, some, length-map told told_of) in
     mark_put _ _ _ _ (map told_of told) there c.in_ok-extend_from_slice.ensures.items
-    (c.in_ok-push_words.ensures ∙ ap (λ z. c.extend_from_slice.new.self.items ++ words_text false (map told_of z)) c.deref.ensures.value)
+    (c.in_ok-push_words.ensures
+    ∙ ap (λ z. c.extend_from_slice.new.self.items ++ words_text false (map told_of z)) c.deref.ensures.value)
     c.in_ok-push.ensures.items
     ∙ ap (λ z. c.args.out.now.items ++ mark_text z) c.in_ok-told.ensures

@@ -7,4 +7,5 @@ pub returns : goal.returns
 returns c =
     let marked : c.push.new.self.items ≡ c.args.out.now.items ++ mark_of c.args.mark ∷ [] =
     c.in_ok-push.ensures.items ∙ ap (λ z. c.args.out.now.items ++ z ∷ []) c.mark_octet.ensures in
-    note_put _ _ _ _ _ c.args.said.now _ marked c.in_ok-push-2.ensures.items c.in_ok-push_plain.ensures c.in_ok-push-3.ensures.items
+    note_put _ _ _ _ _ c.args.said.now _ marked c.in_ok-push-2.ensures.items c.in_ok-push_plain.ensures
+    c.in_ok-push-3.ensures.items

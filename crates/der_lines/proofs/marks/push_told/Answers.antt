@@ -4,7 +4,8 @@ use Rattle.der_lines.specs.Marks.{told_of}
 use Rattle.der_lines.specs.declared.marks.ToldRule.{ToldRule}
 use Rattle.der_lines.proofs.marks.push_told.Goals as goal
 
-one_told : (old new : List ToldRule) (rule : ToldRule) → new ≡ old ++ rule ∷ [] → map told_of new ≡ map told_of old ++ told_of rule ∷ []
+one_told : (old new : List ToldRule) (rule : ToldRule) → new ≡ old ++ rule ∷ [] →
+    map told_of new ≡ map told_of old ++ told_of rule ∷ []
 one_told old new rule e = ap (map told_of) e ∙ map-append told_of old (rule ∷ [])
 
 pub returns : goal.returns

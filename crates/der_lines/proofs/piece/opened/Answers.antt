@@ -12,7 +12,8 @@ returns c =
     let first = whole_rules left header rules r.whole c.in_ok-breaches.ensures.rules in
     let fault = c.in_ok-fault.ensures r.front in
     record {
-      starts = λ depth. whole_starts left offset depth rules header c.size_of-size.result c.step_of-step.result _ r.front
+      starts = λ depth. whole_starts left offset depth rules header c.size_of-size.result c.step_of-step.result _
+          r.front
           r.form (opened_judged left offset depth rules header _ r.front r.whole r.opened fault) first
           c.step_of-step.ensures c.size_of-size.ensures;
       kind = (r.front, r.whole, r.opened, ap (λ z. slice_range left header.size z) c.size_of-size.ensures, fault);

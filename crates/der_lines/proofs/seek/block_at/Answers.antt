@@ -24,7 +24,8 @@ pub returns-then-begins_with_end : goal.returns-then-begins_with_end
 returns-then-begins_with_end c =
     let sought = c.loop-sought.sought in
     let here : sought.distance ≡ 0 = omega (arith, c.loop-sought-test.false) in
-    none_at_end c.args.octets.now sought.octets.now c.args.offset sought.depth sought.distance here c.loop-sought.invariant
+    none_at_end c.args.octets.now sought.octets.now c.args.offset sought.depth sought.distance here
+    c.loop-sought.invariant
     (sym c.begins_with_end.ensures ∙ c.if-begins_with_end.true)
 
 pub returns : goal.returns

@@ -12,7 +12,8 @@ returns-then-header c =
     let octets = c.args.left.octets.now in
     let front : IsAtFront octets header = rw c.in-Some.is at c.in_ok-header.ensures.front in
     let whole : header.size + header.announced ≤ length octets = rw c.in-Some.is at c.in_ok-header.ensures.whole in
-    let form : IsTrue header.is_indefinite ↔ HasIndefiniteForm octets = rw c.in-Some.is at c.in_ok-header.ensures.form in
+    let form : IsTrue header.is_indefinite ↔ HasIndefiniteForm octets =
+    rw c.in-Some.is at c.in_ok-header.ensures.form in
     let universal : c.is_universal.result ≡ true = grind (arith, common_steps) in
     let tag : header.tag ≡ segment_tag c.args.tag = search rules in
     constructed_segment c.args.tag c.args.left header c.size_of-size.result _ front whole form
@@ -26,5 +27,6 @@ returns-then-branch c =
     let whole : header.size + header.announced ≤ length octets = rw c.in-Some.is at c.in_ok-header.ensures.whole in
     let universal : c.is_universal.result ≡ true = grind (arith, common_steps) in
     let tag : header.tag ≡ segment_tag c.args.tag = search rules in
-    primitive_segment c.args.tag c.args.left header _ _ front whole (c.is_universal.ensures universal) c.if-header.false tag
+    primitive_segment c.args.tag c.args.left header _ _ front whole (c.is_universal.ensures universal) c.if-header.false
+    tag
     (c.in_ok-join.ensures c.if-branch.true)

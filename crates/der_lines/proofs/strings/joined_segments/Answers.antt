@@ -12,7 +12,8 @@ loop-left-smaller c =
     let m = c.next.new.self in
     let n = c.go.new.self in
     let e = c.in-Some.ensures in
-    let segment : IsSegment c.args.tag c.in-Some.left c.in-Some-2.step c.loop-left.joined.items c.join_next.new.joined.items =
+    let segment : IsSegment c.args.tag c.in-Some.left c.in-Some-2.step c.loop-left.joined.items
+    c.join_next.new.joined.items =
     rw c.in-Some-2.is at c.in_ok-step.ensures in
     let takes = segment_takes c.args.tag c.in-Some.left c.in-Some-2.step _ _ segment in
     let less : to_go n < to_go m = step_less m n c.in-Some.left c.in-Some-2.step e.left takes c.in_ok-go.ensures in
@@ -38,4 +39,5 @@ returns c =
     let k = c.loop-left.cursor in
     let m = c.next.new.self in
     let e = c.next.ensures in
-    c.loop-left.invariant _ (segments_back tag k m _ _ e.octets e.offset e.ended (no_more c.in_default.ensures.none refl))
+    c.loop-left.invariant _
+    (segments_back tag k m _ _ e.octets e.offset e.ended (no_more c.in_default.ensures.none refl))

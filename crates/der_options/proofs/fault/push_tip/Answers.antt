@@ -5,10 +5,6 @@ use Rattle.std.specs.Prelude.{map}
 use Rattle.der_options.specs.Options.{IsOneLine}
 use Rattle.der_options.proofs.fault.push_tip.Goals as goal
 
--- a text in which a space stands in the place of each line feed is one line; so is one in which none stands
-spaced : List ℕ → List ℕ
-spaced text = map (λ b. if b == 10 then 32 else b) text
-
 no_feed : (b : ℕ) → (if b == 10 then 32 else b) ≢ 10
 no_feed b = grind (arith, common_steps)
 

@@ -15,6 +15,8 @@ written_of (Some b) input content lent Put is has same put =
 
 pub returns-clause-written : goal.returns-clause-written
 returns-clause-written g c =
-    written_of (g.R.Read.remaining c.args.r.now) c.in_ok-input.input.items c.in_ok-content.content.items c.deref.result.now
-    (λ z. Appends (g.W.Write.contents c.args.w.now) (g.W.Write.contents c.write_all.new.w) z) c.in_ok-input.ensures.bytes
+    written_of (g.R.Read.remaining c.args.r.now) c.in_ok-input.input.items c.in_ok-content.content.items
+    c.deref.result.now
+    (λ z. Appends (g.W.Write.contents c.args.w.now) (g.W.Write.contents c.write_all.new.w) z)
+    c.in_ok-input.ensures.bytes
     c.in_ok-content.ensures.content c.deref.ensures.value c.in_ok-write_all.ensures.written

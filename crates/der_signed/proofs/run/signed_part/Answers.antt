@@ -13,7 +13,8 @@ use Rattle.der_signed.proofs.run.signed_part.Goals as goal
 
 -- what is taken of entries is taken of the octets that they are of
 taken :
-    {A : Type 0} (items : A → List ℕ) (r : Result A RunFault) (octets lent : List ℕ) (es : List Entry) → AreEntriesOfShapes octets es
+    {A : Type 0} (items : A → List ℕ) (r : Result A RunFault) (octets lent : List ℕ) (es : List Entry) →
+    AreEntriesOfShapes octets es
     → lent ≡ octets → IfOk r (λ v. BeginWithTriple es × (items v ≡ encoding_octets lent (entry_at es 1)))
     → IfOk r (λ v. IsContent octets (items v))
 taken items (Ok v) octets lent es walked same (triple, is) = record {
@@ -24,7 +25,8 @@ taken items (Ok v) octets lent es walked same (triple, is) = record {
 }
 taken items (Err e) octets lent es walked same h = tt
 
-lacking : {A : Type 0} (r : Result A RunFault) (octets : List ℕ) (es : List Entry) → AreEntriesOfShapes octets es → IfErr r (LacksContent es)
+lacking : {A : Type 0} (r : Result A RunFault) (octets : List ℕ) (es : List Entry) → AreEntriesOfShapes octets es →
+    IfErr r (LacksContent es)
     → IfErr r (λ e. IsFaultOf e octets)
 lacking (Ok v) octets es walked h = tt
 lacking (Err (Stream f)) octets es walked h = h.0
@@ -46,13 +48,16 @@ of_octets error NotSigned octets offset first h = absurd h
 
 pub returns-in-Err-clause-refused : goal.returns-in-Err-clause-refused
 returns-in-Err-clause-refused c =
-    of_octets c.in-Err.located.error c.refusal_of.result c.args.octets.now c.in-Err.located.offset c.in-Err.ensures.fault c.refusal_of.ensures
+    of_octets c.in-Err.located.error c.refusal_of.result c.args.octets.now c.in-Err.located.offset
+    c.in-Err.ensures.fault c.refusal_of.ensures
 
 pub returns-in-Ok-clause-content : goal.returns-in-Ok-clause-content
 returns-in-Ok-clause-content c =
-    taken (λ v. v.items) c.content_in.result c.args.octets.now (walked_octets c.in-Ok.headers) (walked_entries c.in-Ok.headers)
+    taken (λ v. v.items) c.content_in.result c.args.octets.now (walked_octets c.in-Ok.headers)
+    (walked_entries c.in-Ok.headers)
     c.in-Ok.ensures.document c.in-Ok.ensures.lent c.content_in.ensures.content
 
 pub returns-in-Ok-clause-refused : goal.returns-in-Ok-clause-refused
 returns-in-Ok-clause-refused c =
-    lacking c.content_in.result c.args.octets.now (walked_entries c.in-Ok.headers) c.in-Ok.ensures.document c.content_in.ensures.refused
+    lacking c.content_in.result c.args.octets.now (walked_entries c.in-Ok.headers) c.in-Ok.ensures.document
+    c.content_in.ensures.refused

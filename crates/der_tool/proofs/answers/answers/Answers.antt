@@ -10,7 +10,8 @@ none_left reading [] e = refl
 none_left reading (b ∷ input) e = absurd (omega (arith, e))
 
 -- an answer and its end go after the output so far
-one_more : (out mid new answer later : List ℕ) → mid ≡ out ++ answer → new ≡ mid ++ 10 ∷ [] → out ++ (answer ++ 10 ∷ later) ≡ new ++ later
+one_more : (out mid new answer later : List ℕ) → mid ≡ out ++ answer → new ≡ mid ++ 10 ∷ [] →
+    out ++ (answer ++ 10 ∷ later) ≡ new ++ later
 one_more out mid new answer later p q =
     sym (ap (λ l. l ++ later) (q ∙ ap (λ l. l ++ 10 ∷ []) p) ∙ append_assoc (out ++ answer) (10 ∷ []) later
     ∙ append_assoc out answer (10 ∷ later))
@@ -19,8 +20,10 @@ pub loop-rest-preserved : goal.loop-rest-preserved
 loop-rest-preserved c = λ later h.
     let a = c.in_ok-append_answer.ensures in
     let now : AreLineAnswers c.args.reading (lines_of c.loop-rest.rest.now) (a.0 ++ 10 ∷ later) =
-    subst (λ lines. AreLineAnswers c.args.reading lines (a.0 ++ 10 ∷ later)) (sym c.split_line.ensures.first) (a.0, later, refl, a.1, h) in
-    subst (AreLineAnswers c.args.reading (lines_of c.args.input.now)) (one_more _ _ _ a.0 later a.2 c.in_ok-push.ensures.items)
+    subst (λ lines. AreLineAnswers c.args.reading lines (a.0 ++ 10 ∷ later)) (sym c.split_line.ensures.first)
+    (a.0, later, refl, a.1, h) in
+    subst (AreLineAnswers c.args.reading (lines_of c.args.input.now))
+    (one_more _ _ _ a.0 later a.2 c.in_ok-push.ensures.items)
     (c.loop-rest.invariant (a.0 ++ 10 ∷ later) now)
 
 pub returns : goal.returns

@@ -16,4 +16,5 @@ returns-clause-refuses c fault f =
 pub returns-clause-not_canonical : goal.returns-clause-not_canonical
 returns-clause-not_canonical c offset n =
     let read = c.canonical_outline.ensures in
-    outline_refused c.args.octets.now c.canonical_outline.result (omega arith) read.document read.fault (not_canonical offset) (inr (offset, n, refl))
+    outline_refused c.args.octets.now c.canonical_outline.result (omega arith) read.document read.fault
+    (not_canonical offset) (inr (offset, n, refl))

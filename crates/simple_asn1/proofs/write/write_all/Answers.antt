@@ -12,10 +12,12 @@ push_all-requires-clause-room c =
 pub push_all-requires-clause-writable : goal.push_all-requires-clause-writable
 push_all-requires-clause-writable c =
     ap (λ z. first_own_fault (measured_blocks z)) c.deref.ensures.value
-    ∙ (fault_order (measured_blocks c.in_ok-list.list.items) c.args.blocks.now c.in_ok-list.ensures.ordered ∙ c.in_ok-list.ensures.writable)
+    ∙ (fault_order (measured_blocks c.in_ok-list.list.items) c.args.blocks.now c.in_ok-list.ensures.ordered
+    ∙ c.in_ok-list.ensures.writable)
 
 pub returns-clause-encoded : goal.returns-clause-encoded
 returns-clause-encoded c =
     let e = ap (λ z. all_own_octets (measured_blocks z)) c.deref.ensures.value ∙
     own_order (measured_blocks c.in_ok-list.list.items) c.args.blocks.now c.in_ok-list.ensures.ordered in
-    c.push_all.ensures.0 ∙ (ap (λ z. z ++ all_own_octets (measured_blocks c.deref.result.now)) c.in_ok-octets.ensures.items ∙ e)
+    c.push_all.ensures.0 ∙ (ap (λ z. z ++ all_own_octets (measured_blocks c.deref.result.now))
+    c.in_ok-octets.ensures.items ∙ e)

@@ -8,8 +8,10 @@ use Rattle.simple_asn1.proofs.write.written_anew.Goals as goal
 pub unreachable-requires : goal.unreachable-requires
 unreachable-requires c =
     let w = document_writable c.args.i.now (document_trees c.in_ok-document.document)
-    (All-from_get_or (λ b. b < 256) c.args.i.now 0 (λ k h. omega (arith, c.type_inv.i k))) c.in_ok-document.ensures.document in
+    (All-from_get_or (λ b. b < 256) c.args.i.now 0 (λ k h. omega (arith, c.type_inv.i k)))
+    c.in_ok-document.ensures.document in
     elim c.in-Err.ensures.refused [
       | inl memory ↦ c.in_default.not-OutOfMemory memory
-      | inr fault ↦ let e : None ≡ Some c.in-Err.e = sym w ∙ (ap (λ z. first_write_fault z) (sym c.blocks-2.ensures.trees) ∙ fault) in cc
+      | inr fault ↦ let e : None ≡ Some c.in-Err.e =
+          sym w ∙ (ap (λ z. first_write_fault z) (sym c.blocks-2.ensures.trees) ∙ fault) in cc
     ]

@@ -14,7 +14,8 @@ returns-clause-found c =
     let h = c.in-Ok.ensures in
     let class : h.class ≡ Universal = universal_number h.class (sym h.class_field ∙ c.if-record-ne0.false) in
     let contents : h.contents ≡ c.split_at.result.1.now =
-    sym (contents_behind x h.class h.constructed h.tag h.contents head.header h.encoding) ∙ sym c.split_at.ensures.back in
+    sym (contents_behind x h.class h.constructed h.tag h.contents head.header h.encoding)
+    ∙ sym c.split_at.ensures.back in
     let own = subst (λ z. Encoding x z h.constructed h.tag h.contents head.header) class h.encoding in (
       h.tag,
       record {

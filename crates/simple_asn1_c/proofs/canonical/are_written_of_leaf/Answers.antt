@@ -35,7 +35,8 @@ pub returns-in-12 : goal.returns-in-12
 returns-in-12 c said = let (cs, meant) = c.are_meant-in-12.ensures said in (text utf8 cs, c.in-12.is, meant, meant.1)
 
 pub returns-in-19 : goal.returns-in-19
-returns-in-19 c said = let (cs, meant) = c.are_meant-in-19.ensures said in (text printable cs, c.in-19.is, meant, meant.1)
+returns-in-19 c said = let (cs, meant) = c.are_meant-in-19.ensures said in
+    (text printable cs, c.in-19.is, meant, meant.1)
 
 pub returns-in-20 : goal.returns-in-20
 returns-in-20 c said = let (cs, meant) = c.are_meant-in-20.ensures said in (text teletex cs, c.in-20.is, meant, meant.1)
@@ -52,7 +53,8 @@ returns-then-are_meant-3 c said =
     (generalized_time m, c.in-24.is, meant, sym (c.are_canonical-then-are_meant-3.ensures said m meant))
 
 pub returns-in-28 : goal.returns-in-28
-returns-in-28 c said = let (cs, meant) = c.are_meant-in-28.ensures said in (text universal cs, c.in-28.is, meant, meant.1)
+returns-in-28 c said = let (cs, meant) = c.are_meant-in-28.ensures said in
+    (text universal cs, c.in-28.is, meant, meant.1)
 
 pub returns-in-30 : goal.returns-in-30
 returns-in-30 c said = let (cs, meant) = c.are_meant-in-30.ensures said in (text bmp cs, c.in-30.is, meant, meant.1)

@@ -9,18 +9,21 @@ pub returns-then-not-is_known : goal.returns-then-not-is_known
 returns-then-not-is_known c said =
     let small : length c.args.contents.now < 2 ^ 64 = grind (arith, common_steps) in
     let without = (unknown_said c.args.tag c.is_known.result c.is_known.ensures).0 (ap not c.if-not-is_known.true) in
-    universal_unknown_block c.args.class c.args.constructed c.args.tag c.args.contents.now small c.in-Universal.is without
+    universal_unknown_block c.args.class c.args.constructed c.args.tag c.args.contents.now small c.in-Universal.is
+    without
 
 pub returns-then-is_group_tag : goal.returns-then-is_group_tag
 returns-then-is_group_tag c said =
     let (g, is) = c.is_group_tag.ensures c.if-is_group_tag.true in
-    empty_group c.args.class c.args.constructed c.args.tag c.args.contents.now c.in-Universal.is c.if-constructed.true g is
+    empty_group c.args.class c.args.constructed c.args.tag c.args.contents.now c.in-Universal.is c.if-constructed.true g
+    is
     (empty_is c.args.contents.now (sym c.is_empty.ensures ∙ said))
 
 pub returns-else-constructed : goal.returns-else-constructed
 returns-else-constructed c said =
     let small : length c.args.contents.now < 2 ^ 64 = grind (arith, common_steps) in
-    universal_leaf_block c.args.class c.args.constructed c.args.tag c.args.contents.now small c.in-Universal.is c.if-constructed.false
+    universal_leaf_block c.args.class c.args.constructed c.args.tag c.args.contents.now small c.in-Universal.is
+    c.if-constructed.false
     (c.are_written_of_leaf.ensures said)
 
 pub returns-in_default : goal.returns-in_default

@@ -19,12 +19,14 @@ returns-in-Some c =
     let some : 0 < c.args.index = omega (arith, c.if-index-eq0.false) in
     let own = subst (λ z. IsContinued (take c.all_put.result.count z)) back continued in
     component_was_found some status offset (subst (λ z. c.all_put.result.count ≤ length z) back few)
-    (low_bits_number (take c.all_put.result.count (drop c.args.index contents))) record { continued = own; value = refl }
+    (low_bits_number (take c.all_put.result.count (drop c.args.index contents))) record
+    { continued = own; value = refl }
 
 pub returns-in-None : goal.returns-in-None
 returns-in-None c =
     let rest = c.split_at.result.1.now in
     let o = c.nothing_put-in-None.ensures in
     component_does_not_end
-    (λ n k p. not_continued rest k c.in-None.ensures.none (subst (λ z. IsContinued (take k z)) (sym c.split_at.ensures.back) p.continued))
+    (λ n k p. not_continued rest k c.in-None.ensures.none
+    (subst (λ z. IsContinued (take k z)) (sym c.split_at.ensures.back) p.continued))
     o.status o.offset o.count

@@ -12,7 +12,8 @@ returns-in-Err c =
     let put = c.nothing_put.ensures in
     let told = put.status ∙ c.status_of_fault.ensures in
     elim c.in-Err.ensures.refused [
-      | inl memory ↦ had_no_memory_for_components (told ∙ ap (λ z. status_of (fault_of z)) memory, put.offset, put.count, refl)
+      | inl memory ↦ had_no_memory_for_components
+          (told ∙ ap (λ z. status_of (fault_of z)) memory, put.offset, put.count, refl)
       | inr fault ↦ mean_no_components (fault_of c.in-Err.e) fault (told, put.offset, put.count, refl)
     ]
 
@@ -23,7 +24,10 @@ returns-in-Ok-as_vec c =
     let all = c.in-Ok-as_vec.ensures.all in
     let same : c.deref.result.now ≡ ns = c.deref.ensures.value ∙ same_numbers v ns all in
     mean_components ns c.in-Ok.ensures.found
-    (inl (all_fit v ns all, subst (λ z. ArePut z c.args.room.now c.put_numbers.new.room c.put_numbers.result) same c.put_numbers.ensures))
+    (inl (
+      all_fit v ns all,
+      subst (λ z. ArePut z c.args.room.now c.put_numbers.new.room c.put_numbers.result) same c.put_numbers.ensures,
+    ))
 
 pub returns-in-Err-Overflow : goal.returns-in-Err-Overflow
 returns-in-Err-Overflow c =
@@ -31,5 +35,6 @@ returns-in-Err-Overflow c =
     let put = c.nothing_put-in-Err-Overflow.ensures in
     elim c.in-Err-Overflow.ensures.refused [
       | inl memory ↦ let e : Overflow ≡ OutOfMemory = sym c.in-Err-Overflow.field-0-is ∙ memory in cc
-      | inr (e, large) ↦ mean_components ns c.in-Ok.ensures.found (inr (not_all ns large, (put.status, put.offset, put.count, refl)))
+      | inr (e, large) ↦ mean_components ns c.in-Ok.ensures.found
+          (inr (not_all ns large, (put.status, put.offset, put.count, refl)))
     ]

@@ -10,11 +10,13 @@ returns-in-Err c =
     let put = c.nothing_put.ensures in
     let told = put.status ∙ c.status_of_fault.ensures in
     elim c.in-Err.ensures.refused [
-      | inl memory ↦ had_no_memory_for_components (told ∙ ap (λ z. status_of (fault_of z)) memory, put.offset, put.count, refl)
+      | inl memory ↦ had_no_memory_for_components
+          (told ∙ ap (λ z. status_of (fault_of z)) memory, put.offset, put.count, refl)
       | inr fault ↦ mean_no_components (fault_of c.in-Err.e) fault (told, put.offset, put.count, refl)
     ]
 
 pub returns-in-Ok-as_raw : goal.returns-in-Ok-as_raw
 returns-in-Ok-as_raw c =
     mean_components c.in-Ok.oid c.in-Ok.ensures.found
-    (subst (λ z. ArePut z c.args.room.now c.put_octets.new.room c.put_octets.result) (c.deref.ensures.value ∙ c.in-Ok-as_raw.ensures.contents) c.put_octets.ensures)
+    (subst (λ z. ArePut z c.args.room.now c.put_octets.new.room c.put_octets.result)
+    (c.deref.ensures.value ∙ c.in-Ok-as_raw.ensures.contents) c.put_octets.ensures)

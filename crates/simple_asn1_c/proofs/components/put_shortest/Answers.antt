@@ -8,4 +8,5 @@ returns-then-are_shortest c =
     let is = c.if-are_shortest.true in
     let m = c.are_shortest.ensures.meant is in
     mean_components m.0 m.1
-    (subst (λ z. ArePut z c.args.room.now c.put_octets.new.room c.put_octets.result) (c.are_shortest.ensures.shortest is m.0 m.1) c.put_octets.ensures)
+    (subst (λ z. ArePut z c.args.room.now c.put_octets.new.room c.put_octets.result)
+    (c.are_shortest.ensures.shortest is m.0 m.1) c.put_octets.ensures)

@@ -18,8 +18,10 @@ returns-then-push_pointed c ok =
           let two = ap (λ z. z.items) w.text-is ∙ w.push_pointed.ensures (sym w.value-is ∙ c.if-push_pointed.true) in (
             meant.0,
             meant.1,
-            dotted_pushed contents rest c.in-Some.octet.now c.first_two-first.result.0 c.first_two-first.result.1 text c.push_numeral.new.text.items
-                c.if-push_numeral.text.items c.push_subidentifiers.new.text.items e c.first_two-first.ensures (w.if-push_numeral.ensures refl) two
+            dotted_pushed contents rest c.in-Some.octet.now c.first_two-first.result.0 c.first_two-first.result.1 text
+                c.push_numeral.new.text.items
+                c.if-push_numeral.text.items c.push_subidentifiers.new.text.items e c.first_two-first.ensures
+                (w.if-push_numeral.ensures refl) two
                 (c.push_subidentifiers.ensures ok)
                 ∙ ap (λ z. text ++ dotted_decimal z) (components_found meant.0 contents meant.1),
           )

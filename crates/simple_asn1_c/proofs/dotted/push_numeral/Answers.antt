@@ -13,5 +13,6 @@ pub returns : goal.returns
 returns c ok =
     let text = c.args.text.now.items in
     let digits = c.as_bytes.ensures.value ∙ c.format.ensures.text ∙ decimal_numeral c.args.n (omega arith) in
-    pushed_if_ok c.try_extend_from_slice.result c.is_ok-2.result c.is_ok-2.ensures.value ok c.try_extend_from_slice.ensures.ok
+    pushed_if_ok c.try_extend_from_slice.result c.is_ok-2.result c.is_ok-2.ensures.value ok
+    c.try_extend_from_slice.ensures.ok
     ∙ ap (λ z. text ++ z) digits

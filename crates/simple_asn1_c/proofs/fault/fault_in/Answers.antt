@@ -17,5 +17,6 @@ returns c =
     elim c.in-Err.ensures.fault [
       | inl memory ↦ absurd (c.in_default.not-OutOfMemory memory)
       | inr fault ↦
-          fault_was_found (fault_of e) (subst (FirstFaultAt c.args.octets.now (fault_of e)) (sym told.offset) fault) told.status told.number told.text
+          fault_was_found (fault_of e) (subst (FirstFaultAt c.args.octets.now (fault_of e)) (sym told.offset) fault)
+          told.status told.number told.text
     ]

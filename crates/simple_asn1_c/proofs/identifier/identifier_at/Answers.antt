@@ -16,7 +16,8 @@ returns-in-Err c =
     let offset = c.args.offset in
     let put = c.nothing_put.ensures in
     identifier_is_missing
-    (nothing_there octets offset ((ns : List ℕ) × IsIdentifierAt octets offset ns) IsIdentifierTag (leaf_of octets offset) c.in-Err.status
+    (nothing_there octets offset ((ns : List ℕ) × IsIdentifierAt octets offset ns) IsIdentifierTag
+    (leaf_of octets offset) c.in-Err.status
     c.nothing_put.result.status c.in-Err.ensures.missing put.status)
     put.offset put.count refl
 
@@ -27,8 +28,10 @@ returns-then-tag-ne6 c =
     let put = c.nothing_put-then-tag-ne6.ensures in
     let (n, u, number) = c.in-Ok.ensures.found in
     identifier_is_missing
-    (another_there octets offset ((ns : List ℕ) × IsIdentifierAt octets offset ns) IsIdentifierTag (leaf_of octets offset)
-    c.nothing_put-then-tag-ne6.result.status n c.in-Ok.found.0 c.in-Ok.found.1.now u number (λ m t. omega (arith, t)) c.if-tag-ne6.true put.status)
+    (another_there octets offset ((ns : List ℕ) × IsIdentifierAt octets offset ns) IsIdentifierTag
+    (leaf_of octets offset)
+    c.nothing_put-then-tag-ne6.result.status n c.in-Ok.found.0 c.in-Ok.found.1.now u number (λ m t. omega (arith, t))
+    c.if-tag-ne6.true put.status)
     put.offset put.count refl
 
 pub returns-in-Ok-put_decimal : goal.returns-in-Ok-put_decimal
@@ -39,7 +42,8 @@ returns-in-Ok-put_decimal c =
     let (n, u, number) = c.in-Ok.ensures.found in
     let (ns, meant, put) = c.in-Ok-put_decimal.ensures.put in
     let six : n ≡ 6 = small_tag n c.in-Ok.found.0 6 number c.if-tag-ne6.false (omega arith) in
-    let is = leaf_here octets offset (object_identifier ns) v (subst (λ z. UniversalAt octets offset z v) six u) meant in
+    let is = leaf_here octets offset (object_identifier ns) v (subst (λ z. UniversalAt octets offset z v) six u)
+    meant in
     identifier_was_found ns is put
 
 pub returns-in-Err-put_decimal : goal.returns-in-Err-put_decimal
@@ -55,7 +59,9 @@ returns-in-Err-put_decimal c =
       | inl memory ↦ identifier_is_missing (inl (put.status ∙ memory)) put.offset put.count kept
       | inr (f, fault, told) ↦
           identifier_is_missing
-          (fault_there octets offset ((ns : List ℕ) × IsIdentifierAt octets offset ns) IsIdentifierTag (leaf_of octets offset)
-          c.nothing_put-in-Err-put_decimal.result.status n v six u f (of_object_identifier six fault) (put.status ∙ told))
+          (fault_there octets offset ((ns : List ℕ) × IsIdentifierAt octets offset ns) IsIdentifierTag
+          (leaf_of octets offset)
+          c.nothing_put-in-Err-put_decimal.result.status n v six u f (of_object_identifier six fault)
+          (put.status ∙ told))
           put.offset put.count kept
     ]

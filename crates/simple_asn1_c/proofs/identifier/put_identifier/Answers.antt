@@ -17,7 +17,8 @@ returns-in-Ok-as_raw c =
     let ns = c.in-Ok-Some.oid in
     let here : IsDottedDecimal c.in-Ok.text.now ns = rw c.in-Ok-Some.field-0-is at c.in-Ok-Some.ensures.identifier in
     let dotted : IsDottedDecimal c.args.text.now ns = subst (λ z. IsDottedDecimal z ns) c.in-Ok.ensures.cases.0 here in
-    let octets : c.deref.result.now ≡ object_identifier_contents ns = c.deref.ensures.value ∙ c.in-Ok-as_raw.ensures.contents in
+    let octets : c.deref.result.now ≡ object_identifier_contents ns =
+    c.deref.ensures.value ∙ c.in-Ok-as_raw.ensures.contents in
     has_components ns dotted
     (inl (
       c.in-Ok-as_raw.ensures.writable,
@@ -36,6 +37,9 @@ returns c =
         | inl memory ↦ absurd (other memory)
         | inr fault ↦
             has_components ns dotted
-            (inr ((λ none. let e : None ≡ Some c.in-Err-as_raw.e = sym none ∙ fault in cc), (put.status ∙ told, put.offset, put.count, refl)))
+            (inr (
+              (λ none. let e : None ≡ Some c.in-Err-as_raw.e = sym none ∙ fault in cc),
+              (put.status ∙ told, put.offset, put.count, refl),
+            ))
       ]
     ]

@@ -19,7 +19,8 @@ returns-in-Err c =
     let octets = c.args.octets.now in
     let offset = c.args.offset in
     integer_is_missing
-    (nothing_there octets offset ((n : ℤ) × IsIntegerAt octets offset n) IsIntegerTag (leaf_of octets offset) c.in-Err.status c.no_integer.result.status
+    (nothing_there octets offset ((n : ℤ) × IsIntegerAt octets offset n) IsIntegerTag (leaf_of octets offset)
+    c.in-Err.status c.no_integer.result.status
     c.in-Err.ensures.missing c.no_integer.ensures.0)
     c.no_integer.ensures.1
 
@@ -29,8 +30,10 @@ returns-then-tag-ne2 c =
     let offset = c.args.offset in
     let (n, u, number) = c.in-Ok.ensures.found in
     integer_is_missing
-    (another_there octets offset ((n : ℤ) × IsIntegerAt octets offset n) IsIntegerTag (leaf_of octets offset) c.no_integer-then-tag-ne2.result.status n
-    c.in-Ok.found.0 c.in-Ok.found.1.now u number (λ m t. omega (arith, t)) c.if-tag-ne2.true c.no_integer-then-tag-ne2.ensures.0)
+    (another_there octets offset ((n : ℤ) × IsIntegerAt octets offset n) IsIntegerTag (leaf_of octets offset)
+    c.no_integer-then-tag-ne2.result.status n
+    c.in-Ok.found.0 c.in-Ok.found.1.now u number (λ m t. omega (arith, t)) c.if-tag-ne2.true
+    c.no_integer-then-tag-ne2.ensures.0)
     c.no_integer-then-tag-ne2.ensures.1
 
 pub returns-in-Some : goal.returns-in-Some
@@ -40,8 +43,11 @@ returns-in-Some c =
     let v = c.in-Ok.found.1.now in
     let (n, u, number) = c.in-Ok.ensures.found in
     let two : n ≡ 2 = small_tag n c.in-Ok.found.0 2 number c.if-tag-ne2.false (omega arith) in
-    let is = leaf_here octets offset (integer (signed_number v)) v (subst (λ z. UniversalAt octets offset z v) two u) refl in
-    integer_was_found refl (same_number octets offset (signed_number v) _ (number_fits (signed_number v) c.in-Some.value c.in-Some.ensures ∙ search rules) is)
+    let is = leaf_here octets offset (integer (signed_number v)) v (subst (λ z. UniversalAt octets offset z v) two u)
+    refl in
+    integer_was_found refl
+    (same_number octets offset (signed_number v) _
+    (number_fits (signed_number v) c.in-Some.value c.in-Some.ensures ∙ search rules) is)
 
 pub returns-in-None : goal.returns-in-None
 returns-in-None c =
@@ -50,5 +56,7 @@ returns-in-None c =
     let v = c.in-Ok.found.1.now in
     let (n, u, number) = c.in-Ok.ensures.found in
     let two : n ≡ 2 = small_tag n c.in-Ok.found.0 2 number c.if-tag-ne2.false (omega arith) in
-    let is = leaf_here octets offset (integer (signed_number v)) v (subst (λ z. UniversalAt octets offset z v) two u) refl in
-    integer_is_too_large c.no_integer-in-None.ensures.0 (signed_number v) is (does_not_fit (signed_number v) c.in-None.ensures) c.no_integer-in-None.ensures.1
+    let is = leaf_here octets offset (integer (signed_number v)) v (subst (λ z. UniversalAt octets offset z v) two u)
+    refl in
+    integer_is_too_large c.no_integer-in-None.ensures.0 (signed_number v) is
+    (does_not_fit (signed_number v) c.in-None.ensures) c.no_integer-in-None.ensures.1

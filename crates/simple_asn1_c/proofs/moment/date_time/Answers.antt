@@ -46,7 +46,8 @@ same_year y low high =
     ap (λ z. to_z w16 (of_z w16 z)) (back_small w32 y (omega (arith, small))) ∙ back_small w16 y (omega (arith, small))
 
 -- where a call that succeeds exactly if P gives nothing, not Q, from which P follows
-nothing : {T E : Type 0} (r : Result T E) (o : Option T) (P Q : Type 0) → o ≡ result_ok r → (IsOk r ↔ P) → (Q → P) → IfNone o (Q → ⊥)
+nothing : {T E : Type 0} (r : Result T E) (o : Option T) (P Q : Type 0) → o ≡ result_ok r → (IsOk r ↔ P) → (Q → P) →
+    IfNone o (Q → ⊥)
 nothing r (Some x) P Q e succeeds f = tt
 nothing (Ok x) None P Q e succeeds f = cc
 nothing (Err x) None P Q e succeeds f = λ q. let ok = succeeds.1 (f q) in cc
@@ -56,6 +57,7 @@ returns-clause-none c =
     let f = c.args.fields.now in
     nothing c.new.result c.ok.result _ (IsValid (moment_in f)) c.ok.ensures.value c.new.ensures.succeeds
     (λ v. same_calendar f _ _ _ _ _ _ _ v (same_year f.year v.from_zero v.four_digits)
-    (to_z_pos w8 f.month (omega (arith, v.month))) (to_z_pos w8 f.day (omega arith)) (to_z_pos w8 f.hour (omega (arith, v.hour)))
+    (to_z_pos w8 f.month (omega (arith, v.month))) (to_z_pos w8 f.day (omega arith))
+    (to_z_pos w8 f.hour (omega (arith, v.hour)))
     (to_z_pos w8 f.minute (omega (arith, v.minute))) (to_z_pos w8 f.second (omega (arith, v.second)))
     (to_z_pos w32 f.nanosecond (omega (arith, v.nanosecond))))

@@ -10,7 +10,8 @@ use Rattle.simple_asn1_c.specs.Values.{IsLeafAt, IsMomentAt, IsMomentTag, Univer
 use Rattle.simple_asn1_c.proofs.LeavesThere.{another_there, fault_there, leaf_here, nothing_there, small_tag}
 use Rattle.simple_asn1_c.proofs.moment.moment_at.Goals as goal
 
-leaf_of : (octets : List ℕ) (offset : ℕ) → (m : Moment) × IsMomentAt octets offset m → (l : Leaf) × IsMomentTag (leaf_tag l) × IsLeafAt octets offset l
+leaf_of : (octets : List ℕ) (offset : ℕ) → (m : Moment) × IsMomentAt octets offset m →
+    (l : Leaf) × IsMomentTag (leaf_tag l) × IsLeafAt octets offset l
 leaf_of octets offset (m, inl is) = (utc_time m, inl refl, is)
 leaf_of octets offset (m, inr is) = (generalized_time m, inr refl, is)
 
@@ -24,7 +25,8 @@ returns-in-Err c =
     let offset = c.args.offset in
     let none = c.no_moment.ensures in
     moment_is_missing
-    (nothing_there octets offset ((m : Moment) × IsMomentAt octets offset m) IsMomentTag (leaf_of octets offset) c.in-Err.status c.no_moment.result.status
+    (nothing_there octets offset ((m : Moment) × IsMomentAt octets offset m) IsMomentTag (leaf_of octets offset)
+    c.in-Err.status c.no_moment.result.status
     c.in-Err.ensures.missing none.status)
     none.fields
 
@@ -57,7 +59,8 @@ returns-in-Ok-None c =
     let (n, u, number) = c.in-Ok.ensures.found in
     let other : IsMomentTag c.in-Ok.found.0 → ⊥ = rw c.in-Ok-None.field-0-is at c.in-Ok-None.ensures.found in
     moment_is_missing
-    (another_there octets offset ((m : Moment) × IsMomentAt octets offset m) IsMomentTag (leaf_of octets offset) c.no_moment-in-Ok-None.result.status n
+    (another_there octets offset ((m : Moment) × IsMomentAt octets offset m) IsMomentTag (leaf_of octets offset)
+    c.no_moment-in-Ok-None.result.status n
     c.in-Ok.found.0 c.in-Ok.found.1.now u number small other none.status)
     none.fields
 

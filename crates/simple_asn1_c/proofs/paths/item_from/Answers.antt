@@ -4,4 +4,5 @@ use Rattle.simple_asn1_c.proofs.paths.item_from.Goals as goal
 
 pub loop-left-preserved : goal.loop-left-preserved
 loop-left-preserved c =
-    sym (item_more c.args.entries.now c.loop-left.at c.args.end c.loop-left.left (omega arith) (omega arith)) ∙ c.loop-left.invariant
+    sym (item_more c.args.entries.now c.loop-left.at c.args.end c.loop-left.left (omega arith) (omega arith))
+    ∙ c.loop-left.invariant

@@ -4,4 +4,5 @@ use Rattle.simple_asn1_c.proofs.paths.put_values.Given as goal
 
 -- the values of so many are put
 abbrev pub invariant-loop-k : goal.invariant-loop-k
-invariant-loop-k l = l.room ≡ map (λ p. value_of l.octets l.entries l.steps p) (take l.k l.paths) ++ drop l.k l.initial.room
+invariant-loop-k l = l.room ≡ map (λ p. value_of l.octets l.entries l.steps p) (take l.k l.paths)
+    ++ drop l.k l.initial.room

@@ -8,7 +8,8 @@ use Rattle.simple_asn1_c.proofs.putting.put_found.Goals as goal
 pub returns-in-Entries : goal.returns-in-Entries
 returns-in-Entries c all found =
     let same = subst (IsFound (length c.args.room.now) all) c.in-Entries.is found in
-    subst (λ z. ArePut (map block_of z) c.args.room.now c.put_records.new.room c.put_records.result) (c.as_slice.ensures.value ∙ same)
+    subst (λ z. ArePut (map block_of z) c.args.room.now c.put_records.new.room c.put_records.result)
+    (c.as_slice.ensures.value ∙ same)
     c.put_records.ensures
 
 pub returns-in-Count : goal.returns-in-Count

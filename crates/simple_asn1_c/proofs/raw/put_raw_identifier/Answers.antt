@@ -9,7 +9,9 @@ returns c =
     let told = c.unwritten.ensures in
     elim c.in-Err.ensures.refused [
       | inl memory ↦
-          had_no_memory_for_raw_identifier (told.status ∙ ap component_status memory, told.place ∙ ap component_place memory, told.count, refl)
+          had_no_memory_for_raw_identifier
+          (told.status ∙ ap component_status memory, told.place ∙ ap component_place memory, told.count, refl)
       | inr fault ↦
-          components_have_fault e (subst (λ z. object_identifier_write_fault z ≡ Some e) c.in-Ok.ensures fault) told.status told.place told.count refl
+          components_have_fault e (subst (λ z. object_identifier_write_fault z ≡ Some e) c.in-Ok.ensures fault)
+          told.status told.place told.count refl
     ]

@@ -11,4 +11,5 @@ returns-in-Ok-check_strict-clause-document c =
     (cs, all, canonical, subst (λ z. AreEntriesOf x z all) same e, found)
 
 pub returns-in-Err-clause-fault : goal.returns-in-Err-clause-fault
-returns-in-Err-clause-fault c = elim c.in-Err.ensures.fault [ inl memory ↦ inl memory | inr refused ↦ inr (inl refused) ]
+returns-in-Err-clause-fault c =
+    elim c.in-Err.ensures.fault [ inl memory ↦ inl memory | inr refused ↦ inr (inl refused) ]

@@ -11,5 +11,8 @@ returns-in-NotCanonical c =
     subst (OutOfMemoryOr (StrictFault c.args.octets.now)) c.in-NotCanonical.is c.requires in
     elim h [
       | inl e ↦ absurd (cc)
-      | inr f ↦ inr (inr (refl, not_canonical_at c.law_one_reading.ensures c.args.octets.now c.in-NotCanonical.offset f))
+      | inr f ↦ inr (inr (
+        refl,
+        not_canonical_at c.law_one_reading.ensures c.args.octets.now c.in-NotCanonical.offset f,
+      ))
     ]

@@ -16,5 +16,6 @@ returns-in-Ok-encoding_of c =
     let tag = c.in-Ok-Some.tag in
     let here : c.in-Ok.numeral.now ≡ natural_numeral tag = rw c.in-Ok-Some.field-0-is at c.in-Ok-Some.ensures.number in
     was_encoded c.in-Some.class c.in-Some.ensures.found tag (sym c.in-Ok.ensures.cases.0 ∙ here)
-    (subst (λ z. ArePut z c.args.room.now c.put_octets.new.room c.put_octets.result) (c.deref.ensures.value ∙ c.in-Ok-encoding_of.ensures)
+    (subst (λ z. ArePut z c.args.room.now c.put_octets.new.room c.put_octets.result)
+    (c.deref.ensures.value ∙ c.in-Ok-encoding_of.ensures)
     c.put_octets.ensures)

@@ -7,8 +7,15 @@ pub prepend_octet-requires : goal.prepend_octet-requires
 prepend_octet-requires t c = omega (arith, c.requires, length-digits_of_step 256 c.args.n (omega arith) (omega arith))
 
 pub prepend_big_endian-requires : goal.prepend_big_endian-requires
-prepend_big_endian-requires t c =
-    (omega arith, omega (arith, c.requires, c.prepend_octet.ensures.space, length-digits_of_step 256 c.args.n (omega arith) (omega arith)))
+prepend_big_endian-requires t c = (
+  omega arith,
+  omega (
+    arith,
+    c.requires,
+    c.prepend_octet.ensures.space,
+    length-digits_of_step 256 c.args.n (omega arith) (omega arith),
+  ),
+)
 
 pub returns-clause-octets : goal.returns-clause-octets
 returns-clause-octets t c =
@@ -19,4 +26,9 @@ returns-clause-octets t c =
 
 pub returns-clause-space : goal.returns-clause-space
 returns-clause-space t c =
-    omega (arith, c.prepend_octet.ensures.space, c.prepend_big_endian.ensures.space, length-digits_of_step 256 c.args.n (omega arith) (omega arith))
+    omega (
+      arith,
+      c.prepend_octet.ensures.space,
+      c.prepend_big_endian.ensures.space,
+      length-digits_of_step 256 c.args.n (omega arith) (omega arith),
+    )

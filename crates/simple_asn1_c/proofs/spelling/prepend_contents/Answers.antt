@@ -13,10 +13,14 @@ returns-clause-put c rs state =
     let r = c.args.block.now in
     let (is, within) = c.in-Some.ensures in
     let front = shortest_identifier c.args.class (nat_lt 0 r.constructed) r.tag in
-    let put = c.prepend.ensures.octets ∙ ap (λ z. z ++ c.reserve.new.self.octets) is ∙ ap (λ z. contents_of c.args.octets.now r ++ z) c.in_ok-reserve.ensures.kept in
-    let headed = c.in_ok-prepend_header.ensures ∙ ap (λ z. front ++ (shortest_length (length z) ++ c.prepend.new.self.octets)) is in
+    let put = c.prepend.ensures.octets ∙ ap (λ z. z ++ c.reserve.new.self.octets) is
+    ∙ ap (λ z. contents_of c.args.octets.now r ++ z) c.in_ok-reserve.ensures.kept in
+    let headed = c.in_ok-prepend_header.ensures
+    ∙ ap (λ z. front ++ (shortest_length (length z) ++ c.prepend.new.self.octets)) is in
     let started = c.in_ok-push_start.ensures ∙ ap (λ z. c.args.starts.now.items ++ z ∷ []) c.len.ensures in
     contents_more c.args.octets.now r c.args.class c.requires.class rs old c.args.starts.now.items
-    c.prepend_header.new.out.octets c.push_start.new.starts.items c.args.canonical.now c.are_canonical_with.result state c.requires.tag c.requires.items within
+    c.prepend_header.new.out.octets c.push_start.new.starts.items c.args.canonical.now c.are_canonical_with.result state
+    c.requires.tag c.requires.items within
     c.prepend.new.self.octets put headed started c.are_canonical_with.ensures.so_far
-    (λ yes. subst (λ z. IsCanonicalBlock (shortest_encoding c.args.class (nat_lt 0 r.constructed) r.tag z)) is (c.are_canonical_with.ensures.this yes))
+    (λ yes. subst (λ z. IsCanonicalBlock (shortest_encoding c.args.class (nat_lt 0 r.constructed) r.tag z)) is
+    (c.are_canonical_with.ensures.this yes))

@@ -22,7 +22,8 @@ loop-i-init c =
     let b = subst (λ z. IsState octets (drop (length records) records) z [] look) (sym c.new-out.ensures) at_end in
     record {
       within = omega arith;
-      state = subst (λ z. IsState octets (drop (length records) records) c.new-out.result.octets z look) (sym c.new-starts.ensures.items) b;
+      state = subst (λ z. IsState octets (drop (length records) records) c.new-out.result.octets z look)
+          (sym c.new-starts.ensures.items) b;
     }
 
 pub returns-in-Err-clause-fault : goal.returns-in-Err-clause-fault
@@ -44,6 +45,7 @@ pub returns-clause-canonical : goal.returns-clause-canonical
 returns-clause-canonical c said =
     let state = c.loop-i.invariant.state in
     let xs = state.xs in
-    let some : 0 < length (concat xs) = omega (arith, c.are_canonical_some-canonical.ensures.some said, c.len.ensures, ap length state.joined) in
+    let some : 0 < length (concat xs) =
+    omega (arith, c.are_canonical_some-canonical.ensures.some said, c.len.ensures, ap length state.joined) in
     let (bs, d, w) = blocks_document xs some (state.found (c.are_canonical_some-canonical.ensures.so_far said)) in
     subst IsCanonicalDocument (sym state.joined) (bs, (d, w))

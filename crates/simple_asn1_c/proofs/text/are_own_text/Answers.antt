@@ -15,7 +15,8 @@ pub returns-in-Utf8-clause-meant : goal.returns-in-Utf8-clause-meant
 returns-in-Utf8-clause-meant c said =
     let octets = c.args.contents.now in
     let u : IsUtf8 octets = grind (arith, common_steps, said) in
-    subst (λ z. TextContents z (chars octets) octets) (sym c.in-Utf8.is) (scalars-chars octets u, encodes-chars octets u)
+    subst (λ z. TextContents z (chars octets) octets) (sym c.in-Utf8.is)
+    (scalars-chars octets u, encodes-chars octets u)
 
 pub returns-in-Printable-clause-utf8 : goal.returns-in-Printable-clause-utf8
 returns-in-Printable-clause-utf8 c said =
@@ -27,7 +28,8 @@ pub returns-in-Printable-clause-meant : goal.returns-in-Printable-clause-meant
 returns-in-Printable-clause-meant c said =
     let octets = c.args.contents.now in
     let all : list_all is_printable octets ≡ true = grind (arith, common_steps, said) in
-    subst (λ z. TextContents z (chars octets) octets) (sym c.in-Printable.is) (all, chars-IsAscii octets (printable_ascii octets all))
+    subst (λ z. TextContents z (chars octets) octets) (sym c.in-Printable.is)
+    (all, chars-IsAscii octets (printable_ascii octets all))
 
 pub returns-in-Octets-clause-utf8 : goal.returns-in-Octets-clause-utf8
 returns-in-Octets-clause-utf8 c said =

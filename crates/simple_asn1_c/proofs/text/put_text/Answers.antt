@@ -11,12 +11,17 @@ returns-in-None c =
     let text = c.args.text.now in
     let (kind, tag, form) = c.in-Some.ensures in
     let (same, utf8) = c.in-Ok.ensures.cases in
-    let here : AreAllowed c.in-Some.form (chars text) = subst (λ z. AreAllowed c.in-Some.form (chars z)) same c.in-None.ensures in
+    let here : AreAllowed c.in-Some.form (chars text) =
+    subst (λ z. AreAllowed c.in-Some.form (chars z)) same c.in-None.ensures in
     let allowed : AreAllowed (text_form kind) (chars text) = subst (λ z. AreAllowed z (chars text)) form here in
     let octets : c.as_bytes.result.now ≡ text_contents (text_form kind) (chars text) =
     c.as_bytes.ensures.value ∙ same ∙ sym (allowed_octets (text_form kind) text utf8 allowed) in
     has_characters kind tag utf8
-    (inl (allowed, subst (λ z. ArePut z c.args.room.now c.put_octets.new.room c.put_octets.result) octets c.put_octets.ensures))
+    (inl (
+      allowed,
+      subst (λ z. ArePut z c.args.room.now c.put_octets.new.room c.put_octets.result) octets
+          c.put_octets.ensures,
+    ))
 
 pub returns-in-Some-status_of_others : goal.returns-in-Some-status_of_others
 returns-in-Some-status_of_others c =

@@ -12,7 +12,8 @@ use Rattle.simple_asn1_c.specs.Values.{IsLeafAt, IsTextAt, IsTextTag, UniversalA
 use Rattle.simple_asn1_c.proofs.LeavesThere.{another_there, fault_there, leaf_here, nothing_there, small_tag}
 use Rattle.simple_asn1_c.proofs.text.text_at.Goals as goal
 
-leaf_of : (octets : List ℕ) (offset : ℕ) → (utf8 : List ℕ) × IsTextAt octets offset utf8 → (l : Leaf) × IsTextTag (leaf_tag l) × IsLeafAt octets offset l
+leaf_of : (octets : List ℕ) (offset : ℕ) → (utf8 : List ℕ) × IsTextAt octets offset utf8 →
+    (l : Leaf) × IsTextTag (leaf_tag l) × IsLeafAt octets offset l
 leaf_of octets offset (s, (kind, is)) = (text kind (chars s), (kind, refl), is)
 
 small : (tag : ℕ) → IsTextTag tag → tag < 2 ^ 64
@@ -24,7 +25,8 @@ returns-in-Err c =
     let offset = c.args.offset in
     let put = c.nothing_put.ensures in
     text_is_missing
-    (nothing_there octets offset ((s : List ℕ) × IsTextAt octets offset s) IsTextTag (leaf_of octets offset) c.in-Err.status c.nothing_put.result.status
+    (nothing_there octets offset ((s : List ℕ) × IsTextAt octets offset s) IsTextTag (leaf_of octets offset)
+    c.in-Err.status c.nothing_put.result.status
     c.in-Err.ensures.missing put.status)
     put.offset put.count refl
 
@@ -35,7 +37,8 @@ returns-in_default c =
     let put = c.nothing_put-in_default.ensures in
     let (n, u, number) = c.in-Ok.ensures.found in
     text_is_missing
-    (another_there octets offset ((s : List ℕ) × IsTextAt octets offset s) IsTextTag (leaf_of octets offset) c.nothing_put-in_default.result.status n
+    (another_there octets offset ((s : List ℕ) × IsTextAt octets offset s) IsTextTag (leaf_of octets offset)
+    c.nothing_put-in_default.result.status n
     c.in-Ok.found.0 c.in-Ok.found.1.now u number small (λ (kind, e). c.in_default.ensures kind e) put.status)
     put.offset put.count refl
 
@@ -48,7 +51,8 @@ returns-then-are_own_text c =
     let (kind, tag, form) = c.in-Some.ensures in
     let same : n ≡ string_tag kind = small_tag n c.in-Ok.found.0 (string_tag kind) number tag (string_tag_small kind) in
     let means = subst (λ z. TextContents z (chars v) v) form (c.if-are_own_text.ensures.meant refl) in
-    let is = leaf_here octets offset (text kind (chars v)) v (subst (λ z. UniversalAt octets offset z v) same u) means in
+    let is = leaf_here octets offset (text kind (chars v)) v (subst (λ z. UniversalAt octets offset z v) same u)
+    means in
     text_was_found v (c.if-are_own_text.ensures.utf8 refl) (kind, is) c.put_octets.ensures
 
 pub returns-in-Ok-read : goal.returns-in-Ok-read
@@ -61,10 +65,12 @@ returns-in-Ok-read c =
     let (kind, tag, form) = c.in-Some.ensures in
     let same : n ≡ string_tag kind = small_tag n c.in-Ok.found.0 (string_tag kind) number tag (string_tag_small kind) in
     let means = subst (λ z. TextContents z (chars s) v) form c.in-Ok-read.ensures.found in
-    let is = leaf_here octets offset (text kind (chars s)) v (subst (λ z. UniversalAt octets offset z v) same u) means in
+    let is = leaf_here octets offset (text kind (chars s)) v (subst (λ z. UniversalAt octets offset z v) same u)
+    means in
     let bytes : c.as_bytes.result.now ≡ s = c.as_bytes.ensures.value ∙ c.as_str.ensures.value in
     text_was_found s (subst IsUtf8 bytes c.as_bytes.ensures.utf8) (kind, is)
-    (subst (λ z. ArePut z c.args.room.now c.put_octets-in-Ok-read.new.room c.put_octets-in-Ok-read.result) bytes c.put_octets-in-Ok-read.ensures)
+    (subst (λ z. ArePut z c.args.room.now c.put_octets-in-Ok-read.new.room c.put_octets-in-Ok-read.result) bytes
+    c.put_octets-in-Ok-read.ensures)
 
 pub returns-in-Err-read : goal.returns-in-Err-read
 returns-in-Err-read c =
@@ -82,7 +88,8 @@ returns-in-Err-read c =
       | inr fault ↦
           let own : TextFault (text_form kind) v f = subst (λ z. TextFault z v f) form fault in
           text_is_missing
-          (fault_there octets offset ((s : List ℕ) × IsTextAt octets offset s) IsTextTag (leaf_of octets offset) c.nothing_put-in-Err-read.result.status n
+          (fault_there octets offset ((s : List ℕ) × IsTextAt octets offset s) IsTextTag (leaf_of octets offset)
+          c.nothing_put-in-Err-read.result.status n
           v (kind, same) u f (of_text kind same own) told)
           put.offset put.count refl
     ]

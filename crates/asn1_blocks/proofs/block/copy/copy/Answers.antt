@@ -10,7 +10,8 @@ use Rattle.asn1_blocks.proofs.block.copy.copy.Goals as goal
 -- the block at a place is that of the list of the blocks themselves
 block_at : (order : List (Bor ASN1Block)) (j : ℕ) (x : Bor ASN1Block) → j < length order → x ≡ get_or order j x
     → x.now ≡ get_or (map (λ b. b.now) order) j x.now
-block_at order j x h e = ap (λ (b : Bor ASN1Block). b.now) e ∙ sym (get_or-map (λ (b : Bor ASN1Block). b.now) order j x x.now h)
+block_at order j x h e =
+    ap (λ (b : Bor ASN1Block). b.now) e ∙ sym (get_or-map (λ (b : Bor ASN1Block). b.now) order j x x.now h)
 
 pub take_back-requires : goal.take_back-requires
 take_back-requires c =
@@ -21,7 +22,8 @@ take_back-requires c =
     let g = block_at items (i - 1) c.index-block.result.now (omega arith) c.index-block.ensures in
     let some = order_drop order c.from_ref.result.now (i - 1) c.in_ok-order.ensures (omega (arith, l)) in
     let p = from_place order some.0 i (i - 1) c.index-block.result.now.now (omega arith) l g some.1 in
-    let e = enough_made c.index-block.result.now.now some.0 p.after c.loop-i.copies p.next (c.loop-i.invariant.copied p.after p.ordered) in
+    let e = enough_made c.index-block.result.now.now some.0 p.after c.loop-i.copies p.next
+    (c.loop-i.invariant.copied p.after p.ordered) in
     omega (arith, e, sym (count_views c.blocks_inside.result.now) ∙ ap count c.blocks_inside.ensures)
 
 pub copy_over-requires : goal.copy_over-requires
@@ -33,9 +35,11 @@ copy_over-requires c =
     let g = block_at items (i - 1) c.index-block.result.now (omega arith) c.index-block.ensures in
     let some = order_drop order c.from_ref.result.now (i - 1) c.in_ok-order.ensures (omega (arith, l)) in
     let p = from_place order some.0 i (i - 1) c.index-block.result.now.now (omega arith) l g some.1 in
-    let n = c.in_ok-held.ensures.count ∙ (sym (count_views c.blocks_inside.result.now) ∙ ap count c.blocks_inside.ensures) in
+    let n = c.in_ok-held.ensures.count
+    ∙ (sym (count_views c.blocks_inside.result.now) ∙ ap count c.blocks_inside.ensures) in
     let t = c.in_ok-held.ensures.taken in
-    (taken_for c.index-block.result.now.now some.0 p.after c.loop-i.copies c.in_ok-held.held c.take_back.new.copies p.next
+    (taken_for c.index-block.result.now.now some.0 p.after c.loop-i.copies c.in_ok-held.held c.take_back.new.copies
+    p.next
     (c.loop-i.invariant.copied p.after p.ordered) n t).held
 
 pub loop-i-preserved : goal.loop-i-preserved
@@ -45,13 +49,15 @@ loop-i-preserved c =
     let order = map (λ b. b.now) items in
     let l : i ≤ length order = omega (arith, length-map items (λ (b : Bor ASN1Block). b.now)) in
     let g = block_at items (i - 1) c.index-block.result.now (omega arith) c.index-block.ensures in
-    let n = c.in_ok-held.ensures.count ∙ (sym (count_views c.blocks_inside.result.now) ∙ ap count c.blocks_inside.ensures) in
+    let n = c.in_ok-held.ensures.count
+    ∙ (sym (count_views c.blocks_inside.result.now) ∙ ap count c.blocks_inside.ensures) in
     let t = c.in_ok-held.ensures.taken in
     record {
       within = omega arith;
       copied = λ left h.
           let p = from_place order left i (i - 1) c.index-block.result.now.now (omega arith) l g h in
-          let k = taken_for c.index-block.result.now.now left p.after c.loop-i.copies c.in_ok-held.held c.take_back.new.copies p.next
+          let k = taken_for c.index-block.result.now.now left p.after c.loop-i.copies c.in_ok-held.held
+          c.take_back.new.copies p.next
           (c.loop-i.invariant.copied p.after p.ordered) n t in
           ap (λ z. views (reverse z)) c.in_ok-push.ensures ∙ k.copied c.in_ok-copy.copy c.in_ok-copy.ensures;
     }

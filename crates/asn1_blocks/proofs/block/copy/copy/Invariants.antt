@@ -8,7 +8,8 @@ use Rattle.asn1_blocks.proofs.block.copy.copy.Given as goal
 abbrev pub invariant-loop-i : goal.invariant-loop-i
 invariant-loop-i l = record {
   within : l.i ≤ length l.order.items;
-  copied : (left : List ASN1Block) → IsInTreeOrder (drop l.i (map (λ b. b.now) l.order.items)) left → views (reverse l.copies) ≡ views left;
+  copied : (left : List ASN1Block) → IsInTreeOrder (drop l.i (map (λ b. b.now) l.order.items)) left →
+      views (reverse l.copies) ≡ views left;
 }
 
 abbrev pub decreases-loop-i : goal.decreases-loop-i

@@ -6,5 +6,6 @@ use Rattle.asn1_blocks.proofs.block.discard.discard.Goals as goal
 
 pub loop-blocks-smaller : goal.loop-blocks-smaller
 loop-blocks-smaller c =
-    let e = ap (λ z. all_blocks_in (views z)) c.take_last-block.ensures.items ∙ blocks_push c.take_last-block.new.self.items c.take_last-block.result in
+    let e = ap (λ z. all_blocks_in (views z)) c.take_last-block.ensures.items
+    ∙ blocks_push c.take_last-block.new.self.items c.take_last-block.result in
     omega (arith, e, c.unnest-blocks.ensures)

@@ -6,7 +6,8 @@ use Rattle.asn1_blocks.proofs.block.discard.unnest.Given as goal
 -- there are no more blocks than at first
 abbrev pub invariant-loop-block : goal.invariant-loop-block
 invariant-loop-block l =
-    blocks_in (view l.block) + all_blocks_in (views l.rest.items) ≤ blocks_in (view l.initial.block) + all_blocks_in (views l.initial.rest.items)
+    blocks_in (view l.block) + all_blocks_in (views l.rest.items) ≤ blocks_in (view l.initial.block) + all_blocks_in
+    (views l.initial.rest.items)
 
 -- the block is taken apart
 abbrev pub decreases-loop-block : goal.decreases-loop-block

@@ -16,7 +16,8 @@ same_all-returns-in_default t c =
     let v = c.loop-x.v.now in
     let w = c.loop-x.w.now in
     let e : v ≡ [] = none_in v (grind (arith, common_steps)) in (
-      λ h. c.loop-x.invariant.same.0 (ap (λ z. shapes (views z)) (e ∙ sym (none_in w (grind (arith, common_steps, h))))),
+      λ h. c.loop-x.invariant.same.0
+          (ap (λ z. shapes (views z)) (e ∙ sym (none_in w (grind (arith, common_steps, h))))),
       λ s. let n = same_length v w (c.loop-x.invariant.same.1 s) in grind (arith, common_steps, n),
     )
 
@@ -25,14 +26,18 @@ same_all-returns-in_default-split_last t c =
     let v = c.loop-x.v.now in
     let w = c.loop-x.w.now in (
       λ h. absurd (false≢true h),
-      λ s. let n = same_length v w (c.loop-x.invariant.same.1 s) in absurd (grind (arith, common_steps, n, ap (λ z. length z) c.in-Some.ensures.cases.0)),
+      λ s. let n = same_length v w (c.loop-x.invariant.same.1 s) in
+          absurd (grind (arith, common_steps, n, ap (λ z. length z) c.in-Some.ensures.cases.0)),
     )
 
 pub same_all-returns-then-not-same_own : goal.same_all-returns-then-not-same_own
 same_all-returns-then-not-same_own t c =
-    let l = lasts c.loop-x.v.now c.loop-x.w.now c.in-Some.v_front.now c.in-Some-split_last.w_front.now c.in-Some.x.now c.in-Some-split_last.y.now
-    c.in-Some.ensures.cases.0 c.in-Some-split_last.ensures.cases.0 in
-    (λ h. absurd (false≢true h), λ s. absurd (false≢true (c.if-not-same_own.ensures.1 (l.own (c.loop-x.invariant.same.1 s)))))
+    let l = lasts c.loop-x.v.now c.loop-x.w.now c.in-Some.v_front.now c.in-Some-split_last.w_front.now c.in-Some.x.now
+    c.in-Some-split_last.y.now
+    c.in-Some.ensures.cases.0 c.in-Some-split_last.ensures.cases.0 in (
+      λ h. absurd (false≢true h),
+      λ s. absurd (false≢true (c.if-not-same_own.ensures.1 (l.own (c.loop-x.invariant.same.1 s)))),
+    )
 
 pub same_all-same_each-requires : goal.same_all-same_each-requires
 same_all-same_each-requires t c =
@@ -41,9 +46,12 @@ same_all-same_each-requires t c =
 
 pub same_all-returns-then-not-same_each : goal.same_all-returns-then-not-same_each
 same_all-returns-then-not-same_each t c =
-    let l = lasts c.loop-x.v.now c.loop-x.w.now c.in-Some.v_front.now c.in-Some-split_last.w_front.now c.in-Some.x.now c.in-Some-split_last.y.now
-    c.in-Some.ensures.cases.0 c.in-Some-split_last.ensures.cases.0 in
-    (λ h. absurd (false≢true h), λ s. absurd (false≢true (c.if-not-same_each.ensures.1 (l.fronts (c.loop-x.invariant.same.1 s)))))
+    let l = lasts c.loop-x.v.now c.loop-x.w.now c.in-Some.v_front.now c.in-Some-split_last.w_front.now c.in-Some.x.now
+    c.in-Some-split_last.y.now
+    c.in-Some.ensures.cases.0 c.in-Some-split_last.ensures.cases.0 in (
+      λ h. absurd (false≢true h),
+      λ s. absurd (false≢true (c.if-not-same_each.ensures.1 (l.fronts (c.loop-x.invariant.same.1 s)))),
+    )
 
 pub same_all-loop-x-smaller : goal.same_all-loop-x-smaller
 same_all-loop-x-smaller t c =
@@ -54,22 +62,26 @@ pub same_all-loop-x-preserved : goal.same_all-loop-x-preserved
 same_all-loop-x-preserved t c =
     let x = c.in-Some.x.now in
     let y = c.in-Some-split_last.y.now in
-    let l = lasts c.loop-x.v.now c.loop-x.w.now c.in-Some.v_front.now c.in-Some-split_last.w_front.now x y c.in-Some.ensures.cases.0
+    let l = lasts c.loop-x.v.now c.loop-x.w.now c.in-Some.v_front.now c.in-Some-split_last.w_front.now x y
+    c.in-Some.ensures.cases.0
     c.in-Some-split_last.ensures.cases.0 in
     let f = fewer_blocks c.loop-x.v.now c.in-Some.v_front.now x c.in-Some.ensures.cases.0 in
     let a = ap shapes c.blocks_inside-v.ensures in
     let b = ap shapes c.blocks_inside-w.ensures in
     record {
       same = (
-        λ s. c.loop-x.invariant.same.0 (l.whole (c.if-not-same_each.ensures.0 refl) (c.if-not-same_own.ensures.0 refl) (sym a ∙ (s ∙ b))),
+        λ s. c.loop-x.invariant.same.0
+            (l.whole (c.if-not-same_each.ensures.0 refl) (c.if-not-same_own.ensures.0 refl) (sym a ∙ (s ∙ b))),
         λ s. a ∙ (l.held (c.loop-x.invariant.same.1 s) ∙ sym b),
       );
       fewer = omega (arith, f.1, ap (λ z. all_blocks_in z) c.blocks_inside-v.ensures, c.loop-x.invariant.fewer);
     }
 
 pub same_each-returns-then-a-b : goal.same_each-returns-then-a-b
-same_each-returns-then-a-b t c =
-    (λ h. absurd (false≢true h), λ e. absurd (c.if-a-b.true (grind (arith, common_steps, same_length c.args.a.now c.args.b.now e))))
+same_each-returns-then-a-b t c = (
+  λ h. absurd (false≢true h),
+  λ e. absurd (c.if-a-b.true (grind (arith, common_steps, same_length c.args.a.now c.args.b.now e))),
+)
 
 pub same_each-same_all-requires : goal.same_each-same_all-requires
 same_each-same_all-requires t c =
@@ -77,11 +89,15 @@ same_each-same_all-requires t c =
     (grind (arith, common_steps, n, ap (λ z. all_blocks_in (views z)) c.from_ref.ensures.value), tt)
 
 -- a list of one block
-alone : (xs ys : List ASN1Block) (x y : ASN1Block) → xs ≡ x ∷ [] → ys ≡ y ∷ [] → AreSame xs ys ↔ (shape (view x) ≡ shape (view y))
+alone : (xs ys : List ASN1Block) (x y : ASN1Block) → xs ≡ x ∷ [] → ys ≡ y ∷ [] →
+    AreSame xs ys ↔ (shape (view x) ≡ shape (view y))
 alone xs ys x y e f =
     let p = ap (λ z. shapes (views z)) e in
-    let q = ap (λ z. shapes (views z)) f in
-    (λ s. let t : AreSame (x ∷ []) (y ∷ []) = sym p ∙ (s ∙ q) in cc, λ s. p ∙ (ap (λ z. more_trees z no_trees) s ∙ sym q))
+    let q = ap (λ z. shapes (views z)) f in (
+      λ s. let t : AreSame (x ∷ []) (y ∷ []) = sym p ∙ (s ∙ q) in
+          cc,
+      λ s. p ∙ (ap (λ z. more_trees z no_trees) s ∙ sym q),
+    )
 
 pub same_each-returns-then-not-same_all : goal.same_each-returns-then-not-same_all
 same_each-returns-then-not-same_all t c =
@@ -89,7 +105,8 @@ same_each-returns-then-not-same_all t c =
     let ys = c.args.b.now in
     let i = c.loop-i.i in
     let l : i < length xs = grind (arith, common_steps) in
-    let o = alone c.from_ref.result.now c.from_ref-in-loop-i.result.now c.index-a-i.result c.index-b-i.result c.from_ref.ensures.value
+    let o = alone c.from_ref.result.now c.from_ref-in-loop-i.result.now c.index-a-i.result c.index-b-i.result
+    c.from_ref.ensures.value
     c.from_ref-in-loop-i.ensures.value in (
       λ h. absurd (false≢true h),
       λ e. absurd (false≢true (c.if-not-same_all.ensures.1 (o.1
@@ -106,11 +123,15 @@ same_each-loop-i-preserved t c =
     let m : i < length ys = grind (arith, common_steps) in
     let x = c.index-a-i.result in
     let y = c.index-b-i.result in
-    let o = alone c.from_ref.result.now c.from_ref-in-loop-i.result.now x y c.from_ref.ensures.value c.from_ref-in-loop-i.ensures.value in
+    let o = alone c.from_ref.result.now c.from_ref-in-loop-i.result.now x y c.from_ref.ensures.value
+    c.from_ref-in-loop-i.ensures.value in
     let f : shape (view x) ≡ shape (view y) = o.0 (c.if-not-same_all.ensures.0 refl) in
-    let p : take (i + 1) xs ≡ take i xs ++ x ∷ [] = take_more xs i x l ∙ ap (λ z. take i xs ++ z ∷ []) (sym c.index-a-i.is) in
-    let q : take (i + 1) ys ≡ take i ys ++ y ∷ [] = take_more ys i y m ∙ ap (λ z. take i ys ++ z ∷ []) (sym c.index-b-i.is) in
-    ap (λ z. shapes (views z)) p ∙ (shapes_push (take i xs) (take i ys) x y c.loop-i.invariant f ∙ ap (λ z. shapes (views z)) (sym q))
+    let p : take (i + 1) xs ≡ take i xs ++ x ∷ [] =
+    take_more xs i x l ∙ ap (λ z. take i xs ++ z ∷ []) (sym c.index-a-i.is) in
+    let q : take (i + 1) ys ≡ take i ys ++ y ∷ [] =
+    take_more ys i y m ∙ ap (λ z. take i ys ++ z ∷ []) (sym c.index-b-i.is) in
+    ap (λ z. shapes (views z)) p
+    ∙ (shapes_push (take i xs) (take i ys) x y c.loop-i.invariant f ∙ ap (λ z. shapes (views z)) (sym q))
 
 pub same_each-returns : goal.same_each-returns
 same_each-returns t c =

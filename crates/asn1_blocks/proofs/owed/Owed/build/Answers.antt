@@ -7,12 +7,7 @@ use Rattle.asn1_blocks.specs.Tree.{unknown}
 use Rattle.asn1_blocks.specs.View.{view}
 use Rattle.asn1_blocks.proofs.OwedBlocks.{pushed, group_built, around_built}
 use Rattle.asn1_blocks.proofs.owed.Owed.build.Goals as goal
-use Rattle.asn1_blocks.proofs.owed.Owed.build.Goals.{
-  in-Ready,
-  in-Group+in_ok-others-in-Group+in_ok-append-in-Group,
-  in-Explicit+in-Some+in_ok-block-in-Explicit,
-  in-Kept+in_ok-block-in-Kept,
-}
+use Rattle.asn1_blocks.proofs.owed.Owed.build.Goals.{in-Ready, in-Group+in_ok-others-in-Group+in_ok-append-in-Group, in-Explicit+in-Some+in_ok-block-in-Explicit, in-Kept+in_ok-block-in-Kept}
 
 pub returns-in_default : goal.returns-in_default
 returns-in_default c =
@@ -37,12 +32,15 @@ returns c =
           let n : w.saturating_sub.result ≡ length old - w.in-Group.behind = grind (arith, common_steps) in
           let split = w.in_ok-others-in-Group.ensures in
           let own = ap view w.block-is ∙ w.group_block-block.ensures in
-          group_built octets old kept w.in_ok-others-in-Group.others w.append.new.self w.in-Group.kind w.in-Group.offset w.in-Group.behind
-          w.saturating_sub.result w.in-Group.first block n (w.blocks-is ∙ split.kept) split.parted w.in_ok-append-in-Group.ensures own ∙ sym order
+          group_built octets old kept w.in_ok-others-in-Group.others w.append.new.self w.in-Group.kind w.in-Group.offset
+          w.in-Group.behind
+          w.saturating_sub.result w.in-Group.first block n (w.blocks-is ∙ split.kept) split.parted
+          w.in_ok-append-in-Group.ensures own ∙ sym order
       | in-Explicit+in-Some+in_ok-block-in-Explicit w ↦
           let order = ap (λ z. after octets z s) w.in-Explicit.is in
           let last = w.in-Some.ensures ∙ ap (λ z. z ++ w.in-Some.item ∷ []) (sym w.blocks-is) in
-          around_built old kept w.in-Explicit.attempt w.in-Some.item block last (ap view w.block-is ∙ w.in_ok-block-in-Explicit.ensures) ∙ sym order
+          around_built old kept w.in-Explicit.attempt w.in-Some.item block last
+          (ap view w.block-is ∙ w.in_ok-block-in-Explicit.ensures) ∙ sym order
       | in-Kept+in_ok-block-in-Kept w ↦
           let order = ap (λ z. after octets z s) w.in-Kept.is in
           let a = w.in-Kept.attempt in

@@ -5,6 +5,8 @@ use Rattle.asn1_blocks.proofs.read.TreeBuilderBuilder.keep.Goals as goal
 pub returns : goal.returns
 returns c =
     if_ok c.push_as_it_came.result
-    (kept_after c.args.octets.now c.args.self.now c.push_as_it_came.new.self c.args.parent.now c.push_as_it_came.new.items
-    (in_frame c.args.extent c.args.items) c.args.depth (record { owed = c.truncate.new.self; outermost = c.leave-inside.new.outermost }) c.in_ok-attempt.attempt
+    (kept_after c.args.octets.now c.args.self.now c.push_as_it_came.new.self c.args.parent.now
+    c.push_as_it_came.new.items
+    (in_frame c.args.extent c.args.items) c.args.depth
+    (record { owed = c.truncate.new.self; outermost = c.leave-inside.new.outermost }) c.in_ok-attempt.attempt
     c.in_ok-attempt.ensures c.truncate.ensures.items) c.push_as_it_came.ensures

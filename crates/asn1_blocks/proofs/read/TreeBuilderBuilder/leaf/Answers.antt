@@ -14,10 +14,12 @@ returns c =
     record {
       built = record {
         tree = view block;
-        encoded = c.in_ok-block.ensures.encoded (slice_range octets c.args.offset h.end) (h.start - c.args.offset) found.encoding;
+        encoded = c.in_ok-block.ensures.encoded (slice_range octets c.args.offset h.end) (h.start - c.args.offset)
+            found.encoding;
         more = record {
           holds = λ e fs ts rest depth w.
-              push_more octets c.args.self.now c.push_block.new.self c.args.items.now c.push_block.new.items e fs ts rest block c.in_ok-push_block.ensures w;
+              push_more octets c.args.self.now c.push_block.new.self c.args.items.now c.push_block.new.items e fs ts
+              rest block c.in_ok-push_block.ensures w;
         };
       };
       refused = tt;

@@ -14,4 +14,5 @@ returns c =
     ] in
     let before : c.len.result ≡ length b.owed.items = grind (arith, common_steps) in
     opened c.args.octets.now c.args.header.now c.args._offset c.args.depth c.args.self.now b
-    (record { first = c.in_ok-first.first; owed_before = c.len.result; owed_count = 0 }) same before refl c.in_ok-first.ensures
+    (record { first = c.in_ok-first.first; owed_before = c.len.result; owed_count = 0 }) same before refl
+    c.in_ok-first.ensures

@@ -9,4 +9,5 @@ loop-block-preserved c =
     let outer = c.loop-block.self.outer.items in
     let o : outer ≡ c.pop.new.self.items ++ c.in-Some-pop.rest ∷ [] = grind (arith, common_steps) in
     let e = none_in c.loop-block.self.front.now (grind (arith, common_steps)) in
-    sym (ap (λ z. z ++ stacked (map (λ x. x.now) outer)) e ∙ below_push outer c.pop.new.self.items c.in-Some-pop.rest o) ∙ c.loop-block.invariant
+    sym (ap (λ z. z ++ stacked (map (λ x. x.now) outer)) e ∙ below_push outer c.pop.new.self.items c.in-Some-pop.rest o)
+    ∙ c.loop-block.invariant

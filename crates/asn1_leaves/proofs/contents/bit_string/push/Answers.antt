@@ -8,4 +8,5 @@ returns g c =
     let n = 8 * length c.args.octets.now - c.args.bits in
     let e : bit_string_contents c.args.bits c.args.octets.now ≡ n ∷ c.args.octets.now = grind (arith, common_steps) in
     subst (λ z. g.S.Sink.pushes c.args.out.now z c.push_octets.new.self) (sym e)
-    (g.S.Sink.more c.args.out.now c.push_octet.new.self c.push_octets.new.self (n ∷ []) c.args.octets.now c.push_octet.ensures c.push_octets.ensures)
+    (g.S.Sink.more c.args.out.now c.push_octet.new.self c.push_octets.new.self (n ∷ []) c.args.octets.now
+    c.push_octet.ensures c.push_octets.ensures)

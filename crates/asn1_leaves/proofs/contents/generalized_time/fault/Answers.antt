@@ -10,7 +10,8 @@ use Rattle.asn1_leaves.proofs.contents.generalized_time.fault.Goals as goal
 pub returns-in-Err : goal.returns-in-Err
 returns-in-Err c =
     let e = c.in-Err.ensures in
-    utf8_failure_is c.args.contents.now _ _ e.valid_len e.fault ∙ fault_not_utf8 c.args.contents.now c.if-contents-lt15.false e.cases.0
+    utf8_failure_is c.args.contents.now _ _ e.valid_len e.fault
+    ∙ fault_not_utf8 c.args.contents.now c.if-contents-lt15.false e.cases.0
 
 pub returns-then-not-are_ascii : goal.returns-then-not-are_ascii
 returns-then-not-are_ascii c =
@@ -21,4 +22,5 @@ returns-then-not-are_ascii c =
 pub returns : goal.returns
 returns c =
     let a : list_all is_ascii c.args.contents.now ≡ true = grind (arith, common_steps) in
-    ap invalid_date_value c.in_ok-longer_form.ensures ∙ fault_ascii c.args.contents.now c.if-contents-lt15.false c.in-Ok.ensures.cases.1 a
+    ap invalid_date_value c.in_ok-longer_form.ensures
+    ∙ fault_ascii c.args.contents.now c.if-contents-lt15.false c.in-Ok.ensures.cases.1 a

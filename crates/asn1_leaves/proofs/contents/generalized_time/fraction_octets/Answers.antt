@@ -1,22 +1,4 @@
-use Rattle.std.proofs.Common.{
-  ◌≡◌,
-  ◌+◌,
-  ◌-◌,
-  ◌/◌,
-  ◌%◌,
-  ◌++◌,
-  ◌<◌,
-  [],
-  ◌∷◌,
-  length,
-  take,
-  arith,
-  sym,
-  ap,
-  ◌∙◌,
-  append_assoc,
-  add-one,
-}
+use Rattle.std.proofs.Common.{◌≡◌, ◌+◌, ◌-◌, ◌/◌, ◌%◌, ◌++◌, ◌<◌, [], ◌∷◌, length, take, arith, sym, ap, ◌∙◌, append_assoc, add-one}
 use Rattle.std.specs.Prelude.{slice_set}
 use Rattle.std.proofs.Math.Seq.{take-suc-set}
 use Rattle.std.proofs.lemmas.Grind.{common_steps}
@@ -40,7 +22,8 @@ loop-count-preserved c =
     let s = digits_step (9 - i) unit left (omega arith) (omega arith) in
     let p : 9 - i - 1 ≡ 9 - (i + 1) = omega arith in
     let rest = fraction_digits (9 - (i + 1)) (unit / 10) (left % unit) in
-    let s' : fraction_digits (9 - i) unit left ≡ x ∷ rest = s ∙ ap (λ z. x ∷ fraction_digits z (unit / 10) (left % unit)) p in
+    let s' : fraction_digits (9 - i) unit left ≡ x ∷ rest =
+    s ∙ ap (λ z. x ∷ fraction_digits z (unit / 10) (left % unit)) p in
     let h : i < length digits = omega arith in
     let t : take (i + 1) (slice_set digits i x) ≡ take i digits ++ (x ∷ []) = rw (add-one, take-suc-set digits i x h) in
     record {

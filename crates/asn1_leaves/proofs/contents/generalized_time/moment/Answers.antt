@@ -13,14 +13,16 @@ returns-clause-found c = IfSome_then c.moment_from.result c.moment_from.ensures.
     let second = c.split_at.result.0.now in
     let end = c.split_at.result.1.now in
     let (digits, ends, is) = c.in_ok-nanosecond.ensures.found in
-    let s : second ≡ to_second (moment_of d) = second_spelled second c.in_ok-high.field-0 c.in_ok-low.field-0 c.in_ok-nanosecond.nanosecond
+    let s : second ≡ to_second (moment_of d) =
+    second_spelled second c.in_ok-high.field-0 c.in_ok-low.field-0 c.in_ok-nanosecond.nanosecond
     (moment_of d) c.split_at.ensures.front_len c.in_ok-high.ensures.found c.in_ok-low.ensures.found p in
     record {
       valid = p.valid;
       digits = digits;
       end = end;
       octets = sym (take-append-drop 14 contents)
-          ∙ (ap (λ z. z ++ drop 14 contents) (sym c.split_at.ensures.front ∙ s) ∙ ap (λ z. to_second (moment_of d) ++ z) (sym c.split_at.ensures.back));
+          ∙ (ap (λ z. z ++ drop 14 contents) (sym c.split_at.ensures.front ∙ s)
+          ∙ ap (λ z. to_second (moment_of d) ++ z) (sym c.split_at.ensures.back));
       is_end = ends;
       nanosecond = p.nanosecond_is ∙ is;
     })

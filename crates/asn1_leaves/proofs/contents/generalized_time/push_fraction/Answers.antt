@@ -10,4 +10,5 @@ returns g c =
     let p : g.S.Sink.pushes c.push_octet.new.self (fraction_digits 9 tenth n) c.push_octets.new.self =
     grind (arith, common_steps, c.push_octets.ensures, c.fraction_octets-count.ensures.digits) in
     subst (λ z. g.S.Sink.pushes c.args.out.now z c.push_octets.new.self) (sym e)
-    (g.S.Sink.more c.args.out.now c.push_octet.new.self c.push_octets.new.self (46 ∷ []) (fraction_digits 9 tenth n) c.push_octet.ensures p)
+    (g.S.Sink.more c.args.out.now c.push_octet.new.self c.push_octets.new.self (46 ∷ []) (fraction_digits 9 tenth n)
+    c.push_octet.ensures p)

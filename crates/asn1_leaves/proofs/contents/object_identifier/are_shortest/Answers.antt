@@ -27,11 +27,13 @@ returns-clause-shortest c said components p =
     let b = c.in-Some.field-0-0.now in
     let rest = c.in-Some.rest.now in
     let e : contents ≡ b ∷ rest = grind (arith, common_steps) in
-    let all : AreOctets contents = All-from_get_or (λ b. b < 256) contents 0 (λ k h. omega (arith, c.type_inv.contents k)) in
+    let all : AreOctets contents =
+    All-from_get_or (λ b. b < 256) contents 0 (λ k h. omega (arith, c.type_inv.contents k)) in
     let left = drop c.loop-octet.octet-index rest in
     let none = c.loop-octet.invariant (none_left left c.loop-octet.begins (omega (
       arith,
       length-drop c.loop-octet.octet-index rest,
       c.loop-octet-test.false,
     )) said) in
-    e ∙ short_object_identifier components b rest (subst AreOctets e all) none (subst (ObjectIdentifierContents components) e p)
+    e ∙ short_object_identifier components b rest (subst AreOctets e all) none
+    (subst (ObjectIdentifierContents components) e p)

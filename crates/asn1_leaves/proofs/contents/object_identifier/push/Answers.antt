@@ -8,5 +8,6 @@ returns g c =
     let b = c.in-Ok.octet in
     let e = c.in-Ok.ensures.octet
     ∙ ap (λ ns. b ∷ flat_map shortest_base128 ns) (sym c.split_at.ensures.back) in
-    let all = g.S.Sink.more c.args.out.now c.push_octet.new.self c.push_shortest.new.out (b ∷ []) _ c.push_octet.ensures c.push_shortest.ensures in
+    let all = g.S.Sink.more c.args.out.now c.push_octet.new.self c.push_shortest.new.out (b ∷ []) _ c.push_octet.ensures
+    c.push_shortest.ensures in
     subst (λ xs. g.S.Sink.pushes c.args.out.now xs c.push_shortest.new.out) (sym e) all

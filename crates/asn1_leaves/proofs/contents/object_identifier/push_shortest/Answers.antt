@@ -12,4 +12,10 @@ push_base128-requires g c =
     let before = flat_map shortest_base128 (take i components) in
     let fits = length-flat_map-take shortest_base128 components i component c.loop-component-test.true in
     let same = ap (λ (n : ℕ). length (shortest_base128 n)) c.component-item.is in
-    omega (arith, c.requires, fits, same, g.S.Sink.room_after c.args.out.now c.loop-component.out before c.loop-component.invariant)
+    omega (
+      arith,
+      c.requires,
+      fits,
+      same,
+      g.S.Sink.room_after c.args.out.now c.loop-component.out before c.loop-component.invariant,
+    )

@@ -1,22 +1,4 @@
-use Rattle.std.proofs.Common.{
-  arith,
-  ◌≡◌,
-  ◌++◌,
-  ◌+◌,
-  ◌-◌,
-  [],
-  ◌∷◌,
-  inl,
-  inr,
-  take,
-  drop,
-  ap,
-  sym,
-  subst,
-  ◌∙◌,
-  append_assoc,
-  length-drop,
-}
+use Rattle.std.proofs.Common.{arith, ◌≡◌, ◌++◌, ◌+◌, ◌-◌, [], ◌∷◌, inl, inr, take, drop, ap, sym, subst, ◌∙◌, append_assoc, length-drop}
 use Rattle.std.specs.List.{slice_range}
 use Rattle.std.proofs.Math.Seq.{take-add}
 use Rattle.std.proofs.lemmas.Result.{err_from_is_err_and}
@@ -32,7 +14,8 @@ returns-in_err-n-clause-refused c =
     let rest = drop i c.args.octets.now in
     rw (p.1, p.2) (elim c.in_err-n.ensures.refused [
       | inl memory ↦ inl memory
-      | inr missing ↦ let f = first_fault rest _ (omega (arith, length-drop i c.args.octets.now, c.loop-index-test.true)) missing in
+      | inr missing ↦ let f =
+          first_fault rest _ (omega (arith, length-drop i c.args.octets.now, c.loop-index-test.true)) missing in
           inr (f.0, c.loop-index.invariant.2 f.1)
     ])
 
@@ -49,9 +32,12 @@ loop-index-preserved c =
     let ns = so_far.0 in
     let items = c.in_ok-push.ensures.items ∙ ap (λ z. z ++ n ∷ []) so_far.1 ∙ append_assoc before ns (n ∷ []) in
     let forward : i + (j - i) ≡ j = omega (arith, moved.0) in
-    let front : take j octets ≡ take i octets ++ slice_range octets i j = ap (λ k. take k octets) (sym forward) ∙ take-add i (j - i) octets in
+    let front : take j octets ≡ take i octets ++ slice_range octets i j =
+    ap (λ k. take k octets) (sym forward) ∙ take-add i (j - i) octets in
     let more = subidentifiers_more ns (take i octets) (slice_range octets i j) n so_far.2 found in (
       moved.1,
       (ns ++ n ∷ [], items, subst (Subidentifiers (ns ++ n ∷ [])) (sym front) more),
-      λ h. c.loop-index.invariant.2 (none_after (slice_range octets i j) (drop j octets) n found h (drop i octets) (slice_split octets i j moved.0)),
+      λ h. c.loop-index.invariant.2
+          (none_after (slice_range octets i j) (drop j octets) n found h (drop i octets)
+          (slice_split octets i j moved.0)),
     )

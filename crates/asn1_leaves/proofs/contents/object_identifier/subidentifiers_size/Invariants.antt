@@ -6,4 +6,8 @@ use Rattle.asn1_leaves.proofs.contents.object_identifier.subidentifiers_size.Giv
 -- the octets of the subidentifiers so far, and one more
 abbrev pub invariant-loop-component : goal.invariant-loop-component
 invariant-loop-component l =
-    record { so_far : l.size ≡ 1 + length (flat_map shortest_base128 (take l.component-index l.components)); fits : l.size < 2 ^ 64 }
+    record {
+      so_far : l.size
+          ≡ 1 + length (flat_map shortest_base128 (take l.component-index l.components));
+      fits : l.size < 2 ^ 64;
+    }

@@ -10,7 +10,8 @@ use Rattle.asn1_leaves.proofs.Characters.{ascii_writable, fault_past, fault_belo
 use Rattle.asn1_leaves.proofs.contents.text.character_count.Goals as goal
 
 pub returns-then-is_ascii-clause-size : goal.returns-then-is_ascii-clause-size
-returns-then-is_ascii-clause-size c = let e = ap length (chars-IsAscii c.args.text.now c.if-is_ascii.ensures.cases) in grind (arith, common_steps, e)
+returns-then-is_ascii-clause-size c = let e = ap length (chars-IsAscii c.args.text.now c.if-is_ascii.ensures.cases) in
+    grind (arith, common_steps, e)
 
 pub returns-then-is_ascii-clause-writable : goal.returns-then-is_ascii-clause-writable
 returns-then-is_ascii-clause-writable c =
@@ -20,7 +21,8 @@ returns-then-is_ascii-clause-writable c =
 pub returns-then-c-gt255-clause-refused : goal.returns-then-c-gt255-clause-refused
 returns-then-c-gt255-clause-refused c =
     let cs = chars c.args.text.now in
-    let t = YieldsList-turn (YieldsList-from_chars c.args.text.now c.utf8.text cc) c.loop-c.yielded _ c.loop-c.yielded_by _ _ c.in-Some.c
+    let t = YieldsList-turn (YieldsList-from_chars c.args.text.now c.utf8.text cc) c.loop-c.yielded _
+    c.loop-c.yielded_by _ _ c.in-Some.c
     c.in-Some.is c.next.ensures.steps in
     sym c.loop-c.invariant.fault ∙ (ap (λ z. octet_write_fault (drop z cs)) c.loop-c.invariant.count
     ∙ (fault_at cs (length c.loop-c.yielded) c.in-Some.c t
@@ -29,7 +31,8 @@ returns-then-c-gt255-clause-refused c =
 pub loop-c-preserved : goal.loop-c-preserved
 loop-c-preserved c =
     let cs = chars c.args.text.now in
-    let t = YieldsList-turn (YieldsList-from_chars c.args.text.now c.utf8.text cc) c.loop-c.yielded _ c.loop-c.yielded_by _ _ c.in-Some.c
+    let t = YieldsList-turn (YieldsList-from_chars c.args.text.now c.utf8.text cc) c.loop-c.yielded _
+    c.loop-c.yielded_by _ _ c.in-Some.c
     c.in-Some.is c.next.ensures.steps in
     let n = length c.loop-c.yielded in
     let e : octet_write_fault (drop n cs) ≡ octet_write_fault (drop (n + 1) cs) = fault_at cs n c.in-Some.c t
@@ -37,18 +40,22 @@ loop-c-preserved c =
     record {
       count = omega (arith, c.loop-c.invariant.count, length_push c.loop-c.yielded c.in-Some.c);
       fault = ap (λ z. octet_write_fault (drop (z + 1) cs)) c.loop-c.invariant.count
-          ∙ (sym e ∙ (ap (λ z. octet_write_fault (drop z cs)) (sym c.loop-c.invariant.count) ∙ c.loop-c.invariant.fault));
+          ∙ (sym e ∙ (ap (λ z. octet_write_fault (drop z cs)) (sym c.loop-c.invariant.count)
+          ∙ c.loop-c.invariant.fault));
     }
 
 pub returns-clause-size : goal.returns-clause-size
 returns-clause-size c =
-    let t = YieldsList-end (YieldsList-from_chars c.args.text.now c.utf8.text cc) c.loop-c.yielded _ c.loop-c.yielded_by _ _
+    let t = YieldsList-end (YieldsList-from_chars c.args.text.now c.utf8.text cc) c.loop-c.yielded _ c.loop-c.yielded_by
+    _ _
     c.in-None.is c.next.ensures.steps in
     omega (arith, c.loop-c.invariant.count, t.1)
 
 pub returns-clause-writable : goal.returns-clause-writable
 returns-clause-writable c =
     let cs = chars c.args.text.now in
-    let t = YieldsList-end (YieldsList-from_chars c.args.text.now c.utf8.text cc) c.loop-c.yielded _ c.loop-c.yielded_by _ _
+    let t = YieldsList-end (YieldsList-from_chars c.args.text.now c.utf8.text cc) c.loop-c.yielded _ c.loop-c.yielded_by
+    _ _
     c.in-None.is c.next.ensures.steps in
-    sym c.loop-c.invariant.fault ∙ ap octet_write_fault (drop_all c.loop-c.count cs (omega (arith, c.loop-c.invariant.count, t.1)))
+    sym c.loop-c.invariant.fault
+    ∙ ap octet_write_fault (drop_all c.loop-c.count cs (omega (arith, c.loop-c.invariant.count, t.1)))

@@ -23,16 +23,19 @@ pub overflow_cast-c : goal.overflow_cast-c
 overflow_cast-c g c =
     let cs = chars c.args.text.now in
     let n = length c.loop-c.yielded in
-    let t = YieldsList-turn (YieldsList-from_chars c.args.text.now c.utf8.text cc) c.loop-c.yielded _ c.loop-c.yielded_by _ _ c.in-Some.c
+    let t = YieldsList-turn (YieldsList-from_chars c.args.text.now c.utf8.text cc) c.loop-c.yielded _
+    c.loop-c.yielded_by _ _ c.in-Some.c
     c.in-Some.is c.next.ensures.steps in
-    let f = fits_first c.in-Some.c (drop (n + 1) cs) (sym (fault_at cs n c.in-Some.c t) ∙ c.loop-c.invariant.writable) in
+    let f = fits_first c.in-Some.c (drop (n + 1) cs)
+    (sym (fault_at cs n c.in-Some.c t) ∙ c.loop-c.invariant.writable) in
     omega (arith, f.0)
 
 pub push_octet-requires : goal.push_octet-requires
 push_octet-requires g c =
     let cs = chars c.args.text.now in
     let n = length c.loop-c.yielded in
-    let t = YieldsList-turn (YieldsList-from_chars c.args.text.now c.utf8.text cc) c.loop-c.yielded _ c.loop-c.yielded_by _ _ c.in-Some.c
+    let t = YieldsList-turn (YieldsList-from_chars c.args.text.now c.utf8.text cc) c.loop-c.yielded _
+    c.loop-c.yielded_by _ _ c.in-Some.c
     c.in-Some.is c.next.ensures.steps in
     omega (
       arith,
@@ -48,7 +51,8 @@ loop-c-preserved g c =
     let cs = chars c.args.text.now in
     let n = length c.loop-c.yielded in
     let x = c.in-Some.c in
-    let t = YieldsList-turn (YieldsList-from_chars c.args.text.now c.utf8.text cc) c.loop-c.yielded _ c.loop-c.yielded_by _ _ c.in-Some.c
+    let t = YieldsList-turn (YieldsList-from_chars c.args.text.now c.utf8.text cc) c.loop-c.yielded _
+    c.loop-c.yielded_by _ _ c.in-Some.c
     c.in-Some.is c.next.ensures.steps in
     let f = fits_first x (drop (n + 1) cs) (sym (fault_at cs n x t) ∙ c.loop-c.invariant.writable) in
     let l : length (c.loop-c.yielded ++ x ∷ []) ≡ n + 1 = length_push c.loop-c.yielded x in
@@ -57,13 +61,16 @@ loop-c-preserved g c =
     record {
       pushed =
           subst (λ z. g.S.Sink.pushes c.args.out.now z c.push_octet.new.self) (sym e)
-          (g.S.Sink.more c.args.out.now c.loop-c.out c.push_octet.new.self (take n cs) (x ∷ []) c.loop-c.invariant.pushed c.push_octet.ensures);
+          (g.S.Sink.more c.args.out.now c.loop-c.out c.push_octet.new.self (take n cs) (x ∷ [])
+          c.loop-c.invariant.pushed c.push_octet.ensures);
       writable = ap octet_write_fault (ap (λ z. drop z cs) l) ∙ f.1;
     }
 
 pub returns : goal.returns
 returns g c =
     let cs = chars c.args.text.now in
-    let t = YieldsList-end (YieldsList-from_chars c.args.text.now c.utf8.text cc) c.loop-c.yielded _ c.loop-c.yielded_by _ _
+    let t = YieldsList-end (YieldsList-from_chars c.args.text.now c.utf8.text cc) c.loop-c.yielded _ c.loop-c.yielded_by
+    _ _
     c.in-None.is c.next.ensures.steps in
-    subst (λ z. g.S.Sink.pushes c.args.out.now z c.loop-c.out) (take_all (length c.loop-c.yielded) cs (omega (arith, t.1))) c.loop-c.invariant.pushed
+    subst (λ z. g.S.Sink.pushes c.args.out.now z c.loop-c.out)
+    (take_all (length c.loop-c.yielded) cs (omega (arith, t.1))) c.loop-c.invariant.pushed

@@ -23,4 +23,5 @@ returns c =
     let cs = c.args.contents.now in
     let t = take_all c.loop-b.b-index cs (omega arith) in
     ap chars (c.loop-b.invariant ∙ ap encode_utf8_all t)
-    ∙ chars-encodes cs (octets_scalars cs (All-from_get_or (λ b. b < 256) cs 0 (λ k h. omega (arith, c.type_inv.contents k))))
+    ∙ chars-encodes cs (octets_scalars cs
+    (All-from_get_or (λ b. b < 256) cs 0 (λ k h. omega (arith, c.type_inv.contents k))))

@@ -8,11 +8,13 @@ use Rattle.asn1_leaves.proofs.oid.OID.from_short.Goals as goal
 pub invariant_of-result : goal.invariant_of-result
 invariant_of-result c =
     let contents = c.args.contents.now in
-    let all : AreOctets contents = All-from_get_or (λ b. b < 256) contents 0 (λ k h. omega (arith, c.type_inv.contents k)) in
+    let all : AreOctets contents =
+    All-from_get_or (λ b. b < 256) contents 0 (λ k h. omega (arith, c.type_inv.contents k)) in
     let meant = c.requires.meant in
     let copied : c.try_extend_from_slice.new.self.items ≡ contents =
     grind (arith, c.new-octets.ensures, c.unwrap.ensures, c.try_extend_from_slice.ensures.ok) in
-    subst IsShortForm (sym copied) (short_form meant.0 contents all meant.1 (c.requires.shortest meant.0 meant.1) c.requires.short)
+    subst IsShortForm (sym copied)
+    (short_form meant.0 contents all meant.1 (c.requires.shortest meant.0 meant.1) c.requires.short)
 
 pub returns : goal.returns
 returns c =

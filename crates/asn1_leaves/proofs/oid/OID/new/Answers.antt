@@ -6,12 +6,14 @@ use Rattle.asn1_leaves.proofs.oid.OID.new.Goals as goal
 
 pub invariant_of-result : goal.invariant_of-result
 invariant_of-result c =
-    let short : HaveShortContents c.args.x.items × (c.in-Some.octets.items ≡ object_identifier_contents c.args.x.items) =
+    let short : HaveShortContents c.args.x.items ×
+    (c.in-Some.octets.items ≡ object_identifier_contents c.args.x.items) =
     rw (← c.as_slice.ensures.value) c.in-Some.ensures.short in
     subst IsShortForm (sym short.1) (written_form c.args.x.items short.0)
 
 pub returns-in-Some : goal.returns-in-Some
 returns-in-Some c =
-    let short : HaveShortContents c.args.x.items × (c.in-Some.octets.items ≡ object_identifier_contents c.args.x.items) =
+    let short : HaveShortContents c.args.x.items ×
+    (c.in-Some.octets.items ≡ object_identifier_contents c.args.x.items) =
     rw (← c.as_slice.ensures.value) c.in-Some.ensures.short in
     ap components_of short.1 ∙ components_written c.args.x.items short.0.0

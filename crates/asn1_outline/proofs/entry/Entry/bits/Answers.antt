@@ -12,12 +12,14 @@ returns-in_default c b e = no_bits b (c.in_default.ensures b e)
 
 pub returns-in-Ok : goal.returns-in-Ok
 returns-in-Ok c b e =
-    let (p, same) = leaf_is (tree_offset b) 3 c.in-Some.contents.now b (bit_string c.in-Ok.bits.0 c.in-Ok.bits.1.items) (c.in-Some.ensures b e) refl c.in-Ok.ensures.found in
+    let (p, same) = leaf_is (tree_offset b) 3 c.in-Some.contents.now b (bit_string c.in-Ok.bits.0 c.in-Ok.bits.1.items)
+    (c.in-Some.ensures b e) refl c.in-Ok.ensures.found in
     ap tree_bits same
 
 pub returns-in-Err : goal.returns-in-Err
 returns-in-Err c b e = elim c.in-Err.ensures.refused [
   | inl memory ↦ memory
   | inr fault ↦
-      absurd (leaf_faultless (tree_offset b) 3 c.in-Some.contents.now b (fault_of c.in-Err.e) (c.in-Some.ensures b e) (of_bit_string refl fault))
+      absurd (leaf_faultless (tree_offset b) 3 c.in-Some.contents.now b (fault_of c.in-Err.e) (c.in-Some.ensures b e)
+      (of_bit_string refl fault))
 ]

@@ -12,7 +12,8 @@ returns-in_default c b e = no_boolean b (c.in_default.ensures b e)
 
 pub returns-in-Ok : goal.returns-in-Ok
 returns-in-Ok c b e =
-    let (p, same) = leaf_is (tree_offset b) 1 c.in-Some.contents.now b (boolean c.in-Ok.yes) (c.in-Some.ensures b e) refl c.in-Ok.ensures.found in
+    let (p, same) = leaf_is (tree_offset b) 1 c.in-Some.contents.now b (boolean c.in-Ok.yes) (c.in-Some.ensures b e)
+    refl c.in-Ok.ensures.found in
     ap tree_boolean same
 
 pub returns-in-Err : goal.returns-in-Err

@@ -10,14 +10,16 @@ use Rattle.asn1_outline.proofs.entry.Entry.moment.Goals as goal
 
 pub returns-in-Ok : goal.returns-in-Ok
 returns-in-Ok c b e =
-    let (p, same) = leaf_is (tree_offset b) 23 c.in-Some.contents.now b (utc_time (moment_of c.in-Ok.d)) (c.in-Some.ensures b e) refl c.in-Ok.ensures.found in
+    let (p, same) = leaf_is (tree_offset b) 23 c.in-Some.contents.now b (utc_time (moment_of c.in-Ok.d))
+    (c.in-Some.ensures b e) refl c.in-Ok.ensures.found in
     ap tree_moment same
 
 pub returns-in-Err : goal.returns-in-Err
 returns-in-Err c b e = elim c.in-Err.ensures.refused [
   | inl memory ↦ memory
   | inr fault ↦
-      absurd (leaf_faultless (tree_offset b) 23 c.in-Some.contents.now b (fault_of c.in-Err.e) (c.in-Some.ensures b e) (of_utc_time refl fault))
+      absurd (leaf_faultless (tree_offset b) 23 c.in-Some.contents.now b (fault_of c.in-Err.e) (c.in-Some.ensures b e)
+      (of_utc_time refl fault))
 ]
 
 pub returns-in_default-leaf_in : goal.returns-in_default-leaf_in
@@ -25,7 +27,8 @@ returns-in_default-leaf_in c b e = no_moment b (c.in_default.ensures b e) (c.in_
 
 pub returns-in-Ok-read : goal.returns-in-Ok-read
 returns-in-Ok-read c b e =
-    let (p, same) = leaf_is (tree_offset b) 24 c.in-Some-leaf_in.contents.now b (generalized_time (moment_of c.in-Ok-read.d))
+    let (p, same) = leaf_is (tree_offset b) 24 c.in-Some-leaf_in.contents.now b
+    (generalized_time (moment_of c.in-Ok-read.d))
     (c.in-Some-leaf_in.ensures b e) refl c.in-Ok-read.ensures.found in
     ap tree_moment same
 
@@ -33,6 +36,7 @@ pub returns-in-Err-read : goal.returns-in-Err-read
 returns-in-Err-read c b e = elim c.in-Err-read.ensures.refused [
   | inl memory ↦ memory
   | inr fault ↦
-      absurd (leaf_faultless (tree_offset b) 24 c.in-Some-leaf_in.contents.now b (fault_of c.in-Err-read.e) (c.in-Some-leaf_in.ensures b e)
+      absurd (leaf_faultless (tree_offset b) 24 c.in-Some-leaf_in.contents.now b (fault_of c.in-Err-read.e)
+      (c.in-Some-leaf_in.ensures b e)
       (of_generalized_time refl fault))
 ]

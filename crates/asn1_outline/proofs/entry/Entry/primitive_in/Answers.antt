@@ -3,5 +3,6 @@ use Rattle.asn1_outline.proofs.entry.Entry.primitive_in.Goals as goal
 
 pub returns-else-self : goal.returns-else-self
 returns-else-self c b e =
-    primitive_found (λ v. v.now) c.contents_in.result c.args.document.now b c.args.self.now e c.in-Universal.is c.if-self.false c.requires.small
+    primitive_found (λ v. v.now) c.contents_in.result c.args.document.now b c.args.self.now e c.in-Universal.is
+    c.if-self.false c.requires.small
     c.requires.unknown c.contents_in.ensures

@@ -13,7 +13,8 @@ returns-in-Ok c b e =
     let (class, kind, tag, form) = c.in-Some.ensures in
     let cs = chars (string_bytes c.in-Ok.text) in
     let own = subst (λ z. TextContents z cs c.in-Some-contents_in.contents.now) form c.in-Ok.ensures.found in
-    is_text c.args.document.now b c.args.self.now kind cs e class tag (subst (TextContents (text_form kind) cs) c.in-Some-contents_in.ensures own)
+    is_text c.args.document.now b c.args.self.now kind cs e class tag
+    (subst (TextContents (text_form kind) cs) c.in-Some-contents_in.ensures own)
 
 pub returns-in-Err : goal.returns-in-Err
 returns-in-Err c b e =

@@ -19,7 +19,8 @@ returns-in-Ok-clause-refuses c fault o p =
 pub returns-in-Err-clause-accepts : goal.returns-in-Err-clause-accepts
 returns-in-Err-clause-accepts c all h =
     let small : length c.args.octets.now < 2 ^ 64 = omega arith in
-    elim c.in-Err.ensures.refused [ inl memory ↦ memory | inr f ↦ absurd (has_shapes_no_fault c.args.octets.now small all _ _ h f) ]
+    elim c.in-Err.ensures.refused
+    [ inl memory ↦ memory | inr f ↦ absurd (has_shapes_no_fault c.args.octets.now small all _ _ h f) ]
 
 pub returns-in-Err-clause-refuses : goal.returns-in-Err-clause-refuses
 returns-in-Err-clause-refuses c fault o p =

@@ -11,7 +11,8 @@ returns-clause-steps c =
     let rest = c.in_ok-entry.rest.now in
     let n = c.min-inside.result in
     let count : n ≡ min (r.next - (it.index + 1)) (length rest) = search rules in
-    sym c.self.view_is ∙ stepped it.all it.index n r it.rest.now rest c.if-self.false c.in_ok-entry.ensures.cases.0 count
+    sym c.self.view_is ∙ stepped it.all it.index n r it.rest.now rest c.if-self.false c.in_ok-entry.ensures.cases.0
+    count
     ∙ ap (λ z. (it.index, r) ∷ still_to_come it.all (it.index + 1 + n) z) (sym (take_rest rest n))
 
 pub returns-clause-goes : goal.returns-clause-goes
@@ -21,6 +22,7 @@ returns-clause-goes c =
     let rest = c.in_ok-entry.rest.now in
     let n = c.min-inside.result in
     let count : n ≡ min (r.next - (it.index + 1)) (length rest) = search rules in
-    let step = sym c.self.view_is ∙ stepped it.all it.index n r it.rest.now rest c.if-self.false c.in_ok-entry.ensures.cases.0 count
+    let step = sym c.self.view_is
+    ∙ stepped it.all it.index n r it.rest.now rest c.if-self.false c.in_ok-entry.ensures.cases.0 count
     ∙ ap (λ z. (it.index, r) ∷ still_to_come it.all (it.index + 1 + n) z) (sym (take_rest rest n)) in
     record { on = λ finite. (tt, tt, omega (arith, ap length step)); keeps = tt; rests = λ _. tt }

@@ -6,7 +6,8 @@ use Rattle.asn1_outline.proofs.listing.EntryBuilderBuilder.close.Goals as goal
 
 pub seal-requires : goal.seal-requires
 seal-requires c =
-    entry_within c.args._octets.now c.args.self.now.entries.items (in_frame c.args._extent c.args.items) (in_frame c.requires.extent c.args.parent.now)
+    entry_within c.args._octets.now c.args.self.now.entries.items (in_frame c.args._extent c.args.items)
+    (in_frame c.requires.extent c.args.parent.now)
     c.requires.outer c.requires.trees c.requires.holds
 
 pub returns : goal.returns
@@ -16,5 +17,6 @@ returns c =
     let a = c.args.self.now in
     let b = c.seal.new.self in
     let i = c.args.parent.now in
-    if_ok c.add.result (λ u. subst (λ z. HasEndedIn builder_holds x f c.args._depth a i b z) (sym u) (ended x a b f i c.args._depth c.seal.ensures))
+    if_ok c.add.result (λ u. subst (λ z. HasEndedIn builder_holds x f c.args._depth a i b z) (sym u)
+    (ended x a b f i c.args._depth c.seal.ensures))
     c.add.ensures

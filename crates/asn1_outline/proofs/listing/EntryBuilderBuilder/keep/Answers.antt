@@ -11,5 +11,6 @@ returns c =
     let a = c.args.self.now in
     let b = c.cut.new.self in
     let i = c.args.parent.now in
-    if_ok c.add.result (λ u. subst (λ z. HasKept builder_holds x f c.args._depth a i b z) (sym u) (kept x a b f i c.args._depth c.cut.ensures))
+    if_ok c.add.result (λ u. subst (λ z. HasKept builder_holds x f c.args._depth a i b z) (sym u)
+    (kept x a b f i c.args._depth c.cut.ensures))
     c.add.ensures

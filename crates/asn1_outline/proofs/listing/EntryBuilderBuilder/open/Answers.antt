@@ -7,4 +7,5 @@ pub returns : goal.returns
 returns c =
     let at : c.len-entry.result ≡ length c.args.self.now.entries.items = grind (arith, common_steps) in
     opened c.args.octets.now c.args.header.now c.args.offset c.args.depth c.args.self.now c.push.new.self
-    (record { entry = c.len-entry.result; count = 0 }) c.started-block.result c.started-block.ensures at refl c.in_ok-push.ensures
+    (record { entry = c.len-entry.result; count = 0 }) c.started-block.result c.started-block.ensures at refl
+    c.in_ok-push.ensures

@@ -17,5 +17,7 @@ returns-clause-entries c =
 pub returns-clause-trees : goal.returns-clause-trees
 returns-clause-trees c ns d =
     let o = c.args.self.now in
-    let same : c.over.result ≡ side_by_side 0 0 o.entries.items = c.over.ensures ∙ ap (side_by_side 0 0) c.as_slice.ensures.value in
-    ap (λ z. trees_of (map (λ (item : ℕ × Entry). tree_at ns item.0) z)) same ∙ outermost_trees o.octets.now o.entries.items ns o.document d
+    let same : c.over.result ≡ side_by_side 0 0 o.entries.items =
+    c.over.ensures ∙ ap (side_by_side 0 0) c.as_slice.ensures.value in
+    ap (λ z. trees_of (map (λ (item : ℕ × Entry). tree_at ns item.0) z)) same
+    ∙ outermost_trees o.octets.now o.entries.items ns o.document d

@@ -12,8 +12,10 @@ returns c ns d =
     let t = tree_at ns c.args.index in
     let found = c.in-Ok.found in
     let set : IsSet (Option (Bool)) = hlevel props in
-    found_entry o.octets.now o.entries.items ns c.args.index o.document d c.deref.result.now c.in-Some.entry.now c.deref.ensures.value
-    c.in-Some.ensures.lookup.3 (MatchOption found (tree_boolean t ≡ None) (λ x. tree_boolean t ≡ Some (x))) (option_prop found (tree_boolean t) (λ x. x) set)
+    found_entry o.octets.now o.entries.items ns c.args.index o.document d c.deref.result.now c.in-Some.entry.now
+    c.deref.ensures.value
+    c.in-Some.ensures.lookup.3 (MatchOption found (tree_boolean t ≡ None) (λ x. tree_boolean t ≡ Some (x)))
+    (option_prop found (tree_boolean t) (λ x. x) set)
     (λ e. c.in-Ok.ensures t e)
 
 pub returns-in_default-boolean : goal.returns-in_default-boolean
@@ -21,10 +23,13 @@ returns-in_default-boolean c ns d =
     let o = c.args.self.now in
     let t = tree_at ns c.args.index in
     let set : IsSet (Option Bool) = hlevel props in
-    found_entry o.octets.now o.entries.items ns c.args.index o.document d c.deref.result.now c.in-Some.entry.now c.deref.ensures.value
-    c.in-Some.ensures.lookup.3 (tree_boolean t ≡ None) (set (tree_boolean t) None) (λ e. absurd (c.in_default-boolean.ensures t e))
+    found_entry o.octets.now o.entries.items ns c.args.index o.document d c.deref.result.now c.in-Some.entry.now
+    c.deref.ensures.value
+    c.in-Some.ensures.lookup.3 (tree_boolean t ≡ None) (set (tree_boolean t) None)
+    (λ e. absurd (c.in_default-boolean.ensures t e))
 
 pub returns-in_default : goal.returns-in_default
 returns-in_default c ns d =
     let o = c.args.self.now in
-    ap tree_boolean (none_there o.octets.now o.entries.items ns c.args.index o.document d c.deref.result.now c.deref.ensures.value c.in_default.ensures.lookup.3)
+    ap tree_boolean (none_there o.octets.now o.entries.items ns c.args.index o.document d c.deref.result.now
+    c.deref.ensures.value c.in_default.ensures.lookup.3)

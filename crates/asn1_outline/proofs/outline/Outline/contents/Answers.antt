@@ -14,18 +14,22 @@ use Rattle.asn1_outline.proofs.outline.Outline.contents.Goals as goal
 
 -- the slice that an entry's fields name has the contents octets
 contents_found :
-    (x : List ℕ) (b : Tree ℕ) (r : Entry) (y : List ℕ) (s : IsEncodedIn x b y) (found : Option (Bor (List ℕ))) → r.offset ≡ tree_offset b →
+    (x : List ℕ) (b : Tree ℕ) (r : Entry) (y : List ℕ) (s : IsEncodedIn x b y) (found : Option (Bor (List ℕ))) →
+    r.offset ≡ tree_offset b →
     r.header ≡ (encoding_of x b y s).encoding.header → r.contents ≡ length (encoding_of x b y s).encoding.contents →
     r.offset + r.header + r.contents ≤ length x →
     MatchOption found (length x < r.offset + r.header + r.contents)
-    (λ slice. slice.now ≡ slice_range x (r.offset + r.header) (r.offset + r.header + r.contents)) → IsSomeAnd found (λ slice. HasContents x b slice.now)
+    (λ slice. slice.now ≡ slice_range x (r.offset + r.header) (r.offset + r.header + r.contents)) →
+    IsSomeAnd found (λ slice. HasContents x b slice.now)
 contents_found x b r y s None at h n within past = omega (arith, within, past)
 contents_found x b r y s (Some slice) at h n within is =
     let are = (encoding_of x b y s).encoding in
     let start : r.offset + r.header ≡ tree_offset b + are.header = omega (arith, at, h) in
-    let after = contents_stand x y s.rest are.class are.constructed are.tag are.contents (tree_offset b) are.header s.at_offset are.encoding in
+    let after = contents_stand x y s.rest are.class are.constructed are.tag are.contents (tree_offset b) are.header
+    s.at_offset are.encoding in
     let here = subst (λ z. drop z x ≡ are.contents ++ s.rest) (sym start) after in
-    let same = is ∙ slice_at x are.contents s.rest (r.offset + r.header) (r.offset + r.header + r.contents) here (omega (arith, n)) in
+    let same = is ∙ slice_at x are.contents s.rest (r.offset + r.header) (r.offset + r.header + r.contents) here
+    (omega (arith, n)) in
     subst (HasContents x b) (sym same) (record {
       octets = y;
       encoded = s;
@@ -57,12 +61,14 @@ returns-clause-found c ns d h =
     let header_prop : IsProp (r.header ≡ are.header) = hlevel props in
     let contents_prop : IsProp (r.contents ≡ length are.contents) = hlevel props in
     let within_prop : IsProp (r.offset + r.header + r.contents ≤ length x) = hlevel props in
-    let stands = found_entry x es ns k o.document d all r is found (r.offset ≡ tree_offset t) stands_prop (λ e. e.offset_is) in
+    let stands = found_entry x es ns k o.document d all r is found (r.offset ≡ tree_offset t) stands_prop
+    (λ e. e.offset_is) in
     let header = found_entry x es ns k o.document d all r is found (r.header ≡ are.header) header_prop
     (λ e. header_is x t r y are.class are.constructed are.tag are.contents are.header e s are.encoding) in
     let contents = found_entry x es ns k o.document d all r is found (r.contents ≡ length are.contents) contents_prop
     (λ e. contents_are x t r y are.class are.constructed are.tag are.contents are.header e s are.encoding) in
-    let within = found_entry x es ns k o.document d all r is found (r.offset + r.header + r.contents ≤ length x) within_prop (λ e. is_within x t r e) in
+    let within = found_entry x es ns k o.document d all r is found (r.offset + r.header + r.contents ≤ length x)
+    within_prop (λ e. is_within x t r e) in
     contents_found x t r y s c.contents_in.result stands header contents within c.contents_in.ensures
 
 pub returns-clause-none : goal.returns-clause-none

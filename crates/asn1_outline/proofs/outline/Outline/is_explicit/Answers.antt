@@ -19,11 +19,13 @@ returns c ns d =
     let items = found_items x es ns k o.document d c.deref.result.now r c.deref.ensures.value found in
     let said = c.is_explicit.result in
     let prop : IsProp (said ≡ is_explicit (tree_at ns k)) = hlevel props in
-    found_entry x es ns k o.document d c.deref.result.now r c.deref.ensures.value found (said ≡ is_explicit (tree_at ns k)) prop
+    found_entry x es ns k o.document d c.deref.result.now r c.deref.ensures.value found
+    (said ≡ is_explicit (tree_at ns k)) prop
     (λ e. explicit_is x r (node_at ns k) said is e items c.is_explicit.ensures)
 
 pub returns-in_default : goal.returns-in_default
 returns-in_default c ns d =
     let o = c.args.self.now in
-    sym (ap is_explicit (none_there o.octets.now o.entries.items ns c.args.index o.document d c.deref.result.now c.deref.ensures.value
+    sym (ap is_explicit (none_there o.octets.now o.entries.items ns c.args.index o.document d c.deref.result.now
+    c.deref.ensures.value
     c.in_default.ensures.lookup.3))

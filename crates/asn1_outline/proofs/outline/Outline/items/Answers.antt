@@ -15,28 +15,33 @@ use Rattle.asn1_outline.proofs.outline.Outline.items.Goals as goal
 pub returns-in_default-clause-trees : goal.returns-in_default-clause-trees
 returns-in_default-clause-trees c ns d =
     let o = c.args.self.now in
-    let past : length o.entries.items ≤ c.args.index = omega (arith, c.in_default.ensures.lookup, ap length c.deref.ensures.value) in
+    let past : length o.entries.items ≤ c.args.index =
+    omega (arith, c.in_default.ensures.lookup, ap length c.deref.ensures.value) in
     ap (λ z. trees_of (map (λ (item : ℕ × Entry). tree_at ns item.0) z)) c.over.ensures
-    ∙ sym (ap (λ z. nodes_trees (node_items z)) (no_node_there o.octets.now o.entries.items ns c.args.index o.document d past))
+    ∙ sym (ap (λ z. nodes_trees (node_items z))
+    (no_node_there o.octets.now o.entries.items ns c.args.index o.document d past))
 
 pub slice_bounds-inside-count : goal.slice_bounds-inside-count
 slice_bounds-inside-count c =
     let o = c.args.self.now in
-    let (h, is) = looked_up o.entries.items c.deref.result.now c.args.index c.in-Some.entry.now c.deref.ensures.value c.in-Some.ensures.lookup.3 in
+    let (h, is) = looked_up o.entries.items c.deref.result.now c.args.index c.in-Some.entry.now c.deref.ensures.value
+    c.in-Some.ensures.lookup.3 in
     let (first, last) = next_within o.octets.now o.entries.items c.args.index o.document h in
     omega (arith, first, ap (λ (z : Entry). z.next) is)
 
 pub slice_bounds-inside-start : goal.slice_bounds-inside-start
 slice_bounds-inside-start c =
     let o = c.args.self.now in
-    let (h, is) = looked_up o.entries.items c.deref.result.now c.args.index c.in-Some.entry.now c.deref.ensures.value c.in-Some.ensures.lookup.3 in
+    let (h, is) = looked_up o.entries.items c.deref.result.now c.args.index c.in-Some.entry.now c.deref.ensures.value
+    c.in-Some.ensures.lookup.3 in
     let (first, last) = next_within o.octets.now o.entries.items c.args.index o.document h in
     omega (arith, first, last, ap (λ (z : Entry). z.next) is, ap length c.deref-2.ensures.value)
 
 pub slice_bounds-inside-end : goal.slice_bounds-inside-end
 slice_bounds-inside-end c =
     let o = c.args.self.now in
-    let (h, is) = looked_up o.entries.items c.deref.result.now c.args.index c.in-Some.entry.now c.deref.ensures.value c.in-Some.ensures.lookup.3 in
+    let (h, is) = looked_up o.entries.items c.deref.result.now c.args.index c.in-Some.entry.now c.deref.ensures.value
+    c.in-Some.ensures.lookup.3 in
     let (first, last) = next_within o.octets.now o.entries.items c.args.index o.document h in
     omega (arith, first, last, ap (λ (z : Entry). z.next) is, ap length c.deref-2.ensures.value)
 
@@ -50,15 +55,19 @@ returns-clause-entries c =
     let same : c.over-2.result ≡ side_by_side 0 (k + 1) inside =
     c.over-2.ensures ∙ ap (λ z. side_by_side 0 (k + 1) (take size (drop (k + 1) z))) c.deref-2.ensures.value in
     subst (All (HasEntryIn es)) (sym same)
-    (side_by_side_entries es 0 (k + 1) inside (drop size (drop (k + 1) es)) (sym (take-append-drop size (drop (k + 1) es))))
+    (side_by_side_entries es 0 (k + 1) inside (drop size (drop (k + 1) es))
+    (sym (take-append-drop size (drop (k + 1) es))))
 
 pub returns-clause-trees : goal.returns-clause-trees
 returns-clause-trees c ns d =
     let o = c.args.self.now in
     let es = o.entries.items in
     let k = c.args.index in
-    let (h, is) = looked_up es c.deref.result.now k c.in-Some.entry.now c.deref.ensures.value c.in-Some.ensures.lookup.3 in
+    let (h, is) = looked_up es c.deref.result.now k c.in-Some.entry.now c.deref.ensures.value
+    c.in-Some.ensures.lookup.3 in
     let same : c.over-2.result ≡ side_by_side 0 (k + 1) (slice_range es (k + 1) (get_or es k no_entry).next) =
-    c.over-2.ensures ∙ ap (λ z. side_by_side 0 (k + 1) (slice_range z (k + 1) c.in-Some.entry.now.next)) c.deref-2.ensures.value
+    c.over-2.ensures ∙ ap (λ z. side_by_side 0 (k + 1) (slice_range z (k + 1) c.in-Some.entry.now.next))
+    c.deref-2.ensures.value
     ∙ ap (λ (z : Entry). side_by_side 0 (k + 1) (slice_range es (k + 1) z.next)) is in
-    ap (λ z. trees_of (map (λ (item : ℕ × Entry). tree_at ns item.0) z)) same ∙ inside_trees o.octets.now es ns o.document d k h
+    ap (λ z. trees_of (map (λ (item : ℕ × Entry). tree_at ns item.0) z)) same
+    ∙ inside_trees o.octets.now es ns o.document d k h

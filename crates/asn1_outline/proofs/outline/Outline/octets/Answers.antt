@@ -12,11 +12,14 @@ returns c ns d =
     let t = tree_at ns c.args.index in
     let found = c.octets.result in
     let set : IsSet (Option (List ℕ)) = hlevel props in
-    found_entry o.octets.now o.entries.items ns c.args.index o.document d c.deref.result.now c.in-Some.entry.now c.deref.ensures.value
-    c.in-Some.ensures.lookup.3 (MatchOption found (tree_octets t ≡ None) (λ x. tree_octets t ≡ Some x.now)) (option_prop found (tree_octets t) (λ x. x.now) set)
+    found_entry o.octets.now o.entries.items ns c.args.index o.document d c.deref.result.now c.in-Some.entry.now
+    c.deref.ensures.value
+    c.in-Some.ensures.lookup.3 (MatchOption found (tree_octets t ≡ None) (λ x. tree_octets t ≡ Some x.now))
+    (option_prop found (tree_octets t) (λ x. x.now) set)
     (λ e. c.octets.ensures t e)
 
 pub returns-in_default : goal.returns-in_default
 returns-in_default c ns d =
     let o = c.args.self.now in
-    ap tree_octets (none_there o.octets.now o.entries.items ns c.args.index o.document d c.deref.result.now c.deref.ensures.value c.in_default.ensures.lookup.3)
+    ap tree_octets (none_there o.octets.now o.entries.items ns c.args.index o.document d c.deref.result.now
+    c.deref.ensures.value c.in_default.ensures.lookup.3)

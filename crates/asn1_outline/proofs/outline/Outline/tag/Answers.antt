@@ -11,11 +11,14 @@ returns-in-Ok-clause-found c ns d h =
     let t = tree_at ns c.args.index in
     let tag = c.in-Ok.tag in
     let set : IsSet (Option ℕ) = hlevel props in
-    found_entry o.octets.now o.entries.items ns c.args.index o.document d c.deref.result.now c.in-Some.entry.now c.deref.ensures.value
-    c.in-Some.ensures.lookup.3 (Some tag ≡ Some (tree_tag t)) (set (Some tag) (Some (tree_tag t))) (λ e. ap Some (c.in-Ok.ensures t e))
+    found_entry o.octets.now o.entries.items ns c.args.index o.document d c.deref.result.now c.in-Some.entry.now
+    c.deref.ensures.value
+    c.in-Some.ensures.lookup.3 (Some tag ≡ Some (tree_tag t)) (set (Some tag) (Some (tree_tag t)))
+    (λ e. ap Some (c.in-Ok.ensures t e))
 
 pub returns-in-Ok-clause-none : goal.returns-in-Ok-clause-none
 returns-in-Ok-clause-none c h = absurd (omega (arith, h, c.in-Some.ensures.lookup.3.0, ap length c.deref.ensures.value))
 
 pub returns-in_default-clause-found : goal.returns-in_default-clause-found
-returns-in_default-clause-found c ns d h = absurd (omega (arith, h, c.in_default.ensures.lookup.3, ap length c.deref.ensures.value))
+returns-in_default-clause-found c ns d h =
+    absurd (omega (arith, h, c.in_default.ensures.lookup.3, ap length c.deref.ensures.value))

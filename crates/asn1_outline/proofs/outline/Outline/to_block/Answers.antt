@@ -14,7 +14,8 @@ loop-i-init c =
     let x = o.octets.now in
     let es = o.entries.items in
     let k = c.args.index in
-    let (h, is) = looked_up es c.deref.result.now k c.in-Some.entry.now c.deref.ensures.value c.in-Some.ensures.lookup.3 in
+    let (h, is) = looked_up es c.deref.result.now k c.in-Some.entry.now c.deref.ensures.value
+    c.in-Some.ensures.lookup.3 in
     let (first, last) = next_within x es k o.document h in
     let next = ap (λ z. z.next) is in
     record {
@@ -24,7 +25,8 @@ loop-i-init c =
       built = λ ns d.
           let own = node_in_order (node_at ns k) in
           let over = next_at x es ns k o.document d h in
-          ap built_trees c.new-built.ensures ∙ sym (ap roots (drop_all (c.in-Some.entry.now.next - k) own (omega (arith, over, next))));
+          ap built_trees c.new-built.ensures
+          ∙ sym (ap roots (drop_all (c.in-Some.entry.now.next - k) own (omega (arith, over, next))));
     }
 
 pub loop-i-preserved : goal.loop-i-preserved
@@ -35,7 +37,8 @@ loop-i-preserved c =
     let k = c.args.index in
     let i = c.loop-i.i in
     let j = i - 1 - k in
-    let (h, is) = looked_up es c.deref.result.now k c.in-Some.entry.now c.deref.ensures.value c.in-Some.ensures.lookup.3 in
+    let (h, is) = looked_up es c.deref.result.now k c.in-Some.entry.now c.deref.ensures.value
+    c.in-Some.ensures.lookup.3 in
     record {
       from = omega arith;
       within = omega arith;
@@ -50,10 +53,13 @@ loop-i-preserved c =
           let built = c.loop-i.invariant.built ns d ∙ ap (λ z. roots (drop z own)) one in
           let next = next_is x es ns o.document d k h j l within (built_trees c.loop-i.built) built in
           let same : c.index.result.now ≡ get_or es (k + j) no_entry =
-          c.index.ensures ∙ get_or_default es (i - 1) c.index.result.now no_entry (omega arith) ∙ ap (λ z. get_or es z no_entry) here in
+          c.index.ensures ∙ get_or_default es (i - 1) c.index.result.now no_entry (omega arith)
+          ∙ ap (λ z. get_or es z no_entry) here in
           let own_next = subst (λ z. IsNext x (node_at ns (k + j)) z (built_trees c.loop-i.built)) (sym same) next in
-          built_more x es ns o.document d k h j l c.loop-i.built c.block_of.new.built c.push.new.self c.in_ok-block.block built
-          (c.in_ok-block.ensures.block (node_at ns (k + j)) own_next) (c.in_ok-block.ensures.rest (node_at ns (k + j)) own_next) c.in_ok-push.ensures;
+          built_more x es ns o.document d k h j l c.loop-i.built c.block_of.new.built c.push.new.self
+          c.in_ok-block.block built
+          (c.in_ok-block.ensures.block (node_at ns (k + j)) own_next)
+          (c.in_ok-block.ensures.rest (node_at ns (k + j)) own_next) c.in_ok-push.ensures;
     }
 
 pub returns-clause-found : goal.returns-clause-found

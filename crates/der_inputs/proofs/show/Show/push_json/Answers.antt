@@ -16,5 +16,6 @@ returns-in_ok-text-in-Some c =
     let text : own ≡ utf8_lossy c.in-Some.label.items = grind (arith, common_steps) in
     let label : Some own ≡ option_map utf8_lossy (finding_in found).label = grind (arith, common_steps, text) in
     subst (λ z. IfOk c.push_from.result (λ verdict. Adds (IsFoundJson c.args.self.now.is_strict (octets_in found.octets)
-    (origin_members (option_map (λ name. name.now) c.args.file) z) verdict) c.args.out.now.items c.push_from.new.out.items))
+    (origin_members (option_map (λ name. name.now) c.args.file) z) verdict) c.args.out.now.items
+    c.push_from.new.out.items))
     label c.push_from.ensures

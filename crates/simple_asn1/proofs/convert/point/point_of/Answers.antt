@@ -5,7 +5,8 @@ use Rattle.asn1_blocks.specs.View.{view}
 use Rattle.simple_asn1.proofs.convert.point.point_of.Goals as goal
 
 pub returns-then-items-ne2 : goal.returns-then-items-ne2
-returns-then-items-ne2 c p x y = no_point (view c.args.b.now) p c.in_ok-items.items.now c.if-items-ne2.true c.in_ok-items.ensures.shape
+returns-then-items-ne2 c p x y =
+    no_point (view c.args.b.now) p c.in_ok-items.items.now c.if-items-ne2.true c.in_ok-items.ensures.shape
 
 pub returns : goal.returns
 returns c = grind (arith, common_steps)

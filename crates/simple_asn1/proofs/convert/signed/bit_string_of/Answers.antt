@@ -19,8 +19,10 @@ none_of t h o n v e =
     let f : ◌≡◌ {A = Option (ℕ × List ℕ)} (Some (n, v)) None = ap tree_bits (sym e) ∙ h in
     cc
 
-found : (t : Tree ℕ) (r : Option (ℕ × Bor (List ℕ))) → MatchOption r (tree_bits t ≡ None) (λ x. tree_bits t ≡ Some (x.0, x.1.now))
-    → MatchOption r ((o n : ℕ) (v : List ℕ) → t ≢ leaf o (bit_string n v)) (λ x. t ≡ leaf (tree_offset t) (bit_string x.0 x.1.now))
+found : (t : Tree ℕ) (r : Option (ℕ × Bor (List ℕ))) →
+    MatchOption r (tree_bits t ≡ None) (λ x. tree_bits t ≡ Some (x.0, x.1.now))
+    → MatchOption r ((o n : ℕ) (v : List ℕ) → t ≢ leaf o (bit_string n v))
+    (λ x. t ≡ leaf (tree_offset t) (bit_string x.0 x.1.now))
 found t None h = none_of t h
 found t (Some x) h = tree_of t (x.0, x.1.now) h
 

@@ -18,7 +18,8 @@ none_of t h o i e =
     cc
 
 found : (t : Tree ℕ) (r : Option (Bor (List ℕ))) → MatchOption r (tree_oid t ≡ None) (λ i. tree_oid t ≡ Some i.now)
-    → MatchOption r ((o : ℕ) (i : List ℕ) → t ≢ leaf o (object_identifier i)) (λ i. t ≡ leaf (tree_offset t) (object_identifier i.now))
+    → MatchOption r ((o : ℕ) (i : List ℕ) → t ≢ leaf o (object_identifier i))
+    (λ i. t ≡ leaf (tree_offset t) (object_identifier i.now))
 found t None h = none_of t h
 found t (Some i) h = tree_of t i.now h
 

@@ -23,7 +23,8 @@ returns-in_err-bits c =
     let items = c.in_ok-sequence_items.field-0.now in
     let three : length items ≡ 3 = omega (arith, c.in-len3.len_at_least, c.in-len3.len_below) in
     rw c.from_residual-in_err-bits.ensures (λ p f.
-    no_signature t p (tree_offset t) items c.signature-item.result three c.signature-item.is c.in_ok-sequence_items.ensures.items c.in_err-bits.ensures f
+    no_signature t p (tree_offset t) items c.signature-item.result three c.signature-item.is
+    c.in_ok-sequence_items.ensures.items c.in_err-bits.ensures f
     )
 
 pub returns : goal.returns
@@ -32,7 +33,9 @@ returns c =
     let items = c.in_ok-sequence_items.field-0.now in
     let three : length items ≡ 3 = omega (arith, c.in-len3.len_at_least, c.in-len3.len_below) in
     let (p, is, content, end, algorithm, bits, signature) =
-    parts_of_three t (tree_offset t) items c.content-item.result c.algorithm-item.result c.signature-item.result c.in_ok-algorithm.algorithm.now
-    c.in_ok-bits.bits c.in_ok-bits.signature.now three c.content-item.is c.algorithm-item.is c.signature-item.is c.in_ok-sequence_items.ensures.items
+    parts_of_three t (tree_offset t) items c.content-item.result c.algorithm-item.result c.signature-item.result
+    c.in_ok-algorithm.algorithm.now
+    c.in_ok-bits.bits c.in_ok-bits.signature.now three c.content-item.is c.algorithm-item.is c.signature-item.is
+    c.in_ok-sequence_items.ensures.items
     c.in_ok-algorithm.ensures c.in_ok-bits.ensures in
     (p, is, content, c.offset-end.ensures ∙ end, algorithm, bits, signature)

@@ -5,7 +5,8 @@ use Rattle.simple_asn1.proofs.outline.canonical.are_canonical_by_entries.Goals a
 pub is_canonical-requires : goal.is_canonical-requires
 is_canonical-requires c =
     let (bs, document, are) = c.requires in
-    header_of c.args.octets.now bs c.args.entries.now are c.loop-entry.entry-index (omega (arith, c.loop-entry-test.true))
+    header_of c.args.octets.now bs c.args.entries.now are c.loop-entry.entry-index
+    (omega (arith, c.loop-entry-test.true))
 
 pub returns : goal.returns
 returns c said bs document =

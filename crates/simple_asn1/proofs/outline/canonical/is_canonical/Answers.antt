@@ -3,4 +3,5 @@ use Rattle.simple_asn1.proofs.outline.canonical.is_canonical.Goals as goal
 
 pub returns-in_default : goal.returns-in_default
 returns-in_default c said =
-    other_at c.args.octets.now c.args.entry.now (c.is_shortest.ensures c.if-not-is_shortest.false) c.in_default.not-Universal
+    other_at c.args.octets.now c.args.entry.now (c.is_shortest.ensures c.if-not-is_shortest.false)
+    c.in_default.not-Universal

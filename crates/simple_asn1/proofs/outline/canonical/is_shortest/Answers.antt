@@ -39,4 +39,5 @@ returns-else-entry-lt128 c same =
       | else-entry-eq0-via-else-entry-eq0 w ↦ omega (arith, none, w.if-entry-eq0.false)
     ] in
     let size : r.header ≡ 1 + c.length_size.result = eqb-true r.header (1 + c.length_size.result) same in
-    shortest_at x r all c.requires (omega (arith, c.if-entry-gt30.false)) not (omega (arith, size, c.length_size.ensures.size))
+    shortest_at x r all c.requires (omega (arith, c.if-entry-gt30.false)) not
+    (omega (arith, size, c.length_size.ensures.size))

@@ -10,5 +10,6 @@ returns-clause-accepts c =
 pub returns-clause-refuses : goal.returns-clause-refuses
 returns-clause-refuses c =
     let small : length c.args.i.now < 2 ^ 64 = omega arith in
-    refused_here c.args.i.now c.checked.result small (checked_document c.args.i.now c.checked.result c.checked.ensures.document)
+    refused_here c.args.i.now c.checked.result small
+    (checked_document c.args.i.now c.checked.result c.checked.ensures.document)
     c.checked.ensures.fault

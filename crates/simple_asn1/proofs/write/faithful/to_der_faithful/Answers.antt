@@ -7,12 +7,14 @@ use Rattle.simple_asn1.proofs.write.faithful.to_der_faithful.Goals as goal
 
 pub returns-in-Some-clause-accepts : goal.returns-in-Some-clause-accepts
 returns-in-Some-clause-accepts c faithful =
-    let first : FailsFirst (view c.args.i.now) c.in-Some.index c.in-Some.reason = rw c.in-Some.is at c.in_ok-index.ensures in
+    let first : FailsFirst (view c.args.i.now) c.in-Some.index c.in-Some.reason =
+    rw c.in-Some.is at c.in_ok-index.ensures in
     absurd (faithful_no_failure (view c.args.i.now) c.in-Some.index c.in-Some.reason faithful first)
 
 pub returns-in-Some-clause-refuses : goal.returns-in-Some-clause-refuses
 returns-in-Some-clause-refuses c index reason other =
-    let first : FailsFirst (view c.args.i.now) c.in-Some.index c.in-Some.reason = rw c.in-Some.is at c.in_ok-index.ensures in
+    let first : FailsFirst (view c.args.i.now) c.in-Some.index c.in-Some.reason =
+    rw c.in-Some.is at c.in_ok-index.ensures in
     inr (same_error (view c.args.i.now) c.in-Some.index index c.in-Some.reason reason first other)
 
 pub returns-in-Ok-clause-refuses : goal.returns-in-Ok-clause-refuses

@@ -10,7 +10,8 @@ abbrev Waits : Bor (List ℕ) → Type 0
 Waits x = AreCanonical x.now
 
 -- what all that wait are, those before the last and the last are
-pushed_all : (xs ys : List (Bor (List ℕ))) (x : Bor (List ℕ)) → ys ≡ xs ++ x ∷ [] → All Waits ys → All Waits xs × Waits x
+pushed_all : (xs ys : List (Bor (List ℕ))) (x : Bor (List ℕ)) → ys ≡ xs ++ x ∷ [] → All Waits ys →
+    All Waits xs × Waits x
 pushed_all xs ys x e all = All-pop Waits ys xs (Some x) e all
 
 pub headers-preserved-in-Some : goal.headers-preserved-in-Some
@@ -23,13 +24,15 @@ headers-preserved-in-Some c next outer =
 pub returns-in-None-clause-canonical : goal.returns-in-None-clause-canonical
 returns-in-None-clause-canonical c said =
     let items : c.headers.outer.items ≡ [] = grind (arith, common_steps) in
-    c.headers.invariant (none_canonical c.headers.rest.now (grind (arith, common_steps))) (subst (All Waits) (sym items) (All-nil Waits))
+    c.headers.invariant (none_canonical c.headers.rest.now (grind (arith, common_steps)))
+    (subst (All Waits) (sym items) (All-nil Waits))
 
 pub headers-preserved-then-is_empty-2 : goal.headers-preserved-then-is_empty-2
 headers-preserved-then-is_empty-2 c after outer =
     let leaves : LeavesBoth c.headers.rest.now c.in-Some-2.inside.now c.in-Some-2.after.now =
     subst (λ f. IfSome f (λ x. LeavesBoth c.headers.rest.now x.0.now x.1.now)) c.in-Some-2.is c.in_ok-inside.ensures in
-    c.headers.invariant (leaves.canonical (none_canonical c.in-Some-2.inside.now (grind (arith, common_steps))) after) outer
+    c.headers.invariant (leaves.canonical (none_canonical c.in-Some-2.inside.now (grind (arith, common_steps))) after)
+    outer
 
 pub headers-preserved : goal.headers-preserved
 headers-preserved c inside outer =

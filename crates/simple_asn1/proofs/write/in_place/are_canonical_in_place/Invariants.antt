@@ -6,7 +6,8 @@ use Rattle.simple_asn1.proofs.write.in_place.are_canonical_in_place.Given as goa
 
 -- what is left decides of all
 abbrev pub invariant-headers : goal.invariant-headers
-invariant-headers l = AreCanonical l.rest → All (λ (x : Bor (List ℕ)). AreCanonical x.now) l.outer.items → AreCanonical l.i
+invariant-headers l = AreCanonical l.rest → All (λ (x : Bor (List ℕ)). AreCanonical x.now) l.outer.items →
+    AreCanonical l.i
 
 -- octets that wait count one more than they are, for the turn that takes them up
 abbrev pub decreases-headers : goal.decreases-headers

@@ -13,25 +13,31 @@ returns-then-is_empty-clause-meant c said =
     let b = c.in-Some.field-0-0.now in
     let rest = c.in-Some.rest.now in
     let e : contents ≡ b ∷ rest = grind (arith, common_steps) in
-    let before : (k : ℕ) → k < length rest → get_or rest k 0 ≢ 128 = λ k h. c.loop-octet.invariant k (omega (arith, h, c.loop-octet-test.false)) in
+    let before : (k : ℕ) → k < length rest →
+    get_or rest k 0 ≢ 128 = λ k h. c.loop-octet.invariant k (omega (arith, h, c.loop-octet-test.false)) in
     let ends : IsTrue true = grind (arith) in
     let empty : length rest ≡ 0 = grind (arith, common_steps) in
-    let none : NoneLeads true rest = without_80 true rest before (λ _. ends) (λ some. absurd (omega (arith, some, empty))) in
+    let none : NoneLeads true rest =
+    without_80 true rest before (λ _. ends) (λ some. absurd (omega (arith, some, empty))) in
     let meant = components_stand b rest none in
     (meant.0, subst (ObjectIdentifierContents meant.0) (sym e) meant.1)
 
 pub returns-then-is_empty-clause-shortest : goal.returns-then-is_empty-clause-shortest
 returns-then-is_empty-clause-shortest c said components p =
     let contents = c.args.contents.now in
-    let all : AreOctets contents = All-from_get_or (λ b. b < 256) contents 0 (λ k h. omega (arith, c.type_inv.contents k)) in
+    let all : AreOctets contents =
+    All-from_get_or (λ b. b < 256) contents 0 (λ k h. omega (arith, c.type_inv.contents k)) in
     let b = c.in-Some.field-0-0.now in
     let rest = c.in-Some.rest.now in
     let e : contents ≡ b ∷ rest = grind (arith, common_steps) in
-    let before : (k : ℕ) → k < length rest → get_or rest k 0 ≢ 128 = λ k h. c.loop-octet.invariant k (omega (arith, h, c.loop-octet-test.false)) in
+    let before : (k : ℕ) → k < length rest →
+    get_or rest k 0 ≢ 128 = λ k h. c.loop-octet.invariant k (omega (arith, h, c.loop-octet-test.false)) in
     let ends : IsTrue true = grind (arith) in
     let empty : length rest ≡ 0 = grind (arith, common_steps) in
-    let none : NoneLeads true rest = without_80 true rest before (λ _. ends) (λ some. absurd (omega (arith, some, empty))) in
-    e ∙ short_object_identifier components b rest (subst AreOctets e all) none (subst (ObjectIdentifierContents components) e p)
+    let none : NoneLeads true rest =
+    without_80 true rest before (λ _. ends) (λ some. absurd (omega (arith, some, empty))) in
+    e ∙ short_object_identifier components b rest (subst AreOctets e all) none
+    (subst (ObjectIdentifierContents components) e p)
 
 pub returns-then-rest-lt128-clause-meant : goal.returns-then-rest-lt128-clause-meant
 returns-then-rest-lt128-clause-meant c said =
@@ -39,20 +45,26 @@ returns-then-rest-lt128-clause-meant c said =
     let b = c.in-Some.field-0-0.now in
     let rest = c.in-Some.rest.now in
     let e : contents ≡ b ∷ rest = grind (arith, common_steps) in
-    let before : (k : ℕ) → k < length rest → get_or rest k 0 ≢ 128 = λ k h. c.loop-octet.invariant k (omega (arith, h, c.loop-octet-test.false)) in
+    let before : (k : ℕ) → k < length rest →
+    get_or rest k 0 ≢ 128 = λ k h. c.loop-octet.invariant k (omega (arith, h, c.loop-octet-test.false)) in
     let ends : IsTrue true = grind (arith) in
-    let none : NoneLeads true rest = without_80 true rest before (λ _. ends) (λ some. omega (arith, c.if-rest-lt128.true)) in
+    let none : NoneLeads true rest =
+    without_80 true rest before (λ _. ends) (λ some. omega (arith, c.if-rest-lt128.true)) in
     let meant = components_stand b rest none in
     (meant.0, subst (ObjectIdentifierContents meant.0) (sym e) meant.1)
 
 pub returns-then-rest-lt128-clause-shortest : goal.returns-then-rest-lt128-clause-shortest
 returns-then-rest-lt128-clause-shortest c said components p =
     let contents = c.args.contents.now in
-    let all : AreOctets contents = All-from_get_or (λ b. b < 256) contents 0 (λ k h. omega (arith, c.type_inv.contents k)) in
+    let all : AreOctets contents =
+    All-from_get_or (λ b. b < 256) contents 0 (λ k h. omega (arith, c.type_inv.contents k)) in
     let b = c.in-Some.field-0-0.now in
     let rest = c.in-Some.rest.now in
     let e : contents ≡ b ∷ rest = grind (arith, common_steps) in
-    let before : (k : ℕ) → k < length rest → get_or rest k 0 ≢ 128 = λ k h. c.loop-octet.invariant k (omega (arith, h, c.loop-octet-test.false)) in
+    let before : (k : ℕ) → k < length rest →
+    get_or rest k 0 ≢ 128 = λ k h. c.loop-octet.invariant k (omega (arith, h, c.loop-octet-test.false)) in
     let ends : IsTrue true = grind (arith) in
-    let none : NoneLeads true rest = without_80 true rest before (λ _. ends) (λ some. omega (arith, c.if-rest-lt128.true)) in
-    e ∙ short_object_identifier components b rest (subst AreOctets e all) none (subst (ObjectIdentifierContents components) e p)
+    let none : NoneLeads true rest =
+    without_80 true rest before (λ _. ends) (λ some. omega (arith, c.if-rest-lt128.true)) in
+    e ∙ short_object_identifier components b rest (subst AreOctets e all) none
+    (subst (ObjectIdentifierContents components) e p)

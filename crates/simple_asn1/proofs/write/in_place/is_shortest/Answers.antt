@@ -11,7 +11,13 @@ overflow_add-result c =
     let x = c.args.octets.now in
     let h = c.args.header.now in
     let all : All (λ b. b < 256) x = All-from_get_or (λ b. b < 256) x 0 (λ k _. omega (arith, c.type_inv.octets k)) in
-    omega (arith, c.requires.within, shortest_fits x h all c.requires, c.identifier_size-identifier.ensures, c.length_size.ensures.size)
+    omega (
+      arith,
+      c.requires.within,
+      shortest_fits x h all c.requires,
+      c.identifier_size-identifier.ensures,
+      c.length_size.ensures.size,
+    )
 
 pub returns : goal.returns
 returns c same =
@@ -22,4 +28,5 @@ returns c same =
       | else-header-eq0-via-then-header-eq0+else-octets-header w ↦ omega (arith, last, w.if-octets-header.false)
       | else-header-eq0-via-else-header-eq0 w ↦ omega (arith, none, w.if-header-eq0.false)
     ] in
-    shortest_front x h all c.requires not (grind (arith, common_steps, same, c.identifier_size-identifier.ensures, c.length_size.ensures.size))
+    shortest_front x h all c.requires not
+    (grind (arith, common_steps, same, c.identifier_size-identifier.ensures, c.length_size.ensures.size))

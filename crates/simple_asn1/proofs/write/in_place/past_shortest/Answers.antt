@@ -15,7 +15,8 @@ returns-then-header c =
     let after = c.split_at-2.result.1.now in
     let whole : rest ≡ own ++ after = grind (arith, common_steps) in
     let size : length own ≡ c.args.header.now.announced = grind (arith, common_steps) in
-    past_constructed c.args.octets.now rest own after c.args.header.now (omega arith) c.requires c.split_at.ensures.back whole size c.in_default.not-Universal
+    past_constructed c.args.octets.now rest own after c.args.header.now (omega arith) c.requires c.split_at.ensures.back
+    whole size c.in_default.not-Universal
 
 pub returns-else-not-are_contents_canonical : goal.returns-else-not-are_contents_canonical
 returns-else-not-are_contents_canonical c =
@@ -24,7 +25,8 @@ returns-else-not-are_contents_canonical c =
     let after = c.split_at-2.result.1.now in
     let whole : rest ≡ own ++ after = grind (arith, common_steps) in
     let size : length own ≡ c.args.header.now.announced = grind (arith, common_steps) in
-    past_universal c.args.octets.now rest own after c.args.header.now (omega arith) c.requires c.split_at.ensures.back whole size c.in-Universal.is
+    past_universal c.args.octets.now rest own after c.args.header.now (omega arith) c.requires c.split_at.ensures.back
+    whole size c.in-Universal.is
     (c.are_contents_canonical.ensures c.if-not-are_contents_canonical.false)
 
 pub returns-else-header : goal.returns-else-header
@@ -34,5 +36,6 @@ returns-else-header c =
     let after = c.split_at-2.result.1.now in
     let whole : rest ≡ own ++ after = grind (arith, common_steps) in
     let size : length own ≡ c.args.header.now.announced = grind (arith, common_steps) in
-    past_primitive c.args.octets.now rest own after c.args.header.now (omega arith) c.requires c.split_at.ensures.back whole size c.in_default.not-Universal
+    past_primitive c.args.octets.now rest own after c.args.header.now (omega arith) c.requires c.split_at.ensures.back
+    whole size c.in_default.not-Universal
     c.if-header.false

@@ -10,8 +10,10 @@ abbrev pub invariant-loop-i : goal.invariant-loop-i
 invariant-loop-i l = record {
   within : l.i ≤ length l.list;
   blocks : measured_blocks l.list ≡ measured_blocks l.fn.list;
-  contents : measured_sizes l.list ≡ map own_size_of (take l.i (measured_blocks l.fn.list)) ++ map contents_size_of (drop l.i (measured_blocks l.fn.list));
-  sizes : (left : List ASN1Block) → IsInTreeOrder (drop l.i (measured_blocks l.fn.list)) left → l.sizes.items ≡ sizes_back left;
+  contents : measured_sizes l.list ≡ map own_size_of (take l.i (measured_blocks l.fn.list))
+      ++ map contents_size_of (drop l.i (measured_blocks l.fn.list));
+  sizes : (left : List ASN1Block) → IsInTreeOrder (drop l.i (measured_blocks l.fn.list)) left →
+      l.sizes.items ≡ sizes_back left;
 }
 
 abbrev pub decreases-loop-i : goal.decreases-loop-i

@@ -12,7 +12,8 @@ use Rattle.simple_asn1.proofs.write.measure.list_blocks.Goals as goal
 
 pub loop-walk-smaller : goal.loop-walk-smaller
 loop-walk-smaller c =
-    let n : IsNext c.in-Some.block.now (ahead c.loop-walk.walk) (ahead c.next.new.self) = rw c.in-Some.is at c.in_ok-block.ensures in
+    let n : IsNext c.in-Some.block.now (ahead c.loop-walk.walk) (ahead c.next.new.self) =
+    rw c.in-Some.is at c.in_ok-block.ensures in
     omega (arith, fewer_ahead c.in-Some.block.now (ahead c.loop-walk.walk) (ahead c.next.new.self) n)
 
 pub loop-walk-preserved : goal.loop-walk-preserved
@@ -21,13 +22,15 @@ loop-walk-preserved c =
     let m : Measured = record { block = c.in-Some.block; contents = c.in_ok-contents.contents } in
     let n : IsNext b (ahead c.loop-walk.walk) (ahead c.next.new.self) = rw c.in-Some.is at c.in_ok-block.ensures in
     let p : c.push.new.self.items ≡ c.loop-walk.list.items ++ m ∷ [] = grind (arith, common_steps) in
-    let e : measured_blocks c.push.new.self.items ≡ measured_blocks c.loop-walk.list.items ++ b ∷ [] = ap measured_blocks p
+    let e : measured_blocks c.push.new.self.items ≡ measured_blocks c.loop-walk.list.items ++ b ∷ [] =
+    ap measured_blocks p
     ∙ map_push (λ (x : Measured). x.block.now) c.loop-walk.list.items m in
     let own = c.loop-walk.invariant.own in
     record {
       found =
           subst (λ z. IsFound z (ahead c.next.new.self) c.args.blocks.now) (sym e)
-          (found_next (measured_blocks c.loop-walk.list.items) (ahead c.loop-walk.walk) (ahead c.next.new.self) c.args.blocks.now b
+          (found_next (measured_blocks c.loop-walk.list.items) (ahead c.loop-walk.walk) (ahead c.next.new.self)
+          c.args.blocks.now b
           c.loop-walk.invariant.found n);
       own =
           ap measured_sizes p ∙ (map_push (λ (x : Measured). x.contents) c.loop-walk.list.items m
@@ -35,11 +38,13 @@ loop-walk-preserved c =
           ∙ (ap (λ z. map own_size_of (measured_blocks c.loop-walk.list.items) ++ z ∷ []) c.in_ok-contents.ensures.size
           ∙ (sym (map_push own_size_of (measured_blocks c.loop-walk.list.items) b) ∙ ap (map own_size_of) (sym e)))));
       fault =
-          sym (ap (λ z. first_of z (first_write_fault (views (ahead c.next.new.self)))) c.in_ok-contents.ensures.writable)
+          sym (ap (λ z. first_of z (first_write_fault (views (ahead c.next.new.self))))
+          c.in_ok-contents.ensures.writable)
           ∙ (sym (fault_next b (ahead c.loop-walk.walk) (ahead c.next.new.self) n) ∙ c.loop-walk.invariant.fault);
     }
 
 pub returns-clause-ordered : goal.returns-clause-ordered
 returns-clause-ordered c =
-    found_all (measured_blocks c.loop-walk.list.items) (ahead c.loop-walk.walk) c.args.blocks.now c.loop-walk.invariant.found
+    found_all (measured_blocks c.loop-walk.list.items) (ahead c.loop-walk.walk) c.args.blocks.now
+    c.loop-walk.invariant.found
     (rw c.in_default.is at c.in_ok-block.ensures)

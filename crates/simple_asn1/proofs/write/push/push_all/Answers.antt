@@ -27,5 +27,7 @@ loop-m-preserved g c =
     let i = c.loop-m.m-index in
     let m = c.m-item.result in
     let done = all_own_octets (measured_blocks (take i c.args.list.now)) in
-    subst (λ z. g.S.Sink.pushes c.args.out.now z c.push_block.new.out) (sym (own_at c.args.list.now i m c.loop-m-test.true c.m-item.is))
-    (g.S.Sink.more c.args.out.now c.loop-m.out c.push_block.new.out done (own_octets (view m.block.now)) c.loop-m.invariant c.push_block.ensures)
+    subst (λ z. g.S.Sink.pushes c.args.out.now z c.push_block.new.out)
+    (sym (own_at c.args.list.now i m c.loop-m-test.true c.m-item.is))
+    (g.S.Sink.more c.args.out.now c.loop-m.out c.push_block.new.out done (own_octets (view m.block.now))
+    c.loop-m.invariant c.push_block.ensures)

@@ -16,7 +16,8 @@ push_all-requires-clause-room c =
 pub push_all-requires-clause-writable : goal.push_all-requires-clause-writable
 push_all-requires-clause-writable c =
     ap (λ z. first_own_fault (measured_blocks z)) c.deref.ensures.value
-    ∙ (fault_order (measured_blocks c.in-Ok.measured.0.items) c.args.blocks.now c.in-Ok.ensures.ordered ∙ c.in-Ok.ensures.writable)
+    ∙ (fault_order (measured_blocks c.in-Ok.measured.0.items) c.args.blocks.now c.in-Ok.ensures.ordered
+    ∙ c.in-Ok.ensures.writable)
 
 pub returns-clause-are : goal.returns-clause-are
 returns-clause-are c =
@@ -24,5 +25,6 @@ returns-clause-are c =
     ap (λ z. all_own_octets (measured_blocks z)) c.deref.ensures.value ∙
     own_order (measured_blocks c.in-Ok.measured.0.items) c.args.blocks.now c.in-Ok.ensures.ordered in
     let whole : Comparison = record { rest = c.args.octets; same = true } in
-    let w = compared_whole whole c.push_all.new.out _ c.push_all.ensures (omega (arith, ap length e, c.in-Ok.ensures.size, c.if-size-octets.false)) refl in
+    let w = compared_whole whole c.push_all.new.out _ c.push_all.ensures
+    (omega (arith, ap length e, c.in-Ok.ensures.size, c.if-size-octets.false)) refl in
     (λ h. w.0 h ∙ e, λ h. w.1 (h ∙ sym e))

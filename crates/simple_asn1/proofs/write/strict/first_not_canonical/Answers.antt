@@ -19,7 +19,8 @@ slice_bounds-are_canonical-end c =
     let i = c.args.i.now in
     let o = c.loop-k.start in
     let rest = views (drop (k + 1) xs) in
-    let s = step i o (view c.index-blocks-k.result) rest c.end_at-end.result c.loop-k.invariant.within c.end_at-end.ensures
+    let s = step i o (view c.index-blocks-k.result) rest c.end_at-end.result c.loop-k.invariant.within
+    c.end_at-end.ensures
     (subst (EncodesAll o (drop o i)) v c.loop-k.invariant.left) in
     let a : o ≤ c.end_at-end.result = s.from in
     let b : c.end_at-end.result ≤ length i = s.to in
@@ -44,7 +45,8 @@ are_canonical-requires c =
 pub are_canonical-requires-in-loop-k : goal.are_canonical-requires-in-loop-k
 are_canonical-requires-in-loop-k c =
     let xs = c.args.blocks.now in
-    let f = (writable_from xs c.loop-k.k c.index-blocks-k.result c.loop-k-test.true c.index-blocks-k.is c.loop-k.invariant.writable).0 in
+    let f = (writable_from xs c.loop-k.k c.index-blocks-k.result c.loop-k-test.true c.index-blocks-k.is
+    c.loop-k.invariant.writable).0 in
     ap (λ z. first_write_fault (views z)) c.from_ref.ensures.value ∙ ap (λ z. first_of z None) f
 
 pub returns-then-not-branch-clause-found : goal.returns-then-not-branch-clause-found
@@ -55,9 +57,11 @@ returns-then-not-branch-clause-found c =
     let o = c.loop-k.start in
     let v = views_from xs k c.index-blocks-k.result c.loop-k-test.true c.index-blocks-k.is in
     let rest = views (drop (k + 1) xs) in
-    let s = step i o (view c.index-blocks-k.result) rest c.end_at-end.result c.loop-k.invariant.within c.end_at-end.ensures
+    let s = step i o (view c.index-blocks-k.result) rest c.end_at-end.result c.loop-k.invariant.within
+    c.end_at-end.ensures
     (subst (EncodesAll o (drop o i)) v c.loop-k.invariant.left) in
-    let one = ap (λ z. all_canonical (views z)) c.from_ref.ensures.value ∙ append-nil (canonical (view c.index-blocks-k.result)) in
+    let one = ap (λ z. all_canonical (views z)) c.from_ref.ensures.value
+    ∙ append-nil (canonical (view c.index-blocks-k.result)) in
     let differs : slice_range i o c.end_at-end.result ≢ canonical (view c.index-blocks-k.result) =
     λ e. absurd (false≢true (sym c.if-not-branch.true ∙ c.in_ok-are_canonical-2.ensures.are.1 (e ∙ sym one))) in
     c.loop-k.invariant.first o (subst (λ z. FirstNotCanonical i z o) (sym v) (s.first_here differs))
@@ -72,7 +76,8 @@ loop-k-preserved c =
     let e = c.end_at-end.result in
     let rest = views (drop (k + 1) xs) in
     let v = views_from xs k x c.loop-k-test.true c.index-blocks-k.is in
-    let s = step i o (view x) rest e c.loop-k.invariant.within c.end_at-end.ensures (subst (EncodesAll o (drop o i)) v c.loop-k.invariant.left) in
+    let s = step i o (view x) rest e c.loop-k.invariant.within c.end_at-end.ensures
+    (subst (EncodesAll o (drop o i)) v c.loop-k.invariant.left) in
     let here : slice_range i o e ≡ canonical (view x) = c.in_ok-are_canonical-2.ensures.are.0 c.if-not-branch.false ∙
     (ap (λ z. all_canonical (views z)) c.from_ref.ensures.value ∙ append-nil (canonical (view x))) in
     record {

@@ -1,4 +1,4 @@
-use Rattle.std.proofs.Common.{◌≡◌, suc, ◌+◌, ◌-◌, ◌≤◌, length, refl, arith}
+use Rattle.std.proofs.Common.{◌≡◌, suc, ◌-◌, length, refl, arith}
 use Rattle.std.proofs.lemmas.Grind.{common_steps}
 use Rattle.simple_asn1_c.proofs.Fronts.{cut_behind, cut_none}
 use Rattle.simple_asn1_c.proofs.front.FrontBuilder.cut.Goals as goal

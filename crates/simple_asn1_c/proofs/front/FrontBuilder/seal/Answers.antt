@@ -1,4 +1,4 @@
-use Rattle.std.proofs.Common.{◌≡◌, ◌<◌, ◌≤◌, length, refl, arith, ◌∙◌}
+use Rattle.std.proofs.Common.{◌<◌, ◌≤◌, length, refl, arith, ◌∙◌}
 use Rattle.std.proofs.lemmas.Grind.{common_steps}
 use Rattle.std.proofs.lemmas.List.{get_or_default}
 use Rattle.asn1_outline.specs.Entries.{no_entry}
@@ -17,4 +17,5 @@ returns c all w =
     let own : c.args.items.entry < length b.kept.items = grind (arith, common_steps) in
     let r = c.index_mut-entry.result.now in
     sealed_within b _ all c.args.items.entry c.args.items.count c.count-next.result r own w
-    (c.index_mut-entry.ensures.value ∙ get_or_default b.kept.items c.args.items.entry r no_entry own) (c.count-next.ensures.count all w) refl refl
+    (c.index_mut-entry.ensures.value ∙ get_or_default b.kept.items c.args.items.entry r no_entry own)
+    (c.count-next.ensures.count all w) refl refl

@@ -13,4 +13,5 @@ returns c =
     let b = c.seal.new.self in
     let i = c.args.parent.now in
     if_ok c.add.result
-    (λ u. subst (λ z. HasEndedIn holds_front x f c.args._depth a i b z) (sym u) (front_ended x a b f i c.args._depth c.seal.ensures)) c.add.ensures
+    (λ u. subst (λ z. HasEndedIn holds_front x f c.args._depth a i b z) (sym u)
+    (front_ended x a b f i c.args._depth c.seal.ensures)) c.add.ensures

@@ -13,4 +13,5 @@ returns c =
     let b = c.cut.new.self in
     let i = c.args.parent.now in
     if_ok c.add.result
-    (λ u. subst (λ z. HasKept holds_front x f c.args._depth a i b z) (sym u) (front_kept x a b f i c.args._depth c.cut.ensures)) c.add.ensures
+    (λ u. subst (λ z. HasKept holds_front x f c.args._depth a i b z) (sym u)
+    (front_kept x a b f i c.args._depth c.cut.ensures)) c.add.ensures

@@ -9,4 +9,5 @@ returns-clause-same_shape c = c.same.ensures
 
 pub returns-clause-decided : goal.returns-clause-decided
 returns-clause-decided c =
-    one_answer c.same.result (same_block c.args.self.now c.args.other.now) c.same.ensures (same_tree-decides (view c.args.self.now) (view c.args.other.now))
+    one_answer c.same.result (same_block c.args.self.now c.args.other.now) c.same.ensures
+    (same_tree-decides (view c.args.self.now) (view c.args.other.now))

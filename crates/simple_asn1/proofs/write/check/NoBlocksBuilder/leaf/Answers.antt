@@ -17,7 +17,8 @@ returns c =
     let (limit, found, within) = c.requires.found in
     record {
       built = on_ok c.check_contents.result
-          (λ encoded. let (t, none, is) = encoded o (slice_range c.args.octets.now o h.end) (h.start - o) found.encoding in
+          (λ encoded. let (t, none, is) =
+          encoded o (slice_range c.args.octets.now o h.end) (h.start - o) found.encoding in
           record { tree = t; encoded = is; more = record { holds = λ e fs ts rest d w. tt } })
           c.check_contents.ensures.encoded;
       refused = if_err c.check_contents.result
