@@ -1,3 +1,4 @@
+-- For `read_all`: what each turn of its loop keeps.
 use Rattle.std.specs.Io.KnownBytes.{Consumes}
 use Rattle.der_io.proofs.read_all.Given as goal
 

@@ -1,3 +1,4 @@
+-- For `read_strict_within`: what it returns is right.
 use Rattle.std.proofs.Common.{refl}
 use Rattle.simple_asn1_c.proofs.Outcomes.{read_strict_answer, read_strict_refused}
 use Rattle.simple_asn1_c.proofs.read_strict_within.Goals as goal

@@ -1,3 +1,4 @@
+-- For `read_within`: what it returns is right (`answer`, `few`).
 use Rattle.std.proofs.Common.{refl}
 use Rattle.simple_asn1_c.proofs.Outcomes.{read_answer, read_refused}
 use Rattle.simple_asn1_c.proofs.TwoEach.{two_each}

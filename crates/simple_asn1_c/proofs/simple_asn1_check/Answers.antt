@@ -1,3 +1,4 @@
+-- For `simple_asn1_check`: what it returns is right.
 use Rattle.simple_asn1_c.specs.Answers.{is_document}
 use Rattle.simple_asn1_c.proofs.Outcomes.{check_refused}
 use Rattle.simple_asn1_c.proofs.simple_asn1_check.Goals as goal

@@ -1,3 +1,4 @@
+-- For `simple_asn1_departures`: what it returns is right (`answer`, `none`).
 use Rattle.simple_asn1_c.proofs.ListedDepartures.{departures_answer, departures_refused, none_for_der}
 use Rattle.simple_asn1_c.proofs.simple_asn1_departures.Goals as goal
 

@@ -1,3 +1,4 @@
+-- For `simple_asn1_oid`: what it returns is right (`few`).
 use Rattle.std.proofs.Common.{◌<◌, arith}
 use Rattle.std.proofs.lemmas.List.Elements.{All-from_get_or}
 use Rattle.simple_asn1_c.proofs.Rooms.{identifier_few}

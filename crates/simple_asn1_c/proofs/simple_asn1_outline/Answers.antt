@@ -1,3 +1,4 @@
+-- For `simple_asn1_outline`: what it returns is right (`answer`, `few`).
 use Rattle.simple_asn1.specs.Walked.{walked_entries}
 use Rattle.simple_asn1_c.proofs.Outcomes.{outline_answer, outline_refused}
 use Rattle.simple_asn1_c.proofs.TwoEachHeader.{two_each_header}

@@ -1,3 +1,4 @@
+-- For `simple_asn1_read`: what it returns is right (`answer`, `few`).
 use Rattle.asn1_outline.specs.Outlines.{entries_in}
 use Rattle.simple_asn1_c.proofs.Outcomes.{read_answer, read_refused}
 use Rattle.simple_asn1_c.proofs.TwoEach.{two_each}

@@ -1,3 +1,4 @@
+-- For `simple_asn1_read_strict`: what it returns is right.
 use Rattle.asn1_outline.specs.Outlines.{entries_in}
 use Rattle.simple_asn1_c.proofs.Outcomes.{read_strict_answer, read_strict_refused}
 use Rattle.simple_asn1_c.proofs.simple_asn1_read_strict.Goals as goal

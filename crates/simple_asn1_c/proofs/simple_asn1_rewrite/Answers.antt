@@ -1,3 +1,4 @@
+-- For `simple_asn1_rewrite`: what it returns is right.
 use Rattle.std.proofs.Common.{◌∙◌}
 use Rattle.simple_asn1_c.proofs.Outcomes.{none_written, rewrite_answer, rewrite_refused, some_written}
 use Rattle.simple_asn1_c.proofs.simple_asn1_rewrite.Goals as goal

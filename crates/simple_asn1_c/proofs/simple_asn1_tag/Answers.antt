@@ -1,3 +1,4 @@
+-- For `simple_asn1_tag`: what it returns is right (`few`).
 use Rattle.simple_asn1_c.proofs.Rooms.{tag_few}
 use Rattle.simple_asn1_c.proofs.simple_asn1_tag.Goals as goal
 

@@ -1,3 +1,4 @@
+-- For `simple_asn1_values`: what it returns is right.
 use Rattle.std.proofs.Common.{map, subst, ◌∙◌}
 use Rattle.simple_asn1_c.specs.Paths.{value_of, were_valued}
 use Rattle.simple_asn1_c.specs.Room.{ArePut}

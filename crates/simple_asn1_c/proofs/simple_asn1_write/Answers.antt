@@ -1,3 +1,4 @@
+-- For `simple_asn1_write`: what it returns is right.
 use Rattle.std.proofs.Common.{refl, inl, inr, sym, subst, ◌∙◌}
 use Rattle.simple_asn1_c.specs.Answers.{had_no_memory_to_spell, has_bad_record, spelled_no_document, was_spelled}
 use Rattle.simple_asn1_c.specs.Room.{ArePut}

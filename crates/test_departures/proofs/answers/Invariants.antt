@@ -1,3 +1,4 @@
+-- For `answers`: what grows less, so that it ends.
 use Rattle.std.proofs.Common.{length}
 use Rattle.test_departures.proofs.answers.Given as goal
 

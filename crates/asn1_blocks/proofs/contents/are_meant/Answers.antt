@@ -1,3 +1,4 @@
+-- For `contents::are_meant`: what it returns is right.
 use Rattle.std.proofs.Common.{inr, refl}
 use Rattle.asn1_numbers.specs.TwosComplement.{signed_number}
 use Rattle.asn1_leaves.specs.StringKind.{bmp, ia5, printable, teletex, universal, utf8}

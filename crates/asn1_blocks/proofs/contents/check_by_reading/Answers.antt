@@ -1,3 +1,4 @@
+-- For `contents::check_by_reading`: what it returns is right (`found`).
 use Rattle.std.proofs.Common.{◌≡◌, ℕ, false, List, Option, Some, None, inl, inr, subst}
 use Rattle.std.specs.Prelude.{MatchOption}
 use Rattle.asn1_blocks.specs.declared.block.ASN1Block.{ASN1Block}

@@ -1,3 +1,4 @@
+-- For `contents::check_contents`: what it returns is right (`encoded`, `refused`).
 use Rattle.std.proofs.Common.{◌≡◌, ℕ, List, Bool, true, inl, inr, refl, sym, subst, Result, Ok, Err, OnOk}
 use Rattle.std.proofs.lemmas.Result.{IfErr-weaker}
 use Rattle.asn1_headers.specs.declared.error.ASN1DecodeErr.{ASN1DecodeErr}

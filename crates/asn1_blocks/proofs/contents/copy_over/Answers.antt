@@ -1,3 +1,4 @@
+-- For `contents::copy_over`: what it returns is right and `take_last` may be called.
 use Rattle.std.proofs.lemmas.Grind.{common_steps}
 use Rattle.std.proofs.Common.{◌≡◌, ◌++◌, ◌∷◌, [], List, ℕ, Box, Global, length, length-append, refl, sym, ap, ◌∙◌, arith}
 use Rattle.asn1_headers.specs.declared.header.ASN1Class.{ASN1Class}

@@ -1,3 +1,4 @@
+-- For `contents::leaf_block`: what it returns is right (`encoded`, `refused`).
 use Rattle.std.proofs.Common.{rules, ◌≡◌, ◌≢◌, ℕ, List, Bool, false, Result, Ok, Err, IfOk, refl, sym, ap, ◌∙◌, subst, inl, inr}
 use Rattle.std.proofs.lemmas.Bool.{false≢true}
 use Rattle.std.proofs.lemmas.Result.{err_from_is_err_and, IfErr-weaker}

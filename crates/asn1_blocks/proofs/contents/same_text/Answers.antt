@@ -1,3 +1,4 @@
+-- For `contents::same_text`: what it returns is right.
 use Rattle.std.proofs.Common.{sym, ap, ◌∙◌}
 use Rattle.std.specs.Prelude.{encode_utf8_all}
 use Rattle.std.specs.Str.{chars}

@@ -1,3 +1,4 @@
+-- For `contents::universal_leaf`: what it returns is right (`refused`, `found`).
 use Rattle.std.proofs.Common.{◌≡◌, ℕ, List, Option, Result, Ok, Err, IsErr, IsErrAnd, IfErr, inl, inr, sym, ◌∙◌, subst, arith}
 use Rattle.std.proofs.lemmas.Grind.{common_steps}
 use Rattle.asn1_blocks.specs.declared.block.ASN1Block.{ASN1Block}

@@ -1,3 +1,4 @@
+-- For `encoding::encoding_at`: what it returns is right (`block`, `found`).
 use Rattle.std.proofs.Common.{◌≡◌, ◌++◌, ℕ, List, ◌∙◌, take, drop, ap, sym, subst}
 use Rattle.std.proofs.lemmas.List.{take-append-drop}
 use Rattle.asn1_blocks.specs.Places.{EncodingAt, IsEncoding}

@@ -1,3 +1,4 @@
+-- For `encoding::encoding_count`: what each turn of its loop keeps and what grows less, so that it ends.
 use Rattle.std.proofs.Common.{◌+◌, ◌*◌, ◌≤◌, length}
 use Rattle.asn1_blocks.proofs.encoding.encoding_count.Given as goal
 

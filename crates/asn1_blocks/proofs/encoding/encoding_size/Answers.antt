@@ -1,3 +1,4 @@
+-- For `encoding::encoding_size`: what it returns is right (`none`, `found`).
 use Rattle.std.proofs.lemmas.Grind.{common_steps}
 use Rattle.std.proofs.Common.{◌≡◌, ◌+◌, ◌<◌, ◌≤◌, length, drop, take, sym, subst, arith}
 use Rattle.std.proofs.lemmas.List.{length-take-le}

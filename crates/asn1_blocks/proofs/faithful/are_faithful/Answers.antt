@@ -1,3 +1,4 @@
+-- For `faithful::are_faithful`: its loop keeps its invariant and its loop ends.
 use Rattle.std.proofs.Common.{arith}
 use Rattle.std.proofs.lemmas.Grind.{common_steps}
 use Rattle.asn1_blocks.specs.Inner.FaithfulWalk.{IsFaithfulAlone}

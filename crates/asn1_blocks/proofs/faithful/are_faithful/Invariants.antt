@@ -1,3 +1,4 @@
+-- For `faithful::are_faithful`: what each turn of its loop keeps and what grows less, so that it ends.
 use Rattle.asn1_blocks.specs.HeadersBegun.{all_blocks_in}
 use Rattle.asn1_blocks.specs.Inner.TreeOrder.{ahead}
 use Rattle.asn1_blocks.specs.View.{views}

@@ -1,3 +1,4 @@
+-- For `faithful::is_faithful_alone`: what it returns is right.
 use Rattle.std.proofs.Common.{◌≡◌, ◌↔◌, sym, ap, ◌∙◌, subst}
 use Rattle.std.specs.Prelude.{IfOk, IsTrue}
 use Rattle.asn1_blocks.specs.Tree.{unknown}

@@ -1,3 +1,4 @@
+-- For `faithful::is_unknown_tag`: what it returns is right.
 use Rattle.asn1_blocks.proofs.Leaves.{unknown_said}
 use Rattle.asn1_blocks.proofs.faithful.is_unknown_tag.Goals as goal
 

@@ -1,3 +1,4 @@
+-- For `owed::build`: its loop keeps its invariant.
 use Rattle.std.proofs.Common.{[], ap, sym, ◌∙◌}
 use Rattle.asn1_blocks.specs.Inner.Owed.{after}
 use Rattle.asn1_blocks.proofs.OwedBlocks.{after_last}

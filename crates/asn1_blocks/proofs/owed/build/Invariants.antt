@@ -1,3 +1,4 @@
+-- For `owed::build`: what each turn of its loop keeps.
 use Rattle.std.proofs.Common.{◌≡◌, [], map}
 use Rattle.asn1_blocks.specs.View.{view}
 use Rattle.asn1_blocks.specs.Inner.Owed.{after_all}

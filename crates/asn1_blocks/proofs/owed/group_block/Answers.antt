@@ -1,3 +1,4 @@
+-- For `owed::group_block`: what it returns is right.
 use Rattle.std.proofs.Common.{List, sym, ap, ◌∙◌}
 use Rattle.asn1_blocks.specs.declared.block.ASN1Block.{ASN1Block}
 use Rattle.asn1_blocks.specs.declared.block.GroupKind.{GroupKind}

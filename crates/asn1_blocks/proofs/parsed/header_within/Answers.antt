@@ -1,3 +1,4 @@
+-- For `parsed::header_within`: what it returns is right (`refused`, `found`).
 use Rattle.std.proofs.Common.{◌+◌, ◌-◌, ◌^◌, inl, inr, refl, subst, sym, arith}
 use Rattle.std.proofs.lemmas.Bool.{cases_lt}
 use Rattle.std.specs.List.{slice_range}

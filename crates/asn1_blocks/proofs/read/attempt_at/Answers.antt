@@ -1,3 +1,4 @@
+-- For `read::attempt_at`: what it returns is right.
 use Rattle.asn1_blocks.proofs.Frames.Opening.{found_alone}
 use Rattle.asn1_blocks.proofs.read.attempt_at.Goals as goal
 

@@ -1,3 +1,4 @@
+-- For `read::from_der`: what it returns is right (`document`, `accepts`, `refuses`, `fault`).
 use Rattle.std.proofs.Common.{Ok, Err, Vec, Global, arith}
 use Rattle.asn1_blocks.specs.declared.block.ASN1Block.{ASN1Block}
 use Rattle.asn1_blocks.proofs.Readings.{document_accepted, fault_refused, without_place}

@@ -1,3 +1,5 @@
+-- For `read::from_der_counted`: what it returns is right (`accepts`, `refuses`, `fault`, `counted`, `grown`,
+-- `bounded`).
 use Rattle.std.proofs.Common.{Ok, Err, Vec, Global, arith}
 use Rattle.asn1_blocks.specs.declared.block.ASN1Block.{ASN1Block}
 use Rattle.asn1_blocks.proofs.Readings.{document_accepted, fault_refused, without_place}

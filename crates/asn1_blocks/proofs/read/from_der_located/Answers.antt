@@ -1,3 +1,4 @@
+-- For `read::from_der_located`: what it returns is right (`accepts`, `refuses`).
 use Rattle.std.proofs.Common.{◌<◌, ◌^◌, length, arith}
 use Rattle.asn1_blocks.proofs.Readings.{document_accepted_here, fault_refused_here}
 use Rattle.asn1_blocks.proofs.read.from_der_located.Goals as goal

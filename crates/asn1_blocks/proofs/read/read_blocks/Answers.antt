@@ -1,3 +1,4 @@
+-- For `read::read_blocks`: `read_into` may be called.
 use Rattle.std.proofs.Common.{None, length, refl}
 use Rattle.asn1_blocks.specs.declared.reading.FrameKind.TheVariants.{Whole}
 use Rattle.asn1_blocks.proofs.TreeBuilding.Ending.{starts_empty}

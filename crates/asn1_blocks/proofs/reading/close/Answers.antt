@@ -1,3 +1,4 @@
+-- For `reading::close`: what it returns is right and `close` may be called.
 use Rattle.std.proofs.Common.{◌≡◌, ℕ, ◌<◌, List, ◌∷◌, length, reverse, sym, ap, subst, arith}
 use Rattle.std.proofs.lemmas.Grind.{common_steps}
 use Rattle.asn1_blocks.specs.declared.reading.OpenFrame.{OpenFrame}

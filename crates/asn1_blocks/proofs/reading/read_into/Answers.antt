@@ -1,3 +1,5 @@
+-- For `reading::read_into`: its loop keeps its invariant, what it returns is right (`counted`, `document`, `grown`,
+-- `bounded`, `refused`), `take_step` and `recover` may be called, and its loop ends.
 use Rattle.std.proofs.Common.{◌≡◌, ◌<◌, false, true, Some, inl, inr, length, ap, ◌∙◌, arith}
 use Rattle.std.proofs.lemmas.Grind.{common_steps}
 use Rattle.asn1_blocks.specs.HeadersBegun.{begun_none}

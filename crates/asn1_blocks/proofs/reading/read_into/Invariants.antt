@@ -1,3 +1,4 @@
+-- For `reading::read_into`: what each turn of its loop keeps and what grows less, so that it ends.
 use Rattle.std.proofs.Common.{◌≡◌, ℕ, ◌+◌, length}
 use Rattle.asn1_blocks.specs.Inner.ReaderSteps.{IsReading, left}
 use Rattle.asn1_blocks.proofs.reading.read_into.Given as goal

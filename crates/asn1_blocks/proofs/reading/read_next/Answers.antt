@@ -1,3 +1,4 @@
+-- For `reading::read_next`: what it returns is right (`stepped`) and `header_within`, `open` and `leaf` may be called.
 use Rattle.std.proofs.Common.{◌≡◌, length, inl, inr, arith}
 use Rattle.std.proofs.lemmas.Bool.{false≢true}
 use Rattle.std.proofs.lemmas.Grind.{common_steps}

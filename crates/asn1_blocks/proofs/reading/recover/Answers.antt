@@ -1,3 +1,4 @@
+-- For `reading::recover`: what it returns is right and `refuse` may be called.
 use Rattle.std.proofs.Common.{◌≡◌}
 use Rattle.std.proofs.lemmas.Grind.{common_steps}
 use Rattle.std.proofs.Common.{arith}

@@ -1,3 +1,4 @@
+-- For `reading::refuse`: its loop keeps its invariant, what it returns is right, and `keep` may be called.
 use Rattle.std.proofs.Common.{◌≡◌, true, inr, length, ap, arith}
 use Rattle.std.proofs.lemmas.Grind.{common_steps}
 use Rattle.asn1_blocks.specs.Inner.OpenFrames.{is_tried}

@@ -1,3 +1,4 @@
+-- For `reading::take_step`: what it returns is right and `read_next` may be called.
 use Rattle.std.proofs.Common.{◌≡◌, ℕ, ◌+◌, List, [], ◌∷◌, ◌++◌, length, reverse, ap, subst, arith, length-append}
 use Rattle.std.proofs.lemmas.Grind.{common_steps}
 use Rattle.asn1_blocks.specs.declared.reading.OpenFrame.{OpenFrame}

@@ -1,3 +1,4 @@
+-- For `unknown_values::are_ascii_characters`: what each turn of its loop keeps.
 use Rattle.std.proofs.Common.{◌≡◌, take}
 use Rattle.std.specs.List.{list_all}
 use Rattle.asn1_blocks.specs.UnknownValues.{is_ascii_character}

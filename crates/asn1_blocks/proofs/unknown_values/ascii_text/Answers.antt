@@ -1,3 +1,4 @@
+-- For `unknown_values::ascii_text`: what it returns is right and `text_of_ascii` may be called.
 use Rattle.std.proofs.Common.{◌≡◌, true, Some, None, sym, ap, ◌∙◌, arith}
 use Rattle.std.specs.Prelude.{if◌then◌else◌}
 use Rattle.std.specs.List.{list_all}

@@ -1,3 +1,4 @@
+-- For `unknown_values::text_of_ascii`: what it returns is right.
 use Rattle.std.proofs.Common.{arith}
 use Rattle.std.proofs.lemmas.Grind.{common_steps}
 use Rattle.std.proofs.lemmas.Str.{chars-IsAscii, IsUtf8-from_ascii}

@@ -1,3 +1,4 @@
+-- For `walk::in_tree_order`: its loop keeps its invariant, what it returns is right, and its loop ends.
 use Rattle.std.proofs.Common.{◌≡◌, ◌++◌, ◌∷◌, [], map, sym, ap, subst, ◌∙◌, arith, Bor}
 use Rattle.std.proofs.lemmas.Grind.{common_steps}
 use Rattle.std.proofs.lemmas.List.{map_push}

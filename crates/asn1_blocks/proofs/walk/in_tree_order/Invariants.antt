@@ -1,3 +1,4 @@
+-- For `walk::in_tree_order`: what each turn of its loop keeps and what grows less, so that it ends.
 use Rattle.std.proofs.Common.{map}
 use Rattle.asn1_blocks.specs.HeadersBegun.{all_blocks_in}
 use Rattle.asn1_blocks.specs.Inner.TreeOrder.{ahead}

@@ -1,3 +1,4 @@
+-- For `encodings::are_encodings`: what it returns is right.
 use Rattle.std.proofs.Common.{◌≡◌, ◌==◌, ◌∙◌, [], arith, length, refl, subst, sym, true}
 use Rattle.std.specs.Prelude.{IsTrue}
 use Rattle.std.proofs.lemmas.List.{nil_from_length}

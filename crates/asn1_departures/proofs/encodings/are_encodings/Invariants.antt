@@ -1,3 +1,4 @@
+-- For `encodings::are_encodings`: what each turn of its loop keeps and what grows less, so that it ends.
 use Rattle.std.proofs.Common.{length}
 use Rattle.asn1_departures.specs.Steps.{IsLeft}
 use Rattle.asn1_departures.proofs.encodings.are_encodings.Given as goal

@@ -1,3 +1,4 @@
+-- For `encodings::behind_next`: what it returns is right (`more`, `none`).
 use Rattle.std.proofs.Common.{◌∙◌, ap, drop, sym}
 use Rattle.asn1_der.proofs.Orders.{behind_encoding}
 use Rattle.asn1_departures.proofs.Fronts.{step_end, step_next, step_none}

@@ -1,3 +1,4 @@
+-- For `encodings::check_headers`: what it returns is right (`refused`).
 use Rattle.std.proofs.Common.{◌≡◌, [], arith, inr, length}
 use Rattle.asn1_headers.specs.Fault.{incomplete}
 use Rattle.asn1_departures.specs.Departures.{unended_at_end}

@@ -1,3 +1,4 @@
+-- For `encodings::check_headers`: what each turn of its loop keeps and what grows less, so that it ends.
 use Rattle.std.proofs.Common.{◌-◌, length}
 use Rattle.asn1_departures.specs.Steps.{IsReached}
 use Rattle.asn1_departures.proofs.encodings.check_headers.Given as goal

@@ -1,3 +1,4 @@
+-- For `encodings::is_open_encoding`: what it returns is right.
 use Rattle.std.proofs.Common.{◌++◌, ap, length, subst, sym, ◌∙◌}
 use Rattle.std.specs.Prelude.{◌&&◌}
 use Rattle.asn1_headers.specs.Header.{IsIdentifier}

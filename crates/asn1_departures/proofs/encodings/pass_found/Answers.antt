@@ -1,3 +1,4 @@
+-- For `encodings::pass_found`: what it returns is right.
 use Rattle.std.proofs.Common.{◌≡◌, arith}
 use Rattle.asn1_departures.specs.Departures.{is_open}
 use Rattle.asn1_departures.proofs.Fronts.{most}

@@ -1,3 +1,4 @@
+-- For `encodings::pass_header`: what it returns is right (`passed`, `refused`).
 use Rattle.std.proofs.Common.{◌≡◌, ◌-◌, ◌<◌, ◌∙◌, arith, inl, inr, length, subst, sym}
 use Rattle.asn1_headers.specs.Fault.{fault_of}
 use Rattle.asn1_headers.specs.HeaderFault.{HeaderFault}

@@ -1,3 +1,4 @@
+-- For `encodings::split_header`: what it returns is right.
 use Rattle.std.proofs.Common.{◌++◌, ◌-◌, ap, subst, sym, ◌∙◌}
 use Rattle.asn1_headers.specs.Header.{IsIdentifier, IsLength}
 use Rattle.asn1_departures.proofs.encodings.split_header.Goals as goal

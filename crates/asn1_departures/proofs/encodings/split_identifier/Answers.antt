@@ -1,3 +1,4 @@
+-- For `encodings::split_identifier`: what it returns is right.
 use Rattle.std.proofs.Common.{◌≡◌, ap, length, refl, subst, sym, take, ◌∙◌}
 use Rattle.std.proofs.lemmas.List.{take_at}
 use Rattle.asn1_headers.specs.Header.{IsSomeIdentifier}

@@ -1,3 +1,4 @@
+-- For `laws::law_departures`: what it returns is right.
 use Rattle.asn1_departures.proofs.Alone.{der_no_fault, lists_alone, listed_encodings, no_fault, one_fault}
 use Rattle.asn1_departures.proofs.laws.law_departures.Goals as goal
 

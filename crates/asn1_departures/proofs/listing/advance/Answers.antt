@@ -1,3 +1,4 @@
+-- For `listing::advance`: what it returns is right and `split_header` may be called.
 use Rattle.std.proofs.Common.{◌≡◌, ◌++◌, ◌∙◌, [], ◌∷◌, ap, append-nil, append_assoc, arith, false, length, length-append, refl, reverse, subst, sym, true}
 use Rattle.asn1_departures.specs.Departures.{is_open, listed, no_encodings_inside, nothing_inside, own_departures}
 use Rattle.asn1_departures.specs.Steps.{AreExtents, ListsUpTo}

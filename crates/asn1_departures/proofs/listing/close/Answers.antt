@@ -1,3 +1,4 @@
+-- For `listing::close`: what it returns is right.
 use Rattle.std.proofs.Common.{◌≡◌, ◌++◌, [], ◌∷◌, ap, append-nil, arith, length, length-append, refl, reverse, subst, sym}
 use Rattle.std.proofs.lemmas.Grind.{common_steps}
 use Rattle.asn1_departures.specs.Steps.{AreExtents, ListsUpTo}

@@ -1,3 +1,4 @@
+-- For `listing::departures`: what it returns is right (`none`).
 use Rattle.std.proofs.Common.{◌<◌, ◌^◌, arith, length}
 use Rattle.asn1_departures.proofs.Law.{law}
 use Rattle.asn1_departures.proofs.listing.departures.Goals as goal

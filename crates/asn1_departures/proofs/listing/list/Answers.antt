@@ -1,3 +1,4 @@
+-- For `listing::list`: `take_turn` may be called.
 use Rattle.std.proofs.Common.{length, reverse}
 use Rattle.asn1_departures.proofs.Walk.{extents_within}
 use Rattle.asn1_departures.proofs.listing.list.Goals as goal

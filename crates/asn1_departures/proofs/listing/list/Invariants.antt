@@ -1,3 +1,4 @@
+-- For `listing::list`: what each turn of its loop keeps and what grows less, so that it ends.
 use Rattle.std.specs.Prelude.{List}
 use Rattle.asn1_departures.specs.Departures.{Lists}
 use Rattle.asn1_departures.specs.Steps.{IsPlaced, ListsAll, left}

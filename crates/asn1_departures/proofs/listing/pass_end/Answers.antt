@@ -1,3 +1,4 @@
+-- For `listing::pass_end`: what it returns is right.
 use Rattle.std.proofs.Common.{arith, length, reverse}
 use Rattle.asn1_departures.proofs.Fronts.{at_end_parts}
 use Rattle.asn1_departures.proofs.Walk.{end_slice, ended, extents_within}

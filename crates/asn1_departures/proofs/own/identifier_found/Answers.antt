@@ -1,3 +1,4 @@
+-- For `own::identifier_found`: what it returns is right.
 use Rattle.std.proofs.Common.{◌≡◌, ap, sym, ◌∙◌, subst, true, false}
 use Rattle.std.specs.Prelude.{Some, if◌then◌else◌}
 use Rattle.asn1_departures.specs.Departures.{Found, broken, kept}

@@ -1,3 +1,4 @@
+-- For `own::is_right`: what it returns is right.
 use Rattle.std.proofs.Common.{subst, sym, true}
 use Rattle.std.specs.Prelude.{◌↔◌, IfOk, IsTrue}
 use Rattle.asn1_headers.specs.declared.header.ASN1Class.TheVariants.{Universal}

@@ -1,3 +1,4 @@
+-- For `own::is_set_in_order`: what it returns is right.
 use Rattle.std.proofs.Common.{◌≡◌, ◌<◌, ◌^◌, ℕ, Bool, true, false, List, [], arith, inl, inr, length, refl, subst, sym}
 use Rattle.std.specs.Prelude.{◌↔◌, IsTrue, not}
 use Rattle.std.proofs.lemmas.Bool.{cases_lt}

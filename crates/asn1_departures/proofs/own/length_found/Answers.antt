@@ -1,3 +1,4 @@
+-- For `own::length_found`: what it returns is right.
 use Rattle.std.proofs.Common.{◌≡◌, sym, ◌∙◌, Bool, true, false}
 use Rattle.std.specs.Prelude.{MatchBool, Option, None, Some}
 use Rattle.asn1_headers.specs.Header.{shortest_length}

@@ -1,3 +1,4 @@
+-- For `own::push_own`: what it returns is right.
 use Rattle.std.proofs.Common.{◌++◌, ◌∙◌, ap, append_assoc, subst}
 use Rattle.asn1_departures.specs.Departures.{TypeFound, listed}
 use Rattle.asn1_departures.proofs.own.push_own.Goals as goal

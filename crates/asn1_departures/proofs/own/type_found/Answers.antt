@@ -1,3 +1,4 @@
+-- For `own::type_found`: what it returns is right.
 use Rattle.std.proofs.Common.{◌≡◌, ◌<◌, ◌^◌, ℕ, Bool, true, false, List, ap, arith, inl, inr, subst, sym}
 use Rattle.std.specs.Prelude.{None, Some, if◌then◌else◌}
 use Rattle.std.specs.Option.{unwrap_or}

@@ -1,3 +1,4 @@
+-- For `own::universal_found`: what it returns is right.
 use Rattle.std.proofs.Common.{◌≡◌, Bool, true, false, subst}
 use Rattle.std.specs.Prelude.{MatchBool, None, Some}
 use Rattle.asn1_headers.specs.declared.header.ASN1Class.TheVariants.{Universal}

@@ -1,3 +1,4 @@
+-- For `single::broken_rules`: what it returns is right.
 use Rattle.std.proofs.Common.{◌≡◌, ◌++◌, ◌∙◌, ap, append_assoc, slice_range, subst, ◌+◌}
 use Rattle.std.specs.Option.{option_to_list}
 use Rattle.asn1_headers.specs.Header.{shortest_identifier}

@@ -1,3 +1,4 @@
+-- For `single::encodings_found`: what it returns is right.
 use Rattle.std.proofs.Common.{◌≡◌, false, true}
 use Rattle.asn1_departures.specs.Departures.{broken, kept}
 use Rattle.asn1_departures.proofs.single.encodings_found.Goals as goal

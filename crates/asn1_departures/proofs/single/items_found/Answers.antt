@@ -1,3 +1,4 @@
+-- For `single::items_found`: what it returns is right.
 use Rattle.std.proofs.Common.{◌≡◌, sym, ◌∙◌, refl, Bool, true, false}
 use Rattle.std.specs.Prelude.{MatchBool, Option, None}
 use Rattle.asn1_departures.specs.Departures.{AreEncodings, Found}

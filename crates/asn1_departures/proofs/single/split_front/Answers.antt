@@ -1,3 +1,4 @@
+-- For `single::split_front`: what it returns is right.
 use Rattle.std.proofs.Common.{◌∙◌}
 use Rattle.asn1_departures.proofs.single.split_front.Goals as goal
 

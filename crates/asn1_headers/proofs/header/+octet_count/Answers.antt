@@ -1,4 +1,4 @@
--- For `header::octet_count`: what it returns is right and no sum or product is too large.
+-- For the cycle `octet_count` of `header`: what it returns is right and no sum or product is too large.
 use Rattle.std.proofs.Common.{arith, ◌/◌}
 use Rattle.std.proofs.lemmas.Grind.{common_steps}
 use Rattle.std.proofs.lemmas.Int.Digits.{length-digits_of_step}

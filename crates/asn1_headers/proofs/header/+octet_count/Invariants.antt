@@ -1,4 +1,4 @@
--- For `header::octet_count`: what grows less, so that it ends.
+-- For the cycle `octet_count` of `header`: what grows less, so that it ends.
 use Rattle.asn1_headers.proofs.header.+octet_count.Given as goal
 
 abbrev pub decreases-octet_count : goal.decreases-octet_count

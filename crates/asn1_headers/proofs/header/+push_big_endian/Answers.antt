@@ -1,4 +1,5 @@
--- For `header::push_big_endian`: what it returns is right and `push_big_endian` and `push_octet` may be called.
+-- For the cycle `push_big_endian` of `header`: what it returns is right and `push_big_endian` and `push_octet` may be
+-- called.
 use Rattle.std.proofs.Common.{◌/◌, ◌%◌, ◌∷◌, [], sym, subst, arith}
 use Rattle.std.specs.Int.Digits.{digits_of}
 use Rattle.std.proofs.lemmas.Int.Digits.{digits_of_step, length-digits_of_step}

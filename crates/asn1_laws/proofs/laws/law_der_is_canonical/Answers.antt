@@ -1,3 +1,4 @@
+-- For `laws::law_der_is_canonical`: what it returns is right.
 use Rattle.asn1_laws.proofs.Documents.{der_canonical}
 use Rattle.asn1_laws.proofs.laws.law_der_is_canonical.Goals as goal
 

@@ -1,3 +1,4 @@
+-- For `laws::law_der_is_read`: what it returns is right.
 use Rattle.asn1_laws.proofs.Refused.{der_refused}
 use Rattle.asn1_laws.proofs.laws.law_der_is_read.Goals as goal
 

@@ -1,3 +1,4 @@
+-- For `oid::copy_of`: what each turn of its loop keeps.
 use Rattle.std.proofs.Common.{◌≡◌, take}
 use Rattle.asn1_leaves.proofs.oid.copy_of.Given as goal
 

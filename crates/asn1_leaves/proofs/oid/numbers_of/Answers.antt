@@ -1,3 +1,4 @@
+-- For `oid::numbers_of`: what it returns is right (`refused`).
 use Rattle.std.proofs.Common.{inl, inr}
 use Rattle.std.proofs.lemmas.Result.{err_from_is_err_and}
 use Rattle.asn1_numbers.proofs.FittingNumbers.{missing_item}

@@ -1,3 +1,4 @@
+-- For `oid::numbers_of`: what each turn of its loop keeps.
 use Rattle.std.proofs.Common.{take}
 use Rattle.asn1_numbers.specs.FittingNumbers.{AreNumbers}
 use Rattle.asn1_leaves.proofs.oid.numbers_of.Given as goal

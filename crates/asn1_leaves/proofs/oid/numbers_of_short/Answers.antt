@@ -1,3 +1,4 @@
+-- For `oid::numbers_of_short`: what it returns is right (`all`) and `push_numbers` may be called.
 use Rattle.std.proofs.Common.{◌≡◌, ◌∷◌, [], arith, ap, sym, subst, ◌∙◌}
 use Rattle.std.proofs.lemmas.Grind.{common_steps}
 use Rattle.asn1_numbers.specs.FittingNumbers.{AreNumbers}

@@ -1,3 +1,4 @@
+-- For `oid::push_number`: what it returns is right (`pushed`).
 use Rattle.std.proofs.Common.{◌∷◌, [], ◌++◌, sym, subst}
 use Rattle.asn1_numbers.specs.FittingNumbers.{AreNumbers}
 use Rattle.asn1_leaves.proofs.PushedNumbers.{numbers_end}

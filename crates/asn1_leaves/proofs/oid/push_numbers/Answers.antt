@@ -1,3 +1,5 @@
+-- For `oid::push_numbers`: its loop keeps its invariant, what it returns is right (`refused`), and no index is out of
+-- bounds.
 use Rattle.std.proofs.Common.{arith, ◌++◌, inl, inr, drop, ap, sym, subst, ◌∙◌, length-drop}
 use Rattle.std.proofs.lemmas.Result.{err_from_is_err_and}
 use Rattle.asn1_numbers.specs.FittingNumbers.{HasNotAll}

@@ -1,3 +1,4 @@
+-- For `oid::push_numbers`: what each turn of its loop keeps and what grows less, so that it ends.
 use Rattle.std.proofs.Common.{◌-◌, length}
 use Rattle.asn1_leaves.proofs.PushedNumbers.{ArePushed}
 use Rattle.asn1_leaves.proofs.oid.push_numbers.Given as goal

@@ -1,3 +1,4 @@
+-- For `oid::short_contents`: what it returns is right (`short`, `others`).
 use Rattle.std.proofs.Common.{arith}
 use Rattle.std.proofs.lemmas.Grind.{common_steps}
 use Rattle.asn1_leaves.proofs.oid.short_contents.Goals as goal

@@ -1,3 +1,4 @@
+-- For `oid::write_dotted`: what it returns is right.
 use Rattle.std.proofs.Common.{rules, sym, ap, ◌∙◌}
 use Rattle.std.specs.List.{flat_map}
 use Rattle.asn1_numbers.specs.Decimal.{natural_numeral}

@@ -1,3 +1,4 @@
+-- For `oid::write_pointed`: what it returns is right.
 use Rattle.std.proofs.Common.{arith}
 use Rattle.std.proofs.lemmas.Grind.{common_steps}
 use Rattle.asn1_leaves.proofs.oid.write_pointed.Goals as goal

@@ -1,3 +1,4 @@
+-- For `oid::write_pointed`: what each turn of its loop keeps.
 use Rattle.std.proofs.Common.{take}
 use Rattle.std.specs.Fmt.{HasWritten, IsPlainFormatter}
 use Rattle.std.specs.List.{flat_map}

@@ -1,3 +1,4 @@
+-- For `oid::write_subidentifiers`: its loop keeps its invariant and no index is out of bounds.
 use Rattle.std.proofs.Common.{rules}
 use Rattle.asn1_leaves.proofs.DottedNumbers.{written_more}
 use Rattle.asn1_leaves.proofs.oid.write_subidentifiers.Goals as goal

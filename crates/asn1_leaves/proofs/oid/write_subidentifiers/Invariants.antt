@@ -1,3 +1,4 @@
+-- For `oid::write_subidentifiers`: what each turn of its loop keeps and what grows less, so that it ends.
 use Rattle.std.proofs.Common.{◌-◌, length}
 use Rattle.asn1_leaves.proofs.DottedNumbers.{AreWritten}
 use Rattle.asn1_leaves.proofs.oid.write_subidentifiers.Given as goal

@@ -1,3 +1,4 @@
+-- For `building::block_around`: what it returns is right.
 use Rattle.std.proofs.Common.{◌≡◌, true, sym, ap, ◌∙◌, rules, arith}
 use Rattle.std.proofs.lemmas.Grind.{common_steps}
 use Rattle.asn1_blocks.specs.declared.block.GroupKind.TheVariants.{Sequence, Set}

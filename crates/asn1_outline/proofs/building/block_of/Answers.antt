@@ -1,3 +1,4 @@
+-- For `building::block_of`: what it returns is right (`block`, `rest`).
 use Rattle.asn1_outline.proofs.BuildSteps.{taken_items}
 use Rattle.asn1_outline.proofs.building.block_of.Goals as goal
 

@@ -1,3 +1,4 @@
+-- For `building::tagged_block`: what it returns is right (`one`).
 use Rattle.std.proofs.Common.{◌≡◌, ◌∷◌, [], sym, ap, ◌∙◌}
 use Rattle.asn1_blocks.specs.Tree.{explicit}
 use Rattle.asn1_blocks.specs.View.{view}

@@ -1,3 +1,4 @@
+-- For `building::take_built`: what it returns is right.
 use Rattle.std.proofs.Common.{◌≡◌, ◌++◌, drop, take, length, sym, ap, ◌∙◌, arith, length-drop}
 use Rattle.std.specs.Prelude.{reverse}
 use Rattle.std.proofs.lemmas.List.{length-reverse, reverse-append, take-append-drop}

@@ -1,3 +1,4 @@
+-- For `listing::list`: what it returns is right (`document`) and `read_into` may be called.
 use Rattle.std.proofs.Common.{[], refl, subst, sym}
 use Rattle.asn1_outline.specs.Listing.{AreOfTrees}
 use Rattle.asn1_outline.proofs.Listed.{document_entries}

@@ -1,3 +1,4 @@
+-- For `listing::started`: what it returns is right.
 use Rattle.std.proofs.Common.{suc, ◌-◌, ◌^◌, min, refl, subst, sym, arith}
 use Rattle.asn1_outline.specs.Listing.{IsBegun}
 use Rattle.asn1_outline.proofs.Begun.{begun_header}

@@ -1,3 +1,4 @@
+-- For `walk::close`: what it returns is right and `seal` may be called.
 use Rattle.std.proofs.Common.{reverse, sym, subst, arith}
 use Rattle.asn1_outline.specs.Walking.{AreOpen}
 use Rattle.asn1_outline.specs.declared.listing.EntryItems.{EntryItems}

@@ -1,3 +1,4 @@
+-- For `walk::list_headers`: its loop keeps its invariant.
 use Rattle.std.proofs.Common.{[], length, refl, reverse, ap, arith}
 use Rattle.asn1_outline.proofs.Walks.{read_none, same_open}
 use Rattle.asn1_outline.proofs.walk.list_headers.Goals as goal

@@ -1,3 +1,4 @@
+-- For `walk::list_headers`: what each turn of its loop keeps and what grows less, so that it ends.
 use Rattle.std.proofs.Common.{length}
 use Rattle.asn1_blocks.specs.Inner.ReaderSteps.{left}
 use Rattle.asn1_outline.specs.Walking.{IsReading}

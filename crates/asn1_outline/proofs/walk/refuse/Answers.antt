@@ -1,3 +1,4 @@
+-- For `walk::refuse`: its loop keeps its invariant and what it returns is right.
 use Rattle.std.proofs.Common.{◌≡◌, [], true, inr, arith}
 use Rattle.std.proofs.lemmas.Grind.{common_steps}
 use Rattle.asn1_blocks.specs.Inner.OpenFrames.{is_tried}

@@ -1,3 +1,4 @@
+-- For `walk::refuse`: what each turn of its loop keeps and what grows less, so that it ends.
 use Rattle.std.proofs.Common.{length}
 use Rattle.asn1_headers.specs.Fault.{fault_of}
 use Rattle.asn1_blocks.specs.Inner.ReaderSteps.{left}

@@ -1,3 +1,4 @@
+-- For `walk::take`: what it returns is right.
 use Rattle.std.proofs.Common.{◌≡◌, ◌++◌, [], ◌∷◌, suc, length, ap, ◌∙◌, arith}
 use Rattle.std.proofs.lemmas.Grind.{common_steps}
 use Rattle.asn1_blocks.specs.HeadersBegun.{IsReadInside}

@@ -1,3 +1,4 @@
+-- For `walk::take_turn`: what it returns is right and `header_within` and `fail` may be called.
 use Rattle.std.proofs.Common.{◌≡◌, ◌≢◌, [], inl, inr, reverse, sym, subst, append-nil, arith}
 use Rattle.std.proofs.lemmas.Grind.{common_steps}
 use Rattle.asn1_outline.specs.Shapes.{in_header}

@@ -1,3 +1,4 @@
+-- For `line::colored`: its loop keeps its invariant and what it returns is right.
 use Rattle.std.proofs.Common.{◌≡◌, ◌++◌, [], ap, append_assoc, append-nil, arith, refl, sym, ◌∙◌, length, List, ℕ, ◌∷◌}
 use Rattle.std.proofs.lemmas.Grind.{common_steps}
 use Rattle.der_color.proofs.Painted.{paints_then, parted, same_text}

@@ -1,3 +1,4 @@
+-- For `line::colored`: what each turn of its loop keeps and what grows less, so that it ends.
 use Rattle.std.proofs.Common.{◌≡◌, ◌++◌, ℕ, List, [], length}
 use Rattle.der_color.specs.Paints.{Paints}
 use Rattle.der_color.proofs.line.colored.Given as goal

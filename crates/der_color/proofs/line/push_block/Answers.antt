@@ -1,3 +1,4 @@
+-- For `line::push_block`: what it returns is right.
 use Rattle.std.proofs.lemmas.Result.{on_ok_weaker}
 use Rattle.der_color.proofs.Painted.{four_parts, parted}
 use Rattle.der_color.proofs.line.push_block.Goals as goal

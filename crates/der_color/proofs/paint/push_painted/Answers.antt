@@ -1,3 +1,4 @@
+-- For `paint::push_painted`: what it returns is right.
 use Rattle.std.proofs.Common.{◌≡◌, ◌++◌, arith}
 use Rattle.std.proofs.lemmas.Grind.{common_steps}
 use Rattle.der_color.proofs.Painted.{none_painted, painted}

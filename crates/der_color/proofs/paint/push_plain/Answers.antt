@@ -1,3 +1,4 @@
+-- For `paint::push_plain`: what it returns is right.
 use Rattle.der_color.proofs.Painted.{paints_part}
 use Rattle.der_color.proofs.paint.push_plain.Goals as goal
 

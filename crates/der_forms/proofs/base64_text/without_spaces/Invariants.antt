@@ -1,3 +1,4 @@
+-- For `base64_text::without_spaces`: what each turn of its loop keeps.
 use Rattle.std.proofs.Common.{◌≡◌, ◌++◌, drop}
 use Rattle.der_forms.specs.Forms.{but_spaces}
 use Rattle.der_forms.proofs.base64_text.without_spaces.Given as goal

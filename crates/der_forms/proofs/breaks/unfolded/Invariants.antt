@@ -1,3 +1,4 @@
+-- For `breaks::unfolded`: what each turn of its loop keeps and what grows less, so that it ends.
 use Rattle.std.proofs.Common.{◌≡◌, ◌++◌, length}
 use Rattle.der_forms.specs.Texts.{unfolded}
 use Rattle.der_forms.specs.declared.breaks.Place.TheVariants.{Blank}

@@ -1,3 +1,4 @@
+-- For `breaks::with_breaks`: what each turn of its loop keeps and what grows less, so that it ends.
 use Rattle.std.proofs.Common.{◌≡◌, ◌++◌, length}
 use Rattle.der_forms.specs.Texts.{with_breaks}
 use Rattle.der_forms.proofs.breaks.with_breaks.Given as goal

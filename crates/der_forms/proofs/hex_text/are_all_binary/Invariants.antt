@@ -1,3 +1,4 @@
+-- For `hex_text::are_all_binary`: what each turn of its loop keeps.
 use Rattle.std.proofs.Common.{◌≡◌, drop}
 use Rattle.der_forms.specs.Forms.{is_binary}
 use Rattle.std.specs.List.{list_all}

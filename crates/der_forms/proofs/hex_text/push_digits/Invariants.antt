@@ -1,3 +1,4 @@
+-- For `hex_text::push_digits`: what each turn of its loop keeps and what grows less, so that it ends.
 use Rattle.std.proofs.Common.{◌≡◌, ◌++◌, length}
 use Rattle.der_forms.specs.Forms.{but_separators}
 use Rattle.der_forms.proofs.hex_text.push_digits.Given as goal

@@ -1,3 +1,4 @@
+-- For `input::are_all_in_words`: what each turn of its loop keeps.
 use Rattle.std.proofs.Common.{◌≡◌, drop}
 use Rattle.der_forms.specs.Known.{is_in_words}
 use Rattle.std.specs.List.{list_all}

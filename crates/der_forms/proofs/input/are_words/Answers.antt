@@ -1,3 +1,4 @@
+-- For `input::are_words`: what it returns is right.
 use Rattle.std.proofs.Common.{◌≡◌, true, refl, sym, ◌∙◌}
 use Rattle.der_forms.specs.Forms.{all_of_some}
 use Rattle.der_forms.specs.Known.{are_words, is_in_words}

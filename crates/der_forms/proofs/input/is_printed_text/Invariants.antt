@@ -1,3 +1,4 @@
+-- For `input::is_printed_text`: what each turn of its loop keeps.
 use Rattle.std.proofs.Common.{◌≡◌, drop}
 use Rattle.std.specs.List.{list_all}
 use Rattle.der_forms.specs.Forms.{is_printed}

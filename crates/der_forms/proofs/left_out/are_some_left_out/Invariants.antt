@@ -1,3 +1,4 @@
+-- For `left_out::are_some_left_out`: what each turn of its loop keeps and what grows less, so that it ends.
 use Rattle.std.proofs.Common.{◌≡◌, length}
 use Rattle.der_io.specs.Lines.{lines_of}
 use Rattle.der_forms.specs.Columns.{some_left_out}

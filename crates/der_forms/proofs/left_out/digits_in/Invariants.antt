@@ -1,3 +1,4 @@
+-- For `left_out::digits_in`: what each turn of its loop keeps and what grows less, so that it ends.
 use Rattle.std.proofs.Common.{◌≡◌, length}
 use Rattle.der_io.specs.Lines.{lines_of}
 use Rattle.der_forms.specs.Columns.{digits_after, placed_digits}

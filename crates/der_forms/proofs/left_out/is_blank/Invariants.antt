@@ -1,3 +1,4 @@
+-- For `left_out::is_blank`: what each turn of its loop keeps.
 use Rattle.std.proofs.Common.{◌≡◌, drop}
 use Rattle.std.specs.Char.{is_ascii_whitespace}
 use Rattle.std.specs.List.{list_all}

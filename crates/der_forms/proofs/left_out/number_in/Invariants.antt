@@ -1,3 +1,4 @@
+-- For `left_out::number_in`: what each turn of its loop keeps and what grows less, so that it ends.
 use Rattle.std.proofs.Common.{◌≡◌, ◌<◌, ◌^◌, length}
 use Rattle.der_forms.specs.Columns.{number_after}
 use Rattle.der_forms.proofs.left_out.number_in.Given as goal

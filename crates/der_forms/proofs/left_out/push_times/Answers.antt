@@ -1,3 +1,4 @@
+-- For `left_out::push_times`: its loop keeps its invariant.
 use Rattle.std.proofs.Common.{◌++◌, ◌-◌, sym, ap, ◌∙◌}
 use Rattle.std.proofs.lemmas.List.{append_assoc}
 use Rattle.der_forms.specs.Columns.{times}

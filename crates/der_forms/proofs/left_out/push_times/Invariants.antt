@@ -1,3 +1,4 @@
+-- For `left_out::push_times`: what each turn of its loop keeps and what grows less, so that it ends.
 use Rattle.std.proofs.Common.{◌≡◌, ◌++◌}
 use Rattle.der_forms.specs.Columns.{times}
 use Rattle.der_forms.proofs.left_out.push_times.Given as goal

@@ -1,3 +1,4 @@
+-- For `lines::is_pem`: what each turn of its loop keeps and what grows less, so that it ends.
 use Rattle.std.proofs.Common.{◌≡◌, length}
 use Rattle.der_io.specs.Lines.{lines_of}
 use Rattle.der_forms.specs.Forms.{has_object}

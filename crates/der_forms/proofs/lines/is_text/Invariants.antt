@@ -1,3 +1,4 @@
+-- For `lines::is_text`: what each turn of its loop keeps.
 use Rattle.std.proofs.Common.{◌≡◌, drop}
 use Rattle.std.specs.List.{list_all}
 use Rattle.der_forms.specs.Forms.{is_text_octet}

@@ -1,3 +1,4 @@
+-- For `lines::part_before`: what each turn of its loop keeps and what grows less, so that it ends.
 use Rattle.std.proofs.Common.{◌≡◌, ◌++◌, ◌-◌, ◌≤◌, drop, length, take}
 use Rattle.der_forms.specs.Forms.{up_to}
 use Rattle.der_forms.proofs.lines.part_before.Given as goal

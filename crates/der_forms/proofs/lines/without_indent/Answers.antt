@@ -1,3 +1,4 @@
+-- For `lines::without_indent`: what it returns is right.
 use Rattle.std.proofs.lemmas.Str.Ascii.{trim_ascii_start_is}
 use Rattle.der_forms.proofs.lines.without_indent.Goals as goal
 

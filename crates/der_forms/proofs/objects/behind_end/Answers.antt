@@ -1,3 +1,4 @@
+-- For `objects::behind_end`: what it returns is right (`objects`) and `split_at` may be called.
 use Rattle.std.proofs.Common.{◌∙◌, ap, drop, false, length, sym, arith}
 use Rattle.std.proofs.lemmas.List.{drop_all}
 use Rattle.der_io.specs.Lines.{lines_of}

@@ -1,3 +1,4 @@
+-- For `objects::line_of`: what grows less, so that it ends.
 use Rattle.std.proofs.Common.{length}
 use Rattle.der_forms.proofs.objects.line_of.Given as goal
 

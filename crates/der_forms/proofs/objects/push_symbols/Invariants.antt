@@ -1,3 +1,4 @@
+-- For `objects::push_symbols`: what each turn of its loop keeps.
 use Rattle.std.proofs.Common.{◌≡◌, ◌++◌, drop}
 use Rattle.der_forms.specs.Forms.{but_spaces}
 use Rattle.der_forms.proofs.objects.push_symbols.Given as goal

@@ -1,3 +1,4 @@
+-- For `objects::read_body`: what each turn of its loop keeps and what grows less, so that it ends.
 use Rattle.std.proofs.Common.{◌≡◌, ◌++◌, ◌≤◌, [], if◌then◌else◌, ◌||◌, true, false, not, length, suc}
 use Rattle.der_io.specs.Lines.{lines_of}
 use Rattle.der_forms.specs.Objects.{ending_in, is_encrypted, objects_in, symbols_in}

@@ -1,3 +1,4 @@
+-- For `source_text::behind_equals`: what it returns is right.
 use Rattle.der_forms.proofs.Parts.{behind_equals-some}
 use Rattle.der_forms.proofs.source_text.behind_equals.Goals as goal
 

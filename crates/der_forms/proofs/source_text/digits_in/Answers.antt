@@ -1,3 +1,4 @@
+-- For `source_text::digits_in`: no index is out of bounds.
 use Rattle.std.proofs.Common.{ap, arith, length}
 use Rattle.std.specs.Prelude.{codes}
 use Rattle.der_forms.proofs.Parts.{length-up_to-le}

@@ -1,3 +1,4 @@
+-- For `source_text::pairs_in`: what each turn of its loop keeps and what grows less, so that it ends.
 use Rattle.std.proofs.Common.{◌≡◌, [], length}
 use Rattle.der_forms.specs.Sources.{pairs_after}
 use Rattle.der_forms.specs.declared.source_text.Due.TheVariants.{Prefix}

@@ -1,3 +1,4 @@
+-- For `text::units_of`: what each turn of its loop keeps and what grows less, so that it ends.
 use Rattle.std.proofs.Common.{◌≡◌, ◌++◌, length}
 use Rattle.der_forms.specs.Texts.{units_of}
 use Rattle.der_forms.proofs.text.units_of.Given as goal

@@ -1,3 +1,4 @@
+-- For `unknown::form_left_out`: what grows less, so that it ends.
 use Rattle.std.proofs.Common.{length}
 use Rattle.der_forms.proofs.unknown.form_left_out.Given as goal
 

@@ -1,3 +1,4 @@
+-- For `unknown::form_unknown`: what grows less, so that it ends.
 use Rattle.std.proofs.Common.{length}
 use Rattle.der_forms.proofs.unknown.form_unknown.Given as goal
 

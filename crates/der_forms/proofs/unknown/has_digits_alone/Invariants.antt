@@ -1,3 +1,4 @@
+-- For `unknown::has_digits_alone`: what grows less, so that it ends.
 use Rattle.std.proofs.Common.{length}
 use Rattle.der_forms.proofs.unknown.has_digits_alone.Given as goal
 

@@ -1,3 +1,4 @@
+-- For `markup::push_markup`: what it returns is right.
 use Rattle.std.proofs.Common.{◌≡◌, ◌++◌, arith}
 use Rattle.std.proofs.lemmas.Grind.{common_steps}
 use Rattle.der_html.specs.Page.{markup_text}

@@ -1,3 +1,4 @@
+-- For `markup::push_text`: what each turn of its loop keeps.
 use Rattle.std.proofs.Common.{◌≡◌, ◌++◌, take}
 use Rattle.std.specs.List.{flat_map}
 use Rattle.der_html.specs.Page.{entity}

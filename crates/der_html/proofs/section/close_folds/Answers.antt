@@ -1,3 +1,4 @@
+-- For `section::close_folds`: its loop keeps its invariant.
 use Rattle.std.proofs.Common.{[]}
 use Rattle.der_html.proofs.Shown.{markup_then}
 use Rattle.der_html.proofs.section.close_folds.Goals as goal

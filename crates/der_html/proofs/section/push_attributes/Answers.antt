@@ -1,3 +1,4 @@
+-- For `section::push_attributes`: what it returns is right.
 use Rattle.std.proofs.Common.{[]}
 use Rattle.der_html.proofs.Shown.{markup_then, shows_none}
 use Rattle.der_html.proofs.section.push_attributes.Goals as goal

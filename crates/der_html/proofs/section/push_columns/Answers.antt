@@ -1,3 +1,4 @@
+-- For `section::push_columns`: what it returns is right.
 use Rattle.std.proofs.Common.{[]}
 use Rattle.der_html.proofs.Shown.{markup_then}
 use Rattle.der_html.proofs.section.push_columns.Goals as goal

@@ -1,3 +1,4 @@
+-- For `section::push_section`: what it returns is right.
 use Rattle.std.proofs.Common.{[], append-nil, refl}
 use Rattle.der_io.specs.Lines.{lines_of}
 use Rattle.der_html.proofs.Shown.{markup_then, same_shown, shows_then, then_markup}

@@ -1,3 +1,4 @@
+-- For `section::push_tree`: its loop keeps its invariant and what it returns is right.
 use Rattle.std.proofs.Common.{◌≡◌, List, ℕ, ◌∷◌, ◌++◌, [], ap, append-nil, append_assoc, refl, sym, ◌∙◌, length, arith}
 use Rattle.std.proofs.lemmas.Grind.{common_steps}
 use Rattle.der_io.specs.Lines.{lines_of}

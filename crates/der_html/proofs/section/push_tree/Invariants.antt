@@ -1,3 +1,4 @@
+-- For `section::push_tree`: what each turn of its loop keeps and what grows less, so that it ends.
 use Rattle.std.proofs.Common.{◌≡◌, ◌++◌, ℕ, List, [], length}
 use Rattle.der_io.specs.Lines.{lines_of}
 use Rattle.der_html.specs.Page.{Shows}

@@ -1,3 +1,4 @@
+-- For `found::contents_of`: `without_header` may be called.
 use Rattle.der_inputs.proofs.Blocks.{block_element}
 use Rattle.der_inputs.proofs.found.contents_of.Goals as goal
 

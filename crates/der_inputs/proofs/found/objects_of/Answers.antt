@@ -1,3 +1,4 @@
+-- For `found::objects_of`: its loop keeps its invariant and what it returns is right.
 use Rattle.std.proofs.Common.{false, map}
 use Rattle.der_forms.specs.Objects.{objects_in}
 use Rattle.der_forms.specs.Shown.{shown_object}

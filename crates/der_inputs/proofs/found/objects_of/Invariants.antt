@@ -1,3 +1,4 @@
+-- For `found::objects_of`: what each turn of its loop keeps and what grows less, so that it ends.
 use Rattle.std.proofs.Common.{◌≡◌, ◌++◌, false, length, map}
 use Rattle.std.specs.List.{flat_map}
 use Rattle.der_forms.specs.Objects.{objects_in, objects_of}

@@ -1,3 +1,4 @@
+-- For `found::without_header`: `unreachable` may be called and what cannot happen does not.
 use Rattle.der_inputs.proofs.Blocks.{has_contents}
 use Rattle.der_inputs.proofs.found.without_header.Goals as goal
 

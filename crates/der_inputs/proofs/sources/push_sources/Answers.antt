@@ -1,3 +1,4 @@
+-- For `sources::push_sources`: its loop keeps its invariant.
 use Rattle.std.proofs.Common.{sym, ◌∙◌}
 use Rattle.der_inputs.specs.Inputs.{IsInputText, input_of}
 use Rattle.der_inputs.specs.Parts.{wanted_of}

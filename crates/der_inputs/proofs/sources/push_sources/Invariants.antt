@@ -1,3 +1,4 @@
+-- For `sources::push_sources`: what each turn of its loop keeps.
 use Rattle.std.proofs.Common.{◌≡◌, drop, map, take}
 use Rattle.der_lines.specs.Dump.{Adds}
 use Rattle.der_inputs.specs.Inputs.{AreReadToEnds, IsInputText, input_of}

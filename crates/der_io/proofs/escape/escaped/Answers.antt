@@ -1,3 +1,4 @@
+-- For `escape::escaped`: what it returns is right.
 use Rattle.std.proofs.Common.{◌≡◌, Bool, true, false, List, ℕ, refl, subst, ◌∙◌, string_bytes}
 use Rattle.std.proofs.lemmas.Str.{IsUtf8-from_is_utf8, is_utf8-from_IsUtf8}
 use Rattle.std.specs.Prelude.{IfOk, Result, Ok, Err}

@@ -1,3 +1,4 @@
+-- For `escape::push_escaped`: what each turn of its loop keeps.
 use Rattle.std.proofs.Common.{◌≡◌, ◌++◌, string_bytes}
 use Rattle.der_io.specs.Escaped.{all_escaped, escape_of}
 use Rattle.der_io.proofs.escape.push_escaped.Given as goal

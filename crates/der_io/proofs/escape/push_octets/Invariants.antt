@@ -1,3 +1,4 @@
+-- For `escape::push_octets`: what each turn of its loop keeps.
 use Rattle.std.proofs.Common.{◌≡◌, ◌++◌, drop, string_bytes}
 use Rattle.der_io.specs.Escaped.{all_escaped, escape_of_octet}
 use Rattle.der_io.proofs.escape.push_octets.Given as goal

@@ -1,3 +1,4 @@
+-- For `line::push_blocks`: what it returns is right.
 use Rattle.std.proofs.Common.{◌++◌, ◌∷◌, [], ◌∙◌, ap, codes, false, refl}
 use Rattle.serde_json.specs.Written.{items_text}
 use Rattle.std.proofs.Common.{subst}

@@ -1,3 +1,4 @@
+-- For `line::push_end`: what it returns is right.
 use Rattle.std.proofs.Common.{◌++◌, ◌∙◌, ap, codes, List, ℕ, Bor}
 use Rattle.std.specs.Prelude.{Option}
 use Rattle.std.specs.Option.{option_map}

@@ -1,3 +1,4 @@
+-- For `line::push_json`: what it returns is right.
 use Rattle.std.proofs.Common.{◌++◌, ◌∙◌, ap, inl, inr, refl, sym}
 use Rattle.std.specs.Option.{is_none}
 use Rattle.der_json.specs.Json.{first_fault, first_text, told_of}

@@ -1,3 +1,4 @@
+-- For `line::push_refusal`: what it returns is right.
 use Rattle.std.proofs.Common.{◌++◌, ◌∷◌, [], ◌∙◌, ap, codes}
 use Rattle.serde_json.specs.Written.{compact_text}
 use Rattle.der_json.specs.Json.{fault_json, fault_told, told_of}

@@ -1,3 +1,4 @@
+-- For `member::push_number`: what it returns is right.
 use Rattle.std.proofs.Common.{◌∙◌, ap, decimal}
 use Rattle.std.proofs.lemmas.Result.{on_ok_weaker}
 use Rattle.json.specs.Token.{number}

@@ -1,3 +1,4 @@
+-- For `member::push_token`: what it returns is right.
 use Rattle.std.proofs.Common.{◌∙◌, ap}
 use Rattle.std.proofs.lemmas.Result.{on_ok_weaker}
 use Rattle.json.specs.Reads.{token_of}

@@ -1,3 +1,4 @@
+-- For `object::push_fault_object`: what it returns is right and `push_member` may be called.
 use Rattle.std.proofs.Common.{◌≡◌, ◌++◌, ◌∙◌, ap, subst}
 use Rattle.std.specs.Prelude.{OnOk}
 use Rattle.serde_json.specs.Written.{compact_text, has_float}

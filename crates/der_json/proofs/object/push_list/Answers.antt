@@ -1,3 +1,4 @@
+-- For `object::push_list`: its loop keeps its invariant and what it returns is right.
 use Rattle.std.proofs.Common.{[], append-nil, arith, map, refl, subst, sym, ◌≡◌, ◌++◌, false}
 use Rattle.std.proofs.lemmas.List.{take_all}
 use Rattle.der_json.specs.Json.{rule_json}

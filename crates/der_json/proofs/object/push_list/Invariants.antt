@@ -1,3 +1,4 @@
+-- For `object::push_list`: what each turn of its loop keeps.
 use Rattle.std.proofs.Common.{◌≡◌, ◌++◌, false, map, take}
 use Rattle.der_json.specs.Json.{rule_json}
 use Rattle.der_json.specs.Rows.{texts}

@@ -1,3 +1,4 @@
+-- For `object::push_rules`: what it returns is right.
 use Rattle.std.proofs.Common.{◌≡◌, ◌++◌, ◌<◌, ◌∙◌, ap, append-nil, arith, length, map, sym}
 use Rattle.std.proofs.lemmas.Grind.{common_steps}
 use Rattle.std.proofs.lemmas.List.{length-map}

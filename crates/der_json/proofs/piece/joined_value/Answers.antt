@@ -1,3 +1,4 @@
+-- For `piece::joined_value`: what it returns is right (`told`).
 use Rattle.std.proofs.Common.{sym}
 use Rattle.serde_json.specs.View.{view}
 use Rattle.der_json.proofs.Pieces.{joined_opened}

@@ -1,3 +1,4 @@
+-- For `piece::object_of`: what it returns is right.
 use Rattle.std.proofs.Common.{refl}
 use Rattle.der_json.proofs.Pieces.{row_is}
 use Rattle.der_json.proofs.piece.object_of.Goals as goal

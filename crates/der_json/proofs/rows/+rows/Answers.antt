@@ -1,3 +1,4 @@
+-- For the cycle `rows` of `rows`: its loop keeps its invariant and what it returns is right.
 use Rattle.std.proofs.Common.{◌≡◌, ◌∙◌, ◌+◌, ◌-◌, ◌++◌, ◌∷◌, [], ap, arith, refl, subst, suc, sym, true}
 use Rattle.std.proofs.lemmas.List.{append-nil}
 use Rattle.std.specs.Prelude.{None, Some}

@@ -1,3 +1,4 @@
+-- For the cycle `rows` of `rows`: what each turn of its loop keeps and what grows less, so that it ends.
 use Rattle.std.proofs.Common.{◌+◌, ◌*◌}
 use Rattle.der_lines.specs.Steps.{to_go}
 use Rattle.der_json.proofs.Walk.{RowsTo}

@@ -1,3 +1,4 @@
+-- For `rows::push_marks`: its loop keeps its invariant and what it returns is right.
 use Rattle.std.proofs.Common.{◌≡◌, ◌+◌, ◌<◌, ◌++◌, ◌∷◌, ◌∙◌, ℕ, List, [], ap, append_assoc, append-nil, arith, get_or, length, map, refl, subst, sym, take}
 use Rattle.std.proofs.lemmas.List.{map-append, take_all, take_more}
 use Rattle.der_json.specs.Json.{marks_at}

@@ -1,3 +1,4 @@
+-- For `rows::push_marks`: what each turn of its loop keeps.
 use Rattle.std.proofs.Common.{◌≡◌, ◌++◌, map, take}
 use Rattle.der_json.specs.Json.{marks_at}
 use Rattle.der_json.specs.Rows.{told_marks}

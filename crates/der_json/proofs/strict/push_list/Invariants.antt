@@ -1,3 +1,4 @@
+-- For `strict::push_list`: what each turn of its loop keeps.
 use Rattle.std.proofs.Common.{◌≡◌, ◌++◌, false, take}
 use Rattle.der_json.specs.Json.{departed_json}
 use Rattle.der_json.specs.Rows.{texts, told_marks}

@@ -1,3 +1,4 @@
+-- For `strict::push_marks`: what it returns is right.
 use Rattle.std.proofs.Common.{◌++◌, ◌∷◌, [], ◌∙◌, ap, append-nil, codes, false, sym}
 use Rattle.serde_json.specs.Written.{items_text}
 use Rattle.der_json.specs.Json.{departed_json, items_of, told_of}

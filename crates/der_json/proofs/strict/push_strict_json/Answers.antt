@@ -1,3 +1,4 @@
+-- For `strict::push_strict_json`: what it returns is right.
 use Rattle.std.proofs.Common.{◌++◌, ◌∙◌, ap, inl, inr, refl, sym}
 use Rattle.std.specs.Option.{is_none}
 use Rattle.std.specs.Prelude.{◌&&◌}

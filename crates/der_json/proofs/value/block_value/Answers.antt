@@ -1,3 +1,4 @@
+-- For `value::block_value`: what it returns is right (`told`).
 use Rattle.std.proofs.Common.{inr}
 use Rattle.std.proofs.lemmas.Result.{IfOk-weaker}
 use Rattle.asn1_blocks.specs.View.{view as view_block}

@@ -1,3 +1,4 @@
+-- For `value::moment_value`: what it returns is right (`told`).
 use Rattle.std.proofs.Common.{rules, [], ◌∷◌, ◌++◌, refl}
 use Rattle.serde_json.specs.declared.value.Value.{the_lemmas}
 use Rattle.jiff.specs.Names.{iso_datetime_text}

@@ -1,3 +1,4 @@
+-- For `value::value_in`: what it returns is right (`told`).
 use Rattle.std.proofs.Common.{inl, inr}
 use Rattle.der_json.specs.Json.{in_words, of_other_type}
 use Rattle.der_json.proofs.value.value_in.Goals as goal

@@ -1,3 +1,4 @@
+-- For `value::value_of`: what it returns is right (`told`).
 use Rattle.std.proofs.Common.{◌≡◌, ◌∙◌, List, ap, rules, subst, sym, ℕ}
 use Rattle.std.specs.Prelude.{IfOk}
 use Rattle.asn1_blocks.specs.Tree.{generalized_time, leaf, object_identifier, utc_time}

@@ -1,3 +1,4 @@
+-- For `document::push_dump`: what it returns is right.
 use Rattle.std.proofs.Common.{◌≡◌, ◌<◌, inl, inr, length, refl, arith}
 use Rattle.std.proofs.lemmas.Grind.{common_steps}
 use Rattle.std.proofs.lemmas.List.{nil_from_length}

@@ -1,3 +1,4 @@
+-- For `document::push_lines`: what it returns is right.
 use Rattle.std.proofs.Common.{◌∙◌, ap}
 use Rattle.der_lines.specs.Steps.{marks_by}
 use Rattle.der_lines.proofs.Documents.{some_put}

@@ -1,3 +1,4 @@
+-- For `document::push_marks`: its loop keeps its invariant.
 use Rattle.std.proofs.Common.{◌≡◌, ◌+◌, [], ◌∷◌, ◌++◌, ap, subst, sym, take, ◌∙◌}
 use Rattle.std.proofs.lemmas.List.{map-append, take_more}
 use Rattle.der_lines.specs.Dump.{Adds, AreFaultLines}

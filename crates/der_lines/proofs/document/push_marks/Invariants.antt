@@ -1,3 +1,4 @@
+-- For `document::push_marks`: what each turn of its loop keeps.
 use Rattle.std.proofs.Common.{take}
 use Rattle.der_lines.specs.Dump.{Adds, AreFaultLines}
 use Rattle.der_lines.specs.Steps.{mark_offsets}

@@ -1,3 +1,4 @@
+-- For `element::after_end`: its loop keeps its invariant and what it returns is right.
 use Rattle.std.proofs.Common.{◌≡◌, List, ℕ, refl, subst, sym, arith}
 use Rattle.std.specs.Prelude.{◌↔◌}
 use Rattle.der_lines.specs.SeekSteps.{Closes}

@@ -1,3 +1,4 @@
+-- For `element::after_end`: what each turn of its loop keeps and what grows less, so that it ends.
 use Rattle.std.proofs.Common.{ℕ, List, length}
 use Rattle.std.specs.Prelude.{◌↔◌}
 use Rattle.der_lines.specs.SeekSteps.{Closes}

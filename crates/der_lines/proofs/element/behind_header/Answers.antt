@@ -1,3 +1,4 @@
+-- For `element::behind_header`: what it returns is right.
 use Rattle.std.proofs.Common.{subst, sym}
 use Rattle.asn1_headers.specs.Front.{HasIndefiniteForm, IsAtFront}
 use Rattle.der_lines.specs.Elements.{HasContents, StandsBehindIndefinite, of_definite_length}

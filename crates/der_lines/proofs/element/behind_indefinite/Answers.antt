@@ -1,3 +1,4 @@
+-- For `element::behind_indefinite`: what it returns is right.
 use Rattle.std.proofs.Common.{subst, sym}
 use Rattle.asn1_headers.specs.Front.{HasNoHeader, IsAtFront}
 use Rattle.der_lines.specs.Elements.{StandsBehindIndefinite}

@@ -1,3 +1,4 @@
+-- For `element::element_at`: what it returns is right.
 use Rattle.std.proofs.Common.{ap, subst, sym, take, ◌∙◌}
 use Rattle.asn1_headers.specs.Front.{HasIndefiniteForm}
 use Rattle.der_lines.specs.Elements.{ElementAt, StandsBehindIndefinite}

@@ -1,3 +1,4 @@
+-- For `element::pass_one`: what it returns is right (`same`).
 use Rattle.std.proofs.Common.{◌-◌, ap, drop, refl, sym, ◌∙◌}
 use Rattle.asn1_headers.specs.Front.{HasIndefiniteForm}
 use Rattle.der_lines.specs.Elements.{StandsBehindIndefinite}

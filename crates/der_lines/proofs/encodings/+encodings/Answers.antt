@@ -1,3 +1,4 @@
+-- For the cycle `encodings` of `encodings`: its loop keeps its invariant and what it returns is right.
 use Rattle.std.proofs.Common.{◌≡◌, ◌+◌, [], ap, arith, refl, subst, sym}
 use Rattle.std.specs.Prelude.{None}
 use Rattle.der_lines.specs.Dump.{no_lines, no_more}

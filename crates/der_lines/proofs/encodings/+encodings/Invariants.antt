@@ -1,3 +1,4 @@
+-- For the cycle `encodings` of `encodings`: what each turn of its loop keeps and what grows less, so that it ends.
 use Rattle.std.proofs.Common.{◌+◌, ◌*◌}
 use Rattle.der_lines.specs.Dump.{Adds}
 use Rattle.der_lines.specs.Steps.{mark_offsets, to_go}

@@ -1,3 +1,4 @@
+-- For `header::behind_identifier`: what it returns is right.
 use Rattle.std.proofs.Common.{◌≡◌, ap, refl, drop, length, take, sym, ◌∙◌, subst}
 use Rattle.std.proofs.lemmas.List.{take-append-drop, take_at}
 use Rattle.asn1_headers.specs.Header.{IsSomeIdentifier}

@@ -1,3 +1,4 @@
+-- For `header::has_indefinite_length`: what it returns is right.
 use Rattle.std.proofs.Common.{ap, ◌∙◌}
 use Rattle.der_lines.specs.LengthForm.{has_indefinite_length}
 use Rattle.der_lines.proofs.Lengths.{behind_front}

@@ -1,3 +1,4 @@
+-- For `leaf::check`: what it returns is right.
 use Rattle.std.proofs.Common.{inl, inr, arith, sym}
 use Rattle.std.proofs.lemmas.Grind.{common_steps}
 use Rattle.der_lines.proofs.leaf.check.Goals as goal

@@ -1,3 +1,4 @@
+-- For `lines::plain`: what it returns is right.
 use Rattle.std.proofs.Common.{rules}
 use Rattle.der_lines.proofs.lines.plain.Goals as goal
 

@@ -1,3 +1,4 @@
+-- For `lines::push_block_line`: what it returns is right.
 use Rattle.der_lines.specs.Steps.{front_of}
 use Rattle.der_lines.proofs.Dumps.{line_put}
 use Rattle.der_lines.proofs.lines.push_block_line.Goals as goal

@@ -1,3 +1,4 @@
+-- For `lines::push_line`: what it returns is right.
 use Rattle.std.proofs.Common.{◌≡◌, true, arith}
 use Rattle.std.proofs.lemmas.Grind.{common_steps}
 use Rattle.der_lines.proofs.Dumps.{line_inside}

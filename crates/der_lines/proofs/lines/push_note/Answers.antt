@@ -1,3 +1,4 @@
+-- For `lines::push_note`: what it returns is right.
 use Rattle.std.proofs.Common.{◌≡◌, ◌++◌, ◌∷◌, [], ap, ◌∙◌}
 use Rattle.der_lines.specs.Steps.{mark_of}
 use Rattle.der_lines.proofs.Dumps.{note_put}

@@ -1,3 +1,4 @@
+-- For `lines::push_plain`: what each turn of its loop keeps.
 use Rattle.std.proofs.Common.{◌≡◌, ◌++◌, take}
 use Rattle.der_lines.specs.Dump.{on_one_line}
 use Rattle.der_lines.proofs.lines.push_plain.Given as goal

@@ -1,3 +1,4 @@
+-- For `lines::push_spaces`: what each turn of its loop keeps.
 use Rattle.std.proofs.Common.{◌≡◌, ◌++◌, replicate}
 use Rattle.der_lines.proofs.lines.push_spaces.Given as goal
 

@@ -1,3 +1,4 @@
+-- For `marks::push_told`: what it returns is right.
 use Rattle.std.proofs.Common.{◌≡◌, ◌++◌, ◌∷◌, ◌∙◌, [], List, ap, map}
 use Rattle.std.proofs.lemmas.List.{map-append}
 use Rattle.der_lines.specs.Marks.{told_of}

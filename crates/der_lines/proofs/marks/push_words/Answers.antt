@@ -1,3 +1,4 @@
+-- For `marks::push_words`: its loop keeps its invariant and what it returns is right.
 use Rattle.std.proofs.Common.{◌≡◌, ◌++◌, append-nil, arith, false, map, refl, subst, sym}
 use Rattle.std.proofs.lemmas.List.{take_all}
 use Rattle.der_lines.specs.Marks.{told_of, words_text}

@@ -1,3 +1,4 @@
+-- For `marks::push_words`: what each turn of its loop keeps.
 use Rattle.std.proofs.Common.{◌≡◌, ◌++◌, false, map, take}
 use Rattle.der_lines.specs.Marks.{are_some, told_of, words_text}
 use Rattle.der_lines.proofs.marks.push_words.Given as goal

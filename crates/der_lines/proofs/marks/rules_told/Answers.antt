@@ -1,3 +1,4 @@
+-- For `marks::rules_told`: its loop keeps its invariant and what it returns is right.
 use Rattle.std.proofs.Common.{◌≡◌, ap, arith, map, subst}
 use Rattle.std.proofs.lemmas.List.{take_all}
 use Rattle.der_lines.specs.Marks.{rule_told, told_of}

@@ -1,3 +1,4 @@
+-- For `marks::rules_told`: what each turn of its loop keeps.
 use Rattle.std.proofs.Common.{◌≡◌, map, take}
 use Rattle.der_lines.specs.Marks.{rule_told, told_of}
 use Rattle.der_lines.proofs.marks.rules_told.Given as goal

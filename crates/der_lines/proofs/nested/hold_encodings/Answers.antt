@@ -1,3 +1,4 @@
+-- For `nested::hold_encodings`: its loop ends.
 use Rattle.std.proofs.Common.{◌<◌, ◌≤◌, arith}
 use Rattle.der_lines.specs.Steps.{Takes}
 use Rattle.der_lines.specs.Steps.{to_go}

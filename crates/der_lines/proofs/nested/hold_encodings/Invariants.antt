@@ -1,3 +1,4 @@
+-- For `nested::hold_encodings`: what grows less, so that it ends.
 use Rattle.der_lines.specs.Steps.{to_go}
 use Rattle.der_lines.proofs.nested.hold_encodings.Given as goal
 

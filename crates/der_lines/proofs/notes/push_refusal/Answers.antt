@@ -1,3 +1,4 @@
+-- For `notes::push_refusal`: what it returns is right.
 use Rattle.std.proofs.Common.{refl, subst}
 use Rattle.der_lines.specs.Dump.{Adds, IsLine, IsNote}
 use Rattle.der_lines.proofs.Dumps.{adds_as}

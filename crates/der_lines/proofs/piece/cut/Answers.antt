@@ -1,3 +1,4 @@
+-- For `piece::cut`: what it returns is right.
 use Rattle.std.proofs.Common.{refl, subst, sym}
 use Rattle.std.specs.Prelude.{Some}
 use Rattle.asn1_headers.specs.Fault.{incomplete}

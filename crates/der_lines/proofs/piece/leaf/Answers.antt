@@ -1,3 +1,4 @@
+-- For `piece::leaf`: what it returns is right.
 use Rattle.std.proofs.Common.{refl}
 use Rattle.der_lines.proofs.Pieces.{leaf_judged, whole_rules, whole_starts}
 use Rattle.der_lines.proofs.piece.leaf.Goals as goal

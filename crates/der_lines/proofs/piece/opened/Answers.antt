@@ -1,3 +1,4 @@
+-- For `piece::opened`: what it returns is right.
 use Rattle.std.proofs.Common.{ap, refl, slice_range}
 use Rattle.der_lines.proofs.Pieces.{opened_judged, whole_rules, whole_starts}
 use Rattle.der_lines.proofs.piece.opened.Goals as goal

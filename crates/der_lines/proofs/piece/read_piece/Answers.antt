@@ -1,3 +1,4 @@
+-- For `piece::read_piece`: what it returns is right.
 use Rattle.std.proofs.Common.{◌≡◌, ◌<◌, ◌∙◌, length, sym, false, arith}
 use Rattle.std.proofs.lemmas.Result.{IfOk-weaker}
 use Rattle.std.proofs.lemmas.Grind.{common_steps}

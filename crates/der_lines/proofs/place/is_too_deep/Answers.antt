@@ -1,3 +1,4 @@
+-- For `place::is_too_deep`: what it returns is right.
 use Rattle.std.proofs.Common.{rules}
 use Rattle.der_lines.proofs.place.is_too_deep.Goals as goal
 

@@ -1,3 +1,4 @@
+-- For `seek::are_encodings`: its loop keeps its invariant and what it returns is right.
 use Rattle.std.proofs.Common.{◌≡◌, ap, drop, length, rules, ◌∙◌}
 use Rattle.std.specs.Prelude.{◌↔◌, IsTrue}
 use Rattle.der_lines.proofs.Seeking.{encodings_after, encodings_ended}

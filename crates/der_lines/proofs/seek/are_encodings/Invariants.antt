@@ -1,3 +1,4 @@
+-- For `seek::are_encodings`: what each turn of its loop keeps and what grows less, so that it ends.
 use Rattle.std.proofs.Common.{length}
 use Rattle.std.specs.Prelude.{◌↔◌}
 use Rattle.der_lines.specs.Seek.{AreEncodings}

@@ -1,3 +1,5 @@
+-- For `seek::behind_end`: what it returns is right (`found`), `split_at` may be called, and no sum or product is too
+-- large.
 use Rattle.std.proofs.Common.{◌≡◌, ◌+◌, ◌-◌, suc, arith}
 use Rattle.der_lines.specs.Seek.{behind_end}
 use Rattle.der_lines.proofs.Seeking.{ended_is}

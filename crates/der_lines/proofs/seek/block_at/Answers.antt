@@ -1,3 +1,4 @@
+-- For `seek::block_at`: its loop keeps its invariant and what it returns is right.
 use Rattle.std.proofs.Common.{◌≡◌, sym, ◌∙◌, arith}
 use Rattle.der_lines.specs.SeekSteps.{LeadsNowhere, LeadsOn}
 use Rattle.der_lines.proofs.Seeking.{begins_nowhere, begins_there, found_in, none_at_end}

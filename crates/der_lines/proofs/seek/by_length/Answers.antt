@@ -1,3 +1,4 @@
+-- For `seek::by_length`: what it returns is right (`found`).
 use Rattle.std.proofs.Common.{◌≡◌, ◌+◌, ◌-◌, ◌<◌, ℕ, List, drop, refl, subst, sym, take, arith}
 use Rattle.der_lines.specs.Seek.{Holds, behind_element, inside_element}
 use Rattle.der_lines.proofs.Seeking.{contents_of, holds_alone, in_contents, rest_of}

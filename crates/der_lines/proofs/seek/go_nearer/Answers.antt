@@ -1,3 +1,4 @@
+-- For `seek::go_nearer`: what it returns is right (`found`).
 use Rattle.std.proofs.Common.{◌≡◌, ◌+◌, ◌-◌, suc, sym, ◌∙◌, arith}
 use Rattle.asn1_headers.specs.Front.{HasNoHeader, IsAtFront}
 use Rattle.der_lines.specs.Seek.{behind_indefinite}

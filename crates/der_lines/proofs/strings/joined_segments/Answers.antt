@@ -1,3 +1,4 @@
+-- For `strings::joined_segments`: its loop keeps its invariant, what it returns is right, and its loop ends.
 use Rattle.std.proofs.Common.{◌<◌, ◌≤◌, arith, refl}
 use Rattle.der_lines.specs.Segments.{no_more}
 use Rattle.der_lines.specs.Steps.{IsSegment}

@@ -1,3 +1,4 @@
+-- For `strings::joined_segments`: what each turn of its loop keeps and what grows less, so that it ends.
 use Rattle.std.proofs.Common.{ℕ, List}
 use Rattle.der_lines.specs.Segments.{AreSegmentsOf}
 use Rattle.der_lines.specs.Steps.{to_go}

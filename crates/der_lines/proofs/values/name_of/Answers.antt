@@ -1,3 +1,4 @@
+-- For `values::name_of`: what it returns is right.
 use Rattle.std.proofs.Common.{arith}
 use Rattle.asn1_headers.proofs.Names.{past_names}
 use Rattle.der_lines.proofs.values.name_of.Goals as goal

@@ -1,3 +1,4 @@
+-- For `fault::first_line`: what it returns is right.
 use Rattle.std.proofs.Common.{◌≢◌, ◌+◌, ◌≤◌, ◌∙◌, ⊎_elim, arith, length, sym, subst, take, Bor, List, None, Option, Some, ℕ, inl, inr}
 use Rattle.std.proofs.lemmas.List.{take_all}
 use Rattle.std.proofs.lemmas.List.Elements.{All-from_get_or, All-pop}

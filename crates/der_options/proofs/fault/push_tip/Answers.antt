@@ -1,3 +1,4 @@
+-- For `fault::push_tip`: what it returns is right.
 use Rattle.std.proofs.Common.{◌≡◌, ◌≢◌, ◌==◌, ◌++◌, List, [], ◌∷◌, ℕ, codes, if◌then◌else◌, subst, sym, arith}
 use Rattle.std.proofs.lemmas.Grind.{common_steps}
 use Rattle.std.proofs.lemmas.List.Elements.{All-append, All-cons, All-nil}

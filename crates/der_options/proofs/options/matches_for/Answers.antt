@@ -1,3 +1,4 @@
+-- For `options::matches_for`: what it returns is right (`read`, `refused`).
 use Rattle.std.proofs.Common.{◌∙◌, map}
 use Rattle.clap.specs.Words.{app_of, rows_of, found_of}
 use Rattle.der_options.proofs.Commands.{faults, free, matched, simple}

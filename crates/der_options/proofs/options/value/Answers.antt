@@ -1,3 +1,4 @@
+-- For `options::value`: what it returns is right.
 use Rattle.std.proofs.Common.{◌∙◌}
 use Rattle.clap.specs.Words.{found_of}
 use Rattle.clap.proofs.WalkLemmas.{first_value-rows}

@@ -1,3 +1,4 @@
+-- For `run::run`: what it returns is right (`written`).
 use Rattle.std.proofs.Common.{◌≡◌, List, ℕ, None, Some, Option, subst}
 use Rattle.std.specs.Prelude.{IfSome}
 use Rattle.std.specs.Io.KnownBytes.{Appends}

@@ -1,3 +1,4 @@
+-- For `run::signed_part`: what it returns is right (`refused`, `content`).
 use Rattle.std.proofs.Common.{◌≡◌, ◌∙◌, ap, List, ℕ, inl, inr, subst, sym}
 use Rattle.std.specs.Prelude.{Result, Ok, Err, IfErr, IfOk}
 use Rattle.asn1_headers.specs.Fault.{OutOfMemoryOr, fault_of}

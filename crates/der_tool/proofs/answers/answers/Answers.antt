@@ -1,3 +1,4 @@
+-- For `answers::answers`: its loop keeps its invariant and what it returns is right.
 use Rattle.std.proofs.Common.{rules, ◌≡◌, ◌++◌, ℕ, List, [], ◌∷◌, length, refl, sym, ap, ◌∙◌, arith, subst, append_assoc, append-nil}
 use Rattle.der_io.specs.Lines.{lines_of}
 use Rattle.der_tool.specs.Answers.{AreLineAnswers}

@@ -1,3 +1,4 @@
+-- For `laws::law_one_output`: what it returns is right (`some`, `one`).
 use Rattle.der_tool.proofs.Outputs.{some_output, one_output}
 use Rattle.der_tool.proofs.laws.law_one_output.Goals as goal
 

@@ -1,3 +1,4 @@
+-- For `characters::text_in_form`: what grows less, so that it ends.
 use Rattle.std.proofs.Common.{length}
 use Rattle.der_values.proofs.characters.text_in_form.Given as goal
 

@@ -1,3 +1,4 @@
+-- For `universal::is_utf8`: what it returns is right.
 use Rattle.std.proofs.Common.{sym}
 use Rattle.std.proofs.lemmas.Str.{is_utf8-from_IsUtf8}
 use Rattle.der_values.proofs.Strings.{no_utf8}

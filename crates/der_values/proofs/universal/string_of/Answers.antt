@@ -1,3 +1,4 @@
+-- For `universal::string_of`: what it returns is right.
 use Rattle.std.proofs.Common.{◌∙◌, sym}
 use Rattle.der_values.proofs.Strings.{string_utf8}
 use Rattle.der_values.proofs.universal.string_of.Goals as goal

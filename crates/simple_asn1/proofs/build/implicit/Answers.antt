@@ -1,3 +1,4 @@
+-- For `build::implicit`: what it returns is right (`encoded`, `writable`, `items`, `faithful`).
 use Rattle.std.proofs.lemmas.Result.{IfOk-weaker}
 use Rattle.simple_asn1.proofs.HeldItems.{made_from}
 use Rattle.simple_asn1.proofs.build.implicit.Goals as goal

@@ -1,3 +1,4 @@
+-- For `convert::round_trip`: what it returns is right (`own`, `decoded`, `same`, `refused`).
 use Rattle.std.proofs.Common.{◌<◌, ◌^◌, length, subst, ◌∙◌, arith}
 use Rattle.asn1_headers.specs.declared.header.ASN1Class.TheVariants.{Universal}
 use Rattle.simple_asn1.specs.Conversions.{Decodes, DecodeFails}

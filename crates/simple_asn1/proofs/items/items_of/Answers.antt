@@ -1,3 +1,4 @@
+-- For `items::items_of`: what it returns is right (`found`).
 use Rattle.asn1_blocks.specs.View.{view}
 use Rattle.simple_asn1.proofs.HeldItems.{found_held}
 use Rattle.simple_asn1.proofs.items.items_of.Goals as goal

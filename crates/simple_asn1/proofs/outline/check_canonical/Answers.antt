@@ -1,3 +1,4 @@
+-- For `outline::check_canonical`: what it returns is right (`canonical`).
 use Rattle.asn1_blocks.specs.View.{views}
 use Rattle.simple_asn1.proofs.StrictOutlines.{canonical_here}
 use Rattle.simple_asn1.proofs.outline.check_canonical.Goals as goal

@@ -1,3 +1,4 @@
+-- For `outline::outline_strict`: what it returns is right (`accepts`, `refuses`, `not_canonical`).
 use Rattle.std.proofs.Common.{arith, inl, inr, refl}
 use Rattle.asn1_headers.specs.Fault.{not_canonical}
 use Rattle.simple_asn1.proofs.StrictOutlines.{outline_accepted, outline_refused}

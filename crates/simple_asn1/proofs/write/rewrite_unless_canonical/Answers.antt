@@ -1,3 +1,4 @@
+-- For `write::rewrite_unless_canonical`: what it returns is right (`accepts`, `refuses`).
 use Rattle.std.proofs.Common.{◌<◌, ◌^◌, length, arith}
 use Rattle.simple_asn1.proofs.Checked.{refused_here, written_accepted, written_document}
 use Rattle.simple_asn1.proofs.write.rewrite_unless_canonical.Goals as goal

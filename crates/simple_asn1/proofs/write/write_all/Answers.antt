@@ -1,3 +1,4 @@
+-- For `write::write_all`: what it returns is right (`encoded`) and `push_all` may be called.
 use Rattle.std.proofs.Common.{◌++◌, length, ap, ◌∙◌, arith}
 use Rattle.simple_asn1.specs.Inner.WriteWalk.{all_own_octets, first_own_fault, measured_blocks}
 use Rattle.simple_asn1.proofs.WriteSteps.{fault_order, own_order}

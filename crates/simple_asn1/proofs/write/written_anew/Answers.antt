@@ -1,3 +1,4 @@
+-- For `write::written_anew`: `unreachable` may be called and what cannot happen does not.
 use Rattle.std.proofs.Common.{◌<◌, arith, ◌≡◌, Some, None, inl, inr, sym, ap, ◌∙◌}
 use Rattle.std.proofs.lemmas.List.Elements.{All-from_get_or}
 use Rattle.simple_asn1.specs.Canonical.{first_write_fault}

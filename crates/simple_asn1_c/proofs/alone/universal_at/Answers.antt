@@ -1,3 +1,4 @@
+-- For `alone::universal_at`: what it returns is right (`missing`, `found`).
 use Rattle.std.proofs.Common.{◌≡◌, inr, refl, sym, subst, ◌∙◌}
 use Rattle.asn1_headers.specs.declared.header.ASN1Class.TheVariants.{Universal}
 use Rattle.simple_asn1.specs.Header.{Encoding}

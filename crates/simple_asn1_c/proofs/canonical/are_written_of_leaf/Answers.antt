@@ -1,3 +1,4 @@
+-- For `canonical::are_written_of_leaf`: what it returns is right.
 use Rattle.std.proofs.Common.{refl, sym, ◌∙◌}
 use Rattle.asn1_numbers.specs.TwosComplement.{signed_number}
 use Rattle.asn1_leaves.specs.StringKind.{bmp, ia5, printable, teletex, universal, utf8}

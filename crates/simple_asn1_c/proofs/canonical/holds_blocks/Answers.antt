@@ -1,3 +1,4 @@
+-- For `canonical::holds_blocks`: what it returns is right.
 use Rattle.std.proofs.Common.{◌≡◌, inl, inr, arith}
 use Rattle.std.proofs.lemmas.Grind.{common_steps}
 use Rattle.simple_asn1_c.proofs.canonical.holds_blocks.Goals as goal

@@ -1,3 +1,4 @@
+-- For `canonical::is_canonical_single`: what it returns is right.
 use Rattle.std.proofs.Common.{◌<◌, ◌^◌, length, ap, sym, ◌∙◌, arith}
 use Rattle.std.specs.Prelude.{not}
 use Rattle.std.proofs.lemmas.Grind.{common_steps}

@@ -1,3 +1,4 @@
+-- For `canonical::is_group_tag`: what it returns is right.
 use Rattle.asn1_blocks.specs.declared.block.GroupKind.TheVariants.{Sequence, Set}
 use Rattle.simple_asn1_c.proofs.canonical.is_group_tag.Goals as goal
 

@@ -1,3 +1,4 @@
+-- For `components::component_at`: what it returns is right.
 use Rattle.std.proofs.Common.{◌≡◌, ◌<◌, ◌≤◌, suc, drop, take, length, refl, sym, subst, arith}
 use Rattle.asn1_headers.proofs.HeaderOctets.{continued_at, not_continued}
 use Rattle.asn1_numbers.specs.Base128.{IsContinued, low_bits_number}

@@ -1,3 +1,4 @@
+-- For `components::put_components`: what it returns is right.
 use Rattle.std.proofs.Common.{◌≡◌, inl, inr, refl, sym, ap, subst, ◌∙◌}
 use Rattle.asn1_headers.specs.declared.error.ASN1DecodeErr.TheVariants.{OutOfMemory, Overflow}
 use Rattle.asn1_headers.specs.Fault.{fault_of}

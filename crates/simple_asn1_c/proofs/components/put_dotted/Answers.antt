@@ -1,3 +1,4 @@
+-- For `components::put_dotted`: what it returns is right.
 use Rattle.std.proofs.Common.{inl, inr, ◌∙◌}
 use Rattle.simple_asn1_c.specs.Contents.{had_no_memory_for_components, mean_components, mean_no_components}
 use Rattle.simple_asn1_c.proofs.components.put_dotted.Goals as goal

@@ -1,3 +1,4 @@
+-- For `components::put_shortened`: what it returns is right.
 use Rattle.std.proofs.Common.{inl, inr, refl, ap, subst, ◌∙◌}
 use Rattle.asn1_headers.specs.Fault.{fault_of}
 use Rattle.simple_asn1_c.specs.Contents.{had_no_memory_for_components, mean_components, mean_no_components}

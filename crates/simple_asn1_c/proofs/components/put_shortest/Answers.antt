@@ -1,3 +1,4 @@
+-- For `components::put_shortest`: what it returns is right.
 use Rattle.std.proofs.Common.{subst}
 use Rattle.simple_asn1_c.specs.Contents.{mean_components}
 use Rattle.simple_asn1_c.specs.Room.{ArePut}

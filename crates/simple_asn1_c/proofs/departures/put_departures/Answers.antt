@@ -1,3 +1,4 @@
+-- For `departures::put_departures`: its loop keeps its invariant.
 use Rattle.std.proofs.Common.{◌≡◌, suc, ◌+◌, ◌<◌, ◌≤◌, ◌++◌, drop, length, map, slice_set, take, ap, ◌∙◌, arith}
 use Rattle.std.proofs.lemmas.Grind.{common_steps}
 use Rattle.asn1_departures.specs.declared.rule.Departure.{Departure}

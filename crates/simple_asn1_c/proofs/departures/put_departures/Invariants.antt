@@ -1,3 +1,4 @@
+-- For `departures::put_departures`: what each turn of its loop keeps.
 use Rattle.std.proofs.Common.{◌≡◌, ◌++◌, drop, map, take}
 use Rattle.simple_asn1_c.specs.Departures.{departure_record}
 use Rattle.simple_asn1_c.proofs.departures.put_departures.Given as goal

@@ -1,3 +1,4 @@
+-- For `dotted::push_dotted`: what it returns is right.
 use Rattle.std.proofs.Common.{◌≡◌, ◌++◌, ◌∷◌, ◌∙◌, ap, refl, sym, arith, true, false}
 use Rattle.asn1_leaves.specs.DottedDecimal.{dotted_decimal}
 use Rattle.asn1_leaves.proofs.IdentifierForms.{components_found}

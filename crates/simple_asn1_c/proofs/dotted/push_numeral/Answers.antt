@@ -1,3 +1,4 @@
+-- For `dotted::push_numeral`: what it returns is right.
 use Rattle.std.proofs.Common.{◌++◌, ap, ◌∙◌, arith}
 use Rattle.asn1_numbers.proofs.Numerals.{decimal_numeral}
 use Rattle.simple_asn1_c.proofs.PushedNumerals.{digit_numeral, pushed_if_ok}

@@ -1,3 +1,4 @@
+-- For `dotted::push_subidentifiers`: what each turn of its loop keeps.
 use Rattle.std.proofs.Common.{◌≡◌, ◌++◌, drop}
 use Rattle.std.specs.List.{flat_map}
 use Rattle.asn1_leaves.specs.Inner.IdentifierForms.{numbers_after, pointed}

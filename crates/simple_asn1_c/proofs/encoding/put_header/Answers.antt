@@ -1,3 +1,4 @@
+-- For `encoding::put_header`: what it returns is right.
 use Rattle.std.proofs.Common.{refl}
 use Rattle.simple_asn1_c.specs.Contents.{header_was_found}
 use Rattle.simple_asn1_c.specs.Records.{HasHeader}

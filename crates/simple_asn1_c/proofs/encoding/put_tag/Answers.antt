@@ -1,3 +1,4 @@
+-- For `encoding::put_tag`: what it returns is right.
 use Rattle.std.proofs.Common.{subst, ◌∙◌}
 use Rattle.simple_asn1_c.specs.Contents.{tag_was_found}
 use Rattle.simple_asn1_c.specs.Room.{ArePut}

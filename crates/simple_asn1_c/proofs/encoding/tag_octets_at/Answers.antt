@@ -1,3 +1,5 @@
+-- For `encoding::tag_octets_at`: what it returns is right, `unreachable` may be called, and what cannot happen does
+-- not.
 use Rattle.std.proofs.Common.{arith}
 use Rattle.simple_asn1_c.specs.Contents.{tag_octets_were_found}
 use Rattle.simple_asn1_c.proofs.Headers.{identifier_found, some_identifier}

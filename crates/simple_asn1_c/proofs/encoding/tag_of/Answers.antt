@@ -1,3 +1,4 @@
+-- For `encoding::tag_of`: what it returns is right, `unreachable` may be called, and what cannot happen does not.
 use Rattle.std.proofs.Common.{inl, inr, drop}
 use Rattle.simple_asn1_c.proofs.Headers.{front_found, some_header}
 use Rattle.simple_asn1_c.proofs.encoding.tag_of.Goals as goal

@@ -1,3 +1,4 @@
+-- For `fault::fault_in`: what it returns is right.
 use Rattle.std.proofs.Common.{inl, inr, sym, subst}
 use Rattle.asn1_headers.specs.Fault.{fault_of}
 use Rattle.simple_asn1.specs.Grammar.{FirstFaultAt}

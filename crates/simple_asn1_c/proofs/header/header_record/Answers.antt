@@ -1,3 +1,4 @@
+-- For `header::header_record`: what it returns is right, `unreachable` may be called, and what cannot happen does not.
 use Rattle.std.proofs.Common.{◌≡◌, inl, inr, drop, sym, ap, ◌∙◌}
 use Rattle.simple_asn1.specs.Header.{constructed_bit}
 use Rattle.simple_asn1_c.proofs.Headers.{front_found, some_header}

@@ -1,3 +1,4 @@
+-- For `identifier::identifier_at`: what it returns is right.
 use Rattle.std.proofs.Common.{◌≡◌, ℕ, List, inl, inr, refl, subst, ◌∙◌, arith}
 use Rattle.simple_asn1.specs.Contents.{leaf_tag, of_object_identifier}
 use Rattle.simple_asn1.specs.Tree.{Leaf, object_identifier}

@@ -1,3 +1,4 @@
+-- For `identifier::put_identifier`: what it returns is right.
 use Rattle.std.proofs.Common.{◌≡◌, Some, None, inl, inr, refl, sym, subst, ◌∙◌}
 use Rattle.asn1_leaves.specs.Contents.ObjectIdentifier.{object_identifier_contents}
 use Rattle.simple_asn1.specs.DottedDecimal.{IsDottedDecimal}

@@ -1,3 +1,4 @@
+-- For `integer::integer_at`: what it returns is right.
 use Rattle.std.proofs.Common.{◌≡◌, ◌∙◌, ℕ, ℤ, rules, refl, subst, arith, List}
 use Rattle.asn1_numbers.specs.TwosComplement.{signed_number}
 use Rattle.simple_asn1.specs.Contents.{leaf_tag}

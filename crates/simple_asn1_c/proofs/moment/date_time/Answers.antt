@@ -1,3 +1,4 @@
+-- For `moment::date_time`: what it returns is right (`none`).
 use Rattle.std.proofs.Common.{◌≡◌, ◌↔◌, ℤ, ◌<◌, ◌≤ℤ◌, Option, Some, None, Result, Ok, Err, pos, negsuc, w8, w16, w32, to_z, of_z, unsigned_abs, ap, ◌∙◌, arith}
 use Rattle.std.specs.Prelude.{IfNone, IsOk}
 use Rattle.std.specs.Result.{result_ok}

@@ -1,3 +1,4 @@
+-- For `moment::moment_at`: what it returns is right.
 use Rattle.std.proofs.Common.{◌≡◌, ◌⊎◌, ℕ, ◌<◌, ◌^◌, List, inl, inr, refl, ap, subst, ◌∙◌, arith}
 use Rattle.asn1_headers.specs.Fault.{fault_of}
 use Rattle.asn1_leaves.specs.Contents.GeneralizedTime.{GeneralizedTimeContents}

@@ -1,3 +1,4 @@
+-- For `number::int64_of`: what it returns is right.
 use Rattle.std.proofs.Common.{◌≡◌, ◌<◌, ◌^◌, ◌∙◌, inl, inr, true, false, Some, pos, get_or, sym, ap, subst, arith}
 use Rattle.std.specs.Int.{w64}
 use Rattle.std.proofs.lemmas.Bool.{cases_lt}

@@ -1,3 +1,4 @@
+-- For `paths::index_at`: what each turn of its loop keeps.
 use Rattle.std.proofs.Common.{◌≡◌, ◌<◌, drop, length}
 use Rattle.simple_asn1_c.specs.Paths.{index_inside}
 use Rattle.simple_asn1_c.proofs.paths.index_at.Given as goal

@@ -1,3 +1,4 @@
+-- For `paths::item_from`: its loop keeps its invariant.
 use Rattle.std.proofs.Common.{sym, ◌∙◌, arith}
 use Rattle.simple_asn1_c.proofs.PathSteps.{item_more}
 use Rattle.simple_asn1_c.proofs.paths.item_from.Goals as goal

@@ -1,3 +1,4 @@
+-- For `paths::item_from`: what each turn of its loop keeps and what grows less, so that it ends.
 use Rattle.std.proofs.Common.{◌≡◌}
 use Rattle.simple_asn1_c.specs.Paths.{item_from}
 use Rattle.simple_asn1_c.proofs.paths.item_from.Given as goal

@@ -1,3 +1,4 @@
+-- For `paths::put_values`: its loop keeps its invariant.
 use Rattle.std.proofs.Common.{◌≡◌, suc, ◌+◌, ◌<◌, ◌≤◌, ◌++◌, drop, length, map, slice_set, take, ap, ◌∙◌, arith}
 use Rattle.std.proofs.lemmas.Grind.{common_steps}
 use Rattle.simple_asn1_c.specs.Paths.{value_of}

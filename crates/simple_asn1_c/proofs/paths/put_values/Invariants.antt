@@ -1,3 +1,4 @@
+-- For `paths::put_values`: what each turn of its loop keeps.
 use Rattle.std.proofs.Common.{◌≡◌, ◌++◌, drop, map, take}
 use Rattle.simple_asn1_c.specs.Paths.{value_of}
 use Rattle.simple_asn1_c.proofs.paths.put_values.Given as goal

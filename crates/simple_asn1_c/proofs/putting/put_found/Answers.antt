@@ -1,3 +1,4 @@
+-- For `putting::put_found`: what it returns is right.
 use Rattle.std.proofs.Common.{◌∙◌, inr, length, map, refl, subst, sym, arith}
 use Rattle.std.proofs.lemmas.List.{length-map}
 use Rattle.simple_asn1_c.specs.Inner.Fronts.{IsFound}

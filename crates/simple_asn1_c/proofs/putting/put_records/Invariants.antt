@@ -1,3 +1,4 @@
+-- For `putting::put_records`: what each turn of its loop keeps.
 use Rattle.std.proofs.Common.{◌≡◌, ◌++◌, drop, map, take}
 use Rattle.simple_asn1_c.specs.Records.{block_of}
 use Rattle.simple_asn1_c.proofs.putting.put_records.Given as goal

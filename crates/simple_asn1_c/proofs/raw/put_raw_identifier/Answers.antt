@@ -1,3 +1,4 @@
+-- For `raw::put_raw_identifier`: what it returns is right.
 use Rattle.std.proofs.Common.{◌≡◌, Some, inl, inr, refl, ap, subst, ◌∙◌}
 use Rattle.asn1_leaves.specs.Contents.ObjectIdentifier.{object_identifier_write_fault}
 use Rattle.simple_asn1_c.specs.Raw.{component_place, component_status, components_have_fault, had_no_memory_for_raw_identifier}

@@ -1,3 +1,4 @@
+-- For `raw::put_raw_text`: what it returns is right.
 use Rattle.std.proofs.Common.{◌≡◌, inl, inr, subst}
 use Rattle.std.specs.Prelude.{None}
 use Rattle.std.specs.Str.{chars}

@@ -1,3 +1,4 @@
+-- For `reading::fault_of_refused`: `unreachable` may be called and what cannot happen does not.
 use Rattle.std.proofs.Common.{◌<◌, ◌^◌, length, arith}
 use Rattle.std.proofs.lemmas.Grind.{common_steps}
 use Rattle.simple_asn1_c.proofs.reading.fault_of_refused.Goals as goal

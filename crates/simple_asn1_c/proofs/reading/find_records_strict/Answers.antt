@@ -1,3 +1,4 @@
+-- For `reading::find_records_strict`: what it returns is right (`document`, `fault`).
 use Rattle.std.proofs.Common.{inl, inr, subst}
 use Rattle.asn1_outline.specs.Entries.{AreEntriesOf}
 use Rattle.simple_asn1_c.proofs.reading.find_records_strict.Goals as goal

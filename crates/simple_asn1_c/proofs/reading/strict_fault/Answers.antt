@@ -1,3 +1,4 @@
+-- For `reading::strict_fault`: what it returns is right.
 use Rattle.std.proofs.Common.{refl, inl, inr, subst}
 use Rattle.simple_asn1.specs.Fault.{OutOfMemoryOr}
 use Rattle.simple_asn1.specs.Strict.{StrictFault}

@@ -1,3 +1,4 @@
+-- For `signed::parts_in`: what it returns is right.
 use Rattle.std.proofs.Common.{refl, sym, ap, subst, ◌∙◌}
 use Rattle.simple_asn1.specs.Grammar.{IsDocument}
 use Rattle.simple_asn1.specs.Structure.{IsStructure}

@@ -1,3 +1,4 @@
+-- For `spelled::put_encoding`: what it returns is right.
 use Rattle.std.proofs.Common.{◌≡◌, refl, sym, subst, ◌∙◌}
 use Rattle.asn1_numbers.specs.Decimal.{natural_numeral}
 use Rattle.simple_asn1_c.specs.Raw.{is_no_numeral, was_encoded}

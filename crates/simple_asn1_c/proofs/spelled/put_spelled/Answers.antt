@@ -1,3 +1,4 @@
+-- For `spelled::put_spelled`: what it returns is right.
 use Rattle.std.proofs.Common.{subst}
 use Rattle.simple_asn1_c.specs.Raw.{spelled_was_put}
 use Rattle.simple_asn1_c.specs.Room.{ArePut}

@@ -1,3 +1,5 @@
+-- For the cycle `prepend_big_endian` of `spelling`: what it returns is right (`octets`, `space`) and `prepend_octet`
+-- and `prepend_big_endian` may be called.
 use Rattle.std.proofs.Common.{◌/◌, ◌%◌, ◌∷◌, ◌++◌, [], sym, ap, ◌∙◌, append_assoc, arith}
 use Rattle.std.specs.Int.Digits.{digits_of}
 use Rattle.std.proofs.lemmas.Int.Digits.{digits_of_step, length-digits_of_step}

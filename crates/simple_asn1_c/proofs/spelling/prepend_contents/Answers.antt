@@ -1,3 +1,4 @@
+-- For `spelling::prepend_contents`: what it returns is right (`put`).
 use Rattle.std.proofs.Common.{◌++◌, ◌∷◌, [], length, ap, ◌∙◌, subst}
 use Rattle.std.specs.Prelude.{nat_lt}
 use Rattle.simple_asn1.specs.Canonical.{shortest_encoding}

@@ -1,3 +1,4 @@
+-- For `spelling::prepend_items`: what it returns is right (`put`, `refused`).
 use Rattle.std.proofs.Common.{◌≡◌, ◌+◌, ◌≤◌, ◌++◌, true, length, ap, ◌∙◌, arith}
 use Rattle.simple_asn1.specs.Header.{shortest_identifier, shortest_length}
 use Rattle.simple_asn1_c.proofs.Spellings.{items_more, start_within}

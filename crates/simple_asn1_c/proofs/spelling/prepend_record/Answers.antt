@@ -1,3 +1,4 @@
+-- For `spelling::prepend_record`: what it returns is right (`refused`).
 use Rattle.simple_asn1_c.specs.declared.spelling.SpellErr.{SpellErr}
 use Rattle.simple_asn1_c.specs.declared.spelling.SpellErr.TheVariants.{Record}
 use Rattle.simple_asn1_c.proofs.Spellings.{too_many}

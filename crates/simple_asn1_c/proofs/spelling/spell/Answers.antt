@@ -1,3 +1,4 @@
+-- For `spelling::spell`: its loop keeps its invariant and what it returns is right (`fault`, `canonical`).
 use Rattle.std.proofs.Common.{◌≡◌, ◌+◌, ◌-◌, ◌<◌, [], drop, inl, inr, length, refl, sym, ap, subst, arith}
 use Rattle.std.specs.List.{concat}
 use Rattle.simple_asn1.specs.ReadBack.{IsCanonicalDocument}

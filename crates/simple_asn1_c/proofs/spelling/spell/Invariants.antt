@@ -1,3 +1,4 @@
+-- For `spelling::spell`: what each turn of its loop keeps and what grows less, so that it ends.
 use Rattle.std.proofs.Common.{◌≤◌, drop, length}
 use Rattle.simple_asn1_c.specs.Spelled.{IsState}
 use Rattle.simple_asn1_c.proofs.spelling.spell.Given as goal

@@ -1,3 +1,4 @@
+-- For `text::are_own_text`: what it returns is right (`utf8`, `meant`).
 use Rattle.std.proofs.Common.{◌≡◌, true, subst, sym, arith}
 use Rattle.std.specs.Prelude.{IsAscii, IsUtf8}
 use Rattle.std.specs.List.{list_all}

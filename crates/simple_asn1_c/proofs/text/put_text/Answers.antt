@@ -1,3 +1,4 @@
+-- For `text::put_text`: what it returns is right.
 use Rattle.std.proofs.Common.{◌≡◌, inl, inr, refl, sym, ap, subst, ◌∙◌}
 use Rattle.std.specs.Str.{chars}
 use Rattle.asn1_leaves.specs.Contents.Text.{text_contents, text_form}

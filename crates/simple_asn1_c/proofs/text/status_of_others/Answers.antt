@@ -1,3 +1,4 @@
+-- For `text::status_of_others`: what it returns is right.
 use Rattle.std.proofs.Common.{sym, ap, subst, arith}
 use Rattle.std.specs.Str.{chars}
 use Rattle.std.proofs.lemmas.Str.{scalars-chars}

@@ -1,3 +1,4 @@
+-- For `within::entries_within`: `found_of` may be called.
 use Rattle.asn1_outline.proofs.Listed.{document_entries}
 use Rattle.simple_asn1_c.proofs.within.entries_within.Goals as goal
 

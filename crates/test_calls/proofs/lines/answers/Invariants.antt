@@ -1,3 +1,4 @@
+-- For `lines::answers`: what grows less, so that it ends.
 use Rattle.std.proofs.Common.{length}
 use Rattle.test_calls.proofs.lines.answers.Given as goal
 

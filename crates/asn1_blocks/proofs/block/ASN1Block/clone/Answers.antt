@@ -1,3 +1,4 @@
+-- For `block::ASN1Block::clone`: what it returns is right.
 use Rattle.asn1_blocks.proofs.block.ASN1Block.clone.Goals as goal
 
 pub returns : goal.returns

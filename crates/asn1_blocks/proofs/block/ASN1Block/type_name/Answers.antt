@@ -1,3 +1,4 @@
+-- For `block::ASN1Block::type_name`: what it returns is right.
 use Rattle.std.proofs.Common.{arith}
 use Rattle.asn1_blocks.specs.BlockParts.{tree_tag}
 use Rattle.asn1_blocks.specs.View.{tree_class, view}

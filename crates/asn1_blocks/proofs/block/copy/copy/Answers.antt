@@ -1,3 +1,4 @@
+-- For `block::copy::copy`: its loop keeps its invariant and `take_back` and `copy_over` may be called.
 use Rattle.std.proofs.Common.{◌≡◌, ℕ, ◌-◌, ◌≤◌, ◌<◌, List, length, map, reverse, get_or, sym, ap, ◌∙◌, arith, Bor}
 use Rattle.std.proofs.lemmas.List.{get_or-map, length-map}
 use Rattle.asn1_blocks.specs.declared.block.ASN1Block.{ASN1Block}

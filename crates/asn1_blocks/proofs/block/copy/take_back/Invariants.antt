@@ -1,3 +1,4 @@
+-- For `block::copy::take_back`: what each turn of its loop keeps.
 use Rattle.std.proofs.Common.{◌≡◌, ◌++◌, length, reverse}
 use Rattle.asn1_blocks.proofs.block.copy.take_back.Given as goal
 

@@ -1,3 +1,4 @@
+-- For `block::discard::discard`: its loop ends.
 use Rattle.std.proofs.Common.{ap, ◌∙◌, arith}
 use Rattle.asn1_blocks.specs.HeadersBegun.{all_blocks_in}
 use Rattle.asn1_blocks.specs.View.{views}

@@ -1,3 +1,4 @@
+-- For `block::discard::discard`: what grows less, so that it ends.
 use Rattle.asn1_blocks.specs.HeadersBegun.{all_blocks_in}
 use Rattle.asn1_blocks.specs.View.{views}
 use Rattle.asn1_blocks.proofs.block.discard.discard.Given as goal

@@ -1,3 +1,4 @@
+-- For `block::discard::discard_one`: what grows less, so that it ends.
 use Rattle.asn1_blocks.specs.HeadersBegun.{blocks_in}
 use Rattle.asn1_blocks.specs.View.{view}
 use Rattle.asn1_blocks.proofs.block.discard.discard_one.Given as goal

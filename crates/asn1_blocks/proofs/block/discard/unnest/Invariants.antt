@@ -1,3 +1,4 @@
+-- For `block::discard::unnest`: what each turn of its loop keeps and what grows less, so that it ends.
 use Rattle.std.proofs.Common.{◌+◌, ◌≤◌}
 use Rattle.asn1_blocks.specs.HeadersBegun.{all_blocks_in, blocks_in}
 use Rattle.asn1_blocks.specs.View.{view, views}

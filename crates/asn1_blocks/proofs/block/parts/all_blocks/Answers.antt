@@ -1,3 +1,4 @@
+-- For `block::parts::all_blocks`: what it returns is right.
 use Rattle.std.proofs.Common.{◌≡◌, map, sym, ◌∙◌, Bor}
 use Rattle.std.proofs.lemmas.Result.{IfOk-weaker}
 use Rattle.std.proofs.lemmas.Simd.{map-map}

@@ -1,3 +1,5 @@
+-- For the cycle `same` of `block::same`: its loop keeps its invariant, what it returns is right, `same_each` and
+-- `same_all` may be called, and its loop ends.
 use Rattle.std.proofs.Common.{◌≡◌, ◌↔◌, List, ◌∷◌, [], ◌++◌, ◌<◌, ◌+◌, arith, length, take, refl, sym, ap, ◌∙◌}
 use Rattle.std.proofs.lemmas.Bool.{false≢true}
 use Rattle.std.proofs.lemmas.Grind.{common_steps}

@@ -1,3 +1,4 @@
+-- For the cycle `same` of `block::same`: what each turn of its loop keeps and what grows less, so that it ends.
 use Rattle.std.proofs.Common.{◌↔◌, ◌+◌, ◌*◌, ◌≤◌, take}
 use Rattle.asn1_blocks.specs.HeadersBegun.{all_blocks_in}
 use Rattle.asn1_blocks.specs.View.{views}

@@ -1,3 +1,4 @@
+-- For `document::Document::from_der`: what it returns is right (`document`, `accepts`).
 use Rattle.std.proofs.Common.{rules}
 use Rattle.asn1_blocks.proofs.document.Document.from_der.Goals as goal
 

@@ -1,3 +1,4 @@
+-- For `document::Document::from_der_located`: what it returns is right (`fault`, `refuses`).
 use Rattle.std.proofs.Common.{rules, arith}
 use Rattle.std.proofs.lemmas.Grind.{common_steps}
 use Rattle.asn1_blocks.proofs.document.Document.from_der_located.Goals as goal

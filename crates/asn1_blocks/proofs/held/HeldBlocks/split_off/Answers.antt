@@ -1,3 +1,4 @@
+-- For `held::HeldBlocks::split_off`: what it returns is right (`kept`, `parted`).
 use Rattle.std.proofs.Common.{arith}
 use Rattle.std.proofs.lemmas.Grind.{common_steps}
 use Rattle.asn1_blocks.proofs.held.HeldBlocks.split_off.Goals as goal

@@ -1,3 +1,4 @@
+-- For `held::HeldBlocks::take_all`: what it returns is right (`all`, `none_left`).
 use Rattle.std.proofs.Common.{arith}
 use Rattle.std.proofs.lemmas.Grind.{common_steps}
 use Rattle.asn1_blocks.proofs.held.HeldBlocks.take_all.Goals as goal

@@ -1,3 +1,4 @@
+-- For `read::TreeBuilderBuilder::keep`: what it returns is right.
 use Rattle.asn1_blocks.specs.Inner.ReaderSteps.{in_frame}
 use Rattle.asn1_blocks.proofs.TreeBuilding.Ending.{if_ok, kept_after}
 use Rattle.asn1_blocks.proofs.read.TreeBuilderBuilder.keep.Goals as goal

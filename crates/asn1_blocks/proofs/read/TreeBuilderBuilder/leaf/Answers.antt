@@ -1,3 +1,4 @@
+-- For `read::TreeBuilderBuilder::leaf`: what it returns is right (`refused`).
 use Rattle.std.proofs.Common.{◌-◌, inl, inr, refl}
 use Rattle.std.proofs.lemmas.Result.{err_from_is_err_and}
 use Rattle.std.specs.List.{slice_range}

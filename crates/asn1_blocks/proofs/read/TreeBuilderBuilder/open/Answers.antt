@@ -1,3 +1,4 @@
+-- For `read::TreeBuilderBuilder::open`: what it returns is right.
 use Rattle.std.proofs.Common.{◌≡◌, length, refl, ap, arith}
 use Rattle.std.proofs.lemmas.Grind.{common_steps}
 use Rattle.asn1_blocks.specs.declared.read.TreeBuilder.{TreeBuilder}

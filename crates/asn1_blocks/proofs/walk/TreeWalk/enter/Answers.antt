@@ -1,3 +1,4 @@
+-- For `walk::TreeWalk::enter`: what it returns is right.
 use Rattle.std.proofs.Common.{◌≡◌, ◌++◌, ◌∷◌, [], map, sym, ap, arith}
 use Rattle.std.proofs.lemmas.Grind.{common_steps}
 use Rattle.asn1_blocks.specs.Inner.TreeOrder.{stacked}

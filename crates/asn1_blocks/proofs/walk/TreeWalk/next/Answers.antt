@@ -1,3 +1,4 @@
+-- For `walk::TreeWalk::next`: its loop keeps its invariant.
 use Rattle.std.proofs.Common.{◌≡◌, ◌++◌, ◌∷◌, [], map, sym, ap, ◌∙◌, arith}
 use Rattle.std.proofs.lemmas.Grind.{common_steps}
 use Rattle.asn1_blocks.specs.Inner.TreeOrder.{stacked}

@@ -1,3 +1,4 @@
+-- For `walk::TreeWalk::next`: what each turn of its loop keeps and what grows less, so that it ends.
 use Rattle.std.proofs.Common.{◌≡◌, length}
 use Rattle.asn1_blocks.specs.Inner.TreeOrder.{ahead}
 use Rattle.asn1_blocks.proofs.walk.TreeWalk.next.Given as goal

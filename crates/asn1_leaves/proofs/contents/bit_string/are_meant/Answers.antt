@@ -1,3 +1,4 @@
+-- For `contents::bit_string::are_meant`: what it returns is right.
 use Rattle.std.proofs.Common.{◌≡◌, ◌-◌, ◌*◌, ◌<◌, ◌≤◌, ◌^◌, [], ◌∷◌, length, refl, subst, sym, arith}
 use Rattle.std.proofs.lemmas.Grind.{common_steps}
 use Rattle.asn1_leaves.specs.Contents.BitString.{BitStringContents}

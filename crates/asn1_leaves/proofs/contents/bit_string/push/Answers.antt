@@ -1,3 +1,4 @@
+-- For `contents::bit_string::push`: what it returns is right.
 use Rattle.std.proofs.Common.{arith, ◌≡◌, ◌*◌, ◌-◌, ◌∷◌, [], length, sym, subst}
 use Rattle.std.proofs.lemmas.Grind.{common_steps}
 use Rattle.asn1_leaves.specs.Contents.BitString.{bit_string_contents}

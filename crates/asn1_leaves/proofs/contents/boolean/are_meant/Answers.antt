@@ -1,3 +1,4 @@
+-- For `contents::boolean::are_meant`: what it returns is right.
 use Rattle.std.proofs.Common.{◌≡◌, length, inl, inr, arith}
 use Rattle.asn1_leaves.proofs.Leaves.Boolean.{boolean_meaning}
 use Rattle.asn1_leaves.proofs.contents.boolean.are_meant.Goals as goal

@@ -1,3 +1,4 @@
+-- For `contents::generalized_time::fault`: what it returns is right.
 use Rattle.std.proofs.Common.{◌≡◌, true, false, arith, ap, ◌∙◌}
 use Rattle.std.specs.Char.{is_ascii}
 use Rattle.std.specs.List.{list_all}

@@ -1,3 +1,4 @@
+-- For `contents::generalized_time::fraction`: what it returns is right (`none`).
 use Rattle.std.proofs.Common.{◌≡◌, ◌++◌, [], ◌∷◌, arith, sym, ap, ◌∙◌}
 use Rattle.std.specs.Char.{is_ascii_digit}
 use Rattle.std.specs.List.{list_all}

@@ -1,3 +1,5 @@
+-- For `contents::generalized_time::fraction_octets`: its loop keeps its invariant and what it returns is right
+-- (`count`).
 use Rattle.std.proofs.Common.{◌≡◌, ◌+◌, ◌-◌, ◌/◌, ◌%◌, ◌++◌, ◌<◌, [], ◌∷◌, length, take, arith, sym, ap, ◌∙◌, append_assoc, add-one}
 use Rattle.std.specs.Prelude.{slice_set}
 use Rattle.std.proofs.Math.Seq.{take-suc-set}

@@ -1,3 +1,4 @@
+-- For `contents::generalized_time::fraction_octets`: what each turn of its loop keeps.
 use Rattle.std.proofs.Common.{◌≡◌, ◌-◌, ◌*◌, ◌^◌, ◌++◌, ◌<◌, length, take}
 use Rattle.asn1_leaves.specs.Contents.GeneralizedTime.{fraction_digits, tenth}
 use Rattle.asn1_leaves.proofs.contents.generalized_time.fraction_octets.Given as goal

@@ -1,3 +1,4 @@
+-- For `contents::generalized_time::longer_form`: `unreachable` may be called and what cannot happen does not.
 use Rattle.std.proofs.Common.{arith}
 use Rattle.std.proofs.lemmas.Grind.{common_steps}
 use Rattle.asn1_leaves.proofs.Leaves.GeneralizedTime.{longer_form_utf8}

@@ -1,3 +1,4 @@
+-- For `contents::generalized_time::moment`: what it returns is right (`found`, `none`).
 use Rattle.std.proofs.Common.{◌≡◌, ◌++◌, take, drop, sym, ap, subst, ◌∙◌}
 use Rattle.std.proofs.lemmas.List.{take-append-drop}
 use Rattle.std.proofs.lemmas.Option.{IfSome_then}

@@ -1,3 +1,4 @@
+-- For `contents::generalized_time::nanoseconds`: what it returns is right (`digits`, `found`, `small`, `none`).
 use Rattle.std.proofs.Common.{arith}
 use Rattle.std.proofs.lemmas.Grind.{common_steps}
 use Rattle.asn1_leaves.proofs.contents.generalized_time.nanoseconds.Goals as goal

@@ -1,3 +1,4 @@
+-- For `contents::generalized_time::nanoseconds`: what each turn of its loop keeps.
 use Rattle.std.proofs.Common.{◌≡◌, ◌+◌, ◌*◌, ◌<◌, ◌≤◌, drop}
 use Rattle.std.specs.Char.{is_ascii_digit}
 use Rattle.std.specs.List.{list_all}

@@ -1,3 +1,4 @@
+-- For `contents::generalized_time::push`: what it returns is right.
 use Rattle.std.proofs.Common.{◌++◌, [], ◌∷◌, ap, subst}
 use Rattle.asn1_leaves.specs.Contents.Moment.{moment_of}
 use Rattle.asn1_leaves.specs.Contents.GeneralizedTime.{to_second, written_fraction}

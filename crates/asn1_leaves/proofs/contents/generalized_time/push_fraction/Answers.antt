@@ -1,3 +1,4 @@
+-- For `contents::generalized_time::push_fraction`: what it returns is right.
 use Rattle.std.proofs.Common.{◌≡◌, ◌∷◌, [], arith, sym, subst}
 use Rattle.std.proofs.lemmas.Grind.{common_steps}
 use Rattle.asn1_leaves.specs.Contents.GeneralizedTime.{fraction_digits, tenth, written_fraction}

@@ -1,3 +1,4 @@
+-- For `contents::integer::are_canonical`: what it returns is right.
 use Rattle.std.proofs.Common.{◌≢◌, ◌+◌, ◌<◌, get_or, length, sym, ap, ◌∙◌, arith}
 use Rattle.std.proofs.lemmas.Bool.Decides.{nat_tests}
 use Rattle.asn1_numbers.specs.TwosComplement.{shortest_octets}

@@ -1,3 +1,4 @@
+-- For `contents::object_identifier::are_meant`: what it returns is right (`meant`, `others`).
 use Rattle.std.proofs.Common.{◌≡◌, ◌-◌, ◌∷◌, ◌<◌, ◌≤◌, length, get_or, subst, sym, arith}
 use Rattle.std.proofs.lemmas.Grind.{common_steps}
 use Rattle.asn1_leaves.specs.Contents.ObjectIdentifier.{ObjectIdentifierContents}

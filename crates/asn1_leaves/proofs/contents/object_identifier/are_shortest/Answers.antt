@@ -1,3 +1,4 @@
+-- For `contents::object_identifier::are_shortest`: what it returns is right (`meant`, `shortest`).
 use Rattle.std.proofs.Common.{◌≡◌, ◌∷◌, ◌<◌, ◌∙◌, drop, length-drop, arith, subst, sym}
 use Rattle.std.proofs.lemmas.Grind.{common_steps}
 use Rattle.std.proofs.lemmas.List.Elements.{All-from_get_or}

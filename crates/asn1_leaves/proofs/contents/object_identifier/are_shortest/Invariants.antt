@@ -1,3 +1,4 @@
+-- For `contents::object_identifier::are_shortest`: what each turn of its loop keeps.
 use Rattle.std.proofs.Common.{drop, true}
 use Rattle.asn1_leaves.proofs.ShortSubidentifiers.{NoneLeads}
 use Rattle.asn1_leaves.proofs.contents.object_identifier.are_shortest.Given as goal

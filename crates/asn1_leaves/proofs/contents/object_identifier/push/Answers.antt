@@ -1,3 +1,4 @@
+-- For `contents::object_identifier::push`: what it returns is right.
 use Rattle.std.proofs.Common.{◌∷◌, [], ap, sym, subst, ◌∙◌}
 use Rattle.std.specs.List.{flat_map}
 use Rattle.asn1_numbers.specs.Base128.{shortest_base128}

@@ -1,3 +1,4 @@
+-- For `contents::object_identifier::push_shortest`: `push_base128` may be called.
 use Rattle.std.proofs.Common.{arith, ℕ, length, take, ap}
 use Rattle.std.specs.List.{flat_map}
 use Rattle.std.proofs.lemmas.List.Folds.{length-flat_map-take}

@@ -1,3 +1,4 @@
+-- For `contents::object_identifier::push_shortest`: what each turn of its loop keeps.
 use Rattle.std.proofs.Common.{take}
 use Rattle.std.specs.List.{flat_map}
 use Rattle.asn1_numbers.specs.Base128.{shortest_base128}

@@ -1,3 +1,5 @@
+-- For `contents::object_identifier::push_subidentifiers`: its loop keeps its invariant, what it returns is right
+-- (`refused`), and no index is out of bounds.
 use Rattle.std.proofs.Common.{arith, ◌≡◌, ◌++◌, ◌+◌, ◌-◌, [], ◌∷◌, inl, inr, take, drop, ap, sym, subst, ◌∙◌, append_assoc, length-drop}
 use Rattle.std.specs.List.{slice_range}
 use Rattle.std.proofs.Math.Seq.{take-add}

@@ -1,3 +1,5 @@
+-- For `contents::object_identifier::push_subidentifiers`: what each turn of its loop keeps and what grows less, so that
+-- it ends.
 use Rattle.std.proofs.Common.{◌≡◌, ◌++◌, ◌≤◌, ◌-◌, List, ℕ, take, drop, length}
 use Rattle.asn1_leaves.specs.Contents.ObjectIdentifier.{Subidentifiers}
 use Rattle.asn1_leaves.proofs.contents.object_identifier.push_subidentifiers.Given as goal

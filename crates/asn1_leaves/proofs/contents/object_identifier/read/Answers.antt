@@ -1,3 +1,4 @@
+-- For `contents::object_identifier::read`: what it returns is right (`found`, `refused`).
 use Rattle.std.proofs.Common.{arith}
 use Rattle.std.proofs.lemmas.Grind.{common_steps}
 use Rattle.asn1_leaves.proofs.contents.object_identifier.read.Goals as goal

@@ -1,3 +1,4 @@
+-- For `contents::object_identifier::subidentifiers_size`: what it returns is right.
 use Rattle.std.proofs.Common.{arith, ℕ, ◌+◌, length, ap, ◌∙◌}
 use Rattle.std.specs.List.{flat_map}
 use Rattle.std.proofs.lemmas.Grind.{common_steps}

@@ -1,3 +1,4 @@
+-- For `contents::object_identifier::subidentifiers_size`: what each turn of its loop keeps.
 use Rattle.std.proofs.Common.{◌≡◌, ◌+◌, ◌<◌, ◌^◌, length, take}
 use Rattle.std.specs.List.{flat_map}
 use Rattle.asn1_numbers.specs.Base128.{shortest_base128}

@@ -1,3 +1,4 @@
+-- For `contents::text::are_meant`: what it returns is right.
 use Rattle.std.proofs.Common.{◌≡◌, true, refl, subst, sym, arith}
 use Rattle.std.specs.Prelude.{IsUtf8}
 use Rattle.std.specs.List.{list_all}

@@ -1,3 +1,4 @@
+-- For `contents::text::are_printable`: what each turn of its loop keeps.
 use Rattle.std.proofs.Common.{◌≡◌, take}
 use Rattle.std.specs.List.{list_all}
 use Rattle.asn1_leaves.specs.Contents.Text.{is_printable}

@@ -1,3 +1,5 @@
+-- For `contents::text::character_count`: its loop keeps its invariant and what it returns is right (`size`, `writable`,
+-- `refused`).
 use Rattle.std.proofs.Common.{◌≡◌, ◌+◌, length, drop, sym, ap, ◌∙◌, arith}
 use Rattle.std.specs.Str.{chars}
 use Rattle.std.proofs.lemmas.Grind.{common_steps}

@@ -1,3 +1,4 @@
+-- For `contents::text::character_count`: what each turn of its loop keeps.
 use Rattle.std.proofs.Common.{◌≡◌, length, drop}
 use Rattle.std.specs.Str.{chars}
 use Rattle.asn1_leaves.specs.Contents.Text.{octet_write_fault}

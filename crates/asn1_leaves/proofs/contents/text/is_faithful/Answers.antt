@@ -1,3 +1,4 @@
+-- For `contents::text::is_faithful`: what it returns is right.
 use Rattle.std.proofs.Common.{◌↔◌, true, refl, sym, subst, arith}
 use Rattle.std.specs.Prelude.{IsTrue}
 use Rattle.std.specs.Str.{chars}

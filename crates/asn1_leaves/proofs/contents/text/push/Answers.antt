@@ -1,3 +1,4 @@
+-- For `contents::text::push`: what it returns is right and `push_octets` may be called.
 use Rattle.std.proofs.Common.{arith, ap, length}
 use Rattle.std.proofs.lemmas.Grind.{common_steps}
 use Rattle.std.proofs.lemmas.Str.{encodes-chars}

@@ -1,3 +1,5 @@
+-- For `contents::text::push_characters`: its loop keeps its invariant, what it returns is right, `push_octets` and
+-- `push_octet` may be called, and no sum or product is too large.
 use Rattle.std.proofs.Common.{◌≡◌, ◌+◌, ◌++◌, [], ◌∷◌, length, take, drop, sym, ap, ◌∙◌, subst, arith}
 use Rattle.std.specs.Str.{chars}
 use Rattle.std.proofs.lemmas.Grind.{common_steps}

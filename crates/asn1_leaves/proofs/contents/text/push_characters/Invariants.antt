@@ -1,3 +1,4 @@
+-- For `contents::text::push_characters`: what each turn of its loop keeps.
 use Rattle.std.proofs.Common.{◌≡◌, length, take, drop, None}
 use Rattle.std.specs.Str.{chars}
 use Rattle.asn1_leaves.specs.Contents.Text.{octet_write_fault}

@@ -1,3 +1,4 @@
+-- For `contents::text::read_ascii`: what it returns is right and `text` may be called.
 use Rattle.std.proofs.Common.{arith}
 use Rattle.std.proofs.lemmas.Grind.{common_steps}
 use Rattle.std.proofs.lemmas.Str.{chars-IsAscii, IsUtf8-from_ascii}

@@ -1,3 +1,4 @@
+-- For `contents::text::read_octets`: its loop keeps its invariant and what it returns is right.
 use Rattle.std.proofs.Common.{◌≡◌, ◌+◌, ◌++◌, ◌<◌, [], ◌∷◌, get_or, take, ap, ◌∙◌, append-nil, arith}
 use Rattle.std.specs.Prelude.{encode_utf8, encode_utf8_all}
 use Rattle.std.specs.Str.{chars}

@@ -1,3 +1,4 @@
+-- For `contents::text::read_octets`: what each turn of its loop keeps.
 use Rattle.std.proofs.Common.{◌≡◌, take, string_bytes}
 use Rattle.std.specs.Prelude.{encode_utf8_all}
 use Rattle.asn1_leaves.proofs.contents.text.read_octets.Given as goal

@@ -1,3 +1,4 @@
+-- For `contents::text::read_utf8`: what it returns is right (`found`).
 use Rattle.std.proofs.Common.{◌≡◌, ap, ◌∙◌, string_bytes, arith}
 use Rattle.std.specs.Prelude.{encode_utf8_all}
 use Rattle.std.specs.Str.{all_scalars, chars}

@@ -1,3 +1,4 @@
+-- For `contents::text::size`: what it returns is right (`size`).
 use Rattle.std.proofs.Common.{arith, ap, length}
 use Rattle.std.proofs.lemmas.Grind.{common_steps}
 use Rattle.std.proofs.lemmas.Str.{encodes-chars}

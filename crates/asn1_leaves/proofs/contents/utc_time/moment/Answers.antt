@@ -1,3 +1,4 @@
+-- For `contents::utc_time::moment`: what it returns is right (`found`, `none`).
 use Rattle.std.proofs.lemmas.Grind.{common_steps}
 use Rattle.std.proofs.Common.{arith}
 use Rattle.std.proofs.lemmas.Int.{ints}

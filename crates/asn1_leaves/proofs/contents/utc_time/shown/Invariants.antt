@@ -1,3 +1,4 @@
+-- For `contents::utc_time::shown`: what each turn of its loop keeps.
 use Rattle.std.proofs.Common.{◌≡◌, ◌++◌, take}
 use Rattle.std.specs.Prelude.{string_bytes, encode_utf8_all}
 use Rattle.asn1_leaves.proofs.contents.utc_time.shown.Given as goal

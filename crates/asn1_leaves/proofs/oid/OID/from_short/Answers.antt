@@ -1,3 +1,4 @@
+-- For `oid::OID::from_short`: what it returns is right and its result keeps the invariant of its type.
 use Rattle.std.proofs.Common.{arith, ◌≡◌, ◌<◌, sym, subst}
 use Rattle.std.proofs.lemmas.List.Elements.{All-from_get_or}
 use Rattle.asn1_numbers.specs.Octets.{AreOctets}

@@ -1,3 +1,4 @@
+-- For `oid::OID::from_text`: what it returns is right (`none`, `only`, `identifier`).
 use Rattle.std.proofs.Common.{arith}
 use Rattle.std.proofs.lemmas.Grind.{common_steps}
 use Rattle.std.proofs.Common.{lit<, subst, ap, ◌∙◌, length, ◌<◌, get_or}

@@ -1,3 +1,4 @@
+-- For `oid::OID::from_text`: what each turn of its loop keeps.
 use Rattle.std.proofs.Common.{◌≡◌, map}
 use Rattle.asn1_numbers.specs.Decimal.{natural_numeral}
 use Rattle.asn1_leaves.proofs.oid.OID.from_text.Given as goal

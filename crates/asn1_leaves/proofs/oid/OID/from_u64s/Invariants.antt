@@ -1,3 +1,4 @@
+-- For `oid::OID::from_u64s`: what each turn of its loop keeps.
 use Rattle.std.proofs.Common.{◌≡◌, take}
 use Rattle.asn1_leaves.proofs.oid.OID.from_u64s.Given as goal
 

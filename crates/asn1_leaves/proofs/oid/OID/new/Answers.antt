@@ -1,3 +1,4 @@
+-- For `oid::OID::new`: what it returns is right and its result keeps the invariant of its type.
 use Rattle.std.proofs.Common.{◌≡◌, ap, sym, subst, ◌∙◌}
 use Rattle.asn1_leaves.specs.Contents.ObjectIdentifier.{object_identifier_contents}
 use Rattle.asn1_leaves.specs.Inner.IdentifierForms.{HaveShortContents, IsShortForm, components_of}

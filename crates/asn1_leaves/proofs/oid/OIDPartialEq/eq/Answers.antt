@@ -1,3 +1,4 @@
+-- For `oid::OIDPartialEq::eq`: what it returns is right.
 use Rattle.std.proofs.Common.{◌≡◌, ◌==◌, ap, sym, subst, ◌∙◌}
 use Rattle.std.specs.Cmp.Lexicographic.{pointwise}
 use Rattle.asn1_leaves.specs.Inner.IdentifierForms.{HaveShortContents, IsKeptOnce, IsShortForm, components_of, kept_components}

@@ -1,3 +1,4 @@
+-- For `entry::Entry::ascii_text`: what it returns is right.
 use Rattle.std.proofs.Common.{◌≡◌, false, arith}
 use Rattle.std.proofs.lemmas.Grind.{common_steps}
 use Rattle.asn1_blocks.specs.UnknownValues.{is_ascii_tag}

@@ -1,3 +1,4 @@
+-- For `entry::Entry::bits`: what it returns is right.
 use Rattle.std.proofs.Common.{inl, inr, ap, refl}
 use Rattle.asn1_headers.specs.Fault.{fault_of}
 use Rattle.asn1_blocks.specs.BlockParts.{tree_bits}

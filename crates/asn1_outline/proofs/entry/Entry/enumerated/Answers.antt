@@ -1,3 +1,4 @@
+-- For `entry::Entry::enumerated`: what it returns is right.
 use Rattle.std.proofs.Common.{◌≡◌, arith}
 use Rattle.std.proofs.lemmas.Grind.{common_steps}
 use Rattle.asn1_outline.proofs.Values.{no_enumerated, not_enumerated}

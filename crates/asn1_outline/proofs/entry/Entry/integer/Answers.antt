@@ -1,3 +1,4 @@
+-- For `entry::Entry::integer`: what it returns is right.
 use Rattle.std.proofs.Common.{◌≡◌, Some, sym, ap, ◌∙◌, arith}
 use Rattle.std.proofs.lemmas.Grind.{common_steps}
 use Rattle.asn1_headers.specs.declared.header.ASN1Class.TheVariants.{Universal}

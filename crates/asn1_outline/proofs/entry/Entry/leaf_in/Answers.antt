@@ -1,3 +1,4 @@
+-- For `entry::Entry::leaf_in`: what it returns is right.
 use Rattle.std.proofs.Common.{◌≡◌, sym, subst, arith}
 use Rattle.std.proofs.lemmas.Grind.{common_steps}
 use Rattle.asn1_headers.specs.declared.header.ASN1Class.TheVariants.{Universal}

@@ -1,3 +1,4 @@
+-- For `entry::Entry::octets`: what it returns is right.
 use Rattle.asn1_outline.proofs.Values.{octets_found}
 use Rattle.asn1_outline.proofs.entry.Entry.octets.Goals as goal
 

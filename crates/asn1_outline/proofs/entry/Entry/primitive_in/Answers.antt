@@ -1,3 +1,4 @@
+-- For `entry::Entry::primitive_in`: what it returns is right.
 use Rattle.asn1_outline.proofs.Values.{primitive_found}
 use Rattle.asn1_outline.proofs.entry.Entry.primitive_in.Goals as goal
 

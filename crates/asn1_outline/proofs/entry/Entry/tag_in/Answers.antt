@@ -1,3 +1,4 @@
+-- For `entry::Entry::tag_in`: what it returns is right.
 use Rattle.std.proofs.Common.{inl, inr}
 use Rattle.asn1_outline.proofs.Values.{tag_is, tag_stands}
 use Rattle.asn1_outline.proofs.entry.Entry.tag_in.Goals as goal

@@ -1,3 +1,4 @@
+-- For `entry::Entry::text`: what it returns is right.
 use Rattle.std.proofs.Common.{arith, inl, inr, string_bytes, subst}
 use Rattle.std.specs.Str.{chars}
 use Rattle.asn1_headers.specs.Fault.{fault_of}

@@ -1,3 +1,4 @@
+-- For `headers::Headers::contents`: what it returns is right (`found`, `none`).
 use Rattle.std.proofs.Common.{◌+◌, ◌<◌, length, ap, arith}
 use Rattle.asn1_outline.specs.Shapes.{contents_octets}
 use Rattle.asn1_outline.proofs.Lent.{looked_up}

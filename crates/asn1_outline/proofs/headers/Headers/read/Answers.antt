@@ -1,3 +1,5 @@
+-- For `headers::Headers::read`: what it returns is right (`accepts`, `refuses`) and its result keeps the invariant of
+-- its type.
 use Rattle.std.proofs.Common.{◌<◌, ◌^◌, length, inl, inr, ◌∙◌, ap, arith}
 use Rattle.std.proofs.lemmas.Grind.{merely}
 use Rattle.asn1_outline.specs.Shapes.{entries_of}

@@ -1,3 +1,4 @@
+-- For `iter::EntriesIterator::next`: what it returns is right (`steps`, `goes`).
 use Rattle.std.proofs.Common.{◌≡◌, ◌+◌, ◌-◌, ◌∷◌, min, length, sym, ap, ◌∙◌, rules, arith}
 use Rattle.std.proofs.lemmas.List.{take_rest}
 use Rattle.asn1_outline.specs.Iterated.{still_to_come}

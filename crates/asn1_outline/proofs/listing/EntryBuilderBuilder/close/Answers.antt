@@ -1,3 +1,4 @@
+-- For `listing::EntryBuilderBuilder::close`: what it returns is right and `seal` may be called.
 use Rattle.std.proofs.Common.{subst, sym}
 use Rattle.asn1_blocks.specs.Inner.ReaderSteps.{HasEndedIn, in_frame}
 use Rattle.asn1_outline.specs.Listing.{builder_holds}

@@ -1,3 +1,4 @@
+-- For `listing::EntryBuilderBuilder::keep`: what it returns is right.
 use Rattle.std.proofs.Common.{subst, sym}
 use Rattle.asn1_blocks.specs.Inner.ReaderSteps.{HasKept, in_frame}
 use Rattle.asn1_outline.specs.Listing.{builder_holds}

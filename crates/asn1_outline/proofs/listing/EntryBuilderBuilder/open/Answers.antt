@@ -1,3 +1,4 @@
+-- For `listing::EntryBuilderBuilder::open`: what it returns is right.
 use Rattle.std.proofs.Common.{◌≡◌, length, refl, arith}
 use Rattle.std.proofs.lemmas.Grind.{common_steps}
 use Rattle.asn1_outline.proofs.Listed.{opened}

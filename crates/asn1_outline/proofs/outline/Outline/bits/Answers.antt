@@ -1,3 +1,4 @@
+-- For `outline::Outline::bits`: what it returns is right.
 use Rattle.std.proofs.Common.{◌≡◌, ℕ, List, Option, Some, None, ap}
 use Rattle.std.proofs.Props.{props}
 use Rattle.std.specs.Prelude.{MatchOption}

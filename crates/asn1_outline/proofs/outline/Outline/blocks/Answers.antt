@@ -1,3 +1,4 @@
+-- For `outline::Outline::blocks`: what it returns is right (`entries`, `trees`).
 use Rattle.std.proofs.Common.{◌≡◌, ℕ, [], map, sym, ap, subst, ◌∙◌, append-nil}
 use Rattle.std.specs.Prelude.{All}
 use Rattle.asn1_blocks.specs.Tree.{trees_of}

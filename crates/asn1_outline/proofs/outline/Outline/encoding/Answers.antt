@@ -1,3 +1,4 @@
+-- For `outline::Outline::encoding`: what it returns is right (`found`, `none`).
 use Rattle.std.proofs.Common.{◌≡◌, ℕ, Bor, List, Option, Some, None, length, ap, sym, subst, arith}
 use Rattle.std.proofs.Props.{props}
 use Rattle.std.specs.Prelude.{IfNone, IfSome, IsSomeAnd}

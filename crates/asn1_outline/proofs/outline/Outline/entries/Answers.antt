@@ -1,3 +1,4 @@
+-- For `outline::Outline::entries`: what it returns is right (`not_empty`).
 use Rattle.std.proofs.Common.{◌<◌, length, sym, subst}
 use Rattle.asn1_outline.proofs.Lent.{some_entries}
 use Rattle.asn1_outline.proofs.outline.Outline.entries.Goals as goal

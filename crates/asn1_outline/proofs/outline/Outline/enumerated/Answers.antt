@@ -1,3 +1,4 @@
+-- For `outline::Outline::enumerated`: what it returns is right.
 use Rattle.std.proofs.Common.{◌≡◌, ℤ, Option, Some, None, ap}
 use Rattle.std.proofs.Props.{props}
 use Rattle.std.specs.Prelude.{MatchOption}

@@ -1,3 +1,4 @@
+-- For `outline::Outline::from_der`: what it returns is right (`refuses`, `fault`, `accepts`).
 use Rattle.std.proofs.Common.{◌<◌, ◌^◌, length, arith, inl, inr}
 use Rattle.asn1_headers.specs.Fault.{fault_of}
 use Rattle.asn1_blocks.proofs.FaultsAlone.{first_fault_alone}

@@ -1,3 +1,5 @@
+-- For `outline::Outline::from_der_counted`: what it returns is right (`accepts`, `refuses`, `counted`, `grown`,
+-- `bounded`) and its result keeps the invariant of its type.
 use Rattle.std.proofs.Common.{◌<◌, ◌^◌, Err, length, arith}
 use Rattle.asn1_blocks.proofs.Readings.{document_accepted_here, fault_refused_here}
 use Rattle.asn1_outline.proofs.Answered.{none_refused, only_entries}

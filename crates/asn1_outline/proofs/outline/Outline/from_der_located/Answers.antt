@@ -1,3 +1,4 @@
+-- For `outline::Outline::from_der_located`: what it returns is right.
 use Rattle.asn1_outline.proofs.outline.Outline.from_der_located.Goals as goal
 
 pub returns : goal.returns

@@ -1,3 +1,4 @@
+-- For `outline::Outline::is_explicit`: what it returns is right.
 use Rattle.std.proofs.Common.{◌≡◌, ◌<◌, length, sym, ap, subst}
 use Rattle.std.proofs.Props.{props}
 use Rattle.asn1_outline.specs.Structure.{is_explicit, node_at, tree_at}

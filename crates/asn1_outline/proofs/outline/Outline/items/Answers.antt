@@ -1,3 +1,4 @@
+-- For `outline::Outline::items`: what it returns is right (`trees`, `entries`) and no index is out of bounds.
 use Rattle.std.proofs.Common.{◌≡◌, ◌+◌, ◌-◌, ◌≤◌, ℕ, drop, get_or, length, map, take, sym, ap, subst, ◌∙◌, arith}
 use Rattle.std.specs.List.{slice_range}
 use Rattle.std.specs.Prelude.{All}

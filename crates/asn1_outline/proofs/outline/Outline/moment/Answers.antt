@@ -1,3 +1,4 @@
+-- For `outline::Outline::moment`: what it returns is right.
 use Rattle.std.proofs.Common.{◌≡◌, Option, Some, None, ap}
 use Rattle.std.proofs.Props.{props}
 use Rattle.std.specs.Prelude.{MatchOption}

@@ -1,3 +1,4 @@
+-- For `outline::Outline::tag`: what it returns is right (`found`, `none`).
 use Rattle.std.proofs.Common.{◌≡◌, ℕ, Option, Some, length, ap, arith}
 use Rattle.std.proofs.Props.{props}
 use Rattle.asn1_blocks.specs.BlockParts.{tree_tag}

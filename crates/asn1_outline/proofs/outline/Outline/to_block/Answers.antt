@@ -1,3 +1,4 @@
+-- For `outline::Outline::to_block`: its loop keeps its invariant and what it returns is right (`found`).
 use Rattle.std.proofs.Common.{◌≡◌, ◌+◌, ◌-◌, ◌<◌, drop, get_or, length, sym, ap, subst, ◌∙◌, arith}
 use Rattle.std.proofs.lemmas.List.{drop_all, get_or_default}
 use Rattle.asn1_outline.specs.Building.{IsNext, built_trees, roots}

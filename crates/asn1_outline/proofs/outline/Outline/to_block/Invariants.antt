@@ -1,3 +1,4 @@
+-- For `outline::Outline::to_block`: what each turn of its loop keeps and what grows less, so that it ends.
 use Rattle.std.proofs.Common.{◌≡◌, ◌-◌, ◌≤◌, drop, get_or, length}
 use Rattle.asn1_outline.specs.Building.{built_trees, roots}
 use Rattle.asn1_outline.specs.Entries.{no_entry}

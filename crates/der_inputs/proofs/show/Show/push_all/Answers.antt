@@ -1,3 +1,4 @@
+-- For `show::Show::push_all`: its loop keeps its invariant.
 use Rattle.std.specs.Option.{option_map}
 use Rattle.der_inputs.proofs.Texts.{shown_more}
 use Rattle.der_inputs.specs.Inputs.{IsFindingText}

@@ -1,3 +1,4 @@
+-- For `show::Show::push_all`: what each turn of its loop keeps.
 use Rattle.std.proofs.Common.{◌≡◌, List, map, take}
 use Rattle.std.specs.Option.{option_map}
 use Rattle.der_lines.specs.Dump.{Adds}

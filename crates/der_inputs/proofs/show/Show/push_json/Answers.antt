@@ -1,3 +1,4 @@
+-- For `show::Show::push_json`: what it returns is right.
 use Rattle.std.proofs.Common.{◌≡◌, Some, arith, subst}
 use Rattle.std.proofs.lemmas.Grind.{common_steps}
 use Rattle.std.specs.Prelude.{IfOk}

@@ -1,3 +1,4 @@
+-- For `show::Show::push_name`: what it returns is right.
 use Rattle.std.proofs.lemmas.Result.{on_ok_weaker}
 use Rattle.der_inputs.proofs.Lower.{title_pushed}
 use Rattle.der_inputs.proofs.show.Show.push_name.Goals as goal

@@ -1,3 +1,4 @@
+-- For `show::Show::push_octets`: what it returns is right.
 use Rattle.der_inputs.proofs.show.Show.push_octets.Goals as goal
 
 pub returns-then-self : goal.returns-then-self

@@ -1,3 +1,4 @@
+-- For `show::Show::push_read`: what it returns is right.
 use Rattle.std.proofs.Common.{subst, sym}
 use Rattle.der_lines.specs.Dump.{Adds}
 use Rattle.der_inputs.specs.Json.{IsOctetsJson}

@@ -1,3 +1,4 @@
+-- For `object::Object::push_first`: what it returns is right.
 use Rattle.std.proofs.Common.{codes}
 use Rattle.der_json.proofs.Members.{nine_put, put_same}
 use Rattle.der_json.proofs.object.Object.push_first.Goals as goal

@@ -1,3 +1,4 @@
+-- For `cursor::Cursor::innermost`: what it returns is right (`some`).
 use Rattle.std.proofs.Common.{ap, false, reverse, sym, ◌∙◌, arith}
 use Rattle.der_lines.specs.Dump.{end_at}
 use Rattle.der_lines.proofs.Cursors.{innermost_is}

@@ -1,3 +1,4 @@
+-- For `cursor::Cursor::next`: its loop keeps its invariant.
 use Rattle.std.proofs.Common.{◌≡◌, ◌∙◌, length, refl, sym, arith}
 use Rattle.std.proofs.lemmas.Grind.{common_steps}
 use Rattle.std.proofs.lemmas.List.{nil_from_length}

@@ -1,3 +1,4 @@
+-- For `cursor::Cursor::next`: what each turn of its loop keeps and what grows less, so that it ends.
 use Rattle.std.proofs.Common.{◌≡◌, length}
 use Rattle.der_lines.specs.Steps.{HasLeft, ends_of}
 use Rattle.der_lines.proofs.cursor.Cursor.next.Given as goal

@@ -1,3 +1,4 @@
+-- For `marks::Breaches::told`: what it returns is right.
 use Rattle.std.proofs.Common.{◌++◌, ◌∙◌, ap, map}
 use Rattle.der_lines.specs.Marks.{rule_told, spare_if}
 use Rattle.der_lines.proofs.marks.Breaches.told.Goals as goal

@@ -1,3 +1,4 @@
+-- For `seek::Sought::begins_with_end`: what it returns is right.
 use Rattle.std.proofs.Common.{◌∙◌}
 use Rattle.der_lines.proofs.Seeking.{ends_none, ends_some}
 use Rattle.der_lines.proofs.seek.Sought.begins_with_end.Goals as goal

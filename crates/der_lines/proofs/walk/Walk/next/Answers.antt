@@ -1,3 +1,4 @@
+-- For `walk::Walk::next`: what it returns is right.
 use Rattle.std.proofs.Common.{◌∙◌, ◌<◌, ◌≤◌, ◌+◌, ap, arith, length, refl, subst, sym}
 use Rattle.der_lines.specs.Dump.{StandAt}
 use Rattle.der_lines.specs.Pieces.{IsHolding, IsKind, fault_offset, front_of}

@@ -1,3 +1,4 @@
+-- For `convert::point::point_of`: what it returns is right.
 use Rattle.std.proofs.Common.{arith}
 use Rattle.std.proofs.lemmas.Grind.{common_steps}
 use Rattle.simple_asn1.proofs.Points.{no_point}

@@ -1,3 +1,4 @@
+-- For `convert::signed::bit_string_of`: what it returns is right.
 use Rattle.std.proofs.Common.{◌≡◌, ◌≢◌, ℕ, List, Option, Some, None, MatchOption, Bor, sym, ap, ◌∙◌}
 use Rattle.asn1_blocks.specs.BlockParts.{leaf_bits, tree_bits}
 use Rattle.asn1_blocks.specs.Tree.{Leaf, Tree, leaf, bit_string}

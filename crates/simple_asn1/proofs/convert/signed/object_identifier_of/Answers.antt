@@ -1,3 +1,4 @@
+-- For `convert::signed::object_identifier_of`: what it returns is right.
 use Rattle.std.proofs.Common.{◌≡◌, ◌≢◌, ℕ, List, Option, Some, None, MatchOption, Bor, sym, ap, ◌∙◌}
 use Rattle.asn1_blocks.specs.BlockParts.{leaf_oid, tree_oid}
 use Rattle.asn1_blocks.specs.Tree.{Leaf, Tree, leaf, object_identifier}

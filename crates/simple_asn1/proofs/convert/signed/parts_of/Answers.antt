@@ -1,3 +1,4 @@
+-- For `convert::signed::parts_of`: what it returns is right.
 use Rattle.std.proofs.Common.{◌≡◌, ◌≢◌, ◌∙◌, length, arith}
 use Rattle.asn1_blocks.specs.View.{tree_offset, view}
 use Rattle.simple_asn1.proofs.SignedTriples.{no_triple, no_signature, parts_of_three}

@@ -1,3 +1,5 @@
+-- For `convert::signed::read_signed`: what it returns is right (`content`, `content_alone`, `shape`, `accepts`,
+-- `refuses`).
 use Rattle.std.proofs.Common.{◌<◌, ◌^◌, length, arith}
 use Rattle.std.proofs.lemmas.Grind.{common_steps}
 use Rattle.simple_asn1.proofs.SignedTriples.{accepted, another_refused, content_alone, kept_content, shape_is_another}

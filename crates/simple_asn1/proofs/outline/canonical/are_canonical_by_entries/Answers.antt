@@ -1,3 +1,4 @@
+-- For `outline::canonical::are_canonical_by_entries`: what it returns is right and `is_canonical` may be called.
 use Rattle.std.proofs.Common.{arith}
 use Rattle.simple_asn1.proofs.CanonicalEntries.{entries_canonical, header_of}
 use Rattle.simple_asn1.proofs.outline.canonical.are_canonical_by_entries.Goals as goal

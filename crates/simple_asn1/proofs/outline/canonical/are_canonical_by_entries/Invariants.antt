@@ -1,3 +1,4 @@
+-- For `outline::canonical::are_canonical_by_entries`: what each turn of its loop keeps.
 use Rattle.std.proofs.Common.{ℕ, ◌<◌, get_or}
 use Rattle.asn1_outline.specs.Entries.{no_entry}
 use Rattle.simple_asn1.specs.Inner.InEntries.{HasCanonicalAt}

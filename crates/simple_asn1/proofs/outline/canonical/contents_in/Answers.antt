@@ -1,3 +1,4 @@
+-- For `outline::canonical::contents_in`: no sum or product is too large and no index is out of bounds.
 use Rattle.std.proofs.Common.{arith}
 use Rattle.simple_asn1.proofs.CanonicalEntries.{entry_within}
 use Rattle.simple_asn1.proofs.outline.canonical.contents_in.Goals as goal

@@ -1,3 +1,4 @@
+-- For `outline::canonical::is_canonical`: what it returns is right.
 use Rattle.simple_asn1.proofs.CanonicalEntries.{other_at}
 use Rattle.simple_asn1.proofs.outline.canonical.is_canonical.Goals as goal
 

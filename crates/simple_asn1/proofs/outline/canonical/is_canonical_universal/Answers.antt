@@ -1,3 +1,4 @@
+-- For `outline::canonical::is_canonical_universal`: what it returns is right.
 use Rattle.simple_asn1.proofs.CanonicalEntries.{group_at, leaf_at}
 use Rattle.simple_asn1.proofs.outline.canonical.is_canonical_universal.Goals as goal
 

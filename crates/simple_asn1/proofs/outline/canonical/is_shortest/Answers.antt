@@ -1,3 +1,5 @@
+-- For `outline::canonical::is_shortest`: what it returns is right, no sum or product is too large, and no index is out
+-- of bounds.
 use Rattle.std.proofs.Common.{◌≡◌, ◌≢◌, ◌+◌, ◌-◌, ◌<◌, get_or, arith}
 use Rattle.std.specs.Prelude.{All}
 use Rattle.std.proofs.lemmas.Bool.{eqb-true}

@@ -1,3 +1,4 @@
+-- For `write::check::check_document`: what it returns is right (`accepts`, `refuses`).
 use Rattle.std.proofs.Common.{◌<◌, ◌^◌, length, arith}
 use Rattle.simple_asn1.proofs.Checked.{accepted_here, checked_document, refused_here}
 use Rattle.simple_asn1.proofs.write.check.check_document.Goals as goal

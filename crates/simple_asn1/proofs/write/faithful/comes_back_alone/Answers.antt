@@ -1,3 +1,4 @@
+-- For `write::faithful::comes_back_alone`: what it returns is right.
 use Rattle.std.proofs.Common.{◌≡◌, ◌↔◌, sym, ap, ◌∙◌, subst}
 use Rattle.std.specs.Prelude.{IfOk, IsTrue}
 use Rattle.asn1_blocks.specs.Faithful.{IsFaithful}

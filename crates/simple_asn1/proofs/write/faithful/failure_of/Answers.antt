@@ -1,3 +1,4 @@
+-- For `write::faithful::failure_of`: what it returns is right.
 use Rattle.std.proofs.Common.{sym, ◌∙◌}
 use Rattle.std.proofs.lemmas.Bool.{false≢true}
 use Rattle.asn1_blocks.specs.Inner.FaithfulWalk.{IsFaithfulAlone}

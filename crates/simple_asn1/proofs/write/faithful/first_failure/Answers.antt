@@ -1,3 +1,5 @@
+-- For `write::faithful::first_failure`: its loop keeps its invariant, what it returns is right, and no index is out of
+-- bounds.
 use Rattle.std.proofs.Common.{◌≡◌, ◌<◌, ◌≤◌, List, ap, arith, length, ◌∙◌}
 use Rattle.std.proofs.lemmas.Grind.{common_steps}
 use Rattle.asn1_blocks.specs.declared.block.ASN1Block.{ASN1Block}

@@ -1,3 +1,4 @@
+-- For `write::faithful::first_failure`: what each turn of its loop keeps.
 use Rattle.std.proofs.Common.{take}
 use Rattle.std.specs.Prelude.{All}
 use Rattle.asn1_blocks.specs.Inner.FaithfulWalk.{IsFaithfulAlone}

@@ -1,3 +1,4 @@
+-- For `write::faithful::to_der_faithful`: what it returns is right (`accepts`, `refuses`).
 use Rattle.std.proofs.Common.{inr}
 use Rattle.asn1_blocks.specs.Faithful.{IsFaithful}
 use Rattle.asn1_blocks.specs.View.{view}

@@ -1,3 +1,5 @@
+-- For `write::in_place::are_canonical_in_place`: its loop keeps its invariant and what it returns is right
+-- (`canonical`).
 use Rattle.std.proofs.Common.{◌≡◌, ◌++◌, ◌∷◌, [], ℕ, List, Bor, Some, sym, subst, arith}
 use Rattle.std.specs.Prelude.{All, IfSome}
 use Rattle.std.proofs.lemmas.Grind.{common_steps}

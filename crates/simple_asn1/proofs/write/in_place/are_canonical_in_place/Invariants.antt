@@ -1,3 +1,4 @@
+-- For `write::in_place::are_canonical_in_place`: what each turn of its loop keeps and what grows less, so that it ends.
 use Rattle.std.proofs.Common.{ℕ, ◌+◌, List, Bor, length}
 use Rattle.std.specs.Prelude.{All}
 use Rattle.std.specs.List.{sum_by}

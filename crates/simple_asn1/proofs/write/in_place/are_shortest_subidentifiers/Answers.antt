@@ -1,3 +1,4 @@
+-- For `write::in_place::are_shortest_subidentifiers`: what it returns is right (`meant`, `shortest`).
 use Rattle.std.proofs.Common.{◌≡◌, ◌≢◌, ℕ, ◌∷◌, ◌∙◌, ◌<◌, IsTrue, get_or, length, sym, subst, arith, true}
 use Rattle.std.proofs.lemmas.Grind.{common_steps}
 use Rattle.std.proofs.lemmas.List.Elements.{All-from_get_or}

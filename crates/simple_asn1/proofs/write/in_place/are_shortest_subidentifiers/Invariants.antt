@@ -1,3 +1,4 @@
+-- For `write::in_place::are_shortest_subidentifiers`: what each turn of its loop keeps.
 use Rattle.std.proofs.Common.{ℕ, ◌<◌, ◌≢◌, get_or}
 use Rattle.simple_asn1.proofs.write.in_place.are_shortest_subidentifiers.Given as goal
 

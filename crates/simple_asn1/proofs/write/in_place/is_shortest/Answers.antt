@@ -1,3 +1,4 @@
+-- For `write::in_place::is_shortest`: what it returns is right and no sum or product is too large.
 use Rattle.std.proofs.Common.{◌≡◌, ◌≢◌, ◌-◌, ◌<◌, get_or, arith}
 use Rattle.std.specs.Prelude.{All}
 use Rattle.std.proofs.lemmas.List.Elements.{All-from_get_or}

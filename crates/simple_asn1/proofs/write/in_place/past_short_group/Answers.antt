@@ -1,3 +1,4 @@
+-- For `write::in_place::past_short_group`: what it returns is right.
 use Rattle.std.proofs.Common.{◌≡◌, ◌∷◌, arith}
 use Rattle.std.proofs.lemmas.Grind.{common_steps}
 use Rattle.simple_asn1.proofs.InPlace.{short_group}

@@ -1,3 +1,4 @@
+-- For `write::in_place::past_shortest`: what it returns is right.
 use Rattle.std.proofs.Common.{◌≡◌, ◌++◌, length, arith}
 use Rattle.std.proofs.lemmas.Grind.{common_steps}
 use Rattle.simple_asn1.proofs.InPlace.{past_constructed, past_group, past_primitive, past_universal}

@@ -1,3 +1,5 @@
+-- For `write::measure::add_sizes`: its loop keeps its invariant, what it returns is right (`blocks`, `size`), and
+-- `take_sum` may be called.
 use Rattle.std.proofs.Common.{◌≡◌, ◌+◌, ◌-◌, ◌++◌, ◌∷◌, [], ◌≤◌, ◌<◌, length, take, drop, get_or, set, refl, sym, ap, subst, ◌∙◌, arith}
 use Rattle.std.proofs.lemmas.Grind.{common_steps}
 use Rattle.std.proofs.lemmas.List.{get_or-map, length-map, map-set}

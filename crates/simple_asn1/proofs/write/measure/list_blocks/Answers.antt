@@ -1,3 +1,5 @@
+-- For `write::measure::list_blocks`: its loop keeps its invariant, what it returns is right (`ordered`), and its loop
+-- ends.
 use Rattle.std.proofs.Common.{◌≡◌, ◌++◌, ◌∷◌, [], map, sym, ap, subst, ◌∙◌, arith}
 use Rattle.std.proofs.lemmas.Grind.{common_steps}
 use Rattle.std.proofs.lemmas.List.{map_push}

@@ -1,3 +1,4 @@
+-- For `write::measure::list_blocks`: what each turn of its loop keeps and what grows less, so that it ends.
 use Rattle.std.proofs.Common.{◌≡◌, map}
 use Rattle.simple_asn1.specs.Canonical.{first_write_fault}
 use Rattle.asn1_blocks.specs.HeadersBegun.{all_blocks_in}

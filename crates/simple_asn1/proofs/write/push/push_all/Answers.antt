@@ -1,3 +1,4 @@
+-- For `write::push::push_all`: its loop keeps its invariant and `push_block` may be called.
 use Rattle.std.proofs.Common.{take, subst, sym, arith}
 use Rattle.asn1_blocks.specs.View.{view}
 use Rattle.simple_asn1.specs.Inner.WriteWalk.{all_own_octets, measured_blocks, own_octets}

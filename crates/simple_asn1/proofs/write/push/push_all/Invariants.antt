@@ -1,3 +1,4 @@
+-- For `write::push::push_all`: what each turn of its loop keeps and what grows less, so that it ends.
 use Rattle.std.proofs.Common.{take}
 use Rattle.simple_asn1.specs.Inner.WriteWalk.{all_own_octets, measured_blocks}
 use Rattle.simple_asn1.proofs.write.push.push_all.Given as goal

@@ -1,3 +1,4 @@
+-- For `write::strict::are_canonical`: what it returns is right (`are`) and `push_all` may be called.
 use Rattle.std.proofs.Common.{◌≡◌, ◌∙◌, length, ap, refl, sym, true, arith}
 use Rattle.simple_asn1.specs.Canonical.{all_canonical}
 use Rattle.asn1_numbers.specs.declared.sink.Comparison.{Comparison}

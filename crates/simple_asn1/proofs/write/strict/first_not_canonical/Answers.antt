@@ -1,3 +1,5 @@
+-- For `write::strict::first_not_canonical`: its loop keeps its invariant, what it returns is right (`found`),
+-- `are_canonical` may be called, and no index is out of bounds.
 use Rattle.std.proofs.Common.{◌≡◌, ◌≢◌, None, append-nil, ◌<◌, ◌≤◌, ◌+◌, ◌++◌, drop, length, sym, ap, ◌∙◌, subst, arith}
 use Rattle.std.specs.List.{slice_range}
 use Rattle.std.proofs.lemmas.Bool.{false≢true}

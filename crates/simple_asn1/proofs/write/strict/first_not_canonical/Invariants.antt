@@ -1,3 +1,4 @@
+-- For `write::strict::first_not_canonical`: what each turn of its loop keeps.
 use Rattle.std.proofs.Common.{◌≡◌, ◌≤◌, ℕ, None, drop, length}
 use Rattle.simple_asn1.specs.Canonical.{all_canonical, first_write_fault}
 use Rattle.asn1_blocks.specs.Grammar.{EncodesAll}

@@ -1,3 +1,4 @@
+-- For `write::strict::from_der_strict`: what it returns is right (`accepts`, `refuses`, `not_canonical`, `equal`).
 use Rattle.std.proofs.Common.{arith, inl, inr, refl}
 use Rattle.asn1_headers.specs.Fault.{not_canonical}
 use Rattle.simple_asn1.proofs.Strict.{strict_accepted, strict_refused, strict_shared}

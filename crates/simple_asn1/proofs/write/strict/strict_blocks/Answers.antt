@@ -1,3 +1,4 @@
+-- For `write::strict::strict_blocks`: what it returns is right (`fault`).
 use Rattle.std.proofs.Common.{rules}
 use Rattle.simple_asn1.proofs.write.strict.strict_blocks.Goals as goal
 

@@ -1,3 +1,4 @@
+-- For `front::FrontBuilder::cut`: what it returns is right.
 use Rattle.std.proofs.Common.{◌≡◌, suc, ◌-◌, length, refl, arith}
 use Rattle.std.proofs.lemmas.Grind.{common_steps}
 use Rattle.simple_asn1_c.proofs.Fronts.{cut_behind, cut_none}

@@ -1,3 +1,4 @@
+-- For `front::FrontBuilder::seal`: what it returns is right.
 use Rattle.std.proofs.Common.{◌<◌, ◌≤◌, length, refl, arith, ◌∙◌}
 use Rattle.std.proofs.lemmas.Grind.{common_steps}
 use Rattle.std.proofs.lemmas.List.{get_or_default}

@@ -1,3 +1,4 @@
+-- For `within::FrontBuilderBuilder::close`: what it returns is right.
 use Rattle.std.proofs.Common.{subst, sym}
 use Rattle.asn1_blocks.specs.Inner.ReaderSteps.{HasEndedIn, in_frame}
 use Rattle.asn1_outline.proofs.Listed.{if_ok}

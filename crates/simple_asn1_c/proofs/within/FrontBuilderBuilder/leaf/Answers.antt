@@ -1,3 +1,4 @@
+-- For `within::FrontBuilderBuilder::leaf`: what it returns is right (`built`, `refused`).
 use Rattle.std.proofs.Common.{◌-◌, inl, inr, refl, subst, sym}
 use Rattle.std.proofs.lemmas.Result.{err_from_is_err_and}
 use Rattle.std.specs.List.{slice_range}

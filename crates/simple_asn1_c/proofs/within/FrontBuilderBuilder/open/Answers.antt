@@ -1,3 +1,4 @@
+-- For `within::FrontBuilderBuilder::open`: what it returns is right.
 use Rattle.std.proofs.Common.{refl}
 use Rattle.simple_asn1_c.proofs.Fronts.{front_opened}
 use Rattle.simple_asn1_c.proofs.within.FrontBuilderBuilder.open.Goals as goal

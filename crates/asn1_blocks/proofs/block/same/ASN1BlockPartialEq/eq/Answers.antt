@@ -1,3 +1,4 @@
+-- For `block::same::ASN1BlockPartialEq::eq`: what it returns is right (`same_shape`, `decided`).
 use Rattle.std.specs.Bool.{one_answer}
 use Rattle.asn1_blocks.specs.View.{view}
 use Rattle.asn1_blocks.specs.Inner.Equality.{same_block}

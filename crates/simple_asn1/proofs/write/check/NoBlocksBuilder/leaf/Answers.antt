@@ -1,3 +1,4 @@
+-- For `write::check::NoBlocksBuilder::leaf`: what it returns is right.
 use Rattle.std.proofs.Common.{◌-◌, Result, Ok, Err, inl, inr, refl, IfErr, OnOk}
 use Rattle.std.specs.List.{slice_range}
 use Rattle.simple_asn1.proofs.write.check.NoBlocksBuilder.leaf.Goals as goal
