@@ -47,8 +47,8 @@ pub one_block : (o : ℕ) (contents : List ℕ) (bs : Trees ℕ) → EncodesAll 
 one_block o contents no_trees s b = absurd (omega (arith, block_some contents b, ap length s))
 one_block o contents (more_trees b no_trees) s a = refl
 one_block o contents (more_trees b (more_trees c bs)) s a =
-    let f = block_alone contents s.first [] s.rest a (encodes_block o s.first b s.item)
-    (append-nil contents ∙ s.whole) in
+    let f =
+    block_alone contents s.first [] s.rest a (encodes_block o s.first b s.item) (append-nil contents ∙ s.whole) in
     let t = s.items in
     let p = block_some t.first (encodes_block _ t.first c t.item) in
     absurd (omega (arith, p, ap length (f.1 ∙ t.whole), length-append t.first t.rest))

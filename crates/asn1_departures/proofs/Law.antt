@@ -156,8 +156,8 @@ has_shortest x c k n v h e small s =
     let a = identifier_alone e.identifier i (e.len ++ v) (l ++ v) c c k k n n e.identifier_octets
     (shortest_identifier_is c k n)
     (sym e.whole ∙ s.whole) in
-    let b = length_alone e.len l v v (length v) (length v) e.length_octets (shortest_length_is (length v) size)
-    a.rest in
+    let b =
+    length_alone e.len l v v (length v) (length v) e.length_octets (shortest_length_is (length v) size) a.rest in
     record { identifier = a.octets; len_is = b.octets }
 
 -- encodings of DER by the first

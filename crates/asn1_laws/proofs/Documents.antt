@@ -70,8 +70,8 @@ mutual
       let F' : Encoding (slice_range i p e) Universal false (leaf_tag l) w h =
       subst (λ z. Encoding z Universal false (leaf_tag l) w h) (sym here)
       (subst (λ z. Encoding x Universal z (leaf_tag l) w h) right.0 F) in
-      let same = leaf_kept l w (contents_octets x Universal k (leaf_tag l) w h F all) means right.1
-      (plain p l e itself w h F') in
+      let same =
+      leaf_kept l w (contents_octets x Universal k (leaf_tag l) w h F all) means right.1 (plain p l e itself w h F') in
       whole.alone.0.whole ∙ (ap (λ z. shortest_encoding Universal z (leaf_tag l) w) right.0
       ∙ ap (shortest_encoding Universal false (leaf_tag l)) same)
   kept_in (group p g bs) i u x v e at all (o, k, w, h, F, items) d plain =
@@ -107,8 +107,8 @@ mutual
   kept_among no_trees i u x v e at all s d plain = s
   kept_among (more_trees b bs) i u x v e at all s d plain =
       let F = block_encoding s.first (encodes_block (length u) s.first b s.item) in
-      let parts = split x s.first s.rest F.class F.constructed F.tag F.contents F.header F.encoding s.whole at.small
-      d in
+      let parts =
+      split x s.first s.rest F.class F.constructed F.tag F.contents F.header F.encoding s.whole at.small d in
       let octets = subst AreOctets s.whole all in
       let size : length x ≡ length s.first + length s.rest = ap length s.whole ∙ length-append s.first s.rest in
       let here : length u + length s.first ≡ length (u ++ s.first) = omega (arith, length-append u s.first) in
@@ -205,8 +205,8 @@ mutual
       x ≡ all_canonical bs → StandsAmong bs e b j → IsCanonicalAt i b j
   canonical_among bs e b j i u x v at s d same (in_first {a = a} {bs = cs} t) =
       let F = block_encoding s.first (encodes_block (length u) s.first a s.item) in
-      let parts = split x s.first s.rest F.class F.constructed F.tag F.contents F.header F.encoding s.whole at.small
-      d in
+      let parts =
+      split x s.first s.rest F.class F.constructed F.tag F.contents F.header F.encoding s.whole at.small d in
       let size : length x ≡ length s.first + length s.rest = ap length s.whole ∙ length-append s.first s.rest in
       let f = fronts (length u) x s.first s.rest a cs at.small s.item s.whole same in
       canonical_in a (end_before cs e) b j i u s.first (s.rest ++ v)
@@ -218,8 +218,8 @@ mutual
       s.item parts.der f.one t
   canonical_among bs e b j i u x v at s d same (in_later {a = a} {bs = cs} t) =
       let F = block_encoding s.first (encodes_block (length u) s.first a s.item) in
-      let parts = split x s.first s.rest F.class F.constructed F.tag F.contents F.header F.encoding s.whole at.small
-      d in
+      let parts =
+      split x s.first s.rest F.class F.constructed F.tag F.contents F.header F.encoding s.whole at.small d in
       let size : length x ≡ length s.first + length s.rest = ap length s.whole ∙ length-append s.first s.rest in
       let f = fronts (length u) x s.first s.rest a cs at.small s.item s.whole same in
       let here : length u + length s.first ≡ length (u ++ s.first) = omega (arith, length-append u s.first) in

@@ -151,8 +151,8 @@ pub record AreWell (octets : List ℕ) : Type 0 where
 
 pub are_well : (octets : List ℕ) → are_subidentifiers octets ≡ true → AreWell octets
 are_well octets t =
-    let p = and_parts (nat_lt 0 (length octets) && nat_lt (last_octet octets) 128) (not (has_padded_component octets))
-    t in
+    let p =
+    and_parts (nat_lt 0 (length octets) && nat_lt (last_octet octets) 128) (not (has_padded_component octets)) t in
     let q = and_parts (nat_lt 0 (length octets)) (nat_lt (last_octet octets) 128) p.0 in
     let low = q.1 in
     record { last = grind (arith, nat_tests, low); unpadded = not_true (has_padded_component octets) p.1 }

@@ -127,8 +127,8 @@ fault_of_der x e o small d (in_header front rest w bs some f) =
 fault_of_der x e o small d (in_contents {contents = v} {constructed = k} {tag = n} {header = h} front y rest w bs F f) =
     let size = ap length w ∙ (length-append front (y ++ rest) ∙ ap (λ z. length front + z) (length-append y rest)) in
     let behind = behind_blocks x front (y ++ rest) bs w small d in
-    let s = split (y ++ rest) y rest Universal k n v h F refl (omega (arith, small, size, length-append y rest))
-    behind in
+    let s =
+    split (y ++ rest) y rest Universal k n v h F refl (omega (arith, small, size, length-append y rest)) behind in
     let whole = der_whole y Universal k n v h (omega (arith, small, size)) F s.der in
     let right = primitive_right n k v (fault_type n v e f) whole.alone.1 in
     more_octets v x e (omega (arith, size, contents_le y Universal k n v h F)) (leaf_fault n v e right.1 f)

@@ -86,8 +86,8 @@ mutual
       trees_of_der bs (omega (arith, small, contents_le Universal true 16 (all_canonical bs))) f (w.items refl)
   tree_of_der (group o Set bs) small f d =
       let w = whole_of Universal true 17 (all_canonical bs) small d in
-      let t = trees_of_der bs (omega (arith, small, contents_le Universal true 17 (all_canonical bs))) f
-      (w.items refl) in
+      let t =
+      trees_of_der bs (omega (arith, small, contents_le Universal true 17 (all_canonical bs))) f (w.items refl) in
       (t, w.alone.1.1 refl (each_canonical bs) (der_of_trees bs f t))
   tree_of_der (explicit c o n b) small f d =
       let w = whole_of c true n (canonical b) small d in

@@ -99,8 +99,8 @@ module _ (x : List ℕ) (r : Entry) where
   explicit_to (explicit class p m b) ns holds e count is =
       let c = contents_of x (explicit class p m b) r e in
       let s = c.encoded in
-      let z = same_encoding c.octets class r.class true r.constructed m c.tag s.2 c.contents s.3 r.header s.4
-      c.encoding in
+      let z =
+      same_encoding c.octets class r.class true r.constructed m c.tag s.2 c.contents s.3 r.header s.4 c.encoding in
       (λ u. s.1 (z.class ∙ u), count ∙ one_node_in ns b holds)
   explicit_to (unknown class k p m v) ns holds e count is = absurd (false≢true is)
 

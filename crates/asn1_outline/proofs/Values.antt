@@ -267,8 +267,8 @@ no_leaf_with x b r n e small other o l is tag =
     let c = contents_of x b r e in
     let s : Encodes (tree_offset b) c.octets (leaf o l) =
     subst (λ z. Encodes (tree_offset b) c.octets z) is c.encoded in
-    let z = one c.octets Universal r.class s.1 r.constructed (leaf_tag l) c.tag s.2 c.contents s.3 r.header s.4
-    c.encoding in
+    let z =
+    one c.octets Universal r.class s.1 r.constructed (leaf_tag l) c.tag s.2 c.contents s.3 r.header s.4 c.encoding in
     let number : c.tag ≡ n = sym z.tag ∙ tag in
     other (sym z.class, c.number.0 (omega (arith, number, small)) ∙ number)
 
@@ -415,8 +415,8 @@ pub not_ascii_text : (x : List ℕ) (b : Tree ℕ) (r : Entry) → IsEntryOf x b
     tree_ascii_text b ≡ None
 not_ascii_text x (unknown Universal false o n v) r e other = elim (cases_Bool (is_ascii_tag n)) [
   | inl here ↦
-      let same = (primitive_entry x (unknown Universal false o n v) r n v e refl).2
-      (omega (arith, ascii_small n here)) in
+      let same =
+      (primitive_entry x (unknown Universal false o n v) r n v e refl).2 (omega (arith, ascii_small n here)) in
       absurd (false≢true (sym other ∙ ap is_ascii_tag same ∙ here))
   | inr there ↦ ap (λ z. if z && list_all (is_ascii_character n) v then Some v else None) there
 ]

@@ -70,8 +70,8 @@ form_of xs behind (identifier, e, is) = (identifier, behind, e, is)
 pub behind_alone :
     (xs a b : List ℕ) → StandsBehindIndefinite xs a → StandsBehindIndefinite xs b → a ≡ b
 behind_alone xs a b (identifier, e, (class, tag, i)) (identifier', e', (class', tag', i')) =
-    let same = identifier_alone identifier identifier' (128 ∷ a) (128 ∷ b) class class' true true tag tag' i i'
-    (sym e ∙ e') in
+    let same =
+    identifier_alone identifier identifier' (128 ∷ a) (128 ∷ b) class class' true true tag tag' i i' (sym e ∙ e') in
     let rest : 128 ∷ a ≡ 128 ∷ b = same.rest in
     cc rest
 

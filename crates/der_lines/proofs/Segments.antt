@@ -52,8 +52,8 @@ pub segment_goes :
     IsSegment tag left step before between → Goes step m n → AreLeft tag n between after → AreLeft tag m before after
 segment_goes tag m n left (Into header size indefinite) before between after at (announced, h, l, form, is, same)
     (o, g, ends) later =
-    let inside = end_at (m.offset + taken indefinite (header + announced) (length left.octets.now)) indefinite ∷ ends_of
-    m in
+    let inside =
+    end_at (m.offset + taken indefinite (header + announced) (length left.octets.now)) indefinite ∷ ends_of m in
     let y : ends_of n ≡ inside = ends ∙ ap (λ z. end_at (m.offset + z) indefinite ∷ ends_of m) is in
     constructed_one left.octets.now at.end at.around header announced indefinite at.ends_are at.octets_are h l form
     (subst (λ z. AreSegments tag m.octets.now (m.offset + header) inside z after) same

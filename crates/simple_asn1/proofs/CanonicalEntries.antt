@@ -228,8 +228,8 @@ module _ (x y v : List ℕ) (r : Entry) (n : ℕ) (at : EncodingAt x r.offset y)
       let count : length (shortest_identifier r.class r.constructed n) + length (shortest_length (length v))
       ≡ r.header =
       omega (arith, one, same, ap (λ z. length (shortest_length z)) size) in
-      let begins = shortest_front (drop r.offset x) header_of_fields (All-drop (λ b. b < 256) r.offset x all) at_front
-      not count in
+      let begins =
+      shortest_front (drop r.offset x) header_of_fields (All-drop (λ b. b < 256) r.offset x all) at_front not count in
       let si = shortest_identifier r.class r.constructed n in
       let sl = shortest_length (length v) in
       e.whole ∙ sym (append_assoc i l v) ∙ ap (λ z. z ++ v) (sym at_front.front_is ∙ begins.shortest)

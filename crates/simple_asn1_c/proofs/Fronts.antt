@@ -84,8 +84,8 @@ pub front_ended :
 front_ended x a b f i depth is = record {
   holds = λ e fs ts us rest t d ends (all, w, held).
       let v = is all w in
-      let step = ended x (whole_builder a all w) (whole_builder b (sealed all f.items.entry f.items.count) v) f i depth
-      refl in
+      let step =
+      ended x (whole_builder a all w) (whole_builder b (sealed all f.items.entry f.items.count) v) f i depth refl in
       (sealed all f.items.entry f.items.count, v, step.holds e fs ts us rest t d ends held);
 }
 

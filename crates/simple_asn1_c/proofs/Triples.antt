@@ -405,8 +405,8 @@ none_inside x es t ab c s rest d are =
     let inside : drop 1 (nodes_in_order ns) ≡ front ++ (node_in_order n ++ after) =
     append_assoc front (node_in_order n ++ (node_in_order s ++ [])) (nodes_in_order rest) in
     let first = found x es ns d are 1 c (node_in_order n ++ after) inside in
-    let behind = past (nodes_in_order ns) front (node_in_order n ++ after) 1 (entry_at es 1).next inside
-    first.entry.next in
+    let behind =
+    past (nodes_in_order ns) front (node_in_order n ++ after) 1 (entry_at es 1).next inside first.entry.next in
     (found x es ns d are (entry_at es 1).next n after behind).entry.items
 
 -- the whole of a document's entries: begun with a triple

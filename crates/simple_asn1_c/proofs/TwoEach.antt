@@ -18,8 +18,8 @@ mutual
       → 2 * length (nodes_in_order ns) ≤ length v
   two_among x no_nodes place v rest s e are = omega arith
   two_among x (more_nodes n ns) place v rest s e are =
-      let here = two_in x n place e.first (e.rest ++ rest) (first_stands x place v e.first e.rest rest s e.whole) e.item
-      are.0 in
+      let here =
+      two_in x n place e.first (e.rest ++ rest) (first_stands x place v e.first e.rest rest s e.whole) e.item are.0 in
       let after = two_among x ns (place + length e.first) e.rest rest
       (rest_stands x place v e.first e.rest rest s e.whole) e.items are.1 in
       let joined = length-append (node_in_order n) (nodes_in_order ns) in

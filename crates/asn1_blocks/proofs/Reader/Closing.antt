@@ -36,8 +36,8 @@ module _ {B I : Type 0} (Holds : Holding B I) (octets : List ℕ) where
       { inner = record { extent = e; items = j }; outer = outer; index = end; builder = b; fault = fault }) n most
   goes_on e j outer end b fault ts rest t n most near m h c =
       let gs = frames (reverse outer.items) rest in
-      let more = opened_more octets (record { extent = e; trees = ts }) gs c.reached end c.before c.own t c.opened
-      c.follows in
+      let more =
+      opened_more octets (record { extent = e; trees = ts }) gs c.reached end c.before c.own t c.opened c.follows in
       record {
         reading = record {
           trees = ts ++ t ∷ [];
@@ -101,8 +101,8 @@ module _ {B I : Type 0} (Holds : Holding B I) (octets : List ℕ) where
           order = omega (arith, ending.read.from, ending.read.to);
           encoded = ending.read.encoded;
         } in
-        let after = is.holds h.extent gs w.trees N.next N.others t (omega (arith, d, length-reverse outer.items)) whole
-        before in
+        let after =
+        is.holds h.extent gs w.trees N.next N.others t (omega (arith, d, length-reverse outer.items)) whole before in
         let closed = close_frame octets (frame k w.trees) (frame h N.next) (frames gs N.others) n t tree ending in
         goes_on h.extent j outer k.extent.end c fault N.next N.others t n most near N.count after closed
 

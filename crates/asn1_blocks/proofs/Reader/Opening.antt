@@ -47,8 +47,8 @@ module _ {B I : Type 0} (Holds : Holding B I) (octets : List ℕ) where
       let o = opened_open octets (frame a.inner w.trees) (frame f []) (frames (reverse outer) w.outer) a.index n refl
       headed refl found.starts_after found.order found.ends_within
       w.opened in
-      let k = new.holds kind a.inner (reverse outer) (w.trees ∷ w.outer) (omega (arith, d, length-reverse outer)) is
-      w.holds in
+      let k =
+      new.holds kind a.inner (reverse outer) (w.trees ∷ w.outer) (omega (arith, d, length-reverse outer)) is w.holds in
       let around : reverse r.outer.items ≡ a.inner ∷ reverse outer =
       ap reverse u.outer ∙ reverse-append outer (a.inner ∷ []) in
       let all = w.trees ∷ w.outer in
@@ -92,8 +92,8 @@ module _ {B I : Type 0} (Holds : Holding B I) (octets : List ℕ) where
   leaf_goes_on a h n depth b j d found shut leaf w =
       let gs = reverse a.outer.items in
       let v = reader_places a n w in
-      let held = leaf.more.holds a.inner.extent gs w.trees w.outer (omega (arith, d, length-reverse a.outer.items))
-      w.holds in
+      let held =
+      leaf.more.holds a.inner.extent gs w.trees w.outer (omega (arith, d, length-reverse a.outer.items)) w.holds in
       goes_on Holds octets a.inner.extent j a.outer h.end b a.fault w.trees w.outer leaf.tree (n + 1)
       (left (length octets) a.index a.outer.items)
       (omega (arith, found.starts_after, found.order, found.ends_within, v.within)) w.matched held

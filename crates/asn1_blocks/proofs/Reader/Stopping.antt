@@ -129,8 +129,8 @@ module _ {B I : Type 0} (Holds : Holding B I) (octets : List ℕ) (b : B) where
         }) n most
     kept_goes_on a depth c j fault most d kept near =
         let gs = reverse outer.items in
-        let none = stop_no_blocks octets (frame k r.trees) (frame h N.next) (frames gs N.others) e offset n small
-        stops in
+        let none =
+        stop_no_blocks octets (frame k r.trees) (frame h N.next) (frames gs N.others) e offset n small stops in
         let after = kept.holds r.inside r.lost h.extent gs r.trees N.next N.others a.attempt
         (omega (arith, d, length-reverse outer.items)) r.dropped a.offset a.headed none held in
         let closed = stop_attempt octets (frame k r.trees) (frame h N.next) (frames gs N.others) e offset n a.attempt

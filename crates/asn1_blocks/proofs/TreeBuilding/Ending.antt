@@ -188,8 +188,8 @@ module _ (octets : List ℕ) (a r : TreeBuilder) (i j : FrameBlocks) (f : OpenFr
           let o = f.extent.offset in
           let n = f.items.owed_before in
           let one = OwedAs.Group g o f.items.first f.items.owed_count in
-          let this = ended_is octets f.extent.kind (Group g) f.extent.offset f.extent.start f.extent.end ts t kind
-          is.tree in
+          let this =
+          ended_is octets f.extent.kind (Group g) f.extent.offset f.extent.start f.extent.end ts t kind is.tree in
           let tree : group o g (trees_of (map view f.items.first ++ w.0.owed)) ≡ t =
           sym (this ∙ ap (λ z. group o g (trees_of z)) w.0.trees) in
           let grown = subst (λ z. IsGrown octets (take n a.owed.items) (a.owed.items ++ one ∷ []) z) tree
@@ -204,8 +204,8 @@ module _ (octets : List ℕ) (a r : TreeBuilder) (i j : FrameBlocks) (f : OpenFr
     group_pushed g b kind none means u = record {
       holds = λ e fs ts us rest t d is w.
           let clean = left_clean octets a.owed.items f (in_frame e i) fs ts us rest none w.0 w.1 in
-          let this = ended_is octets f.extent.kind (Group g) f.extent.offset f.extent.start f.extent.end ts t kind
-          is.tree in
+          let this =
+          ended_is octets f.extent.kind (Group g) f.extent.offset f.extent.start f.extent.end ts t kind is.tree in
           let tree : view b ≡ t = means ∙ sym (this ∙ ap (λ z. group f.extent.offset g (trees_of z)) clean.trees) in
           tree_more octets c r i j e fs us rest b t tree u
           (moved (λ z. AllHold octets z (in_frame e i) fs us rest) clean.outer);

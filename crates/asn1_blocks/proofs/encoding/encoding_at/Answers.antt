@@ -37,6 +37,6 @@ pub returns-clause-block : goal.returns-clause-block
 returns-clause-block c octets t =
     let document = c.args.document.now in
     let (_, _, are) = c.in-Some.ensures.found in
-    let here = stands_here document c.args.offset c.in-Some.size _ _ c.split_at.ensures.back c.split_at-2.ensures.front
-    are in
+    let here =
+    stands_here document c.args.offset c.in-Some.size _ _ c.split_at.ensures.back c.split_at-2.ensures.front are in
     encoding_at_alone document c.args.offset _ octets here (encoding_of document c.args.offset octets t)

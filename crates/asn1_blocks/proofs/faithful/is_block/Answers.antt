@@ -22,8 +22,8 @@ returns-after-e c = elim c.match-e.branch [
   | in-OutOfMemory w ↦ grind (arith, common_steps)
   | in_default w ↦
       let small : length c.args.octets.now < 2 ^ 64 = grind (arith, common_steps) in
-      let fault = fault_here (FirstFault c.args.octets.now) c.in-Err.e c.in-Err.ensures.fault
-      w.in_default.not-OutOfMemory in
+      let fault =
+      fault_here (FirstFault c.args.octets.now) c.in-Err.e c.in-Err.ensures.fault w.in_default.not-OutOfMemory in
       let no = fault_no_block c.args.octets.now (fault_of c.in-Err.e) small fault in
       rw w.result-is (λ (t : false ≡ true). absurd (false≢true t), λ b. absurd (no b))
 ]

@@ -13,8 +13,8 @@ header_within-requires-clause-from g c =
 
 pub header_within-requires-clause-more : goal.header_within-requires-clause-more
 header_within-requires-clause-more g c =
-    let v = reader_places g.B.Builder.holds c.args.octets.now c.args.reader.now c.requires.reading.0
-    c.requires.reading.1 in
+    let v =
+    reader_places g.B.Builder.holds c.args.octets.now c.args.reader.now c.requires.reading.0 c.requires.reading.1 in
     omega (arith, v.to, c.requires.more)
 
 pub header_within-requires-clause-within : goal.header_within-requires-clause-within

@@ -8,8 +8,8 @@ returns c =
     let h = c.args.header.now in
     let p = c.requires.read in
     let r = c.split_identifier.result in
-    let both = c.split_identifier.ensures p.identifier p.len h.tag (h.class, h.constructed, p.identifier_octets)
-    p.whole in
+    let both =
+    c.split_identifier.ensures p.identifier p.len h.tag (h.class, h.constructed, p.identifier_octets) p.whole in
     record {
       whole = p.whole ∙ (ap (λ z. z ++ p.len) (sym both.0) ∙ ap (λ z. r.0.now ++ z) (sym both.1));
       identifier_octets = subst (λ z. IsIdentifier z h.class h.constructed h.tag) (sym both.0) p.identifier_octets;

@@ -9,6 +9,6 @@ returns-clause-pushed g c ns p =
     let has = g.T.FromBigUint.has in
     let is_number = g.T.FromBigUint.is_number in
     let n = c.args.number.now in
-    let more = numbers_end has is_number c.args.numbers.now.items c.in-Some.x ns n p c.in-Some.ensures.0
-    c.in-Some.ensures.1 in
+    let more =
+    numbers_end has is_number c.args.numbers.now.items c.in-Some.x ns n p c.in-Some.ensures.0 c.in-Some.ensures.1 in
     subst (λ xs. AreNumbers has is_number xs (ns ++ n ∷ [])) (sym c.in_ok-push-in-Some.ensures.items) more

@@ -21,8 +21,8 @@ header_within-requires-clause-from c =
 pub header_within-requires-clause-more : goal.header_within-requires-clause-more
 header_within-requires-clause-more c =
     let w = c.args.reader.now in
-    let v = places c.args.octets.now w.inner (reverse w.outer.items) w.index w.builder.entries.items
-    c.requires.reading in
+    let v =
+    places c.args.octets.now w.inner (reverse w.outer.items) w.index w.builder.entries.items c.requires.reading in
     let other : w.index ≢ w.inner.extent.end = c.if-reader.false in
     omega (arith, v.to, other)
 
@@ -34,8 +34,8 @@ header_within-requires-clause-within c =
 pub fail-requires : goal.fail-requires
 fail-requires c =
     let w = c.args.reader.now in
-    let v = places c.args.octets.now w.inner (reverse w.outer.items) w.index w.builder.entries.items
-    c.requires.reading in
+    let v =
+    places c.args.octets.now w.inner (reverse w.outer.items) w.index w.builder.entries.items c.requires.reading in
     let other : w.index ≢ w.inner.extent.end = c.if-reader.false in
     elim c.in-Err.ensures.refused [
       | inl memory ↦ record { failed = inl memory }

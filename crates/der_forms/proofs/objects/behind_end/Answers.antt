@@ -9,8 +9,8 @@ use Rattle.der_forms.proofs.objects.behind_end.Goals as goal
 pub split_at-requires : goal.split_at-requires
 split_at-requires c =
     let line = c.split_line.result.0.now in
-    let whole = length-line-le c.args.lines.rest.now line (lines_of c.split_line.result.1.now)
-    c.split_line.ensures.first in
+    let whole =
+    length-line-le c.args.lines.rest.now line (lines_of c.split_line.result.1.now) c.split_line.ensures.first in
     omega (arith, whole, c.if-begun-line.true)
 
 pub returns-then-begun-line-clause-objects : goal.returns-then-begun-line-clause-objects

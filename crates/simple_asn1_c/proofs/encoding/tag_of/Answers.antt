@@ -13,6 +13,6 @@ pub returns-in-Ok : goal.returns-in-Ok
 returns-in-Ok c =
     let x = c.args.encoding.now in
     let found = c.in-Ok.header in
-    let h = front_found x found.size found.announced found.class found.constructed found.tag c.requires
-    c.in-Ok.ensures.found in
+    let h =
+    front_found x found.size found.announced found.class found.constructed found.tag c.requires c.in-Ok.ensures.found in
     (found.class, found.constructed, drop found.size x, found.size, h.0)

@@ -19,8 +19,8 @@ returns c =
       | then-header w ↦ w.result-is ∙ sym (ap constructed_bit w.if-header.true)
       | else-header w ↦ w.result-is ∙ sym (ap constructed_bit w.if-header.false)
     ] in
-    let h = front_found x found.size found.announced found.class found.constructed found.tag c.requires
-    c.in-Ok.ensures.found in
+    let h =
+    front_found x found.size found.announced found.class found.constructed found.tag c.requires c.in-Ok.ensures.found in
     record {
       class = found.class;
       constructed = found.constructed;

@@ -43,8 +43,8 @@ returns-in-Ok-put_decimal c =
     let (n, u, number) = c.in-Ok.ensures.found in
     let (ns, meant, put) = c.in-Ok-put_decimal.ensures.put in
     let six : n ≡ 6 = small_tag n c.in-Ok.found.0 6 number c.if-tag-ne6.false (omega arith) in
-    let is = leaf_here octets offset (object_identifier ns) v (subst (λ z. UniversalAt octets offset z v) six u)
-    meant in
+    let is =
+    leaf_here octets offset (object_identifier ns) v (subst (λ z. UniversalAt octets offset z v) six u) meant in
     identifier_was_found ns is put
 
 pub returns-in-Err-put_decimal : goal.returns-in-Err-put_decimal

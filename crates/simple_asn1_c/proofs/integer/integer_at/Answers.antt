@@ -44,8 +44,8 @@ returns-in-Some c =
     let v = c.in-Ok.found.1.now in
     let (n, u, number) = c.in-Ok.ensures.found in
     let two : n ≡ 2 = small_tag n c.in-Ok.found.0 2 number c.if-tag-ne2.false (omega arith) in
-    let is = leaf_here octets offset (integer (signed_number v)) v (subst (λ z. UniversalAt octets offset z v) two u)
-    refl in
+    let is =
+    leaf_here octets offset (integer (signed_number v)) v (subst (λ z. UniversalAt octets offset z v) two u) refl in
     integer_was_found refl
     (same_number octets offset (signed_number v) _
     (number_fits (signed_number v) c.in-Some.value c.in-Some.ensures ∙ search rules) is)
@@ -57,7 +57,7 @@ returns-in-None c =
     let v = c.in-Ok.found.1.now in
     let (n, u, number) = c.in-Ok.ensures.found in
     let two : n ≡ 2 = small_tag n c.in-Ok.found.0 2 number c.if-tag-ne2.false (omega arith) in
-    let is = leaf_here octets offset (integer (signed_number v)) v (subst (λ z. UniversalAt octets offset z v) two u)
-    refl in
+    let is =
+    leaf_here octets offset (integer (signed_number v)) v (subst (λ z. UniversalAt octets offset z v) two u) refl in
     integer_is_too_large c.no_integer-in-None.ensures.0 (signed_number v) is
     (does_not_fit (signed_number v) c.in-None.ensures) c.no_integer-in-None.ensures.1

@@ -52,8 +52,8 @@ returns-then-are_own_text c =
     let (kind, tag, form) = c.in-Some.ensures in
     let same : n ≡ string_tag kind = small_tag n c.in-Ok.found.0 (string_tag kind) number tag (string_tag_small kind) in
     let means = subst (λ z. TextContents z (chars v) v) form (c.if-are_own_text.ensures.meant refl) in
-    let is = leaf_here octets offset (text kind (chars v)) v (subst (λ z. UniversalAt octets offset z v) same u)
-    means in
+    let is =
+    leaf_here octets offset (text kind (chars v)) v (subst (λ z. UniversalAt octets offset z v) same u) means in
     text_was_found v (c.if-are_own_text.ensures.utf8 refl) (kind, is) c.put_octets.ensures
 
 pub returns-in-Ok-read : goal.returns-in-Ok-read
@@ -66,8 +66,8 @@ returns-in-Ok-read c =
     let (kind, tag, form) = c.in-Some.ensures in
     let same : n ≡ string_tag kind = small_tag n c.in-Ok.found.0 (string_tag kind) number tag (string_tag_small kind) in
     let means = subst (λ z. TextContents z (chars s) v) form c.in-Ok-read.ensures.found in
-    let is = leaf_here octets offset (text kind (chars s)) v (subst (λ z. UniversalAt octets offset z v) same u)
-    means in
+    let is =
+    leaf_here octets offset (text kind (chars s)) v (subst (λ z. UniversalAt octets offset z v) same u) means in
     let bytes : c.as_bytes.result.now ≡ s = c.as_bytes.ensures.value ∙ c.as_str.ensures.value in
     text_was_found s (subst IsUtf8 bytes c.as_bytes.ensures.utf8) (kind, is)
     (subst (λ z. ArePut z c.args.room.now c.put_octets-in-Ok-read.new.room c.put_octets-in-Ok-read.result) bytes

@@ -25,8 +25,8 @@ pub returns-clause-only : goal.returns-clause-only
 returns-clause-only c = λ ns dotted.
     let text = c.args.text.now in
     let cut = YieldsList-from_str_split {s = c.into_iter-numeral-iterator.result} 46 text (lit< tt) (cc) (cc) (cc) in
-    let end = YieldsList-end cut c.loop-numeral.yielded _ c.loop-numeral.yielded_by _ _ c.in-None.is
-    c.next.ensures.steps in
+    let end =
+    YieldsList-end cut c.loop-numeral.yielded _ c.loop-numeral.yielded_by _ _ c.in-None.is c.next.ensures.steps in
     c.new.ensures ∙ same_numerals c.loop-numeral.components.items ns
     (c.loop-numeral.invariant ∙ end.0 ∙ dotted_parts text ns dotted)
 

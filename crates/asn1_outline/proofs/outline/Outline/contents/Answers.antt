@@ -62,8 +62,8 @@ returns-clause-found c ns d h =
     let header_prop : IsProp (r.header ≡ are.header) = hlevel props in
     let contents_prop : IsProp (r.contents ≡ length are.contents) = hlevel props in
     let within_prop : IsProp (r.offset + r.header + r.contents ≤ length x) = hlevel props in
-    let stands = found_entry x es ns k o.document d all r is found (r.offset ≡ tree_offset t) stands_prop
-    (λ e. e.offset_is) in
+    let stands =
+    found_entry x es ns k o.document d all r is found (r.offset ≡ tree_offset t) stands_prop (λ e. e.offset_is) in
     let header = found_entry x es ns k o.document d all r is found (r.header ≡ are.header) header_prop
     (λ e. header_is x t r y are.class are.constructed are.tag are.contents are.header e s are.encoding) in
     let contents = found_entry x es ns k o.document d all r is found (r.contents ≡ length are.contents) contents_prop

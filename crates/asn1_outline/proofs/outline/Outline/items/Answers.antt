@@ -64,8 +64,8 @@ returns-clause-trees c ns d =
     let o = c.args.self.now in
     let es = o.entries.items in
     let k = c.args.index in
-    let (h, is) = looked_up es c.deref.result.now k c.in-Some.entry.now c.deref.ensures.value
-    c.in-Some.ensures.lookup.3 in
+    let (h, is) =
+    looked_up es c.deref.result.now k c.in-Some.entry.now c.deref.ensures.value c.in-Some.ensures.lookup.3 in
     let same : c.over-2.result ≡ side_by_side 0 (k + 1) (slice_range es (k + 1) (get_or es k no_entry).next) =
     c.over-2.ensures ∙ ap (λ z. side_by_side 0 (k + 1) (slice_range z (k + 1) c.in-Some.entry.now.next))
     c.deref-2.ensures.value

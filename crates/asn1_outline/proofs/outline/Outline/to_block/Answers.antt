@@ -15,8 +15,8 @@ loop-i-init c =
     let x = o.octets.now in
     let es = o.entries.items in
     let k = c.args.index in
-    let (h, is) = looked_up es c.deref.result.now k c.in-Some.entry.now c.deref.ensures.value
-    c.in-Some.ensures.lookup.3 in
+    let (h, is) =
+    looked_up es c.deref.result.now k c.in-Some.entry.now c.deref.ensures.value c.in-Some.ensures.lookup.3 in
     let (first, last) = next_within x es k o.document h in
     let next = ap (λ z. z.next) is in
     record {
@@ -38,8 +38,8 @@ loop-i-preserved c =
     let k = c.args.index in
     let i = c.loop-i.i in
     let j = i - 1 - k in
-    let (h, is) = looked_up es c.deref.result.now k c.in-Some.entry.now c.deref.ensures.value
-    c.in-Some.ensures.lookup.3 in
+    let (h, is) =
+    looked_up es c.deref.result.now k c.in-Some.entry.now c.deref.ensures.value c.in-Some.ensures.lookup.3 in
     record {
       from = omega arith;
       within = omega arith;
