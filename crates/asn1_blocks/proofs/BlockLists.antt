@@ -22,7 +22,7 @@ pub same_length : (xs ys : List ASN1Block) → shapes (views xs) ≡ shapes (vie
 same_length xs ys e =
     sym (count_shapes (views xs) ∙ count_views xs) ∙ ap count e ∙ (count_shapes (views ys) ∙ count_views ys)
 
--- and of the same shapes at each place
+-- lists of the same shapes have the same shape at each place
 pub shape_at : (xs ys : List ASN1Block) (x y : ASN1Block) (i : ℕ) → shapes (views xs) ≡ shapes (views ys) →
     i < length xs
     → shape (view (get_or xs i x)) ≡ shape (view (get_or ys i y))

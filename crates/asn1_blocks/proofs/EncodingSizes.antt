@@ -36,7 +36,7 @@ after_identifier octets i tag (_, _, t) x rest e p =
     (take-append-drop i octets ∙ w) in
     (q.octets, q.rest)
 
--- nor where there are no length octets
+-- no encoding begins where no length octets stand behind identifier octets
 pub no_length_here :
     (octets : List ℕ) (i tag : ℕ) → IsSomeIdentifier (take i octets) tag →
     BeginsWithNo IsLength (drop i octets) → (x rest : List ℕ) → octets ≡ x ++ rest → IsEncoding x →
@@ -47,7 +47,7 @@ no_length_here octets i tag t missing x rest e p =
     missing (length p.contents) (length f.len) (subst (λ z. IsLength z (length p.contents))
     (sym (ap (take (length f.len)) a.1 ∙ take_at f.len (p.contents ++ rest) (length f.len) refl)) f.length_octets)
 
--- nor where the octets are too few
+-- no encoding begins where fewer octets are left than the length octets tell
 pub no_contents_here :
     (octets : List ℕ) (i l m tag : ℕ) → IsSomeIdentifier (take i octets) tag → i ≤ length octets →
     IsLength (take l (drop i octets)) m → l ≤ length (drop i octets) → length octets < i + l + m →

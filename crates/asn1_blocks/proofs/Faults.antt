@@ -75,7 +75,7 @@ pub data UniversalContents (n : ℕ) (contents : List ℕ) : Type 0 where
   is_leaf : (l : Leaf) → n ≡ leaf_tag l → LeafContents l contents → UniversalContents n contents
   is_group : (g : GroupKind) → n ≡ group_tag g → AreBlocks contents → UniversalContents n contents
 
--- so are the contents octets of a block of class Universal
+-- a block of class Universal has the contents octets of its kind
 pub universal_contents : (x : List ℕ) (k : Bool) (n : ℕ) (contents : List ℕ) (h : ℕ) →
     Encoding x Universal k n contents h → IsBlock x
     → UniversalContents n contents
@@ -166,7 +166,7 @@ contents_there octets y r x rest k n contents h g f d b =
     let q = encoding_alone _ _ _ _ _ _ _ _ _ _ _ _ r rest f F.encoding (sym g ∙ d) in
     universal_contents y k n contents h f (subst IsBlock (sym q.octets) b)
 
--- those of a leaf are not at fault
+-- the contents octets of a leaf in a block are not at fault
 leaf_no_block : (n : ℕ) (contents : List ℕ) (e : DecodeFault) → LeafFault n contents e → UniversalContents n contents →
     ⊥
 leaf_no_block n contents e p (is_unknown u) =
@@ -174,7 +174,7 @@ leaf_no_block n contents e p (is_unknown u) =
 leaf_no_block n contents e p (is_leaf l t q) = leaf_no_fault n contents e l t q p
 leaf_no_block n contents e p (is_group g t bs) = leaf_tag_no_group n g (leaf_fault_tag n contents e p) t
 
--- and those of a group are blocks
+-- the contents octets of a group in a block are blocks
 group_holds : (g : GroupKind) (contents : List ℕ) → UniversalContents (group_tag g) contents → AreBlocks contents
 group_holds g contents (is_unknown u) = absurd (u.1 g refl)
 group_holds g contents (is_leaf l t p) = absurd (leaf_no_group l g (sym t))

@@ -124,7 +124,7 @@ header_alone offset octets e d j w (at_item x rest g y f p) small =
 module _ (offset : ℕ) (octets x rest : List ℕ) (k : Bool) (n : ℕ) (contents : List ℕ) (h : ℕ)
     (whole : octets ≡ x ++ rest) (f : Encoding x Universal k n contents h) (small : offset + length octets < 2 ^ 64)
   where
-    -- of the contents octets of a leaf
+    -- a fault of the contents octets of a leaf is the fault of the block
     contents_alone : (e d : DecodeFault) (j : ℕ) → LeafFault n contents e → BlockFaultAt offset octets d j →
         (e ≡ d) × (0 ≡ j)
     contents_alone e d j l (at_header w) = absurd (header_no_encoding offset octets x rest d _ _ _ _ _ w small whole f)
@@ -136,7 +136,7 @@ module _ (offset : ℕ) (octets x rest : List ℕ) (k : Bool) (n : ℕ) (content
         let s = encoding_alone _ _ _ _ _ _ _ _ _ _ _ _ rest rest' f f' (sym whole ∙ g) in
         absurd (leaf_tag_no_group n y (leaf_fault_tag n contents e l) s.tag)
 
-    -- or of an item of a group
+    -- a fault in a group is one of its contents octets
     item_there : (i : GroupKind) (d : DecodeFault) (j : ℕ) → n ≡ group_tag i → BlockFaultAt offset octets d j
         → (inside : ℕ) × BlocksFaultAt contents d inside × (j ≡ h + inside)
     item_there i d j t (at_header w) = absurd (header_no_encoding offset octets x rest d _ _ _ _ _ w small whole f)

@@ -56,7 +56,7 @@ faulty_block octets e o (in_item {header = h} {inside = i} front x rest g bs y f
   offset_is = refl;
 }
 
--- and so the other way round
+-- a fault of the block behind blocks is a fault of all these octets
 pub fault_after : (octets front rest : List ℕ) (e : DecodeFault) (i : ℕ) → octets ≡ front ++ rest → AreBlocks front →
     0 < length rest
     → BlockFaultAt (length front) rest e i → BlocksFaultAt octets e (length front + i)

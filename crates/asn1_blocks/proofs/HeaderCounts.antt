@@ -19,7 +19,7 @@ mutual
       let q = after_alone octets b b' f f' in
       omega (arith, p, q, g, g')
 
-  -- also inside the first encoding
+  -- one number of headers is begun inside the first encoding
   inside_alone : (octets : List ℕ) (m n : ℕ) → BegunInside octets m → BegunInside octets n → m ≡ n
   inside_alone octets m n (inside_first x r e F o B) (inside_first y q d G o' C) =
       let s = encoding_alone _ _ _ _ _ _ _ _ _ _ _ _ r q F G (sym e ∙ d) in
@@ -28,7 +28,7 @@ mutual
   inside_alone octets m n (nothing_inside shut) (inside_first x r e F o B) = absurd (shut x r _ _ _ _ _ e F o)
   inside_alone octets m n (nothing_inside shut) (nothing_inside shut') = refl
 
-  -- and after the first block
+  -- one number of headers is begun after the first block
   after_alone : (octets : List ℕ) (m n : ℕ) → BegunAfter octets m → BegunAfter octets n → m ≡ n
   after_alone octets m n (after_first x r e b B) (after_first y q d c C) =
       let s = block_alone x y r q b c (sym e ∙ d) in
@@ -71,7 +71,7 @@ begun_le octets n (begun_some some a b
     let s = encoding_alone _ _ _ _ _ _ _ _ _ _ _ _ r q F G.encoding (sym e ∙ d) in
     omega (arith, g, begun_le contents a B, begun_le q b C, l.0, l.1, ap length e, length-append x r, ap length s.rest)
 
--- the same first block, with more after it
+-- more octets behind a block change nothing about the headers begun inside it
 inside_more : (octets rest x r : List ℕ) (a : ℕ) → octets ≡ x ++ r → IsBlock x → BegunInside octets a →
     BegunInside (octets ++ rest) a
 inside_more octets rest x r a e b (inside_first y q d F o B) =

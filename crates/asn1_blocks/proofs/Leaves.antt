@@ -96,7 +96,7 @@ leaf_tag_known n e = ap (λ b. b || is_group_tag n) e
 pub leaf_known : (l : Leaf) → is_known_tag (leaf_tag l) ≡ true
 leaf_known l = leaf_tag_known (leaf_tag l) (leaf_tag_is l)
 
--- and that of each group
+-- the tag of each group is known
 pub group_known : (g : GroupKind) → is_known_tag (group_tag g) ≡ true
 group_known Sequence = refl
 group_known Set = refl
@@ -112,7 +112,7 @@ unknown_of n e = (
 pub leaf_tag_no_group : (n : ℕ) (g : GroupKind) → is_leaf_tag n ≡ true → n ≡ group_tag g → ⊥
 leaf_tag_no_group n g e d = false≢true (sym (group_no_leaf g) ∙ ap is_leaf_tag (sym d) ∙ e)
 
--- so a leaf has the tag of no group
+-- a leaf has the tag of no group
 pub leaf_no_group : (l : Leaf) (g : GroupKind) → leaf_tag l ≡ group_tag g → ⊥
 leaf_no_group l g e = leaf_tag_no_group (leaf_tag l) g (leaf_tag_is l) e
 
@@ -260,7 +260,7 @@ fault_of_reading (utc_time m) contents e f = utc_time_of_reading contents e f
 fault_of_reading (generalized_time m) contents e f = generalized_time_of_reading contents e f
 fault_of_reading (text kind cs) contents e f = text_fault_of_reading (text_form kind) contents e f
 
--- and one of reading
+-- the fault of a leaf is one of reading
 pub leaf_of_reading : (n : ℕ) (contents : List ℕ) (e : DecodeFault) → LeafFault n contents e → IsOfReading e
 leaf_of_reading n contents e f = let l = by_leaf n contents e f in fault_of_reading l.leaf contents e l.fault
 
@@ -269,7 +269,7 @@ pub data LeafMeaning (n : ℕ) (contents : List ℕ) : Type 0 where
   means_leaf : (l : Leaf) → n ≡ leaf_tag l → LeafContents l contents → LeafMeaning n contents
   means_fault : (e : DecodeFault) → LeafFault n contents e → LeafMeaning n contents
 
--- which, for the tag of a leaf
+-- contents octets with the tag of the leaf mean a leaf of its kind, or are at fault
 meaning : (l : Leaf) (n : ℕ) (contents : List ℕ) → n ≡ leaf_tag l → LeafMeaning n contents
 meaning (boolean b) n contents t =
     elim (boolean_meaning contents)
@@ -346,7 +346,7 @@ leaf_of_tag n e = elim
           ]
     ]
 
--- it is one or the other
+-- contents octets of a leaf's tag mean a leaf, or are at fault
 pub leaf_total : (n : ℕ) (contents : List ℕ) → is_leaf_tag n ≡ true → length contents < 2 ^ 64 → LeafMeaning n contents
 leaf_total n contents e small = let l = leaf_of_tag n e in meaning l.0 n contents l.1
 
@@ -356,7 +356,7 @@ pub data TagKind (n : ℕ) : Type 0 where
   group_tag_of : (g : GroupKind) → n ≡ group_tag g → TagKind n
   leaf_tag_of : is_leaf_tag n ≡ true → TagKind n
 
--- it is one of them
+-- the kind of each tag
 pub tag_kind : (n : ℕ) → TagKind n
 tag_kind n = elim (cases_Bool (is_known_tag n)) [
   | inr e ↦ unknown_tag (unknown_of n e)
@@ -457,7 +457,7 @@ leaf_same_contents (utc_time m) = refl
 leaf_same_contents (generalized_time m) = refl
 leaf_same_contents (text kind cs) = refl
 
--- and the tag is the same
+-- a normalized leaf has the same tag
 pub leaf_same_tag : (l : Leaf) → leaf_tag (normalized_leaf l) ≡ leaf_tag l
 leaf_same_tag (boolean b) = refl
 leaf_same_tag (integer n) = refl

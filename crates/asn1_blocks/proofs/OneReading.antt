@@ -20,7 +20,7 @@ mutual
             s.2 u.0
       ]
 
-  -- and those that encode trees are blocks
+  -- octets that encode trees are blocks
   pub encodes_blocks : (o : ℕ) (octets : List ℕ) (bs : Trees ℕ) → EncodesAll o octets bs → AreBlocks octets
   encodes_blocks o octets no_trees s = subst AreBlocks (sym s) no_blocks
   encodes_blocks o octets (more_trees b bs) s =
@@ -30,7 +30,7 @@ mutual
 pub only : (o : ℕ) (octets : List ℕ) (b : Tree ℕ) → Encodes o octets b → EncodesAll o octets (more_trees b no_trees)
 only o octets b s = record { first = octets; rest = []; whole = sym (append-nil octets); item = s; items = refl }
 
--- and so the other way round
+-- octets that encode a list of one tree encode the tree
 pub only_tree : (o : ℕ) (octets : List ℕ) (b : Tree ℕ) → EncodesAll o octets (more_trees b no_trees) →
     Encodes o octets b
 only_tree o octets b s =

@@ -71,7 +71,7 @@ group_built octets old kept others all g o owes n first b en ek eo ea eb =
     ap (map view) ea ∙ (map-append view first others ∙ ap (λ z. map view first ++ z) d) in
     ap (λ z. z ++ view b ∷ []) k ∙ ap (λ z. take i seen ++ z ∷ []) (eb ∙ ap (λ z. group o g (trees_of z)) a)
 
--- what an explicit block takes from there
+-- what an explicit block takes from the end of the blocks
 pub around_built : (old kept : List ASN1Block) (a : Attempt) (item b : ASN1Block) → old ≡ kept ++ item ∷ [] →
     view b ≡ around a (view item)
     → map view kept ++ view b ∷ [] ≡ around_last a (map view old)

@@ -13,7 +13,7 @@ use Rattle.asn1_blocks.proofs.ReadSteps.{slice_join, slice_length}
 
 module _ (rest : List ℕ) (size announced : ℕ) (class : ASN1Class) (constructed : Bool) (tag : ℕ)
     (front : BeginsWithHeader rest size announced class constructed tag) where
-  -- it has the octets of both its parts
+  -- a header has the octets of both its parts
   header_size : length front.identifier + length front.len ≡ size
   header_size = omega (
     arith,
@@ -27,7 +27,7 @@ module _ (rest : List ℕ) (size announced : ℕ) (class : ASN1Class) (construct
       sym (take-append-drop size rest)
       ∙ (ap (λ z. z ++ drop size rest) front.front_is ∙ append_assoc front.identifier front.len (drop size rest))
 
-  -- its contents octets would end past a usize
+  -- a header is at fault if its contents octets would end past a usize
   pub far_at : (before offset : ℕ) → before ≡ offset + size → 2 ^ 64 ≤ before + announced →
       HeaderFault offset rest (length_too_large announced)
   far_at before offset e far =
@@ -35,7 +35,7 @@ module _ (rest : List ℕ) (size announced : ℕ) (class : ASN1Class) (construct
       front.length_octets parts
       (omega (arith, e, header_size, far)) refl
 
-  -- they are more than what is left
+  -- a header is at fault if its contents octets are more than what is left
   pub long_at : (before offset : ℕ) → before ≡ offset + size → before + announced < 2 ^ 64 →
       length rest - size < announced
       → HeaderFault offset rest incomplete

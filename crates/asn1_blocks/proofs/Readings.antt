@@ -46,7 +46,7 @@ pub without_place : (octets : List ℕ) (e : ASN1DecodeErr) (o : ℕ) → OutOfM
 without_place octets e o (inl memory) = inl memory
 without_place octets e o (inr p) = inr (o, p)
 
--- so where the answer has the place of the fault
+-- the error is that memory ran out, or the first fault, which stands at the offset
 abbrev pub IsPlaced : List ℕ → LocatedErr → Type 0
 IsPlaced octets e = OutOfMemoryOr (λ f. FirstFaultAt octets f e.offset) e.error
 

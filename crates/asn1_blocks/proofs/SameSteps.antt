@@ -63,7 +63,7 @@ whole_of (unknown c k o m v) (leaf p l) e i = cc
 whole_of (unknown c k o m v) (group p h cs) e i = cc
 whole_of (unknown c k o m v) (explicit d p n f) e i = cc
 
--- the same lists of blocks but for offsets
+-- two lists of blocks are equal but for offsets
 abbrev pub AreSame : List ASN1Block → List ASN1Block → Type 0
 AreSame xs ys = shapes (views xs) ≡ shapes (views ys)
 

@@ -30,7 +30,7 @@ further f o q n h d =
     ap f e ∙ h (n + d) ∙ g
 
 mutual
-  -- the same octets at another offset
+  -- octets that encode a tree encode one with other offsets where they stand elsewhere
   pub encodes_at : (f : ℕ → ℕ) (o q : ℕ) (x : List ℕ) (b : Tree ℕ) → ((d : ℕ) → f (o + d) ≡ q + d) → Encodes o x b
       → Encodes q x (with_offsets f b)
   encodes_at f o q x (leaf p l) h (at, k, v, n, e, means) = (ap f at ∙ first_at f o q h, k, v, n, e, means)
@@ -155,7 +155,7 @@ pub record Standing (i : List ℕ) (b : Tree ℕ) (octets : List ℕ) : Type 0 w
   pub at : length before ≡ tree_offset b
   pub encoded : Encodes (tree_offset b) octets b
 
--- where those of a tree of a document do
+-- where the octets of a tree of a document stand
 pub found_octets :
     (i : List ℕ) (bs : Trees ℕ) (b : Tree ℕ) (octets : List ℕ) → IsDocument i bs →
     HasOctets i bs b octets → Standing i b octets
@@ -172,7 +172,7 @@ found_octets i bs b octets d h =
       encoded = subst (λ z. Encodes (tree_offset b) z b) (sym e) (subst (λ z. Encodes z f.octets b) (sym o) f.encoded);
     }
 
--- they are an encoding at its offset
+-- the octets of a tree are an encoding at its offset
 pub octets_encoding : (i : List ℕ) (bs : Trees ℕ) (b : Tree ℕ) (octets : List ℕ) → IsDocument i bs →
     HasOctets i bs b octets
     → EncodingAt i (tree_offset b) octets
@@ -190,7 +190,7 @@ encoding_at_alone i o x y p q =
     (encoding_alone _ _ _ _ _ _ _ _ _ _ _ _ p.rest q.rest p.encoding.encoding q.encoding.encoding
     (sym p.at_offset ∙ q.at_offset)).octets
 
--- so it is that of the tree
+-- the encoding at the offset of a tree is that of the tree
 pub encoding_at_octets :
     (i : List ℕ) (bs : Trees ℕ) (b : Tree ℕ) (octets other : List ℕ) → IsDocument i bs →
     HasOctets i bs b octets → EncodingAt i (tree_offset b) other ↔ (other ≡ octets)

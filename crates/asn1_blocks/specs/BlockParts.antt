@@ -96,7 +96,7 @@ abbrev mutual
   in_order (explicit class o tag b) = explicit class o tag b ∷ in_order b
   in_order (unknown class constructed o tag contents) = unknown class constructed o tag contents ∷ []
 
-  -- so the trees of a list, one after another
+  -- the trees of a list, one after another, each followed by those that it holds
   pub all_in_order : {O : Type 0} → Trees O → List (Tree O)
   all_in_order no_trees = []
   all_in_order (more_trees b bs) = in_order b ++ all_in_order bs

@@ -92,6 +92,6 @@ abbrev pub FirstFaultAt : List ℕ → DecodeFault → ℕ → Type 0
 FirstFaultAt octets e offset =
     ((octets ≡ []) × (e ≡ empty_buffer) × (offset ≡ 0)) ⊎ BlocksFaultAt octets e offset
 
--- the same at whatever offset
+-- the first fault of octets that are no document, at whatever offset
 abbrev pub FirstFault : List ℕ → DecodeFault → Type 0
 FirstFault octets e = (offset : ℕ) × FirstFaultAt octets e offset

@@ -49,7 +49,7 @@ mutual
         {class : ASN1Class} {o tag : ℕ} {a : Tree ℕ} {end : ℕ} {b : Tree ℕ} {stop : ℕ} →
         StandsIn a end b stop → StandsIn (explicit class o tag a) end b stop
 
-  -- so in one of trees one after another, the last of which ends at an offset
+  -- the tree b stands in one of trees one after another, the last of which ends at an offset
   pub data StandsAmong : Trees ℕ → ℕ → Tree ℕ → ℕ → Type 0 where
     in_first :
         {a : Tree ℕ} {bs : Trees ℕ} {end : ℕ} {b : Tree ℕ} {stop : ℕ} →
@@ -79,7 +79,7 @@ pub record EncodingAt (document : List ℕ) (offset : ℕ) (octets : List ℕ) :
   pub at_offset : drop offset document ≡ octets ++ rest
   pub encoding : IsEncoding octets
 
--- none stand there
+-- no encoding stands at the offset
 abbrev pub HasNoEncodingAt : List ℕ → ℕ → Type 0
 HasNoEncodingAt document offset = (octets : List ℕ) → EncodingAt document offset octets → ⊥
 

@@ -136,7 +136,7 @@ fn check_leaf(alloc: Global, tag: &BigUint, contents: &[u8]) -> Result<(), ASN1D
     }
 }
 
-// The same with a tag of this number, without a fault.
+// Whether contents octets with a tag of this number mean a leaf, without the fault where they do not.
 #[inline(always)]
 fn are_meant(tag: u64, contents: &[u8]) -> bool
     ensures { IsTrue result → IsNoLeafOrMeant tag contents.now }
@@ -298,7 +298,7 @@ pub fn push_own<S: Sink>(b: &ASN1Block, out: &mut S)
     }
 }
 
-// The same block, where the copies are those of the blocks that it holds, which it takes.
+// A copy of the block, which takes the copies of the blocks that it holds.
 pub fn copy_over(
     alloc: Global,
     b: &ASN1Block,

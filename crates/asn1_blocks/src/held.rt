@@ -39,7 +39,7 @@ impl Drop for HeldBlocks {
 }
 
 impl HeldBlocks {
-    // None yet.
+    // A list of no blocks.
     #[inline(always)]
     pub fn new(alloc: Global) -> HeldBlocks
         ensures { result ≡ [] }
@@ -49,7 +49,7 @@ impl HeldBlocks {
         }
     }
 
-    // None yet, with room for so many.
+    // A list of no blocks, with room for so many.
     #[inline(always)]
     pub fn with_capacity(alloc: Global, count: usize) -> Result<HeldBlocks, AllocError>
         ensures { IfOk result (λ held. held ≡ []) }
@@ -58,7 +58,7 @@ impl HeldBlocks {
         Ok(HeldBlocks { blocks })
     }
 
-    // These, held from now on.
+    // The list of these blocks.
     #[inline(always)]
     pub fn of(blocks: Vec<ASN1Block>) -> HeldBlocks
         ensures { result ≡ blocks.items }

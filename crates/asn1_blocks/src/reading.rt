@@ -33,7 +33,7 @@ pub struct Attempt {
 pub enum FrameKind {
     // The whole document.
     Whole,
-    // Those of a SEQUENCE or SET.
+    // The contents octets of a SEQUENCE or SET.
     Group(GroupKind),
     Attempt,
 }
@@ -59,7 +59,7 @@ pub struct OpenFrame<I> {
 pub trait Builder: Drop {
     type Items: Drop;
 
-    // It was given these trees in these frames, the innermost first, of the document.
+    // The builder was given these trees in these frames of the document, the innermost first.
     ghost holds: { List ℕ → Self → List (OpenFrame Self.Items) → List (List (Tree ℕ)) → Type 0 };
 
     // The items of a new frame in the innermost one, of the encoding with the header.

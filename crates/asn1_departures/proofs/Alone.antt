@@ -81,7 +81,7 @@ same_identifier xs ys c d j k m n v w g h F G e =
     (sym F.whole ∙ (e ∙ G.whole))).octets
 
 module _ (u o : ℕ) (found : List Departure) where
-  -- with the fields of another header that are the same
+  -- what is listed from an encoding is listed with the fields of another header that are the same
   retold :
       (id id' len len' : List ℕ) (c c' : ASN1Class) (k k' : Bool) (n n' : ℕ) (v v' : List ℕ) (h h' size size' : ℕ)
       (rest rest' : List ℕ) →
@@ -143,7 +143,7 @@ module _ (u o : ℕ) (found : List Departure) where
       let count : g ≡ fewer = omega (arith, more, more') in
       subst (λ z. Lists z (o + 2) rest found) count (subst (λ z. Lists g (o + 2) z found) same ls)
 
-  -- of no octets none are
+  -- no departures are listed of no octets
   listed_none : (x : List ℕ) → u ≡ 0 → x ≡ [] → Lists u o x found → found ≡ []
   listed_none x z e (none_left z' e' f) = f
   listed_none x z e (encoding_listed {first = f} {rest = q} n r i ls all) =
@@ -208,7 +208,7 @@ front_no_fault u o x e small some f (next {first = first} {rest = rest} n a) =
 front_no_fault u o x e small some f (end_of_contents {rest = rest} more w a) =
     header_no_encoding o x (0 ∷ 0 ∷ []) rest e Universal false 0 [] 2 f small w end_encoding
 
--- and none behind the first of them
+-- no header behind the first of encodings is at fault
 encodings_no_fault :
     (u o place : ℕ) (x : List ℕ) (e : DecodeFault) → o + length x < 2 ^ 64 → AreEncodings u x →
     HeaderFaultBehind u o x place e → ⊥
@@ -221,7 +221,7 @@ encodings_no_fault u o place x e small a (behind_end_of_contents {fewer = fewer}
     encodings_no_fault fewer (o + 2) place rest e (omega (arith, small, ap length w))
     (behind_end u fewer x rest more w a) f
 
--- so encodings one after another have no fault
+-- encodings one after another have no fault
 pub no_fault : (x : List ℕ) (place : ℕ) (e : DecodeFault) → length x < 2 ^ 64 → 0 < length x → AreEncodings 0 x →
     NoEncodingsFault x place e → ⊥
 no_fault x place e small some a (inl f) = omega (arith, some, ap length f.0)
@@ -321,7 +321,7 @@ fault_alone u o p q x e d small (behind_end_of_contents {fewer = a} {rest = rest
     fault_alone a (o + 2) p q rest e d (omega (arith, small, ap length w)) f
     (subst (λ z. HeaderFaultBehind z (o + 2) rest q d) count (subst (λ z. HeaderFaultBehind b (o + 2) z q d) same g))
 
--- of no octets no header is at fault, where none is open
+-- no octets have a header at fault, where no encoding is open
 of_none : {x : List ℕ} {p : ℕ} {e : DecodeFault} → x ≡ [] → HeaderFaultBehind 0 0 x p e → ⊥
 of_none none (at_front some f) = omega (arith, some, ap length none)
 of_none none (unended_at_end some e) = omega (arith, some)

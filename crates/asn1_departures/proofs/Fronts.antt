@@ -100,7 +100,7 @@ none_next u x some none end (no_more z e) = omega (arith, some, ap length e)
 none_next u x some none end (next {first = f} {rest = r} m a) = none f r m
 none_next u x some none end (end_of_contents {fewer = f} {rest = r} more e a) = end f r more e
 
--- at the end none is open
+-- no encoding is open at the end of the octets
 pub at_end : (u : ℕ) (x : List ℕ) → x ≡ [] → AreEncodings u x → u ≡ 0
 at_end u x e (no_more z none) = z
 at_end u x e (next {first = f} {rest = r} m a) =
@@ -158,7 +158,7 @@ front_identifier octets identifier behind tag number size (c, k, is) whole (d, j
     (take-append-drop size octets ∙ whole) in
     (same.octets, same.rest)
 
--- behind end-of-contents octets
+-- octets that begin with end-of-contents octets are these and what is behind them
 pub end_front : (x : List ℕ) → begins_with_end x ≡ true → x ≡ 0 ∷ 0 ∷ drop 2 x
 end_front [] t = absurd cc
 end_front (a ∷ []) t = absurd cc

@@ -200,7 +200,7 @@ own_of_alone o id len c k n v r i l t =
     ∙ (ap (λ z. listed o z ++ listed o r.of_type) b ∙ ap (listed o) d)
 
 mutual
-  -- and of DER none are listed
+  -- no departures of DER are listed
   pub none_of_der :
       (u o : ℕ) (x : List ℕ) (found : List Departure) → Lists u o x found → u ≡ 0 → length x < 2 ^ 64 → AreDer x →
       found ≡ []

@@ -69,7 +69,7 @@ module _ (x : List ℕ) (i e : ℕ) (h : PlacedHeader) (f : HeaderFound x i e h)
         no_end = no_end_front u (slice_range x i e) (slice_range x i h.end) (slice_range x h.end e) join no_end;
       }
 
-      -- its departures, those inside it, and those behind it
+      -- the departures of an encoding, those inside it, and those behind it
       pub listed_next :
           (r : OwnRules id len h.class h.constructed h.tag (slice_range x h.start h.end))
           (inside later : List Departure) →
@@ -93,7 +93,7 @@ regrouped a b c d g =
     ∙ ap (λ z. a ++ z) (append_assoc b c (d ++ g)
     ∙ (ap (λ z. b ++ z) (sym (append_assoc c d g)) ∙ sym (append_assoc b (c ++ d) g)))
 
--- so what is behind an encoding, and what it has, is all
+-- what is behind an encoding that was passed, with the encoding's own, is all that was left
 pub passed :
     (x : List ℕ) (u i v j e : ℕ) (es : List Extent) (own inside found later : List Departure) →
     ((more : List Departure) → Lists v j (slice_range x j e) more →
@@ -107,7 +107,7 @@ passed x u i v j e es own inside found later step (a, b, la, lb, w) = (
   ap (λ z. (found ++ (own ++ inside)) ++ z) w ∙ regrouped found own inside a b,
 )
 
--- and what is inside it and behind it
+-- what is inside and behind an encoding that was opened, with the encoding's own, is all that was left
 pub opened :
     (x : List ℕ) (u i s t e : ℕ) (es : List Extent) (own found later : List Departure) →
     ((inside more : List Departure) → Lists 0 s (slice_range x s t) inside → Lists u t (slice_range x t e) more →
@@ -196,7 +196,7 @@ fault_behind_end x i u place fault more t w =
     behind_end_of_contents (omega (arith, some)) (end_slice x i (length x) (omega (arith, more)) (omega arith) front).1
     w
 
--- with the encoding that was found and those behind it, all are listed
+-- the departures of the encoding that was found, and of those behind it, are all
 pub all_behind :
     (x : List ℕ) (i e u v : ℕ) (es : List Extent) (h : PlacedHeader) (f : HeaderFound x i e h) (within : e ≤ length x)
     (id len : List ℕ) (p : IsParted (slice_range x i h.start) id len h.class h.constructed h.tag (h.end - h.start))

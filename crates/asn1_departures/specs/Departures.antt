@@ -57,13 +57,13 @@ pub data Found (Asked : Type 0) (rule : Rule) : Option Rule → Type 0 where
   kept : Asked → Found Asked rule None
   broken : (Asked → ⊥) → Found Asked rule (Some rule)
 
--- of length octets
+-- the rule that length octets break, if they are of the indefinite form, or not the shortest
 abbrev pub LengthFound : List ℕ → ℕ → Option Rule → Type 0
 LengthFound len size found =
     MatchBool (is_indefinite len) (found ≡ Some IndefiniteLength) (Found (len ≡ shortest_length size) LongLength found)
 
--- of the tag, the form and the contents octets. A schema alone says what other classes hold. Of an encoding of the
--- indefinite form the contents octets are not judged
+-- the rule that the tag, the form or the contents octets break. A schema alone says what other classes hold. Of an
+-- encoding of the indefinite form the contents octets are not judged
 abbrev pub TypeFound : (indefinite : Bool) → ASN1Class → Bool → ℕ → List ℕ → Option Rule → Type 0
 TypeFound indefinite Universal constructed tag contents found =
     MatchBool indefinite (found ≡ form_rule constructed tag)
@@ -81,7 +81,7 @@ pub record OwnRules (identifier len : List ℕ) (class : ASN1Class) (constructed
   pub length_found : LengthFound len (length contents) of_length
   pub type_found : TypeFound (is_indefinite len) class constructed tag contents of_type
 
--- of the contents octets of a constructed encoding of the definite form: they are encodings (8.1.2.5)
+-- the rule for contents octets of a constructed encoding of the definite form: they are encodings (8.1.2.5)
 abbrev pub ItemsFound : Bool → List ℕ → List ℕ → Option Rule → Type 0
 ItemsFound constructed len contents found =
     MatchBool (is_looked_into constructed len) (Found (AreEncodings 0 contents) NotEncodings found) (found ≡ None)

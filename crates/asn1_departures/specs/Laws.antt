@@ -8,11 +8,11 @@ use Rattle.asn1_departures.specs.declared.rule.Departure.{Departure}
 
 -- octets have one answer
 pub record OneListOfDepartures : Type 0 where
-  -- they have at most one list of departures
+  -- octets have at most one list of departures
   pub one_list :
       (octets : List ℕ) (some others : List Departure) → AreDepartures octets some → AreDepartures octets others →
       some ≡ others
-  -- and no list where a header is at fault, if there are octets
+  -- octets in which a header is at fault have no list, if there are any octets
   pub not_both :
       (octets : List ℕ) (found : List Departure) (place : ℕ) (fault : DecodeFault) → FitInSlice octets →
       0 < length octets → AreDepartures octets found → NoEncodingsFault octets place fault → ⊥

@@ -30,7 +30,7 @@ ListsUpTo octets index (extent ∷ extents) found =
     × Lists extent.unended index (slice_range octets index extent.end) first
     × ListsUpTo octets extent.end extents later × (found ≡ first ++ later)
 
--- these are all, with those of what is left
+-- all departures: those found, and those of what is left
 abbrev pub ListsAll : List ℕ → Place → List Departure → List Departure → Type 0
 ListsAll octets place found all =
     (later : List Departure) × ListsUpTo octets place.index (extents_of place) later × (all ≡ found ++ later)
@@ -54,7 +54,7 @@ abbrev pub begins_with_end : List ℕ → Bool
 begins_with_end (a ∷ b ∷ rest) = (a == 0) && (b == 0)
 begins_with_end octets = false
 
--- and are those of an encoding that is open
+-- end-of-contents octets stand in front, and close an encoding that is open
 abbrev pub is_at_end : ℕ → List ℕ → Bool
 is_at_end unended octets = nat_lt 0 unended && begins_with_end octets
 
@@ -71,7 +71,7 @@ pub record IsStep (unended : ℕ) (octets : List ℕ) (unended_behind : ℕ) (be
   pub fewer : length behind < length octets
   pub room : unended_behind + length behind ≤ unended + length octets
 
--- from the index to the end
+-- the octets from the index to the end
 abbrev pub rest_of : List ℕ → ℕ → List ℕ
 rest_of octets index = slice_range octets index (length octets)
 

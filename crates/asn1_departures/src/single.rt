@@ -67,7 +67,7 @@ fn split_front<'a>(octets: &'a [u8], header: &Header) -> (&'a [u8], &'a [u8])
     split_identifier(front)
 }
 
-// That the contents octets of a constructed encoding of the definite form are no encodings.
+// The rule that the contents octets of a constructed encoding of the definite form break if they are no encodings.
 fn items_found(constructed: bool, len: &[u8], contents: &[u8]) -> Option<Rule>
     ensures { ItemsFound constructed len.now contents.now result }
 {

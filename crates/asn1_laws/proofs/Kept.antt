@@ -11,7 +11,7 @@ use Rattle.asn1_laws.specs.Spellings.{is_written_otherwise}
 use Rattle.asn1_laws.proofs.Leaves.{bit_string_kept, bit_string_other, boolean_kept, integer_kept, object_identifier_kept, object_identifier_other}
 use Rattle.asn1_laws.proofs.Times.{generalized_time_kept, generalized_time_other}
 
--- it is written as it came, unless it is one of those
+-- a leaf is written as it came, unless its contents octets are written otherwise
 pub leaf_kept :
     (l : Leaf) (contents : List ℕ) → AreOctets contents → LeafContents l contents →
     HasDerContents (leaf_tag l) contents →
@@ -31,7 +31,7 @@ leaf_kept (text bmp cs) contents all p der plain = sym p.1
 leaf_kept (utc_time m) contents all p der plain = p.1
 leaf_kept (generalized_time m) contents all p der plain = generalized_time_kept m contents p der.1.1 plain
 
--- those are not written as they came
+-- a leaf that stands as it is written is not among those that are written otherwise
 pub leaf_other :
     (l : Leaf) (contents : List ℕ) → LeafContents l contents → HasDerContents (leaf_tag l) contents →
     contents ≡ leaf_contents l → is_written_otherwise (leaf_tag l) contents ≡ false

@@ -79,7 +79,7 @@ bit_string_kept n v (u ∷ first ∷ more) (same, size, fits) der some =
     let unused : u ≡ 8 * length v - n = omega (arith, size) in
     ap₂ (λ x y. x ∷ y) unused (sym same) ∙ sym (bit_string_some n v bits)
 
--- without bits it is not
+-- contents octets that are written of bits are not one octet, which means no bits
 pub bit_string_other :
     (n : ℕ) (v contents : List ℕ) → BitStringContents n v contents → is_bit_string contents ≡ true →
     contents ≡ bit_string_contents n v → has_no_bits contents ≡ false

@@ -53,7 +53,7 @@ module _ (contents : List ℕ) (size : 15 < length contents) where
       (no_point_true (get_or contents 14 0 == 46) (get_or contents (length contents - 2) 0 == 48)
       (get_or contents (length contents - 2) 0 == 46) e)
 
-  -- or it ends in 0, or has no digit
+  -- a fraction that ends in 0, or has no digit, is padded
   padded_end : (get_or contents (length contents - 2) 0 ≡ 48) ⊎ (get_or contents (length contents - 2) 0 ≡ 46) →
       has_padded_fraction contents ≡ true
   padded_end h =
@@ -85,7 +85,7 @@ module _ (m : Moment) where
       without_point whole (omega (arith, whole_size (d ∷ ds ++ 90 ∷ []), length-append ds (90 ∷ [])))
       (ap (λ z. z == 46) (at_point d (ds ++ 90 ∷ [])) ∙ other)
 
-  -- so is a point without digits
+  -- a point without digits is a padded fraction
   bare_point : has_padded_fraction (to_second m ++ (46 ∷ 90 ∷ [])) ≡ true
   bare_point =
       let whole = to_second m ++ (46 ∷ 90 ∷ []) in

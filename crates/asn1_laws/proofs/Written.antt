@@ -76,7 +76,7 @@ first_written b rest whole e small d =
     (s.der, s.more)
 
 mutual
-  -- and those that are, are said to be
+  -- a faithful tree whose canonical octets are a DER encoding is a tree of DER
   tree_of_der : (b : Tree ℕ) → length (canonical b) < 2 ^ 64 → IsFaithful b → IsDerEncoding (canonical b) → IsDerTree b
   tree_of_der (leaf o l) small f d =
       let w = whole_of Universal false (leaf_tag l) (leaf_contents l) small d in
@@ -117,7 +117,7 @@ written_one b small f = (
   },
 )
 
--- and of trees, joined
+-- what is written of faithful trees, joined, is DER exactly where these are trees of DER
 pub written_joined :
     (bs : Trees ℕ) → bs ≢ no_trees → length (all_canonical bs) < 2 ^ 64 → AreFaithful bs →
     IsDer (all_canonical bs) ↔ AreDerTrees bs

@@ -112,7 +112,7 @@ components_ended (n ∷ ns) =
     (λ t. shortest_base128_leading n) (components_ended ns) in
     record { last = λ some. i.1; unpadded = i.0 }
 
--- behind an octet with bit 8 set
+-- behind an octet with bit 8 set, the shortest subidentifiers are not padded
 behind_high : (n : ℕ) (ns : List ℕ) → is_padded_from false (flat_map shortest_base128 (n ∷ ns)) ≡ false
 behind_high n ns =
     (continued_ended (shortest_base128 n) (flat_map shortest_base128 ns) false (shortest_base128_is n).continued

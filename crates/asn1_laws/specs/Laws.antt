@@ -32,7 +32,7 @@ pub record WrittenIsDer : Type 0 where
   pub one :
       (b : Tree ℕ) →
       FitInSlice (canonical b) → IsFaithful b → IsDer (canonical b) ↔ IsDerTree b
-  -- and of faithful trees, joined
+  -- what is written of faithful trees, joined
   pub joined :
       (bs : Trees ℕ) →
       bs ≢ no_trees → FitInSlice (all_canonical bs) → AreFaithful bs → IsDer (all_canonical bs) ↔ AreDerTrees bs

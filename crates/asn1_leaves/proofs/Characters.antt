@@ -89,7 +89,7 @@ octets_fit (c ∷ cs) all =
     let t = octets_fit cs (All-tail (λ b. b < 256) c cs all) in
     grind (arith, common_steps, h, t)
 
--- so they can be written
+-- characters that are octets can be written
 pub octets_writable : (cs : List ℕ) → All (λ b. b < 256) cs → octet_write_fault cs ≡ None
 octets_writable cs all = let e = octets_fit cs all in rw e refl
 

@@ -10,7 +10,7 @@ use Rattle.asn1_leaves.specs.Contents.ObjectIdentifier.{AreFirstTwo, ObjectIdent
 use Rattle.asn1_leaves.specs.Inner.IdentifierForms.{HaveShortContents, IsShortForm, components_of, first_component, numbers_after, second_component}
 use Rattle.asn1_leaves.proofs.Leaves.ObjectIdentifier.{object_identifier_again, object_identifier_writable}
 
--- of the first subidentifier
+-- the number of the first subidentifier, before those of the others
 pub number_found : (n : ℕ) (first rest : List ℕ) → IsContinued first
     → numbers_after n (first ++ rest) ≡ number_from_digits_after 128 n (map (λ b. b % 128) first) ∷ numbers_after 0 rest
 number_found n [] rest p = absurd p
@@ -43,12 +43,12 @@ components_found (x ∷ y ∷ ns) contents (b, octets, e, f, s) =
     let others = numbers_found ns octets s in
     ap components_of e ∙ cc
 
--- of what is written they are those that were written
+-- the components of what is written are those that were written
 pub components_written : (ns : List ℕ) → object_identifier_write_fault ns ≡ None →
     components_of (object_identifier_contents ns) ≡ ns
 components_written ns fits = components_found ns (object_identifier_contents ns) (object_identifier_again ns fits)
 
--- so what is written is a form of them
+-- contents octets that are written, if few, are a form of their components
 pub written_form : (ns : List ℕ) → HaveShortContents ns → IsShortForm (object_identifier_contents ns)
 written_form ns short =
     let found = sym (components_written ns short.0) in
@@ -66,7 +66,7 @@ short_form ns contents all p e short =
       e ∙ ap object_identifier_contents (sym found),
     )
 
--- they mean these components
+-- the form of components means these components
 pub short_meant : (contents : List ℕ) → IsShortForm contents →
     ObjectIdentifierContents (components_of contents) contents
 short_meant contents (fits, e) =

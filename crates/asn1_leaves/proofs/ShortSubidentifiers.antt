@@ -17,7 +17,7 @@ abbrev pub NoneLeads : Bool → List ℕ → Type 0
 NoneLeads begins [] = IsTrue begins
 NoneLeads begins (b ∷ octets) = (IsTrue begins → b ≢ 128) × NoneLeads (nat_lt b 128) octets
 
--- so it is after the first
+-- no subidentifier after the first begins with 80
 none_after : (first rest : List ℕ) (begins : Bool) → IsContinued first → NoneLeads begins (first ++ rest) →
     NoneLeads true rest
 none_after [] rest begins p h = absurd p
@@ -26,14 +26,14 @@ none_after (b ∷ []) rest begins p h =
     subst (λ z. NoneLeads z rest) ends h.1
 none_after (b ∷ c ∷ first) rest begins p h = none_after (c ∷ first) rest (nat_lt b 128) p.1 h.1
 
--- and the first itself does not begin so
+-- the first subidentifier does not begin with 80
 none_first : (first rest more : List ℕ) → IsContinued first → NoneLeads true (first ++ rest) → first ≢ 128 ∷ more
 none_first [] rest more p h e = p
 none_first (b ∷ first) rest more p h e =
     let leading : b ≡ 128 = cc in
     h.0 refl leading
 
--- so all are the shortest
+-- subidentifiers of which none begins with 80 are the shortest
 short_subidentifiers : (ns octets : List ℕ) → AreOctets octets → NoneLeads true octets → Subidentifiers ns octets
     → octets ≡ flat_map shortest_base128 ns
 short_subidentifiers [] octets all h s = s
@@ -64,12 +64,12 @@ short_object_identifier (x ∷ y ∷ ns) b octets all h (c, rest, e, f, s) =
     let first_is : b ≡ 40 * x + y = first ∙ f.0 in
     cc
 
--- without octets none does
+-- where no octets are left, and the last subidentifier has ended, none begins with 80
 pub none_left : (octets : List ℕ) (begins : Bool) → length octets ≡ 0 → IsTrue begins → NoneLeads begins octets
 none_left [] begins n ended = ended
 none_left (b ∷ octets) begins n ended = absurd (omega (arith, n))
 
--- and then they are subidentifiers
+-- octets in which no subidentifier begins with 80, and the last one ends, are subidentifiers
 pub numbers_stand : (octets : List ℕ) (begins : Bool) → NoneLeads begins octets →
     (ns : List ℕ) × Subidentifiers ns octets
 numbers_stand [] begins h = ([], refl)
@@ -93,7 +93,7 @@ numbers_stand (b ∷ octets) begins h = by_rest (numbers_stand octets (nat_lt b 
       ),
     )
 
--- with one octet before them they mean components
+-- an octet before octets in which no subidentifier begins with 80 makes them mean components
 pub components_stand : (b : ℕ) (octets : List ℕ) → NoneLeads true octets →
     (ns : List ℕ) × ObjectIdentifierContents ns (b ∷ octets)
 components_stand b octets h =

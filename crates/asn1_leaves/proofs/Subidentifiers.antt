@@ -50,7 +50,7 @@ begun : (first : List ℕ) → IsContinued first → length first ≤ 0 → ⊥
 begun [] p h = p
 begun (b ∷ first) p h = omega (arith, h)
 
--- they have one list of numbers
+-- octets are the subidentifiers of one list of numbers
 pub subidentifiers_alone : (ms ns octets : List ℕ) → Subidentifiers ms octets → Subidentifiers ns octets → ms ≡ ns
 subidentifiers_alone [] [] octets s t = refl
 subidentifiers_alone [] (n ∷ ns) octets s t =
@@ -144,7 +144,7 @@ subidentifiers_ended (b ∷ []) low =
 subidentifiers_ended (b ∷ c ∷ octets) low =
     more_before b c octets (subidentifiers_ended (c ∷ octets) (omega (arith, low, last_after b c octets)))
 
--- and of none, where it does not
+-- octets whose last goes on with another are the subidentifiers of no numbers
 pub subidentifiers_unended : (octets : List ℕ) → 128 ≤ get_or octets (length octets - 1) 0 → (ns : List ℕ) →
     Subidentifiers ns octets → ⊥
 subidentifiers_unended [] high ns s = omega (arith, high)

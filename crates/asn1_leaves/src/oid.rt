@@ -43,7 +43,7 @@ use std::marker::Model;
 #[derive(Drop)]
 pub struct OID {
     kept: Kept,
-    // It takes no room. `fmt` is given no allocator, and a large component takes memory to be written.
+    // The allocator takes no room. `fmt` is given none, and a large component takes memory to be written.
     alloc: Global,
 }
 
@@ -83,7 +83,7 @@ fn short_contents(components: &[BigUint]) -> Option<ArrayVec<u8, 24>>
     Some(octets)
 }
 
-// The same numbers.
+// A copy of the numbers.
 fn copy_of(alloc: Global, numbers: &[BigUint]) -> Result<Vec<BigUint>, AllocError>
     ensures { IfOk result (λ copy. copy.items ≡ numbers.now) }
 {
@@ -421,7 +421,7 @@ impl OID {
         }
     }
 
-    /// The same object identifier: of at most 24 contents octets without memory, otherwise in one allocation if all
+    /// Copies the object identifier: of at most 24 contents octets without memory, otherwise in one allocation if all
     /// components are below 2^64. The only error is that memory ran out.
     ///
     /// ```rust

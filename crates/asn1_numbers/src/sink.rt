@@ -39,7 +39,7 @@ fn append(octets: &[u8], out: &mut Vec<u8>)
     }
 }
 
-// At its end, without growing.
+// Pushes at the end of a vector, without growing it.
 impl Sink for Vec<u8> {
     ghost use Rattle.asn1_numbers.specs.Inner.Sinks.{vec_pushes, vec_room, vec_pushes_none, vec_pushes_more, vec_room_after};
 
@@ -62,7 +62,7 @@ impl Sink for Vec<u8> {
     }
 }
 
-// At its end, in the room that it has.
+// Pushes at the end of an array vector, in the room that it has.
 impl<const N: usize> Sink for ArrayVec<u8, N> {
     ghost use Rattle.asn1_numbers.specs.Inner.ArraySinks.{array_pushes, array_room, array_pushes_none, array_pushes_more, array_room_after};
 

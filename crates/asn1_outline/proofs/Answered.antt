@@ -12,7 +12,7 @@ use Rattle.asn1_outline.specs.declared.entry.Entry.{Entry}
 abbrev pub AreOfDocument : List ℕ → List Entry → Type 0
 AreOfDocument octets es = (bs : Trees ℕ) × IsDocument octets bs × AreEntriesOf octets bs es
 
--- which is the only one
+-- entries of a document are of its trees, whichever trees it is read as
 pub only_entries : (octets : List ℕ) (es : List Entry) (bs : Trees ℕ) → AreOfDocument octets es → IsDocument octets bs →
     AreEntriesOf octets bs es
 only_entries octets es bs (cs, d, are) e =

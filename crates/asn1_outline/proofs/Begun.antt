@@ -7,7 +7,7 @@ use Rattle.asn1_blocks.specs.declared.parsed.PlacedHeader.{PlacedHeader}
 use Rattle.asn1_blocks.proofs.ReadSteps.{slice_length}
 use Rattle.asn1_outline.specs.Entries.{HasHeaderAt, HasTag}
 
--- it says what stands at its offset
+-- an entry that is begun says which header stands at its offset
 pub begun_header :
     (x : List ℕ) (offset limit : ℕ) (h : PlacedHeader) (tag items next depth : ℕ) → HeaderFound x offset limit h →
     limit ≤ length x → HasTag h.tag tag →

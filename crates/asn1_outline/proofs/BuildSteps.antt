@@ -98,7 +98,7 @@ module _ (octets : List ℕ) (es : List Entry) (ns : Nodes) (lent : ∥ IsOutlin
         ahead_is = built ∙ roots_here.ahead ∙ ap (λ z. items_of z ++ roots_here.rest) (sub_is j l);
       }
 
-  -- with its block they are built from it on
+  -- the trees from a node on are built once its block is pushed
   pub built_more : (j : ℕ) → j < length (node_in_order (node_at ns k)) →
       (old left new : List ASN1Block) (block : ASN1Block)
       → built_trees old ≡ roots (drop (j + 1) (node_in_order (node_at ns k))) →

@@ -95,7 +95,7 @@ module _ (x : List ℕ) (o : ℕ) (y : List ℕ) (n : ℕ) (v : List ℕ) (h : �
         no_more : (t : Tree ℕ) → more_trees t no_trees ≡ no_trees → ⊥
         no_more t r = absurd (cc)
 
-    -- and one that stays as it came
+    -- an encoding of which no block is kept stays as it came
     pub kept_there : (b : Tree ℕ) → Encodes o y b → Holds x b bs → ((t : Tree ℕ) → bs ≡ more_trees t no_trees → ⊥) →
         b ≡ unknown c true o n v
     kept_there (leaf p l) s q none = absurd (other (sym (same_encoding y _ _ _ _ _ _ _ _ _ _ s.4 e).class))

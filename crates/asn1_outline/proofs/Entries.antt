@@ -89,7 +89,7 @@ sealed_header x r items next (y, at, h) = (
   },
 )
 
--- that of one that holds some, before those of what it holds
+-- the entry of a block that holds others, before the entries of these
 pub sealed_entry :
     (x : List ℕ) (o i d items next : ℕ) (t : Tree ℕ) (ns : List Node) (r : Entry) (rs : List Entry) →
     tree_offset t ≡ o →

@@ -22,7 +22,7 @@ module _ (octets : List ℕ) (es : List Entry) (ns : Nodes) (lent : ∥ IsOutlin
         next_at octets es ns k lent d h ∙ ap (λ z. z + length (node_in_order (get_or whole z no_node))) at in
         side_by_side_trees whole ns 0 es [] (sym (append-nil whole)) (many_nodes octets es ns 0 lent d) leads
 
-    -- those directly inside the one at an index
+    -- the entries directly inside the one at an index are those of its node's items
     pub inside_trees : (k : ℕ) → k < length es
         → trees_of (map (λ (item : ℕ × Entry). tree_at ns item.0)
         (side_by_side 0 (k + 1) (slice_range es (k + 1) (get_or es k no_entry).next)))

@@ -57,7 +57,7 @@ abbrev pub LeadOver : List Node → ℕ → List Entry → Type 0
 LeadOver whole i rs = (k : ℕ) → k < length rs →
     (get_or rs k no_entry).next ≡ i + k + length (node_in_order (get_or whole (i + k) no_node))
 
--- so side by side they are of these nodes alone
+-- entries side by side are those of the nodes alone, without those inside them
 pub side_by_side_trees :
     (whole : List Node) (ns : Nodes) (i : ℕ) (rs : List Entry) (rest : List Node) →
     drop i whole ≡ nodes_in_order ns ++ rest →

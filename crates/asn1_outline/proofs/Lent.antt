@@ -63,7 +63,7 @@ module _ (octets : List ℕ) (es : List Entry) (ns : Nodes) (k : ℕ) (lent : �
       let prop : IsProp (length es ≡ length (nodes_in_order ns)) = hlevel props in
       ∥∥₁_elim lent prop (λ x. let (cs, e, are) = x in as_many (entries_of cs e are))
 
-  -- and past the end no block stands
+  -- past the last entry no block stands
   pub past_nodes : length es ≤ k → length (nodes_in_order ns) ≤ k
   past_nodes h =
       let prop : IsProp (length (nodes_in_order ns) ≤ k) = hlevel props in
@@ -75,7 +75,7 @@ module _ (octets : List ℕ) (es : List Entry) (ns : Nodes) (k : ℕ) (lent : �
   pub no_tree_there : length es ≤ k → tree_at ns k ≡ no_tree
   no_tree_there h = ap node_tree (no_node_there h)
 
-  -- so of what was looked up
+  -- what was looked up at an index is the entry of the tree there
   pub found_entry : (items : List Entry) (entry : Entry) → items ≡ es →
       (k < length items) × ((r : Entry) → entry ≡ get_or items k r)
       → (Q : Type 0) → IsProp Q → (IsEntryOf octets (tree_at ns k) entry → Q) → Q

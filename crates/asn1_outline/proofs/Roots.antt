@@ -32,7 +32,7 @@ mutual
 pub roots_whole : (n : Node) → roots (node_in_order n) ≡ node_tree n ∷ []
 roots_whole n = ap roots (sym (append-nil (node_in_order n))) ∙ roots_in n []
 
--- from a place on: the items of the node that stands there come first
+-- the trees from a place on: the items of the node that stands there come first
 pub record RootsAt (ns : List Node) (k : ℕ) : Type 0 where
   pub rest : List (Tree ℕ)
   pub ahead : roots (drop (k + 1) ns) ≡ items_of (get_or ns k no_node) ++ rest

@@ -41,7 +41,7 @@ header_alone x p e h g within f f' =
     ∙ ap (λ z. record { class = g.class; constructed = g.constructed; tag = g.tag; start = g.start; end = z }) end in
     same
 
--- and none where one is at fault
+-- no header is at fault where one is found
 header_no_fault : (x : List ℕ) (s p e : ℕ) (h : PlacedHeader) (fault : DecodeFault) → length x < 2 ^ 64 → e ≤ length x →
     HeaderFound x p e h
     → HeaderFault (p - s) (slice_range x p e) fault → ⊥

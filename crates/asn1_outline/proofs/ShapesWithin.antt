@@ -45,7 +45,7 @@ mutual
   items_within x h all i d within (as_it_came other bit fault) = tt
   items_within x h all i d within (not_read shut) = tt
 
--- so of what was looked up
+-- an entry that was looked up lies within the octets
 pub entry_lies : (x : List ℕ) (es items : List Entry) (k : ℕ) (entry : Entry) → ∥ AreEntriesOfShapes x es ∥₁ →
     items ≡ es
     → (k < length items) × ((r : Entry) → entry ≡ get_or items k r) → IsWithin x entry

@@ -61,7 +61,7 @@ mutual
       let others : ns ≡ ms = nodes_alone x ns ms rest p.1 q.1 in
       cc
 
--- so has a document
+-- a document has one structure
 pub structure_alone : (x : List ℕ) (ns ms : Nodes) → IsStructure x ns → IsStructure x ms → ns ≡ ms
 structure_alone x ns ms (d, p) (e, q) =
     nodes_alone x ns ms (all_alone 0 x (nodes_trees ns) (nodes_trees ms) d.blocks e.blocks) p q

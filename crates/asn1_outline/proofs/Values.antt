@@ -126,7 +126,7 @@ is_integer x b r e class tag =
     integer_tree (tree_offset b) c.octets b r.constructed c.contents r.header c.encoded two
     ∙ ap (λ z. Some (signed_number z)) (sym c.are)
 
--- any other tree is none
+-- a tree whose encoding has another class or tag number than an INTEGER is none
 no_integer_leaf : (o : ℕ) (y : List ℕ) (b : Tree ℕ) (c : ASN1Class) (k : Bool) (n : ℕ) (w : List ℕ) (h : ℕ) →
     Encodes o y b → Encoding y c k n w h
     → ((c ≡ Universal) × (n ≡ 2) → ⊥) → tree_integer b ≡ None
@@ -145,7 +145,7 @@ is_no_integer x b r e other =
     no_integer_leaf (tree_offset b) c.octets b r.class r.constructed c.tag c.contents r.header c.encoded c.encoding
     (λ (d, t). other (d, c.number.0 (omega (arith, t)) ∙ t))
 
--- and what lies outside the octets is of no entry
+-- an entry of a document lies within its octets
 pub is_within : (x : List ℕ) (b : Tree ℕ) (r : Entry) → IsEntryOf x b r → r.offset + r.header + r.contents ≤ length x
 is_within x b r e = (contents_of x b r e).within
 
@@ -183,7 +183,7 @@ is_leaf x b r n e class tag small t =
     subst (λ z. IsLeafOf (tree_offset b) n z b) (sym c.are)
     (leaf_encoded (tree_offset b) c.octets b r.constructed n c.contents r.header t c.encoded two)
 
--- it is the leaf that the contents octets mean
+-- the tree is the leaf that the contents octets mean
 pub leaf_is : (o n : ℕ) (v : List ℕ) (b : Tree ℕ) (l : Leaf) → IsLeafOf o n v b → n ≡ leaf_tag l → LeafContents l v →
     (p : ℕ) × (b ≡ leaf p l)
 leaf_is o n v (leaf p m) l s t e = (p, ap (leaf p) (leaf_alone m l v (sym s.1 ∙ t) s.2 e))
@@ -191,7 +191,7 @@ leaf_is o n v (group p g bs) l s t e = absurd s
 leaf_is o n v (explicit c p m b) l s t e = absurd s
 leaf_is o n v (unknown c k p m w) l s t e = absurd s
 
--- and they have no fault
+-- contents octets of a leaf that was read have no fault
 pub leaf_faultless : (o n : ℕ) (v : List ℕ) (b : Tree ℕ) (fault : DecodeFault) → IsLeafOf o n v b →
     LeafFault n v fault → ⊥
 leaf_faultless o n v (leaf p m) fault s f = leaf_no_fault n v fault m s.1 s.2 f
@@ -303,7 +303,7 @@ no_octets (unknown c k o n v) other = refl
 pub are_octets : (o : ℕ) (v : List ℕ) (b : Tree ℕ) → IsLeafOf o 4 v b → tree_octets b ≡ Some v
 are_octets o v b s = let (p, same) = leaf_is o 4 v b (octet_string v) s refl refl in ap tree_octets same
 
--- so of what was found
+-- what was found as the octets of an entry are those of its tree
 pub octets_found : {A : Type 0} (now : A → List ℕ) (found : Option A) (b : Tree ℕ)
     → MatchOption found (IsNoLeafWith 4 b) (λ v. IsLeafOf (tree_offset b) 4 (now v) b)
     → MatchOption found (tree_octets b ≡ None) (λ v. tree_octets b ≡ Some (now v))
@@ -354,7 +354,7 @@ primitive_found now None x b r e class constructed small t h = absurd (omega (ar
 primitive_found now (Some v) x b r e class constructed small t h =
     subst (λ z. IsPrimitive r.tag z b) (sym h) (is_primitive x b r e class constructed small t)
 
--- and what an entry says of such an encoding
+-- the entry of a primitive encoding of class Universal that stays as it came has its class, bit and tag number
 pub primitive_entry : (x : List ℕ) (b : Tree ℕ) (r : Entry) (n : ℕ) (v : List ℕ) → IsEntryOf x b r → IsPrimitive n v b
     → (r.class ≡ Universal) × (r.constructed ≡ false) × (n < 2 ^ 64 → r.tag ≡ n)
 primitive_entry x b r n v e is =
@@ -364,7 +364,7 @@ primitive_entry x b r n v e is =
     let z = one c.octets Universal r.class false r.constructed n c.tag v c.contents s.1 r.header s.2 c.encoding in
     (sym z.class, sym z.constructed, λ small. c.number.0 (omega (arith, small, z.tag)) ∙ sym z.tag)
 
--- any other tree has nothing of it
+-- a tree that is no primitive encoding of class Universal is no ENUMERATED
 pub no_enumerated : (b : Tree ℕ) → IsNoPrimitive b → tree_enumerated b ≡ None
 no_enumerated (unknown Universal false o n v) other = absurd (other n v refl)
 no_enumerated (unknown Universal true o n v) other = refl
@@ -385,7 +385,7 @@ no_ascii_text (leaf o l) other = refl
 no_ascii_text (group o g bs) other = refl
 no_ascii_text (explicit c o n b) other = refl
 
--- nor has the tree of an entry with another tag number
+-- the tree of an entry with another tag number is no ENUMERATED
 pub not_enumerated : (x : List ℕ) (b : Tree ℕ) (r : Entry) → IsEntryOf x b r → (r.tag ≡ 10 → ⊥) →
     tree_enumerated b ≡ None
 not_enumerated x (unknown Universal false o n v) r e other = elim (cases_Bool (n == 10)) [
@@ -471,7 +471,7 @@ identified x b r e =
       are = subst (IsIdentifier f.identifier own.class own.constructed) (sym tag) f.identifier_octets;
     }
 
--- which no others are
+-- identifier octets at the offset of an entry have the tag number of its tree
 pub tag_is : (x : List ℕ) (b : Tree ℕ) (r : Entry) (end : ℕ) (c : ASN1Class) (k : Bool) (n : ℕ) → IsEntryOf x b r
     → IsIdentifier (slice_range x r.offset end) c k n → n ≡ tree_tag b
 tag_is x b r end c k n e own =

@@ -238,7 +238,7 @@ kept x f g gs p rs front more fault o whole w q tries =
     subst (λ z. AreOpen x (counted g) gs z (take (suc f.items.entry) rs)) (sym w.end)
     (subst (AreOpen x (counted g) gs h.end) (own ∙ sym cut) made)
 
--- or a group, whose fault is one of the frame around it
+-- the frame left is a group, whose fault is one of the frame around it
 pub record IsOut (x : List ℕ) (g : Framed) (gs : List Framed) (rs : List Entry) (fault : DecodeFault) (o : ℕ) : Type 0
   where
     pub reached : ℕ
@@ -272,7 +272,7 @@ pub end_after : (x : List ℕ) (f g : Framed) (gs : List Framed) (p : ℕ) (rs :
     f.extent.end ≤ g.extent.end
 end_after x f g gs p rs w = omega (arith, w.end, w.found.ends_within)
 
--- with no frame open but the document's
+-- the document was read where no frame is open but its own, and that has ended
 pub whole_read : (x : List ℕ) (f : Framed) (p : ℕ) (rs : List Entry) → p ≡ f.extent.end → AreOpen x f [] p rs
     → (all : Shapes) × AreShapes x 0 (length x) all × (rs ≡ entries_of 0 0 all)
 whole_read x f p rs ended w =
@@ -291,7 +291,7 @@ whole_fault x f p rs fault o w q =
     subst (λ z. HeadersFaultAt x z z (length x) fault o) w.start
     (subst (λ z. HeadersFaultAt x f.extent.start f.extent.start z fault o) w.end (w.read.fault fault o q))
 
--- the same frames, place and entries
+-- frames that are open stay so when equal frames, place and entries stand for them
 pub same_open : (x : List ℕ) (f f' : Framed) (gs gs' : List Framed) (p p' : ℕ) (rs rs' : List Entry) → f' ≡ f →
     gs' ≡ gs → p' ≡ p → rs' ≡ rs
     → AreOpen x f gs p rs → AreOpen x f' gs' p' rs'
@@ -426,7 +426,7 @@ module _ (x : List ℕ) (w : Walk) where
           nearer = omega (arith, after, faulty.nearer, ap length popped, length-append outer.items (g ∷ []));
         }
 
-  -- with no frame around, it is the fault of all
+  -- a fault with no frame around it is that of the document
   pub faulty_whole : (fault : DecodeFault) (o most : ℕ) → IsFaulty x w fault o most → w.outer.items ≡ []
       → HeadersFaultAt x 0 0 (length x) fault o
   faulty_whole fault o most faulty none =

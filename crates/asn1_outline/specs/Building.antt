@@ -11,7 +11,7 @@ abbrev pub listed : Trees ℕ → List (Tree ℕ)
 listed no_trees = []
 listed (more_trees b bs) = b ∷ listed bs
 
--- those of the blocks that a node has
+-- the trees of the blocks that a node has
 abbrev pub items_of : Node → List (Tree ℕ)
 items_of n = listed (nodes_trees (node_items n))
 
@@ -24,7 +24,7 @@ roots (n ∷ ns) = node_tree n ∷ drop (node_count (node_items n)) (roots ns)
 abbrev pub built_trees : List ASN1Block → List (Tree ℕ)
 built_trees built = reverse (map view built)
 
--- so many were taken, if there are so many, in order
+-- taken: as many blocks as the count, if there are so many, from the end of the old ones, in document order
 pub record IsTaken (old : List ASN1Block) (count : ℕ) (taken new : List ASN1Block) : Type 0 where
   pub many : count ≤ length old → length taken ≡ count
   pub split : reverse old ≡ taken ++ reverse new

@@ -23,7 +23,7 @@ mutual
         → AreShapes document header.end end rest
         → AreShapes document offset end (more_shapes offset header items rest)
 
-  -- these stand inside the encoding with the header
+  -- the shapes stand inside the encoding with the header
   pub data HasItems (document : List ℕ) : PlacedHeader → Shapes → Type 0 where
     read_inside : {header : PlacedHeader} {items : Shapes}
         → IsReadInside header.class header.constructed header.tag

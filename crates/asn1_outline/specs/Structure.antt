@@ -115,7 +115,7 @@ pub record IsEncodedIn (document : List ℕ) (b : Tree ℕ) (octets : List ℕ) 
   pub at_offset : drop (tree_offset b) document ≡ octets ++ rest
   pub encoded : Encodes (tree_offset b) octets b
 
--- and they have these contents octets
+-- octets at the tree's offset encode it, and have these contents octets
 pub record HasContents (document : List ℕ) (b : Tree ℕ) (contents : List ℕ) : Type 0 where
   pub octets : List ℕ
   pub encoded : IsEncodedIn document b octets

@@ -8,7 +8,7 @@ use Rattle.asn1_outline.specs.declared.triple.TripleEntries.{TripleEntries}
 abbrev pub entry_at : List Entry → ℕ → Entry
 entry_at entries index = get_or entries index no_entry
 
--- of class Universal, with the tag number
+-- the entry is of class Universal, with the tag number
 abbrev pub IsUniversal : ℕ → Entry → Type 0
 IsUniversal tag entry = (entry.class ≡ Universal) × (entry.tag ≡ tag)
 
@@ -22,7 +22,7 @@ pub record BeginWithTriple (entries : List Entry) : Type 0 where
   pub identifier : IsUniversal 6 (entry_at entries ((entry_at entries 1).next + 1))
   pub signature : IsUniversal 3 (entry_at entries (entry_at entries (entry_at entries 1).next).next)
 
--- these are the entries of its parts
+-- the parts of a triple are these entries
 pub record AreParts (entries : List Entry) (parts : TripleEntries) : Type 0 where
   pub content : parts.content.now ≡ entry_at entries 1
   pub identifier : parts.identifier.now ≡ entry_at entries ((entry_at entries 1).next + 1)

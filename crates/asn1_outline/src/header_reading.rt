@@ -59,7 +59,7 @@ impl<'a> Headers<'a> {
         entry.encoding_in(self.octets)
     }
 
-    /// Its contents octets; `None` past the end.
+    /// The contents octets of the encoding at the index; `None` past the end.
     pub fn contents(&self, index: usize) -> Option<&'a [u8]>
         ensures found { index < length (walked_entries self.now) → IsSomeAnd result
             (λ found. found.now

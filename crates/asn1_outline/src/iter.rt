@@ -60,7 +60,7 @@ impl<'a> Iterator for Entries<'a> {
 impl<'a> FusedIterator for Entries<'a> {}
 
 impl<'a> Entries<'a> {
-    // These entries, of which the first has the index: all, or those that no other is around.
+    // An iterator over these entries, of which the first has the index: all, or those that no other is around.
     fn over(rest: &'a [Entry], index: usize, all: bool) -> Entries<'a>
         requires { index + length rest.now < 2 ^ 64 }
         ensures { result ≡ still_to_come all index rest.now }

@@ -169,8 +169,8 @@ impl EntryBuilder {
         self.grow(offset, size)
     }
 
-    // The same where there is none: for as many blocks in the rest of the document as in what was read, and an eighth
-    // more. So a long list is moved once, and not each time that it has doubled.
+    // Makes room where there is none: for as many blocks in the rest of the document as in what was read, and an eighth
+    // more, so that a long list is moved once, and not each time that it has doubled.
     #[cold]
     #[inline(never)]
     fn grow(&mut self, offset: usize, size: usize) -> Result<(), AllocError>
@@ -223,7 +223,7 @@ fn started(
     begun(header, offset, entry, depth)
 }
 
-// The same, whatever octets the header was found in.
+// The entry of a header that stands at the offset, whatever octets it was found in.
 #[inline(always)]
 pub fn begun(header: &PlacedHeader, offset: usize, entry: usize, depth: usize) -> Entry
     requires after { offset ≤ header.now.start }

@@ -34,7 +34,7 @@ use jiff::civil::DateTime;
 use std::alloc::{AllocError, Global};
 
 impl Entry {
-    // Its contents octets, if they lie in the document.
+    // The contents octets of the entry, if they lie in the document.
     pub(crate) fn contents_in<'a>(&self, document: &'a [u8]) -> Option<&'a [u8]>
         ensures { MatchOption result
             (length document.now < self.now.offset + self.now.header + self.now.contents)

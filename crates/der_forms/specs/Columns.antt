@@ -11,7 +11,7 @@ use Rattle.der_forms.specs.Forms.{begins, but_indent, but_separators, column_of,
 abbrev pub leaves_out : List ℕ → Bool
 leaves_out line = begins (codes "*") (but_indent line) && list_all is_ascii_whitespace (drop 1 (but_indent line))
 
--- one of the lines does
+-- one of the lines says that lines like the one before it are left out
 abbrev pub some_left_out : List (List ℕ) → Bool
 some_left_out [] = false
 some_left_out (line ∷ lines) = if leaves_out line then true else some_left_out lines

@@ -54,13 +54,13 @@ abbrev pub all_of_some : (ℕ → Bool) → List ℕ → Bool
 all_of_some test [] = false
 all_of_some test (b ∷ octets) = list_all test (b ∷ octets)
 
--- it may stand between hex digits: white space, `:`, `,`, `-`, `{` and `}`
+-- the octet may stand between hex digits: white space, `:`, `,`, `-`, `{` and `}`
 abbrev pub is_separator : ℕ → Bool
 is_separator b =
     is_ascii_whitespace b
     || (b == colon || b == comma || b == hyphen || b == left_brace || b == right_brace)
 
--- it begins with what may stand before two hex digits, `0x` or `\x`
+-- the text begins with what may stand before two hex digits, `0x` or `\x`
 abbrev pub begins_prefix : List ℕ → Bool
 begins_prefix text = begins (codes "0x") text || begins (codes "\\x") text
 
@@ -81,7 +81,7 @@ begins_space (b ∷ text) = is_ascii_whitespace b
 abbrev pub has_octets : List ℕ → Bool
 has_octets text = begins (codes "0000000 ") text && begins_space (drop 10 text)
 
--- so as `od -A x -t x1` prints them: an offset of six hex digits
+-- the text comes in columns as `od -A x -t x1` prints them: an offset of six hex digits, and pairs of hex digits
 abbrev pub has_hex_offsets : List ℕ → Bool
 has_hex_offsets text = begins (codes "000000 ") text && begins_space (drop 9 text)
 

@@ -61,7 +61,7 @@ of_loose_base64 symbols =
     if_sequence (result_ok (decode_base64 standard_pad_indifferent symbols))
     (if_sequence (result_ok (decode_base64 url_safe_pad_indifferent symbols)) other_text)
 
--- and with its padding by its first octet, that of a SEQUENCE
+-- base 64 with its padding is told from words by its first octet, that of a SEQUENCE
 abbrev pub of_base64 : Result (List ℕ) DecodeError → List ℕ → InputForm
 of_base64 (Ok octets) symbols = if begins (48 ∷ []) octets then spelled octets else other_text
 of_base64 (Err e) symbols = of_loose_base64 symbols

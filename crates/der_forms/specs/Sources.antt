@@ -9,7 +9,7 @@ use Rattle.der_forms.specs.declared.source_text.Due.{Due}
 use Rattle.der_forms.specs.declared.source_text.Due.TheVariants.{Prefix, Mark, First, Second}
 use Rattle.der_io.specs.Characters.{comma, left_brace, quotation_mark, right_brace}
 
--- it may stand between octets: white space, `,`, `"`, `{` and `}`
+-- the octet may stand between octets of a text: white space, `,`, `"`, `{` and `}`
 abbrev pub is_between : ℕ → Bool
 is_between b =
     is_ascii_whitespace b || (b == comma || b == quotation_mark || b == left_brace || b == right_brace)

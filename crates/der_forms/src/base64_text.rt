@@ -37,7 +37,7 @@ pub fn decode(alloc: Global, symbols: &[u8]) -> Result<Result<Vec<u8>, DecodeErr
     }
 }
 
-// What they spell where the padding may be wanting, if anything.
+// What symbols spell where the padding may be wanting, if anything.
 pub fn decode_unpadded(alloc: Global, symbols: &[u8]) -> Result<Option<Vec<u8>>, AllocError>
     ensures { IfOk result (λ decoded. MatchOption decoded
         (result_ok (decode_of standard_pad_indifferent symbols.now) ≡ None)
@@ -50,7 +50,7 @@ pub fn decode_unpadded(alloc: Global, symbols: &[u8]) -> Result<Option<Vec<u8>>,
     }
 }
 
-// What they spell with `-` and `_` for `+` and `/`, if anything.
+// What symbols spell with `-` and `_` for `+` and `/`, if anything.
 pub fn decode_url(alloc: Global, symbols: &[u8]) -> Result<Option<Vec<u8>>, AllocError>
     ensures { IfOk result (λ decoded. MatchOption decoded
         (result_ok (decode_of url_safe_pad_indifferent symbols.now) ≡ None)

@@ -247,19 +247,19 @@ pub enum FormFault {
     /// Hex digits with lines left out, in this line, but not how many.
     #[error("line {0}: the offsets do not tell how many lines `*` stands for")]
     LeftOut(usize),
-    /// It is text in no form that is known. The line is the first in none.
+    /// Text in no form that is known. The line is the first in none.
     #[error("line {0}: unknown text: DER, PEM, base64, hex digits (plain, in C, xxd, hexdump -C, od -t x1) are read")]
     Text(usize),
-    /// Its first object is encrypted.
+    /// The first object is encrypted.
     #[error("encrypted, not read")]
     Encrypted,
-    /// Its first object is a private key in the form of OpenSSH.
+    /// The first object is a private key in the form of OpenSSH.
     #[error("OpenSSH private key, not DER: ssh-keygen -p -m PEM -f FILE converts it")]
     OpenSsh,
-    /// A line of its first object is not base64: its number, from 1.
+    /// A line of the first object is not base64: its number, from 1.
     #[error("line {0}: invalid base64")]
     NoBase64(usize),
-    /// Its first object does not end as it should: the number of a line, and what is wrong.
+    /// The first object does not end as it should: the number of a line, and what is wrong.
     #[error("line {0}: {1}")]
     BadEnd(usize, &'static str),
 }

@@ -20,9 +20,9 @@ use std::alloc::{AllocError, Global};
 /// Why an object has no octets.
 #[derive(Clone, Copy, Debug, Drop, PartialEq)]
 pub enum PemFault {
-    /// It is encrypted.
+    /// The object is encrypted.
     Encrypted,
-    /// It is a private key in the form of OpenSSH.
+    /// The object is a private key in the form of OpenSSH.
     OpenSsh,
     /// A line is not base64: its number, from 1.
     NoBase64(usize),
@@ -31,13 +31,13 @@ pub enum PemFault {
 /// How an object ends.
 #[derive(Clone, Copy, Debug, Drop, PartialEq)]
 pub enum Ending {
-    /// A line ends it, with its own label.
+    /// A line ends the object, with its own label.
     Closed,
-    /// No line ends it.
+    /// No line ends the object.
     Missing,
-    /// The line that ends it has another label.
+    /// The line that ends the object has another label.
     OtherLabel,
-    /// Another object begins in the line that ends it.
+    /// Another object begins in the line that ends this one.
     Joined,
 }
 
@@ -48,9 +48,9 @@ pub struct PemObject<'a> {
     pub label: &'a [u8],
     /// The number of that line, the first being 1.
     pub line: usize,
-    /// What its symbols spell.
+    /// What the symbols of the object spell.
     pub octets: Result<Vec<u8>, PemFault>,
-    /// How it ends.
+    /// How the object ends.
     pub ending: Ending,
 }
 

@@ -37,7 +37,7 @@ escape_of c =
     else if c == backslash then codes "\\\\"
     else escape_of_other c
 
--- so for an octet of what is no text: a character of ASCII, or `\x..`
+-- what is written for an octet of what is no text: a character of ASCII, or `\x..`
 abbrev pub escape_of_octet : ℕ → List ℕ
 escape_of_octet b =
     if nat_lt b 128 then escape_of b else codes "\\x" ++ (digits 16 false (b / 16) ++ digits 16 false (b % 16))

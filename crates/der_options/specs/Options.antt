@@ -71,7 +71,7 @@ abbrev pub IsNumberIn : ℕ → Text → ℕ → Type 0
 IsNumberIn base text n =
     IsNumeral base (without_leading_plus text) × (n ≡ digits_value base (without_leading_plus text)) × (n < 2 ^ 64)
 
--- so in hex digits behind `0x`, or in decimal digits
+-- the text is a number in hex digits behind `0x`, or in decimal digits
 abbrev pub IsNumberBy : Bool → Text → ℕ → Type 0
 IsNumberBy true text n = IsNumberIn 16 (drop 2 text) n
 IsNumberBy false text n = IsNumberIn 10 text n
@@ -134,7 +134,7 @@ color_in text =
     else if bytes_eq text (codes "never") then Some Never
     else None
 
--- so by a value, or without one
+-- when to color, by the value of `--color`, or without one
 abbrev pub color_by : Option Text → Option Color
 color_by None = Some Auto
 color_by (Some text) = color_in text

@@ -18,7 +18,7 @@ pub record IsContent (octets : List ℕ) (content : List ℕ) : Type 0 where
   pub triple : BeginWithTriple entries
   pub content_is : content ≡ encoding_octets octets (entry_at entries 1)
 
--- they are encodings by their headers, the first of which is none
+-- the octets are encodings by their headers, the first of which is no triple
 abbrev pub IsOfAnotherShape : List ℕ → Type 0
 IsOfAnotherShape octets =
     (entries : List Entry) × AreEntriesOfShapes octets entries × (BeginWithTriple entries → ⊥)

@@ -137,7 +137,7 @@ some_output law strict reading input small =
     some_of_lines reading (settled law strict reading) (lines_of input) (length input)
     (lines_within input (length input) (omega arith)) small
 
--- and no other
+-- an input has no two outputs
 pub one_output :
     Unambiguous → StrictReading → (reading : Reading) (input a b : List ℕ) → length input < 2 ^ 64 →
     AreLineAnswers reading (lines_of input) a → AreLineAnswers reading (lines_of input) b → a ≡ b

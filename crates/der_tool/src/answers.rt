@@ -14,7 +14,7 @@ use std::alloc::{AllocError, Global};
 pub enum Reading {
     // All, with their canonical octets.
     Lenient,
-    // Those that are their canonical octets, with these.
+    // Documents that are their canonical octets, with these.
     Strict,
 }
 
@@ -101,7 +101,7 @@ fn canonical_octets(
     }
 }
 
-// Those of a document that stands in its canonical octets. No block of it is built: rewritten, it is the same.
+// The octets of a document in canonical form. No block of it is built: rewritten, it is the same.
 fn strict_octets(alloc: Global, octets: &[u8]) -> Result<Vec<u8>, ASN1DecodeErr>
     ensures accepted { IfOk result (λ canonical. IsAccepted Strict octets.now canonical.items) }
     ensures refused { IfErr result (OutOfMemoryOr (IsRefused Strict octets.now)) }

@@ -33,7 +33,7 @@ use Rattle.simple_asn1.specs.Inner.InEntries.{HasCanonicalAt, HasShortestAt, IsC
 use Rattle.simple_asn1.specs.Inner.InPlace.{AreCanonicalContents}
 use Rattle.simple_asn1.proofs.InPlace.{shortest_front}
 
--- so are the octets that encode a tree there
+-- octets that encode a tree where a canonical encoding stands are canonical
 here :
     (x y rest : List ℕ) (o : ℕ) (c : ASN1Class) (k : Bool) (n : ℕ) (v : List ℕ) (h : ℕ) → drop o x ≡ y ++ rest →
     Encoding y c k n v h → HasCanonicalAt x o → IsCanonicalEncoding y c k n v
@@ -167,7 +167,7 @@ module _ (x y v : List ℕ) (r : Entry) (n : ℕ) (at : EncodingAt x r.offset y)
     length-append e.len v,
   )
 
-  -- they lie in it
+  -- the octets of an entry lie in the document
   pub lies_within : r.offset + r.header + r.contents ≤ length x
   lies_within =
       let some = encoding_some y r.class r.constructed n v r.header e in
@@ -176,7 +176,7 @@ module _ (x y v : List ℕ) (r : Entry) (n : ℕ) (at : EncodingAt x r.offset y)
   pub two_octets : 2 ≤ r.header
   two_octets = omega (arith, whole_size, size, two_more y r.class r.constructed n v r.header e)
 
-  -- with the contents octets
+  -- the contents octets of the entry stand behind its header
   pub contents_there : slice_range x (r.offset + r.header) (r.offset + r.header + r.contents) ≡ v
   contents_there =
       let after = contents_stand x y at.rest r.class r.constructed n v r.offset r.header at.at_offset e in
@@ -235,7 +235,7 @@ module _ (x y v : List ℕ) (r : Entry) (n : ℕ) (at : EncodingAt x r.offset y)
       e.whole ∙ sym (append_assoc i l v) ∙ ap (λ z. z ++ v) (sym at_front.front_is ∙ begins.shortest)
       ∙ append_assoc si sl v
 
--- so of an entry whose header has no more
+-- an entry whose header has no more octets than the shortest has the shortest
 pub shortest_at :
     (x : List ℕ) (r : Entry) → All (λ b. b < 256) x → HasHeaderAt x r → r.tag < 31 →
     (r.contents ≡ 0 → get_or x (r.offset + r.header - 1) 0 ≢ 128) → r.header ≡ 1 + length (shortest_length r.contents) →

@@ -11,7 +11,7 @@ use Rattle.asn1_blocks.proofs.OneReading.{all_alone}
 use Rattle.asn1_blocks.proofs.Readings.{IsPlaced, document_no_fault}
 use Rattle.simple_asn1.specs.Canonical.{all_canonical}
 
--- they are a document
+-- the octets are a document
 abbrev pub IsSome : List ℕ → Type 0
 IsSome octets = (bs : Trees ℕ) × IsDocument octets bs
 

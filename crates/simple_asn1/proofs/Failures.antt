@@ -109,7 +109,7 @@ mutual
   )
 
 mutual
-  -- and then each is
+  -- each tree in a faithful one is faithful alone
   pub all_of_faithful : (t : Tree ℕ) → IsFaithful t → All IsFaithfulAlone (in_order t)
   all_of_faithful (leaf o l) f = All-cons IsFaithfulAlone (leaf o l) [] f (All-nil IsFaithfulAlone)
   all_of_faithful (group o g bs) f =
@@ -205,7 +205,7 @@ one_order : (t : Tree ℕ) (order : List (Bor ASN1Block)) → trees_of order ≡
     trees_of order ≡ in_order t
 one_order t order e = e ∙ append-nil (in_order t)
 
--- this one fails
+-- the block that was found is the first that fails
 pub found_here :
     (t : Tree ℕ) (order : List (Bor ASN1Block)) (i : ℕ) (b : Bor ASN1Block) (reason : Unfaithful) →
     trees_of order ≡ all_in_order (more_trees t no_trees) → i < length order → b ≡ get_or order i b →
@@ -225,7 +225,7 @@ none_found t order i e l h =
     subst (All IsFaithfulAlone) (take-all i (trees_of order) (omega (arith, l, length-trees_of order))) h in
     faithful_of_all t (subst (All IsFaithfulAlone) (one_order t order e) all)
 
--- and the error that names it is one
+-- the error that names the first failure is determined
 pub same_error : (t : Tree ℕ) (i j : ℕ) (a b : Unfaithful) → FailsFirst t i a → FailsFirst t j b →
     NotFaithful i a ≡ NotFaithful j b
 same_error t i j a b h k =

@@ -267,7 +267,7 @@ leaves x own rest c k n few e keeps = record {
   fewer = omega (arith, fewer x own rest c k n (length own) e);
 }
 
--- one of another class leaves its contents octets
+-- an encoding of another class than Universal leaves its contents octets
 leaves_within : (x own rest : List ℕ) (c : ASN1Class) (k : Bool) (n : ℕ) → length x < 2 ^ 64
     → x ≡ shortest_identifier c k n ++ (shortest_length (length own) ++ (own ++ rest)) → c ≢ Universal →
     LeavesBoth x own rest
@@ -398,7 +398,7 @@ past_universal x rest own after h few f behind whole size class keeps =
     leaves x own after h.class h.constructed h.tag few (own_whole x rest own after h f behind whole size)
     (subst (λ z. AreCanonicalContents z h.constructed h.tag own) (sym class) keeps)
 
--- one of another class leaves its contents octets too, if it is constructed
+-- a constructed encoding of another class than Universal leaves its contents octets
 pub past_constructed : (x rest own after : List ℕ) (h : Header) → length x < 2 ^ 64 → BeginsShortest x h →
     rest ≡ drop h.size x → rest ≡ own ++ after
     → length own ≡ h.announced → h.class ≢ Universal → LeavesBoth x own after

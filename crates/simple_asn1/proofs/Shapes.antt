@@ -10,7 +10,7 @@ use Rattle.asn1_blocks.proofs.Leaves.{leaf_same_contents, leaf_same_tag}
 module _ {O P : Type 0} (f : O → P) (h : Leaf → Leaf) (same_tag : (l : Leaf) → leaf_tag (h l) ≡ leaf_tag l)
     (same_contents : (l : Leaf) → leaf_contents (h l) ≡ leaf_contents l) where
   mutual
-    -- the same is written of a tree whose leaves keep their tags and contents octets
+    -- a tree whose leaves keep their tags and contents octets is written as before
     canonical_mapped : (b : Tree O) → canonical (mapped f h b) ≡ canonical b
     canonical_mapped (leaf o l) =
         ap (λ n. shortest_encoding Universal false n (leaf_contents (h l))) (same_tag l) ∙

@@ -29,7 +29,7 @@ no_triple t p o (a ∷ b ∷ []) h e f = let g = sym e ∙ f in cc
 no_triple t p o (a ∷ b ∷ c ∷ []) h e f = h refl
 no_triple t p o (a ∷ b ∷ c ∷ d ∷ items) h e f = let g = sym e ∙ f in cc
 
--- without a BIT STRING at its end it is none
+-- a SEQUENCE without a BIT STRING at its end is no triple
 pub no_signature : (t : Tree ℕ) (p : SignedParts) (o : ℕ) (items : List ASN1Block) (z : ASN1Block) → length items ≡ 3 →
     z ≡ get_or items 2 z → t ≡ group o Sequence (views items) →
     ((a n : ℕ) (v : List ℕ) → view z ≢ leaf a (bit_string n v)) → t ≢ signed_tree p

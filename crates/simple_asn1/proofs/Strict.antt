@@ -159,7 +159,7 @@ written_stand (more_trees b bs) i u x w small s e =
           p.after h.rest,
     )
 
--- and the other way round
+-- a document each of whose blocks stands in its canonical octets is what is written of it
 stand_written : (bs : Trees ℕ) (i u x : List ℕ) → i ≡ u ++ x → EncodesAll (length u) x bs → EachIsCanonical i bs →
     x ≡ all_canonical bs
 stand_written no_trees i u x w s c = s
@@ -176,7 +176,7 @@ stand_or_first i (more_trees b bs) = elim (octets_known (top_octets i b bs) (can
   | inl e ↦ elim (stand_or_first i bs) [ inl s ↦ inl (e, s) | inr f ↦ inr (f.0, inr (e, f.1)) ]
 ]
 
--- not both
+-- no octets are canonical in each block and have a first block that is not
 stand_no_first : (i : List ℕ) (bs : Trees ℕ) (n : ℕ) → EachIsCanonical i bs → FirstNotCanonical i bs n → ⊥
 stand_no_first i no_trees n s f = f
 stand_no_first i (more_trees b bs) n s (inl f) = f.0 s.0

@@ -34,7 +34,7 @@ document_of (more_trees b bs) k small = record {
   blocks = all_canonical_encodes 0 (more_trees b bs) small k.1;
 }
 
--- and of no others
+-- what is written of trees is read as no others
 read_shapes : (ss : Trees (Unit {0})) (bs : Trees ℕ) → AreFaithful ss → length (all_canonical ss) < 2 ^ 64
     → IsDocument (all_canonical ss) bs → shapes bs ≡ ss
 read_shapes ss bs f small d =

@@ -93,7 +93,7 @@ fault_next b before after n =
     (sym (ap (λ z. first_write_fault (views z)) n.then
     ∙ (faults_join n.held n.rest ∙ ap (λ z. first_of (first_write_fault z) rest) n.holds)))))
 
--- and the first fault is the first of the blocks' own
+-- the first fault of writing is the first of the blocks' own faults in tree order
 pub fault_order : (order blocks : List ASN1Block) → IsInTreeOrder order blocks →
     first_own_fault order ≡ first_write_fault (views blocks)
 fault_order [] blocks h = ap (λ z. first_write_fault (views z)) (sym h)
@@ -153,7 +153,7 @@ step b left after sizes m n x w s k =
           ∙ ap sizes_back (sym x.first);
     }
 
--- the same at a place of the list
+-- a step of measuring at a place of the list
 pub step_at : (order : List ASN1Block) (i j : ℕ) (b : ASN1Block) (sizes : List ℕ) (m : ℕ) (held : List ASN1Block) →
     j + 1 ≡ i → i ≤ length order
     → b ≡ get_or order j b → m ≡ length sizes →
@@ -223,7 +223,7 @@ pub none_of_both : (a b : Option ASN1EncodeErr) → first_of a b ≡ None → (a
 none_of_both None b e = (refl, e)
 none_of_both (Some x) b e = cc
 
--- it has no fault
+-- a block in a list without faults has none
 pub own_fault_at : (list : List Measured) (i : ℕ) (m : Measured) → i < length list → m ≡ get_or list i m
     → first_own_fault (measured_blocks list) ≡ None
     → own_fault (view m.block.now) ≡ None
@@ -244,7 +244,7 @@ own_join (x ∷ xs) m =
     ∙ sym (append_assoc (own_octets (view x.block.now)) (all_own_octets (measured_blocks xs))
     (own_octets (view m.block.now)))
 
--- its octets come after those of the blocks before
+-- the octets of a block come after those of the blocks before
 pub own_at : (list : List Measured) (i : ℕ) (m : Measured) → i < length list → m ≡ get_or list i m
     → all_own_octets (measured_blocks (take (i + 1) list)) ≡ all_own_octets (measured_blocks (take i list))
     ++ own_octets (view m.block.now)
@@ -252,7 +252,7 @@ own_at list i m h e =
     ap (λ z. all_own_octets (measured_blocks z)) (take_more list i m h ∙ ap (λ z. take i list ++ z ∷ []) (sym e))
     ∙ own_join (take i list) m
 
--- and are among those of all
+-- the octets of a block, with those of the blocks before, are no more than those of all
 pub own_fits : (list : List Measured) (i : ℕ) (m : Measured) → i < length list → m ≡ get_or list i m
     → length (all_own_octets (measured_blocks (take i list))) + length (own_octets (view m.block.now)) ≤ length
     (all_own_octets (measured_blocks list))

@@ -62,7 +62,7 @@ abbrev pub OwnEncodeFault : {E : Type 0} →
     (Result (Trees ℕ) E → Type 0) → (ASN1EncodeErr → E → Type 0) → E → Type 0
 OwnEncodeFault writes from e = writes (Err e) ⊎ from no_memory e
 
--- and so does reading them
+-- reading a value from trees fails by the type alone, or by what it makes of memory that ran out
 abbrev pub OwnDecodeFault : {T E : Type 0} →
     (Trees ℕ → Result (T × Trees ℕ) E → Type 0) → (ASN1DecodeErr → E → Type 0) →
     Trees (Unit {0}) → E → Type 0

@@ -27,8 +27,7 @@ IsCanonicalDocument octets = (bs : Trees ℕ) × CanonicalDocument octets bs
 abbrev pub AreEqualNormalized : Trees ℕ → Trees ℕ → Type 0
 AreEqualNormalized bs cs = shapes (all_normalized bs) ≡ shapes (all_normalized cs)
 
--- these octets, which are written of a document, are written of another exactly if the trees of both are equal when
--- normalized
+-- octets that are written of a document are written of another exactly if the trees of both are equal when normalized
 abbrev pub WrittenOfEqualsAlone : List ℕ → List ℕ → Type 0
 WrittenOfEqualsAlone document written =
     (other : List ℕ) (bs cs : Trees ℕ) →

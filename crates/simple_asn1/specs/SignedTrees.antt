@@ -11,7 +11,7 @@ use Rattle.asn1_blocks.specs.Grammar.{IsDocument}
 
 -- the parts of a signed triple, with the offsets of its blocks
 pub record SignedParts : Type 0 where
-  -- of the whole
+  -- the offset of the whole
   pub offset : ℕ
   -- any block
   pub content : Tree ℕ

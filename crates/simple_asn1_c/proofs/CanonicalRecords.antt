@@ -103,7 +103,7 @@ group_block tag xs g is small all offset =
     let (bs, es, w) = all_encoded xs all (offset + h) in
     (group offset g bs, (refl, true, contents, h, e, es), ap₂ (λ s t. shortest_encoding Universal true s t) (sym is) w)
 
--- of an empty one
+-- an empty SEQUENCE or SET is a canonical block
 pub empty_group : (class : ASN1Class) (constructed : Bool) (tag : ℕ) (contents : List ℕ) → class ≡ Universal →
     constructed ≡ true
     → (g : GroupKind) → tag ≡ group_tag g → [] ≡ contents →
@@ -114,7 +114,7 @@ empty_group class constructed tag contents u k g is none =
     (subst (λ z. IsCanonicalBlock (shortest_encoding Universal true tag z)) none
     (group_block tag [] g is (omega arith) tt)))
 
--- one of another class around a block
+-- an encoding of another class around a canonical block is one
 explicit_block : (class : ASN1Class) (tag : ℕ) (x : List ℕ) → class ≢ Universal → length x < 2 ^ 64 → IsCanonicalBlock x
     → IsCanonicalBlock (shortest_encoding class true tag x)
 explicit_block class tag x other small is offset =
@@ -139,7 +139,7 @@ holding_block class tag items (x ∷ []) (inr (other, one)) count small all =
     subst (λ z. IsCanonicalBlock (shortest_encoding class true tag z)) (sym e)
     (explicit_block class tag x other (subst (λ z. length z < 2 ^ 64) e small) all.0)
 
--- without the first encodings, and these alone
+-- the first of canonical blocks are canonical
 pub blocks_take : (k : ℕ) (xs : List (List ℕ)) → AreCanonicalBlocks xs → AreCanonicalBlocks (take k xs)
 blocks_take zero xs all = tt
 blocks_take (suc k) [] all = tt

@@ -140,7 +140,7 @@ sealed_within b c all entry items next r lt w is at new same =
       count = w.count ∙ sym same;
     }
 
--- those up to a place behind the ones that are kept
+-- a front that is cut behind the entries that are kept
 pub cut_behind :
     (b c : FrontBuilder) (all : List Entry) (n : ℕ) → length b.kept.items ≤ n → n - length b.kept.items ≤ b.beyond →
     IsFront b all →
@@ -156,7 +156,7 @@ cut_behind b c all n le few w same beyond =
       count = length-take-le (n - own) w.others (omega (arith, few, w.count)) ∙ sym beyond;
     }
 
--- or behind all
+-- a front that is cut behind all entries
 pub cut_none : (b : FrontBuilder) (all : List Entry) (n : ℕ) → length b.kept.items + b.beyond ≤ n → IsFront b all →
     IsFront b (take n all)
 cut_none b all n le w = subst (IsFront b) (sym (take_all n all (omega (arith, le, front_length b all w)))) w

@@ -43,7 +43,7 @@ front_found x size m c k n is f =
       count,
     )
 
--- and with identifier octets
+-- an encoding begins with identifier octets
 pub some_identifier : (x : List ℕ) → IsEncoding x → BeginsWithNo IsSomeIdentifier x → ⊥
 some_identifier x is none =
     let e = is.encoding in

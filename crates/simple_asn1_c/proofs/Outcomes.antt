@@ -43,7 +43,7 @@ put_at octets ns records found before after e own count f k h =
     ∙ get_or_append_left records behind no_record k (omega (arith, h, count)) in
     subst (λ z. IsRecordAt octets ns k z) (sym same) (own k h)
 
--- and those behind them are as before
+-- what stands behind the records that were put is as before
 kept_behind : (found before after : List Block) (count : ℕ) → count ≡ length found → length found ≤ length before →
     AreFront found before after
     → AreKeptBehind count before after

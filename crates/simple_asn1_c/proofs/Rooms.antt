@@ -55,7 +55,7 @@ numeral_below (suc n) k some small =
     let text = ap length (natural_some (suc n) (omega arith)) ∙ length-map digits (λ d. 48 + d) in
     omega (arith, text, length-digits_of-le 10 k (suc n) (omega arith) small)
 
--- that of a base-128 number
+-- the numeral of a base-128 number has at most three digits an octet
 pub numeral_of_base128 : (s : List ℕ) (n : ℕ) → IsBase128 s n → length (natural_numeral n) ≤ 3 * length s
 numeral_of_base128 s n h =
     let digits = map (λ b. b % 128) s in
@@ -98,7 +98,7 @@ dotted_room (x ∷ y ∷ ns) v all (b, rest, whole, (number, low, side), others)
     length-append first (byte "." ∷ join_with_byte (byte ".") (text ∷ map natural_numeral ns)) in
     omega (arith, joined, more, one, two, ap length whole)
 
--- so many octets are put of them, or none
+-- of components so many octets are put, or none
 pub dotted_few : (v before after : List ℕ) (o : Outcome) → AreOctets v → AnswersDotted v before after o →
     o.count ≤ 4 * length v + 1
 dotted_few v before after o all (mean_components ns is put) = omega (arith, put.0, dotted_room ns v all is)

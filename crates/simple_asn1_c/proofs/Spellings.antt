@@ -18,7 +18,7 @@ pub starts_count : (xs : List (List ℕ)) → length (starts_of xs) ≡ length x
 starts_count [] = refl
 starts_count (x ∷ xs) = omega (arith, starts_count xs, length-append (starts_of xs) (length (concat xs) ∷ []))
 
--- without the first encodings
+-- where encodings without the first ones start
 take_starts_of : (k : ℕ) (xs : List (List ℕ)) → k ≤ length xs →
     take (length xs - k) (starts_of xs) ≡ starts_of (drop k xs)
 take_starts_of zero xs h =
@@ -75,7 +75,7 @@ module _ (octets : List ℕ) (r : Block) (class : ASN1Class) (is : class_number 
     (state : IsState octets rs spelled starts was) where
   open state use {xs}
 
-  -- with contents octets of its own
+  -- a record with contents octets of its own is spelled before the others
   pub contents_more :
       r.tag < greatest_tag → r.items ≡ 0 → r.offset + r.header + r.contents ≤ length octets → (with_contents : List ℕ) →
       with_contents ≡ contents_of octets r ++ spelled →
@@ -99,7 +99,7 @@ module _ (octets : List ℕ) (r : Block) (class : ASN1Class) (is : class_number 
         found = λ yes. (this yes, state.found (so_far yes));
       }
 
-  -- with the encodings that follow it
+  -- a record around the encodings that follow it is spelled before the others
   pub items_more :
       (start size : ℕ) (left : List ℕ) → r.tag < greatest_tag → 0 < r.items → r.items ≤ length starts →
       left ≡ take (length starts - r.items) starts →

@@ -134,7 +134,7 @@ three_is (text kind cs) e = absurd (no_string kind (omega (arith, e)))
 three_is (utc_time m) e = absurd (omega (arith, e))
 three_is (generalized_time m) e = absurd (omega (arith, e))
 
--- and the other way: the entry of octets of class Universal with a small tag number
+-- the entry of octets of class Universal with a small tag number has this class and number
 universal_entry :
     (x : List ℕ) (n : Node) (i d tag : ℕ) (e : Entry) (y : List ℕ) (k : Bool) (v : List ℕ) (h : ℕ) → IsEntry x n i d e →
     IsEncodedIn x (node_tree n) y →
@@ -204,7 +204,7 @@ module _ (x : List ℕ) (es : List Entry) (ns : Nodes) (d : IsStructure x ns)
         holds = subst (IsNode x) is h;
       }
 
-  -- its record
+  -- the record of a node that was found is that of its tree
   record_found : (k : ℕ) (n : Node) (b : Tree ℕ) → Found k n → node_tree n ≡ b → IsRecord x b (part (entry_at es k))
   record_found k n b f e =
       let w = f.entry in
@@ -309,7 +309,7 @@ module _ (x : List ℕ) (es : List Entry) (t ab : Tree ℕ) (c i s : Node) (is r
         (past (nodes_in_order all) (node_in_order algorithm) (node_in_order s ++ after) (entry_at es 1).next
         (entry_at es (entry_at es 1).next).next behind at_algorithm.entry.next)
 
-    -- with the tags of a triple it is one
+    -- a structure whose entries have the tags of a triple is one
     pub signed_here : BeginWithTriple es → SignedThere x es
     signed_here begin =
         let w = at_whole in
@@ -388,7 +388,7 @@ module _ (x : List ℕ) (es : List Entry) (t ab : Tree ℕ) (c i s : Node) (is r
               (omega arith);
         }
 
--- with nothing inside the second of three its entry has no items
+-- the entry of the second of three nodes has no items where nothing is inside it
 none_inside : (x : List ℕ) (es : List Entry) (t ab : Tree ℕ) (c s : Node) (rest : Nodes)
     → (d : IsStructure x (more_nodes (node t (more_nodes c (more_nodes (node ab no_nodes) (more_nodes s no_nodes))))
     rest))
@@ -434,7 +434,7 @@ module _ (x : List ℕ) (es : List Entry) where
       let w = found x es ns d are 0 (node t ms) (nodes_in_order rest) refl in
       signed_from_items t ms rest d are begin (sym w.entry.items ∙ begin.three)
 
-  -- and the other way
+  -- entries of the trees of a triple begin with one
   pub triple_from : (ns : Nodes) (p : SignedParts) (after : Trees ℕ) → IsStructure x ns →
       AreEntries x 0 (nodes_in_order ns) (nodes_depths 0 ns) es
       → nodes_trees ns ≡ signed_trees p after → BeginWithTriple es

@@ -22,7 +22,8 @@ abbrev pub IsRefused : List ℕ → ℕ → ℕ → Type 0
 IsRefused octets status offset =
     (fault : DecodeFault) × FirstFaultAt octets fault offset × (status ≡ status_of fault)
 
--- so strictly: for their first fault; with none, for the first block that is not canonical, which has the offset
+-- the octets are refused in strict reading: for their first fault, or, with none, for the first block that is not
+-- canonical, which has the offset
 abbrev pub IsRefusedStrict : List ℕ → ℕ → ℕ → Type 0
 IsRefusedStrict octets status offset =
     IsRefused octets status offset ⊎ ((status ≡ is_not_canonical) × IsNotCanonicalAt octets offset)
@@ -52,7 +53,8 @@ pub data AnswersRead (octets : List ℕ) (before after : List Block) (o : Outcom
 abbrev pub IsCanonicalStructure : List ℕ → Nodes → Type 0
 IsCanonicalStructure octets ns = CanonicalDocument octets (nodes_trees ns) × AreNodes octets ns
 
--- so of documents in canonical form alone; of another document the first block that is not canonical
+-- the answer of strict reading: the records of a document in canonical form; of another document the first block that
+-- is not canonical
 pub data AnswersReadStrict (octets : List ℕ) (before after : List Block) (o : Outcome) : Type 0 where
   was_read_strict :
       o.status ≡ done → o.offset ≡ 0 → (ns : Nodes) → IsCanonicalStructure octets ns →

@@ -37,14 +37,14 @@ AnswersComponents contents before after o =
     (λ components. ArePutIf (All (λ n. n < 2 ^ 64) components) components out_of_range before after o)
     (λ status. IsNotPut status before after o)
 
--- they in decimal, of any size
+-- the components in decimal, of any size
 abbrev pub AnswersDotted : List ℕ → List ℕ → List ℕ → Outcome → Type 0
 AnswersDotted contents before after o =
     AnswersOfComponents contents
     (λ components. ArePut (dotted_decimal components) before after o)
     (λ status. IsNotPut status before after o)
 
--- their contents octets, each subidentifier in its shortest form
+-- the contents octets of components, each subidentifier in its shortest form
 abbrev pub AnswersShortest : List ℕ → List ℕ → List ℕ → Outcome → Type 0
 AnswersShortest contents before after o =
     AnswersOfComponents contents

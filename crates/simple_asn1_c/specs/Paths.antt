@@ -50,7 +50,7 @@ abbrev pub fitting : ℤ → Option ℤ
 fitting (pos n) = if nat_lt n (2 ^ 63) then Some (pos n) else None
 fitting (negsuc n) = if nat_lt n (2 ^ 63) then Some (negsuc n) else None
 
--- that of an INTEGER (X.690 8.3)
+-- the number of an INTEGER (X.690 8.3), if it is at least -2^63 and below 2^63
 abbrev pub integer_in : List ℕ → Entry → Option ℤ
 integer_in octets r =
     if class_number r.class == 0 then (if r.tag == 2 then fitting (signed_number (contents_octets octets r)) else None)
@@ -88,7 +88,7 @@ value_with r (Some n) = record {
   constructed = constructed_bit r.constructed;
 }
 
--- of a path that leads nowhere
+-- the record of a path that leads nowhere
 abbrev pub no_value : Value
 no_value = record {
   tag = 0;

@@ -35,22 +35,22 @@ ArePutIf Condition octets status before after o =
 abbrev pub AnswersPutBoolean : ℕ → List ℕ → List ℕ → Outcome → Type 0
 AnswersPutBoolean value before after o = ArePut (boolean_contents (not (value == 0))) before after o
 
--- those of an INTEGER: the fewest that mean the number; or memory ran out
+-- the contents octets of an INTEGER: the fewest that mean the number; or memory ran out
 abbrev pub AnswersPutInteger : ℤ → List ℕ → List ℕ → Outcome → Type 0
 AnswersPutInteger n before after o = ArePut (integer_contents n) before after o ⊎ IsNotPut no_memory before after o
 
--- these octets are the fewest that hold so many bits (X.690 8.6.2.2)
+-- the octets are the fewest that hold so many bits (X.690 8.6.2.2)
 abbrev pub AreFewestFor : ℕ → List ℕ → Type 0
 AreFewestFor bits octets = (bits ≤ 8 * length octets) × (8 * length octets < bits + 8)
 
--- those of a BIT STRING of so many bits, which these octets hold; or memory ran out
+-- the contents octets of a BIT STRING of so many bits, which these octets hold; or memory ran out
 abbrev pub AnswersPutBits : List ℕ → ℕ → List ℕ → List ℕ → Outcome → Type 0
 AnswersPutBits octets bits before after o =
     ArePutIf (AreFewestFor bits octets) (bit_string_contents bits octets) out_of_range before after o
     ⊎ IsNotPut no_memory before after o
 
--- those of the OBJECT IDENTIFIER whose components the text has, if they can be written; the text has none; or memory
--- ran out
+-- the contents octets of the OBJECT IDENTIFIER whose components the text has, if they can be written; the text has
+-- none; or memory ran out
 pub data AnswersPutIdentifier (text before after : List ℕ) (o : Outcome) : Type 0 where
   has_components :
       (components : List ℕ) → IsDottedDecimal text components →
@@ -74,8 +74,8 @@ others_status Utf8 = not_utf8
 others_status Printable = not_printable
 others_status Octets = out_of_range
 
--- those of the string of a kind, by its tag number, with the text's characters, if they are allowed; the text is no
--- UTF-8; or the tag number is that of no string
+-- the contents octets of the string of a kind, by its tag number, with the text's characters, if they are allowed; the
+-- text is no UTF-8; or the tag number is that of no string
 pub data AnswersPutText (tag : ℕ) (text before after : List ℕ) (o : Outcome) : Type 0 where
   has_characters :
       (kind : StringKind) → tag ≡ string_tag kind → IsUtf8 text →
@@ -99,7 +99,8 @@ moment_in fields = record {
   nanosecond = fields.nanosecond;
 }
 
--- those of the UTCTime or GeneralizedTime of the moment, if it keeps the moment; or the tag number is that of neither
+-- the contents octets of the UTCTime or GeneralizedTime of the moment, if it keeps the moment; or the tag number is
+-- that of neither
 pub data AnswersPutMoment (tag : ℕ) (m : Moment) (before after : List ℕ) (o : Outcome) : Type 0 where
   is_utc_time :
       tag ≡ 23 → ArePutIf (IsFaithfulUtcTime m) (utc_time_contents m) not_a_date before after o →

@@ -35,9 +35,9 @@ pub data Spells (octets : List ℕ) : List Block → List (List ℕ) → Type 0 
 pub data IsUnspellable (octets : List ℕ) (xs : List (List ℕ)) (r : Block) : Type 0 where
   has_no_class : 3 < r.tag_class → IsUnspellable octets xs r
   has_no_tag : greatest_tag ≤ r.tag → IsUnspellable octets xs r
-  -- it holds more than there are
+  -- the record holds more encodings than there are
   has_too_many : length xs < r.items → IsUnspellable octets xs r
-  -- its contents octets are not within these
+  -- the contents octets of the record are not within these octets
   has_no_contents : r.items ≡ 0 → length octets < r.offset + r.header + r.contents → IsUnspellable octets xs r
 
 -- the records after that place are spelled, and the one that stands there can't be

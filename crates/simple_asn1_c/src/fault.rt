@@ -23,7 +23,7 @@ pub struct FaultAnswer {
     pub text: Outcome,
 }
 
-// What the C header has for it.
+// The size that the C header has for the record.
 const _: () = prove!(size_of::<FaultAnswer>() == 48);
 
 // The number that an error says.

@@ -66,7 +66,7 @@ use crate::spelling::spell;
 use crate::text::{put_text, text_at};
 use std::alloc::Global;
 
-// Of the calls and records.
+// The version that `simple_asn1_version` returns.
 const VERSION: u32 = 1;
 
 /// The version of the calls and records: `SIMPLE_ASN1_VERSION` of the header that they belong to.
@@ -102,11 +102,11 @@ pub extern "C" fn simple_asn1_read(alloc: Global, octets: &[u8], blocks: &mut [B
     }
 }
 
-// So many records take little memory: where a document has no more, or where there is room for all that it may have,
+// How many records take little memory: where a document has no more, or where there is room for all that it may have,
 // they are kept, and not counted.
 const FEW: usize = 4096;
 
-// The same, where no more entries are kept than there is room for.
+// Reads a document where no more entries are kept than there is room for.
 fn read_within(alloc: Global, octets: &[u8], blocks: &mut [Block]) -> Outcome
     ensures answer { AnswersRead octets.now blocks.old blocks.new result }
     ensures few { (ns : Nodes) → IsStructure octets.now ns → 2 * length (nodes_in_order ns) ≤ length octets.now }
@@ -139,7 +139,7 @@ pub extern "C" fn simple_asn1_read_strict(
     }
 }
 
-// The same, where no more entries are kept than there is room for.
+// Reads a document in canonical form where no more entries are kept than there is room for.
 fn read_strict_within(alloc: Global, octets: &[u8], blocks: &mut [Block]) -> Outcome
     ensures { AnswersReadStrict octets.now blocks.old blocks.new result }
 {

@@ -25,7 +25,7 @@ impl Model for Prepender {
 }
 
 impl Prepender {
-    // None yet, and no memory is taken: the first room that is made has this size.
+    // No octets yet, and no memory is taken: the first room that is made has this size.
     pub fn new(alloc: Global, first_room: usize) -> Prepender
         ensures { result.octets ≡ [] }
     {

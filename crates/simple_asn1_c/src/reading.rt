@@ -90,7 +90,7 @@ pub fn find_records(alloc: Global, octets: &[u8], room: usize) -> Result<Found, 
     }
 }
 
-// Those of one in canonical form.
+// The entries of a document in canonical form, or their number.
 pub fn find_records_strict(alloc: Global, octets: &[u8], room: usize) -> Result<Found, Fault>
     ensures document { IfOk result (λ found. (bs : Trees ℕ) × (all : List Entry) × CanonicalDocument octets.now bs
         × AreEntriesOf octets.now bs all × IsFound room all found) }
@@ -122,7 +122,7 @@ fn check_strict(alloc: Global, octets: &[u8]) -> Result<(), Fault>
     }
 }
 
-// The same, by its blocks.
+// Whether the octets are a document in canonical form, by its blocks.
 fn check_blocks(alloc: Global, octets: &[u8]) -> Result<(), Fault>
     ensures document { OnOk result ((bs : Trees ℕ) × CanonicalDocument octets.now bs) }
     ensures fault { IfErr result
@@ -150,7 +150,7 @@ pub fn read_records<'a>(alloc: Global, octets: &'a [u8]) -> Result<Outline<'a>, 
     }
 }
 
-// Those of encodings by their headers alone.
+// The entries of encodings by their headers alone.
 pub fn read_headers<'a>(alloc: Global, octets: &'a [u8]) -> Result<Headers<'a>, Fault>
     ensures document { IfOk result (λ headers. (all : Shapes) × HasShapes octets.now all
         × (walked_entries headers ≡ entries_of 0 0 all)) }
@@ -163,7 +163,7 @@ pub fn read_headers<'a>(alloc: Global, octets: &'a [u8]) -> Result<Headers<'a>, 
     }
 }
 
-// Those of one in canonical form.
+// The entries of a document in canonical form.
 pub fn read_records_strict<'a>(alloc: Global, octets: &'a [u8]) -> Result<Outline<'a>, Fault>
     ensures document { IfOk result (λ outline. (bs : Trees ℕ) × CanonicalDocument octets.now bs
         × AreEntriesOf octets.now bs (entries_in outline)) }

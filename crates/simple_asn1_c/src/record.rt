@@ -94,7 +94,7 @@ pub struct DepartureRecord {
     pub rule: u32,
 }
 
-// What the C header has for them.
+// The sizes that the C header has for the records.
 const _: () = prove!(size_of::<Block>() == 64);
 
 const _: () = prove!(size_of::<Outcome>() == 24);

@@ -188,8 +188,8 @@ impl FrontBuilder {
         self.makes_room(offset, size)
     }
 
-    // The same where no memory is left: it is taken for as many blocks in the rest of the document as in what was read,
-    // and an eighth more, and for as many again as are kept at least. So a long list is moved a few times.
+    // Makes room where there is none: for as many blocks in the rest of the document as in what was read, and an eighth
+    // more, and for as many again as are kept at least, so that a long list is moved a few times.
     #[cold]
     #[inline(never)]
     fn makes_room(&mut self, offset: usize, size: usize) -> Result<bool, AllocError>

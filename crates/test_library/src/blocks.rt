@@ -6,7 +6,7 @@ use std::process::Abort;
 use std::slice;
 use std::test::Fail;
 
-// So many octets 00 are written with this header, and read again.
+// Writes an OCTET STRING of so many octets 00, which has this header, and reads it again.
 fn check_long(rt: &impl Abort, alloc: Global, size: usize, header: &str) -> Result<(), Fail> {
     let mut contents = Vec::new(alloc);
     contents.resize(size, 0)?;

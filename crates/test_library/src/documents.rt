@@ -9,7 +9,7 @@ use std::process::Abort;
 use std::test::Fail;
 use test_notation::blocks_text;
 
-// So many times the octets of the text.
+// The octets of the text, so many times.
 fn repeated(alloc: Global, times: u32, text: &str) -> Result<Vec<u8>, Fail> {
     let once = octets(alloc, text)?;
     let mut all = Vec::new(alloc);

@@ -28,7 +28,7 @@ pub record HasFaultyContents (octets contents : List ℕ) (start : ℕ) (e : Dec
   pub innermost : offset ≡ start + after
   pub begun : HeadersBegun contents n
 
--- those of a frame where a block is at fault
+-- the contents octets of a frame where a block is at fault are at fault themselves
 refused_read : (octets : List ℕ) (f : Frame) (p : ℕ) (e : DecodeFault) (offset a b : ℕ) → IsReadTo octets f p a →
     StopsAt octets f p e offset b
     → HasFaultyContents octets (slice_range octets f.extent.start f.extent.end) f.extent.start e offset (a + b)

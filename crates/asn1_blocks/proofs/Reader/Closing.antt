@@ -60,7 +60,7 @@ module _ {B I : Type 0} (Holds : Holding B I) (octets : List ℕ) where
     ending = subst (λ z. AreOpen octets (frame k w.trees) (frames (h ∷ reverse outer.items) z) k.extent.end n) N.are
         w.opened
 
-    -- it can
+    -- the frame that has ended can be closed
     pub can_end : (depth : ℕ) → depth ≡ length outer.items → CanEnd Holds octets k depth b h.items
     can_end depth d =
         let v = opened_places octets (frame k w.trees) (frames (h ∷ reverse outer.items) (N.next ∷ N.others))
@@ -78,7 +78,7 @@ module _ {B I : Type 0} (Holds : Holding B I) (octets : List ℕ) where
           holds = w.holds;
         }
 
-    -- and reading goes on
+    -- reading goes on behind a frame that was closed
     pub ended_goes_on : (depth : ℕ) (c : B) (j : I) (fault : ASN1DecodeErr) (most : ℕ) → depth ≡ length outer.items →
         HasEndedIn Holds octets k depth b h.items c j → left (length octets) k.extent.end outer.items < most →
         GoesOn Holds octets

@@ -100,7 +100,7 @@ module _ {B I : Type 0} (Holds : Holding B I) (octets : List ℕ) (b : B) where
     pub tried : is_tried k.extent.kind ≡ true → IsTried octets k.extent
     tried tries = attempt_headed octets k.extent tries stops.opened.headed
 
-    -- and then it can be kept
+    -- the encoding of an attempt that stops can be kept
     pub can_be_kept : IsTried octets k.extent → CanBeKept octets k.extent
     can_be_kept a =
         let p : StoppingPlaces octets (frame k r.trees) n = stopping_places octets (frame k r.trees)
@@ -114,7 +114,7 @@ module _ {B I : Type 0} (Holds : Holding B I) (octets : List ℕ) (b : B) where
           within = p.within;
         }
 
-    -- and then reading goes on
+    -- reading goes on behind an attempt that was kept
     pub kept_goes_on : IsTried octets k.extent → (depth : ℕ) (c : B) (j : I) (fault : ASN1DecodeErr) (most : ℕ) →
         depth ≡ length outer.items → HasKept Holds octets k depth b h.items c j →
         left (length octets) k.extent.end outer.items < most →

@@ -22,7 +22,7 @@ use Rattle.asn1_blocks.specs.View.{view, views}
 use Rattle.asn1_blocks.proofs.TreeBuilding.Adding.{around_grown, group_grown, kept_more, owed_more, tree_more}
 use Rattle.asn1_blocks.proofs.TreeBuilding.Holding.{IsGrown, all_open, left_clean}
 
--- of one tree, and of another number
+-- a list of one tree
 single : (ts : List (Tree ℕ)) → 1 ≡ length ts → (t : Tree ℕ) × (ts ≡ t ∷ [])
 single [] e = absurd (omega (arith, e))
 single (t ∷ []) e = (t, refl)
@@ -44,7 +44,7 @@ pub ended_is : (octets : List ℕ) (kind other : FrameKind) (o s e : ℕ) (ts : 
     → IsEnded octets other o s e ts t
 ended_is octets kind other o s e ts t is w = subst (λ z. IsEnded octets z o s e ts t) is w
 
--- and of an attempt, which attempt it is of
+-- the tree of an attempt that ended, where it is known which attempt it is
 tried_ended : (octets : List ℕ) (f : Extent) (k : other.Attempt) (ts : List (Tree ℕ)) (t : Tree ℕ) → f.kind ≡ Attempt
     → IsAttemptAlone octets f.offset f.end k → IsEnded octets f.kind f.offset f.start f.end ts t →
     t ≡ attempted octets k f.start f.end ts
@@ -122,7 +122,7 @@ frames_left octets es (x ∷ inside) f gs [] ts rest m a = absurd (omega (arith,
 frames_left octets es (x ∷ inside) f gs (u ∷ lost) ts rest m a =
     inner_left octets es x inside f gs u lost ts rest (omega (arith, m)) a
 
--- also those around the attempt, without what it owes
+-- the frames around an attempt hold as before, without what the attempt owes
 pub around_left :
     (octets : List ℕ) (es : List Owed) (inside : List (OpenFrame FrameBlocks)) (f g : OpenFrame FrameBlocks)
     (gs : List (OpenFrame FrameBlocks)) (lost : List (List (Tree ℕ))) (ts us : List (Tree ℕ))
@@ -239,7 +239,7 @@ module _ (octets : List ℕ) (a r : TreeBuilder) (i j : FrameBlocks) (f : OpenFr
           (moved (λ z. AllHold octets z (in_frame e i) fs us rest) clean.outer);
     }
 
-  -- what it owes goes, and it stays as it came
+  -- what an attempt that is kept owes goes, and it stays as it came
   module _ (k : other.Attempt) (alone : IsAttemptAlone octets f.extent.offset f.extent.end k)
       (cut : c.owed.items ≡ take f.items.owed_before a.owed.items) where
     pub kept_ended : f.extent.kind ≡ Attempt → (length f.items.first + f.items.owed_count ≡ 1 → ⊥) →

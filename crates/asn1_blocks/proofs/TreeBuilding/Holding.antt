@@ -93,7 +93,7 @@ all_owed octets es fs f g (h ∷ hs) ts (us ∷ rest) t w a =
     let v = subst (λ z. AllHold octets (take f.items.owed_before z) h hs us rest) (sym w.grown.whole) u in
     (holds_owed octets es fs f g ts t w a.0, subst (λ z. AllHold octets (take z fs) h hs us rest) (sym w.before) v)
 
--- and as a block
+-- the frames hold one tree more when a block is pushed
 pub all_pushed : (octets : List ℕ) (es : List Owed) (f g : OpenFrame FrameBlocks) (hs : List (OpenFrame FrameBlocks))
     (ts : List (Tree ℕ))
     (rest : List (List (Tree ℕ))) (b : ASN1Block)
@@ -186,7 +186,7 @@ pub nested : (octets : List ℕ) (es : List Owed) (f g : OpenFrame FrameBlocks) 
 nested octets es f g gs ts [] a = absurd a
 nested octets es f g gs ts (us ∷ rest) a = record { next = us; others = rest; are = refl; own = a.0; around = a.1 }
 
--- and the one that has none
+-- the outermost frame, which has none around it
 pub record IsAlone (octets : List ℕ) (es : List Owed) (f : OpenFrame FrameBlocks) (ts : List (Tree ℕ))
     (outer : List (List (Tree ℕ))) : Type 0 where
   pub are : outer ≡ []

@@ -151,7 +151,7 @@ same_tree-decides s t =
 same_block-decides : (a b : ASN1Block) → Decides (same_block a b) (shape (view a) ≡ shape (view b))
 same_block-decides a b = same_tree-decides (view a) (view b)
 
--- so `==` is an equivalence
+-- `==` of blocks is an equivalence
 pub same_block_equivalence : IsEquivalence same_block
 same_block_equivalence = record {
   refl = λ a. (same_block-decides a a).1 refl;

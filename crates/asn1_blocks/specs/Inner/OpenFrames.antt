@@ -58,7 +58,7 @@ pub record IsGroupAt (octets : List ℕ) (g : GroupKind) (offset start end : ℕ
   pub constructed : Bool
   pub encoding : IsEncodingBetween octets Universal constructed (group_tag g) offset start end
 
--- and so has a constructed encoding of another class
+-- a constructed encoding of another class than Universal has these contents octets
 pub record IsAttemptAt (octets : List ℕ) (a : other.Attempt) (start end : ℕ) : Type 0 where
   pub other : a.class ≢ Universal
   pub encoding : IsEncodingBetween octets a.class true a.tag a.offset start end

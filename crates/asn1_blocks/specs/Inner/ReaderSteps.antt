@@ -41,7 +41,7 @@ pub record HasMore {B I : Type 0} (Holds : Holding B I) (octets : List ℕ) (t :
       depth ≡ length fs → Holds octets a (in_frame e i ∷ fs) (ts ∷ rest) →
       Holds octets b (in_frame e j ∷ fs) ((ts ++ t ∷ []) ∷ rest)
 
--- and that is one which the octets from the offset to the end encode
+-- the innermost frame has one tree more, which the octets from the offset to the end encode
 pub record HasLeaf {B I : Type 0} (Holds : Holding B I) (octets : List ℕ) (offset end depth : ℕ)
     (a : B) (i : I) (b : B) (j : I) : Type 0 where
   pub tree : Tree ℕ
@@ -183,7 +183,7 @@ abbrev pub IsStepped : {B I : Type 0} → Holding B I → List ℕ → Option (R
 IsStepped Holds octets None r n most = HasEnded Holds octets r n
 IsStepped Holds octets (Some step) r n most = HasStepped Holds octets step r n most
 
--- and how many headers were begun since the count was at the base
+-- what a step leads to, and how many headers were begun since the count was at the base
 pub record HasTakenStep {B I : Type 0} (Holds : Holding B I) (octets : List ℕ)
     (step : Option (Result (Unit {0}) ASN1DecodeErr)) (r : Reader B I) (count base most : ℕ) : Type 0 where
   pub begun : ℕ
@@ -203,7 +203,7 @@ abbrev pub StartsEmpty : {B I : Type 0} → Holding B I → List ℕ → B → I
 StartsEmpty Holds octets b items =
     Holds octets b (in_frame (record { kind = Whole; offset = 0; start = 0; end = length octets }) items ∷ []) ([] ∷ [])
 
--- and these are the trees of the document
+-- the builder holds the trees of the document
 pub record HasDocument {B I : Type 0} (Holds : Holding B I) (octets : List ℕ) (b : B) (items : I) : Type 0 where
   pub trees : List (Tree ℕ)
   pub extent : Extent

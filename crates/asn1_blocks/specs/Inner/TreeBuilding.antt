@@ -20,7 +20,7 @@ pub record Holds (octets : List ℕ) (es : List Owed) (f : OpenFrame FrameBlocks
   pub count : f.items.owed_count ≡ length owed
   pub trees : ts ≡ map view f.items.first ++ owed
 
--- and so do the frames around it, the innermost first, which owe those before
+-- the innermost frame has read its trees, and so has each frame around it, which owes what stands before
 abbrev pub AllHold : List ℕ → List Owed → OpenFrame FrameBlocks → List (OpenFrame FrameBlocks)
     → List (Tree ℕ) → List (List (Tree ℕ)) → Type 0
 AllHold octets es f [] ts [] = Holds octets es f ts × (f.items.owed_before ≡ 0)

@@ -28,7 +28,7 @@ pub record IsNext (b : ASN1Block) (before after : List ASN1Block) : Type 0 where
   pub holds : views held ≡ inside (view b)
   pub then : after ≡ held ++ rest
 
--- these are the blocks at all depths, each before those that it holds
+-- a list of all blocks at all depths, each before those that it holds
 abbrev pub IsInTreeOrder : List ASN1Block → List ASN1Block → Type 0
 IsInTreeOrder [] blocks = blocks ≡ []
 IsInTreeOrder (b ∷ order) blocks =

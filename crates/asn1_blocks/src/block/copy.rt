@@ -40,7 +40,7 @@ fn copy(alloc: Global, b: &ASN1Block) -> Result<ASN1Block, AllocError>
 }
 
 impl ASN1Block {
-    /// The same block, offsets too. The only error is that memory ran out.
+    /// Copies the block with its offsets. The only error is that memory ran out.
     ///
     /// It takes memory for each box of the tree, each vector and text that is not empty, each integer of more than 24
     /// octets, and each tag number from 2^64 on: one allocation each. While the copy is made, it also holds a list of

@@ -7,7 +7,7 @@ use Rattle.std.proofs.lemmas.List.Elements.{All-head}
 use Rattle.asn1_headers.specs.Fault.{DecodeFault, IsOfReading, length_too_large, invalid_bit_string_length}
 use Rattle.asn1_leaves.specs.Contents.BitString.{BitStringContents, BitStringFault, IsFaithfulBitString, bit_string_contents, bit_string_write_fault, written_bits}
 
--- they mean one number of bits, and one list of octets
+-- contents octets mean one number of bits, and one list of octets
 pub bit_string_alone : (m n : ℕ) (v w contents : List ℕ) → BitStringContents m v contents →
     BitStringContents n w contents → (m ≡ n) × (v ≡ w)
 bit_string_alone m n v w [] p q = (p.0 ∙ sym q.0, p.1 ∙ sym q.1)
@@ -15,7 +15,7 @@ bit_string_alone m n v w (u ∷ contents) p q =
     let f : v ≡ w = p.0 ∙ sym q.0 in
     (omega (arith, p.1, q.1, ap length f), f)
 
--- they have one fault
+-- contents octets have one fault
 pub bit_string_fault_alone : (contents : List ℕ) (e d : DecodeFault) → BitStringFault contents e →
     BitStringFault contents d → e ≡ d
 bit_string_fault_alone [] e d p q = absurd p
@@ -24,14 +24,14 @@ bit_string_fault_alone (u ∷ v) e d (inl p) (inr q) = absurd (omega (arith, p.0
 bit_string_fault_alone (u ∷ v) e d (inr p) (inl q) = absurd (omega (arith, p.0, q.0))
 bit_string_fault_alone (u ∷ v) e d (inr (_, _, p)) (inr (_, _, q)) = p ∙ sym q
 
--- those that mean bits have no fault
+-- contents octets that mean bits have no fault
 pub bit_string_no_fault : (n : ℕ) (v contents : List ℕ) (e : DecodeFault) → BitStringContents n v contents →
     BitStringFault contents e → ⊥
 bit_string_no_fault n v [] e p f = f
 bit_string_no_fault n v (u ∷ contents) e (same, _, fits) (inl f) = omega (arith, fits, f.0, ap length same)
 bit_string_no_fault n v (u ∷ contents) e p (inr f) = omega (arith, p.1, f.1, ap length p.0)
 
--- all others have one
+-- contents octets that mean no bits have a fault
 pub bit_string_meaning : (contents : List ℕ)
     → ((n : ℕ) × (v : List ℕ) × BitStringContents n v contents) ⊎ ((e : DecodeFault) × BitStringFault contents e)
 bit_string_meaning [] = inl (0, [], (refl, refl))
@@ -43,7 +43,7 @@ bit_string_meaning (u ∷ v) = elim (cases_lt (8 * length v) (2 ^ 64)) [
   ]
 ]
 
--- it is one of reading
+-- the fault is one of reading
 pub bit_string_fault_of_reading : (contents : List ℕ) (e : DecodeFault) → BitStringFault contents e → IsOfReading e
 bit_string_fault_of_reading [] e f = absurd f
 bit_string_fault_of_reading (u ∷ v) e (inl f) = subst IsOfReading (sym f.1) tt
@@ -76,7 +76,7 @@ bit_string_again (suc n) v (inl f) = absurd (omega (arith, f.0))
 bit_string_again (suc n) v (inr (_, enough, _, fits)) =
     subst (BitStringContents (suc n) v) (sym (some_written n v)) (refl, omega (arith, enough), fits)
 
--- they can be written
+-- faithful bits can be written
 pub bit_string_fits : (n : ℕ) (v : List ℕ) → IsFaithfulBitString n v → bit_string_write_fault n v ≡ None
 bit_string_fits zero v f = refl
 bit_string_fits (suc n) v (inl f) = absurd (omega (arith, f.0))

@@ -64,7 +64,7 @@ end_is end front digits f e (inr p) (a, inl q) = p.0 ∙ append_cancel_right fro
 end_is end front digits f e (inr p) (a, inr q) =
     absurd (p.1 f (append_cancel_right front (46 ∷ f) (90 ∷ []) (sym e ∙ q)))
 
--- so they are determined
+-- the digits of a fraction are determined
 pub end_alone : (end f g : List ℕ) → IsEnd f end → IsEnd g end → f ≡ g
 end_alone end f g (a, inl p) t = end_is end f f g p (inr (refl, λ r e. no_point f r a e)) t
 end_alone end f g (a, inr p) t = end_is end (46 ∷ f) f g p (inl refl) t

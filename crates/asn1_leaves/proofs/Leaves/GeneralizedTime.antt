@@ -36,7 +36,7 @@ second_spelled (a ∷ b ∷ c ∷ d ∷ e ∷ f ∷ g ∷ h ∷ i ∷ j ∷ k �
     cc)
 second_spelled second high low n m size hi lo q = absurd (omega (arith, size))
 
--- and the other way round
+-- digits that spell a moment to the second are at each place those of its fields
 pub second_by_place :
     (second : List ℕ) (high low n : ℕ) (m : Moment) → IsValid m → m.nanosecond ≡ n → second ≡ to_second m →
     PairAt second 0 high
@@ -120,7 +120,7 @@ second_moment second n = record {
   nanosecond = n;
 }
 
--- is that of the octets that are written
+-- a moment is that of the octets that are written of it, with its nanoseconds
 second_moment_again : (m : Moment) → IsValid m → m ≡ second_moment (to_second m) m.nanosecond
 second_moment_again m v =
     let y = unsigned_abs m.year in
@@ -139,7 +139,7 @@ second_moment_again m v =
     (sym (number_two_digits m.second (omega (arith, v.second))))
     refl
 
--- so contents octets mean that of their first fourteen, with the fraction after them
+-- contents octets mean the moment of their first fourteen, with the fraction after them
 time_is :
     (m : Moment) (contents digits : List ℕ) → GeneralizedTimeContents m contents → IsEnd digits (drop 14 contents)
     → m ≡ second_moment (take 14 contents) (fraction_number tenth digits)

@@ -3,6 +3,6 @@ use Rattle.std.proofs.Common.{◌≡◌, ℕ, List, sym, ◌∙◌}
 use Rattle.std.specs.Prelude.{ℤ}
 use Rattle.asn1_leaves.specs.Contents.Integer.{IntegerContents}
 
--- they mean one number
+-- contents octets mean one number
 pub integer_alone : (m n : ℤ) (contents : List ℕ) → IntegerContents m contents → IntegerContents n contents → m ≡ n
 integer_alone m n contents p q = p ∙ sym q

@@ -16,7 +16,7 @@ first_alone v w x y n (e, p, inl q) (f, r, inr s) = (omega (arith, e, f, p, q, s
 first_alone v w x y n (e, p, inr q) (f, r, inl s) = (omega (arith, e, f, r, q, s), omega (arith, e, f, r, q, s))
 first_alone v w x y n (e, p, inr q) (f, r, inr s) = (q ∙ sym s, omega (arith, e, f, q, s))
 
--- they mean one list of components
+-- contents octets mean one list of components
 pub object_identifier_alone : (ms ns contents : List ℕ) → ObjectIdentifierContents ms contents →
     ObjectIdentifierContents ns contents → ms ≡ ns
 object_identifier_alone [] ns contents p q = absurd p
@@ -33,12 +33,12 @@ object_identifier_alone (v ∷ w ∷ ms) (x ∷ y ∷ ns) contents (b, octets, e
     let second_is : w ≡ y = first.1 in
     cc
 
--- they have one fault
+-- contents octets have one fault
 pub object_identifier_fault_alone : (contents : List ℕ) (e d : DecodeFault) → ObjectIdentifierFault contents e
     → ObjectIdentifierFault contents d → e ≡ d
 object_identifier_fault_alone contents e d p q = p.0 ∙ sym q.0
 
--- those that mean components have no fault
+-- contents octets that mean components have no fault
 pub object_identifier_no_fault : (ns contents : List ℕ) (e : DecodeFault) → ObjectIdentifierContents ns contents
     → ObjectIdentifierFault contents e → ⊥
 object_identifier_no_fault ns contents e p f = f.1 ns p
@@ -78,7 +78,7 @@ pub object_identifier_unended : (b : ℕ) (octets : List ℕ) → 128 ≤ get_or
     → ObjectIdentifierContents ns (b ∷ octets) → ⊥
 object_identifier_unended b octets high = no_subidentifiers b octets (subidentifiers_unended octets high)
 
--- all others have one
+-- contents octets that mean no components have a fault
 pub object_identifier_meaning : (contents : List ℕ)
     → ((ns : List ℕ) × ObjectIdentifierContents ns contents) ⊎ ((e : DecodeFault) × ObjectIdentifierFault contents e)
 object_identifier_meaning [] = inr (incomplete, (refl, no_octets))
@@ -87,7 +87,7 @@ object_identifier_meaning (b ∷ octets) = elim (cases_lt (get_or octets (length
   | inr high ↦ inr (incomplete, (refl, object_identifier_unended b octets high))
 ]
 
--- it is one of reading
+-- the fault is one of reading
 pub object_identifier_fault_of_reading : (contents : List ℕ) (e : DecodeFault) → ObjectIdentifierFault contents e →
     IsOfReading e
 object_identifier_fault_of_reading contents e f = subst IsOfReading (sym f.0) tt
@@ -119,7 +119,7 @@ object_identifier_again (x ∷ []) f = cc
 object_identifier_again (x ∷ y ∷ ns) f =
     (40 * x + y, flat_map shortest_base128 ns, refl, written_first x y ns f, subidentifiers_shortest ns)
 
--- and faithful components can be written
+-- faithful components can be written
 pub object_identifier_fits : (ns : List ℕ) → IsFaithfulObjectIdentifier ns → object_identifier_write_fault ns ≡ None
 object_identifier_fits ns f = f
 

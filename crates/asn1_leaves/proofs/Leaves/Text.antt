@@ -11,28 +11,28 @@ use Rattle.asn1_headers.specs.Fault.{DecodeFault, IsOfReading, utf8_fault, print
 use Rattle.asn1_leaves.specs.Contents.Text.{is_printable, HasCharacters, TextContents, TextFault, octet_write_fault, text_contents, text_write_fault}
 use Rattle.asn1_leaves.proofs.Characters.{octets_writable, octet_write_none, printable_write_none}
 
--- they mean one list of characters
+-- contents octets mean one list of characters
 pub text_alone : (form : TextForm) (cs ds contents : List ℕ) → TextContents form cs contents →
     TextContents form ds contents → cs ≡ ds
 text_alone Utf8 cs ds contents p q = encodes_same cs ds (p.1 ∙ sym q.1)
 text_alone Printable cs ds contents p q = p.1 ∙ sym q.1
 text_alone Octets cs ds contents p q = p ∙ sym q
 
--- they have one fault
+-- contents octets have one fault
 pub text_fault_alone : (form : TextForm) (contents : List ℕ) (e d : DecodeFault) → TextFault form contents e →
     TextFault form contents d → e ≡ d
 text_fault_alone Utf8 contents e d p q = p.1 ∙ sym q.1
 text_fault_alone Printable contents e d p q = p.1 ∙ sym q.1
 text_fault_alone Octets contents e d p q = absurd p
 
--- those that mean characters have no fault
+-- contents octets that mean characters have no fault
 pub text_no_fault : (form : TextForm) (cs contents : List ℕ) (e : DecodeFault) → TextContents form cs contents →
     TextFault form contents e → ⊥
 text_no_fault Utf8 cs contents e p f = f.0 (cs, (p.0, p.1))
 text_no_fault Printable cs contents e p f = f.0 p.0
 text_no_fault Octets cs contents e p f = f
 
--- all others have one
+-- contents octets that mean no characters have a fault
 pub text_meaning : (form : TextForm) (contents : List ℕ)
     → ((cs : List ℕ) × TextContents form cs contents) ⊎ ((e : DecodeFault) × TextFault form contents e)
 text_meaning Utf8 contents = elim (cases_Bool (is_utf8 contents)) [
@@ -45,7 +45,7 @@ text_meaning Printable contents = elim (cases_Bool (list_all is_printable conten
 ]
 text_meaning Octets contents = inl (contents, refl)
 
--- it is one of reading
+-- the fault is one of reading
 pub text_fault_of_reading : (form : TextForm) (contents : List ℕ) (e : DecodeFault) → TextFault form contents e →
     IsOfReading e
 text_fault_of_reading Utf8 contents e f = subst IsOfReading (sym f.1) tt
@@ -66,7 +66,7 @@ text_again Utf8 cs f = (f, refl)
 text_again Printable cs f = (f, refl)
 text_again Octets cs f = refl
 
--- they can be written
+-- characters that the form has can be written
 pub text_fits : (form : TextForm) (cs : List ℕ) → HasCharacters form cs → text_write_fault form cs ≡ None
 text_fits Utf8 cs f = refl
 text_fits Printable cs f = printable_write_none cs f

@@ -51,7 +51,7 @@ full_year_of : (y n : ℕ) → 1950 ≤ y → y ≤ 2049 → n ≡ y % 100 → y
 unfolding full_year
 full_year_of y n a b e = grind (arith, nat_tests, a, b, e)
 
--- is that of the octets that are written
+-- a faithful moment is that of the octets that are written of it
 utc_moment_again : (m : Moment) → IsFaithfulUtcTime m → m ≡ utc_moment (utc_time_contents m)
 utc_moment_again m f =
     let y = unsigned_abs m.year in

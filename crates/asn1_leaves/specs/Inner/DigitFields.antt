@@ -10,7 +10,7 @@ pub record IsPair (a b n : ℕ) : Type 0 where
   pub tens : a ≡ digit (n / 10)
   pub units : b ≡ digit (n % 10)
 
--- and so are those at the place
+-- the octets at the place and after it are the two digits of the number
 abbrev pub PairAt : List ℕ → ℕ → ℕ → Type 0
 PairAt octets place n = IsPair (slice_index octets place) (slice_index octets (place + 1)) n
 

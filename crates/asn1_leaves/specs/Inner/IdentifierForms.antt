@@ -28,7 +28,7 @@ abbrev pub kept_components : Kept → List ℕ
 kept_components (Octets octets) = components_of octets.items
 kept_components (Components components) = components.items
 
--- they have contents octets, at most 24
+-- components have contents octets, at most 24
 abbrev pub HaveShortContents : List ℕ → Type 0
 HaveShortContents ns =
     (object_identifier_write_fault ns ≡ None) × (length (object_identifier_contents ns) ≤ 24)

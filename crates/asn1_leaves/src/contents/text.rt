@@ -130,7 +130,7 @@ fn read_octets(alloc: Global, contents: &[u8]) -> Result<String, AllocError>
     Ok(text)
 }
 
-// The same of ASCII, whose octets are the text. It is proved that they are UTF-8, and so not tested again.
+// Reads ASCII, whose octets are the text. It is proved that they are UTF-8, and so not tested again.
 fn read_ascii(alloc: Global, contents: &[u8]) -> Result<String, AllocError>
     requires { IsAscii contents.now }
     ensures { IfOk result (λ s. chars (string_bytes s) ≡ contents.now) }

@@ -3,7 +3,7 @@ use Rattle.std.specs.Prelude.{ℕ, true, List, Option, Some, None}
 use Rattle.asn1_blocks.specs.Grammar.{EncodesAll}
 use Rattle.asn1_blocks.specs.Tree.{Tree, Trees, unknown}
 
--- those of a constructed encoding that is not read as more
+-- the contents octets of a constructed encoding that stays as it came
 abbrev pub constructed_contents : {O : Type 0} → Tree O → Option (List ℕ)
 constructed_contents (unknown class true o tag contents) = Some contents
 constructed_contents _ = None

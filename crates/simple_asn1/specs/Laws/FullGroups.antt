@@ -39,7 +39,7 @@ mutual
 pub record IsWiderThanFullGroups : Type 0 where
   pub block : (octets : List ℕ) → IsFullBlock octets → IsBlock octets
   pub blocks : (octets : List ℕ) → AreFullBlocks octets → AreBlocks octets
-  -- so every document without empty groups is one
+  -- octets that are blocks without empty groups are a document
   pub document :
       (octets : List ℕ) →
       FitInSlice octets → 0 < length octets → AreFullBlocks octets →

@@ -13,19 +13,21 @@ pub record HeaderLaws : Type 0 where
       (first second behind beyond : List ℕ) (number other : ℕ) →
       IsBase128 first number → IsBase128 second other → first ++ behind ≡ second ++ beyond →
       (first ≡ second) × (number ≡ other)
-  -- so with identifier octets, and their class, constructed bit and tag number
+  -- of two runs of identifier octets at the front of the same octets, the octets, classes, constructed bits and tag
+  -- numbers are equal
   pub one_identifier :
       (first second behind beyond : List ℕ) (class other_class : ASN1Class)
       (constructed other_constructed : Bool) (tag other_tag : ℕ) →
       IsIdentifier first class constructed tag → IsIdentifier second other_class other_constructed other_tag →
       first ++ behind ≡ second ++ beyond →
       (first ≡ second) × (class ≡ other_class) × (constructed ≡ other_constructed) × (tag ≡ other_tag)
-  -- so with length octets, and the length
+  -- of two runs of length octets at the front of the same octets, the octets and the lengths are equal
   pub one_length :
       (first second behind beyond : List ℕ) (size other : ℕ) →
       IsLength first size → IsLength second other → first ++ behind ≡ second ++ beyond →
       (first ≡ second) × (size ≡ other)
-  -- so with encodings, and their class, constructed bit, tag number, contents octets and size of the header
+  -- of two encodings at the front of the same octets, the octets, classes, constructed bits, tag numbers, contents
+  -- octets and sizes of the headers are equal
   pub one_encoding :
       (first second behind beyond : List ℕ) (class other_class : ASN1Class)
       (constructed other_constructed : Bool) (tag other_tag : ℕ) (contents other_contents : List ℕ)
@@ -37,11 +39,11 @@ pub record HeaderLaws : Type 0 where
       × (contents ≡ other_contents) × (header ≡ other_header)
   -- the shortest octets of a base-128 number are such octets
   pub base128_is : (number : ℕ) → IsBase128 (shortest_base128 number) number
-  -- so with identifier octets
+  -- the shortest identifier octets of a class, constructed bit and tag number are identifier octets of these
   pub identifier_is :
       (class : ASN1Class) (constructed : Bool) (tag : ℕ) →
       IsIdentifier (shortest_identifier class constructed tag) class constructed tag
-  -- so with length octets, up to the greatest usize
+  -- the shortest length octets of a length, up to the greatest usize, are length octets of it
   pub length_is : (n : ℕ) → n < 2 ^ 64 → IsLength (shortest_length n) n
   -- no octets of the same base-128 number are fewer
   pub base128_shortest :
@@ -61,13 +63,13 @@ pub record HeaderLaws : Type 0 where
       (octets : List ℕ) (n : ℕ) →
       AreOctets octets → IsBase128 octets n → length octets ≤ length (shortest_base128 n) →
       octets ≡ shortest_base128 n
-  -- so with identifier octets of the same fields
+  -- no other identifier octets of the same fields are as few
   pub identifier_only :
       (octets : List ℕ) (class : ASN1Class) (constructed : Bool) (tag : ℕ) →
       AreOctets octets → IsIdentifier octets class constructed tag →
       length octets ≤ length (shortest_identifier class constructed tag) →
       octets ≡ shortest_identifier class constructed tag
-  -- so with length octets of the same length, but that 80 (hexadecimal) is as short as 00 for the length 0
+  -- no other length octets of the same length are as few, but that 80 (hexadecimal) is as short as 00 for the length 0
   pub length_only :
       (octets : List ℕ) (n : ℕ) →
       AreOctets octets → octets ≢ 128 ∷ [] → IsLength octets n →
@@ -75,7 +77,7 @@ pub record HeaderLaws : Type 0 where
       octets ≡ shortest_length n
   -- the shortest octets of a base-128 number do not begin with 80 (hexadecimal; X.690 8.1.2.4.2, 8.19.2)
   pub base128_leading : (n : ℕ) (rest : List ℕ) → shortest_base128 n ≢ 128 ∷ rest
-  -- and octets of it that do not begin so, as 00 does not, are the shortest
+  -- octets of a base-128 number that do not begin with 80 (hexadecimal), as 00 does not, are the shortest
   pub base128_not_leading :
       (octets : List ℕ) (n : ℕ) →
       AreOctets octets → IsBase128 octets n → ((rest : List ℕ) → octets ≢ 128 ∷ rest) →

@@ -20,7 +20,7 @@ pub record RewritingIsCanonical : Type 0 where
       (document : List ℕ) (bs : Trees ℕ) →
       AreOctets document → FitInSlice (all_canonical bs) → IsDocument document bs →
       AllReadBackAs (all_canonical bs) (all_normalized bs)
-  -- and are their own canonical octets
+  -- the canonical octets of a document are their own canonical octets
   pub again :
       (document : List ℕ) (bs cs : Trees ℕ) →
       AreOctets document → FitInSlice (all_canonical bs) → IsDocument document bs →

@@ -9,7 +9,8 @@ use Rattle.asn1_blocks.specs.Places.{rebased, all_later, joined, BeginAt, HasOct
 
 -- two documents one after another
 pub record Concatenation : Type 0 where
-  -- are one, with the trees of the first, and then those of the second with offsets greater by the first's length
+  -- two documents, joined, are one, with the trees of the first, and then those of the second with offsets greater by
+  -- the first's length
   pub both :
       (first second : List ℕ) (xs ys : Trees ℕ) →
       IsDocument first xs → IsDocument second ys →
@@ -35,18 +36,18 @@ pub record Truncation : Type 0 where
 
 -- the octets of a tree of a document, at any depth
 pub record BlockAlone : Type 0 where
-  -- are a document of that one tree, with all offsets less by its own
+  -- the octets of a tree are a document of that one tree, with all offsets less by its own
   pub alone :
       (document : List ℕ) (bs : Trees ℕ) (b : Tree ℕ) (octets : List ℕ) →
       IsDocument document bs → HasOctets document bs b octets →
       IsDocument octets (more_trees (rebased b) no_trees)
-  -- they stand in the document from its offset on
+  -- the octets of a tree stand in the document from its offset on
   pub position :
       (document : List ℕ) (bs : Trees ℕ) (b : Tree ℕ) (octets : List ℕ) →
       IsDocument document bs → HasOctets document bs b octets →
       (before : List ℕ) × (behind : List ℕ)
       × (document ≡ before ++ (octets ++ behind)) × (length before ≡ tree_offset b)
-  -- and are what the header at its offset tells: an encoding, and no other stands there
+  -- the octets of a tree are what the header at its offset tells: an encoding, and no other stands there
   pub header :
       (document : List ℕ) (bs : Trees ℕ) (b : Tree ℕ) (octets other : List ℕ) →
       IsDocument document bs → HasOctets document bs b octets →

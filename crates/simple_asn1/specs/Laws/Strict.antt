@@ -19,11 +19,11 @@ pub record StrictReading : Type 0 where
       (octets : List ℕ) →
       FitInSlice octets →
       ((bs : Trees ℕ) × CanonicalDocument octets bs) ⊎ ((e : DecodeFault) × StrictFault octets e)
-  -- and never both
+  -- no octets are a canonical document and have a strict fault
   pub not_both :
       (octets : List ℕ) (bs : Trees ℕ) (e : DecodeFault) →
       FitInSlice octets → CanonicalDocument octets bs → StrictFault octets e → ⊥
-  -- they have at most one strict fault
+  -- octets have at most one strict fault
   pub one_fault :
       (octets : List ℕ) (e d : DecodeFault) →
       FitInSlice octets → StrictFault octets e → StrictFault octets d → e ≡ d

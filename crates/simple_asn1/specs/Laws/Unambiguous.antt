@@ -26,14 +26,14 @@ pub record Unambiguous : Type 0 where
       (octets : List ℕ) →
       FitInSlice octets →
       ((bs : Trees ℕ) × IsDocument octets bs) ⊎ ((e : DecodeFault) × FirstFault octets e)
-  -- and never both
+  -- no octets are a document and have a first fault
   pub not_both :
       (octets : List ℕ) (bs : Trees ℕ) (e : DecodeFault) →
       FitInSlice octets → IsDocument octets bs → FirstFault octets e → ⊥
-  -- they are at most one document
+  -- octets are at most one document
   pub one_document :
       (octets : List ℕ) (xs ys : Trees ℕ) → IsDocument octets xs → IsDocument octets ys → xs ≡ ys
-  -- and have at most one first fault
+  -- octets have at most one first fault
   pub one_fault :
       (octets : List ℕ) (e d : DecodeFault) →
       FitInSlice octets → FirstFault octets e → FirstFault octets d → e ≡ d
@@ -42,23 +42,23 @@ pub record Unambiguous : Type 0 where
   pub of_reading : (octets : List ℕ) (e : DecodeFault) → FirstFault octets e → IsOfReading e
   -- a reader begins some number of headers
   pub headers_begun : (octets : List ℕ) → FitInSlice octets → (n : ℕ) × HeadersBegun octets n
-  -- and no other number
+  -- a reader begins one number of headers
   pub one_number :
       (octets : List ℕ) (m n : ℕ) → HeadersBegun octets m → HeadersBegun octets n → m ≡ n
   -- at most one header for each octet
   pub at_most : (octets : List ℕ) (n : ℕ) → HeadersBegun octets n → n ≤ length octets
-  -- and at least one for each block of a document, at all depths
+  -- at least one header for each block of a document, at all depths
   pub at_least :
       (octets : List ℕ) (bs : Trees ℕ) (n : ℕ) →
       IsDocument octets bs → HeadersBegun octets n → all_blocks_in bs ≤ n
 
 -- the first fault has one place
 pub record OneFaultPlace : Type 0 where
-  -- it has a place, and what has one is a first fault
+  -- the first fault has a place, and what has one is a first fault
   pub placed :
       (octets : List ℕ) (e : DecodeFault) →
       FirstFault octets e ↔ ((offset : ℕ) × FirstFaultAt octets e offset)
-  -- and no other place
+  -- the first fault has no other place
   pub one :
       (octets : List ℕ) (e d : DecodeFault) (m n : ℕ) →
       FitInSlice octets → FirstFaultAt octets e m → FirstFaultAt octets d n →

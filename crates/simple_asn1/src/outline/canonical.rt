@@ -39,7 +39,7 @@ fn is_canonical(octets: &[u8], entry: &Entry) -> bool
     }
 }
 
-// The same of an encoding of class Universal with the shortest header.
+// Whether an encoding of class Universal with the shortest header is canonical, its blocks aside.
 #[inline(always)]
 fn is_canonical_universal(octets: &[u8], entry: &Entry) -> bool
     requires there { HasHeaderAt octets.now entry.now }

@@ -53,8 +53,8 @@ fn are_contents_canonical(constructed: bool, tag: &BigUint, contents: &[u8]) -> 
     }
 }
 
-// The same of a primitive encoding. Those of strings of characters, of an OCTET STRING and of a UTCTime have no other
-// form, and those of other tags stay as they came.
+// Whether contents octets of a primitive encoding are canonical. Those of strings of characters, of an OCTET STRING and
+// of a UTCTime have no other form, and those of other tags stay as they came.
 #[inline(always)]
 pub(crate) fn are_leaf_contents_canonical(tag: u64, contents: &[u8]) -> bool
     ensures { IsTrue result → AreCanonicalContents Universal false tag contents.now }
@@ -117,7 +117,7 @@ fn past_header<'a>(
     }
 }
 
-// The same where a SEQUENCE or SET has a header of two octets.
+// The octets that are left to be compared where a SEQUENCE or SET with a header of two octets stands in front.
 #[inline(always)]
 fn past_short_group<'a>(octets: &'a [u8], leading: u8, length: u8) -> Option<(&'a [u8], &'a [u8])>
     requires front { (rest : List ℕ) × (octets.now ≡ leading ∷ length ∷ rest) }
@@ -129,7 +129,7 @@ fn past_short_group<'a>(octets: &'a [u8], leading: u8, length: u8) -> Option<(&'
     Some((&[], rest))
 }
 
-// The same where a primitive encoding has one.
+// The octets that are left to be compared where a primitive encoding with a header of two octets stands in front.
 #[inline(always)]
 fn past_short_leaf<'a>(octets: &'a [u8], leading: u8, length: u8) -> Option<(&'a [u8], &'a [u8])>
     requires front { (rest : List ℕ) × (octets.now ≡ leading ∷ length ∷ rest) }
@@ -149,7 +149,7 @@ fn past_short_leaf<'a>(octets: &'a [u8], leading: u8, length: u8) -> Option<(&'a
     Some((&[], after))
 }
 
-// The same of any header.
+// The octets that are left to be compared where any header stands in front.
 #[inline(always)]
 fn past_any<'a>(alloc: Global, octets: &'a [u8]) -> Result<Option<(&'a [u8], &'a [u8])>, AllocError>
     ensures { IfOk result (λ found. IfSome found (λ x. LeavesBoth octets.now x.0.now x.1.now)) }
@@ -166,7 +166,7 @@ fn past_any<'a>(alloc: Global, octets: &'a [u8]) -> Result<Option<(&'a [u8], &'a
     Ok(past_shortest(octets, &header))
 }
 
-// The same where the header at the front has its shortest form.
+// The octets that are left to be compared where the header in front has its shortest form.
 #[inline(always)]
 fn past_shortest<'a>(octets: &'a [u8], header: &Header) -> Option<(&'a [u8], &'a [u8])>
     requires { BeginsShortest octets.now header.now }

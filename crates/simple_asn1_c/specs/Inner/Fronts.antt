@@ -9,13 +9,13 @@ use Rattle.simple_asn1_c.specs.declared.front.FrontBuilder.{FrontBuilder}
 use Rattle.simple_asn1_c.specs.declared.within.Found.{Found}
 use Rattle.simple_asn1_c.specs.declared.within.Found.TheVariants.{Entries, Count}
 
--- of these entries the builder keeps the first, and the number of the others
+-- the builder keeps the first of the entries, and the number of the others
 pub record IsFront (b : FrontBuilder) (all : List Entry) : Type 0 where
   pub others : List Entry
   pub whole : all ≡ b.kept.items ++ others
   pub count : length others ≡ b.beyond
 
--- they are those of the blocks that the frames have
+-- the entries, of which the builder keeps the first, are those of the blocks that the frames have
 abbrev pub holds_front : List ℕ → FrontBuilder → List (OpenFrame EntryItems) → List (List (Tree ℕ)) → Type 0
 holds_front document b fs trees = (all : List Entry) × IsFront b all × all_hold document all fs trees
 

@@ -21,8 +21,8 @@ abbrev pub AreWrittenOfLeaf : ℕ → List ℕ → Type 0
 AreWrittenOfLeaf tag contents =
     (l : Leaf) × (tag ≡ leaf_tag l) × LeafContents l contents × (leaf_contents l ≡ contents)
 
--- so many blocks make a block in an encoding of this class with this tag number: any in a SEQUENCE or SET, one in
--- another class
+-- how many blocks an encoding of this class with this tag number may hold to be a block: any number in a SEQUENCE or
+-- SET, one in another class
 abbrev pub HoldsBlocks : ASN1Class → ℕ → ℕ → Type 0
 HoldsBlocks class tag items =
     ((class ≡ Universal) × (g : GroupKind) × (tag ≡ group_tag g)) ⊎ ((class ≢ Universal) × (items ≡ 1))

@@ -26,7 +26,7 @@ stays c k n contents o (Ok b) other shut kept =
     (refl, h, f, inr (other, λ z. shut (inr (other, z.0))))
 stays c k n contents o (Err e) other shut kept = tt
 
--- so does one of class Universal whose tag has no rule
+-- an encoding of class Universal whose tag has no rule stays as it came
 unknown_there : (c : ASN1Class) (k : Bool) (n : ℕ) (contents : List ℕ) (o : ℕ) (r : Result ASN1Block ASN1DecodeErr) →
     c ≡ Universal
     → (IsReadInside c k n → ⊥) → is_leaf_tag n ≡ false → IfOk r (λ b. view b ≡ unknown c k o n contents)

@@ -18,7 +18,7 @@ same_fields a b e =
     let (h, i, s, n) = time_nanos_injective a.time b.time time in
     cc
 
--- those with the same fields are at the same nanosecond
+-- moments with the same fields are at the same nanosecond
 same_nanosecond : (a b : DateTime) → moment_of a ≡ moment_of b → civil_nanos a ≡ civil_nanos b
 same_nanosecond a b e =
     let day : epoch_day a.date ≡ epoch_day b.date =

@@ -18,7 +18,7 @@ closing Holds octets r f after n i is w =
     subst (λ z. Reads Holds octets r.builder r.inner z r.inner.extent.end n) (reverse_push r.outer.items after f is)
     (subst (λ z. Reads Holds octets r.builder r.inner (reverse r.outer.items) z n) i w)
 
--- so there is as much left to do as before
+-- as much is left to do when a frame ends as before
 as_much : {B I : Type 0} (size : ℕ) (r : Reader B I) (f : OpenFrame I) (after : List (OpenFrame I)) →
     r.index ≡ r.inner.extent.end
     → r.outer.items ≡ after ++ f ∷ [] → left size r.inner.extent.end (f ∷ after) ≡ left size r.index r.outer.items

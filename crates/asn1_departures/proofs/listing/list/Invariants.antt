@@ -5,7 +5,7 @@ use Rattle.asn1_departures.specs.Steps.{IsPlaced, ListsAll, left}
 use Rattle.asn1_departures.specs.declared.rule.Departure.{Departure}
 use Rattle.asn1_departures.proofs.listing.list.Given as goal
 
--- with those of what is left they are all
+-- the departures found so far, with those of what is left, are all
 abbrev pub invariant-turns : goal.invariant-turns
 invariant-turns l = record {
   placed : IsPlaced l.octets l.place;

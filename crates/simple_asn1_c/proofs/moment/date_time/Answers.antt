@@ -29,7 +29,7 @@ calendar fields v = (
   ),
 )
 
--- so are the numbers that are the same
+-- numbers that are those of a valid moment are a date and a time
 same_calendar : (fields : MomentAnswer) (y mo d h mi s n : ℤ) → IsValid (moment_in fields)
     → y ≡ fields.year → mo ≡ pos fields.month → d ≡ pos fields.day → h ≡ pos fields.hour → mi ≡ pos fields.minute
     → s ≡ pos fields.second → n ≡ pos fields.nanosecond → IsDate y mo d × IsTime h mi s n
