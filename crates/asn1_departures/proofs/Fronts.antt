@@ -16,15 +16,15 @@ use Rattle.asn1_departures.specs.Steps.{IsStep, begins_with_end, is_at_end}
 use Rattle.asn1_departures.specs.Departures.{AreEncodings, IsNext, end_of_contents, is_indefinite, is_open, next, no_more, unended_behind}
 
 -- what is behind length octets does not matter
-pub indefinite_front : (len v : List ℕ) (n : ℕ) → IsLength len n → is_indefinite (len ++ v) ≡ is_indefinite len
-indefinite_front [] v n p = absurd p
-indefinite_front (b ∷ len) v n p = refl
+pub is_indefinite-append : (len v : List ℕ) (n : ℕ) → IsLength len n → is_indefinite (len ++ v) ≡ is_indefinite len
+is_indefinite-append [] v n p = absurd p
+is_indefinite-append (b ∷ len) v n p = refl
 
 -- encodings at the front of one list have the same length octets
-pub same_length :
+pub len-same_encoding :
     (xs ys : List ℕ) (c d : ASN1Class) (j k : Bool) (m n : ℕ) (v w : List ℕ) (g h : ℕ) (r q : List ℕ)
     (F : Encoding xs c j m v g) (G : Encoding ys d k n w h) → xs ++ r ≡ ys ++ q → F.len ≡ G.len
-same_length xs ys c d j k m n v w g h r q F G e =
+len-same_encoding xs ys c d j k m n v w g h r q F G e =
     let one : xs ++ r ≡ F.identifier ++ (F.len ++ (v ++ r)) =
     ap (λ z. z ++ r) F.whole
     ∙ (append_assoc F.identifier (F.len ++ v) r ∙ ap (λ z. F.identifier ++ z) (append_assoc F.len v r)) in
@@ -37,8 +37,8 @@ same_length xs ys c d j k m n v w g h r q F G e =
     (length_alone F.len G.len (v ++ r) (w ++ q) (length v) (length w) F.length_octets G.length_octets i.rest).octets
 
 -- end-of-contents octets are an encoding
-pub end_encoding : Encoding (0 ∷ 0 ∷ []) Universal false 0 [] 2
-end_encoding = record {
+pub Encoding-end_of_contents : Encoding (0 ∷ 0 ∷ []) Universal false 0 [] 2
+Encoding-end_of_contents = record {
   identifier = 0 ∷ [];
   len = 0 ∷ [];
   identifier_octets = (omega arith, refl);
@@ -48,17 +48,18 @@ end_encoding = record {
 }
 
 -- an encoding in front of which they stand is they
-pub is_end :
+pub Encoding-is_end_of_contents :
     (x first rest behind : List ℕ) (c : ASN1Class) (k : Bool) (n : ℕ) (v : List ℕ) (h : ℕ) → Encoding first c k n v h →
     x ≡ first ++ rest → x ≡ 0 ∷ 0 ∷ behind → first ≡ 0 ∷ 0 ∷ []
-is_end x first rest behind c k n v h e w z =
-    (encoding_alone first (0 ∷ 0 ∷ []) c Universal k false n 0 v [] h 2 rest behind e end_encoding (sym w ∙ z)).octets
+Encoding-is_end_of_contents x first rest behind c k n v h e w z =
+    (encoding_alone first (0 ∷ 0 ∷ []) c Universal k false n 0 v [] h 2 rest behind e Encoding-end_of_contents
+    (sym w ∙ z)).octets
 
 -- the encoding in front is that of the relation
-pub behind_next :
+pub AreEncodings-behind_next :
     (u : ℕ) (x first rest : List ℕ) (n : IsNext u x first rest) → AreEncodings u x →
     AreEncodings (unended_behind u n.constructed n.encoding.len) rest
-behind_next u x first rest n (no_more z e) =
+AreEncodings-behind_next u x first rest n (no_more z e) =
     absurd (omega (
       arith,
       encoding_some first n.class n.constructed n.tag n.contents n.header n.encoding,
@@ -66,44 +67,45 @@ behind_next u x first rest n (no_more z e) =
       ap length e,
       length-append first rest,
     ))
-behind_next u x first rest n (next {first = f} {rest = r} m a) =
+AreEncodings-behind_next u x first rest n (next {first = f} {rest = r} m a) =
     let e : first ++ rest ≡ f ++ r = sym n.whole ∙ m.whole in
     let same = encoding_alone first f n.class m.class n.constructed m.constructed n.tag m.tag n.contents m.contents
     n.header m.header rest r
     n.encoding m.encoding e in
-    let len = same_length first f n.class m.class n.constructed m.constructed n.tag m.tag n.contents m.contents n.header
+    let len = len-same_encoding first f n.class m.class n.constructed m.constructed n.tag m.tag n.contents m.contents
+    n.header
     m.header rest r
     n.encoding m.encoding e in
     subst (λ z. AreEncodings (unended_behind u n.constructed n.encoding.len) z) (sym same.rest)
     (subst (λ z. AreEncodings (unended_behind u n.constructed z) r) (sym len)
     (subst (λ z. AreEncodings (unended_behind u z m.encoding.len) r) (sym same.constructed) a))
-behind_next u x first rest n (end_of_contents {fewer = f} more z a) =
+AreEncodings-behind_next u x first rest n (end_of_contents {fewer = f} more z a) =
     absurd (n.no_end (omega (arith, more))
-    (is_end x first rest _ n.class n.constructed n.tag n.contents n.header n.encoding n.whole z))
+    (Encoding-is_end_of_contents x first rest _ n.class n.constructed n.tag n.contents n.header n.encoding n.whole z))
 
-pub behind_end :
+pub AreEncodings-behind_end :
     (u fewer : ℕ) (x rest : List ℕ) → u ≡ fewer + 1 → x ≡ 0 ∷ 0 ∷ rest → AreEncodings u x → AreEncodings fewer rest
-behind_end u fewer x rest more e (no_more z none) = absurd (omega (arith, more, z))
-behind_end u fewer x rest more e (next {first = f} {rest = r} m a) =
+AreEncodings-behind_end u fewer x rest more e (no_more z none) = absurd (omega (arith, more, z))
+AreEncodings-behind_end u fewer x rest more e (next {first = f} {rest = r} m a) =
     absurd (m.no_end (omega (arith, more))
-    (is_end x f r rest m.class m.constructed m.tag m.contents m.header m.encoding m.whole e))
-behind_end u fewer x rest more e (end_of_contents {fewer = f} {rest = r} more' e' a) =
+    (Encoding-is_end_of_contents x f r rest m.class m.constructed m.tag m.contents m.header m.encoding m.whole e))
+AreEncodings-behind_end u fewer x rest more e (end_of_contents {fewer = f} {rest = r} more' e' a) =
     let same : r ≡ rest = cc in
     let count : f ≡ fewer = omega (arith, more, more') in
     subst (λ z. AreEncodings z rest) count (subst (λ z. AreEncodings f z) same a)
 
 -- none are where no encoding stands in front
-pub none_next :
+pub AreEncodings-some_next :
     (u : ℕ) (x : List ℕ) → 0 < length x → ((first rest : List ℕ) → IsNext u x first rest → ⊥) →
     ((fewer : ℕ) (rest : List ℕ) → u ≡ fewer + 1 → x ≡ 0 ∷ 0 ∷ rest → ⊥) → AreEncodings u x → ⊥
-none_next u x some none end (no_more z e) = omega (arith, some, ap length e)
-none_next u x some none end (next {first = f} {rest = r} m a) = none f r m
-none_next u x some none end (end_of_contents {fewer = f} {rest = r} more e a) = end f r more e
+AreEncodings-some_next u x some none end (no_more z e) = omega (arith, some, ap length e)
+AreEncodings-some_next u x some none end (next {first = f} {rest = r} m a) = none f r m
+AreEncodings-some_next u x some none end (end_of_contents {fewer = f} {rest = r} more e a) = end f r more e
 
 -- no encoding is open at the end of the octets
-pub at_end : (u : ℕ) (x : List ℕ) → x ≡ [] → AreEncodings u x → u ≡ 0
-at_end u x e (no_more z none) = z
-at_end u x e (next {first = f} {rest = r} m a) =
+pub AreEncodings-nil : (u : ℕ) (x : List ℕ) → x ≡ [] → AreEncodings u x → u ≡ 0
+AreEncodings-nil u x e (no_more z none) = z
+AreEncodings-nil u x e (next {first = f} {rest = r} m a) =
     absurd (omega (
       arith,
       encoding_some f m.class m.constructed m.tag m.contents m.header m.encoding,
@@ -111,11 +113,11 @@ at_end u x e (next {first = f} {rest = r} m a) =
       ap length e,
       length-append f r,
     ))
-at_end u x e (end_of_contents more w a) = absurd (omega (arith, ap length w, ap length e))
+AreEncodings-nil u x e (end_of_contents more w a) = absurd (omega (arith, ap length w, ap length e))
 
 -- the shortest length octets are definite
-pub shortest_definite : (n : ℕ) → is_indefinite (shortest_length n) ≡ false
-shortest_definite n = elim (cases_lt n 128) [
+pub is_indefinite-shortest_length : (n : ℕ) → is_indefinite (shortest_length n) ≡ false
+is_indefinite-shortest_length n = elim (cases_lt n 128) [
   | inl lt ↦ sym (ap is_indefinite (cond_below n 128 (n ∷ []) ((128 + length (digits_of 256 n)) ∷ digits_of 256 n) lt))
       ∙ grind (arith, lt)
   | inr ge ↦ let some = length-digits_of_step 256 n (omega arith) (omega (arith, ge)) in
@@ -123,10 +125,10 @@ shortest_definite n = elim (cases_lt n 128) [
 ]
 
 -- encodings of DER are encodings
-pub der_encodings : (x : List ℕ) (items : List (List ℕ)) → length x < 2 ^ 64 → AreDerEncodings x items →
+pub AreDerEncodings-are_encodings : (x : List ℕ) (items : List (List ℕ)) → length x < 2 ^ 64 → AreDerEncodings x items →
     AreEncodings 0 x
-der_encodings x items small no_encodings = no_more refl refl
-der_encodings x items small (more_encodings {first = f} {rest = r} {items = is} w d ds) =
+AreDerEncodings-are_encodings x items small no_encodings = no_more refl refl
+AreDerEncodings-are_encodings x items small (more_encodings {first = f} {rest = r} {items = is} w d ds) =
     let size : length x ≡ length f + length r = ap length w ∙ length-append f r in
     let s = length_shortest f (omega (arith, small, size)) d in
     let n : IsNext 0 x f r = record {
@@ -140,75 +142,75 @@ der_encodings x items small (more_encodings {first = f} {rest = r} {items = is} 
       no_end = λ more. absurd (omega (arith, more));
     } in
     let definite : is_indefinite s.found.encoding.len ≡ false =
-    ap is_indefinite s.shortest ∙ shortest_definite (length s.found.contents) in
+    ap is_indefinite s.shortest ∙ is_indefinite-shortest_length (length s.found.contents) in
     next n (subst (λ z. AreEncodings z r) (sym (closed 0 s.found.constructed s.found.encoding.len definite))
-    (der_encodings r is (omega (arith, small, size)) ds))
+    (AreDerEncodings-are_encodings r is (omega (arith, small, size)) ds))
   where
     closed : (u : ℕ) (k : Bool) (len : List ℕ) → is_indefinite len ≡ false → unended_behind u k len ≡ u
     closed u true len e = ap (λ b. if b then suc u else u) e
     closed u false len e = refl
 
 -- identifier octets at the front are those that are there
-pub front_identifier :
+pub IsSomeIdentifier-front :
     (octets identifier behind : List ℕ) (tag number size : ℕ) → IsSomeIdentifier identifier tag →
     octets ≡ identifier ++ behind →
     IsSomeIdentifier (take size octets) number → (take size octets ≡ identifier) × (drop size octets ≡ behind)
-front_identifier octets identifier behind tag number size (c, k, is) whole (d, j, found) =
+IsSomeIdentifier-front octets identifier behind tag number size (c, k, is) whole (d, j, found) =
     let same = identifier_alone (take size octets) identifier (drop size octets) behind d c j k number tag found is
     (take-append-drop size octets ∙ whole) in
     (same.octets, same.rest)
 
 -- octets that begin with end-of-contents octets are these and what is behind them
-pub end_front : (x : List ℕ) → begins_with_end x ≡ true → x ≡ 0 ∷ 0 ∷ drop 2 x
-end_front [] t = absurd cc
-end_front (a ∷ []) t = absurd cc
-end_front (a ∷ b ∷ rest) t =
+pub begins_with_end-octets : (x : List ℕ) → begins_with_end x ≡ true → x ≡ 0 ∷ 0 ∷ drop 2 x
+begins_with_end-octets [] t = absurd cc
+begins_with_end-octets (a ∷ []) t = absurd cc
+begins_with_end-octets (a ∷ b ∷ rest) t =
     let first : a ≡ 0 = grind (arith, t) in
     let second : b ≡ 0 = grind (arith, t) in
     ap (λ z. z ∷ b ∷ rest) first ∙ ap (λ z. 0 ∷ z ∷ rest) second
 
-pub at_end_parts : (u : ℕ) (x : List ℕ) → is_at_end u x ≡ true → (0 < u) × (begins_with_end x ≡ true)
-at_end_parts u x t = (grind (arith, t), second (nat_lt 0 u) (begins_with_end x) t)
+pub is_at_end-parts : (u : ℕ) (x : List ℕ) → is_at_end u x ≡ true → (0 < u) × (begins_with_end x ≡ true)
+is_at_end-parts u x t = (grind (arith, t), second (nat_lt 0 u) (begins_with_end x) t)
   where
     second : (a b : Bool) → (a && b) ≡ true → b ≡ true
     second true b t = t
     second false b t = absurd cc
 
-pub not_at_end : (u : ℕ) (x : List ℕ) → is_at_end u x ≡ false → 0 < u → begins_with_end x ≡ false
-not_at_end u x t some =
+pub begins_with_end-not_at_end : (u : ℕ) (x : List ℕ) → is_at_end u x ≡ false → 0 < u → begins_with_end x ≡ false
+begins_with_end-not_at_end u x t some =
     let yes : nat_lt 0 u ≡ true = grind (arith, some) in
     sym (ap (λ b. b && begins_with_end x) yes) ∙ t
 
 -- where none stand in front, an encoding in front is none of them
-pub no_end_front :
+pub is_at_end-none_in_front :
     (u : ℕ) (x first rest : List ℕ) → x ≡ first ++ rest → is_at_end u x ≡ false → 0 < u → first ≡ 0 ∷ 0 ∷ [] → ⊥
-no_end_front u x first rest w t some is =
+is_at_end-none_in_front u x first rest w t some is =
     let front : x ≡ 0 ∷ 0 ∷ rest = w ∙ ap (λ z. z ++ rest) is in
     let yes : begins_with_end x ≡ true = ap begins_with_end front in
-    let no : begins_with_end x ≡ false = not_at_end u x t some in
+    let no : begins_with_end x ≡ false = begins_with_end-not_at_end u x t some in
     absurd cc
 
-pub step_end : (u : ℕ) (x behind : List ℕ) → is_at_end u x ≡ true → behind ≡ drop 2 x → IsStep u x (u - 1) behind
-step_end u x behind t is =
-    let (some, front) = at_end_parts u x t in
-    let whole : x ≡ 0 ∷ 0 ∷ behind = end_front x front ∙ ap (λ z. 0 ∷ 0 ∷ z) (sym is) in
+pub IsStep-end : (u : ℕ) (x behind : List ℕ) → is_at_end u x ≡ true → behind ≡ drop 2 x → IsStep u x (u - 1) behind
+IsStep-end u x behind t is =
+    let (some, front) = is_at_end-parts u x t in
+    let whole : x ≡ 0 ∷ 0 ∷ behind = begins_with_end-octets x front ∙ ap (λ z. 0 ∷ 0 ∷ z) (sym is) in
     record {
       same = (
-        λ a. behind_end u (u - 1) x behind (omega (arith, some)) whole a,
+        λ a. AreEncodings-behind_end u (u - 1) x behind (omega (arith, some)) whole a,
         λ a. end_of_contents (omega (arith, some)) whole a,
       );
       fewer = omega (arith, ap length whole);
       room = omega (arith, ap length whole);
     }
 
-pub most : (o : Bool) (u v : ℕ) → v ≡ (if o then suc u else u) → v ≤ u + 1
-most true u v e = omega (arith, e)
-most false u v e = omega (arith, e)
+pub unended-le : (o : Bool) (u v : ℕ) → v ≡ (if o then suc u else u) → v ≤ u + 1
+unended-le true u v e = omega (arith, e)
+unended-le false u v e = omega (arith, e)
 
-pub step_next :
+pub IsStep-next :
     (u v : ℕ) (x part behind : List ℕ) (e : IsEncoding part) (o : Bool) → x ≡ part ++ behind → is_at_end u x ≡ false →
     o ≡ is_open e.constructed e.encoding.len → v ≡ (if o then suc u else u) → IsStep u x v behind
-step_next u v x part behind e o w t is count =
+IsStep-next u v x part behind e o w t is count =
     let n : IsNext u x part behind = record {
       class = e.class;
       constructed = e.constructed;
@@ -217,23 +219,23 @@ step_next u v x part behind e o w t is count =
       header = e.header;
       encoding = e.encoding;
       whole = w;
-      no_end = no_end_front u x part behind w t;
+      no_end = is_at_end-none_in_front u x part behind w t;
     } in
     let open_behind : v ≡ unended_behind u e.constructed e.encoding.len = count ∙ ap (λ b. if b then suc u else u) is in
     let some = encoding_some part e.class e.constructed e.tag e.contents e.header e.encoding in
     record {
       same = (
-        λ a. subst (λ z. AreEncodings z behind) (sym open_behind) (behind_next u x part behind n a),
+        λ a. subst (λ z. AreEncodings z behind) (sym open_behind) (AreEncodings-behind_next u x part behind n a),
         λ a. next n (subst (λ z. AreEncodings z behind) open_behind a),
       );
       fewer = omega (arith, some, ap length w, length-append part behind);
-      room = omega (arith, some, ap length w, length-append part behind, most o u v count);
+      room = omega (arith, some, ap length w, length-append part behind, unended-le o u v count);
     }
 
-pub step_none :
+pub AreEncodings-some_here :
     (u : ℕ) (x : List ℕ) → HasNoEncodingAt x 0 → is_at_end u x ≡ false → 0 < length x → AreEncodings u x → ⊥
-step_none u x none t some a =
-    none_next u x some
+AreEncodings-some_here u x none t some a =
+    AreEncodings-some_next u x some
     (λ first rest n. none first (record {
       rest = rest;
       at_offset = n.whole;
@@ -248,6 +250,6 @@ step_none u x none t some a =
     }))
     (λ fewer rest more e.
     let yes : begins_with_end x ≡ true = ap begins_with_end e in
-    let no : begins_with_end x ≡ false = not_at_end u x t (omega (arith, more)) in
+    let no : begins_with_end x ≡ false = begins_with_end-not_at_end u x t (omega (arith, more)) in
     absurd cc)
     a

@@ -14,80 +14,90 @@ use Rattle.asn1_departures.specs.Rules.{identifier_rule, type_rule}
 use Rattle.asn1_departures.specs.declared.rule.Departure.{Departure}
 use Rattle.asn1_departures.specs.declared.rule.Rule.{Rule}
 use Rattle.asn1_departures.specs.declared.rule.Rule.TheVariants.{IndefiniteLength, LongLength}
-use Rattle.asn1_departures.proofs.Fronts.{der_encodings, shortest_definite}
+use Rattle.asn1_departures.proofs.Fronts.{AreDerEncodings-are_encodings, is_indefinite-shortest_length}
 
 -- lists that are none together are none each
-none_first : (xs ys : List Departure) → xs ++ ys ≡ [] → xs ≡ []
-none_first [] ys e = refl
-none_first (x ∷ xs) ys e = absurd cc
+nil_from_append-first : (xs ys : List Departure) → xs ++ ys ≡ [] → xs ≡ []
+nil_from_append-first [] ys e = refl
+nil_from_append-first (x ∷ xs) ys e = absurd cc
 
-none_second : (xs ys : List Departure) → xs ++ ys ≡ [] → ys ≡ []
-none_second [] ys e = e
-none_second (x ∷ xs) ys e = absurd cc
+nil_from_append-second : (xs ys : List Departure) → xs ++ ys ≡ [] → ys ≡ []
+nil_from_append-second [] ys e = e
+nil_from_append-second (x ∷ xs) ys e = absurd cc
 
-not_listed : (o : ℕ) (r : Option Rule) → listed o r ≡ [] → r ≡ None
-not_listed o None e = refl
-not_listed o (Some rule) e = absurd cc
+none_from_listed : (o : ℕ) (r : Option Rule) → listed o r ≡ [] → r ≡ None
+none_from_listed o None e = refl
+none_from_listed o (Some rule) e = absurd cc
 
-asked : (Asked : Type 0) (rule : Rule) (found : Option Rule) → Found Asked rule found → found ≡ None → Asked
-asked Asked rule found (kept a) e = a
-asked Asked rule found (broken b) e = absurd cc
+Found-none_asked : (Asked : Type 0) (rule : Rule) (found : Option Rule) → Found Asked rule found → found ≡ None → Asked
+Found-none_asked Asked rule found (kept a) e = a
+Found-none_asked Asked rule found (broken b) e = absurd cc
 
-none_found : (Asked : Type 0) (rule : Rule) (found : Option Rule) → Found Asked rule found → Asked → found ≡ None
-none_found Asked rule found (kept a) e = refl
-none_found Asked rule found (broken b) e = absurd (b e)
+Found-asked_none : (Asked : Type 0) (rule : Rule) (found : Option Rule) → Found Asked rule found → Asked → found ≡ None
+Found-asked_none Asked rule found (kept a) e = refl
+Found-asked_none Asked rule found (broken b) e = absurd (b e)
 
-definite : (b : Bool) (found : Option Rule) (P : Type 0) → MatchBool b (found ≡ Some IndefiniteLength) P →
+LengthFound-definite : (b : Bool) (found : Option Rule) (P : Type 0) → MatchBool b (found ≡ Some IndefiniteLength) P →
     found ≡ None → (b ≡ false) × P
-definite true found P h e = absurd cc
-definite false found P h e = (refl, h)
+LengthFound-definite true found P h e = absurd cc
+LengthFound-definite false found P h e = (refl, h)
 
-by_length : (b : Bool) (found : Option Rule) (P : Type 0) → b ≡ false → MatchBool b (found ≡ Some IndefiniteLength) P →
+MatchBool-false : (b : Bool) (found : Option Rule) (P : Type 0) → b ≡ false →
+    MatchBool b (found ≡ Some IndefiniteLength) P →
     P
-by_length true found P e h = absurd cc
-by_length false found P e h = h
+MatchBool-false true found P e h = absurd cc
+MatchBool-false false found P e h = h
 
-behind_closed : (u : ℕ) (k : Bool) (len : List ℕ) → is_indefinite len ≡ false → unended_behind u k len ≡ u
-behind_closed u true len e = ap (λ b. if b then suc u else u) e
-behind_closed u false len e = refl
+unended_behind-definite : (u : ℕ) (k : Bool) (len : List ℕ) → is_indefinite len ≡ false → unended_behind u k len ≡ u
+unended_behind-definite u true len e = ap (λ b. if b then suc u else u) e
+unended_behind-definite u false len e = refl
 
-looked : (k : Bool) (len : List ℕ) → is_indefinite len ≡ false → is_looked_into k len ≡ k
-looked true len e = ap not e
-looked false len e = refl
+is_looked_into-definite : (k : Bool) (len : List ℕ) → is_indefinite len ≡ false → is_looked_into k len ≡ k
+is_looked_into-definite true len e = ap not e
+is_looked_into-definite false len e = refl
 
-type_asked : (c : ASN1Class) (k : Bool) (n : ℕ) (v : List ℕ) (found : Option Rule) → TypeFound false c k n v found →
+TypeFound-none_right : (c : ASN1Class) (k : Bool) (n : ℕ) (v : List ℕ) (found : Option Rule) →
+    TypeFound false c k n v found →
     found ≡ None → IsRightAlone c k n v
-type_asked Universal k n v found h e = asked (IsRightAlone Universal k n v) (type_rule k n v) found h e
-type_asked Application k n v found h e = tt
-type_asked ContextSpecific k n v found h e = tt
-type_asked Private k n v found h e = tt
+TypeFound-none_right Universal k n v found h e =
+    Found-none_asked (IsRightAlone Universal k n v) (type_rule k n v) found h e
+TypeFound-none_right Application k n v found h e = tt
+TypeFound-none_right ContextSpecific k n v found h e = tt
+TypeFound-none_right Private k n v found h e = tt
 
-type_none : (c : ASN1Class) (k : Bool) (n : ℕ) (v : List ℕ) (found : Option Rule) → TypeFound false c k n v found →
+TypeFound-right_none : (c : ASN1Class) (k : Bool) (n : ℕ) (v : List ℕ) (found : Option Rule) →
+    TypeFound false c k n v found →
     IsRightAlone c k n v → found ≡ None
-type_none Universal k n v found h a = none_found (IsRightAlone Universal k n v) (type_rule k n v) found h a
-type_none Application k n v found h a = h
-type_none ContextSpecific k n v found h a = h
-type_none Private k n v found h a = h
+TypeFound-right_none Universal k n v found h a =
+    Found-asked_none (IsRightAlone Universal k n v) (type_rule k n v) found h a
+TypeFound-right_none Application k n v found h a = h
+TypeFound-right_none ContextSpecific k n v found h a = h
+TypeFound-right_none Private k n v found h a = h
 
 -- an encoding that breaks nothing by itself
 record IsAlone (x id len : List ℕ) (c : ASN1Class) (k : Bool) (n : ℕ) (v : List ℕ) : Type 0 where
   definite : is_indefinite len ≡ false
   alone : IsDerAlone x c k n v
 
-own_none :
+IsAlone-no_departures :
     (o : ℕ) (x id len : List ℕ) (c : ASN1Class) (k : Bool) (n : ℕ) (v : List ℕ) (r : OwnRules id len c k n v) →
     x ≡ id ++ (len ++ v) → own_departures o r ≡ [] → IsAlone x id len c k n v
-own_none o x id len c k n v r w e =
-    let id_none = not_listed o r.of_identifier
-    (none_first (listed o r.of_identifier) (listed o r.of_length ++ listed o r.of_type) e) in
-    let more = none_second (listed o r.of_identifier) (listed o r.of_length ++ listed o r.of_type) e in
-    let len_none = not_listed o r.of_length (none_first (listed o r.of_length) (listed o r.of_type) more) in
-    let type_none = not_listed o r.of_type (none_second (listed o r.of_length) (listed o r.of_type) more) in
-    let i = asked (id ≡ shortest_identifier c k n) (identifier_rule n) r.of_identifier r.identifier_found id_none in
-    let l = definite (is_indefinite len) r.of_length (Found (len ≡ shortest_length (length v)) LongLength r.of_length)
+IsAlone-no_departures o x id len c k n v r w e =
+    let id_none = none_from_listed o r.of_identifier
+    (nil_from_append-first (listed o r.of_identifier) (listed o r.of_length ++ listed o r.of_type) e) in
+    let more = nil_from_append-second (listed o r.of_identifier) (listed o r.of_length ++ listed o r.of_type) e in
+    let len_none = none_from_listed o r.of_length
+    (nil_from_append-first (listed o r.of_length) (listed o r.of_type) more) in
+    let type_none = none_from_listed o r.of_type
+    (nil_from_append-second (listed o r.of_length) (listed o r.of_type) more) in
+    let i = Found-none_asked (id ≡ shortest_identifier c k n) (identifier_rule n) r.of_identifier r.identifier_found
+    id_none in
+    let l = LengthFound-definite (is_indefinite len) r.of_length
+    (Found (len ≡ shortest_length (length v)) LongLength r.of_length)
     r.length_found len_none in
-    let s = asked (len ≡ shortest_length (length v)) LongLength r.of_length l.1 len_none in
-    let t = type_asked c k n v r.of_type (subst (λ z. TypeFound z c k n v r.of_type) l.0 r.type_found) type_none in
+    let s = Found-none_asked (len ≡ shortest_length (length v)) LongLength r.of_length l.1 len_none in
+    let t = TypeFound-none_right c k n v r.of_type (subst (λ z. TypeFound z c k n v r.of_type) l.0 r.type_found)
+    type_none in
     record {
       definite = l.0;
       alone = (
@@ -98,19 +108,21 @@ own_none o x id len c k n v r w e =
 
 mutual
   -- where none are listed, the octets are DER
-  pub der_of_none :
+  pub AreDer-none_listed :
       (u o : ℕ) (x : List ℕ) (found : List Departure) → Lists u o x found → u ≡ 0 → length x < 2 ^ 64 → found ≡ [] →
       AreDer x
-  der_of_none u o x found (none_left z e f) zero small none =
+  AreDer-none_listed u o x found (none_left z e f) zero small none =
       ([], subst (λ z. AreDerEncodings z []) (sym e) no_encodings)
-  der_of_none u o x found (encoding_listed {first = first} {rest = rest} {inside = inside} {later = later} n r i ls f)
+  AreDer-none_listed u o x found
+      (encoding_listed {first = first} {rest = rest} {inside = inside} {later = later} n r i ls f)
       zero small none =
       let own = own_departures o r in
       let all : own ++ (inside ++ later) ≡ [] = sym f ∙ none in
-      let more = none_second own (inside ++ later) all in
-      let a = own_none o first n.encoding.identifier n.encoding.len n.class n.constructed n.tag n.contents r
+      let more = nil_from_append-second own (inside ++ later) all in
+      let a = IsAlone-no_departures o first n.encoding.identifier n.encoding.len n.class n.constructed n.tag n.contents
+      r
       n.encoding.whole
-      (none_first own (inside ++ later) all) in
+      (nil_from_append-first own (inside ++ later) all) in
       let size : length x ≡ length first + length rest = ap length n.whole ∙ length-append first rest in
       let part : length first ≡ length n.encoding.identifier + (length n.encoding.len + length n.contents) =
       omega (
@@ -119,36 +131,38 @@ mutual
         length-append n.encoding.identifier (n.encoding.len ++ n.contents),
         length-append n.encoding.len n.contents,
       ) in
-      let (items, ds) = der_of_none (unended_behind u n.constructed n.encoding.len) (o + length first) rest later ls
-      (behind_closed u n.constructed n.encoding.len a.definite ∙ zero) (omega (arith, small, size))
-      (none_second inside later more) in
+      let (items, ds) = AreDer-none_listed (unended_behind u n.constructed n.encoding.len) (o + length first) rest later
+      ls
+      (unended_behind-definite u n.constructed n.encoding.len a.definite ∙ zero) (omega (arith, small, size))
+      (nil_from_append-second inside later more) in
       let d : IsDerEncoding first = whole_der first n.class n.constructed n.tag n.contents (record {
         alone = a.alone;
-        items = inside_der o (o + n.header) (is_looked_into n.constructed n.encoding.len) n.contents inside i
+        items = AreDer-none_inside o (o + n.header) (is_looked_into n.constructed n.encoding.len) n.contents inside i
             n.constructed
-            (looked n.constructed n.encoding.len a.definite) (omega (arith, small, size, part))
-            (none_first inside later more);
+            (is_looked_into-definite n.constructed n.encoding.len a.definite) (omega (arith, small, size, part))
+            (nil_from_append-first inside later more);
       }) in
       (first ∷ items, more_encodings n.whole d ds)
-  der_of_none u o x found (end_listed more e ls) zero small none = absurd (omega (arith, more, zero))
+  AreDer-none_listed u o x found (end_listed more e ls) zero small none = absurd (omega (arith, more, zero))
 
-  inside_der :
+  AreDer-none_inside :
       (o s : ℕ) (b : Bool) (v : List ℕ) (found : List Departure) → ListsInside o s b v found → (k : Bool) → b ≡ k →
       length v < 2 ^ 64 → found ≡ [] → k ≡ true → AreDer v
-  inside_der o s b v found (nothing_inside f z) k same small none t = absurd cc
-  inside_der o s b v found (encodings_inside t ls) k same small none t' = der_of_none 0 s v found ls refl small none
-  inside_der o s b v found (no_encodings_inside t never e) k same small none t' = absurd cc
+  AreDer-none_inside o s b v found (nothing_inside f z) k same small none t = absurd cc
+  AreDer-none_inside o s b v found (encodings_inside t ls) k same small none t' =
+      AreDer-none_listed 0 s v found ls refl small none
+  AreDer-none_inside o s b v found (no_encodings_inside t never e) k same small none t' = absurd cc
 
 -- the shortest header that an encoding can have is its header
 record HasShortest (id len : List ℕ) (c : ASN1Class) (k : Bool) (n : ℕ) (size : ℕ) : Type 0 where
   identifier : id ≡ shortest_identifier c k n
   len_is : len ≡ shortest_length size
 
-has_shortest :
+HasShortest-encoding :
     (x : List ℕ) (c : ASN1Class) (k : Bool) (n : ℕ) (v : List ℕ) (h : ℕ) (e : Encoding x c k n v h) →
     length x < 2 ^ 64 →
     IsShortest x c k n v → HasShortest e.identifier e.len c k n (length v)
-has_shortest x c k n v h e small s =
+HasShortest-encoding x c k n v h e small s =
     let i = shortest_identifier c k n in
     let l = shortest_length (length v) in
     let size : length v < 2 ^ 64 =
@@ -165,15 +179,15 @@ record IsSplit (x first rest : List ℕ) : Type 0 where
   der : IsDerEncoding first
   more : AreDer rest
 
-split_next : (x first rest : List ℕ) (n : IsNext 0 x first rest) → length x < 2 ^ 64 → AreDer x → IsSplit x first rest
-split_next x first rest n small (items, no_encodings) =
+AreDer-next : (x first rest : List ℕ) (n : IsNext 0 x first rest) → length x < 2 ^ 64 → AreDer x → IsSplit x first rest
+AreDer-next x first rest n small (items, no_encodings) =
     absurd (omega (
       arith,
       encoding_some first n.class n.constructed n.tag n.contents n.header n.encoding,
       ap length n.whole,
       length-append first rest,
     ))
-split_next x first rest n small (items, more_encodings {first = f} {rest = r} {items = is} w d ds) =
+AreDer-next x first rest n small (items, more_encodings {first = f} {rest = r} {items = is} w d ds) =
     let size : length x ≡ length f + length r = ap length w ∙ length-append f r in
     let (c, k, t, v, h, e) = der_encoding f (omega (arith, small, size)) d in
     let same = encoding_alone first f n.class c n.constructed k n.tag t n.contents v n.header h rest r n.encoding e
@@ -184,30 +198,30 @@ split_next x first rest n small (items, more_encodings {first = f} {rest = r} {i
           (is, subst (λ z. AreDerEncodings z is) (sym same.rest) ds);
     }
 
-own_of_alone :
+own_departures-right_alone :
     (o : ℕ) (id len : List ℕ) (c : ASN1Class) (k : Bool) (n : ℕ) (v : List ℕ) (r : OwnRules id len c k n v) →
     id ≡ shortest_identifier c k n → len ≡ shortest_length (length v) → IsRightAlone c k n v → own_departures o r ≡ []
-own_of_alone o id len c k n v r i l t =
-    let definite : is_indefinite len ≡ false = ap is_indefinite l ∙ shortest_definite (length v) in
+own_departures-right_alone o id len c k n v r i l t =
+    let definite : is_indefinite len ≡ false = ap is_indefinite l ∙ is_indefinite-shortest_length (length v) in
     let a : r.of_identifier ≡ None =
-    none_found (id ≡ shortest_identifier c k n) (identifier_rule n) r.of_identifier r.identifier_found i in
-    let b : r.of_length ≡ None = none_found (len ≡ shortest_length (length v)) LongLength r.of_length
-    (by_length (is_indefinite len) r.of_length (Found (len ≡ shortest_length (length v)) LongLength r.of_length)
+    Found-asked_none (id ≡ shortest_identifier c k n) (identifier_rule n) r.of_identifier r.identifier_found i in
+    let b : r.of_length ≡ None = Found-asked_none (len ≡ shortest_length (length v)) LongLength r.of_length
+    (MatchBool-false (is_indefinite len) r.of_length (Found (len ≡ shortest_length (length v)) LongLength r.of_length)
     definite r.length_found) l in
     let d : r.of_type ≡ None =
-    type_none c k n v r.of_type (subst (λ z. TypeFound z c k n v r.of_type) definite r.type_found) t in
+    TypeFound-right_none c k n v r.of_type (subst (λ z. TypeFound z c k n v r.of_type) definite r.type_found) t in
     ap (λ z. listed o z ++ (listed o r.of_length ++ listed o r.of_type)) a
     ∙ (ap (λ z. listed o z ++ listed o r.of_type) b ∙ ap (listed o) d)
 
 mutual
   -- no departures of DER are listed
-  pub none_of_der :
+  pub Lists-der :
       (u o : ℕ) (x : List ℕ) (found : List Departure) → Lists u o x found → u ≡ 0 → length x < 2 ^ 64 → AreDer x →
       found ≡ []
-  none_of_der u o x found (none_left z e f) zero small d = f
-  none_of_der u o x found (encoding_listed {first = first} {rest = rest} {inside = inside} {later = later} n r i ls f)
+  Lists-der u o x found (none_left z e f) zero small d = f
+  Lists-der u o x found (encoding_listed {first = first} {rest = rest} {inside = inside} {later = later} n r i ls f)
       zero small d =
-      let s = split_next x first rest (subst (λ z. IsNext z x first rest) zero n) small d in
+      let s = AreDer-next x first rest (subst (λ z. IsNext z x first rest) zero n) small d in
       let size : length x ≡ length first + length rest = ap length n.whole ∙ length-append first rest in
       let part : length first ≡ length n.encoding.identifier + (length n.encoding.len + length n.contents) =
       omega (
@@ -218,37 +232,38 @@ mutual
       ) in
       let w : IsWhole first n.class n.constructed n.tag n.contents =
       der_whole first n.class n.constructed n.tag n.contents n.header (omega (arith, small, size)) n.encoding s.der in
-      let short = has_shortest first n.class n.constructed n.tag n.contents n.header n.encoding
+      let short = HasShortest-encoding first n.class n.constructed n.tag n.contents n.header n.encoding
       (omega (arith, small, size)) w.alone.0 in
       let definite : is_indefinite n.encoding.len ≡ false =
-      ap is_indefinite short.len_is ∙ shortest_definite (length n.contents) in
+      ap is_indefinite short.len_is ∙ is_indefinite-shortest_length (length n.contents) in
       let own : own_departures o r ≡ [] =
-      own_of_alone o n.encoding.identifier n.encoding.len n.class n.constructed n.tag n.contents r short.identifier
+      own_departures-right_alone o n.encoding.identifier n.encoding.len n.class n.constructed n.tag n.contents r
+      short.identifier
       short.len_is w.alone.1 in
       let within : inside ≡ [] =
-      inside_none o (o + n.header) (is_looked_into n.constructed n.encoding.len) n.contents inside i n.constructed
-      (looked n.constructed n.encoding.len definite) (omega (arith, small, size, part)) w.items in
+      ListsInside-der o (o + n.header) (is_looked_into n.constructed n.encoding.len) n.contents inside i n.constructed
+      (is_looked_into-definite n.constructed n.encoding.len definite) (omega (arith, small, size, part)) w.items in
       let behind : later ≡ [] =
-      none_of_der (unended_behind u n.constructed n.encoding.len) (o + length first) rest later ls
-      (behind_closed u n.constructed n.encoding.len definite ∙ zero) (omega (arith, small, size)) s.more in
+      Lists-der (unended_behind u n.constructed n.encoding.len) (o + length first) rest later ls
+      (unended_behind-definite u n.constructed n.encoding.len definite ∙ zero) (omega (arith, small, size)) s.more in
       f ∙ (ap (λ z. z ++ (inside ++ later)) own ∙ (ap (λ z. z ++ later) within ∙ behind))
-  none_of_der u o x found (end_listed more e ls) zero small d = absurd (omega (arith, more, zero))
+  Lists-der u o x found (end_listed more e ls) zero small d = absurd (omega (arith, more, zero))
 
-  inside_none :
+  ListsInside-der :
       (o s : ℕ) (b : Bool) (v : List ℕ) (found : List Departure) → ListsInside o s b v found → (k : Bool) → b ≡ k →
       length v < 2 ^ 64 → (k ≡ true → AreDer v) → found ≡ []
-  inside_none o s b v found (nothing_inside f z) k same small d = z
-  inside_none o s b v found (encodings_inside t ls) k same small d =
-      none_of_der 0 s v found ls refl small (d (sym same ∙ t))
-  inside_none o s b v found (no_encodings_inside t never e) k same small d =
-      let (items, ds) = d (sym same ∙ t) in absurd (never (der_encodings v items small ds))
+  ListsInside-der o s b v found (nothing_inside f z) k same small d = z
+  ListsInside-der o s b v found (encodings_inside t ls) k same small d =
+      Lists-der 0 s v found ls refl small (d (sym same ∙ t))
+  ListsInside-der o s b v found (no_encodings_inside t never e) k same small d =
+      let (items, ds) = d (sym same ∙ t) in absurd (never (AreDerEncodings-are_encodings v items small ds))
 
 -- none are listed exactly if the octets are DER
-pub law :
+pub Lists-nil_iff_der :
     (x : List ℕ) (found : List Departure) → 0 < length x → length x < 2 ^ 64 → Lists 0 0 x found →
     (found ≡ []) ↔ IsDer x
-law x found some small ls = (
-  λ e. let (items, ds) = der_of_none 0 0 x found ls refl small e in
+Lists-nil_iff_der x found some small ls = (
+  λ e. let (items, ds) = AreDer-none_listed 0 0 x found ls refl small e in
       record { some = some; items = items; encodings = ds },
-  λ d. none_of_der 0 0 x found ls refl small (d.items, d.encodings),
+  λ d. Lists-der 0 0 x found ls refl small (d.items, d.encodings),
 )

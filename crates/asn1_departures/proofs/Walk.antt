@@ -4,7 +4,7 @@ use Rattle.std.specs.List.{slice_range}
 use Rattle.std.specs.Prelude.{suc, if◌then◌else◌, not}
 use Rattle.std.proofs.lemmas.List.{drop_at, reverse-append}
 use Rattle.asn1_headers.specs.Fault.{DecodeFault}
-use Rattle.asn1_departures.proofs.Fronts.{at_end_parts, end_front, no_end_front}
+use Rattle.asn1_departures.proofs.Fronts.{is_at_end-parts, begins_with_end-octets, is_at_end-none_in_front}
 use Rattle.asn1_headers.specs.Header.{Encoding, IsLength}
 use Rattle.asn1_blocks.specs.Places.{HeaderFound}
 use Rattle.asn1_blocks.specs.declared.parsed.PlacedHeader.{PlacedHeader}
@@ -15,32 +15,32 @@ use Rattle.asn1_departures.specs.declared.listing.Extent.{Extent}
 use Rattle.asn1_departures.specs.declared.rule.Departure.{Departure}
 
 -- nothing is between an index and itself
-pub no_slice : (x : List ℕ) (i e : ℕ) → i ≡ e → slice_range x i e ≡ []
-no_slice x i e h =
+pub slice_range-nil : (x : List ℕ) (i e : ℕ) → i ≡ e → slice_range x i e ≡ []
+slice_range-nil x i e h =
     let zero : e - i ≡ 0 = omega (arith, h) in
     ap (λ n. take n (drop i x)) zero
 
 -- extents one after another are no further than the last
-pub extents_within : (i : ℕ) (es : List Extent) (n : ℕ) → AreExtents i es n → i ≤ n
-extents_within i [] n h = omega (arith, h)
-extents_within i (e ∷ es) n h = omega (arith, h.0, extents_within e.end es n h.2)
+pub AreExtents-le : (i : ℕ) (es : List Extent) (n : ℕ) → AreExtents i es n → i ≤ n
+AreExtents-le i [] n h = omega (arith, h)
+AreExtents-le i (e ∷ es) n h = omega (arith, h.0, AreExtents-le e.end es n h.2)
 
 module _ (x : List ℕ) (i e : ℕ) (h : PlacedHeader) (f : HeaderFound x i e h) (within : e ≤ length x) where
-  before : i ≤ h.end
-  before = omega (arith, f.starts_after, f.order)
+  starts_before_end : i ≤ h.end
+  starts_before_end = omega (arith, f.starts_after, f.order)
 
-  pub join : slice_range x i e ≡ slice_range x i h.end ++ slice_range x h.end e
-  join = slice_join x i h.end e before f.ends_within
+  pub slice_range-at_header : slice_range x i e ≡ slice_range x i h.end ++ slice_range x h.end e
+  slice_range-at_header = slice_join x i h.end e starts_before_end f.ends_within
 
-  pub size : length (slice_range x i h.end) ≡ h.end - i
-  size = slice_length x i h.end before (omega (arith, f.ends_within, within))
+  pub length-slice_range-at_header : length (slice_range x i h.end) ≡ h.end - i
+  length-slice_range-at_header = slice_length x i h.end starts_before_end (omega (arith, f.ends_within, within))
 
   module _ (id len : List ℕ)
       (p : IsParted (slice_range x i h.start) id len h.class h.constructed h.tag (h.end - h.start)) where
     -- the encoding with this header
-    pub encoding_of : Encoding (slice_range x i h.end) h.class h.constructed h.tag (slice_range x h.start h.end)
+    pub Encoding-at_header : Encoding (slice_range x i h.end) h.class h.constructed h.tag (slice_range x h.start h.end)
         (h.start - i)
-    encoding_of =
+    Encoding-at_header =
         let v = slice_range x h.start h.end in
         let inside : length v ≡ h.end - h.start =
         slice_length x h.start h.end f.order (omega (arith, f.ends_within, within)) in
@@ -57,65 +57,67 @@ module _ (x : List ℕ) (i e : ℕ) (h : PlacedHeader) (f : HeaderFound x i e h)
         }
 
     module _ (u : ℕ) (no_end : is_at_end u (slice_range x i e) ≡ false) where
-      pub next_of : IsNext u (slice_range x i e) (slice_range x i h.end) (slice_range x h.end e)
-      next_of = record {
+      pub IsNext-at_header : IsNext u (slice_range x i e) (slice_range x i h.end) (slice_range x h.end e)
+      IsNext-at_header = record {
         class = h.class;
         constructed = h.constructed;
         tag = h.tag;
         contents = slice_range x h.start h.end;
         header = h.start - i;
-        encoding = encoding_of;
-        whole = join;
-        no_end = no_end_front u (slice_range x i e) (slice_range x i h.end) (slice_range x h.end e) join no_end;
+        encoding = Encoding-at_header;
+        whole = slice_range-at_header;
+        no_end = is_at_end-none_in_front u (slice_range x i e) (slice_range x i h.end) (slice_range x h.end e)
+            slice_range-at_header no_end;
       }
 
       -- the departures of an encoding, those inside it, and those behind it
-      pub listed_next :
+      pub Lists-at_header :
           (r : OwnRules id len h.class h.constructed h.tag (slice_range x h.start h.end))
           (inside later : List Departure) →
           ListsInside i h.start (is_looked_into h.constructed len) (slice_range x h.start h.end) inside →
           Lists (unended_behind u h.constructed len) h.end (slice_range x h.end e) later →
           Lists u i (slice_range x i e) (own_departures i r ++ (inside ++ later))
-      unfolding next_of encoding_of
-      listed_next r inside later ins ls =
+      unfolding IsNext-at_header Encoding-at_header
+      Lists-at_header r inside later ins ls =
           let at : i + (h.start - i) ≡ h.start = omega (arith, f.starts_after) in
-          let to : i + length (slice_range x i h.end) ≡ h.end = omega (arith, size, before) in
-          encoding_listed next_of r
+          let to : i + length (slice_range x i h.end) ≡ h.end =
+          omega (arith, length-slice_range-at_header, starts_before_end) in
+          encoding_listed IsNext-at_header r
           (subst (λ z. ListsInside i z (is_looked_into h.constructed len) (slice_range x h.start h.end) inside) (sym at)
           ins)
           (subst (λ z. Lists (unended_behind u h.constructed len) z (slice_range x h.end e) later) (sym to) ls)
           refl
 
 -- lists one after another, in another grouping
-pub regrouped : (a b c d g : List Departure) → (a ++ (b ++ c)) ++ (d ++ g) ≡ a ++ ((b ++ (c ++ d)) ++ g)
-regrouped a b c d g =
+pub append-regrouped : (a b c d g : List Departure) → (a ++ (b ++ c)) ++ (d ++ g) ≡ a ++ ((b ++ (c ++ d)) ++ g)
+append-regrouped a b c d g =
     append_assoc a (b ++ c) (d ++ g)
     ∙ ap (λ z. a ++ z) (append_assoc b c (d ++ g)
     ∙ (ap (λ z. b ++ z) (sym (append_assoc c d g)) ∙ sym (append_assoc b (c ++ d) g)))
 
 -- what is behind an encoding that was passed, with the encoding's own, is all that was left
-pub passed :
+pub ListsUpTo-passed :
     (x : List ℕ) (u i v j e : ℕ) (es : List Extent) (own inside found later : List Departure) →
     ((more : List Departure) → Lists v j (slice_range x j e) more →
     Lists u i (slice_range x i e) (own ++ (inside ++ more))) →
     ListsUpTo x j (record { end = e; unended = v } ∷ es) later →
     (old : List Departure) × ListsUpTo x i (record { end = e; unended = u } ∷ es) old
     × ((found ++ (own ++ inside)) ++ later ≡ found ++ old)
-passed x u i v j e es own inside found later step (a, b, la, lb, w) = (
+ListsUpTo-passed x u i v j e es own inside found later step (a, b, la, lb, w) = (
   (own ++ (inside ++ a)) ++ b,
   (own ++ (inside ++ a), b, step a la, lb, refl),
-  ap (λ z. (found ++ (own ++ inside)) ++ z) w ∙ regrouped found own inside a b,
+  ap (λ z. (found ++ (own ++ inside)) ++ z) w ∙ append-regrouped found own inside a b,
 )
 
 -- what is inside and behind an encoding that was opened, with the encoding's own, is all that was left
-pub opened :
+pub ListsUpTo-opened :
     (x : List ℕ) (u i s t e : ℕ) (es : List Extent) (own found later : List Departure) →
     ((inside more : List Departure) → Lists 0 s (slice_range x s t) inside → Lists u t (slice_range x t e) more →
     Lists u i (slice_range x i e) (own ++ (inside ++ more))) →
     ListsUpTo x s (record { end = t; unended = 0 } ∷ record { end = e; unended = u } ∷ es) later →
     (old : List Departure) × ListsUpTo x i (record { end = e; unended = u } ∷ es) old ×
     ((found ++ own) ++ later ≡ found ++ old)
-opened x u i s t e es own found later step (a, b, la, (c, d, lc, ld, g), w) = (
+ListsUpTo-opened x u i s t e es own found later step (a, b, la, (c, d, lc, ld, g), w) = (
   (own ++ (a ++ c)) ++ d,
   (own ++ (a ++ c), d, step a c la lc, ld, refl),
   ap (λ z. (found ++ own) ++ z) (w ∙ ap (λ z. a ++ z) g)
@@ -124,12 +126,12 @@ opened x u i s t e es own found later step (a, b, la, (c, d, lc, ld, g), w) = (
 )
 
 -- end-of-contents octets, and what is behind them
-pub end_slice :
+pub slice_range-end_of_contents :
     (x : List ℕ) (i e : ℕ) → i ≤ e → e ≤ length x → begins_with_end (slice_range x i e) ≡ true →
     (i + 2 ≤ e) × (slice_range x i e ≡ 0 ∷ 0 ∷ slice_range x (i + 2) e)
-end_slice x i e order within front =
+slice_range-end_of_contents x i e order within front =
     let y = slice_range x i e in
-    let whole : y ≡ 0 ∷ 0 ∷ drop 2 y = end_front y front in
+    let whole : y ≡ 0 ∷ 0 ∷ drop 2 y = begins_with_end-octets y front in
     let two : i + 2 ≤ e = omega (arith, ap length whole, slice_length x i e order within) in
     let join : y ≡ slice_range x i (i + 2) ++ slice_range x (i + 2) e = slice_join x i (i + 2) e (omega arith) two in
     let size : length (slice_range x i (i + 2)) ≡ 2 =
@@ -139,27 +141,27 @@ end_slice x i e order within front =
           (ap (drop 2) join ∙ drop_at (slice_range x i (i + 2)) (slice_range x (i + 2) e) 2 size),
     )
 
-pub ended :
+pub ListsUpTo-ended :
     (x : List ℕ) (u i e : ℕ) (es : List Extent) (later : List Departure) → 0 < u → i ≤ e → e ≤ length x →
     begins_with_end (slice_range x i e) ≡ true → ListsUpTo x (i + 2) (record { end = e; unended = u - 1 } ∷ es) later →
     ListsUpTo x i (record { end = e; unended = u } ∷ es) later
-ended x u i e es later some order within front (a, b, la, lb, w) =
-    (a, b, end_listed (omega (arith, some)) (end_slice x i e order within front).1 la, lb, w)
+ListsUpTo-ended x u i e es later some order within front (a, b, la, lb, w) =
+    (a, b, end_listed (omega (arith, some)) (slice_range-end_of_contents x i e order within front).1 la, lb, w)
 
 -- the last of what was put is the first of the other way round
-pub turned : (xs ys : List Extent) (e : Extent) → xs ≡ ys ++ e ∷ [] → reverse xs ≡ e ∷ reverse ys
-turned xs ys e h = ap reverse h ∙ reverse-append ys (e ∷ [])
+pub reverse-push : (xs ys : List Extent) (e : Extent) → xs ≡ ys ++ e ∷ [] → reverse xs ≡ e ∷ reverse ys
+reverse-push xs ys e h = ap reverse h ∙ reverse-append ys (e ∷ [])
 
 -- nothing is left of what has ended
-pub none_listed : (x : List ℕ) (u i e : ℕ) → u ≡ 0 → i ≡ e → Lists u i (slice_range x i e) []
-none_listed x u i e none h = none_left none (no_slice x i e h) refl
+pub Lists-none_left : (x : List ℕ) (u i e : ℕ) → u ≡ 0 → i ≡ e → Lists u i (slice_range x i e) []
+Lists-none_left x u i e none h = none_left none (slice_range-nil x i e h) refl
 
 -- a fault behind an encoding
-pub found_next :
+pub IsNext-found :
     (x : List ℕ) (i e : ℕ) (h : PlacedHeader) (f : HeaderFound x i e h) (u : ℕ) →
     is_at_end u (slice_range x i e) ≡ false →
     IsNext u (slice_range x i e) (slice_range x i h.end) (slice_range x h.end e)
-found_next x i e h f u t =
+IsNext-found x i e h f u t =
     let w : slice_range x i e ≡ slice_range x i h.end ++ slice_range x h.end e =
     slice_join x i h.end e (omega (arith, f.starts_after, f.order)) f.ends_within in
     record {
@@ -170,34 +172,35 @@ found_next x i e h f u t =
       header = h.start - i;
       encoding = f.encoding;
       whole = w;
-      no_end = no_end_front u (slice_range x i e) (slice_range x i h.end) (slice_range x h.end e) w t;
+      no_end = is_at_end-none_in_front u (slice_range x i e) (slice_range x i h.end) (slice_range x h.end e) w t;
     }
 
-pub fault_behind :
+pub HeaderFaultBehind-next :
     (x : List ℕ) (i : ℕ) (h : PlacedHeader) (f : HeaderFound x i (length x) h) (u v : ℕ) (o : Bool) (place : ℕ)
     (fault : DecodeFault) →
     is_at_end u (rest_of x i) ≡ false → o ≡ is_open h.constructed f.encoding.len → v ≡ (if o then suc u else u) →
     HeaderFaultBehind v h.end (rest_of x h.end) place fault → HeaderFaultBehind u i (rest_of x i) place fault
-unfolding found_next
-fault_behind x i h f u v o place fault t is count w =
+unfolding IsNext-found
+HeaderFaultBehind-next x i h f u v o place fault t is count w =
     let before : i ≤ h.end = omega (arith, f.starts_after, f.order) in
     let size : length (slice_range x i h.end) ≡ h.end - i = slice_length x i h.end before f.ends_within in
     let to : h.end ≡ i + length (slice_range x i h.end) = omega (arith, size, before) in
     let open_behind : v ≡ unended_behind u h.constructed f.encoding.len = count ∙ ap (λ b. if b then suc u else u) is in
-    behind (found_next x i (length x) h f u t)
+    behind (IsNext-found x i (length x) h f u t)
     (subst (λ z. HeaderFaultBehind z (i + length (slice_range x i h.end)) (rest_of x h.end) place fault) open_behind
     (subst (λ z. HeaderFaultBehind v z (rest_of x h.end) place fault) to w))
 
-pub fault_behind_end :
+pub HeaderFaultBehind-end :
     (x : List ℕ) (i u place : ℕ) (fault : DecodeFault) → i < length x → is_at_end u (rest_of x i) ≡ true →
     HeaderFaultBehind (u - 1) (i + 2) (rest_of x (i + 2)) place fault → HeaderFaultBehind u i (rest_of x i) place fault
-fault_behind_end x i u place fault more t w =
-    let (some, front) = at_end_parts u (rest_of x i) t in
-    behind_end_of_contents (omega (arith, some)) (end_slice x i (length x) (omega (arith, more)) (omega arith) front).1
+HeaderFaultBehind-end x i u place fault more t w =
+    let (some, front) = is_at_end-parts u (rest_of x i) t in
+    behind_end_of_contents (omega (arith, some))
+    (slice_range-end_of_contents x i (length x) (omega (arith, more)) (omega arith) front).1
     w
 
 -- the departures of the encoding that was found, and of those behind it, are all
-pub all_behind :
+pub ListsUpTo-behind :
     (x : List ℕ) (i e u v : ℕ) (es : List Extent) (h : PlacedHeader) (f : HeaderFound x i e h) (within : e ≤ length x)
     (id len : List ℕ) (p : IsParted (slice_range x i h.start) id len h.class h.constructed h.tag (h.end - h.start))
     (t : is_at_end u (slice_range x i e) ≡ false)
@@ -207,13 +210,13 @@ pub all_behind :
     new ≡ old ++ (own_departures i r ++ inside) → (all : List Departure) →
     (later : List Departure) × ListsUpTo x h.end (record { end = e; unended = v } ∷ es) later × (all ≡ new ++ later) →
     (later : List Departure) × ListsUpTo x i (record { end = e; unended = u } ∷ es) later × (all ≡ old ++ later)
-all_behind x i e u v es h f within id len p t r inside old new count ins pushed all (later, up, is) =
-    let (before, lists, same) = passed x u i v h.end e es (own_departures i r) inside old later
-    (λ more ls. listed_next x i e h f within id len p u t r inside more ins
+ListsUpTo-behind x i e u v es h f within id len p t r inside old new count ins pushed all (later, up, is) =
+    let (before, lists, same) = ListsUpTo-passed x u i v h.end e es (own_departures i r) inside old later
+    (λ more ls. Lists-at_header x i e h f within id len p u t r inside more ins
     (subst (λ z. Lists z h.end (slice_range x h.end e) more) count ls)) up in
     (before, lists, is ∙ (ap (λ z. z ++ later) pushed ∙ same))
 
-pub all_inside :
+pub ListsUpTo-inside :
     (x : List ℕ) (i e u : ℕ) (es : List Extent) (h : PlacedHeader) (f : HeaderFound x i e h) (within : e ≤ length x)
     (id len : List ℕ) (p : IsParted (slice_range x i h.start) id len h.class h.constructed h.tag (h.end - h.start))
     (t : is_at_end u (slice_range x i e) ≡ false)
@@ -224,28 +227,29 @@ pub all_inside :
     × ListsUpTo x h.start (record { end = h.end; unended = 0 } ∷ record { end = e; unended = u } ∷ es) later
     × (all ≡ new ++ later) →
     (later : List Departure) × ListsUpTo x i (record { end = e; unended = u } ∷ es) later × (all ≡ old ++ later)
-all_inside x i e u es h f within id len p t r old new count looked pushed all (later, up, is) =
-    let (before, lists, same) = opened x u i h.start h.end e es (own_departures i r) old later
-    (λ inside more li ls. listed_next x i e h f within id len p u t r inside more (encodings_inside looked li)
+ListsUpTo-inside x i e u es h f within id len p t r old new count looked pushed all (later, up, is) =
+    let (before, lists, same) = ListsUpTo-opened x u i h.start h.end e es (own_departures i r) old later
+    (λ inside more li ls. Lists-at_header x i e h f within id len p u t r inside more (encodings_inside looked li)
     (subst (λ z. Lists z h.end (slice_range x h.end e) more) count ls)) up in
     (before, lists, is ∙ (ap (λ z. z ++ later) pushed ∙ same))
 
-pub behind_closed : (u : ℕ) (k : Bool) (len : List ℕ) → is_open k len ≡ false → u ≡ unended_behind u k len
-behind_closed u k len e = sym (ap (λ b. if b then suc u else u) e)
+pub unended_behind-not_open : (u : ℕ) (k : Bool) (len : List ℕ) → is_open k len ≡ false → u ≡ unended_behind u k len
+unended_behind-not_open u k len e = sym (ap (λ b. if b then suc u else u) e)
 
-pub behind_open : (u : ℕ) (k : Bool) (len : List ℕ) → is_open k len ≡ true → u + 1 ≡ unended_behind u k len
-behind_open u k len e =
+pub unended_behind-open : (u : ℕ) (k : Bool) (len : List ℕ) → is_open k len ≡ true → u + 1 ≡ unended_behind u k len
+unended_behind-open u k len e =
     let more : (if is_open k len then suc u else u) ≡ suc u = ap (λ b. if b then suc u else u) e in
     omega (arith, more)
 
-pub looked_open : (k : Bool) (len : List ℕ) → is_open k len ≡ true → is_looked_into k len ≡ false
-looked_open true len e = ap not e
-looked_open false len e = refl
+pub is_looked_into-open : (k : Bool) (len : List ℕ) → is_open k len ≡ true → is_looked_into k len ≡ false
+is_looked_into-open true len e = ap not e
+is_looked_into-open false len e = refl
 
-pub looked_primitive : (k : Bool) (len : List ℕ) → k ≡ false → is_looked_into k len ≡ false
-looked_primitive true len e = absurd cc
-looked_primitive false len e = refl
+pub is_looked_into-primitive : (k : Bool) (len : List ℕ) → k ≡ false → is_looked_into k len ≡ false
+is_looked_into-primitive true len e = absurd cc
+is_looked_into-primitive false len e = refl
 
-pub looked_at : (k : Bool) (len : List ℕ) → k ≡ true → is_open k len ≡ false → is_looked_into k len ≡ true
-looked_at true len e f = ap not f
-looked_at false len e f = absurd cc
+pub is_looked_into-constructed : (k : Bool) (len : List ℕ) → k ≡ true → is_open k len ≡ false →
+    is_looked_into k len ≡ true
+is_looked_into-constructed true len e f = ap not f
+is_looked_into-constructed false len e f = absurd cc

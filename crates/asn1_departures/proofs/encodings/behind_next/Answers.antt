@@ -1,17 +1,18 @@
 -- For `encodings::behind_next`: what it returns is right (`more`, `none`).
 use Rattle.std.proofs.Common.{◌∙◌, ap, drop, sym}
 use Rattle.asn1_der.proofs.Orders.{behind_encoding}
-use Rattle.asn1_departures.proofs.Fronts.{step_end, step_next, step_none}
+use Rattle.asn1_departures.proofs.Fronts.{IsStep-end, IsStep-next, AreEncodings-some_here}
 use Rattle.asn1_departures.proofs.encodings.behind_next.Goals as goal
 
 pub returns-then-is_at_end-clause-more : goal.returns-then-is_at_end-clause-more
 returns-then-is_at_end-clause-more c =
-    step_end c.args.unended.now c.args.rest.now c.split_at.result.1.now (sym c.is_at_end.ensures ∙ c.if-is_at_end.true)
+    IsStep-end c.args.unended.now c.args.rest.now c.split_at.result.1.now
+    (sym c.is_at_end.ensures ∙ c.if-is_at_end.true)
     c.split_at.ensures.back
 
 pub returns-in_default-clause-none : goal.returns-in_default-clause-none
 returns-in_default-clause-none c some a =
-    step_none c.args.unended.now c.args.rest.now c.in_default.ensures.none
+    AreEncodings-some_here c.args.unended.now c.args.rest.now c.in_default.ensures.none
     (sym c.is_at_end.ensures ∙ c.if-is_at_end.false) some a
 
 pub returns-clause-more : goal.returns-clause-more
@@ -22,6 +23,7 @@ returns-clause-more c =
     let found = c.in-Some.ensures.found in
     let split = behind_encoding rest part after found
     (c.split_at-2.ensures.back ∙ ap (λ m. drop m rest) c.min.ensures) in
-    step_next c.args.unended.now c.unended_behind.result rest part after found.encoding c.is_open_encoding.result split
+    IsStep-next c.args.unended.now c.unended_behind.result rest part after found.encoding c.is_open_encoding.result
+    split
     (sym c.is_at_end.ensures ∙ c.if-is_at_end.false) (c.is_open_encoding.ensures found.encoding)
     c.unended_behind.ensures

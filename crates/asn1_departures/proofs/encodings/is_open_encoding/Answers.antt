@@ -3,7 +3,7 @@ use Rattle.std.proofs.Common.{◌++◌, ap, length, subst, sym, ◌∙◌}
 use Rattle.std.specs.Prelude.{◌&&◌}
 use Rattle.asn1_headers.specs.Header.{IsIdentifier}
 use Rattle.asn1_departures.specs.Departures.{is_open}
-use Rattle.asn1_departures.proofs.Fronts.{indefinite_front}
+use Rattle.asn1_departures.proofs.Fronts.{is_indefinite-append}
 use Rattle.asn1_departures.proofs.encodings.is_open_encoding.Goals as goal
 
 pub returns : goal.returns
@@ -16,4 +16,4 @@ returns c e =
     c.is_open.ensures
     ∙ (ap (λ z. is_open z c.split_identifier.result.1.now) is
     ∙ (ap (is_open e.constructed) both.1
-    ∙ ap (λ z. e.constructed && z) (indefinite_front f.len e.contents (length e.contents) f.length_octets)))
+    ∙ ap (λ z. e.constructed && z) (is_indefinite-append f.len e.contents (length e.contents) f.length_octets)))

@@ -1,8 +1,8 @@
 -- For `encodings::pass_found`: what it returns is right.
 use Rattle.std.proofs.Common.{◌≡◌, arith}
 use Rattle.asn1_departures.specs.Departures.{is_open}
-use Rattle.asn1_departures.proofs.Fronts.{most}
-use Rattle.asn1_departures.proofs.Walk.{fault_behind}
+use Rattle.asn1_departures.proofs.Fronts.{unended-le}
+use Rattle.asn1_departures.proofs.Walk.{HeaderFaultBehind-next}
 use Rattle.asn1_departures.proofs.encodings.pass_found.Goals as goal
 
 pub returns : goal.returns
@@ -23,8 +23,15 @@ returns c =
     }) in
     record {
       fault = λ place fault w.
-          fault_behind x at.index h f at.unended v o place fault c.requires.no_end is c.unended_behind.ensures w;
+          HeaderFaultBehind-next x at.index h f at.unended v o place fault c.requires.no_end is c.unended_behind.ensures
+          w;
       more = omega (arith, f.starts_after, f.order);
       within = f.ends_within;
-      room = omega (arith, c.requires.room, f.starts_after, f.order, most o at.unended v c.unended_behind.ensures);
+      room = omega (
+        arith,
+        c.requires.room,
+        f.starts_after,
+        f.order,
+        unended-le o at.unended v c.unended_behind.ensures,
+      );
     }

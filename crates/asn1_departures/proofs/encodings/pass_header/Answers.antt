@@ -5,8 +5,8 @@ use Rattle.asn1_headers.specs.HeaderFault.{HeaderFault}
 use Rattle.asn1_departures.specs.Departures.{at_front}
 use Rattle.asn1_departures.specs.Steps.{rest_of}
 use Rattle.asn1_blocks.proofs.ReadSteps.{slice_length}
-use Rattle.asn1_departures.proofs.Fronts.{at_end_parts}
-use Rattle.asn1_departures.proofs.Walk.{end_slice, fault_behind_end}
+use Rattle.asn1_departures.proofs.Fronts.{is_at_end-parts}
+use Rattle.asn1_departures.proofs.Walk.{slice_range-end_of_contents, HeaderFaultBehind-end}
 use Rattle.asn1_departures.proofs.encodings.pass_header.Goals as goal
 
 pub returns-then-is_at_end-clause-passed : goal.returns-then-is_at_end-clause-passed
@@ -15,10 +15,10 @@ returns-then-is_at_end-clause-passed c =
     let at = c.args.at in
     let more = c.requires.more in
     let t = sym c.is_at_end.ensures ∙ c.if-is_at_end.true in
-    let (some, front) = at_end_parts at.unended (rest_of x at.index) t in
-    let two = (end_slice x at.index (length x) (omega (arith, more)) (omega arith) front).0 in
+    let (some, front) = is_at_end-parts at.unended (rest_of x at.index) t in
+    let two = (slice_range-end_of_contents x at.index (length x) (omega (arith, more)) (omega arith) front).0 in
     record {
-      fault = λ place fault w. fault_behind_end x at.index at.unended place fault more t w;
+      fault = λ place fault w. HeaderFaultBehind-end x at.index at.unended place fault more t w;
       more = omega arith;
       within = two;
       room = omega (arith, c.requires.room);

@@ -2,13 +2,13 @@
 use Rattle.std.proofs.Common.{◌≡◌, ap, length, refl, subst, sym, take, ◌∙◌}
 use Rattle.std.proofs.lemmas.List.{take_at}
 use Rattle.asn1_headers.specs.Header.{IsSomeIdentifier}
-use Rattle.asn1_departures.proofs.Fronts.{front_identifier}
+use Rattle.asn1_departures.proofs.Fronts.{IsSomeIdentifier-front}
 use Rattle.asn1_departures.proofs.encodings.split_identifier.Goals as goal
 
 pub returns-in-Some : goal.returns-in-Some
 returns-in-Some c identifier behind tag is whole =
     let (some, within, number, found) = c.in-Some.ensures.found in
-    let both = front_identifier c.args.octets.now identifier behind tag number c.in-Some.size is whole found in
+    let both = IsSomeIdentifier-front c.args.octets.now identifier behind tag number c.in-Some.size is whole found in
     (c.split_at.ensures.front ∙ both.0, c.split_at.ensures.back ∙ both.1)
 
 pub returns-in-None : goal.returns-in-None

@@ -5,7 +5,7 @@ use Rattle.asn1_departures.specs.Steps.{AreExtents, ListsUpTo}
 use Rattle.std.specs.Prelude.{List, Some}
 use Rattle.asn1_departures.specs.declared.rule.Departure.{Departure}
 use Rattle.asn1_departures.specs.declared.rule.Rule.TheVariants.{NotEncodings}
-use Rattle.asn1_departures.proofs.Walk.{all_behind, all_inside, behind_closed, behind_open, extents_within, looked_at, looked_open, looked_primitive, turned}
+use Rattle.asn1_departures.proofs.Walk.{ListsUpTo-behind, ListsUpTo-inside, unended_behind-not_open, unended_behind-open, AreExtents-le, is_looked_into-constructed, is_looked_into-open, is_looked_into-primitive, reverse-push}
 use Rattle.asn1_der.proofs.Shortest.{header_front}
 use Rattle.asn1_departures.proofs.listing.advance.Goals as goal
 
@@ -14,7 +14,7 @@ split_header-requires-clause-read c =
     let w = c.args.place.now in
     let h = c.args.header.now in
     let f = c.requires.header in
-    let within = extents_within w.inner.end (reverse w.outer.items) (length c.args.octets.now) c.requires.placed.2 in
+    let within = AreExtents-le w.inner.end (reverse w.outer.items) (length c.args.octets.now) c.requires.placed.2 in
     header_front c.args.octets.now w.index h.start h.end h.class h.constructed h.tag (omega (arith, f.starts_after))
     f.order
     (omega (arith, f.ends_within, within)) f.encoding
@@ -27,17 +27,17 @@ returns-then-is_open c =
     let f = c.requires.header in
     let p = c.requires.placed in
     let es = reverse w.outer.items in
-    let within = extents_within w.inner.end es (length x) p.2 in
+    let within = AreExtents-le w.inner.end es (length x) p.2 in
     let len = c.split_header.result.1.now in
     let (r, pushed) = c.in_ok-push_own.ensures in
     let own = own_departures w.index r in
     let is : is_open h.constructed len ≡ true = sym c.is_open.ensures ∙ c.if-is_open.true in
     record {
       placed = (f.ends_within, omega (arith, p.1, f.starts_after, f.order), p.2);
-      all = all_behind x w.index w.inner.end w.inner.unended _ es h f within _ len c.split_header.ensures
+      all = ListsUpTo-behind x w.index w.inner.end w.inner.unended _ es h f within _ len c.split_header.ensures
           c.requires.no_end r []
-          c.args.found.now.items _ (behind_open w.inner.unended h.constructed len is)
-          (nothing_inside (looked_open h.constructed len is) refl)
+          c.args.found.now.items _ (unended_behind-open w.inner.unended h.constructed len is)
+          (nothing_inside (is_looked_into-open h.constructed len is) refl)
           (pushed ∙ ap (λ z. c.args.found.now.items ++ z) (sym (append-nil own)));
       fewer = omega (arith, f.starts_after, f.order, f.ends_within, within);
     }
@@ -50,16 +50,17 @@ returns-then-not-header c =
     let f = c.requires.header in
     let p = c.requires.placed in
     let es = reverse w.outer.items in
-    let within = extents_within w.inner.end es (length x) p.2 in
+    let within = AreExtents-le w.inner.end es (length x) p.2 in
     let len = c.split_header.result.1.now in
     let (r, pushed) = c.in_ok-push_own.ensures in
     let own = own_departures w.index r in
     let is : is_open h.constructed len ≡ false = sym c.is_open.ensures ∙ c.if-is_open.false in
     record {
       placed = (f.ends_within, omega (arith, p.1, f.starts_after, f.order), p.2);
-      all = all_behind x w.index w.inner.end w.inner.unended w.inner.unended es h f within _ len c.split_header.ensures
-          c.requires.no_end r [] c.args.found.now.items _ (behind_closed w.inner.unended h.constructed len is)
-          (nothing_inside (looked_primitive h.constructed len c.if-not-header.true) refl)
+      all = ListsUpTo-behind x w.index w.inner.end w.inner.unended w.inner.unended es h f within _ len
+          c.split_header.ensures
+          c.requires.no_end r [] c.args.found.now.items _ (unended_behind-not_open w.inner.unended h.constructed len is)
+          (nothing_inside (is_looked_into-primitive h.constructed len c.if-not-header.true) refl)
           (pushed ∙ ap (λ z. c.args.found.now.items ++ z) (sym (append-nil own)));
       fewer = omega (arith, f.starts_after, f.order, f.ends_within, within);
     }
@@ -72,12 +73,12 @@ returns-then-are_encodings c =
     let f = c.requires.header in
     let p = c.requires.placed in
     let es = reverse w.outer.items in
-    let within = extents_within w.inner.end es (length x) p.2 in
+    let within = AreExtents-le w.inner.end es (length x) p.2 in
     let len = c.split_header.result.1.now in
     let (r, pushed) = c.in_ok-push_own.ensures in
     let is : is_open h.constructed len ≡ false = sym c.is_open.ensures ∙ c.if-is_open.false in
     let put : c.push.new.self.items ≡ w.outer.items ++ w.inner ∷ [] = c.in_ok-push.ensures.items in
-    let round = turned c.push.new.self.items w.outer.items w.inner put in
+    let round = reverse-push c.push.new.self.items w.outer.items w.inner put in
     record {
       placed = (
         f.order,
@@ -86,10 +87,11 @@ returns-then-are_encodings c =
             (f.ends_within, omega (arith, p.1, f.starts_after, f.order), p.2),
       );
       all = λ all (later, up, e).
-          all_inside x w.index w.inner.end w.inner.unended es h f within _ len c.split_header.ensures c.requires.no_end
+          ListsUpTo-inside x w.index w.inner.end w.inner.unended es h f within _ len c.split_header.ensures
+          c.requires.no_end
           r
-          c.args.found.now.items _ (behind_closed w.inner.unended h.constructed len is)
-          (looked_at h.constructed len c.if-not-header.false is) pushed all
+          c.args.found.now.items _ (unended_behind-not_open w.inner.unended h.constructed len is)
+          (is_looked_into-constructed h.constructed len c.if-not-header.false is) pushed all
           (later, subst (λ z. ListsUpTo x h.start (record { end = h.end; unended = 0 } ∷ z) later) round up, e);
       fewer = omega (
         arith,
@@ -110,17 +112,19 @@ returns c =
     let f = c.requires.header in
     let p = c.requires.placed in
     let es = reverse w.outer.items in
-    let within = extents_within w.inner.end es (length x) p.2 in
+    let within = AreExtents-le w.inner.end es (length x) p.2 in
     let len = c.split_header.result.1.now in
     let (r, pushed) = c.in_ok-push_own.ensures in
     let own = own_departures w.index r in
     let is : is_open h.constructed len ≡ false = sym c.is_open.ensures ∙ c.if-is_open.false in
     let none : List Departure = listed w.index (Some NotEncodings) in
-    let looked = looked_at h.constructed len c.if-not-header.false is in
+    let looked = is_looked_into-constructed h.constructed len c.if-not-header.false is in
     record {
       placed = (f.ends_within, omega (arith, p.1, f.starts_after, f.order), p.2);
-      all = all_behind x w.index w.inner.end w.inner.unended w.inner.unended es h f within _ len c.split_header.ensures
-          c.requires.no_end r none c.args.found.now.items _ (behind_closed w.inner.unended h.constructed len is)
+      all = ListsUpTo-behind x w.index w.inner.end w.inner.unended w.inner.unended es h f within _ len
+          c.split_header.ensures
+          c.requires.no_end r none c.args.found.now.items _
+          (unended_behind-not_open w.inner.unended h.constructed len is)
           (no_encodings_inside looked
           (λ a. let t : c.are_encodings.result ≡ true = c.are_encodings.ensures.1 a in
           let not : c.are_encodings.result ≡ false = c.if-are_encodings.false in absurd cc) refl)

@@ -2,7 +2,7 @@
 use Rattle.std.proofs.Common.{◌≡◌, ◌++◌, [], ◌∷◌, ap, append-nil, arith, length, length-append, refl, reverse, subst, sym}
 use Rattle.std.proofs.lemmas.Grind.{common_steps}
 use Rattle.asn1_departures.specs.Steps.{AreExtents, ListsUpTo}
-use Rattle.asn1_departures.proofs.Walk.{none_listed, turned}
+use Rattle.asn1_departures.proofs.Walk.{Lists-none_left, reverse-push}
 use Rattle.asn1_departures.proofs.listing.close.Goals as goal
 
 pub returns-in-Some : goal.returns-in-Some
@@ -11,7 +11,7 @@ returns-in-Some c found =
     let w = c.args.place.now in
     let e = c.in-Some.extent in
     let popped : w.outer.items ≡ c.pop.new.self.items ++ e ∷ [] = c.in-Some.ensures.items in
-    let round = turned w.outer.items c.pop.new.self.items e popped in
+    let round = reverse-push w.outer.items c.pop.new.self.items e popped in
     let ended = c.requires.ended in
     let placed = subst (λ z. AreExtents w.inner.end z (length x)) round c.requires.placed.2 in
     record {
@@ -21,7 +21,7 @@ returns-in-Some c found =
         (
           [],
           later,
-          none_listed x w.inner.unended w.index w.inner.end c.requires.no_more ended,
+          Lists-none_left x w.inner.unended w.index w.inner.end c.requires.no_more ended,
           subst (λ z. ListsUpTo x w.inner.end z later) (sym round)
               (subst (λ z. ListsUpTo x z (e ∷ reverse c.pop.new.self.items) later) ended up),
           refl,
@@ -40,7 +40,7 @@ returns-in-None c found =
       (
         [],
         [],
-        none_listed x w.inner.unended w.index w.inner.end c.requires.no_more c.requires.ended,
+        Lists-none_left x w.inner.unended w.index w.inner.end c.requires.no_more c.requires.ended,
         subst (λ z. ListsUpTo x w.inner.end (reverse z) []) (sym none) refl,
         refl,
       ),

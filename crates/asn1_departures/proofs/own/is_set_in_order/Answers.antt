@@ -9,17 +9,17 @@ use Rattle.asn1_der.proofs.Encodings.{items_alone}
 use Rattle.asn1_departures.proofs.own.is_set_in_order.Goals as goal
 
 -- where the items are in neither order, what decides is whether they are DER
-by_der :
+IsRightAlone-set_out_of_order :
     (der order : Bool) (x : List ℕ) → length x < 2 ^ 64 → IsTrue der ↔ IsDer x →
     ((items : List (List ℕ)) → AreDerEncodings x items → IsTrue order ↔ IsInOrder items) → order ≡ false →
     IsTrue (not der) ↔ IsRightAlone Universal true 17 x
-by_der true order x small d o f = (
+IsRightAlone-set_out_of_order true order x small d o f = (
   λ t. absurd cc,
   λ k. let is = d.0 refl in
       let t : order ≡ true = (o is.items is.encodings).1 (k.1 refl is.items is.encodings) in
       absurd cc,
 )
-by_der false order x small d o f = (
+IsRightAlone-set_out_of_order false order x small d o f = (
   λ t. (
     refl,
     λ e items ds. elim (cases_lt 0 (length x)) [
@@ -35,6 +35,7 @@ by_der false order x small d o f = (
 pub returns : goal.returns
 returns c =
     let small : length c.args.contents.now < 2 ^ 64 = omega arith in
-    by_der c.in_ok-is_der.field-0 c.is_in_order.result c.args.contents.now small c.in_ok-is_der.ensures
+    IsRightAlone-set_out_of_order c.in_ok-is_der.field-0 c.is_in_order.result c.args.contents.now small
+    c.in_ok-is_der.ensures
     c.is_in_order.ensures
     c.if-is_in_order.false

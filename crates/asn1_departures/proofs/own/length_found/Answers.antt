@@ -7,19 +7,21 @@ use Rattle.asn1_departures.specs.declared.rule.Rule.{Rule}
 use Rattle.asn1_departures.specs.declared.rule.Rule.TheVariants.{IndefiniteLength, LongLength}
 use Rattle.asn1_departures.proofs.own.length_found.Goals as goal
 
-definite : (b : Bool) (found : Option Rule) (P : Type 0) → b ≡ false → P → MatchBool b (found ≡ Some IndefiniteLength) P
-definite true found P e p = absurd cc
-definite false found P e p = p
+MatchBool-false : (b : Bool) (found : Option Rule) (P : Type 0) → b ≡ false → P →
+    MatchBool b (found ≡ Some IndefiniteLength) P
+MatchBool-false true found P e p = absurd cc
+MatchBool-false false found P e p = p
 
 pub returns-then-is_shortest_length : goal.returns-then-is_shortest_length
 returns-then-is_shortest_length c =
-    definite _ None (Found (c.args.len.now ≡ shortest_length c.args.size) LongLength None)
+    MatchBool-false _ None (Found (c.args.len.now ≡ shortest_length c.args.size) LongLength None)
     (sym c.is_indefinite.ensures ∙ c.if-is_indefinite.false)
     (kept (c.is_shortest_length.ensures.0 c.if-is_shortest_length.true))
 
 pub returns-else-is_shortest_length : goal.returns-else-is_shortest_length
 returns-else-is_shortest_length c =
-    definite _ (Some LongLength) (Found (c.args.len.now ≡ shortest_length c.args.size) LongLength (Some LongLength))
+    MatchBool-false _ (Some LongLength)
+    (Found (c.args.len.now ≡ shortest_length c.args.size) LongLength (Some LongLength))
     (sym c.is_indefinite.ensures ∙ c.if-is_indefinite.false)
     (broken (λ e. let is : c.is_shortest_length.result ≡ true = c.is_shortest_length.ensures.1 e in
     let not : c.is_shortest_length.result ≡ false = c.if-is_shortest_length.false in absurd cc))

@@ -6,20 +6,20 @@ use Rattle.asn1_departures.specs.declared.rule.Rule.{Rule}
 use Rattle.asn1_departures.specs.declared.rule.Rule.TheVariants.{NotEncodings}
 use Rattle.asn1_departures.proofs.single.items_found.Goals as goal
 
-not_looked_into : (b : Bool) (P : Type 0) (found : Option Rule) → b ≡ false → found ≡ None →
+MatchBool-not_looked_into : (b : Bool) (P : Type 0) (found : Option Rule) → b ≡ false → found ≡ None →
     MatchBool b P (found ≡ None)
-not_looked_into true P found e n = absurd cc
-not_looked_into false P found e n = n
+MatchBool-not_looked_into true P found e n = absurd cc
+MatchBool-not_looked_into false P found e n = n
 
-looked_into : (b : Bool) (P Q : Type 0) → b ≡ true → P → MatchBool b P Q
-looked_into true P Q e p = p
-looked_into false P Q e p = absurd cc
+MatchBool-looked_into : (b : Bool) (P Q : Type 0) → b ≡ true → P → MatchBool b P Q
+MatchBool-looked_into true P Q e p = p
+MatchBool-looked_into false P Q e p = absurd cc
 
 pub returns-then-is_looked_into : goal.returns-then-is_looked_into
 returns-then-is_looked_into c =
-    looked_into _ _ _ (sym c.is_looked_into.ensures ∙ c.if-is_looked_into.true) c.encodings_found.ensures
+    MatchBool-looked_into _ _ _ (sym c.is_looked_into.ensures ∙ c.if-is_looked_into.true) c.encodings_found.ensures
 
 pub returns-else-is_looked_into : goal.returns-else-is_looked_into
 returns-else-is_looked_into c =
-    not_looked_into _ (Found (AreEncodings 0 c.args.contents.now) NotEncodings None) None
+    MatchBool-not_looked_into _ (Found (AreEncodings 0 c.args.contents.now) NotEncodings None) None
     (sym c.is_looked_into.ensures ∙ c.if-is_looked_into.false) refl
