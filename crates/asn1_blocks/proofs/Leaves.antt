@@ -19,13 +19,13 @@ use Rattle.asn1_leaves.specs.Contents.ObjectIdentifier.{ObjectIdentifierFault}
 use Rattle.asn1_leaves.specs.Contents.UtcTime.{UtcTimeFault}
 use Rattle.asn1_leaves.specs.Contents.Text.{text_form, TextContents, TextFault}
 use Rattle.asn1_numbers.proofs.SignedNumbers.{signed_number_of_shortest}
-use Rattle.asn1_leaves.proofs.Leaves.Boolean.{boolean_alone, boolean_fault_alone, boolean_no_fault, boolean_meaning, boolean_fault_of_reading, boolean_again}
-use Rattle.asn1_leaves.proofs.Leaves.Integer.{integer_alone}
-use Rattle.asn1_leaves.proofs.Leaves.BitString.{bit_string_alone, bit_string_fault_alone, bit_string_no_fault, bit_string_meaning, bit_string_fault_of_reading, bit_string_writable, bit_string_again, bit_string_fits, bit_string_kept, bit_string_read, bit_string_same}
-use Rattle.asn1_leaves.proofs.Leaves.GeneralizedTime.{generalized_time_alone, generalized_time_fault_alone, generalized_time_no_fault, generalized_time_meaning, generalized_time_of_reading, generalized_time_writable, generalized_time_again, generalized_time_fits, generalized_time_kept, generalized_time_read}
-use Rattle.asn1_leaves.proofs.Leaves.ObjectIdentifier.{object_identifier_alone, object_identifier_fault_alone, object_identifier_no_fault, object_identifier_meaning, object_identifier_fault_of_reading, object_identifier_writable, object_identifier_again, object_identifier_fits, object_identifier_kept, object_identifier_read}
-use Rattle.asn1_leaves.proofs.Leaves.UtcTime.{utc_time_alone, utc_time_fault_alone, utc_time_no_fault, utc_time_meaning, utc_time_of_reading, utc_time_writable, utc_time_again, utc_time_fits, utc_time_kept, utc_time_read}
-use Rattle.asn1_leaves.proofs.Leaves.Text.{text_alone, text_fault_alone, text_no_fault, text_meaning, text_fault_of_reading, text_writable, text_again, text_fits, text_kept, text_read}
+use Rattle.asn1_leaves.proofs.Leaves.Boolean.{BooleanContents-unique, BooleanFault-unique, BooleanContents-no_fault, BooleanContents-or_fault, BooleanFault-of_reading, BooleanContents-written}
+use Rattle.asn1_leaves.proofs.Leaves.Integer.{IntegerContents-unique}
+use Rattle.asn1_leaves.proofs.Leaves.BitString.{BitStringContents-unique, BitStringFault-unique, BitStringContents-no_fault, BitStringContents-or_fault, BitStringFault-of_reading, bit_string_write_fault-read, BitStringContents-written, bit_string_write_fault-faithful, IsFaithfulBitString-written, IsFaithfulBitString-read, bit_string_contents-written_bits}
+use Rattle.asn1_leaves.proofs.Leaves.GeneralizedTime.{GeneralizedTimeContents-unique, GeneralizedTimeFault-unique, GeneralizedTimeContents-no_fault, GeneralizedTimeContents-or_fault, GeneralizedTimeFault-of_reading, moment_write_fault-generalized_time_read, GeneralizedTimeContents-written, moment_write_fault-faithful_generalized_time, IsFaithfulGeneralizedTime-written, IsFaithfulGeneralizedTime-read}
+use Rattle.asn1_leaves.proofs.Leaves.ObjectIdentifier.{ObjectIdentifierContents-unique, ObjectIdentifierFault-unique, ObjectIdentifierContents-no_fault, ObjectIdentifierContents-or_fault, ObjectIdentifierFault-of_reading, object_identifier_write_fault-read, ObjectIdentifierContents-written, object_identifier_write_fault-faithful, IsFaithfulObjectIdentifier-written, IsFaithfulObjectIdentifier-read}
+use Rattle.asn1_leaves.proofs.Leaves.UtcTime.{UtcTimeContents-unique, UtcTimeFault-unique, UtcTimeContents-no_fault, UtcTimeContents-or_fault, UtcTimeFault-of_reading, moment_write_fault-utc_time_read, UtcTimeContents-written, moment_write_fault-faithful_utc_time, IsFaithfulUtcTime-written, IsFaithfulUtcTime-read}
+use Rattle.asn1_leaves.proofs.Leaves.Text.{TextContents-unique, TextFault-unique, TextContents-no_fault, TextContents-or_fault, TextFault-of_reading, text_write_fault-read, TextContents-written, text_write_fault-characters, HasCharacters-written, HasCharacters-read}
 
 -- the tag of a string of characters is that of one, and one of the low ones
 string_tag_is : (kind : StringKind) → is_string_tag (string_tag kind) ≡ true
@@ -154,19 +154,20 @@ alike l m e = omega (arith, e)
 -- contents octets of one tag mean at most one leaf
 pub leaf_alone : (l m : Leaf) (contents : List ℕ) → leaf_tag l ≡ leaf_tag m → LeafContents l contents →
     LeafContents m contents → l ≡ m
-leaf_alone (boolean a) (boolean b) contents e p q = ap boolean (boolean_alone a b contents p q)
-leaf_alone (integer m) (integer n) contents e p q = ap integer (integer_alone m n contents p q)
-leaf_alone (bit_string m v) (bit_string n w) contents e p q = let r = bit_string_alone m n v w contents p q in cc
+leaf_alone (boolean a) (boolean b) contents e p q = ap boolean (BooleanContents-unique a b contents p q)
+leaf_alone (integer m) (integer n) contents e p q = ap integer (IntegerContents-unique m n contents p q)
+leaf_alone (bit_string m v) (bit_string n w) contents e p q = let r = BitStringContents-unique m n v w contents p q in
+    cc
 leaf_alone (octet_string v) (octet_string w) contents e p q = ap octet_string (p ∙ sym q)
 leaf_alone null null contents e p q = refl
 leaf_alone (object_identifier ms) (object_identifier ns) contents e p q =
-    ap object_identifier (object_identifier_alone ms ns contents p q)
-leaf_alone (utc_time m) (utc_time n) contents e p q = ap utc_time (utc_time_alone m n contents p q)
+    ap object_identifier (ObjectIdentifierContents-unique ms ns contents p q)
+leaf_alone (utc_time m) (utc_time n) contents e p q = ap utc_time (UtcTimeContents-unique m n contents p q)
 leaf_alone (generalized_time m) (generalized_time n) contents e p q =
-    ap generalized_time (generalized_time_alone m n contents p q)
+    ap generalized_time (GeneralizedTimeContents-unique m n contents p q)
 leaf_alone (text j cs) (text k ds) contents e p q =
     let f : j ≡ k = alike (text j cs) (text k ds) e in
-    let g : cs ≡ ds = text_alone (text_form j) cs ds contents p
+    let g : cs ≡ ds = TextContents-unique (text_form j) cs ds contents p
     (subst (λ z. TextContents (text_form z) ds contents) (sym f) q) in
     cc
 leaf_alone l m contents e p q = absurd (alike l m e)
@@ -206,17 +207,18 @@ leaf_fault_tag n contents e f = let l = by_leaf n contents e f in ap is_leaf_tag
 
 no_fault : (l m : Leaf) (contents : List ℕ) (e : DecodeFault) → leaf_tag l ≡ leaf_tag m → LeafContents l contents →
     FaultOf m contents e → ⊥
-no_fault (boolean a) (boolean b) contents e t p f = boolean_no_fault a contents e p f
+no_fault (boolean a) (boolean b) contents e t p f = BooleanContents-no_fault a contents e p f
 no_fault l (integer n) contents e t p f = f
-no_fault (bit_string n v) (bit_string k w) contents e t p f = bit_string_no_fault n v contents e p f
+no_fault (bit_string n v) (bit_string k w) contents e t p f = BitStringContents-no_fault n v contents e p f
 no_fault l (octet_string v) contents e t p f = f
 no_fault l null contents e t p f = f
-no_fault (object_identifier ms) (object_identifier ns) contents e t p f = object_identifier_no_fault ms contents e p f
-no_fault (utc_time m) (utc_time n) contents e t p f = utc_time_no_fault m contents e p f
-no_fault (generalized_time m) (generalized_time n) contents e t p f = generalized_time_no_fault m contents e p f
+no_fault (object_identifier ms) (object_identifier ns) contents e t p f =
+    ObjectIdentifierContents-no_fault ms contents e p f
+no_fault (utc_time m) (utc_time n) contents e t p f = UtcTimeContents-no_fault m contents e p f
+no_fault (generalized_time m) (generalized_time n) contents e t p f = GeneralizedTimeContents-no_fault m contents e p f
 no_fault (text j cs) (text k ds) contents e t p f =
     let s : j ≡ k = alike (text j cs) (text k ds) t in
-    text_no_fault (text_form j) cs contents e p (subst (λ z. TextFault (text_form z) contents e) (sym s) f)
+    TextContents-no_fault (text_form j) cs contents e p (subst (λ z. TextFault (text_form z) contents e) (sym s) f)
 no_fault l m contents e t p f = alike l m t
 
 -- contents octets at fault mean no leaf
@@ -227,18 +229,18 @@ leaf_no_fault n contents e l t p f = let m = by_leaf n contents e f in
 
 fault_alone : (l m : Leaf) (contents : List ℕ) (e d : DecodeFault) → leaf_tag l ≡ leaf_tag m → FaultOf l contents e →
     FaultOf m contents d → e ≡ d
-fault_alone (boolean a) (boolean b) contents e d t p q = boolean_fault_alone contents e d p q
+fault_alone (boolean a) (boolean b) contents e d t p q = BooleanFault-unique contents e d p q
 fault_alone (integer n) m contents e d t p q = absurd p
-fault_alone (bit_string n v) (bit_string k w) contents e d t p q = bit_string_fault_alone contents e d p q
+fault_alone (bit_string n v) (bit_string k w) contents e d t p q = BitStringFault-unique contents e d p q
 fault_alone (octet_string v) m contents e d t p q = absurd p
 fault_alone null m contents e d t p q = absurd p
 fault_alone (object_identifier ms) (object_identifier ns) contents e d t p q =
-    object_identifier_fault_alone contents e d p q
-fault_alone (utc_time m) (utc_time n) contents e d t p q = utc_time_fault_alone contents e d p q
-fault_alone (generalized_time m) (generalized_time n) contents e d t p q = generalized_time_fault_alone contents e d p q
+    ObjectIdentifierFault-unique contents e d p q
+fault_alone (utc_time m) (utc_time n) contents e d t p q = UtcTimeFault-unique contents e d p q
+fault_alone (generalized_time m) (generalized_time n) contents e d t p q = GeneralizedTimeFault-unique contents e d p q
 fault_alone (text j cs) (text k ds) contents e d t p q =
     let s : j ≡ k = alike (text j cs) (text k ds) t in
-    text_fault_alone (text_form j) contents e d p (subst (λ z. TextFault (text_form z) contents d) (sym s) q)
+    TextFault-unique (text_form j) contents e d p (subst (λ z. TextFault (text_form z) contents d) (sym s) q)
 fault_alone l m contents e d t p q = absurd (alike l m t)
 
 -- the fault is one
@@ -250,15 +252,15 @@ leaf_fault_alone n contents e d f g =
     fault_alone l.leaf m.leaf contents e d (sym l.tag ∙ m.tag) l.fault m.fault
 
 fault_of_reading : (l : Leaf) (contents : List ℕ) (e : DecodeFault) → FaultOf l contents e → IsOfReading e
-fault_of_reading (boolean b) contents e f = boolean_fault_of_reading contents e f
+fault_of_reading (boolean b) contents e f = BooleanFault-of_reading contents e f
 fault_of_reading (integer n) contents e f = absurd f
-fault_of_reading (bit_string n v) contents e f = bit_string_fault_of_reading contents e f
+fault_of_reading (bit_string n v) contents e f = BitStringFault-of_reading contents e f
 fault_of_reading (octet_string v) contents e f = absurd f
 fault_of_reading null contents e f = absurd f
-fault_of_reading (object_identifier ns) contents e f = object_identifier_fault_of_reading contents e f
-fault_of_reading (utc_time m) contents e f = utc_time_of_reading contents e f
-fault_of_reading (generalized_time m) contents e f = generalized_time_of_reading contents e f
-fault_of_reading (text kind cs) contents e f = text_fault_of_reading (text_form kind) contents e f
+fault_of_reading (object_identifier ns) contents e f = ObjectIdentifierFault-of_reading contents e f
+fault_of_reading (utc_time m) contents e f = UtcTimeFault-of_reading contents e f
+fault_of_reading (generalized_time m) contents e f = GeneralizedTimeFault-of_reading contents e f
+fault_of_reading (text kind cs) contents e f = TextFault-of_reading (text_form kind) contents e f
 
 -- the fault of a leaf is one of reading
 pub leaf_of_reading : (n : ℕ) (contents : List ℕ) (e : DecodeFault) → LeafFault n contents e → IsOfReading e
@@ -272,25 +274,25 @@ pub data LeafMeaning (n : ℕ) (contents : List ℕ) : Type 0 where
 -- contents octets with the tag of the leaf mean a leaf of its kind, or are at fault
 meaning : (l : Leaf) (n : ℕ) (contents : List ℕ) → n ≡ leaf_tag l → LeafMeaning n contents
 meaning (boolean b) n contents t =
-    elim (boolean_meaning contents)
+    elim (BooleanContents-or_fault contents)
     [ inl m ↦ means_leaf (boolean m.0) t m.1 | inr f ↦ means_fault f.0 (of_boolean t f.1) ]
 meaning (integer z) n contents t = means_leaf (integer (signed_number contents)) t refl
 meaning (bit_string k v) n contents t =
-    elim (bit_string_meaning contents)
+    elim (BitStringContents-or_fault contents)
     [ inl m ↦ means_leaf (bit_string m.0 m.1) t m.2 | inr f ↦ means_fault f.0 (of_bit_string t f.1) ]
 meaning (octet_string v) n contents t = means_leaf (octet_string contents) t refl
 meaning null n contents t = means_leaf null t tt
 meaning (object_identifier ns) n contents t =
-    elim (object_identifier_meaning contents)
+    elim (ObjectIdentifierContents-or_fault contents)
     [ inl m ↦ means_leaf (object_identifier m.0) t m.1 | inr f ↦ means_fault f.0 (of_object_identifier t f.1) ]
 meaning (utc_time m) n contents t =
-    elim (utc_time_meaning contents)
+    elim (UtcTimeContents-or_fault contents)
     [ inl m ↦ means_leaf (utc_time m.0) t m.1 | inr f ↦ means_fault f.0 (of_utc_time t f.1) ]
 meaning (generalized_time m) n contents t =
-    elim (generalized_time_meaning contents)
+    elim (GeneralizedTimeContents-or_fault contents)
     [ inl m ↦ means_leaf (generalized_time m.0) t m.1 | inr f ↦ means_fault f.0 (of_generalized_time t f.1) ]
 meaning (text kind cs) n contents t =
-    elim (text_meaning (text_form kind) contents)
+    elim (TextContents-or_fault (text_form kind) contents)
     [ inl m ↦ means_leaf (text kind m.0) t m.1 | inr f ↦ means_fault f.0 (of_text kind t f.1) ]
 
 -- a string of characters by its tag
@@ -388,68 +390,68 @@ pub leaf_writable : (l : Leaf) (contents : List ℕ) → All (λ b. b < 256) con
     leaf_write_fault l ≡ None
 leaf_writable (boolean b) contents all p = refl
 leaf_writable (integer n) contents all p = refl
-leaf_writable (bit_string n v) contents all p = bit_string_writable n v contents all p
+leaf_writable (bit_string n v) contents all p = bit_string_write_fault-read n v contents all p
 leaf_writable (octet_string v) contents all p = refl
 leaf_writable null contents all p = refl
-leaf_writable (object_identifier ns) contents all p = object_identifier_writable ns contents all p
-leaf_writable (utc_time m) contents all p = utc_time_writable m contents p
-leaf_writable (generalized_time m) contents all p = generalized_time_writable m contents p
-leaf_writable (text kind cs) contents all p = text_writable (text_form kind) cs contents all p
+leaf_writable (object_identifier ns) contents all p = object_identifier_write_fault-read ns contents all p
+leaf_writable (utc_time m) contents all p = moment_write_fault-utc_time_read m contents p
+leaf_writable (generalized_time m) contents all p = moment_write_fault-generalized_time_read m contents p
+leaf_writable (text kind cs) contents all p = text_write_fault-read (text_form kind) cs contents all p
 
 -- what is written of a faithful leaf means it
 pub leaf_again : (l : Leaf) → IsFaithfulLeaf l → LeafContents l (leaf_contents l)
-leaf_again (boolean b) f = boolean_again b
+leaf_again (boolean b) f = BooleanContents-written b
 leaf_again (integer n) f = sym (signed_number_of_shortest n)
-leaf_again (bit_string n v) f = bit_string_again n v f
+leaf_again (bit_string n v) f = BitStringContents-written n v f
 leaf_again (octet_string v) f = refl
 leaf_again null f = tt
-leaf_again (object_identifier ns) f = object_identifier_again ns f
-leaf_again (utc_time m) f = utc_time_again m f
-leaf_again (generalized_time m) f = generalized_time_again m f
-leaf_again (text kind cs) f = text_again (text_form kind) cs f
+leaf_again (object_identifier ns) f = ObjectIdentifierContents-written ns f
+leaf_again (utc_time m) f = UtcTimeContents-written m f
+leaf_again (generalized_time m) f = GeneralizedTimeContents-written m f
+leaf_again (text kind cs) f = TextContents-written (text_form kind) cs f
 
 -- a faithful leaf can be written
 pub leaf_faithful_writable : (l : Leaf) → IsFaithfulLeaf l → leaf_write_fault l ≡ None
 leaf_faithful_writable (boolean b) f = refl
 leaf_faithful_writable (integer n) f = refl
-leaf_faithful_writable (bit_string n v) f = bit_string_fits n v f
+leaf_faithful_writable (bit_string n v) f = bit_string_write_fault-faithful n v f
 leaf_faithful_writable (octet_string v) f = refl
 leaf_faithful_writable null f = refl
-leaf_faithful_writable (object_identifier ns) f = object_identifier_fits ns f
-leaf_faithful_writable (utc_time m) f = utc_time_fits m f
-leaf_faithful_writable (generalized_time m) f = generalized_time_fits m f
-leaf_faithful_writable (text kind cs) f = text_fits (text_form kind) cs f
+leaf_faithful_writable (object_identifier ns) f = object_identifier_write_fault-faithful ns f
+leaf_faithful_writable (utc_time m) f = moment_write_fault-faithful_utc_time m f
+leaf_faithful_writable (generalized_time m) f = moment_write_fault-faithful_generalized_time m f
+leaf_faithful_writable (text kind cs) f = text_write_fault-characters (text_form kind) cs f
 
 -- a leaf that can be written is faithful where what is written means it
 pub leaf_kept : (l : Leaf) → leaf_write_fault l ≡ None → LeafContents l (leaf_contents l) → IsFaithfulLeaf l
 leaf_kept (boolean b) w p = tt
 leaf_kept (integer n) w p = tt
-leaf_kept (bit_string n v) w p = bit_string_kept n v w p
+leaf_kept (bit_string n v) w p = IsFaithfulBitString-written n v w p
 leaf_kept (octet_string v) w p = tt
 leaf_kept null w p = tt
-leaf_kept (object_identifier ns) w p = object_identifier_kept ns w p
-leaf_kept (utc_time m) w p = utc_time_kept m w p
-leaf_kept (generalized_time m) w p = generalized_time_kept m w p
-leaf_kept (text kind cs) w p = text_kept (text_form kind) cs w p
+leaf_kept (object_identifier ns) w p = IsFaithfulObjectIdentifier-written ns w p
+leaf_kept (utc_time m) w p = IsFaithfulUtcTime-written m w p
+leaf_kept (generalized_time m) w p = IsFaithfulGeneralizedTime-written m w p
+leaf_kept (text kind cs) w p = HasCharacters-written (text_form kind) cs w p
 
 -- what is left of a leaf that was read from octets is faithful
 pub leaf_read : (l : Leaf) (contents : List ℕ) → AreOctets contents → LeafContents l contents →
     IsFaithfulLeaf (normalized_leaf l)
 leaf_read (boolean b) contents all p = tt
 leaf_read (integer n) contents all p = tt
-leaf_read (bit_string n v) contents all p = bit_string_read n v contents all p
+leaf_read (bit_string n v) contents all p = IsFaithfulBitString-read n v contents all p
 leaf_read (octet_string v) contents all p = tt
 leaf_read null contents all p = tt
-leaf_read (object_identifier ns) contents all p = object_identifier_read ns contents all p
-leaf_read (utc_time m) contents all p = utc_time_read m contents p
-leaf_read (generalized_time m) contents all p = generalized_time_read m contents p
-leaf_read (text kind cs) contents all p = text_read (text_form kind) cs contents all p
+leaf_read (object_identifier ns) contents all p = IsFaithfulObjectIdentifier-read ns contents all p
+leaf_read (utc_time m) contents all p = IsFaithfulUtcTime-read m contents p
+leaf_read (generalized_time m) contents all p = IsFaithfulGeneralizedTime-read m contents p
+leaf_read (text kind cs) contents all p = HasCharacters-read (text_form kind) cs contents all p
 
 -- what is not left is not written
 pub leaf_same_contents : (l : Leaf) → leaf_contents (normalized_leaf l) ≡ leaf_contents l
 leaf_same_contents (boolean b) = refl
 leaf_same_contents (integer n) = refl
-leaf_same_contents (bit_string n v) = bit_string_same n v
+leaf_same_contents (bit_string n v) = bit_string_contents-written_bits n v
 leaf_same_contents (octet_string v) = refl
 leaf_same_contents null = refl
 leaf_same_contents (object_identifier ns) = refl

@@ -7,7 +7,7 @@ use Rattle.std.proofs.lemmas.Bool.{and_parts}
 use Rattle.std.proofs.lemmas.Bool.Decides.{nat_tests}
 use Rattle.std.proofs.lemmas.Nat.{div-mul-add, mod-mul-add}
 use Rattle.asn1_leaves.specs.Contents.GeneralizedTime.{fraction_digits, fraction_number}
-use Rattle.asn1_leaves.proofs.Leaves.Digits.{digits_none, digits_step}
+use Rattle.asn1_leaves.proofs.Leaves.Digits.{fraction_digits-zero, fraction_digits-step}
 use Rattle.asn1_der.specs.Padding.{last_octet}
 
 pub digit_range : (d : ℕ) → is_ascii_digit d ≡ true → (48 ≤ d) × (d ≤ 57)
@@ -35,7 +35,7 @@ step k unit q m n d ds positive e small some is rest =
     let high : n / unit ≡ q = ap (λ z. z / unit) e ∙ div-mul-add q unit m small in
     let low : n % unit ≡ m = ap (λ z. z % unit) e ∙ mod-mul-add q unit m small in
     let places : suc k - 1 ≡ k = omega arith in
-    digits_step (suc k) unit n (omega arith) some
+    fraction_digits-step (suc k) unit n (omega arith) some
     ∙ ap₂ (λ x y. x ∷ y) (ap (λ z. 48 + z) high ∙ sym is)
     (ap (λ j. fraction_digits j (unit / 10) (n % unit)) places ∙ (ap (λ z. fraction_digits k (unit / 10) z) low ∙ rest))
 
@@ -67,7 +67,8 @@ fraction_is k unit (d ∷ []) e all some few last =
     record {
       some = more;
       below = most (d - 48) 0 unit n (omega (arith, high)) is positive;
-      again = step k unit (d - 48) 0 n d [] positive is positive more (omega (arith, low)) (digits_none k (unit / 10));
+      again = step k unit (d - 48) 0 n d [] positive is positive more (omega (arith, low))
+          (fraction_digits-zero k (unit / 10));
     }
 fraction_is zero unit (d ∷ c ∷ ds) e all some few last = absurd (omega (arith, few))
 fraction_is (suc k) unit (d ∷ c ∷ ds) e all some few last =

@@ -14,7 +14,7 @@ use Rattle.asn1_leaves.specs.Contents.BitString.{BitStringContents, bit_string_c
 use Rattle.asn1_leaves.specs.Contents.Boolean.{BooleanContents, boolean_contents}
 use Rattle.asn1_leaves.specs.Contents.Integer.{IntegerContents}
 use Rattle.asn1_leaves.specs.Contents.ObjectIdentifier.{ObjectIdentifierContents, object_identifier_contents}
-use Rattle.asn1_leaves.proofs.ShortSubidentifiers.{NoneLeads, short_object_identifier}
+use Rattle.asn1_leaves.proofs.ShortSubidentifiers.{NoneLeads, NoneLeads-object_identifier_contents}
 use Rattle.asn1_der.specs.Contents.{are_subidentifiers, is_bit_string, is_boolean, is_integer}
 use Rattle.asn1_der.specs.Padding.{has_padded_component, is_padded_from, last_octet}
 use Rattle.asn1_laws.proofs.Fractions.{last_after}
@@ -171,7 +171,7 @@ object_identifier_kept ns (b ∷ rest) all p der on =
     let leads : NoneLeads true rest =
     none_leads true rest (behind_first b rest well.unpadded on) (λ none. refl)
     (λ some. last_of_more b rest some well.last) in
-    short_object_identifier ns b rest all leads p
+    NoneLeads-object_identifier_contents ns b rest all leads p
   where
     last_of_more : (b : ℕ) (octets : List ℕ) → 0 < length octets → last_octet (b ∷ octets) < 128 →
         last_octet octets < 128

@@ -10,7 +10,7 @@ use Rattle.asn1_leaves.specs.Contents.Moment.{Moment}
 use Rattle.asn1_leaves.specs.Contents.ObjectIdentifier.{ObjectIdentifierContents}
 use Rattle.asn1_leaves.specs.Contents.Text.{TextFault, text_form}
 use Rattle.asn1_leaves.specs.StringKind.{StringKind, utf8, printable, teletex, ia5, universal, bmp}
-use Rattle.asn1_leaves.proofs.Leaves.ObjectIdentifier.{object_identifier_ended}
+use Rattle.asn1_leaves.proofs.Leaves.ObjectIdentifier.{ObjectIdentifierContents-ended}
 use Rattle.asn1_blocks.specs.Contents.{LeafFault, group_tag, of_bit_string, of_boolean, of_generalized_time, of_object_identifier, of_text, of_utc_time, string_tag}
 use Rattle.asn1_blocks.specs.Grammar.{AreBlocks, BlocksFaultAt, FirstFault, in_contents, in_header, in_item, more_blocks, no_blocks}
 use Rattle.asn1_blocks.proofs.Faults.{block_encoding, header_no_encoding}
@@ -48,9 +48,9 @@ bits_fault (u ∷ first ∷ more) e t (inr f) = absurd (omega (arith, f.1, few_u
 components : (contents : List ℕ) → are_subidentifiers contents ≡ true →
     (ns : List ℕ) × ObjectIdentifierContents ns contents
 components [] t = absurd cc
-components (b ∷ []) t = object_identifier_ended b [] (omega arith)
+components (b ∷ []) t = ObjectIdentifierContents-ended b [] (omega arith)
 components (b ∷ c ∷ more) t =
-    object_identifier_ended b (c ∷ more) (omega (arith, (are_well (b ∷ c ∷ more) t).last, last_after b c more))
+    ObjectIdentifierContents-ended b (c ∷ more) (omega (arith, (are_well (b ∷ c ∷ more) t).last, last_after b c more))
 
 moment_is : (P : Type 0) (contents : List ℕ) → IsMoment contents →
     ((m : Moment) → GeneralizedTimeContents m contents → P) → P

@@ -7,8 +7,8 @@ use Rattle.std.proofs.lemmas.Bool.Decides.{nat_tests}
 use Rattle.std.proofs.lemmas.Nat.{div-add-mod'}
 use Rattle.asn1_leaves.specs.Contents.GeneralizedTime.{fraction_digits, generalized_time_contents, tenth, to_second, written_fraction}
 use Rattle.asn1_leaves.specs.Contents.Moment.{Moment, IsValid}
-use Rattle.asn1_leaves.proofs.Leaves.Digits.{digit_small, digits_none, digits_step}
-use Rattle.asn1_leaves.proofs.Leaves.GeneralizedTime.{generalized_time_again}
+use Rattle.asn1_leaves.proofs.Leaves.Digits.{div-unit-le, fraction_digits-zero, fraction_digits-step}
+use Rattle.asn1_leaves.proofs.Leaves.GeneralizedTime.{GeneralizedTimeContents-written}
 use Rattle.asn1_der.specs.Contents.{IsGeneralizedTime, IsMoment}
 use Rattle.asn1_der.specs.Padding.{has_padded_fraction, last_octet}
 use Rattle.asn1_laws.proofs.Fractions.{last_after, power_some}
@@ -36,12 +36,12 @@ last_digit :
     (k unit n : ℕ) → 0 < unit → 0 < n → n < 10 * unit → n % unit ≤ 0 → EndsAboveZero (fraction_digits (suc k) unit n)
 last_digit k unit n positive some below none =
     let zero_left : n % unit ≡ 0 = omega (arith, none) in
-    let few : n / unit ≤ 9 = digit_small n unit positive below in
+    let few : n / unit ≤ 9 = div-unit-le n unit positive below in
     let digit_some : 0 < n / unit = above_none n (n / unit) (n % unit) unit some (div-add-mod' n unit) zero_left in
     let alone : fraction_digits (suc k) unit n ≡ (48 + n / unit) ∷ [] =
-    digits_step (suc k) unit n (omega arith) some
+    fraction_digits-step (suc k) unit n (omega arith) some
     ∙ ap (λ z. (48 + n / unit) ∷ z)
-    (ap (λ z. fraction_digits (suc k - 1) (unit / 10) z) zero_left ∙ digits_none (suc k - 1) (unit / 10)) in
+    (ap (λ z. fraction_digits (suc k - 1) (unit / 10) z) zero_left ∙ fraction_digits-zero (suc k - 1) (unit / 10)) in
     subst EndsAboveZero (sym alone)
     (record { some = omega arith; last = (omega (arith, digit_some), omega (arith, few)) })
 
@@ -59,7 +59,7 @@ digits_end (suc k) unit n e some below =
     elim (cases_lt 0 (n % unit)) [
       | inr none ↦ last_digit (suc k) unit n positive some below none
       | inl more ↦ subst EndsAboveZero
-          (sym (digits_step (suc (suc k)) unit n (omega arith) some
+          (sym (fraction_digits-step (suc (suc k)) unit n (omega arith) some
           ∙ ap (λ j. (48 + n / unit) ∷ fraction_digits j (unit / 10) (n % unit)) places))
           (one_more (48 + n / unit) (fraction_digits (suc k) (unit / 10) (n % unit))
           (digits_end k (unit / 10) (n % unit) lower more small))
@@ -91,4 +91,4 @@ fraction_unpadded m n small = elim (cases_lt 0 n) [
 
 pub generalized_time_der : (m : Moment) → IsValid m → IsGeneralizedTime (generalized_time_contents m)
 unfolding IsMoment
-generalized_time_der m v = ((m, generalized_time_again m v), fraction_unpadded m m.nanosecond v.nanosecond)
+generalized_time_der m v = ((m, GeneralizedTimeContents-written m v), fraction_unpadded m m.nanosecond v.nanosecond)

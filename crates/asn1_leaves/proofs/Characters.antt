@@ -19,33 +19,33 @@ use Rattle.asn1_headers.specs.Fault.{utf8_failure, utf8_fault}
 use Rattle.asn1_leaves.specs.Contents.Text.{is_printable, octet_write_fault}
 
 -- what is said of octets that are no UTF-8 is their fault
-pub utf8_failure_is :
+pub utf8_failure-fault :
     (octets : List ℕ) (n : ℕ) (size : Option ℕ) → n ≡ utf8_valid_len octets → size ≡ utf8_error_len (drop n octets)
     → utf8_failure n size ≡ utf8_fault octets
-utf8_failure_is octets n size p q =
+utf8_failure-fault octets n size p q =
     ap (utf8_failure n) q ∙ ap (λ k. utf8_failure k (utf8_error_len (drop k octets))) p
 
 -- the numbers of octets are characters
-pub octets_scalars : (cs : List ℕ) → All (λ b. b < 256) cs → all_scalars cs ≡ true
-octets_scalars [] all = refl
-octets_scalars (c ∷ cs) all =
+pub all_scalars-octets : (cs : List ℕ) → All (λ b. b < 256) cs → all_scalars cs ≡ true
+all_scalars-octets [] all = refl
+all_scalars-octets (c ∷ cs) all =
     let h : c < 256 = All-head (λ b. b < 256) c cs all in
-    and_from _ _ (low_scalar c (omega arith)) (octets_scalars cs (All-tail (λ b. b < 256) c cs all))
+    and_from _ _ (low_scalar c (omega arith)) (all_scalars-octets cs (All-tail (λ b. b < 256) c cs all))
 
-below_if_any : (c : ℕ) (ds : List ℕ) → list_all (λ d. nat_lt d 128) ds ≡ true → list_any (λ d. c == d) ds ≡ true →
+list_any-lt : (c : ℕ) (ds : List ℕ) → list_all (λ d. nat_lt d 128) ds ≡ true → list_any (λ d. c == d) ds ≡ true →
     c < 128
-below_if_any c [] all e = cc
-below_if_any c (d ∷ ds) all e =
+list_any-lt c [] all e = cc
+list_any-lt c (d ∷ ds) all e =
     let p = and_parts (nat_lt d 128) (list_all (λ d. nat_lt d 128) ds) all in
     elim (or_cases (c == d) (list_any (λ d. c == d) ds) e) [
       | inl here ↦ grind (arith, nat_tests, p.0)
-      | inr later ↦ below_if_any c ds p.1 later
+      | inr later ↦ list_any-lt c ds p.1 later
     ]
 
 -- a character of a PrintableString is ASCII
-pub printable_below : (c : ℕ) → is_printable c ≡ true → c < 128
-printable_below c e = elim (or_cases (is_ascii_alphanumeric c) (list_any (λ d. c == d) (codes " '()+,-./:=?")) e) [
-  | inr a ↦ below_if_any c (codes " '()+,-./:=?") refl a
+pub is_printable-lt : (c : ℕ) → is_printable c ≡ true → c < 128
+is_printable-lt c e = elim (or_cases (is_ascii_alphanumeric c) (list_any (λ d. c == d) (codes " '()+,-./:=?")) e) [
+  | inr a ↦ list_any-lt c (codes " '()+,-./:=?") refl a
   | inl a ↦ elim (or_cases (is_in_range 48 57 c || is_in_range 65 90 c) (is_in_range 97 122 c) a) [
     | inr b ↦ let p = and_parts (nat_le 97 c) (nat_le c 122) b in grind (arith, nat_tests, p.1)
     | inl b ↦ elim (or_cases (is_in_range 48 57 c) (is_in_range 65 90 c) b) [
@@ -55,72 +55,73 @@ printable_below c e = elim (or_cases (is_ascii_alphanumeric c) (list_any (λ d. 
   ]
 ]
 
-pub printable_ascii : (cs : List ℕ) → list_all is_printable cs ≡ true → IsAscii cs
-printable_ascii [] e = IsAscii-nil
-printable_ascii (c ∷ cs) e =
+pub IsAscii-printable : (cs : List ℕ) → list_all is_printable cs ≡ true → IsAscii cs
+IsAscii-printable [] e = IsAscii-nil
+IsAscii-printable (c ∷ cs) e =
     let p = and_parts (is_printable c) (list_all is_printable cs) e in
-    IsAscii-cons c cs (printable_below c p.0) (printable_ascii cs p.1)
+    IsAscii-cons c cs (is_printable-lt c p.0) (IsAscii-printable cs p.1)
 
 -- a character past 255 has no octet
-pub fault_past : (c : ℕ) (cs : List ℕ) → 256 ≤ c → octet_write_fault (c ∷ cs) ≡ Some CharacterTooLarge
-fault_past c cs h = grind (arith, nat_tests, h)
+pub octet_write_fault-large : (c : ℕ) (cs : List ℕ) → 256 ≤ c → octet_write_fault (c ∷ cs) ≡ Some CharacterTooLarge
+octet_write_fault-large c cs h = grind (arith, nat_tests, h)
 
 -- one that has an octet leaves the fault to those after it
-pub fault_below : (c : ℕ) (cs : List ℕ) → c < 256 → octet_write_fault (c ∷ cs) ≡ octet_write_fault cs
-fault_below c cs h = grind (arith, nat_tests, h)
+pub octet_write_fault-octet : (c : ℕ) (cs : List ℕ) → c < 256 → octet_write_fault (c ∷ cs) ≡ octet_write_fault cs
+octet_write_fault-octet c cs h = grind (arith, nat_tests, h)
 
-pub fits_first : (c : ℕ) (cs : List ℕ) → octet_write_fault (c ∷ cs) ≡ None → (c < 256) × (octet_write_fault cs ≡ None)
-fits_first c cs e = elim (cases_lt c 256) [
-  | inl lt ↦ (lt, sym (fault_below c cs lt) ∙ e)
-  | inr ge ↦ let f : None ≡ Some CharacterTooLarge = sym e ∙ fault_past c cs ge in cc
+pub octet_write_fault-none_parts : (c : ℕ) (cs : List ℕ) → octet_write_fault (c ∷ cs) ≡ None →
+    (c < 256) × (octet_write_fault cs ≡ None)
+octet_write_fault-none_parts c cs e = elim (cases_lt c 256) [
+  | inl lt ↦ (lt, sym (octet_write_fault-octet c cs lt) ∙ e)
+  | inr ge ↦ let f : None ≡ Some CharacterTooLarge = sym e ∙ octet_write_fault-large c cs ge in cc
 ]
 
 -- the character at a place, and those after it
-pub fault_at : (cs : List ℕ) (n c : ℕ) → (n < length cs) × (c ≡ get_or cs n c)
+pub octet_write_fault-drop : (cs : List ℕ) (n c : ℕ) → (n < length cs) × (c ≡ get_or cs n c)
     → octet_write_fault (drop n cs) ≡ octet_write_fault (c ∷ drop (n + 1) cs)
-fault_at cs n c h = at_drop_more octet_write_fault cs n c h.0
+octet_write_fault-drop cs n c h = at_drop_more octet_write_fault cs n c h.0
     ∙ ap (λ x. octet_write_fault (x ∷ drop (n + 1) cs)) (sym h.1)
 
 -- characters that are octets fit an octet
-octets_fit : (cs : List ℕ) → All (λ b. b < 256) cs → list_all (λ c. nat_lt c 256) cs ≡ true
-octets_fit [] all = refl
-octets_fit (c ∷ cs) all =
+list_all-octets : (cs : List ℕ) → All (λ b. b < 256) cs → list_all (λ c. nat_lt c 256) cs ≡ true
+list_all-octets [] all = refl
+list_all-octets (c ∷ cs) all =
     let h : c < 256 = All-head (λ b. b < 256) c cs all in
-    let t = octets_fit cs (All-tail (λ b. b < 256) c cs all) in
+    let t = list_all-octets cs (All-tail (λ b. b < 256) c cs all) in
     grind (arith, common_steps, h, t)
 
 -- characters that are octets can be written
-pub octets_writable : (cs : List ℕ) → All (λ b. b < 256) cs → octet_write_fault cs ≡ None
-octets_writable cs all = let e = octets_fit cs all in rw e refl
+pub octet_write_fault-octets : (cs : List ℕ) → All (λ b. b < 256) cs → octet_write_fault cs ≡ None
+octet_write_fault-octets cs all = let e = list_all-octets cs all in rw e refl
 
 -- all of ASCII can be
-pub ascii_writable : (cs : List ℕ) → IsAscii cs → octet_write_fault cs ≡ None
-ascii_writable cs a =
-    octets_writable cs (All-weaker (λ b. b < 128) (λ b. b < 256) (λ b h. omega arith) cs (All-from_ascii cs a))
+pub octet_write_fault-ascii : (cs : List ℕ) → IsAscii cs → octet_write_fault cs ≡ None
+octet_write_fault-ascii cs a =
+    octet_write_fault-octets cs (All-weaker (λ b. b < 128) (λ b. b < 256) (λ b h. omega arith) cs (All-from_ascii cs a))
 
 -- where there is no fault, all fit
-pub octet_write_none : (cs : List ℕ) → octet_write_fault cs ≡ None → list_all (λ c. nat_lt c 256) cs ≡ true
-octet_write_none cs e = elim (cases_Bool (list_all (λ c. nat_lt c 256) cs)) [
+pub list_all-writable : (cs : List ℕ) → octet_write_fault cs ≡ None → list_all (λ c. nat_lt c 256) cs ≡ true
+list_all-writable cs e = elim (cases_Bool (list_all (λ c. nat_lt c 256) cs)) [
   | inl fit ↦ fit
   | inr not ↦ let f : Some CharacterTooLarge ≡ None =
       sym (ap (λ b. if b then None else Some CharacterTooLarge) not) ∙ e in cc
 ]
 
 -- characters of a PrintableString fit an octet
-pub printable_write_none : (cs : List ℕ) → list_all is_printable cs ≡ true → octet_write_fault cs ≡ None
-printable_write_none [] e = refl
-printable_write_none (c ∷ cs) e =
+pub octet_write_fault-printable : (cs : List ℕ) → list_all is_printable cs ≡ true → octet_write_fault cs ≡ None
+octet_write_fault-printable [] e = refl
+octet_write_fault-printable (c ∷ cs) e =
     let p = and_parts (is_printable c) (list_all is_printable cs) e in
-    let h = printable_below c p.0 in
-    fault_below c cs (omega (arith, h)) ∙ printable_write_none cs p.1
+    let h = is_printable-lt c p.0 in
+    octet_write_fault-octet c cs (omega (arith, h)) ∙ octet_write_fault-printable cs p.1
 
 -- the octets of a text are characters of a PrintableString exactly if its characters are
-pub printable_bytes : (bs : List ℕ) → IsUtf8 bs →
+pub list_all-is_printable-chars : (bs : List ℕ) → IsUtf8 bs →
     (list_all is_printable bs ≡ true) ↔ (list_all is_printable (chars bs) ≡ true)
-printable_bytes bs u =
+list_all-is_printable-chars bs u =
     let back : list_all is_printable (chars bs) ≡ true → list_all is_printable bs ≡ true = λ q.
-    let a = printable_ascii (chars bs) q in
+    let a = IsAscii-printable (chars bs) q in
     let e : encode_utf8_all (chars bs) ≡ chars bs = ap encode_utf8_all (sym (chars-IsAscii (chars bs) a)) ∙
     encodes-chars (chars bs) (IsUtf8-from_ascii (chars bs) a) in
     ap (list_all is_printable) (sym (encodes-chars bs u) ∙ e) ∙ q in
-    (λ p. ap (list_all is_printable) (chars-IsAscii bs (printable_ascii bs p)) ∙ p, back)
+    (λ p. ap (list_all is_printable) (chars-IsAscii bs (IsAscii-printable bs p)) ∙ p, back)

@@ -16,46 +16,48 @@ use Rattle.asn1_numbers.proofs.Numerals.{decimal_numeral}
 use Rattle.asn1_numbers.proofs.ReadNumerals.{digits_of_numeral, same_numeral}
 use Rattle.asn1_leaves.specs.DottedDecimal.{IsDottedDecimal, dotted_decimal}
 use Rattle.asn1_leaves.specs.Inner.IdentifierForms.{numbers_after, pointed}
-use Rattle.asn1_leaves.proofs.PushedNumbers.{next_number}
+use Rattle.asn1_leaves.proofs.PushedNumbers.{numbers_after-drop}
 
 -- one more
-pub pointed_more : (ns : List ℕ) (n : ℕ) → flat_map pointed ns ++ pointed n ≡ flat_map pointed (ns ++ n ∷ [])
-pointed_more ns n = sym
+pub append-flat_map-pointed : (ns : List ℕ) (n : ℕ) → flat_map pointed ns ++ pointed n ≡ flat_map pointed (ns ++ n ∷ [])
+append-flat_map-pointed ns n = sym
     (flat_map-append pointed ns (n ∷ []) ∙ ap (λ l. flat_map pointed ns ++ l) (append-nil (pointed n)))
 
 -- the first has no point before it
-pub dotted_first : (n : ℕ) (ns : List ℕ) → dotted_decimal (n ∷ ns) ≡ natural_numeral n ++ flat_map pointed ns
-dotted_first n [] = sym (append-nil (natural_numeral n))
-dotted_first n (m ∷ ns) = ap (λ l. natural_numeral n ++ 46 ∷ l) (dotted_first m ns)
+pub dotted_decimal-cons : (n : ℕ) (ns : List ℕ) → dotted_decimal (n ∷ ns) ≡ natural_numeral n ++ flat_map pointed ns
+dotted_decimal-cons n [] = sym (append-nil (natural_numeral n))
+dotted_decimal-cons n (m ∷ ns) = ap (λ l. natural_numeral n ++ 46 ∷ l) (dotted_decimal-cons m ns)
 
 -- the first two, as the machine writes them
-pub dotted_two : (x y : ℕ) (ns : List ℕ) → x < 256 → y < 256
+pub append-decimal-dotted : (x y : ℕ) (ns : List ℕ) → x < 256 → y < 256
     → (decimal x ++ 46 ∷ decimal y) ++ flat_map pointed ns ≡ dotted_decimal (x ∷ y ∷ ns)
-dotted_two x y ns low_x low_y =
+append-decimal-dotted x y ns low_x low_y =
     let first = decimal_numeral x (omega arith) in
     let second = decimal_numeral y (omega arith) in
     (λ i. (first i ++ 46 ∷ second i) ++ flat_map pointed ns)
     ∙ append_assoc (natural_numeral x) (pointed y) (flat_map pointed ns)
-    ∙ ap (λ l. natural_numeral x ++ 46 ∷ l) (sym (dotted_first y ns))
+    ∙ ap (λ l. natural_numeral x ++ 46 ∷ l) (sym (dotted_decimal-cons y ns))
 
 -- no digit is a point
-no_point : (n : ℕ) → All (λ b. (b == 46) ≡ false) (natural_numeral n)
-no_point n =
+All-natural_numeral-no_point : (n : ℕ) → All (λ b. (b == 46) ≡ false) (natural_numeral n)
+All-natural_numeral-no_point n =
     All-from_get_or (λ b. (b == 46) ≡ false) (natural_numeral n) 0
     (λ k h. ne_eqb (get_or (natural_numeral n) k 0) 46
     (λ e. omega (arith, digits_of_numeral n (natural_numeral n) refl k h, e)))
 
 -- cut at the points
-cut_again : (n : ℕ) (ns : List ℕ) → slice_split (λ b. b == 46) (dotted_decimal (n ∷ ns)) ≡ map natural_numeral (n ∷ ns)
-cut_again n [] = slice_split_none (λ b. b == 46) (natural_numeral n) (no_point n)
-cut_again n (m ∷ ns) =
-    slice_split_at (λ b. b == 46) (natural_numeral n) 46 (dotted_decimal (m ∷ ns)) (no_point n) refl
-    ∙ ap (λ l. natural_numeral n ∷ l) (cut_again m ns)
+slice_split-dotted_decimal : (n : ℕ) (ns : List ℕ) →
+    slice_split (λ b. b == 46) (dotted_decimal (n ∷ ns)) ≡ map natural_numeral (n ∷ ns)
+slice_split-dotted_decimal n [] = slice_split_none (λ b. b == 46) (natural_numeral n) (All-natural_numeral-no_point n)
+slice_split-dotted_decimal n (m ∷ ns) =
+    slice_split_at (λ b. b == 46) (natural_numeral n) 46 (dotted_decimal (m ∷ ns)) (All-natural_numeral-no_point n) refl
+    ∙ ap (λ l. natural_numeral n ∷ l) (slice_split-dotted_decimal m ns)
 
-pub dotted_parts : (text ns : List ℕ) → IsDottedDecimal text ns →
+pub slice_split-IsDottedDecimal : (text ns : List ℕ) → IsDottedDecimal text ns →
     slice_split (λ b. b == 46) text ≡ map natural_numeral ns
-dotted_parts text [] dotted = absurd (dotted.1 refl)
-dotted_parts text (n ∷ ns) dotted = ap (slice_split (λ b. b == 46)) dotted.0 ∙ cut_again n ns
+slice_split-IsDottedDecimal text [] dotted = absurd (dotted.1 refl)
+slice_split-IsDottedDecimal text (n ∷ ns) dotted =
+    ap (slice_split (λ b. b == 46)) dotted.0 ∙ slice_split-dotted_decimal n ns
 
 abbrev first_of : List (List ℕ) → List ℕ
 first_of [] = []
@@ -66,22 +68,22 @@ rest_of [] = []
 rest_of (x ∷ xs) = xs
 
 -- numerals are of one list of numbers
-pub same_numerals : (ms ns : List ℕ) → map natural_numeral ms ≡ map natural_numeral ns → ms ≡ ns
-same_numerals [] [] e = refl
-same_numerals [] (n ∷ ns) e = absurd (omega (arith, ap length e))
-same_numerals (m ∷ ms) [] e = absurd (omega (arith, ap length e))
-same_numerals (m ∷ ms) (n ∷ ns) e =
+pub map-natural_numeral-injective : (ms ns : List ℕ) → map natural_numeral ms ≡ map natural_numeral ns → ms ≡ ns
+map-natural_numeral-injective [] [] e = refl
+map-natural_numeral-injective [] (n ∷ ns) e = absurd (omega (arith, ap length e))
+map-natural_numeral-injective (m ∷ ms) [] e = absurd (omega (arith, ap length e))
+map-natural_numeral-injective (m ∷ ms) (n ∷ ns) e =
     let first = same_numeral m n (ap first_of e) in
-    let rest = same_numerals ms ns (ap rest_of e) in
+    let rest = map-natural_numeral-injective ms ns (ap rest_of e) in
     (λ i. first i ∷ rest i)
 
 -- each of the parts is a numeral
-pub part_numeral : (ns : List ℕ) (k : ℕ) (part : List ℕ) → k < length (map natural_numeral ns)
+pub part_is_numeral : (ns : List ℕ) (k : ℕ) (part : List ℕ) → k < length (map natural_numeral ns)
     → part ≡ get_or (map natural_numeral ns) k part
     → (n : ℕ) × (part ≡ natural_numeral n)
-part_numeral [] k part h e = absurd (omega arith)
-part_numeral (n ∷ ns) zero part h e = (n, e)
-part_numeral (n ∷ ns) (suc k) part h e = part_numeral ns k part (omega arith) e
+part_is_numeral [] k part h e = absurd (omega arith)
+part_is_numeral (n ∷ ns) zero part h e = (n, e)
+part_is_numeral (n ∷ ns) (suc k) part h e = part_is_numeral ns k part (omega arith) e
 
 -- the numbers before the index are written, each after a point, and those after it are all others
 abbrev pub AreWritten : {W : Type 0} → (W → List ℕ → W → Type 0) → Formatter W → Formatter W → List ℕ → ℕ → Type 0
@@ -90,12 +92,12 @@ AreWritten took f g octets i =
     × ((done : List ℕ) × (done ++ numbers_after 0 (drop i octets) ≡ numbers_after 0 octets)
     × (IsPlainFormatter f → HasWritten took f (flat_map pointed done) g))
 
-pub written_more : {W : Type 0} (took : W → List ℕ → W → Type 0) (f g h : Formatter W) (octets : List ℕ) (i j n : ℕ)
+pub AreWritten-more : {W : Type 0} (took : W → List ℕ → W → Type 0) (f g h : Formatter W) (octets : List ℕ) (i j n : ℕ)
     → i ≤ j → j ≤ length octets → IsBase128 (slice_range octets i j) n → AreWritten took f g octets i
     → (IsPlainFormatter g → HasWritten took g (pointed n) h)
     → AreWritten took f h octets j
-written_more took f g h octets i j n forward inside p (within, (done, all, before)) write =
-    let next = next_number octets i j n forward p in (
+AreWritten-more took f g h octets i j n forward inside p (within, (done, all, before)) write =
+    let next = numbers_after-drop octets i j n forward p in (
       inside,
       (
         done ++ n ∷ [],
@@ -103,15 +105,15 @@ written_more took f g h octets i j n forward inside p (within, (done, all, befor
         λ plain.
             let so_far = before plain in
             has_written_of_eq took f (flat_map pointed done ++ pointed n) (flat_map pointed (done ++ n ∷ [])) h
-            (pointed_more done n)
+            (append-flat_map-pointed done n)
             (has_written_append took f (flat_map pointed done) g (pointed n) h so_far (write so_far.plain)),
       ),
     )
 
 -- one list after another
-pub written_both : {W : Type 0} (took : W → List ℕ → W → Type 0) (f g h : Formatter W) (text first rest : List ℕ)
+pub HasWritten-append : {W : Type 0} (took : W → List ℕ → W → Type 0) (f g h : Formatter W) (text first rest : List ℕ)
     → first ++ rest ≡ text → HasWritten took f first g → (IsPlainFormatter g → HasWritten took g rest h)
     → HasWritten took f text h
-written_both took f g h text first rest e before write =
+HasWritten-append took f g h text first rest e before write =
     has_written_of_eq took f (first ++ rest) text h e
     (has_written_append took f first g rest h before (write before.plain))

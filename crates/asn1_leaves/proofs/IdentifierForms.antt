@@ -8,76 +8,77 @@ use Rattle.asn1_numbers.specs.Octets.{AreOctets}
 use Rattle.asn1_numbers.specs.Base128.{IsContinued, low_bits_number}
 use Rattle.asn1_leaves.specs.Contents.ObjectIdentifier.{AreFirstTwo, ObjectIdentifierContents, Subidentifiers, object_identifier_contents, object_identifier_write_fault}
 use Rattle.asn1_leaves.specs.Inner.IdentifierForms.{HaveShortContents, IsShortForm, components_of, first_component, numbers_after, second_component}
-use Rattle.asn1_leaves.proofs.Leaves.ObjectIdentifier.{object_identifier_again, object_identifier_writable}
+use Rattle.asn1_leaves.proofs.Leaves.ObjectIdentifier.{ObjectIdentifierContents-written, object_identifier_write_fault-read}
 
 -- the number of the first subidentifier, before those of the others
-pub number_found : (n : ℕ) (first rest : List ℕ) → IsContinued first
+pub numbers_after-append : (n : ℕ) (first rest : List ℕ) → IsContinued first
     → numbers_after n (first ++ rest) ≡ number_from_digits_after 128 n (map (λ b. b % 128) first) ∷ numbers_after 0 rest
-number_found n [] rest p = absurd p
-number_found n (b ∷ []) rest p = grind (arith, p)
-number_found n (b ∷ c ∷ first) rest p =
-    let more = number_found (n * 128 + b % 128) (c ∷ first) rest p.1 in
+numbers_after-append n [] rest p = absurd p
+numbers_after-append n (b ∷ []) rest p = grind (arith, p)
+numbers_after-append n (b ∷ c ∷ first) rest p =
+    let more = numbers_after-append (n * 128 + b % 128) (c ∷ first) rest p.1 in
     grind (arith, p.0, more)
 
-numbers_found : (ns octets : List ℕ) → Subidentifiers ns octets → numbers_after 0 octets ≡ ns
-numbers_found [] octets s = ap (numbers_after 0) s
-numbers_found (n ∷ ns) octets (first, rest, e, p, s) =
-    let here = ap (numbers_after 0) e ∙ number_found 0 first rest p.continued in
+numbers_after-Subidentifiers : (ns octets : List ℕ) → Subidentifiers ns octets → numbers_after 0 octets ≡ ns
+numbers_after-Subidentifiers [] octets s = ap (numbers_after 0) s
+numbers_after-Subidentifiers (n ∷ ns) octets (first, rest, e, p, s) =
+    let here = ap (numbers_after 0) e ∙ numbers_after-append 0 first rest p.continued in
     let value : n ≡ low_bits_number first = p.value in
-    let others = numbers_found ns rest s in
+    let others = numbers_after-Subidentifiers ns rest s in
     here ∙ cc
 
-pub first_found : (x y b : ℕ) → AreFirstTwo x y b → first_component b ≡ x
-first_found x y b (e, p, inl q) = grind (arith, e, p, q)
-first_found x y b (e, p, inr q) = grind (arith, e, p, q)
+pub first_component-AreFirstTwo : (x y b : ℕ) → AreFirstTwo x y b → first_component b ≡ x
+first_component-AreFirstTwo x y b (e, p, inl q) = grind (arith, e, p, q)
+first_component-AreFirstTwo x y b (e, p, inr q) = grind (arith, e, p, q)
 
-pub second_found : (x y b : ℕ) → AreFirstTwo x y b → second_component b ≡ y
-second_found x y b f = omega (arith, first_found x y b f, f.0)
+pub second_component-AreFirstTwo : (x y b : ℕ) → AreFirstTwo x y b → second_component b ≡ y
+second_component-AreFirstTwo x y b f = omega (arith, first_component-AreFirstTwo x y b f, f.0)
 
-pub components_found : (ns contents : List ℕ) → ObjectIdentifierContents ns contents → components_of contents ≡ ns
-components_found [] contents p = absurd p
-components_found (x ∷ []) contents p = absurd p
-components_found (x ∷ y ∷ ns) contents (b, octets, e, f, s) =
-    let first : first_component b ≡ x = first_found x y b f in
-    let second : second_component b ≡ y = second_found x y b f in
-    let others = numbers_found ns octets s in
+pub components_of-contents : (ns contents : List ℕ) → ObjectIdentifierContents ns contents → components_of contents ≡ ns
+components_of-contents [] contents p = absurd p
+components_of-contents (x ∷ []) contents p = absurd p
+components_of-contents (x ∷ y ∷ ns) contents (b, octets, e, f, s) =
+    let first : first_component b ≡ x = first_component-AreFirstTwo x y b f in
+    let second : second_component b ≡ y = second_component-AreFirstTwo x y b f in
+    let others = numbers_after-Subidentifiers ns octets s in
     ap components_of e ∙ cc
 
 -- the components of what is written are those that were written
-pub components_written : (ns : List ℕ) → object_identifier_write_fault ns ≡ None →
+pub components_of-object_identifier_contents : (ns : List ℕ) → object_identifier_write_fault ns ≡ None →
     components_of (object_identifier_contents ns) ≡ ns
-components_written ns fits = components_found ns (object_identifier_contents ns) (object_identifier_again ns fits)
+components_of-object_identifier_contents ns fits =
+    components_of-contents ns (object_identifier_contents ns) (ObjectIdentifierContents-written ns fits)
 
 -- contents octets that are written, if few, are a form of their components
-pub written_form : (ns : List ℕ) → HaveShortContents ns → IsShortForm (object_identifier_contents ns)
-written_form ns short =
-    let found = sym (components_written ns short.0) in
+pub IsShortForm-written : (ns : List ℕ) → HaveShortContents ns → IsShortForm (object_identifier_contents ns)
+IsShortForm-written ns short =
+    let found = sym (components_of-object_identifier_contents ns short.0) in
     (subst HaveShortContents found short, ap object_identifier_contents found)
 
 -- contents octets that are written of their components are a form of them
-pub short_form : (ns contents : List ℕ) → AreOctets contents → ObjectIdentifierContents ns contents →
+pub IsShortForm-contents : (ns contents : List ℕ) → AreOctets contents → ObjectIdentifierContents ns contents →
     contents ≡ object_identifier_contents ns
     → length contents ≤ 24
     → IsShortForm contents
-short_form ns contents all p e short =
-    let found = components_found ns contents p in
-    let fits = object_identifier_writable ns contents all p in (
+IsShortForm-contents ns contents all p e short =
+    let found = components_of-contents ns contents p in
+    let fits = object_identifier_write_fault-read ns contents all p in (
       subst HaveShortContents (sym found) (fits, subst (λ z. length z ≤ 24) e short),
       e ∙ ap object_identifier_contents (sym found),
     )
 
 -- the form of components means these components
-pub short_meant : (contents : List ℕ) → IsShortForm contents →
+pub IsShortForm-meant : (contents : List ℕ) → IsShortForm contents →
     ObjectIdentifierContents (components_of contents) contents
-short_meant contents (fits, e) =
+IsShortForm-meant contents (fits, e) =
     subst (ObjectIdentifierContents (components_of contents)) (sym e)
-    (object_identifier_again (components_of contents) fits.0)
+    (ObjectIdentifierContents-written (components_of contents) fits.0)
 
 -- the octets of two short forms are equal where their components are
-pub octets_equal : (x y ms ns : List ℕ) (r : Bool) → IsShortForm x → IsShortForm y → components_of x ≡ ms →
+pub pointwise-short_forms : (x y ms ns : List ℕ) (r : Bool) → IsShortForm x → IsShortForm y → components_of x ≡ ms →
     components_of y ≡ ns
     → r ≡ pointwise (λ m n. m == n) x y → r ≡ pointwise (λ m n. m == n) ms ns
-octets_equal x y ms ns r p q e f equal =
+pointwise-short_forms x y ms ns r p q e f equal =
     same_from_decides r (pointwise (λ m n. m == n) ms ns)
     (Decides-like r
     (λ same. sym e ∙ ap components_of same ∙ f)
@@ -86,9 +87,9 @@ octets_equal x y ms ns r p q e f equal =
     (slice_eq-Decides Decides-eqb ms ns (pointwise (λ m n. m == n) ms ns) refl)
 
 -- components of which one list has a short form, and the other none
-pub forms_differ : (ms ns : List ℕ) → HaveShortContents ms → (HaveShortContents ns → ⊥)
+pub pointwise-other_forms : (ms ns : List ℕ) → HaveShortContents ms → (HaveShortContents ns → ⊥)
     → (false ≡ pointwise (λ m n. m == n) ms ns) × (false ≡ pointwise (λ m n. m == n) ns ms)
-forms_differ ms ns short none = (
+pointwise-other_forms ms ns short none = (
   same_from_decides false (pointwise (λ m n. m == n) ms ns)
       (λ h. cc, λ e. absurd (none (subst HaveShortContents e short)))
       (slice_eq-Decides Decides-eqb ms ns (pointwise (λ m n. m == n) ms ns) refl),

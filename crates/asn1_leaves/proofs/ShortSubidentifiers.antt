@@ -8,8 +8,8 @@ use Rattle.asn1_numbers.specs.Octets.{AreOctets}
 use Rattle.asn1_numbers.specs.Base128.{IsContinued, low_bits_number, shortest_base128}
 use Rattle.asn1_leaves.specs.Contents.ObjectIdentifier.{ObjectIdentifierContents, Subidentifiers, object_identifier_contents}
 use Rattle.asn1_headers.proofs.Shortest.{shortest_base128_not_leading}
-use Rattle.asn1_leaves.proofs.Leaves.ObjectIdentifier.{first_two}
-use Rattle.asn1_leaves.proofs.Subidentifiers.{continued_more}
+use Rattle.asn1_leaves.proofs.Leaves.ObjectIdentifier.{AreFirstTwo-some}
+use Rattle.asn1_leaves.proofs.Subidentifiers.{IsContinued-cons}
 
 -- no subidentifier begins with 80, where the first octet begins one, or goes on with one; and the
 -- last one ends
@@ -18,26 +18,26 @@ NoneLeads begins [] = IsTrue begins
 NoneLeads begins (b ∷ octets) = (IsTrue begins → b ≢ 128) × NoneLeads (nat_lt b 128) octets
 
 -- no subidentifier after the first begins with 80
-none_after : (first rest : List ℕ) (begins : Bool) → IsContinued first → NoneLeads begins (first ++ rest) →
+NoneLeads-after_first : (first rest : List ℕ) (begins : Bool) → IsContinued first → NoneLeads begins (first ++ rest) →
     NoneLeads true rest
-none_after [] rest begins p h = absurd p
-none_after (b ∷ []) rest begins p h =
+NoneLeads-after_first [] rest begins p h = absurd p
+NoneLeads-after_first (b ∷ []) rest begins p h =
     let ends : nat_lt b 128 ≡ true = grind (arith, p) in
     subst (λ z. NoneLeads z rest) ends h.1
-none_after (b ∷ c ∷ first) rest begins p h = none_after (c ∷ first) rest (nat_lt b 128) p.1 h.1
+NoneLeads-after_first (b ∷ c ∷ first) rest begins p h = NoneLeads-after_first (c ∷ first) rest (nat_lt b 128) p.1 h.1
 
 -- the first subidentifier does not begin with 80
-none_first : (first rest more : List ℕ) → IsContinued first → NoneLeads true (first ++ rest) → first ≢ 128 ∷ more
-none_first [] rest more p h e = p
-none_first (b ∷ first) rest more p h e =
+NoneLeads-first : (first rest more : List ℕ) → IsContinued first → NoneLeads true (first ++ rest) → first ≢ 128 ∷ more
+NoneLeads-first [] rest more p h e = p
+NoneLeads-first (b ∷ first) rest more p h e =
     let leading : b ≡ 128 = cc in
     h.0 refl leading
 
 -- subidentifiers of which none begins with 80 are the shortest
-short_subidentifiers : (ns octets : List ℕ) → AreOctets octets → NoneLeads true octets → Subidentifiers ns octets
+NoneLeads-shortest : (ns octets : List ℕ) → AreOctets octets → NoneLeads true octets → Subidentifiers ns octets
     → octets ≡ flat_map shortest_base128 ns
-short_subidentifiers [] octets all h s = s
-short_subidentifiers (n ∷ ns) octets all h (first, rest, e, p, s) =
+NoneLeads-shortest [] octets all h s = s
+NoneLeads-shortest (n ∷ ns) octets all h (first, rest, e, p, s) =
     let whole = subst AreOctets e all in
     let none = subst (NoneLeads true) e h in
     let front : AreOctets first =
@@ -46,34 +46,36 @@ short_subidentifiers (n ∷ ns) octets all h (first, rest, e, p, s) =
     let back : AreOctets rest =
     subst AreOctets (drop_at first rest (length first) refl)
     (All-drop (λ b. b < 256) (length first) (first ++ rest) whole) in
-    let here = shortest_base128_not_leading first n front p (λ more. none_first first rest more p.continued none) in
-    let others = short_subidentifiers ns rest back (none_after first rest true p.continued none) s in
+    let here = shortest_base128_not_leading first n front p
+    (λ more. NoneLeads-first first rest more p.continued none) in
+    let others = NoneLeads-shortest ns rest back (NoneLeads-after_first first rest true p.continued none) s in
     e ∙ (ap (λ z. z ++ rest) here ∙ ap (λ z. shortest_base128 n ++ z) others)
 
 -- octets that mean components are those that are written of them
-pub short_object_identifier :
+pub NoneLeads-object_identifier_contents :
     (ns : List ℕ) (b : ℕ) (octets : List ℕ) → AreOctets (b ∷ octets) → NoneLeads true octets →
     ObjectIdentifierContents ns (b ∷ octets) → b ∷ octets ≡ object_identifier_contents ns
-short_object_identifier [] b octets all h p = absurd p
-short_object_identifier (x ∷ []) b octets all h p = absurd p
-short_object_identifier (x ∷ y ∷ ns) b octets all h (c, rest, e, f, s) =
+NoneLeads-object_identifier_contents [] b octets all h p = absurd p
+NoneLeads-object_identifier_contents (x ∷ []) b octets all h p = absurd p
+NoneLeads-object_identifier_contents (x ∷ y ∷ ns) b octets all h (c, rest, e, f, s) =
     let same : octets ≡ rest = cc in
     let first : b ≡ c = cc in
     let tail : AreOctets octets = All-drop (λ b. b < 256) 1 (b ∷ octets) all in
-    let others = short_subidentifiers ns octets tail h (subst (Subidentifiers ns) (sym same) s) in
+    let others = NoneLeads-shortest ns octets tail h (subst (Subidentifiers ns) (sym same) s) in
     let first_is : b ≡ 40 * x + y = first ∙ f.0 in
     cc
 
 -- where no octets are left, and the last subidentifier has ended, none begins with 80
-pub none_left : (octets : List ℕ) (begins : Bool) → length octets ≡ 0 → IsTrue begins → NoneLeads begins octets
-none_left [] begins n ended = ended
-none_left (b ∷ octets) begins n ended = absurd (omega (arith, n))
+pub NoneLeads-nil : (octets : List ℕ) (begins : Bool) → length octets ≡ 0 → IsTrue begins → NoneLeads begins octets
+NoneLeads-nil [] begins n ended = ended
+NoneLeads-nil (b ∷ octets) begins n ended = absurd (omega (arith, n))
 
 -- octets in which no subidentifier begins with 80, and the last one ends, are subidentifiers
-pub numbers_stand : (octets : List ℕ) (begins : Bool) → NoneLeads begins octets →
+pub NoneLeads-subidentifiers : (octets : List ℕ) (begins : Bool) → NoneLeads begins octets →
     (ns : List ℕ) × Subidentifiers ns octets
-numbers_stand [] begins h = ([], refl)
-numbers_stand (b ∷ octets) begins h = by_rest (numbers_stand octets (nat_lt b 128) h.1) (cases_lt b 128)
+NoneLeads-subidentifiers [] begins h = ([], refl)
+NoneLeads-subidentifiers (b ∷ octets) begins h =
+    by_rest (NoneLeads-subidentifiers octets (nat_lt b 128) h.1) (cases_lt b 128)
   where
     by_rest : ((ns : List ℕ) × Subidentifiers ns octets) → (b < 128) ⊎ (128 ≤ b) →
         (ns : List ℕ) × Subidentifiers ns (b ∷ octets)
@@ -88,15 +90,15 @@ numbers_stand (b ∷ octets) begins h = by_rest (numbers_stand octets (nat_lt b 
         b ∷ s.0,
         s.1,
         ap (λ z. b ∷ z) s.2,
-        record { continued = continued_more b s.0 high s.3.continued; value = refl },
+        record { continued = IsContinued-cons b s.0 high s.3.continued; value = refl },
         s.4,
       ),
     )
 
 -- an octet before octets in which no subidentifier begins with 80 makes them mean components
-pub components_stand : (b : ℕ) (octets : List ℕ) → NoneLeads true octets →
+pub NoneLeads-components : (b : ℕ) (octets : List ℕ) → NoneLeads true octets →
     (ns : List ℕ) × ObjectIdentifierContents ns (b ∷ octets)
-components_stand b octets h =
-    let f = first_two b in
-    let s = numbers_stand octets true h in
+NoneLeads-components b octets h =
+    let f = AreFirstTwo-some b in
+    let s = NoneLeads-subidentifiers octets true h in
     (f.0 ∷ f.1 ∷ s.0, (b, octets, refl, f.2, s.1))

@@ -4,7 +4,7 @@ use Rattle.std.specs.Prelude.{slice_range}
 use Rattle.std.proofs.lemmas.List.{take-append-drop}
 
 -- a slice and what follows it
-pub slice_split : (octets : List ℕ) (i j : ℕ) → i ≤ j → drop i octets ≡ slice_range octets i j ++ drop j octets
-slice_split octets i j h =
+pub drop-slice_range : (octets : List ℕ) (i j : ℕ) → i ≤ j → drop i octets ≡ slice_range octets i j ++ drop j octets
+drop-slice_range octets i j h =
     sym (take-append-drop (j - i) (drop i octets))
     ∙ ap (λ r. take (j - i) (drop i octets) ++ r) (drop-drop (j - i) i octets ∙ ap (λ n. drop n octets) (omega arith))

@@ -11,101 +11,107 @@ use Rattle.asn1_headers.proofs.Prefixes.{continued_alone}
 use Rattle.asn1_headers.proofs.Shortest.{shortest_base128_is}
 
 -- one more at the end
-pub subidentifiers_more : (ns octets last : List ℕ) (n : ℕ) → Subidentifiers ns octets → IsBase128 last n
+pub Subidentifiers-push : (ns octets last : List ℕ) (n : ℕ) → Subidentifiers ns octets → IsBase128 last n
     → Subidentifiers (ns ++ n ∷ []) (octets ++ last)
-subidentifiers_more [] octets last n s t = (last, [], ap (λ z. z ++ last) s ∙ sym (append-nil last), t, refl)
-subidentifiers_more (m ∷ ms) octets last n s t = (
+Subidentifiers-push [] octets last n s t = (last, [], ap (λ z. z ++ last) s ∙ sym (append-nil last), t, refl)
+Subidentifiers-push (m ∷ ms) octets last n s t = (
   s.0,
   s.1 ++ last,
   ap (λ z. z ++ last) s.2 ∙ append_assoc s.0 s.1 last,
   s.3,
-  subidentifiers_more ms s.1 last n s.4 t,
+  Subidentifiers-push ms s.1 last n s.4 t,
 )
 
 -- where octets after the first subidentifier are none, neither are all of them
-pub none_after : (first rest : List ℕ) (n : ℕ) → IsBase128 first n
+pub Subidentifiers-none_after : (first rest : List ℕ) (n : ℕ) → IsBase128 first n
     → ((ns : List ℕ) → Subidentifiers ns rest → ⊥) → (octets : List ℕ) → octets ≡ first ++ rest → (ns : List ℕ)
     → Subidentifiers ns octets → ⊥
-none_after [] rest n t none octets e ns s = t.continued
-none_after (a ∷ first) rest n t none octets e [] s = absurd (omega (arith, ap length (sym s ∙ e)))
-none_after (a ∷ first) rest n t none octets e (m ∷ ms) s =
+Subidentifiers-none_after [] rest n t none octets e ns s = t.continued
+Subidentifiers-none_after (a ∷ first) rest n t none octets e [] s = absurd (omega (arith, ap length (sym s ∙ e)))
+Subidentifiers-none_after (a ∷ first) rest n t none octets e (m ∷ ms) s =
     let p = continued_alone (a ∷ first) s.0 rest s.1 t.continued s.3.continued (sym e ∙ s.2) in
     none ms (subst (Subidentifiers ms) (sym p.1) s.4)
 
 -- octets that begin with no base-128 number are no subidentifiers
-none_first : (octets : List ℕ) → 0 < length octets → BeginsWithNo IsBase128 octets → (ns : List ℕ) →
+Subidentifiers-none_first : (octets : List ℕ) → 0 < length octets → BeginsWithNo IsBase128 octets → (ns : List ℕ) →
     Subidentifiers ns octets → ⊥
-none_first octets some missing [] s = absurd (omega (arith, some, ap length s))
-none_first octets some missing (m ∷ ms) s =
+Subidentifiers-none_first octets some missing [] s = absurd (omega (arith, some, ap length s))
+Subidentifiers-none_first octets some missing (m ∷ ms) s =
     missing m (length s.0)
     (subst (λ z. IsBase128 z m) (sym (ap (λ z. take (length s.0) z) s.2 ∙ take_at s.0 s.1 (length s.0) refl)) s.3)
 
 -- a fault of the first is one of all
-pub first_fault : (octets : List ℕ) (e : DecodeFault) → 0 < length octets → IsIncomplete IsBase128 octets e
+pub Subidentifiers-incomplete : (octets : List ℕ) (e : DecodeFault) → 0 < length octets →
+    IsIncomplete IsBase128 octets e
     → (e ≡ incomplete) × ((ns : List ℕ) → Subidentifiers ns octets → ⊥)
-first_fault octets e some p = (p.0, none_first octets some p.1)
+Subidentifiers-incomplete octets e some p = (p.0, Subidentifiers-none_first octets some p.1)
 
 -- a number has an octet
-begun : (first : List ℕ) → IsContinued first → length first ≤ 0 → ⊥
-begun [] p h = p
-begun (b ∷ first) p h = omega (arith, h)
+IsContinued-not_empty : (first : List ℕ) → IsContinued first → length first ≤ 0 → ⊥
+IsContinued-not_empty [] p h = p
+IsContinued-not_empty (b ∷ first) p h = omega (arith, h)
 
 -- octets are the subidentifiers of one list of numbers
-pub subidentifiers_alone : (ms ns octets : List ℕ) → Subidentifiers ms octets → Subidentifiers ns octets → ms ≡ ns
-subidentifiers_alone [] [] octets s t = refl
-subidentifiers_alone [] (n ∷ ns) octets s t =
-    absurd (begun t.0 t.3.continued (omega (arith, ap length (sym s ∙ t.2), length-append t.0 t.1)))
-subidentifiers_alone (m ∷ ms) [] octets s t =
-    absurd (begun s.0 s.3.continued (omega (arith, ap length (sym t ∙ s.2), length-append s.0 s.1)))
-subidentifiers_alone (m ∷ ms) (n ∷ ns) octets s t =
+pub Subidentifiers-unique : (ms ns octets : List ℕ) → Subidentifiers ms octets → Subidentifiers ns octets → ms ≡ ns
+Subidentifiers-unique [] [] octets s t = refl
+Subidentifiers-unique [] (n ∷ ns) octets s t =
+    absurd (IsContinued-not_empty t.0 t.3.continued (omega (arith, ap length (sym s ∙ t.2), length-append t.0 t.1)))
+Subidentifiers-unique (m ∷ ms) [] octets s t =
+    absurd (IsContinued-not_empty s.0 s.3.continued (omega (arith, ap length (sym t ∙ s.2), length-append s.0 s.1)))
+Subidentifiers-unique (m ∷ ms) (n ∷ ns) octets s t =
     let p = continued_alone s.0 t.0 s.1 t.1 s.3.continued t.3.continued (sym s.2 ∙ t.2) in
     let e : m ≡ n = s.3.value ∙ ap low_bits_number p.0 ∙ sym t.3.value in
-    let r : ms ≡ ns = subidentifiers_alone ms ns s.1 s.4 (subst (Subidentifiers ns) (sym p.1) t.4) in
+    let r : ms ≡ ns = Subidentifiers-unique ms ns s.1 s.4 (subst (Subidentifiers ns) (sym p.1) t.4) in
     cc
 
 -- an octet whose bit 8 is set, before others that begin with a number, is a part of it
-pub continued_more : (b : ℕ) (first : List ℕ) → 128 ≤ b → IsContinued first → IsContinued (b ∷ first)
-continued_more b [] high p = absurd p
-continued_more b (c ∷ first) high p = (high, p)
+pub IsContinued-cons : (b : ℕ) (first : List ℕ) → 128 ≤ b → IsContinued first → IsContinued (b ∷ first)
+IsContinued-cons b [] high p = absurd p
+IsContinued-cons b (c ∷ first) high p = (high, p)
 
-continued_less : (b : ℕ) (first : List ℕ) → 128 ≤ b → IsContinued (b ∷ first) → IsContinued first
-continued_less b [] high p = absurd (omega (arith, high, p))
-continued_less b (c ∷ first) high p = p.1
+IsContinued-tail : (b : ℕ) (first : List ℕ) → 128 ≤ b → IsContinued (b ∷ first) → IsContinued first
+IsContinued-tail b [] high p = absurd (omega (arith, high, p))
+IsContinued-tail b (c ∷ first) high p = p.1
 
 -- a lone octet whose bit 8 is set ends no number
-unfinished : (b : ℕ) (octets first rest : List ℕ) → 128 ≤ b → octets ≡ [] → b ∷ octets ≡ first ++ rest →
+IsContinued-unfinished : (b : ℕ) (octets first rest : List ℕ) → 128 ≤ b → octets ≡ [] → b ∷ octets ≡ first ++ rest →
     IsContinued first → ⊥
-unfinished b octets [] rest high none whole p = p
-unfinished b octets (a ∷ []) rest high none whole p = let h : b ≡ a = cc in omega (arith, h, high, p)
-unfinished b octets (a ∷ c ∷ first) rest high none whole p =
+IsContinued-unfinished b octets [] rest high none whole p = p
+IsContinued-unfinished b octets (a ∷ []) rest high none whole p = let h : b ≡ a = cc in omega (arith, h, high, p)
+IsContinued-unfinished b octets (a ∷ c ∷ first) rest high none whole p =
     omega (arith, ap length whole, ap length none, length-append (a ∷ c ∷ first) rest)
 
 -- one before octets that are no subidentifiers makes none of them
-still_none : (b : ℕ) (octets first rest ms : List ℕ) → 128 ≤ b → ((ns : List ℕ) → Subidentifiers ns octets → ⊥)
+Subidentifiers-still_none : (b : ℕ) (octets first rest ms : List ℕ) → 128 ≤ b →
+    ((ns : List ℕ) → Subidentifiers ns octets → ⊥)
     → b ∷ octets ≡ first ++ rest → IsContinued first → Subidentifiers ms rest → ⊥
-still_none b octets [] rest ms high none whole p others = p
-still_none b octets (a ∷ first) rest ms high none whole p others =
+Subidentifiers-still_none b octets [] rest ms high none whole p others = p
+Subidentifiers-still_none b octets (a ∷ first) rest ms high none whole p others =
     let h : b ≡ a = cc in
     let e : octets ≡ first ++ rest = cc in
     let more : IsBase128 first (low_bits_number first) =
-    record { continued = continued_less a first (omega (arith, h, high)) p; value = refl } in
+    record { continued = IsContinued-tail a first (omega (arith, h, high)) p; value = refl } in
     none (low_bits_number first ∷ ms) (first, rest, e, more, others)
 
-first_unfinished : (b : ℕ) (octets : List ℕ) → octets ≡ [] → 128 ≤ b → (ns : List ℕ) → Subidentifiers ns (b ∷ octets) →
+Subidentifiers-unfinished : (b : ℕ) (octets : List ℕ) → octets ≡ [] → 128 ≤ b → (ns : List ℕ) →
+    Subidentifiers ns (b ∷ octets) →
     ⊥
-first_unfinished b octets none high [] s = omega (arith, ap length s)
-first_unfinished b octets none high (m ∷ ms) s = unfinished b octets s.0 s.1 high none s.2 s.3.continued
+Subidentifiers-unfinished b octets none high [] s = omega (arith, ap length s)
+Subidentifiers-unfinished b octets none high (m ∷ ms) s =
+    IsContinued-unfinished b octets s.0 s.1 high none s.2 s.3.continued
 
-first_of_none : (b : ℕ) (octets : List ℕ) → ((ns : List ℕ) → Subidentifiers ns octets → ⊥) → 128 ≤ b → (ns : List ℕ)
+Subidentifiers-none_behind_high : (b : ℕ) (octets : List ℕ) → ((ns : List ℕ) → Subidentifiers ns octets → ⊥) → 128 ≤ b →
+    (ns : List ℕ)
     → Subidentifiers ns (b ∷ octets) → ⊥
-first_of_none b octets none high [] s = omega (arith, ap length s)
-first_of_none b octets none high (m ∷ ms) s = still_none b octets s.0 s.1 ms high none s.2 s.3.continued s.4
+Subidentifiers-none_behind_high b octets none high [] s = omega (arith, ap length s)
+Subidentifiers-none_behind_high b octets none high (m ∷ ms) s =
+    Subidentifiers-still_none b octets s.0 s.1 ms high none s.2 s.3.continued s.4
 
 -- one before octets that are subidentifiers makes others, where there are octets
-more_before : (b c : ℕ) (octets : List ℕ) → (ns : List ℕ) × Subidentifiers ns (c ∷ octets)
+Subidentifiers-cons : (b c : ℕ) (octets : List ℕ) → (ns : List ℕ) × Subidentifiers ns (c ∷ octets)
     → (ns : List ℕ) × Subidentifiers ns (b ∷ c ∷ octets)
-more_before b c octets ([], s) = absurd (omega (arith, ap length s))
-more_before b c octets (n ∷ ns, s) = elim (cases_lt b 128) [
+Subidentifiers-cons b c octets ([], s) = absurd (omega (arith, ap length s))
+Subidentifiers-cons b c octets (n ∷ ns, s) = elim (cases_lt b 128) [
   | inl low ↦ (
     low_bits_number (b ∷ []) ∷ n ∷ ns,
     (b ∷ [], c ∷ octets, refl, record { continued = low; value = refl }, s),
@@ -116,44 +122,46 @@ more_before b c octets (n ∷ ns, s) = elim (cases_lt b 128) [
       b ∷ s.0,
       s.1,
       ap (λ z. b ∷ z) s.2,
-      record { continued = continued_more b s.0 high s.3.continued; value = refl },
+      record { continued = IsContinued-cons b s.0 high s.3.continued; value = refl },
       s.4,
     ),
   )
 ]
 
-none_before : (b : ℕ) (octets : List ℕ) → ((ns : List ℕ) → Subidentifiers ns octets → ⊥) → (ns : List ℕ)
+Subidentifiers-none_behind : (b : ℕ) (octets : List ℕ) → ((ns : List ℕ) → Subidentifiers ns octets → ⊥) → (ns : List ℕ)
     → Subidentifiers ns (b ∷ octets) → ⊥
-none_before b octets none = elim (cases_lt b 128) [
-  | inl low ↦ none_after (b ∷ []) octets (low_bits_number (b ∷ [])) (record { continued = low; value = refl }) none
+Subidentifiers-none_behind b octets none = elim (cases_lt b 128) [
+  | inl low ↦ Subidentifiers-none_after (b ∷ []) octets (low_bits_number (b ∷ []))
+      (record { continued = low; value = refl }) none
       (b ∷ octets) refl
-  | inr high ↦ first_of_none b octets none high
+  | inr high ↦ Subidentifiers-none_behind_high b octets none high
 ]
 
 -- the last octet, after one more
-last_after : (b c : ℕ) (octets : List ℕ)
+get_or-last_cons : (b c : ℕ) (octets : List ℕ)
     → get_or (b ∷ c ∷ octets) (length (b ∷ c ∷ octets) - 1) 0 ≡ get_or (c ∷ octets) (length (c ∷ octets) - 1) 0
-last_after b c octets = simp sub-one
+get_or-last_cons b c octets = simp sub-one
 
 -- octets are subidentifiers of some numbers, where the last ends one
-pub subidentifiers_ended : (octets : List ℕ) → get_or octets (length octets - 1) 0 < 128 →
+pub Subidentifiers-ended : (octets : List ℕ) → get_or octets (length octets - 1) 0 < 128 →
     (ns : List ℕ) × Subidentifiers ns octets
-subidentifiers_ended [] low = ([], refl)
-subidentifiers_ended (b ∷ []) low =
+Subidentifiers-ended [] low = ([], refl)
+Subidentifiers-ended (b ∷ []) low =
     (low_bits_number (b ∷ []) ∷ [], (b ∷ [], [], refl, record { continued = low; value = refl }, refl))
-subidentifiers_ended (b ∷ c ∷ octets) low =
-    more_before b c octets (subidentifiers_ended (c ∷ octets) (omega (arith, low, last_after b c octets)))
+Subidentifiers-ended (b ∷ c ∷ octets) low =
+    Subidentifiers-cons b c octets (Subidentifiers-ended (c ∷ octets) (omega (arith, low, get_or-last_cons b c octets)))
 
 -- octets whose last goes on with another are the subidentifiers of no numbers
-pub subidentifiers_unended : (octets : List ℕ) → 128 ≤ get_or octets (length octets - 1) 0 → (ns : List ℕ) →
+pub Subidentifiers-unended : (octets : List ℕ) → 128 ≤ get_or octets (length octets - 1) 0 → (ns : List ℕ) →
     Subidentifiers ns octets → ⊥
-subidentifiers_unended [] high ns s = omega (arith, high)
-subidentifiers_unended (b ∷ []) high ns s = first_unfinished b [] refl high ns s
-subidentifiers_unended (b ∷ c ∷ octets) high ns s =
-    none_before b (c ∷ octets) (subidentifiers_unended (c ∷ octets) (omega (arith, high, last_after b c octets))) ns s
+Subidentifiers-unended [] high ns s = omega (arith, high)
+Subidentifiers-unended (b ∷ []) high ns s = Subidentifiers-unfinished b [] refl high ns s
+Subidentifiers-unended (b ∷ c ∷ octets) high ns s =
+    Subidentifiers-none_behind b (c ∷ octets)
+    (Subidentifiers-unended (c ∷ octets) (omega (arith, high, get_or-last_cons b c octets))) ns s
 
 -- the shortest forms are subidentifiers
-pub subidentifiers_shortest : (ns : List ℕ) → Subidentifiers ns (flat_map shortest_base128 ns)
-subidentifiers_shortest [] = refl
-subidentifiers_shortest (n ∷ ns) =
-    (shortest_base128 n, flat_map shortest_base128 ns, refl, shortest_base128_is n, subidentifiers_shortest ns)
+pub Subidentifiers-shortest : (ns : List ℕ) → Subidentifiers ns (flat_map shortest_base128 ns)
+Subidentifiers-shortest [] = refl
+Subidentifiers-shortest (n ∷ ns) =
+    (shortest_base128 n, flat_map shortest_base128 ns, refl, shortest_base128_is n, Subidentifiers-shortest ns)

@@ -1,7 +1,7 @@
 -- The entry of a header that was found.
 use Rattle.std.proofs.Common.{◌≡◌, ℕ, ◌-◌, ◌≤◌, ◌++◌, List, drop, length, sym, arith}
 use Rattle.std.specs.List.{slice_range}
-use Rattle.asn1_leaves.proofs.SliceSplit.{slice_split}
+use Rattle.asn1_leaves.proofs.SliceSplit.{drop-slice_range}
 use Rattle.asn1_blocks.specs.Places.{HeaderFound}
 use Rattle.asn1_blocks.specs.declared.parsed.PlacedHeader.{PlacedHeader}
 use Rattle.asn1_blocks.proofs.ReadSteps.{slice_length}
@@ -28,7 +28,7 @@ begun_header x offset limit h tag items next depth found within is =
     let l : length contents ≡ h.end - h.start =
     slice_length x h.start h.end found.order (omega (arith, found.ends_within, within)) in
     let w : drop offset x ≡ octets ++ drop h.end x =
-    slice_split x offset h.end (omega (arith, found.starts_after, found.order)) in (
+    drop-slice_range x offset h.end (omega (arith, found.starts_after, found.order)) in (
       octets,
       record {
         rest = drop h.end x;

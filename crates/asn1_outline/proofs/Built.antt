@@ -5,7 +5,7 @@ use Rattle.std.proofs.lemmas.List.{drop_at, map-append, reverse-append, take_at}
 use Rattle.asn1_headers.specs.Header.{Encoding}
 use Rattle.asn1_headers.specs.declared.header.ASN1Class.{ASN1Class}
 use Rattle.asn1_headers.specs.declared.header.ASN1Class.TheVariants.{Universal}
-use Rattle.asn1_leaves.proofs.SliceSplit.{slice_split}
+use Rattle.asn1_leaves.proofs.SliceSplit.{drop-slice_range}
 use Rattle.asn1_blocks.specs.declared.block.ASN1Block.{ASN1Block}
 use Rattle.asn1_blocks.specs.declared.block.GroupKind.{GroupKind}
 use Rattle.asn1_blocks.specs.declared.parsed.PlacedHeader.{PlacedHeader}
@@ -33,7 +33,7 @@ encoded_here x b octets o g s at found =
     let y = slice_range x o g.end in
     let there : EncodingAt x o y = record {
       rest = drop g.end x;
-      at_offset = slice_split x o g.end (omega (arith, found.starts_after, found.order));
+      at_offset = drop-slice_range x o g.end (omega (arith, found.starts_after, found.order));
       encoding = record {
         class = g.class;
         constructed = g.constructed;

@@ -5,7 +5,7 @@ use Rattle.std.proofs.lemmas.List.{length-map, map-append}
 use Rattle.std.proofs.Math.Seq.{get_or-append_seam, set-append_seam}
 use Rattle.asn1_headers.specs.Header.{Encoding}
 use Rattle.asn1_headers.proofs.Prefixes.{encoding_alone}
-use Rattle.asn1_leaves.proofs.SliceSplit.{slice_split}
+use Rattle.asn1_leaves.proofs.SliceSplit.{drop-slice_range}
 use Rattle.asn1_blocks.specs.declared.parsed.PlacedHeader.{PlacedHeader}
 use Rattle.asn1_blocks.specs.declared.reading.Attempt as other
 use Rattle.asn1_blocks.specs.declared.reading.Extent.{Extent}
@@ -169,7 +169,7 @@ tagged x a start end lt le at = record {
   rest = drop end x;
   header = start - a.offset;
   other = at.other;
-  at_offset = slice_split x a.offset end (omega (arith, lt, le));
+  at_offset = drop-slice_range x a.offset end (omega (arith, lt, le));
   encoding = at.encoding;
   start_is = omega (arith, lt);
 }

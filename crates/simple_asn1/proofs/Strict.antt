@@ -18,7 +18,7 @@ use Rattle.asn1_blocks.specs.Grammar.{EncodesAll, IsDocument}
 use Rattle.asn1_blocks.specs.Places.{end_before}
 use Rattle.simple_asn1.specs.ReadBack.{CanonicalDocument}
 use Rattle.simple_asn1.specs.Strict.{EqualByOctets, FirstNotCanonical, EachIsCanonical, StrictFault, top_octets}
-use Rattle.asn1_leaves.proofs.Leaves.Known.{octets_known}
+use Rattle.asn1_leaves.proofs.Leaves.Known.{Known-octets}
 use Rattle.asn1_headers.proofs.Prefixes.{encoding_alone, same_split}
 use Rattle.asn1_blocks.proofs.OneReading.{encodes_block, all_alone}
 use Rattle.asn1_blocks.specs.Places.{IsEncoding}
@@ -26,7 +26,7 @@ use Rattle.asn1_blocks.proofs.Faults.{block_encoding}
 use Rattle.asn1_blocks.proofs.FaultsAlone.{first_fault_alone}
 use Rattle.simple_asn1.proofs.Totality.{document_or_fault}
 use Rattle.asn1_blocks.proofs.Readings.{document_no_fault}
-use Rattle.asn1_leaves.proofs.SliceSplit.{slice_split}
+use Rattle.asn1_leaves.proofs.SliceSplit.{drop-slice_range}
 use Rattle.asn1_blocks.proofs.Slices.{encodes_offset, end_is, slice_here}
 use Rattle.simple_asn1.proofs.WriteSteps.{none_of_both}
 use Rattle.simple_asn1.proofs.Placed.{contents_le, header_size, shortest_encodes}
@@ -114,7 +114,7 @@ step i o b bs e h d s =
       to = to;
       at = at;
       left = subst (λ z. EncodesAll e z bs) (sym r) after;
-      whole = slice_split i o e ordered;
+      whole = drop-slice_range i o e ordered;
       first_is = λ m c f. inr (same ∙ c, f);
       first_here = λ ne. inl (λ c. ne (sym same ∙ c), sym at);
     }
@@ -171,7 +171,7 @@ stand_written (more_trees b bs) i u x w s c =
 -- each stands so, or one is the first that does not
 stand_or_first : (i : List ℕ) (bs : Trees ℕ) → EachIsCanonical i bs ⊎ ((n : ℕ) × FirstNotCanonical i bs n)
 stand_or_first i no_trees = inl tt
-stand_or_first i (more_trees b bs) = elim (octets_known (top_octets i b bs) (canonical b)) [
+stand_or_first i (more_trees b bs) = elim (Known-octets (top_octets i b bs) (canonical b)) [
   | inr ne ↦ inr (tree_offset b, inl (ne, refl))
   | inl e ↦ elim (stand_or_first i bs) [ inl s ↦ inl (e, s) | inr f ↦ inr (f.0, inr (e, f.1)) ]
 ]

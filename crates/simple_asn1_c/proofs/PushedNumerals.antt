@@ -11,8 +11,8 @@ use Rattle.asn1_numbers.proofs.Numerals.{natural_some}
 use Rattle.asn1_leaves.specs.Contents.ObjectIdentifier.{AreFirstTwo}
 use Rattle.asn1_leaves.specs.DottedDecimal.{dotted_decimal}
 use Rattle.asn1_leaves.specs.Inner.IdentifierForms.{components_of, first_component, numbers_after, pointed, second_component}
-use Rattle.asn1_leaves.proofs.DottedNumbers.{dotted_first}
-use Rattle.asn1_leaves.proofs.IdentifierForms.{first_found, second_found}
+use Rattle.asn1_leaves.proofs.DottedNumbers.{dotted_decimal-cons}
+use Rattle.asn1_leaves.proofs.IdentifierForms.{first_component-AreFirstTwo, second_component-AreFirstTwo}
 
 -- what holds after an Ok
 pub pushed_if_ok : {T E P : Type 0} (r : Result T E) (b : Bool) → b ≡ is_ok r → IsTrue b → OnOk r P → P
@@ -37,13 +37,13 @@ pub dotted_pushed : (contents rest : List ℕ) (b x y : ℕ) (text one two all :
     → one ≡ text ++ natural_numeral x → two ≡ one ++ pointed y → all ≡ two ++ flat_map pointed (numbers_after 0 rest)
     → all ≡ text ++ dotted_decimal (components_of contents)
 dotted_pushed contents rest b x y text one two all e pair first second others =
-    let x_is : first_component b ≡ x = first_found x y b pair in
-    let y_is : second_component b ≡ y = second_found x y b pair in
+    let x_is : first_component b ≡ x = first_component-AreFirstTwo x y b pair in
+    let y_is : second_component b ≡ y = second_component-AreFirstTwo x y b pair in
     let ns = numbers_after 0 rest in
     let components : x ∷ y ∷ ns ≡ components_of contents = sym (ap components_of e ∙ cc) in
     let whole : text ++ (natural_numeral x ++ (pointed y ++ flat_map pointed ns)) ≡ text
     ++ dotted_decimal (components_of contents) =
-    ap (λ z. text ++ z) (sym (dotted_first x (y ∷ ns)) ∙ ap dotted_decimal components) in
+    ap (λ z. text ++ z) (sym (dotted_decimal-cons x (y ∷ ns)) ∙ ap dotted_decimal components) in
     others
     ∙ ap (λ z. z ++ flat_map pointed ns) (second ∙ ap (λ z. z ++ pointed y) first)
     ∙ append_assoc (text ++ natural_numeral x) (pointed y) (flat_map pointed ns)

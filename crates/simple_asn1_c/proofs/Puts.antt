@@ -13,7 +13,7 @@ use Rattle.std.proofs.lemmas.Str.{IsAscii-append, IsUtf8-from_ascii, chars-IsAsc
 use Rattle.std.proofs.lemmas.Str.Ascii.{All-from_ascii, IsAscii-cons, IsAscii-nil}
 use Rattle.asn1_numbers.proofs.ReadNumerals.{numeral_digits}
 use Rattle.asn1_numbers.specs.Decimal.{natural_numeral}
-use Rattle.asn1_leaves.proofs.Characters.{printable_ascii, printable_bytes}
+use Rattle.asn1_leaves.proofs.Characters.{IsAscii-printable, list_all-is_printable-chars}
 use Rattle.asn1_leaves.specs.Contents.Text.{text_contents}
 use Rattle.asn1_leaves.specs.DottedDecimal.{IsDottedDecimal, dotted_decimal}
 use Rattle.asn1_leaves.specs.declared.contents.text.TextForm.{TextForm}
@@ -66,5 +66,6 @@ ascii_characters text a = ap (list_all is_ascii) (chars-IsAscii text a) ∙ asci
 pub allowed_octets : (form : TextForm) (text : List ℕ) → IsUtf8 text → AreAllowed form (chars text) →
     text_contents form (chars text) ≡ text
 allowed_octets Utf8 text u a = encodes-chars text u
-allowed_octets Printable text u a = chars-IsAscii text (printable_ascii text ((printable_bytes text u).1 a))
+allowed_octets Printable text u a =
+    chars-IsAscii text (IsAscii-printable text ((list_all-is_printable-chars text u).1 a))
 allowed_octets Octets text u a = chars-IsAscii text (ascii_text text u a)

@@ -8,34 +8,34 @@ use Rattle.asn1_headers.specs.Fault.{DecodeFault, IsOfReading, length_too_large,
 use Rattle.asn1_leaves.specs.Contents.BitString.{BitStringContents, BitStringFault, IsFaithfulBitString, bit_string_contents, bit_string_write_fault, written_bits}
 
 -- contents octets mean one number of bits, and one list of octets
-pub bit_string_alone : (m n : ℕ) (v w contents : List ℕ) → BitStringContents m v contents →
+pub BitStringContents-unique : (m n : ℕ) (v w contents : List ℕ) → BitStringContents m v contents →
     BitStringContents n w contents → (m ≡ n) × (v ≡ w)
-bit_string_alone m n v w [] p q = (p.0 ∙ sym q.0, p.1 ∙ sym q.1)
-bit_string_alone m n v w (u ∷ contents) p q =
+BitStringContents-unique m n v w [] p q = (p.0 ∙ sym q.0, p.1 ∙ sym q.1)
+BitStringContents-unique m n v w (u ∷ contents) p q =
     let f : v ≡ w = p.0 ∙ sym q.0 in
     (omega (arith, p.1, q.1, ap length f), f)
 
 -- contents octets have one fault
-pub bit_string_fault_alone : (contents : List ℕ) (e d : DecodeFault) → BitStringFault contents e →
+pub BitStringFault-unique : (contents : List ℕ) (e d : DecodeFault) → BitStringFault contents e →
     BitStringFault contents d → e ≡ d
-bit_string_fault_alone [] e d p q = absurd p
-bit_string_fault_alone (u ∷ v) e d (inl p) (inl q) = p.1 ∙ sym q.1
-bit_string_fault_alone (u ∷ v) e d (inl p) (inr q) = absurd (omega (arith, p.0, q.0))
-bit_string_fault_alone (u ∷ v) e d (inr p) (inl q) = absurd (omega (arith, p.0, q.0))
-bit_string_fault_alone (u ∷ v) e d (inr (_, _, p)) (inr (_, _, q)) = p ∙ sym q
+BitStringFault-unique [] e d p q = absurd p
+BitStringFault-unique (u ∷ v) e d (inl p) (inl q) = p.1 ∙ sym q.1
+BitStringFault-unique (u ∷ v) e d (inl p) (inr q) = absurd (omega (arith, p.0, q.0))
+BitStringFault-unique (u ∷ v) e d (inr p) (inl q) = absurd (omega (arith, p.0, q.0))
+BitStringFault-unique (u ∷ v) e d (inr (_, _, p)) (inr (_, _, q)) = p ∙ sym q
 
 -- contents octets that mean bits have no fault
-pub bit_string_no_fault : (n : ℕ) (v contents : List ℕ) (e : DecodeFault) → BitStringContents n v contents →
+pub BitStringContents-no_fault : (n : ℕ) (v contents : List ℕ) (e : DecodeFault) → BitStringContents n v contents →
     BitStringFault contents e → ⊥
-bit_string_no_fault n v [] e p f = f
-bit_string_no_fault n v (u ∷ contents) e (same, _, fits) (inl f) = omega (arith, fits, f.0, ap length same)
-bit_string_no_fault n v (u ∷ contents) e p (inr f) = omega (arith, p.1, f.1, ap length p.0)
+BitStringContents-no_fault n v [] e p f = f
+BitStringContents-no_fault n v (u ∷ contents) e (same, _, fits) (inl f) = omega (arith, fits, f.0, ap length same)
+BitStringContents-no_fault n v (u ∷ contents) e p (inr f) = omega (arith, p.1, f.1, ap length p.0)
 
 -- contents octets that mean no bits have a fault
-pub bit_string_meaning : (contents : List ℕ)
+pub BitStringContents-or_fault : (contents : List ℕ)
     → ((n : ℕ) × (v : List ℕ) × BitStringContents n v contents) ⊎ ((e : DecodeFault) × BitStringFault contents e)
-bit_string_meaning [] = inl (0, [], (refl, refl))
-bit_string_meaning (u ∷ v) = elim (cases_lt (8 * length v) (2 ^ 64)) [
+BitStringContents-or_fault [] = inl (0, [], (refl, refl))
+BitStringContents-or_fault (u ∷ v) = elim (cases_lt (8 * length v) (2 ^ 64)) [
   | inr far ↦ inr (length_too_large (length (u ∷ v)), inl (far, refl))
   | inl near ↦ elim (cases_lt (8 * length v) u) [
     | inl more ↦ inr (invalid_bit_string_length (pos (8 * length v) -ℤ pos u), inr (near, more, refl))
@@ -44,67 +44,71 @@ bit_string_meaning (u ∷ v) = elim (cases_lt (8 * length v) (2 ^ 64)) [
 ]
 
 -- the fault is one of reading
-pub bit_string_fault_of_reading : (contents : List ℕ) (e : DecodeFault) → BitStringFault contents e → IsOfReading e
-bit_string_fault_of_reading [] e f = absurd f
-bit_string_fault_of_reading (u ∷ v) e (inl f) = subst IsOfReading (sym f.1) tt
-bit_string_fault_of_reading (u ∷ v) e (inr (_, _, f)) = subst IsOfReading (sym f) tt
+pub BitStringFault-of_reading : (contents : List ℕ) (e : DecodeFault) → BitStringFault contents e → IsOfReading e
+BitStringFault-of_reading [] e f = absurd f
+BitStringFault-of_reading (u ∷ v) e (inl f) = subst IsOfReading (sym f.1) tt
+BitStringFault-of_reading (u ∷ v) e (inr (_, _, f)) = subst IsOfReading (sym f) tt
 
 -- bits that octets mean can be written
-pub bit_string_writable : (n : ℕ) (v contents : List ℕ) → All (λ b. b < 256) contents → BitStringContents n v contents
+pub bit_string_write_fault-read : (n : ℕ) (v contents : List ℕ) → All (λ b. b < 256) contents →
+    BitStringContents n v contents
     → bit_string_write_fault n v ≡ None
-bit_string_writable n v [] all p = ap (λ z. bit_string_write_fault z v) p.0
-bit_string_writable n v (u ∷ contents) all p =
+bit_string_write_fault-read n v [] all p = ap (λ z. bit_string_write_fault z v) p.0
+bit_string_write_fault-read n v (u ∷ contents) all p =
     let h : u < 256 = All-head (λ b. b < 256) u contents all in
     grind (arith, common_steps, h, p.1)
 
 -- some bits are not none
-some_bits : (n : ℕ) → (suc n == 0) ≡ false
-some_bits n = elim (cases_Bool (suc n == 0)) [ inl e ↦ absurd (omega (arith, eqb-true (suc n) 0 e)) | inr e ↦ e ]
+eqb-suc-zero : (n : ℕ) → (suc n == 0) ≡ false
+eqb-suc-zero n = elim (cases_Bool (suc n == 0)) [ inl e ↦ absurd (omega (arith, eqb-true (suc n) 0 e)) | inr e ↦ e ]
 
 -- what is written of a bit string that has some, and what is left of it
-some_written : (n : ℕ) (v : List ℕ) → bit_string_contents (suc n) v ≡ (8 * length v - suc n) ∷ v
-some_written n v = ap (λ z. if z then [] else ((8 * length v - suc n) ∷ v)) (some_bits n)
+bit_string_contents-suc : (n : ℕ) (v : List ℕ) → bit_string_contents (suc n) v ≡ (8 * length v - suc n) ∷ v
+bit_string_contents-suc n v = ap (λ z. if z then [] else ((8 * length v - suc n) ∷ v)) (eqb-suc-zero n)
 
-some_left : (n : ℕ) (v : List ℕ) → written_bits (suc n) v ≡ v
-some_left n v = ap (λ z. if z then [] else v) (some_bits n)
+written_bits-suc : (n : ℕ) (v : List ℕ) → written_bits (suc n) v ≡ v
+written_bits-suc n v = ap (λ z. if z then [] else v) (eqb-suc-zero n)
 
 -- what is written of faithful bits means them
-pub bit_string_again : (n : ℕ) (v : List ℕ) → IsFaithfulBitString n v → BitStringContents n v (bit_string_contents n v)
-bit_string_again zero v (inl f) = (refl, f.1)
-bit_string_again zero v (inr f) = absurd (omega (arith, f.0))
-bit_string_again (suc n) v (inl f) = absurd (omega (arith, f.0))
-bit_string_again (suc n) v (inr (_, enough, _, fits)) =
-    subst (BitStringContents (suc n) v) (sym (some_written n v)) (refl, omega (arith, enough), fits)
+pub BitStringContents-written : (n : ℕ) (v : List ℕ) → IsFaithfulBitString n v →
+    BitStringContents n v (bit_string_contents n v)
+BitStringContents-written zero v (inl f) = (refl, f.1)
+BitStringContents-written zero v (inr f) = absurd (omega (arith, f.0))
+BitStringContents-written (suc n) v (inl f) = absurd (omega (arith, f.0))
+BitStringContents-written (suc n) v (inr (_, enough, _, fits)) =
+    subst (BitStringContents (suc n) v) (sym (bit_string_contents-suc n v)) (refl, omega (arith, enough), fits)
 
 -- faithful bits can be written
-pub bit_string_fits : (n : ℕ) (v : List ℕ) → IsFaithfulBitString n v → bit_string_write_fault n v ≡ None
-bit_string_fits zero v f = refl
-bit_string_fits (suc n) v (inl f) = absurd (omega (arith, f.0))
-bit_string_fits (suc n) v (inr (_, enough, few, _)) = grind (arith, common_steps, enough, few)
+pub bit_string_write_fault-faithful : (n : ℕ) (v : List ℕ) → IsFaithfulBitString n v → bit_string_write_fault n v ≡ None
+bit_string_write_fault-faithful zero v f = refl
+bit_string_write_fault-faithful (suc n) v (inl f) = absurd (omega (arith, f.0))
+bit_string_write_fault-faithful (suc n) v (inr (_, enough, few, _)) = grind (arith, common_steps, enough, few)
 
 -- bits that can be written are faithful where what is written means them
-pub bit_string_kept : (n : ℕ) (v : List ℕ) → bit_string_write_fault n v ≡ None →
+pub IsFaithfulBitString-written : (n : ℕ) (v : List ℕ) → bit_string_write_fault n v ≡ None →
     BitStringContents n v (bit_string_contents n v)
     → IsFaithfulBitString n v
-bit_string_kept zero v w p = inl (refl, p.1)
-bit_string_kept (suc n) v w p =
-    let (_, bits, fits) = subst (BitStringContents (suc n) v) (some_written n v) p in
+IsFaithfulBitString-written zero v w p = inl (refl, p.1)
+IsFaithfulBitString-written (suc n) v w p =
+    let (_, bits, fits) = subst (BitStringContents (suc n) v) (bit_string_contents-suc n v) p in
     let h : 8 * length v ≤ suc n + 255 = grind (arith, common_steps, w, bits) in
     inr (omega arith, omega (arith, bits), h, fits)
 
 -- what is left of bits that were read is faithful
-pub bit_string_read : (n : ℕ) (v contents : List ℕ) → All (λ b. b < 256) contents → BitStringContents n v contents
+pub IsFaithfulBitString-read : (n : ℕ) (v contents : List ℕ) → All (λ b. b < 256) contents →
+    BitStringContents n v contents
     → IsFaithfulBitString n (written_bits n v)
-bit_string_read zero v contents all p = inl (refl, refl)
-bit_string_read (suc n) v [] all p = absurd (omega (arith, p.0))
-bit_string_read (suc n) v (u ∷ contents) all (same, bits, near) =
+IsFaithfulBitString-read zero v contents all p = inl (refl, refl)
+IsFaithfulBitString-read (suc n) v [] all p = absurd (omega (arith, p.0))
+IsFaithfulBitString-read (suc n) v (u ∷ contents) all (same, bits, near) =
     let h : u < 256 = All-head (λ b. b < 256) u contents all in
     let few : 8 * length v ≤ suc n + 255 = omega (arith, h, bits, ap length same) in
     let fits : 8 * length v < 2 ^ 64 = omega (arith, near, ap length same) in
-    subst (IsFaithfulBitString (suc n)) (sym (some_left n v))
+    subst (IsFaithfulBitString (suc n)) (sym (written_bits-suc n v))
     (inr (omega arith, omega (arith, bits, ap length same), few, fits))
 
 -- what is not left is not written
-pub bit_string_same : (n : ℕ) (v : List ℕ) → bit_string_contents n (written_bits n v) ≡ bit_string_contents n v
-bit_string_same zero v = refl
-bit_string_same (suc n) v = ap (bit_string_contents (suc n)) (some_left n v)
+pub bit_string_contents-written_bits : (n : ℕ) (v : List ℕ) →
+    bit_string_contents n (written_bits n v) ≡ bit_string_contents n v
+bit_string_contents-written_bits zero v = refl
+bit_string_contents-written_bits (suc n) v = ap (bit_string_contents (suc n)) (written_bits-suc n v)

@@ -4,34 +4,36 @@ use Rattle.asn1_headers.specs.Fault.{DecodeFault, IsOfReading, bad_boolean_lengt
 use Rattle.asn1_leaves.specs.Contents.Boolean.{BooleanContents, BooleanFault, boolean_contents}
 
 -- contents octets mean one value
-pub boolean_alone : (a b : Bool) (contents : List ℕ) → BooleanContents a contents → BooleanContents b contents → a ≡ b
-boolean_alone a b contents (x, p, r) (y, q, s) =
+pub BooleanContents-unique : (a b : Bool) (contents : List ℕ) → BooleanContents a contents →
+    BooleanContents b contents → a ≡ b
+BooleanContents-unique a b contents (x, p, r) (y, q, s) =
     let f : x ∷ [] ≡ y ∷ [] = sym p ∙ q in
     let g : x ≡ y = cc in
     r ∙ (ap (λ z. not (z == 0)) g ∙ sym s)
 
 -- contents octets have one fault
-pub boolean_fault_alone : (contents : List ℕ) (e d : DecodeFault) → BooleanFault contents e → BooleanFault contents d →
+pub BooleanFault-unique : (contents : List ℕ) (e d : DecodeFault) → BooleanFault contents e → BooleanFault contents d →
     e ≡ d
-boolean_fault_alone contents e d p q = p.1 ∙ sym q.1
+BooleanFault-unique contents e d p q = p.1 ∙ sym q.1
 
 -- contents octets that mean a value have no fault
-pub boolean_no_fault : (b : Bool) (contents : List ℕ) (e : DecodeFault) → BooleanContents b contents →
+pub BooleanContents-no_fault : (b : Bool) (contents : List ℕ) (e : DecodeFault) → BooleanContents b contents →
     BooleanFault contents e → ⊥
-boolean_no_fault b contents e p f = f.0 (ap length p.1)
+BooleanContents-no_fault b contents e p f = f.0 (ap length p.1)
 
 -- contents octets that mean no value have a fault
-pub boolean_meaning : (contents : List ℕ) →
+pub BooleanContents-or_fault : (contents : List ℕ) →
     ((b : Bool) × BooleanContents b contents) ⊎ ((e : DecodeFault) × BooleanFault contents e)
-boolean_meaning [] = inr (bad_boolean_length 0, ((λ e. omega (arith, e)), refl))
-boolean_meaning (x ∷ []) = inl (not (x == 0), (x, refl, refl))
-boolean_meaning (x ∷ y ∷ rest) = inr (bad_boolean_length (length (x ∷ y ∷ rest)), ((λ e. omega (arith, e)), refl))
+BooleanContents-or_fault [] = inr (bad_boolean_length 0, ((λ e. omega (arith, e)), refl))
+BooleanContents-or_fault (x ∷ []) = inl (not (x == 0), (x, refl, refl))
+BooleanContents-or_fault (x ∷ y ∷ rest) =
+    inr (bad_boolean_length (length (x ∷ y ∷ rest)), ((λ e. omega (arith, e)), refl))
 
 -- the fault is one of reading
-pub boolean_fault_of_reading : (contents : List ℕ) (e : DecodeFault) → BooleanFault contents e → IsOfReading e
-boolean_fault_of_reading contents e f = subst IsOfReading (sym f.1) tt
+pub BooleanFault-of_reading : (contents : List ℕ) (e : DecodeFault) → BooleanFault contents e → IsOfReading e
+BooleanFault-of_reading contents e f = subst IsOfReading (sym f.1) tt
 
 -- what is written means the value
-pub boolean_again : (b : Bool) → BooleanContents b (boolean_contents b)
-boolean_again true = (255, refl, refl)
-boolean_again false = (0, refl, refl)
+pub BooleanContents-written : (b : Bool) → BooleanContents b (boolean_contents b)
+BooleanContents-written true = (255, refl, refl)
+BooleanContents-written false = (0, refl, refl)

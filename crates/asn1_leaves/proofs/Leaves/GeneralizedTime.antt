@@ -14,14 +14,14 @@ use Rattle.asn1_leaves.specs.Inner.DigitFields.{IsSpelled, PairAt}
 use Rattle.asn1_leaves.specs.Contents.Moment.{Moment, IsValid, moment_write_fault}
 use Rattle.asn1_leaves.specs.Contents.GeneralizedTime.{GeneralizedTimeContents, GeneralizedTimeFault, IsEnd, IsFaithfulGeneralizedTime, fraction_digits, fraction_number, generalized_time_contents, generalized_time_fault, tenth, to_second, with_point, with_zeros, written_fraction}
 use Rattle.asn1_headers.specs.Fault.{DecodeFault, IsOfReading, invalid_date_value, utf8_fault}
-use Rattle.asn1_leaves.proofs.Leaves.Known.{octets_known}
-use Rattle.asn1_leaves.proofs.Leaves.Digits.{days_few, end_alone, end_known, fraction_again, moment_same, number_at, number_two_digits, two_digits_pair, valid_known, valid_writable}
+use Rattle.asn1_leaves.proofs.Leaves.Known.{Known-octets}
+use Rattle.asn1_leaves.proofs.Leaves.Digits.{days_in_month-le, IsEnd-unique, IsEnd-known, fraction_number-fraction_digits, Moment-same_fields, number_at, mul-add-two_digits, IsPair-two_digits, IsValid-known, moment_write_fault-valid}
 
 -- fourteen octets by place are those of the moment
-pub second_spelled :
+pub to_second-spelled :
     (second : List ℕ) (high low n : ℕ) (m : Moment) → length second ≡ 14 → PairAt second 0 high → PairAt second 2 low
     → IsSpelled (high * 100 + low) (slice_range second 4 14) n m → second ≡ to_second m
-second_spelled (a ∷ b ∷ c ∷ d ∷ e ∷ f ∷ g ∷ h ∷ i ∷ j ∷ k ∷ l ∷ x ∷ y ∷ []) high low n m size hi lo q =
+to_second-spelled (a ∷ b ∷ c ∷ d ∷ e ∷ f ∷ g ∷ h ∷ i ∷ j ∷ k ∷ l ∷ x ∷ y ∷ []) high low n m size hi lo q =
     let y1 : unsigned_abs m.year ≡ high * 100 + low = ap unsigned_abs q.year_is in
     let y2 : unsigned_abs m.year / 100 ≡ high = omega (arith, y1, lo.small) in
     let y3 : unsigned_abs m.year % 100 ≡ low = omega (arith, y1, lo.small) in
@@ -34,14 +34,14 @@ second_spelled (a ∷ b ∷ c ∷ d ∷ e ∷ f ∷ g ∷ h ∷ i ∷ j ∷ k �
     let k' = q.minute_at.tens in let l' = q.minute_at.units in
     let x' = q.second_at.tens in let y' = q.second_at.units in
     cc)
-second_spelled second high low n m size hi lo q = absurd (omega (arith, size))
+to_second-spelled second high low n m size hi lo q = absurd (omega (arith, size))
 
 -- digits that spell a moment to the second are at each place those of its fields
-pub second_by_place :
+pub IsSpelled-to_second :
     (second : List ℕ) (high low n : ℕ) (m : Moment) → IsValid m → m.nanosecond ≡ n → second ≡ to_second m →
     PairAt second 0 high
     → PairAt second 2 low → IsSpelled (high * 100 + low) (slice_range second 4 14) n m
-second_by_place second high low n m v f e hi lo =
+IsSpelled-to_second second high low n m v f e hi lo =
     let hi' = subst (λ z. PairAt z 0 high) e hi in
     let lo' = subst (λ z. PairAt z 2 low) e lo in
     let y : unsigned_abs m.year ≤ 9999 = omega (arith, ints, v) in
@@ -51,62 +51,63 @@ second_by_place second high low n m v f e hi lo =
     rw e (record {
       valid = v;
       year_is = omega (arith, ints, v, y3);
-      month_at = two_digits_pair m.month (omega (arith, v));
-      day_at = two_digits_pair m.day (omega (arith, v, days_few m.year m.month));
-      hour_at = two_digits_pair m.hour (omega (arith, v));
-      minute_at = two_digits_pair m.minute (omega (arith, v));
-      second_at = two_digits_pair m.second (omega (arith, v));
+      month_at = IsPair-two_digits m.month (omega (arith, v));
+      day_at = IsPair-two_digits m.day (omega (arith, v, days_in_month-le m.year m.month));
+      hour_at = IsPair-two_digits m.hour (omega (arith, v));
+      minute_at = IsPair-two_digits m.minute (omega (arith, v));
+      second_at = IsPair-two_digits m.second (omega (arith, v));
       nanosecond_is = f;
     })
 
 -- ASCII stays ASCII in the longer form, and so it is UTF-8
-ascii_all : (cs : List ℕ) → list_all is_ascii cs ≡ true → IsAscii cs
-ascii_all [] e = IsAscii-nil
-ascii_all (c ∷ cs) e =
+IsAscii-list_all : (cs : List ℕ) → list_all is_ascii cs ≡ true → IsAscii cs
+IsAscii-list_all [] e = IsAscii-nil
+IsAscii-list_all (c ∷ cs) e =
     let p = and_parts (is_ascii c) (list_all is_ascii cs) e in
-    IsAscii-cons c cs (grind (arith, nat_tests, p.0)) (ascii_all cs p.1)
+    IsAscii-cons c cs (grind (arith, nat_tests, p.0)) (IsAscii-list_all cs p.1)
 
-zeros_ascii : (n : ℕ) → IsAscii (replicate n 48)
-zeros_ascii zero = IsAscii-nil
-zeros_ascii (suc n) = IsAscii-cons 48 (replicate n 48) (omega arith) (zeros_ascii n)
+IsAscii-zeros : (n : ℕ) → IsAscii (replicate n 48)
+IsAscii-zeros zero = IsAscii-nil
+IsAscii-zeros (suc n) = IsAscii-cons 48 (replicate n 48) (omega arith) (IsAscii-zeros n)
 
-point_ascii : (text : List ℕ) → IsAscii text → IsAscii (with_point text)
-point_ascii text a = elim (list_any (λ c. c == 46) text) as
+IsAscii-with_point : (text : List ℕ) → IsAscii text → IsAscii (with_point text)
+IsAscii-with_point text a = elim (list_any (λ c. c == 46) text) as
     (λ b. IsAscii (if b then text else take 14 text ++ (46 ∷ drop 14 text))) [
       | true ↦ a
       | false ↦ IsAscii-append (take 14 text) (46 ∷ drop 14 text) (IsAscii-take text 14 a)
           (IsAscii-cons 46 (drop 14 text) (omega arith) (IsAscii-drop text 14 a))
     ]
 
-zeros_after_ascii : (text : List ℕ) → IsAscii text → IsAscii (with_zeros text)
-zeros_after_ascii text a =
+IsAscii-with_zeros : (text : List ℕ) → IsAscii text → IsAscii (with_zeros text)
+IsAscii-with_zeros text a =
     let last = length text - 1 in
-    let z = IsAscii-append (replicate (25 - length text) 48) (drop last text) (zeros_ascii (25 - length text))
+    let z = IsAscii-append (replicate (25 - length text) 48) (drop last text) (IsAscii-zeros (25 - length text))
     (IsAscii-drop text last a) in
     IsAscii-append (take last text) (replicate (25 - length text) 48 ++ drop last text) (IsAscii-take text last a) z
 
-pub longer_form_utf8 : (text : List ℕ) → list_all is_ascii text ≡ true → IsUtf8 (with_zeros (with_point text))
-longer_form_utf8 text e =
+pub IsUtf8-longer_form : (text : List ℕ) → list_all is_ascii text ≡ true → IsUtf8 (with_zeros (with_point text))
+IsUtf8-longer_form text e =
     IsUtf8-from_ascii (with_zeros (with_point text))
-    (zeros_after_ascii (with_point text) (point_ascii text (ascii_all text e)))
+    (IsAscii-with_zeros (with_point text) (IsAscii-with_point text (IsAscii-list_all text e)))
 
 -- the faults of at least 15 octets
-pub fault_not_utf8 : (contents : List ℕ) → 15 ≤ length contents → (IsUtf8 contents → ⊥) →
+pub utf8_fault-not_utf8 : (contents : List ℕ) → 15 ≤ length contents → (IsUtf8 contents → ⊥) →
     utf8_fault contents ≡ generalized_time_fault contents
-fault_not_utf8 contents h f = elim (cases_Bool (is_utf8 contents)) [
+utf8_fault-not_utf8 contents h f = elim (cases_Bool (is_utf8 contents)) [
   | inl e ↦ absurd (f (IsUtf8-from_is_utf8 contents e))
   | inr e ↦ grind (arith, nat_tests, h, e)
 ]
 
-pub fault_not_ascii :
+pub invalid_date_value-not_ascii :
     (contents : List ℕ) → 15 ≤ length contents → IsUtf8 contents → list_all is_ascii contents ≡ false
     → invalid_date_value contents ≡ generalized_time_fault contents
-fault_not_ascii contents h u a = let e = is_utf8-from_IsUtf8 contents u in grind (arith, nat_tests, h, e, a)
+invalid_date_value-not_ascii contents h u a = let e = is_utf8-from_IsUtf8 contents u in
+    grind (arith, nat_tests, h, e, a)
 
-pub fault_ascii :
+pub invalid_date_value-ascii :
     (contents : List ℕ) → 15 ≤ length contents → IsUtf8 contents → list_all is_ascii contents ≡ true
     → invalid_date_value (with_zeros (with_point contents)) ≡ generalized_time_fault contents
-fault_ascii contents h u a = let e = is_utf8-from_IsUtf8 contents u in grind (arith, nat_tests, h, e, a)
+invalid_date_value-ascii contents h u a = let e = is_utf8-from_IsUtf8 contents u in grind (arith, nat_tests, h, e, a)
 
 -- the moment that fourteen digits spell
 abbrev second_moment : List ℕ → ℕ → Moment
@@ -121,93 +122,98 @@ second_moment second n = record {
 }
 
 -- a moment is that of the octets that are written of it, with its nanoseconds
-second_moment_again : (m : Moment) → IsValid m → m ≡ second_moment (to_second m) m.nanosecond
-second_moment_again m v =
+second_moment-to_second : (m : Moment) → IsValid m → m ≡ second_moment (to_second m) m.nanosecond
+second_moment-to_second m v =
     let y = unsigned_abs m.year in
     let top : y ≤ 9999 = omega (arith, ints, v.four_digits, v.from_zero) in
-    let high = number_two_digits (y / 100) (omega (arith, top)) in
-    let low = number_two_digits (y % 100) (omega arith) in
+    let high = mul-add-two_digits (y / 100) (omega (arith, top)) in
+    let low = mul-add-two_digits (y % 100) (omega arith) in
     let octets = to_second m in
     let sum : y ≡ number_at octets 0 * 100 + number_at octets 2 = omega (arith, high, low) in
     let p : m.year ≡ pos y = omega (arith, ints, v.from_zero) in
-    moment_same m (second_moment (to_second m) m.nanosecond)
+    Moment-same_fields m (second_moment (to_second m) m.nanosecond)
     (p ∙ ap pos sum)
-    (sym (number_two_digits m.month (omega (arith, v.month))))
-    (sym (number_two_digits m.day (omega (arith, v.day, days_few m.year m.month))))
-    (sym (number_two_digits m.hour (omega (arith, v.hour))))
-    (sym (number_two_digits m.minute (omega (arith, v.minute))))
-    (sym (number_two_digits m.second (omega (arith, v.second))))
+    (sym (mul-add-two_digits m.month (omega (arith, v.month))))
+    (sym (mul-add-two_digits m.day (omega (arith, v.day, days_in_month-le m.year m.month))))
+    (sym (mul-add-two_digits m.hour (omega (arith, v.hour))))
+    (sym (mul-add-two_digits m.minute (omega (arith, v.minute))))
+    (sym (mul-add-two_digits m.second (omega (arith, v.second))))
     refl
 
 -- contents octets mean the moment of their first fourteen, with the fraction after them
-time_is :
+second_moment-contents :
     (m : Moment) (contents digits : List ℕ) → GeneralizedTimeContents m contents → IsEnd digits (drop 14 contents)
     → m ≡ second_moment (take 14 contents) (fraction_number tenth digits)
-time_is m contents digits p d =
+second_moment-contents m contents digits p d =
     let e : drop 14 contents ≡ p.end = ap (drop 14) p.octets in
     let f : p.digits ≡ digits =
-    end_alone (drop 14 contents) p.digits digits (subst (λ z. IsEnd p.digits z) (sym e) p.is_end) d in
+    IsEnd-unique (drop 14 contents) p.digits digits (subst (λ z. IsEnd p.digits z) (sym e) p.is_end) d in
     let n : m.nanosecond ≡ fraction_number tenth digits = p.nanosecond ∙ ap (fraction_number tenth) f in
     let t : to_second m ≡ take 14 contents = sym (ap (take 14) p.octets) in
-    second_moment_again m p.valid ∙ (ap (λ z. second_moment z m.nanosecond) t ∙ ap (second_moment (take 14 contents)) n)
+    second_moment-to_second m p.valid
+    ∙ (ap (λ z. second_moment z m.nanosecond) t ∙ ap (second_moment (take 14 contents)) n)
 
-end_of : (m : Moment) (contents : List ℕ) (p : GeneralizedTimeContents m contents) → IsEnd p.digits (drop 14 contents)
-end_of m contents p = subst (λ z. IsEnd p.digits z) (sym (ap (drop 14) p.octets)) p.is_end
+IsEnd-contents : (m : Moment) (contents : List ℕ) (p : GeneralizedTimeContents m contents) →
+    IsEnd p.digits (drop 14 contents)
+IsEnd-contents m contents p = subst (λ z. IsEnd p.digits z) (sym (ap (drop 14) p.octets)) p.is_end
 
 -- contents octets mean one moment
-pub generalized_time_alone : (m n : Moment) (contents : List ℕ) → GeneralizedTimeContents m contents →
+pub GeneralizedTimeContents-unique : (m n : Moment) (contents : List ℕ) → GeneralizedTimeContents m contents →
     GeneralizedTimeContents n contents → m ≡ n
-generalized_time_alone m n contents p q =
-    let d = end_of m contents p in
-    time_is m contents p.digits p d ∙ sym (time_is n contents p.digits q d)
+GeneralizedTimeContents-unique m n contents p q =
+    let d = IsEnd-contents m contents p in
+    second_moment-contents m contents p.digits p d ∙ sym (second_moment-contents n contents p.digits q d)
 
 -- the fault is one
-pub generalized_time_fault_alone : (contents : List ℕ) (e d : DecodeFault) → GeneralizedTimeFault contents e →
+pub GeneralizedTimeFault-unique : (contents : List ℕ) (e d : DecodeFault) → GeneralizedTimeFault contents e →
     GeneralizedTimeFault contents d → e ≡ d
-generalized_time_fault_alone contents e d p q = p.1 ∙ sym q.1
+GeneralizedTimeFault-unique contents e d p q = p.1 ∙ sym q.1
 
 -- contents octets at fault mean no moment
-pub generalized_time_no_fault : (m : Moment) (contents : List ℕ) (e : DecodeFault) → GeneralizedTimeContents m contents
+pub GeneralizedTimeContents-no_fault : (m : Moment) (contents : List ℕ) (e : DecodeFault) →
+    GeneralizedTimeContents m contents
     → GeneralizedTimeFault contents e → ⊥
-generalized_time_no_fault m contents e p f = f.0 m p
+GeneralizedTimeContents-no_fault m contents e p f = f.0 m p
 
 -- the fault is one that octets can have
-fault_of_reading : (contents : List ℕ) → IsOfReading (generalized_time_fault contents)
-fault_of_reading contents = elim (cases_lt (length contents) 15) [
+IsOfReading-generalized_time_fault : (contents : List ℕ) → IsOfReading (generalized_time_fault contents)
+IsOfReading-generalized_time_fault contents = elim (cases_lt (length contents) 15) [
   | inl l ↦
       let e : generalized_time_fault contents ≡ invalid_date_value (decimal (length contents)) =
       grind (arith, nat_tests, l) in
       subst IsOfReading (sym e) tt
   | inr h ↦ elim (cases_Bool (is_utf8 contents)) [
-    | inr f ↦ subst IsOfReading (fault_not_utf8 contents h (λ u. false≢true (sym f ∙ is_utf8-from_IsUtf8 contents u)))
+    | inr f ↦ subst IsOfReading
+        (utf8_fault-not_utf8 contents h (λ u. false≢true (sym f ∙ is_utf8-from_IsUtf8 contents u)))
         tt
     | inl u ↦ elim (cases_Bool (list_all is_ascii contents)) [
-      | inl a ↦ subst IsOfReading (fault_ascii contents h (IsUtf8-from_is_utf8 contents u) a) tt
-      | inr a ↦ subst IsOfReading (fault_not_ascii contents h (IsUtf8-from_is_utf8 contents u) a) tt
+      | inl a ↦ subst IsOfReading (invalid_date_value-ascii contents h (IsUtf8-from_is_utf8 contents u) a) tt
+      | inr a ↦ subst IsOfReading (invalid_date_value-not_ascii contents h (IsUtf8-from_is_utf8 contents u) a) tt
     ]
   ]
 ]
 
-pub generalized_time_of_reading : (contents : List ℕ) (e : DecodeFault) → GeneralizedTimeFault contents e →
+pub GeneralizedTimeFault-of_reading : (contents : List ℕ) (e : DecodeFault) → GeneralizedTimeFault contents e →
     IsOfReading e
-generalized_time_of_reading contents e f = subst IsOfReading (sym f.1) (fault_of_reading contents)
+GeneralizedTimeFault-of_reading contents e f = subst IsOfReading (sym f.1) (IsOfReading-generalized_time_fault contents)
 
 -- contents octets mean a moment, or they are at fault
-at_fault : (contents : List ℕ) → ((m : Moment) → GeneralizedTimeContents m contents → ⊥) →
+GeneralizedTimeFault-no_moment : (contents : List ℕ) → ((m : Moment) → GeneralizedTimeContents m contents → ⊥) →
     (e : DecodeFault) × GeneralizedTimeFault contents e
-at_fault contents none = (generalized_time_fault contents, (none, refl))
+GeneralizedTimeFault-no_moment contents none = (generalized_time_fault contents, (none, refl))
 
-pub generalized_time_meaning : (contents : List ℕ)
+pub GeneralizedTimeContents-or_fault : (contents : List ℕ)
     → ((m : Moment) × GeneralizedTimeContents m contents) ⊎ ((e : DecodeFault) × GeneralizedTimeFault contents e)
-generalized_time_meaning contents = elim (end_known (drop 14 contents)) [
-  | inr no_end ↦ inr (at_fault contents (λ n p. no_end (p.digits, end_of n contents p)))
+GeneralizedTimeContents-or_fault contents = elim (IsEnd-known (drop 14 contents)) [
+  | inr no_end ↦ inr (GeneralizedTimeFault-no_moment contents (λ n p. no_end (p.digits, IsEnd-contents n contents p)))
   | inl d ↦
       let m = second_moment (take 14 contents) (fraction_number tenth d.0) in
-      elim (valid_known m (omega (arith, ints))) [
-        | inr no_v ↦ inr (at_fault contents (λ n p. no_v (subst IsValid (time_is n contents d.0 p d.1) p.valid)))
-        | inl v ↦ elim (octets_known (take 14 contents) (to_second m)) [
-          | inr no_s ↦ inr (at_fault contents
-              (λ n p. no_s (ap (take 14) p.octets ∙ ap to_second (time_is n contents d.0 p d.1))))
+      elim (IsValid-known m (omega (arith, ints))) [
+        | inr no_v ↦ inr (GeneralizedTimeFault-no_moment contents
+            (λ n p. no_v (subst IsValid (second_moment-contents n contents d.0 p d.1) p.valid)))
+        | inl v ↦ elim (Known-octets (take 14 contents) (to_second m)) [
+          | inr no_s ↦ inr (GeneralizedTimeFault-no_moment contents
+              (λ n p. no_s (ap (take 14) p.octets ∙ ap to_second (second_moment-contents n contents d.0 p d.1))))
           | inl s ↦ inl (
             m,
             record {
@@ -224,26 +230,26 @@ generalized_time_meaning contents = elim (end_known (drop 14 contents)) [
 ]
 
 -- what was read can be written
-pub generalized_time_writable : (m : Moment) (contents : List ℕ) → GeneralizedTimeContents m contents →
+pub moment_write_fault-generalized_time_read : (m : Moment) (contents : List ℕ) → GeneralizedTimeContents m contents →
     moment_write_fault m ≡ None
-generalized_time_writable m contents p = valid_writable m p.valid
+moment_write_fault-generalized_time_read m contents p = moment_write_fault-valid m p.valid
 
 -- what is written of a faithful moment means it
-some_fraction : (n : ℕ) → 0 < n → written_fraction n ≡ 46 ∷ fraction_digits 9 tenth n
-some_fraction n h = grind (arith, nat_tests, h)
+written_fraction-some : (n : ℕ) → 0 < n → written_fraction n ≡ 46 ∷ fraction_digits 9 tenth n
+written_fraction-some n h = grind (arith, nat_tests, h)
 
-fraction_end : (n : ℕ) → n < 1000000000 →
+IsEnd-written_fraction : (n : ℕ) → n < 1000000000 →
     (digits : List ℕ) × IsEnd digits (written_fraction n ++ (90 ∷ [])) × (n ≡ fraction_number tenth digits)
-fraction_end zero h = ([], (refl, inl refl), refl)
-fraction_end (suc n) h =
-    let i = fraction_again 8 tenth (suc n) refl h in
-    let e = some_fraction (suc n) (omega arith) in
+IsEnd-written_fraction zero h = ([], (refl, inl refl), refl)
+IsEnd-written_fraction (suc n) h =
+    let i = fraction_number-fraction_digits 8 tenth (suc n) refl h in
+    let e = written_fraction-some (suc n) (omega arith) in
     (fraction_digits 9 tenth (suc n), (i.0, inr (ap (λ z. z ++ (90 ∷ [])) e)), sym i.1)
 
-pub generalized_time_again : (m : Moment) → IsFaithfulGeneralizedTime m →
+pub GeneralizedTimeContents-written : (m : Moment) → IsFaithfulGeneralizedTime m →
     GeneralizedTimeContents m (generalized_time_contents m)
-generalized_time_again m v =
-    let (digits, ends, is) = fraction_end m.nanosecond v.nanosecond in
+GeneralizedTimeContents-written m v =
+    let (digits, ends, is) = IsEnd-written_fraction m.nanosecond v.nanosecond in
     record {
       valid = v;
       digits = digits;
@@ -255,16 +261,17 @@ generalized_time_again m v =
     }
 
 -- a faithful moment can be written
-pub generalized_time_fits : (m : Moment) → IsFaithfulGeneralizedTime m → moment_write_fault m ≡ None
-generalized_time_fits m v = valid_writable m v
+pub moment_write_fault-faithful_generalized_time : (m : Moment) → IsFaithfulGeneralizedTime m →
+    moment_write_fault m ≡ None
+moment_write_fault-faithful_generalized_time m v = moment_write_fault-valid m v
 
 -- a moment is faithful where what is written means it
-pub generalized_time_kept : (m : Moment) → moment_write_fault m ≡ None →
+pub IsFaithfulGeneralizedTime-written : (m : Moment) → moment_write_fault m ≡ None →
     GeneralizedTimeContents m (generalized_time_contents m)
     → IsFaithfulGeneralizedTime m
-generalized_time_kept m w p = p.valid
+IsFaithfulGeneralizedTime-written m w p = p.valid
 
 -- what was read is faithful
-pub generalized_time_read : (m : Moment) (contents : List ℕ) → GeneralizedTimeContents m contents →
+pub IsFaithfulGeneralizedTime-read : (m : Moment) (contents : List ℕ) → GeneralizedTimeContents m contents →
     IsFaithfulGeneralizedTime m
-generalized_time_read m contents p = p.valid
+IsFaithfulGeneralizedTime-read m contents p = p.valid

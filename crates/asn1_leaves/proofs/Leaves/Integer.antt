@@ -4,5 +4,6 @@ use Rattle.std.specs.Prelude.{ℤ}
 use Rattle.asn1_leaves.specs.Contents.Integer.{IntegerContents}
 
 -- contents octets mean one number
-pub integer_alone : (m n : ℤ) (contents : List ℕ) → IntegerContents m contents → IntegerContents n contents → m ≡ n
-integer_alone m n contents p q = p ∙ sym q
+pub IntegerContents-unique : (m n : ℤ) (contents : List ℕ) → IntegerContents m contents → IntegerContents n contents →
+    m ≡ n
+IntegerContents-unique m n contents p q = p ∙ sym q

@@ -9,21 +9,21 @@ abbrev pub Known : Type 0 → Type 0
 Known P = P ⊎ (P → ⊥)
 
 -- a fact that holds only where another does
-pub known_within : {A B : Type 0} → Known A → (B → A) → (A → Known B) → Known B
-known_within (inl a) f g = g a
-known_within (inr no_a) f g = inr (λ b. no_a (f b))
+pub Known-within : {A B : Type 0} → Known A → (B → A) → (A → Known B) → Known B
+Known-within (inl a) f g = g a
+Known-within (inr no_a) f g = inr (λ b. no_a (f b))
 
-pub below_known : (a b : ℕ) → Known (a < b)
-below_known a b = elim (cases_lt a b) [ inl l ↦ inl l | inr g ↦ inr (λ l. omega (arith, l, g)) ]
+pub Known-lt : (a b : ℕ) → Known (a < b)
+Known-lt a b = elim (cases_lt a b) [ inl l ↦ inl l | inr g ↦ inr (λ l. omega (arith, l, g)) ]
 
-pub range_known : (low high n : ℕ) → Known (IsInRange low high n)
-range_known low high n = elim (cases_lt n low) [
+pub Known-IsInRange : (low high n : ℕ) → Known (IsInRange low high n)
+Known-IsInRange low high n = elim (cases_lt n low) [
   | inl l ↦ inr (λ r. omega (arith, l, r))
   | inr g ↦ elim (cases_lt high n) [ inl m ↦ inr (λ r. omega (arith, m, r)) | inr h ↦ inl (g, h) ]
 ]
 
-pub octets_known : (xs ys : List ℕ) → Known (xs ≡ ys)
-octets_known xs ys = let d = bytes_eq-Decides xs ys in elim (cases_Bool (bytes_eq xs ys)) [
+pub Known-octets : (xs ys : List ℕ) → Known (xs ≡ ys)
+Known-octets xs ys = let d = bytes_eq-Decides xs ys in elim (cases_Bool (bytes_eq xs ys)) [
   | inl e ↦ inl (d.0 e)
   | inr e ↦ inr (λ s. false≢true (sym e ∙ d.1 s))
 ]

@@ -7,45 +7,45 @@ use Rattle.std.proofs.lemmas.List.Elements.{All-head}
 use Rattle.asn1_numbers.specs.Base128.{shortest_base128}
 use Rattle.asn1_leaves.specs.Contents.ObjectIdentifier.{AreFirstTwo, IsFaithfulObjectIdentifier, ObjectIdentifierContents, ObjectIdentifierFault, Subidentifiers, object_identifier_contents, object_identifier_write_fault}
 use Rattle.asn1_headers.specs.Fault.{DecodeFault, IsOfReading, incomplete}
-use Rattle.asn1_leaves.proofs.Subidentifiers.{subidentifiers_alone, subidentifiers_ended, subidentifiers_shortest, subidentifiers_unended}
+use Rattle.asn1_leaves.proofs.Subidentifiers.{Subidentifiers-unique, Subidentifiers-ended, Subidentifiers-shortest, Subidentifiers-unended}
 
 -- the first two components of a number
-first_alone : (v w x y n : ℕ) → AreFirstTwo v w n → AreFirstTwo x y n → (v ≡ x) × (w ≡ y)
-first_alone v w x y n (e, p, inl q) (f, r, inl s) = (omega (arith, e, f, q, s), omega (arith, e, f, q, s))
-first_alone v w x y n (e, p, inl q) (f, r, inr s) = (omega (arith, e, f, p, q, s), omega (arith, e, f, p, q, s))
-first_alone v w x y n (e, p, inr q) (f, r, inl s) = (omega (arith, e, f, r, q, s), omega (arith, e, f, r, q, s))
-first_alone v w x y n (e, p, inr q) (f, r, inr s) = (q ∙ sym s, omega (arith, e, f, q, s))
+AreFirstTwo-unique : (v w x y n : ℕ) → AreFirstTwo v w n → AreFirstTwo x y n → (v ≡ x) × (w ≡ y)
+AreFirstTwo-unique v w x y n (e, p, inl q) (f, r, inl s) = (omega (arith, e, f, q, s), omega (arith, e, f, q, s))
+AreFirstTwo-unique v w x y n (e, p, inl q) (f, r, inr s) = (omega (arith, e, f, p, q, s), omega (arith, e, f, p, q, s))
+AreFirstTwo-unique v w x y n (e, p, inr q) (f, r, inl s) = (omega (arith, e, f, r, q, s), omega (arith, e, f, r, q, s))
+AreFirstTwo-unique v w x y n (e, p, inr q) (f, r, inr s) = (q ∙ sym s, omega (arith, e, f, q, s))
 
 -- contents octets mean one list of components
-pub object_identifier_alone : (ms ns contents : List ℕ) → ObjectIdentifierContents ms contents →
+pub ObjectIdentifierContents-unique : (ms ns contents : List ℕ) → ObjectIdentifierContents ms contents →
     ObjectIdentifierContents ns contents → ms ≡ ns
-object_identifier_alone [] ns contents p q = absurd p
-object_identifier_alone (v ∷ []) ns contents p q = absurd p
-object_identifier_alone (v ∷ w ∷ ms) [] contents p q = absurd q
-object_identifier_alone (v ∷ w ∷ ms) (x ∷ []) contents p q = absurd q
-object_identifier_alone (v ∷ w ∷ ms) (x ∷ y ∷ ns) contents (b, octets, e, f, s) (c, rest, g, h, t) =
+ObjectIdentifierContents-unique [] ns contents p q = absurd p
+ObjectIdentifierContents-unique (v ∷ []) ns contents p q = absurd p
+ObjectIdentifierContents-unique (v ∷ w ∷ ms) [] contents p q = absurd q
+ObjectIdentifierContents-unique (v ∷ w ∷ ms) (x ∷ []) contents p q = absurd q
+ObjectIdentifierContents-unique (v ∷ w ∷ ms) (x ∷ y ∷ ns) contents (b, octets, e, f, s) (c, rest, g, h, t) =
     let whole : b ∷ octets ≡ c ∷ rest = sym e ∙ g in
     let same : c ≡ b = cc in
     let left : rest ≡ octets = cc in
-    let first = first_alone v w x y b f (subst (AreFirstTwo x y) same h) in
-    let others : ms ≡ ns = subidentifiers_alone ms ns octets s (subst (Subidentifiers ns) left t) in
+    let first = AreFirstTwo-unique v w x y b f (subst (AreFirstTwo x y) same h) in
+    let others : ms ≡ ns = Subidentifiers-unique ms ns octets s (subst (Subidentifiers ns) left t) in
     let first_is : v ≡ x = first.0 in
     let second_is : w ≡ y = first.1 in
     cc
 
 -- contents octets have one fault
-pub object_identifier_fault_alone : (contents : List ℕ) (e d : DecodeFault) → ObjectIdentifierFault contents e
+pub ObjectIdentifierFault-unique : (contents : List ℕ) (e d : DecodeFault) → ObjectIdentifierFault contents e
     → ObjectIdentifierFault contents d → e ≡ d
-object_identifier_fault_alone contents e d p q = p.0 ∙ sym q.0
+ObjectIdentifierFault-unique contents e d p q = p.0 ∙ sym q.0
 
 -- contents octets that mean components have no fault
-pub object_identifier_no_fault : (ns contents : List ℕ) (e : DecodeFault) → ObjectIdentifierContents ns contents
+pub ObjectIdentifierContents-no_fault : (ns contents : List ℕ) (e : DecodeFault) → ObjectIdentifierContents ns contents
     → ObjectIdentifierFault contents e → ⊥
-object_identifier_no_fault ns contents e p f = f.1 ns p
+ObjectIdentifierContents-no_fault ns contents e p f = f.1 ns p
 
 -- the first two components of any number
-pub first_two : (b : ℕ) → (x : ℕ) × (y : ℕ) × AreFirstTwo x y b
-first_two b = elim (cases_lt b 40) [
+pub AreFirstTwo-some : (b : ℕ) → (x : ℕ) × (y : ℕ) × AreFirstTwo x y b
+AreFirstTwo-some b = elim (cases_lt b 40) [
   | inl low ↦ (0, b, (omega arith, omega arith, inl low))
   | inr above ↦ elim (cases_lt b 80) [
     | inl middle ↦ (1, b - 40, (omega (arith, above), omega arith, inl (omega (arith, above, middle))))
@@ -53,83 +53,89 @@ first_two b = elim (cases_lt b 40) [
   ]
 ]
 
-no_subidentifiers : (b : ℕ) (octets : List ℕ) → ((ns : List ℕ) → Subidentifiers ns octets → ⊥) → (ns : List ℕ)
+ObjectIdentifierContents-no_subidentifiers : (b : ℕ) (octets : List ℕ) →
+    ((ns : List ℕ) → Subidentifiers ns octets → ⊥) → (ns : List ℕ)
     → ObjectIdentifierContents ns (b ∷ octets) → ⊥
-no_subidentifiers b octets none [] p = p
-no_subidentifiers b octets none (x ∷ []) p = p
-no_subidentifiers b octets none (x ∷ y ∷ ns) (c, rest, e, f, s) =
+ObjectIdentifierContents-no_subidentifiers b octets none [] p = p
+ObjectIdentifierContents-no_subidentifiers b octets none (x ∷ []) p = p
+ObjectIdentifierContents-no_subidentifiers b octets none (x ∷ y ∷ ns) (c, rest, e, f, s) =
     let left : rest ≡ octets = cc in
     none ns (subst (Subidentifiers ns) left s)
 
-no_octets : (ns : List ℕ) → ObjectIdentifierContents ns [] → ⊥
-no_octets [] p = p
-no_octets (x ∷ []) p = p
-no_octets (x ∷ y ∷ ns) (c, rest, e, f, s) = cc
+ObjectIdentifierContents-not_nil : (ns : List ℕ) → ObjectIdentifierContents ns [] → ⊥
+ObjectIdentifierContents-not_nil [] p = p
+ObjectIdentifierContents-not_nil (x ∷ []) p = p
+ObjectIdentifierContents-not_nil (x ∷ y ∷ ns) (c, rest, e, f, s) = cc
 
 -- one octet, and after it the last ends a subidentifier
-pub object_identifier_ended : (b : ℕ) (octets : List ℕ) → get_or octets (length octets - 1) 0 < 128
+pub ObjectIdentifierContents-ended : (b : ℕ) (octets : List ℕ) → get_or octets (length octets - 1) 0 < 128
     → (ns : List ℕ) × ObjectIdentifierContents ns (b ∷ octets)
-object_identifier_ended b octets low =
-    let f = first_two b in
-    let s = subidentifiers_ended octets low in
+ObjectIdentifierContents-ended b octets low =
+    let f = AreFirstTwo-some b in
+    let s = Subidentifiers-ended octets low in
     (f.0 ∷ f.1 ∷ s.0, (b, octets, refl, f.2, s.1))
 
-pub object_identifier_unended : (b : ℕ) (octets : List ℕ) → 128 ≤ get_or octets (length octets - 1) 0 → (ns : List ℕ)
+pub ObjectIdentifierContents-unended : (b : ℕ) (octets : List ℕ) → 128 ≤ get_or octets (length octets - 1) 0 →
+    (ns : List ℕ)
     → ObjectIdentifierContents ns (b ∷ octets) → ⊥
-object_identifier_unended b octets high = no_subidentifiers b octets (subidentifiers_unended octets high)
+ObjectIdentifierContents-unended b octets high =
+    ObjectIdentifierContents-no_subidentifiers b octets (Subidentifiers-unended octets high)
 
 -- contents octets that mean no components have a fault
-pub object_identifier_meaning : (contents : List ℕ)
+pub ObjectIdentifierContents-or_fault : (contents : List ℕ)
     → ((ns : List ℕ) × ObjectIdentifierContents ns contents) ⊎ ((e : DecodeFault) × ObjectIdentifierFault contents e)
-object_identifier_meaning [] = inr (incomplete, (refl, no_octets))
-object_identifier_meaning (b ∷ octets) = elim (cases_lt (get_or octets (length octets - 1) 0) 128) [
-  | inl low ↦ inl (object_identifier_ended b octets low)
-  | inr high ↦ inr (incomplete, (refl, object_identifier_unended b octets high))
+ObjectIdentifierContents-or_fault [] = inr (incomplete, (refl, ObjectIdentifierContents-not_nil))
+ObjectIdentifierContents-or_fault (b ∷ octets) = elim (cases_lt (get_or octets (length octets - 1) 0) 128) [
+  | inl low ↦ inl (ObjectIdentifierContents-ended b octets low)
+  | inr high ↦ inr (incomplete, (refl, ObjectIdentifierContents-unended b octets high))
 ]
 
 -- the fault is one of reading
-pub object_identifier_fault_of_reading : (contents : List ℕ) (e : DecodeFault) → ObjectIdentifierFault contents e →
+pub ObjectIdentifierFault-of_reading : (contents : List ℕ) (e : DecodeFault) → ObjectIdentifierFault contents e →
     IsOfReading e
-object_identifier_fault_of_reading contents e f = subst IsOfReading (sym f.0) tt
+ObjectIdentifierFault-of_reading contents e f = subst IsOfReading (sym f.0) tt
 
-first_writable : (x y b : ℕ) (ns : List ℕ) → b < 256 → AreFirstTwo x y b →
+object_identifier_write_fault-first_two : (x y b : ℕ) (ns : List ℕ) → b < 256 → AreFirstTwo x y b →
     object_identifier_write_fault (x ∷ y ∷ ns) ≡ None
-first_writable x y b ns small (e, p, inl q) = grind (arith, e, p, q, small)
-first_writable x y b ns small (e, p, inr q) = grind (arith, e, p, q, small)
+object_identifier_write_fault-first_two x y b ns small (e, p, inl q) = grind (arith, e, p, q, small)
+object_identifier_write_fault-first_two x y b ns small (e, p, inr q) = grind (arith, e, p, q, small)
 
 -- components that octets mean can be written
-pub object_identifier_writable : (ns contents : List ℕ) → All (λ b. b < 256) contents →
+pub object_identifier_write_fault-read : (ns contents : List ℕ) → All (λ b. b < 256) contents →
     ObjectIdentifierContents ns contents
     → object_identifier_write_fault ns ≡ None
-object_identifier_writable [] contents all p = absurd p
-object_identifier_writable (x ∷ []) contents all p = absurd p
-object_identifier_writable (x ∷ y ∷ ns) contents all (b, rest, e, f, s) =
-    first_writable x y b ns (All-head (λ b. b < 256) b rest (subst (All (λ b. b < 256)) e all)) f
+object_identifier_write_fault-read [] contents all p = absurd p
+object_identifier_write_fault-read (x ∷ []) contents all p = absurd p
+object_identifier_write_fault-read (x ∷ y ∷ ns) contents all (b, rest, e, f, s) =
+    object_identifier_write_fault-first_two x y b ns (All-head (λ b. b < 256) b rest (subst (All (λ b. b < 256)) e all))
+    f
 
 -- components that can be written are the first two of their octet
-written_first : (x y : ℕ) (ns : List ℕ) → object_identifier_write_fault (x ∷ y ∷ ns) ≡ None →
+AreFirstTwo-writable : (x y : ℕ) (ns : List ℕ) → object_identifier_write_fault (x ∷ y ∷ ns) ≡ None →
     AreFirstTwo x y (40 * x + y)
-written_first x y ns fits = (refl, grind (arith, fits), grind (arith, fits))
+AreFirstTwo-writable x y ns fits = (refl, grind (arith, fits), grind (arith, fits))
 
 -- contents octets that are written of faithful components mean them
-pub object_identifier_again : (ns : List ℕ) → IsFaithfulObjectIdentifier ns →
+pub ObjectIdentifierContents-written : (ns : List ℕ) → IsFaithfulObjectIdentifier ns →
     ObjectIdentifierContents ns (object_identifier_contents ns)
-object_identifier_again [] f = cc
-object_identifier_again (x ∷ []) f = cc
-object_identifier_again (x ∷ y ∷ ns) f =
-    (40 * x + y, flat_map shortest_base128 ns, refl, written_first x y ns f, subidentifiers_shortest ns)
+ObjectIdentifierContents-written [] f = cc
+ObjectIdentifierContents-written (x ∷ []) f = cc
+ObjectIdentifierContents-written (x ∷ y ∷ ns) f =
+    (40 * x + y, flat_map shortest_base128 ns, refl, AreFirstTwo-writable x y ns f, Subidentifiers-shortest ns)
 
 -- faithful components can be written
-pub object_identifier_fits : (ns : List ℕ) → IsFaithfulObjectIdentifier ns → object_identifier_write_fault ns ≡ None
-object_identifier_fits ns f = f
+pub object_identifier_write_fault-faithful : (ns : List ℕ) → IsFaithfulObjectIdentifier ns →
+    object_identifier_write_fault ns ≡ None
+object_identifier_write_fault-faithful ns f = f
 
 -- components that can be written are faithful where what is written means them
-pub object_identifier_kept : (ns : List ℕ) → object_identifier_write_fault ns ≡ None →
+pub IsFaithfulObjectIdentifier-written : (ns : List ℕ) → object_identifier_write_fault ns ≡ None →
     ObjectIdentifierContents ns (object_identifier_contents ns)
     → IsFaithfulObjectIdentifier ns
-object_identifier_kept ns fits p = fits
+IsFaithfulObjectIdentifier-written ns fits p = fits
 
 -- components that octets mean are faithful
-pub object_identifier_read : (ns contents : List ℕ) → All (λ b. b < 256) contents → ObjectIdentifierContents ns contents
+pub IsFaithfulObjectIdentifier-read : (ns contents : List ℕ) → All (λ b. b < 256) contents →
+    ObjectIdentifierContents ns contents
     → IsFaithfulObjectIdentifier ns
-object_identifier_read ns contents all p = object_identifier_writable ns contents all p
+IsFaithfulObjectIdentifier-read ns contents all p = object_identifier_write_fault-read ns contents all p

@@ -8,15 +8,15 @@ use Rattle.asn1_leaves.specs.Inner.DigitFields.{IsSpelled, PairAt}
 use Rattle.asn1_leaves.specs.Contents.Moment.{Moment, moment_write_fault}
 use Rattle.asn1_leaves.specs.Contents.UtcTime.{IsFaithfulUtcTime, UtcTimeContents, UtcTimeFault, utc_time_contents, utc_time_fault}
 use Rattle.asn1_headers.specs.Fault.{DecodeFault, IsOfReading}
-use Rattle.asn1_leaves.proofs.Leaves.Known.{Known, known_within, below_known, octets_known}
-use Rattle.asn1_leaves.proofs.Leaves.Digits.{days_few, moment_same, number_at, number_two_digits, valid_known, valid_writable}
+use Rattle.asn1_leaves.proofs.Leaves.Known.{Known, Known-within, Known-lt, Known-octets}
+use Rattle.asn1_leaves.proofs.Leaves.Digits.{days_in_month-le, Moment-same_fields, number_at, mul-add-two_digits, IsValid-known, moment_write_fault-valid}
 
 -- octets by place are those that are written
-pub utc_time_spelled :
+pub utc_time_contents-spelled :
     (contents : List ℕ) (year short : ℕ) (m : Moment) → length contents ≡ 13 → slice_index contents 12 ≡ 90 →
     PairAt contents 0 short
     → year % 100 ≡ short → IsSpelled year (slice_range contents 2 12) 0 m → contents ≡ utc_time_contents m
-utc_time_spelled (a ∷ b ∷ c ∷ d ∷ e ∷ f ∷ g ∷ h ∷ i ∷ j ∷ k ∷ l ∷ z ∷ []) year short m size ends p s q =
+utc_time_contents-spelled (a ∷ b ∷ c ∷ d ∷ e ∷ f ∷ g ∷ h ∷ i ∷ j ∷ k ∷ l ∷ z ∷ []) year short m size ends p s q =
     let y : unsigned_abs m.year % 100 ≡ short = ap (λ x. unsigned_abs x % 100) q.year_is ∙ s in
     rw y (
     let a' = p.tens in let b' = p.units in
@@ -26,7 +26,7 @@ utc_time_spelled (a ∷ b ∷ c ∷ d ∷ e ∷ f ∷ g ∷ h ∷ i ∷ j ∷ k 
     let i' = q.minute_at.tens in let j' = q.minute_at.units in
     let k' = q.second_at.tens in let l' = q.second_at.units in
     cc)
-utc_time_spelled contents year short m size ends p s q = absurd (omega (arith, size))
+utc_time_contents-spelled contents year short m size ends p s q = absurd (omega (arith, size))
 
 -- the moment that twelve digits spell
 full_year : ℕ → ℕ
@@ -43,97 +43,99 @@ utc_moment contents = record {
   nanosecond = 0;
 }
 
-full_year_from : (n : ℕ) → 1950 ≤ full_year n
+full_year-ge : (n : ℕ) → 1950 ≤ full_year n
 unfolding full_year
-full_year_from n = grind (arith, nat_tests)
+full_year-ge n = grind (arith, nat_tests)
 
-full_year_of : (y n : ℕ) → 1950 ≤ y → y ≤ 2049 → n ≡ y % 100 → y ≡ full_year n
+full_year-mod : (y n : ℕ) → 1950 ≤ y → y ≤ 2049 → n ≡ y % 100 → y ≡ full_year n
 unfolding full_year
-full_year_of y n a b e = grind (arith, nat_tests, a, b, e)
+full_year-mod y n a b e = grind (arith, nat_tests, a, b, e)
 
 -- a faithful moment is that of the octets that are written of it
-utc_moment_again : (m : Moment) → IsFaithfulUtcTime m → m ≡ utc_moment (utc_time_contents m)
-utc_moment_again m f =
+utc_moment-utc_time_contents : (m : Moment) → IsFaithfulUtcTime m → m ≡ utc_moment (utc_time_contents m)
+utc_moment-utc_time_contents m f =
     let y = unsigned_abs m.year in
     let n : (48 + y % 100 / 10 - 48) * 10 + (48 + y % 100 % 10 - 48) ≡ y % 100 =
-    number_two_digits (y % 100) (omega arith) in
+    mul-add-two_digits (y % 100) (omega arith) in
     let a : 1950 ≤ y = omega (arith, ints, f.from_1950) in
     let b : y ≤ 2049 = omega (arith, ints, f.to_2049, f.from_1950) in
-    let g = full_year_of y ((48 + y % 100 / 10 - 48) * 10 + (48 + y % 100 % 10 - 48)) a b n in
+    let g = full_year-mod y ((48 + y % 100 / 10 - 48) * 10 + (48 + y % 100 % 10 - 48)) a b n in
     let p : m.year ≡ pos y = omega (arith, ints, f.from_1950) in
-    moment_same m (utc_moment (utc_time_contents m))
+    Moment-same_fields m (utc_moment (utc_time_contents m))
     (p ∙ ap pos g)
-    (sym (number_two_digits m.month (omega (arith, f.valid.month))))
-    (sym (number_two_digits m.day (omega (arith, f.valid.day, days_few m.year m.month))))
-    (sym (number_two_digits m.hour (omega (arith, f.valid.hour))))
-    (sym (number_two_digits m.minute (omega (arith, f.valid.minute))))
-    (sym (number_two_digits m.second (omega (arith, f.valid.second))))
+    (sym (mul-add-two_digits m.month (omega (arith, f.valid.month))))
+    (sym (mul-add-two_digits m.day (omega (arith, f.valid.day, days_in_month-le m.year m.month))))
+    (sym (mul-add-two_digits m.hour (omega (arith, f.valid.hour))))
+    (sym (mul-add-two_digits m.minute (omega (arith, f.valid.minute))))
+    (sym (mul-add-two_digits m.second (omega (arith, f.valid.second))))
     f.whole_second
 
-utc_time_is : (m : Moment) (contents : List ℕ) → UtcTimeContents m contents → m ≡ utc_moment contents
-utc_time_is m contents p = utc_moment_again m p.0 ∙ ap utc_moment (sym p.1)
+utc_moment-contents : (m : Moment) (contents : List ℕ) → UtcTimeContents m contents → m ≡ utc_moment contents
+utc_moment-contents m contents p = utc_moment-utc_time_contents m p.0 ∙ ap utc_moment (sym p.1)
 
 -- contents octets mean one moment
-pub utc_time_alone : (m n : Moment) (contents : List ℕ) → UtcTimeContents m contents → UtcTimeContents n contents →
+pub UtcTimeContents-unique : (m n : Moment) (contents : List ℕ) → UtcTimeContents m contents →
+    UtcTimeContents n contents →
     m ≡ n
-utc_time_alone m n contents p q = utc_time_is m contents p ∙ sym (utc_time_is n contents q)
+UtcTimeContents-unique m n contents p q = utc_moment-contents m contents p ∙ sym (utc_moment-contents n contents q)
 
 -- the fault is one
-pub utc_time_fault_alone : (contents : List ℕ) (e d : DecodeFault) → UtcTimeFault contents e → UtcTimeFault contents d →
+pub UtcTimeFault-unique : (contents : List ℕ) (e d : DecodeFault) → UtcTimeFault contents e → UtcTimeFault contents d →
     e ≡ d
-utc_time_fault_alone contents e d p q = p.1 ∙ sym q.1
+UtcTimeFault-unique contents e d p q = p.1 ∙ sym q.1
 
 -- contents octets at fault mean no moment
-pub utc_time_no_fault : (m : Moment) (contents : List ℕ) (e : DecodeFault) → UtcTimeContents m contents →
+pub UtcTimeContents-no_fault : (m : Moment) (contents : List ℕ) (e : DecodeFault) → UtcTimeContents m contents →
     UtcTimeFault contents e → ⊥
-utc_time_no_fault m contents e p f = f.0 m p
+UtcTimeContents-no_fault m contents e p f = f.0 m p
 
 -- the fault is one that octets can have
-pub utc_time_of_reading : (contents : List ℕ) (e : DecodeFault) → UtcTimeFault contents e → IsOfReading e
-utc_time_of_reading contents e f = subst IsOfReading (sym f.1) tt
+pub UtcTimeFault-of_reading : (contents : List ℕ) (e : DecodeFault) → UtcTimeFault contents e → IsOfReading e
+UtcTimeFault-of_reading contents e f = subst IsOfReading (sym f.1) tt
 
 -- contents octets mean a moment, or they are at fault
-faithful_known : (m : Moment) → pos 1950 ≤ℤ m.year → m.nanosecond ≡ 0 → Known (IsFaithfulUtcTime m)
-faithful_known m from whole =
-    known_within (valid_known m (omega (arith, ints, from))) (λ f. f.valid) (λ valid.
-    known_within (below_known (unsigned_abs m.year) 2050) (λ f. omega (arith, ints, f.to_2049, from)) (λ year.
+IsFaithfulUtcTime-known : (m : Moment) → pos 1950 ≤ℤ m.year → m.nanosecond ≡ 0 → Known (IsFaithfulUtcTime m)
+IsFaithfulUtcTime-known m from whole =
+    Known-within (IsValid-known m (omega (arith, ints, from))) (λ f. f.valid) (λ valid.
+    Known-within (Known-lt (unsigned_abs m.year) 2050) (λ f. omega (arith, ints, f.to_2049, from)) (λ year.
     inl (record { valid = valid; from_1950 = from; to_2049 = omega (arith, ints, year, from); whole_second = whole })))
 
-no_utc_time : (contents : List ℕ) → (UtcTimeContents (utc_moment contents) contents → ⊥) →
+UtcTimeFault-no_moment : (contents : List ℕ) → (UtcTimeContents (utc_moment contents) contents → ⊥) →
     (e : DecodeFault) × UtcTimeFault contents e
-no_utc_time contents no_m = (
+UtcTimeFault-no_moment contents no_m = (
   utc_time_fault contents,
-  ((λ n p. no_m (subst (λ z. UtcTimeContents z contents) (utc_time_is n contents p) p)), refl),
+  ((λ n p. no_m (subst (λ z. UtcTimeContents z contents) (utc_moment-contents n contents p) p)), refl),
 )
 
-pub utc_time_meaning : (contents : List ℕ) →
+pub UtcTimeContents-or_fault : (contents : List ℕ) →
     ((m : Moment) × UtcTimeContents m contents) ⊎ ((e : DecodeFault) × UtcTimeFault contents e)
-utc_time_meaning contents =
+UtcTimeContents-or_fault contents =
     let m = utc_moment contents in
-    let from : pos 1950 ≤ℤ m.year = omega (arith, ints, full_year_from (number_at contents 0)) in
-    elim (faithful_known m from refl) [
-      | inr no_f ↦ inr (no_utc_time contents (λ p. no_f p.0))
-      | inl f ↦ elim (octets_known contents (utc_time_contents m))
-          [ inl e ↦ inl (m, (f, e)) | inr no_e ↦ inr (no_utc_time contents (λ p. no_e p.1)) ]
+    let from : pos 1950 ≤ℤ m.year = omega (arith, ints, full_year-ge (number_at contents 0)) in
+    elim (IsFaithfulUtcTime-known m from refl) [
+      | inr no_f ↦ inr (UtcTimeFault-no_moment contents (λ p. no_f p.0))
+      | inl f ↦ elim (Known-octets contents (utc_time_contents m))
+          [ inl e ↦ inl (m, (f, e)) | inr no_e ↦ inr (UtcTimeFault-no_moment contents (λ p. no_e p.1)) ]
     ]
 
 -- what was read can be written
-pub utc_time_writable : (m : Moment) (contents : List ℕ) → UtcTimeContents m contents → moment_write_fault m ≡ None
-utc_time_writable m contents p = valid_writable m p.0.valid
+pub moment_write_fault-utc_time_read : (m : Moment) (contents : List ℕ) → UtcTimeContents m contents →
+    moment_write_fault m ≡ None
+moment_write_fault-utc_time_read m contents p = moment_write_fault-valid m p.0.valid
 
 -- what is written of a faithful moment means it
-pub utc_time_again : (m : Moment) → IsFaithfulUtcTime m → UtcTimeContents m (utc_time_contents m)
-utc_time_again m f = (f, refl)
+pub UtcTimeContents-written : (m : Moment) → IsFaithfulUtcTime m → UtcTimeContents m (utc_time_contents m)
+UtcTimeContents-written m f = (f, refl)
 
 -- a faithful moment can be written
-pub utc_time_fits : (m : Moment) → IsFaithfulUtcTime m → moment_write_fault m ≡ None
-utc_time_fits m f = valid_writable m f.valid
+pub moment_write_fault-faithful_utc_time : (m : Moment) → IsFaithfulUtcTime m → moment_write_fault m ≡ None
+moment_write_fault-faithful_utc_time m f = moment_write_fault-valid m f.valid
 
 -- a moment is faithful where what is written means it
-pub utc_time_kept : (m : Moment) → moment_write_fault m ≡ None → UtcTimeContents m (utc_time_contents m) →
+pub IsFaithfulUtcTime-written : (m : Moment) → moment_write_fault m ≡ None → UtcTimeContents m (utc_time_contents m) →
     IsFaithfulUtcTime m
-utc_time_kept m w p = p.0
+IsFaithfulUtcTime-written m w p = p.0
 
 -- what was read is faithful
-pub utc_time_read : (m : Moment) (contents : List ℕ) → UtcTimeContents m contents → IsFaithfulUtcTime m
-utc_time_read m contents p = p.0
+pub IsFaithfulUtcTime-read : (m : Moment) (contents : List ℕ) → UtcTimeContents m contents → IsFaithfulUtcTime m
+IsFaithfulUtcTime-read m contents p = p.0

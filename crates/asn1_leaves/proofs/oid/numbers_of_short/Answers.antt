@@ -4,8 +4,8 @@ use Rattle.std.proofs.lemmas.Grind.{common_steps}
 use Rattle.asn1_numbers.specs.FittingNumbers.{AreNumbers}
 use Rattle.asn1_leaves.specs.Contents.ObjectIdentifier.{ObjectIdentifierContents}
 use Rattle.asn1_leaves.specs.Inner.IdentifierForms.{components_of, first_component, numbers_after, second_component}
-use Rattle.asn1_leaves.proofs.IdentifierForms.{first_found, second_found, short_meant}
-use Rattle.asn1_leaves.proofs.PushedNumbers.{rest_meant}
+use Rattle.asn1_leaves.proofs.IdentifierForms.{first_component-AreFirstTwo, second_component-AreFirstTwo, IsShortForm-meant}
+use Rattle.asn1_leaves.proofs.PushedNumbers.{ObjectIdentifierContents-rest}
 use Rattle.asn1_leaves.proofs.oid.numbers_of_short.Goals as goal
 
 pub push_numbers-requires : goal.push_numbers-requires
@@ -14,8 +14,8 @@ push_numbers-requires g c =
     let b = c.in-Some.octet.now in
     let rest = c.in-Some.rest.now in
     let e : contents ≡ b ∷ rest = grind (arith, common_steps) in
-    rest_meant (components_of contents) b rest
-    (subst (ObjectIdentifierContents (components_of contents)) e (short_meant contents c.requires))
+    ObjectIdentifierContents-rest (components_of contents) b rest
+    (subst (ObjectIdentifierContents (components_of contents)) e (IsShortForm-meant contents c.requires))
 
 pub returns-clause-all : goal.returns-clause-all
 returns-clause-all g c =
@@ -26,9 +26,10 @@ returns-clause-all g c =
     let e : c.args.contents.now ≡ b ∷ rest = grind (arith, common_steps) in
     let x = c.in_ok-from_u64.field-0 in
     let y = c.in_ok-from_u64-2.field-0 in
-    let first : first_component b ≡ x = first_found _ _ b c.first_two-first.ensures ∙ sym c.in_ok-from_u64.ensures in
+    let first : first_component b ≡ x =
+    first_component-AreFirstTwo _ _ b c.first_two-first.ensures ∙ sym c.in_ok-from_u64.ensures in
     let second : second_component b ≡ y =
-    second_found _ _ b c.first_two-first.ensures ∙ sym c.in_ok-from_u64-2.ensures in
+    second_component-AreFirstTwo _ _ b c.first_two-first.ensures ∙ sym c.in_ok-from_u64-2.ensures in
     let none : AreNumbers has is_number c.in_ok-numbers.numbers.items [] =
     subst (λ xs. AreNumbers has is_number xs []) (sym c.in_ok-numbers.ensures.items) tt in
     let one = c.in_ok-push_number.ensures.pushed [] none in

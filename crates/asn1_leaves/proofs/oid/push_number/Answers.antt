@@ -1,7 +1,7 @@
 -- For `oid::push_number`: what it returns is right (`pushed`).
 use Rattle.std.proofs.Common.{◌∷◌, [], ◌++◌, sym, subst}
 use Rattle.asn1_numbers.specs.FittingNumbers.{AreNumbers}
-use Rattle.asn1_leaves.proofs.PushedNumbers.{numbers_end}
+use Rattle.asn1_leaves.proofs.PushedNumbers.{AreNumbers-push}
 use Rattle.asn1_leaves.proofs.oid.push_number.Goals as goal
 
 pub returns-clause-pushed : goal.returns-clause-pushed
@@ -10,5 +10,5 @@ returns-clause-pushed g c ns p =
     let is_number = g.T.FromBigUint.is_number in
     let n = c.args.number.now in
     let more =
-    numbers_end has is_number c.args.numbers.now.items c.in-Some.x ns n p c.in-Some.ensures.0 c.in-Some.ensures.1 in
+    AreNumbers-push has is_number c.args.numbers.now.items c.in-Some.x ns n p c.in-Some.ensures.0 c.in-Some.ensures.1 in
     subst (λ xs. AreNumbers has is_number xs (ns ++ n ∷ [])) (sym c.in_ok-push-in-Some.ensures.items) more

@@ -4,8 +4,8 @@ use Rattle.std.proofs.Common.{arith, ◌++◌, inl, inr, drop, ap, sym, subst, �
 use Rattle.std.proofs.lemmas.Result.{err_from_is_err_and}
 use Rattle.asn1_numbers.specs.FittingNumbers.{HasNotAll}
 use Rattle.asn1_leaves.specs.Inner.IdentifierForms.{numbers_after}
-use Rattle.asn1_leaves.proofs.PushedNumbers.{missing_among, next_number, pushed_more}
-use Rattle.asn1_leaves.proofs.Subidentifiers.{first_fault}
+use Rattle.asn1_leaves.proofs.PushedNumbers.{HasNotAll-among, numbers_after-drop, ArePushed-more}
+use Rattle.asn1_leaves.proofs.Subidentifiers.{Subidentifiers-incomplete}
 use Rattle.asn1_leaves.proofs.oid.push_numbers.Goals as goal
 
 pub returns-in_err-number-clause-refused : goal.returns-in_err-number-clause-refused
@@ -16,7 +16,8 @@ returns-in_err-number-clause-refused g c =
     rw (p.1, p.2) (elim c.in_err-number.ensures.refused [
       | inl memory ↦ inl memory
       | inr missing ↦ let none =
-          (first_fault rest _ (omega (arith, length-drop i c.args.octets.now, c.loop-index-test.true)) missing).1 in
+          (Subidentifiers-incomplete rest _ (omega (arith, length-drop i c.args.octets.now, c.loop-index-test.true))
+          missing).1 in
           absurd (c.loop-index.invariant.2 none c.requires.0 c.requires.1)
     ])
 
@@ -28,7 +29,7 @@ returns-in_err-push_number-clause-refused g c =
     let j = c.decode_base127.new.index in
     let has = g.T.FromBigUint.has in
     let done = c.loop-index.invariant.1.0 in
-    let next = next_number octets c.loop-index.index j c.in_ok-number.number c.in_ok-number.ensures.moved.0
+    let next = numbers_after-drop octets c.loop-index.index j c.in_ok-number.number c.in_ok-number.ensures.moved.0
     c.in_ok-number.ensures.found in
     let all = ap (λ z. done ++ z) (sym next) ∙ c.loop-index.invariant.1.1 in
     rw (p.1, p.2) (elim c.in_err-push_number.ensures.refused [
@@ -36,13 +37,13 @@ returns-in_err-push_number-clause-refused g c =
       | inr missing ↦ inr (
         missing.0,
         subst (HasNotAll has) all
-            (missing_among has done (numbers_after 0 (drop j octets)) c.in_ok-number.number missing.1),
+            (HasNotAll-among has done (numbers_after 0 (drop j octets)) c.in_ok-number.number missing.1),
       )
     ])
 
 pub loop-index-preserved-in_ok-push_number : goal.loop-index-preserved-in_ok-push_number
 loop-index-preserved-in_ok-push_number g c =
-    pushed_more g.T.FromBigUint.has g.T.FromBigUint.is_number c.args.numbers.now.items c.loop-index.numbers.items
+    ArePushed-more g.T.FromBigUint.has g.T.FromBigUint.is_number c.args.numbers.now.items c.loop-index.numbers.items
     c.push_number.new.numbers.items
     c.args.octets.now c.loop-index.index c.decode_base127.new.index c.in_ok-number.number c.in_ok-number.ensures.moved.0
     c.in_ok-number.ensures.moved.1 c.in_ok-number.ensures.found c.loop-index.invariant
@@ -50,7 +51,7 @@ loop-index-preserved-in_ok-push_number g c =
 
 pub loop-index-preserved : goal.loop-index-preserved
 loop-index-preserved g c =
-    pushed_more g.T.FromBigUint.has g.T.FromBigUint.is_number c.args.numbers.now.items c.loop-index.numbers.items
+    ArePushed-more g.T.FromBigUint.has g.T.FromBigUint.is_number c.args.numbers.now.items c.loop-index.numbers.items
     c.push_number.new.numbers.items
     c.args.octets.now c.loop-index.index c.decode_base127.new.index c.in_ok-number.number c.in_ok-number.ensures.moved.0
     c.in_ok-number.ensures.moved.1 c.in_ok-number.ensures.found c.loop-index.invariant

@@ -1,7 +1,7 @@
 -- For `dotted::push_dotted`: what it returns is right.
 use Rattle.std.proofs.Common.{◌≡◌, ◌++◌, ◌∷◌, ◌∙◌, ap, refl, sym, arith, true, false}
 use Rattle.asn1_leaves.specs.DottedDecimal.{dotted_decimal}
-use Rattle.asn1_leaves.proofs.IdentifierForms.{components_found}
+use Rattle.asn1_leaves.proofs.IdentifierForms.{components_of-contents}
 use Rattle.std.proofs.lemmas.Grind.{common_steps}
 use Rattle.simple_asn1_c.proofs.PushedNumerals.{dotted_pushed}
 use Rattle.simple_asn1_c.proofs.dotted.push_dotted.Goals.{then-push_numeral, else-push_numeral}
@@ -24,7 +24,7 @@ returns-then-push_pointed c ok =
                 c.if-push_numeral.text.items c.push_subidentifiers.new.text.items e c.first_two-first.ensures
                 (w.if-push_numeral.ensures refl) two
                 (c.push_subidentifiers.ensures ok)
-                ∙ ap (λ z. text ++ dotted_decimal z) (components_found meant.0 contents meant.1),
+                ∙ ap (λ z. text ++ dotted_decimal z) (components_of-contents meant.0 contents meant.1),
           )
       | else-push_numeral w ↦
           let none : false ≡ true = sym w.if-push_numeral.false ∙ sym w.value-is ∙ c.if-push_pointed.true in

@@ -5,7 +5,7 @@ use Rattle.std.specs.List.{list_all}
 use Rattle.std.specs.Str.{chars}
 use Rattle.std.proofs.lemmas.Grind.{common_steps}
 use Rattle.std.proofs.lemmas.Str.{IsUtf8-from_ascii, chars-IsAscii, encodes-chars, scalars-chars}
-use Rattle.asn1_leaves.proofs.Characters.{printable_ascii}
+use Rattle.asn1_leaves.proofs.Characters.{IsAscii-printable}
 use Rattle.asn1_leaves.specs.Contents.Text.{TextContents, is_printable}
 use Rattle.simple_asn1_c.proofs.text.are_own_text.Goals as goal
 
@@ -23,14 +23,14 @@ pub returns-in-Printable-clause-utf8 : goal.returns-in-Printable-clause-utf8
 returns-in-Printable-clause-utf8 c said =
     let octets = c.args.contents.now in
     let all : list_all is_printable octets ≡ true = grind (arith, common_steps, said) in
-    IsUtf8-from_ascii octets (printable_ascii octets all)
+    IsUtf8-from_ascii octets (IsAscii-printable octets all)
 
 pub returns-in-Printable-clause-meant : goal.returns-in-Printable-clause-meant
 returns-in-Printable-clause-meant c said =
     let octets = c.args.contents.now in
     let all : list_all is_printable octets ≡ true = grind (arith, common_steps, said) in
     subst (λ z. TextContents z (chars octets) octets) (sym c.in-Printable.is)
-    (all, chars-IsAscii octets (printable_ascii octets all))
+    (all, chars-IsAscii octets (IsAscii-printable octets all))
 
 pub returns-in-Octets-clause-utf8 : goal.returns-in-Octets-clause-utf8
 returns-in-Octets-clause-utf8 c said =

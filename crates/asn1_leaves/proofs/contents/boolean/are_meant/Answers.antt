@@ -1,10 +1,10 @@
 -- For `contents::boolean::are_meant`: what it returns is right.
 use Rattle.std.proofs.Common.{◌≡◌, length, inl, inr, arith}
-use Rattle.asn1_leaves.proofs.Leaves.Boolean.{boolean_meaning}
+use Rattle.asn1_leaves.proofs.Leaves.Boolean.{BooleanContents-or_fault}
 use Rattle.asn1_leaves.proofs.contents.boolean.are_meant.Goals as goal
 
 pub returns : goal.returns
-returns c said = elim (boolean_meaning c.args.contents.now) [
+returns c said = elim (BooleanContents-or_fault c.args.contents.now) [
   | inl meant ↦ meant
   | inr fault ↦ let one : length c.args.contents.now ≡ 1 = grind (arith, said) in absurd (fault.1.0 one)
 ]

@@ -5,12 +5,12 @@ use Rattle.std.specs.Prelude.{slice_set}
 use Rattle.std.proofs.Math.Seq.{take-suc-set}
 use Rattle.std.proofs.lemmas.Grind.{common_steps}
 use Rattle.asn1_leaves.specs.Contents.GeneralizedTime.{fraction_digits}
-use Rattle.asn1_leaves.proofs.Leaves.Digits.{digits_none, digits_step, unit_step}
+use Rattle.asn1_leaves.proofs.Leaves.Digits.{fraction_digits-zero, fraction_digits-step, unit_of_next_place}
 use Rattle.asn1_leaves.proofs.contents.generalized_time.fraction_octets.Goals as goal
 
 pub returns-then-left-eq0-clause-count : goal.returns-then-left-eq0-clause-count
 returns-then-left-eq0-clause-count c =
-    let n = digits_none (9 - c.loop-count.count) c.loop-count.unit in
+    let n = fraction_digits-zero (9 - c.loop-count.count) c.loop-count.unit in
     grind (arith, common_steps, n, ap length c.loop-count.invariant.all)
 
 pub loop-count-preserved : goal.loop-count-preserved
@@ -20,8 +20,8 @@ loop-count-preserved c =
     let left = c.loop-count.left in
     let digits = c.loop-count.digits in
     let x = 48 + left / unit in
-    let k = unit_step (9 - i) unit (omega arith) (c.loop-count.invariant.unit (omega arith)) in
-    let s = digits_step (9 - i) unit left (omega arith) (omega arith) in
+    let k = unit_of_next_place (9 - i) unit (omega arith) (c.loop-count.invariant.unit (omega arith)) in
+    let s = fraction_digits-step (9 - i) unit left (omega arith) (omega arith) in
     let p : 9 - i - 1 ≡ 9 - (i + 1) = omega arith in
     let rest = fraction_digits (9 - (i + 1)) (unit / 10) (left % unit) in
     let s' : fraction_digits (9 - i) unit left ≡ x ∷ rest =

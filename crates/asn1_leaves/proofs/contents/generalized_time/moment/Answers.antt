@@ -4,8 +4,8 @@ use Rattle.std.proofs.lemmas.List.{take-append-drop}
 use Rattle.std.proofs.lemmas.Option.{IfSome_then}
 use Rattle.asn1_leaves.specs.Contents.Moment.{moment_of}
 use Rattle.asn1_leaves.specs.Contents.GeneralizedTime.{IsEnd, to_second, fraction_number, tenth}
-use Rattle.asn1_leaves.proofs.Leaves.Digits.{end_alone, none_then}
-use Rattle.asn1_leaves.proofs.Leaves.GeneralizedTime.{second_spelled, second_by_place}
+use Rattle.asn1_leaves.proofs.Leaves.Digits.{IsEnd-unique, IfNone-map}
+use Rattle.asn1_leaves.proofs.Leaves.GeneralizedTime.{to_second-spelled, IsSpelled-to_second}
 use Rattle.asn1_leaves.proofs.contents.generalized_time.moment.Goals as goal
 
 pub returns-clause-found : goal.returns-clause-found
@@ -15,7 +15,7 @@ returns-clause-found c = IfSome_then c.moment_from.result c.moment_from.ensures.
     let end = c.split_at.result.1.now in
     let (digits, ends, is) = c.in_ok-nanosecond.ensures.found in
     let s : second ≡ to_second (moment_of d) =
-    second_spelled second c.in_ok-high.field-0 c.in_ok-low.field-0 c.in_ok-nanosecond.nanosecond
+    to_second-spelled second c.in_ok-high.field-0 c.in_ok-low.field-0 c.in_ok-nanosecond.nanosecond
     (moment_of d) c.split_at.ensures.front_len c.in_ok-high.ensures.found c.in_ok-low.ensures.found p in
     record {
       valid = p.valid;
@@ -29,14 +29,15 @@ returns-clause-found c = IfSome_then c.moment_from.result c.moment_from.ensures.
     })
 
 pub returns-clause-none : goal.returns-clause-none
-returns-clause-none c = none_then c.moment_from.result c.moment_from.ensures.none (λ no m u.
+returns-clause-none c = IfNone-map c.moment_from.result c.moment_from.ensures.none (λ no m u.
     let second = c.split_at.result.0.now in
     let end = c.split_at.result.1.now in
     let (digits, ends, is) = c.in_ok-nanosecond.ensures.found in
     let s : second ≡ to_second m = c.split_at.ensures.front ∙ ap (take 14) u.octets in
     let b : end ≡ u.end = c.split_at.ensures.back ∙ ap (drop 14) u.octets in
-    let d : u.digits ≡ digits = end_alone end u.digits digits (subst (λ z. IsEnd u.digits z) (sym b) u.is_end) ends in
+    let d : u.digits ≡ digits =
+    IsEnd-unique end u.digits digits (subst (λ z. IsEnd u.digits z) (sym b) u.is_end) ends in
     let n : m.nanosecond ≡ c.in_ok-nanosecond.nanosecond = u.nanosecond ∙ (ap (fraction_number tenth) d ∙ sym is) in
-    no m (second_by_place
+    no m (IsSpelled-to_second
     second c.in_ok-high.field-0 c.in_ok-low.field-0 c.in_ok-nanosecond.nanosecond m u.valid n s
     c.in_ok-high.ensures.found c.in_ok-low.ensures.found))

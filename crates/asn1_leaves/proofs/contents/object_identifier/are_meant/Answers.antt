@@ -2,7 +2,7 @@
 use Rattle.std.proofs.Common.{◌≡◌, ◌-◌, ◌∷◌, ◌<◌, ◌≤◌, length, get_or, subst, sym, arith}
 use Rattle.std.proofs.lemmas.Grind.{common_steps}
 use Rattle.asn1_leaves.specs.Contents.ObjectIdentifier.{ObjectIdentifierContents}
-use Rattle.asn1_leaves.proofs.Leaves.ObjectIdentifier.{object_identifier_ended, object_identifier_unended}
+use Rattle.asn1_leaves.proofs.Leaves.ObjectIdentifier.{ObjectIdentifierContents-ended, ObjectIdentifierContents-unended}
 use Rattle.asn1_leaves.proofs.contents.object_identifier.are_meant.Goals as goal
 
 pub returns-in-Some-last-clause-meant : goal.returns-in-Some-last-clause-meant
@@ -11,7 +11,7 @@ returns-in-Some-last-clause-meant c low =
     let rest = c.in-Some.rest.now in
     let e : c.args.contents.now ≡ b ∷ rest = grind (arith, common_steps) in
     let last : get_or rest (length rest - 1) 0 < 128 = grind (arith, common_steps, low) in
-    let meant = object_identifier_ended b rest last in
+    let meant = ObjectIdentifierContents-ended b rest last in
     (meant.0, subst (ObjectIdentifierContents meant.0) (sym e) meant.1)
 
 pub returns-in-Some-last-clause-others : goal.returns-in-Some-last-clause-others
@@ -20,7 +20,7 @@ returns-in-Some-last-clause-others c high components p =
     let rest = c.in-Some.rest.now in
     let e : c.args.contents.now ≡ b ∷ rest = grind (arith, common_steps) in
     let last : 128 ≤ get_or rest (length rest - 1) 0 = grind (arith, common_steps, high) in
-    object_identifier_unended b rest last components (subst (ObjectIdentifierContents components) e p)
+    ObjectIdentifierContents-unended b rest last components (subst (ObjectIdentifierContents components) e p)
 
 pub returns-in-None-clause-meant : goal.returns-in-None-clause-meant
 returns-in-None-clause-meant c said =
@@ -28,5 +28,5 @@ returns-in-None-clause-meant c said =
     let rest = c.in-Some.rest.now in
     let e : c.args.contents.now ≡ b ∷ rest = grind (arith, common_steps) in
     let last : get_or rest (length rest - 1) 0 < 128 = grind (arith, common_steps) in
-    let meant = object_identifier_ended b rest last in
+    let meant = ObjectIdentifierContents-ended b rest last in
     (meant.0, subst (ObjectIdentifierContents meant.0) (sym e) meant.1)

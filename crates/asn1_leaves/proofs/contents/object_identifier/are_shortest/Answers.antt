@@ -4,7 +4,7 @@ use Rattle.std.proofs.lemmas.Grind.{common_steps}
 use Rattle.std.proofs.lemmas.List.Elements.{All-from_get_or}
 use Rattle.asn1_numbers.specs.Octets.{AreOctets}
 use Rattle.asn1_leaves.specs.Contents.ObjectIdentifier.{ObjectIdentifierContents}
-use Rattle.asn1_leaves.proofs.ShortSubidentifiers.{components_stand, none_left, short_object_identifier}
+use Rattle.asn1_leaves.proofs.ShortSubidentifiers.{NoneLeads-components, NoneLeads-nil, NoneLeads-object_identifier_contents}
 use Rattle.asn1_leaves.proofs.contents.object_identifier.are_shortest.Goals as goal
 
 pub returns-clause-meant : goal.returns-clause-meant
@@ -14,12 +14,12 @@ returns-clause-meant c said =
     let rest = c.in-Some.rest.now in
     let e : contents ≡ b ∷ rest = grind (arith, common_steps) in
     let left = drop c.loop-octet.octet-index rest in
-    let none = c.loop-octet.invariant (none_left left c.loop-octet.begins (omega (
+    let none = c.loop-octet.invariant (NoneLeads-nil left c.loop-octet.begins (omega (
       arith,
       length-drop c.loop-octet.octet-index rest,
       c.loop-octet-test.false,
     )) said) in
-    let meant = components_stand b rest none in
+    let meant = NoneLeads-components b rest none in
     (meant.0, subst (ObjectIdentifierContents meant.0) (sym e) meant.1)
 
 pub returns-clause-shortest : goal.returns-clause-shortest
@@ -31,10 +31,10 @@ returns-clause-shortest c said components p =
     let all : AreOctets contents =
     All-from_get_or (λ b. b < 256) contents 0 (λ k h. omega (arith, c.type_inv.contents k)) in
     let left = drop c.loop-octet.octet-index rest in
-    let none = c.loop-octet.invariant (none_left left c.loop-octet.begins (omega (
+    let none = c.loop-octet.invariant (NoneLeads-nil left c.loop-octet.begins (omega (
       arith,
       length-drop c.loop-octet.octet-index rest,
       c.loop-octet-test.false,
     )) said) in
-    e ∙ short_object_identifier components b rest (subst AreOctets e all) none
+    e ∙ NoneLeads-object_identifier_contents components b rest (subst AreOctets e all) none
     (subst (ObjectIdentifierContents components) e p)

@@ -5,8 +5,8 @@ use Rattle.std.specs.List.{slice_range}
 use Rattle.std.proofs.Math.Seq.{take-add}
 use Rattle.std.proofs.lemmas.Result.{err_from_is_err_and}
 use Rattle.asn1_leaves.specs.Contents.ObjectIdentifier.{Subidentifiers}
-use Rattle.asn1_leaves.proofs.SliceSplit.{slice_split}
-use Rattle.asn1_leaves.proofs.Subidentifiers.{first_fault, none_after, subidentifiers_more}
+use Rattle.asn1_leaves.proofs.SliceSplit.{drop-slice_range}
+use Rattle.asn1_leaves.proofs.Subidentifiers.{Subidentifiers-incomplete, Subidentifiers-none_after, Subidentifiers-push}
 use Rattle.asn1_leaves.proofs.contents.object_identifier.push_subidentifiers.Goals as goal
 
 pub returns-in_err-n-clause-refused : goal.returns-in_err-n-clause-refused
@@ -17,7 +17,8 @@ returns-in_err-n-clause-refused c =
     rw (p.1, p.2) (elim c.in_err-n.ensures.refused [
       | inl memory ↦ inl memory
       | inr missing ↦ let f =
-          first_fault rest _ (omega (arith, length-drop i c.args.octets.now, c.loop-index-test.true)) missing in
+          Subidentifiers-incomplete rest _ (omega (arith, length-drop i c.args.octets.now, c.loop-index-test.true))
+          missing in
           inr (f.0, c.loop-index.invariant.2 f.1)
     ])
 
@@ -36,10 +37,10 @@ loop-index-preserved c =
     let forward : i + (j - i) ≡ j = omega (arith, moved.0) in
     let front : take j octets ≡ take i octets ++ slice_range octets i j =
     ap (λ k. take k octets) (sym forward) ∙ take-add i (j - i) octets in
-    let more = subidentifiers_more ns (take i octets) (slice_range octets i j) n so_far.2 found in (
+    let more = Subidentifiers-push ns (take i octets) (slice_range octets i j) n so_far.2 found in (
       moved.1,
       (ns ++ n ∷ [], items, subst (Subidentifiers (ns ++ n ∷ [])) (sym front) more),
       λ h. c.loop-index.invariant.2
-          (none_after (slice_range octets i j) (drop j octets) n found h (drop i octets)
-          (slice_split octets i j moved.0)),
+          (Subidentifiers-none_after (slice_range octets i j) (drop j octets) n found h (drop i octets)
+          (drop-slice_range octets i j moved.0)),
     )

@@ -8,7 +8,7 @@ use Rattle.std.proofs.lemmas.Iterator.Consumers.{YieldsList-turn, YieldsList-end
 use Rattle.std.proofs.lemmas.List.{drop_all, length_push}
 use Rattle.std.proofs.lemmas.Str.{chars-IsAscii}
 use Rattle.asn1_leaves.specs.Contents.Text.{octet_write_fault}
-use Rattle.asn1_leaves.proofs.Characters.{ascii_writable, fault_past, fault_below, fault_at}
+use Rattle.asn1_leaves.proofs.Characters.{octet_write_fault-ascii, octet_write_fault-large, octet_write_fault-octet, octet_write_fault-drop}
 use Rattle.asn1_leaves.proofs.contents.text.character_count.Goals as goal
 
 pub returns-then-is_ascii-clause-size : goal.returns-then-is_ascii-clause-size
@@ -18,7 +18,7 @@ returns-then-is_ascii-clause-size c = let e = ap length (chars-IsAscii c.args.te
 pub returns-then-is_ascii-clause-writable : goal.returns-then-is_ascii-clause-writable
 returns-then-is_ascii-clause-writable c =
     let a = c.if-is_ascii.ensures.cases in
-    ap octet_write_fault (chars-IsAscii c.args.text.now a) ∙ ascii_writable c.args.text.now a
+    ap octet_write_fault (chars-IsAscii c.args.text.now a) ∙ octet_write_fault-ascii c.args.text.now a
 
 pub returns-then-c-gt255-clause-refused : goal.returns-then-c-gt255-clause-refused
 returns-then-c-gt255-clause-refused c =
@@ -27,8 +27,8 @@ returns-then-c-gt255-clause-refused c =
     c.loop-c.yielded_by _ _ c.in-Some.c
     c.in-Some.is c.next.ensures.steps in
     sym c.loop-c.invariant.fault ∙ (ap (λ z. octet_write_fault (drop z cs)) c.loop-c.invariant.count
-    ∙ (fault_at cs (length c.loop-c.yielded) c.in-Some.c t
-    ∙ fault_past c.in-Some.c (drop (length c.loop-c.yielded + 1) cs) (omega (arith, c.if-c-gt255.true))))
+    ∙ (octet_write_fault-drop cs (length c.loop-c.yielded) c.in-Some.c t
+    ∙ octet_write_fault-large c.in-Some.c (drop (length c.loop-c.yielded + 1) cs) (omega (arith, c.if-c-gt255.true))))
 
 pub loop-c-preserved : goal.loop-c-preserved
 loop-c-preserved c =
@@ -37,8 +37,9 @@ loop-c-preserved c =
     c.loop-c.yielded_by _ _ c.in-Some.c
     c.in-Some.is c.next.ensures.steps in
     let n = length c.loop-c.yielded in
-    let e : octet_write_fault (drop n cs) ≡ octet_write_fault (drop (n + 1) cs) = fault_at cs n c.in-Some.c t
-    ∙ fault_below c.in-Some.c (drop (n + 1) cs) (omega (arith, c.if-c-gt255.false)) in
+    let e : octet_write_fault (drop n cs) ≡ octet_write_fault (drop (n + 1) cs) =
+    octet_write_fault-drop cs n c.in-Some.c t
+    ∙ octet_write_fault-octet c.in-Some.c (drop (n + 1) cs) (omega (arith, c.if-c-gt255.false)) in
     record {
       count = omega (arith, c.loop-c.invariant.count, length_push c.loop-c.yielded c.in-Some.c);
       fault = ap (λ z. octet_write_fault (drop (z + 1) cs)) c.loop-c.invariant.count

@@ -8,7 +8,7 @@ use Rattle.std.proofs.lemmas.Iterator.Consumers.{YieldsList-turn, YieldsList-end
 use Rattle.std.proofs.lemmas.List.{take_all, take_more, length_push, length-take-le}
 use Rattle.std.proofs.lemmas.Str.{chars-IsAscii}
 use Rattle.asn1_leaves.specs.Contents.Text.{octet_write_fault}
-use Rattle.asn1_leaves.proofs.Characters.{fault_at, fits_first}
+use Rattle.asn1_leaves.proofs.Characters.{octet_write_fault-drop, octet_write_fault-none_parts}
 use Rattle.asn1_leaves.proofs.contents.text.push_characters.Goals as goal
 
 pub push_octets-requires : goal.push_octets-requires
@@ -28,8 +28,8 @@ overflow_cast-c g c =
     let t = YieldsList-turn (YieldsList-from_chars c.args.text.now c.utf8.text cc) c.loop-c.yielded _
     c.loop-c.yielded_by _ _ c.in-Some.c
     c.in-Some.is c.next.ensures.steps in
-    let f = fits_first c.in-Some.c (drop (n + 1) cs)
-    (sym (fault_at cs n c.in-Some.c t) ∙ c.loop-c.invariant.writable) in
+    let f = octet_write_fault-none_parts c.in-Some.c (drop (n + 1) cs)
+    (sym (octet_write_fault-drop cs n c.in-Some.c t) ∙ c.loop-c.invariant.writable) in
     omega (arith, f.0)
 
 pub push_octet-requires : goal.push_octet-requires
@@ -56,7 +56,8 @@ loop-c-preserved g c =
     let t = YieldsList-turn (YieldsList-from_chars c.args.text.now c.utf8.text cc) c.loop-c.yielded _
     c.loop-c.yielded_by _ _ c.in-Some.c
     c.in-Some.is c.next.ensures.steps in
-    let f = fits_first x (drop (n + 1) cs) (sym (fault_at cs n x t) ∙ c.loop-c.invariant.writable) in
+    let f = octet_write_fault-none_parts x (drop (n + 1) cs)
+    (sym (octet_write_fault-drop cs n x t) ∙ c.loop-c.invariant.writable) in
     let l : length (c.loop-c.yielded ++ x ∷ []) ≡ n + 1 = length_push c.loop-c.yielded x in
     let e : take (length (c.loop-c.yielded ++ x ∷ [])) cs ≡ take n cs ++ x ∷ [] =
     ap (λ z. take z cs) l ∙ (take_more cs n x t.0 ∙ ap (λ z. take n cs ++ z ∷ []) (sym t.1)) in

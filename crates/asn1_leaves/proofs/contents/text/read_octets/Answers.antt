@@ -6,7 +6,7 @@ use Rattle.std.proofs.lemmas.Grind.{common_steps}
 use Rattle.std.proofs.lemmas.List.{take_more, take_all}
 use Rattle.std.proofs.lemmas.List.Elements.{All-from_get_or}
 use Rattle.std.proofs.lemmas.Str.{encodes-append, chars-encodes}
-use Rattle.asn1_leaves.proofs.Characters.{octets_scalars}
+use Rattle.asn1_leaves.proofs.Characters.{all_scalars-octets}
 use Rattle.asn1_leaves.proofs.contents.text.read_octets.Goals as goal
 
 pub loop-b-preserved : goal.loop-b-preserved
@@ -24,5 +24,5 @@ returns c =
     let cs = c.args.contents.now in
     let t = take_all c.loop-b.b-index cs (omega arith) in
     ap chars (c.loop-b.invariant ∙ ap encode_utf8_all t)
-    ∙ chars-encodes cs (octets_scalars cs
+    ∙ chars-encodes cs (all_scalars-octets cs
     (All-from_get_or (λ b. b < 256) cs 0 (λ k h. omega (arith, c.type_inv.contents k))))

@@ -4,7 +4,7 @@ use Rattle.std.proofs.lemmas.Grind.{common_steps}
 use Rattle.std.proofs.Common.{lit<, subst, ap, ◌∙◌, length, ◌<◌, get_or}
 use Rattle.std.proofs.lemmas.Iterator.Consumers.{YieldsList-end, YieldsList-turn}
 use Rattle.std.proofs.lemmas.Iterator.Splits.{YieldsList-from_str_split}
-use Rattle.asn1_leaves.proofs.DottedNumbers.{dotted_parts, part_numeral, same_numerals}
+use Rattle.asn1_leaves.proofs.DottedNumbers.{slice_split-IsDottedDecimal, part_is_numeral, map-natural_numeral-injective}
 use Rattle.asn1_leaves.proofs.oid.OID.from_text.Goals as goal
 
 pub returns-in_default-clause-none : goal.returns-in_default-clause-none
@@ -15,8 +15,8 @@ returns-in_default-clause-none c = λ ns dotted.
     c.next.ensures.steps in
     let k = length c.loop-numeral.yielded in
     let part = c.in-Some.numeral.now in
-    let parts = dotted_parts text ns dotted in
-    let numeral = part_numeral ns k part (subst (λ l. k < length l) parts turn.0)
+    let parts = slice_split-IsDottedDecimal text ns dotted in
+    let numeral = part_is_numeral ns k part (subst (λ l. k < length l) parts turn.0)
     (turn.1 ∙ ap (λ l. get_or l k part) parts) in
     let none = rw c.in_default.is at c.in_ok-component.ensures.none in
     none numeral.0 numeral.1
@@ -27,8 +27,8 @@ returns-clause-only c = λ ns dotted.
     let cut = YieldsList-from_str_split {s = c.into_iter-numeral-iterator.result} 46 text (lit< tt) (cc) (cc) (cc) in
     let end =
     YieldsList-end cut c.loop-numeral.yielded _ c.loop-numeral.yielded_by _ _ c.in-None.is c.next.ensures.steps in
-    c.new.ensures ∙ same_numerals c.loop-numeral.components.items ns
-    (c.loop-numeral.invariant ∙ end.0 ∙ dotted_parts text ns dotted)
+    c.new.ensures ∙ map-natural_numeral-injective c.loop-numeral.components.items ns
+    (c.loop-numeral.invariant ∙ end.0 ∙ slice_split-IsDottedDecimal text ns dotted)
 
 pub returns-in_err-component-clause-identifier : goal.returns-in_err-component-clause-identifier
 returns-in_err-component-clause-identifier c = grind (arith, common_steps)

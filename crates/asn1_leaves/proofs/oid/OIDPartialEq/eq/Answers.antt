@@ -2,7 +2,7 @@
 use Rattle.std.proofs.Common.{◌≡◌, ◌==◌, ap, sym, subst, ◌∙◌}
 use Rattle.std.specs.Cmp.Lexicographic.{pointwise}
 use Rattle.asn1_leaves.specs.Inner.IdentifierForms.{HaveShortContents, IsKeptOnce, IsShortForm, components_of, kept_components}
-use Rattle.asn1_leaves.proofs.IdentifierForms.{forms_differ, octets_equal}
+use Rattle.asn1_leaves.proofs.IdentifierForms.{pointwise-other_forms, pointwise-short_forms}
 use Rattle.asn1_leaves.proofs.oid.OIDPartialEq.eq.Goals as goal
 
 pub returns-in-Octets-Octets : goal.returns-in-Octets-Octets
@@ -16,7 +16,7 @@ returns-in-Octets-Octets c =
     ap kept_components (sym c.in-Octets-Octets.is-1) ∙ c.other.view_is in
     let equal : c.eq.result ≡ pointwise (λ m n. m == n) x y =
     rw (← c.as_slice.ensures.value, ← c.as_slice-in-Octets-Octets.ensures.value) c.eq.ensures in
-    octets_equal x y c.args.self.now c.args.other.now c.eq.result here there mine others equal
+    pointwise-short_forms x y c.args.self.now c.args.other.now c.eq.result here there mine others equal
 
 pub returns-in_default : goal.returns-in_default
 returns-in_default c =
@@ -27,7 +27,7 @@ returns-in_default c =
     ap kept_components (sym c.in_default.is-0) ∙ c.self.view_is in
     let others : c.in_default.field-0-1.items ≡ c.args.other.now =
     ap kept_components (sym c.in_default.is-1) ∙ c.other.view_is in
-    (forms_differ c.args.self.now c.args.other.now (subst HaveShortContents mine here.0)
+    (pointwise-other_forms c.args.self.now c.args.other.now (subst HaveShortContents mine here.0)
     (subst (λ ns. HaveShortContents ns → ⊥) others there)).0
 
 pub returns-in_default-2 : goal.returns-in_default-2
@@ -39,5 +39,5 @@ returns-in_default-2 c =
     ap kept_components (sym c.in_default.is-0) ∙ c.self.view_is in
     let others : components_of c.in_default.field-0-1.items ≡ c.args.other.now =
     ap kept_components (sym c.in_default.is-1) ∙ c.other.view_is in
-    (forms_differ c.args.other.now c.args.self.now (subst HaveShortContents others there.0)
+    (pointwise-other_forms c.args.other.now c.args.self.now (subst HaveShortContents others there.0)
     (subst (λ ns. HaveShortContents ns → ⊥) mine here)).1

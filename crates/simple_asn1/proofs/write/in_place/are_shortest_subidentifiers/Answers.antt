@@ -4,7 +4,7 @@ use Rattle.std.proofs.lemmas.Grind.{common_steps}
 use Rattle.std.proofs.lemmas.List.Elements.{All-from_get_or}
 use Rattle.asn1_numbers.specs.Octets.{AreOctets}
 use Rattle.asn1_leaves.specs.Contents.ObjectIdentifier.{ObjectIdentifierContents}
-use Rattle.asn1_leaves.proofs.ShortSubidentifiers.{NoneLeads, components_stand, short_object_identifier}
+use Rattle.asn1_leaves.proofs.ShortSubidentifiers.{NoneLeads, NoneLeads-components, NoneLeads-object_identifier_contents}
 use Rattle.simple_asn1.proofs.Without80.{without_80}
 use Rattle.simple_asn1.proofs.write.in_place.are_shortest_subidentifiers.Goals as goal
 
@@ -20,7 +20,7 @@ returns-then-is_empty-clause-meant c said =
     let empty : length rest ≡ 0 = grind (arith, common_steps) in
     let none : NoneLeads true rest =
     without_80 true rest before (λ _. ends) (λ some. absurd (omega (arith, some, empty))) in
-    let meant = components_stand b rest none in
+    let meant = NoneLeads-components b rest none in
     (meant.0, subst (ObjectIdentifierContents meant.0) (sym e) meant.1)
 
 pub returns-then-is_empty-clause-shortest : goal.returns-then-is_empty-clause-shortest
@@ -37,7 +37,7 @@ returns-then-is_empty-clause-shortest c said components p =
     let empty : length rest ≡ 0 = grind (arith, common_steps) in
     let none : NoneLeads true rest =
     without_80 true rest before (λ _. ends) (λ some. absurd (omega (arith, some, empty))) in
-    e ∙ short_object_identifier components b rest (subst AreOctets e all) none
+    e ∙ NoneLeads-object_identifier_contents components b rest (subst AreOctets e all) none
     (subst (ObjectIdentifierContents components) e p)
 
 pub returns-then-rest-lt128-clause-meant : goal.returns-then-rest-lt128-clause-meant
@@ -51,7 +51,7 @@ returns-then-rest-lt128-clause-meant c said =
     let ends : IsTrue true = grind (arith) in
     let none : NoneLeads true rest =
     without_80 true rest before (λ _. ends) (λ some. omega (arith, c.if-rest-lt128.true)) in
-    let meant = components_stand b rest none in
+    let meant = NoneLeads-components b rest none in
     (meant.0, subst (ObjectIdentifierContents meant.0) (sym e) meant.1)
 
 pub returns-then-rest-lt128-clause-shortest : goal.returns-then-rest-lt128-clause-shortest
@@ -67,5 +67,5 @@ returns-then-rest-lt128-clause-shortest c said components p =
     let ends : IsTrue true = grind (arith) in
     let none : NoneLeads true rest =
     without_80 true rest before (λ _. ends) (λ some. omega (arith, c.if-rest-lt128.true)) in
-    e ∙ short_object_identifier components b rest (subst AreOctets e all) none
+    e ∙ NoneLeads-object_identifier_contents components b rest (subst AreOctets e all) none
     (subst (ObjectIdentifierContents components) e p)
