@@ -20,8 +20,8 @@ use Rattle.simple_asn1.specs.Canonical.{all_canonical, canonical, shortest_encod
 use Rattle.simple_asn1.proofs.Placed.{contents_le, shortest_encodes}
 use Rattle.simple_asn1.proofs.Strict.{canonical_encoding}
 use Rattle.asn1_laws.specs.Spellings.{HasNoOtherSpelling, is_written_otherwise}
-use Rattle.asn1_laws.proofs.Encodings.{all_before, all_behind, contents_octets, contents_small, group_right, leaf_right, split}
-use Rattle.asn1_laws.proofs.Kept.{leaf_kept, leaf_other}
+use Rattle.asn1_laws.proofs.Encodings.{AreOctets-first, AreOctets-second, AreOctets-contents, length-contents-lt, IsRightAlone-group, IsRightAlone-leaf, AreDer-first}
+use Rattle.asn1_laws.proofs.Kept.{LeafContents-plain, is_written_otherwise-leaf_contents}
 
 -- the leaf from an offset to an end is not written otherwise
 abbrev IsPlain : List ℕ → ℕ → Leaf → ℕ → Type 0
@@ -35,10 +35,11 @@ record Stand (i u x v : List ℕ) (e : ℕ) : Type 0 where
   pub end : e ≡ length u + length x
   pub small : length x < 2 ^ 64
 
-inside : (i u x v : List ℕ) (e : ℕ) (c : ASN1Class) (k : Bool) (n : ℕ) (w : List ℕ) (h : ℕ) (F : Encoding x c k n w h) →
+Stand-inside : (i u x v : List ℕ) (e : ℕ) (c : ASN1Class) (k : Bool) (n : ℕ) (w : List ℕ) (h : ℕ)
+    (F : Encoding x c k n w h) →
     Stand i u x v e →
     Stand i (u ++ (F.identifier ++ F.len)) w v e
-inside i u x v e c k n w h F s = record {
+Stand-inside i u x v e c k n w h F s = record {
   whole = open_contents i u x v s.whole F.identifier F.len w F.whole;
   end = omega (
     arith,
@@ -49,83 +50,88 @@ inside i u x v e c k n w h F s = record {
     length-append u (F.identifier ++ F.len),
     length-append F.identifier F.len,
   );
-  small = contents_small x c k n w h F s.small;
+  small = length-contents-lt x c k n w h F s.small;
 }
 
-place_inside : (u x : List ℕ) (c : ASN1Class) (k : Bool) (n : ℕ) (w : List ℕ) (h : ℕ) (F : Encoding x c k n w h) →
+add-header_size : (u x : List ℕ) (c : ASN1Class) (k : Bool) (n : ℕ) (w : List ℕ) (h : ℕ) (F : Encoding x c k n w h) →
     length u + h ≡ length (u ++ (F.identifier ++ F.len))
-place_inside u x c k n w h F =
+add-header_size u x c k n w h F =
     omega (arith, F.size, length-append u (F.identifier ++ F.len), length-append F.identifier F.len)
 
 mutual
   -- octets of DER are the canonical octets of the tree, where no leaf is written otherwise
-  kept_in :
+  IsDerEncoding-plain_canonical :
       (a : Tree ℕ) (i u x v : List ℕ) (e : ℕ) → Stand i u x v e → AreOctets x → Encodes (length u) x a →
       IsDerEncoding x →
       ((o : ℕ) (l : Leaf) (j : ℕ) → StandsIn a e (leaf o l) j → IsPlain i o l j) → x ≡ canonical a
-  kept_in (leaf p l) i u x v e at all (o, k, w, h, F, means) d plain =
+  IsDerEncoding-plain_canonical (leaf p l) i u x v e at all (o, k, w, h, F, means) d plain =
       let whole = der_whole x Universal k (leaf_tag l) w h at.small F d in
-      let right = leaf_right l k w whole.alone.1 in
+      let right = IsRightAlone-leaf l k w whole.alone.1 in
       let here : slice_range i p e ≡ x = slice_here i u x v p e at.whole o at.end in
       let F' : Encoding (slice_range i p e) Universal false (leaf_tag l) w h =
       subst (λ z. Encoding z Universal false (leaf_tag l) w h) (sym here)
       (subst (λ z. Encoding x Universal z (leaf_tag l) w h) right.0 F) in
       let same =
-      leaf_kept l w (contents_octets x Universal k (leaf_tag l) w h F all) means right.1 (plain p l e itself w h F') in
+      LeafContents-plain l w (AreOctets-contents x Universal k (leaf_tag l) w h F all) means right.1
+      (plain p l e itself w h F') in
       whole.alone.0.whole ∙ (ap (λ z. shortest_encoding Universal z (leaf_tag l) w) right.0
       ∙ ap (shortest_encoding Universal false (leaf_tag l)) same)
-  kept_in (group p g bs) i u x v e at all (o, k, w, h, F, items) d plain =
+  IsDerEncoding-plain_canonical (group p g bs) i u x v e at all (o, k, w, h, F, items) d plain =
       let whole = der_whole x Universal k (group_tag g) w h at.small F d in
-      let constructed = group_right g k w whole.alone.1 in
+      let constructed = IsRightAlone-group g k w whole.alone.1 in
       let same : w ≡ all_canonical bs =
-      kept_among bs i (u ++ (F.identifier ++ F.len)) w v e (inside i u x v e Universal k (group_tag g) w h F at)
-      (contents_octets x Universal k (group_tag g) w h F all)
-      (subst (λ z. EncodesAll z w bs) (place_inside u x Universal k (group_tag g) w h F) items)
+      AreDer-plain_canonical bs i (u ++ (F.identifier ++ F.len)) w v e
+      (Stand-inside i u x v e Universal k (group_tag g) w h F at)
+      (AreOctets-contents x Universal k (group_tag g) w h F all)
+      (subst (λ z. EncodesAll z w bs) (add-header_size u x Universal k (group_tag g) w h F) items)
       (whole.items constructed)
       (λ o l j t. plain o l j (in_group t)) in
       whole.alone.0.whole
       ∙ (ap (λ z. shortest_encoding Universal z (group_tag g) w) constructed
       ∙ ap (shortest_encoding Universal true (group_tag g)) same)
-  kept_in (explicit c p n b) i u x v e at all (o, other, w, h, F, item) d plain =
+  IsDerEncoding-plain_canonical (explicit c p n b) i u x v e at all (o, other, w, h, F, item) d plain =
       let whole = der_whole x c true n w h at.small F d in
-      let small = contents_small x c true n w h F at.small in
+      let small = length-contents-lt x c true n w h F at.small in
       let G = block_encoding w (encodes_block (length u + h) w b item) in
-      let one = split w w [] G.class G.constructed G.tag G.contents G.header G.encoding (sym (append-nil w)) small
+      let one = AreDer-first w w [] G.class G.constructed G.tag G.contents G.header G.encoding (sym (append-nil w))
+      small
       (whole.items refl) in
-      let same : w ≡ canonical b = kept_in b i (u ++ (F.identifier ++ F.len)) w v e (inside i u x v e c true n w h F at)
-      (contents_octets x c true n w h F all)
-      (subst (λ z. Encodes z w b) (place_inside u x c true n w h F) item) one.der
+      let same : w ≡ canonical b =
+      IsDerEncoding-plain_canonical b i (u ++ (F.identifier ++ F.len)) w v e
+      (Stand-inside i u x v e c true n w h F at)
+      (AreOctets-contents x c true n w h F all)
+      (subst (λ z. Encodes z w b) (add-header_size u x c true n w h F) item) one.der
       (λ o l j t. plain o l j (in_explicit t)) in
       whole.alone.0.whole ∙ ap (shortest_encoding c true n) same
-  kept_in (unknown c k p n w) i u x v e at all (o, h, F, stays) d plain =
+  IsDerEncoding-plain_canonical (unknown c k p n w) i u x v e at all (o, h, F, stays) d plain =
       (der_whole x c k n w h at.small F d).alone.0.whole
 
-  kept_among :
+  AreDer-plain_canonical :
       (bs : Trees ℕ) (i u x v : List ℕ) (e : ℕ) → Stand i u x v e → AreOctets x → EncodesAll (length u) x bs →
       AreDer x →
       ((o : ℕ) (l : Leaf) (j : ℕ) → StandsAmong bs e (leaf o l) j → IsPlain i o l j) → x ≡ all_canonical bs
-  kept_among no_trees i u x v e at all s d plain = s
-  kept_among (more_trees b bs) i u x v e at all s d plain =
+  AreDer-plain_canonical no_trees i u x v e at all s d plain = s
+  AreDer-plain_canonical (more_trees b bs) i u x v e at all s d plain =
       let F = block_encoding s.first (encodes_block (length u) s.first b s.item) in
       let parts =
-      split x s.first s.rest F.class F.constructed F.tag F.contents F.header F.encoding s.whole at.small d in
+      AreDer-first x s.first s.rest F.class F.constructed F.tag F.contents F.header F.encoding s.whole at.small d in
       let octets = subst AreOctets s.whole all in
       let size : length x ≡ length s.first + length s.rest = ap length s.whole ∙ length-append s.first s.rest in
       let here : length u + length s.first ≡ length (u ++ s.first) = omega (arith, length-append u s.first) in
-      let one : s.first ≡ canonical b = kept_in b i u s.first (s.rest ++ v) (end_before bs e)
+      let one : s.first ≡ canonical b = IsDerEncoding-plain_canonical b i u s.first (s.rest ++ v) (end_before bs e)
       (record {
         whole = open_first i u x v at.whole s.first s.rest s.whole;
         end = end_is (length u + length s.first) e s.rest bs s.items (omega (arith, at.end, size));
         small = omega (arith, at.small, size);
       })
-      (all_before s.first s.rest octets) s.item parts.der (λ o l j t. plain o l j (in_first t)) in
-      let others : s.rest ≡ all_canonical bs = kept_among bs i (u ++ s.first) s.rest v e
+      (AreOctets-first s.first s.rest octets) s.item parts.der (λ o l j t. plain o l j (in_first t)) in
+      let others : s.rest ≡ all_canonical bs = AreDer-plain_canonical bs i (u ++ s.first) s.rest v e
       (record {
         whole = open_rest i u x v at.whole s.first s.rest s.whole;
         end = omega (arith, at.end, size, here);
         small = omega (arith, at.small, size);
       })
-      (all_behind s.first s.rest octets) (subst (λ z. EncodesAll z s.rest bs) here s.items) parts.more
+      (AreOctets-second s.first s.rest octets) (subst (λ z. EncodesAll z s.rest bs) here s.items) parts.more
       (λ o l j t. plain o l j (in_later t)) in
       s.whole ∙ (ap (λ z. z ++ s.rest) one ∙ ap (λ z. canonical b ++ z) others)
 
@@ -140,11 +146,11 @@ record IsCanonicalAt (i : List ℕ) (b : Tree ℕ) (j : ℕ) : Type 0 where
   pub same : octets ≡ canonical b
 
 -- contents octets of canonical octets
-contents_are :
+shortest_encoding-same_contents :
     (x : List ℕ) (c d : ASN1Class) (j k : Bool) (m n : ℕ) (v w : List ℕ) (h : ℕ) → length x < 2 ^ 64 →
     Encoding x c j m v h →
     x ≡ shortest_encoding d k n w → v ≡ w
-contents_are x c d j k m n v w h small F e =
+shortest_encoding-same_contents x c d j k m n v w h small F e =
     let size : length w < 2 ^ 64 = omega (arith, small, ap length e, contents_le d k n w) in
     (encoding_alone x (shortest_encoding d k n w) c d j k m n v w h _ [] [] F (shortest_encodes d k n w size)
     (ap (λ z. z ++ []) e)).contents
@@ -154,11 +160,11 @@ record Fronts (first rest : List ℕ) (b : Tree ℕ) (bs : Trees ℕ) : Type 0 w
   pub one : first ≡ canonical b
   pub others : rest ≡ all_canonical bs
 
-fronts :
+all_canonical-fronts :
     (o : ℕ) (x first rest : List ℕ) (b : Tree ℕ) (bs : Trees ℕ) → length x < 2 ^ 64 → Encodes o first b →
     x ≡ first ++ rest →
     x ≡ all_canonical (more_trees b bs) → Fronts first rest b bs
-fronts o x first rest b bs small s w e =
+all_canonical-fronts o x first rest b bs small s w e =
     let F = block_encoding first (encodes_block o first b s) in
     let G = canonical_encoding b (omega (arith, small, ap length e, length-append (canonical b) (all_canonical bs))) in
     let same = encoding_alone first (canonical b) F.class G.class F.constructed G.constructed F.tag G.tag F.contents
@@ -167,11 +173,11 @@ fronts o x first rest b bs small s w e =
     record { one = same.octets; others = same.rest }
 
 mutual
-  canonical_in :
+  IsCanonicalAt-in_tree :
       (a : Tree ℕ) (e : ℕ) (b : Tree ℕ) (j : ℕ) (i u x v : List ℕ) → Stand i u x v e → Encodes (length u) x a →
       IsDerEncoding x →
       x ≡ canonical a → StandsIn a e b j → IsCanonicalAt i b j
-  canonical_in a e b j i u x v at s d same itself = record {
+  IsCanonicalAt-in_tree a e b j i u x v at s d same itself = record {
     offset = length u;
     octets = x;
     at = λ o is. slice_here i u x v o e at.whole is at.end;
@@ -180,50 +186,53 @@ mutual
     der = d;
     same = same;
   }
-  canonical_in a e b j i u x v at s d same (in_group {g = g} {bs = bs} t) =
+  IsCanonicalAt-in_tree a e b j i u x v at s d same (in_group {g = g} {bs = bs} t) =
       let F = s.4 in
       let whole = der_whole x Universal s.1 (group_tag g) s.2 s.3 at.small F d in
-      canonical_among bs e b j i (u ++ (F.identifier ++ F.len)) s.2 v
-      (inside i u x v e Universal s.1 (group_tag g) s.2 s.3 F at)
-      (subst (λ z. EncodesAll z s.2 bs) (place_inside u x Universal s.1 (group_tag g) s.2 s.3 F) s.5)
-      (whole.items (group_right g s.1 s.2 whole.alone.1))
-      (contents_are x Universal Universal s.1 true (group_tag g) (group_tag g) s.2 (all_canonical bs) s.3 at.small F
+      IsCanonicalAt-among_trees bs e b j i (u ++ (F.identifier ++ F.len)) s.2 v
+      (Stand-inside i u x v e Universal s.1 (group_tag g) s.2 s.3 F at)
+      (subst (λ z. EncodesAll z s.2 bs) (add-header_size u x Universal s.1 (group_tag g) s.2 s.3 F) s.5)
+      (whole.items (IsRightAlone-group g s.1 s.2 whole.alone.1))
+      (shortest_encoding-same_contents x Universal Universal s.1 true (group_tag g) (group_tag g) s.2 (all_canonical bs)
+      s.3 at.small F
       same) t
-  canonical_in a e b j i u x v at s d same (in_explicit {class = c} {tag = n} {a = y} t) =
+  IsCanonicalAt-in_tree a e b j i u x v at s d same (in_explicit {class = c} {tag = n} {a = y} t) =
       let F = s.4 in
       let whole = der_whole x c true n s.2 s.3 at.small F d in
       let G = block_encoding s.2 (encodes_block (length u + s.3) s.2 y s.5) in
-      let one = split s.2 s.2 [] G.class G.constructed G.tag G.contents G.header G.encoding (sym (append-nil s.2))
-      (contents_small x c true n s.2 s.3 F at.small) (whole.items refl) in
-      canonical_in y e b j i (u ++ (F.identifier ++ F.len)) s.2 v (inside i u x v e c true n s.2 s.3 F at)
-      (subst (λ z. Encodes z s.2 y) (place_inside u x c true n s.2 s.3 F) s.5) one.der
-      (contents_are x c c true true n n s.2 (canonical y) s.3 at.small F same) t
+      let one = AreDer-first s.2 s.2 [] G.class G.constructed G.tag G.contents G.header G.encoding
+      (sym (append-nil s.2))
+      (length-contents-lt x c true n s.2 s.3 F at.small) (whole.items refl) in
+      IsCanonicalAt-in_tree y e b j i (u ++ (F.identifier ++ F.len)) s.2 v
+      (Stand-inside i u x v e c true n s.2 s.3 F at)
+      (subst (λ z. Encodes z s.2 y) (add-header_size u x c true n s.2 s.3 F) s.5) one.der
+      (shortest_encoding-same_contents x c c true true n n s.2 (canonical y) s.3 at.small F same) t
 
-  canonical_among :
+  IsCanonicalAt-among_trees :
       (bs : Trees ℕ) (e : ℕ) (b : Tree ℕ) (j : ℕ) (i u x v : List ℕ) → Stand i u x v e → EncodesAll (length u) x bs →
       AreDer x →
       x ≡ all_canonical bs → StandsAmong bs e b j → IsCanonicalAt i b j
-  canonical_among bs e b j i u x v at s d same (in_first {a = a} {bs = cs} t) =
+  IsCanonicalAt-among_trees bs e b j i u x v at s d same (in_first {a = a} {bs = cs} t) =
       let F = block_encoding s.first (encodes_block (length u) s.first a s.item) in
       let parts =
-      split x s.first s.rest F.class F.constructed F.tag F.contents F.header F.encoding s.whole at.small d in
+      AreDer-first x s.first s.rest F.class F.constructed F.tag F.contents F.header F.encoding s.whole at.small d in
       let size : length x ≡ length s.first + length s.rest = ap length s.whole ∙ length-append s.first s.rest in
-      let f = fronts (length u) x s.first s.rest a cs at.small s.item s.whole same in
-      canonical_in a (end_before cs e) b j i u s.first (s.rest ++ v)
+      let f = all_canonical-fronts (length u) x s.first s.rest a cs at.small s.item s.whole same in
+      IsCanonicalAt-in_tree a (end_before cs e) b j i u s.first (s.rest ++ v)
       (record {
         whole = open_first i u x v at.whole s.first s.rest s.whole;
         end = end_is (length u + length s.first) e s.rest cs s.items (omega (arith, at.end, size));
         small = omega (arith, at.small, size);
       })
       s.item parts.der f.one t
-  canonical_among bs e b j i u x v at s d same (in_later {a = a} {bs = cs} t) =
+  IsCanonicalAt-among_trees bs e b j i u x v at s d same (in_later {a = a} {bs = cs} t) =
       let F = block_encoding s.first (encodes_block (length u) s.first a s.item) in
       let parts =
-      split x s.first s.rest F.class F.constructed F.tag F.contents F.header F.encoding s.whole at.small d in
+      AreDer-first x s.first s.rest F.class F.constructed F.tag F.contents F.header F.encoding s.whole at.small d in
       let size : length x ≡ length s.first + length s.rest = ap length s.whole ∙ length-append s.first s.rest in
-      let f = fronts (length u) x s.first s.rest a cs at.small s.item s.whole same in
+      let f = all_canonical-fronts (length u) x s.first s.rest a cs at.small s.item s.whole same in
       let here : length u + length s.first ≡ length (u ++ s.first) = omega (arith, length-append u s.first) in
-      canonical_among cs e b j i (u ++ s.first) s.rest v
+      IsCanonicalAt-among_trees cs e b j i (u ++ s.first) s.rest v
       (record {
         whole = open_rest i u x v at.whole s.first s.rest s.whole;
         end = omega (arith, at.end, size, here);
@@ -232,38 +241,40 @@ mutual
       (subst (λ z. EncodesAll z s.rest cs) here s.items) parts.more f.others t
 
 -- a whole document
-start : (i : List ℕ) → length i < 2 ^ 64 → Stand i [] i [] (length i)
-start i small = record { whole = sym (append-nil i); end = omega arith; small = small }
+Stand-whole : (i : List ℕ) → length i < 2 ^ 64 → Stand i [] i [] (length i)
+Stand-whole i small = record { whole = sym (append-nil i); end = omega arith; small = small }
 
 -- a leaf in canonical octets is not written otherwise
-plain_leaf :
+is_written_otherwise-canonical_leaf :
     (x : List ℕ) (o p : ℕ) (l : Leaf) (contents : List ℕ) (header : ℕ) → length x < 2 ^ 64 → Encodes o x (leaf p l) →
     IsDerEncoding x →
     x ≡ canonical (leaf p l) → Encoding x Universal false (leaf_tag l) contents header →
     is_written_otherwise (leaf_tag l) contents ≡ false
-plain_leaf x o p l contents header small (q, k, w, h, F, means) d same G =
+is_written_otherwise-canonical_leaf x o p l contents header small (q, k, w, h, F, means) d same G =
     let whole = der_whole x Universal false (leaf_tag l) contents header small G d in
-    let right = leaf_right l false contents whole.alone.1 in
+    let right = IsRightAlone-leaf l false contents whole.alone.1 in
     let is : w ≡ contents =
     (encoding_alone x x Universal Universal k false (leaf_tag l) (leaf_tag l) w contents h header [] [] F G
     refl).contents in
-    leaf_other l contents (subst (LeafContents l) is means) right.1
-    (contents_are x Universal Universal false false (leaf_tag l) (leaf_tag l) contents (leaf_contents l) header small G
+    is_written_otherwise-leaf_contents l contents (subst (LeafContents l) is means) right.1
+    (shortest_encoding-same_contents x Universal Universal false false (leaf_tag l) (leaf_tag l) contents
+    (leaf_contents l) header small G
     same)
 
 -- a document that is DER is canonical exactly if no leaf of it is written otherwise
-pub der_canonical :
+pub IsDer-canonical_iff_plain :
     (i : List ℕ) (bs : Trees ℕ) → AreOctets i → length i < 2 ^ 64 → IsDer i → IsDocument i bs →
     (i ≡ all_canonical bs) ↔ HasNoOtherSpelling i bs
-der_canonical i bs all small d s = (
+IsDer-canonical_iff_plain i bs all small d s = (
   λ same o l octets contents header h F.
-      let f = canonical_among bs (length i) (leaf o l) h.end i [] i [] (start i small) s.blocks (d.items, d.encodings)
+      let f = IsCanonicalAt-among_trees bs (length i) (leaf o l) h.end i [] i [] (Stand-whole i small) s.blocks
+      (d.items, d.encodings)
       same h.place in
       let here : octets ≡ f.octets = h.octets_are ∙ f.at o f.encoded.0 in
-      plain_leaf f.octets f.offset o l contents header f.small f.encoded f.der f.same
+      is_written_otherwise-canonical_leaf f.octets f.offset o l contents header f.small f.encoded f.der f.same
       (subst (λ z. Encoding z Universal false (leaf_tag l) contents header) here F),
   λ plain.
-      kept_among bs i [] i [] (length i) (start i small) all s.blocks (d.items, d.encodings)
+      AreDer-plain_canonical bs i [] i [] (length i) (Stand-whole i small) all s.blocks (d.items, d.encodings)
       (λ o l j t contents header F. plain o l (slice_range i o j) contents header
       (record { end = j; place = t; octets_are = refl }) F),
 )

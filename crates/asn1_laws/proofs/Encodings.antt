@@ -19,77 +19,79 @@ use Rattle.asn1_der.specs.Steps.{AreDer}
 use Rattle.asn1_der.proofs.Encodings.{der_encoding}
 
 -- octets before others, and those behind them
-pub all_before : (x y : List ℕ) → AreOctets (x ++ y) → AreOctets x
-all_before x y all = subst AreOctets (take_at x y (length x) refl) (All-take (λ b. b < 256) (length x) (x ++ y) all)
+pub AreOctets-first : (x y : List ℕ) → AreOctets (x ++ y) → AreOctets x
+AreOctets-first x y all =
+    subst AreOctets (take_at x y (length x) refl) (All-take (λ b. b < 256) (length x) (x ++ y) all)
 
-pub all_behind : (x y : List ℕ) → AreOctets (x ++ y) → AreOctets y
-all_behind x y all = subst AreOctets (drop_at x y (length x) refl) (All-drop (λ b. b < 256) (length x) (x ++ y) all)
+pub AreOctets-second : (x y : List ℕ) → AreOctets (x ++ y) → AreOctets y
+AreOctets-second x y all =
+    subst AreOctets (drop_at x y (length x) refl) (All-drop (λ b. b < 256) (length x) (x ++ y) all)
 
 -- the contents octets of an encoding
-pub contents_octets : (x : List ℕ) (c : ASN1Class) (k : Bool) (n : ℕ) (v : List ℕ) (h : ℕ) → Encoding x c k n v h →
+pub AreOctets-contents : (x : List ℕ) (c : ASN1Class) (k : Bool) (n : ℕ) (v : List ℕ) (h : ℕ) → Encoding x c k n v h →
     AreOctets x → AreOctets v
-contents_octets x c k n v h e all =
-    all_behind e.len v (all_behind e.identifier (e.len ++ v) (subst AreOctets e.whole all))
+AreOctets-contents x c k n v h e all =
+    AreOctets-second e.len v (AreOctets-second e.identifier (e.len ++ v) (subst AreOctets e.whole all))
 
-pub contents_le : (x : List ℕ) (c : ASN1Class) (k : Bool) (n : ℕ) (v : List ℕ) (h : ℕ) → Encoding x c k n v h →
+pub length-contents-le : (x : List ℕ) (c : ASN1Class) (k : Bool) (n : ℕ) (v : List ℕ) (h : ℕ) → Encoding x c k n v h →
     length v ≤ length x
-contents_le x c k n v h e =
+length-contents-le x c k n v h e =
     omega (arith, ap length e.whole, length-append e.identifier (e.len ++ v), length-append e.len v)
 
-pub contents_small : (x : List ℕ) (c : ASN1Class) (k : Bool) (n : ℕ) (v : List ℕ) (h : ℕ) → Encoding x c k n v h →
+pub length-contents-lt : (x : List ℕ) (c : ASN1Class) (k : Bool) (n : ℕ) (v : List ℕ) (h : ℕ) → Encoding x c k n v h →
     length x < 2 ^ 64 → length v < 2 ^ 64
-contents_small x c k n v h e small =
-    omega (arith, small, contents_le x c k n v h e)
+length-contents-lt x c k n v h e small =
+    omega (arith, small, length-contents-le x c k n v h e)
 
 -- a leaf is of no type that is constructed
-leaf_type : (l : Leaf) → is_constructed_type (leaf_tag l) ≡ false
-leaf_type (boolean b) = refl
-leaf_type (integer n) = refl
-leaf_type (bit_string n v) = refl
-leaf_type (octet_string v) = refl
-leaf_type null = refl
-leaf_type (object_identifier ns) = refl
-leaf_type (text utf8 cs) = refl
-leaf_type (text printable cs) = refl
-leaf_type (text teletex cs) = refl
-leaf_type (text ia5 cs) = refl
-leaf_type (text universal cs) = refl
-leaf_type (text bmp cs) = refl
-leaf_type (utc_time m) = refl
-leaf_type (generalized_time m) = refl
+is_constructed_type-leaf_tag : (l : Leaf) → is_constructed_type (leaf_tag l) ≡ false
+is_constructed_type-leaf_tag (boolean b) = refl
+is_constructed_type-leaf_tag (integer n) = refl
+is_constructed_type-leaf_tag (bit_string n v) = refl
+is_constructed_type-leaf_tag (octet_string v) = refl
+is_constructed_type-leaf_tag null = refl
+is_constructed_type-leaf_tag (object_identifier ns) = refl
+is_constructed_type-leaf_tag (text utf8 cs) = refl
+is_constructed_type-leaf_tag (text printable cs) = refl
+is_constructed_type-leaf_tag (text teletex cs) = refl
+is_constructed_type-leaf_tag (text ia5 cs) = refl
+is_constructed_type-leaf_tag (text universal cs) = refl
+is_constructed_type-leaf_tag (text bmp cs) = refl
+is_constructed_type-leaf_tag (utc_time m) = refl
+is_constructed_type-leaf_tag (generalized_time m) = refl
 
 -- an encoding of DER of a type that is not constructed is primitive
-pub primitive_right :
+pub IsRightAlone-primitive :
     (n : ℕ) (k : Bool) (v : List ℕ) → is_constructed_type n ≡ false → IsRightAlone Universal k n v →
     (k ≡ false) × HasDerContents n v
-primitive_right n true v e r = absurd (false≢true (sym e ∙ r.0))
-primitive_right n false v e r = (refl, r.2)
+IsRightAlone-primitive n true v e r = absurd (false≢true (sym e ∙ r.0))
+IsRightAlone-primitive n false v e r = (refl, r.2)
 
-pub leaf_right : (l : Leaf) (k : Bool) (v : List ℕ) → IsRightAlone Universal k (leaf_tag l) v →
+pub IsRightAlone-leaf : (l : Leaf) (k : Bool) (v : List ℕ) → IsRightAlone Universal k (leaf_tag l) v →
     (k ≡ false) × HasDerContents (leaf_tag l) v
-leaf_right l k v r = primitive_right (leaf_tag l) k v (leaf_type l) r
+IsRightAlone-leaf l k v r = IsRightAlone-primitive (leaf_tag l) k v (is_constructed_type-leaf_tag l) r
 
-group_type : (g : GroupKind) → is_constructed_type (group_tag g) ≡ true
-group_type Sequence = refl
-group_type Set = refl
+is_constructed_type-group_tag : (g : GroupKind) → is_constructed_type (group_tag g) ≡ true
+is_constructed_type-group_tag Sequence = refl
+is_constructed_type-group_tag Set = refl
 
 -- a SEQUENCE or SET of DER is constructed
-pub group_right : (g : GroupKind) (k : Bool) (v : List ℕ) → IsRightAlone Universal k (group_tag g) v → k ≡ true
-group_right g true v r = refl
-group_right g false v r = absurd (false≢true (sym r.1 ∙ group_type g))
+pub IsRightAlone-group : (g : GroupKind) (k : Bool) (v : List ℕ) → IsRightAlone Universal k (group_tag g) v → k ≡ true
+IsRightAlone-group g true v r = refl
+IsRightAlone-group g false v r = absurd (false≢true (sym r.1 ∙ is_constructed_type-group_tag g))
 
 -- an encoding in front of encodings of DER is one, and so are those behind it
 pub record IsSplit (first rest : List ℕ) : Type 0 where
   pub der : IsDerEncoding first
   pub more : AreDer rest
 
-pub split :
+pub AreDer-first :
     (x first rest : List ℕ) (c : ASN1Class) (k : Bool) (n : ℕ) (v : List ℕ) (h : ℕ) → Encoding first c k n v h →
     x ≡ first ++ rest →
     length x < 2 ^ 64 → AreDer x → IsSplit first rest
-split x first rest c k n v h e whole small (items, no_encodings) =
+AreDer-first x first rest c k n v h e whole small (items, no_encodings) =
     absurd (omega (arith, encoding_some first c k n v h e, ap length whole, length-append first rest))
-split x first rest c k n v h e whole small (items, more_encodings {first = f} {rest = r} {items = is} w d ds) =
+AreDer-first x first rest c k n v h e whole small (items, more_encodings {first = f} {rest = r} {items = is} w d ds) =
     let (c', k', n', v', h', e') = der_encoding f (omega (arith, small, ap length w, length-append f r)) d in
     let same = encoding_alone first f c c' k k' n n' v v' h h' rest r e e' (sym whole ∙ w) in
     record {

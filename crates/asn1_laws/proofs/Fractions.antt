@@ -10,16 +10,16 @@ use Rattle.asn1_leaves.specs.Contents.GeneralizedTime.{fraction_digits, fraction
 use Rattle.asn1_leaves.proofs.Leaves.Digits.{fraction_digits-zero, fraction_digits-step}
 use Rattle.asn1_der.specs.Padding.{last_octet}
 
-pub digit_range : (d : ℕ) → is_ascii_digit d ≡ true → (48 ≤ d) × (d ≤ 57)
-digit_range d t = (grind (arith, nat_tests, t), grind (arith, nat_tests, t))
+pub is_ascii_digit-range : (d : ℕ) → is_ascii_digit d ≡ true → (48 ≤ d) × (d ≤ 57)
+is_ascii_digit-range d t = (grind (arith, nat_tests, t), grind (arith, nat_tests, t))
 
 -- the last of octets is that of all but the first
-pub last_after : (b c : ℕ) (octets : List ℕ) → last_octet (b ∷ c ∷ octets) ≡ last_octet (c ∷ octets)
-last_after b c octets = simp sub-one
+pub last_octet-cons : (b c : ℕ) (octets : List ℕ) → last_octet (b ∷ c ∷ octets) ≡ last_octet (c ∷ octets)
+last_octet-cons b c octets = simp sub-one
 
-pub power_some : (k : ℕ) → 0 < 10 ^ k
-power_some zero = omega arith
-power_some (suc k) = omega (arith, power_some k, pow-succ' 10 k)
+pub pow-positive : (k : ℕ) → 0 < 10 ^ k
+pow-positive zero = omega arith
+pow-positive (suc k) = omega (arith, pow-positive k, pow-succ' 10 k)
 
 -- digits that mean a number, which has these digits
 pub record IsFraction (k unit : ℕ) (digits : List ℕ) : Type 0 where
@@ -28,10 +28,10 @@ pub record IsFraction (k unit : ℕ) (digits : List ℕ) : Type 0 where
   pub again : fraction_digits (suc k) unit (fraction_number unit digits) ≡ digits
 
 -- a digit above 0 or not, and what is behind it
-step :
+fraction_digits-quotient :
     (k unit q m n d : ℕ) (ds : List ℕ) → 0 < unit → n ≡ q * unit + m → m < unit → 0 < n → d ≡ 48 + q →
     fraction_digits k (unit / 10) m ≡ ds → fraction_digits (suc k) unit n ≡ d ∷ ds
-step k unit q m n d ds positive e small some is rest =
+fraction_digits-quotient k unit q m n d ds positive e small some is rest =
     let high : n / unit ≡ q = ap (λ z. z / unit) e ∙ div-mul-add q unit m small in
     let low : n % unit ≡ m = ap (λ z. z % unit) e ∙ mod-mul-add q unit m small in
     let places : suc k - 1 ≡ k = omega arith in
@@ -39,59 +39,60 @@ step k unit q m n d ds positive e small some is rest =
     ∙ ap₂ (λ x y. x ∷ y) (ap (λ z. 48 + z) high ∙ sym is)
     (ap (λ j. fraction_digits j (unit / 10) (n % unit)) places ∙ (ap (λ z. fraction_digits k (unit / 10) z) low ∙ rest))
 
-most : (q m unit n : ℕ) → q ≤ 9 → n ≡ q * unit + m → m < unit → n < 10 * unit
-most q m unit n few e small =
+mul-add-lt : (q m unit n : ℕ) → q ≤ 9 → n ≡ q * unit + m → m < unit → n < 10 * unit
+mul-add-lt q m unit n few e small =
     let bound : q * unit ≤ 9 * unit = mul-le-mul_right unit few in
     omega (arith, bound, e, small)
 
-least : (q m unit n : ℕ) → 0 < unit → (0 < q) ⊎ (0 < m) → n ≡ q * unit + m → 0 < n
-least q m unit n positive (inl some) e =
+mul-add-positive : (q m unit n : ℕ) → 0 < unit → (0 < q) ⊎ (0 < m) → n ≡ q * unit + m → 0 < n
+mul-add-positive q m unit n positive (inl some) e =
     let bound : 1 * unit ≤ q * unit = mul-le-mul_right unit some in
     omega (arith, bound, e, positive)
-least q m unit n positive (inr some) e = omega (arith, e, some)
+mul-add-positive q m unit n positive (inr some) e = omega (arith, e, some)
 
 -- digits that do not end in 0, as many as there are places or fewer
-pub fraction_is :
+pub IsFraction-digits :
     (k unit : ℕ) (digits : List ℕ) → unit ≡ 10 ^ k → list_all is_ascii_digit digits ≡ true → 0 < length digits →
     length digits ≤ suc k →
     last_octet digits ≢ 48 → IsFraction k unit digits
-fraction_is k unit [] e all some few last = absurd (omega (arith, some))
-fraction_is k unit (d ∷ []) e all some few last =
-    let (low, high) = digit_range d (and_parts (is_ascii_digit d) (list_all is_ascii_digit []) all).0 in
-    let positive : 0 < unit = omega (arith, e, power_some k) in
+IsFraction-digits k unit [] e all some few last = absurd (omega (arith, some))
+IsFraction-digits k unit (d ∷ []) e all some few last =
+    let (low, high) = is_ascii_digit-range d (and_parts (is_ascii_digit d) (list_all is_ascii_digit []) all).0 in
+    let positive : 0 < unit = omega (arith, e, pow-positive k) in
     let n = fraction_number unit (d ∷ []) in
     let is : n ≡ (d - 48) * unit + 0 = refl in
     let other : d ≢ 48 = last in
     let above : 0 < d - 48 = omega (arith, low, other) in
-    let more : 0 < n = least (d - 48) 0 unit n positive (inl above) is in
+    let more : 0 < n = mul-add-positive (d - 48) 0 unit n positive (inl above) is in
     record {
       some = more;
-      below = most (d - 48) 0 unit n (omega (arith, high)) is positive;
-      again = step k unit (d - 48) 0 n d [] positive is positive more (omega (arith, low))
+      below = mul-add-lt (d - 48) 0 unit n (omega (arith, high)) is positive;
+      again = fraction_digits-quotient k unit (d - 48) 0 n d [] positive is positive more (omega (arith, low))
           (fraction_digits-zero k (unit / 10));
     }
-fraction_is zero unit (d ∷ c ∷ ds) e all some few last = absurd (omega (arith, few))
-fraction_is (suc k) unit (d ∷ c ∷ ds) e all some few last =
+IsFraction-digits zero unit (d ∷ c ∷ ds) e all some few last = absurd (omega (arith, few))
+IsFraction-digits (suc k) unit (d ∷ c ∷ ds) e all some few last =
     let parts = and_parts (is_ascii_digit d) (list_all is_ascii_digit (c ∷ ds)) all in
-    let (low, high) = digit_range d parts.0 in
+    let (low, high) = is_ascii_digit-range d parts.0 in
     let ten : unit ≡ 10 * 10 ^ k = e ∙ pow-succ' 10 k in
     let tenth : unit / 10 ≡ 10 ^ k = omega (arith, ten) in
-    let positive : 0 < unit = omega (arith, ten, power_some k) in
-    let i = fraction_is k (unit / 10) (c ∷ ds) tenth parts.1 (omega arith) (omega (arith, few))
-    (λ ends. last (last_after d c ds ∙ ends)) in
+    let positive : 0 < unit = omega (arith, ten, pow-positive k) in
+    let i = IsFraction-digits k (unit / 10) (c ∷ ds) tenth parts.1 (omega arith) (omega (arith, few))
+    (λ ends. last (last_octet-cons d c ds ∙ ends)) in
     let m = fraction_number (unit / 10) (c ∷ ds) in
     let n = fraction_number unit (d ∷ c ∷ ds) in
     let is : n ≡ (d - 48) * unit + m = refl in
     let small : m < unit = omega (arith, i.below, tenth, ten) in
-    let more : 0 < n = least (d - 48) m unit n positive (inr i.some) is in
+    let more : 0 < n = mul-add-positive (d - 48) m unit n positive (inr i.some) is in
     record {
       some = more;
-      below = most (d - 48) m unit n (omega (arith, high)) is small;
-      again = step (suc k) unit (d - 48) m n d (c ∷ ds) positive is small more (omega (arith, low)) i.again;
+      below = mul-add-lt (d - 48) m unit n (omega (arith, high)) is small;
+      again = fraction_digits-quotient (suc k) unit (d - 48) m n d (c ∷ ds) positive is small more (omega (arith, low))
+          i.again;
     }
 
 -- the digits of a number are at most as many as the places
-pub fraction_few : (k unit n : ℕ) → length (fraction_digits k unit n) ≤ k
-fraction_few zero unit n = omega arith
-fraction_few (suc k) unit zero = omega arith
-fraction_few (suc k) unit (suc n) = omega (arith, fraction_few k (unit / 10) (suc n % unit))
+pub length-fraction_digits-le : (k unit n : ℕ) → length (fraction_digits k unit n) ≤ k
+length-fraction_digits-le zero unit n = omega arith
+length-fraction_digits-le (suc k) unit zero = omega arith
+length-fraction_digits-le (suc k) unit (suc n) = omega (arith, length-fraction_digits-le k (unit / 10) (suc n % unit))

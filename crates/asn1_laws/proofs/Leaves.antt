@@ -17,89 +17,92 @@ use Rattle.asn1_leaves.specs.Contents.ObjectIdentifier.{ObjectIdentifierContents
 use Rattle.asn1_leaves.proofs.ShortSubidentifiers.{NoneLeads, NoneLeads-object_identifier_contents}
 use Rattle.asn1_der.specs.Contents.{are_subidentifiers, is_bit_string, is_boolean, is_integer}
 use Rattle.asn1_der.specs.Padding.{has_padded_component, is_padded_from, last_octet}
-use Rattle.asn1_laws.proofs.Fractions.{last_after}
+use Rattle.asn1_laws.proofs.Fractions.{last_octet-cons}
 use Rattle.asn1_laws.specs.Spellings.{goes_on_with_80, has_no_bits}
 
 -- a BOOLEAN
-boolean_octet : (x : ℕ) → ((x == 0) || (x == 255)) ≡ true → x ≡ (if not (x == 0) then 255 else 0)
-boolean_octet x t = elim (cases_Bool (x == 0)) [
+octet_of_boolean : (x : ℕ) → ((x == 0) || (x == 255)) ≡ true → x ≡ (if not (x == 0) then 255 else 0)
+octet_of_boolean x t = elim (cases_Bool (x == 0)) [
   | inl e ↦ eqb-true x 0 e ∙ sym (ap (λ b. if not b then 255 else 0) e)
   | inr e ↦ let is : (x == 255) ≡ true = sym (ap (λ b. b || (x == 255)) e) ∙ t in
       eqb-true x 255 is ∙ sym (ap (λ b. if not b then 255 else 0) e)
 ]
 
-pub boolean_kept : (b : Bool) (contents : List ℕ) → BooleanContents b contents → is_boolean contents ≡ true →
+pub BooleanContents-der : (b : Bool) (contents : List ℕ) → BooleanContents b contents → is_boolean contents ≡ true →
     contents ≡ boolean_contents b
-boolean_kept b contents (x, e, is) der =
-    let octet = boolean_octet x (sym (ap is_boolean e) ∙ der) in
+BooleanContents-der b contents (x, e, is) der =
+    let octet = octet_of_boolean x (sym (ap is_boolean e) ∙ der) in
     e ∙ (ap (λ z. z ∷ []) octet ∙ ap (λ z. (if z then 255 else 0) ∷ []) (sym is))
 
 -- an INTEGER
-not_padded : (b c : ℕ) → (if nat_lt c 128 then b == 0 else (b == 255)) ≡ false → b ≢ sign_before c
-not_padded b c t e = elim (cases_lt c 128) [
+sign_before-needed : (b c : ℕ) → (if nat_lt c 128 then b == 0 else (b == 255)) ≡ false → b ≢ sign_before c
+sign_before-needed b c t e = elim (cases_lt c 128) [
   | inl low ↦ grind (arith, nat_tests, t, e, low)
   | inr high ↦ grind (arith, nat_tests, t, e, high)
 ]
 
-pub integer_kept : (n : ℤ) (contents : List ℕ) → AreOctets contents → IntegerContents n contents →
+pub IntegerContents-der : (n : ℤ) (contents : List ℕ) → AreOctets contents → IntegerContents n contents →
     is_integer contents ≡ true → contents ≡ shortest_octets n
-integer_kept n [] all is der = absurd cc
-integer_kept n (b ∷ []) all is der =
+IntegerContents-der n [] all is der = absurd cc
+IntegerContents-der n (b ∷ []) all is der =
     shortest_signed b [] (recursion_from_All (λ x. x < 256) (b ∷ []) all) (λ some. absurd (omega (arith, some)))
     ∙ ap shortest_octets (sym is)
-integer_kept n (b ∷ c ∷ more) all is der =
+IntegerContents-der n (b ∷ c ∷ more) all is der =
     shortest_signed b (c ∷ more) (recursion_from_All (λ x. x < 256) (b ∷ c ∷ more) all)
-    (λ some. not_padded b c (not_true _ der)) ∙ ap shortest_octets (sym is)
+    (λ some. sign_before-needed b c (not_true _ der)) ∙ ap shortest_octets (sym is)
   where
     not_true : (b : Bool) → not b ≡ true → b ≡ false
     not_true true e = absurd cc
     not_true false e = refl
 
 -- a BIT STRING
-some_are_not_none : (n : ℕ) → (suc n == 0) ≡ false
-some_are_not_none n =
+eqb-suc-zero : (n : ℕ) → (suc n == 0) ≡ false
+eqb-suc-zero n =
     elim (cases_Bool (suc n == 0)) [ inl e ↦ absurd (omega (arith, eqb-true (suc n) 0 e)) | inr e ↦ e ]
 
-pub bit_string_some : (n : ℕ) (v : List ℕ) → 0 < n → bit_string_contents n v ≡ (8 * length v - n) ∷ v
-bit_string_some zero v some = absurd (omega (arith, some))
-bit_string_some (suc n) v some = ap (λ z. if z then [] else ((8 * length v - suc n) ∷ v)) (some_are_not_none n)
+pub bit_string_contents-some : (n : ℕ) (v : List ℕ) → 0 < n → bit_string_contents n v ≡ (8 * length v - n) ∷ v
+bit_string_contents-some zero v some = absurd (omega (arith, some))
+bit_string_contents-some (suc n) v some = ap (λ z. if z then [] else ((8 * length v - suc n) ∷ v)) (eqb-suc-zero n)
 
-pub few_unused : (unused first : ℕ) (more : List ℕ) → is_bit_string (unused ∷ first ∷ more) ≡ true → unused < 8
-few_unused unused first more t = let e = (and_parts (nat_lt unused 8) _ t).0 in grind (arith, nat_tests, e)
+pub is_bit_string-few_unused : (unused first : ℕ) (more : List ℕ) → is_bit_string (unused ∷ first ∷ more) ≡ true →
+    unused < 8
+is_bit_string-few_unused unused first more t = let e = (and_parts (nat_lt unused 8) _ t).0 in
+    grind (arith, nat_tests, e)
 
-pub bit_string_kept :
+pub BitStringContents-der :
     (n : ℕ) (v contents : List ℕ) → BitStringContents n v contents → is_bit_string contents ≡ true →
     has_no_bits contents ≡ false →
     contents ≡ bit_string_contents n v
-bit_string_kept n v [] p der some = absurd cc
-bit_string_kept n v (u ∷ []) p der some = absurd cc
-bit_string_kept n v (u ∷ first ∷ more) (same, size, fits) der some =
-    let few = few_unused u first more der in
+BitStringContents-der n v [] p der some = absurd cc
+BitStringContents-der n v (u ∷ []) p der some = absurd cc
+BitStringContents-der n v (u ∷ first ∷ more) (same, size, fits) der some =
+    let few = is_bit_string-few_unused u first more der in
     let bits : 0 < n = omega (arith, few, size, ap length same) in
     let unused : u ≡ 8 * length v - n = omega (arith, size) in
-    ap₂ (λ x y. x ∷ y) unused (sym same) ∙ sym (bit_string_some n v bits)
+    ap₂ (λ x y. x ∷ y) unused (sym same) ∙ sym (bit_string_contents-some n v bits)
 
 -- contents octets that are written of bits are not one octet, which means no bits
-pub bit_string_other :
+pub has_no_bits-written :
     (n : ℕ) (v contents : List ℕ) → BitStringContents n v contents → is_bit_string contents ≡ true →
     contents ≡ bit_string_contents n v → has_no_bits contents ≡ false
-bit_string_other n v [] p der e = absurd cc
-bit_string_other n v (u ∷ []) (same, size, fits) der e =
+has_no_bits-written n v [] p der e = absurd cc
+has_no_bits-written n v (u ∷ []) (same, size, fits) der e =
     let none : n ≡ 0 = omega (arith, size, ap length same) in
     absurd (omega (arith, ap length (e ∙ ap (λ z. bit_string_contents z v) none)))
-bit_string_other n v (u ∷ first ∷ more) p der e = elim (cases_Bool (has_no_bits (u ∷ first ∷ more))) [
+has_no_bits-written n v (u ∷ first ∷ more) p der e = elim (cases_Bool (has_no_bits (u ∷ first ∷ more))) [
   | inl one ↦ absurd (omega (arith, eqb-true (length (u ∷ first ∷ more)) 1 one))
   | inr not_one ↦ not_one
 ]
 
 -- an OBJECT IDENTIFIER
-none_leads : (begins : Bool) (octets : List ℕ) → is_padded_from begins octets ≡ false →
+NoneLeads-unpadded : (begins : Bool) (octets : List ℕ) → is_padded_from begins octets ≡ false →
     (length octets ≡ 0 → IsTrue begins)
     → (0 < length octets → last_octet octets < 128) → NoneLeads begins octets
-none_leads begins [] padded ended last = ended refl
-none_leads begins (b ∷ octets) padded ended last = (
+NoneLeads-unpadded begins [] padded ended last = ended refl
+NoneLeads-unpadded begins (b ∷ octets) padded ended last = (
   λ t e. false≢true (sym padded ∙ leading begins b octets t e),
-  none_leads (nat_lt b 128) octets (later begins b octets padded) (λ none. ends b octets none (last (omega arith)))
+  NoneLeads-unpadded (nat_lt b 128) octets (later begins b octets padded)
+      (λ none. ends b octets none (last (omega arith)))
       (λ some. more b octets some (last (omega arith))),
 )
   where
@@ -122,12 +125,13 @@ none_leads begins (b ∷ octets) padded ended last = (
 
     more : (b : ℕ) (octets : List ℕ) → 0 < length octets → last_octet (b ∷ octets) < 128 → last_octet octets < 128
     more b [] some low = absurd (omega (arith, some))
-    more b (c ∷ octets) some low = omega (arith, low, last_after b c octets)
+    more b (c ∷ octets) some low = omega (arith, low, last_octet-cons b c octets)
 
-behind_first : (b : ℕ) (rest : List ℕ) → is_padded_from true (b ∷ rest) ≡ false → goes_on_with_80 (b ∷ rest) ≡ false →
+is_padded_from-behind_first : (b : ℕ) (rest : List ℕ) → is_padded_from true (b ∷ rest) ≡ false →
+    goes_on_with_80 (b ∷ rest) ≡ false →
     is_padded_from true rest ≡ false
-behind_first b [] padded on = refl
-behind_first b (c ∷ more) padded on = elim (cases_lt b 128) [
+is_padded_from-behind_first b [] padded on = refl
+is_padded_from-behind_first b (c ∷ more) padded on = elim (cases_lt b 128) [
   | inl low ↦ let ends : nat_lt b 128 ≡ true = grind (arith, nat_tests, low) in
       subst (λ z. is_padded_from z (c ∷ more) ≡ false) ends
       (second (true && (b == 128)) (is_padded_from (nat_lt b 128) (c ∷ more)) padded)
@@ -149,8 +153,8 @@ pub record AreWell (octets : List ℕ) : Type 0 where
   pub last : last_octet octets < 128
   pub unpadded : has_padded_component octets ≡ false
 
-pub are_well : (octets : List ℕ) → are_subidentifiers octets ≡ true → AreWell octets
-are_well octets t =
+pub AreWell-subidentifiers : (octets : List ℕ) → are_subidentifiers octets ≡ true → AreWell octets
+AreWell-subidentifiers octets t =
     let p =
     and_parts (nat_lt 0 (length octets) && nat_lt (last_octet octets) 128) (not (has_padded_component octets)) t in
     let q = and_parts (nat_lt 0 (length octets)) (nat_lt (last_octet octets) 128) p.0 in
@@ -161,39 +165,40 @@ are_well octets t =
     not_true true e = absurd cc
     not_true false e = refl
 
-pub object_identifier_kept :
+pub ObjectIdentifierContents-der :
     (ns contents : List ℕ) → AreOctets contents → ObjectIdentifierContents ns contents →
     are_subidentifiers contents ≡ true →
     goes_on_with_80 contents ≡ false → contents ≡ object_identifier_contents ns
-object_identifier_kept ns [] all p der on = absurd cc
-object_identifier_kept ns (b ∷ rest) all p der on =
-    let well = are_well (b ∷ rest) der in
+ObjectIdentifierContents-der ns [] all p der on = absurd cc
+ObjectIdentifierContents-der ns (b ∷ rest) all p der on =
+    let well = AreWell-subidentifiers (b ∷ rest) der in
     let leads : NoneLeads true rest =
-    none_leads true rest (behind_first b rest well.unpadded on) (λ none. refl)
+    NoneLeads-unpadded true rest (is_padded_from-behind_first b rest well.unpadded on) (λ none. refl)
     (λ some. last_of_more b rest some well.last) in
     NoneLeads-object_identifier_contents ns b rest all leads p
   where
     last_of_more : (b : ℕ) (octets : List ℕ) → 0 < length octets → last_octet (b ∷ octets) < 128 →
         last_octet octets < 128
     last_of_more b [] some low = absurd (omega (arith, some))
-    last_of_more b (c ∷ octets) some low = omega (arith, low, last_after b c octets)
+    last_of_more b (c ∷ octets) some low = omega (arith, low, last_octet-cons b c octets)
 
 -- a base-128 number has octets
-pub continued_some : (octets : List ℕ) → IsContinued octets → 0 < length octets
-continued_some [] p = absurd p
-continued_some (b ∷ octets) p = omega arith
+pub IsContinued-some : (octets : List ℕ) → IsContinued octets → 0 < length octets
+IsContinued-some [] p = absurd p
+IsContinued-some (b ∷ octets) p = omega arith
 
 -- octets that do not begin with 80, and others behind them
-other_front : (first rest more : List ℕ) → 0 < length first → ((more : List ℕ) → first ≢ 128 ∷ more) →
+append-not_80 : (first rest more : List ℕ) → 0 < length first → ((more : List ℕ) → first ≢ 128 ∷ more) →
     first ++ rest ≢ 128 ∷ more
-other_front [] rest more some other e = omega (arith, some)
-other_front (a ∷ first) rest more some other e =
+append-not_80 [] rest more some other e = omega (arith, some)
+append-not_80 (a ∷ first) rest more some other e =
     let is : a ≡ 128 = cc in
     other first (ap (λ z. z ∷ first) is)
 
-not_80_next : (b : ℕ) (octets : List ℕ) → ((more : List ℕ) → octets ≢ 128 ∷ more) → goes_on_with_80 (b ∷ octets) ≡ false
-not_80_next b [] other = refl
-not_80_next b (c ∷ octets) other = elim (cases_Bool (c == 128)) [
+goes_on_with_80-cons : (b : ℕ) (octets : List ℕ) → ((more : List ℕ) → octets ≢ 128 ∷ more) →
+    goes_on_with_80 (b ∷ octets) ≡ false
+goes_on_with_80-cons b [] other = refl
+goes_on_with_80-cons b (c ∷ octets) other = elim (cases_Bool (c == 128)) [
   | inl e ↦ absurd (other octets (ap (λ z. z ∷ octets) (eqb-true c 128 e)))
   | inr e ↦ ap (λ z. nat_lt 127 b && z) e ∙ none (nat_lt 127 b)
 ]
@@ -202,17 +207,17 @@ not_80_next b (c ∷ octets) other = elim (cases_Bool (c == 128)) [
     none true = refl
     none false = refl
 
-written_not_80 : (b : ℕ) (ns : List ℕ) → goes_on_with_80 (b ∷ flat_map shortest_base128 ns) ≡ false
-written_not_80 b [] = refl
-written_not_80 b (n ∷ ns) =
-    not_80_next b (shortest_base128 n ++ flat_map shortest_base128 ns) (λ more.
-    other_front (shortest_base128 n) (flat_map shortest_base128 ns) more
-    (continued_some (shortest_base128 n) (shortest_base128_is n).continued) (shortest_base128_leading n))
+goes_on_with_80-shortest : (b : ℕ) (ns : List ℕ) → goes_on_with_80 (b ∷ flat_map shortest_base128 ns) ≡ false
+goes_on_with_80-shortest b [] = refl
+goes_on_with_80-shortest b (n ∷ ns) =
+    goes_on_with_80-cons b (shortest_base128 n ++ flat_map shortest_base128 ns) (λ more.
+    append-not_80 (shortest_base128 n) (flat_map shortest_base128 ns) more
+    (IsContinued-some (shortest_base128 n) (shortest_base128_is n).continued) (shortest_base128_leading n))
 
 -- an octet 80 is not written there
-pub object_identifier_other :
+pub goes_on_with_80-written :
     (ns contents : List ℕ) → ObjectIdentifierContents ns contents → contents ≡ object_identifier_contents ns →
     goes_on_with_80 contents ≡ false
-object_identifier_other [] contents p e = absurd p
-object_identifier_other (x ∷ []) contents p e = absurd p
-object_identifier_other (x ∷ y ∷ ns) contents p e = ap goes_on_with_80 e ∙ written_not_80 (40 * x + y) ns
+goes_on_with_80-written [] contents p e = absurd p
+goes_on_with_80-written (x ∷ []) contents p e = absurd p
+goes_on_with_80-written (x ∷ y ∷ ns) contents p e = ap goes_on_with_80 e ∙ goes_on_with_80-shortest (40 * x + y) ns

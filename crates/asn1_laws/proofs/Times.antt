@@ -10,19 +10,19 @@ use Rattle.asn1_leaves.specs.Contents.GeneralizedTime.{GeneralizedTimeContents, 
 use Rattle.asn1_leaves.specs.Contents.Moment.{Moment}
 use Rattle.asn1_der.specs.Padding.{has_padded_fraction, last_octet}
 use Rattle.asn1_laws.specs.Spellings.{has_many_digits}
-use Rattle.asn1_laws.proofs.Fractions.{digit_range, fraction_few, fraction_is}
+use Rattle.asn1_laws.proofs.Fractions.{is_ascii_digit-range, length-fraction_digits-le, IsFraction-digits}
 
 -- what is written of some nanoseconds, or of none
-pub some_fraction : (n : ℕ) → 0 < n → written_fraction n ≡ 46 ∷ fraction_digits 9 tenth n
-some_fraction n some = elim (cases_Bool (n == 0)) [
+pub written_fraction-some : (n : ℕ) → 0 < n → written_fraction n ≡ 46 ∷ fraction_digits 9 tenth n
+written_fraction-some n some = elim (cases_Bool (n == 0)) [
   | inl e ↦ absurd (omega (arith, some, eqb-true n 0 e))
   | inr e ↦ ap (λ z. if z then [] else 46 ∷ fraction_digits 9 tenth n) e
 ]
 
 -- the octet before the last
-pub before_last : (front digits : List ℕ) (z : ℕ) → 0 < length digits →
+pub get_or-before_last : (front digits : List ℕ) (z : ℕ) → 0 < length digits →
     get_or (front ++ (digits ++ z ∷ [])) (length (front ++ (digits ++ z ∷ [])) - 2) 0 ≡ last_octet digits
-before_last front digits z some =
+get_or-before_last front digits z some =
     let size = length-append front (digits ++ z ∷ []) in
     let more = length-append digits (z ∷ []) in
     let place : length (front ++ (digits ++ z ∷ [])) - 2 ≡ length front + (length digits - 1) =
@@ -31,34 +31,35 @@ before_last front digits z some =
     ∙ (get_or-append-add front (digits ++ z ∷ []) (length digits - 1) 0
     ∙ get_or_append_left digits (z ∷ []) 0 (length digits - 1) (omega (arith, some)))
 
-either_true : (a b c : Bool) → (b ≡ true) ⊎ (c ≡ true) → (not a || b || c) ≡ true
-either_true true true c h = refl
-either_true true false true h = refl
-either_true true false false (inl e) = absurd cc
-either_true true false false (inr e) = absurd cc
-either_true false b c h = refl
+or-either : (a b c : Bool) → (b ≡ true) ⊎ (c ≡ true) → (not a || b || c) ≡ true
+or-either true true c h = refl
+or-either true false true h = refl
+or-either true false false (inl e) = absurd cc
+or-either true false false (inr e) = absurd cc
+or-either false b c h = refl
 
-no_point_true : (a b c : Bool) → a ≡ false → (not a || b || c) ≡ true
-no_point_true true b c e = absurd cc
-no_point_true false b c e = refl
+or-no_point : (a b c : Bool) → a ≡ false → (not a || b || c) ≡ true
+or-no_point true b c e = absurd cc
+or-no_point false b c e = refl
 
 module _ (contents : List ℕ) (size : 15 < length contents) where
-  long : nat_lt 15 (length contents) ≡ true
-  long = grind (arith, nat_tests, size)
+  nat_lt-15-length : nat_lt 15 (length contents) ≡ true
+  nat_lt-15-length = grind (arith, nat_tests, size)
 
   -- no point stands before a fraction
-  without_point : (get_or contents 14 0 == 46) ≡ false → has_padded_fraction contents ≡ true
-  without_point e =
-      ap₂ (λ x y. x && y) long
-      (no_point_true (get_or contents 14 0 == 46) (get_or contents (length contents - 2) 0 == 48)
+  has_padded_fraction-without_point : (get_or contents 14 0 == 46) ≡ false → has_padded_fraction contents ≡ true
+  has_padded_fraction-without_point e =
+      ap₂ (λ x y. x && y) nat_lt-15-length
+      (or-no_point (get_or contents 14 0 == 46) (get_or contents (length contents - 2) 0 == 48)
       (get_or contents (length contents - 2) 0 == 46) e)
 
   -- a fraction that ends in 0, or has no digit, is padded
-  padded_end : (get_or contents (length contents - 2) 0 ≡ 48) ⊎ (get_or contents (length contents - 2) 0 ≡ 46) →
+  has_padded_fraction-padded_end : (get_or contents (length contents - 2) 0 ≡ 48)
+      ⊎ (get_or contents (length contents - 2) 0 ≡ 46) →
       has_padded_fraction contents ≡ true
-  padded_end h =
-      ap₂ (λ x y. x && y) long
-      (either_true (get_or contents 14 0 == 46) (get_or contents (length contents - 2) 0 == 48)
+  has_padded_fraction-padded_end h =
+      ap₂ (λ x y. x && y) nat_lt-15-length
+      (or-either (get_or contents 14 0 == 46) (get_or contents (length contents - 2) 0 == 48)
       (get_or contents (length contents - 2) 0 == 46) (is h))
     where
       is : (get_or contents (length contents - 2) 0 ≡ 48) ⊎ (get_or contents (length contents - 2) 0 ≡ 46)
@@ -68,90 +69,96 @@ module _ (contents : List ℕ) (size : 15 < length contents) where
       is (inr e) = inr (ap (λ z. z == 46) e)
 
 module _ (m : Moment) where
-  pub whole_size : (end : List ℕ) → length (to_second m ++ end) ≡ 14 + length end
-  whole_size end = length-append (to_second m) end
+  pub length-to_second : (end : List ℕ) → length (to_second m ++ end) ≡ 14 + length end
+  length-to_second end = length-append (to_second m) end
 
-  pub at_point : (d : ℕ) (end : List ℕ) → get_or (to_second m ++ d ∷ end) 14 0 ≡ d
-  at_point d end = get_or-append-add (to_second m) (d ∷ end) 0 0
+  pub get_or-to_second : (d : ℕ) (end : List ℕ) → get_or (to_second m ++ d ∷ end) 14 0 ≡ d
+  get_or-to_second d end = get_or-append-add (to_second m) (d ∷ end) 0 0
 
   -- digits behind the seconds are padding without a point
-  bare_digits : (digits : List ℕ) → list_all is_ascii_digit digits ≡ true → 0 < length digits
+  has_padded_fraction-bare_digits : (digits : List ℕ) → list_all is_ascii_digit digits ≡ true → 0 < length digits
       → has_padded_fraction (to_second m ++ (digits ++ 90 ∷ [])) ≡ true
-  bare_digits [] all some = absurd (omega (arith, some))
-  bare_digits (d ∷ ds) all some =
+  has_padded_fraction-bare_digits [] all some = absurd (omega (arith, some))
+  has_padded_fraction-bare_digits (d ∷ ds) all some =
       let whole = to_second m ++ (d ∷ ds ++ 90 ∷ []) in
-      let (low, high) = digit_range d (and_parts (is_ascii_digit d) (list_all is_ascii_digit ds) all).0 in
+      let (low, high) = is_ascii_digit-range d (and_parts (is_ascii_digit d) (list_all is_ascii_digit ds) all).0 in
       let other : (d == 46) ≡ false = grind (arith, nat_tests, low) in
-      without_point whole (omega (arith, whole_size (d ∷ ds ++ 90 ∷ []), length-append ds (90 ∷ [])))
-      (ap (λ z. z == 46) (at_point d (ds ++ 90 ∷ [])) ∙ other)
+      has_padded_fraction-without_point whole
+      (omega (arith, length-to_second (d ∷ ds ++ 90 ∷ []), length-append ds (90 ∷ [])))
+      (ap (λ z. z == 46) (get_or-to_second d (ds ++ 90 ∷ [])) ∙ other)
 
   -- a point without digits is a padded fraction
-  bare_point : has_padded_fraction (to_second m ++ (46 ∷ 90 ∷ [])) ≡ true
-  bare_point =
+  has_padded_fraction-bare_point : has_padded_fraction (to_second m ++ (46 ∷ 90 ∷ [])) ≡ true
+  has_padded_fraction-bare_point =
       let whole = to_second m ++ (46 ∷ 90 ∷ []) in
-      padded_end whole (omega (arith, whole_size (46 ∷ 90 ∷ [])))
-      (inr (before_last (to_second m) (46 ∷ []) 90 (omega arith)))
+      has_padded_fraction-padded_end whole (omega (arith, length-to_second (46 ∷ 90 ∷ [])))
+      (inr (get_or-before_last (to_second m) (46 ∷ []) 90 (omega arith)))
 
   -- digits that are not padding do not end in 0
-  last_digit : (digits : List ℕ) → 0 < length digits →
+  last_octet-not_padded : (digits : List ℕ) → 0 < length digits →
       has_padded_fraction (to_second m ++ (46 ∷ (digits ++ 90 ∷ []))) ≡ false → last_octet digits ≢ 48
-  last_digit digits some unpadded zero_at_end =
+  last_octet-not_padded digits some unpadded zero_at_end =
       let whole = to_second m ++ (46 ∷ (digits ++ 90 ∷ [])) in
       let more = length-append digits (90 ∷ []) in
       let same : (to_second m ++ 46 ∷ []) ++ (digits ++ 90 ∷ []) ≡ whole = refl in
       let is : get_or whole (length whole - 2) 0 ≡ 48 =
-      before_last (to_second m ++ 46 ∷ []) digits 90 some ∙ zero_at_end in
-      false≢true (sym unpadded ∙ padded_end whole (omega (arith, whole_size (46 ∷ (digits ++ 90 ∷ [])), more)) (inl is))
+      get_or-before_last (to_second m ++ 46 ∷ []) digits 90 some ∙ zero_at_end in
+      false≢true (sym unpadded
+      ∙ has_padded_fraction-padded_end whole (omega (arith, length-to_second (46 ∷ (digits ++ 90 ∷ [])), more))
+      (inl is))
 
   -- what is written of the nanoseconds
-  end_written : (digits end : List ℕ) → list_all is_ascii_digit digits ≡ true →
+  written_fraction-end : (digits end : List ℕ) → list_all is_ascii_digit digits ≡ true →
       m.nanosecond ≡ fraction_number tenth digits
       → (end ≡ digits ++ 90 ∷ []) ⊎ (end ≡ 46 ∷ (digits ++ 90 ∷ [])) → has_padded_fraction (to_second m ++ end) ≡ false
       → length end ≤ 11 → end ≡ written_fraction m.nanosecond ++ 90 ∷ []
-  end_written [] end all is (inl e) unpadded few = e ∙ ap (λ z. written_fraction z ++ 90 ∷ []) (sym is)
-  end_written (d ∷ ds) end all is (inl e) unpadded few =
+  written_fraction-end [] end all is (inl e) unpadded few = e ∙ ap (λ z. written_fraction z ++ 90 ∷ []) (sym is)
+  written_fraction-end (d ∷ ds) end all is (inl e) unpadded few =
       absurd (false≢true (sym unpadded
-      ∙ (ap (λ z. has_padded_fraction (to_second m ++ z)) e ∙ bare_digits (d ∷ ds) all (omega arith))))
-  end_written [] end all is (inr e) unpadded few =
-      absurd (false≢true (sym unpadded ∙ (ap (λ z. has_padded_fraction (to_second m ++ z)) e ∙ bare_point)))
-  end_written (d ∷ ds) end all is (inr e) unpadded few =
+      ∙ (ap (λ z. has_padded_fraction (to_second m ++ z)) e
+      ∙ has_padded_fraction-bare_digits (d ∷ ds) all (omega arith))))
+  written_fraction-end [] end all is (inr e) unpadded few =
+      absurd (false≢true (sym unpadded
+      ∙ (ap (λ z. has_padded_fraction (to_second m ++ z)) e ∙ has_padded_fraction-bare_point)))
+  written_fraction-end (d ∷ ds) end all is (inr e) unpadded few =
       let digits = d ∷ ds in
-      let last = last_digit digits (omega arith)
+      let last = last_octet-not_padded digits (omega arith)
       (sym (ap (λ z. has_padded_fraction (to_second m ++ z)) e) ∙ unpadded) in
       let size : length digits ≤ 9 = omega (arith, few, ap length e, length-append digits (90 ∷ [])) in
-      let f = fraction_is 8 tenth digits refl all (omega arith) size last in
+      let f = IsFraction-digits 8 tenth digits refl all (omega arith) size last in
       let written : written_fraction m.nanosecond ≡ 46 ∷ digits =
-      ap written_fraction is ∙ (some_fraction (fraction_number tenth digits) f.some ∙ ap (λ z. 46 ∷ z) f.again) in
+      ap written_fraction is
+      ∙ (written_fraction-some (fraction_number tenth digits) f.some ∙ ap (λ z. 46 ∷ z) f.again) in
       e ∙ sym (ap (λ z. z ++ 90 ∷ []) written)
 
-pub generalized_time_kept :
+pub GeneralizedTimeContents-der :
     (m : Moment) (contents : List ℕ) → GeneralizedTimeContents m contents → has_padded_fraction contents ≡ false →
     has_many_digits contents ≡ false →
     contents ≡ generalized_time_contents m
-generalized_time_kept m contents p unpadded few =
+GeneralizedTimeContents-der m contents p unpadded few =
     let size : length contents ≤ 25 = grind (arith, nat_tests, few) in
-    let end = end_written m p.digits p.end p.is_end.0 p.nanosecond p.is_end.1
+    let end = written_fraction-end m p.digits p.end p.is_end.0 p.nanosecond p.is_end.1
     (sym (ap has_padded_fraction p.octets) ∙ unpadded)
-    (omega (arith, size, ap length p.octets, whole_size m p.end)) in
+    (omega (arith, size, ap length p.octets, length-to_second m p.end)) in
     p.octets ∙ ap (λ z. to_second m ++ z) end
 
 -- at most nine digits are written
-fraction_size : (n : ℕ) → length (written_fraction n) ≤ 10
-fraction_size n = elim (cases_lt 0 n) [
-  | inl some ↦ omega (arith, ap length (some_fraction n some), fraction_few 9 tenth n)
+length-written_fraction-le : (n : ℕ) → length (written_fraction n) ≤ 10
+length-written_fraction-le n = elim (cases_lt 0 n) [
+  | inl some ↦ omega (arith, ap length (written_fraction-some n some), length-fraction_digits-le 9 tenth n)
   | inr none ↦ let zero : n ≡ 0 = omega (arith, none) in omega (arith, ap (λ z. length (written_fraction z)) zero)
 ]
 
-pub generalized_time_other : (m : Moment) (contents : List ℕ) → contents ≡ generalized_time_contents m →
+pub has_many_digits-written : (m : Moment) (contents : List ℕ) → contents ≡ generalized_time_contents m →
     has_many_digits contents ≡ false
-generalized_time_other m contents e =
+has_many_digits-written m contents e =
     let end = written_fraction m.nanosecond ++ 90 ∷ [] in
     let size : length contents ≤ 25 =
     omega (
       arith,
       ap length e,
-      whole_size m end,
+      length-to_second m end,
       length-append (written_fraction m.nanosecond) (90 ∷ []),
-      fraction_size m.nanosecond,
+      length-written_fraction-le m.nanosecond,
     ) in
     grind (arith, nat_tests, size)

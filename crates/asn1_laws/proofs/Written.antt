@@ -14,116 +14,132 @@ use Rattle.simple_asn1.specs.Canonical.{all_canonical, canonical, shortest_encod
 use Rattle.simple_asn1.proofs.Placed.{canonical_some, contents_le, header_size, shortest_encodes}
 use Rattle.simple_asn1.proofs.Strict.{canonical_encoding}
 use Rattle.asn1_laws.specs.DerTrees.{AreDerTrees, IsDerTree, each_canonical}
-use Rattle.asn1_laws.proofs.Encodings.{leaf_right, split}
-use Rattle.asn1_laws.proofs.WrittenLeaves.{leaf_back, leaf_der}
+use Rattle.asn1_laws.proofs.Encodings.{IsRightAlone-leaf, AreDer-first}
+use Rattle.asn1_laws.proofs.WrittenLeaves.{is_der_leaf-leaf_contents, HasDerContents-leaf_contents}
 
-is_written : (c : ASN1Class) (k : Bool) (n : ℕ) (v : List ℕ) → IsShortest (shortest_encoding c k n v) c k n v
-is_written c k n v = record { whole = refl }
+IsShortest-shortest_encoding : (c : ASN1Class) (k : Bool) (n : ℕ) (v : List ℕ) →
+    IsShortest (shortest_encoding c k n v) c k n v
+IsShortest-shortest_encoding c k n v = record { whole = refl }
 
 -- leaves have tags of types, which are primitive
-leaf_reserved : (l : Leaf) → (is_reserved (leaf_tag l) ≡ false) × (is_constructed_type (leaf_tag l) ≡ false)
-leaf_reserved (boolean b) = (refl, refl)
-leaf_reserved (integer n) = (refl, refl)
-leaf_reserved (bit_string n v) = (refl, refl)
-leaf_reserved (octet_string v) = (refl, refl)
-leaf_reserved null = (refl, refl)
-leaf_reserved (object_identifier ns) = (refl, refl)
-leaf_reserved (text utf8 cs) = (refl, refl)
-leaf_reserved (text printable cs) = (refl, refl)
-leaf_reserved (text teletex cs) = (refl, refl)
-leaf_reserved (text ia5 cs) = (refl, refl)
-leaf_reserved (text universal cs) = (refl, refl)
-leaf_reserved (text bmp cs) = (refl, refl)
-leaf_reserved (utc_time m) = (refl, refl)
-leaf_reserved (generalized_time m) = (refl, refl)
+is_reserved-leaf_tag : (l : Leaf) → (is_reserved (leaf_tag l) ≡ false) × (is_constructed_type (leaf_tag l) ≡ false)
+is_reserved-leaf_tag (boolean b) = (refl, refl)
+is_reserved-leaf_tag (integer n) = (refl, refl)
+is_reserved-leaf_tag (bit_string n v) = (refl, refl)
+is_reserved-leaf_tag (octet_string v) = (refl, refl)
+is_reserved-leaf_tag null = (refl, refl)
+is_reserved-leaf_tag (object_identifier ns) = (refl, refl)
+is_reserved-leaf_tag (text utf8 cs) = (refl, refl)
+is_reserved-leaf_tag (text printable cs) = (refl, refl)
+is_reserved-leaf_tag (text teletex cs) = (refl, refl)
+is_reserved-leaf_tag (text ia5 cs) = (refl, refl)
+is_reserved-leaf_tag (text universal cs) = (refl, refl)
+is_reserved-leaf_tag (text bmp cs) = (refl, refl)
+is_reserved-leaf_tag (utc_time m) = (refl, refl)
+is_reserved-leaf_tag (generalized_time m) = (refl, refl)
 
 mutual
   -- trees that are said to be written as DER are
-  der_of_tree : (b : Tree ℕ) → IsFaithful b → IsDerTree b → IsDerEncoding (canonical b)
-  der_of_tree (leaf o l) f t =
-      let r = leaf_reserved l in
-      of_primitive_type (is_written Universal false (leaf_tag l) (leaf_contents l)) r.0 r.1 (leaf_der l f t)
-  der_of_tree (group o Sequence bs) f t =
-      of_sequence (is_written Universal true 16 (all_canonical bs)) refl (λ e. absurd (omega (arith, e)))
-      (each_canonical bs) (der_of_trees bs f t)
-  der_of_tree (group o Set bs) f t =
-      of_set (is_written Universal true 17 (all_canonical bs)) (each_canonical bs) (der_of_trees bs f t.0) t.1
-  der_of_tree (explicit c o n b) f t =
-      of_other_constructed f.0 (is_written c true n (canonical b)) (canonical b ∷ [])
-      (more_encodings (sym (append-nil (canonical b))) (der_of_tree b f.1 t) no_encodings)
-  der_of_tree (unknown c k o n v) f t =
-      whole_der (shortest_encoding c k n v) c k n v (record { alone = (is_written c k n v, t.0); items = t.1 })
+  IsDerEncoding-canonical : (b : Tree ℕ) → IsFaithful b → IsDerTree b → IsDerEncoding (canonical b)
+  IsDerEncoding-canonical (leaf o l) f t =
+      let r = is_reserved-leaf_tag l in
+      of_primitive_type (IsShortest-shortest_encoding Universal false (leaf_tag l) (leaf_contents l)) r.0 r.1
+      (HasDerContents-leaf_contents l f t)
+  IsDerEncoding-canonical (group o Sequence bs) f t =
+      of_sequence (IsShortest-shortest_encoding Universal true 16 (all_canonical bs)) refl
+      (λ e. absurd (omega (arith, e)))
+      (each_canonical bs) (AreDerEncodings-all_canonical bs f t)
+  IsDerEncoding-canonical (group o Set bs) f t =
+      of_set (IsShortest-shortest_encoding Universal true 17 (all_canonical bs)) (each_canonical bs)
+      (AreDerEncodings-all_canonical bs f t.0) t.1
+  IsDerEncoding-canonical (explicit c o n b) f t =
+      of_other_constructed f.0 (IsShortest-shortest_encoding c true n (canonical b)) (canonical b ∷ [])
+      (more_encodings (sym (append-nil (canonical b))) (IsDerEncoding-canonical b f.1 t) no_encodings)
+  IsDerEncoding-canonical (unknown c k o n v) f t =
+      whole_der (shortest_encoding c k n v) c k n v
+      (record { alone = (IsShortest-shortest_encoding c k n v, t.0); items = t.1 })
 
-  der_of_trees : (bs : Trees ℕ) → AreFaithful bs → AreDerTrees bs →
+  AreDerEncodings-all_canonical : (bs : Trees ℕ) → AreFaithful bs → AreDerTrees bs →
       AreDerEncodings (all_canonical bs) (each_canonical bs)
-  der_of_trees no_trees f t = no_encodings
-  der_of_trees (more_trees b bs) f t = more_encodings refl (der_of_tree b f.0 t.0) (der_of_trees bs f.1 t.1)
+  AreDerEncodings-all_canonical no_trees f t = no_encodings
+  AreDerEncodings-all_canonical (more_trees b bs) f t =
+      more_encodings refl (IsDerEncoding-canonical b f.0 t.0) (AreDerEncodings-all_canonical bs f.1 t.1)
 
 -- what an encoding that is written has to be
-whole_of : (c : ASN1Class) (k : Bool) (n : ℕ) (v : List ℕ) → length (shortest_encoding c k n v) < 2 ^ 64 →
+IsWhole-shortest_encoding : (c : ASN1Class) (k : Bool) (n : ℕ) (v : List ℕ) →
+    length (shortest_encoding c k n v) < 2 ^ 64 →
     IsDerEncoding (shortest_encoding c k n v)
     → IsWhole (shortest_encoding c k n v) c k n v
-whole_of c k n v small d =
+IsWhole-shortest_encoding c k n v small d =
     der_whole (shortest_encoding c k n v) c k n v (header_size c k n v) small
     (shortest_encodes c k n v (omega (arith, small, contents_le c k n v))) d
 
 -- the first that is written, and the others
-first_written : (b : Tree ℕ) (rest whole : List ℕ) → whole ≡ canonical b ++ rest → length whole < 2 ^ 64 →
+AreDer-canonical_first : (b : Tree ℕ) (rest whole : List ℕ) → whole ≡ canonical b ++ rest → length whole < 2 ^ 64 →
     AreDer whole → IsDerEncoding (canonical b) × AreDer rest
-first_written b rest whole e small d =
+AreDer-canonical_first b rest whole e small d =
     let G = canonical_encoding b (omega (arith, small, ap length e, length-append (canonical b) rest)) in
-    let s = split whole (canonical b) rest G.class G.constructed G.tag G.contents G.header G.encoding e small d in
+    let s = AreDer-first whole (canonical b) rest G.class G.constructed G.tag G.contents G.header G.encoding e small
+    d in
     (s.der, s.more)
 
 mutual
   -- a faithful tree whose canonical octets are a DER encoding is a tree of DER
-  tree_of_der : (b : Tree ℕ) → length (canonical b) < 2 ^ 64 → IsFaithful b → IsDerEncoding (canonical b) → IsDerTree b
-  tree_of_der (leaf o l) small f d =
-      let w = whole_of Universal false (leaf_tag l) (leaf_contents l) small d in
-      leaf_back l f (leaf_right l false (leaf_contents l) w.alone.1).1
-  tree_of_der (group o Sequence bs) small f d =
-      let w = whole_of Universal true 16 (all_canonical bs) small d in
-      trees_of_der bs (omega (arith, small, contents_le Universal true 16 (all_canonical bs))) f (w.items refl)
-  tree_of_der (group o Set bs) small f d =
-      let w = whole_of Universal true 17 (all_canonical bs) small d in
+  IsDerTree-canonical : (b : Tree ℕ) → length (canonical b) < 2 ^ 64 → IsFaithful b → IsDerEncoding (canonical b) →
+      IsDerTree b
+  IsDerTree-canonical (leaf o l) small f d =
+      let w = IsWhole-shortest_encoding Universal false (leaf_tag l) (leaf_contents l) small d in
+      is_der_leaf-leaf_contents l f (IsRightAlone-leaf l false (leaf_contents l) w.alone.1).1
+  IsDerTree-canonical (group o Sequence bs) small f d =
+      let w = IsWhole-shortest_encoding Universal true 16 (all_canonical bs) small d in
+      AreDerTrees-all_canonical bs (omega (arith, small, contents_le Universal true 16 (all_canonical bs))) f
+      (w.items refl)
+  IsDerTree-canonical (group o Set bs) small f d =
+      let w = IsWhole-shortest_encoding Universal true 17 (all_canonical bs) small d in
       let t =
-      trees_of_der bs (omega (arith, small, contents_le Universal true 17 (all_canonical bs))) f (w.items refl) in
-      (t, w.alone.1.1 refl (each_canonical bs) (der_of_trees bs f t))
-  tree_of_der (explicit c o n b) small f d =
-      let w = whole_of c true n (canonical b) small d in
+      AreDerTrees-all_canonical bs (omega (arith, small, contents_le Universal true 17 (all_canonical bs))) f
+      (w.items refl) in
+      (t, w.alone.1.1 refl (each_canonical bs) (AreDerEncodings-all_canonical bs f t))
+  IsDerTree-canonical (explicit c o n b) small f d =
+      let w = IsWhole-shortest_encoding c true n (canonical b) small d in
       let inner : length (canonical b) < 2 ^ 64 = omega (arith, small, contents_le c true n (canonical b)) in
-      tree_of_der b inner f.1 (first_written b [] (canonical b) (sym (append-nil (canonical b))) inner (w.items refl)).0
-  tree_of_der (unknown c k o n v) small f d =
-      let w = whole_of c k n v small d in
+      IsDerTree-canonical b inner f.1
+      (AreDer-canonical_first b [] (canonical b) (sym (append-nil (canonical b))) inner (w.items refl)).0
+  IsDerTree-canonical (unknown c k o n v) small f d =
+      let w = IsWhole-shortest_encoding c k n v small d in
       (w.alone.1, w.items)
 
-  trees_of_der : (bs : Trees ℕ) → length (all_canonical bs) < 2 ^ 64 → AreFaithful bs → AreDer (all_canonical bs) →
+  AreDerTrees-all_canonical : (bs : Trees ℕ) → length (all_canonical bs) < 2 ^ 64 → AreFaithful bs →
+      AreDer (all_canonical bs) →
       AreDerTrees bs
-  trees_of_der no_trees small f d = tt
-  trees_of_der (more_trees b bs) small f d =
+  AreDerTrees-all_canonical no_trees small f d = tt
+  AreDerTrees-all_canonical (more_trees b bs) small f d =
       let size = length-append (canonical b) (all_canonical bs) in
-      let (one, others) = first_written b (all_canonical bs) (all_canonical (more_trees b bs)) refl small d in
-      (tree_of_der b (omega (arith, small, size)) f.0 one, trees_of_der bs (omega (arith, small, size)) f.1 others)
+      let (one, others) =
+      AreDer-canonical_first b (all_canonical bs) (all_canonical (more_trees b bs)) refl small d in (
+        IsDerTree-canonical b (omega (arith, small, size)) f.0 one,
+        AreDerTrees-all_canonical bs (omega (arith, small, size)) f.1 others,
+      )
 
--- what is written of a faithful tree is DER exactly if
-pub written_one : (b : Tree ℕ) → length (canonical b) < 2 ^ 64 → IsFaithful b → IsDer (canonical b) ↔ IsDerTree b
-written_one b small f = (
-  λ d. tree_of_der b small f
-      (first_written b [] (canonical b) (sym (append-nil (canonical b))) small (d.items, d.encodings)).0,
+-- what is written of a faithful tree is DER exactly where the tree is one of DER
+pub IsDer-canonical : (b : Tree ℕ) → length (canonical b) < 2 ^ 64 → IsFaithful b → IsDer (canonical b) ↔ IsDerTree b
+IsDer-canonical b small f = (
+  λ d. IsDerTree-canonical b small f
+      (AreDer-canonical_first b [] (canonical b) (sym (append-nil (canonical b))) small (d.items, d.encodings)).0,
   λ t. record {
     some = canonical_some b;
     items = canonical b ∷ [];
-    encodings = more_encodings (sym (append-nil (canonical b))) (der_of_tree b f t) no_encodings;
+    encodings = more_encodings (sym (append-nil (canonical b))) (IsDerEncoding-canonical b f t) no_encodings;
   },
 )
 
 -- what is written of faithful trees, joined, is DER exactly where these are trees of DER
-pub written_joined :
+pub IsDer-all_canonical :
     (bs : Trees ℕ) → bs ≢ no_trees → length (all_canonical bs) < 2 ^ 64 → AreFaithful bs →
     IsDer (all_canonical bs) ↔ AreDerTrees bs
-written_joined bs some small f = (
-  λ d. trees_of_der bs small f (d.items, d.encodings),
-  λ t. record { some = octets bs some; items = each_canonical bs; encodings = der_of_trees bs f t },
+IsDer-all_canonical bs some small f = (
+  λ d. AreDerTrees-all_canonical bs small f (d.items, d.encodings),
+  λ t. record { some = octets bs some; items = each_canonical bs; encodings = AreDerEncodings-all_canonical bs f t },
 )
   where
     octets : (bs : Trees ℕ) → bs ≢ no_trees → 0 < length (all_canonical bs)
