@@ -58,14 +58,34 @@ pub fn encoding_at(document: &[u8], offset: usize) -> Option<&[u8]>
     Some(octets)
 }
 
+// The size of the encoding at the front, as its header tells it. Most headers have two octets: these have code of their
+// own, which takes a few instructions.
+#[inline(always)]
+fn front_size(octets: &[u8]) -> Option<usize>
+    ensures { IfSome result (λ n. (2 ≤ n) × (n ≤ length octets.now)) }
+{
+    match octets {
+        [identifier, length, rest @ ..] if *identifier % 32 != 31 && *length < 128 => {
+            let contents = *length as usize;
+            if contents <= rest.len() {
+                Some(2 + contents)
+            } else {
+                None
+            }
+        }
+        _ => encoding_size(octets),
+    }
+}
+
 // How many encodings stand one after another, as their headers tell it. It is a hint for the room that their blocks
 // take, and no more than that.
+#[inline(always)]
 pub fn encoding_count(octets: &[u8]) -> usize
     ensures { 2 * result ≤ length octets.now }
 {
     let mut count = 0;
     let mut rest = octets;
-    while let Some(size) = encoding_size(rest) {
+    while let Some(size) = front_size(rest) {
         count += 1;
         rest = &rest[size..];
     }

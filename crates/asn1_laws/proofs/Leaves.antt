@@ -17,7 +17,7 @@ use Rattle.asn1_leaves.specs.Contents.ObjectIdentifier.{ObjectIdentifierContents
 use Rattle.asn1_leaves.proofs.ShortSubidentifiers.{NoneLeads, NoneLeads-object_identifier_contents}
 use Rattle.asn1_der.specs.Contents.{are_subidentifiers, is_bit_string, is_boolean, is_integer}
 use Rattle.asn1_der.specs.Padding.{has_padded_component, is_padded_from, last_octet}
-use Rattle.asn1_laws.proofs.Fractions.{last_octet-cons}
+use Rattle.asn1_leaves.proofs.Fractions.{get_or-last}
 use Rattle.asn1_laws.specs.Spellings.{goes_on_with_80, has_no_bits}
 
 -- a BOOLEAN
@@ -125,7 +125,7 @@ NoneLeads-unpadded begins (b ∷ octets) padded ended last = (
 
     more : (b : ℕ) (octets : List ℕ) → 0 < length octets → last_octet (b ∷ octets) < 128 → last_octet octets < 128
     more b [] some low = absurd (omega (arith, some))
-    more b (c ∷ octets) some low = omega (arith, low, last_octet-cons b c octets)
+    more b (c ∷ octets) some low = omega (arith, low, get_or-last b c octets)
 
 is_padded_from-behind_first : (b : ℕ) (rest : List ℕ) → is_padded_from true (b ∷ rest) ≡ false →
     goes_on_with_80 (b ∷ rest) ≡ false →
@@ -180,7 +180,7 @@ ObjectIdentifierContents-der ns (b ∷ rest) all p der on =
     last_of_more : (b : ℕ) (octets : List ℕ) → 0 < length octets → last_octet (b ∷ octets) < 128 →
         last_octet octets < 128
     last_of_more b [] some low = absurd (omega (arith, some))
-    last_of_more b (c ∷ octets) some low = omega (arith, low, last_octet-cons b c octets)
+    last_of_more b (c ∷ octets) some low = omega (arith, low, get_or-last b c octets)
 
 -- a base-128 number has octets
 pub IsContinued-some : (octets : List ℕ) → IsContinued octets → 0 < length octets

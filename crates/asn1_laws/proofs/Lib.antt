@@ -1,4 +1,3 @@
-pub mod Fractions
 pub mod Leaves
 pub mod Times
 pub mod Kept

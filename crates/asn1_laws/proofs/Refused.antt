@@ -20,7 +20,7 @@ use Rattle.asn1_der.specs.Steps.{AreDer}
 use Rattle.asn1_der.proofs.Encodings.{der_encoding, der_whole}
 use Rattle.asn1_laws.specs.Refused.{IsFaultOfDer, of_bits, of_string}
 use Rattle.asn1_laws.proofs.Encodings.{length-contents-le, length-contents-lt, IsRightAlone-group, IsRightAlone-primitive, AreDer-first}
-use Rattle.asn1_laws.proofs.Fractions.{last_octet-cons}
+use Rattle.asn1_leaves.proofs.Fractions.{get_or-last}
 use Rattle.asn1_laws.proofs.Leaves.{AreWell-subidentifiers, is_bit_string-few_unused}
 
 -- a fault of fewer octets is one of more
@@ -53,7 +53,7 @@ are_subidentifiers-components [] t = absurd cc
 are_subidentifiers-components (b ∷ []) t = ObjectIdentifierContents-ended b [] (omega arith)
 are_subidentifiers-components (b ∷ c ∷ more) t =
     ObjectIdentifierContents-ended b (c ∷ more)
-    (omega (arith, (AreWell-subidentifiers (b ∷ c ∷ more) t).last, last_octet-cons b c more))
+    (omega (arith, (AreWell-subidentifiers (b ∷ c ∷ more) t).last, get_or-last b c more))
 
 IsMoment-contents : (P : Type 0) (contents : List ℕ) → IsMoment contents →
     ((m : Moment) → GeneralizedTimeContents m contents → P) → P

@@ -10,7 +10,7 @@ use Rattle.asn1_leaves.specs.Contents.GeneralizedTime.{GeneralizedTimeContents, 
 use Rattle.asn1_leaves.specs.Contents.Moment.{Moment}
 use Rattle.asn1_der.specs.Padding.{has_padded_fraction, last_octet}
 use Rattle.asn1_laws.specs.Spellings.{has_many_digits}
-use Rattle.asn1_laws.proofs.Fractions.{is_ascii_digit-range, length-fraction_digits-le, IsFraction-digits}
+use Rattle.asn1_leaves.proofs.Fractions.{is_ascii_digit-range, length-fraction_digits-le, IsFraction-digits}
 
 -- what is written of some nanoseconds, or of none
 pub written_fraction-some : (n : ℕ) → 0 < n → written_fraction n ≡ 46 ∷ fraction_digits 9 tenth n

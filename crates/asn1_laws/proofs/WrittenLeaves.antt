@@ -17,7 +17,7 @@ use Rattle.asn1_blocks.specs.Tree.{Leaf, boolean, integer, bit_string, octet_str
 use Rattle.asn1_der.specs.Contents.{HasDerContents, HasDerTime, has_der_octets, are_subidentifiers, is_bit_string, is_integer}
 use Rattle.asn1_der.specs.Padding.{has_padded_component, is_padded_from, last_octet}
 use Rattle.asn1_laws.specs.DerTrees.{are_der_bits, are_der_components, is_der_leaf}
-use Rattle.asn1_laws.proofs.Fractions.{last_octet-cons}
+use Rattle.asn1_leaves.proofs.Fractions.{get_or-last}
 use Rattle.asn1_laws.proofs.Leaves.{bit_string_contents-some, IsContinued-some}
 use Rattle.asn1_laws.proofs.WrittenTimes.{IsGeneralizedTime-written}
 
@@ -100,12 +100,12 @@ is_padded_from-continued (b ∷ []) rest begins p other e =
     last_of : (b : ℕ) (rest : List ℕ) → b < 128 → (0 < length rest → last_octet rest < 128) →
         last_octet (b ∷ rest) < 128
     last_of b [] low h = low
-    last_of b (c ∷ rest) low h = omega (arith, last_octet-cons b c rest, h (omega arith))
+    last_of b (c ∷ rest) low h = omega (arith, get_or-last b c rest, h (omega arith))
 is_padded_from-continued (b ∷ c ∷ first) rest begins (high, p) other e =
     let goes : nat_lt b 128 ≡ false = grind (arith, nat_tests, high) in
     let i = is_padded_from-continued (c ∷ first) rest false p (λ t. absurd (false≢true t)) e in (
       ap₂ (λ x y. x || is_padded_from y ((c ∷ first) ++ rest)) (and-not_leading begins b (c ∷ first) other) goes ∙ i.0,
-      omega (arith, last_octet-cons b c (first ++ rest), i.1),
+      omega (arith, get_or-last b c (first ++ rest), i.1),
     )
 
 AreEnded-shortest : (ns : List ℕ) → AreEnded (flat_map shortest_base128 ns)
@@ -147,10 +147,10 @@ are_subidentifiers-unended octets high =
     ap (λ z. z && not (has_padded_component octets))
     (and-false (nat_lt 0 (length octets)) (nat_lt (last_octet octets) 128) b)
 
-last_octet-cons-lt : (b : ℕ) (rest : List ℕ) → (0 < length rest → last_octet rest < 128) → (length rest ≡ 0 → b < 128) →
+get_or-last-lt : (b : ℕ) (rest : List ℕ) → (0 < length rest → last_octet rest < 128) → (length rest ≡ 0 → b < 128) →
     last_octet (b ∷ rest) < 128
-last_octet-cons-lt b [] h low = low refl
-last_octet-cons-lt b (c ∷ rest) h low = omega (arith, last_octet-cons b c rest, h (omega arith))
+get_or-last-lt b [] h low = low refl
+get_or-last-lt b (c ∷ rest) h low = omega (arith, get_or-last b c rest, h (omega arith))
 
 length-shortest-positive : (n : ℕ) (ns : List ℕ) → 0 < length (flat_map shortest_base128 (n ∷ ns))
 length-shortest-positive n ns =
@@ -169,7 +169,7 @@ are_subidentifiers-cons b ns = elim (cases_lt b 128) [
       let other : (b == 128) ≡ false = grind (arith, nat_tests, low) in
       let rest = AreEnded-shortest ns in
       are_subidentifiers-ended (b ∷ flat_map shortest_base128 ns) (omega arith)
-      (last_octet-cons-lt b (flat_map shortest_base128 ns) rest.last (λ none. low))
+      (get_or-last-lt b (flat_map shortest_base128 ns) rest.last (λ none. low))
       (ap₂ (λ x y. x || is_padded_from y (flat_map shortest_base128 ns)) other is ∙ rest.unpadded)
       ∙ sym (ap (λ z. z || (nat_lt 128 b && nat_lt 0 (length ns))) is)
   | inr high ↦ elim (cases_lt 128 b) [
@@ -198,7 +198,7 @@ are_subidentifiers-cons b ns = elim (cases_lt b 128) [
         let other : (b == 128) ≡ false = grind (arith, nat_tests, above) in
         let more : nat_lt 0 (length (n ∷ ns)) ≡ true = grind (arith, nat_tests) in
         are_subidentifiers-ended (b ∷ rest) (omega arith)
-        (last_octet-cons-lt b rest ended.last (λ none. absurd (omega (arith, none, length-shortest-positive n ns))))
+        (get_or-last-lt b rest ended.last (λ none. absurd (omega (arith, none, length-shortest-positive n ns))))
         (ap₂ (λ x y. x || is_padded_from y rest) other goes ∙ is_padded_from-shortest n ns)
         ∙ (sym more ∙ sym (right_is b above (nat_lt 0 (length (n ∷ ns)))))
 

@@ -11,7 +11,7 @@ use Rattle.asn1_leaves.proofs.Leaves.Digits.{div-unit-le, fraction_digits-zero, 
 use Rattle.asn1_leaves.proofs.Leaves.GeneralizedTime.{GeneralizedTimeContents-written}
 use Rattle.asn1_der.specs.Contents.{IsGeneralizedTime, IsMoment}
 use Rattle.asn1_der.specs.Padding.{has_padded_fraction, last_octet}
-use Rattle.asn1_laws.proofs.Fractions.{last_octet-cons, pow-positive}
+use Rattle.asn1_leaves.proofs.Fractions.{get_or-last, pow-positive}
 use Rattle.asn1_laws.proofs.Times.{get_or-to_second, get_or-before_last, written_fraction-some}
 
 -- a digit above 0
@@ -26,7 +26,7 @@ record EndsAboveZero (digits : List ℕ) : Type 0 where
 EndsAboveZero-cons : (d : ℕ) (digits : List ℕ) → EndsAboveZero digits → EndsAboveZero (d ∷ digits)
 EndsAboveZero-cons d [] e = absurd (omega (arith, e.some))
 EndsAboveZero-cons d (c ∷ digits) e =
-    record { some = omega arith; last = subst IsAboveZero (sym (last_octet-cons d c digits)) e.last }
+    record { some = omega arith; last = subst IsAboveZero (sym (get_or-last d c digits)) e.last }
 
 quotient_positive : (n q r unit : ℕ) → 0 < n → q * unit + r ≡ n → r ≡ 0 → 0 < q
 quotient_positive n zero r unit some p z = absurd (omega (arith, p, z, some))

@@ -6,3 +6,5 @@ pub mod SliceSplit
 pub mod IdentifierForms
 pub mod PushedNumbers
 pub mod DottedNumbers
+pub mod Fractions
+mod CanonicalTimes

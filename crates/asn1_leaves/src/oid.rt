@@ -218,6 +218,7 @@ fn numbers_of_short<T: FromBigUint>(alloc: Global, contents: &[u8]) -> Result<Ve
 }
 
 // The components of contents octets.
+#[inline(always)]
 pub fn read(alloc: Global, contents: &[u8]) -> Result<OID, ASN1DecodeErr>
     ensures found { IfOk result (λ oid. ObjectIdentifierContents oid contents.now) }
     ensures refused { IfErr result (OutOfMemoryOr (ObjectIdentifierFault contents.now)) }

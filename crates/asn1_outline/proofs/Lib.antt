@@ -14,4 +14,6 @@ mod Built
 mod BuildSteps
 mod ShapesAlone
 mod Walks
+mod Checks
 mod ShapesWithin
+mod SignedHeaders

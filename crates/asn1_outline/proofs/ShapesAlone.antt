@@ -15,8 +15,8 @@ use Rattle.asn1_blocks.proofs.ReadSteps.{slice_join, slice_length}
 use Rattle.asn1_outline.specs.Shapes.{AreShapes, FirstHeaderFaultAt, HasItems, HasShapes, HeadersFaultAt, Shapes, as_it_came, in_header, in_item, in_later, more_shapes, no_more, not_read, one_more, read_inside}
 
 -- at a place there is one header
-header_alone : (x : List ℕ) (p e : ℕ) (h g : PlacedHeader) → e ≤ length x → HeaderFound x p e h → HeaderFound x p e g →
-    h ≡ g
+pub header_alone : (x : List ℕ) (p e : ℕ) (h g : PlacedHeader) → e ≤ length x → HeaderFound x p e h →
+    HeaderFound x p e g → h ≡ g
 header_alone x p e h g within f f' =
     let y = slice_range x p h.end in
     let z = slice_range x p g.end in
@@ -42,8 +42,8 @@ header_alone x p e h g within f f' =
     same
 
 -- no header is at fault where one is found
-header_no_fault : (x : List ℕ) (s p e : ℕ) (h : PlacedHeader) (fault : DecodeFault) → length x < 2 ^ 64 → e ≤ length x →
-    HeaderFound x p e h
+pub header_no_fault : (x : List ℕ) (s p e : ℕ) (h : PlacedHeader) (fault : DecodeFault) → length x < 2 ^ 64 →
+    e ≤ length x → HeaderFound x p e h
     → HeaderFault (p - s) (slice_range x p e) fault → ⊥
 header_no_fault x s p e h fault small within f w =
     let before : p ≤ h.end = omega (arith, f.starts_after, f.order) in

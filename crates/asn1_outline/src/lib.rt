@@ -7,6 +7,7 @@
 
 mod building;
 pub mod entry;
+pub mod header_check;
 mod header_reading;
 pub mod headers;
 mod indexed;
@@ -14,6 +15,7 @@ pub mod iter;
 pub mod listing;
 pub mod outline;
 mod reading;
+pub mod signed;
 pub mod triple;
 pub mod value;
 mod walk;

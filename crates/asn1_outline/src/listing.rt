@@ -177,9 +177,9 @@ impl EntryBuilder {
         ensures items { self.new.entries.items ≡ self.old.entries.items }
         ensures room { OnOk result (vec_len self.new.entries < vec_capacity self.new.entries) }
     {
-        let each = (offset / self.entries.len().max(1)).max(1);
-        let rest = size.saturating_sub(offset) / each;
-        let guess = rest.saturating_add(rest / 8).saturating_add(1);
+        let rest = size.saturating_sub(offset);
+        let blocks = rest.saturating_mul(self.entries.len()) / offset.max(1);
+        let guess = blocks.saturating_add(blocks / 8).saturating_add(1);
         match self.entries.reserve(guess) {
             Ok(()) => Ok(()),
             Err(_) => self.entries.reserve(1),

@@ -235,7 +235,7 @@ pub moment_write_fault-generalized_time_read : (m : Moment) (contents : List ℕ
 moment_write_fault-generalized_time_read m contents p = moment_write_fault-valid m p.valid
 
 -- what is written of a faithful moment means it
-written_fraction-some : (n : ℕ) → 0 < n → written_fraction n ≡ 46 ∷ fraction_digits 9 tenth n
+pub written_fraction-some : (n : ℕ) → 0 < n → written_fraction n ≡ 46 ∷ fraction_digits 9 tenth n
 written_fraction-some n h = grind (arith, nat_tests, h)
 
 IsEnd-written_fraction : (n : ℕ) → n < 1000000000 →

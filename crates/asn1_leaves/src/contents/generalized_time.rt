@@ -9,7 +9,7 @@ ghost use Rattle.asn1_headers.specs.Fault.{OutOfMemoryOr, fault_of};
 
 use crate::contents::moment::{check_year, moment_from, nanosecond, pair};
 use asn1_headers::error::{ASN1DecodeErr, ASN1EncodeErr};
-use asn1_numbers::sink::{Comparison, Sink};
+use asn1_numbers::sink::Sink;
 use jiff::civil::DateTime;
 use std::alloc::{AllocError, Global};
 
@@ -275,33 +275,19 @@ pub fn is_faithful(d: &DateTime) -> bool
     d.year() >= 0
 }
 
-// Whether contents octets are found to be those that are written of what they mean. Without a fraction there is no
-// other form.
+// Whether contents octets that mean a moment are those that are written of it: 15 without a fraction, or up to 25 with
+// one of nine digits at most, which a point begins and no 0 ends (X.690 11.7). No digit is read for this.
+#[inline(always)]
 pub fn are_canonical(contents: &[u8]) -> bool
     ensures { IsTrue result → (m : Moment) → GeneralizedTimeContents m contents.now
         → contents.now ≡ generalized_time_contents m }
 {
-    if contents.len() == 15 {
+    let size = contents.len();
+    if size == 15 {
         return true;
     }
-    match moment(contents) {
-        Some(d) => are_written(&d, contents),
-        None => false,
+    if size < 17 || size > 25 {
+        return false;
     }
-}
-
-// Whether the octets are those that are written of the moment.
-fn are_written(d: &DateTime, octets: &[u8]) -> bool
-    ensures { IsTrue result → octets.now ≡ generalized_time_contents (moment_of d.now) }
-{
-    match size(d) {
-        Ok(size) if size == octets.len() => {}
-        _ => return false,
-    }
-    let mut comparison = Comparison {
-        rest: octets,
-        same: true,
-    };
-    push(d, &mut comparison);
-    comparison.same
+    contents[14] == b'.' && contents[size - 2] != b'0'
 }

@@ -7,6 +7,7 @@ use asn1_headers::error::ASN1EncodeErr;
 use jiff::civil::DateTime;
 
 // The number of two digits.
+#[inline(always)]
 pub fn pair(a: u8, b: u8) -> Option<u8>
     ensures found { IfSome result (IsPair a b) }
     ensures none { IfNone result ((n : ℕ) → IsPair a b n → ⊥) }
@@ -18,6 +19,7 @@ pub fn pair(a: u8, b: u8) -> Option<u8>
 }
 
 // The moment of these fields, if it is valid.
+#[inline(always)]
 fn valid_moment(
     year: u16,
     month: u8,
@@ -49,6 +51,7 @@ fn valid_moment(
 }
 
 // The moment of this year and fraction with the fields that ten octets spell, MMDDhhmmss.
+#[inline(always)]
 pub fn moment_from(year: u16, octets: &[u8], nanosecond: u32) -> Option<DateTime>
     requires year { year ≤ 9999 }
     requires octets { length octets.now ≡ 10 }

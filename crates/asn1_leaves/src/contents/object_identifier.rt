@@ -87,7 +87,7 @@ pub fn are_meant(contents: &[u8]) -> bool
 
 // Whether the octets mean components, and no subidentifier begins with 80 (hexadecimal), so that each
 // has its shortest form (X.690 8.19.2).
-#[inline(never)]
+#[inline(always)]
 pub fn are_shortest(contents: &[u8]) -> bool
     ensures meant { IsTrue result → (components : List ℕ) × ObjectIdentifierContents components contents.now }
     ensures shortest { IsTrue result → (components : List ℕ)

@@ -1,5 +1,5 @@
--- Fractions of a second that do not end in 0.
-use Rattle.std.proofs.Common.{◌≡◌, ◌≢◌, ℕ, zero, suc, ◌+◌, ◌-◌, ◌*◌, ◌/◌, ◌%◌, ◌<◌, ◌≤◌, ◌^◌, true, List, [], ◌∷◌, ◌⊎◌, inl, inr, length, refl, sym, ap, ap₂, ◌∙◌, arith, mul-le-mul_right, sub-one}
+-- Fractions of a second that do not end in 0: for `generalized_time::are_canonical`, and for the laws of DER.
+use Rattle.std.proofs.Common.{◌≡◌, ◌≢◌, ℕ, zero, suc, ◌+◌, ◌-◌, ◌*◌, ◌/◌, ◌%◌, ◌<◌, ◌≤◌, ◌^◌, true, List, [], ◌∷◌, ◌⊎◌, inl, inr, length, get_or, refl, sym, ap, ap₂, ◌∙◌, arith, mul-le-mul_right, sub-one}
 use Rattle.std.specs.Char.{is_ascii_digit}
 use Rattle.std.specs.List.{list_all}
 use Rattle.std.proofs.Math.Nat.{pow-succ'}
@@ -8,14 +8,14 @@ use Rattle.std.proofs.lemmas.Bool.Decides.{nat_tests}
 use Rattle.std.proofs.lemmas.Nat.{div-mul-add, mod-mul-add}
 use Rattle.asn1_leaves.specs.Contents.GeneralizedTime.{fraction_digits, fraction_number}
 use Rattle.asn1_leaves.proofs.Leaves.Digits.{fraction_digits-zero, fraction_digits-step}
-use Rattle.asn1_der.specs.Padding.{last_octet}
 
 pub is_ascii_digit-range : (d : ℕ) → is_ascii_digit d ≡ true → (48 ≤ d) × (d ≤ 57)
 is_ascii_digit-range d t = (grind (arith, nat_tests, t), grind (arith, nat_tests, t))
 
 -- the last of octets is that of all but the first
-pub last_octet-cons : (b c : ℕ) (octets : List ℕ) → last_octet (b ∷ c ∷ octets) ≡ last_octet (c ∷ octets)
-last_octet-cons b c octets = simp sub-one
+pub get_or-last : (b c : ℕ) (octets : List ℕ) →
+    get_or (b ∷ c ∷ octets) (length (b ∷ c ∷ octets) - 1) 0 ≡ get_or (c ∷ octets) (length (c ∷ octets) - 1) 0
+get_or-last b c octets = simp sub-one
 
 pub pow-positive : (k : ℕ) → 0 < 10 ^ k
 pow-positive zero = omega arith
@@ -54,7 +54,7 @@ mul-add-positive q m unit n positive (inr some) e = omega (arith, e, some)
 pub IsFraction-digits :
     (k unit : ℕ) (digits : List ℕ) → unit ≡ 10 ^ k → list_all is_ascii_digit digits ≡ true → 0 < length digits →
     length digits ≤ suc k →
-    last_octet digits ≢ 48 → IsFraction k unit digits
+    get_or digits (length digits - 1) 0 ≢ 48 → IsFraction k unit digits
 IsFraction-digits k unit [] e all some few last = absurd (omega (arith, some))
 IsFraction-digits k unit (d ∷ []) e all some few last =
     let (low, high) = is_ascii_digit-range d (and_parts (is_ascii_digit d) (list_all is_ascii_digit []) all).0 in
@@ -78,7 +78,7 @@ IsFraction-digits (suc k) unit (d ∷ c ∷ ds) e all some few last =
     let tenth : unit / 10 ≡ 10 ^ k = omega (arith, ten) in
     let positive : 0 < unit = omega (arith, ten, pow-positive k) in
     let i = IsFraction-digits k (unit / 10) (c ∷ ds) tenth parts.1 (omega arith) (omega (arith, few))
-    (λ ends. last (last_octet-cons d c ds ∙ ends)) in
+    (λ ends. last (get_or-last d c ds ∙ ends)) in
     let m = fraction_number (unit / 10) (c ∷ ds) in
     let n = fraction_number unit (d ∷ c ∷ ds) in
     let is : n ≡ (d - 48) * unit + m = refl in

@@ -1,0 +1,119 @@
+// What was signed of a signed triple, found by headers. No entries are kept.
+ghost use Rattle.std.specs.Prelude.{◌≡◌, ◌↔◌, ◌≤◌, IfErr, IfOk, IsTrue, List, MatchOption, length};
+ghost use Rattle.asn1_headers.specs.Fault.{OutOfMemoryOr};
+ghost use Rattle.asn1_blocks.specs.Places.{HeaderFound};
+ghost use Rattle.asn1_blocks.specs.declared.parsed.PlacedHeader.{PlacedHeader};
+ghost use Rattle.asn1_outline.specs.Shapes.{AreEntriesOfShapes, FirstHeaderFaultAt, encoding_octets};
+ghost use Rattle.asn1_outline.specs.Triple.{BeginWithTriple, entry_at};
+ghost use Rattle.asn1_outline.specs.TripleHeaders.{HasNoTriple, IsSignedIn, IsUniversalAt, IsUniversalHeader};
+ghost use Rattle.asn1_outline.specs.declared.entry.Entry.{Entry};
+
+use crate::header_check::check_headers;
+use asn1_blocks::parsed::{PlacedHeader, header_within};
+use asn1_blocks::reading::{is_out_of_memory, out_of_memory};
+use asn1_headers::error::LocatedErr;
+use asn1_headers::header::{ASN1Class, HeaderCount};
+use std::alloc::{AllocError, Global};
+
+/// The octets of what was signed in a document that is encodings by their headers, of which the first is a signed
+/// triple: a SEQUENCE of exactly three, any block, a SEQUENCE that begins with an OBJECT IDENTIFIER, and a BIT STRING.
+/// `None` if the first is another encoding. Memory is taken for the encodings that are open at a time alone.
+///
+/// # Errors
+/// Those of [`check_headers`].
+pub fn signed_content<'a>(alloc: Global, octets: &'a [u8]) -> Result<Option<&'a [u8]>, LocatedErr>
+    ensures content { IfOk result (λ found. (entries : List Entry) × AreEntriesOfShapes octets.now entries
+        × MatchOption found (BeginWithTriple entries → ⊥) (λ content. BeginWithTriple entries
+        × (content.now ≡ encoding_octets octets.now (entry_at entries 1)))) }
+    ensures fault { IfErr result
+        (λ e. OutOfMemoryOr (λ fault. FirstHeaderFaultAt octets.now fault e.offset) e.error) }
+{
+    check_headers(alloc, octets)?;
+    match signed_in(alloc, octets) {
+        Ok(found) => Ok(found),
+        Err(AllocError) => Err(out_of_memory(0)),
+    }
+}
+
+// The octets of what was signed, where the document begins with a triple.
+fn signed_in<'a>(alloc: Global, octets: &'a [u8]) -> Result<Option<&'a [u8]>, AllocError>
+    ensures { IfOk result (λ found. MatchOption found
+        (HasNoTriple octets.now) (λ content. IsSignedIn octets.now content.now)) }
+{
+    let Some(whole) = universal_header(alloc, octets, 0, octets.len(), 16)? else {
+        return Ok(None);
+    };
+    let Some(content) = header_at(alloc, octets, whole.start, whole.end)? else {
+        return Ok(None);
+    };
+    let Some(algorithm) = universal_header(alloc, octets, content.end, whole.end, 16)? else {
+        return Ok(None);
+    };
+    let Some(_) = universal_header(alloc, octets, algorithm.start, algorithm.end, 6)? else {
+        return Ok(None);
+    };
+    let Some(signature) = universal_header(alloc, octets, algorithm.end, whole.end, 3)? else {
+        return Ok(None);
+    };
+    if signature.end != whole.end {
+        return Ok(None);
+    }
+    Ok(Some(&octets[whole.start..content.end]))
+}
+
+// The header of the encoding from the offset on, where it is of class Universal with the tag number.
+fn universal_header(
+    alloc: Global,
+    octets: &[u8],
+    offset: usize,
+    end: usize,
+    tag: u64,
+) -> Result<Option<PlacedHeader>, AllocError>
+    requires order { offset ≤ end }
+    requires within { end ≤ length octets.now }
+    ensures { IfOk result (λ found. MatchOption found
+        ((h : PlacedHeader) → IsUniversalAt octets.now offset end tag h → ⊥)
+        (IsUniversalAt octets.now offset end tag)) }
+{
+    let Some(header) = header_at(alloc, octets, offset, end)? else {
+        return Ok(None);
+    };
+    if !is_universal(&header, tag) {
+        return Ok(None);
+    }
+    Ok(Some(header))
+}
+
+// Whether the header is of class Universal, with the tag number.
+fn is_universal(header: &PlacedHeader, tag: u64) -> bool
+    ensures { IsTrue result ↔ IsUniversalHeader tag header.now }
+{
+    match header.class {
+        ASN1Class::Universal => header.tag.to_u64() == Some(tag),
+        _ => false,
+    }
+}
+
+// The header of the encoding from the offset on, where one stands there.
+fn header_at(
+    alloc: Global,
+    octets: &[u8],
+    offset: usize,
+    end: usize,
+) -> Result<Option<PlacedHeader>, AllocError>
+    requires order { offset ≤ end }
+    requires within { end ≤ length octets.now }
+    ensures { IfOk result (λ found. MatchOption found
+        ((h : PlacedHeader) → HeaderFound octets.now offset end h → ⊥)
+        (HeaderFound octets.now offset end)) }
+{
+    if offset == end {
+        return Ok(None);
+    }
+    let mut count = HeaderCount::new();
+    match header_within(alloc, octets, offset, end, offset, &mut count) {
+        Ok(header) => Ok(Some(header)),
+        Err(error) if is_out_of_memory(&error) => Err(AllocError),
+        Err(_) => Ok(None),
+    }
+}
