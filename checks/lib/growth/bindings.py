@@ -7,15 +7,17 @@ KIND is `c`, `rust` or `python`, of which PROGRAM is given a call and a file, an
 in microseconds and a status; or `json`, for `der_dump`. It fails where twice the size takes more than three times as
 long, or where 100 kB take more than a second. The decimal digits of one long number take quadratic time: there the
 second alone counts. Of `memory`, PROGRAM is given a call alone, and prints how many kB it takes for 100 MB without room
-for what it writes, a status and a count.
+for what it writes, a status and a count. Of `signed`, PROGRAM is `der_signed`, which may take twice its input.
 """
+import filecmp
 import json
 import os
+import shutil
 import subprocess
 import sys
 import tempfile
 
-from x690 import encoding
+from x690 import encoding, header
 
 SIZES = (25_000, 50_000, 100_000)
 MOST_SECONDS, MOST_RATIO, NOISE = 1.0, 3.0, 0.01
@@ -92,6 +94,9 @@ MEMORY = {
 }
 MOST_KILOBYTES = 4_096
 
+# how many times its input der_signed may hold: the room that it reads into may be twice as large
+SIGNED_SIZE, MOST_TIMES = 20_000_000, 2
+
 
 def ran(kind, program, call, path):
     """Processor time in microseconds, and status."""
@@ -132,12 +137,38 @@ def memory(program):
     return wrong
 
 
+def signed_memory(program, work):
+    """Whether the program writes what was signed, of many items, and holds no more than a few times its input."""
+    content, given, written = (os.path.join(work, name) for name in ("content.der", "signed.der", "written"))
+    algorithm, signature = bytes.fromhex("300306012a"), bytes.fromhex("030200ab")
+    # piece by piece: what is measured of a child begins with the memory that this process holds
+    with open(content, "wb") as file:
+        file.write(header(0x30, SIGNED_SIZE))
+        for _ in range(SIGNED_SIZE // 2_000):
+            file.write(bytes.fromhex("0500") * 1_000)
+    with open(content, "rb") as signed_part, open(given, "wb") as file:
+        file.write(header(0x30, os.path.getsize(content) + len(algorithm) + len(signature)))
+        shutil.copyfileobj(signed_part, file)
+        file.write(algorithm + signature)
+    with open(given, "rb") as source, open(written, "wb") as out:
+        child = subprocess.Popen([program], stdin=source, stdout=out)
+        _, status, used = os.wait4(child.pid, 0)
+        child.returncode = status
+    is_right = status == 0 and filecmp.cmp(content, written, shallow=False)
+    good = is_right and used.ru_maxrss * 1024 <= MOST_TIMES * SIGNED_SIZE
+    print(f"growth: der_signed of 20 MB takes {used.ru_maxrss} kB" + ("" if good else ": WRONG"), flush=True)
+    return int(not good)
+
+
 def main():
     work, wrong, tried = sys.argv[1], 0, 0
     programs = dict(word.split("=", 1) for word in sys.argv[2:])
     if "memory" in programs:
         wrong += memory(programs.pop("memory"))
         tried += len(MEMORY)
+    if "signed" in programs:
+        wrong += signed_memory(programs.pop("signed"), work)
+        tried += 1
     for shape, make in SHAPES.items():
         paths = [os.path.join(work, f"{size}.der") for size in SIZES]
         for path, size in zip(paths, SIZES):

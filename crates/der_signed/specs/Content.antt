@@ -1,8 +1,8 @@
 -- What is answered to an input.
 use Rattle.std.specs.Prelude.{◌≡◌, ◌≢◌, ⊤, ℕ, List, None, Some}
 use Rattle.der_forms.specs.Objects.{document_of}
-use Rattle.simple_asn1.specs.Fault.{fault_of}
-use Rattle.simple_asn1.specs.Shapes.{AreEntriesOfShapes, FirstHeaderFaultAt, encoding_octets}
+use Rattle.asn1_headers.specs.Fault.{fault_of}
+use Rattle.asn1_outline.specs.Shapes.{AreEntriesOfShapes, FirstHeaderFaultAt, encoding_octets}
 use Rattle.asn1_headers.specs.declared.error.ASN1DecodeErr.{ASN1DecodeErr}
 use Rattle.asn1_headers.specs.declared.error.ASN1DecodeErr.TheVariants.{OutOfMemory}
 use Rattle.asn1_outline.specs.Triple.{BeginWithTriple, entry_at}
@@ -48,10 +48,3 @@ IsRefusalOf error (Stream f) = (f ≡ Memory) × (error ≡ OutOfMemory)
 IsRefusalOf error (NoDocument f) = ⊥
 IsRefusalOf error (Refused e) = (error ≡ e) × (e ≢ OutOfMemory)
 IsRefusalOf error NotSigned = ⊥
-
--- nothing is taken of entries, since memory ran out, or they begin with no triple
-abbrev pub LacksContent : List Entry → RunFault → Type 0
-LacksContent entries (Stream f) = (f ≡ Memory) × BeginWithTriple entries
-LacksContent entries (NoDocument f) = ⊥
-LacksContent entries (Refused e) = ⊥
-LacksContent entries NotSigned = BeginWithTriple entries → ⊥

@@ -1,21 +1,19 @@
 // The run of the program: all input is read before anything is written.
-ghost use Rattle.std.specs.Prelude.{◌≡◌, ◌⊎◌, ℕ, List, Err, IfErr, IfOk, IfSome, IsOk, OnOk, codes};
-ghost use Rattle.simple_asn1.specs.Shapes.{encoding_octets};
-ghost use Rattle.simple_asn1.specs.Walked.{walked_entries, walked_octets};
+ghost use Rattle.std.specs.Prelude.{◌≡◌, ◌⊎◌, ℕ, List, None, Err, IfErr, IfOk, IfSome, IsOk, OnOk, Some, codes};
 ghost use Rattle.std.specs.Io.KnownBytes.{Appends, IsAtEnd, Keeps};
+ghost use Rattle.der_forms.specs.Objects.{document_of as document_of_is};
 ghost use Rattle.der_forms.specs.declared.input.FormFault.{FormFault};
-ghost use Rattle.asn1_outline.specs.Triple.{BeginWithTriple, entry_at};
-ghost use Rattle.der_signed.specs.Content.{HasDocument, IsContent, IsFaultOf, IsRefusalOf, LacksContent, TellsWhy};
+ghost use Rattle.der_signed.specs.Content.{HasDocument, IsContent, IsFaultOf, IsRefusalOf, TellsWhy};
 ghost use Rattle.der_signed.specs.declared.run.RunFault.TheVariants.{Stream, NotSigned as not_signed};
 ghost use Rattle.der_signed.specs.declared.run.RunFault.TheVariants.{NoDocument as no_document, Refused as refused};
 ghost use Rattle.der_io.specs.declared.StreamFault.TheVariants.{Read as read_fault};
 ghost use Rattle.der_io.specs.declared.StreamFault.TheVariants.{Write as write_fault};
 ghost use Rattle.der_io.specs.declared.StreamFault.TheVariants.{Memory as memory_fault};
 
-use asn1_outline::triple::triple_entries;
+use asn1_headers::error::ASN1DecodeErr;
+use asn1_outline::signed::signed_content;
 use der_forms::{FormFault, document_of};
 use der_io::{StreamFault, fault_status, read_all, write_all};
-use simple_asn1::{ASN1DecodeErr, Headers};
 use std::alloc::Global;
 use std::io::{Read, Write};
 
@@ -45,7 +43,7 @@ impl From<StreamFault> for RunFault {
 
 /// Reads all of `r`, and writes the octets that were signed to `w`, where the input has a document that begins with a
 /// signed triple, by its headers: as it is, in PEM (its first object), in hex digits or in base 64. The whole input is
-/// kept in memory, with its entries while it is read, and the content beside it.
+/// kept in memory, with the encodings that are open at a time while it is read.
 ///
 /// # Errors
 /// `Read`, `Memory`, `NoDocument`, `Refused` and `NotSigned`, after which nothing was written; `Write`, after which
@@ -59,31 +57,43 @@ pub fn run<R: Read, W: Write>(alloc: Global, r: &mut R, w: &mut W) -> Result<(),
     ensures refused { IfErr result (λ e. IfSome (R.remaining r.old) (TellsWhy e)) }
 {
     let input = read_all(alloc, r)?;
-    let content = content_of(alloc, input)?;
-    write_all(w, &content)?;
+    let octets = octets_of(alloc, input)?;
+    let content = signed_part(alloc, &octets)?;
+    write_all(w, content)?;
     Ok(())
 }
 
-// The octets that were signed.
-fn content_of(alloc: Global, input: Vec<u8>) -> Result<Vec<u8>, RunFault>
-    ensures content { IfOk result (λ content. HasDocument input.items (λ octets. IsContent octets content.items)) }
+// The octets of the document that the input has.
+fn octets_of(alloc: Global, input: Vec<u8>) -> Result<Vec<u8>, RunFault>
+    ensures document { IfOk result (λ octets. document_of_is input.items ≡ Some octets.items) }
     ensures refused { IfErr result (λ e. TellsWhy e input.items) }
 {
     match document_of(alloc, input) {
-        Ok(octets) => signed_part(alloc, &octets),
+        Ok(octets) => Ok(octets),
         Err(FormFault::OutOfMemory) => Err(RunFault::Stream(StreamFault::Memory)),
         Err(fault) => Err(RunFault::NoDocument(fault)),
     }
 }
 
 // The octets that were signed of a document.
-fn signed_part(alloc: Global, octets: &[u8]) -> Result<Vec<u8>, RunFault>
-    ensures content { IfOk result (λ content. IsContent octets.now content.items) }
+fn signed_part<'a>(alloc: Global, octets: &'a [u8]) -> Result<&'a [u8], RunFault>
+    ensures content { IfOk result (λ content. IsContent octets.now content.now) }
     ensures refused { IfErr result (λ e. IsFaultOf e octets.now) }
 {
-    match Headers::read(alloc, octets) {
-        Ok(headers) => content_in(alloc, &headers),
+    match signed_content(alloc, octets) {
+        Ok(found) => content_in(found),
         Err(located) => Err(refusal_of(located.error)),
+    }
+}
+
+// The octets that were found.
+fn content_in(found: Option<&[u8]>) -> Result<&[u8], RunFault>
+    ensures content { IfOk result (λ content. found.entry ≡ Some content) }
+    ensures none { IfErr result (λ e. (e ≡ not_signed) × (found.entry ≡ None)) }
+{
+    match found {
+        Some(content) => Ok(content),
+        None => Err(RunFault::NotSigned),
     }
 }
 
@@ -94,24 +104,6 @@ fn refusal_of(error: ASN1DecodeErr) -> RunFault
     match error {
         ASN1DecodeErr::OutOfMemory => RunFault::Stream(StreamFault::Memory),
         error => RunFault::Refused(error),
-    }
-}
-
-// The octets of the first of the three, where the first encoding is a triple.
-fn content_in(alloc: Global, headers: &Headers<'_>) -> Result<Vec<u8>, RunFault>
-    ensures content { IfOk result (λ content. BeginWithTriple (walked_entries headers.now)
-        × (content.items ≡ encoding_octets (walked_octets headers.now) (entry_at (walked_entries headers.now) 1))) }
-    ensures refused { IfErr result (LacksContent (walked_entries headers.now)) }
-{
-    if triple_entries(headers.entries()).is_none() {
-        return Err(RunFault::NotSigned);
-    }
-    match headers.encoding(1) {
-        Some(content) => match Vec::from_slice(alloc, content) {
-            Ok(content) => Ok(content),
-            Err(_) => Err(RunFault::Stream(StreamFault::Memory)),
-        },
-        None => Err(RunFault::NotSigned),
     }
 }
 

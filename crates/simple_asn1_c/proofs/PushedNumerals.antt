@@ -1,5 +1,5 @@
 -- Numerals that are pushed, and components of which each is.
-use Rattle.std.proofs.Common.{◌≡◌, ℕ, zero, suc, ◌+◌, ◌<◌, ◌%◌, ◌/◌, List, [], ◌∷◌, ◌++◌, refl, sym, ap, ◌∙◌, arith, map, append_assoc}
+use Rattle.std.proofs.Common.{◌≡◌, ℕ, zero, suc, ◌+◌, ◌<◌, ◌≤◌, ◌%◌, ◌/◌, List, [], ◌∷◌, ◌++◌, refl, sym, ap, ◌∙◌, arith, map, append_assoc}
 use Rattle.std.specs.Prelude.{IsTrue, Bool, Result, Ok, Err, OnOk}
 use Rattle.std.specs.Int.Digits.{digits_of}
 use Rattle.std.specs.List.{flat_map}
@@ -29,6 +29,18 @@ digit_numeral (suc m) low =
     natural_some (suc m) (omega arith)
     ∙ ap (map digit) (digits_of_step 10 (suc m) (omega arith) (omega arith)
     ∙ (λ i. digits_of 10 (none i) ++ (last i ∷ [])))
+    )
+
+-- that of two
+pub two_digits_numeral : (n : ℕ) → 10 ≤ n → n < 100 → (48 + n / 10) ∷ (48 + n % 10) ∷ [] ≡ natural_numeral n
+two_digits_numeral n two low =
+    let none : n / 10 / 10 ≡ 0 = omega (arith, low) in
+    let first : n / 10 % 10 ≡ n / 10 = omega (arith, low) in
+    let front : digits_of 10 (n / 10) ≡ n / 10 ∷ [] =
+    digits_of_step 10 (n / 10) (omega arith) (omega (arith, two)) ∙ (λ i. digits_of 10 (none i) ++ (first i ∷ [])) in
+    sym (
+    natural_some n (omega (arith, two))
+    ∙ ap (map digit) (digits_of_step 10 n (omega arith) (omega (arith, two)) ∙ ap (λ z. z ++ (n % 10) ∷ []) front)
     )
 
 -- the components of contents octets, one after another

@@ -1,5 +1,5 @@
 // The components of contents octets of an OBJECT IDENTIFIER in decimal with points.
-ghost use Rattle.std.specs.Prelude.{◌≡◌, ◌⊎◌, ◌++◌, ℕ, List, IfErr, IfNone, IfOk, IfSome, IsTrue, string_bytes};
+ghost use Rattle.std.specs.Prelude.{◌≡◌, ◌⊎◌, ◌+◌, ◌++◌, ◌<◌, ◌≤◌, ◌∷◌, [], ℕ, List, IfErr, IfNone, IfOk, IfSome, IsTrue, string_bytes};
 ghost use Rattle.std.specs.List.{flat_map};
 ghost use Rattle.asn1_leaves.specs.Contents.ObjectIdentifier.{ObjectIdentifierContents, ObjectIdentifierFault};
 ghost use Rattle.asn1_leaves.specs.DottedDecimal.{dotted_decimal};
@@ -23,12 +23,45 @@ use std::alloc::{AllocError, Global};
 type Text = ArrayVec<u8, 128>;
 
 // Pushes the decimal numeral, if there is room.
+#[inline(always)]
 fn push_numeral(n: u64, text: &mut Text) -> bool
     ensures { IsTrue result → text.new.items ≡ text.old.items ++ natural_numeral n }
 {
     if n < 10 {
-        return text.try_push(b'0' + n as u8).is_ok();
+        return push_digit(n, text);
     }
+    if n < 100 {
+        return push_two(n, text);
+    }
+    push_digits(n, text)
+}
+
+// Pushes a digit, if there is room.
+#[inline(always)]
+fn push_digit(n: u64, text: &mut Text) -> bool
+    requires { n < 10 }
+    ensures { IsTrue result → text.new.items ≡ text.old.items ++ (48 + n) ∷ [] }
+{
+    text.try_push(b'0' + n as u8).is_ok()
+}
+
+// Pushes a numeral of two digits, if there is room.
+fn push_two(n: u64, text: &mut Text) -> bool
+    requires two { 10 ≤ n }
+    requires low { n < 100 }
+    ensures { IsTrue result → text.new.items ≡ text.old.items ++ natural_numeral n }
+{
+    if !push_digit(n / 10, text) {
+        return false;
+    }
+    push_digit(n % 10, text)
+}
+
+// Pushes a numeral of any number of digits, if there is room.
+#[inline(never)]
+fn push_digits(n: u64, text: &mut Text) -> bool
+    ensures { IsTrue result → text.new.items ≡ text.old.items ++ natural_numeral n }
+{
     let mut buffer = Buffer::new();
     text.try_extend_from_slice(buffer.format(n).as_bytes())
         .is_ok()

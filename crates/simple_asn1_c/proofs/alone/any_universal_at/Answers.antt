@@ -1,9 +1,9 @@
--- For `alone::universal_at`: what it returns is right (`missing`, `found`).
+-- For `alone::any_universal_at`: what it returns is right (`missing`, `found`).
 use Rattle.std.proofs.Common.{◌≡◌, inr, refl, sym, subst, ◌∙◌}
 use Rattle.asn1_headers.specs.declared.header.ASN1Class.TheVariants.{Universal}
 use Rattle.simple_asn1.specs.Header.{Encoding}
 use Rattle.simple_asn1_c.proofs.Headers.{contents_behind, universal_number}
-use Rattle.simple_asn1_c.proofs.alone.universal_at.Goals as goal
+use Rattle.simple_asn1_c.proofs.alone.any_universal_at.Goals as goal
 
 pub returns-in_default-clause-missing : goal.returns-in_default-clause-missing
 returns-in_default-clause-missing c = inr (refl, λ n v u. c.in_default.ensures.none u.whole u.at)
