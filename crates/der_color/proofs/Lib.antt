@@ -1,1 +1,1 @@
-mod Painted
+pub mod Painted

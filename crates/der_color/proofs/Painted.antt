@@ -1,8 +1,7 @@
 -- Pieces that are pushed one after another.
-use Rattle.std.proofs.Common.{◌≡◌, ℕ, List, [], ◌∷◌, ◌++◌, ap, append-nil, append_assoc, arith, drop, length, refl, sym, take, ◌∙◌}
+use Rattle.std.proofs.Common.{◌≡◌, ℕ, List, [], ◌∷◌, ◌++◌, ap, append-nil, append_assoc, refl, sym, ◌∙◌}
 use Rattle.std.specs.List.{flat_map}
 use Rattle.std.proofs.lemmas.Grind.{flat_map-append}
-use Rattle.std.proofs.lemmas.List.{take-append-drop}
 use Rattle.der_color.specs.Paints.{Paints, Piece, paint, part, sequence, text_in, written}
 use Rattle.der_color.specs.declared.paint.Paint.{Paint}
 use Rattle.der_color.specs.declared.paint.Paint.TheVariants.{Plain}
@@ -58,19 +57,10 @@ painted p t a b c d e f g =
     (paints_then t [] a c d (paints_then [] t a b c (paints_paint p a b e) (paints_part t b c f))
     (paints_paint Plain c d g))
 
--- the parts of a line, each behind another
-pub four_parts :
-    (line columns rest tag later value mark a b c d e : List ℕ) → columns ++ rest ≡ line → tag ++ later ≡ rest →
-    value ++ mark ≡ later → Paints columns a b → Paints tag b c → Paints value c d → Paints mark d e → Paints line a e
-four_parts line columns rest tag later value mark a b c d e p q r first second third last =
-    same_text (columns ++ (tag ++ (value ++ mark))) line a e
-    (ap (λ z. columns ++ (tag ++ z)) r ∙ (ap (λ z. columns ++ z) q ∙ p))
-    (paints_then columns (tag ++ (value ++ mark)) a b e first
-    (paints_then tag (value ++ mark) b c e second (paints_then value mark c d e third last)))
-
-pub parted : (n : ℕ) (text front back : List ℕ) → front ≡ take n text → back ≡ drop n text → front ++ back ≡ text
-parted n text front back e f = rw (e, f) (take-append-drop n text)
-
-pub none_painted : (t a : List ℕ) → length t ≡ 0 → Paints t a a
-none_painted [] a e = paints_none a
-none_painted (b ∷ t) a e = absurd (omega (arith, e))
+-- what was pushed, alone
+pub paints_alone : (text a b : List ℕ) → Paints text a b → (own : List ℕ) × (b ≡ a ++ own) × Paints text [] own
+paints_alone text a b h = (
+  flat_map written h.pieces,
+  h.after_is,
+  record { pieces = h.pieces; text_is = h.text_is; after_is = refl },
+)

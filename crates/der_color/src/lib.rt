@@ -1,10 +1,9 @@
-//! Colors for the lines of a dump on a terminal.
+//! Colors for the text of a dump on a terminal.
 //!
-//! [`colored`] puts escape sequences into the lines (SGR, ECMA-48 8.3.117): offsets and sizes are dim, tags cyan,
-//! titles bold, and what is wrong is red. Without the sequences the text is what it was, octet by octet.
+//! [`push_painted`] puts a text between escape sequences (SGR, ECMA-48 8.3.117), by which a terminal shows it in a
+//! [`Paint`]. Without the sequences the text is what it was, octet by octet.
 #![tactic(auto)]
 
-mod line;
 mod paint;
 
-pub use line::colored;
+pub use paint::{Paint, push_painted};

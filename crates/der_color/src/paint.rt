@@ -4,14 +4,18 @@ ghost use Rattle.der_color.specs.Paints.{Paints, sequence};
 
 use std::alloc::AllocError;
 
-// How a text is shown.
+/// How a text is shown.
 #[derive(Clone, Copy)]
 pub enum Paint {
+    /// Less bright.
     Dim,
+    /// In cyan.
     Cyan,
+    /// In bold letters.
     Bold,
+    /// In red.
     Red,
-    // as it was before
+    /// As it is by default.
     Plain,
 }
 
@@ -27,12 +31,16 @@ fn sequence_of(paint: Paint) -> &'static str
     }
 }
 
-// Pushes a text in a color, if there is any.
+/// Pushes a text in a color, and then returns to the default. Of no text nothing is pushed, and a text that is plain
+/// is pushed as it is.
+///
+/// # Errors
+/// Memory ran out.
 pub fn push_painted(paint: Paint, text: &[u8], out: &mut Vec<u8>) -> Result<(), AllocError>
     ensures { OnOk result (Paints text.now out.old.items out.new.items) }
 {
-    if text.is_empty() {
-        return Ok(());
+    if text.is_empty() || is_plain(paint) {
+        return push_plain(text, out);
     }
     out.extend_from_slice(sequence_of(paint).as_bytes())?;
     out.extend_from_slice(text)?;
@@ -40,8 +48,11 @@ pub fn push_painted(paint: Paint, text: &[u8], out: &mut Vec<u8>) -> Result<(), 
     Ok(())
 }
 
-// Pushes a text as it is.
-pub fn push_plain(text: &[u8], out: &mut Vec<u8>) -> Result<(), AllocError>
+fn is_plain(paint: Paint) -> bool {
+    matches!(paint, Paint::Plain)
+}
+
+fn push_plain(text: &[u8], out: &mut Vec<u8>) -> Result<(), AllocError>
     ensures { OnOk result (Paints text.now out.old.items out.new.items) }
 {
     out.extend_from_slice(text)?;

@@ -1,42 +1,58 @@
--- Pieces that are pushed one after another.
-use Rattle.std.proofs.Common.{◌≡◌, ℕ, List, [], ◌∷◌, ◌++◌, ap, append-nil, append_assoc, map, refl, sym, ◌∙◌}
+-- Pieces that are pushed one after another, for the functions that push them.
+use Rattle.std.proofs.Common.{◌≡◌, ℕ, Bool, List, [], ◌∷◌, ◌++◌, ap, append-nil, append_assoc, map, refl, sym, ◌∙◌}
 use Rattle.std.specs.List.{flat_map}
 use Rattle.std.proofs.lemmas.Grind.{flat_map-append}
 use Rattle.std.proofs.lemmas.List.Folds.{flat_map-map}
 use Rattle.der_html.specs.declared.markup.Markup.{Markup}
-use Rattle.der_html.specs.Page.{Piece, Shows, hex_octet, line, lines_in, markup, number, octet, octets_in, written}
+use Rattle.der_html.specs.Page.{Piece, Shows, element_faults, faults_in, hex_octet, line_end, markup, number}
+use Rattle.der_html.specs.Page.{octet, octets_in, text, text_in, written}
 
-lines_more : (ps qs : List Piece) → lines_in (ps ++ qs) ≡ lines_in ps ++ lines_in qs
-lines_more [] qs = refl
-lines_more (markup m ∷ ps) qs = lines_more ps qs
-lines_more (number n ∷ ps) qs = lines_more ps qs
-lines_more (line text ∷ ps) qs = ap (λ z. text ∷ z) (lines_more ps qs)
-lines_more (octet b ∷ ps) qs = lines_more ps qs
+faults_in-append : (ps qs : List Piece) → faults_in (ps ++ qs) ≡ faults_in ps ++ faults_in qs
+faults_in-append [] qs = refl
+faults_in-append (markup m ∷ ps) qs =
+    ap (λ z. element_faults m ++ z) (faults_in-append ps qs)
+    ∙ sym (append_assoc (element_faults m) (faults_in ps) (faults_in qs))
+faults_in-append (number n ∷ ps) qs = faults_in-append ps qs
+faults_in-append (text shown ∷ ps) qs = faults_in-append ps qs
+faults_in-append (octet b ∷ ps) qs = faults_in-append ps qs
 
-octets_more : (ps qs : List Piece) → octets_in (ps ++ qs) ≡ octets_in ps ++ octets_in qs
-octets_more [] qs = refl
-octets_more (markup m ∷ ps) qs = octets_more ps qs
-octets_more (number n ∷ ps) qs = octets_more ps qs
-octets_more (line text ∷ ps) qs = octets_more ps qs
-octets_more (octet b ∷ ps) qs = ap (λ z. b ∷ z) (octets_more ps qs)
+text_in-append : (ps qs : List Piece) → text_in (ps ++ qs) ≡ text_in ps ++ text_in qs
+text_in-append [] qs = refl
+text_in-append (markup m ∷ ps) qs =
+    ap (λ z. line_end m ++ z) (text_in-append ps qs) ∙ sym (append_assoc (line_end m) (text_in ps) (text_in qs))
+text_in-append (number n ∷ ps) qs = text_in-append ps qs
+text_in-append (text shown ∷ ps) qs =
+    ap (λ z. shown ++ z) (text_in-append ps qs) ∙ sym (append_assoc shown (text_in ps) (text_in qs))
+text_in-append (octet b ∷ ps) qs = text_in-append ps qs
+
+octets_in-append : (ps qs : List Piece) → octets_in (ps ++ qs) ≡ octets_in ps ++ octets_in qs
+octets_in-append [] qs = refl
+octets_in-append (markup m ∷ ps) qs = octets_in-append ps qs
+octets_in-append (number n ∷ ps) qs = octets_in-append ps qs
+octets_in-append (text shown ∷ ps) qs = octets_in-append ps qs
+octets_in-append (octet b ∷ ps) qs = ap (λ z. b ∷ z) (octets_in-append ps qs)
 
 both : {A : Type 0} (a b c d : List A) → a ≡ c → b ≡ d → a ++ b ≡ c ++ d
 both a b c d e f = ap (λ z. z ++ b) e ∙ ap (λ z. c ++ z) f
 
 -- nothing was pushed
-pub shows_none : (a : List ℕ) → Shows [] [] a a
-shows_none a = record { pieces = []; lines_are = refl; octets_are = refl; after_is = sym (append-nil a) }
+pub shows_none : (a : List ℕ) → Shows [] [] [] a a
+shows_none a =
+    record { pieces = []; faults_are = refl; text_is = refl; octets_are = refl; after_is = sym (append-nil a) }
 
 -- some pieces and then others
 pub shows_then :
-    (xs ys : List (List ℕ)) (us vs a b c : List ℕ) → Shows xs us a b → Shows ys vs b c → Shows (xs ++ ys) (us ++ vs) a c
-shows_then xs ys us vs a b c s t =
+    (fs gs : List Bool) (xs ys us vs a b c : List ℕ) → Shows fs xs us a b → Shows gs ys vs b c →
+    Shows (fs ++ gs) (xs ++ ys) (us ++ vs) a c
+shows_then fs gs xs ys us vs a b c s t =
     record {
       pieces = s.pieces ++ t.pieces;
-      lines_are = lines_more s.pieces t.pieces
-          ∙ both (lines_in s.pieces) (lines_in t.pieces) xs ys s.lines_are t.lines_are;
+      faults_are =
+          faults_in-append s.pieces t.pieces
+          ∙ both (faults_in s.pieces) (faults_in t.pieces) fs gs s.faults_are t.faults_are;
+      text_is = text_in-append s.pieces t.pieces ∙ both (text_in s.pieces) (text_in t.pieces) xs ys s.text_is t.text_is;
       octets_are =
-          octets_more s.pieces t.pieces
+          octets_in-append s.pieces t.pieces
           ∙ both (octets_in s.pieces) (octets_in t.pieces) us vs s.octets_are t.octets_are;
       after_is =
           t.after_is
@@ -45,59 +61,93 @@ shows_then xs ys us vs a b c s t =
           ∙ ap (λ z. a ++ z) (sym (flat_map-append written s.pieces t.pieces))));
     }
 
--- markup and numbers before and after it change nothing of what is shown
-pub markup_then : (ys : List (List ℕ)) (vs a b c : List ℕ) → Shows [] [] a b → Shows ys vs b c → Shows ys vs a c
-markup_then ys vs a b c s t = shows_then [] ys [] vs a b c s t
+-- what shows nothing, and then more
+pub markup_then : (gs : List Bool) (ys vs a b c : List ℕ) → Shows [] [] [] a b → Shows gs ys vs b c → Shows gs ys vs a c
+markup_then gs ys vs a b c s t = shows_then [] gs [] ys [] vs a b c s t
 
-pub same_shown : (xs ys : List (List ℕ)) (us vs a b : List ℕ) → xs ≡ ys → us ≡ vs → Shows xs us a b → Shows ys vs a b
-same_shown xs ys us vs a b e f s =
-    record { pieces = s.pieces; lines_are = s.lines_are ∙ e; octets_are = s.octets_are ∙ f; after_is = s.after_is }
+pub same_shown :
+    (fs gs : List Bool) (xs ys us vs a b : List ℕ) → fs ≡ gs → xs ≡ ys → us ≡ vs → Shows fs xs us a b →
+    Shows gs ys vs a b
+same_shown fs gs xs ys us vs a b d e f s =
+    record {
+      pieces = s.pieces;
+      faults_are = s.faults_are ∙ d;
+      text_is = s.text_is ∙ e;
+      octets_are = s.octets_are ∙ f;
+      after_is = s.after_is;
+    }
 
-pub then_markup : (xs : List (List ℕ)) (us a b c : List ℕ) → Shows xs us a b → Shows [] [] b c → Shows xs us a c
-then_markup xs us a b c s t =
-    same_shown (xs ++ []) xs (us ++ []) us a c (append-nil xs) (append-nil us) (shows_then xs [] us [] a b c s t)
+-- something, and then what shows nothing
+pub then_markup : (fs : List Bool) (xs us a b c : List ℕ) → Shows fs xs us a b → Shows [] [] [] b c → Shows fs xs us a c
+then_markup fs xs us a b c s t =
+    same_shown (fs ++ []) fs (xs ++ []) xs (us ++ []) us a c (append-nil fs) (append-nil xs) (append-nil us)
+    (shows_then fs [] xs [] us [] a b c s t)
 
-no_lines : (os : List ℕ) → lines_in (map octet os) ≡ []
-no_lines [] = refl
-no_lines (o ∷ os) = no_lines os
+faults_in-map-octet : (os : List ℕ) → faults_in (map octet os) ≡ []
+faults_in-map-octet [] = refl
+faults_in-map-octet (o ∷ os) = faults_in-map-octet os
 
-all_octets : (os : List ℕ) → octets_in (map octet os) ≡ os
-all_octets [] = refl
-all_octets (o ∷ os) = ap (λ z. o ∷ z) (all_octets os)
+text_in-map-octet : (os : List ℕ) → text_in (map octet os) ≡ []
+text_in-map-octet [] = refl
+text_in-map-octet (o ∷ os) = text_in-map-octet os
+
+octets_in-map-octet : (os : List ℕ) → octets_in (map octet os) ≡ os
+octets_in-map-octet [] = refl
+octets_in-map-octet (o ∷ os) = ap (λ z. o ∷ z) (octets_in-map-octet os)
 
 -- one piece, and one for each of the octets
-pub shows_markup : (m : Markup) (a b : List ℕ) → b ≡ a ++ written (markup m) → Shows [] [] a b
+pub shows_markup :
+    (m : Markup) (a b : List ℕ) → b ≡ a ++ written (markup m) → Shows (element_faults m) (line_end m) [] a b
 shows_markup m a b e =
     record {
       pieces = markup m ∷ [];
-      lines_are = refl;
+      faults_are = append-nil (element_faults m);
+      text_is = append-nil (line_end m);
       octets_are = refl;
       after_is = e ∙ ap (λ z. a ++ z) (sym (append-nil (written (markup m))));
     }
 
-pub shows_number : (n : ℕ) (a b : List ℕ) → b ≡ a ++ written (number n) → Shows [] [] a b
+pub shows_number : (n : ℕ) (a b : List ℕ) → b ≡ a ++ written (number n) → Shows [] [] [] a b
 shows_number n a b e =
     record {
       pieces = number n ∷ [];
-      lines_are = refl;
+      faults_are = refl;
+      text_is = refl;
       octets_are = refl;
       after_is = e ∙ ap (λ z. a ++ z) (sym (append-nil (written (number n))));
     }
 
-pub shows_line : (text a b : List ℕ) → b ≡ a ++ written (line text) → Shows (text ∷ []) [] a b
-shows_line text a b e =
+pub shows_text : (shown a b : List ℕ) → b ≡ a ++ written (text shown) → Shows [] shown [] a b
+shows_text shown a b e =
     record {
-      pieces = line text ∷ [];
-      lines_are = refl;
+      pieces = text shown ∷ [];
+      faults_are = refl;
+      text_is = append-nil shown;
       octets_are = refl;
-      after_is = e ∙ ap (λ z. a ++ z) (sym (append-nil (written (line text))));
+      after_is = e ∙ ap (λ z. a ++ z) (sym (append-nil (written (text shown))));
     }
 
-pub shows_octets : (os a b : List ℕ) → b ≡ a ++ flat_map hex_octet os → Shows [] os a b
+pub shows_octets : (os a b : List ℕ) → b ≡ a ++ flat_map hex_octet os → Shows [] [] os a b
 shows_octets os a b e =
     record {
       pieces = map octet os;
-      lines_are = no_lines os;
-      octets_are = all_octets os;
+      faults_are = faults_in-map-octet os;
+      text_is = text_in-map-octet os;
+      octets_are = octets_in-map-octet os;
       after_is = e ∙ ap (λ z. a ++ z) (sym (flat_map-map written octet os));
     }
+
+-- what was pushed, alone
+pub shows_alone :
+    (fs : List Bool) (xs us a b : List ℕ) → Shows fs xs us a b → (own : List ℕ) × (b ≡ a ++ own) × Shows fs xs us [] own
+shows_alone fs xs us a b s = (
+  flat_map written s.pieces,
+  s.after_is,
+  record {
+    pieces = s.pieces;
+    faults_are = s.faults_are;
+    text_is = s.text_is;
+    octets_are = s.octets_are;
+    after_is = refl;
+  },
+)

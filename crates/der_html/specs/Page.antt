@@ -1,5 +1,5 @@
--- A page of HTML that shows the lines of a dump and the octets that they are of, piece by piece.
-use Rattle.std.specs.Prelude.{◌≡◌, ℕ, ◌/◌, ◌%◌, ◌==◌, if◌then◌else◌, List, [], ◌∷◌, ◌++◌, codes, decimal, slice_index}
+-- A page of HTML that shows the rows of a dump and the octets that they are of, piece by piece.
+use Rattle.std.specs.Prelude.{◌≡◌, ℕ, ◌/◌, ◌%◌, ◌==◌, if◌then◌else◌, Bool, true, false, List, [], ◌∷◌, ◌++◌, codes, decimal, slice_index}
 use Rattle.std.specs.List.{flat_map}
 use Rattle.der_html.specs.declared.markup.Markup.{Markup}
 use Rattle.der_html.specs.declared.markup.Markup.TheVariants.{SectionStart, OctetsStart, SectionEnd, GroupStart, GroupFaultStart, GroupOpened, GroupEnd, LineStart, FaultStart, LineOpened, LineEnd, Offset, HeaderSize, ContentsSize, Indefinite, ValueEnd}
@@ -39,40 +39,64 @@ markup_text ContentsSize = codes "\" data-contents=\""
 markup_text Indefinite = codes "inf"
 markup_text ValueEnd = codes "\""
 
--- a piece of a page: fixed markup, a number, a line of a dump, or octets
+-- an element begins that shows a row: whether it is of the class of what is wrong
+abbrev pub element_faults : Markup → List Bool
+element_faults GroupStart = false ∷ []
+element_faults GroupFaultStart = true ∷ []
+element_faults LineStart = false ∷ []
+element_faults FaultStart = true ∷ []
+element_faults _ = []
+
+-- an element ends with its line
+abbrev pub line_end : Markup → List ℕ
+line_end GroupOpened = 10 ∷ []
+line_end LineEnd = 10 ∷ []
+line_end _ = []
+
+-- a piece of a page: fixed markup, a number, text of a row, or octets
 pub data Piece : Type 0 where
   markup : Markup → Piece
   number : ℕ → Piece
-  line : List ℕ → Piece
+  text : List ℕ → Piece
   octet : ℕ → Piece
 
 -- what is written of it. What comes of a document is escaped, or in digits
 abbrev pub written : Piece → List ℕ
 written (markup m) = markup_text m
 written (number n) = decimal n
-written (line text) = flat_map entity text
+written (text shown) = flat_map entity shown
 written (octet b) = hex_octet b
 
--- the lines that are shown, in order
-abbrev pub lines_in : List Piece → List (List ℕ)
-lines_in [] = []
-lines_in (markup m ∷ pieces) = lines_in pieces
-lines_in (number n ∷ pieces) = lines_in pieces
-lines_in (line text ∷ pieces) = text ∷ lines_in pieces
-lines_in (octet b ∷ pieces) = lines_in pieces
+-- the elements that show rows, in order
+abbrev pub faults_in : List Piece → List Bool
+faults_in [] = []
+faults_in (markup m ∷ pieces) = element_faults m ++ faults_in pieces
+faults_in (number n ∷ pieces) = faults_in pieces
+faults_in (text shown ∷ pieces) = faults_in pieces
+faults_in (octet b ∷ pieces) = faults_in pieces
+
+-- the text of rows that is shown, in order, with a line feed for the end of each element
+abbrev pub text_in : List Piece → List ℕ
+text_in [] = []
+text_in (markup m ∷ pieces) = line_end m ++ text_in pieces
+text_in (number n ∷ pieces) = text_in pieces
+text_in (text shown ∷ pieces) = shown ++ text_in pieces
+text_in (octet b ∷ pieces) = text_in pieces
 
 -- the octets that are shown, in order
 abbrev pub octets_in : List Piece → List ℕ
 octets_in [] = []
 octets_in (markup m ∷ pieces) = octets_in pieces
 octets_in (number n ∷ pieces) = octets_in pieces
-octets_in (line text ∷ pieces) = octets_in pieces
+octets_in (text shown ∷ pieces) = octets_in pieces
 octets_in (octet b ∷ pieces) = b ∷ octets_in pieces
 
--- pieces that show exactly these lines and these octets were pushed
-pub record Shows (lines : List (List ℕ)) (octets before after : List ℕ) : Type 0 where
+-- pieces were pushed that show exactly this text of rows, in elements of which these are of the class of what is wrong,
+-- and exactly these octets
+pub record Shows (faults : List Bool) (shown octets before after : List ℕ) : Type 0 where
   pub pieces : List Piece
-  pub lines_are : lines_in pieces ≡ lines
+  pub faults_are : faults_in pieces ≡ faults
+  pub text_is : text_in pieces ≡ shown
   pub octets_are : octets_in pieces ≡ octets
   pub after_is : after ≡ before ++ flat_map written pieces
 

@@ -1,18 +1,23 @@
 //! A page of HTML that shows a dump, for a browser.
 //!
-//! [`push_head`] pushes the beginning of a page, [`push_section`] the lines of a dump with the bytes that they are of,
-//! and [`push_foot`] the end. The lines are those of `der_lines`. A page needs no network and, to be read, no script: a
-//! group of lines folds by `details`. A short script in it marks the bytes of the line that is pointed at or has the
-//! keyboard's focus, header and contents in two colors.
+//! [`push_head`] pushes the beginning of a page, and [`push_foot`] the end. Between them stand sections: each begins by
+//! [`push_section_start`] and ends by [`push_section_end`], with the bytes that its rows are of. A row is shown in an
+//! element: [`push_element_start`] begins it, [`push_text`] pushes its text, escaped, and [`push_element_end`] ends it.
+//! The element of a row that others stand inside is a fold, which [`push_fold_end`] ends behind the last of them.
+//!
+//! A page needs no network and, to be read, no script: a group of rows folds by `details`. A short script in it marks
+//! the bytes of the row that is pointed at or has the keyboard's focus, header and contents in two colors.
 //!
 //! Nothing of a document stands in a page but escaped, or in digits. The only error is that memory ran out; what was
 //! pushed before it stays.
 #![tactic(auto)]
 
+mod element;
 mod frame;
-mod line;
 mod markup;
 mod section;
 
+pub use element::{Columns, Element, push_element_end, push_element_start, push_fold_end};
 pub use frame::{push_foot, push_head};
-pub use section::push_section;
+pub use markup::push_text;
+pub use section::{push_section_end, push_section_start};

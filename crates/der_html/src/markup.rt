@@ -1,6 +1,7 @@
 // The markup of a page, its numbers and its escaped text.
-ghost use Rattle.std.specs.Prelude.{◌≡◌, ◌<◌, ◌++◌, ◌∷◌, [], OnOk, codes, slice_index};
-ghost use Rattle.der_html.specs.Page.{Shows, entity, hex_octet, markup_text};
+ghost use Rattle.std.specs.Prelude.{◌≡◌, ◌<◌, ◌++◌, [], OnOk, codes, slice_index};
+ghost use Rattle.std.specs.List.{flat_map};
+ghost use Rattle.der_html.specs.Page.{Shows, element_faults, entity, hex_octet, line_end, markup_text};
 
 use itoa::Buffer;
 use std::alloc::AllocError;
@@ -51,7 +52,7 @@ fn text_of(markup: Markup) -> &'static str
 
 // Pushes markup.
 pub fn push_markup(markup: Markup, out: &mut Vec<u8>) -> Result<(), AllocError>
-    ensures { OnOk result (Shows [] [] out.old.items out.new.items) }
+    ensures { OnOk result (Shows (element_faults markup) (line_end markup) [] out.old.items out.new.items) }
 {
     out.extend_from_slice(text_of(markup).as_bytes())?;
     Ok(())
@@ -59,16 +60,19 @@ pub fn push_markup(markup: Markup, out: &mut Vec<u8>) -> Result<(), AllocError>
 
 // Pushes a number in decimal digits.
 pub fn push_number(number: usize, out: &mut Vec<u8>) -> Result<(), AllocError>
-    ensures { OnOk result (Shows [] [] out.old.items out.new.items) }
+    ensures { OnOk result (Shows [] [] [] out.old.items out.new.items) }
 {
     let mut digits = Buffer::new();
     out.extend_from_slice(digits.format(number).as_bytes())?;
     Ok(())
 }
 
-// Pushes the text of a line, escaped.
+/// Pushes text of a row, escaped.
+///
+/// # Errors
+/// Memory ran out.
 pub fn push_text(text: &[u8], out: &mut Vec<u8>) -> Result<(), AllocError>
-    ensures { OnOk result (Shows (text.now ∷ []) [] out.old.items out.new.items) }
+    ensures { OnOk result (Shows [] text.now [] out.old.items out.new.items) }
 {
     for c in text {
         push_entity(*c, out)?;
@@ -94,7 +98,7 @@ fn push_entity(c: u8, out: &mut Vec<u8>) -> Result<(), AllocError>
 
 // Pushes octets in hex digits, a space after each.
 pub fn push_octets(octets: &[u8], out: &mut Vec<u8>) -> Result<(), AllocError>
-    ensures { OnOk result (Shows [] octets.now out.old.items out.new.items) }
+    ensures { OnOk result (Shows [] [] octets.now out.old.items out.new.items) }
 {
     out.reserve(octets.len().saturating_mul(3))?;
     for b in octets {

@@ -1,16 +1,17 @@
 -- What is written of a finding: as lines, as JSON, or on a page.
 use Rattle.std.specs.Prelude.{◌≡◌, ℕ, Bool, true, false, List, [], ◌++◌, Option, Some, None, unwrap_or}
-use Rattle.der_color.specs.Paints.{Paints}
 use Rattle.der_html.specs.Page.{Shows}
 use Rattle.der_io.specs.Characters.{equals_sign}
 use Rattle.der_io.specs.Escaped.{escaped}
-use Rattle.der_io.specs.Lines.{lines_of}
 use Rattle.der_inputs.specs.Findings.{Finding}
 use Rattle.der_inputs.specs.Json.{IsJson}
 use Rattle.der_inputs.specs.declared.show.Form.{Form}
 use Rattle.der_inputs.specs.declared.show.Form.TheVariants.{Json, Lines, Page}
 use Rattle.der_lines.specs.Dump.{IsDumpOf, IsLine, IsNote, IsRefusal}
 use Rattle.der_lines.specs.declared.document.Verdict.{Verdict}
+use Rattle.der_rows.specs.Printing.{Pushes}
+use Rattle.der_rows.specs.declared.printer.Look.{Look}
+use Rattle.der_rows.specs.declared.printer.Look.TheVariants.{Colored, Plain}
 
 -- the line `=` and a name or a label, escaped
 abbrev pub IsTitle : List ℕ → List ℕ → Type 0
@@ -33,32 +34,51 @@ IsDump strict most finding verdict text =
     (title dump : List ℕ) × (text ≡ title ++ dump) × IsLabel finding.label title
     × IsFoundDump strict most finding.octets verdict dump
 
--- a section of a page: such a dump, and the octets
+-- lines with colors, or as they are
+abbrev pub look_by : Bool → Look
+look_by true = Colored
+look_by false = Plain
+
+-- the text shows lines, with colors or without
+abbrev pub IsShown : Bool → List ℕ → List ℕ → Type 0
+IsShown colored lines text = (faults : List Bool) × Pushes (look_by colored) faults lines [] text
+
+-- a dump under the line of its label, as lines with colors or without
+abbrev pub IsLines : Bool → Bool → Option ℕ → Finding → Verdict → List ℕ → Type 0
+IsLines colored strict most finding verdict text =
+    (dump : List ℕ) × IsDump strict most finding verdict dump × IsShown colored dump text
+
+-- a section of a page: a dump under the line of its label, and the octets. These elements of its rows are of the class of what is wrong
 abbrev pub IsSection : Bool → Option ℕ → Finding → Verdict → List ℕ → Type 0
 IsSection strict most finding verdict text =
-    (dump : List ℕ) × IsDump strict most finding verdict dump
-    × Shows (lines_of dump) (unwrap_or finding.octets []) [] text
+    (dump : List ℕ) × (faults : List Bool) × IsDump strict most finding verdict dump
+    × Shows faults dump (unwrap_or finding.octets []) [] text
 
 -- what is written in this form of a finding in the file of this name, if it is told: as JSON, which has all blocks, on
--- a page, or as lines
-abbrev pub IsText : Form → Bool → Option ℕ → Option (List ℕ) → Finding → Verdict → List ℕ → Type 0
-IsText Lines strict most file = IsDump strict most
-IsText Json strict most file = IsJson strict file
-IsText Page strict most file = IsSection strict most
+-- a page, or as lines, with colors or not
+abbrev pub IsText : Form → Bool → Bool → Option ℕ → Option (List ℕ) → Finding → Verdict → List ℕ → Type 0
+IsText Lines colored strict most file = IsLines colored strict most
+IsText Json colored strict most file = IsJson strict file
+IsText Page colored strict most file = IsSection strict most
 
--- the line of a name above dumps, on a page or not: JSON tells it in each line
-abbrev pub IsName : Form → List ℕ → List ℕ → Type 0
-IsName Lines name text = IsTitle name text
-IsName Json name text = text ≡ []
-IsName Page name text = (line : List ℕ) × IsTitle name line × Shows (lines_of line) [] [] text
+-- the line of a name above dumps, with colors or not, and its section of a page
+abbrev pub IsTitleLine : Bool → List ℕ → List ℕ → Type 0
+IsTitleLine colored name text = (line : List ℕ) × IsTitle name line × IsShown colored line text
 
--- what is written of these texts: they, lines in colors or not, and around the sections of a page its beginning and
--- its end
-abbrev pub IsFramed : Form → Bool → List ℕ → List ℕ → Type 0
-IsFramed Page colored texts output = (beginning end : List ℕ) × (output ≡ beginning ++ (texts ++ end))
-IsFramed Lines true texts output = Paints texts [] output
-IsFramed Lines false texts output = output ≡ texts
-IsFramed Json colored texts output = output ≡ texts
+abbrev pub IsTitleSection : List ℕ → List ℕ → Type 0
+IsTitleSection name text = (line : List ℕ) × (faults : List Bool) × IsTitle name line × Shows faults line [] [] text
+
+-- the name above dumps in a form: JSON tells it in each line
+abbrev pub IsName : Form → Bool → List ℕ → List ℕ → Type 0
+IsName Lines colored name text = IsTitleLine colored name text
+IsName Json colored name text = text ≡ []
+IsName Page colored name text = IsTitleSection name text
+
+-- what is written of these texts: they, and around the sections of a page its beginning and its end
+abbrev pub IsFramed : Form → List ℕ → List ℕ → Type 0
+IsFramed Page texts output = (beginning end : List ℕ) × (output ≡ beginning ++ (texts ++ end))
+IsFramed Lines texts output = output ≡ texts
+IsFramed Json texts output = output ≡ texts
 
 -- JSON where it is wanted, or else a page
 abbrev pub form_by : Bool → Bool → Form

@@ -33,11 +33,13 @@ are_colors_shown (Extract offset) color = false
 are_colors_shown (Contents offset) color = false
 are_colors_shown _ color = is_always color
 
--- what is wanted of inputs: what is done with each, whether its name is told, and how findings are shown
+-- what is wanted of inputs: what is done with each, whether its name is told, and how findings are shown, as lines with
+-- colors or without
 pub record Wanted : Type 0 where
   pub task : Task
   pub named : Bool
   pub form : Form
+  pub colored : Bool
   pub strict : Bool
   pub most_depth : Option ℕ
 
@@ -47,13 +49,14 @@ wanted_by options count = record {
   task = options.task;
   named = names_shown options.task options.is_json count;
   form = form_by options.is_json options.is_html;
+  colored = are_colors_shown options.task options.color;
   strict = options.is_strict;
   most_depth = options.most_depth;
 }
 
 -- what is written of a finding
 abbrev pub IsFindingText : Wanted → Option (List ℕ) → Finding → Verdict → List ℕ → Type 0
-IsFindingText wanted file = IsText wanted.form wanted.strict wanted.most_depth file
+IsFindingText wanted file = IsText wanted.form wanted.colored wanted.strict wanted.most_depth file
 
 -- the texts of findings, one after another; where all of each was read, all was
 abbrev pub AreShown : Wanted → Option (List ℕ) → List Finding → Outcome → List ℕ → Type 0
@@ -82,7 +85,7 @@ IsTaskText (Contents offset) wanted file input outcome text =
 abbrev pub IsNamedText : Bool → Wanted → List ℕ → List ℕ → Outcome → List ℕ → Type 0
 IsNamedText false wanted name octets outcome text = IsTaskText wanted.task wanted None octets outcome text
 IsNamedText true wanted name octets outcome text =
-    (title own : List ℕ) × (text ≡ title ++ own) × IsName wanted.form name title
+    (title own : List ℕ) × (text ≡ title ++ own) × IsName wanted.form wanted.colored name title
     × IsTaskText wanted.task wanted (Some name) octets outcome own
 
 -- an input: its name, and its octets, where they are known

@@ -20,6 +20,7 @@ wanted_of show = record {
   task = show.task;
   named = show.is_named;
   form = show.form;
+  colored = show.is_colored;
   strict = show.is_strict;
   most_depth = show.style.most_depth;
 }

@@ -1,9 +1,10 @@
 // How what is found is shown.
 ghost use Rattle.std.specs.Prelude.{◌≡◌, [], IfOk, OnOk, false, map, unwrap_or};
 ghost use Rattle.std.specs.Option.{option_map};
-ghost use Rattle.der_inputs.specs.Forms.{IsDump, IsFoundDump, IsFramed, IsLabel, IsName, IsSection};
-ghost use Rattle.der_inputs.specs.Forms.{form_by};
+ghost use Rattle.der_inputs.specs.Forms.{IsDump, IsFoundDump, IsFramed, IsLabel, IsLines, IsName, IsSection, IsTitle};
+ghost use Rattle.der_inputs.specs.Forms.{IsTitleLine, IsTitleSection, form_by, look_by};
 ghost use Rattle.der_lines.specs.Dump.{Adds, IsDumpOf};
+ghost use Rattle.der_rows.specs.Printing.{IsPrinted};
 ghost use Rattle.der_inputs.specs.Inputs.{AreShown, IsFindingText, are_colors_shown as colors_shown, names_shown};
 ghost use Rattle.der_inputs.specs.Inputs.{wanted_by};
 ghost use Rattle.der_inputs.specs.Outcomes.{both_read};
@@ -12,12 +13,13 @@ ghost use Rattle.der_inputs.specs.declared.show.Form.TheVariants.{Page as page_f
 
 use crate::found::Found;
 use crate::outcome::Outcome;
-use der_color::colored;
-use der_html::{push_foot, push_head, push_section};
+use der_html::{push_foot, push_head, push_section_end, push_section_start};
 use der_lines::{Style, Verdict, push_document, push_label, push_refusal, push_strict_document};
 use der_names::{Names, OwnNames};
 use der_options::{Color, Options, Task};
+use der_rows::{Look, Printer};
 use std::alloc::{AllocError, Global};
+use std::mem;
 
 // What the output is.
 #[derive(Clone, Copy)]
@@ -50,8 +52,7 @@ impl Show {
         own: OwnNames,
         count: usize,
     ) -> Result<Show, AllocError>
-        ensures colored { IfOk result (λ show. show.is_colored ≡ colors_shown options.now.task options.now.color) }
-        ensures wanted { IfOk result (λ show. wanted_of show ≡ wanted_by options.now count) }
+        ensures { IfOk result (λ show. wanted_of show ≡ wanted_by options.now count) }
     {
         Ok(Show {
             alloc,
@@ -99,10 +100,22 @@ impl Show {
             out.old.items out.new.items) }
     {
         match self.form {
-            Form::Lines => self.push_lines(found, out),
+            Form::Lines => self.push_as_lines(found, out),
             Form::Json => self.push_json(file, found, out),
             Form::Page => self.push_on_page(found, out),
         }
+    }
+
+    // Pushes a dump as lines.
+    fn push_as_lines(&self, found: &Found, out: &mut Vec<u8>) -> Result<Verdict, AllocError>
+        ensures { IfOk result (λ verdict. Adds (IsLines self.now.is_colored self.now.is_strict
+            self.now.style.most_depth (finding_in found.now) verdict) out.old.items out.new.items) }
+    {
+        let written = mem::replace(out, Vec::new(self.alloc));
+        let mut printer = Printer::behind(self.alloc, self.look(), written);
+        let verdict = self.push_dump(found, &mut printer)?;
+        *out = printer.finish()?;
+        Ok(verdict)
     }
 
     // Pushes a section of a page: a dump, and the octets.
@@ -110,81 +123,119 @@ impl Show {
         ensures { IfOk result (λ verdict. Adds (IsSection self.now.is_strict self.now.style.most_depth
             (finding_in found.now) verdict) out.old.items out.new.items) }
     {
-        let mut dump = Vec::new(self.alloc);
-        let verdict = self.push_lines(found, &mut dump)?;
-        push_section(self.alloc, &dump, octets_or_none(found), out)?;
+        push_section_start(out)?;
+        let written = mem::replace(out, Vec::new(self.alloc));
+        let mut printer = Printer::behind(self.alloc, Look::Page, written);
+        let verdict = self.push_dump(found, &mut printer)?;
+        *out = printer.finish()?;
+        push_section_end(octets_or_none(found), out)?;
         Ok(verdict)
     }
 
-    // Pushes a dump under the line of its label, if it has one.
-    fn push_lines(&self, found: &Found, out: &mut Vec<u8>) -> Result<Verdict, AllocError>
-        ensures { IfOk result (λ verdict. Adds (IsDump self.now.is_strict self.now.style.most_depth
-            (finding_in found.now) verdict) out.old.items out.new.items) }
+    // How lines are shown.
+    fn look(&self) -> Look
+        ensures { result ≡ look_by self.now.is_colored }
     {
-        self.push_label_of(found, out)?;
-        self.push_dump(found, out)
+        if self.is_colored {
+            Look::Colored
+        } else {
+            Look::Plain
+        }
     }
 
-    fn push_label_of(&self, found: &Found, out: &mut Vec<u8>) -> Result<(), AllocError>
-        ensures { OnOk result (Adds (IsLabel (finding_in found.now).label) out.old.items out.new.items) }
+    // Pushes a dump under the line of its label, if it has one.
+    fn push_dump(&self, found: &Found, printer: &mut Printer) -> Result<Verdict, AllocError>
+        ensures { IfOk result (λ verdict. IsPrinted (IsDump self.now.is_strict self.now.style.most_depth
+            (finding_in found.now) verdict) printer.old printer.new) }
+    {
+        self.push_label_of(found, printer)?;
+        self.push_found(found, printer)
+    }
+
+    fn push_label_of(&self, found: &Found, printer: &mut Printer) -> Result<(), AllocError>
+        ensures { OnOk result (IsPrinted (IsLabel (finding_in found.now).label) printer.old printer.new) }
     {
         match &found.label {
-            Some(label) => push_label(self.alloc, label, out),
+            Some(label) => push_label(self.alloc, label, printer),
             None => Ok(()),
         }
     }
 
-    fn push_dump(&self, found: &Found, out: &mut Vec<u8>) -> Result<Verdict, AllocError>
-        ensures { IfOk result (λ verdict. Adds (IsFoundDump self.now.is_strict self.now.style.most_depth
-            (octets_in found.now.octets) verdict) out.old.items out.new.items) }
+    fn push_found(&self, found: &Found, printer: &mut Printer) -> Result<Verdict, AllocError>
+        ensures { IfOk result (λ verdict. IsPrinted (IsFoundDump self.now.is_strict self.now.style.most_depth
+            (octets_in found.now.octets) verdict) printer.old printer.new) }
     {
         match &found.octets {
-            Ok(octets) => self.push_octets(octets, out),
-            Err(why) => push_refusal(why, out),
+            Ok(octets) => self.push_octets(octets, printer),
+            Err(why) => push_refusal(why, printer),
         }
     }
 
-    fn push_octets(&self, octets: &[u8], out: &mut Vec<u8>) -> Result<Verdict, AllocError>
-        ensures { IfOk result (λ verdict. Adds (IsDumpOf self.now.is_strict self.now.style.most_depth
-            octets.now verdict) out.old.items out.new.items) }
+    fn push_octets(&self, octets: &[u8], printer: &mut Printer) -> Result<Verdict, AllocError>
+        ensures { IfOk result (λ verdict. IsPrinted (IsDumpOf self.now.is_strict self.now.style.most_depth
+            octets.now verdict) printer.old printer.new) }
     {
         if self.is_strict {
-            push_strict_document(self.alloc, &self.names, self.style, octets, out)
+            push_strict_document(self.alloc, &self.names, self.style, octets, printer)
         } else {
-            push_document(self.alloc, &self.names, self.style, octets, out)
+            push_document(self.alloc, &self.names, self.style, octets, printer)
         }
     }
 
     // Pushes the line of a name above dumps, on a page or not: JSON tells it in each line.
     pub fn push_name(&self, name: &str, out: &mut Vec<u8>) -> Result<(), AllocError>
-        ensures { OnOk result (Adds (IsName self.now.form name.now) out.old.items out.new.items) }
+        ensures { OnOk result (Adds (IsName self.now.form self.now.is_colored name.now) out.old.items out.new.items) }
     {
         match self.form {
-            Form::Lines => push_label(self.alloc, name.as_bytes(), out),
+            Form::Lines => self.push_name_line(name, out),
             Form::Json => Ok(()),
-            Form::Page => {
-                let mut line = Vec::new(self.alloc);
-                push_label(self.alloc, name.as_bytes(), &mut line)?;
-                push_section(self.alloc, &line, &[], out)
-            }
+            Form::Page => self.push_name_on_page(name, out),
         }
+    }
+
+    fn push_name_line(&self, name: &str, out: &mut Vec<u8>) -> Result<(), AllocError>
+        ensures { OnOk result (Adds (IsTitleLine self.now.is_colored name.now) out.old.items out.new.items) }
+    {
+        let written = mem::replace(out, Vec::new(self.alloc));
+        let mut printer = Printer::behind(self.alloc, self.look(), written);
+        self.push_title(name, &mut printer)?;
+        *out = printer.finish()?;
+        Ok(())
+    }
+
+    fn push_name_on_page(&self, name: &str, out: &mut Vec<u8>) -> Result<(), AllocError>
+        ensures { OnOk result (Adds (IsTitleSection name.now) out.old.items out.new.items) }
+    {
+        push_section_start(out)?;
+        let written = mem::replace(out, Vec::new(self.alloc));
+        let mut printer = Printer::behind(self.alloc, Look::Page, written);
+        self.push_title(name, &mut printer)?;
+        *out = printer.finish()?;
+        push_section_end(&[], out)?;
+        Ok(())
+    }
+
+    fn push_title(&self, name: &str, printer: &mut Printer) -> Result<(), AllocError>
+        ensures { OnOk result (IsPrinted (IsTitle name.now) printer.old printer.new) }
+    {
+        push_label(self.alloc, name.as_bytes(), printer)
     }
 
     // What is written of all texts.
     pub fn framed(&self, texts: Vec<u8>) -> Result<Vec<u8>, AllocError>
-        ensures { IfOk result (λ output. IsFramed self.now.form self.now.is_colored texts.items output.items) }
+        ensures { IfOk result (λ output. IsFramed self.now.form texts.items output.items) }
     {
         match self.form {
             Form::Page => page_of(self.alloc, &texts),
-            Form::Lines if self.is_colored => colored(self.alloc, &texts),
-            _ => Ok(texts),
+            Form::Lines => Ok(texts),
+            Form::Json => Ok(texts),
         }
     }
 }
 
 // A page with the sections.
 fn page_of(alloc: Global, sections: &[u8]) -> Result<Vec<u8>, AllocError>
-    ensures { IfOk result (λ page. IsFramed page_form false sections.now page.items) }
+    ensures { IfOk result (λ page. IsFramed page_form sections.now page.items) }
 {
     let mut page = Vec::new(alloc);
     push_head(&mut page)?;

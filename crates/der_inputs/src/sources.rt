@@ -5,7 +5,7 @@ ghost use Rattle.std.specs.Option.{option_map};
 ghost use Rattle.der_lines.specs.Dump.{Adds};
 ghost use Rattle.der_inputs.specs.Forms.{IsFramed, form_by};
 ghost use Rattle.der_inputs.specs.Inputs.{AreReadToEnds, IsInputText, IsNamedText, IsPart, IsReadToEnd, IsTaskText};
-ghost use Rattle.der_inputs.specs.Inputs.{are_colors_shown, input_of, wanted_by};
+ghost use Rattle.der_inputs.specs.Inputs.{input_of, wanted_by};
 ghost use Rattle.der_inputs.specs.Outcomes.{greatest_status};
 ghost use Rattle.der_inputs.specs.Parts.{octets_in, wanted_of};
 ghost use Rattle.der_inputs.specs.Texts.{AreTexts};
@@ -47,8 +47,7 @@ pub fn run<R: Read + Drop, W: Write>(
     ensures answered { IfOk result (λ came. (texts output : List ℕ)
         × AreTexts (IsInputText (wanted_by options.now (length sources.old)))
         (map (λ source. input_of source.name.now (R.remaining source.reader)) sources.old) came.items texts
-        × IsFramed (form_by options.now.is_json options.now.is_html)
-        (are_colors_shown options.now.task options.now.color) texts output
+        × IsFramed (form_by options.now.is_json options.now.is_html) texts output
         × Appends (W.contents w.old) (W.contents w.new) output) }
     ensures read { IfOk result (λ came. AreReadToEnds came.items
         (map (λ source. R.remaining source.reader) sources.new)) }

@@ -1,8 +1,8 @@
 -- What is put of documents.
-use Rattle.std.proofs.Common.{◌≡◌, ℕ, Bool, true, false, List, [], ◌∷◌, ◌++◌, take, refl, sym, ap, ◌∙◌, subst, append_assoc, append-nil}
+use Rattle.std.proofs.Common.{◌≡◌, ℕ, Bool, true, false, List, [], ◌∷◌, ◌++◌, take, refl, sym, ap, ◌∙◌, subst, append-nil}
 use Rattle.std.specs.Prelude.{Option, None, Some, Result, Ok, Err, IfOk}
 use Rattle.std.specs.declared.alloc.AllocError.{AllocError}
-use Rattle.der_lines.specs.Dump.{Adds, AreFaultLines, AreMarked, Front, IsDump, IsDumpOfSome, StandsInside, down_to}
+use Rattle.der_lines.specs.Dump.{AreFaultLines, AreMarked, Front, IsDump, IsDumpOfSome, StandsInside, down_to}
 use Rattle.der_lines.specs.Dump.{verdict_of, wrong_offsets}
 use Rattle.der_lines.specs.Steps.{IsFirstFault, IsLast, IsWholeDump, counted, mark_offsets, marks_by, outer}
 use Rattle.der_lines.specs.declared.document.Verdict.{Verdict}
@@ -11,6 +11,9 @@ use Rattle.der_lines.specs.declared.encodings.Found.{Found}
 use Rattle.der_lines.specs.declared.encodings.Marked.{Marked}
 use Rattle.der_lines.specs.declared.faults.Fault.{Fault}
 use Rattle.der_lines.specs.declared.place.Place.{Place}
+use Rattle.der_rows.proofs.Printed.{printed_both}
+use Rattle.der_rows.specs.Printing.{IsPrinted}
+use Rattle.der_rows.specs.declared.printer.Printer.{Printer}
 use Rattle.der_lines.proofs.Dumps.{fault_line, fault_lines_join}
 
 refused_by : (offsets : List ℕ) (offset : ℕ) → verdict_of (offsets ++ offset ∷ []) ≡ Refused
@@ -59,34 +62,42 @@ outermost_marked place octets fronts marks i z marked =
     subst (λ y. AreMarked (StandsInside 0 octets) (counted y fronts) marks) i
     (subst (λ y. AreMarked (StandsInside y octets) (counted place.is_inside fronts) marks) z marked)
 
-pub some_put :
+some_text :
     (place : Place) (strict : Bool) (octets : List ℕ) (most : Option ℕ) (found : Found) (marks : List Marked)
-    (a b c d : List ℕ) (verdict : Result Verdict AllocError) → place.is_inside ≡ false → place.base ≡ 0 →
-    place.most_depth ≡ most →
-    marks ≡ marks_by strict found.marks.items → Adds (IsWholeDump place octets found) a b →
-    Adds (AreFaultLines (mark_offsets marks)) b c →
-    IfOk verdict (λ v. Adds (IsLast found.fault (mark_offsets marks) v) c d) →
-    IfOk verdict (λ v. Adds (IsDumpOfSome strict most octets v) a d)
-some_put place strict octets most found marks a b c d (Err e) i z m these put lines last = last
-some_put place strict octets most found marks a b c d (Ok v) i z m these (x, p, put) (y, q, lines) (w, r, last) =
+    (x y w rest : List ℕ) (v : Verdict) → place.is_inside ≡ false → place.base ≡ 0 → place.most_depth ≡ most →
+    marks ≡ marks_by strict found.marks.items → IsWholeDump place octets found x → rest ≡ y ++ w →
+    AreFaultLines (mark_offsets marks) y → IsLast found.fault (mark_offsets marks) v w →
+    IsDumpOfSome strict most octets v (x ++ rest)
+some_text place strict octets most found marks x y w rest v i z m these put same lines last =
     let all_marks = mark_offsets found.marks.items in
     let wrong : mark_offsets marks ++ take 1 put.faults ≡ wrong_offsets strict all_marks put.faults =
     ap (λ z. mark_offsets z ++ take 1 put.faults) these ∙ wrong_is strict found.marks.items put.faults in
-    let (all, is) = lines_told found.fault (mark_offsets marks) put.faults y w v put.told lines last in
-    let whole : d ≡ a ++ (x ++ (y ++ w)) = rw (r, q, p) (simp append_assoc) in (
-      x ++ (y ++ w),
-      whole,
-      (
-        put.fronts,
-        put.faults,
-        all_marks,
-        x,
-        y ++ w,
-        refl,
-        put.read,
-        outermost_dump place octets most put.fronts x i z m put.dump,
-        outermost_marked place octets put.fronts all_marks i z put.marks,
-        subst (λ z. AreFaultLines z (y ++ w)) wrong all,
-        is ∙ ap verdict_of wrong,
-      ),
+    let (all, is) = lines_told found.fault (mark_offsets marks) put.faults y w v put.told lines last in (
+      put.fronts,
+      put.faults,
+      all_marks,
+      x,
+      y ++ w,
+      ap (λ z. x ++ z) same,
+      put.read,
+      outermost_dump place octets most put.fronts x i z m put.dump,
+      outermost_marked place octets put.fronts all_marks i z put.marks,
+      subst (λ z. AreFaultLines z (y ++ w)) wrong all,
+      is ∙ ap verdict_of wrong,
     )
+
+pub some_put :
+    (place : Place) (strict : Bool) (octets : List ℕ) (most : Option ℕ) (found : Found) (marks : List Marked)
+    (a b c d : Printer) (verdict : Result Verdict AllocError) → place.is_inside ≡ false → place.base ≡ 0 → place.most_depth ≡ most →
+    marks ≡ marks_by strict found.marks.items → IsPrinted (IsWholeDump place octets found) a b →
+    IsPrinted (AreFaultLines (mark_offsets marks)) b c →
+    IfOk verdict (λ v. IsPrinted (IsLast found.fault (mark_offsets marks) v) c d) →
+    IfOk verdict (λ v. IsPrinted (IsDumpOfSome strict most octets v) a d)
+some_put place strict octets most found marks a b c d (Err e) i z m these put lines last = last
+some_put place strict octets most found marks a b c d (Ok v) i z m these put lines last =
+    printed_both _ _ (IsDumpOfSome strict most octets v) a b d
+    (λ x rest dump (y, w, is, are, end). some_text place strict octets most found marks x y w rest v i z m these dump is are end)
+    put
+    (printed_both _ _
+    (λ rest. (y w : List ℕ) × (rest ≡ y ++ w) × AreFaultLines (mark_offsets marks) y
+    × IsLast found.fault (mark_offsets marks) v w) b c d (λ y w are end. (y, w, refl, are, end)) lines last)

@@ -2,15 +2,19 @@
 use Rattle.std.proofs.Common.{◌≡◌, ◌≢◌, ◌==◌, ℕ, zero, suc, ◌+◌, ◌-◌, ◌<◌, List, [], ◌∷◌, ◌++◌, codes, drop, if◌then◌else◌, replicate}
 use Rattle.std.proofs.Common.{Bool, true, false, refl, sym, ap, ◌∙◌, subst, append_assoc, append-nil, arith, length}
 use Rattle.std.proofs.lemmas.List.{drop-drop}
-use Rattle.std.proofs.lemmas.Bool.{eqb-false, eqb-true}
-use Rattle.std.proofs.lemmas.List.Elements.{All-cons, All-nil}
+use Rattle.std.proofs.lemmas.Bool.{eqb-false}
+use Rattle.std.proofs.lemmas.List.Elements.{All-append, All-cons, All-nil}
 use Rattle.std.specs.Fmt.{decimal}
-use Rattle.std.specs.Prelude.{Option, Result, Ok, Err, OnOk}
-use Rattle.std.specs.declared.alloc.AllocError.{AllocError}
-use Rattle.der_lines.specs.Dump.{Adds, AreFaultLines, Front, IsBlockLine, IsDump, IsFaultLine, IsInsideLine, IsLine, IsNote, IsOneLine}
-use Rattle.der_lines.specs.Dump.{StandAt, StandsInside, block_line, down_to, inside_line, is_too_deep, no_lines, on_one_line, right_of}
+use Rattle.std.specs.Prelude.{Option}
+use Rattle.der_lines.specs.Dump.{Adds, AreFaultLines, Front, IsBlockLine, IsDump, IsFaultLine, IsLine}
+use Rattle.der_lines.specs.Dump.{StandAt, StandsInside, block_line, down_to, inside_line, is_too_deep, no_lines}
 use Rattle.der_lines.specs.Marks.{Told, mark_text, told_rules, words_text}
-use Rattle.der_lines.specs.Steps.{IsLineOf, IsLineUnless, outer, start_text}
+use Rattle.der_lines.specs.Steps.{IsLineOf, IsLineUnless, outer}
+use Rattle.der_rows.proofs.Printed.{pushes_none}
+use Rattle.der_rows.specs.Printing.{IsPrintedAs, Prints}
+use Rattle.der_rows.specs.Rows.{IsOneLine, contents_column, fault_words, indentation, on_one_line, right_of, row_line}
+use Rattle.der_rows.specs.declared.printer.Printer.{Printer}
+use Rattle.der_rows.specs.declared.row.Row.{Row}
 
 -- a dump after a dump
 pub dump_join : (P : Front → Type 0) (fs gs : List Front) (a b : List ℕ) → IsDump P fs a → IsDump P gs b →
@@ -31,16 +35,6 @@ dump_map P Q m fs a (block_line f later line rest p q l d) =
     block_line f later line rest p q l (dump_map P Q m later rest d)
 dump_map P Q m fs a (inside_line f line rest q l i d) = inside_line f line rest q l (m f i) (dump_map P Q m fs rest d)
 
--- a text of another kind
-pub adds_as :
-    (Is Other : List ℕ → Type 0) (a b : List ℕ) → ((text : List ℕ) → Is text → Other text) → Adds Is a b →
-    Adds Other a b
-adds_as Is Other a b turn (text, e, is) = (text, e, turn text is)
-
--- nothing
-pub adds_none : (Is : List ℕ → Type 0) (a : List ℕ) → Is [] → Adds Is a a
-adds_none Is a is = ([], sym (append-nil a), is)
-
 -- one text and then another
 pub adds_both :
     (Is Later Other : List ℕ → Type 0) (a b c : List ℕ) →
@@ -55,6 +49,20 @@ dump_unless P true true f text e i = no_lines refl e
 dump_unless P true false f text (line, e, l) i = inside_line f line [] e l i (no_lines refl refl)
 dump_unless P false true f text e i = no_lines refl e
 dump_unless P false false f text (line, e, l) i = block_line f [] line [] refl e l (no_lines refl refl)
+
+-- the row of a piece was printed, or nothing where it stands too deep
+pub nothing_deep :
+    (deep inside : Bool) (f : Front) (faults : List Bool) (a : Printer) → deep ≡ true →
+    IsPrintedAs (if deep then [] else faults) (IsLineUnless deep inside f) a a
+nothing_deep true inside f faults a e = ([], (refl, pushes_none a.look a.out.items), refl)
+nothing_deep false inside f faults a e = absurd (cc e)
+
+pub row_printed :
+    (deep inside : Bool) (row : Row) (f : Front) (faults : List Bool) (a b : Printer) → deep ≡ false →
+    Prints faults (row_line row ++ 10 ∷ []) a b → IsLineOf inside f (row_line row) →
+    IsPrintedAs (if deep then [] else faults) (IsLineUnless deep inside f) a b
+row_printed true inside row f faults a b e prints line = absurd (cc e)
+row_printed false inside row f faults a b e prints line = (row_line row ++ 10 ∷ [], prints, (row_line row, refl, line))
 
 outer_one :
     (inside : Bool) (most : Option ℕ) (f : Front) →
@@ -103,73 +111,49 @@ has_one_line (b ∷ text) =
     All-cons (λ b. b ≢ 10) (if b == 10 then 32 else b) (on_one_line text) (is_no_end b (b == 10) refl)
     (has_one_line text)
 
-stays : (b : ℕ) (q : Bool) → (b == 10) ≡ q → b ≢ 10 → (if q then 32 else b) ≡ b
-stays b true is other = absurd (other (eqb-true b 10 is))
-stays b false is other = refl
+-- the line of a row behind its offset
+abbrev row_rest : Row → List ℕ
+row_rest row =
+    32 ∷ [] ++ (right_of 2 row.header ++ (32 ∷ [] ++ (contents_column row.is_indefinite row.contents
+    ++ (32 ∷ 32 ∷ [] ++ (indentation row.depth ++ (row.words.now ++ (on_one_line row.value.now
+    ++ (on_one_line (fault_words row) ++ row.mark.now))))))))
 
--- the parts of the line of an encoding
-pub line_put :
-    (a b c d e k g text : List ℕ) (width : ℕ) (f : Front) → b ≡ a ++ right_of width f.offset → c ≡ b ++ 32 ∷ [] →
-    d ≡ c ++ start_text f → e ≡ d ++ on_one_line text → k ≡ e ++ mark_text (told_rules f.rules f.has_spare_bits) →
-    g ≡ k ++ 10 ∷ [] →
-    Adds (IsLine (IsBlockLine f)) a g
-line_put a b c d e k g text width f p q r s m t =
-    let said = on_one_line text in
-    let mark = mark_text (told_rules f.rules f.has_spare_bits) in
-    let spaces = width - length (decimal f.offset) in
-    let line : List ℕ = replicate spaces 32 ++ (decimal f.offset ++ (32 ∷ start_text f ++ (said ++ mark))) in
-    let whole : g ≡ a ++ (line ++ 10 ∷ []) = rw (t, m, s, r, q, p) (simp append_assoc) in (
-      line ++ 10 ∷ [],
-      whole,
-      (
-        line,
-        refl,
-        record {
-          spaces = spaces;
-          said = said;
-          mark = mark;
-          line_is = simp append_assoc;
-          one = has_one_line text;
-          mark_is = refl;
-        },
-      ),
-    )
+-- the line of a row
+row_block :
+    (row : Row) (f : Front) → row.offset ≡ f.offset → row.header ≡ f.header → row.contents ≡ f.contents →
+    row.is_indefinite ≡ f.indefinite → row.depth ≡ f.depth → row.words.now ≡ f.words →
+    row.mark.now ≡ mark_text (told_rules f.rules f.has_spare_bits) → (width : ℕ) (line : List ℕ) →
+    line ≡ right_of width row.offset ++ row_rest row → IsBlockLine f line
+row_block row f o h c i d w m width line is =
+    let value = on_one_line row.value.now in
+    let fault = on_one_line (fault_words row) in
+    let same : line ≡
+    replicate (width - length (decimal f.offset)) 32 ++ (decimal f.offset ++ (32 ∷ [] ++ (right_of 2 f.header ++ (32 ∷ []
+    ++ (contents_column f.indefinite f.contents ++ (32 ∷ 32 ∷ []
+    ++ (indentation f.depth ++ (f.words ++ ((value ++ fault) ++ row.mark.now)))))))))
+    = rw (is, o, h, c, i, d, w) (simp append_assoc) in
+    record {
+      spaces = width - length (decimal f.offset);
+      said = value ++ fault;
+      mark = row.mark.now;
+      line_is = same;
+      one = All-append (λ b. b ≢ 10) value fault (has_one_line row.value.now) (has_one_line (fault_words row));
+      mark_is = m;
+    }
 
--- the line of an encoding after its mark
-pub inside_put :
-    (a b c : List ℕ) (f : Front) → b ≡ a ++ 62 ∷ [] → Adds (IsLine (IsBlockLine f)) b c →
-    Adds (IsLine (IsInsideLine f)) a c
-inside_put a b c f p (text, is, (line, e, l)) = (
-  62 ∷ text,
-  is ∙ (ap (λ z. z ++ text) p ∙ append_assoc a (62 ∷ []) text),
-  (62 ∷ line, ap (λ z. 62 ∷ z) e, record { shown = line; line_is = refl; block = l }),
-)
-
-pub line_inside :
-    (r : Result (Unit {0}) AllocError) (inside : Bool) (f : Front) (a b c : List ℕ) → inside ≡ true → b ≡ a ++ 62 ∷ [] →
-    OnOk r (Adds (IsLine (IsBlockLine f)) b c) → OnOk r (Adds (IsLine (IsLineOf inside f)) a c)
-line_inside (Ok u) inside f a b c e p line =
-    subst (λ z. Adds (IsLine (IsLineOf z f)) a c) (sym e) (inside_put a b c f p line)
-line_inside (Err x) inside f a b c e p line = tt
-
--- the parts of a note
-pub note_put : (a b c d e text : List ℕ) (mark : ℕ) → b ≡ a ++ mark ∷ [] → c ≡ b ++ 32 ∷ [] → d ≡ c ++ on_one_line text
-    → e ≡ d ++ 10 ∷ [] → Adds (IsLine (IsNote mark text)) a e
-note_put a b c d e text mark p q r s =
-    let line : List ℕ = mark ∷ 32 ∷ on_one_line text in
-    let whole : e ≡ a ++ (line ++ 10 ∷ []) = rw (s, r, q, p) (simp append_assoc) in
-    (line ++ 10 ∷ [], whole, (line, refl, refl))
-
--- the parts of the line of a fault
-pub fault_put : (a b c d e f g text : List ℕ) (offset : ℕ) → b ≡ a ++ codes "! error at offset " →
-    c ≡ b ++ decimal offset
-    → d ≡ c ++ 58 ∷ [] → e ≡ d ++ 32 ∷ [] → f ≡ e ++ on_one_line text → g ≡ f ++ 10 ∷ [] →
-    Adds (IsLine (IsFaultLine offset)) a g
-fault_put a b c d e f g text offset p q r s t u =
-    let said = on_one_line text in
-    let line : List ℕ = codes "! error at offset " ++ decimal offset ++ 58 ∷ 32 ∷ said in
-    let whole : g ≡ a ++ (line ++ 10 ∷ []) = rw (u, t, s, r, q, p) (simp append_assoc) in
-    (line ++ 10 ∷ [], whole, (line, refl, record { said = said; line_is = refl; one = has_one_line text }))
+pub row_line_of :
+    (inside : Bool) (row : Row) (f : Front) → row.is_inside ≡ inside → row.offset ≡ f.offset → row.header ≡ f.header →
+    row.contents ≡ f.contents → row.is_indefinite ≡ f.indefinite → row.depth ≡ f.depth → row.words.now ≡ f.words →
+    row.mark.now ≡ mark_text (told_rules f.rules f.has_spare_bits) → IsLineOf inside f (row_line row)
+row_line_of true row f q o h c i d w m =
+    let shown = right_of 6 row.offset ++ row_rest row in
+    record {
+      shown = shown;
+      line_is = rw q (simp append_assoc);
+      block = row_block row f o h c i d w m 6 shown refl;
+    }
+row_line_of false row f q o h c i d w m =
+    row_block row f o h c i d w m 7 (row_line row) (rw q (simp append_assoc))
 
 -- octets among octets among octets
 drop-append : (n : ℕ) (xs ys : List ℕ) → (zs : List ℕ) × (drop n (xs ++ ys) ≡ drop n xs ++ zs)

@@ -10,13 +10,15 @@ use Rattle.asn1_headers.specs.Front.{BeginsWithHeader, HasIndefiniteForm, IsAtFr
 use Rattle.asn1_headers.specs.Header.{Encoding, IsLength}
 use Rattle.asn1_headers.specs.declared.front.Header.{Header}
 use Rattle.asn1_headers.specs.declared.header.ASN1Class.{ASN1Class}
-use Rattle.der_lines.specs.Dump.{Adds, AreMarked, IsDump, IsFirst, IsJudged, StandAt, StandsInside, begins_with_end, cut_short}
+use Rattle.der_lines.specs.Dump.{AreMarked, IsDump, IsFirst, IsJudged, StandAt, StandsInside, begins_with_end, cut_short}
 use Rattle.der_lines.specs.Dump.{is_stray_form, of_cut, of_stray_form, of_whole, taken, with_encodings, with_no_value, with_value}
 use Rattle.der_lines.specs.Headers.{is_gone_into}
 use Rattle.der_lines.specs.Pieces.{IsFault, IsFirstPiece, IsLeafMeaning, IsMeaning, IsNamed, IsNameless, IsOpenedFault}
 use Rattle.der_lines.specs.Pieces.{IsNestedDump, IsPiece, StandsInPiece, fault_offset, front_of, kind_contents, kind_header}
 use Rattle.der_lines.specs.Steps.{AreFirstRules, AreRulesFound, IsTaken, IsWholeDump, StartsNext, StartsWith, counted, header_front, mark_offsets, outer}
 use Rattle.der_lines.specs.Dump.{Front}
+use Rattle.der_rows.specs.Printing.{IsPrinted}
+use Rattle.der_rows.specs.declared.printer.Printer.{Printer}
 use Rattle.der_lines.specs.declared.cursor.Left.{Left}
 use Rattle.der_lines.specs.declared.cursor.Step.{Step}
 use Rattle.der_lines.specs.declared.cursor.Step.TheVariants.{Into, Out, Past}
@@ -203,25 +205,26 @@ whole_rules left header rules whole found front = of_whole whole (found front)
 
 -- the lines of encodings inside contents octets, and their marks
 pub nested_adds :
-    (inside : Place) (left : List ℕ) (piece : Piece) (octets : List ℕ) (before : ℕ) (told : Found) (a b : List ℕ) →
-    StandAt (slice_range left (kind_header piece.kind) (kind_header piece.kind + kind_contents piece.kind)) before
-    octets →
+    (inside : Place) (left : List ℕ) (piece : Piece) (octets : List ℕ) (before : ℕ) (told : Found) (a b : Printer) →
+    StandAt (slice_range left (kind_header piece.kind) (kind_header piece.kind + kind_contents piece.kind)) before octets →
     inside.is_inside ≡ true → inside.base ≡ piece.place.base + (piece.offset + kind_header piece.kind) + before →
-    Adds (IsWholeDump inside octets told) a b → Adds (IsNestedDump left piece (mark_offsets told.marks.items)) a b
-nested_adds inside left piece octets before told a b stand is_inside further (text, e, put) =
+    IsPrinted (IsWholeDump inside octets told) a b → IsPrinted (IsNestedDump left piece (mark_offsets told.marks.items)) a b
+nested_adds inside left piece octets before told a b stand is_inside further (faults, (text, e, put)) =
     let header = kind_header piece.kind in
     let base = piece.place.base + (piece.offset + header) in
     let contents = slice_range left header (header + kind_contents piece.kind) in
     let deeper : (f : Front) → StandsInside inside.base octets f → StandsInPiece left piece f =
     λ f s. inside_deeper contents octets base before inside.base f stand further s in
     let marks = mark_offsets told.marks.items in (
-      text,
-      e,
+      faults,
       (
-        dump_map (StandsInside inside.base octets) (StandsInPiece left piece) deeper [] text
-            (subst (λ z. IsDump (StandsInside inside.base octets) (outer z inside.most_depth put.fronts) text) is_inside
-            put.dump),
-        marked_map (StandsInside inside.base octets) (StandsInPiece left piece) deeper [] marks
-            (subst (λ z. AreMarked (StandsInside inside.base octets) (counted z put.fronts) marks) is_inside put.marks),
+        text,
+        e,
+        (
+          dump_map (StandsInside inside.base octets) (StandsInPiece left piece) deeper [] text
+              (subst (λ z. IsDump (StandsInside inside.base octets) (outer z inside.most_depth put.fronts) text) is_inside put.dump),
+          marked_map (StandsInside inside.base octets) (StandsInPiece left piece) deeper [] marks
+              (subst (λ z. AreMarked (StandsInside inside.base octets) (counted z put.fronts) marks) is_inside put.marks),
+        ),
       ),
     )

@@ -1,10 +1,9 @@
 -- What is written of octets: lines, one for each encoding in order, by their headers. The contents octets of
 -- constructed encodings, and of each SEQUENCE and SET, are gone into; those of others are looked at alone.
 use Rattle.std.specs.Prelude.{◌↔◌, ◌&&◌, not, IsTrue}
-use Rattle.std.specs.Prelude.{◌≡◌, ◌≢◌, ◌⊎◌, ◌==◌, ◌||◌, ℕ, ◌+◌, ◌-◌, ◌*◌, ◌^◌, ◌<◌, ◌≤◌, min, nat_lt, Bool, true, false}
-use Rattle.std.specs.Prelude.{if◌then◌else◌, Option, None, Some, unwrap_or, List, [], ◌∷◌, ◌++◌, drop, length, map, take}
+use Rattle.std.specs.Prelude.{◌≡◌, ◌⊎◌, ◌==◌, ◌||◌, ℕ, ◌+◌, ◌^◌, ◌<◌, ◌≤◌, min, nat_lt, Bool, true, false}
+use Rattle.std.specs.Prelude.{if◌then◌else◌, Option, None, Some, unwrap_or, List, [], ◌∷◌, ◌++◌, drop, length, take}
 use Rattle.std.specs.Prelude.{replicate, slice_range, codes, decimal}
-use Rattle.std.specs.List.{All}
 use Rattle.asn1_headers.specs.Fault.{DecodeFault}
 use Rattle.asn1_headers.specs.declared.header.ASN1Class.{ASN1Class}
 use Rattle.asn1_headers.specs.declared.header.ASN1Class.TheVariants.{Universal, Application, ContextSpecific, Private}
@@ -21,6 +20,7 @@ use Rattle.der_lines.specs.Marks.{are_some, mark_text, told_rules}
 use Rattle.der_lines.specs.declared.document.Verdict.{Verdict}
 use Rattle.der_lines.specs.declared.document.Verdict.TheVariants.{AllRead, Refused}
 use Rattle.asn1_headers.specs.Names.{type_name}
+use Rattle.der_rows.specs.Rows.{IsOneLine, contents_column, indentation, on_one_line, right_of}
 use Rattle.der_io.specs.Characters.{colon, exclamation_mark, greater_than_sign, line_feed, space}
 
 -- a tag number in words: in decimal below 2^128
@@ -232,24 +232,6 @@ down_to most [] = []
 down_to most (front ∷ fronts) =
     if is_too_deep most front.depth then down_to most fronts else front ∷ down_to most fronts
 
--- no line feed, which ends a line
-abbrev pub IsOneLine : List ℕ → Type 0
-IsOneLine text = All (λ b. b ≢ line_feed) text
-
--- a number in decimal, with spaces before it where it has fewer digits than the width
-abbrev pub right_of : ℕ → ℕ → List ℕ
-right_of width n = replicate (width - length (decimal n)) space ++ decimal n
-
--- two spaces a level, for 40 levels at most
-abbrev pub indentation : ℕ → List ℕ
-indentation depth = replicate (2 * min depth 40) space
-
--- the size of the contents octets as a line has it, on the right of seven columns: a number, or `inf` where the length
--- is of the indefinite form
-abbrev pub contents_column : Bool → ℕ → List ℕ
-contents_column true contents = replicate 4 space ++ codes "inf"
-contents_column false contents = right_of 7 contents
-
 -- a line of an encoding: spaces, the offset, the sizes of header and contents in columns, spaces for the depth, the
 -- words, what else is said of it, and the mark
 pub record IsBlockLine (front : Front) (line : List ℕ) : Type 0 where
@@ -268,10 +250,6 @@ pub record IsInsideLine (front : Front) (line : List ℕ) : Type 0 where
   pub shown : List ℕ
   pub line_is : line ≡ greater_than_sign ∷ shown
   pub block : IsBlockLine front shown
-
--- the text with a space in the place of each line feed
-abbrev pub on_one_line : List ℕ → List ℕ
-on_one_line text = map (λ b. if b == line_feed then space else b) text
 
 -- any other line but that of a first fault: `=`, a space and the label of an object, or `!`, a space and what is wrong
 -- with one, on one line

@@ -1,7 +1,7 @@
 -- The pieces in which octets are gone over: encodings, end-of-contents octets, and octets that begin with no header.
 -- Private contracts alone name these.
 use Rattle.std.specs.Prelude.{◌≡◌, ◌⊎◌, ℕ, ◌+◌, ◌<◌, ◌≤◌, Bool, true, false, List, [], ◌∷◌, ◌++◌, codes, drop, length}
-use Rattle.std.specs.Prelude.{IfSome, MatchOption, Option, None, Some, option_map, slice_range}
+use Rattle.std.specs.Prelude.{IfSome, MatchOption, Option, None, Some, if◌then◌else◌, is_some, option_map, slice_range}
 use Rattle.asn1_departures.specs.declared.rule.Rule.{Rule}
 use Rattle.asn1_headers.specs.Fault.{DecodeFault, incomplete}
 use Rattle.asn1_headers.specs.Front.{IsAtFront}
@@ -13,7 +13,7 @@ use Rattle.asn1_headers.specs.declared.header.ASN1Class.TheVariants.{Universal}
 use Rattle.asn1_blocks.specs.Contents.{LeafFault}
 use Rattle.asn1_blocks.specs.Grammar.{Encodes}
 use Rattle.asn1_blocks.specs.Tree.{Tree}
-use Rattle.der_lines.specs.Dump.{AreMarked, Front, IsDump, StandAt, StandsInside, is_stray_form, is_wide, tag_words, taken}
+use Rattle.der_lines.specs.Dump.{AreMarked, Front, IsDump, StandAt, StandsInside, is_stray_form, is_too_deep, is_wide, tag_words, taken}
 use Rattle.der_lines.specs.Headers.{is_gone_into}
 use Rattle.der_lines.specs.Steps.{IsAhead, IsStart, StartsNext, StartsWith, to_go}
 use Rattle.der_lines.specs.declared.cursor.Left.{Left}
@@ -190,6 +190,12 @@ abbrev pub shown_front : Piece → Front
 shown_front piece =
     kind_front (piece.place.base + piece.offset) piece.place.depth piece.breaches.rules.items
     piece.breaches.has_spare_bits piece.kind
+
+-- the elements on a page of its row, unless it stands too deep: of the class of what is wrong exactly if something is
+-- wrong with it
+abbrev pub row_faults : Piece → List Bool
+row_faults piece =
+    if is_too_deep piece.place.most_depth piece.place.depth then [] else is_some piece.fault ∷ []
 
 -- of what stands inside the contents octets of a piece
 abbrev pub StandsInPiece : List ℕ → Piece → Front → Type 0

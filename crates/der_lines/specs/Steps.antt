@@ -1,5 +1,5 @@
 -- What is put step by step. Private contracts alone name these.
-use Rattle.std.specs.Prelude.{◌≡◌, ◌⊎◌, ◌&&◌, ℕ, ◌+◌, ◌<◌, Option, Bool, true, false, List, [], ◌∷◌, ◌++◌, drop, length}
+use Rattle.std.specs.Prelude.{◌≡◌, ◌⊎◌, ◌&&◌, ℕ, ◌+◌, ◌<◌, Option, Bool, true, false, List, [], ◌∷◌, drop, length}
 use Rattle.std.specs.Prelude.{⊤, ◌↔◌, ◌≤◌, ◌*◌, ◌-◌, IsTrue, reverse, slice_range}
 use Rattle.std.specs.Prelude.{MatchOption, None, Some, map}
 use Rattle.asn1_headers.specs.declared.header.ASN1Class.TheVariants.{Universal}
@@ -7,8 +7,8 @@ use Rattle.der_lines.specs.Dump.{AreFronts, AreFrontsOf, Front, IsBlockLine, IsD
 use Rattle.der_lines.specs.Dump.{AreMarked, AreRules, IsFaultLine, IsLine, verdict_of}
 use Rattle.der_lines.specs.declared.document.Verdict.{Verdict}
 use Rattle.der_lines.specs.declared.document.Verdict.TheVariants.{Refused}
-use Rattle.der_lines.specs.Dump.{StandsInside, down_to, indentation, is_too_deep, right_of, size_in, tag_words}
-use Rattle.der_lines.specs.Dump.{begins_with_end, contents_column, end_at, end_of_contents}
+use Rattle.der_lines.specs.Dump.{StandsInside, down_to, is_too_deep, size_in, tag_words}
+use Rattle.der_lines.specs.Dump.{begins_with_end, end_at, end_of_contents}
 use Rattle.der_lines.specs.Dump.{taken, unreadable}
 use Rattle.asn1_headers.specs.Front.{BeginsWithHeader, HasIndefiniteForm, HasNoHeader, IsAtFront}
 use Rattle.der_lines.specs.Segments.{Joins, segment_tag}
@@ -24,28 +24,7 @@ use Rattle.asn1_departures.specs.Departures.{AreBroken}
 use Rattle.asn1_departures.specs.declared.rule.Rule.{Rule}
 use Rattle.der_lines.specs.declared.faults.Fault.{Fault}
 use Rattle.asn1_headers.specs.declared.front.Header.{Header}
-use Rattle.der_lines.specs.declared.lines.LineStart.{LineStart}
-use Rattle.der_lines.specs.declared.lines.Mark.{Mark}
-use Rattle.der_lines.specs.declared.lines.Mark.TheVariants.{Fault as fault_mark, Object as object_mark}
 use Rattle.der_lines.specs.declared.place.Place.{Place}
-use Rattle.der_io.specs.Characters.{equals_sign, exclamation_mark, space}
-
--- the octet that a line begins with
-abbrev pub mark_of : Mark → ℕ
-mark_of fault_mark = exclamation_mark
-mark_of object_mark = equals_sign
-
-abbrev pub front_of : LineStart → Front
-front_of start = record {
-  offset = start.offset;
-  header = start.header;
-  contents = start.contents;
-  indefinite = start.is_indefinite;
-  depth = start.depth;
-  words = start.words.now;
-  rules = start.breaches.now.rules.items;
-  has_spare_bits = start.breaches.now.has_spare_bits;
-}
 
 -- that of an encoding with the header
 abbrev pub header_front : ℕ → ℕ → List Rule → Header → Front
@@ -59,12 +38,6 @@ header_front offset depth rules header = record {
   rules = rules;
   has_spare_bits = false;
 }
-
--- what a line has behind its offset and a space
-abbrev pub start_text : Front → List ℕ
-start_text front =
-    right_of 2 front.header ++ (space ∷ [] ++ (contents_column front.indefinite front.contents
-    ++ (space ∷ space ∷ [] ++ (indentation front.depth ++ front.words))))
 
 -- the encoding with the header breaks these rules, which begins the octets; so where it is whole
 abbrev pub AreFirstRules : List ℕ → Header → List Rule → Type 0

@@ -1,7 +1,8 @@
-// The lines of a document.
+// The rows of a document, and what is wrong with it.
 ghost use Rattle.std.specs.Prelude.{◌≡◌, IfOk, OnOk, false, true};
-ghost use Rattle.der_lines.specs.Dump.{Adds, AreFaultLines, IsDumpOf, IsDumpOfSome, IsFaultLine, IsLine};
+ghost use Rattle.der_lines.specs.Dump.{AreFaultLines, IsDumpOf, IsDumpOfSome, IsFaultLine, IsLine};
 ghost use Rattle.der_lines.specs.Steps.{IsLast, mark_offsets, marks_by as marks_are};
+ghost use Rattle.der_rows.specs.Printing.{IsPrinted};
 
 use crate::encodings::{Found, Marked, push_encodings};
 use crate::faults::push_fault_line;
@@ -11,6 +12,7 @@ use crate::place::outermost;
 use crate::style::Style;
 use asn1_headers::error::ASN1DecodeErr;
 use der_names::Names;
+use der_rows::Printer;
 use std::alloc::{AllocError, Global};
 
 /// Whether all of an input was read.
@@ -22,7 +24,7 @@ pub enum Verdict {
     Refused,
 }
 
-/// Puts the lines of octets: one for each encoding in order, by their headers. It goes into the contents octets of
+/// Prints the rows of octets: one for each encoding in order, by their headers. It goes into the contents octets of
 /// constructed encodings, and of each SEQUENCE and SET; of others it shows the value, or what is wrong with it. Octets
 /// that begin with no header have one line, up to the end of the contents octets around them, and it goes on there.
 /// Contents octets of the indefinite form of BER (X.690 8.1.3.6) end with end-of-contents octets, which have a line.
@@ -41,15 +43,15 @@ pub fn push_document(
     names: &Names,
     style: Style,
     octets: &[u8],
-    out: &mut Vec<u8>,
+    printer: &mut Printer,
 ) -> Result<Verdict, AllocError>
-    ensures { IfOk result (λ verdict. Adds (IsDumpOf false style.most_depth octets.now verdict)
-        out.old.items out.new.items) }
+    ensures { IfOk result (λ verdict. IsPrinted (IsDumpOf false style.most_depth octets.now verdict)
+        printer.old printer.new) }
 {
-    push_dump(alloc, names, style, octets, false, out)
+    push_dump(alloc, names, style, octets, false, printer)
 }
 
-/// Puts the lines of octets as `push_document` does, and then what is wrong with them where they have to be DER: a line
+/// Prints the rows of octets as `push_document` does, and then what is wrong with them where they have to be DER: a line
 /// with the offset of each encoding whose line has a mark, and what its mark says; and last the first fault. Where
 /// there is no such line the verdict is `AllRead`. Inside strings the marks count as well where lines go into them, a
 /// fault for nothing.
@@ -63,12 +65,12 @@ pub fn push_strict_document(
     names: &Names,
     style: Style,
     octets: &[u8],
-    out: &mut Vec<u8>,
+    printer: &mut Printer,
 ) -> Result<Verdict, AllocError>
-    ensures { IfOk result (λ verdict. Adds (IsDumpOf true style.most_depth octets.now verdict)
-        out.old.items out.new.items) }
+    ensures { IfOk result (λ verdict. IsPrinted (IsDumpOf true style.most_depth octets.now verdict)
+        printer.old printer.new) }
 {
-    push_dump(alloc, names, style, octets, true, out)
+    push_dump(alloc, names, style, octets, true, printer)
 }
 
 fn push_dump(
@@ -77,34 +79,34 @@ fn push_dump(
     style: Style,
     octets: &[u8],
     is_strict: bool,
-    out: &mut Vec<u8>,
+    printer: &mut Printer,
 ) -> Result<Verdict, AllocError>
-    ensures { IfOk result (λ verdict. Adds (IsDumpOf is_strict style.most_depth octets.now verdict)
-        out.old.items out.new.items) }
+    ensures { IfOk result (λ verdict. IsPrinted (IsDumpOf is_strict style.most_depth octets.now verdict)
+        printer.old printer.new) }
 {
     if octets.is_empty() {
-        push_fault_line(alloc, 0, &ASN1DecodeErr::EmptyBuffer, out)?;
+        push_fault_line(alloc, 0, &ASN1DecodeErr::EmptyBuffer, printer)?;
         return Ok(Verdict::Refused);
     }
-    push_lines(alloc, names, style, octets, is_strict, out)
+    push_lines(alloc, names, style, octets, is_strict, printer)
 }
 
-// The same of octets, also of none.
+// Prints the rows of octets, of which there are some or none, and what is wrong with them.
 fn push_lines(
     alloc: Global,
     names: &Names,
     style: Style,
     octets: &[u8],
     is_strict: bool,
-    out: &mut Vec<u8>,
+    printer: &mut Printer,
 ) -> Result<Verdict, AllocError>
-    ensures { IfOk result (λ verdict. Adds (IsDumpOfSome is_strict style.most_depth octets.now verdict)
-        out.old.items out.new.items) }
+    ensures { IfOk result (λ verdict. IsPrinted (IsDumpOfSome is_strict style.most_depth octets.now verdict)
+        printer.old printer.new) }
 {
-    let found = push_encodings(alloc, names, octets, outermost(style), out)?;
+    let found = push_encodings(alloc, names, octets, outermost(style), printer)?;
     let marks = marks_by(is_strict, &found.marks);
-    push_marks(alloc, marks, out)?;
-    push_last(&found, marks, out)
+    push_marks(alloc, marks, printer)?;
+    push_last(&found, marks, printer)
 }
 
 // Marks, where they are wrong.
@@ -114,33 +116,33 @@ fn marks_by(is_strict: bool, marks: &[Marked]) -> &[Marked]
     if is_strict { marks } else { &[] }
 }
 
-// Puts a line for each mark.
-fn push_marks(alloc: Global, marks: &[Marked], out: &mut Vec<u8>) -> Result<(), AllocError>
-    ensures { OnOk result (Adds (AreFaultLines (mark_offsets marks.now)) out.old.items out.new.items) }
+// Prints a line for each mark.
+fn push_marks(alloc: Global, marks: &[Marked], printer: &mut Printer) -> Result<(), AllocError>
+    ensures { OnOk result (IsPrinted (AreFaultLines (mark_offsets marks.now)) printer.old printer.new) }
 {
     for mark in marks {
-        push_mark_line(alloc, mark, out)?;
+        push_mark_line(alloc, mark, printer)?;
     }
     Ok(())
 }
 
-fn push_mark_line(alloc: Global, mark: &Marked, out: &mut Vec<u8>) -> Result<(), AllocError>
-    ensures { OnOk result (Adds (IsLine (IsFaultLine mark.now.offset)) out.old.items out.new.items) }
+fn push_mark_line(alloc: Global, mark: &Marked, printer: &mut Printer) -> Result<(), AllocError>
+    ensures { OnOk result (IsPrinted (IsLine (IsFaultLine mark.now.offset)) printer.old printer.new) }
 {
     let mut said = Vec::new(alloc);
     said.extend_from_slice(b"not DER: ")?;
     push_words(&mark.told, &mut said)?;
-    push_fault(mark.offset, &said, out)
+    push_fault(mark.offset, &said, printer)
 }
 
-// Puts the line of the first fault, if there is one, behind those of marks.
-fn push_last(found: &Found, marks: &[Marked], out: &mut Vec<u8>) -> Result<Verdict, AllocError>
-    ensures { IfOk result (λ verdict. Adds (IsLast found.now.fault (mark_offsets marks.now) verdict)
-        out.old.items out.new.items) }
+// Prints the line of the first fault, if there is one, behind those of marks.
+fn push_last(found: &Found, marks: &[Marked], printer: &mut Printer) -> Result<Verdict, AllocError>
+    ensures { IfOk result (λ verdict. IsPrinted (IsLast found.now.fault (mark_offsets marks.now) verdict)
+        printer.old printer.new) }
 {
     match &found.fault {
         Some(fault) => {
-            push_fault(fault.offset, fault.words.as_bytes(), out)?;
+            push_fault(fault.offset, fault.words.as_bytes(), printer)?;
             Ok(Verdict::Refused)
         }
         None if marks.is_empty() => Ok(Verdict::AllRead),

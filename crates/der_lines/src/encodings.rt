@@ -1,12 +1,14 @@
-// The lines of octets, one for each piece, and of what stands inside octets of strings.
-ghost use Rattle.std.specs.Prelude.{◌≡◌, ◌+◌, ◌<◌, ◌++◌, ℕ, List, false, IfOk, IfSome, OnOk};
-ghost use Rattle.der_lines.specs.Dump.{Adds, marked_offset};
-ghost use Rattle.der_lines.specs.Pieces.{IsHolding, IsNestedDump, IsPieceDump, kind_words, shown_front};
+// The rows of octets, one for each piece, and of what stands inside octets of strings.
+ghost use Rattle.std.specs.Prelude.{[], ◌≡◌, ◌+◌, ◌<◌, ◌++◌, ℕ, List, false, IfOk, IfSome, OnOk, is_some, slice_range};
+ghost use Rattle.der_lines.specs.Dump.{marked_offset};
+ghost use Rattle.der_lines.specs.Pieces.{IsHolding, IsNestedDump, IsPieceDump, kind_words, row_faults, shown_front};
+ghost use Rattle.der_rows.specs.Printing.{IsPrinted, IsPrintedAs};
 ghost use Rattle.der_lines.specs.Steps.{IsStart, IsWholeDump, earlier_fault, mark_offsets};
 
 use crate::faults::Fault;
+use crate::header::holds_encodings;
 use crate::leaf::Meaning;
-use crate::lines::{LineStart, push_line};
+use crate::lines::push_mark;
 use crate::marks::ToldRule;
 use crate::piece::{Kind, Piece};
 use crate::place::{Place, is_too_deep, sum_of};
@@ -15,6 +17,7 @@ use crate::strings::joined_value;
 use crate::values::{ValueStyle, cut_text, opened_text, read_text};
 use crate::walk::Walk;
 use der_names::Names;
+use der_rows::{Printer, Row};
 use std::alloc::{AllocError, Global};
 
 // Where an encoding stands that has a mark, in the document, and which rules the mark tells.
@@ -67,17 +70,17 @@ impl Found {
     }
 }
 
-// Puts the lines of octets, and gives what is wrong with them.
+// Prints the rows of octets, and gives what is wrong with them.
 #[cycle(encodings)]
 pub fn push_encodings(
     alloc: Global,
     names: &Names,
     octets: &[u8],
     place: Place,
-    out: &mut Vec<u8>,
+    printer: &mut Printer,
 ) -> Result<Found, AllocError>
     requires { place.is_inside ≡ false → (place.base ≡ 0) × (place.depth ≡ 0) }
-    ensures { IfOk result (λ found. Adds (IsWholeDump place octets.now found) out.old.items out.new.items) }
+    ensures { IfOk result (λ found. IsPrinted (IsWholeDump place octets.now found) printer.old printer.new) }
 {
     let mut found = Found {
         fault: None,
@@ -85,95 +88,132 @@ pub fn push_encodings(
     };
     let mut walk = Walk::over(alloc, octets, place)?;
     while let Some(piece) = walk.next(alloc)? {
-        let inside = push_piece(alloc, names, &piece, out)?;
+        let inside = push_piece(alloc, names, &piece, printer)?;
         found.keep(alloc, piece, inside)?;
     }
     Ok(found)
 }
 
-// Puts the line of a piece, and those of encodings inside its contents octets, and gives the marks of these.
+// Prints the row of a piece, and those of encodings inside its contents octets, and gives the marks of these.
 #[cycle(encodings)]
 fn push_piece(
     alloc: Global,
     names: &Names,
     piece: &Piece<'_>,
-    out: &mut Vec<u8>,
+    printer: &mut Printer,
 ) -> Result<Vec<Marked>, AllocError>
     requires { IfSome piece.now.nested (λ _. 0 < piece.now.place.documents) }
     ensures { IfOk result (λ marks. (left : List ℕ)
         → IsHolding left piece.now.kind piece.now.place piece.now.nested
-        → Adds (IsPieceDump left piece.now (mark_offsets marks.items)) out.old.items out.new.items) }
+        → IsPrinted (IsPieceDump left piece.now (mark_offsets marks.items)) printer.old printer.new) }
 {
     let words = piece.words(alloc)?;
-    let said = said_of(alloc, names, piece)?;
-    push_start(alloc, piece, &words, &said, out)?;
-    push_nested(alloc, names, piece, out)
+    let shown = shown_of(alloc, names, piece)?;
+    push_row(alloc, piece, &words, &shown, printer)?;
+    push_nested(alloc, names, piece, printer)
 }
 
-// Puts the line, unless it stands too deep.
-fn push_start(
+// Prints the row, unless it stands too deep. On a page its element has the class of what is wrong exactly if something
+// is wrong with the piece.
+fn push_row(
     alloc: Global,
     piece: &Piece<'_>,
     words: &str,
-    said: &str,
-    out: &mut Vec<u8>,
+    shown: &Shown,
+    printer: &mut Printer,
 ) -> Result<(), AllocError>
-    requires { words.now ≡ kind_words piece.now.kind }
-    ensures { OnOk result (Adds (IsStart piece.now.place (shown_front piece.now)) out.old.items out.new.items) }
+    requires words { words.now ≡ kind_words piece.now.kind }
+    requires fault { is_some shown.now.fault ≡ is_some piece.now.fault }
+    ensures { OnOk result (IsPrintedAs (row_faults piece.now) (IsStart piece.now.place (shown_front piece.now))
+        printer.old printer.new) }
 {
     let place = piece.place;
     if is_too_deep(place.most_depth, place.depth) {
         return Ok(());
     }
-    let start = LineStart {
+    let mut mark = Vec::new(alloc);
+    push_mark(alloc, &piece.breaches, &mut mark)?;
+    let row = Row {
         offset: piece.document_offset()?,
         header: piece.header_size(),
         contents: piece.contents_size(),
         is_indefinite: piece.is_indefinite(),
         depth: place.depth,
+        is_inside: place.is_inside,
+        has_rows_inside: has_rows_inside(piece),
         words,
-        breaches: &piece.breaches,
+        value: &shown.value,
+        fault: shown.fault.as_deref(),
+        mark: &mark,
     };
-    push_line(alloc, place.is_inside, start, said, out)
+    printer.push(&row)?;
+    Ok(())
 }
 
-// Puts the lines of encodings inside contents octets, if there are any, and gives their marks.
+// Whether rows of what stands inside a piece follow its own.
+fn has_rows_inside(piece: &Piece<'_>) -> bool {
+    let place = piece.place;
+    if is_too_deep(place.most_depth, place.depth.saturating_add(1)) {
+        return false;
+    }
+    match &piece.kind {
+        Kind::EndOfContents(_) | Kind::Unreadable(_) => false,
+        Kind::Cut(header, contents) | Kind::Opened(header, contents) => {
+            holds_encodings(header) && (header.is_indefinite || !contents.is_empty())
+        }
+        Kind::Leaf(_, _, _) => piece.nested.is_some(),
+    }
+}
+
+// Prints the rows of encodings inside contents octets, if there are any, and gives their marks.
 #[cycle(encodings)]
 fn push_nested(
     alloc: Global,
     names: &Names,
     piece: &Piece<'_>,
-    out: &mut Vec<u8>,
+    printer: &mut Printer,
 ) -> Result<Vec<Marked>, AllocError>
     requires { IfSome piece.now.nested (λ _. 0 < piece.now.place.documents) }
     ensures { IfOk result (λ marks. (left : List ℕ)
         → IsHolding left piece.now.kind piece.now.place piece.now.nested
-        → Adds (IsNestedDump left piece.now (mark_offsets marks.items)) out.old.items out.new.items) }
+        → IsPrinted (IsNestedDump left piece.now (mark_offsets marks.items)) printer.old printer.new) }
 {
     let Some(nested) = piece.nested else {
         return Ok(Vec::new(alloc));
     };
     let offset = sum_of(piece.document_offset()?, piece.header_size())?;
     let inside = piece.place.inside(sum_of(offset, nested.before)?)?;
-    let found = push_encodings(alloc, names, nested.octets, inside, out)?;
+    let found = push_encodings(alloc, names, nested.octets, inside, printer)?;
     Ok(found.marks)
 }
 
-// What is said of a piece, behind its words.
-fn said_of(alloc: Global, names: &Names, piece: &Piece<'_>) -> Result<String, AllocError> {
+// What is shown of a piece behind its type: its value, and what is wrong with it.
+#[derive(Drop)]
+struct Shown {
+    value: String,
+    fault: Option<String>,
+}
+
+fn shown_of(alloc: Global, names: &Names, piece: &Piece<'_>) -> Result<Shown, AllocError>
+    ensures { IfOk result (λ shown. is_some shown.fault ≡ is_some piece.now.fault) }
+{
+    Ok(Shown {
+        value: value_text(alloc, names, piece)?,
+        fault: fault_text(alloc, piece)?,
+    })
+}
+
+// The value of a piece, as it stands behind its type.
+fn value_text(alloc: Global, names: &Names, piece: &Piece<'_>) -> Result<String, AllocError> {
     let place = piece.place;
     match &piece.kind {
-        Kind::EndOfContents(0) => String::from_str(alloc, " is missing (Incomplete)"),
-        Kind::EndOfContents(_) => Ok(String::new(alloc)),
-        Kind::Unreadable(octets) => wrong_text(alloc, octets, piece),
-        Kind::Cut(header, contents) => cut_text(alloc, header, contents, place.is_full),
+        Kind::EndOfContents(_) | Kind::Cut(_, _) => Ok(String::new(alloc)),
+        Kind::Unreadable(octets) => octets_text(alloc, octets, place.is_full),
         Kind::Opened(header, contents) => {
             let joined = joined_value(alloc, names, header, contents, place)?;
-            let mut said = opened_text(alloc, header, place.role(header), joined.as_deref())?;
-            write_fault(&mut said, &piece.fault)?;
-            Ok(said)
+            opened_text(alloc, header, place.role(header), joined.as_deref())
         }
-        Kind::Leaf(_, contents, Meaning::Nothing) => wrong_text(alloc, contents, piece),
+        Kind::Leaf(_, contents, Meaning::Nothing) => octets_text(alloc, contents, place.is_full),
         Kind::Leaf(header, contents, meaning) => {
             let style = ValueStyle {
                 is_opened: piece.nested.is_some(),
@@ -185,17 +225,29 @@ fn said_of(alloc: Global, names: &Names, piece: &Piece<'_>) -> Result<String, Al
     }
 }
 
-// Octets, and what is wrong with them.
-fn wrong_text(alloc: Global, octets: &[u8], piece: &Piece<'_>) -> Result<String, AllocError> {
-    let mut said = String::new(alloc);
-    write_after_space(&mut said, octets, piece.place.is_full)?;
-    write_fault(&mut said, &piece.fault)?;
-    Ok(said)
+fn octets_text(alloc: Global, octets: &[u8], is_full: bool) -> Result<String, AllocError> {
+    let mut text = String::new(alloc);
+    write_after_space(&mut text, octets, is_full)?;
+    Ok(text)
 }
 
-fn write_fault(out: &mut String, fault: &Option<Fault>) -> Result<(), AllocError> {
-    if let Some(fault) = fault {
-        write!(out, ": {}", fault.words)?;
+// What is wrong with a piece, as it stands behind its value.
+fn fault_text(alloc: Global, piece: &Piece<'_>) -> Result<Option<String>, AllocError>
+    ensures { IfOk result (λ text. is_some text ≡ is_some piece.now.fault) }
+{
+    let Some(fault) = &piece.fault else {
+        return Ok(None);
+    };
+    let text = wrong_text(alloc, piece, fault)?;
+    Ok(Some(text))
+}
+
+fn wrong_text(alloc: Global, piece: &Piece<'_>, fault: &Fault) -> Result<String, AllocError> {
+    match &piece.kind {
+        Kind::EndOfContents(_) => String::from_str(alloc, " is missing (Incomplete)"),
+        Kind::Cut(header, contents) => cut_text(alloc, header, contents, piece.place.is_full),
+        Kind::Unreadable(_) | Kind::Opened(_, _) | Kind::Leaf(_, _, _) => {
+            format!(in alloc; ": {}", fault.words)
+        }
     }
-    Ok(())
 }

@@ -2,12 +2,14 @@
 ghost use Rattle.std.specs.Prelude.{◌≢◌, IfOk, OnOk};
 ghost use Rattle.asn1_headers.specs.Fault.{fault_of};
 ghost use Rattle.asn1_headers.specs.declared.error.ASN1DecodeErr.TheVariants.{OutOfMemory};
-ghost use Rattle.der_lines.specs.Dump.{Adds, IsFaultLine, IsLine};
+ghost use Rattle.der_lines.specs.Dump.{IsFaultLine, IsLine};
 ghost use Rattle.der_lines.specs.Pieces.{IsNamed};
+ghost use Rattle.der_rows.specs.Printing.{IsPrinted};
 
 use crate::lines::push_fault;
 use crate::scalars::{write_after_space, write_quoted};
 use asn1_headers::error::ASN1DecodeErr;
+use der_rows::Printer;
 use std::alloc::{AllocError, Global};
 use std::str;
 use std::str::Utf8Error;
@@ -56,7 +58,7 @@ pub fn leaf_fault(
     }
 }
 
-/// Puts the line of a fault: its offset, and what it is in words.
+/// Prints the line of a fault: its offset, and what it is in words.
 ///
 /// # Errors
 /// Memory ran out.
@@ -64,12 +66,12 @@ pub fn push_fault_line(
     alloc: Global,
     offset: usize,
     fault: &ASN1DecodeErr,
-    out: &mut Vec<u8>,
+    printer: &mut Printer,
 ) -> Result<(), AllocError>
-    ensures { OnOk result (Adds (IsLine (IsFaultLine offset)) out.old.items out.new.items) }
+    ensures { OnOk result (IsPrinted (IsLine (IsFaultLine offset)) printer.old printer.new) }
 {
     let words = fault_words(alloc, fault)?;
-    push_fault(offset, words.as_bytes(), out)
+    push_fault(offset, words.as_bytes(), printer)
 }
 
 // What is wrong with contents octets of a type of class Universal, in words, and the name of the fault.

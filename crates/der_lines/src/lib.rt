@@ -1,6 +1,6 @@
-//! The lines of DER documents, for people: one for each block, in tree order.
+//! The rows of DER documents, for people: one for each block, in tree order.
 //!
-//! [`push_document`] puts the lines of a document at the end of what is written, in a [`Style`]:
+//! [`push_document`] prints the rows of a document by a `Printer` of `der_rows`, in a [`Style`]. As lines they are:
 //!
 //! ```text
 //!       0  2       6  SEQUENCE
@@ -17,9 +17,9 @@
 //! line, and the first fault again on the last line, which begins with `!`; what came of it is the [`Verdict`]. Where
 //! the library reads otherwise than X.690, on purpose, lines show what X.690 has. What breaks a rule of DER has a mark
 //! at the end of its line, with the rules that `asn1_departures` finds, and [`push_strict_document`] lists it.
-//! [`push_fault_line`] puts the line of a fault that others find.
+//! [`push_fault_line`] prints the line of a fault that others find.
 //!
-//! [`push_label`] and [`push_refusal`] put the other lines of what is written: `=` and the label of a document, `!` and
+//! [`push_label`] and [`push_refusal`] print the other lines: `=` and the label of a document, `!` and
 //! why there is none. [`block_at`] finds a block by its offset, and [`behind_header`] its contents octets.
 //!
 //! The modules are for `der_json`, which goes over the same pieces, and says of them what lines say.

@@ -1,6 +1,7 @@
 // What is put of a document that is too long for a row, of a label on two lines, and of half a header.
 use der_lines::{Style, behind_header, push_document, push_label};
 use der_names::Names;
+use der_rows::{Look, Printer};
 use std::alloc::Global;
 use std::test::Fail;
 
@@ -47,9 +48,10 @@ fn a_long_sequence_is_shown_once(rt: HostRuntime) -> Result<(), Fail> {
         ([0x30, 0x80], FIRST_OF_OTHERS, NO_END, 33_004),
     ] {
         let octets = sequence_of_nulls(alloc, last)?;
-        let mut out = Vec::new(alloc);
-        push_label(alloc, b"A", &mut out)?;
-        push_document(alloc, &names, Style::default(), &octets, &mut out)?;
+        let mut printer = Printer::behind(alloc, Look::Plain, Vec::new(alloc));
+        push_label(alloc, b"A", &mut printer)?;
+        push_document(alloc, &names, Style::default(), &octets, &mut printer)?;
+        let out = printer.finish()?;
         assert!(rt; out.starts_with(beginning));
         assert!(rt; out.ends_with(ending));
         assert_eq!(rt; out.iter().filter(|octet| **octet == b'\n').count(), lines);
@@ -60,9 +62,9 @@ fn a_long_sequence_is_shown_once(rt: HostRuntime) -> Result<(), Fail> {
 #[test]
 fn a_label_is_one_line(rt: HostRuntime) -> Result<(), Fail> {
     let alloc = rt.alloc();
-    let mut out = Vec::new(alloc);
-    push_label(alloc, b"A\nB", &mut out)?;
-    assert_eq!(rt; out.as_slice(), b"= A\\nB\n".as_slice());
+    let mut printer = Printer::behind(alloc, Look::Plain, Vec::new(alloc));
+    push_label(alloc, b"A\nB", &mut printer)?;
+    assert_eq!(rt; printer.out.as_slice(), b"= A\\nB\n".as_slice());
     assert_eq!(rt; behind_header(alloc, &[0x30])?, None);
     Ok(())
 }

@@ -1,7 +1,7 @@
 -- For `paint::push_painted`: what it returns is right.
 use Rattle.std.proofs.Common.{◌≡◌, ◌++◌, arith}
 use Rattle.std.proofs.lemmas.Grind.{common_steps}
-use Rattle.der_color.proofs.Painted.{none_painted, painted}
+use Rattle.der_color.proofs.Painted.{painted}
 use Rattle.der_color.specs.Paints.{sequence}
 use Rattle.der_color.specs.declared.paint.Paint.TheVariants.{Plain}
 use Rattle.der_color.proofs.paint.push_painted.Goals as goal
@@ -15,7 +15,3 @@ returns c =
     let first : b ≡ a ++ sequence c.args.paint = grind (arith, common_steps) in
     let last : e ≡ d ++ sequence Plain = grind (arith, common_steps) in
     painted c.args.paint c.args.text.now a b d e first c.in_ok-extend_from_slice-2.ensures.items last
-
-pub returns-then-is_empty : goal.returns-then-is_empty
-returns-then-is_empty c =
-    none_painted c.args.text.now c.args.out.now.items (grind (arith, common_steps))

@@ -1,9 +1,10 @@
--- For `document::push_marks`: its loop keeps its invariant.
 use Rattle.std.proofs.Common.{◌≡◌, ◌+◌, [], ◌∷◌, ◌++◌, ap, subst, sym, take, ◌∙◌}
 use Rattle.std.proofs.lemmas.List.{map-append, take_more}
-use Rattle.der_lines.specs.Dump.{Adds, AreFaultLines}
+use Rattle.der_lines.specs.Dump.{AreFaultLines}
+use Rattle.der_rows.proofs.Printed.{printed_both}
+use Rattle.der_rows.specs.Printing.{IsPrinted}
 use Rattle.der_lines.specs.Steps.{mark_offsets}
-use Rattle.der_lines.proofs.Dumps.{adds_both, fault_line, fault_lines_join}
+use Rattle.der_lines.proofs.Dumps.{fault_line, fault_lines_join}
 use Rattle.der_lines.proofs.document.push_marks.Goals as goal
 
 pub loop-mark-preserved : goal.loop-mark-preserved
@@ -15,10 +16,9 @@ loop-mark-preserved c =
     ap mark_offsets (take_more marks i mark c.loop-mark-test.true
     ∙ ap (λ z. take i marks ++ z ∷ []) (sym c.mark-item.is))
     ∙ map-append (λ m. m.offset) (take i marks) (mark ∷ []) in
-    subst (λ z. Adds (AreFaultLines z) c.args.out.now.items c.push_mark_line.new.out.items) (sym more)
-    (adds_both _ _ (AreFaultLines (mark_offsets (take i marks) ++ mark.offset ∷ [])) c.args.out.now.items
-    c.loop-mark.out.items
-    c.push_mark_line.new.out.items
+    subst (λ z. IsPrinted (AreFaultLines z) c.args.printer.now c.push_mark_line.new.printer) (sym more)
+    (printed_both _ _ (AreFaultLines (mark_offsets (take i marks) ++ mark.offset ∷ [])) c.args.printer.now c.loop-mark.printer
+    c.push_mark_line.new.printer
     (λ text line lines last. fault_lines_join (mark_offsets (take i marks)) (mark.offset ∷ []) text line lines
     (fault_line mark.offset line last))
     c.loop-mark.invariant c.in_ok-push_mark_line.ensures)

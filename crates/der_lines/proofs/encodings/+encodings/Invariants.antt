@@ -1,6 +1,6 @@
 -- For the cycle `encodings` of `encodings`: what each turn of its loop keeps and what grows less, so that it ends.
 use Rattle.std.proofs.Common.{◌+◌, ◌*◌}
-use Rattle.der_lines.specs.Dump.{Adds}
+use Rattle.der_rows.specs.Printing.{IsPrinted}
 use Rattle.der_lines.specs.Steps.{mark_offsets, to_go}
 use Rattle.der_lines.proofs.Fronts.{ShownTo}
 use Rattle.der_lines.proofs.encodings.+encodings.Given as goal
@@ -17,8 +17,7 @@ decreases-push_encodings l = 3 * l.place.documents + 2
 -- the lines of the pieces before the walk were put
 abbrev pub invariant-push_encodings-loop-walk : goal.invariant-push_encodings-loop-walk
 invariant-push_encodings-loop-walk l =
-    Adds (ShownTo l.fn.place l.fn.octets l.walk l.found.fault (mark_offsets l.found.marks.items)) l.fn.out.items
-    l.out.items
+    IsPrinted (ShownTo l.fn.place l.fn.octets l.walk l.found.fault (mark_offsets l.found.marks.items)) l.fn.printer l.printer
 
 abbrev pub decreases-push_encodings-loop-walk : goal.decreases-push_encodings-loop-walk
 decreases-push_encodings-loop-walk l = to_go l.walk.cursor

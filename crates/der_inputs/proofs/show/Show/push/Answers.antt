@@ -2,7 +2,7 @@
 use Rattle.der_inputs.proofs.show.Show.push.Goals as goal
 
 pub returns-in-Lines : goal.returns-in-Lines
-returns-in-Lines c = rw c.in-Lines.is c.push_lines.ensures
+returns-in-Lines c = rw c.in-Lines.is c.push_as_lines.ensures
 
 pub returns-in-Json : goal.returns-in-Json
 returns-in-Json c = rw c.in-Json.is c.push_json.ensures

@@ -1,10 +1,15 @@
--- For `show::Show::push_label_of`: what it returns is right.
+use Rattle.std.proofs.Common.{refl}
 use Rattle.std.proofs.lemmas.Result.{on_ok_weaker}
-use Rattle.der_inputs.proofs.Lower.{title_pushed}
+use Rattle.der_rows.proofs.Printed.{printed_none}
+use Rattle.der_inputs.proofs.Lower.{title_printed}
 use Rattle.der_inputs.proofs.show.Show.push_label_of.Goals as goal
 
 pub returns-in-Some : goal.returns-in-Some
 returns-in-Some c =
     rw c.in-Some.is
     (on_ok_weaker c.push_label.result
-    (title_pushed c.in-Some.label.items c.deref.result.now _ _ c.deref.ensures.value) c.push_label.ensures)
+    (title_printed c.in-Some.label.items c.deref.result.now c.args.printer.now c.push_label.new.printer c.deref.ensures.value)
+    c.push_label.ensures)
+
+pub returns-in-None : goal.returns-in-None
+returns-in-None c = rw c.in-None.is (printed_none _ c.args.printer.now refl)

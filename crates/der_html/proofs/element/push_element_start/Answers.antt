@@ -1,0 +1,9 @@
+use Rattle.std.proofs.Common.{◌∷◌, []}
+use Rattle.der_html.proofs.Shown.{then_markup}
+use Rattle.der_html.proofs.element.push_element_start.Goals as goal
+
+pub returns : goal.returns
+returns c =
+    let faults = c.args.element.is_fault ∷ [] in
+    then_markup faults [] [] _ _ _ (then_markup faults [] [] _ _ _ c.in_ok-push_start.ensures c.in_ok-push_columns.ensures)
+    c.in_ok-push_markup.ensures

@@ -1,7 +1,0 @@
--- For `section::close_folds`: its loop keeps its invariant.
-use Rattle.std.proofs.Common.{[]}
-use Rattle.der_html.proofs.Shown.{markup_then}
-use Rattle.der_html.proofs.section.close_folds.Goals as goal
-
-pub loop-last-preserved : goal.loop-last-preserved
-loop-last-preserved c = markup_then [] [] _ _ _ c.loop-last.invariant c.in_ok-push_markup.ensures

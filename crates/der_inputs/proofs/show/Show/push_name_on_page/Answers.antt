@@ -1,0 +1,10 @@
+use Rattle.std.proofs.Common.{[], ◌∙◌, ap, refl}
+use Rattle.der_inputs.proofs.Lower.{section_printed}
+use Rattle.der_inputs.proofs.show.Show.push_name_on_page.Goals as goal
+
+pub returns : goal.returns
+returns c =
+    section_printed _ c.behind-printer.result c.push_title.new.printer [] [] c.args.out.now.items
+    c.push_section_start.new.out.items _ c.push_section_end.new.out.items c.in_ok-push_section_start.ensures
+    c.behind-printer.ensures.look (c.behind-printer.ensures.out ∙ ap (λ z. z.items) c.replace-written.ensures.value)
+    c.in_ok-push_title.ensures c.in_ok-out.ensures refl c.in_ok-push_section_end.ensures

@@ -1,0 +1,42 @@
+use Rattle.std.proofs.Common.{◌≡◌, ◌∙◌, ◌∷◌, [], ◌++◌, ap, refl, subst, sym}
+use Rattle.std.specs.Option.{is_some}
+use Rattle.der_lines.specs.Dump.{is_too_deep}
+use Rattle.der_lines.specs.Marks.{mark_text, told_rules}
+use Rattle.der_lines.specs.Pieces.{shown_front}
+use Rattle.der_lines.proofs.Dumps.{nothing_deep, row_line_of, row_printed}
+use Rattle.der_rows.specs.Printing.{Prints}
+use Rattle.der_rows.specs.Rows.{row_line}
+use Rattle.der_rows.specs.declared.row.Row.{Row}
+use Rattle.der_lines.proofs.encodings.push_row.Goals as goal
+
+pub returns-then-is_too_deep : goal.returns-then-is_too_deep
+returns-then-is_too_deep c =
+    let place = c.args.piece.now.place in
+    nothing_deep (is_too_deep place.most_depth place.depth) place.is_inside (shown_front c.args.piece.now)
+    (is_some c.args.piece.now.fault ∷ []) c.args.printer.now (sym c.is_too_deep.ensures ∙ c.if-is_too_deep.true)
+
+pub returns : goal.returns
+returns c =
+    let piece = c.args.piece.now in
+    let place = piece.place in
+    let row : Row = record {
+      offset = c.in_ok-document_offset.field-0;
+      header = c.header_size.result;
+      contents = c.contents_size.result;
+      is_indefinite = c.is_indefinite.result;
+      depth = place.depth;
+      is_inside = place.is_inside;
+      has_rows_inside = c.has_rows_inside.result;
+      words = c.args.words;
+      value = c.deref.result;
+      fault = c.as_deref.result;
+      mark = c.deref-2.result;
+    } in
+    let fault : is_some row.fault ≡ is_some piece.fault = c.as_deref.ensures.variant ∙ c.requires.fault in
+    let text = mark_text (told_rules piece.breaches.rules.items piece.breaches.has_spare_bits) in
+    let mark = c.deref-2.ensures.value ∙ (c.in_ok-push_mark.ensures ∙ ap (λ z. z ++ text) c.new-mark.ensures.items) in
+    row_printed (is_too_deep place.most_depth place.depth) place.is_inside row (shown_front piece) (is_some piece.fault ∷ [])
+    c.args.printer.now c.push.new.self (sym c.is_too_deep.ensures ∙ c.if-is_too_deep.false)
+    (subst (λ z. Prints (z ∷ []) (row_line row ++ 10 ∷ []) c.args.printer.now c.push.new.self) fault c.in_ok-push.ensures)
+    (row_line_of place.is_inside row (shown_front piece) refl c.in_ok-document_offset.ensures c.header_size.ensures
+    c.contents_size.ensures c.is_indefinite.ensures refl c.requires.words mark)

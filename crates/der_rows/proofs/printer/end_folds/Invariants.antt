@@ -1,0 +1,9 @@
+use Rattle.std.proofs.Common.{[], length}
+use Rattle.der_html.specs.Page.{Shows}
+use Rattle.der_rows.proofs.printer.end_folds.Given as goal
+
+abbrev pub invariant-loop-last : goal.invariant-loop-last
+invariant-loop-last l = Shows [] [] [] l.fn.out.items l.out.items
+
+abbrev pub decreases-loop-last : goal.decreases-loop-last
+decreases-loop-last l = length l.folds.items

@@ -1,0 +1,69 @@
+-- The lines of rows.
+use Rattle.std.specs.Prelude.{◌≢◌, ◌==◌, ℕ, ◌-◌, ◌*◌, Bool, true, false, List, [], ◌∷◌, ◌++◌, All, codes, decimal}
+use Rattle.std.specs.Prelude.{if◌then◌else◌, length, map, min, replicate, unwrap_or}
+use Rattle.std.specs.Option.{option_map}
+use Rattle.der_io.specs.Characters.{colon, equals_sign, exclamation_mark, greater_than_sign, line_feed, space}
+use Rattle.der_rows.specs.declared.line.NoteKind.{NoteKind}
+use Rattle.der_rows.specs.declared.line.NoteKind.TheVariants.{Error, Title}
+use Rattle.der_rows.specs.declared.row.Row.{Row}
+
+-- no line feed, which ends a line
+abbrev pub IsOneLine : List ℕ → Type 0
+IsOneLine text = All (λ b. b ≢ line_feed) text
+
+-- the text with a space in the place of each line feed
+abbrev pub on_one_line : List ℕ → List ℕ
+on_one_line text = map (λ b. if b == line_feed then space else b) text
+
+-- a number in decimal, with spaces before it where it has fewer digits than the width
+abbrev pub right_of : ℕ → ℕ → List ℕ
+right_of width n = replicate (width - length (decimal n)) space ++ decimal n
+
+-- two spaces a level, for 40 levels at most
+abbrev pub indentation : ℕ → List ℕ
+indentation depth = replicate (2 * min depth 40) space
+
+-- the offset on the right of seven columns, the first of which is `>` inside octets of a string
+abbrev pub offset_column : Bool → ℕ → List ℕ
+offset_column true offset = greater_than_sign ∷ right_of 6 offset
+offset_column false offset = right_of 7 offset
+
+-- the size of the contents octets as a line has it, on the right of seven columns: a number, or `inf` where the length
+-- is of the indefinite form
+abbrev pub contents_column : Bool → ℕ → List ℕ
+contents_column true contents = replicate 4 space ++ codes "inf"
+contents_column false contents = right_of 7 contents
+
+-- the offset, the sizes of header and contents octets, and spaces for the depth
+abbrev pub columns_text : Row → List ℕ
+columns_text row =
+    offset_column row.is_inside row.offset ++ (space ∷ [] ++ (right_of 2 row.header ++ (space ∷ []
+    ++ (contents_column row.is_indefinite row.contents ++ (space ∷ space ∷ [] ++ indentation row.depth)))))
+
+-- what is wrong with it in words, if anything is
+abbrev pub fault_words : Row → List ℕ
+fault_words row = unwrap_or (option_map (λ words. words.now) row.fault) []
+
+-- the line of a row: its columns, its type, its value, what is wrong with it, and what of DER it breaks
+abbrev pub row_line : Row → List ℕ
+row_line row =
+    columns_text row ++ (row.words.now ++ (on_one_line row.value.now ++ (on_one_line (fault_words row) ++ row.mark.now)))
+
+-- the octet that the line of a note begins with
+abbrev pub note_mark : NoteKind → ℕ
+note_mark Title = equals_sign
+note_mark Error = exclamation_mark
+
+-- the line of a note: its mark, a space, and the text
+abbrev pub note_line : NoteKind → List ℕ → List ℕ
+note_line kind text = note_mark kind ∷ space ∷ on_one_line text
+
+-- it says that something is wrong
+abbrev pub is_error : NoteKind → Bool
+is_error Title = false
+is_error Error = true
+
+-- the line of a fault at an offset, in words
+abbrev pub fault_line : ℕ → List ℕ → List ℕ
+fault_line offset words =
+    codes "! error at offset " ++ (decimal offset ++ (colon ∷ [] ++ (space ∷ [] ++ on_one_line words)))
