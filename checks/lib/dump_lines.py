@@ -105,7 +105,7 @@ PADDED = {"rule": "PaddedInteger", "section": "8.3.2", "text": "number not in th
 INDEFINITE = {"rule": "IndefiniteLength", "section": "10.1", "text": "indefinite length"}
 REFUSED = [
     *(((3, name), MISSING) for name in MEMBERS),
-    ((3, "other"), 1),
+    ((3, "other"), 1), ((3, "octets"), "04b0"), ((14, "octets"), "31"), ((25, "octets"), "31"),
     *(((3, name), it) for name in ("offset", "header", "size", "depth") for it in ("3", -1, 1.5, None, True)),
     ((3, "class"), "Universal"), ((3, "class"), None), ((3, "class"), "private"),
     ((3, "constructed"), 0), ((3, "constructed"), None), ((3, "header"), 0), ((3, "header"), 1), ((3, "size"), 1),
@@ -117,7 +117,7 @@ REFUSED = [
     ((4, "value"), "0ABC"), ((4, "value"), "0ab"), ((4, "value"), None), ((5, "value"), ""),
     ((6, "value"), "3.1"), ((6, "value"), "2.01"), ((6, "value"), "2"), ((7, "value"), 1), ((8, "value"), None),
     ((9, "value"), "2050-11-23T00:43:05Z"), ((9, "value"), "2026-11-23 00:43:05"),
-    ((10, "value"), "2026-11-23T00:43:05.50Z"), ((11, "constructed"), False), ((11, "value"), "0500"),
+    ((10, "value"), "2026-11-23T00:43:05.Z"), ((11, "constructed"), False), ((11, "value"), "0500"),
     ((13, "value"), "5"), ((13, "value"), 1.5), ((14, "value"), 1), ((14, "value"), None), ((15, "not_der"), None),
     ((15, "not_der"), ["padded"]), ((15, "not_der"), [INDEFINITE]),
     ((15, "not_der"), []), ((15, "not_der"), "padded"), ((15, "not_der", 0, "section"), MISSING),
@@ -129,7 +129,8 @@ REFUSED = [
     ((21, "blocks"), []), ((21, "blocks"), {}), ((21, "blocks", 0, "value"), ""), ((21, "blocks", 0, "type"), MISSING),
     ((21, "constructed"), True), ((21, "fault"), {"offset": 0, "text": ""}), ((22, "blocks"), [{}]),
     ((22, "name"), ""), ((22, "name"), 1), ((2, "name"), "five"), ((7, "shown"), "A"), ((2, "shown"), ""),
-    ((23, "value"), 0), ((23, "value"), ""), ((24, "value"), 1985), ((24, "type"), None), ((24, "type"), "TIME"), ((25, "value"), "1"),
+    ((23, "value"), 0), ((23, "value"), ""), ((24, "value"), 1985), ((24, "type"), None), ((24, "type"), "TIME"),
+    ((25, "value"), "1"),
 ]
 # so of a line with each fault, the block of which is: malformed, primitive and of indefinite length, of no header, cut
 # short, and without its end
@@ -143,7 +144,8 @@ REFUSED_FAULTS = [
     *(((row, "fault", "code"), "InvalidDateValue") for row in (1, 2, 4, 5, 6, 7)),
     *(((row, "fault", "code"), MISSING) for row in (1, 4, 5, 6, 7)),
     *(((row, "blocks"), [{}]) for row in (1, 2, 4, 5, 6, 7)),
-    ((1, "value"), True), ((1, "value"), None), ((1, "shown"), "00ff"), ((1, "constructed"), True),
+    ((1, "value"), True), ((1, "value"), "00ff"), ((1, "shown"), "00ff"), ((1, "constructed"), True),
+    ((1, "octets"), MISSING), ((1, "octets"), "00f"), ((5, "octets"), "030441"),
     ((2, "value"), ""), ((2, "constructed"), True), ((2, "not_der"), MISSING), ((2, "not_der"), [PADDED]),
     ((4, "value"), ""), ((4, "value"), None), ((4, "header"), 1), ((4, "size"), 0), ((4, "size"), None),
     ((4, "class"), "universal"), ((4, "constructed"), False), ((4, "tag"), 5), ((4, "type"), "NULL"),
@@ -285,7 +287,7 @@ def check_told(documents, lines, strict):
     good = 0
     for octets, read, strictly in zip(documents, lines, strict, strict=True):
         rows = read[0].get("blocks", [])
-        marks = [{"offset": row["offset"], "text": row["not_der"]} for row in rows if "not_der" in row]
+        marks = [{"offset": row["offset"], **it} for row, _ in all_rows(rows) for it in row.get("not_der", [])]
         faults = [{"fault": row["fault"]} for row in rows if "fault" in row][:1]
         listed = [{"not_der": marks}] if marks else []
         if rows and (read[1:] != faults or strictly != [read[0], *listed, *faults]):
@@ -314,25 +316,19 @@ def has_canonical_reals(octets, rows):
     return all(is_canonical_real(octets[start:end]) for start, end in ends)
 
 
-def has_short_fractions(rows):
-    """Of a fraction of a second JSON has nine digits."""
-    return all(row["size"] - row["header"] <= len("19910525000000.123456789Z") for row in rows
-               if row["type"] == "GeneralizedTime" and not row["constructed"])
-
-
-# of what is not DER, what rows tell
+# rules of DER that rows tell all of where they are broken
 TOLD_MARKS = {
-    "indefinite length", "must be primitive", "must be constructed", "elements out of order", "unused bits set",
-    "no count of unused bits", "more than 7 unused bits",
+    "IndefiniteLength", "NotPrimitive", "NotConstructed", "ConstructedString", "Order", "UnusedBits", "UnusedCount",
+    "Characters", "NamedBits",
 }
 
 
 def tells_all(octets, rows):
     """Whether rows tell all octets of their document: it is canonical, or BER in what they tell."""
-    marks = {mark for row in rows if "not_der" in row for mark in row["not_der"].split(", ")}
+    marks = {it["rule"] for row in rows for it in row.get("not_der", [])}
     return (
         marks <= TOLD_MARKS and not any("fault" in row for row in rows) and has_canonical_reals(octets, rows)
-        and has_short_fractions(rows) and all(row["tag"] is not None for row in rows)
+        and all(row["tag"] is not None for row in rows)
     )
 
 
@@ -450,7 +446,6 @@ TOLD = [
     (b"05 00 9F 1E 00", "line 1: offset 2: the header has 3 bytes, the shortest has 2"),
     (b"30 03 05 01 00", "line 1: offset 2: NULL has 1 bytes"),
     (b"A0 04 06 02 80 01", "line 1: offset 2: OBJECT IDENTIFIER"),
-    (b"18 11 32 30 32 36 31 31 32 33 30 30 34 33 30 35 2E 30 5A", "line 1: offset 0: GeneralizedTime"),
     (b"18 10 32 30 32 36 31 31 32 33 30 30 34 33 30 35 2E 5A", "line 1: offset 0: GeneralizedTime"),
     (b"0A 02 00 05", "line 1: offset 0: ENUMERATED has 2 bytes of contents, its value makes 1"),
     (b"05 00 04 80", "line 1: offset 2: indefinite length of a primitive element"),

@@ -8,7 +8,7 @@ error that names the block's offset. So are:
 - identifier and length octets, INTEGERs and OBJECT IDENTIFIERs in longer forms than the shortest
 - a tag number of more than 1,024 bytes, also in canonical DER
 - contents of a NULL, and none of an INTEGER
-- fractions of a second that end with 0, have no digits, or more than nine
+- a point of a fraction of a second behind which no digits are
 - a BOOLEAN other than 00 and FF
 - a block with a `fault`: malformed, cut short, without its end, or of no header
 
@@ -110,24 +110,14 @@ def identifier_forms(value):
         yield bytes([front])  # the library reads one octet from 80 on so, which X.690 does not have
 
 
-def text_forms(value):
-    """Characters, or the octets that are none: hex digits, of which there are two an octet."""
-    yield value.encode()
-    if re.fullmatch("([0-9a-f]{2})*", value):
-        yield bytes.fromhex(value)
-
-
 def marked_forms(tag, value):
     """A DATE, a TIME-OF-DAY, a DATE-TIME or a DURATION: its contents leave out marks."""
     yield "".join(it for place, it in enumerate(value) if place not in MARKS[tag]).encode()
-    yield from text_forms(value)
+    yield value.encode()
 
 
 def relative_forms(value):
-    if value.startswith("."):
-        yield b"".join(base128(int(it)) for it in value[1:].split("."))
-    else:
-        yield from text_forms(value)
+    yield b"".join(base128(int(it)) for it in value.split(".")[1:])
 
 
 def real_forms(value):
@@ -141,25 +131,27 @@ def real_forms(value):
         size = bytes([len(exponent)]) if len(exponent) > 3 else b""
         yield bytes([front]) + size + exponent + mantissa.to_bytes((mantissa.bit_length() + 7) // 8, "big")
     yield b"\x03" + value.encode()
-    yield from text_forms(value)
 
 
 def time_forms(value):
     """Both types: 2026-11-23T00:43:05.5Z without the marks, of a UTCTime without the century."""
-    yield re.sub("[-T:]", "", value).encode()
+    date, clock = value.split("T")
+    yield (date.replace("-", "") + clock.replace(":", "")).encode()
 
 
 def forms(row):
     """The contents octets that the value of a block without blocks inside may be, the likeliest first."""
     kind, value = row["type"], row["value"]
-    if kind in ENCODINGS:
+    if "octets" in row:
+        yield bytes.fromhex(row["octets"])
+    elif kind in ENCODINGS:
         yield from (value.encode(it) for it in ENCODINGS[kind])
     elif kind == "BOOLEAN":
         yield b"\xff" if value else b"\x00"
     elif kind in ("INTEGER", "ENUMERATED"):
         yield from long_forms(row) if value is None else integer_forms(value)
     elif kind in TEXTS:
-        yield from text_forms(value)
+        yield value.encode()
     elif kind == "REAL":
         yield from real_forms(value)
     elif kind == "RELATIVE-OID":
@@ -177,7 +169,7 @@ def forms(row):
     elif row["class"] == "universal" and row["tag"] in MARKS:
         yield from marked_forms(row["tag"], value)
     elif row["class"] == "universal" and row["tag"] in IRIS:
-        yield from text_forms(value)
+        yield value.encode()
     else:
         yield bytes.fromhex(value)
 

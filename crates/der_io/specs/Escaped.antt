@@ -1,27 +1,31 @@
 -- Text for a terminal, in which what is no printed character is escaped.
-use Rattle.std.specs.Prelude.{ℕ, ◌/◌, ◌%◌, ◌==◌, ◌||◌, Bool, false, not, nat_le, nat_lt, List, [], ◌∷◌, ◌++◌, codes}
+use Rattle.std.specs.Prelude.{ℕ, ◌/◌, ◌%◌, ◌==◌, ◌&&◌, ◌||◌, Bool, false, not, nat_lt, List, [], ◌∷◌, ◌++◌, codes}
 use Rattle.std.specs.Prelude.{if◌then◌else◌}
 use Rattle.std.specs.Char.{encode_utf8}
 use Rattle.std.specs.Fmt.{digits}
 use Rattle.std.specs.Int.{is_in_range}
 use Rattle.std.specs.Str.{chars, is_utf8}
+use Rattle.ucd_category.specs.GeneralCategory.{general_category, general_category_eq}
+use Rattle.ucd_category.specs.GeneralCategoryGroup.{in_group}
+use Rattle.ucd_category.specs.declared.GeneralCategory.TheVariants.{LineSeparator, ParagraphSeparator}
+use Rattle.ucd_category.specs.declared.GeneralCategoryGroup.TheVariants.{Other}
+use Rattle.ucd_derived.specs.Binary.{is_default_ignorable_code_point}
 use Rattle.der_io.specs.Characters.{backslash, carriage_return, line_feed, quotation_mark, tab}
 
--- a control character, or a hyphen that is shown at the end of a line alone
+-- a control character
 abbrev pub is_control : ℕ → Bool
-is_control c = nat_lt c 0x20 || is_in_range 0x7F 0x9F c || c == 0xAD
+is_control c = nat_lt c 0x20 || is_in_range 0x7F 0x9F c
 
--- one that has no width, or changes the direction of those around it, or ends a line
-abbrev pub is_mark : ℕ → Bool
-is_mark c = is_in_range 0x200B 0x200F c || is_in_range 0x2028 0x202F c || is_in_range 0x2060 0x206F c
-
--- a byte order mark, or one that notes of text or tags have
-abbrev pub is_special : ℕ → Bool
-is_special c = c == 0xFEFF || is_in_range 0xFFF0 0xFFFB c || nat_le 0xE0000 c
+-- a character that a terminal may obey, show as nothing or not know, by its properties in Unicode: General_Category Cc,
+-- Cf, Cs, Co, Cn (group C), Zl or Zp; or Default_Ignorable_Code_Point. Each with Bidi_Control is Cf
+abbrev pub is_invisible : ℕ → Bool
+is_invisible c =
+    in_group Other (general_category c) || general_category_eq (general_category c) LineSeparator
+    || general_category_eq (general_category c) ParagraphSeparator || is_default_ignorable_code_point c
 
 -- the character is shown as it is
 abbrev pub is_shown : ℕ → Bool
-is_shown c = not (is_control c || is_mark c || is_special c)
+is_shown c = not (is_control c) && (nat_lt c 0x80 || not (is_invisible c))
 
 -- what is written for a character that has no letter of its own behind a backslash: the character, or `\u{..}`
 abbrev pub escape_of_other : ℕ → List ℕ

@@ -1,11 +1,21 @@
 // Text for a terminal, in which what is no printed character is escaped.
 ghost use Rattle.std.specs.Prelude.{◌≡◌, ◌++◌, IfOk, OnOk, string_bytes};
-ghost use Rattle.std.specs.Int.{is_in_range};
 ghost use Rattle.std.specs.Str.{chars};
-ghost use Rattle.der_io.specs.Escaped.{all_escaped, escape_of, escape_of_octet, escape_of_other, escaped as escaped_is, is_control as is_control_by, is_mark as is_mark_by, is_shown as is_shown_by, is_special as is_special_by};
+ghost use Rattle.der_io.specs.Escaped.{
+  all_escaped,
+  escape_of,
+  escape_of_octet,
+  escape_of_other,
+  escaped as escaped_is,
+  is_control as is_control_by,
+  is_invisible as is_invisible_by,
+  is_shown as is_shown_by,
+};
 
 use std::alloc::{AllocError, Global};
 use std::str;
+use ucd_category::{GeneralCategory, GeneralCategoryGroup};
+use ucd_derived::is_default_ignorable_code_point;
 
 /// The text of the octets, with control and other unprintable characters escaped; of octets that are not UTF-8, each
 /// above 7F. A terminal that shows it obeys none of its characters.
@@ -87,45 +97,33 @@ fn push_character(c: char, out: &mut String) -> Result<(), AllocError>
 fn push_plain(c: char, out: &mut String) -> Result<(), AllocError>
     ensures { OnOk result (string_bytes out.new ≡ string_bytes out.old ++ escape_of_other c) }
 {
-    let number = c as u32;
-    if is_shown(number) {
+    if is_shown(c) {
         out.push(c)
     } else {
-        write!(out, "\\u{{{number:x}}}")
+        write!(out, "\\u{{{:x}}}", c as u32)
     }
 }
 
-fn is_shown(number: u32) -> bool
-    ensures { result ≡ is_shown_by number }
+fn is_shown(c: char) -> bool
+    ensures { result ≡ is_shown_by c }
 {
-    !(is_control(number) || is_mark(number) || is_special(number))
+    !is_control(c) && (c.is_ascii() || !is_invisible(c))
 }
 
-// Whether it is a control character, or a hyphen that is shown at the end of a line alone.
-fn is_control(number: u32) -> bool
-    ensures { result ≡ is_control_by number }
+fn is_control(c: char) -> bool
+    ensures { result ≡ is_control_by c }
 {
-    number < 0x20 || is_within(0x7F, 0x9F, number) || number == 0xAD
+    let number = c as u32;
+    number < 0x20 || (0x7F <= number && number <= 0x9F)
 }
 
-// Whether it has no width, or changes the direction of those around it, or ends a line.
-fn is_mark(number: u32) -> bool
-    ensures { result ≡ is_mark_by number }
+// Whether a terminal may obey it, show nothing for it, or not know it.
+fn is_invisible(c: char) -> bool
+    ensures { result ≡ is_invisible_by c }
 {
-    is_within(0x200B, 0x200F, number)
-        || is_within(0x2028, 0x202F, number)
-        || is_within(0x2060, 0x206F, number)
-}
-
-// Whether it is a byte order mark, or one that notes of text or tags have.
-fn is_special(number: u32) -> bool
-    ensures { result ≡ is_special_by number }
-{
-    number == 0xFEFF || is_within(0xFFF0, 0xFFFB, number) || 0xE0000 <= number
-}
-
-fn is_within(least: u32, most: u32, number: u32) -> bool
-    ensures { result ≡ is_in_range least most number }
-{
-    least <= number && number <= most
+    let category = GeneralCategory::for_char(c);
+    GeneralCategoryGroup::Other.contains(category)
+        || category == GeneralCategory::LineSeparator
+        || category == GeneralCategory::ParagraphSeparator
+        || is_default_ignorable_code_point(c)
 }

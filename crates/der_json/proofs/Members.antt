@@ -62,6 +62,13 @@ unfolding serde_json_on_literals
 shown_end None others rest e = e
 shown_end (Some t) others rest e = ap (λ z. (codes ",\"shown\":" ++ compact_text (string t)) ++ z) e
 
+octets_end :
+    (words : Option (List ℕ)) (others : Members) (rest : List ℕ) → rest ≡ members_text true others →
+    told_text (codes ",\"octets\":") words ++ rest ≡ members_text true (member_if (codes "octets") words others)
+unfolding serde_json_on_literals
+octets_end None others rest e = e
+octets_end (Some t) others rest e = ap (λ z. (codes ",\"octets\":" ++ compact_text (string t)) ++ z) e
+
 name_end :
     (words : Option (List ℕ)) (others : Members) (rest : List ℕ) → rest ≡ members_text true others →
     told_text (codes ",\"name\":") words ++ rest ≡ members_text true (member_if (codes "name") words others)
@@ -71,23 +78,28 @@ name_end (Some t) others rest e = ap (λ z. (codes ",\"name\":" ++ compact_text 
 
 -- the members that not every object has, and the closing bracket
 others_end :
-    (name shown : Option (List ℕ)) (told : List Told) (fault : Option ToldFault) (inside : Option Items) →
+    (name shown octets : Option (List ℕ)) (told : List Told) (fault : Option ToldFault) (inside : Option Items) →
     (told_text (codes ",\"name\":") name ++ (told_text (codes ",\"shown\":") shown
-    ++ (rules_text told ++ fault_text fault))) ++ (blocks_text inside ++ 125 ∷ [])
+    ++ (told_text (codes ",\"octets\":") octets
+    ++ (rules_text told ++ fault_text fault)))) ++ (blocks_text inside ++ 125 ∷ [])
     ≡ members_text true (member_if (codes "name") name (member_if (codes "shown") shown
-    (rules_if told (fault_if fault (blocks_if inside)))))
-others_end name shown told fault inside =
+    (member_if (codes "octets") octets (rules_if told (fault_if fault (blocks_if inside))))))
+others_end name shown octets told fault inside =
     let end = blocks_text inside ++ 125 ∷ [] in
     let last = fault_end fault (blocks_if inside) end (blocks_end inside) in
+    let rules = rules_if told (fault_if fault (blocks_if inside)) in
     let marked = not_der_end told (fault_if fault (blocks_if inside)) _ last in
-    let beside = shown_end shown (rules_if told (fault_if fault (blocks_if inside))) _ marked in
+    let digits = octets_end octets rules _ marked in
+    let beside = shown_end shown (member_if (codes "octets") octets rules) _ digits in
     let n = told_text (codes ",\"name\":") name in
     let s = told_text (codes ",\"shown\":") shown in
+    let o = told_text (codes ",\"octets\":") octets in
     let d = rules_text told in
     let f = fault_text fault in
-    joined_front n (s ++ (d ++ f)) end (s ++ (d ++ (f ++ end)))
-    (joined_front s (d ++ f) end (d ++ (f ++ end)) (append_assoc d f end))
-    ∙ name_end name (member_if (codes "shown") shown (rules_if told (fault_if fault (blocks_if inside)))) _ beside
+    joined_front n (s ++ (o ++ (d ++ f))) end (s ++ (o ++ (d ++ (f ++ end))))
+    (joined_front s (o ++ (d ++ f)) end (o ++ (d ++ (f ++ end)))
+    (joined_front o (d ++ f) end (d ++ (f ++ end)) (append_assoc d f end)))
+    ∙ name_end name (member_if (codes "shown") shown (member_if (codes "octets") octets rules)) _ beside
 
 nine_front :
     (m0 m1 m2 m3 m4 m5 m6 m7 m8 rest : List ℕ) →
@@ -116,7 +128,7 @@ object_text object inside marks =
     let row = row_of object inside marks in
     nine_front m0 m1 m2 m3 m4 m5 m6 m7 m8 (last_members object ++ (blocks_text inside ++ 125 ∷ []))
     ∙ ap (λ z. m0 ++ (m1 ++ (m2 ++ (m3 ++ (m4 ++ (m5 ++ (m6 ++ (m7 ++ (m8 ++ z)))))))))
-    (others_end row.name row.beside row.not_der row.fault inside)
+    (others_end row.name row.beside row.octets row.not_der row.fault inside)
 
 -- the member of blocks
 pub blocks_put :

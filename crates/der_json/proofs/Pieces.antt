@@ -26,18 +26,18 @@ use Rattle.der_lines.specs.Steps.{header_front}
 use Rattle.der_lines.specs.Pieces.{IsFault, IsKind, IsLeafMeaning, IsMeaning, IsNamed, IsNameless, IsOpenedFault, kind_front}
 use Rattle.der_lines.specs.declared.faults.Fault.{Fault as PieceFault}
 use Rattle.der_lines.specs.declared.leaf.Meaning.{Meaning}
-use Rattle.der_lines.specs.declared.leaf.Meaning.TheVariants.{Nothing, Text, Value}
+use Rattle.der_lines.specs.declared.leaf.Meaning.TheVariants.{Nothing, Text, Time, Value}
 use Rattle.der_lines.specs.declared.piece.Kind.{Kind}
 use Rattle.der_lines.specs.declared.piece.Kind.TheVariants.{Cut, EndOfContents, Leaf, Opened, Unreadable}
 use Rattle.der_lines.proofs.Pieces.{front_encoding}
-use Rattle.der_json.specs.Json.{AreShown, IsJudged, IsOpenedValue, IsRowOf, cut_short, fault_told, in_their_form}
+use Rattle.der_json.specs.Json.{AreShown, IsJudged, as_text, as_time, IsOpenedValue, IsRowOf, cut_short, fault_told, in_their_form}
 use Rattle.der_lines.specs.Segments.{AreSegmentsOf}
 use Rattle.der_json.specs.Json.{of_none, of_segments}
 use Rattle.der_json.specs.Json.{named_fault, of_encoding, of_end, of_stray_form, of_unreadable, with_contents, with_encodings}
 use Rattle.der_json.specs.Json.{Departed, with_no_value, with_value, words_fault}
 use Rattle.asn1_departures.specs.declared.rule.Rule.{Rule}
 use Rattle.der_json.specs.Rows.{IsHeaderTag, IsLeafValueOf, IsMeantValue, IsPieceValue, IsTagOf, kind_size}
-use Rattle.der_json.specs.Rows.{row_of, told_at, wrong_json}
+use Rattle.der_json.specs.Rows.{row_of, told_at, wrong_octets}
 use Rattle.der_json.specs.declared.object.Object.{Object}
 
 pub primitive_of : (class : ASN1Class) (constructed : Bool) (tag : ℕ) → is_gone_into class constructed tag ≡ false →
@@ -100,6 +100,7 @@ meaning_there :
     (fault : Option PieceFault) → IsMeaning class constructed tag contents offset meaning fault →
     IfSome fault (λ f. f.offset ≡ offset)
 meaning_there class constructed tag contents offset (Text form text) fault (wide, none) = there_none offset fault none
+meaning_there class constructed tag contents offset (Time text) fault (time, none) = there_none offset fault none
 meaning_there class constructed tag contents offset Value fault (right, none) = there_none offset fault none
 meaning_there class constructed tag contents offset Nothing fault (u, (found, wrong, is)) =
     there_named offset found fault is
@@ -124,20 +125,20 @@ mapped_some : {A B : Type 0} → (f : A → B) (o : Option A) (y : B) → option
 mapped_some f None y e = absurd (cc e)
 mapped_some f (Some x) y e = refl
 
--- the value of octets that mean nothing
+-- the octets that mean nothing
 wrong_named :
     (offset : ℕ) (found : DecodeFault) (fault : Option PieceFault) (contents : List ℕ) →
-    IsFault (IsNamed offset found) fault → wrong_json fault contents ≡ string (encode_lower contents)
+    IsFault (IsNamed offset found) fault → wrong_octets fault contents ≡ Some (encode_lower contents)
 wrong_named offset found None contents none = absurd none
 wrong_named offset found (Some f) contents (o, code) =
-    ap (λ z. if z then string (encode_lower contents) else null) (mapped_some (λ t. t.now) f.code _ code)
+    ap (λ z. if z then Some (encode_lower contents) else None) (mapped_some (λ t. t.now) f.code _ code)
 
 wrong_nameless :
     (offset : ℕ) (fault : Option PieceFault) (contents : List ℕ) → IsFault (IsNameless offset) fault →
-    wrong_json fault contents ≡ null
+    wrong_octets fault contents ≡ None
 wrong_nameless offset None contents none = absurd none
 wrong_nameless offset (Some f) contents (o, code) =
-    ap (λ z. if is_some z then string (encode_lower contents) else null) code
+    ap (λ z. if is_some z then Some (encode_lower contents) else None) code
 
 -- where there is a fault
 null_there :
@@ -148,32 +149,37 @@ null_there A B Is (Some f) some is = is
 
 meant_opened :
     (header : Header) (contents joined : List ℕ) (meaning : Meaning) (fault : Option PieceFault) (value : Data)
-    (constructed : Bool) → header.class ≡ Universal → AreSegmentsOf header.tag contents header.is_indefinite joined →
+    (octets : Option (List ℕ)) (constructed : Bool) → header.class ≡ Universal →
+    AreSegmentsOf header.tag contents header.is_indefinite joined →
     IsMeaning header.class constructed header.tag joined 0 meaning fault →
-    IsMeantValue header.class header.tag joined meaning value →
+    IsMeantValue header.class header.tag joined meaning value octets →
     IsOpenedValue header.class header.tag contents header.is_indefinite value
-meant_opened header contents joined (Text form text) fault value k u segments (wide, none) (words, v) =
-    of_segments u joined segments 0 (in_their_form wide words v refl)
-meant_opened header contents joined Value fault value k u segments (right, none) (inl (nothing, wrong)) =
+meant_opened header contents joined (Text form text) fault value octets k u segments (wide, none) (words, v, o) =
+    of_segments u joined segments 0 octets (in_their_form wide words v o refl)
+meant_opened header contents joined (Time text) fault value octets k u segments (time, none) (words, v, o) =
+    of_segments u joined segments 0 octets (as_time time words v o refl)
+meant_opened header contents joined Value fault value octets k u segments (right, none) (inl (universal, text, v)) =
+    of_segments u joined segments 0 octets (as_text universal text v refl)
+meant_opened header contents joined Value fault value octets k u segments (right, none) (inr (other, inl (nothing, wrong), o)) =
     of_none nothing
-meant_opened header contents joined Value fault value k u segments (right, none) (inr (tree, turn, v)) =
-    of_segments u joined segments 0 (with_value tree turn v refl)
-meant_opened header contents joined Nothing fault value k u segments is v = absurd v
+meant_opened header contents joined Value fault value octets k u segments (right, none) (inr (other, inr (tree, turn, v), o)) =
+    of_segments u joined segments 0 octets (with_value other tree turn v o refl)
+meant_opened header contents joined Nothing fault value octets k u segments is v = absurd v
 
 -- the value of segments joined
 pub joined_opened :
-    (header whole : Header) (contents joined : List ℕ) (meaning : Meaning) (fault : Option PieceFault) (value : Data) →
-    header.class ≡ Universal → whole.class ≡ Universal → whole.tag ≡ header.tag →
+    (header whole : Header) (contents joined : List ℕ) (meaning : Meaning) (fault : Option PieceFault) (value : Data)
+    (octets : Option (List ℕ)) → header.class ≡ Universal → whole.class ≡ Universal → whole.tag ≡ header.tag →
     AreSegmentsOf header.tag contents header.is_indefinite joined →
     IsMeaning whole.class whole.constructed whole.tag joined 0 meaning fault →
-    IsMeantValue whole.class whole.tag joined meaning value →
+    IsMeantValue whole.class whole.tag joined meaning value octets →
     IsOpenedValue header.class header.tag contents header.is_indefinite value
-joined_opened header whole contents joined meaning fault value u w t segments is v =
-    meant_opened header contents joined meaning fault value whole.constructed u segments
+joined_opened header whole contents joined meaning fault value octets u w t segments is v =
+    meant_opened header contents joined meaning fault value octets whole.constructed u segments
     (subst (λ z. IsMeaning z whole.constructed header.tag joined 0 meaning fault) (w ∙ sym u)
     (subst (λ z. IsMeaning whole.class whole.constructed z joined 0 meaning fault) t is))
-    (subst (λ z. IsMeantValue z header.tag joined meaning value) (w ∙ sym u)
-    (subst (λ z. IsMeantValue whole.class z joined meaning value) t v))
+    (subst (λ z. IsMeantValue z header.tag joined meaning value octets) (w ∙ sym u)
+    (subst (λ z. IsMeantValue whole.class z joined meaning value octets) t v))
 
 size_by :
     (indefinite : Bool) (n m there : ℕ) → (indefinite ≡ false → n ≡ min m there) →
@@ -199,7 +205,7 @@ module _ (left : List ℕ) (offset depth : ℕ) (rules : List Rule) (object : Ob
       IsHeaderTag header object.tag →
       IsJudged left (header_front offset depth rules header) object.offset header.class header.constructed header.tag
       (is_stray_form header.constructed (drop (length h.identifier) left)) (view object.value)
-      (option_map fault_told object.fault) →
+      (option_map string_bytes object.octets) (option_map fault_told object.fault) →
       IsRowOf left (header_front offset depth rules header) (row_of object inside marks)
   encoding_row header h size tag judged = of_encoding (record {
     class = header.class;
@@ -233,30 +239,32 @@ module _ (left : List ℕ) (offset depth : ℕ) (rules : List Rule) (object : Ob
       (taken header.is_indefinite (header.size + header.announced) (length left)) →
       IsOpenedFault stray offset fault →
       MatchOption fault (IsOpenedValue header.class header.tag contents header.is_indefinite (view object.value))
-      (λ _. view object.value ≡ null) →
+      (λ _. view object.value ≡ null) → option_map string_bytes object.octets ≡ None →
       IsJudged left (header_front offset depth rules header) object.offset header.class header.constructed header.tag
-      stray (view object.value) (option_map fault_told object.fault)
-  opened_judged header stray contents o e (inl (is, there)) v =
+      stray (view object.value) (option_map string_bytes object.octets) (option_map fault_told object.fault)
+  opened_judged header stray contents o e (inl (is, there)) v d =
       let (words, told) = told_nameless offset object.offset fault there in
-      of_stray_form is (null_there _ _ (IsNameless offset) fault there v) words (told_is ∙ told)
-  opened_judged header stray contents o e (inr (is, none)) v =
+      of_stray_form is (null_there _ _ (IsNameless offset) fault there v) d words (told_is ∙ told)
+  opened_judged header stray contents o e (inr (is, none)) v d =
       with_encodings o
       (subst (λ z. IsOpenedValue header.class header.tag z header.is_indefinite (view object.value)) e
       (subst (λ z. MatchOption z
       (IsOpenedValue header.class header.tag contents header.is_indefinite (view object.value))
       (λ _. view object.value ≡ null)) none v))
-      (no_fault none)
+      d (no_fault none)
 
   meaning_shown :
       (header : Header) (h : IsAtFront left header) (meaning : Meaning) → header.size + header.announced ≤ length left →
       IsMeaning header.class header.constructed header.tag
       (slice_range left header.size (header.size + header.announced)) offset meaning fault →
-      IsLeafValueOf header (slice_range left header.size (header.size + header.announced)) meaning fault
-      (view object.value) →
+      IsLeafValueOf header (slice_range left header.size (header.size + header.announced)) meaning fault (view object.value)
+      (option_map string_bytes object.octets) →
       AreShown object.offset header.class header.tag (slice_range left header.size (header.size + header.announced))
-      (view object.value) (option_map fault_told object.fault)
-  meaning_shown header h (Text form text) whole (wide, none) (words, v) = in_their_form wide words v (no_fault none)
-  meaning_shown header h Value whole (right, none) (inl (nothing, (u, (found, wrong)))) =
+      (view object.value) (option_map string_bytes object.octets) (option_map fault_told object.fault)
+  meaning_shown header h (Text form text) whole (wide, none) (words, v, d) = in_their_form wide words v d (no_fault none)
+  meaning_shown header h (Time text) whole (time, none) (words, v, d) = as_time time words v d (no_fault none)
+  meaning_shown header h Value whole (right, none) (inl (u, text, v)) = as_text u text v (no_fault none)
+  meaning_shown header h Value whole (right, none) (inr (other, inl (nothing, (u, (found, wrong))), d)) =
       let contents = slice_range left header.size (header.size + header.announced) in
       let octets = take (header.size + header.announced) left in
       let encoding = front_encoding left contents header.size header.announced header.class header.constructed
@@ -265,11 +273,12 @@ module _ (left : List ℕ) (offset depth : ℕ) (rules : List Rule) (object : Ob
       let (b, encodes) = right octets header.size encoding in
       absurd (right_no_fault octets header.class header.constructed header.tag contents header.size b found u encoding
       encodes wrong)
-  meaning_shown header h Value whole (right, none) (inr (tree, turn, v)) = with_value tree turn v (no_fault none)
-  meaning_shown header h Nothing whole (u, (found, wrong, is)) v =
+  meaning_shown header h Value whole (right, none) (inr (other, inr (tree, turn, v), d)) =
+      with_value other tree turn v d (no_fault none)
+  meaning_shown header h Nothing whole (u, (found, wrong, is)) (v, d) =
       let (words, told) = told_named offset object.offset found fault is in
-      with_no_value u found words wrong
-      (v ∙ wrong_named offset found fault (slice_range left header.size (header.size + header.announced)) is)
+      with_no_value u found words wrong v
+      (d ∙ wrong_named offset found fault (slice_range left header.size (header.size + header.announced)) is)
       (told_is ∙ told)
 
   leaf_judged :
@@ -277,27 +286,26 @@ module _ (left : List ℕ) (offset depth : ℕ) (rules : List Rule) (object : Ob
       header.size + header.announced ≤ length left → is_gone_into header.class header.constructed header.tag ≡ false →
       contents ≡ slice_range left header.size (header.size + header.announced) →
       IsLeafMeaning left header (drop (length h.identifier) left) offset meaning fault →
-      IsLeafValueOf header contents meaning fault (view object.value) →
+      IsLeafValueOf header contents meaning fault (view object.value) (option_map string_bytes object.octets) →
       IsJudged left (header_front offset depth rules header) object.offset header.class header.constructed header.tag
       (is_stray_form header.constructed (drop (length h.identifier) left)) (view object.value)
-      (option_map fault_told object.fault)
+      (option_map string_bytes object.octets) (option_map fault_told object.fault)
   leaf_judged header h contents meaning whole o e (inl (stray, nothing, there)) v =
       let (words, told) = told_nameless offset object.offset fault there in
-      of_stray_form stray
-      (subst (λ z. IsLeafValueOf header contents z fault (view object.value)) nothing v
-      ∙ wrong_nameless offset fault contents there)
-      words (told_is ∙ told)
+      let is : IsLeafValueOf header contents Nothing fault (view object.value) (option_map string_bytes object.octets) =
+      subst (λ z. IsLeafValueOf header contents z fault (view object.value) (option_map string_bytes object.octets)) nothing v in
+      of_stray_form stray is.0 (is.1 ∙ wrong_nameless offset fault contents there) words (told_is ∙ told)
   leaf_judged header h contents meaning whole o e (inr (stray, is)) v =
       with_contents o
       (meaning_shown header h meaning whole is
-      (subst (λ z. IsLeafValueOf header z meaning fault (view object.value)) e v))
+      (subst (λ z. IsLeafValueOf header z meaning fault (view object.value) (option_map string_bytes object.octets)) e v))
 
   -- the object of a piece of each kind
   pub row_is :
       (kind : Kind) → object.size ≡ kind_size kind → IsTagOf kind object.tag →
-      IsPieceValue kind fault (view object.value) → IsKind left offset kind fault →
+      IsPieceValue kind fault (view object.value) (option_map string_bytes object.octets) → IsKind left offset kind fault →
       IsRowOf left (kind_front offset depth rules false kind) (row_of object inside marks)
-  row_is (EndOfContents size) s t v k = of_end (record {
+  row_is (EndOfContents size) s t (v, d) k = of_end (record {
     words = refl;
     size = s;
     class = t.0;
@@ -305,9 +313,10 @@ module _ (left : List ℕ) (offset depth : ℕ) (rules : List Rule) (object : Ob
     tag = t.2;
     kind = t.3;
     value = v;
+    no_octets = d;
     fault = end_fault size k;
   })
-  row_is (Unreadable octets) s t v (same, (found, is)) =
+  row_is (Unreadable octets) s t (v, d) (same, (found, is)) =
       let (words, told) = told_named offset object.offset found fault is in
       of_unreadable (record {
         words = refl;
@@ -317,23 +326,22 @@ module _ (left : List ℕ) (offset depth : ℕ) (rules : List Rule) (object : Ob
         tag = t.2;
         kind = t.3;
         value = v ∙ ap (λ z. string (encode_lower z)) same;
+        no_octets = d;
         found = found;
         told = words;
         fault = told_is ∙ told;
       })
-  row_is (Cut header contents) s t v (h, l, e, is) =
+  row_is (Cut header contents) s t (v, d) (h, l, e, is) =
       let (words, told) = told_named offset object.offset incomplete fault is in
-      let d : length (drop header.size left) ≡ length left - header.size = length-drop header.size left in
+      let n : length (drop header.size left) ≡ length left - header.size = length-drop header.size left in
       let there : length contents.now ≡ length (drop header.size left) = ap length e in
       encoding_row header h
-      (s ∙ size_by header.is_indefinite _ (header.size + header.announced) (length left)
-      (λ _. omega (arith, d, there, l, h.within)))
+      (s ∙ size_by header.is_indefinite _ (header.size + header.announced) (length left) (λ _. omega (arith, n, there, l, h.within)))
       t
       (cut_short l
-      (v ∙ ap (λ z. if is_gone_into header.class header.constructed header.tag then null else string (encode_lower z))
-      e)
-      words (told_is ∙ told))
-  row_is (Opened header contents) s t v (h, whole, o, e, is) =
+      (v ∙ ap (λ z. if is_gone_into header.class header.constructed header.tag then null else string (encode_lower z)) e)
+      d words (told_is ∙ told))
+  row_is (Opened header contents) s t (v, d) (h, whole, o, e, is) =
       let all = header.size + header.announced in
       encoding_row header h
       (s ∙ size_by header.is_indefinite _ all (length left)
@@ -342,7 +350,7 @@ module _ (left : List ℕ) (offset depth : ℕ) (rules : List Rule) (object : Ob
       let m : header.size + length (slice_range left header.size (min all (length left))) ≡ min all (length left) =
       slice_size left header.size (min all (length left)) (omega (arith, whole)) (omega arith) in
       omega (arith, n, m)))
-      t (opened_judged header _ contents.now o e is v)
+      t (opened_judged header _ contents.now o e is v d)
   row_is (Leaf header contents meaning) s t v (h, whole, o, e, is) =
       let all = header.size + header.announced in
       let n : length contents.now ≡ length (slice_range left header.size all) = ap length e in

@@ -6,8 +6,6 @@ use Rattle.std.specs.List.{AllZip, slice_range}
 use Rattle.std.specs.Option.{is_none, option_to_list}
 use Rattle.std.specs.Str.{chars}
 use Rattle.hex.specs.Hex.{encode_lower}
-use Rattle.jiff.specs.Names.{iso_datetime_text}
-use Rattle.jiff_core.specs.declared.civil.datetime.DateTime.{DateTime}
 use Rattle.serde_json.specs.Data.{Data, array, boolean as boolean_json, null, number, object, string, unsigned}
 use Rattle.serde_json.specs.Data.{Items, no_items, item, Members, no_members, member}
 use Rattle.serde_json.specs.Find.{of_integer}
@@ -22,18 +20,18 @@ use Rattle.asn1_headers.specs.declared.header.ASN1Class.{ASN1Class}
 use Rattle.asn1_headers.specs.Names.{class_name, fault_name, type_name}
 use Rattle.asn1_headers.specs.declared.header.ASN1Class.TheVariants.{Universal}
 use Rattle.asn1_leaves.specs.Contents.ObjectIdentifier.{object_identifier_contents}
-use Rattle.asn1_leaves.specs.Contents.Moment.{Moment, moment_of}
 use Rattle.asn1_leaves.specs.DottedDecimal.{dotted_decimal}
 use Rattle.asn1_blocks.specs.Contents.{LeafFault}
 use Rattle.asn1_blocks.specs.Grammar.{Encodes}
 use Rattle.asn1_blocks.specs.Tree.{Leaf, Tree, leaf, group, explicit, unknown, boolean, integer, bit_string}
 use Rattle.asn1_blocks.specs.Tree.{octet_string, null as null_leaf, object_identifier, text as text_leaf}
 use Rattle.asn1_blocks.specs.Tree.{utc_time, generalized_time}
-use Rattle.der_lines.specs.Dump.{AreFrontsOf, Front, StandAt, is_stray_form, is_wide, size_in}
+use Rattle.der_lines.specs.Dump.{AreFrontsOf, Front, IsBerTime, StandAt, is_stray_form, is_wide, size_in}
 use Rattle.der_lines.specs.Headers.{is_gone_into}
 use Rattle.der_lines.specs.Marks.{Told, told_rules}
 use Rattle.der_lines.specs.Segments.{AreSegmentsOf}
-use Rattle.der_values.specs.Strings.{has_words, is_string}
+use Rattle.der_values.specs.Strings.{has_text, has_words, is_string}
+use Rattle.der_values.specs.Times.{AreFractionOf, IsMomentText}
 use Rattle.der_json.specs.declared.fault.Fault.{Fault}
 use Rattle.der_json.specs.declared.line.Origin.{Origin}
 
@@ -63,11 +61,6 @@ number_or_null (Some n) = number (unsigned n)
 abbrev pub boolean_or_null : Option Bool → Data
 boolean_or_null None = null
 boolean_or_null (Some b) = boolean_json b
-
--- the text of a moment: `2026-11-23T00:43:05Z`
-abbrev pub IsMomentText : Moment → List ℕ → Type 0
-IsMomentText moment text =
-    (datetime : DateTime) × (moment_of datetime ≡ moment) × (text ≡ iso_datetime_text datetime ++ codes "Z")
 
 -- bits: how many there are, and the octets that hold them
 abbrev pub bits_json : ℕ → List ℕ → Data
@@ -99,9 +92,9 @@ IsLeafValue contents (object_identifier components) value = IsIdentifierValue co
 IsLeafValue contents (text_leaf kind characters) value =
     (text : List ℕ) × (chars text ≡ characters) × (value ≡ string text)
 IsLeafValue contents (utc_time moment) value =
-    (text : List ℕ) × IsMomentText moment text × (value ≡ string text)
+    (text : List ℕ) × IsMomentText moment [] text × (value ≡ string text)
 IsLeafValue contents (generalized_time moment) value =
-    (text : List ℕ) × IsMomentText moment text × (value ≡ string text)
+    (digits text : List ℕ) × AreFractionOf contents digits × IsMomentText moment digits text × (value ≡ string text)
 
 -- the value of a block of these contents octets, in which none stand
 abbrev pub IsValue : List ℕ → Tree ℕ → Data → Type 0
@@ -110,14 +103,15 @@ IsValue contents (group offset kind blocks) value = value ≡ null
 IsValue contents (explicit class offset tag block) value = value ≡ null
 IsValue contents (unknown class constructed offset tag octets) value = value ≡ string (encode_lower octets)
 
--- the value of contents octets of a type that the library does not read: the number of an ENUMERATED (X.690 8.4), the
--- characters of a string
+-- the number of an ENUMERATED, which the library does not read (X.690 8.4)
 abbrev pub other_value : ASN1Class → ℕ → List ℕ → Option Data
-other_value Universal tag contents =
-    if tag == 10 then Some (whole_json (signed_number contents))
-    else if is_string tag contents then Some (string contents)
-    else None
+other_value Universal tag contents = if tag == 10 then Some (whole_json (signed_number contents)) else None
 other_value class tag contents = None
+
+-- values of the type are text, which the library does not read
+abbrev pub is_text_type : ASN1Class → ℕ → Bool
+is_text_type Universal tag = has_text tag
+is_text_type class tag = false
 
 -- what is wrong, in words, with its name and its offset, where it has these
 pub record ToldFault : Type 0 where
@@ -144,32 +138,49 @@ named_fault offset fault words = record {
 abbrev pub words_fault : ℕ → List ℕ → ToldFault
 words_fault offset words = record { code = None; offset = Some offset; words = words }
 
--- the value of contents octets that mean the tree: by their type, in words of their type, or of the block
+-- the value of contents octets that mean the tree: by their type, or of the block
 pub data IsValueOf (class : ASN1Class) (tag : ℕ) (contents : List ℕ) (tree : Tree ℕ) (value : Data) : Type 0 where
   of_other_type : other_value class tag contents ≡ Some value → IsValueOf class tag contents tree value
-  in_words :
-      class ≡ Universal → has_words tag ≡ true → (text : List ℕ) → value ≡ string text →
-      IsValueOf class tag contents tree value
   of_block :
       other_value class tag contents ≡ None → IsValue contents tree value →
       IsValueOf class tag contents tree value
 
+-- the value of contents octets of a type whose values are text: the characters of a string, or words; or null, where
+-- they are no text of the type, and these octets in hex digits
+pub data IsTextValue (tag : ℕ) (contents : List ℕ) (value : Data) (octets : Option (List ℕ)) : Type 0 where
+  of_characters :
+      is_string tag contents ≡ true → value ≡ string contents → octets ≡ None →
+      IsTextValue tag contents value octets
+  in_words :
+      has_words tag ≡ true → (text : List ℕ) → value ≡ string text → octets ≡ None →
+      IsTextValue tag contents value octets
+  of_no_text :
+      is_string tag contents ≡ false → value ≡ null → octets ≡ Some (encode_lower contents) →
+      IsTextValue tag contents value octets
+
 -- what is shown of contents octets of a primitive encoding at the offset: the characters of a string that the library
--- takes for UTF-8; their value; or these octets, where they have none, and what is wrong with them
+-- takes for UTF-8; the text of a time of BER; a text of a type that it does not read; their value; or null, where they have none, these octets in
+-- hex digits, and what is wrong with them
 pub data AreShown (offset : ℕ) (class : ASN1Class) (tag : ℕ) (contents : List ℕ) (value : Data)
-    (fault : Option ToldFault) : Type 0 where
+    (octets : Option (List ℕ)) (fault : Option ToldFault) : Type 0 where
   in_their_form :
-      is_wide class tag ≡ true → (text : List ℕ) → value ≡ string text → fault ≡ None →
-      AreShown offset class tag contents value fault
+      is_wide class tag ≡ true → (text : List ℕ) → value ≡ string text → octets ≡ None → fault ≡ None →
+      AreShown offset class tag contents value octets fault
+  as_time :
+      IsBerTime class tag contents → (text : List ℕ) → value ≡ string text → octets ≡ None → fault ≡ None →
+      AreShown offset class tag contents value octets fault
+  as_text :
+      class ≡ Universal → has_text tag ≡ true → IsTextValue tag contents value octets → fault ≡ None →
+      AreShown offset class tag contents value octets fault
   with_value :
-      (tree : Tree ℕ) →
-      ((octets : List ℕ) (header : ℕ) → Encoding octets class false tag contents header →
-      Encodes 0 octets tree) →
-      IsValueOf class tag contents tree value → fault ≡ None → AreShown offset class tag contents value fault
+      is_text_type class tag ≡ false → (tree : Tree ℕ) →
+      ((all : List ℕ) (header : ℕ) → Encoding all class false tag contents header → Encodes 0 all tree) →
+      IsValueOf class tag contents tree value → octets ≡ None → fault ≡ None →
+      AreShown offset class tag contents value octets fault
   with_no_value :
       class ≡ Universal → (found : DecodeFault) (words : List ℕ) → LeafFault tag contents found →
-      value ≡ string (encode_lower contents) → fault ≡ Some (named_fault offset found words) →
-      AreShown offset class tag contents value fault
+      value ≡ null → octets ≡ Some (encode_lower contents) → fault ≡ Some (named_fault offset found words) →
+      AreShown offset class tag contents value octets fault
 
 -- what is shown of an encoding that is gone into: nothing; or of a string whose segments are joined what is shown of
 -- these
@@ -178,29 +189,30 @@ pub data IsOpenedValue (class : ASN1Class) (tag : ℕ) (contents : List ℕ) (in
   of_none : value ≡ null → IsOpenedValue class tag contents indefinite value
   of_segments :
       class ≡ Universal → (joined : List ℕ) → AreSegmentsOf tag contents indefinite joined →
-      (offset : ℕ) → AreShown offset class tag joined value None →
+      (offset : ℕ) (octets : Option (List ℕ)) → AreShown offset class tag joined value octets None →
       IsOpenedValue class tag contents indefinite value
 
 -- what is shown of an encoding with these fields that begins the octets, and what is wrong with it, at the offset
 pub data IsJudged (octets : List ℕ) (front : Front) (offset : ℕ) (class : ASN1Class) (constructed : Bool)
-    (tag : ℕ) (stray : Bool) (value : Data) (fault : Option ToldFault) : Type 0 where
+    (tag : ℕ) (stray : Bool) (value : Data) (digits : Option (List ℕ)) (fault : Option ToldFault) : Type 0 where
   cut_short :
       length octets < front.header + front.contents →
       value ≡ (if is_gone_into class constructed tag then null
-      else string (encode_lower (drop front.header octets))) →
+      else string (encode_lower (drop front.header octets))) → digits ≡ None →
       (words : List ℕ) → fault ≡ Some (named_fault offset incomplete words) →
-      IsJudged octets front offset class constructed tag stray value fault
+      IsJudged octets front offset class constructed tag stray value digits fault
   of_stray_form :
-      stray ≡ true → value ≡ null → (words : List ℕ) → fault ≡ Some (words_fault offset words) →
-      IsJudged octets front offset class constructed tag stray value fault
+      stray ≡ true → value ≡ null → digits ≡ None →
+      (words : List ℕ) → fault ≡ Some (words_fault offset words) →
+      IsJudged octets front offset class constructed tag stray value digits fault
   with_encodings :
       is_gone_into class constructed tag ≡ true →
       IsOpenedValue class tag (slice_range octets front.header (size_in octets front)) front.indefinite value →
-      fault ≡ None → IsJudged octets front offset class constructed tag stray value fault
+      digits ≡ None → fault ≡ None → IsJudged octets front offset class constructed tag stray value digits fault
   with_contents :
       is_gone_into class constructed tag ≡ false →
-      AreShown offset class tag (slice_range octets front.header (front.header + front.contents)) value fault →
-      IsJudged octets front offset class constructed tag stray value fault
+      AreShown offset class tag (slice_range octets front.header (front.header + front.contents)) value digits fault →
+      IsJudged octets front offset class constructed tag stray value digits fault
 
 -- a rule that is broken, by an encoding at the offset
 pub record Departed : Type 0 where
@@ -209,9 +221,9 @@ pub record Departed : Type 0 where
 
 -- what the object of a block tells: how many octets stand before it, how many its identifier and length octets are, how
 -- many it has as far as they are there, and how many blocks are around it; its class, its constructed bit, its tag and
--- its type; its value, its name, what is shown beside the value, the rules of DER that it breaks, and its fault; and
--- the
--- objects of what stands inside its octets, and the rules that are broken there
+-- its type; its value, its name, what is shown beside the value, its contents octets in hex digits where they have no
+-- value, the rules of DER that it breaks, and its fault; and the objects of what stands inside its octets, and the
+-- rules that are broken there
 pub record Row : Type 0 where
   pub offset : ℕ
   pub header : ℕ
@@ -224,6 +236,7 @@ pub record Row : Type 0 where
   pub value : Data
   pub name : Option (List ℕ)
   pub beside : Option (List ℕ)
+  pub octets : Option (List ℕ)
   pub not_der : List Told
   pub fault : Option ToldFault
   pub inside : Option Items
@@ -238,6 +251,7 @@ pub record IsEndRow (front : Front) (row : Row) : Type 0 where
   pub tag : row.tag ≡ number (unsigned 0)
   pub kind : row.kind ≡ Some (codes "end-of-contents")
   pub value : row.value ≡ null
+  pub no_octets : row.octets ≡ None
   pub fault :
       ((front.header ≡ 2) × (row.fault ≡ None))
       ⊎ ((front.header ≡ 0)
@@ -252,6 +266,7 @@ pub record IsUnreadableRow (octets : List ℕ) (front : Front) (row : Row) : Typ
   pub tag : row.tag ≡ null
   pub kind : row.kind ≡ None
   pub value : row.value ≡ string (encode_lower octets)
+  pub no_octets : row.octets ≡ None
   pub found : DecodeFault
   pub told : List ℕ
   pub fault : row.fault ≡ Some (named_fault row.offset found told)
@@ -269,7 +284,7 @@ pub record IsEncodingRow (octets : List ℕ) (front : Front) (row : Row) : Type 
   pub kind_is : row.kind ≡ type_name class tag
   pub judged :
       IsJudged octets front row.offset class constructed tag
-      (is_stray_form constructed (drop (length header.identifier) octets)) row.value row.fault
+      (is_stray_form constructed (drop (length header.identifier) octets)) row.value row.octets row.fault
 
 -- the object is of what begins the octets, as a line of a dump has it
 pub data IsRowOf (octets : List ℕ) (front : Front) (row : Row) : Type 0 where
@@ -330,8 +345,9 @@ abbrev pub rest_members : Row → Members
 rest_members row =
     member_if (codes "name") row.name
     (member_if (codes "shown") row.beside
+    (member_if (codes "octets") row.octets
     (rules_if row.not_der
-    (fault_if row.fault (blocks_if row.inside))))
+    (fault_if row.fault (blocks_if row.inside)))))
 
 abbrev pub row_json : Row → Data
 row_json row =

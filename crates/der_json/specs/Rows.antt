@@ -20,16 +20,16 @@ use Rattle.der_lines.specs.Marks.{Told, told_of, told_rules}
 use Rattle.der_lines.specs.Pieces.{IsKind, front_of, kind_header}
 use Rattle.der_lines.specs.declared.faults.Fault.{Fault as PieceFault}
 use Rattle.der_lines.specs.declared.leaf.Meaning.{Meaning}
-use Rattle.der_lines.specs.declared.leaf.Meaning.TheVariants.{Nothing, Text, Value}
+use Rattle.der_lines.specs.declared.leaf.Meaning.TheVariants.{Nothing, Text, Time, Value}
 use Rattle.der_lines.specs.declared.nested.Nested.{Nested}
 use Rattle.der_lines.specs.declared.piece.Kind.{Kind}
 use Rattle.der_lines.specs.declared.piece.Kind.TheVariants.{Cut, EndOfContents, Leaf, Opened, Unreadable}
 use Rattle.der_lines.specs.declared.piece.Piece.{Piece}
 use Rattle.der_lines.specs.declared.place.Place.{Place}
-use Rattle.der_values.specs.Strings.{has_words}
-use Rattle.der_json.specs.Json.{AreInside, AreRows, AreRowsOf, Departed, IsOpenedValue, IsRowOf, IsValueOf, Row, ToldFault, rule_json}
+use Rattle.der_values.specs.Strings.{has_text}
+use Rattle.der_json.specs.Json.{AreInside, AreRows, AreRowsOf, Departed, IsOpenedValue, IsRowOf, IsTextValue, IsValueOf, Row, ToldFault}
 use Rattle.der_json.specs.Json.{boolean_or_null, fault_json, fault_told, first_fault, items_of, marks_of, natural_json}
-use Rattle.der_json.specs.Json.{number_or_null, other_value, row_json, rows_text, text_or_null}
+use Rattle.der_json.specs.Json.{is_text_type, number_or_null, row_json, rows_text, rule_json, text_or_null}
 use Rattle.der_json.specs.declared.object.Object.{Object}
 use Rattle.der_json.specs.declared.object.Tag.{Tag}
 use Rattle.der_json.specs.declared.rows.Departure.{Departure}
@@ -49,6 +49,7 @@ row_of object inside marks = record {
   value = view object.value;
   name = option_map string_bytes object.name;
   beside = option_map string_bytes object.shown;
+  octets = option_map string_bytes object.octets;
   not_der = map told_of object.not_der.items;
   fault = option_map fault_told object.fault;
   inside = inside;
@@ -59,12 +60,6 @@ row_of object inside marks = record {
 abbrev pub IsExact : Object → Type 0
 IsExact object = (has_float (view object.tag.number) ≡ false) × (has_float (view object.value) ≡ false)
 
--- the value of contents octets of a type that the library does not read, or words of it
-abbrev pub IsOtherValue : ASN1Class → ℕ → List ℕ → Data → Type 0
-IsOtherValue class tag contents value =
-    (other_value class tag contents ≡ Some value)
-    ⊎ ((class ≡ Universal) × (has_words tag ≡ true) × ((text : List ℕ) × (value ≡ string text)))
-
 -- the value of contents octets that mean a block, or null where something is wrong with them
 abbrev pub IsBlockValue : ASN1Class → ℕ → List ℕ → Data → Type 0
 IsBlockValue class tag contents value =
@@ -73,11 +68,20 @@ IsBlockValue class tag contents value =
     × ((octets : List ℕ) (header : ℕ) → Encoding octets class false tag contents header → Encodes 0 octets tree)
     × IsValueOf class tag contents tree value)
 
--- the value of those that mean something
-abbrev pub IsMeantValue : ASN1Class → ℕ → List ℕ → Meaning → Data → Type 0
-IsMeantValue class tag contents (Text form text) value = (words : List ℕ) × (value ≡ string words)
-IsMeantValue class tag contents Value value = IsBlockValue class tag contents value
-IsMeantValue class tag contents Nothing value = ⊥
+-- the value of contents octets in which nothing is wrong, and these in hex digits
+abbrev pub IsRightValue : ASN1Class → ℕ → List ℕ → Data → Option (List ℕ) → Type 0
+IsRightValue class tag contents value octets =
+    ((class ≡ Universal) × (has_text tag ≡ true) × IsTextValue tag contents value octets)
+    ⊎ ((is_text_type class tag ≡ false) × IsBlockValue class tag contents value × (octets ≡ None))
+
+-- that of those that mean something
+abbrev pub IsMeantValue : ASN1Class → ℕ → List ℕ → Meaning → Data → Option (List ℕ) → Type 0
+IsMeantValue class tag contents (Text form text) value octets =
+    (words : List ℕ) × (value ≡ string words) × (octets ≡ None)
+IsMeantValue class tag contents (Time text) value octets =
+    (words : List ℕ) × (value ≡ string words) × (octets ≡ None)
+IsMeantValue class tag contents Value value octets = IsRightValue class tag contents value octets
+IsMeantValue class tag contents Nothing value octets = ⊥
 
 -- what a fault of a piece tells, which stands at the offset of the document
 abbrev pub told_at : ℕ → PieceFault → ToldFault
@@ -118,28 +122,34 @@ IsTagOf (Opened header contents) = IsHeaderTag header
 IsTagOf (Leaf header contents meaning) = IsHeaderTag header
 
 -- contents octets that mean nothing are told, if they could be read
-abbrev pub wrong_json : Option PieceFault → List ℕ → Data
-wrong_json None contents = null
-wrong_json (Some fault) contents = if is_some fault.code then string (encode_lower contents) else null
+abbrev pub wrong_octets : Option PieceFault → List ℕ → Option (List ℕ)
+wrong_octets None contents = None
+wrong_octets (Some fault) contents = if is_some fault.code then Some (encode_lower contents) else None
 
 -- the value of a primitive encoding
-abbrev pub IsLeafValueOf : Header → List ℕ → Meaning → Option PieceFault → Data → Type 0
-IsLeafValueOf header contents (Text form text) fault value = (words : List ℕ) × (value ≡ string words)
-IsLeafValueOf header contents Value fault value = IsBlockValue header.class header.tag contents value
-IsLeafValueOf header contents Nothing fault value = value ≡ wrong_json fault contents
+abbrev pub IsLeafValueOf : Header → List ℕ → Meaning → Option PieceFault → Data → Option (List ℕ) → Type 0
+IsLeafValueOf header contents (Text form text) fault value octets =
+    (words : List ℕ) × (value ≡ string words) × (octets ≡ None)
+IsLeafValueOf header contents (Time text) fault value octets =
+    (words : List ℕ) × (value ≡ string words) × (octets ≡ None)
+IsLeafValueOf header contents Value fault value octets = IsRightValue header.class header.tag contents value octets
+IsLeafValueOf header contents Nothing fault value octets = (value ≡ null) × (octets ≡ wrong_octets fault contents)
 
--- and of a piece
-abbrev pub IsPieceValue : Kind → Option PieceFault → Data → Type 0
-IsPieceValue (EndOfContents size) fault value = value ≡ null
-IsPieceValue (Unreadable octets) fault value = value ≡ string (encode_lower octets.now)
-IsPieceValue (Cut header contents) fault value =
-    value ≡ (if is_gone_into header.class header.constructed header.tag then null
-    else string (encode_lower contents.now))
-IsPieceValue (Opened header contents) fault value =
+-- and of a piece, with its contents octets where they have no value
+abbrev pub IsPieceValue : Kind → Option PieceFault → Data → Option (List ℕ) → Type 0
+IsPieceValue (EndOfContents size) fault value octets = (value ≡ null) × (octets ≡ None)
+IsPieceValue (Unreadable all) fault value octets = (value ≡ string (encode_lower all.now)) × (octets ≡ None)
+IsPieceValue (Cut header contents) fault value octets =
+    (value ≡ (if is_gone_into header.class header.constructed header.tag then null
+    else string (encode_lower contents.now)))
+    × (octets ≡ None)
+IsPieceValue (Opened header contents) fault value octets =
     MatchOption fault
     (IsOpenedValue header.class header.tag contents.now header.is_indefinite value)
     (λ _. value ≡ null)
-IsPieceValue (Leaf header contents meaning) fault value = IsLeafValueOf header contents.now meaning fault value
+    × (octets ≡ None)
+IsPieceValue (Leaf header contents meaning) fault value octets =
+    IsLeafValueOf header contents.now meaning fault value octets
 
 -- a piece begins some octets
 abbrev pub IsRead : Piece → Type 0
@@ -189,8 +199,9 @@ abbrev pub last_members : Object → List ℕ
 last_members object =
     told_text (codes ",\"name\":") (option_map string_bytes object.name)
     ++ (told_text (codes ",\"shown\":") (option_map string_bytes object.shown)
+    ++ (told_text (codes ",\"octets\":") (option_map string_bytes object.octets)
     ++ (rules_text (map told_of object.not_der.items)
-    ++ fault_text (option_map fault_told object.fault)))
+    ++ fault_text (option_map fault_told object.fault))))
 
 -- the member of blocks inside octets, where there are some
 abbrev pub blocks_text : Option Items → List ℕ

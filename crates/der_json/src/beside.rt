@@ -13,7 +13,7 @@ use der_lines::place::Place;
 use der_lines::values::{LEAST_HEX, LEAST_TEXT, is_text};
 use der_names::Names;
 use der_names::identifier::{identifier_of, number_of};
-use der_values::{Role, address_text, bit_names, general_name};
+use der_values::{Role, address_text, bit_names, general_name, text_beside};
 use std::alloc::{AllocError, Global};
 use std::str;
 
@@ -25,12 +25,13 @@ pub struct Beside {
     pub shown: Option<String>,
 }
 
-// What is shown of a piece that stands at the place.
+// What is shown of a piece that stands at the place, which has a value or not.
 pub fn beside_of(
     alloc: Global,
     names: &Names,
     kind: &Kind<'_>,
     place: Place,
+    has_value: bool,
 ) -> Result<Beside, AllocError> {
     match kind {
         Kind::EndOfContents(_) | Kind::Unreadable(_) => of_shown(None),
@@ -40,9 +41,25 @@ pub fn beside_of(
             of_shown(Some(format!(in alloc; "truncated: {there} of {announced} bytes")?))
         }
         Kind::Opened(header, _) => of_name(role_name(alloc, place.role(header))?),
-        Kind::Leaf(header, contents, _) => {
+        Kind::Leaf(header, contents, _) if has_value => {
             of_contents(alloc, names, header, place.role(header), contents)
         }
+        Kind::Leaf(header, contents, _) => of_shown(text_without_value(alloc, header, contents)?),
+    }
+}
+
+// Contents octets as text, where they are those of a string or a time that they do not make.
+fn text_without_value(
+    alloc: Global,
+    header: &Header,
+    contents: &[u8],
+) -> Result<Option<String>, AllocError> {
+    match universal_tag(header) {
+        Some(1 | 3 | 6) | None => Ok(None),
+        Some(tag) => match text_beside(u64::from(tag), contents) {
+            Some(text) => Ok(Some(String::from_str(alloc, text)?)),
+            None => Ok(None),
+        },
     }
 }
 

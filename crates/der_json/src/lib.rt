@@ -16,6 +16,7 @@
 //! | `value` | what it holds: the next table |
 //! | `name` | the name of an object identifier, of bits that are set, or of a GeneralName, if it has one |
 //! | `shown` | hex digits of an INTEGER of five octets or more, of a long OBJECT IDENTIFIER; printed text; an address |
+//! | `octets` | its contents octets in hex digits, where they have no value of its type: `value` is `null` |
 //! | `not_der` | the rules of DER that it breaks, if it breaks some: an array of the third table |
 //! | `fault` | what is wrong with it, if anything is |
 //! | `blocks` | such objects of the encodings inside its octets, where a dump shows some |
@@ -26,7 +27,7 @@
 //! | INTEGER, ENUMERATED | a number up to 2^53 - 1 either way; else decimal digits; of more than 1,024 octets `null` |
 //! | OBJECT IDENTIFIER | a text, `1.2.840`, as X.690 has it: of `88 37` `2.999`; of more than 1,024 octets `null` |
 //! | strings | their text, of a UniversalString also in UTF-32, a BMPString in UTF-16, a TeletexString in Latin-1 |
-//! | UTCTime, GeneralizedTime | a text, `2026-11-23T00:43:05Z` |
+//! | UTCTime, GeneralizedTime | a text, `2026-11-23T00:43:05Z`; of BER also `1982-01-02T07:00-05:00` |
 //! | REAL, RELATIVE-OID, TIME, DATE, TIME-OF-DAY, DATE-TIME, DURATION | a text: `5 * 2^-5`, `.8571.3`, `1985-10-12` |
 //! | BIT STRING | an object: `bits`, how many there are, and `octets`, in hex digits |
 //! | any other that is primitive: OCTET STRING, `[0]` | its contents octets in hex digits |
@@ -38,8 +39,9 @@
 //! | `section` | where X.690 says it: `10.1` |
 //! | `text` | what is wrong, in words |
 //!
-//! Contents octets of these types that have no value are in hex digits, too. Hex digits are twice as many as octets; a
-//! text of characters has as many as the contents.
+//! Contents octets that are no text of a string or a time, or have no value of another type, stand in `octets`: a text
+//! of hex digits is a value as well. Hex digits are twice as many as octets; a text of characters has as many as the
+//! contents.
 //!
 //! End-of-contents octets of the indefinite form (X.690 8.1.5) have an object; where they are missing it has no octets,
 //! and a fault. Octets that begin with no header have one whose `class`, `constructed`, `tag` and `type` are `null`.

@@ -34,6 +34,8 @@ pub struct Object {
     pub value: Value,
     pub name: Option<String>,
     pub shown: Option<String>,
+    // its contents octets in hex digits, where they have no value
+    pub octets: Option<String>,
     pub not_der: Vec<ToldRule>,
     pub fault: Option<Fault>,
 }
@@ -65,6 +67,7 @@ impl Object {
     {
         push_words(alloc, b",\"name\":", &self.name, out)?;
         push_words(alloc, b",\"shown\":", &self.shown, out)?;
+        push_words(alloc, b",\"octets\":", &self.octets, out)?;
         push_rules(alloc, &self.not_der, out)?;
         push_fault(alloc, &self.fault, out)?;
         Ok(())

@@ -1,5 +1,5 @@
 // What the object of a piece of octets tells.
-ghost use Rattle.std.specs.Prelude.{◌≡◌, ℕ, List, false, IfOk, if◌then◌else◌, option_map};
+ghost use Rattle.std.specs.Prelude.{◌≡◌, ◌++◌, ℕ, List, false, IfOk, if◌then◌else◌, option_map, string_bytes};
 ghost use Rattle.hex.specs.Hex.{encode_lower};
 ghost use Rattle.serde_json.specs.Data.{null, string};
 ghost use Rattle.serde_json.specs.View.{view};
@@ -13,7 +13,7 @@ ghost use Rattle.der_json.specs.Rows.{encoding_size as encoding_size_is, told_at
 use crate::beside::beside_of;
 use crate::fault::{Fault, placed};
 use crate::object::{Object, Tag};
-use crate::value::{meant_value, natural_value, octets_value};
+use crate::value::{Shown, meant_value, natural_value, octets_value};
 use asn1_headers::front::Header;
 use der_lines::faults;
 use der_lines::header::holds_encodings;
@@ -33,16 +33,19 @@ pub fn object_of(alloc: Global, names: &Names, piece: Piece<'_>) -> Result<Objec
         → IsKind left piece.entry.offset piece.entry.kind piece.entry.fault → IsObject left piece.entry object) }
 {
     let offset = piece.document_offset()?;
-    let said = beside_of(alloc, names, &piece.kind, piece.place)?;
+    let Shown { value, octets } = shown_of(alloc, &piece)?;
+    let has_value = octets.is_none();
+    let said = beside_of(alloc, names, &piece.kind, piece.place, has_value)?;
     Ok(Object {
         offset,
         header: piece.header_size(),
         size: size_of(&piece.kind)?,
         depth: piece.place.depth,
         tag: tag_of(alloc, &piece.kind)?,
-        value: value_of(alloc, &piece)?,
+        value,
         name: said.name,
         shown: said.shown,
+        octets,
         not_der: piece.breaches.told(alloc)?,
         fault: placed_if(piece.fault, offset),
     })
@@ -107,21 +110,22 @@ fn tag_of(alloc: Global, kind: &Kind<'_>) -> Result<Tag, AllocError>
     }
 }
 
-// Its value.
-fn value_of(alloc: Global, piece: &Piece<'_>) -> Result<Value, AllocError>
+// Its value, and its contents octets where they have none.
+fn shown_of(alloc: Global, piece: &Piece<'_>) -> Result<Shown, AllocError>
     requires { IsRead piece.now }
-    ensures told { IfOk result (λ value. IsPieceValue piece.now.kind piece.now.fault (view value)) }
-    ensures exact { IfOk result (λ value. has_float (view value) ≡ false) }
+    ensures told { IfOk result (λ s. IsPieceValue piece.now.kind piece.now.fault (view s.value)
+        (option_map string_bytes s.octets)) }
+    ensures exact { IfOk result (λ s. has_float (view s.value) ≡ false) }
 {
     match &piece.kind {
-        Kind::EndOfContents(_) => Ok(Value::Null),
-        Kind::Unreadable(octets) => octets_value(alloc, octets),
-        Kind::Cut(header, contents) => cut_value(alloc, header, contents),
+        Kind::EndOfContents(_) => Ok(Shown::of(Value::Null)),
+        Kind::Unreadable(octets) => Ok(Shown::of(octets_value(alloc, octets)?)),
+        Kind::Cut(header, contents) => Ok(Shown::of(cut_value(alloc, header, contents)?)),
         Kind::Opened(header, contents) => {
             if piece.fault.is_some() {
-                return Ok(Value::Null);
+                return Ok(Shown::of(Value::Null));
             }
-            joined_value(alloc, header, contents, piece.place)
+            Ok(Shown::of(joined_value(alloc, header, contents, piece.place)?))
         }
         Kind::Leaf(header, contents, meaning) => {
             leaf_value(alloc, header, contents, meaning, &piece.fault)
@@ -158,7 +162,7 @@ fn joined_value(
     };
     let Read { meaning, .. } = read_contents(alloc, &whole, &joined, 0)?;
     match meant_value(alloc, &whole, &joined, &meaning)? {
-        Some(value) => Ok(value),
+        Some(shown) => Ok(shown.value),
         None => Ok(Value::Null),
     }
 }
@@ -170,16 +174,17 @@ fn leaf_value(
     contents: &[u8],
     meaning: &Meaning,
     fault: &Option<faults::Fault>,
-) -> Result<Value, AllocError>
+) -> Result<Shown, AllocError>
     requires { is_gone_into header.now.class header.now.constructed header.now.tag ≡ false }
-    ensures told { IfOk result (λ value. IsLeafValueOf header.now contents.now meaning.now fault.now (view value)) }
-    ensures exact { IfOk result (λ value. has_float (view value) ≡ false) }
+    ensures told { IfOk result (λ s. IsLeafValueOf header.now contents.now meaning.now fault.now (view s.value)
+        (option_map string_bytes s.octets)) }
+    ensures exact { IfOk result (λ s. has_float (view s.value) ≡ false) }
 {
-    if let Some(value) = meant_value(alloc, header, contents, meaning)? {
-        return Ok(value);
+    if let Some(shown) = meant_value(alloc, header, contents, meaning)? {
+        return Ok(shown);
     }
     match fault {
-        Some(fault) if fault.code.is_some() => octets_value(alloc, contents),
-        _ => Ok(Value::Null),
+        Some(fault) if fault.code.is_some() => Shown::of_octets(alloc, contents),
+        _ => Ok(Shown::of(Value::Null)),
     }
 }

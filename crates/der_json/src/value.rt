@@ -1,18 +1,22 @@
 // Values. None of them is a float.
-ghost use Rattle.std.specs.Prelude.{◌≡◌, List, ℕ, false, true, None, IfOk, IfSome, IsTrue, MatchOption};
+ghost use Rattle.std.specs.Prelude.{◌≡◌, List, ℕ, false, true, None, Some, IfOk, IfSome, IsTrue, MatchOption};
+ghost use Rattle.std.specs.Prelude.{option_map, string_bytes};
 ghost use Rattle.hex.specs.Hex.{encode_lower};
 ghost use Rattle.asn1_headers.specs.declared.header.ASN1Class.TheVariants.{Universal};
 ghost use Rattle.asn1_leaves.specs.Contents.Moment.{moment_of};
 ghost use Rattle.asn1_leaves.specs.DottedDecimal.{dotted_decimal};
 ghost use Rattle.asn1_blocks.specs.View.{view as view_block};
-ghost use Rattle.serde_json.specs.Data.{string};
+ghost use Rattle.serde_json.specs.Data.{null, string};
 ghost use Rattle.serde_json.specs.View.{view};
 ghost use Rattle.serde_json.specs.Written.{has_float};
+ghost use Rattle.der_values.specs.Strings.{has_text as has_text_is};
+ghost use Rattle.der_values.specs.Times.{IsMomentText};
 ghost use Rattle.der_lines.specs.Headers.{is_gone_into};
 ghost use Rattle.der_lines.specs.declared.leaf.Meaning.TheVariants.{Nothing};
-ghost use Rattle.der_json.specs.Json.{HasShortFront, IsIdentifierValue, IsMomentText, IsValue, IsValueOf};
-ghost use Rattle.der_json.specs.Json.{bits_json, natural_json, other_value as other_value_is, whole_json};
-ghost use Rattle.der_json.specs.Rows.{IsBlockValue, IsMeantValue, IsOtherValue};
+ghost use Rattle.der_json.specs.Json.{HasShortFront, IsIdentifierValue, IsTextValue, IsValue, IsValueOf};
+ghost use Rattle.der_json.specs.Json.{bits_json, is_text_type, natural_json, other_value as other_value_is};
+ghost use Rattle.der_json.specs.Json.{whole_json};
+ghost use Rattle.der_json.specs.Rows.{IsBlockValue, IsMeantValue, IsRightValue};
 
 use asn1_blocks::block::ASN1Block;
 use asn1_blocks::contents::leaf_block;
@@ -24,7 +28,7 @@ use asn1_leaves::oid::OID;
 use asn1_numbers::number::big_int::BigInt;
 use asn1_numbers::number::big_uint::BigUint;
 use der_lines::leaf::Meaning;
-use der_values::{long_identifier, string_of, value_text};
+use der_values::{fraction_digits, has_text, long_identifier, moment_text, string_of, value_text};
 use jiff::civil::DateTime;
 use serde_json::{Value, json};
 use std::alloc::{AllocError, Global};
@@ -125,12 +129,45 @@ fn has_short_front(alloc: Global, identifier: &OID) -> Result<bool, AllocError>
     }
 }
 
-fn moment_value(alloc: Global, moment: &DateTime) -> Result<Value, AllocError>
-    ensures told { IfOk result (λ v. (text : List ℕ) × IsMomentText (moment_of moment.now) text
+// A moment with these digits of a fraction of its second.
+fn moment_value(alloc: Global, moment: &DateTime, digits: &str) -> Result<Value, AllocError>
+    ensures told { IfOk result (λ v. (text : List ℕ) × IsMomentText (moment_of moment.now) digits.now text
         × (view v ≡ string text)) }
     ensures exact { IfOk result (λ v. has_float (view v) ≡ false) }
 {
-    Ok(Value::String(format!(in alloc; "{moment}Z")?))
+    let text = moment_text(alloc, moment, digits)?;
+    Ok(Value::String(text))
+}
+
+// The value of contents octets, and these in hex digits where they have none.
+#[derive(Drop)]
+pub struct Shown {
+    pub value: Value,
+    pub octets: Option<String>,
+}
+
+impl Shown {
+    // A value alone.
+    pub fn of(value: Value) -> Shown
+        ensures value { result.value ≡ value }
+        ensures octets { result.octets ≡ None }
+    {
+        Shown {
+            value,
+            octets: None,
+        }
+    }
+
+    // Contents octets without a value.
+    pub fn of_octets(alloc: Global, contents: &[u8]) -> Result<Shown, AllocError>
+        ensures value { IfOk result (λ s. view s.value ≡ null) }
+        ensures octets { IfOk result (λ s. option_map string_bytes s.octets ≡ Some (encode_lower contents.now)) }
+    {
+        Ok(Shown {
+            value: Value::Null,
+            octets: Some(hex::encode(alloc, contents)?),
+        })
+    }
 }
 
 // The value of contents octets of a primitive encoding with the header that mean something, if they do. Of a string
@@ -140,17 +177,58 @@ pub fn meant_value(
     header: &Header,
     contents: &[u8],
     meaning: &Meaning,
-) -> Result<Option<Value>, AllocError>
+) -> Result<Option<Shown>, AllocError>
     requires { is_gone_into header.now.class header.now.constructed header.now.tag ≡ false }
     ensures told { IfOk result (λ found. MatchOption found
         (meaning.now ≡ Nothing)
-        (λ v. IsMeantValue header.now.class header.now.tag contents.now meaning.now (view v))) }
-    ensures exact { IfOk result (λ found. IfSome found (λ v. has_float (view v) ≡ false)) }
+        (λ s. IsMeantValue header.now.class header.now.tag contents.now meaning.now (view s.value)
+        (option_map string_bytes s.octets))) }
+    ensures exact { IfOk result (λ found. IfSome found (λ s. has_float (view s.value) ≡ false)) }
 {
     match meaning {
-        Meaning::Text(_, text) => Ok(Some(text_value(alloc, text)?)),
-        Meaning::Value => Ok(Some(block_value(alloc, header, contents)?)),
+        Meaning::Text(_, text) => Ok(Some(Shown::of(text_value(alloc, text)?))),
+        Meaning::Time(text) => Ok(Some(Shown::of(text_value(alloc, text)?))),
+        Meaning::Value => Ok(Some(right_value(alloc, header, contents)?)),
         Meaning::Nothing => Ok(None),
+    }
+}
+
+// The value of contents octets in which nothing is wrong.
+fn right_value(alloc: Global, header: &Header, contents: &[u8]) -> Result<Shown, AllocError>
+    requires { is_gone_into header.now.class header.now.constructed header.now.tag ≡ false }
+    ensures told { IfOk result (λ s. IsRightValue header.now.class header.now.tag contents.now (view s.value)
+        (option_map string_bytes s.octets)) }
+    ensures exact { IfOk result (λ s. has_float (view s.value) ≡ false) }
+{
+    match text_tag(header) {
+        Some(tag) => text_of_type(alloc, tag, contents),
+        None => Ok(Shown::of(block_value(alloc, header, contents)?)),
+    }
+}
+
+// The tag of a type of class Universal whose values are text, which the library does not read.
+fn text_tag(header: &Header) -> Option<u64>
+    ensures { MatchOption result
+        (is_text_type header.now.class header.now.tag ≡ false)
+        (λ tag. (header.now.class ≡ Universal) × (header.now.tag ≡ tag) × (has_text_is tag ≡ true)) }
+{
+    match (header.class, header.tag.to_u64()) {
+        (ASN1Class::Universal, Some(tag)) if has_text(tag) => Some(tag),
+        _ => None,
+    }
+}
+
+// The text of contents octets with the tag of such a type, if they are one.
+fn text_of_type(alloc: Global, tag: u64, contents: &[u8]) -> Result<Shown, AllocError>
+    ensures told { IfOk result (λ s. IsTextValue tag contents.now (view s.value) (option_map string_bytes s.octets)) }
+    ensures exact { IfOk result (λ s. has_float (view s.value) ≡ false) }
+{
+    if let Some(text) = string_of(tag, contents) {
+        return Ok(Shown::of(text_value(alloc, text)?));
+    }
+    match value_text(alloc, tag, contents)? {
+        Some(text) => Ok(Shown::of(Value::String(text))),
+        None => Shown::of_octets(alloc, contents),
     }
 }
 
@@ -198,36 +276,18 @@ fn value_in(
     }
 }
 
-// The value of contents octets of a type that the library does not read, if they have one.
+// The number of an ENUMERATED, which the library does not read.
 fn other_value(alloc: Global, header: &Header, contents: &[u8]) -> Result<Option<Value>, AllocError>
-    ensures told { IfOk result (λ found. MatchOption found
-        (other_value_is header.now.class header.now.tag contents.now ≡ None)
-        (λ v. IsOtherValue header.now.class header.now.tag contents.now (view v))) }
+    ensures told { IfOk result (λ found.
+        option_map view found ≡ other_value_is header.now.class header.now.tag contents.now) }
     ensures exact { IfOk result (λ found. IfSome found (λ v. has_float (view v) ≡ false)) }
 {
     match (header.class, header.tag.to_u64()) {
-        (ASN1Class::Universal, Some(tag)) => value_of_type(alloc, tag, contents),
+        (ASN1Class::Universal, Some(ENUMERATED)) => {
+            let number = BigInt::from_signed_bytes_be(alloc, contents)?;
+            Ok(Some(integer_value(alloc, &number)?))
+        }
         _ => Ok(None),
-    }
-}
-
-// So of a type of class Universal.
-fn value_of_type(alloc: Global, tag: u64, contents: &[u8]) -> Result<Option<Value>, AllocError>
-    ensures told { IfOk result (λ found. MatchOption found
-        (other_value_is Universal tag contents.now ≡ None)
-        (λ v. IsOtherValue Universal tag contents.now (view v))) }
-    ensures exact { IfOk result (λ found. IfSome found (λ v. has_float (view v) ≡ false)) }
-{
-    if tag == ENUMERATED {
-        let number = BigInt::from_signed_bytes_be(alloc, contents)?;
-        return Ok(Some(integer_value(alloc, &number)?));
-    }
-    if let Some(text) = string_of(tag, contents) {
-        return Ok(Some(text_value(alloc, text)?));
-    }
-    match value_text(alloc, tag, contents)? {
-        Some(text) => Ok(Some(Value::String(text))),
-        None => Ok(None),
     }
 }
 
@@ -242,8 +302,10 @@ fn value_of(alloc: Global, contents: &[u8], block: &ASN1Block) -> Result<Value, 
         ASN1Block::BitString(_, bits, octets) => bits_value(alloc, *bits, octets),
         ASN1Block::OctetString(_, octets) => octets_value(alloc, octets),
         ASN1Block::ObjectIdentifier(_, oid) => identifier_value(alloc, contents, oid),
-        ASN1Block::UTCTime(_, moment) => moment_value(alloc, moment),
-        ASN1Block::GeneralizedTime(_, moment) => moment_value(alloc, moment),
+        ASN1Block::UTCTime(_, moment) => moment_value(alloc, moment, ""),
+        ASN1Block::GeneralizedTime(_, moment) => {
+            moment_value(alloc, moment, fraction_digits(contents))
+        }
         ASN1Block::Unknown(_, _, _, _, octets) => octets_value(alloc, octets),
         ASN1Block::UTF8String(_, text)
         | ASN1Block::PrintableString(_, text)

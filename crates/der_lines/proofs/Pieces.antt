@@ -25,7 +25,7 @@ use Rattle.der_lines.specs.declared.cursor.Step.TheVariants.{Into, Out, Past}
 use Rattle.der_lines.specs.declared.encodings.Found.{Found}
 use Rattle.der_lines.specs.declared.faults.Fault.{Fault}
 use Rattle.der_lines.specs.declared.leaf.Meaning.{Meaning}
-use Rattle.der_lines.specs.declared.leaf.Meaning.TheVariants.{Nothing, Text, Value}
+use Rattle.der_lines.specs.declared.leaf.Meaning.TheVariants.{Nothing, Text, Time, Value}
 use Rattle.der_lines.specs.declared.piece.Piece.{Piece}
 use Rattle.der_lines.specs.declared.place.Place.{Place}
 use Rattle.der_lines.proofs.Dumps.{dump_map, inside_deeper}
@@ -176,11 +176,13 @@ meaning_judged :
     IsJudgedAs left offset depth rules header h (fault_offset fault)
 meaning_judged left offset depth rules header (Text form text) fault h l o stray (wide, none) =
     with_value l o stray (inl wide) (ap fault_offset none)
+meaning_judged left offset depth rules header (Time text) fault h l o stray (time, none) =
+    with_value l o stray (inr (inl time)) (ap fault_offset none)
 meaning_judged left offset depth rules header Value fault h l o stray (right, none) =
     with_value l o stray
-    (inr (right (take (header.size + header.announced) left) header.size
+    (inr (inr (right (take (header.size + header.announced) left) header.size
     (front_encoding left (slice_range left header.size (header.size + header.announced)) header.size header.announced
-    header.class header.constructed header.tag h l refl)))
+    header.class header.constructed header.tag h l refl))))
     (ap fault_offset none)
 meaning_judged left offset depth rules header Nothing fault h l o stray (u, (found, wrong, is)) =
     with_no_value l o u found wrong (named_at offset found fault is)

@@ -20,7 +20,7 @@ use Rattle.der_lines.specs.Marks.{are_some, mark_text, told_rules}
 use Rattle.der_lines.specs.declared.document.Verdict.{Verdict}
 use Rattle.der_lines.specs.declared.document.Verdict.TheVariants.{AllRead, Refused}
 use Rattle.asn1_headers.specs.Names.{type_name}
-use Rattle.der_rows.specs.Rows.{IsOneLine, contents_column, indentation, on_one_line, right_of}
+use Rattle.der_values.specs.Times.{IsTime}
 use Rattle.der_io.specs.Characters.{colon, exclamation_mark, greater_than_sign, line_feed, space}
 
 -- a tag number in words: in decimal below 2^128
@@ -81,6 +81,10 @@ abbrev pub is_wide : ASN1Class → ℕ → Bool
 is_wide Universal tag = (tag == 20) || (tag == 28) || (tag == 30)
 is_wide class tag = false
 
+-- contents octets are a UTCTime or a GeneralizedTime of BER (X.680 46.3, 47.3)
+abbrev pub IsBerTime : ASN1Class → ℕ → List ℕ → Type 0
+IsBerTime class tag contents = (class ≡ Universal) × IsTime tag contents
+
 -- a primitive encoding has length octets of the indefinite form, which only a constructed one may have (X.690 8.1.3.2).
 -- They are read as a length of 0. The octets are those behind its identifier octets
 abbrev pub is_stray_form : Bool → List ℕ → Bool
@@ -100,7 +104,9 @@ pub data IsJudged (octets : List ℕ) (front : Front) (class : ASN1Class) (const
   with_value :
       front.header + front.contents ≤ length octets → is_gone_into class constructed tag ≡ false →
       stray ≡ false →
-      (is_wide class tag ≡ true) ⊎ ((b : Tree ℕ) × Encodes 0 (take (front.header + front.contents) octets) b) →
+      (is_wide class tag ≡ true)
+      ⊎ (IsBerTime class tag (slice_range octets front.header (front.header + front.contents))
+      ⊎ ((b : Tree ℕ) × Encodes 0 (take (front.header + front.contents) octets) b)) →
       faults ≡ [] → IsJudged octets front class constructed tag stray faults
   with_no_value :
       front.header + front.contents ≤ length octets → is_gone_into class constructed tag ≡ false →

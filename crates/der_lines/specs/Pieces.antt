@@ -13,14 +13,14 @@ use Rattle.asn1_headers.specs.declared.header.ASN1Class.TheVariants.{Universal}
 use Rattle.asn1_blocks.specs.Contents.{LeafFault}
 use Rattle.asn1_blocks.specs.Grammar.{Encodes}
 use Rattle.asn1_blocks.specs.Tree.{Tree}
-use Rattle.der_lines.specs.Dump.{AreMarked, Front, IsDump, StandAt, StandsInside, is_stray_form, is_too_deep, is_wide, tag_words, taken}
+use Rattle.der_lines.specs.Dump.{AreMarked, Front, IsBerTime, IsDump, StandAt, StandsInside, is_stray_form, is_wide, tag_words, taken}
 use Rattle.der_lines.specs.Headers.{is_gone_into}
 use Rattle.der_lines.specs.Steps.{IsAhead, IsStart, StartsNext, StartsWith, to_go}
 use Rattle.der_lines.specs.declared.cursor.Left.{Left}
 use Rattle.der_lines.specs.declared.cursor.Step.{Step}
 use Rattle.der_lines.specs.declared.faults.Fault.{Fault}
 use Rattle.der_lines.specs.declared.leaf.Meaning.{Meaning}
-use Rattle.der_lines.specs.declared.leaf.Meaning.TheVariants.{Nothing, Text, Value}
+use Rattle.der_lines.specs.declared.leaf.Meaning.TheVariants.{Nothing, Text, Time, Value}
 use Rattle.der_lines.specs.declared.nested.Nested.{Nested}
 use Rattle.der_lines.specs.declared.piece.Kind.{Kind}
 use Rattle.der_lines.specs.declared.piece.Kind.TheVariants.{Cut, EndOfContents, Leaf, Opened, Unreadable}
@@ -55,6 +55,7 @@ IsRight class constructed tag contents =
 -- what contents octets of an encoding with these fields mean, and what is wrong with them, at the offset
 abbrev pub IsMeaning : ASN1Class → Bool → ℕ → List ℕ → ℕ → Meaning → Option Fault → Type 0
 IsMeaning class constructed tag contents offset (Text form text) fault = (is_wide class tag ≡ true) × (fault ≡ None)
+IsMeaning class constructed tag contents offset (Time text) fault = IsBerTime class tag contents × (fault ≡ None)
 IsMeaning class constructed tag contents offset Value fault = IsRight class constructed tag contents × (fault ≡ None)
 IsMeaning class constructed tag contents offset Nothing fault =
     (class ≡ Universal)

@@ -9,10 +9,12 @@ ghost use Rattle.der_rows.specs.Printing.{IsPrinted};
 use crate::lines::push_fault;
 use crate::scalars::{write_after_space, write_quoted};
 use asn1_headers::error::ASN1DecodeErr;
-use der_rows::Printer;
+use der_values::text_beside;
 use std::alloc::{AllocError, Global};
 use std::str;
 use std::str::Utf8Error;
+
+const PRINTABLE_STRING: u8 = 19;
 
 // What is wrong, and at which offset: the name of an error, as ASN1DecodeErr::name has it, if it has one, and words.
 #[derive(Drop)]
@@ -108,9 +110,26 @@ fn contents_words(
             "YYYYMMDDhhmmssZ, with or without a fraction",
             contents,
         ),
+        (Some(PRINTABLE_STRING), ASN1DecodeErr::PrintableStringDecodeFailure) => {
+            printable_words(alloc, contents, fault)
+        }
         (_, ASN1DecodeErr::UTF8DecodeFailure(failure)) => utf8_words(alloc, failure),
         _ => plain_words(alloc, fault),
     }
+}
+
+// What is wrong with a PrintableString, and its text.
+fn printable_words(
+    alloc: Global,
+    contents: &[u8],
+    fault: &ASN1DecodeErr,
+) -> Result<String, AllocError> {
+    let mut words = plain_words(alloc, fault)?;
+    if let Some(text) = text_beside(u64::from(PRINTABLE_STRING), contents) {
+        words.push_str(": ")?;
+        write_quoted(&mut words, text)?;
+    }
+    Ok(words)
 }
 
 fn identifier_words(alloc: Global, contents: &[u8]) -> Result<String, AllocError> {

@@ -3,7 +3,7 @@ ghost use Rattle.std.specs.Prelude.{◌≡◌, false, true, None, IfOk, IfSome, 
 ghost use Rattle.asn1_headers.specs.Fault.{fault_of};
 ghost use Rattle.asn1_headers.specs.declared.header.ASN1Class.TheVariants.{Universal};
 ghost use Rattle.asn1_blocks.specs.Contents.{LeafFault};
-ghost use Rattle.der_lines.specs.Dump.{is_wide};
+ghost use Rattle.der_lines.specs.Dump.{IsBerTime, is_wide};
 ghost use Rattle.der_lines.specs.Headers.{is_gone_into};
 ghost use Rattle.der_lines.specs.Pieces.{IsMeaning, IsRight};
 
@@ -14,7 +14,7 @@ use asn1_blocks::parsed::PlacedHeader;
 use asn1_headers::error::ASN1DecodeErr;
 use asn1_headers::front::Header;
 use asn1_headers::header::ASN1Class;
-use der_values::{Characters, text_in_form};
+use der_values::{Characters, text_in_form, time_text};
 use std::alloc::{AllocError, Global};
 use std::str;
 
@@ -23,6 +23,8 @@ use std::str;
 pub enum Meaning {
     // characters of a form that X.690 has, where the library takes the string for UTF-8
     Text(Characters, String),
+    // a time of BER that is none of DER
+    Time(String),
     // a block
     Value,
     // nothing, since something is wrong with them
@@ -59,6 +61,12 @@ pub fn read_contents(
             fault: None,
         });
     };
+    if let Some(text) = time_of(alloc, header, contents)? {
+        return Ok(Read {
+            meaning: Meaning::Time(text),
+            fault: None,
+        });
+    }
     let fault = leaf_fault(alloc, offset, universal_tag(header), contents, &error)?;
     Ok(Read {
         meaning: Meaning::Nothing,
@@ -72,8 +80,23 @@ pub fn is_right(alloc: Global, header: &Header, contents: &[u8]) -> Result<bool,
 {
     Ok(
         characters_of(alloc, header, contents)?.is_some()
-            || check(alloc, header, contents)?.is_none(),
+            || check(alloc, header, contents)?.is_none()
+            || time_of(alloc, header, contents)?.is_some(),
     )
+}
+
+// The text of a time of BER that is none of DER.
+fn time_of(
+    alloc: Global,
+    header: &Header,
+    contents: &[u8],
+) -> Result<Option<String>, AllocError>
+    ensures { IfOk result (λ found. IfSome found (λ _. IsBerTime header.now.class header.now.tag contents.now)) }
+{
+    match universal_tag(header) {
+        Some(tag) => time_text(alloc, u64::from(tag), contents),
+        None => Ok(None),
+    }
 }
 
 // What is wrong with contents octets, if anything is.

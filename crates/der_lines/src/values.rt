@@ -18,7 +18,8 @@ use asn1_numbers::number::big_uint::BigUint;
 use der_names::Names;
 use der_names::identifier::{identifier_of, number_of};
 use der_values::{
-    Role, address_text, bit_names, general_name, string_of, value_text as other_value,
+    Role, address_text, bit_names, fraction_digits, general_name, moment_text, string_of,
+    value_text as other_value,
 };
 use jiff::civil::DateTime;
 use std::alloc::{AllocError, Global};
@@ -119,12 +120,17 @@ pub fn read_text(
     meaning: &Meaning,
     style: ValueStyle,
 ) -> Result<String, AllocError> {
-    let Meaning::Text(form, text) = meaning else {
-        return value_text(alloc, names, universal_tag(header), contents, style);
-    };
-    let mut said = String::new(alloc);
-    write_as(&mut said, *form, text)?;
-    Ok(said)
+    match meaning {
+        Meaning::Text(form, text) => {
+            let mut said = String::new(alloc);
+            write_as(&mut said, *form, text)?;
+            Ok(said)
+        }
+        Meaning::Time(text) => format!(in alloc; " {text}"),
+        Meaning::Value | Meaning::Nothing => {
+            value_text(alloc, names, universal_tag(header), contents, style)
+        }
+    }
 }
 
 // The name of a GeneralName.
@@ -156,8 +162,11 @@ fn value_text(
         Some(6) => write_identifier(alloc, &mut out, names, contents)?,
         Some(12 | 19 | 20 | 28 | 30) => write_utf8(&mut out, contents)?,
         Some(22) => write_text(alloc, &mut out, contents)?,
-        Some(23) => write_moment(&mut out, utc_time::read(alloc, contents))?,
-        Some(24) => write_moment(&mut out, generalized_time::read(alloc, contents))?,
+        Some(23) => write_moment(alloc, &mut out, utc_time::read(alloc, contents), "")?,
+        Some(24) => {
+            let moment = generalized_time::read(alloc, contents);
+            write_moment(alloc, &mut out, moment, fraction_digits(contents))?
+        }
         Some(tag) => write_other_type(alloc, &mut out, tag, contents, style)?,
         None => write_tagged(alloc, &mut out, names, contents, style)?,
     }
@@ -251,14 +260,18 @@ fn write_text(alloc: Global, out: &mut String, contents: &[u8]) -> Result<(), Al
     Ok(())
 }
 
+// A moment with these digits of a fraction of its second.
 fn write_moment(
+    alloc: Global,
     out: &mut String,
     moment: Result<DateTime, ASN1DecodeErr>,
+    digits: &str,
 ) -> Result<(), AllocError> {
-    match found(moment)? {
-        Some(moment) => write!(out, " {moment}Z"),
-        None => Ok(()),
+    if let Some(moment) = found(moment)? {
+        out.push_str(" ")?;
+        out.push_str(&moment_text(alloc, &moment, digits)?)?;
     }
+    Ok(())
 }
 
 // What was read, if it was not memory that ran out.

@@ -4,6 +4,7 @@ use Rattle.std.proofs.lemmas.Bool.Decides.{nat_tests}
 use Rattle.std.proofs.lemmas.List.Elements.{All-cons, All-nil}
 use Rattle.std.proofs.lemmas.Str.{IsUtf8-from_ascii, IsUtf8-from_is_utf8}
 use Rattle.std.proofs.lemmas.Str.Ascii.{IsAscii-from_all}
+use Rattle.std.specs.Char.{is_ascii_digit}
 use Rattle.std.specs.List.{All, list_all}
 use Rattle.std.specs.Prelude.{IsUtf8}
 use Rattle.std.specs.Str.{is_utf8}
@@ -28,6 +29,12 @@ module _ (p : ℕ → Bool) (small : (b : ℕ) → p b ≡ true → b < 128) whe
 
   all_utf8 : (bs : List ℕ) → list_all p bs ≡ true → IsUtf8 bs
   all_utf8 bs e = IsUtf8-from_ascii bs (IsAscii-from_all bs (all_small bs e))
+
+digit_small : (b : ℕ) → is_ascii_digit b ≡ true → b < 128
+digit_small b e = grind (arith, nat_tests)
+
+pub digits_utf8 : (bs : List ℕ) → list_all is_ascii_digit bs ≡ true → IsUtf8 bs
+digits_utf8 = all_utf8 is_ascii_digit digit_small
 
 one_of :
     (a b c x y z : Bool) (bs : List ℕ) → (x ≡ true → IsUtf8 bs) → (y ≡ true → IsUtf8 bs) → (z ≡ true → IsUtf8 bs) →

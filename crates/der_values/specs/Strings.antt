@@ -31,3 +31,7 @@ is_string tag octets =
 -- the tags of types whose values are put in words: REAL, RELATIVE-OID, TIME, DATE, TIME-OF-DAY, DATE-TIME and DURATION
 abbrev pub has_words : ℕ → Bool
 has_words tag = (tag == 9) || (tag == 13) || (tag == 14) || (nat_lt 30 tag && nat_lt tag 35)
+
+-- the tags of types whose values are text: of these strings, and of those that are put in words
+abbrev pub has_text : ℕ → Bool
+has_text tag = (tag == 18) || has_printed_characters tag || is_iri tag || has_words tag

@@ -2,7 +2,8 @@
 ghost use Rattle.std.specs.Prelude.{◌≡◌, false, true, IfOk, IfSome, MatchOption};
 ghost use Rattle.std.specs.List.{list_all};
 ghost use Rattle.std.specs.Str.{is_utf8 as is_utf8_is};
-ghost use Rattle.der_values.specs.Strings.{has_printed_characters, has_words, is_iri as is_iri_is, is_numeric as is_numeric_is};
+ghost use Rattle.der_values.specs.Strings.{has_printed_characters, has_text as has_text_is, has_words as has_words_is};
+ghost use Rattle.der_values.specs.Strings.{is_iri as is_iri_is, is_numeric as is_numeric_is};
 ghost use Rattle.der_values.specs.Strings.{is_printed as is_printed_is, is_string as is_string_is};
 
 use asn1_headers::error::ASN1DecodeErr;
@@ -21,6 +22,8 @@ const RELATIVE_OID: u64 = 13;
 const TIME: u64 = 14;
 
 const NUMERIC_STRING: u64 = 18;
+
+const PRINTABLE_STRING: u64 = 19;
 
 const VIDEOTEX_STRING: u64 = 21;
 
@@ -56,6 +59,20 @@ pub fn string_of(tag: u64, contents: &[u8]) -> Option<&str>
         Ok(text) => Some(text),
         Err(_) => None,
     }
+}
+
+/// Whether the values of the type of class Universal with this tag are text, which [`string_of`] or [`value_text`]
+/// finds.
+pub fn has_text(tag: u64) -> bool
+    ensures { result ≡ has_text_is tag }
+{
+    tag == NUMERIC_STRING || is_printed_type(tag) || is_iri(tag) || has_words(tag)
+}
+
+fn has_words(tag: u64) -> bool
+    ensures { result ≡ has_words_is tag }
+{
+    matches!(tag, REAL | RELATIVE_OID | TIME | DATE..=DURATION)
 }
 
 fn is_string(tag: u64, contents: &[u8]) -> bool
@@ -116,13 +133,25 @@ fn is_numeric(octet: u8) -> bool
 /// # Errors
 /// Memory ran out.
 pub fn value_text(alloc: Global, tag: u64, contents: &[u8]) -> Result<Option<String>, AllocError>
-    ensures { IfOk result (λ found. IfSome found (λ _. has_words tag ≡ true)) }
+    ensures { IfOk result (λ found. IfSome found (λ _. has_words_is tag ≡ true)) }
 {
     match tag {
         REAL => real_text(alloc, contents),
         RELATIVE_OID => relative_text(alloc, contents),
         TIME | DATE..=DURATION => time_text(alloc, tag, contents),
         _ => Ok(None),
+    }
+}
+
+/// Contents octets with this tag of class Universal as text, which they are not by their type: those of a
+/// PrintableString if they are UTF-8, others if all are printed characters of ASCII.
+pub fn text_beside(tag: u64, contents: &[u8]) -> Option<&str> {
+    if tag != PRINTABLE_STRING && !are_printed(contents) {
+        return None;
+    }
+    match str::from_utf8(contents) {
+        Ok("") | Err(_) => None,
+        Ok(text) => Some(text),
     }
 }
 

@@ -1,5 +1,6 @@
 -- For `value::value_of`: what it returns is right (`told`).
 use Rattle.std.proofs.Common.{◌≡◌, ◌∙◌, List, ap, rules, subst, sym, ℕ}
+use Rattle.std.proofs.lemmas.Result.{IfOk-weaker}
 use Rattle.std.specs.Prelude.{IfOk}
 use Rattle.asn1_blocks.specs.Tree.{generalized_time, leaf, object_identifier, utc_time}
 use Rattle.asn1_blocks.specs.View.{view as view_block}
@@ -39,4 +40,6 @@ returns-in-GeneralizedTime-clause-told c =
     let is = ap view_block c.in-GeneralizedTime.is
     ∙ generalized_time_is c.in-GeneralizedTime.field-0 c.in-GeneralizedTime.moment in
     subst (λ t. IfOk c.moment_value-in-GeneralizedTime.result (λ v. IsValue c.args.contents.now t (view v))) (sym is)
-    c.moment_value-in-GeneralizedTime.ensures.told
+    (IfOk-weaker c.moment_value-in-GeneralizedTime.result _ _
+    (λ v told. (c.fraction_digits.result.now, told.0, c.fraction_digits.ensures, told.1, told.2))
+    c.moment_value-in-GeneralizedTime.ensures.told)

@@ -1,0 +1,5 @@
+use Rattle.std.proofs.Common.{rules}
+use Rattle.der_values.proofs.moment.moment_text.Goals as goal
+
+pub returns : goal.returns
+returns c = (c.whole_second-whole.result, c.whole_second-whole.ensures, search rules)
