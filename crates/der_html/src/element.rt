@@ -1,6 +1,6 @@
 // Elements that show rows.
-ghost use Rattle.std.specs.Prelude.{◌≡◌, [], ◌∷◌, OnOk};
-ghost use Rattle.der_html.specs.Page.{Shows, element_faults, line_end};
+ghost use Rattle.std.specs.Prelude.{[], ◌∷◌, OnOk};
+ghost use Rattle.der_html.specs.Page.{Shows};
 
 use crate::markup::{Markup, push_markup, push_number};
 use std::alloc::AllocError;

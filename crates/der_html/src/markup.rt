@@ -1,6 +1,5 @@
 // The markup of a page, its numbers and its escaped text.
 ghost use Rattle.std.specs.Prelude.{◌≡◌, ◌<◌, ◌++◌, [], OnOk, codes, slice_index};
-ghost use Rattle.std.specs.List.{flat_map};
 ghost use Rattle.der_html.specs.Page.{Shows, element_faults, entity, hex_octet, line_end, markup_text};
 
 use itoa::Buffer;

@@ -1,11 +1,11 @@
 -- Blocks by their offsets.
-use Rattle.std.proofs.Common.{ℕ, List, ◌++◌, length, refl, sym, ◌∙◌, append_assoc}
-use Rattle.std.specs.Prelude.{Some}
-use Rattle.der_inputs.specs.Findings.{IsBlockAt}
+use Rattle.std.proofs.Common.{ℕ, List, ◌++◌, length, refl, sym, ◌∙◌, append_assoc, inr}
+use Rattle.std.specs.Prelude.{Err, IfOk, MatchOption, None, Ok, Option, Result, Some}
+use Rattle.der_inputs.specs.Findings.{IsBlockAt, IsValueAt}
 use Rattle.der_lines.specs.Elements.{HasNoContents, IsElement, of_definite_form, of_definite_length}
 use Rattle.der_lines.specs.Elements.{of_indefinite_form, of_indefinite_length}
 use Rattle.der_lines.specs.Headers.{StandsBehindHeader}
-use Rattle.der_lines.specs.Seek.{BeginsIn, begins_first, begins_further}
+use Rattle.der_lines.specs.StringOctets.{HoldsNoOctets, HoldsOctets}
 use Rattle.asn1_blocks.specs.Places.{IsEncoding}
 
 -- an encoding has a header
@@ -29,11 +29,18 @@ has_contents octets (of_definite_form definite e) none =
     none e.contents (of_definite_length definite (behind_it octets e))
 has_contents octets (of_indefinite_form contents standing inside) none = none contents (of_indefinite_length standing)
 
--- what begins at an offset is an element
-begun_element : (depth : ℕ) (octets : List ℕ) (n : ℕ) (block : List ℕ) → BeginsIn depth octets n block → IsElement block
-begun_element depth octets n block (begins_first e not at) = at.is_element
-begun_element depth octets n block (begins_further around others later leads at) =
-    begun_element around others later block at
-
+-- a block is an element
 pub block_element : (n : ℕ) (input block : List ℕ) → IsBlockAt n input (Some block) → IsElement block
-block_element n input block (document, e, at) = begun_element 0 document n block at
+block_element n input block (document, e, at) = at.element.is_element
+
+-- the octets that the string at an offset holds
+pub value_in :
+    (n : ℕ) (input block : List ℕ) (octets : Option (List ℕ)) → IsBlockAt n input (Some block) →
+    MatchOption octets (HoldsNoOctets block) (HoldsOctets block) → IsValueAt n input octets
+value_in n input block (Some octets) at h = (block, at, h)
+value_in n input block None at h = inr (block, at, h)
+
+-- what is so of a value is also otherwise
+pub if_ok : {A E : Type 0} {P Q : A → Type 0} (r : Result A E) → ((a : A) → P a → Q a) → IfOk r P → IfOk r Q
+if_ok (Ok a) f h = f a h
+if_ok (Err e) f h = tt

@@ -42,7 +42,8 @@ section_pushed faults lines octets a b c d first rows last =
 
 -- what was printed on a page, and the octets beside it
 pub section_printed :
-    (Is : List ℕ → Type 0) (a b : Printer) (octets beside first before after last : List ℕ) → Shows [] [] [] first before →
+    (Is : List ℕ → Type 0) (a b : Printer) (octets beside first before after last : List ℕ) →
+    Shows [] [] [] first before →
     a.look ≡ Page → a.out.items ≡ before → IsPrinted Is a b → Pushes b.look [] [] b.out.items after →
     octets ≡ beside → Shows [] [] octets after last →
     Adds (λ text. (lines : List ℕ) × (faults : List Bool) × Is lines × Shows faults lines beside [] text) first last

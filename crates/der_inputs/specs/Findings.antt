@@ -10,6 +10,7 @@ use Rattle.der_forms.specs.declared.objects.Ending.{Ending}
 use Rattle.der_forms.specs.declared.objects.Ending.TheVariants.{Closed}
 use Rattle.der_lines.specs.Elements.{HasContents}
 use Rattle.der_lines.specs.Seek.{BeginsAt, HasNoBlockAt}
+use Rattle.der_lines.specs.StringOctets.{HoldsNoOctets, HoldsOctets}
 
 -- octets under their label, if they have one; or that there are none to be read
 pub record Finding : Type 0 where
@@ -58,3 +59,11 @@ abbrev pub IsContentsAt : ℕ → List ℕ → Option (List ℕ) → Type 0
 IsContentsAt offset input (Some contents) =
     (block : List ℕ) × IsBlockAt offset input (Some block) × HasContents block contents
 IsContentsAt offset input None = IsBlockAt offset input None
+
+-- the octets of the string that begins there; or that no block begins there, or that it holds none
+abbrev pub IsValueAt : ℕ → List ℕ → Option (List ℕ) → Type 0
+IsValueAt offset input (Some octets) =
+    (block : List ℕ) × IsBlockAt offset input (Some block) × HoldsOctets block octets
+IsValueAt offset input None =
+    IsBlockAt offset input None
+    ⊎ ((block : List ℕ) × IsBlockAt offset input (Some block) × HoldsNoOctets block)

@@ -48,7 +48,8 @@ abbrev pub IsLines : Bool → Bool → Option ℕ → Finding → Verdict → Li
 IsLines colored strict most finding verdict text =
     (dump : List ℕ) × IsDump strict most finding verdict dump × IsShown colored dump text
 
--- a section of a page: a dump under the line of its label, and the octets. These elements of its rows are of the class of what is wrong
+-- a section of a page: a dump under the line of its label, and the octets. These elements of its rows are of the class
+-- of what is wrong
 abbrev pub IsSection : Bool → Option ℕ → Finding → Verdict → List ℕ → Type 0
 IsSection strict most finding verdict text =
     (dump : List ℕ) × (faults : List Bool) × IsDump strict most finding verdict dump

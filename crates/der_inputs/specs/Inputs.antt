@@ -2,7 +2,7 @@
 use Rattle.std.specs.Prelude.{◌≡◌, ◌≢◌, ◌⊎◌, ◌||◌, ℕ, Bool, true, false, List, [], ◌∷◌, ◌++◌, nat_lt}
 use Rattle.std.specs.Prelude.{Option, Some, None, IfSome}
 use Rattle.std.specs.Io.KnownBytes.{IsAtEnd}
-use Rattle.der_inputs.specs.Findings.{Finding, IsBlockAt, IsContentsAt, findings_of, unlabelled}
+use Rattle.der_inputs.specs.Findings.{Finding, IsBlockAt, IsContentsAt, IsValueAt, findings_of, unlabelled}
 use Rattle.der_inputs.specs.Forms.{IsName, IsText, form_by}
 use Rattle.der_inputs.specs.Outcomes.{all_read}
 use Rattle.der_inputs.specs.Texts.{AreTexts}
@@ -15,12 +15,13 @@ use Rattle.der_options.specs.declared.options.Color.{Color}
 use Rattle.der_options.specs.declared.options.Color.TheVariants.{Always}
 use Rattle.der_options.specs.declared.options.Options.{Options}
 use Rattle.der_options.specs.declared.options.Task.{Task}
-use Rattle.der_options.specs.declared.options.Task.TheVariants.{At, Contents, Dump, Extract}
+use Rattle.der_options.specs.declared.options.Task.TheVariants.{At, Contents, Dump, Extract, Value}
 
 -- names are told in JSON, and where there are several inputs, and not beside octets as they stand
 abbrev pub names_shown : Task → Bool → ℕ → Bool
 names_shown (Extract offset) json count = false
 names_shown (Contents offset) json count = false
+names_shown (Value offset) json count = false
 names_shown _ json count = json || nat_lt 1 count
 
 -- lines are colored where they always are, and not octets as they stand
@@ -31,6 +32,7 @@ is_always _ = false
 abbrev pub are_colors_shown : Task → Color → Bool
 are_colors_shown (Extract offset) color = false
 are_colors_shown (Contents offset) color = false
+are_colors_shown (Value offset) color = false
 are_colors_shown _ color = is_always color
 
 -- what is wanted of inputs: what is done with each, whether its name is told, and how findings are shown, as lines with
@@ -80,6 +82,8 @@ IsTaskText (Extract offset) wanted file input outcome text =
     (block : Option (List ℕ)) × IsBlockAt offset input block × IsPart block outcome text
 IsTaskText (Contents offset) wanted file input outcome text =
     (contents : Option (List ℕ)) × IsContentsAt offset input contents × IsPart contents outcome text
+IsTaskText (Value offset) wanted file input outcome text =
+    (octets : Option (List ℕ)) × IsValueAt offset input octets × IsPart octets outcome text
 
 -- so of octets in the file of this name, which is told or not
 abbrev pub IsNamedText : Bool → Wanted → List ℕ → List ℕ → Outcome → List ℕ → Type 0

@@ -1,17 +1,19 @@
 // What is found in an input.
-ghost use Rattle.std.specs.Prelude.{◌≡◌, ◌++◌, ◌∷◌, [], if◌then◌else◌, is_some, IfOk, OnOk, None, map};
+ghost use Rattle.std.specs.Prelude.{◌≡◌, ◌++◌, ◌∷◌, [], if◌then◌else◌, is_some, IfOk, MatchOption, OnOk, None, map};
 ghost use Rattle.std.specs.List.{flat_map};
 ghost use Rattle.der_forms.specs.Objects.{objects_of as objects_are};
 ghost use Rattle.der_forms.specs.Shown.{shown_object};
-ghost use Rattle.der_inputs.specs.Findings.{IsBlockAt, IsContentsAt, findings_in, findings_of, of_object, unlabelled};
+ghost use Rattle.der_inputs.specs.Findings.{IsBlockAt, IsContentsAt, IsValueAt, findings_in, findings_of, of_object};
+ghost use Rattle.der_inputs.specs.Findings.{unlabelled};
 ghost use Rattle.der_inputs.specs.Parts.{finding_in, octets_in};
 ghost use Rattle.der_lines.specs.Elements.{HasContents, IsElement};
+ghost use Rattle.der_lines.specs.StringOctets.{HoldsNoOctets, HoldsOctets};
 
 use der_forms::{
     Form, FormFault, Lines, PemFault, PemObject, document_of, fault_of_end, form_of, next_object,
     text_of,
 };
-use der_lines::{behind_header, block_at};
+use der_lines::{NoBlock, NoString, behind_header, block_at, string_octets};
 use std::alloc::{AllocError, Global};
 
 // Octets under their label, if they have one, or why there are none to be read.
@@ -149,8 +151,24 @@ pub fn block_of(
         Err(fault) => return Ok(Err(text_of_fault(alloc, &fault)?)),
     };
     match block_at(alloc, &document, offset)? {
-        Some(block) => Ok(Ok(copy_of(alloc, block)?)),
-        None => Ok(Err(format!(in alloc; "no block begins at offset {offset}")?)),
+        Ok(block) => Ok(Ok(copy_of(alloc, block)?)),
+        Err(why) => Ok(Err(text_of_none(alloc, why, offset)?)),
+    }
+}
+
+// Why no block begins at the offset.
+fn text_of_none(alloc: Global, why: NoBlock, offset: usize) -> Result<String, AllocError> {
+    match why {
+        NoBlock::EndOfContents => {
+            format!(in alloc;
+                "no block begins at offset {offset}: it is the end of an indefinite length"
+            )
+        }
+        NoBlock::Unreadable => {
+            format!(in alloc; "no block begins at offset {offset}: the bytes there are no header")
+        }
+        NoBlock::CutShort => format!(in alloc; "the block at offset {offset} is cut short"),
+        NoBlock::Nothing => format!(in alloc; "no block begins at offset {offset}"),
     }
 }
 
@@ -165,6 +183,41 @@ pub fn contents_of(
     match block_of(alloc, input, offset)? {
         Ok(block) => Ok(Ok(without_header(alloc, &block)?)),
         Err(why) => Ok(Err(why)),
+    }
+}
+
+// The octets that the string holds which begins there.
+pub fn value_of(
+    alloc: Global,
+    input: Vec<u8>,
+    offset: usize,
+) -> Result<Result<Vec<u8>, String>, AllocError>
+    ensures { IfOk result (λ found. IsValueAt offset input.items (octets_in found)) }
+{
+    match block_of(alloc, input, offset)? {
+        Ok(block) => octets_held(alloc, &block, offset),
+        Err(why) => Ok(Err(why)),
+    }
+}
+
+// The octets that a string holds which begins at the offset, or why a block holds none.
+fn octets_held(
+    alloc: Global,
+    block: &[u8],
+    offset: usize,
+) -> Result<Result<Vec<u8>, String>, AllocError>
+    ensures { IfOk result (λ found. MatchOption (octets_in found)
+        (HoldsNoOctets block.now)
+        (HoldsOctets block.now)) }
+{
+    match string_octets(alloc, block)? {
+        Ok(octets) => Ok(Ok(octets)),
+        Err(NoString::OtherType) => {
+            Ok(Err(format!(in alloc; "the block at offset {offset} is no string")?))
+        }
+        Err(NoString::Malformed) => {
+            Ok(Err(format!(in alloc; "the string at offset {offset} is malformed")?))
+        }
     }
 }
 

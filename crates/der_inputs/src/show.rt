@@ -279,7 +279,7 @@ fn are_colors_shown(task: Task, color: Color) -> bool
     ensures { result ≡ colors_shown task color }
 {
     match task {
-        Task::Extract(_) | Task::Contents(_) => false,
+        Task::Extract(_) | Task::Contents(_) | Task::Value(_) => false,
         _ => matches!(color, Color::Always),
     }
 }
@@ -289,7 +289,7 @@ fn are_names_shown(task: Task, is_json: bool, count: usize) -> bool
     ensures { result ≡ names_shown task is_json count }
 {
     match task {
-        Task::Extract(_) | Task::Contents(_) => false,
+        Task::Extract(_) | Task::Contents(_) | Task::Value(_) => false,
         _ => is_json || count > 1,
     }
 }

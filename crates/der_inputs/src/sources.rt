@@ -11,7 +11,7 @@ ghost use Rattle.der_inputs.specs.Parts.{octets_in, wanted_of};
 ghost use Rattle.der_inputs.specs.Texts.{AreTexts};
 ghost use Rattle.der_io.specs.declared.StreamFault.TheVariants.{Memory as memory_fault, Write as write_fault};
 
-use crate::found::{alone, block_of, contents_of, documents_of};
+use crate::found::{alone, block_of, contents_of, documents_of, value_of};
 use crate::outcome::{Outcome, greatest};
 use crate::show::Show;
 use der_io::{StreamFault, read_all, write_all};
@@ -162,6 +162,7 @@ fn push_input(
         }
         Task::Extract(offset) => push_part(block_of(show.alloc, input, offset)?, out),
         Task::Contents(offset) => push_part(contents_of(show.alloc, input, offset)?, out),
+        Task::Value(offset) => push_part(value_of(show.alloc, input, offset)?, out),
     }
 }
 

@@ -160,9 +160,11 @@ meant_opened header contents joined (Time text) fault value octets k u segments 
     of_segments u joined segments 0 octets (as_time time words v o refl)
 meant_opened header contents joined Value fault value octets k u segments (right, none) (inl (universal, text, v)) =
     of_segments u joined segments 0 octets (as_text universal text v refl)
-meant_opened header contents joined Value fault value octets k u segments (right, none) (inr (other, inl (nothing, wrong), o)) =
+meant_opened header contents joined Value fault value octets k u segments (right, none)
+    (inr (other, inl (nothing, wrong), o)) =
     of_none nothing
-meant_opened header contents joined Value fault value octets k u segments (right, none) (inr (other, inr (tree, turn, v), o)) =
+meant_opened header contents joined Value fault value octets k u segments (right, none)
+    (inr (other, inr (tree, turn, v), o)) =
     of_segments u joined segments 0 octets (with_value other tree turn v o refl)
 meant_opened header contents joined Nothing fault value octets k u segments is v = absurd v
 
@@ -257,11 +259,13 @@ module _ (left : List ℕ) (offset depth : ℕ) (rules : List Rule) (object : Ob
       (header : Header) (h : IsAtFront left header) (meaning : Meaning) → header.size + header.announced ≤ length left →
       IsMeaning header.class header.constructed header.tag
       (slice_range left header.size (header.size + header.announced)) offset meaning fault →
-      IsLeafValueOf header (slice_range left header.size (header.size + header.announced)) meaning fault (view object.value)
+      IsLeafValueOf header (slice_range left header.size (header.size + header.announced)) meaning fault
+      (view object.value)
       (option_map string_bytes object.octets) →
       AreShown object.offset header.class header.tag (slice_range left header.size (header.size + header.announced))
       (view object.value) (option_map string_bytes object.octets) (option_map fault_told object.fault)
-  meaning_shown header h (Text form text) whole (wide, none) (words, v, d) = in_their_form wide words v d (no_fault none)
+  meaning_shown header h (Text form text) whole (wide, none) (words, v, d) =
+      in_their_form wide words v d (no_fault none)
   meaning_shown header h (Time text) whole (time, none) (words, v, d) = as_time time words v d (no_fault none)
   meaning_shown header h Value whole (right, none) (inl (u, text, v)) = as_text u text v (no_fault none)
   meaning_shown header h Value whole (right, none) (inr (other, inl (nothing, (u, (found, wrong))), d)) =
@@ -293,17 +297,20 @@ module _ (left : List ℕ) (offset depth : ℕ) (rules : List Rule) (object : Ob
   leaf_judged header h contents meaning whole o e (inl (stray, nothing, there)) v =
       let (words, told) = told_nameless offset object.offset fault there in
       let is : IsLeafValueOf header contents Nothing fault (view object.value) (option_map string_bytes object.octets) =
-      subst (λ z. IsLeafValueOf header contents z fault (view object.value) (option_map string_bytes object.octets)) nothing v in
+      subst (λ z. IsLeafValueOf header contents z fault (view object.value) (option_map string_bytes object.octets))
+      nothing v in
       of_stray_form stray is.0 (is.1 ∙ wrong_nameless offset fault contents there) words (told_is ∙ told)
   leaf_judged header h contents meaning whole o e (inr (stray, is)) v =
       with_contents o
       (meaning_shown header h meaning whole is
-      (subst (λ z. IsLeafValueOf header z meaning fault (view object.value) (option_map string_bytes object.octets)) e v))
+      (subst (λ z. IsLeafValueOf header z meaning fault (view object.value) (option_map string_bytes object.octets)) e
+      v))
 
   -- the object of a piece of each kind
   pub row_is :
       (kind : Kind) → object.size ≡ kind_size kind → IsTagOf kind object.tag →
-      IsPieceValue kind fault (view object.value) (option_map string_bytes object.octets) → IsKind left offset kind fault →
+      IsPieceValue kind fault (view object.value) (option_map string_bytes object.octets) →
+      IsKind left offset kind fault →
       IsRowOf left (kind_front offset depth rules false kind) (row_of object inside marks)
   row_is (EndOfContents size) s t (v, d) k = of_end (record {
     words = refl;
@@ -336,10 +343,12 @@ module _ (left : List ℕ) (offset depth : ℕ) (rules : List Rule) (object : Ob
       let n : length (drop header.size left) ≡ length left - header.size = length-drop header.size left in
       let there : length contents.now ≡ length (drop header.size left) = ap length e in
       encoding_row header h
-      (s ∙ size_by header.is_indefinite _ (header.size + header.announced) (length left) (λ _. omega (arith, n, there, l, h.within)))
+      (s ∙ size_by header.is_indefinite _ (header.size + header.announced) (length left)
+      (λ _. omega (arith, n, there, l, h.within)))
       t
       (cut_short l
-      (v ∙ ap (λ z. if is_gone_into header.class header.constructed header.tag then null else string (encode_lower z)) e)
+      (v ∙ ap (λ z. if is_gone_into header.class header.constructed header.tag then null else string (encode_lower z))
+      e)
       d words (told_is ∙ told))
   row_is (Opened header contents) s t (v, d) (h, whole, o, e, is) =
       let all = header.size + header.announced in

@@ -159,8 +159,8 @@ pub data IsTextValue (tag : ℕ) (contents : List ℕ) (value : Data) (octets : 
       IsTextValue tag contents value octets
 
 -- what is shown of contents octets of a primitive encoding at the offset: the characters of a string that the library
--- takes for UTF-8; the text of a time of BER; a text of a type that it does not read; their value; or null, where they have none, these octets in
--- hex digits, and what is wrong with them
+-- takes for UTF-8; the text of a time of BER; a text of a type that it does not read; their value; or null, where they
+-- have none, these octets in hex digits, and what is wrong with them
 pub data AreShown (offset : ℕ) (class : ASN1Class) (tag : ℕ) (contents : List ℕ) (value : Data)
     (octets : Option (List ℕ)) (fault : Option ToldFault) : Type 0 where
   in_their_form :

@@ -88,7 +88,8 @@ some_text place strict octets most found marks x y w rest v i z m these put same
 
 pub some_put :
     (place : Place) (strict : Bool) (octets : List ℕ) (most : Option ℕ) (found : Found) (marks : List Marked)
-    (a b c d : Printer) (verdict : Result Verdict AllocError) → place.is_inside ≡ false → place.base ≡ 0 → place.most_depth ≡ most →
+    (a b c d : Printer) (verdict : Result Verdict AllocError) → place.is_inside ≡ false → place.base ≡ 0 →
+    place.most_depth ≡ most →
     marks ≡ marks_by strict found.marks.items → IsPrinted (IsWholeDump place octets found) a b →
     IsPrinted (AreFaultLines (mark_offsets marks)) b c →
     IfOk verdict (λ v. IsPrinted (IsLast found.fault (mark_offsets marks) v) c d) →
@@ -96,7 +97,8 @@ pub some_put :
 some_put place strict octets most found marks a b c d (Err e) i z m these put lines last = last
 some_put place strict octets most found marks a b c d (Ok v) i z m these put lines last =
     printed_both _ _ (IsDumpOfSome strict most octets v) a b d
-    (λ x rest dump (y, w, is, are, end). some_text place strict octets most found marks x y w rest v i z m these dump is are end)
+    (λ x rest dump (y, w, is, are, end). some_text place strict octets most found marks x y w rest v i z m these dump is
+    are end)
     put
     (printed_both _ _
     (λ rest. (y w : List ℕ) × (rest ≡ y ++ w) × AreFaultLines (mark_offsets marks) y

@@ -128,7 +128,8 @@ row_block row f o h c i d w m width line is =
     let value = on_one_line row.value.now in
     let fault = on_one_line (fault_words row) in
     let same : line ≡
-    replicate (width - length (decimal f.offset)) 32 ++ (decimal f.offset ++ (32 ∷ [] ++ (right_of 2 f.header ++ (32 ∷ []
+    replicate (width - length (decimal f.offset)) 32
+    ++ (decimal f.offset ++ (32 ∷ [] ++ (right_of 2 f.header ++ (32 ∷ []
     ++ (contents_column f.indefinite f.contents ++ (32 ∷ 32 ∷ []
     ++ (indentation f.depth ++ (f.words ++ ((value ++ fault) ++ row.mark.now)))))))))
     = rw (is, o, h, c, i, d, w) (simp append_assoc) in

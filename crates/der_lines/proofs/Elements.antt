@@ -396,3 +396,35 @@ is_not true e f =
     let never : false ≡ true = e in
     absurd (cc never)
 is_not false e f = absurd (cc f)
+
+-- octets without a header begin with no element
+pub no_header_no_element : (xs : List ℕ) → HasNoHeader xs → HasNoElement xs
+no_header_no_element xs none element at = without at.is_element
+  where
+    without : IsElement element → ⊥
+    without (of_definite_form definite encoding) =
+        let f = encoding.encoding in
+        none (f.identifier ++ f.len) (encoding.contents ++ at.rest) (
+          f.identifier,
+          f.len,
+          refl,
+          (encoding.tag, (encoding.class, encoding.constructed, f.identifier_octets)),
+          (length encoding.contents, f.length_octets),
+        )
+        (at.at_front ∙ (ap (λ z. z ++ at.rest) f.whole
+        ∙ (append_assoc f.identifier (f.len ++ encoding.contents) at.rest
+        ∙ (ap (λ z. f.identifier ++ z) (append_assoc f.len encoding.contents at.rest)
+        ∙ sym (append_assoc f.identifier f.len (encoding.contents ++ at.rest))))))
+    without (of_indefinite_form contents standing inside) =
+        no_form xs none (subst HasIndefiniteForm (sym at.at_front)
+        (form_longer element at.rest (form_of element (contents ++ end_octets) standing)))
+
+pub nothing_no_element : (xs : List ℕ) → xs ≡ [] → HasNoElement xs
+nothing_no_element xs none element at =
+    absurd (omega (
+      arith,
+      ap length none,
+      ap length at.at_front,
+      length-append element at.rest,
+      element_two element at.is_element,
+    ))

@@ -7,5 +7,6 @@ pub mod Fronts
 mod Headers
 mod Seeking
 mod Segments
+mod StringOctets
 pub mod Lengths
 pub mod Told

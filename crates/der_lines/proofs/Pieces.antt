@@ -208,9 +208,11 @@ whole_rules left header rules whole found front = of_whole whole (found front)
 -- the lines of encodings inside contents octets, and their marks
 pub nested_adds :
     (inside : Place) (left : List ℕ) (piece : Piece) (octets : List ℕ) (before : ℕ) (told : Found) (a b : Printer) →
-    StandAt (slice_range left (kind_header piece.kind) (kind_header piece.kind + kind_contents piece.kind)) before octets →
+    StandAt (slice_range left (kind_header piece.kind) (kind_header piece.kind + kind_contents piece.kind)) before
+    octets →
     inside.is_inside ≡ true → inside.base ≡ piece.place.base + (piece.offset + kind_header piece.kind) + before →
-    IsPrinted (IsWholeDump inside octets told) a b → IsPrinted (IsNestedDump left piece (mark_offsets told.marks.items)) a b
+    IsPrinted (IsWholeDump inside octets told) a b →
+    IsPrinted (IsNestedDump left piece (mark_offsets told.marks.items)) a b
 nested_adds inside left piece octets before told a b stand is_inside further (faults, (text, e, put)) =
     let header = kind_header piece.kind in
     let base = piece.place.base + (piece.offset + header) in
@@ -224,9 +226,11 @@ nested_adds inside left piece octets before told a b stand is_inside further (fa
         e,
         (
           dump_map (StandsInside inside.base octets) (StandsInPiece left piece) deeper [] text
-              (subst (λ z. IsDump (StandsInside inside.base octets) (outer z inside.most_depth put.fronts) text) is_inside put.dump),
+              (subst (λ z. IsDump (StandsInside inside.base octets) (outer z inside.most_depth put.fronts) text)
+              is_inside put.dump),
           marked_map (StandsInside inside.base octets) (StandsInPiece left piece) deeper [] marks
-              (subst (λ z. AreMarked (StandsInside inside.base octets) (counted z put.fronts) marks) is_inside put.marks),
+              (subst (λ z. AreMarked (StandsInside inside.base octets) (counted z put.fronts) marks) is_inside
+              put.marks),
         ),
       ),
     )

@@ -1,21 +1,24 @@
 -- Where encodings begin, header after header.
-use Rattle.std.proofs.Common.{◌≡◌, ℕ, zero, suc, nat_lt, ◌+◌, ◌<◌, ◌≤◌, min, Bool, Bor, true, false, List, [], ◌∷◌, ◌++◌, drop, length, take}
-use Rattle.std.proofs.Common.{refl, sym, ap, ◌∙◌, subst, append_assoc, arith}
-use Rattle.std.specs.Prelude.{◌↔◌, Err, IfOk, MatchOption, None, Ok, Option, Result, Some}
+use Rattle.std.proofs.Common.{◌≡◌, ◌⊎◌, ℕ, zero, suc, nat_lt, ◌+◌, ◌<◌, ◌≤◌, min, Bool, Bor, true, false, List, [], ◌∷◌}
+use Rattle.std.proofs.Common.{◌++◌, drop, length, take, inl, inr, refl, sym, ap, ◌∙◌, subst, append_assoc, arith}
+use Rattle.std.specs.Prelude.{◌↔◌, Err, IfErr, IfOk, Ok, Result}
 use Rattle.std.proofs.lemmas.List.{drop-drop, drop_at, drop_min, length-append, length-take-le, take-append-drop, take_min}
-use Rattle.asn1_headers.specs.Header.{IsIdentifier}
+use Rattle.asn1_headers.specs.Header.{IsIdentifier, IsLength}
 use Rattle.asn1_headers.specs.declared.header.ASN1Class.{ASN1Class}
 use Rattle.asn1_headers.specs.declared.header.ASN1Class.TheVariants.{Universal}
 use Rattle.asn1_headers.proofs.Prefixes.{encoding_alone, identifier_alone, length_alone}
 use Rattle.asn1_blocks.specs.Places.{EncodingAt, HasNoEncodingAt, IsEncoding}
 use Rattle.asn1_headers.specs.Front.{BeginsWithHeader, HasIndefiniteForm, HasNoHeader}
-use Rattle.der_lines.specs.Dump.{begins_with_end}
+use Rattle.der_lines.specs.Dump.{begins_with_end, is_stray_form}
 use Rattle.der_lines.specs.Elements.{ElementAt, HasNoElement}
 use Rattle.der_lines.specs.Headers.{is_gone_into}
-use Rattle.der_lines.proofs.Elements.{end_is}
-use Rattle.der_lines.specs.Seek.{AreEncodings, BeginsAt, BeginsIn, HasNoBlockAt, Holds, LeadsTo, begins_first, begins_further}
-use Rattle.der_lines.specs.Seek.{behind_element, behind_end, behind_indefinite, ends_contents, holds_bits, holds_blocks}
-use Rattle.der_lines.specs.Seek.{holds_octets, inside_element, none_left, one_first}
+use Rattle.der_lines.proofs.Elements.{end_is, no_header_no_element, nothing_no_element}
+use Rattle.der_lines.specs.Seek.{AreEncodings, BeginsAt, HasNoBlockAt, Holds, LacksBlock, LeadsTo, Reaches, behind_element}
+use Rattle.der_lines.specs.Seek.{behind_end, behind_indefinite, ends_contents, holds_bits, holds_blocks, holds_octets}
+use Rattle.der_lines.specs.Seek.{inside_element, is_further, is_here, none_left, one_first}
+use Rattle.der_lines.specs.SeekSteps.{StandsThere}
+use Rattle.der_lines.specs.declared.seek.NoBlock.{NoBlock}
+use Rattle.der_lines.specs.declared.seek.NoBlock.TheVariants.{CutShort, EndOfContents, Nothing, Unreadable}
 
 identifier_some : (xs : List ℕ) (c : ASN1Class) (k : Bool) (t : ℕ) → IsIdentifier xs c k t → 0 < length xs
 identifier_some [] c k t h = absurd h
@@ -70,6 +73,44 @@ header_alone octets s n c k t s' n' c' k' t' h g =
     )
     in
     record { size = size; announced = l.number; class = i.class; constructed = i.constructed; tag = i.tag }
+
+-- two headers at the front have the same identifier octets
+pub identifier_same :
+    (octets : List ℕ) (s n : ℕ) (c : ASN1Class) (k : Bool) (t : ℕ) (s' n' : ℕ) (c' : ASN1Class) (k' : Bool) (t' : ℕ)
+    (h : BeginsWithHeader octets s n c k t) (g : BeginsWithHeader octets s' n' c' k' t') → h.identifier ≡ g.identifier
+identifier_same octets s n c k t s' n' c' k' t' h g =
+    let whole = sym (front_parts octets s n c k t h) ∙ front_parts octets s' n' c' k' t' g in
+    let i =
+    identifier_alone h.identifier g.identifier (h.len ++ drop s octets) (g.len ++ drop s' octets) c c' k k' t t'
+    h.fields
+    g.fields whole
+    in
+    i.octets
+
+-- and the same form of length
+pub stray_same :
+    (octets : List ℕ) (s n : ℕ) (c : ASN1Class) (k : Bool) (t : ℕ) (s' n' : ℕ) (c' : ASN1Class) (k' : Bool) (t' : ℕ)
+    (h : BeginsWithHeader octets s n c k t) (g : BeginsWithHeader octets s' n' c' k' t') →
+    is_stray_form k (drop (length h.identifier) octets) ≡ is_stray_form k' (drop (length g.identifier) octets)
+stray_same octets s n c k t s' n' c' k' t' h g =
+    let same = header_alone octets s n c k t s' n' c' k' t' h g in
+    ap (λ z. is_stray_form z (drop (length h.identifier) octets)) same.constructed
+    ∙ ap (λ z. is_stray_form k' (drop (length z) octets)) (identifier_same octets s n c k t s' n' c' k' t' h g)
+
+-- a header with the fields of another one
+pub moved :
+    (octets : List ℕ) (s n : ℕ) (c : ASN1Class) (k : Bool) (t : ℕ) (s' n' : ℕ) (c' : ASN1Class) (k' : Bool) (t' : ℕ) →
+    BeginsWithHeader octets s n c k t → SameHeader s n c k t s' n' c' k' t' → BeginsWithHeader octets s' n' c' k' t'
+moved octets s n c k t s' n' c' k' t' h same = record {
+  within = subst (λ z. z ≤ length octets) same.size h.within;
+  identifier = h.identifier;
+  len = h.len;
+  front_is = subst (λ z. take z octets ≡ h.identifier ++ h.len) same.size h.front_is;
+  fields = subst (λ z. IsIdentifier h.identifier z k' t') same.class
+      (subst (λ z. IsIdentifier h.identifier c z t') same.constructed
+      (subst (λ z. IsIdentifier h.identifier c k z) same.tag h.fields));
+  length_octets = subst (λ z. IsLength h.len z) same.announced h.length_octets;
+}
 
 -- where no header stands, no block is looked for
 pub no_header_begins :
@@ -213,24 +254,24 @@ leads_alone o xs d a a' ys ys' _ _ (behind_indefinite s n c k t _ h _ p e f)
       later = omega (arith, same.size, f, f');
     }
 
--- what begins further on begins where it leads to
-pub begins_there :
-    (o : ℕ) (xs : List ℕ) (d a : ℕ) (ys : List ℕ) (l : ℕ) → 0 < d → LeadsTo o xs d a ys l → (block : List ℕ) →
-    BeginsIn o xs d block ↔ BeginsIn a ys l block
-begins_there o xs d a ys l some leads block = (to, λ at. begins_further a ys l leads at)
+-- what stands further on stands where it leads to
+pub reaches_there :
+    (o : ℕ) (xs : List ℕ) (d a : ℕ) (ys : List ℕ) (l : ℕ) → 0 < d → LeadsTo o xs d a ys l → (e : ℕ) (zs : List ℕ) →
+    Reaches o xs d e zs ↔ Reaches a ys l e zs
+reaches_there o xs d a ys l some leads e zs = (to, λ at. is_further a ys l leads at)
   where
-    to : BeginsIn o xs d block → BeginsIn a ys l block
-    to (begins_first e not at) = absurd (omega (arith, e, some))
-    to (begins_further a' ys' l' leads' at) =
+    to : Reaches o xs d e zs → Reaches a ys l e zs
+    to (is_here none around others) = absurd (omega (arith, none, some))
+    to (is_further a' ys' l' leads' at) =
         let same = leads_alone o xs d a' a ys' ys l' l leads' leads in
-        subst (λ z. BeginsIn z ys l block) same.around
-        (subst (λ z. BeginsIn a' z l block) same.others (subst (λ z. BeginsIn a' ys' z block) same.later at))
+        subst (λ z. Reaches z ys l e zs) same.around
+        (subst (λ z. Reaches a' z l e zs) same.others (subst (λ z. Reaches a' ys' z e zs) same.later at))
 
-pub begins_nowhere :
+pub reaches_nowhere :
     (o : ℕ) (xs : List ℕ) (d : ℕ) → 0 < d →
-    ((a : ℕ) (ys : List ℕ) (l : ℕ) → LeadsTo o xs d a ys l → ⊥) → (block : List ℕ) → BeginsIn o xs d block → ⊥
-begins_nowhere o xs d some none block (begins_first e not at) = absurd (omega (arith, e, some))
-begins_nowhere o xs d some none block (begins_further a ys l leads at) = none a ys l leads
+    ((a : ℕ) (ys : List ℕ) (l : ℕ) → LeadsTo o xs d a ys l → ⊥) → (e : ℕ) (zs : List ℕ) → Reaches o xs d e zs → ⊥
+reaches_nowhere o xs d some none e zs (is_here here around others) = absurd (omega (arith, here, some))
+reaches_nowhere o xs d some none e zs (is_further a ys l leads at) = none a ys l leads
 
 module _ (o : ℕ) (xs : List ℕ) (d : ℕ) where
   module _ (no_end : ends_contents o xs ≡ false) where
@@ -283,47 +324,78 @@ pub rest_of :
 rest_of octets behind after s n m b e is =
     is ∙ (ap (λ k. drop k behind) e ∙ (drop_min n behind ∙ (ap (drop n) b ∙ drop-drop n s octets)))
 
--- at the front begins the element there
-pub begins_here :
-    (o : ℕ) (xs block : List ℕ) → BeginsIn o xs 0 block → (ends_contents o xs ≡ false) × ElementAt xs block
-begins_here o xs block (begins_first e not at) = (not, at)
-begins_here o xs block (begins_further a ys l (behind_end p i e f) at) = absurd (omega (arith, f))
-begins_here o xs block (begins_further a ys l (behind_element s n c k t not h form p e f) at) =
-    absurd (omega (arith, f, header_some xs s n c k t h))
-begins_here o xs block (begins_further a ys l (inside_element s n c k t b not h form p e m f) at) =
-    absurd (omega (arith, f, header_some xs s n c k t h))
-begins_here o xs block (begins_further a ys l (behind_indefinite s n c k t not h form p e f) at) =
-    absurd (omega (arith, f, header_some xs s n c k t h))
+record IsSame (o a : ℕ) (xs ys : List ℕ) : Type 0 where
+  pub around : a ≡ o
+  pub others : ys ≡ xs
 
--- what was found at the end of the way
-pub found_at :
-    (xs left : List ℕ) (offset depth distance : ℕ) (r : Option (Bor (List ℕ))) → distance ≡ 0 →
-    ((block : List ℕ) → BeginsIn 0 xs offset block ↔ BeginsIn depth left distance block) →
-    ends_contents depth left ≡ false → MatchOption r (HasNoElement left) (λ e. ElementAt left e.now) →
-    MatchOption r (HasNoBlockAt xs offset) (λ block. BeginsAt xs offset block.now)
-found_at xs left offset depth distance None z same not none =
-    λ block h.
-    none block (begins_here depth left block (subst (λ d. BeginsIn depth left d block) z ((same block).0 h))).1
-found_at xs left offset depth distance (Some e) z same not found = (same e.now).1 (begins_first z not found)
+-- at the front stand the octets themselves
+reaches_itself : (o : ℕ) (xs : List ℕ) (d a : ℕ) (ys : List ℕ) → d ≡ 0 → Reaches o xs d a ys → IsSame o a xs ys
+reaches_itself o xs d a ys z (is_here none around others) = record { around = around; others = others }
+reaches_itself o xs d a ys z (is_further b zs l (behind_end p i e f) at) = absurd (omega (arith, z, f))
+reaches_itself o xs d a ys z (is_further b zs l (behind_element s n c k t not h form p e f) at) =
+    absurd (omega (arith, z, f, header_some xs s n c k t h))
+reaches_itself o xs d a ys z (is_further b zs l (inside_element s n c k t before not h form p e m f) at) =
+    absurd (omega (arith, z, f, header_some xs s n c k t h))
+reaches_itself o xs d a ys z (is_further b zs l (behind_indefinite s n c k t not h form p e f) at) =
+    absurd (omega (arith, z, f, header_some xs s n c k t h))
 
-pub found_in :
-    {E : Type 0} (xs left : List ℕ) (offset depth distance : ℕ) (r : Result (Option (Bor (List ℕ))) E) → distance ≡ 0 →
-    ((block : List ℕ) → BeginsIn 0 xs offset block ↔ BeginsIn depth left distance block) →
-    ends_contents depth left ≡ false → IfOk r (λ o. MatchOption o (HasNoElement left) (λ e. ElementAt left e.now)) →
-    IfOk r (λ o. MatchOption o (HasNoBlockAt xs offset) (λ block. BeginsAt xs offset block.now))
-found_in xs left offset depth distance (Ok o) z same not found =
-    found_at xs left offset depth distance o z same not found
-found_in xs left offset depth distance (Err e) z same not found = tt
+-- what is so of a value is also otherwise
+pub if_ok : {A E : Type 0} {P Q : A → Type 0} (r : Result A E) → ((a : A) → P a → Q a) → IfOk r P → IfOk r Q
+if_ok (Ok a) f h = f a h
+if_ok (Err e) f h = tt
 
--- at the end of contents octets no element begins
-pub none_at_end :
-    (xs left : List ℕ) (offset depth distance : ℕ) → distance ≡ 0 →
-    ((block : List ℕ) → BeginsIn 0 xs offset block ↔ BeginsIn depth left distance block) →
-    ends_contents depth left ≡ true → HasNoBlockAt xs offset
-none_at_end xs left offset depth distance z same is block h =
-    let (not, at) = begins_here depth left block (subst (λ d. BeginsIn depth left d block) z ((same block).0 h)) in
-    let so : true ≡ false = sym is ∙ not in
-    absurd (cc so)
+-- what was found at the end of the way, or was not
+module _
+    (xs left : List ℕ) (offset depth distance : ℕ) (here : distance ≡ 0)
+    (same : (a : ℕ) (ys : List ℕ) → Reaches 0 xs offset a ys ↔ Reaches depth left distance a ys) where
+  reached : Reaches 0 xs offset depth left
+  reached = (same depth left).1 (is_here here refl refl)
+
+  found_here : (block : List ℕ) → ends_contents depth left ≡ false → ElementAt left block → BeginsAt xs offset block
+  found_here block no_end element = record {
+    around = depth;
+    others = left;
+    reached = reached;
+    no_end = no_end;
+    element = element;
+  }
+
+  itself : (a : ℕ) (ys : List ℕ) → Reaches 0 xs offset a ys → IsSame depth a left ys
+  itself a ys h = reaches_itself depth left distance a ys here ((same a ys).0 h)
+
+  none_here : (HasNoElement left ⊎ (ends_contents depth left ≡ true)) → HasNoBlockAt xs offset
+  none_here (inl none) block h =
+      let is = itself h.around h.others h.reached in
+      none block (subst (λ z. ElementAt z block) is.others h.element)
+  none_here (inr ends) block h =
+      let is = itself h.around h.others h.reached in
+      let never : true ≡ false =
+      sym ends ∙ (ap (λ z. ends_contents z left) (sym is.around)
+      ∙ (ap (ends_contents h.around) (sym is.others) ∙ h.no_end)) in
+      absurd (cc never)
+
+  nothing_here : left ≡ [] → LacksBlock xs offset Nothing
+  nothing_here none a ys h = (itself a ys h).others ∙ none
+
+  pub found_at :
+      (r : Result (Bor (List ℕ)) NoBlock) → StandsThere depth left r → IfOk r (λ block. BeginsAt xs offset block.now)
+  found_at (Ok block) (no_end, element) = found_here block.now no_end element
+  found_at (Err why) h = tt
+
+  pub none_at :
+      (r : Result (Bor (List ℕ)) NoBlock) → StandsThere depth left r → IfErr r (λ _. HasNoBlockAt xs offset)
+  none_at (Ok block) h = tt
+  none_at (Err EndOfContents) ends = none_here (inr ends)
+  none_at (Err Unreadable) (no_end, some, none) = none_here (inl (no_header_no_element left none))
+  none_at (Err CutShort) (no_end, header, none) = none_here (inl none)
+  none_at (Err Nothing) none = none_here (inl (nothing_no_element left none))
+
+  pub why_at : (r : Result (Bor (List ℕ)) NoBlock) → StandsThere depth left r → IfErr r (LacksBlock xs offset)
+  why_at (Ok block) h = tt
+  why_at (Err EndOfContents) h = (depth, left, reached, h)
+  why_at (Err Unreadable) h = (depth, left, reached, h)
+  why_at (Err CutShort) h = (depth, left, reached, h)
+  why_at (Err Nothing) h = nothing_here h
 
 -- an encoding has octets
 encoding_some : (octets : List ℕ) → IsEncoding octets → 0 < length octets

@@ -1,6 +1,6 @@
 -- What is written of octets: lines, one for each encoding in order, by their headers. The contents octets of
 -- constructed encodings, and of each SEQUENCE and SET, are gone into; those of others are looked at alone.
-use Rattle.std.specs.Prelude.{◌↔◌, ◌&&◌, not, IsTrue}
+use Rattle.std.specs.Prelude.{◌↔◌, ◌&&◌, not, IsTrue, ◌-◌}
 use Rattle.std.specs.Prelude.{◌≡◌, ◌⊎◌, ◌==◌, ◌||◌, ℕ, ◌+◌, ◌^◌, ◌<◌, ◌≤◌, min, nat_lt, Bool, true, false}
 use Rattle.std.specs.Prelude.{if◌then◌else◌, Option, None, Some, unwrap_or, List, [], ◌∷◌, ◌++◌, drop, length, take}
 use Rattle.std.specs.Prelude.{replicate, slice_range, codes, decimal}
@@ -22,6 +22,7 @@ use Rattle.der_lines.specs.declared.document.Verdict.TheVariants.{AllRead, Refus
 use Rattle.asn1_headers.specs.Names.{type_name}
 use Rattle.der_values.specs.Times.{IsTime}
 use Rattle.der_io.specs.Characters.{colon, exclamation_mark, greater_than_sign, line_feed, space}
+use Rattle.der_rows.specs.Rows.{IsOneLine, contents_column, indentation, on_one_line, right_of}
 
 -- a tag number in words: in decimal below 2^128
 abbrev pub tag_number : ℕ → List ℕ
@@ -38,8 +39,7 @@ tag_words Private tag = codes "[PRIVATE " ++ (tag_number tag ++ codes "]")
 -- what the line of an encoding begins with: its offset, the sizes of its header and of the contents octets that it
 -- announces, whether its length is of the indefinite form, which announces none, how many encodings are around it, and
 -- its tag in words; and what its mark says: the rules of DER that it breaks, and whether it is a list of named bits
--- with
--- a 0 at its end (X.690 11.2.2)
+-- with a 0 at its end (X.690 11.2.2)
 pub record Front : Type 0 where
   pub offset : ℕ
   pub header : ℕ

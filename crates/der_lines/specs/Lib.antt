@@ -4,7 +4,9 @@ pub mod Headers
 pub mod Pieces
 pub mod Seek
 pub mod SeekSteps
+pub mod StringSteps
 pub mod Segments
+pub mod StringOctets
 pub mod Steps
 pub mod LengthForm
 pub mod Marks

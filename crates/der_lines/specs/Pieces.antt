@@ -13,7 +13,7 @@ use Rattle.asn1_headers.specs.declared.header.ASN1Class.TheVariants.{Universal}
 use Rattle.asn1_blocks.specs.Contents.{LeafFault}
 use Rattle.asn1_blocks.specs.Grammar.{Encodes}
 use Rattle.asn1_blocks.specs.Tree.{Tree}
-use Rattle.der_lines.specs.Dump.{AreMarked, Front, IsBerTime, IsDump, StandAt, StandsInside, is_stray_form, is_wide, tag_words, taken}
+use Rattle.der_lines.specs.Dump.{AreMarked, Front, IsBerTime, IsDump, StandAt, StandsInside, is_stray_form, is_wide, tag_words, taken, is_too_deep}
 use Rattle.der_lines.specs.Headers.{is_gone_into}
 use Rattle.der_lines.specs.Steps.{IsAhead, IsStart, StartsNext, StartsWith, to_go}
 use Rattle.der_lines.specs.declared.cursor.Left.{Left}

@@ -1,12 +1,14 @@
 -- At which offsets of a document elements begin, by headers that follow one another from its front.
-use Rattle.std.specs.Prelude.{◌≡◌, ℕ, zero, suc, ◌+◌, ◌<◌, Bool, true, false, List, [], ◌∷◌, ◌++◌, drop, take}
+use Rattle.std.specs.Prelude.{◌≡◌, ℕ, zero, suc, ◌+◌, ◌<◌, Bool, true, false, List, [], ◌∷◌, ◌++◌, drop, length, take}
 use Rattle.asn1_headers.specs.declared.header.ASN1Class.{ASN1Class}
 use Rattle.asn1_headers.specs.declared.header.ASN1Class.TheVariants.{Universal}
 use Rattle.asn1_blocks.specs.Places.{IsEncoding}
-use Rattle.asn1_headers.specs.Front.{BeginsWithHeader, HasIndefiniteForm}
+use Rattle.asn1_headers.specs.Front.{BeginsWithHeader, HasIndefiniteForm, HasNoHeader}
 use Rattle.der_lines.specs.Dump.{begins_with_end}
-use Rattle.der_lines.specs.Elements.{ElementAt}
+use Rattle.der_lines.specs.Elements.{ElementAt, HasNoElement}
 use Rattle.der_lines.specs.Headers.{is_gone_into}
+use Rattle.der_lines.specs.declared.seek.NoBlock.{NoBlock}
+use Rattle.der_lines.specs.declared.seek.NoBlock.TheVariants.{CutShort, EndOfContents, Nothing, Unreadable}
 
 -- the octets are encodings, one after another to the end
 pub data AreEncodings : List ℕ → Type 0 where
@@ -61,21 +63,40 @@ pub data LeadsTo (depth : ℕ) (octets : List ℕ) (offset : ℕ) (around : ℕ)
       HasIndefiniteForm octets → around ≡ suc depth → others ≡ drop size octets → offset ≡ size + later →
       LeadsTo depth octets offset around others later
 
--- this element begins at the offset of octets that stand inside so many contents octets of the indefinite form: at the
--- front, where no end-of-contents octets stand; or where it leads to
-pub data BeginsIn : ℕ → List ℕ → ℕ → List ℕ → Type 0 where
-  begins_first :
-      {depth : ℕ} {octets : List ℕ} {offset : ℕ} {block : List ℕ} →
-      offset ≡ 0 → ends_contents depth octets ≡ false → ElementAt octets block → BeginsIn depth octets offset block
-  begins_further :
-      {depth : ℕ} {octets : List ℕ} {offset : ℕ} {block : List ℕ} (around : ℕ) (others : List ℕ) (later : ℕ) →
-      LeadsTo depth octets offset around others later → BeginsIn around others later block →
-      BeginsIn depth octets offset block
+-- at the offset of octets, which stand inside so many contents octets of the indefinite form, these others begin, which
+-- stand inside so many
+pub data Reaches : ℕ → List ℕ → ℕ → ℕ → List ℕ → Type 0 where
+  is_here :
+      {depth : ℕ} {octets : List ℕ} {offset around : ℕ} {others : List ℕ} →
+      offset ≡ 0 → around ≡ depth → others ≡ octets → Reaches depth octets offset around others
+  is_further :
+      {depth : ℕ} {octets : List ℕ} {offset around : ℕ} {others : List ℕ} (inside : ℕ) (nearer : List ℕ) (later : ℕ) →
+      LeadsTo depth octets offset inside nearer later → Reaches inside nearer later around others →
+      Reaches depth octets offset around others
 
--- this element begins at the offset
-abbrev pub BeginsAt : List ℕ → ℕ → List ℕ → Type 0
-BeginsAt octets offset block = BeginsIn 0 octets offset block
+-- this element begins at the offset, where no end-of-contents octets stand
+pub record BeginsAt (octets : List ℕ) (offset : ℕ) (block : List ℕ) : Type 0 where
+  pub around : ℕ
+  pub others : List ℕ
+  pub reached : Reaches 0 octets offset around others
+  pub no_end : ends_contents around others ≡ false
+  pub element : ElementAt others block
 
 -- no element begins there
 abbrev pub HasNoBlockAt : List ℕ → ℕ → Type 0
 HasNoBlockAt octets offset = (block : List ℕ) → BeginsAt octets offset block → ⊥
+
+-- why none does: by what stands there, end-of-contents octets or octets that begin with no header or with that of an
+-- element which is not whole; or nothing stands there that headers lead to
+abbrev pub IsWhyNone : NoBlock → ℕ → List ℕ → Type 0
+IsWhyNone EndOfContents around others = ends_contents around others ≡ true
+IsWhyNone Unreadable around others =
+    (ends_contents around others ≡ false) × (0 < length others) × HasNoHeader others
+IsWhyNone CutShort around others =
+    (ends_contents around others ≡ false) × (HasNoHeader others → ⊥) × HasNoElement others
+IsWhyNone Nothing around others = ⊥
+
+abbrev pub LacksBlock : List ℕ → ℕ → NoBlock → Type 0
+LacksBlock octets offset Nothing = (around : ℕ) (others : List ℕ) → Reaches 0 octets offset around others → others ≡ []
+LacksBlock octets offset why =
+    (around : ℕ) × (others : List ℕ) × Reaches 0 octets offset around others × IsWhyNone why around others

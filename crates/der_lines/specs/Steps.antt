@@ -2,6 +2,7 @@
 use Rattle.std.specs.Prelude.{◌≡◌, ◌⊎◌, ◌&&◌, ℕ, ◌+◌, ◌<◌, Option, Bool, true, false, List, [], ◌∷◌, drop, length}
 use Rattle.std.specs.Prelude.{⊤, ◌↔◌, ◌≤◌, ◌*◌, ◌-◌, IsTrue, reverse, slice_range}
 use Rattle.std.specs.Prelude.{MatchOption, None, Some, map}
+use Rattle.asn1_headers.specs.declared.header.ASN1Class.{ASN1Class}
 use Rattle.asn1_headers.specs.declared.header.ASN1Class.TheVariants.{Universal}
 use Rattle.der_lines.specs.Dump.{AreFronts, AreFrontsOf, Front, IsBlockLine, IsDump, IsFirst, IsInsideLine}
 use Rattle.der_lines.specs.Dump.{AreMarked, AreRules, IsFaultLine, IsLine, verdict_of}
@@ -9,7 +10,7 @@ use Rattle.der_lines.specs.declared.document.Verdict.{Verdict}
 use Rattle.der_lines.specs.declared.document.Verdict.TheVariants.{Refused}
 use Rattle.der_lines.specs.Dump.{StandsInside, down_to, is_too_deep, size_in, tag_words}
 use Rattle.der_lines.specs.Dump.{begins_with_end, end_at, end_of_contents}
-use Rattle.der_lines.specs.Dump.{taken, unreadable}
+use Rattle.der_lines.specs.Dump.{is_stray_form, taken, unreadable}
 use Rattle.asn1_headers.specs.Front.{BeginsWithHeader, HasIndefiniteForm, HasNoHeader, IsAtFront}
 use Rattle.der_lines.specs.Segments.{Joins, segment_tag}
 use Rattle.der_lines.specs.Headers.{is_gone_into}
@@ -149,15 +150,30 @@ StartsNext left offset depth front (Out size) faults =
 -- the octets begin with a segment of a string with the tag, and it is gone on by the step; or with the end of one
 abbrev pub IsSegment : ℕ → Left → Step → List ℕ → List ℕ → Type 0
 IsSegment tag left (Into header size indefinite) before after =
-    (announced : ℕ) × BeginsWithHeader left.octets.now header announced Universal true (segment_tag tag)
+    ((left.is_indefinite && begins_with_end left.octets.now) ≡ false)
+    × (announced : ℕ) × BeginsWithHeader left.octets.now header announced Universal true (segment_tag tag)
     × (header + announced ≤ length left.octets.now) × (IsTrue indefinite ↔ HasIndefiniteForm left.octets.now)
     × (size ≡ taken indefinite (header + announced) (length left.octets.now)) × (after ≡ before)
 IsSegment tag left (Past size) before after =
-    (header announced : ℕ) × BeginsWithHeader left.octets.now header announced Universal false (segment_tag tag)
-    × (header + announced ≤ length left.octets.now) × (size ≡ header + announced)
+    ((left.is_indefinite && begins_with_end left.octets.now) ≡ false)
+    × (header announced : ℕ)
+    × (front : BeginsWithHeader left.octets.now header announced Universal false (segment_tag tag))
+    × (header + announced ≤ length left.octets.now)
+    × (is_stray_form false (drop (length front.identifier) left.octets.now) ≡ false) × (size ≡ header + announced)
     × Joins tag before (slice_range left.octets.now header (header + announced)) after
 IsSegment tag left (Out size) before after =
     (left.is_indefinite ≡ true) × (begins_with_end left.octets.now ≡ true) × (size ≡ 2) × (after ≡ before)
+
+-- neither begins them
+abbrev pub HasNoSegment : ℕ → Left → List ℕ → Type 0
+HasNoSegment tag left before = (step : Step) (after : List ℕ) → IsSegment tag left step before after → ⊥
+
+-- the octets do not begin with an encoding that is whole, or of the indefinite form, as it may be
+abbrev pub HasNoWhole : List ℕ → Type 0
+HasNoWhole octets =
+    (size announced : ℕ) (class : ASN1Class) (constructed : Bool) (tag : ℕ)
+    (header : BeginsWithHeader octets size announced class constructed tag) → size + announced ≤ length octets →
+    is_stray_form constructed (drop (length header.identifier) octets) ≡ false → ⊥
 
 -- what is told is the first of the faults, where there is one
 abbrev pub IsFirstFault : List ℕ → Option Fault → Type 0

@@ -51,8 +51,8 @@ pub fn push_document(
     push_dump(alloc, names, style, octets, false, printer)
 }
 
-/// Prints the rows of octets as `push_document` does, and then what is wrong with them where they have to be DER: a line
-/// with the offset of each encoding whose line has a mark, and what its mark says; and last the first fault. Where
+/// Prints the rows of octets as `push_document` does, and then what is wrong with them where they have to be DER: a
+/// line with the offset of each encoding whose line has a mark, and what its mark says; and last the first fault. Where
 /// there is no such line the verdict is `AllRead`. Inside strings the marks count as well where lines go into them, a
 /// fault for nothing.
 ///

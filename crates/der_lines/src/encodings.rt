@@ -1,5 +1,5 @@
 // The rows of octets, one for each piece, and of what stands inside octets of strings.
-ghost use Rattle.std.specs.Prelude.{[], ◌≡◌, ◌+◌, ◌<◌, ◌++◌, ℕ, List, false, IfOk, IfSome, OnOk, is_some, slice_range};
+ghost use Rattle.std.specs.Prelude.{◌≡◌, ◌+◌, ◌<◌, ◌++◌, ℕ, List, false, IfOk, IfSome, OnOk, is_some};
 ghost use Rattle.der_lines.specs.Dump.{marked_offset};
 ghost use Rattle.der_lines.specs.Pieces.{IsHolding, IsNestedDump, IsPieceDump, kind_words, row_faults, shown_front};
 ghost use Rattle.der_rows.specs.Printing.{IsPrinted, IsPrintedAs};

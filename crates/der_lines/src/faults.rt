@@ -9,6 +9,7 @@ ghost use Rattle.der_rows.specs.Printing.{IsPrinted};
 use crate::lines::push_fault;
 use crate::scalars::{write_after_space, write_quoted};
 use asn1_headers::error::ASN1DecodeErr;
+use der_rows::Printer;
 use der_values::text_beside;
 use std::alloc::{AllocError, Global};
 use std::str;

@@ -1,13 +1,13 @@
 // The headers of encodings, by their octets.
-ghost use Rattle.std.specs.Prelude.{◌≡◌, ◌↔◌, ◌==◌, ◌+◌, ◌≤◌, IfOk, IfSome, IsTrue};
-ghost use Rattle.std.specs.Prelude.{MatchOption, ◌++◌, List, ℕ, drop, length, true};
+ghost use Rattle.std.specs.Prelude.{◌≡◌, ◌↔◌, ◌==◌, ◌+◌, ◌≤◌, IfNone, IfOk, IfSome, IsTrue};
+ghost use Rattle.std.specs.Prelude.{MatchOption, ◌++◌, List, ℕ, drop, false, length};
 ghost use Rattle.asn1_headers.specs.Header.{IsSomeIdentifier};
 ghost use Rattle.der_lines.specs.LengthForm.{has_indefinite_length as has_indefinite_length_is};
 ghost use Rattle.asn1_headers.specs.declared.header.ASN1Class.TheVariants.{Universal};
 ghost use Rattle.asn1_headers.specs.Front.{HasIndefiniteForm, HasNoHeader, IsAtFront};
 ghost use Rattle.der_lines.specs.Dump.{is_stray_form, taken};
 ghost use Rattle.der_lines.specs.Headers.{is_gone_into};
-ghost use Rattle.der_lines.specs.Steps.{IsTaken};
+ghost use Rattle.der_lines.specs.Steps.{HasNoWhole, IsTaken};
 
 use crate::cursor::Step;
 use asn1_headers::error::ASN1DecodeErr;
@@ -30,14 +30,15 @@ pub fn holds_encodings(header: &Header) -> bool
 
 // Whether its class is Universal.
 pub fn is_universal(header: &Header) -> bool
-    ensures { result ≡ true → header.now.class ≡ Universal }
+    ensures { IsTrue result ↔ (header.now.class ≡ Universal) }
 {
     matches!(header.class, ASN1Class::Universal)
 }
 
 // The tag number, of class Universal, if it is a small one.
 pub fn universal_tag(header: &Header) -> Option<u8>
-    ensures { IfSome result (λ tag. (header.now.class ≡ Universal) × (header.now.tag ≡ tag)) }
+    ensures small { IfSome result (λ tag. (header.now.class ≡ Universal) × (header.now.tag ≡ tag)) }
+    ensures other { IfNone result (header.now.class ≡ Universal → 256 ≤ header.now.tag) }
 {
     match header.class {
         ASN1Class::Universal => header.tag.to_u8(),
@@ -125,11 +126,17 @@ pub fn whole_header(alloc: Global, octets: &[u8]) -> Result<Option<Header>, Allo
         header.size + header.announced ≤ length octets.now)) }
     ensures form { IfOk result (λ found. IfSome found (λ header.
         IsTrue header.is_indefinite ↔ HasIndefiniteForm octets.now)) }
+    ensures no_stray { IfOk result (λ found. IfSome found (λ header. (front : IsAtFront octets.now header) →
+        is_stray_form header.constructed (drop (length front.identifier) octets.now) ≡ false)) }
+    ensures none { IfOk result (λ found. IfNone found (HasNoWhole octets.now)) }
 {
     let Some(header) = find_header(alloc, octets)? else {
         return Ok(None);
     };
-    if header.announced > octets.len() - header.size || has_stray_form(octets, &header) {
+    if header.announced > octets.len() - header.size {
+        return Ok(None);
+    }
+    if has_stray_form(octets, &header) {
         return Ok(None);
     }
     Ok(Some(header))

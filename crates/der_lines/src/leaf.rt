@@ -86,11 +86,7 @@ pub fn is_right(alloc: Global, header: &Header, contents: &[u8]) -> Result<bool,
 }
 
 // The text of a time of BER that is none of DER.
-fn time_of(
-    alloc: Global,
-    header: &Header,
-    contents: &[u8],
-) -> Result<Option<String>, AllocError>
+fn time_of(alloc: Global, header: &Header, contents: &[u8]) -> Result<Option<String>, AllocError>
     ensures { IfOk result (λ found. IfSome found (λ _. IsBerTime header.now.class header.now.tag contents.now)) }
 {
     match universal_tag(header) {

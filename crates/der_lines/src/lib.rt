@@ -19,8 +19,9 @@
 //! at the end of its line, with the rules that `asn1_departures` finds, and [`push_strict_document`] lists it.
 //! [`push_fault_line`] prints the line of a fault that others find.
 //!
-//! [`push_label`] and [`push_refusal`] print the other lines: `=` and the label of a document, `!` and
-//! why there is none. [`block_at`] finds a block by its offset, and [`behind_header`] its contents octets.
+//! [`push_label`] and [`push_refusal`] put the other lines of what is written: `=` and the label of a document, `!` and
+//! why there is none. [`block_at`] finds a block by its offset, [`behind_header`] its contents octets, and
+//! [`string_octets`] the octets that a string holds.
 //!
 //! The modules are for `der_json`, which goes over the same pieces, and says of them what lines say.
 //!
@@ -42,6 +43,7 @@ pub mod piece;
 pub mod place;
 mod scalars;
 mod seek;
+mod string_value;
 pub mod strings;
 mod style;
 pub mod values;
@@ -51,5 +53,6 @@ pub use document::{Verdict, push_document, push_strict_document};
 pub use element::behind_header;
 pub use faults::push_fault_line;
 pub use notes::{push_label, push_refusal};
-pub use seek::block_at;
+pub use seek::{NoBlock, block_at};
+pub use string_value::{NoString, string_octets};
 pub use style::Style;

@@ -1,8 +1,9 @@
 // Blocks by their offsets.
-ghost use Rattle.std.specs.Prelude.{◌≡◌, ◌↔◌, ◌<◌, ◌≤◌, ◌∷◌, ℕ, List, false, true, IfOk, IfSome, IsTrue, MatchOption};
+ghost use Rattle.std.specs.Prelude.{◌≡◌, ◌↔◌, ◌<◌, ◌≤◌, ◌∷◌, ℕ, List, false, true, IfErr, IfOk, IfSome, IsTrue};
+ghost use Rattle.std.specs.Prelude.{MatchOption};
 ghost use Rattle.asn1_headers.specs.Front.{HasIndefiniteForm, IsAtFront};
-ghost use Rattle.der_lines.specs.Seek.{AreEncodings, BeginsAt, HasNoBlockAt, Holds, ends_contents};
-ghost use Rattle.der_lines.specs.SeekSteps.{LeadsNowhere, LeadsOn};
+ghost use Rattle.der_lines.specs.Seek.{AreEncodings, BeginsAt, HasNoBlockAt, Holds, LacksBlock, ends_contents};
+ghost use Rattle.der_lines.specs.SeekSteps.{IsWhy, LeadsNowhere, LeadsOn, StandsThere};
 ghost use Rattle.asn1_headers.specs.declared.header.ASN1Class.TheVariants.{Universal};
 
 use crate::element::{begins_with_end, element_at};
@@ -27,20 +28,38 @@ struct Sought<'a> {
     depth: usize,
 }
 
-/// The octets of the block that begins at the offset, if one does, by headers that follow one another from the front of
-/// the document: also in octets of another block, if these are encodings to their end, and in one that is cut short.
+/// Why no block begins at an offset.
+#[derive(Clone, Copy, Debug, Drop, PartialEq)]
+pub enum NoBlock {
+    /// End-of-contents octets stand there (X.690 8.1.5).
+    EndOfContents,
+    /// The octets there begin with no header.
+    Unreadable,
+    /// The block that begins there is cut short, or its end-of-contents octets are missing.
+    CutShort,
+    /// Nothing stands there that headers lead to.
+    Nothing,
+}
+
+/// The octets of the block that begins at the offset, by headers that follow one another from the front of the
+/// document, or why there is none. It may stand in octets of another block, if these are encodings to their end, and in
+/// a block that is cut short.
 ///
-/// A block with a length of the indefinite form (X.690 8.1.3.6) has its end-of-contents octets, too. `None` is also
-/// for one that is cut short itself, or whose end-of-contents octets are missing, and at end-of-contents octets.
+/// A block with a length of the indefinite form (X.690 8.1.3.6) has its end-of-contents octets, too, and they are no
+/// block.
 ///
 /// It takes time in proportion to the octets, and stack and memory that do not depend on how deep blocks are.
 ///
 /// # Errors
 /// Memory ran out.
-pub fn block_at(alloc: Global, octets: &[u8], offset: usize) -> Result<Option<&[u8]>, AllocError>
-    ensures { IfOk result (λ found. MatchOption found
-        (HasNoBlockAt octets.now offset)
-        (λ block. BeginsAt octets.now offset block.now)) }
+pub fn block_at(
+    alloc: Global,
+    octets: &[u8],
+    offset: usize,
+) -> Result<Result<&[u8], NoBlock>, AllocError>
+    ensures found { IfOk result (λ found. IfOk found (λ block. BeginsAt octets.now offset block.now)) }
+    ensures none { IfOk result (λ found. IfErr found (λ _. HasNoBlockAt octets.now offset)) }
+    ensures why { IfOk result (λ found. IfErr found (LacksBlock octets.now offset)) }
 {
     let mut sought = Sought {
         octets,
@@ -49,14 +68,37 @@ pub fn block_at(alloc: Global, octets: &[u8], offset: usize) -> Result<Option<&[
     };
     while sought.distance > 0 {
         let Some(nearer) = go_nearer(alloc, sought)? else {
-            return Ok(None);
+            return Ok(Err(NoBlock::Nothing));
         };
         sought = nearer;
     }
+    block_here(alloc, sought)
+}
+
+// The block that begins where what is looked for stands.
+fn block_here(alloc: Global, sought: Sought<'_>) -> Result<Result<&[u8], NoBlock>, AllocError>
+    ensures { IfOk result (StandsThere sought.entry.depth sought.entry.octets.now) }
+{
     if sought.begins_with_end() {
-        return Ok(None);
+        return Ok(Err(NoBlock::EndOfContents));
     }
-    element_at(alloc, sought.octets)
+    match element_at(alloc, sought.octets)? {
+        Some(block) => Ok(Ok(block)),
+        None => Ok(Err(why_none(alloc, sought.octets)?)),
+    }
+}
+
+// Why octets do not begin with a block.
+fn why_none(alloc: Global, octets: &[u8]) -> Result<NoBlock, AllocError>
+    ensures { IfOk result (IsWhy octets.now) }
+{
+    if octets.is_empty() {
+        return Ok(NoBlock::Nothing);
+    }
+    let Some(_header) = find_header(alloc, octets)? else {
+        return Ok(NoBlock::Unreadable);
+    };
+    Ok(NoBlock::CutShort)
 }
 
 impl<'a> Sought<'a> {

@@ -1,9 +1,10 @@
 // Constructed strings, which hold their octets in segments.
-ghost use Rattle.std.specs.Prelude.{◌≡◌, IfOk, IfSome, false, true};
+ghost use Rattle.std.specs.Prelude.{◌≡◌, ℕ, List, IfOk, IfSome, IsTrue, MatchOption, ◌↔◌, false, true};
 ghost use Rattle.asn1_headers.specs.declared.header.ASN1Class.TheVariants.{Universal};
 ghost use Rattle.der_lines.specs.Headers.{is_gone_into};
-ghost use Rattle.der_lines.specs.Segments.{AreSegmentsOf, Joins, JoinsBits, segment_tag as segment_tag_is};
-ghost use Rattle.der_lines.specs.Steps.{IsSegment};
+ghost use Rattle.der_lines.specs.Segments.{AreSegmentsOf, HaveNoSegments, Joins, JoinsBits};
+ghost use Rattle.der_lines.specs.Segments.{segment_tag as segment_tag_is};
+ghost use Rattle.der_lines.specs.Steps.{HasNoSegment, IsSegment};
 
 use crate::cursor::{Cursor, Left, Step};
 use crate::header::{has_tag, holds_encodings, is_universal, size_of, universal_tag, whole_header};
@@ -123,8 +124,9 @@ pub fn joined_segments(
     contents: &[u8],
     is_indefinite: bool,
 ) -> Result<Option<Vec<u8>>, AllocError>
-    ensures { IfOk result (λ joined. IfSome joined (λ octets.
-        AreSegmentsOf tag contents.now is_indefinite octets.items)) }
+    ensures { IfOk result (λ joined. MatchOption joined
+        (HaveNoSegments tag contents.now is_indefinite)
+        (λ octets. AreSegmentsOf tag contents.now is_indefinite octets.items)) }
 {
     let mut joined = Vec::new(alloc);
     if tag == BIT_STRING {
@@ -148,8 +150,9 @@ fn join_next(
     left: Left<'_>,
     joined: &mut Vec<u8>,
 ) -> Result<Option<Step>, AllocError>
-    ensures { IfOk result (λ found. IfSome found (λ step.
-        IsSegment tag left.entry step joined.old.items joined.new.items)) }
+    ensures { IfOk result (λ found. MatchOption found
+        (HasNoSegment tag left.entry joined.old.items)
+        (λ step. IsSegment tag left.entry step joined.old.items joined.new.items)) }
 {
     if left.begins_with_end() {
         return Ok(Some(Step::Out(2)));
@@ -157,7 +160,7 @@ fn join_next(
     let Some(header) = whole_header(alloc, left.octets)? else {
         return Ok(None);
     };
-    if !is_universal(&header) || !has_tag(&header.tag, segment_tag(tag)) {
+    if !is_segment(&header, tag) {
         return Ok(None);
     }
     if header.constructed {
@@ -170,6 +173,13 @@ fn join_next(
     } else {
         Ok(None)
     }
+}
+
+// Whether it is the header of a segment of a string.
+fn is_segment(header: &Header, tag: u8) -> bool
+    ensures { IsTrue result ↔ ((header.now.class ≡ Universal) × (header.now.tag ≡ segment_tag_is tag)) }
+{
+    is_universal(header) && has_tag(&header.tag, segment_tag(tag))
 }
 
 // The tag of the segments of a string.
@@ -185,7 +195,9 @@ fn segment_tag(tag: u8) -> u8
 
 // Joins the contents octets of a segment to those of others, if they may stand there.
 fn join(tag: u8, segment: &[u8], joined: &mut Vec<u8>) -> Result<bool, AllocError>
-    ensures { IfOk result (λ done. done ≡ true → Joins tag joined.old.items segment.now joined.new.items) }
+    ensures joined { IfOk result (λ done. done ≡ true → Joins tag joined.old.items segment.now joined.new.items) }
+    ensures refused { IfOk result (λ done. done ≡ false → (after : List ℕ)
+        → Joins tag joined.old.items segment.now after → ⊥) }
 {
     if tag == BIT_STRING {
         return join_bits(segment, joined);
@@ -196,12 +208,14 @@ fn join(tag: u8, segment: &[u8], joined: &mut Vec<u8>) -> Result<bool, AllocErro
 
 // Joins bits to others, if these fill their last octet: only the last segment may have unused bits.
 fn join_bits(segment: &[u8], joined: &mut Vec<u8>) -> Result<bool, AllocError>
-    ensures { IfOk result (λ done. done ≡ true → JoinsBits joined.old.items segment.now joined.new.items) }
+    ensures joined { IfOk result (λ done. done ≡ true → JoinsBits joined.old.items segment.now joined.new.items) }
+    ensures refused { IfOk result (λ done. done ≡ false → (after : List ℕ)
+        → JoinsBits joined.old.items segment.now after → ⊥) }
 {
     let Some((unused, bits)) = segment.split_first() else {
         return Ok(false);
     };
-    if joined.first() != Some(&0) || *unused > 7 {
+    if joined.first() != Some(&0) || *unused > 7 || (bits.is_empty() && *unused > 0) {
         return Ok(false);
     }
     joined[0] = *unused;

@@ -1,5 +1,5 @@
 -- Which words of a command line give which options, by what `clap` makes of the words.
-use Rattle.std.specs.Prelude.{◌≡◌, ◌≢◌, ◌⊎◌, ◌&&◌, ℕ, ◌<◌, ◌^◌, Bool, true, false, not, List, [], ◌∷◌, codes, drop, fold, map, take}
+use Rattle.std.specs.Prelude.{◌≡◌, ◌≢◌, ◌⊎◌, ◌&&◌, ℕ, ◌<◌, ◌^◌, Bool, true, false, not, List, [], ◌∷◌, ◌++◌, codes, drop, fold, map, take}
 use Rattle.std.specs.Prelude.{Option, Some, None, is_some, option_map, if◌then◌else◌}
 use Rattle.std.specs.List.{All, list_all, list_any}
 use Rattle.std.specs.Str.{bytes_eq}
@@ -16,7 +16,7 @@ use Rattle.der_options.specs.declared.options.Color.{Color}
 use Rattle.der_options.specs.declared.options.Color.TheVariants.{Always, Auto, Never}
 use Rattle.der_options.specs.declared.options.Options.{Options}
 use Rattle.der_options.specs.declared.options.Task.{Task}
-use Rattle.der_options.specs.declared.options.Task.TheVariants.{At, Contents, Dump, Extract}
+use Rattle.der_options.specs.declared.options.Task.TheVariants.{At, Contents, Dump, Extract, Value}
 
 -- `--name`, at most once
 abbrev pub flag : Text → Rule
@@ -32,11 +32,10 @@ files = record (new_rule (codes "FILE")) { action = Some Append }
 
 abbrev pub task_rules : List Rule
 task_rules =
-    valued (codes "at") ∷ valued (codes "extract") ∷ valued (codes "contents")
-    ∷ flag (codes "strict") ∷ []
+    valued (codes "at") ∷ valued (codes "extract") ∷ valued (codes "contents") ∷ valued (codes "value") ∷ []
 
 abbrev pub style_rules : List Rule
-style_rules = flag (codes "full") ∷ flag (codes "flat") ∷ valued (codes "depth") ∷ []
+style_rules = flag (codes "strict") ∷ flag (codes "full") ∷ flag (codes "flat") ∷ valued (codes "depth") ∷ []
 
 abbrev pub look_rules : List Rule
 look_rules = valued (codes "oids") ∷ valued (codes "color") ∷ []
@@ -88,13 +87,15 @@ names_of (Some (name ∷ names)) = name ∷ names
 -- the arguments whose values are numbers
 abbrev pub takes_number : Text → Bool
 takes_number name =
-    list_any (bytes_eq name) (codes "at" ∷ codes "extract" ∷ codes "contents" ∷ codes "depth" ∷ [])
+    list_any (bytes_eq name)
+    (codes "at" ∷ codes "extract" ∷ codes "contents" ∷ codes "value" ∷ codes "depth" ∷ [])
 
 -- the arguments that have values
 abbrev pub takes_value : Text → Bool
 takes_value name =
     list_any (bytes_eq name)
-    (codes "at" ∷ codes "extract" ∷ codes "contents" ∷ codes "depth" ∷ codes "oids" ∷ codes "color" ∷ [])
+    (codes "at" ∷ codes "extract" ∷ codes "contents" ∷ codes "value" ∷ codes "depth" ∷ codes "oids"
+    ∷ codes "color" ∷ [])
 
 -- the argument is among the words: one that takes a value has one, and a flag is set
 abbrev pub is_given : Text → List Row → Bool
@@ -103,23 +104,49 @@ is_given name rows = if takes_value name then is_some (first_of name rows) else 
 abbrev pub are_both_given : Text → Text → List Row → Bool
 are_both_given first second rows = is_given first rows && is_given second rows
 
--- the arguments that do not go together: two tasks; JSON, which has all blocks whole, with what shows fewer or less, or
--- writes octets; a page with JSON or octets; colours of lines with what writes none; and names with octets
+-- the arguments that do not go together: two tasks
+abbrev pub task_exclusions : List (Text × Text)
+task_exclusions =
+    (codes "at", codes "extract") ∷ (codes "at", codes "contents") ∷ (codes "at", codes "value")
+    ∷ (codes "extract", codes "contents") ∷ (codes "extract", codes "value") ∷ (codes "contents", codes "value") ∷ []
+
+-- JSON, which has all blocks whole, with what shows fewer or less, or writes octets
+abbrev pub json_exclusions : List (Text × Text)
+json_exclusions =
+    (codes "json", codes "depth") ∷ (codes "json", codes "full") ∷ (codes "json", codes "flat")
+    ∷ (codes "json", codes "extract") ∷ (codes "json", codes "contents") ∷ (codes "json", codes "value") ∷ []
+
+-- a page with JSON or octets
+abbrev pub html_exclusions : List (Text × Text)
+html_exclusions =
+    (codes "html", codes "json") ∷ (codes "html", codes "extract") ∷ (codes "html", codes "contents")
+    ∷ (codes "html", codes "value") ∷ []
+
+-- colors of lines with what writes none
+abbrev pub color_exclusions : List (Text × Text)
+color_exclusions =
+    (codes "color", codes "json") ∷ (codes "color", codes "html") ∷ (codes "color", codes "extract")
+    ∷ (codes "color", codes "contents") ∷ (codes "color", codes "value") ∷ []
+
+-- names of object identifiers with octets
+abbrev pub oids_exclusions : List (Text × Text)
+oids_exclusions =
+    (codes "oids", codes "extract") ∷ (codes "oids", codes "contents") ∷ (codes "oids", codes "value") ∷ []
+
+-- all of them
 abbrev pub exclusions : List (Text × Text)
-exclusions =
-    (codes "at", codes "extract") ∷ (codes "at", codes "contents") ∷ (codes "extract", codes "contents")
-    ∷ (codes "json", codes "depth") ∷ (codes "json", codes "full") ∷ (codes "json", codes "flat")
-    ∷ (codes "json", codes "extract") ∷ (codes "json", codes "contents")
-    ∷ (codes "html", codes "json") ∷ (codes "html", codes "extract") ∷ (codes "html", codes "contents")
-    ∷ (codes "color", codes "json") ∷ (codes "color", codes "html") ∷ (codes "color", codes "extract")
-    ∷ (codes "color", codes "contents") ∷ (codes "oids", codes "extract") ∷ (codes "oids", codes "contents") ∷ []
+exclusions = task_exclusions ++ json_exclusions ++ html_exclusions ++ color_exclusions ++ oids_exclusions
 
 abbrev pub are_exclusive : Text → Text → Bool
 are_exclusive first second = list_any (λ pair. bytes_eq pair.0 first && bytes_eq pair.1 second) exclusions
 
+-- no two arguments of a pair are given
+abbrev pub go_together_of : List (Text × Text) → List Row → Bool
+go_together_of pairs rows = list_all (λ pair. not (are_both_given pair.0 pair.1 rows)) pairs
+
 -- no two arguments are given that do not go together
 abbrev pub go_together : List Row → Bool
-go_together rows = list_all (λ pair. not (are_both_given pair.0 pair.1 rows)) exclusions
+go_together = go_together_of exclusions
 
 -- the number that the value of the argument is, where it is given
 abbrev pub IsNumberOf : Text → List Row → Option ℕ → Type 0
@@ -143,10 +170,11 @@ color_by (Some text) = color_in text
 abbrev pub IsTask : List Row → Task → Type 0
 IsTask rows Dump =
     IsNumberOf (codes "at") rows None × IsNumberOf (codes "extract") rows None
-    × IsNumberOf (codes "contents") rows None
+    × IsNumberOf (codes "contents") rows None × IsNumberOf (codes "value") rows None
 IsTask rows (At n) = IsNumberOf (codes "at") rows (Some n)
 IsTask rows (Extract n) = IsNumberOf (codes "extract") rows (Some n)
 IsTask rows (Contents n) = IsNumberOf (codes "contents") rows (Some n)
+IsTask rows (Value n) = IsNumberOf (codes "value") rows (Some n)
 
 -- what the matches of the words ask for
 pub record AsksFor (rows : List Row) (options : Options) : Type 0 where

@@ -61,18 +61,24 @@ fn with_tasks<'a>(alloc: Global, command: Command<'a>) -> Result<Command<'a>, Al
         "OFFSET",
         "Write the contents of the block that begins at the offset",
     );
-    let strict = flag(
+    let octets = valued(
         alloc,
-        "strict",
-        "Reject documents that are not DER, and list why, after showing them",
+        "value",
+        "OFFSET",
+        "Write the bytes that the string at the offset holds, its segments joined",
     );
-    command.arg(at)?.arg(extract)?.arg(contents)?.arg(strict)
+    command.arg(at)?.arg(extract)?.arg(contents)?.arg(octets)
 }
 
 // The command with what the dump shows.
 fn with_styles<'a>(alloc: Global, command: Command<'a>) -> Result<Command<'a>, AllocError>
     ensures { IfOk result (λ c. app_of c ≡ with_rules (app_of command.entry) style_rules) }
 {
+    let strict = flag(
+        alloc,
+        "strict",
+        "Reject documents that are not DER, and list why, after showing them",
+    );
     let full = flag(alloc, "full", "Do not cut values to 32 bytes");
     let flat = flag(alloc, "flat", "Do not expand nested DER");
     let depth = valued(
@@ -81,7 +87,7 @@ fn with_styles<'a>(alloc: Global, command: Command<'a>) -> Result<Command<'a>, A
         "COUNT",
         "Hide blocks with more than COUNT blocks around them; 0 shows the outermost only",
     );
-    command.arg(full)?.arg(flat)?.arg(depth)
+    command.arg(strict)?.arg(full)?.arg(flat)?.arg(depth)
 }
 
 // The command with the names and colors of lines.

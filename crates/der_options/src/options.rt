@@ -4,6 +4,8 @@ ghost use Rattle.std.specs.Prelude.{false};
 ghost use Rattle.clap.specs.Words.{all_of, first_of, found_of, rows_of};
 ghost use Rattle.der_options.specs.Options.{AsksFor, AsksForNothing, IsNumberOf, IsRefused, IsTask, Means};
 ghost use Rattle.der_options.specs.Options.{are_both_given, are_exclusive, go_together, is_given as is_given_by};
+ghost use Rattle.der_options.specs.Options.{color_exclusions, go_together_of, html_exclusions, json_exclusions};
+ghost use Rattle.der_options.specs.Options.{oids_exclusions, task_exclusions};
 ghost use Rattle.der_options.specs.Options.{IsNumber, begins_hex, is_true, names_of, takes_number};
 ghost use Rattle.der_options.specs.Options.{color_by, color_in as color_in_is};
 ghost use Rattle.der_options.specs.Steps.{IsMatched, IsUnmatched, LacksOptions};
@@ -59,6 +61,8 @@ pub enum Task {
     Extract(usize),
     /// The contents octets of the block at the offset are written.
     Contents(usize),
+    /// The octets of the value of the string at the offset are written.
+    Value(usize),
 }
 
 /// The options that the words ask for. The first word is the program's name.
@@ -115,23 +119,70 @@ fn refuse_exclusions<'a>(matches: &ArgMatches<'a>) -> Result<(), OptionsFault<'a
     ensures kept { OnOk result (go_together (rows_of (found_of matches.now)) ≡ true) }
     ensures refused { IfErr result (AsksForNothing (rows_of (found_of matches.now))) }
 {
+    refuse_tasks(matches)?;
+    refuse_with_json(matches)?;
+    refuse_with_html(matches)?;
+    refuse_with_color(matches)?;
+    refuse_with_oids(matches)
+}
+
+// Refuses two tasks.
+fn refuse_tasks<'a>(matches: &ArgMatches<'a>) -> Result<(), OptionsFault<'a>>
+    ensures kept { OnOk result (go_together_of task_exclusions (rows_of (found_of matches.now)) ≡ true) }
+    ensures refused { IfErr result (AsksForNothing (rows_of (found_of matches.now))) }
+{
     refuse_both(matches, "at", "extract")?;
     refuse_both(matches, "at", "contents")?;
+    refuse_both(matches, "at", "value")?;
     refuse_both(matches, "extract", "contents")?;
+    refuse_both(matches, "extract", "value")?;
+    refuse_both(matches, "contents", "value")
+}
+
+// Refuses JSON with what shows fewer blocks or less of them, or writes octets.
+fn refuse_with_json<'a>(matches: &ArgMatches<'a>) -> Result<(), OptionsFault<'a>>
+    ensures kept { OnOk result (go_together_of json_exclusions (rows_of (found_of matches.now)) ≡ true) }
+    ensures refused { IfErr result (AsksForNothing (rows_of (found_of matches.now))) }
+{
     refuse_both(matches, "json", "depth")?;
     refuse_both(matches, "json", "full")?;
     refuse_both(matches, "json", "flat")?;
     refuse_both(matches, "json", "extract")?;
     refuse_both(matches, "json", "contents")?;
+    refuse_both(matches, "json", "value")
+}
+
+// Refuses a page with JSON or octets.
+fn refuse_with_html<'a>(matches: &ArgMatches<'a>) -> Result<(), OptionsFault<'a>>
+    ensures kept { OnOk result (go_together_of html_exclusions (rows_of (found_of matches.now)) ≡ true) }
+    ensures refused { IfErr result (AsksForNothing (rows_of (found_of matches.now))) }
+{
     refuse_both(matches, "html", "json")?;
     refuse_both(matches, "html", "extract")?;
     refuse_both(matches, "html", "contents")?;
+    refuse_both(matches, "html", "value")
+}
+
+// Refuses colors of lines with what writes none.
+fn refuse_with_color<'a>(matches: &ArgMatches<'a>) -> Result<(), OptionsFault<'a>>
+    ensures kept { OnOk result (go_together_of color_exclusions (rows_of (found_of matches.now)) ≡ true) }
+    ensures refused { IfErr result (AsksForNothing (rows_of (found_of matches.now))) }
+{
     refuse_both(matches, "color", "json")?;
     refuse_both(matches, "color", "html")?;
     refuse_both(matches, "color", "extract")?;
     refuse_both(matches, "color", "contents")?;
+    refuse_both(matches, "color", "value")
+}
+
+// Refuses names of object identifiers with octets.
+fn refuse_with_oids<'a>(matches: &ArgMatches<'a>) -> Result<(), OptionsFault<'a>>
+    ensures kept { OnOk result (go_together_of oids_exclusions (rows_of (found_of matches.now)) ≡ true) }
+    ensures refused { IfErr result (AsksForNothing (rows_of (found_of matches.now))) }
+{
     refuse_both(matches, "oids", "extract")?;
-    refuse_both(matches, "oids", "contents")
+    refuse_both(matches, "oids", "contents")?;
+    refuse_both(matches, "oids", "value")
 }
 
 // Refuses two arguments, where both are given.
@@ -156,7 +207,7 @@ fn is_given(matches: &ArgMatches<'_>, name: &str) -> bool
     ensures { result ≡ is_given_by name.now (rows_of (found_of matches.now)) }
 {
     match name {
-        "at" | "extract" | "contents" | "depth" | "oids" | "color" => {
+        "at" | "extract" | "contents" | "value" | "depth" | "oids" | "color" => {
             value(matches, name).is_some()
         }
         _ => is_set(matches, name),
@@ -187,8 +238,11 @@ fn task_of<'a>(matches: &ArgMatches<'a>) -> Result<Task, OptionsFault<'a>>
     if let Some(offset) = number_of(matches, "extract")? {
         return Ok(Task::Extract(offset));
     }
-    match number_of(matches, "contents")? {
-        Some(offset) => Ok(Task::Contents(offset)),
+    if let Some(offset) = number_of(matches, "contents")? {
+        return Ok(Task::Contents(offset));
+    }
+    match number_of(matches, "value")? {
+        Some(offset) => Ok(Task::Value(offset)),
         None => Ok(Task::Dump),
     }
 }

@@ -1,11 +1,9 @@
 -- What is pushed in a look, one after another, for the functions that print rows.
 use Rattle.std.proofs.Common.{◌≡◌, ◌≢◌, ◌==◌, ℕ, Bool, true, false, List, [], ◌∷◌, ◌++◌, if◌then◌else◌, ap, append-nil, append_assoc, refl, subst, sym, ◌∙◌}
 use Rattle.std.proofs.lemmas.Bool.{eqb-true}
-use Rattle.std.proofs.lemmas.List.Elements.{All-head, All-tail}
 use Rattle.der_color.proofs.Painted.{paints_alone, paints_none, paints_then}
 use Rattle.der_html.proofs.Shown.{shows_alone, shows_none, shows_then}
 use Rattle.der_rows.specs.Printing.{IsPrinted, Prints, Pushes}
-use Rattle.der_rows.specs.Rows.{IsOneLine, on_one_line}
 use Rattle.der_rows.specs.declared.printer.Look.{Look}
 use Rattle.der_rows.specs.declared.printer.Look.TheVariants.{Colored, Page, Plain}
 use Rattle.der_rows.specs.declared.printer.Printer.{Printer}
@@ -27,11 +25,6 @@ pushes_then Page fs gs s t a b c one next = shows_then fs gs s t [] [] a b c one
 stays : (b : ℕ) (q : Bool) → (b == 10) ≡ q → b ≢ 10 → (if q then 32 else b) ≡ b
 stays b true is other = absurd (other (eqb-true b 10 is))
 stays b false is other = refl
-
-pub stays_on_one_line : (text : List ℕ) → IsOneLine text → on_one_line text ≡ text
-stays_on_one_line [] one = refl
-stays_on_one_line (b ∷ text) one =
-    rw (stays b (b == 10) refl (All-head (λ b. b ≢ 10) b text one), stays_on_one_line text (All-tail (λ b. b ≢ 10) b text one)) refl
 
 -- a line and its end, behind what begins it
 pub line_pushed :

@@ -47,7 +47,8 @@ fault_words row = unwrap_or (option_map (λ words. words.now) row.fault) []
 -- the line of a row: its columns, its type, its value, what is wrong with it, and what of DER it breaks
 abbrev pub row_line : Row → List ℕ
 row_line row =
-    columns_text row ++ (row.words.now ++ (on_one_line row.value.now ++ (on_one_line (fault_words row) ++ row.mark.now)))
+    columns_text row ++ (row.words.now
+    ++ (on_one_line row.value.now ++ (on_one_line (fault_words row) ++ row.mark.now)))
 
 -- the octet that the line of a note begins with
 abbrev pub note_mark : NoteKind → ℕ

@@ -37,8 +37,8 @@ IsMomentText moment digits text =
 abbrev pub AreFractionOf : List ℕ → List ℕ → Type 0
 AreFractionOf contents digits = (m : Moment) (time : GeneralizedTimeContents m contents) → digits ≡ time.digits
 
--- Times of BER that are none of DER (X.680 46.3 and 47.3): the digits of a date and a time of day, in a GeneralizedTime a
--- decimal fraction, and the difference to Coordinated Universal Time.
+-- Times of BER that are none of DER (X.680 46.3 and 47.3): the digits of a date and a time of day, in a GeneralizedTime
+-- a decimal fraction, and the difference to Coordinated Universal Time.
 
 -- two digits, of a number below a limit
 abbrev pub is_below : ℕ → ℕ → ℕ → Bool
@@ -49,7 +49,8 @@ is_below limit tens units =
 abbrev pub is_clock : ℕ → List ℕ → Bool
 is_clock tag clock =
     if length clock == 4
-    then is_below 24 (slice_index clock 0) (slice_index clock 1) && is_below 60 (slice_index clock 2) (slice_index clock 3)
+    then is_below 24 (slice_index clock 0) (slice_index clock 1) && is_below 60 (slice_index clock 2)
+    (slice_index clock 3)
     else (tag == 24) && (length clock == 2) && is_below 24 (slice_index clock 0) (slice_index clock 1)
 
 -- `Z`, or a sign with a difference; nothing in a GeneralizedTime of local time
@@ -66,8 +67,8 @@ is_fraction tag (mark ∷ digits) =
     (tag == 24) && ((mark == byte ".") || (mark == byte ",")) && nat_lt 0 (length digits)
     && list_all is_ascii_digit digits
 
--- the digits of a date and a time with those of the century, which a UTCTime leaves out: 19 for years from 50 on, else 20
--- (RFC 5280, 4.1.2.5.1)
+-- the digits of a date and a time with those of the century, which a UTCTime leaves out: 19 for years from 50 on, else
+-- 20 (RFC 5280, 4.1.2.5.1)
 abbrev pub full_digits : ℕ → List ℕ → List ℕ
 full_digits tag digits =
     if tag == 24 then digits

@@ -1,6 +1,5 @@
 // Text of moments, with each digit of their fraction.
-ghost use Rattle.std.specs.Prelude.{◌≡◌, ◌++◌, ℕ, IfOk, OnOk, drop, string_bytes};
-ghost use Rattle.asn1_leaves.specs.Contents.GeneralizedTime.{IsEnd};
+ghost use Rattle.std.specs.Prelude.{◌≡◌, ◌++◌, IfOk, OnOk, string_bytes};
 ghost use Rattle.asn1_leaves.specs.Contents.Moment.{moment_of};
 ghost use Rattle.der_values.specs.Times.{AreFractionOf, IsMomentText, fraction_text, whole_second as whole_second_is};
 

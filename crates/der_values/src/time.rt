@@ -24,8 +24,8 @@ struct Parts<'a> {
     zone: &'a [u8],
 }
 
-/// The text of contents octets with the tag of UTCTime or GeneralizedTime, in one of the forms that BER has beside that of
-/// DER: `2024-02-29T12:00:30.5+01:00`, `2024-02-29T12:00Z`, in local time `2024-02-29T12`. `None` of others.
+/// The text of contents octets with the tag of UTCTime or GeneralizedTime, in one of the forms that BER has beside that
+/// of DER: `2024-02-29T12:00:30.5+01:00`, `2024-02-29T12:00Z`, in local time `2024-02-29T12`. `None` of others.
 ///
 /// # Errors
 /// Memory ran out.

@@ -1,3 +1,4 @@
+-- For `element::push_columns`: what it returns is right.
 use Rattle.std.proofs.Common.{[]}
 use Rattle.der_html.proofs.Shown.{markup_then, shows_none}
 use Rattle.der_html.proofs.element.push_columns.Goals as goal

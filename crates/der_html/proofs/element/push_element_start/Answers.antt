@@ -1,3 +1,4 @@
+-- For `element::push_element_start`: what it returns is right.
 use Rattle.std.proofs.Common.{◌∷◌, []}
 use Rattle.der_html.proofs.Shown.{then_markup}
 use Rattle.der_html.proofs.element.push_element_start.Goals as goal
@@ -5,5 +6,6 @@ use Rattle.der_html.proofs.element.push_element_start.Goals as goal
 pub returns : goal.returns
 returns c =
     let faults = c.args.element.is_fault ∷ [] in
-    then_markup faults [] [] _ _ _ (then_markup faults [] [] _ _ _ c.in_ok-push_start.ensures c.in_ok-push_columns.ensures)
+    then_markup faults [] [] _ _ _
+    (then_markup faults [] [] _ _ _ c.in_ok-push_start.ensures c.in_ok-push_columns.ensures)
     c.in_ok-push_markup.ensures

@@ -8,5 +8,6 @@ use Rattle.der_html.proofs.markup.push_text.Goals as goal
 
 pub returns : goal.returns
 returns c =
-    let pushed : c.loop-c.out.items ≡ c.args.out.now.items ++ flat_map entity c.args.text.now = grind (arith, common_steps) in
+    let pushed : c.loop-c.out.items ≡ c.args.out.now.items ++ flat_map entity c.args.text.now =
+    grind (arith, common_steps) in
     shows_text c.args.text.now _ _ pushed

@@ -1,3 +1,4 @@
+-- For `section::push_section_end`: what it returns is right.
 use Rattle.std.proofs.Common.{[]}
 use Rattle.der_html.proofs.Shown.{markup_then, then_markup}
 use Rattle.der_html.proofs.section.push_section_end.Goals as goal

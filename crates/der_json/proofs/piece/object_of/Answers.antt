@@ -13,7 +13,20 @@ returns c = λ left kind.
       header_is = c.header_size.ensures;
       depth_is = refl;
       row = λ depth inside marks. row_is left piece.offset depth piece.breaches.rules.items
-          (record { offset = _; header = _; size = _; depth = _; tag = _; value = _; name = _; shown = _; octets = _; not_der = c.in_ok-told.field-0; fault = _ })
+          (record {
+            offset = _;
+            header = _;
+            size = _;
+            depth = _;
+            tag = _;
+            value = _;
+            name = _;
+            shown = _;
+            octets =
+                _;
+            not_der = c.in_ok-told.field-0;
+            fault = _;
+          })
           inside marks piece.fault c.placed_if.ensures piece.kind c.in_ok-size_of.ensures tag.told value.told kind;
       told = c.in_ok-told.ensures;
       fault_is = c.placed_if.ensures;

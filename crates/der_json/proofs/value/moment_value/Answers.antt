@@ -1,3 +1,4 @@
+-- For `value::moment_value`: what it returns is right (`told`).
 use Rattle.std.proofs.Common.{rules, string_bytes}
 use Rattle.serde_json.specs.declared.value.Value.{the_lemmas}
 use Rattle.der_json.proofs.value.moment_value.Goals as goal

@@ -1,3 +1,4 @@
+-- For `value::right_value`: what it returns is right (`told`).
 use Rattle.std.proofs.Common.{◌≡◌, inl, string_bytes, subst, sym, true}
 use Rattle.std.proofs.lemmas.Result.{IfOk-weaker}
 use Rattle.std.specs.Prelude.{option_map}

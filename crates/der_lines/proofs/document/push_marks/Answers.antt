@@ -1,3 +1,4 @@
+-- For `document::push_marks`: its loop keeps its invariant.
 use Rattle.std.proofs.Common.{◌≡◌, ◌+◌, [], ◌∷◌, ◌++◌, ap, subst, sym, take, ◌∙◌}
 use Rattle.std.proofs.lemmas.List.{map-append, take_more}
 use Rattle.der_lines.specs.Dump.{AreFaultLines}
@@ -17,7 +18,8 @@ loop-mark-preserved c =
     ∙ ap (λ z. take i marks ++ z ∷ []) (sym c.mark-item.is))
     ∙ map-append (λ m. m.offset) (take i marks) (mark ∷ []) in
     subst (λ z. IsPrinted (AreFaultLines z) c.args.printer.now c.push_mark_line.new.printer) (sym more)
-    (printed_both _ _ (AreFaultLines (mark_offsets (take i marks) ++ mark.offset ∷ [])) c.args.printer.now c.loop-mark.printer
+    (printed_both _ _ (AreFaultLines (mark_offsets (take i marks) ++ mark.offset ∷ [])) c.args.printer.now
+    c.loop-mark.printer
     c.push_mark_line.new.printer
     (λ text line lines last. fault_lines_join (mark_offsets (take i marks)) (mark.offset ∷ []) text line lines
     (fault_line mark.offset line last))

@@ -14,7 +14,8 @@ pub push_encodings-loop-walk-init : goal.push_encodings-loop-walk-init
 push_encodings-loop-walk-init t c =
     let o = c.in_ok-walk.ensures in
     printed_none (ShownTo c.args.place c.args.octets.now c.in_ok-walk.walk None _) c.args.printer.now
-    (subst (λ m. ShownTo c.args.place c.args.octets.now c.in_ok-walk.walk None m []) (sym (ap mark_offsets c.new.ensures.items))
+    (subst (λ m. ShownTo c.args.place c.args.octets.now c.in_ok-walk.walk None m [])
+    (sym (ap mark_offsets c.new.ensures.items))
     (shown_none c.args.place c.args.octets.now c.in_ok-walk.walk o.octets o.place o.ahead))
 
 pub push_encodings-loop-walk-preserved : goal.push_encodings-loop-walk-preserved
@@ -27,7 +28,8 @@ push_encodings-loop-walk-preserved t c =
     let k = c.in_ok-keep.ensures in
     let all = printed_both _ _ (ShownTo place octets c.next.new.self (earlier_fault found.fault piece.fault) _)
     c.args.printer.now c.loop-walk.printer c.push_piece.new.printer
-    (λ text own s put. shown_more place octets c.loop-walk.walk c.next.new.self piece found.fault _ _ _ text own p k.marks
+    (λ text own s put. shown_more place octets c.loop-walk.walk c.next.new.self piece found.fault _ _ _ text own p
+    k.marks
     c.requires s put) c.loop-walk.invariant (c.in_ok-inside.ensures p.left p.holding)
     in
     rw (k.fault) all
@@ -35,7 +37,8 @@ push_encodings-loop-walk-preserved t c =
 pub push_encodings-returns : goal.push_encodings-returns
 push_encodings-returns t c =
     let ended : IsAhead c.loop-walk.walk.cursor [] [] = rw c.in_default.is at c.in_ok-piece.ensures in
-    printed_as _ _ c.args.printer.now c.loop-walk.printer (λ text. shown_all c.args.place c.args.octets.now c.loop-walk.walk c.loop-walk.found text ended)
+    printed_as _ _ c.args.printer.now c.loop-walk.printer
+    (λ text. shown_all c.args.place c.args.octets.now c.loop-walk.walk c.loop-walk.found text ended)
     c.loop-walk.invariant
 
 pub push_nested-returns-in_default : goal.push_nested-returns-in_default
@@ -50,8 +53,16 @@ push_nested-returns t c = λ left holding.
     let i = c.in_ok-inside.ensures in
     let (documents, stands) = rw c.in-Some.is at holding in
     let base : c.in_ok-inside.inside.base ≡ piece.place.base + (piece.offset + header) + nested.before =
-    omega (arith, i.base, c.in_ok-sum_of.ensures, c.in_ok-offset.ensures, c.in_ok-document_offset.ensures, c.header_size.ensures) in
-    nested_adds c.in_ok-inside.inside left piece nested.octets.now nested.before c.in_ok-found.found c.args.printer.now c.push_encodings.new.printer stands i.inside base
+    omega (
+      arith,
+      i.base,
+      c.in_ok-sum_of.ensures,
+      c.in_ok-offset.ensures,
+      c.in_ok-document_offset.ensures,
+      c.header_size.ensures,
+    ) in
+    nested_adds c.in_ok-inside.inside left piece nested.octets.now nested.before c.in_ok-found.found c.args.printer.now
+    c.push_encodings.new.printer stands i.inside base
     c.in_ok-found.ensures
 
 pub push_piece-returns : goal.push_piece-returns
@@ -61,6 +72,7 @@ push_piece-returns t c =
     (λ marks inside left holding.
     printed_both _ _ (IsPieceDump left piece (mark_offsets marks.items)) c.args.printer.now c.push_row.new.printer
     c.push_nested.new.printer
-    (λ first rest line more. record { first = first; rest = rest; text_is = refl; line = line; inside = more.0; marked = more.1 })
+    (λ first rest line more. record
+    { first = first; rest = rest; text_is = refl; line = line; inside = more.0; marked = more.1 })
     (row_faults piece, c.in_ok-push_row.ensures) (inside left holding))
     c.push_nested.ensures

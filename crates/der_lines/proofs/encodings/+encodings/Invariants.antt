@@ -17,7 +17,8 @@ decreases-push_encodings l = 3 * l.place.documents + 2
 -- the lines of the pieces before the walk were put
 abbrev pub invariant-push_encodings-loop-walk : goal.invariant-push_encodings-loop-walk
 invariant-push_encodings-loop-walk l =
-    IsPrinted (ShownTo l.fn.place l.fn.octets l.walk l.found.fault (mark_offsets l.found.marks.items)) l.fn.printer l.printer
+    IsPrinted (ShownTo l.fn.place l.fn.octets l.walk l.found.fault (mark_offsets l.found.marks.items)) l.fn.printer
+    l.printer
 
 abbrev pub decreases-push_encodings-loop-walk : goal.decreases-push_encodings-loop-walk
 decreases-push_encodings-loop-walk l = to_go l.walk.cursor

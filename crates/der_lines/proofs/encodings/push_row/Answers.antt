@@ -1,3 +1,4 @@
+-- For `encodings::push_row`: what it returns is right.
 use Rattle.std.proofs.Common.{◌≡◌, ◌∙◌, ◌∷◌, [], ◌++◌, ap, refl, subst, sym}
 use Rattle.std.specs.Option.{is_some}
 use Rattle.der_lines.specs.Dump.{is_too_deep}
@@ -35,8 +36,10 @@ returns c =
     let fault : is_some row.fault ≡ is_some piece.fault = c.as_deref.ensures.variant ∙ c.requires.fault in
     let text = mark_text (told_rules piece.breaches.rules.items piece.breaches.has_spare_bits) in
     let mark = c.deref-2.ensures.value ∙ (c.in_ok-push_mark.ensures ∙ ap (λ z. z ++ text) c.new-mark.ensures.items) in
-    row_printed (is_too_deep place.most_depth place.depth) place.is_inside row (shown_front piece) (is_some piece.fault ∷ [])
+    row_printed (is_too_deep place.most_depth place.depth) place.is_inside row (shown_front piece)
+    (is_some piece.fault ∷ [])
     c.args.printer.now c.push.new.self (sym c.is_too_deep.ensures ∙ c.if-is_too_deep.false)
-    (subst (λ z. Prints (z ∷ []) (row_line row ++ 10 ∷ []) c.args.printer.now c.push.new.self) fault c.in_ok-push.ensures)
+    (subst (λ z. Prints (z ∷ []) (row_line row ++ 10 ∷ []) c.args.printer.now c.push.new.self) fault
+    c.in_ok-push.ensures)
     (row_line_of place.is_inside row (shown_front piece) refl c.in_ok-document_offset.ensures c.header_size.ensures
     c.contents_size.ensures c.is_indefinite.ensures refl c.requires.words mark)

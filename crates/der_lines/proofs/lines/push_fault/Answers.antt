@@ -1,3 +1,4 @@
+-- For `lines::push_fault`: what it returns is right.
 use Rattle.std.proofs.Common.{refl}
 use Rattle.der_rows.specs.Rows.{fault_line, on_one_line}
 use Rattle.der_lines.proofs.Dumps.{has_one_line}
@@ -8,5 +9,9 @@ returns c =
     let words = c.args.words.now in
     let line = fault_line c.args.offset words in (
       _,
-      (_, c.in_ok-push_fault.ensures, (line, refl, record { said = on_one_line words; line_is = refl; one = has_one_line words })),
+      (
+        _,
+        c.in_ok-push_fault.ensures,
+        (line, refl, record { said = on_one_line words; line_is = refl; one = has_one_line words }),
+      ),
     )

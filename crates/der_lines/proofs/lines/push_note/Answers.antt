@@ -1,3 +1,4 @@
+-- For `lines::push_note`: what it returns is right.
 use Rattle.std.proofs.Common.{refl}
 use Rattle.der_rows.specs.Rows.{note_line}
 use Rattle.der_lines.proofs.lines.push_note.Goals as goal

@@ -8,5 +8,6 @@ use Rattle.der_lines.proofs.notes.push_refusal.Goals as goal
 pub returns : goal.returns
 returns c =
     printed_as _ _ c.args.printer.now c.push_note.new.printer (λ text line. (refl, line))
-    (subst (λ words. IsPrinted (IsLine (IsNote 33 words)) c.args.printer.now c.push_note.new.printer) c.as_bytes.ensures.value
+    (subst (λ words. IsPrinted (IsLine (IsNote 33 words)) c.args.printer.now c.push_note.new.printer)
+    c.as_bytes.ensures.value
     c.in_ok-push_note.ensures)

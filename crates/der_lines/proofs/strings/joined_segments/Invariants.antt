@@ -1,5 +1,6 @@
 -- For `strings::joined_segments`: what each turn of its loop keeps and what grows less, so that it ends.
 use Rattle.std.proofs.Common.{ℕ, List}
+use Rattle.std.specs.Prelude.{◌↔◌}
 use Rattle.der_lines.specs.Segments.{AreSegmentsOf}
 use Rattle.der_lines.specs.Steps.{to_go}
 use Rattle.der_lines.proofs.Segments.{AreLeft}
@@ -8,8 +9,8 @@ use Rattle.der_lines.proofs.strings.joined_segments.Given as goal
 -- with those that are left, those that were joined are all
 abbrev pub invariant-loop-left : goal.invariant-loop-left
 invariant-loop-left l =
-    (after : List ℕ) → AreLeft l.tag l.cursor l.joined.items after →
-    AreSegmentsOf l.tag l.contents l.is_indefinite after
+    (after : List ℕ) → AreLeft l.tag l.cursor l.joined.items after ↔ AreSegmentsOf l.tag l.contents l.is_indefinite
+    after
 
 abbrev pub decreases-loop-left : goal.decreases-loop-left
 decreases-loop-left l = to_go l.cursor

@@ -1,3 +1,4 @@
+-- For `line::push_row_line`: what it returns is right.
 use Rattle.std.proofs.Common.{[], ◌++◌, subst}
 use Rattle.der_rows.specs.Printing.{Pushes}
 use Rattle.der_rows.specs.Rows.{columns_text, fault_words, on_one_line}
@@ -15,8 +16,10 @@ returns c =
     let shown = on_one_line row.value.now in
     let fault = on_one_line (fault_words row) in
     let typed = subst (λ z. Pushes look [] z columns words) c.as_bytes.ensures.value c.in_ok-push_part.ensures in
-    let valued = subst (λ z. Pushes look [] (on_one_line z) words value) c.as_bytes-2.ensures.value c.in_ok-push_words.ensures in
-    pushes_then look [] [] (columns_text row) (own ++ (shown ++ (fault ++ row.mark.now))) _ _ _ c.in_ok-push_columns_in.ensures
+    let valued = subst (λ z. Pushes look [] (on_one_line z) words value) c.as_bytes-2.ensures.value
+    c.in_ok-push_words.ensures in
+    pushes_then look [] [] (columns_text row) (own ++ (shown ++ (fault ++ row.mark.now))) _ _ _
+    c.in_ok-push_columns_in.ensures
     (pushes_then look [] [] own (shown ++ (fault ++ row.mark.now)) _ _ _ typed
     (pushes_then look [] [] shown (fault ++ row.mark.now) _ _ _ valued
     (pushes_then look [] [] fault row.mark.now _ _ _ c.in_ok-push_fault_words.ensures c.in_ok-push_part-2.ensures)))

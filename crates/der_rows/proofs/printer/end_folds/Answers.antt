@@ -1,3 +1,4 @@
+-- For `printer::end_folds`: its loop keeps its invariant.
 use Rattle.std.proofs.Common.{[]}
 use Rattle.der_html.proofs.Shown.{markup_then}
 use Rattle.der_rows.proofs.printer.end_folds.Goals as goal

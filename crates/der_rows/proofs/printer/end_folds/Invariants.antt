@@ -1,3 +1,4 @@
+-- For `printer::end_folds`: what each turn of its loop keeps and what grows less, so that it ends.
 use Rattle.std.proofs.Common.{[], length}
 use Rattle.der_html.specs.Page.{Shows}
 use Rattle.der_rows.proofs.printer.end_folds.Given as goal

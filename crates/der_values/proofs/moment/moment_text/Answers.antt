@@ -1,3 +1,4 @@
+-- For `moment::moment_text`: what it returns is right.
 use Rattle.std.proofs.Common.{rules}
 use Rattle.der_values.proofs.moment.moment_text.Goals as goal
 

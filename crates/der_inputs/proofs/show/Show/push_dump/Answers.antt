@@ -1,3 +1,4 @@
+-- For `show::Show::push_dump`: what it returns is right.
 use Rattle.std.proofs.Common.{refl}
 use Rattle.std.proofs.lemmas.Result.{IfOk-weaker}
 use Rattle.der_rows.proofs.Printed.{printed_both}

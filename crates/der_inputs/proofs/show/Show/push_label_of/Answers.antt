@@ -1,3 +1,4 @@
+-- For `show::Show::push_label_of`: what it returns is right.
 use Rattle.std.proofs.Common.{refl}
 use Rattle.std.proofs.lemmas.Result.{on_ok_weaker}
 use Rattle.der_rows.proofs.Printed.{printed_none}
@@ -8,7 +9,8 @@ pub returns-in-Some : goal.returns-in-Some
 returns-in-Some c =
     rw c.in-Some.is
     (on_ok_weaker c.push_label.result
-    (title_printed c.in-Some.label.items c.deref.result.now c.args.printer.now c.push_label.new.printer c.deref.ensures.value)
+    (title_printed c.in-Some.label.items c.deref.result.now c.args.printer.now c.push_label.new.printer
+    c.deref.ensures.value)
     c.push_label.ensures)
 
 pub returns-in-None : goal.returns-in-None

@@ -1,3 +1,4 @@
+-- For `show::Show::push_name`: what it returns is right.
 use Rattle.der_inputs.proofs.show.Show.push_name.Goals as goal
 
 pub returns-in-Lines : goal.returns-in-Lines

@@ -1,3 +1,4 @@
+-- For `show::Show::push_name_line`: what it returns is right.
 use Rattle.std.proofs.Common.{◌∙◌, ap}
 use Rattle.der_inputs.proofs.Lower.{lines_printed}
 use Rattle.der_inputs.proofs.show.Show.push_name_line.Goals as goal

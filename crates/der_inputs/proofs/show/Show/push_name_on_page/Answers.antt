@@ -1,3 +1,4 @@
+-- For `show::Show::push_name_on_page`: what it returns is right.
 use Rattle.std.proofs.Common.{[], ◌∙◌, ap, refl}
 use Rattle.der_inputs.proofs.Lower.{section_printed}
 use Rattle.der_inputs.proofs.show.Show.push_name_on_page.Goals as goal

@@ -1,3 +1,4 @@
+-- For `show::Show::push_on_page`: what it returns is right.
 use Rattle.std.proofs.Common.{◌∙◌, ap}
 use Rattle.der_inputs.proofs.Lower.{section_printed}
 use Rattle.der_inputs.proofs.show.Show.push_on_page.Goals as goal

@@ -1,3 +1,4 @@
+-- For `printer::Printer::begin`: what it returns is right.
 use Rattle.std.proofs.Common.{[], ◌∷◌, refl}
 use Rattle.der_rows.proofs.Printed.{pushes_then}
 use Rattle.der_rows.proofs.printer.Printer.begin.Goals as goal

@@ -1,3 +1,4 @@
+-- For `printer::Printer::push`: what it returns is right.
 use Rattle.std.proofs.Common.{[], ◌∷◌, ap}
 use Rattle.std.specs.Option.{is_some}
 use Rattle.der_rows.specs.Rows.{row_line}

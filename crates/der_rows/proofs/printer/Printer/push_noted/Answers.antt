@@ -1,3 +1,4 @@
+-- For `printer::Printer::push_noted`: what it returns is right.
 use Rattle.std.proofs.Common.{[], ◌∷◌, ap}
 use Rattle.der_rows.specs.Rows.{is_error}
 use Rattle.der_rows.proofs.Printed.{line_pushed}
