@@ -16,9 +16,11 @@ RAN_OUT = (2, b"", b"out of memory\n")
 # lines of each kind in one run of der_tool, the last of them empty, and their answers
 TOGETHER = ("0280\n3000\nzz\n0489\n",
             "ok 020100\nok 3000\nbadhex\nrefused LengthTooLarge 9\nrefused EmptyBuffer")
-# calls that read an `Outline`, which guesses room for its entries, and asks for less where that much is refused: so
-# one refused allocation of such a line may leave the answer as it is
+# calls that read an `Outline`, which guesses room for its entries, and asks for less where that much is refused. Where
+# the first guess is too small for the entries of a line, it guesses once more. As many refused allocations of such a
+# line may leave the answer as it is
 GUESSING = ("Outline::", "first")
+GUESSES = 2
 if test:
     RAN_OUT = (101, b"", b"error: AllocError\nthe test failed: its result gives status 1\n")
 
@@ -56,7 +58,7 @@ def refused_in_turn(at, line, answer):
     """How many allocations were refused, and what was wrong."""
     number, wrong, mark = 0, [], f"{work}/refused{at}"
     right = (0, f"{answer}\n".encode(), b"")
-    guesses = 1 if called(line, answer).startswith(GUESSING) else 0
+    guesses = GUESSES if called(line, answer).startswith(GUESSING) else 0
     while True:
         number += 1
         ended, met = ran(line, number, mark)
