@@ -440,7 +440,7 @@ def check_program(dump, roots):
 TOLD = [
     (b"05 00 30 03 02 01 05 02 02 00 05", "line 1: offset 7: INTEGER has 2 bytes of contents, its value makes 1"),
     (b"30 04 05 00 02 00", "line 1: offset 4: INTEGER"),
-    (b"05 00 01 01 2A", "line 1: offset 2: not DER: true must be FF"),
+    (b"05 00 01 01 2A", "line 1: offset 2: not DER: BOOLEAN neither 00 nor FF"),
     (b"30 81 02 05 00", "line 1: offset 0: the header has 3 bytes, the shortest has 2"),
     (b"30 80 00 81 00 00 00", "line 1: offset 2: the header has 3 bytes, the shortest has 2"),
     (b"05 00 9F 1E 00", "line 1: offset 2: the header has 3 bytes, the shortest has 2"),
@@ -518,7 +518,10 @@ def check_examples(program, work, roots):
         tell(f"the examples of docs/DUMP.md are NOT CHECKED, there is no {', '.join(missing)}")
         return
     paragraphs = re.findall(r"^(?:    .*\n)+", (TOP / "docs/DUMP.md").read_text(), re.M)
-    examples = [textwrap.dedent(it) for it in paragraphs if "jq -" in it]
+    paragraphs = [textwrap.dedent(it) for it in paragraphs]
+    # an example that begins with `printf` has its output behind it; the others read certificates
+    printed = [pair for pair in zip(paragraphs, paragraphs[1:]) if "jq -" in pair[0] and pair[0].startswith("printf ")]
+    examples = [it for it in paragraphs if "jq -" in it and not it.startswith("printf ")]
     if len(examples) != 3:
         fail(f"docs/DUMP.md has {len(examples)} examples for jq in place of 3")
         return
@@ -535,6 +538,9 @@ def check_examples(program, work, roots):
         ran = subprocess.run(["sh", "-c", example], cwd=place, capture_output=True, env={**os.environ, "PATH": path})
         return ran.stdout.decode()
 
+    for example, output in printed:
+        if run(example, folder) != output:
+            fail(f"docs/DUMP.md: {example.strip()} gives {run(example, folder)}")
     paths = sorted(folder.glob("*.pem"))
     lines = {line["file"]: line for line in map(json.loads, run(examples[0], folder).splitlines())}
     identifiers, right, named = Identifiers(), [0, 0, 0], 0
