@@ -193,8 +193,7 @@ pub fn read_into<B: Builder>(
         match take_step(alloc, octets, &mut reader, count) {
             None => {
                 let Reader { inner, builder, .. } = reader;
-                let OpenFrame { items, .. } = inner;
-                return Ok((builder, items));
+                return Ok((builder, inner.items));
             }
             Some(Ok(())) => {}
             Some(Err(e)) => {

@@ -49,8 +49,8 @@ pub data AreEncodings : ℕ → List ℕ → Type 0 where
   no_more : {unended : ℕ} {octets : List ℕ} → unended ≡ 0 → octets ≡ [] → AreEncodings unended octets
   next : {unended : ℕ} {octets first rest : List ℕ} (n : IsNext unended octets first rest)
       → AreEncodings (unended_behind unended n.constructed n.encoding.len) rest → AreEncodings unended octets
-  end_of_contents : {unended fewer : ℕ} {octets rest : List ℕ} → unended ≡ fewer + 1 → octets ≡ 0 ∷ 0 ∷ rest
-      → AreEncodings fewer rest → AreEncodings unended octets
+  end_of_contents : {unended fewer : ℕ} {octets rest : List ℕ} → unended ≡ fewer + 1
+      → octets ≡ 0 ∷ 0 ∷ rest → AreEncodings fewer rest → AreEncodings unended octets
 
 -- the rule is found to be broken exactly if what it asks does not hold
 pub data Found (Asked : Type 0) (rule : Rule) : Option Rule → Type 0 where
@@ -60,7 +60,9 @@ pub data Found (Asked : Type 0) (rule : Rule) : Option Rule → Type 0 where
 -- the rule that length octets break, if they are of the indefinite form, or not the shortest
 abbrev pub LengthFound : List ℕ → ℕ → Option Rule → Type 0
 LengthFound len size found =
-    MatchBool (is_indefinite len) (found ≡ Some IndefiniteLength) (Found (len ≡ shortest_length size) LongLength found)
+    MatchBool (is_indefinite len)
+    (found ≡ Some IndefiniteLength)
+    (Found (len ≡ shortest_length size) LongLength found)
 
 -- the rule that the tag, the form or the contents octets break. A schema alone says what other classes hold. Of an
 -- encoding of the indefinite form the contents octets are not judged
@@ -71,8 +73,8 @@ TypeFound indefinite Universal constructed tag contents found =
 TypeFound indefinite class constructed tag contents found = found ≡ None
 
 -- what an encoding breaks by itself
-pub record OwnRules (identifier len : List ℕ) (class : ASN1Class) (constructed : Bool) (tag : ℕ) (contents : List ℕ)
-    : Type 0 where
+pub record OwnRules (identifier len : List ℕ) (class : ASN1Class) (constructed : Bool) (tag : ℕ)
+    (contents : List ℕ) : Type 0 where
   pub of_identifier : Option Rule
   pub of_length : Option Rule
   pub of_type : Option Rule
@@ -87,8 +89,8 @@ ItemsFound constructed len contents found =
     MatchBool (is_looked_into constructed len) (Found (AreEncodings 0 contents) NotEncodings found) (found ≡ None)
 
 -- all that an encoding breaks, without what encodings inside it break
-pub record AreBroken (identifier len : List ℕ) (class : ASN1Class) (constructed : Bool) (tag : ℕ) (contents : List ℕ)
-    (rules : List Rule) : Type 0 where
+pub record AreBroken (identifier len : List ℕ) (class : ASN1Class) (constructed : Bool) (tag : ℕ)
+    (contents : List ℕ) (rules : List Rule) : Type 0 where
   pub own : OwnRules identifier len class constructed tag contents
   pub of_items : Option Rule
   pub items_found : ItemsFound constructed len contents of_items
@@ -101,8 +103,8 @@ listed offset None = []
 listed offset (Some rule) = record { offset = offset; rule = rule } ∷ []
 
 abbrev pub own_departures :
-    (offset : ℕ) {identifier len : List ℕ} {class : ASN1Class} {constructed : Bool} {tag : ℕ} {contents : List ℕ} →
-    OwnRules identifier len class constructed tag contents → List Departure
+    (offset : ℕ) {identifier len : List ℕ} {class : ASN1Class} {constructed : Bool} {tag : ℕ}
+    {contents : List ℕ} → OwnRules identifier len class constructed tag contents → List Departure
 own_departures offset r = listed offset r.of_identifier ++ (listed offset r.of_length ++ listed offset r.of_type)
 
 mutual
@@ -117,8 +119,9 @@ mutual
         → ListsInside offset (offset + n.header) (is_looked_into n.constructed n.encoding.len) n.contents inside
         → Lists (unended_behind unended n.constructed n.encoding.len) (offset + length first) rest later
         → found ≡ own_departures offset r ++ (inside ++ later) → Lists unended offset octets found
-    end_listed : {unended fewer offset : ℕ} {octets rest : List ℕ} {found : List Departure} → unended ≡ fewer + 1
-        → octets ≡ 0 ∷ 0 ∷ rest → Lists fewer (offset + 2) rest found → Lists unended offset octets found
+    end_listed : {unended fewer offset : ℕ} {octets rest : List ℕ} {found : List Departure}
+        → unended ≡ fewer + 1 → octets ≡ 0 ∷ 0 ∷ rest
+        → Lists fewer (offset + 2) rest found → Lists unended offset octets found
 
   -- the departures inside an encoding at the offset, whose contents octets begin at the start, if it is constructed and
   -- definite: where they are no encodings, that is one, and none are listed inside (8.1.2.5)
@@ -144,10 +147,12 @@ pub data HeaderFaultBehind : ℕ → ℕ → List ℕ → ℕ → DecodeFault �
       → HeaderFaultBehind unended offset octets offset incomplete
   behind : {unended offset place : ℕ} {octets first rest : List ℕ} {fault : DecodeFault}
       (n : IsNext unended octets first rest)
-      → HeaderFaultBehind (unended_behind unended n.constructed n.encoding.len) (offset + length first) rest place fault
+      → HeaderFaultBehind (unended_behind unended n.constructed n.encoding.len) (offset + length first) rest place
+          fault
       → HeaderFaultBehind unended offset octets place fault
   behind_end_of_contents : {unended fewer offset place : ℕ} {octets rest : List ℕ} {fault : DecodeFault}
-      → unended ≡ fewer + 1 → octets ≡ 0 ∷ 0 ∷ rest → HeaderFaultBehind fewer (offset + 2) rest place fault
+      → unended ≡ fewer + 1 → octets ≡ 0 ∷ 0 ∷ rest
+      → HeaderFaultBehind fewer (offset + 2) rest place fault
       → HeaderFaultBehind unended offset octets place fault
 
 -- why octets are no encodings one after another, and at which offset: there are none, or the first of their headers

@@ -10,8 +10,8 @@ use Rattle.asn1_departures.specs.declared.rule.Departure.{Departure}
 pub record OneListOfDepartures : Type 0 where
   -- octets have at most one list of departures
   pub one_list :
-      (octets : List ℕ) (some others : List Departure) → AreDepartures octets some → AreDepartures octets others →
-      some ≡ others
+      (octets : List ℕ) (some others : List Departure) →
+      AreDepartures octets some → AreDepartures octets others → some ≡ others
   -- octets in which a header is at fault have no list, if there are any octets
   pub not_both :
       (octets : List ℕ) (found : List Departure) (place : ℕ) (fault : DecodeFault) → FitInSlice octets →

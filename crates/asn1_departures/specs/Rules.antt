@@ -98,7 +98,8 @@ bits_rule (unused ∷ first ∷ more) = if nat_lt unused 8 then UnusedBits else 
 -- what a REAL breaks that is not DER, by bits 8 and 7 of its first octet (8.5.6)
 abbrev pub real_rule : List ℕ → Rule
 real_rule [] = SpecialReal
-real_rule (first ∷ more) = if nat_lt 127 first then BinaryReal else if nat_lt first 64 then DecimalReal else SpecialReal
+real_rule (first ∷ more) =
+    if nat_lt 127 first then BinaryReal else if nat_lt first 64 then DecimalReal else SpecialReal
 
 -- what contents octets break that are not those of DER with the tag number
 abbrev pub contents_rule : ℕ → List ℕ → Rule

@@ -74,8 +74,8 @@ fn is_open_encoding(encoding: &[u8]) -> bool
 
 // Whether identifier octets are those of a constructed encoding.
 fn is_constructed(identifier: &[u8]) -> bool
-    ensures { (class : ASN1Class) (constructed : Bool) (tag : ℕ) → IsIdentifier identifier.now class constructed tag →
-        result ≡ constructed }
+    ensures { (class : ASN1Class) (constructed : Bool) (tag : ℕ)
+        → IsIdentifier identifier.now class constructed tag → result ≡ constructed }
 {
     match identifier {
         [leading, ..] => *leading / 32 % 2 == 1,

@@ -31,7 +31,8 @@ fn is_shortest(front: &[u8], header: &PlacedHeader) -> bool
     requires order { header.now.start ≤ header.now.end }
     requires read { IsHeaderOf front.now header.now.class header.now.constructed header.now.tag
         (header.now.end - header.now.start) }
-    ensures { IsTrue result ↔ (front.now ≡ shortest_identifier header.now.class header.now.constructed header.now.tag
+    ensures { IsTrue result
+        ↔ (front.now ≡ shortest_identifier header.now.class header.now.constructed header.now.tag
         ++ shortest_length (header.now.end - header.now.start)) }
 {
     if is_short(front) {
@@ -53,7 +54,8 @@ fn is_short(front: &[u8]) -> bool
 // Whether they are those that would be written.
 fn is_written(front: &[u8], header: &PlacedHeader) -> bool
     requires { header.now.start ≤ header.now.end }
-    ensures { IsTrue result ↔ (front.now ≡ shortest_identifier header.now.class header.now.constructed header.now.tag
+    ensures { IsTrue result
+        ↔ (front.now ≡ shortest_identifier header.now.class header.now.constructed header.now.tag
         ++ shortest_length (header.now.end - header.now.start)) }
 {
     let announced = header.end - header.start;
@@ -91,8 +93,8 @@ fn is_right(header: &PlacedHeader, contents: &[u8]) -> bool
 
 fn is_right_type(constructed: bool, tag: u64, contents: &[u8]) -> bool
     ensures right { IsTrue result → IsRightAlone Universal constructed tag contents.now }
-    ensures needed { IsRightAlone Universal constructed tag contents.now → (constructed ≡ true → AreDer contents.now) →
-        IsTrue result }
+    ensures needed { IsRightAlone Universal constructed tag contents.now
+        → (constructed ≡ true → AreDer contents.now) → IsTrue result }
 {
     if constructed {
         is_constructed_type(tag) && (tag != 17 || is_in_order(contents))

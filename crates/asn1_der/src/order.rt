@@ -126,7 +126,8 @@ fn without_zeros(octets: &[u8]) -> &[u8]
 
 // Of two numbers in the fewest octets the one in fewer is less, and of as many the first that differs decides.
 fn is_less_number(first: &[u8], next: &[u8]) -> bool
-    ensures { (m n : ℕ) → first.now ≡ shortest_base128 m → next.now ≡ shortest_base128 n → result ≡ nat_lt m n }
+    ensures { (m n : ℕ) → first.now ≡ shortest_base128 m → next.now ≡ shortest_base128 n
+        → result ≡ nat_lt m n }
 {
     let order = first.len().cmp(&next.len()).then(first.cmp(&next));
     matches!(order, Ordering::Less)

@@ -35,4 +35,5 @@ pub record WrittenIsDer : Type 0 where
   -- what is written of faithful trees, joined
   pub joined :
       (bs : Trees ℕ) →
-      bs ≢ no_trees → FitInSlice (all_canonical bs) → AreFaithful bs → IsDer (all_canonical bs) ↔ AreDerTrees bs
+      bs ≢ no_trees → FitInSlice (all_canonical bs) → AreFaithful bs →
+      IsDer (all_canonical bs) ↔ AreDerTrees bs

@@ -108,7 +108,8 @@ are_both_given first second rows = is_given first rows && is_given second rows
 abbrev pub task_exclusions : List (Text × Text)
 task_exclusions =
     (codes "at", codes "extract") ∷ (codes "at", codes "contents") ∷ (codes "at", codes "value")
-    ∷ (codes "extract", codes "contents") ∷ (codes "extract", codes "value") ∷ (codes "contents", codes "value") ∷ []
+    ∷ (codes "extract", codes "contents") ∷ (codes "extract", codes "value")
+    ∷ (codes "contents", codes "value") ∷ []
 
 -- JSON, which has all blocks whole, with what shows fewer or less, or writes octets
 abbrev pub json_exclusions : List (Text × Text)

@@ -90,7 +90,8 @@ pub data AnswersOutline (octets : List ℕ) (before after : List Block) (o : Out
 -- checking: the octets are a document; the first fault and its place; or memory ran out
 pub data AnswersCheck (octets : List ℕ) (o : Outcome) : Type 0 where
   is_document :
-      o.status ≡ done → o.offset ≡ 0 → o.count ≡ 0 → (bs : Trees ℕ) → IsDocument octets bs → AnswersCheck octets o
+      o.status ≡ done → o.offset ≡ 0 → o.count ≡ 0 → (bs : Trees ℕ) → IsDocument octets bs →
+      AnswersCheck octets o
   is_no_document : IsRefused octets o.status o.offset → o.count ≡ 0 → AnswersCheck octets o
   had_no_memory_to_check : IsNoMemory o.status o.offset → o.count ≡ 0 → AnswersCheck octets o
 

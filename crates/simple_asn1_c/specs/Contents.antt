@@ -58,8 +58,8 @@ pub data AnswersComponent (contents : List ℕ) (index : ℕ) (o : Outcome) : Ty
       0 < index → o.status ≡ done → o.offset ≡ 0 → o.count ≤ length (drop index contents) →
       (n : ℕ) → IsBase128 (take o.count (drop index contents)) n → AnswersComponent contents index o
   no_component_begins :
-      (index ≡ 0) ⊎ (length contents ≤ index) → o.status ≡ no_such_value → o.offset ≡ index → o.count ≡ 0 →
-      AnswersComponent contents index o
+      (index ≡ 0) ⊎ (length contents ≤ index) →
+      o.status ≡ no_such_value → o.offset ≡ index → o.count ≡ 0 → AnswersComponent contents index o
   component_does_not_end :
       BeginsWithNo IsBase128 (drop index contents) → o.status ≡ status_of incomplete → o.offset ≡ index →
       o.count ≡ 0 → AnswersComponent contents index o

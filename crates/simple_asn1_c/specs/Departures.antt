@@ -61,6 +61,7 @@ pub data AnswersDepartures (octets : List ℕ) (before after : List DepartureRec
       (found : List Departure) → AreDepartures octets found → ((found ≡ []) ↔ IsDer octets) →
       ArePut (map departure_record found) before after o → AnswersDepartures octets before after o
   are_no_encodings :
-      IsNoEncodings octets o.status o.offset → o.count ≡ 0 → after ≡ before → AnswersDepartures octets before after o
+      IsNoEncodings octets o.status o.offset → o.count ≡ 0 → after ≡ before →
+      AnswersDepartures octets before after o
   had_no_memory_to_list :
       IsNoMemory o.status o.offset → o.count ≡ 0 → after ≡ before → AnswersDepartures octets before after o

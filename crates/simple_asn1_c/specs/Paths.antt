@@ -121,4 +121,5 @@ pub data AnswersValues (octets steps : List ℕ) (paths : List Path) (before aft
       IsRefusedByHeader octets o.status o.offset → o.count ≡ 0 → after ≡ before →
       AnswersValues octets steps paths before after o
   had_no_memory_for_values :
-      IsNoMemory o.status o.offset → o.count ≡ 0 → after ≡ before → AnswersValues octets steps paths before after o
+      IsNoMemory o.status o.offset → o.count ≡ 0 → after ≡ before →
+      AnswersValues octets steps paths before after o

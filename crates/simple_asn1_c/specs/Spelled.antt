@@ -57,7 +57,8 @@ starts_of (x ∷ xs) = starts_of xs ++ length (concat xs) ∷ []
 
 -- the last records are spelled: these octets, and where each encoding is among them; and each is a block in canonical
 -- form where they were found to be
-pub record IsState (octets : List ℕ) (records : List Block) (spelled starts : List ℕ) (canonical : Bool) : Type 0 where
+pub record IsState (octets : List ℕ) (records : List Block) (spelled starts : List ℕ) (canonical : Bool)
+    : Type 0 where
   pub xs : List (List ℕ)
   pub spells : Spells octets records xs
   pub joined : spelled ≡ concat xs

@@ -80,7 +80,8 @@ abbrev pub IsEnded : List ℕ → FrameKind → ℕ → ℕ → ℕ → List (Tr
 IsEnded octets Whole offset start end ts t = ⊥
 IsEnded octets (Group g) offset start end ts t = t ≡ group offset g (trees_of ts)
 IsEnded octets Attempt offset start end ts t =
-    (a : other.Attempt) × (a.offset ≡ offset) × IsAttemptAt octets a start end × (t ≡ attempted octets a start end ts)
+    (a : other.Attempt) × (a.offset ≡ offset) × IsAttemptAt octets a start end
+    × (t ≡ attempted octets a start end ts)
 
 -- the frame of the document
 pub record IsDocumentFrame (octets : List ℕ) (f : Frame) : Type 0 where

@@ -178,8 +178,8 @@ HasRecovered Holds octets true r n most = GoesOn Holds octets r n most
 HasRecovered Holds octets false r n most = OutOfMemoryOr (λ fault. IsFaultyDocument octets fault r.index n) r.fault
 
 -- what a step leads to; with none, the whole document was read
-abbrev pub IsStepped : {B I : Type 0} → Holding B I → List ℕ → Option (Result (Unit {0}) ASN1DecodeErr) → Reader B I
-    → ℕ → ℕ → Type 0
+abbrev pub IsStepped : {B I : Type 0} → Holding B I → List ℕ → Option (Result (Unit {0}) ASN1DecodeErr)
+    → Reader B I → ℕ → ℕ → Type 0
 IsStepped Holds octets None r n most = HasEnded Holds octets r n
 IsStepped Holds octets (Some step) r n most = HasStepped Holds octets step r n most
 
@@ -201,7 +201,8 @@ pub record IsEntered {B I : Type 0} (a : Reader B I) (f : OpenFrame I) (r : Read
 -- nothing is read yet
 abbrev pub StartsEmpty : {B I : Type 0} → Holding B I → List ℕ → B → I → Type 0
 StartsEmpty Holds octets b items =
-    Holds octets b (in_frame (record { kind = Whole; offset = 0; start = 0; end = length octets }) items ∷ []) ([] ∷ [])
+    Holds octets b (in_frame (record { kind = Whole; offset = 0; start = 0; end = length octets }) items ∷ [])
+    ([] ∷ [])
 
 -- the builder holds the trees of the document
 pub record HasDocument {B I : Type 0} (Holds : Holding B I) (octets : List ℕ) (b : B) (items : I) : Type 0 where
