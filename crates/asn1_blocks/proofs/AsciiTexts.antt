@@ -8,33 +8,36 @@ use Rattle.std.proofs.lemmas.Bool.Decides.{nat_tests}
 use Rattle.std.proofs.lemmas.Str.Ascii.{IsAscii-cons, IsAscii-nil}
 use Rattle.asn1_blocks.specs.UnknownValues.{is_ascii_character, is_general, is_numeric, is_visible}
 
-numeric_below : (c : ℕ) → is_numeric c ≡ true → c < 128
-numeric_below c e = elim (or_cases (c == 32) (nat_le 48 c && nat_le c 57) e) [
+is_numeric-lt : (c : ℕ) → is_numeric c ≡ true → c < 128
+is_numeric-lt c e = elim (or_cases (c == 32) (nat_le 48 c && nat_le c 57) e) [
   | inl a ↦ grind (arith, nat_tests, a)
   | inr a ↦ let p = and_parts (nat_le 48 c) (nat_le c 57) a in grind (arith, nat_tests, p.1)
 ]
 
-visible_below : (c : ℕ) → is_visible c ≡ true → c < 128
-visible_below c e = let p = and_parts (nat_le 32 c) (nat_le c 126) e in grind (arith, nat_tests, p.1)
+is_visible-lt : (c : ℕ) → is_visible c ≡ true → c < 128
+is_visible-lt c e = let p = and_parts (nat_le 32 c) (nat_le c 126) e in grind (arith, nat_tests, p.1)
 
-general_below : (c : ℕ) → is_general c ≡ true → c < 128
-general_below c e =
+is_general-lt : (c : ℕ) → is_general c ≡ true → c < 128
+is_general-lt c e =
     let p = and_parts (nat_lt c 128) (not ((c == 14) || (c == 15) || (c == 27))) e in
     grind (arith, nat_tests, p.0)
 
-chosen : (a b : Bool) (x y z : Bool) (P : Type 0) → (if a then x else if b then y else z) ≡ true → (x ≡ true → P) →
+-- what is true in each branch is true of a choice of three
+if-cases : (a b : Bool) (x y z : Bool) (P : Type 0) → (if a then x else if b then y else z) ≡ true → (x ≡ true → P) →
     (y ≡ true → P) → (z ≡ true → P) → P
-chosen true b x y z P e f g h = f e
-chosen false true x y z P e f g h = g e
-chosen false false x y z P e f g h = h e
+if-cases true b x y z P e f g h = f e
+if-cases false true x y z P e f g h = g e
+if-cases false false x y z P e f g h = h e
 
-ascii_below : (tag c : ℕ) → is_ascii_character tag c ≡ true → c < 128
-ascii_below tag c e =
-    chosen (tag == 18) (tag == 26) (is_numeric c) (is_visible c) (is_general c) (c < 128) e (numeric_below c)
-    (visible_below c) (general_below c)
+-- the characters of each kind of ASCII text are below 128
+is_ascii_character-lt : (tag c : ℕ) → is_ascii_character tag c ≡ true → c < 128
+is_ascii_character-lt tag c e =
+    if-cases (tag == 18) (tag == 26) (is_numeric c) (is_visible c) (is_general c) (c < 128) e (is_numeric-lt c)
+    (is_visible-lt c) (is_general-lt c)
 
-pub characters_ascii : (tag : ℕ) (cs : List ℕ) → list_all (is_ascii_character tag) cs ≡ true → IsAscii cs
-characters_ascii tag [] e = IsAscii-nil
-characters_ascii tag (c ∷ cs) e =
+-- a text of allowed characters is ASCII
+pub IsAscii-characters : (tag : ℕ) (cs : List ℕ) → list_all (is_ascii_character tag) cs ≡ true → IsAscii cs
+IsAscii-characters tag [] e = IsAscii-nil
+IsAscii-characters tag (c ∷ cs) e =
     let p = and_parts (is_ascii_character tag c) (list_all (is_ascii_character tag) cs) e in
-    IsAscii-cons c cs (ascii_below tag c p.0) (characters_ascii tag cs p.1)
+    IsAscii-cons c cs (is_ascii_character-lt tag c p.0) (IsAscii-characters tag cs p.1)

@@ -5,16 +5,16 @@ use Rattle.std.proofs.Math.Seq.{take-add}
 use Rattle.std.proofs.Math.ListN.{drop_of_length-le}
 use Rattle.asn1_headers.specs.Header.{BeginsWithNo, IsIdentifier, IsLength, IsSomeIdentifier}
 use Rattle.asn1_blocks.specs.Places.{EncodingAt, IsEncoding, TreeAt}
-use Rattle.asn1_blocks.proofs.Slices.{octets_encoding}
+use Rattle.asn1_blocks.proofs.Slices.{EncodingAt-tree_octets}
 use Rattle.asn1_headers.proofs.Prefixes.{identifier_alone, length_alone, encoding_some, identifier_some}
-use Rattle.asn1_blocks.proofs.Faults.{length_first, split_encoding}
+use Rattle.asn1_blocks.proofs.Faults.{IsLength-first, append-encoding_parts}
 
 -- no encoding stands where there are no identifier octets
-pub no_identifier_here : (octets : List ℕ) → BeginsWithNo IsSomeIdentifier octets → (x rest : List ℕ) →
+pub IsEncoding-not_without_identifier : (octets : List ℕ) → BeginsWithNo IsSomeIdentifier octets → (x rest : List ℕ) →
     octets ≡ x ++ rest → IsEncoding x → ⊥
-no_identifier_here octets missing x rest e p =
+IsEncoding-not_without_identifier octets missing x rest e p =
     let f = p.encoding in
-    let w = split_encoding octets x rest p.class p.constructed p.tag p.contents p.header f e in
+    let w = append-encoding_parts octets x rest p.class p.constructed p.tag p.contents p.header f e in
     missing p.tag (length f.identifier) (
       p.class,
       p.constructed,
@@ -24,36 +24,36 @@ no_identifier_here octets missing x rest e p =
     )
 
 -- what follows the identifier octets of an encoding
-after_identifier :
+split-identifier :
     (octets : List ℕ) (i tag : ℕ) → IsSomeIdentifier (take i octets) tag → (x rest : List ℕ) →
     octets ≡ x ++ rest → (p : IsEncoding x) →
     (take i octets ≡ p.encoding.identifier) × (drop i octets ≡ p.encoding.len ++ (p.contents ++ rest))
-after_identifier octets i tag (_, _, t) x rest e p =
+split-identifier octets i tag (_, _, t) x rest e p =
     let f = p.encoding in
-    let w = split_encoding octets x rest p.class p.constructed p.tag p.contents p.header f e in
+    let w = append-encoding_parts octets x rest p.class p.constructed p.tag p.contents p.header f e in
     let q = identifier_alone (take i octets) f.identifier (drop i octets) (f.len ++ (p.contents ++ rest)) _ _ _ _ _ _ t
     f.identifier_octets
     (take-append-drop i octets ∙ w) in
     (q.octets, q.rest)
 
 -- no encoding begins where no length octets stand behind identifier octets
-pub no_length_here :
+pub IsEncoding-not_without_length :
     (octets : List ℕ) (i tag : ℕ) → IsSomeIdentifier (take i octets) tag →
     BeginsWithNo IsLength (drop i octets) → (x rest : List ℕ) → octets ≡ x ++ rest → IsEncoding x →
     ⊥
-no_length_here octets i tag t missing x rest e p =
-    let a = after_identifier octets i tag t x rest e p in
+IsEncoding-not_without_length octets i tag t missing x rest e p =
+    let a = split-identifier octets i tag t x rest e p in
     let f = p.encoding in
     missing (length p.contents) (length f.len) (subst (λ z. IsLength z (length p.contents))
     (sym (ap (take (length f.len)) a.1 ∙ take_at f.len (p.contents ++ rest) (length f.len) refl)) f.length_octets)
 
 -- no encoding begins where fewer octets are left than the length octets tell
-pub no_contents_here :
+pub IsEncoding-not_cut_off :
     (octets : List ℕ) (i l m tag : ℕ) → IsSomeIdentifier (take i octets) tag → i ≤ length octets →
     IsLength (take l (drop i octets)) m → l ≤ length (drop i octets) → length octets < i + l + m →
     (x rest : List ℕ) → octets ≡ x ++ rest → IsEncoding x → ⊥
-no_contents_here octets i l m tag t le u few short x rest e p =
-    let a = after_identifier octets i tag t x rest e p in
+IsEncoding-not_cut_off octets i l m tag t le u few short x rest e p =
+    let a = split-identifier octets i tag t x rest e p in
     let f = p.encoding in
     let q = length_alone (take l (drop i octets)) f.len (drop l (drop i octets)) (p.contents ++ rest) m
     (length p.contents) u f.length_octets
@@ -71,11 +71,11 @@ no_contents_here octets i l m tag t le u few short x rest e p =
     )
 
 -- the encoding that is there
-pub encoding_here :
+pub IsEncoding-front :
     (octets : List ℕ) (i l m tag : ℕ) → IsSomeIdentifier (take i octets) tag → i ≤ length octets →
     IsLength (take l (drop i octets)) m → l ≤ length (drop i octets) → i + l + m ≤ length octets →
     IsEncoding (take (i + l + m) octets)
-encoding_here octets i l m tag (c, k, t) le u few fits =
+IsEncoding-front octets i l m tag (c, k, t) le u few fits =
     let r = drop i octets in
     let v = take m (drop l r) in
     let n : length v ≡ m =
@@ -98,9 +98,9 @@ encoding_here octets i l m tag (c, k, t) le u few fits =
     }
 
 -- no encoding stands past the end
-pub none_past_end : (document : List ℕ) (offset : ℕ) → length document < offset → (octets : List ℕ) →
+pub EncodingAt-not_past_end : (document : List ℕ) (offset : ℕ) → length document < offset → (octets : List ℕ) →
     EncodingAt document offset octets → ⊥
-none_past_end document offset h octets p =
+EncodingAt-not_past_end document offset h octets p =
     let x = p.encoding in
     let e : drop offset document ≡ [] = drop_of_length-le document (omega (arith, h)) in
     omega (
@@ -111,10 +111,10 @@ none_past_end document offset h octets p =
     )
 
 -- an encoding has two octets or more
-pub encoding_two : (octets : List ℕ) → IsEncoding octets → 2 ≤ length octets
-encoding_two octets p =
+pub IsEncoding-two_le : (octets : List ℕ) → IsEncoding octets → 2 ≤ length octets
+IsEncoding-two_le octets p =
     let f = p.encoding in
-    let (b, r, e) = length_first f.len (length p.contents) f.length_octets in
+    let (b, r, e) = IsLength-first f.len (length p.contents) f.length_octets in
     omega (
       arith,
       identifier_some f.identifier p.class p.constructed p.tag f.identifier_octets,
@@ -125,8 +125,8 @@ encoding_two octets p =
     )
 
 -- what stands at the offset of a tree of a document
-pub encoding_of : (document : List ℕ) (offset : ℕ) (octets : List ℕ) → TreeAt document offset octets →
+pub EncodingAt-tree : (document : List ℕ) (offset : ℕ) (octets : List ℕ) → TreeAt document offset octets →
     EncodingAt document offset octets
-encoding_of document offset octets t =
+EncodingAt-tree document offset octets t =
     subst (λ z. EncodingAt document z octets) t.offset_is
-    (octets_encoding document t.all t.tree octets t.read t.own_octets)
+    (EncodingAt-tree_octets document t.all t.tree octets t.read t.own_octets)

@@ -1,5 +1,5 @@
 -- What is at fault is no block.
-use Rattle.std.proofs.Common.{◌≡◌, ℕ, suc, ◌+◌, ◌<◌, ◌≤◌, ◌^◌, Bool, List, [], ◌∷◌, ◌++◌, length, refl, sym, ap, ◌∙◌, subst, arith, length-append, append_assoc, append-nil}
+use Rattle.std.proofs.Common.{◌≡◌, ℕ, ◌+◌, ◌<◌, ◌≤◌, ◌^◌, Bool, List, [], ◌∷◌, ◌++◌, length, refl, sym, ap, ◌∙◌, subst, arith, length-append, append_assoc, append-nil}
 use Rattle.std.proofs.lemmas.Bool.{false≢true}
 use Rattle.asn1_headers.specs.declared.header.ASN1Class.{ASN1Class}
 use Rattle.asn1_headers.specs.declared.header.ASN1Class.TheVariants.{Universal}
@@ -12,62 +12,58 @@ use Rattle.asn1_blocks.specs.Places.{IsEncoding}
 use Rattle.asn1_headers.specs.HeaderFault.{HeaderFault, no_identifier, no_length, too_far, too_long}
 use Rattle.asn1_blocks.specs.Grammar.{IsBlock, of_other_class, of_unknown_tag, of_leaf, of_group, AreBlocks, no_blocks, more_blocks, EncodesAll, BlocksFaultAt, in_header, in_contents, in_item}
 use Rattle.asn1_blocks.specs.Inner.BlockFault.{BlockFaultAt, at_header, at_leaf, at_item}
-use Rattle.asn1_blocks.proofs.Leaves.{leaf_no_group, leaf_no_fault, leaf_fault_tag, leaf_tag_known, leaf_tag_no_group, unknown_known}
+use Rattle.asn1_blocks.proofs.Leaves.{leaf_tag-not_group_tag, LeafContents-no_fault, LeafFault-is_leaf_tag, is_known_tag-is_leaf_tag, is_leaf_tag-not_group_tag, is_known_tag-unknown}
 use Rattle.asn1_headers.proofs.Prefixes.{encoding_alone, identifier_alone, length_alone}
-use Rattle.asn1_blocks.proofs.FaultyBlocks.{encoding_first}
-use Rattle.asn1_blocks.proofs.OneReading.{block_some, encodes_block}
+use Rattle.asn1_blocks.proofs.FaultyBlocks.{Encoding-append_not_empty}
+use Rattle.asn1_blocks.proofs.OneReading.{IsBlock-not_empty, IsBlock-encodes}
+use Rattle.asn1_blocks.proofs.BlockLists.{tree_count}
 
 -- a block is an encoding
-pub block_encoding : (octets : List ℕ) → IsBlock octets → IsEncoding octets
-block_encoding octets (of_other_class f ne) =
+pub IsEncoding-block : (octets : List ℕ) → IsBlock octets → IsEncoding octets
+IsEncoding-block octets (of_other_class f ne) =
     record { class = _; constructed = _; tag = _; contents = _; header = _; encoding = f }
-block_encoding octets (of_unknown_tag f ne) =
+IsEncoding-block octets (of_unknown_tag f ne) =
     record { class = _; constructed = _; tag = _; contents = _; header = _; encoding = f }
-block_encoding octets (of_leaf f l e p) =
+IsEncoding-block octets (of_leaf f l e p) =
     record { class = _; constructed = _; tag = _; contents = _; header = _; encoding = f }
-block_encoding octets (of_group f g e q) =
+IsEncoding-block octets (of_group f g e q) =
     record { class = _; constructed = _; tag = _; contents = _; header = _; encoding = f }
 
 -- a block begins no other
-pub block_alone : (xs ys r q : List ℕ) → IsBlock xs → IsBlock ys → xs ++ r ≡ ys ++ q → (xs ≡ ys) × (r ≡ q)
-block_alone xs ys r q a b e =
-    let F = block_encoding xs a in
-    let G = block_encoding ys b in
+pub IsBlock-unique : (xs ys r q : List ℕ) → IsBlock xs → IsBlock ys → xs ++ r ≡ ys ++ q → (xs ≡ ys) × (r ≡ q)
+IsBlock-unique xs ys r q a b e =
+    let F = IsEncoding-block xs a in
+    let G = IsEncoding-block ys b in
     let f = encoding_alone _ _ _ _ _ _ _ _ _ _ _ _ r q F.encoding G.encoding e in
     (f.octets, f.rest)
 
--- the number of trees
-abbrev pub tree_count : {O : Type 0} → Trees O → ℕ
-tree_count no_trees = 0
-tree_count (more_trees b bs) = suc (tree_count bs)
-
 -- contents octets that are a block encode one tree
-pub one_block : (o : ℕ) (contents : List ℕ) (bs : Trees ℕ) → EncodesAll o contents bs → IsBlock contents →
+pub tree_count-block : (o : ℕ) (contents : List ℕ) (bs : Trees ℕ) → EncodesAll o contents bs → IsBlock contents →
     tree_count bs ≡ 1
-one_block o contents no_trees s b = absurd (omega (arith, block_some contents b, ap length s))
-one_block o contents (more_trees b no_trees) s a = refl
-one_block o contents (more_trees b (more_trees c bs)) s a =
+tree_count-block o contents no_trees s b = absurd (omega (arith, IsBlock-not_empty contents b, ap length s))
+tree_count-block o contents (more_trees b no_trees) s a = refl
+tree_count-block o contents (more_trees b (more_trees c bs)) s a =
     let f =
-    block_alone contents s.first [] s.rest a (encodes_block o s.first b s.item) (append-nil contents ∙ s.whole) in
+    IsBlock-unique contents s.first [] s.rest a (IsBlock-encodes o s.first b s.item) (append-nil contents ∙ s.whole) in
     let t = s.items in
-    let p = block_some t.first (encodes_block _ t.first c t.item) in
+    let p = IsBlock-not_empty t.first (IsBlock-encodes _ t.first c t.item) in
     absurd (omega (arith, p, ap length (f.1 ∙ t.whole), length-append t.first t.rest))
 
 -- what follows the first blocks
-pub blocks_after : (all front rest : List ℕ) → all ≡ front ++ rest → AreBlocks front → AreBlocks all → AreBlocks rest
-blocks_after all front rest e no_blocks bs = subst AreBlocks e bs
-blocks_after all front rest e (more_blocks {x = x} {rest = r} d b fs) no_blocks =
-    absurd (omega (arith, block_some x b, ap length e, ap length d, length-append front rest, length-append x r))
-blocks_after all front rest e (more_blocks {x = x} {rest = r} d b fs) (more_blocks {x = y} {rest = q} d' b' bs) =
-    let f = block_alone x y (r ++ rest) q b b'
+pub AreBlocks-rest : (all front rest : List ℕ) → all ≡ front ++ rest → AreBlocks front → AreBlocks all → AreBlocks rest
+AreBlocks-rest all front rest e no_blocks bs = subst AreBlocks e bs
+AreBlocks-rest all front rest e (more_blocks {x = x} {rest = r} d b fs) no_blocks =
+    absurd (omega (arith, IsBlock-not_empty x b, ap length e, ap length d, length-append front rest, length-append x r))
+AreBlocks-rest all front rest e (more_blocks {x = x} {rest = r} d b fs) (more_blocks {x = y} {rest = q} d' b' bs) =
+    let f = IsBlock-unique x y (r ++ rest) q b b'
     (sym (append_assoc x r rest) ∙ ap (λ z. z ++ rest) (sym d) ∙ sym e ∙ d') in
-    blocks_after q r rest (sym f.1) fs bs
+    AreBlocks-rest q r rest (sym f.1) fs bs
 
 -- the first of some blocks
-pub first_block : (octets : List ℕ) → AreBlocks octets → 0 < length octets →
+pub AreBlocks-first : (octets : List ℕ) → AreBlocks octets → 0 < length octets →
     (x : List ℕ) × (rest : List ℕ) × (octets ≡ x ++ rest) × IsBlock x
-first_block octets no_blocks h = absurd (omega (arith, h))
-first_block octets (more_blocks {x = x} {rest = r} d b bs) h = (x, r, d, b)
+AreBlocks-first octets no_blocks h = absurd (omega (arith, h))
+AreBlocks-first octets (more_blocks {x = x} {rest = r} d b bs) h = (x, r, d, b)
 
 -- what a block of class Universal holds
 pub data UniversalContents (n : ℕ) (contents : List ℕ) : Type 0 where
@@ -76,33 +72,33 @@ pub data UniversalContents (n : ℕ) (contents : List ℕ) : Type 0 where
   is_group : (g : GroupKind) → n ≡ group_tag g → AreBlocks contents → UniversalContents n contents
 
 -- a block of class Universal has the contents octets of its kind
-pub universal_contents : (x : List ℕ) (k : Bool) (n : ℕ) (contents : List ℕ) (h : ℕ) →
+pub UniversalContents-block : (x : List ℕ) (k : Bool) (n : ℕ) (contents : List ℕ) (h : ℕ) →
     Encoding x Universal k n contents h → IsBlock x
     → UniversalContents n contents
-universal_contents x k n contents h f (of_other_class g ne) =
+UniversalContents-block x k n contents h f (of_other_class g ne) =
     let s = encoding_alone _ _ _ _ _ _ _ _ _ _ _ _ [] [] f g refl in
     absurd (ne (sym s.class))
-universal_contents x k n contents h f (of_unknown_tag g u) =
+UniversalContents-block x k n contents h f (of_unknown_tag g u) =
     let s = encoding_alone _ _ _ _ _ _ _ _ _ _ _ _ [] [] f g refl in
     is_unknown (subst IsUnknownTag (sym s.tag) u)
-universal_contents x k n contents h f (of_leaf g l t p) =
+UniversalContents-block x k n contents h f (of_leaf g l t p) =
     let s = encoding_alone _ _ _ _ _ _ _ _ _ _ _ _ [] [] f g refl in
     is_leaf l (s.tag ∙ t) (subst (LeafContents l) (sym s.contents) p)
-universal_contents x k n contents h f (of_group g j t bs) =
+UniversalContents-block x k n contents h f (of_group g j t bs) =
     let s = encoding_alone _ _ _ _ _ _ _ _ _ _ _ _ [] [] f g refl in
     is_group j (s.tag ∙ t) (subst AreBlocks (sym s.contents) bs)
 
 -- an encoding at the front, by its parts
-pub split_encoding : (octets x rest : List ℕ) (c : ASN1Class) (k : Bool) (n : ℕ) (contents : List ℕ) (h : ℕ)
+pub append-encoding_parts : (octets x rest : List ℕ) (c : ASN1Class) (k : Bool) (n : ℕ) (contents : List ℕ) (h : ℕ)
     (f : Encoding x c k n contents h)
     → octets ≡ x ++ rest → octets ≡ f.identifier ++ (f.len ++ (contents ++ rest))
-split_encoding octets x rest c k n contents h f e = e ∙ ap (λ z. z ++ rest) f.whole ∙ simp append_assoc
+append-encoding_parts octets x rest c k n contents h f e = e ∙ ap (λ z. z ++ rest) f.whole ∙ simp append_assoc
 
 -- the contents octets of an encoding at the front are among the octets
-pub encoding_within : (octets x rest : List ℕ) (c : ASN1Class) (k : Bool) (n : ℕ) (contents : List ℕ) (h : ℕ)
+pub length-contents_le : (octets x rest : List ℕ) (c : ASN1Class) (k : Bool) (n : ℕ) (contents : List ℕ) (h : ℕ)
     → Encoding x c k n contents h → octets ≡ x ++ rest
     → length contents ≤ length octets
-encoding_within octets x rest c k n contents h f e = omega (
+length-contents_le octets x rest c k n contents h f e = omega (
   arith,
   ap length e,
   length-append x rest,
@@ -112,26 +108,27 @@ encoding_within octets x rest c k n contents h f e = omega (
 )
 
 -- length octets are some
-pub length_first : (l : List ℕ) (n : ℕ) → IsLength l n → (b : ℕ) × (r : List ℕ) × (l ≡ b ∷ r)
-length_first [] n p = absurd p
-length_first (b ∷ r) n p = (b, r, refl)
+pub IsLength-first : (l : List ℕ) (n : ℕ) → IsLength l n → (b : ℕ) × (r : List ℕ) × (l ≡ b ∷ r)
+IsLength-first [] n p = absurd p
+IsLength-first (b ∷ r) n p = (b, r, refl)
 
 -- no encoding stands where a header is at fault
-pub header_no_encoding : (offset : ℕ) (octets x rest : List ℕ) (e : DecodeFault) (c' : ASN1Class) (k' : Bool) (n' : ℕ)
+pub HeaderFault-not_encoding : (offset : ℕ) (octets x rest : List ℕ) (e : DecodeFault) (c' : ASN1Class) (k' : Bool)
+    (n' : ℕ)
     (contents : List ℕ) (h' : ℕ)
     → HeaderFault offset octets e → offset + length octets < 2 ^ 64 → octets ≡ x ++ rest →
     Encoding x c' k' n' contents h' → ⊥
-header_no_encoding offset octets x rest e c' k' n' contents h' (no_identifier missing) small d f =
-    let (a, r, l) = length_first f.len (length contents) f.length_octets in
+HeaderFault-not_encoding offset octets x rest e c' k' n' contents h' (no_identifier missing) small d f =
+    let (a, r, l) = IsLength-first f.len (length contents) f.length_octets in
     missing f.identifier (r ++ (contents ++ rest)) c' k' n' a f.identifier_octets
-    (split_encoding octets x rest _ _ _ _ _ f d ∙ ap (λ z. f.identifier ++ (z ++ (contents ++ rest))) l)
-header_no_encoding offset octets x rest e c' k' n' contents h' (no_length s a r c k n t g missing h) small d f =
+    (append-encoding_parts octets x rest _ _ _ _ _ f d ∙ ap (λ z. f.identifier ++ (z ++ (contents ++ rest))) l)
+HeaderFault-not_encoding offset octets x rest e c' k' n' contents h' (no_length s a r c k n t g missing h) small d f =
     let q = identifier_alone s f.identifier (a ∷ r) (f.len ++ (contents ++ rest)) c c' k k' n n' t f.identifier_octets
-    (sym g ∙ split_encoding octets x rest _ _ _ _ _ f d) in
+    (sym g ∙ append-encoding_parts octets x rest _ _ _ _ _ f d) in
     missing f.len (contents ++ rest) (length contents) f.length_octets q.rest
-header_no_encoding offset octets x rest e c' k' n' contents h' (too_far s l r c k n m t u g far h) small d f =
+HeaderFault-not_encoding offset octets x rest e c' k' n' contents h' (too_far s l r c k n m t u g far h) small d f =
     let q = identifier_alone s f.identifier (l ++ r) (f.len ++ (contents ++ rest)) c c' k k' n n' t f.identifier_octets
-    (sym g ∙ split_encoding octets x rest _ _ _ _ _ f d) in
+    (sym g ∙ append-encoding_parts octets x rest _ _ _ _ _ f d) in
     let v = length_alone l f.len r (contents ++ rest) m (length contents) u f.length_octets q.rest in
     omega (
       arith,
@@ -144,80 +141,84 @@ header_no_encoding offset octets x rest e c' k' n' contents h' (too_far s l r c 
       length-append l r,
       length-append contents rest,
     )
-header_no_encoding offset octets x rest e c' k' n' contents h' (too_long s l r c k n m t u g near long) small d f =
+HeaderFault-not_encoding offset octets x rest e c' k' n' contents h'
+    (too_long s l r c k n m t u g near long) small d f =
     let q = identifier_alone s f.identifier (l ++ r) (f.len ++ (contents ++ rest)) c c' k k' n n' t f.identifier_octets
-    (sym g ∙ split_encoding octets x rest _ _ _ _ _ f d) in
+    (sym g ∙ append-encoding_parts octets x rest _ _ _ _ _ f d) in
     let v = length_alone l f.len r (contents ++ rest) m (length contents) u f.length_octets q.rest in
     omega (arith, long, v.number, ap length v.rest, length-append contents rest)
 
 -- no block stands where a header is at fault
-header_no_block : (offset : ℕ) (octets x rest : List ℕ) (e : DecodeFault) → HeaderFault offset octets e →
+HeaderFault-not_block : (offset : ℕ) (octets x rest : List ℕ) (e : DecodeFault) → HeaderFault offset octets e →
     offset + length octets < 2 ^ 64
     → octets ≡ x ++ rest → IsBlock x → ⊥
-header_no_block offset octets x rest e w small d b =
-    let F = block_encoding x b in
-    header_no_encoding offset octets x rest e F.class F.constructed F.tag F.contents F.header w small d F.encoding
+HeaderFault-not_block offset octets x rest e w small d b =
+    let F = IsEncoding-block x b in
+    HeaderFault-not_encoding offset octets x rest e F.class F.constructed F.tag F.contents F.header w small d F.encoding
 
 -- a block of class Universal has the contents octets of the encoding that begins with it
-contents_there : (octets y r x rest : List ℕ) (k : Bool) (n : ℕ) (contents : List ℕ) (h : ℕ) → octets ≡ y ++ r
+UniversalContents-front : (octets y r x rest : List ℕ) (k : Bool) (n : ℕ) (contents : List ℕ) (h : ℕ) → octets ≡ y ++ r
     → Encoding y Universal k n contents h → octets ≡ x ++ rest → IsBlock x → UniversalContents n contents
-contents_there octets y r x rest k n contents h g f d b =
-    let F = block_encoding x b in
+UniversalContents-front octets y r x rest k n contents h g f d b =
+    let F = IsEncoding-block x b in
     let q = encoding_alone _ _ _ _ _ _ _ _ _ _ _ _ r rest f F.encoding (sym g ∙ d) in
-    universal_contents y k n contents h f (subst IsBlock (sym q.octets) b)
+    UniversalContents-block y k n contents h f (subst IsBlock (sym q.octets) b)
 
 -- the contents octets of a leaf in a block are not at fault
-leaf_no_block : (n : ℕ) (contents : List ℕ) (e : DecodeFault) → LeafFault n contents e → UniversalContents n contents →
+LeafFault-not_contents : (n : ℕ) (contents : List ℕ) (e : DecodeFault) → LeafFault n contents e →
+    UniversalContents n contents →
     ⊥
-leaf_no_block n contents e p (is_unknown u) =
-    false≢true (sym (unknown_known n u) ∙ leaf_tag_known n (leaf_fault_tag n contents e p))
-leaf_no_block n contents e p (is_leaf l t q) = leaf_no_fault n contents e l t q p
-leaf_no_block n contents e p (is_group g t bs) = leaf_tag_no_group n g (leaf_fault_tag n contents e p) t
+LeafFault-not_contents n contents e p (is_unknown u) =
+    false≢true (sym (is_known_tag-unknown n u) ∙ is_known_tag-is_leaf_tag n (LeafFault-is_leaf_tag n contents e p))
+LeafFault-not_contents n contents e p (is_leaf l t q) = LeafContents-no_fault n contents e l t q p
+LeafFault-not_contents n contents e p (is_group g t bs) =
+    is_leaf_tag-not_group_tag n g (LeafFault-is_leaf_tag n contents e p) t
 
 -- the contents octets of a group in a block are blocks
-group_holds : (g : GroupKind) (contents : List ℕ) → UniversalContents (group_tag g) contents → AreBlocks contents
-group_holds g contents (is_unknown u) = absurd (u.1 g refl)
-group_holds g contents (is_leaf l t p) = absurd (leaf_no_group l g (sym t))
-group_holds g contents (is_group i t bs) = bs
+AreBlocks-group_contents : (g : GroupKind) (contents : List ℕ) → UniversalContents (group_tag g) contents →
+    AreBlocks contents
+AreBlocks-group_contents g contents (is_unknown u) = absurd (u.1 g refl)
+AreBlocks-group_contents g contents (is_leaf l t p) = absurd (leaf_tag-not_group_tag l g (sym t))
+AreBlocks-group_contents g contents (is_group i t bs) = bs
 
 -- octets at fault are no blocks
-pub blocks_fault_no_blocks : (octets : List ℕ) (e : DecodeFault) (o : ℕ) → BlocksFaultAt octets e o →
+pub BlocksFaultAt-not_blocks : (octets : List ℕ) (e : DecodeFault) (o : ℕ) → BlocksFaultAt octets e o →
     length octets < 2 ^ 64
     → AreBlocks octets → ⊥
-blocks_fault_no_blocks octets e o (in_header front rest d fs some w) small bs =
-    let (x, r, g, b) = first_block rest (blocks_after octets front rest d fs bs) some in
-    header_no_block (length front) rest x r e w (omega (arith, small, ap length d, length-append front rest)) g b
-blocks_fault_no_blocks octets e o
+BlocksFaultAt-not_blocks octets e o (in_header front rest d fs some w) small bs =
+    let (x, r, g, b) = AreBlocks-first rest (AreBlocks-rest octets front rest d fs bs) some in
+    HeaderFault-not_block (length front) rest x r e w (omega (arith, small, ap length d, length-append front rest)) g b
+BlocksFaultAt-not_blocks octets e o
     (in_contents {contents = v} {constructed = k} {tag = n} {header = h} front y rest d fs f l) small bs =
     let all = y ++ rest in
-    let (x, r, g, b) = first_block all (blocks_after octets front all d fs bs)
-    (encoding_first y rest Universal k n v h f) in
-    leaf_no_block n v e l (contents_there all y rest x r k n v h refl f g b)
-blocks_fault_no_blocks octets e o
+    let (x, r, g, b) = AreBlocks-first all (AreBlocks-rest octets front all d fs bs)
+    (Encoding-append_not_empty y rest Universal k n v h f) in
+    LeafFault-not_contents n v e l (UniversalContents-front all y rest x r k n v h refl f g b)
+BlocksFaultAt-not_blocks octets e o
     (in_item {contents = v} {constructed = k} {header = h} {inside = i} front y rest d fs j f p) small bs =
     let all = y ++ rest in
     let n = group_tag j in
-    let (x, r, g, b) = first_block all (blocks_after octets front all d fs bs)
-    (encoding_first y rest Universal k n v h f) in
-    let within = encoding_within all y rest Universal k n v h f refl in
-    blocks_fault_no_blocks v e i p (omega (arith, small, ap length d, length-append front all, within))
-    (group_holds j v (contents_there all y rest x r k n v h refl f g b))
+    let (x, r, g, b) = AreBlocks-first all (AreBlocks-rest octets front all d fs bs)
+    (Encoding-append_not_empty y rest Universal k n v h f) in
+    let within = length-contents_le all y rest Universal k n v h f refl in
+    BlocksFaultAt-not_blocks v e i p (omega (arith, small, ap length d, length-append front all, within))
+    (AreBlocks-group_contents j v (UniversalContents-front all y rest x r k n v h refl f g b))
 
 -- where the first block is at fault, no block stands
-pub block_fault_no_block : (offset : ℕ) (octets x rest : List ℕ) (e : DecodeFault) (o : ℕ) →
+pub BlockFaultAt-not_block : (offset : ℕ) (octets x rest : List ℕ) (e : DecodeFault) (o : ℕ) →
     BlockFaultAt offset octets e o
     → offset + length octets < 2 ^ 64 → octets ≡ x ++ rest → IsBlock x → ⊥
-block_fault_no_block offset octets x rest e o (at_header w) small d b =
-    header_no_block offset octets x rest e w small d b
-block_fault_no_block offset octets x rest e o
+BlockFaultAt-not_block offset octets x rest e o (at_header w) small d b =
+    HeaderFault-not_block offset octets x rest e w small d b
+BlockFaultAt-not_block offset octets x rest e o
     (at_leaf y r {constructed = k} {tag = n} {contents = v} {header = h} g f l) small d b =
-    leaf_no_block n v e l (contents_there octets y r x rest k n v h g f d b)
-block_fault_no_block offset octets x rest e o
+    LeafFault-not_contents n v e l (UniversalContents-front octets y r x rest k n v h g f d b)
+BlockFaultAt-not_block offset octets x rest e o
     (at_item y r {constructed = k} {contents = v} {header = h} {inside = i} g j f p) small d b =
     let n = group_tag j in
-    blocks_fault_no_blocks v e i p (omega (arith, small, encoding_within octets y r Universal k n v h f g))
-    (group_holds j v (contents_there octets y r x rest k n v h g f d b))
+    BlocksFaultAt-not_blocks v e i p (omega (arith, small, length-contents_le octets y r Universal k n v h f g))
+    (AreBlocks-group_contents j v (UniversalContents-front octets y r x rest k n v h g f d b))
 
 -- one block is blocks one after another
-pub block_is_blocks : (octets : List ℕ) → IsBlock octets → AreBlocks octets
-block_is_blocks octets b = more_blocks (sym (append-nil octets)) b no_blocks
+pub AreBlocks-single : (octets : List ℕ) → IsBlock octets → AreBlocks octets
+AreBlocks-single octets b = more_blocks (sym (append-nil octets)) b no_blocks

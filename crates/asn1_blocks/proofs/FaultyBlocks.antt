@@ -19,13 +19,16 @@ pub record FaultyBlock (octets : List ℕ) (e : DecodeFault) (offset : ℕ) : Ty
   pub offset_is : offset ≡ length front + inside
 
 -- an encoding and more are some octets
-pub encoding_first : (x rest : List ℕ) (c : ASN1Class) (k : Bool) (n : ℕ) (contents : List ℕ) (h : ℕ) →
+pub Encoding-append_not_empty : (x rest : List ℕ) (c : ASN1Class) (k : Bool) (n : ℕ) (contents : List ℕ) (h : ℕ) →
     Encoding x c k n contents h
     → 0 < length (x ++ rest)
-encoding_first x rest c k n contents h f = omega (arith, encoding_some x c k n contents h f, length-append x rest)
+Encoding-append_not_empty x rest c k n contents h f =
+    omega (arith, encoding_some x c k n contents h f, length-append x rest)
 
-pub faulty_block : (octets : List ℕ) (e : DecodeFault) (o : ℕ) → BlocksFaultAt octets e o → FaultyBlock octets e o
-faulty_block octets e o (in_header front rest g bs some w) = record {
+-- where blocks are at fault, the first faulty block stands behind blocks
+pub BlocksFaultAt-faulty_block : (octets : List ℕ) (e : DecodeFault) (o : ℕ) → BlocksFaultAt octets e o →
+    FaultyBlock octets e o
+BlocksFaultAt-faulty_block octets e o (in_header front rest g bs some w) = record {
   front = front;
   rest = rest;
   whole = g;
@@ -35,36 +38,37 @@ faulty_block octets e o (in_header front rest g bs some w) = record {
   fault = at_header w;
   offset_is = omega arith;
 }
-faulty_block octets e o (in_contents front x rest g bs f l) = record {
+BlocksFaultAt-faulty_block octets e o (in_contents front x rest g bs f l) = record {
   front = front;
   rest = x ++ rest;
   whole = g;
   blocks = bs;
-  some = encoding_first x rest _ _ _ _ _ f;
+  some = Encoding-append_not_empty x rest _ _ _ _ _ f;
   inside = 0;
   fault = at_leaf x rest refl f l;
   offset_is = omega arith;
 }
-faulty_block octets e o (in_item {header = h} {inside = i} front x rest g bs y f p) = record {
+BlocksFaultAt-faulty_block octets e o (in_item {header = h} {inside = i} front x rest g bs y f p) = record {
   front = front;
   rest = x ++ rest;
   whole = g;
   blocks = bs;
-  some = encoding_first x rest _ _ _ _ _ f;
+  some = Encoding-append_not_empty x rest _ _ _ _ _ f;
   inside = h + i;
   fault = at_item x rest refl y f p;
   offset_is = refl;
 }
 
 -- a fault of the block behind blocks is a fault of all these octets
-pub fault_after : (octets front rest : List ℕ) (e : DecodeFault) (i : ℕ) → octets ≡ front ++ rest → AreBlocks front →
+pub BlocksFaultAt-behind_blocks : (octets front rest : List ℕ) (e : DecodeFault) (i : ℕ) → octets ≡ front ++ rest →
+    AreBlocks front →
     0 < length rest
     → BlockFaultAt (length front) rest e i → BlocksFaultAt octets e (length front + i)
-fault_after octets front rest e i g bs some (at_header w) =
+BlocksFaultAt-behind_blocks octets front rest e i g bs some (at_header w) =
     let o : length front ≡ length front + 0 = omega arith in
     subst (BlocksFaultAt octets e) o (in_header front rest g bs some w)
-fault_after octets front rest e i g bs some (at_leaf x r d f l) =
+BlocksFaultAt-behind_blocks octets front rest e i g bs some (at_leaf x r d f l) =
     let o : length front ≡ length front + 0 = omega arith in
     subst (BlocksFaultAt octets e) o (in_contents front x r (g ∙ ap (λ z. front ++ z) d) bs f l)
-fault_after octets front rest e i g bs some (at_item x r d y f p) =
+BlocksFaultAt-behind_blocks octets front rest e i g bs some (at_item x r d y f p) =
     in_item front x r (g ∙ ap (λ z. front ++ z) d) bs y f p

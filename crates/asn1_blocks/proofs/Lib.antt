@@ -17,7 +17,7 @@ pub mod FaithfulWalk
 pub mod OneBlock
 pub mod Slices
 pub mod EncodingSizes
-pub mod OwedBlocks
+pub mod PostponedBlocks
 pub mod Frames
 pub mod Reader
 pub mod TreeBuilding

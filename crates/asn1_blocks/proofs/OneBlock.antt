@@ -4,21 +4,25 @@ use Rattle.asn1_blocks.specs.declared.block.ASN1Block.{ASN1Block}
 use Rattle.asn1_headers.specs.Fault.{DecodeFault}
 use Rattle.asn1_blocks.specs.Grammar.{IsBlock, IsDocument, FirstFault}
 use Rattle.asn1_blocks.specs.View.{view, views}
-use Rattle.asn1_blocks.proofs.BlockLists.{count_views}
-use Rattle.asn1_blocks.proofs.Faults.{one_block, block_is_blocks, blocks_fault_no_blocks}
-use Rattle.asn1_blocks.proofs.OneReading.{block_some, encodes_block, only_tree}
+use Rattle.asn1_blocks.proofs.BlockLists.{tree_count-views}
+use Rattle.asn1_blocks.proofs.Faults.{tree_count-block, AreBlocks-single, BlocksFaultAt-not_blocks}
+use Rattle.asn1_blocks.proofs.OneReading.{IsBlock-not_empty, IsBlock-encodes, Encodes-single}
 
-pub block_if_one : (octets : List ℕ) (blocks : List ASN1Block) → IsDocument octets (views blocks) → length blocks ≡ 1 →
+-- octets of a document with one block are a block
+pub IsBlock-one : (octets : List ℕ) (blocks : List ASN1Block) → IsDocument octets (views blocks) → length blocks ≡ 1 →
     IsBlock octets
-block_if_one octets [] d n = absurd (omega (arith, n))
-block_if_one octets (b ∷ []) d n = encodes_block 0 octets (view b) (only_tree 0 octets (view b) d.blocks)
-block_if_one octets (b ∷ e ∷ blocks) d n = absurd (omega (arith, n))
+IsBlock-one octets [] d n = absurd (omega (arith, n))
+IsBlock-one octets (b ∷ []) d n = IsBlock-encodes 0 octets (view b) (Encodes-single 0 octets (view b) d.blocks)
+IsBlock-one octets (b ∷ e ∷ blocks) d n = absurd (omega (arith, n))
 
-pub one_if_block : (octets : List ℕ) (blocks : List ASN1Block) → IsDocument octets (views blocks) → IsBlock octets →
+-- a document whose octets are a block has one block
+pub length-one_block : (octets : List ℕ) (blocks : List ASN1Block) → IsDocument octets (views blocks) → IsBlock octets →
     length blocks ≡ 1
-one_if_block octets blocks d b = sym (count_views blocks) ∙ one_block 0 octets (views blocks) d.blocks b
+length-one_block octets blocks d b = sym (tree_count-views blocks) ∙ tree_count-block 0 octets (views blocks) d.blocks b
 
-pub fault_no_block : (octets : List ℕ) (e : DecodeFault) → length octets < 2 ^ 64 → FirstFault octets e →
+-- octets with a first fault are no block
+pub FirstFault-not_block : (octets : List ℕ) (e : DecodeFault) → length octets < 2 ^ 64 → FirstFault octets e →
     IsBlock octets → ⊥
-fault_no_block octets e small (o, inl p) b = omega (arith, block_some octets b, ap length p.0)
-fault_no_block octets e small (o, inr p) b = blocks_fault_no_blocks octets e o p small (block_is_blocks octets b)
+FirstFault-not_block octets e small (o, inl p) b = omega (arith, IsBlock-not_empty octets b, ap length p.0)
+FirstFault-not_block octets e small (o, inr p) b =
+    BlocksFaultAt-not_blocks octets e o p small (AreBlocks-single octets b)

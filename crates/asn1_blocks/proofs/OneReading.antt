@@ -4,120 +4,129 @@ use Rattle.asn1_headers.specs.Header.{Encoding}
 use Rattle.asn1_blocks.specs.Tree.{Tree, Trees, leaf, group, explicit, unknown, no_trees, more_trees}
 use Rattle.asn1_blocks.specs.Contents.{LeafContents}
 use Rattle.asn1_blocks.specs.Grammar.{IsBlock, of_other_class, of_unknown_tag, of_leaf, of_group, AreBlocks, no_blocks, more_blocks, Encodes, EncodesAll}
-use Rattle.asn1_blocks.proofs.Leaves.{leaf_no_group, leaf_alone, group_alone}
+use Rattle.asn1_blocks.specs.Inner.EqualityLaws.{group_tag-injective}
+use Rattle.asn1_blocks.proofs.Leaves.{leaf_tag-not_group_tag, LeafContents-unique}
 use Rattle.asn1_headers.proofs.Prefixes.{encoding_alone, encoding_some}
 
 mutual
   -- octets that encode a tree are a block
-  pub encodes_block : (o : ℕ) (octets : List ℕ) (b : Tree ℕ) → Encodes o octets b → IsBlock octets
-  encodes_block o octets (leaf p l) s = of_leaf s.4 l refl s.5
-  encodes_block o octets (group p g bs) s = of_group s.4 g refl (encodes_blocks (o + s.3) s.2 bs s.5)
-  encodes_block o octets (explicit c p n b) s = of_other_class s.4 s.1
-  encodes_block o octets (unknown c k p n v) s =
-      elim s.3 [
-        | inl u ↦ of_unknown_tag (subst (λ d. Encoding octets d k n v s.1) u.0 s.2) u.1
-        | inr u ↦ of_other_class
-            s.2 u.0
+  pub IsBlock-encodes : (o : ℕ) (octets : List ℕ) (b : Tree ℕ) → Encodes o octets b → IsBlock octets
+  IsBlock-encodes o octets (leaf p l) (_, _, _, _, F, means) = of_leaf F l refl means
+  IsBlock-encodes o octets (group p g bs) (_, _, contents, header, F, items) =
+      of_group F g refl (AreBlocks-encodes (o + header) contents bs items)
+  IsBlock-encodes o octets (explicit c p n b) (_, other, _, _, F, _) = of_other_class F other
+  IsBlock-encodes o octets (unknown c k p n v) (_, header, F, stays) =
+      elim stays [
+        | inl (class, tag) ↦ of_unknown_tag (subst (λ d. Encoding octets d k n v header) class F) tag
+        | inr (other, _) ↦ of_other_class F other
       ]
 
   -- octets that encode trees are blocks
-  pub encodes_blocks : (o : ℕ) (octets : List ℕ) (bs : Trees ℕ) → EncodesAll o octets bs → AreBlocks octets
-  encodes_blocks o octets no_trees s = subst AreBlocks (sym s) no_blocks
-  encodes_blocks o octets (more_trees b bs) s =
-      more_blocks s.whole (encodes_block o s.first b s.item) (encodes_blocks (o + length s.first) s.rest bs s.items)
+  pub AreBlocks-encodes : (o : ℕ) (octets : List ℕ) (bs : Trees ℕ) → EncodesAll o octets bs → AreBlocks octets
+  AreBlocks-encodes o octets no_trees s = subst AreBlocks (sym s) no_blocks
+  AreBlocks-encodes o octets (more_trees b bs) s =
+      more_blocks s.whole (IsBlock-encodes o s.first b s.item)
+      (AreBlocks-encodes (o + length s.first) s.rest bs s.items)
 
 -- octets that encode a tree encode it alone
-pub only : (o : ℕ) (octets : List ℕ) (b : Tree ℕ) → Encodes o octets b → EncodesAll o octets (more_trees b no_trees)
-only o octets b s = record { first = octets; rest = []; whole = sym (append-nil octets); item = s; items = refl }
+pub EncodesAll-single : (o : ℕ) (octets : List ℕ) (b : Tree ℕ) → Encodes o octets b →
+    EncodesAll o octets (more_trees b no_trees)
+EncodesAll-single o octets b s =
+    record { first = octets; rest = []; whole = sym (append-nil octets); item = s; items = refl }
 
 -- octets that encode a list of one tree encode the tree
-pub only_tree : (o : ℕ) (octets : List ℕ) (b : Tree ℕ) → EncodesAll o octets (more_trees b no_trees) →
+pub Encodes-single : (o : ℕ) (octets : List ℕ) (b : Tree ℕ) → EncodesAll o octets (more_trees b no_trees) →
     Encodes o octets b
-only_tree o octets b s =
+Encodes-single o octets b s =
     let whole : octets ≡ s.first = s.whole ∙ (ap (λ z. s.first ++ z) s.items ∙ append-nil s.first) in
     subst (λ z. Encodes o z b) (sym whole) s.item
 
 -- a block has octets
-pub block_some : (octets : List ℕ) → IsBlock octets → 0 < length octets
-block_some octets (of_other_class f ne) = encoding_some _ _ _ _ _ _ f
-block_some octets (of_unknown_tag f ne) = encoding_some _ _ _ _ _ _ f
-block_some octets (of_leaf f l e p) = encoding_some _ _ _ _ _ _ f
-block_some octets (of_group f g e q) = encoding_some _ _ _ _ _ _ f
+pub IsBlock-not_empty : (octets : List ℕ) → IsBlock octets → 0 < length octets
+IsBlock-not_empty octets (of_other_class f ne) = encoding_some _ _ _ _ _ _ f
+IsBlock-not_empty octets (of_unknown_tag f ne) = encoding_some _ _ _ _ _ _ f
+IsBlock-not_empty octets (of_leaf f l e p) = encoding_some _ _ _ _ _ _ f
+IsBlock-not_empty octets (of_group f g e q) = encoding_some _ _ _ _ _ _ f
 
 mutual
   -- octets of a tree begin those of no other
-  pub encodes_alone : (o : ℕ) (xs ys r q : List ℕ) (a b : Tree ℕ) → Encodes o xs a → Encodes o ys b → xs ++ r ≡ ys ++ q
+  pub Encodes-unique : (o : ℕ) (xs ys r q : List ℕ) (a b : Tree ℕ) → Encodes o xs a → Encodes o ys b → xs ++ r ≡ ys ++ q
       → (xs ≡ ys) × (a ≡ b) × (r ≡ q)
-  encodes_alone o xs ys r q (leaf p l) (leaf p' m) s t e =
-      let f = encoding_alone _ _ _ _ _ _ _ _ _ _ _ _ r q s.4 t.4 e in
-      let g = leaf_alone l m s.2 f.tag s.5 (subst (LeafContents m) (sym f.contents) t.5) in
-      let h : p ≡ p' = s.0 ∙ sym t.0 in
+  Encodes-unique o xs ys r q (leaf p l) (leaf p' m) (at, _, contents, _, F, means) (at', _, _, _, F', means') e =
+      let f = encoding_alone _ _ _ _ _ _ _ _ _ _ _ _ r q F F' e in
+      let g = LeafContents-unique l m contents f.tag means (subst (LeafContents m) (sym f.contents) means') in
+      let h : p ≡ p' = at ∙ sym at' in
       (f.octets, cc, f.rest)
-  encodes_alone o xs ys r q (leaf p l) (group p' g bs) s t e =
-      let f = encoding_alone _ _ _ _ _ _ _ _ _ _ _ _ r q s.4 t.4 e in
-      absurd (leaf_no_group l g f.tag)
-  encodes_alone o xs ys r q (leaf p l) (explicit c p' n b) s t e =
-      let f = encoding_alone _ _ _ _ _ _ _ _ _ _ _ _ r q s.4 t.4 e in
-      absurd (t.1 (sym f.class))
-  encodes_alone o xs ys r q (leaf p l) (unknown c k p' n v) s t e =
-      let f = encoding_alone _ _ _ _ _ _ _ _ _ _ _ _ r q s.4 t.2 e in
-      absurd (elim t.3 [ inl u ↦ u.1.0 l (sym f.tag) | inr u ↦ u.0 (sym f.class) ])
-  encodes_alone o xs ys r q (group p g bs) (leaf p' m) s t e =
-      let f = encoding_alone _ _ _ _ _ _ _ _ _ _ _ _ r q s.4 t.4 e in
-      absurd (leaf_no_group m g (sym f.tag))
-  encodes_alone o xs ys r q (group p g bs) (group p' g' cs) s t e =
-      let f = encoding_alone _ _ _ _ _ _ _ _ _ _ _ _ r q s.4 t.4 e in
-      let i : g ≡ g' = group_alone g g' f.tag in
-      let b = all_alone (o + s.3) s.2 bs cs s.5
-      (subst (λ z. EncodesAll (o + z) s.2 cs) (sym f.header)
-      (subst (λ z. EncodesAll (o + t.3) z cs) (sym f.contents) t.5)) in
-      let h : p ≡ p' = s.0 ∙ sym t.0 in
+  Encodes-unique o xs ys r q (leaf p l) (group p' g bs) (_, _, _, _, F, _) (_, _, _, _, F', _) e =
+      let f = encoding_alone _ _ _ _ _ _ _ _ _ _ _ _ r q F F' e in
+      absurd (leaf_tag-not_group_tag l g f.tag)
+  Encodes-unique o xs ys r q (leaf p l) (explicit c p' n b) (_, _, _, _, F, _) (_, other', _, _, F', _) e =
+      let f = encoding_alone _ _ _ _ _ _ _ _ _ _ _ _ r q F F' e in
+      absurd (other' (sym f.class))
+  Encodes-unique o xs ys r q (leaf p l) (unknown c k p' n v) (_, _, _, _, F, _) (_, _, F', stays') e =
+      let f = encoding_alone _ _ _ _ _ _ _ _ _ _ _ _ r q F F' e in
+      absurd (elim stays' [ inl (_, no_rule) ↦ no_rule.0 l (sym f.tag) | inr (class, _) ↦ class (sym f.class) ])
+  Encodes-unique o xs ys r q (group p g bs) (leaf p' m) (_, _, _, _, F, _) (_, _, _, _, F', _) e =
+      let f = encoding_alone _ _ _ _ _ _ _ _ _ _ _ _ r q F F' e in
+      absurd (leaf_tag-not_group_tag m g (sym f.tag))
+  Encodes-unique o xs ys r q (group p g bs) (group p' g' cs) (at, _, contents, header, F, items)
+      (at', _, _, header', F', items') e =
+      let f = encoding_alone _ _ _ _ _ _ _ _ _ _ _ _ r q F F' e in
+      let i : g ≡ g' = group_tag-injective g g' f.tag in
+      let b = EncodesAll-unique (o + header) contents bs cs items
+      (subst (λ z. EncodesAll (o + z) contents cs) (sym f.header)
+      (subst (λ z. EncodesAll (o + header') z cs) (sym f.contents) items')) in
+      let h : p ≡ p' = at ∙ sym at' in
       (f.octets, cc, f.rest)
-  encodes_alone o xs ys r q (group p g bs) (explicit c p' n b) s t e =
-      let f = encoding_alone _ _ _ _ _ _ _ _ _ _ _ _ r q s.4 t.4 e in
-      absurd (t.1 (sym f.class))
-  encodes_alone o xs ys r q (group p g bs) (unknown c k p' n v) s t e =
-      let f = encoding_alone _ _ _ _ _ _ _ _ _ _ _ _ r q s.4 t.2 e in
-      absurd (elim t.3 [ inl u ↦ u.1.1 g (sym f.tag) | inr u ↦ u.0 (sym f.class) ])
-  encodes_alone o xs ys r q (explicit c p n a) (leaf p' m) s t e =
-      let f = encoding_alone _ _ _ _ _ _ _ _ _ _ _ _ r q s.4 t.4 e in
-      absurd (s.1 f.class)
-  encodes_alone o xs ys r q (explicit c p n a) (group p' g bs) s t e =
-      let f = encoding_alone _ _ _ _ _ _ _ _ _ _ _ _ r q s.4 t.4 e in
-      absurd (s.1 f.class)
-  encodes_alone o xs ys r q (explicit c p n a) (explicit d p' m b) s t e =
-      let f = encoding_alone _ _ _ _ _ _ _ _ _ _ _ _ r q s.4 t.4 e in
-      let g = encodes_alone (o + s.3) s.2 s.2 [] [] a b s.5
-      (subst (λ z. Encodes (o + z) s.2 b) (sym f.header) (subst (λ z. Encodes (o + t.3) z b) (sym f.contents) t.5))
+  Encodes-unique o xs ys r q (group p g bs) (explicit c p' n b) (_, _, _, _, F, _) (_, other', _, _, F', _) e =
+      let f = encoding_alone _ _ _ _ _ _ _ _ _ _ _ _ r q F F' e in
+      absurd (other' (sym f.class))
+  Encodes-unique o xs ys r q (group p g bs) (unknown c k p' n v) (_, _, _, _, F, _) (_, _, F', stays') e =
+      let f = encoding_alone _ _ _ _ _ _ _ _ _ _ _ _ r q F F' e in
+      absurd (elim stays' [ inl (_, no_rule) ↦ no_rule.1 g (sym f.tag) | inr (class, _) ↦ class (sym f.class) ])
+  Encodes-unique o xs ys r q (explicit c p n a) (leaf p' m) (_, other, _, _, F, _) (_, _, _, _, F', _) e =
+      let f = encoding_alone _ _ _ _ _ _ _ _ _ _ _ _ r q F F' e in
+      absurd (other f.class)
+  Encodes-unique o xs ys r q (explicit c p n a) (group p' g bs) (_, other, _, _, F, _) (_, _, _, _, F', _) e =
+      let f = encoding_alone _ _ _ _ _ _ _ _ _ _ _ _ r q F F' e in
+      absurd (other f.class)
+  Encodes-unique o xs ys r q (explicit c p n a) (explicit d p' m b) (at, _, contents, header, F, item)
+      (at', _, _, header', F', item') e =
+      let f = encoding_alone _ _ _ _ _ _ _ _ _ _ _ _ r q F F' e in
+      let g = Encodes-unique (o + header) contents contents [] [] a b item
+      (subst (λ z. Encodes (o + z) contents b) (sym f.header)
+      (subst (λ z. Encodes (o + header') z b) (sym f.contents) item'))
       refl in
-      let h : p ≡ p' = s.0 ∙ sym t.0 in
+      let h : p ≡ p' = at ∙ sym at' in
       let i : a ≡ b = g.1 in
       let j = f.class in
       let k = f.tag in
       (f.octets, cc, f.rest)
-  encodes_alone o xs ys r q (explicit c p n a) (unknown d k p' m v) s t e =
-      let f = encoding_alone _ _ _ _ _ _ _ _ _ _ _ _ r q s.4 t.2 e in
-      absurd (elim t.3 [
-        | inl u ↦ s.1 (f.class ∙ u.0)
+  Encodes-unique o xs ys r q (explicit c p n a) (unknown d k p' m v) (_, other, contents, header, F, item)
+      (_, _, F', stays') e =
+      let f = encoding_alone _ _ _ _ _ _ _ _ _ _ _ _ r q F F' e in
+      absurd (elim stays' [
+        | inl u ↦ other (f.class ∙ u.0)
         | inr u ↦ u.1
-            (sym f.constructed, subst IsBlock f.contents (encodes_block (o + s.3) s.2 a s.5))
+            (sym f.constructed, subst IsBlock f.contents (IsBlock-encodes (o + header) contents a item))
       ])
-  encodes_alone o xs ys r q (unknown c k p n v) (leaf p' m) s t e =
-      let f = encoding_alone _ _ _ _ _ _ _ _ _ _ _ _ r q s.2 t.4 e in
-      absurd (elim s.3 [ inl u ↦ u.1.0 m f.tag | inr u ↦ u.0 f.class ])
-  encodes_alone o xs ys r q (unknown c k p n v) (group p' g bs) s t e =
-      let f = encoding_alone _ _ _ _ _ _ _ _ _ _ _ _ r q s.2 t.4 e in
-      absurd (elim s.3 [ inl u ↦ u.1.1 g f.tag | inr u ↦ u.0 f.class ])
-  encodes_alone o xs ys r q (unknown c k p n v) (explicit d p' m b) s t e =
-      let f = encoding_alone _ _ _ _ _ _ _ _ _ _ _ _ r q s.2 t.4 e in
-      absurd (elim s.3 [
-        | inl u ↦ t.1 (sym f.class ∙ u.0)
+  Encodes-unique o xs ys r q (unknown c k p n v) (leaf p' m) (_, _, F, stays) (_, _, _, _, F', _) e =
+      let f = encoding_alone _ _ _ _ _ _ _ _ _ _ _ _ r q F F' e in
+      absurd (elim stays [ inl (_, no_rule) ↦ no_rule.0 m f.tag | inr (class, _) ↦ class f.class ])
+  Encodes-unique o xs ys r q (unknown c k p n v) (group p' g bs) (_, _, F, stays) (_, _, _, _, F', _) e =
+      let f = encoding_alone _ _ _ _ _ _ _ _ _ _ _ _ r q F F' e in
+      absurd (elim stays [ inl (_, no_rule) ↦ no_rule.1 g f.tag | inr (class, _) ↦ class f.class ])
+  Encodes-unique o xs ys r q (unknown c k p n v) (explicit d p' m b) (_, _, F, stays)
+      (_, other', contents', header', F', item') e =
+      let f = encoding_alone _ _ _ _ _ _ _ _ _ _ _ _ r q F F' e in
+      absurd (elim stays [
+        | inl u ↦ other' (sym f.class ∙ u.0)
         | inr u ↦ u.1
-            (f.constructed, subst IsBlock (sym f.contents) (encodes_block (o + t.3) t.2 b t.5))
+            (f.constructed, subst IsBlock (sym f.contents) (IsBlock-encodes (o + header') contents' b item'))
       ])
-  encodes_alone o xs ys r q (unknown c k p n v) (unknown d j p' m w) s t e =
-      let f = encoding_alone _ _ _ _ _ _ _ _ _ _ _ _ r q s.2 t.2 e in
-      let h : p ≡ p' = s.0 ∙ sym t.0 in
+  Encodes-unique o xs ys r q (unknown c k p n v) (unknown d j p' m w) (at, _, F, _) (at', _, F', _) e =
+      let f = encoding_alone _ _ _ _ _ _ _ _ _ _ _ _ r q F F' e in
+      let h : p ≡ p' = at ∙ sym at' in
       let i = f.class in
       let l = f.constructed in
       let g = f.tag in
@@ -125,19 +134,20 @@ mutual
       (f.octets, cc, f.rest)
 
   -- octets encode at most one list of trees
-  pub all_alone : (o : ℕ) (octets : List ℕ) (xs ys : Trees ℕ) → EncodesAll o octets xs → EncodesAll o octets ys →
+  pub EncodesAll-unique : (o : ℕ) (octets : List ℕ) (xs ys : Trees ℕ) → EncodesAll o octets xs →
+      EncodesAll o octets ys →
       xs ≡ ys
-  all_alone o octets no_trees no_trees s t = refl
-  all_alone o octets no_trees (more_trees b bs) s t =
-      let p = block_some t.first (encodes_block o t.first b t.item) in
+  EncodesAll-unique o octets no_trees no_trees s t = refl
+  EncodesAll-unique o octets no_trees (more_trees b bs) s t =
+      let p = IsBlock-not_empty t.first (IsBlock-encodes o t.first b t.item) in
       absurd (omega (arith, p, ap length (sym s ∙ t.whole), length-append t.first t.rest))
-  all_alone o octets (more_trees a xs) no_trees s t =
-      let p = block_some s.first (encodes_block o s.first a s.item) in
+  EncodesAll-unique o octets (more_trees a xs) no_trees s t =
+      let p = IsBlock-not_empty s.first (IsBlock-encodes o s.first a s.item) in
       absurd (omega (arith, p, ap length (sym t ∙ s.whole), length-append s.first s.rest))
-  all_alone o octets (more_trees a xs) (more_trees b ys) s t =
-      let f = encodes_alone o s.first t.first s.rest t.rest a b s.item t.item (sym s.whole ∙ t.whole) in
+  EncodesAll-unique o octets (more_trees a xs) (more_trees b ys) s t =
+      let f = Encodes-unique o s.first t.first s.rest t.rest a b s.item t.item (sym s.whole ∙ t.whole) in
       let h : a ≡ b = f.1 in
-      let g = all_alone (o + length s.first) s.rest xs ys s.items
+      let g = EncodesAll-unique (o + length s.first) s.rest xs ys s.items
       (subst (λ z. EncodesAll (o + length z) s.rest ys) (sym f.0)
       (subst (λ z. EncodesAll (o + length t.first) z ys) (sym f.2) t.items)) in
       cc

@@ -9,43 +9,44 @@ use Rattle.asn1_headers.specs.Header.{IsLength}
 use Rattle.asn1_headers.specs.HeaderFault.{HeaderFault, too_far, too_long}
 use Rattle.asn1_headers.proofs.Prefixes.{identifier_some}
 use Rattle.asn1_blocks.specs.Places.{HeaderFound}
-use Rattle.asn1_blocks.proofs.ReadSteps.{slice_join, slice_length}
+use Rattle.asn1_blocks.proofs.ReadSteps.{slice_range-append, length-slice_range}
 
 module _ (rest : List ℕ) (size announced : ℕ) (class : ASN1Class) (constructed : Bool) (tag : ℕ)
     (front : BeginsWithHeader rest size announced class constructed tag) where
   -- a header has the octets of both its parts
-  header_size : length front.identifier + length front.len ≡ size
-  header_size = omega (
+  length-header_parts : length front.identifier + length front.len ≡ size
+  length-header_parts = omega (
     arith,
     ap length front.front_is,
     length-append front.identifier front.len,
     length-take-le size rest front.within,
   )
 
-  parts : rest ≡ front.identifier ++ (front.len ++ drop size rest)
-  parts =
+  append-header_parts : rest ≡ front.identifier ++ (front.len ++ drop size rest)
+  append-header_parts =
       sym (take-append-drop size rest)
       ∙ (ap (λ z. z ++ drop size rest) front.front_is ∙ append_assoc front.identifier front.len (drop size rest))
 
   -- a header is at fault if its contents octets would end past a usize
-  pub far_at : (before offset : ℕ) → before ≡ offset + size → 2 ^ 64 ≤ before + announced →
+  pub HeaderFault-too_far : (before offset : ℕ) → before ≡ offset + size → 2 ^ 64 ≤ before + announced →
       HeaderFault offset rest (length_too_large announced)
-  far_at before offset e far =
+  HeaderFault-too_far before offset e far =
       too_far front.identifier front.len (drop size rest) class constructed tag announced front.fields
-      front.length_octets parts
-      (omega (arith, e, header_size, far)) refl
+      front.length_octets append-header_parts
+      (omega (arith, e, length-header_parts, far)) refl
 
   -- a header is at fault if its contents octets are more than what is left
-  pub long_at : (before offset : ℕ) → before ≡ offset + size → before + announced < 2 ^ 64 →
+  pub HeaderFault-too_long : (before offset : ℕ) → before ≡ offset + size → before + announced < 2 ^ 64 →
       length rest - size < announced
       → HeaderFault offset rest incomplete
-  long_at before offset e near long =
+  HeaderFault-too_long before offset e near long =
       too_long front.identifier front.len (drop size rest) class constructed tag announced front.fields
-      front.length_octets parts
-      (omega (arith, e, header_size, near)) (omega (arith, length-drop size rest, long))
+      front.length_octets append-header_parts
+      (omega (arith, e, length-header_parts, near)) (omega (arith, length-drop size rest, long))
 
 -- a header whose contents octets fit
-pub placed : (octets : List ℕ) (offset limit size announced : ℕ) (class : ASN1Class) (constructed : Bool) (tag : ℕ)
+pub HeaderFound-fits : (octets : List ℕ) (offset limit size announced : ℕ) (class : ASN1Class) (constructed : Bool)
+    (tag : ℕ)
     → BeginsWithHeader (slice_range octets offset limit) size announced class constructed tag
     → offset < limit → limit ≤ length octets → announced ≤ length (slice_range octets offset limit) - size
     → HeaderFound octets offset limit (record {
@@ -55,14 +56,14 @@ pub placed : (octets : List ℕ) (offset limit size announced : ℕ) (class : AS
       start = offset + size;
       end = (offset + size) + announced;
     })
-placed octets offset limit size announced class constructed tag front more within fits =
+HeaderFound-fits octets offset limit size announced class constructed tag front more within fits =
     let rest = slice_range octets offset limit in
     let start = offset + size in
     let end = start + announced in
     let contents = slice_range octets start end in
-    let l : length rest ≡ limit - offset = slice_length octets offset limit (omega (arith, more)) within in
+    let l : length rest ≡ limit - offset = length-slice_range octets offset limit (omega (arith, more)) within in
     let w = front.within in
-    let some = header_size rest size announced class constructed tag front in
+    let some = length-header_parts rest size announced class constructed tag front in
     let ends : end ≤ limit = omega (arith, l, w, fits, more) in
     let header : slice_range octets offset start ≡ front.identifier ++ front.len =
     ap (λ n. take n (drop offset octets)) (omega arith)
@@ -74,10 +75,10 @@ placed octets offset limit size announced class constructed tag front more withi
         identifier_octets = front.fields;
         length_octets =
             subst (IsLength front.len)
-            (omega (arith, slice_length octets start end (omega arith) (omega (arith, ends, within))))
+            (omega (arith, length-slice_range octets start end (omega arith) (omega (arith, ends, within))))
             front.length_octets;
         whole =
-            slice_join octets offset start end (omega arith) (omega arith)
+            slice_range-append octets offset start end (omega arith) (omega arith)
             ∙ (ap (λ z. z ++ contents) header ∙ append_assoc front.identifier front.len contents);
         size = omega (arith, some);
       };

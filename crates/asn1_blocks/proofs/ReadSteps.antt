@@ -1,5 +1,5 @@
 -- Slices of the document, and what a header in them says.
-use Rattle.std.proofs.Common.{◌≡◌, ℕ, ◌+◌, ◌-◌, ◌≤◌, Bool, List, [], ◌∷◌, ◌++◌, length, take, drop, Vec, Global, drop-drop, length-drop, length-take, refl, sym, ap, ◌∙◌, subst, arith, rules, length-append, append_assoc}
+use Rattle.std.proofs.Common.{◌≡◌, ℕ, ◌+◌, ◌-◌, ◌≤◌, Bool, List, ◌++◌, length, take, drop, Vec, Global, drop-drop, length-drop, length-take, sym, ap, ◌∙◌, subst, arith, rules, length-append, append_assoc}
 use Rattle.std.specs.List.{slice_range}
 use Rattle.std.proofs.Math.Seq.{take-add}
 use Rattle.asn1_headers.specs.declared.header.ASN1Class.{ASN1Class}
@@ -7,42 +7,40 @@ use Rattle.asn1_blocks.specs.declared.block.ASN1Block.{Unknown, the_lemmas}
 use Rattle.asn1_blocks.specs.View.{view}
 use Rattle.asn1_blocks.specs.Tree.{Tree, Trees, unknown, no_trees, more_trees}
 use Rattle.asn1_blocks.specs.Grammar.{Encodes, EncodesAll}
-use Rattle.asn1_blocks.proofs.OneReading.{only}
+use Rattle.asn1_blocks.proofs.OneReading.{EncodesAll-single}
 
+-- trees and one more at their end
 abbrev pub with_last : {O : Type 0} → Trees O → Tree O → Trees O
 with_last no_trees b = more_trees b no_trees
 with_last (more_trees x xs) b = more_trees x (with_last xs b)
 
--- one more block at the end
-pub encodes_more : (o : ℕ) (octets last : List ℕ) (bs : Trees ℕ) (b : Tree ℕ) → EncodesAll o octets bs →
+-- octets that encode trees, and one tree more behind them
+pub EncodesAll-with_last : (o : ℕ) (octets last : List ℕ) (bs : Trees ℕ) (b : Tree ℕ) → EncodesAll o octets bs →
     Encodes (o + length octets) last b
     → EncodesAll o (octets ++ last) (with_last bs b)
-encodes_more o octets last no_trees b s t =
+EncodesAll-with_last o octets last no_trees b s t =
     subst (λ z. EncodesAll o z (more_trees b no_trees)) (sym (ap (λ z. z ++ last) s))
-    (only o last b (subst (λ z. Encodes z last b) (omega (arith, ap length s)) t))
-encodes_more o octets last (more_trees x xs) b s t = record {
+    (EncodesAll-single o last b (subst (λ z. Encodes z last b) (omega (arith, ap length s)) t))
+EncodesAll-with_last o octets last (more_trees x xs) b s t = record {
   first = s.first;
   rest = s.rest ++ last;
   whole = ap (λ z. z ++ last) s.whole ∙ append_assoc s.first s.rest last;
   item = s.item;
-  items = encodes_more (o + length s.first) s.rest last xs b s.items
+  items = EncodesAll-with_last (o + length s.first) s.rest last xs b s.items
       (subst (λ z. Encodes z last b) (omega (arith, ap length s.whole, length-append s.first s.rest)) t);
 }
 
-pub slice_length : (octets : List ℕ) (i j : ℕ) → i ≤ j → j ≤ length octets → length (slice_range octets i j) ≡ j - i
-slice_length octets i j h l = omega (arith, length-take (j - i) (drop i octets), length-drop i octets)
+pub length-slice_range : (octets : List ℕ) (i j : ℕ) → i ≤ j → j ≤ length octets →
+    length (slice_range octets i j) ≡ j - i
+length-slice_range octets i j h l = omega (arith, length-take (j - i) (drop i octets), length-drop i octets)
 
-pub slice_join : (octets : List ℕ) (i j k : ℕ) → i ≤ j → j ≤ k →
+pub slice_range-append : (octets : List ℕ) (i j k : ℕ) → i ≤ j → j ≤ k →
     slice_range octets i k ≡ slice_range octets i j ++ slice_range octets j k
-slice_join octets i j k h l =
+slice_range-append octets i j k h l =
     let e : k - i ≡ (j - i) + (k - j) = omega arith in
     ap (λ n. take n (drop i octets)) e ∙ (take-add (j - i) (k - j) (drop i octets)
     ∙ ap (λ r. take (j - i) (drop i octets) ++ take (k - j) r)
     (drop-drop (j - i) i octets ∙ ap (λ n. drop n octets) (omega arith)))
-
-pub no_octets : (contents : List ℕ) → length contents ≡ 0 → contents ≡ []
-no_octets [] e = refl
-no_octets (b ∷ contents) e = absurd (omega (arith, e))
 
 pub view-Unknown : (c : ASN1Class) (k : Bool) (o t : ℕ) (v : Vec ℕ Global) →
     view (Unknown c k o t v) ≡ unknown c k o t v.items

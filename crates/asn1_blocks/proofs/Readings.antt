@@ -8,74 +8,82 @@ use Rattle.asn1_headers.specs.Fault.{DecodeFault, fault_of, OutOfMemoryOr}
 use Rattle.asn1_blocks.specs.Tree.{Trees}
 use Rattle.asn1_blocks.specs.View.{views}
 use Rattle.asn1_blocks.specs.Grammar.{IsDocument, FirstFault, FirstFaultAt}
-use Rattle.asn1_blocks.proofs.OneReading.{encodes_blocks, all_alone}
-use Rattle.asn1_blocks.proofs.Faults.{blocks_fault_no_blocks}
-use Rattle.asn1_blocks.proofs.FaultsAlone.{first_fault_alone, first_place_alone}
+use Rattle.asn1_blocks.proofs.OneReading.{AreBlocks-encodes, EncodesAll-unique}
+use Rattle.asn1_blocks.proofs.Faults.{BlocksFaultAt-not_blocks}
+use Rattle.asn1_blocks.proofs.FaultsAlone.{FirstFault-unique, FirstFaultAt-unique}
 
 -- no document has a first fault
-pub document_no_fault : (octets : List ℕ) (bs : Trees ℕ) (e : DecodeFault) → length octets < 2 ^ 64 →
+pub IsDocument-no_fault : (octets : List ℕ) (bs : Trees ℕ) (e : DecodeFault) → length octets < 2 ^ 64 →
     IsDocument octets bs
     → FirstFault octets e → ⊥
-document_no_fault octets bs e small d (o, inl empty) = omega (arith, d.some, ap length empty.0)
-document_no_fault octets bs e small d (o, inr fault) =
-    blocks_fault_no_blocks octets e o fault small (encodes_blocks 0 octets bs d.blocks)
+IsDocument-no_fault octets bs e small d (o, inl empty) = omega (arith, d.some, ap length empty.0)
+IsDocument-no_fault octets bs e small d (o, inr fault) =
+    BlocksFaultAt-not_blocks octets e o fault small (AreBlocks-encodes 0 octets bs d.blocks)
 
 -- a document is accepted, as its trees
-pub document_accepted : (octets : List ℕ) (r : Result (Vec ASN1Block Global) ASN1DecodeErr) → length octets < 2 ^ 64
+pub IsDocument-accepted : (octets : List ℕ) (r : Result (Vec ASN1Block Global) ASN1DecodeErr) → length octets < 2 ^ 64
     → IfOk r (λ v. IsDocument octets (views v.items)) → IfErr r (OutOfMemoryOr (FirstFault octets)) → (bs : Trees ℕ) →
     IsDocument octets bs
     → MatchResult r (λ v. views v.items ≡ bs) (λ e. e ≡ OutOfMemory)
-document_accepted octets (Ok v) small ok err bs d = all_alone 0 octets (views v.items) bs ok.blocks d.blocks
-document_accepted octets (Err e) small ok (inl memory) bs d = memory
-document_accepted octets (Err e) small ok (inr fault) bs d =
-    absurd (document_no_fault octets bs (fault_of e) small d fault)
+IsDocument-accepted octets (Ok v) small ok err bs d = EncodesAll-unique 0 octets (views v.items) bs ok.blocks d.blocks
+IsDocument-accepted octets (Err e) small ok (inl memory) bs d = memory
+IsDocument-accepted octets (Err e) small ok (inr fault) bs d =
+    absurd (IsDocument-no_fault octets bs (fault_of e) small d fault)
 
 -- octets with a first fault are refused, with that fault
-pub fault_refused : {A : Type 0} (octets : List ℕ) (r : Result A ASN1DecodeErr) → length octets < 2 ^ 64
+pub FirstFault-refused : {A : Type 0} (octets : List ℕ) (r : Result A ASN1DecodeErr) → length octets < 2 ^ 64
     → IfOk r (λ v. (bs : Trees ℕ) × IsDocument octets bs)
     → IfErr r (OutOfMemoryOr (FirstFault octets)) → (fault : DecodeFault) → FirstFault octets fault →
     IsErrAnd r (OutOfMemoryOr (λ e. e ≡ fault))
-fault_refused octets (Ok v) small ok err fault f = document_no_fault octets ok.0 fault small ok.1 f
-fault_refused octets (Err e) small ok (inl memory) fault f = inl memory
-fault_refused octets (Err e) small ok (inr first) fault f =
-    inr (first_fault_alone octets (fault_of e) fault first f small)
+FirstFault-refused octets (Ok v) small ok err fault f = IsDocument-no_fault octets ok.0 fault small ok.1 f
+FirstFault-refused octets (Err e) small ok (inl memory) fault f = inl memory
+FirstFault-refused octets (Err e) small ok (inr first) fault f =
+    inr (FirstFault-unique octets (fault_of e) fault first f small)
 
 -- a first fault that has a place, without it
-pub without_place : (octets : List ℕ) (e : ASN1DecodeErr) (o : ℕ) → OutOfMemoryOr (λ f. FirstFaultAt octets f o) e
+pub FirstFault-without_place : (octets : List ℕ) (e : ASN1DecodeErr) (o : ℕ) →
+    OutOfMemoryOr (λ f. FirstFaultAt octets f o) e
     → OutOfMemoryOr (FirstFault octets) e
-without_place octets e o (inl memory) = inl memory
-without_place octets e o (inr p) = inr (o, p)
+FirstFault-without_place octets e o (inl memory) = inl memory
+FirstFault-without_place octets e o (inr p) = inr (o, p)
 
 -- the error is that memory ran out, or the first fault, which stands at the offset
 abbrev pub IsPlaced : List ℕ → LocatedErr → Type 0
 IsPlaced octets e = OutOfMemoryOr (λ f. FirstFaultAt octets f e.offset) e.error
 
-memory_or_place : (octets : List ℕ) (bs : Trees ℕ) (e : LocatedErr) → length octets < 2 ^ 64 → IsDocument octets bs →
+-- reading a document with its places fails for want of memory alone
+pub IsPlaced-out_of_memory : (octets : List ℕ) (bs : Trees ℕ) (e : LocatedErr) → length octets < 2 ^ 64 →
+    IsDocument octets bs →
     IsPlaced octets e
     → e.error ≡ OutOfMemory
-memory_or_place octets bs e small d (inl memory) = memory
-memory_or_place octets bs e small d (inr p) =
-    absurd (document_no_fault octets bs (fault_of e.error) small d (e.offset, p))
+IsPlaced-out_of_memory octets bs e small d (inl memory) = memory
+IsPlaced-out_of_memory octets bs e small d (inr p) =
+    absurd (IsDocument-no_fault octets bs (fault_of e.error) small d (e.offset, p))
 
-pub document_accepted_here : (octets : List ℕ) (r : Result (Vec ASN1Block Global) LocatedErr) → length octets < 2 ^ 64
+-- a document is accepted as its trees by a call that locates faults
+pub IsDocument-accepted_located : (octets : List ℕ) (r : Result (Vec ASN1Block Global) LocatedErr) →
+    length octets < 2 ^ 64
     → IfOk r (λ v. IsDocument octets (views v.items)) → IfErr r (IsPlaced octets) → (bs : Trees ℕ) →
     IsDocument octets bs
     → MatchResult r (λ v. views v.items ≡ bs) (λ e. e.error ≡ OutOfMemory)
-document_accepted_here octets (Ok v) small ok err bs d = all_alone 0 octets (views v.items) bs ok.blocks d.blocks
-document_accepted_here octets (Err e) small ok err bs d = memory_or_place octets bs e small d err
+IsDocument-accepted_located octets (Ok v) small ok err bs d =
+    EncodesAll-unique 0 octets (views v.items) bs ok.blocks d.blocks
+IsDocument-accepted_located octets (Err e) small ok err bs d = IsPlaced-out_of_memory octets bs e small d err
 
-same_place : (octets : List ℕ) (e : LocatedErr) (fault : DecodeFault) (o : ℕ) → length octets < 2 ^ 64 →
+-- an error of octets with a first fault is that fault at its place, or want of memory
+pub IsPlaced-same_place : (octets : List ℕ) (e : LocatedErr) (fault : DecodeFault) (o : ℕ) → length octets < 2 ^ 64 →
     IsPlaced octets e
     → FirstFaultAt octets fault o
     → OutOfMemoryOr (λ f. (f ≡ fault) × (e.offset ≡ o)) e.error
-same_place octets e fault o small (inl memory) p = inl memory
-same_place octets e fault o small (inr q) p =
-    inr (first_place_alone octets (fault_of e.error) fault e.offset o small q p)
+IsPlaced-same_place octets e fault o small (inl memory) p = inl memory
+IsPlaced-same_place octets e fault o small (inr q) p =
+    inr (FirstFaultAt-unique octets (fault_of e.error) fault e.offset o small q p)
 
-pub fault_refused_here : (octets : List ℕ) (r : Result (Vec ASN1Block Global) LocatedErr) → length octets < 2 ^ 64
+-- octets with a first fault are refused with that fault at its place
+pub FirstFaultAt-refused : (octets : List ℕ) (r : Result (Vec ASN1Block Global) LocatedErr) → length octets < 2 ^ 64
     → IfOk r (λ v. IsDocument octets (views v.items)) → IfErr r (IsPlaced octets) → (fault : DecodeFault) (o : ℕ) →
     FirstFaultAt octets fault o
     → IsErrAnd r (λ e. OutOfMemoryOr (λ f. (f ≡ fault) × (e.offset ≡ o)) e.error)
-fault_refused_here octets (Ok v) small ok err fault o p =
-    document_no_fault octets (views v.items) fault small ok (o, p)
-fault_refused_here octets (Err e) small ok err fault o p = same_place octets e fault o small err p
+FirstFaultAt-refused octets (Ok v) small ok err fault o p =
+    IsDocument-no_fault octets (views v.items) fault small ok (o, p)
+FirstFaultAt-refused octets (Err e) small ok err fault o p = IsPlaced-same_place octets e fault o small err p

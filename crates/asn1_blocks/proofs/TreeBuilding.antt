@@ -1,4 +1,4 @@
--- The builder of trees: what its frames hold as blocks and owe.
+-- The builder of trees: what its frames hold as blocks and as postponed blocks.
 pub mod Holding
 pub mod Adding
 pub mod Ending

@@ -7,7 +7,7 @@ pub mod TreeOrder
 pub mod FaithfulWalk
 pub mod LeafBlocks
 pub mod OwnContents
-pub mod Owed
+pub mod Postponed
 pub mod BlockFault
 pub mod OpenFrames
 pub mod ReaderSteps

@@ -3,7 +3,7 @@
 //! - [`block`]: the tree; its equality, copies, dropping, and what is taken out of a block;
 //! - [`reading`]: documents are read, in one loop over the frames that are open, whatever is built of the blocks;
 //!   [`parsed`] is part of it; [`encoding`] finds an encoding by its header;
-//! - [`read`]: trees are built; [`owed`] and [`held`] are parts of it;
+//! - [`read`]: trees are built; [`postponed`] and [`held`] are parts of it;
 //! - [`document`]: the owner of a document's blocks; [`walk`]: blocks in tree order;
 //! - [`contents`]: which contents octets a tag has; [`faithful`]: which blocks are read back as they are;
 //! - [`unknown_values`]: contents octets of types that have no variant of a block.
@@ -18,8 +18,8 @@ pub mod document;
 pub mod encoding;
 pub mod faithful;
 pub mod held;
-pub mod owed;
 pub mod parsed;
+pub mod postponed;
 pub mod read;
 pub mod reading;
 pub mod unknown_values;

@@ -6,8 +6,8 @@ ghost use Rattle.asn1_headers.specs.Fault.{DecodeFault, OutOfMemoryOr, UnlessOut
 ghost use Rattle.asn1_blocks.specs.Grammar.{IsDocument, FirstFault, FirstFaultAt};
 ghost use Rattle.asn1_blocks.specs.HeadersBegun.{HeadersBegun};
 ghost use Rattle.asn1_blocks.specs.Inner.OpenFrames.{IsAttemptAlone, around};
-ghost use Rattle.asn1_blocks.specs.Inner.Owed.{after_all};
-ghost use Rattle.asn1_blocks.specs.Inner.TreeBuilding.{IsKept, IsOwed, IsAdded, builder_holds};
+ghost use Rattle.asn1_blocks.specs.Inner.Postponed.{trees_after_all};
+ghost use Rattle.asn1_blocks.specs.Inner.TreeBuilding.{IsAddedAsItCame, IsPostponed, IsAdded, builder_holds};
 ghost use Rattle.asn1_blocks.specs.Tree.{Trees};
 ghost use Rattle.asn1_blocks.specs.View.{view, views};
 
@@ -15,16 +15,16 @@ use crate::block::ASN1Block;
 use crate::contents::leaf_block;
 use crate::encoding::encoding_count;
 use crate::held::HeldBlocks;
-use crate::owed::{Owed, build, explicit_block, group_block, kept_block};
 use crate::parsed::{PlacedHeader, header_within};
+use crate::postponed::{Postponed, build, explicit_block, group_block, unknown_block};
 use crate::reading::{Attempt, Builder, Extent, FrameKind, out_of_memory, read_into};
 use asn1_headers::error::{ASN1DecodeErr, LocatedErr};
 use asn1_headers::header::{ASN1Class, HeaderCount};
 use std::alloc::{AllocError, Global};
 
-// Contents octets up to this length are copied at once, also inside an open attempt, where longer ones are owed: copies
-// that may be dropped again cost at most so many octets for each header, and to owe one costs more than so small a
-// copy.
+// Contents octets up to this length are copied at once, also inside an open attempt, where longer ones are postponed:
+// copies that may be dropped again cost at most so many octets for each header, and to postpone one costs more than so
+// small a copy.
 const COPIED_AT_ONCE: usize = 256;
 
 /// Reads a document: blocks one after another to the end of `i`, at least one.
@@ -174,11 +174,11 @@ fn read_blocks(
     };
     let items = FrameBlocks {
         first,
-        owed_before: 0,
-        owed_count: 0,
+        postponed_before: 0,
+        postponed_count: 0,
     };
     let builder = TreeBuilder {
-        owed: Vec::new(alloc),
+        postponed: Vec::new(alloc),
         outermost: None,
     };
     match read_into(alloc, i, builder, items, count) {
@@ -198,29 +198,29 @@ fn all_blocks(
     items: FrameBlocks,
 ) -> Result<Vec<ASN1Block>, AllocError>
     ensures { IfOk result (λ blocks. map view blocks.items
-        ≡ map view items.first ++ after_all octets.now builder.owed.items []) }
+        ≡ map view items.first ++ trees_after_all octets.now builder.postponed.items []) }
 {
     let FrameBlocks { mut first, .. } = items;
-    let others = build(alloc, octets, builder.owed)?;
+    let others = build(alloc, octets, builder.postponed)?;
     first.append(others)?;
     Ok(first.into_vec())
 }
 
-// The blocks of a frame: the first of them, and how many more are owed. These stand behind so many that the frames
-// around it owe.
+// The blocks of a frame: the first of them, and how many more are postponed. These stand behind so many postponed
+// blocks of the frames around it.
 #[derive(Drop)]
 struct FrameBlocks {
     first: HeldBlocks,
-    owed_before: usize,
-    owed_count: usize,
+    postponed_before: usize,
+    postponed_count: usize,
 }
 
-// Builds trees: what all frames owe.
+// Builds trees: the postponed blocks of all frames.
 #[derive(Drop)]
 struct TreeBuilder {
-    owed: Vec<Owed>,
+    postponed: Vec<Postponed>,
     // How many frames stand around the outermost open attempt. No answer depends on it: it says which contents octets
-    // are copied at once, and which are owed.
+    // are copied at once, and which are postponed.
     outermost: Option<usize>,
 }
 
@@ -245,8 +245,8 @@ impl Builder for TreeBuilder {
         }
         Ok(FrameBlocks {
             first,
-            owed_before: self.owed.len(),
-            owed_count: 0,
+            postponed_before: self.postponed.len(),
+            postponed_count: 0,
         })
     }
 
@@ -283,28 +283,31 @@ impl Builder for TreeBuilder {
         } = extent;
         let FrameBlocks {
             first,
-            owed_before,
-            owed_count,
+            postponed_before,
+            postponed_count,
         } = items;
         match kind {
             FrameKind::Whole => unreachable!(),
             FrameKind::Group(group) => {
-                if owed_count != 0 {
-                    return self.owe(parent, Owed::Group(group, offset, first, owed_count));
+                if postponed_count != 0 {
+                    return self.postpone(
+                        parent,
+                        Postponed::Group(group, offset, first, postponed_count),
+                    );
                 }
                 self.push_block(parent, group_block(group, offset, first))
             }
             FrameKind::Attempt => {
                 let attempt = attempt_at(alloc, octets, offset, end)?;
                 let inside = leave(&mut self.outermost, depth);
-                if owed_count == 1 && first.len() == 0 {
-                    return self.owe(parent, Owed::Explicit(attempt));
+                if postponed_count == 1 && first.len() == 0 {
+                    return self.postpone(parent, Postponed::Explicit(attempt));
                 }
-                if owed_count == 0 && first.len() == 1 {
+                if postponed_count == 0 && first.len() == 1 {
                     let block = around_block(alloc, attempt, first)?;
                     return self.push_block(parent, block);
                 }
-                self.owed.truncate(owed_before);
+                self.postponed.truncate(postponed_before);
                 self.push_as_it_came(alloc, octets, parent, inside, attempt, start, end)
             }
         }
@@ -328,7 +331,7 @@ impl Builder for TreeBuilder {
         } = extent;
         let attempt = attempt_at(alloc, octets, offset, end)?;
         let inside = leave(&mut self.outermost, depth);
-        self.owed.truncate(items.owed_before);
+        self.postponed.truncate(items.postponed_before);
         self.push_as_it_came(alloc, octets, parent, inside, attempt, start, end)
     }
 }
@@ -339,24 +342,24 @@ impl TreeBuilder {
     fn push_block(&mut self, items: &mut FrameBlocks, block: ASN1Block) -> Result<(), AllocError>
         ensures { OnOk result (IsAdded self.old items.old block self.new items.new) }
     {
-        if items.owed_count != 0 {
-            return self.owe(items, Owed::Ready(block));
+        if items.postponed_count != 0 {
+            return self.postpone(items, Postponed::Ready(block));
         }
         items.first.push(block)
     }
 
-    // The frame owes the block.
+    // Adds the block to the frame as a postponed one.
     #[cold]
     #[inline(never)]
-    fn owe(&mut self, items: &mut FrameBlocks, block: Owed) -> Result<(), AllocError>
-        ensures { OnOk result (IsOwed self.old items.old block self.new items.new) }
+    fn postpone(&mut self, items: &mut FrameBlocks, block: Postponed) -> Result<(), AllocError>
+        ensures { OnOk result (IsPostponed self.old items.old block self.new items.new) }
     {
-        let Some(count) = items.owed_count.checked_add(1) else {
+        let Some(count) = items.postponed_count.checked_add(1) else {
             return Err(AllocError);
         };
-        self.owed.reserve(1)?;
-        self.owed.push_reserved(block);
-        items.owed_count = count;
+        self.postponed.reserve(1)?;
+        self.postponed.push_reserved(block);
+        items.postponed_count = count;
         Ok(())
     }
 
@@ -375,12 +378,12 @@ impl TreeBuilder {
     ) -> Result<(), AllocError>
         requires order { start ≤ end }
         requires within { end ≤ length octets.now }
-        ensures { OnOk result (IsKept octets.now self.old items.old attempt start end self.new items.new) }
+        ensures { OnOk result (IsAddedAsItCame octets.now self.old items.old attempt start end self.new items.new) }
     {
         if inside && end - start > COPIED_AT_ONCE {
-            return self.owe(items, Owed::Kept(attempt, start, end));
+            return self.postpone(items, Postponed::AsItCame(attempt, start, end));
         }
-        let block = kept_block(alloc, attempt, &octets[start..end])?;
+        let block = unknown_block(alloc, attempt, &octets[start..end])?;
         self.push_block(items, block)
     }
 }

@@ -5,8 +5,8 @@ ghost use Rattle.asn1_headers.specs.Fault.{OutOfMemoryOr, fault_of};
 ghost use Rattle.asn1_blocks.specs.Grammar.{FirstFaultAt};
 ghost use Rattle.asn1_blocks.specs.HeadersBegun.{HeadersBegun, IsReadInside};
 ghost use Rattle.asn1_blocks.specs.Places.{HeaderFound};
-ghost use Rattle.asn1_blocks.specs.Inner.OpenFrames.{IsKindOf, is_tried};
-ghost use Rattle.asn1_blocks.specs.Inner.ReaderSteps.{CanBeKept, CanEnd, HasDocument, HasEndedIn, HasKept, HasLeaf, HasOpened, HasRecovered, HasStepped, HasTakenStep, IsEntered, IsFaulty, IsLeafFault, IsReading, Reads, StartsEmpty, in_frame, left};
+ghost use Rattle.asn1_blocks.specs.Inner.OpenFrames.{IsKindOf, is_attempt};
+ghost use Rattle.asn1_blocks.specs.Inner.ReaderSteps.{CanBeKept, CanEnd, HasDocument, HasEndedIn, HasKept, HasLeaf, HasOpened, HasRecovered, HasStepped, HasTakenStep, IsEntered, IsFaulty, IsLeafFault, IsReading, Reads, StartsEmpty, in_frame, work_left};
 ghost use Rattle.asn1_blocks.specs.Tree.{Tree};
 ghost use Rattle.asn1_blocks.specs.declared.reading.OpenFrame.{OpenFrame};
 
@@ -221,7 +221,7 @@ fn take_step<B: Builder>(
         × (count.old + (length octets.now - n) < 2 ^ 64) }
     ensures stepped { (n base : ℕ) → IsReading B.holds octets.now reader.old n → count.old ≡ base + n
         → HasTakenStep B.holds octets.now result reader.new count.new base
-        (left (length octets.now) reader.old.index reader.old.outer.items) }
+        (work_left (length octets.now) reader.old.index reader.old.outer.items) }
 {
     if reader.index != reader.inner.extent.end {
         return Some(read_next(alloc, octets, reader, count));
@@ -286,7 +286,7 @@ fn read_next<B: Builder>(
     ensures counted { count.new ≡ count.old + 1 }
     ensures stepped { (n : ℕ) → IsReading B.holds octets.now reader.old n
         → HasStepped B.holds octets.now result reader.new (n + 1)
-        (left (length octets.now) reader.old.index reader.old.outer.items) }
+        (work_left (length octets.now) reader.old.index reader.old.outer.items) }
 {
     let offset = reader.index;
     let depth = reader.outer.len();
@@ -363,7 +363,7 @@ fn close<B: Builder>(
     ensures stepped { (n : ℕ) → Reads B.holds octets.now reader.old.builder reader.old.inner
         (parent ∷ reverse reader.old.outer.items) reader.old.inner.extent.end n
         → HasStepped B.holds octets.now result reader.new n
-        (left (length octets.now) reader.old.inner.extent.end (parent ∷ reader.old.outer.items)) }
+        (work_left (length octets.now) reader.old.inner.extent.end (parent ∷ reader.old.outer.items)) }
 {
     let depth = reader.outer.len();
     let OpenFrame { extent, items } = mem::replace(&mut reader.inner, parent);
@@ -414,7 +414,7 @@ fn refuse<B: Builder>(
 // Whether a fault inside the frame ends there.
 #[inline(always)]
 pub fn is_attempt(kind: &FrameKind) -> bool
-    ensures { result ≡ is_tried kind.now }
+    ensures { result ≡ is_attempt kind.now }
 {
     matches!(kind, FrameKind::Attempt)
 }

@@ -7,8 +7,8 @@ use Rattle.asn1_headers.specs.HeaderFault.{HeaderFault}
 use Rattle.asn1_headers.specs.declared.header.ASN1Class.{ASN1Class}
 use Rattle.asn1_headers.specs.declared.header.ASN1Class.TheVariants.{Universal, Application, ContextSpecific, Private}
 use Rattle.asn1_headers.proofs.Prefixes.{encoding_alone, encoding_some, identifier_alone}
-use Rattle.asn1_blocks.proofs.Faults.{header_no_encoding}
-use Rattle.asn1_blocks.proofs.FaultsAlone.{header_fault_alone}
+use Rattle.asn1_blocks.proofs.Faults.{HeaderFault-not_encoding}
+use Rattle.asn1_blocks.proofs.FaultsAlone.{HeaderFault-unique}
 use Rattle.asn1_der.specs.Der.{IsDer, IsRightAlone}
 use Rattle.asn1_departures.specs.Departures.{AreEncodings, Found, HeaderFaultBehind, IsNext, LengthFound, Lists, ListsInside, NoEncodingsFault, OwnRules, TypeFound, at_front, behind, behind_end_of_contents, broken, encoding_listed, encodings_inside, end_listed, end_of_contents, is_indefinite, is_looked_into, kept, listed, next, no_encodings_inside, no_more, none_left, nothing_inside, own_departures, unended_at_end, unended_behind}
 use Rattle.asn1_departures.specs.Rules.{identifier_rule, type_rule}
@@ -209,9 +209,9 @@ AreEncodings-no_front_fault :
     AreEncodings u x → ⊥
 AreEncodings-no_front_fault u o x e small some f (no_more z none) = omega (arith, some, ap length none)
 AreEncodings-no_front_fault u o x e small some f (next {first = first} {rest = rest} n a) =
-    header_no_encoding o x first rest e n.class n.constructed n.tag n.contents n.header f small n.whole n.encoding
+    HeaderFault-not_encoding o x first rest e n.class n.constructed n.tag n.contents n.header f small n.whole n.encoding
 AreEncodings-no_front_fault u o x e small some f (end_of_contents {rest = rest} more w a) =
-    header_no_encoding o x (0 ∷ 0 ∷ []) rest e Universal false 0 [] 2 f small w Encoding-end_of_contents
+    HeaderFault-not_encoding o x (0 ∷ 0 ∷ []) rest e Universal false 0 [] 2 f small w Encoding-end_of_contents
 
 -- no header behind the first of encodings is at fault
 AreEncodings-no_fault_behind :
@@ -276,13 +276,13 @@ IsNext-not_nil u x first rest n none =
 HeaderFault-not_next : (u o : ℕ) (x first rest : List ℕ) (e : DecodeFault) → o + length x < 2 ^ 64 → HeaderFault o x e →
     IsNext u x first rest → ⊥
 HeaderFault-not_next u o x first rest e small f n =
-    header_no_encoding o x first rest e n.class n.constructed n.tag n.contents n.header f small n.whole n.encoding
+    HeaderFault-not_encoding o x first rest e n.class n.constructed n.tag n.contents n.header f small n.whole n.encoding
 
 HeaderFault-not_end_of_contents : (o : ℕ) (x rest : List ℕ) (e : DecodeFault) → o + length x < 2 ^ 64 →
     HeaderFault o x e →
     x ≡ 0 ∷ 0 ∷ rest → ⊥
 HeaderFault-not_end_of_contents o x rest e small f w =
-    header_no_encoding o x (0 ∷ 0 ∷ []) rest e Universal false 0 [] 2 f small w Encoding-end_of_contents
+    HeaderFault-not_encoding o x (0 ∷ 0 ∷ []) rest e Universal false 0 [] 2 f small w Encoding-end_of_contents
 
 IsNext-not_end_of_contents : (u fewer : ℕ) (x first rest later : List ℕ) → IsNext u x first rest → u ≡ fewer + 1 →
     x ≡ 0 ∷ 0 ∷ later →
@@ -298,7 +298,7 @@ HeaderFaultBehind-unique :
     HeaderFaultBehind u o x q d →
     (p ≡ q) × (e ≡ d)
 HeaderFaultBehind-unique u o p q x e d small (at_front some f) (at_front more g) =
-    (refl, header_fault_alone o x e d f g)
+    (refl, HeaderFault-unique o x e d f g)
 HeaderFaultBehind-unique u o p q x e d small (at_front some f) (unended_at_end more none) =
     absurd (omega (arith, some, ap length none))
 HeaderFaultBehind-unique u o p q x e d small (at_front some f) (behind {first = first} {rest = rest} n g) =

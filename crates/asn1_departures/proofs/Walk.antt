@@ -8,7 +8,7 @@ use Rattle.asn1_departures.proofs.Fronts.{is_at_end-parts, begins_with_end-octet
 use Rattle.asn1_headers.specs.Header.{Encoding, IsLength}
 use Rattle.asn1_blocks.specs.Places.{HeaderFound}
 use Rattle.asn1_blocks.specs.declared.parsed.PlacedHeader.{PlacedHeader}
-use Rattle.asn1_blocks.proofs.ReadSteps.{slice_join, slice_length}
+use Rattle.asn1_blocks.proofs.ReadSteps.{slice_range-append, length-slice_range}
 use Rattle.asn1_departures.specs.Departures.{HeaderFaultBehind, IsNext, Lists, behind, behind_end_of_contents, ListsInside, OwnRules, encoding_listed, encodings_inside, end_listed, is_looked_into, is_open, none_left, own_departures, unended_behind}
 use Rattle.asn1_departures.specs.Steps.{AreExtents, IsParted, ListsUpTo, begins_with_end, is_at_end, rest_of}
 use Rattle.asn1_departures.specs.declared.listing.Extent.{Extent}
@@ -30,10 +30,10 @@ module _ (x : List ℕ) (i e : ℕ) (h : PlacedHeader) (f : HeaderFound x i e h)
   starts_before_end = omega (arith, f.starts_after, f.order)
 
   pub slice_range-at_header : slice_range x i e ≡ slice_range x i h.end ++ slice_range x h.end e
-  slice_range-at_header = slice_join x i h.end e starts_before_end f.ends_within
+  slice_range-at_header = slice_range-append x i h.end e starts_before_end f.ends_within
 
   pub length-slice_range-at_header : length (slice_range x i h.end) ≡ h.end - i
-  length-slice_range-at_header = slice_length x i h.end starts_before_end (omega (arith, f.ends_within, within))
+  length-slice_range-at_header = length-slice_range x i h.end starts_before_end (omega (arith, f.ends_within, within))
 
   module _ (id len : List ℕ)
       (p : IsParted (slice_range x i h.start) id len h.class h.constructed h.tag (h.end - h.start)) where
@@ -43,15 +43,16 @@ module _ (x : List ℕ) (i e : ℕ) (h : PlacedHeader) (f : HeaderFound x i e h)
     Encoding-at_header =
         let v = slice_range x h.start h.end in
         let inside : length v ≡ h.end - h.start =
-        slice_length x h.start h.end f.order (omega (arith, f.ends_within, within)) in
+        length-slice_range x h.start h.end f.order (omega (arith, f.ends_within, within)) in
         let front : length (slice_range x i h.start) ≡ h.start - i =
-        slice_length x i h.start (omega (arith, f.starts_after)) (omega (arith, f.order, f.ends_within, within)) in
+        length-slice_range x i h.start (omega (arith, f.starts_after))
+        (omega (arith, f.order, f.ends_within, within)) in
         record {
           identifier = id;
           len = len;
           identifier_octets = p.identifier_octets;
           length_octets = subst (λ z. IsLength len z) (sym inside) p.length_octets;
-          whole = slice_join x i h.start h.end (omega (arith, f.starts_after)) f.order
+          whole = slice_range-append x i h.start h.end (omega (arith, f.starts_after)) f.order
               ∙ (ap (λ z. z ++ v) p.whole ∙ append_assoc id len v);
           size = sym front ∙ (ap length p.whole ∙ length-append id len);
         }
@@ -132,10 +133,11 @@ pub slice_range-end_of_contents :
 slice_range-end_of_contents x i e order within front =
     let y = slice_range x i e in
     let whole : y ≡ 0 ∷ 0 ∷ drop 2 y = begins_with_end-octets y front in
-    let two : i + 2 ≤ e = omega (arith, ap length whole, slice_length x i e order within) in
-    let join : y ≡ slice_range x i (i + 2) ++ slice_range x (i + 2) e = slice_join x i (i + 2) e (omega arith) two in
+    let two : i + 2 ≤ e = omega (arith, ap length whole, length-slice_range x i e order within) in
+    let join : y ≡ slice_range x i (i + 2) ++ slice_range x (i + 2) e =
+    slice_range-append x i (i + 2) e (omega arith) two in
     let size : length (slice_range x i (i + 2)) ≡ 2 =
-    slice_length x i (i + 2) (omega arith) (omega (arith, two, within)) ∙ omega arith in (
+    length-slice_range x i (i + 2) (omega arith) (omega (arith, two, within)) ∙ omega arith in (
       two,
       whole ∙ ap (λ z. 0 ∷ 0 ∷ z)
           (ap (drop 2) join ∙ drop_at (slice_range x i (i + 2)) (slice_range x (i + 2) e) 2 size),
@@ -163,7 +165,7 @@ pub IsNext-found :
     IsNext u (slice_range x i e) (slice_range x i h.end) (slice_range x h.end e)
 IsNext-found x i e h f u t =
     let w : slice_range x i e ≡ slice_range x i h.end ++ slice_range x h.end e =
-    slice_join x i h.end e (omega (arith, f.starts_after, f.order)) f.ends_within in
+    slice_range-append x i h.end e (omega (arith, f.starts_after, f.order)) f.ends_within in
     record {
       class = h.class;
       constructed = h.constructed;
@@ -183,7 +185,7 @@ pub HeaderFaultBehind-next :
 unfolding IsNext-found
 HeaderFaultBehind-next x i h f u v o place fault t is count w =
     let before : i ≤ h.end = omega (arith, f.starts_after, f.order) in
-    let size : length (slice_range x i h.end) ≡ h.end - i = slice_length x i h.end before f.ends_within in
+    let size : length (slice_range x i h.end) ≡ h.end - i = length-slice_range x i h.end before f.ends_within in
     let to : h.end ≡ i + length (slice_range x i h.end) = omega (arith, size, before) in
     let open_behind : v ≡ unended_behind u h.constructed f.encoding.len = count ∙ ap (λ b. if b then suc u else u) is in
     behind (IsNext-found x i (length x) h f u t)

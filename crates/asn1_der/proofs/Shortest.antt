@@ -11,7 +11,7 @@ use Rattle.asn1_numbers.specs.declared.sink.Comparison.{Comparison}
 use Rattle.asn1_headers.specs.Header.{Encoding, IsIdentifier, IsLength, leading_octet, shortest_identifier, shortest_length}
 use Rattle.asn1_headers.specs.declared.header.ASN1Class.{ASN1Class}
 use Rattle.asn1_headers.proofs.Prefixes.{same_split}
-use Rattle.asn1_blocks.proofs.ReadSteps.{slice_join, slice_length}
+use Rattle.asn1_blocks.proofs.ReadSteps.{slice_range-append, length-slice_range}
 use Rattle.asn1_der.specs.Der.{IsShortest}
 use Rattle.asn1_der.specs.Steps.{IsHeaderOf, is_short}
 
@@ -34,8 +34,8 @@ shortest_front x i s e c k n before order within =
     let f = slice_range x i s in
     let v = slice_range x s e in
     let id = shortest_identifier c k n in
-    let size : length v ≡ e - s = slice_length x s e order within in
-    let join : slice_range x i e ≡ f ++ v = slice_join x i s e before order in
+    let size : length v ≡ e - s = length-slice_range x s e order within in
+    let join : slice_range x i e ≡ f ++ v = slice_range-append x i s e before order in
     let len : shortest_length (length v) ≡ shortest_length (e - s) = ap shortest_length size in (
       λ h. record {
         whole = join ∙ (ap (λ z. z ++ v) h ∙ (append_assoc id (shortest_length (e - s)) v
@@ -54,14 +54,15 @@ pub header_front :
 header_front x i s e c k n before order within f =
     let v = slice_range x s e in
     let id = f.identifier in
-    let size : length v ≡ e - s = slice_length x s e order within in
-    let join : slice_range x i e ≡ slice_range x i s ++ v = slice_join x i s e before order in
+    let size : length v ≡ e - s = length-slice_range x s e order within in
+    let join : slice_range x i e ≡ slice_range x i s ++ v = slice_range-append x i s e before order in
     let both : slice_range x i s ++ v ≡ (id ++ f.len) ++ v = sym join ∙ (f.whole ∙ sym (append_assoc id f.len v)) in
     record {
       identifier = id;
       len = f.len;
       whole = (same_split (slice_range x i s) (id ++ f.len) v v
-          (slice_length x i s before (omega (arith, order, within)) ∙ (f.size ∙ sym (length-append id f.len))) both).0;
+          (length-slice_range x i s before (omega (arith, order, within)) ∙ (f.size ∙ sym (length-append id f.len)))
+          both).0;
       identifier_octets = f.identifier_octets;
       length_octets = subst (λ z. IsLength f.len z) size f.length_octets;
     }

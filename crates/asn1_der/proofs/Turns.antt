@@ -7,8 +7,8 @@ use Rattle.asn1_headers.specs.HeaderFault.{HeaderFault}
 use Rattle.asn1_headers.proofs.Prefixes.{encoding_alone}
 use Rattle.asn1_blocks.specs.Places.{HeaderFound}
 use Rattle.asn1_blocks.specs.declared.parsed.PlacedHeader.{PlacedHeader}
-use Rattle.asn1_blocks.proofs.Faults.{header_no_encoding}
-use Rattle.asn1_blocks.proofs.ReadSteps.{slice_join, slice_length}
+use Rattle.asn1_blocks.proofs.Faults.{HeaderFault-not_encoding}
+use Rattle.asn1_blocks.proofs.ReadSteps.{slice_range-append, length-slice_range}
 use Rattle.asn1_der.specs.Der.{AreDerEncodings, IsDerEncoding, more_encodings, no_encodings}
 use Rattle.asn1_der.specs.Steps.{AreDer, AreDerUpTo, AreEnds, IsDerAlone, IsWhole}
 use Rattle.std.proofs.lemmas.List.{reverse-append}
@@ -38,13 +38,13 @@ module _ (x : List ℕ) (small : length x < 2 ^ 64) (i e : ℕ) (within : e ≤ 
     before = omega (arith, f.starts_after, f.order)
 
     join : slice_range x i e ≡ slice_range x i h.end ++ slice_range x h.end e
-    join = slice_join x i h.end e before f.ends_within
+    join = slice_range-append x i h.end e before f.ends_within
 
     size : length (slice_range x i h.end) ≡ h.end - i
-    size = slice_length x i h.end before (omega (arith, f.ends_within, within))
+    size = length-slice_range x i h.end before (omega (arith, f.ends_within, within))
 
     all_size : length (slice_range x i e) ≡ e - i
-    all_size = slice_length x i e (omega (arith, before, f.ends_within)) within
+    all_size = length-slice_range x i e (omega (arith, before, f.ends_within)) within
 
     pub ahead : AreDer (slice_range x i e) → IsAhead x e i h
     ahead (items, ds) =
@@ -78,12 +78,12 @@ module _ (x : List ℕ) (small : length x < 2 ^ 64) (i e : ℕ) (within : e ≤ 
   pub not_der_at_fault : (fault : DecodeFault) → i < e → HeaderFault (i - i) (slice_range x i e) fault
       → AreDer (slice_range x i e) → ⊥
   not_der_at_fault fault more w (items, ds) =
-      let all_size : length (slice_range x i e) ≡ e - i = slice_length x i e (omega (arith, more)) within in
+      let all_size : length (slice_range x i e) ≡ e - i = length-slice_range x i e (omega (arith, more)) within in
       let s = split_some (slice_range x i e) items (omega (arith, all_size, more)) ds in
       let long : length s.first ≤ length x =
       omega (arith, all_size, within, ap length s.whole, length-append s.first s.rest) in
       let (c, k, n, v, g, p) = der_encoding s.first (omega (arith, long, small)) s.der in
-      header_no_encoding (i - i) (slice_range x i e) s.first s.rest fault c k n v g w
+      HeaderFault-not_encoding (i - i) (slice_range x i e) s.first s.rest fault c k n v g w
       (omega (arith, all_size, within, small)) s.whole p
 
 -- ends one after another are no further than the last

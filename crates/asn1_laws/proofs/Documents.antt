@@ -10,9 +10,9 @@ use Rattle.asn1_blocks.specs.Contents.{LeafContents, group_tag, leaf_contents, l
 use Rattle.asn1_blocks.specs.Grammar.{Encodes, EncodesAll, IsDocument}
 use Rattle.asn1_blocks.specs.Places.{StandsAmong, StandsIn, end_before, in_explicit, in_first, in_group, in_later, itself}
 use Rattle.asn1_blocks.specs.Tree.{Leaf, Tree, Trees, leaf, group, explicit, unknown, no_trees, more_trees}
-use Rattle.asn1_blocks.proofs.Faults.{block_encoding}
-use Rattle.asn1_blocks.proofs.OneReading.{encodes_block}
-use Rattle.asn1_blocks.proofs.Slices.{end_is, open_contents, open_first, open_rest, slice_here}
+use Rattle.asn1_blocks.proofs.Faults.{IsEncoding-block}
+use Rattle.asn1_blocks.proofs.OneReading.{IsBlock-encodes}
+use Rattle.asn1_blocks.proofs.Slices.{end_before-encodes, middle-contents, middle-first, middle-rest, slice_range-middle}
 use Rattle.asn1_der.specs.Der.{IsDer, IsDerEncoding}
 use Rattle.asn1_der.specs.Steps.{AreDer}
 use Rattle.asn1_der.proofs.Encodings.{der_whole}
@@ -40,7 +40,7 @@ Stand-inside : (i u x v : List ℕ) (e : ℕ) (c : ASN1Class) (k : Bool) (n : �
     Stand i u x v e →
     Stand i (u ++ (F.identifier ++ F.len)) w v e
 Stand-inside i u x v e c k n w h F s = record {
-  whole = open_contents i u x v s.whole F.identifier F.len w F.whole;
+  whole = middle-contents i u x v s.whole F.identifier F.len w F.whole;
   end = omega (
     arith,
     s.end,
@@ -67,7 +67,7 @@ mutual
   IsDerEncoding-plain_canonical (leaf p l) i u x v e at all (o, k, w, h, F, means) d plain =
       let whole = der_whole x Universal k (leaf_tag l) w h at.small F d in
       let right = IsRightAlone-leaf l k w whole.alone.1 in
-      let here : slice_range i p e ≡ x = slice_here i u x v p e at.whole o at.end in
+      let here : slice_range i p e ≡ x = slice_range-middle i u x v p e at.whole o at.end in
       let F' : Encoding (slice_range i p e) Universal false (leaf_tag l) w h =
       subst (λ z. Encoding z Universal false (leaf_tag l) w h) (sym here)
       (subst (λ z. Encoding x Universal z (leaf_tag l) w h) right.0 F) in
@@ -92,7 +92,7 @@ mutual
   IsDerEncoding-plain_canonical (explicit c p n b) i u x v e at all (o, other, w, h, F, item) d plain =
       let whole = der_whole x c true n w h at.small F d in
       let small = length-contents-lt x c true n w h F at.small in
-      let G = block_encoding w (encodes_block (length u + h) w b item) in
+      let G = IsEncoding-block w (IsBlock-encodes (length u + h) w b item) in
       let one = AreDer-first w w [] G.class G.constructed G.tag G.contents G.header G.encoding (sym (append-nil w))
       small
       (whole.items refl) in
@@ -112,7 +112,7 @@ mutual
       ((o : ℕ) (l : Leaf) (j : ℕ) → StandsAmong bs e (leaf o l) j → IsPlain i o l j) → x ≡ all_canonical bs
   AreDer-plain_canonical no_trees i u x v e at all s d plain = s
   AreDer-plain_canonical (more_trees b bs) i u x v e at all s d plain =
-      let F = block_encoding s.first (encodes_block (length u) s.first b s.item) in
+      let F = IsEncoding-block s.first (IsBlock-encodes (length u) s.first b s.item) in
       let parts =
       AreDer-first x s.first s.rest F.class F.constructed F.tag F.contents F.header F.encoding s.whole at.small d in
       let octets = subst AreOctets s.whole all in
@@ -120,14 +120,14 @@ mutual
       let here : length u + length s.first ≡ length (u ++ s.first) = omega (arith, length-append u s.first) in
       let one : s.first ≡ canonical b = IsDerEncoding-plain_canonical b i u s.first (s.rest ++ v) (end_before bs e)
       (record {
-        whole = open_first i u x v at.whole s.first s.rest s.whole;
-        end = end_is (length u + length s.first) e s.rest bs s.items (omega (arith, at.end, size));
+        whole = middle-first i u x v at.whole s.first s.rest s.whole;
+        end = end_before-encodes (length u + length s.first) e s.rest bs s.items (omega (arith, at.end, size));
         small = omega (arith, at.small, size);
       })
       (AreOctets-first s.first s.rest octets) s.item parts.der (λ o l j t. plain o l j (in_first t)) in
       let others : s.rest ≡ all_canonical bs = AreDer-plain_canonical bs i (u ++ s.first) s.rest v e
       (record {
-        whole = open_rest i u x v at.whole s.first s.rest s.whole;
+        whole = middle-rest i u x v at.whole s.first s.rest s.whole;
         end = omega (arith, at.end, size, here);
         small = omega (arith, at.small, size);
       })
@@ -165,7 +165,7 @@ all_canonical-fronts :
     x ≡ first ++ rest →
     x ≡ all_canonical (more_trees b bs) → Fronts first rest b bs
 all_canonical-fronts o x first rest b bs small s w e =
-    let F = block_encoding first (encodes_block o first b s) in
+    let F = IsEncoding-block first (IsBlock-encodes o first b s) in
     let G = canonical_encoding b (omega (arith, small, ap length e, length-append (canonical b) (all_canonical bs))) in
     let same = encoding_alone first (canonical b) F.class G.class F.constructed G.constructed F.tag G.tag F.contents
     G.contents F.header G.header
@@ -180,7 +180,7 @@ mutual
   IsCanonicalAt-in_tree a e b j i u x v at s d same itself = record {
     offset = length u;
     octets = x;
-    at = λ o is. slice_here i u x v o e at.whole is at.end;
+    at = λ o is. slice_range-middle i u x v o e at.whole is at.end;
     small = at.small;
     encoded = s;
     der = d;
@@ -199,7 +199,7 @@ mutual
   IsCanonicalAt-in_tree a e b j i u x v at s d same (in_explicit {class = c} {tag = n} {a = y} t) =
       let F = s.4 in
       let whole = der_whole x c true n s.2 s.3 at.small F d in
-      let G = block_encoding s.2 (encodes_block (length u + s.3) s.2 y s.5) in
+      let G = IsEncoding-block s.2 (IsBlock-encodes (length u + s.3) s.2 y s.5) in
       let one = AreDer-first s.2 s.2 [] G.class G.constructed G.tag G.contents G.header G.encoding
       (sym (append-nil s.2))
       (length-contents-lt x c true n s.2 s.3 F at.small) (whole.items refl) in
@@ -213,20 +213,20 @@ mutual
       AreDer x →
       x ≡ all_canonical bs → StandsAmong bs e b j → IsCanonicalAt i b j
   IsCanonicalAt-among_trees bs e b j i u x v at s d same (in_first {a = a} {bs = cs} t) =
-      let F = block_encoding s.first (encodes_block (length u) s.first a s.item) in
+      let F = IsEncoding-block s.first (IsBlock-encodes (length u) s.first a s.item) in
       let parts =
       AreDer-first x s.first s.rest F.class F.constructed F.tag F.contents F.header F.encoding s.whole at.small d in
       let size : length x ≡ length s.first + length s.rest = ap length s.whole ∙ length-append s.first s.rest in
       let f = all_canonical-fronts (length u) x s.first s.rest a cs at.small s.item s.whole same in
       IsCanonicalAt-in_tree a (end_before cs e) b j i u s.first (s.rest ++ v)
       (record {
-        whole = open_first i u x v at.whole s.first s.rest s.whole;
-        end = end_is (length u + length s.first) e s.rest cs s.items (omega (arith, at.end, size));
+        whole = middle-first i u x v at.whole s.first s.rest s.whole;
+        end = end_before-encodes (length u + length s.first) e s.rest cs s.items (omega (arith, at.end, size));
         small = omega (arith, at.small, size);
       })
       s.item parts.der f.one t
   IsCanonicalAt-among_trees bs e b j i u x v at s d same (in_later {a = a} {bs = cs} t) =
-      let F = block_encoding s.first (encodes_block (length u) s.first a s.item) in
+      let F = IsEncoding-block s.first (IsBlock-encodes (length u) s.first a s.item) in
       let parts =
       AreDer-first x s.first s.rest F.class F.constructed F.tag F.contents F.header F.encoding s.whole at.small d in
       let size : length x ≡ length s.first + length s.rest = ap length s.whole ∙ length-append s.first s.rest in
@@ -234,7 +234,7 @@ mutual
       let here : length u + length s.first ≡ length (u ++ s.first) = omega (arith, length-append u s.first) in
       IsCanonicalAt-among_trees cs e b j i (u ++ s.first) s.rest v
       (record {
-        whole = open_rest i u x v at.whole s.first s.rest s.whole;
+        whole = middle-rest i u x v at.whole s.first s.rest s.whole;
         end = omega (arith, at.end, size, here);
         small = omega (arith, at.small, size);
       })

@@ -13,7 +13,7 @@ use Rattle.asn1_leaves.specs.StringKind.{StringKind, utf8, printable, teletex, i
 use Rattle.asn1_leaves.proofs.Leaves.ObjectIdentifier.{ObjectIdentifierContents-ended}
 use Rattle.asn1_blocks.specs.Contents.{LeafFault, group_tag, of_bit_string, of_boolean, of_generalized_time, of_object_identifier, of_text, of_utc_time, string_tag}
 use Rattle.asn1_blocks.specs.Grammar.{AreBlocks, BlocksFaultAt, FirstFault, in_contents, in_header, in_item, more_blocks, no_blocks}
-use Rattle.asn1_blocks.proofs.Faults.{block_encoding, header_no_encoding}
+use Rattle.asn1_blocks.proofs.Faults.{IsEncoding-block, HeaderFault-not_encoding}
 use Rattle.asn1_der.specs.Contents.{HasDerContents, IsMoment, are_subidentifiers, is_bit_string, is_boolean}
 use Rattle.asn1_der.specs.Der.{IsDer, is_constructed_type, more_encodings, no_encodings}
 use Rattle.asn1_der.specs.Steps.{AreDer}
@@ -113,7 +113,7 @@ AreDer-behind_blocks : (x front rest : List ℕ) → AreBlocks front → x ≡ f
     AreDer rest
 AreDer-behind_blocks x front rest no_blocks whole small d = subst AreDer whole d
 AreDer-behind_blocks x front rest (more_blocks {x = first} {rest = others} w b bs) whole small d =
-    let F = block_encoding first b in
+    let F = IsEncoding-block first b in
     let e : x ≡ first ++ (others ++ rest) = whole ∙ (ap (λ z. z ++ rest) w ∙ append_assoc first others rest) in
     let s = AreDer-first x first (others ++ rest) F.class F.constructed F.tag F.contents F.header F.encoding e small
     d in
@@ -127,7 +127,7 @@ AreDer-no_header_fault : (o : ℕ) (x : List ℕ) (e : DecodeFault) → o + leng
 AreDer-no_header_fault o x e small some f (items, no_encodings) = omega (arith, some)
 AreDer-no_header_fault o x e small some f (items, more_encodings {first = first} {rest = rest} w d ds) =
     let (c, k, n, v, h, F) = der_encoding first (omega (arith, small, ap length w, length-append first rest)) d in
-    header_no_encoding o x first rest e c k n v h f small w F
+    HeaderFault-not_encoding o x first rest e c k n v h f small w F
 
 -- the fault of DER
 IsFaultOfDer-blocks : (x : List ℕ) (e : DecodeFault) (o : ℕ) → length x < 2 ^ 64 → AreDer x → BlocksFaultAt x e o →

@@ -3,8 +3,8 @@ use Rattle.std.proofs.Common.{ℕ, ◌<◌, ◌^◌, List, length, subst}
 use Rattle.asn1_headers.specs.Fault.{DecodeFault}
 use Rattle.asn1_blocks.specs.Grammar.{FirstFaultAt, IsDocument}
 use Rattle.asn1_blocks.specs.Tree.{Trees}
-use Rattle.asn1_blocks.proofs.OneReading.{all_alone}
-use Rattle.asn1_blocks.proofs.Readings.{document_no_fault}
+use Rattle.asn1_blocks.proofs.OneReading.{EncodesAll-unique}
+use Rattle.asn1_blocks.proofs.Readings.{IsDocument-no_fault}
 use Rattle.asn1_outline.specs.Entries.{AreEntriesOf}
 use Rattle.asn1_outline.specs.declared.entry.Entry.{Entry}
 
@@ -16,9 +16,9 @@ AreOfDocument octets es = (bs : Trees ℕ) × IsDocument octets bs × AreEntries
 pub only_entries : (octets : List ℕ) (es : List Entry) (bs : Trees ℕ) → AreOfDocument octets es → IsDocument octets bs →
     AreEntriesOf octets bs es
 only_entries octets es bs (cs, d, are) e =
-    subst (λ z. AreEntriesOf octets z es) (all_alone 0 octets cs bs d.blocks e.blocks) are
+    subst (λ z. AreEntriesOf octets z es) (EncodesAll-unique 0 octets cs bs d.blocks e.blocks) are
 
 pub none_refused : (octets : List ℕ) (es : List Entry) (fault : DecodeFault) (o : ℕ) → length octets < 2 ^ 64 →
     AreOfDocument octets es
     → FirstFaultAt octets fault o → ⊥
-none_refused octets es fault o small (bs, d, are) p = document_no_fault octets bs fault small d (o, p)
+none_refused octets es fault o small (bs, d, are) p = IsDocument-no_fault octets bs fault small d (o, p)

@@ -4,7 +4,7 @@ use Rattle.std.specs.List.{slice_range}
 use Rattle.asn1_leaves.proofs.SliceSplit.{drop-slice_range}
 use Rattle.asn1_blocks.specs.Places.{HeaderFound}
 use Rattle.asn1_blocks.specs.declared.parsed.PlacedHeader.{PlacedHeader}
-use Rattle.asn1_blocks.proofs.ReadSteps.{slice_length}
+use Rattle.asn1_blocks.proofs.ReadSteps.{length-slice_range}
 use Rattle.asn1_outline.specs.Entries.{HasHeaderAt, HasTag}
 
 -- an entry that is begun says which header stands at its offset
@@ -26,7 +26,7 @@ begun_header x offset limit h tag items next depth found within is =
     let octets = slice_range x offset h.end in
     let contents = slice_range x h.start h.end in
     let l : length contents ≡ h.end - h.start =
-    slice_length x h.start h.end found.order (omega (arith, found.ends_within, within)) in
+    length-slice_range x h.start h.end found.order (omega (arith, found.ends_within, within)) in
     let w : drop offset x ≡ octets ++ drop h.end x =
     drop-slice_range x offset h.end (omega (arith, found.starts_after, found.order)) in (
       octets,

@@ -15,9 +15,10 @@ use Rattle.asn1_blocks.specs.Places.{HeaderFound}
 use Rattle.asn1_blocks.specs.Places.{EncodingAt}
 use Rattle.asn1_blocks.specs.Tree.{Tree, Trees, explicit, group, leaf, more_trees, no_trees, trees_of, unknown}
 use Rattle.asn1_blocks.specs.View.{tree_offset, view}
-use Rattle.asn1_blocks.proofs.Leaves.{group_alone, leaf_no_group}
-use Rattle.asn1_blocks.proofs.OneReading.{encodes_alone, encodes_block, only_tree}
-use Rattle.asn1_blocks.proofs.Slices.{encoding_at_alone}
+use Rattle.asn1_blocks.specs.Inner.EqualityLaws.{group_tag-injective}
+use Rattle.asn1_blocks.proofs.Leaves.{leaf_tag-not_group_tag}
+use Rattle.asn1_blocks.proofs.OneReading.{Encodes-unique, IsBlock-encodes, Encodes-single}
+use Rattle.asn1_blocks.proofs.Slices.{EncodingAt-unique}
 use Rattle.asn1_outline.specs.Building.{IsNodeAt, items_of, listed}
 use Rattle.asn1_outline.specs.Structure.{Holds, IsEncodedIn, Node, node_items, node_tree, nodes_trees}
 use Rattle.asn1_outline.proofs.Fields.{same_encoding}
@@ -44,7 +45,7 @@ encoded_here x b octets o g s at found =
       };
     } in
     let own = subst (λ z. EncodingAt x z octets) (sym at) (encoding_of x b octets s) in
-    let same = encoding_at_alone x o octets y own there in
+    let same = EncodingAt-unique x o octets y own there in
     subst (λ z. Encodes o z b) same (subst (λ z. Encodes z octets b) (sym at) s.encoded)
 
 module _ (x : List ℕ) (o : ℕ) (y : List ℕ) (n : ℕ) (v : List ℕ) (h : ℕ) (bs : Trees ℕ) where
@@ -53,9 +54,9 @@ module _ (x : List ℕ) (o : ℕ) (y : List ℕ) (n : ℕ) (v : List ℕ) (h : �
       Holds x b bs
       → b ≡ group o g bs
   group_there k g (leaf p l) e s q =
-      absurd (leaf_no_group l g (same_encoding y _ _ _ _ _ _ _ _ _ _ s.4 e).tag)
+      absurd (leaf_tag-not_group_tag l g (same_encoding y _ _ _ _ _ _ _ _ _ _ s.4 e).tag)
   group_there k g (group p i items) e s q =
-      let kind : i ≡ g = group_alone i g (same_encoding y _ _ _ _ _ _ _ _ _ _ s.4 e).tag in
+      let kind : i ≡ g = group_tag-injective i g (same_encoding y _ _ _ _ _ _ _ _ _ _ s.4 e).tag in
       let at : p ≡ o = s.0 in
       let own : bs ≡ items = q in
       cc
@@ -87,7 +88,7 @@ module _ (x : List ℕ) (o : ℕ) (y : List ℕ) (n : ℕ) (v : List ℕ) (h : �
           | inl known ↦ other (sym z.class ∙ known.0)
           | inr rest ↦ elim q [
             | inl (bit, place, u, f) ↦ rest.1
-                (bit, encodes_block place w t (only_tree place w t (subst (EncodesAll place w) one f)))
+                (bit, IsBlock-encodes place w t (Encodes-single place w t (subst (EncodesAll place w) one f)))
             | inr (none, held) ↦ no_more t (sym one ∙ none)
           ]
         ])
@@ -132,7 +133,8 @@ module _ (x : List ℕ) (o : ℕ) (n : Node) (g : PlacedHeader) (found : HeaderF
         → b ≡ node_tree n
     leaf_at b means =
         let y = slice_range x o g.end in
-        let (_, same, _) = encodes_alone o y y [] [] b (node_tree n) (means y (g.start - o) found.encoding) here refl in
+        let (_, same, _) =
+        Encodes-unique o y y [] [] b (node_tree n) (means y (g.start - o) found.encoding) here refl in
         same
 
     module _ (other : g.class ≢ Universal) (set : g.constructed ≡ true) where

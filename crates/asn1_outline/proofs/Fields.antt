@@ -10,8 +10,8 @@ use Rattle.asn1_blocks.specs.Places.{EncodingAt}
 use Rattle.asn1_outline.specs.Entries.{HasHeader}
 use Rattle.asn1_blocks.specs.Tree.{Tree, explicit, group, leaf, more_trees, no_trees, unknown}
 use Rattle.asn1_blocks.specs.View.{tree_offset}
-use Rattle.asn1_blocks.proofs.OneReading.{encodes_block, only_tree}
-use Rattle.asn1_blocks.proofs.Slices.{encoding_at_alone}
+use Rattle.asn1_blocks.proofs.OneReading.{IsBlock-encodes, Encodes-single}
+use Rattle.asn1_blocks.proofs.Slices.{EncodingAt-unique}
 use Rattle.asn1_outline.specs.Structure.{Holds, IsEncodedIn, IsNode, Node, Nodes, is_explicit, more_nodes, no_nodes, node, node_count, node_items, node_tree, nodes_trees}
 use Rattle.asn1_outline.specs.Values.{IsEntryOf}
 use Rattle.asn1_outline.specs.declared.entry.Entry.{Entry}
@@ -25,7 +25,7 @@ module _ (x : List ℕ) (b : Tree ℕ) (r : Entry) (y : List ℕ) (c : ASN1Class
   same_fields : (octets : List ℕ) (at : EncodingAt x r.offset octets) (own : HasHeader octets r)
       → SameEncoding octets y r.class c r.constructed k own.tag n own.contents v r.header h [] []
   same_fields octets at own =
-      let same = encoding_at_alone x (tree_offset b) octets y (subst (λ o. EncodingAt x o octets) e.offset_is at)
+      let same = EncodingAt-unique x (tree_offset b) octets y (subst (λ o. EncodingAt x o octets) e.offset_is at)
       (encoding_of x b y s) in
       encoding_alone octets y r.class c r.constructed k own.tag n own.contents v r.header h [] [] own.encoding f
       (ap (λ z. z ++ []) same)
@@ -87,7 +87,7 @@ module _ (x : List ℕ) (r : Entry) where
         | inr rest ↦ elim holds [
           | inl (bit, q, t, f) ↦
               let (b, is) = the_node_in ns (sym count ∙ one) in
-              rest.1 (bit, encodes_block q v b (only_tree q v b (subst (EncodesAll q v) is f)))
+              rest.1 (bit, IsBlock-encodes q v b (Encodes-single q v b (subst (EncodesAll q v) is f)))
           | inr (none, o) ↦ omega (arith, one, count, no_nodes_in ns none)
         ]
       ])

@@ -17,11 +17,11 @@ use Rattle.asn1_blocks.specs.Grammar.{Encodes, EncodesAll, IsDocument}
 use Rattle.asn1_blocks.specs.HeadersBegun.{IsReadInside}
 use Rattle.asn1_blocks.specs.Places.{HeaderFound}
 use Rattle.asn1_blocks.specs.Inner.LeafBlocks.{IsSingleAt}
-use Rattle.asn1_blocks.specs.Inner.OpenFrames.{IsAttemptAt, IsEnded, as_it_came, attempted}
+use Rattle.asn1_blocks.specs.Inner.OpenFrames.{IsAttemptAt, IsEnded, as_it_came, attempt_tree}
 use Rattle.asn1_blocks.specs.Inner.ReaderSteps.{EndsAs, HasEndedIn, HasKept, HasLeaf, HasOpened, in_frame, opened_at}
 use Rattle.asn1_blocks.specs.Tree.{Tree, Trees, explicit, group, leaf, no_trees, trees_of, unknown}
 use Rattle.asn1_blocks.specs.View.{tree_offset}
-use Rattle.asn1_blocks.proofs.Slices.{encodes_offset}
+use Rattle.asn1_blocks.proofs.Slices.{tree_offset-encodes}
 use Rattle.asn1_outline.specs.Entries.{AreEntries, AreEntriesOf, no_entry}
 use Rattle.asn1_outline.specs.Listing.{AllHold, AreOfTrees, IsBegun, all_hold, builder_holds, sealed, with_items}
 use Rattle.asn1_outline.specs.Structure.{Holds, IsNode, IsTaggedAt, Node, no_nodes, node, node_depths, node_in_order, node_tree, nodes_depths, nodes_in_order, nodes_of, nodes_trees}
@@ -134,7 +134,7 @@ pub leaf_built :
     IsBegun x offset (length a.entries.items) depth r → b.entries.items ≡ a.entries.items ++ r ∷ [] →
     HasLeaf builder_holds x offset h.end depth a i b (one_more i)
 leaf_built x h offset limit depth a b i r found shut (t, none, encoded) begun is =
-    let o = encodes_offset offset (slice_range x offset h.end) t encoded in
+    let o = tree_offset-encodes offset (slice_range x offset h.end) t encoded in
     let holds = none_held x offset h.end h t _ _ none encoded found.encoding shut in
     record {
       tree = t;
@@ -178,7 +178,7 @@ tagged x a start end lt le at = record {
 attempt_holds :
     (x : List ℕ) (a : other.Attempt) (s e : ℕ) (ts : List (Tree ℕ)) (bs : Trees ℕ) → trees_of ts ≡ bs → a.offset < s →
     s ≤ e → IsAttemptAt x a s e →
-    EncodesAll s (slice_range x s e) (trees_of ts) → Holds x (attempted x a s e ts) bs
+    EncodesAll s (slice_range x s e) (trees_of ts) → Holds x (attempt_tree x a s e ts) bs
 attempt_holds x a s e [] bs same lt le at w =
     inl (refl, s, tagged x a s e lt le at, subst (EncodesAll s (slice_range x s e)) same w)
 attempt_holds x a s e (t ∷ []) bs same lt le at w = sym same
@@ -186,7 +186,7 @@ attempt_holds x a s e (t ∷ u ∷ ts) bs same lt le at w =
     inl (refl, s, tagged x a s e lt le at, subst (EncodesAll s (slice_range x s e)) same w)
 
 attempted_offset : (x : List ℕ) (a : other.Attempt) (s e : ℕ) (ts : List (Tree ℕ)) →
-    tree_offset (attempted x a s e ts) ≡ a.offset
+    tree_offset (attempt_tree x a s e ts) ≡ a.offset
 attempted_offset x a s e [] = refl
 attempted_offset x a s e (t ∷ []) = refl
 attempted_offset x a s e (t ∷ u ∷ ts) = refl

@@ -9,9 +9,9 @@ use Rattle.asn1_leaves.proofs.SliceSplit.{drop-slice_range}
 use Rattle.asn1_blocks.specs.HeadersBegun.{IsReadInside}
 use Rattle.asn1_blocks.specs.Places.{HeaderFound}
 use Rattle.asn1_blocks.specs.declared.parsed.PlacedHeader.{PlacedHeader}
-use Rattle.asn1_blocks.proofs.Faults.{header_no_encoding}
-use Rattle.asn1_blocks.proofs.FaultsAlone.{header_fault_alone}
-use Rattle.asn1_blocks.proofs.ReadSteps.{slice_join, slice_length}
+use Rattle.asn1_blocks.proofs.Faults.{HeaderFault-not_encoding}
+use Rattle.asn1_blocks.proofs.FaultsAlone.{HeaderFault-unique}
+use Rattle.asn1_blocks.proofs.ReadSteps.{slice_range-append, length-slice_range}
 use Rattle.asn1_outline.specs.Shapes.{AreShapes, FirstHeaderFaultAt, HasItems, HasShapes, HeadersFaultAt, Shapes, as_it_came, in_header, in_item, in_later, more_shapes, no_more, not_read, one_more, read_inside}
 
 -- at a place there is one header
@@ -29,8 +29,10 @@ header_alone x p e h g within f f' =
     let constructed : h.constructed ≡ g.constructed = s.constructed in
     let tag : h.tag ≡ g.tag = s.tag in
     let start : h.start ≡ g.start = omega (arith, s.header, f.starts_after, f'.starts_after) in
-    let l = slice_length x p h.end (omega (arith, f.starts_after, f.order)) (omega (arith, f.ends_within, within)) in
-    let m = slice_length x p g.end (omega (arith, f'.starts_after, f'.order)) (omega (arith, f'.ends_within, within)) in
+    let l =
+    length-slice_range x p h.end (omega (arith, f.starts_after, f.order)) (omega (arith, f.ends_within, within)) in
+    let m =
+    length-slice_range x p g.end (omega (arith, f'.starts_after, f'.order)) (omega (arith, f'.ends_within, within)) in
     let end : h.end ≡ g.end =
     omega (arith, l, m, ap length s.octets, f.starts_after, f.order, f'.starts_after, f'.order) in
     let same : h ≡ g =
@@ -47,10 +49,11 @@ pub header_no_fault : (x : List ℕ) (s p e : ℕ) (h : PlacedHeader) (fault : D
     → HeaderFault (p - s) (slice_range x p e) fault → ⊥
 header_no_fault x s p e h fault small within f w =
     let before : p ≤ h.end = omega (arith, f.starts_after, f.order) in
-    let l = slice_length x p e (omega (arith, before, f.ends_within)) within in
-    header_no_encoding (p - s) (slice_range x p e) (slice_range x p h.end) (slice_range x h.end e) fault h.class
+    let l = length-slice_range x p e (omega (arith, before, f.ends_within)) within in
+    HeaderFault-not_encoding (p - s) (slice_range x p e) (slice_range x p h.end) (slice_range x h.end e) fault h.class
     h.constructed h.tag _ _ w
-    (omega (arith, l, small, within, before, f.ends_within)) (slice_join x p h.end e before f.ends_within) f.encoding
+    (omega (arith, l, small, within, before, f.ends_within))
+    (slice_range-append x p h.end e before f.ends_within) f.encoding
 
 module _ (x : List ℕ) (small : length x < 2 ^ 64) where
   mutual
@@ -117,7 +120,7 @@ module _ (x : List ℕ) (small : length x < 2 ^ 64) where
       HeadersFaultAt x s p e b q
       → (a ≡ b) × (o ≡ q)
   fault_alone s p e a b o q within (in_header more w) (in_header more' w') =
-      (header_fault_alone (p - s) (slice_range x p e) a b w w', refl)
+      (HeaderFault-unique (p - s) (slice_range x p e) a b w w', refl)
   fault_alone s p e a b o q within (in_header more w) (in_item f u i t) =
       absurd (header_no_fault x s p e _ a small within f w)
   fault_alone s p e a b o q within (in_header more w) (in_later f i t) =

@@ -9,9 +9,9 @@ use Rattle.asn1_blocks.specs.Grammar.{Encodes, EncodesAll}
 use Rattle.asn1_blocks.specs.Tree.{Tree, Trees, explicit, group, leaf, no_trees, unknown}
 use Rattle.asn1_blocks.specs.View.{tree_offset}
 use Rattle.asn1_blocks.specs.Places.{EncodingAt}
-use Rattle.asn1_blocks.proofs.Faults.{block_encoding}
-use Rattle.asn1_blocks.proofs.OneReading.{encodes_block, only}
-use Rattle.asn1_blocks.proofs.Slices.{encodes_offset}
+use Rattle.asn1_blocks.proofs.Faults.{IsEncoding-block}
+use Rattle.asn1_blocks.proofs.OneReading.{IsBlock-encodes, EncodesAll-single}
+use Rattle.asn1_blocks.proofs.Slices.{tree_offset-encodes}
 use Rattle.asn1_outline.specs.Structure.{AreNodes, Holds, IsEncodedIn, IsNode, IsStructure, Node, Nodes, more_nodes, no_node, no_nodes, node, node_at, node_in_order, node_tree, nodes_in_order, nodes_trees}
 
 some_length : (s : List ℕ) (n : ℕ) → IsLength s n → 0 < length s
@@ -75,7 +75,7 @@ held_in x o (explicit c p n b) y rest bs s e h = record {
   contents = e.2;
   rest = rest;
   at_offset = contents_stand x y rest c _ n e.2 o e.3 s e.4;
-  encoded = subst (λ z. EncodesAll (o + e.3) e.2 z) (sym h) (only (o + e.3) e.2 b e.5);
+  encoded = subst (λ z. EncodesAll (o + e.3) e.2 z) (sym h) (EncodesAll-single (o + e.3) e.2 b e.5);
   shorter = two_more y c _ n e.2 e.3 e.4;
 }
 held_in x o (unknown c k p n v) y rest bs s e (inl (i, q, t, f)) = record {
@@ -123,7 +123,7 @@ mutual
   nodes_stand x (more_nodes n ns) place v rest s e are k h =
       let front = node_in_order n in
       let behind = nodes_in_order ns in
-      let at = encodes_offset place e.first (node_tree n) e.item in
+      let at = tree_offset-encodes place e.first (node_tree n) e.item in
       let whole = first_stands x place v e.first e.rest rest s e.whole in
       elim (cases_lt k (length front)) [
         | inl lt ↦
@@ -155,5 +155,5 @@ encoding_of x b octets s =
       rest = s.rest;
       at_offset = s.at_offset;
       encoding =
-          block_encoding octets (encodes_block (tree_offset b) octets b s.encoded);
+          IsEncoding-block octets (IsBlock-encodes (tree_offset b) octets b s.encoded);
     }

@@ -3,7 +3,7 @@ use Rattle.std.proofs.Common.{◌≡◌, ℕ, suc, ◌+◌, ◌++◌, true, List
 use Rattle.asn1_headers.proofs.Prefixes.{encoding_alone}
 use Rattle.asn1_blocks.specs.Grammar.{EncodesAll}
 use Rattle.asn1_blocks.specs.Tree.{Tree, Trees, explicit, group, leaf, more_trees, no_trees, trees_of, unknown}
-use Rattle.asn1_blocks.proofs.OneReading.{all_alone, encodes_blocks}
+use Rattle.asn1_blocks.proofs.OneReading.{EncodesAll-unique, AreBlocks-encodes}
 use Rattle.asn1_outline.specs.Structure.{AreNodes, Holds, IsNode, IsStructure, Node, Nodes, more_nodes, no_nodes, node, node_count, node_tree, nodes_of, nodes_trees}
 
 -- the trees of nodes in a list
@@ -30,11 +30,11 @@ holds_alone x (unknown c k o n v) bs cs (inl (i, p, t, e)) (inl (j, q, u, f)) =
     let same = encoding_alone t.octets u.octets c c true true n n v v t.header u.header t.rest u.rest t.encoding
     u.encoding (sym t.at_offset ∙ u.at_offset) in
     let place : q ≡ p = u.start_is ∙ ap (λ z. o + z) (sym same.header) ∙ sym t.start_is in
-    all_alone p v bs cs e (subst (λ z. EncodesAll z v cs) place f)
+    EncodesAll-unique p v bs cs e (subst (λ z. EncodesAll z v cs) place f)
 holds_alone x (unknown c k o n v) bs cs (inl (i, p, t, e)) (inr (none, other)) =
-    absurd (other (t.other, i, encodes_blocks p v bs e))
+    absurd (other (t.other, i, AreBlocks-encodes p v bs e))
 holds_alone x (unknown c k o n v) bs cs (inr (none, other)) (inl (i, p, t, e)) =
-    absurd (other (t.other, i, encodes_blocks p v cs e))
+    absurd (other (t.other, i, AreBlocks-encodes p v cs e))
 holds_alone x (unknown c k o n v) bs cs (inr (none, other)) (inr (same, more)) = none ∙ sym same
 
 mutual
@@ -64,4 +64,4 @@ mutual
 -- a document has one structure
 pub structure_alone : (x : List ℕ) (ns ms : Nodes) → IsStructure x ns → IsStructure x ms → ns ≡ ms
 structure_alone x ns ms (d, p) (e, q) =
-    nodes_alone x ns ms (all_alone 0 x (nodes_trees ns) (nodes_trees ms) d.blocks e.blocks) p q
+    nodes_alone x ns ms (EncodesAll-unique 0 x (nodes_trees ns) (nodes_trees ms) d.blocks e.blocks) p q

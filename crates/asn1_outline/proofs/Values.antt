@@ -14,7 +14,7 @@ use Rattle.asn1_leaves.specs.StringKind.{StringKind}
 use Rattle.asn1_blocks.specs.BlockParts.{leaf_integer, tree_bits, tree_boolean, tree_integer, tree_moment, tree_octets, tree_oid, tree_tag, tree_text}
 use Rattle.asn1_blocks.specs.Contents.{LeafContents, LeafFault, group_tag, is_known_tag, is_leaf_tag, leaf_tag, of_text, string_tag}
 use Rattle.asn1_blocks.specs.Inner.LeafBlocks.{IsLeafOf}
-use Rattle.asn1_blocks.proofs.Leaves.{group_known, leaf_alone, leaf_known, leaf_no_fault, leaf_tag_is, leaf_tag_known, leaf_tag_no_group, string_tag_small, unknown_known}
+use Rattle.asn1_blocks.proofs.Leaves.{is_known_tag-group_tag, LeafContents-unique, is_known_tag-leaf_tag, LeafContents-no_fault, is_leaf_tag-leaf_tag, is_known_tag-is_leaf_tag, is_leaf_tag-not_group_tag, string_tag-lt, is_known_tag-unknown}
 use Rattle.asn1_headers.specs.Fault.{DecodeFault}
 use Rattle.asn1_leaves.specs.Contents.Text.{TextContents, TextFault, text_form}
 use Rattle.asn1_blocks.specs.declared.block.GroupKind.TheVariants.{Sequence, Set}
@@ -23,7 +23,7 @@ use Rattle.asn1_blocks.specs.Places.{EncodingAt}
 use Rattle.asn1_blocks.specs.Tree.{Leaf, Tree, bit_string, boolean, explicit, generalized_time, group, integer, leaf, object_identifier, octet_string, text, unknown, utc_time}
 use Rattle.asn1_blocks.specs.UnknownValues.{is_ascii_character, is_ascii_tag, is_shortest_integer, tree_ascii_text, tree_enumerated}
 use Rattle.asn1_blocks.specs.View.{tree_offset}
-use Rattle.asn1_blocks.proofs.Slices.{encoding_at_alone}
+use Rattle.asn1_blocks.proofs.Slices.{EncodingAt-unique}
 use Rattle.asn1_outline.specs.Entries.{AreEntries, HasTag, no_entry}
 use Rattle.asn1_outline.specs.Structure.{IsStructure, Nodes, nodes_depths, nodes_in_order, tree_at}
 use Rattle.asn1_outline.specs.Values.{EachIsOfItsTree, IsEntryOf, IsNoLeafWith, IsNoPrimitive, IsPrimitive}
@@ -52,7 +52,7 @@ contents_of x b r e =
     let own = e.encoded in
     let there = encoding_of x b e.octets own in
     let same : y ≡ e.octets =
-    encoding_at_alone x (tree_offset b) y e.octets (subst (λ n. EncodingAt x n y) e.offset_is at) there in
+    EncodingAt-unique x (tree_offset b) y e.octets (subst (λ n. EncodingAt x n y) e.offset_is at) there in
     let stands : drop r.offset x ≡ y ++ at.rest = at.at_offset in
     let size : length y ≡ r.header + r.contents = omega (
       arith,
@@ -91,7 +91,8 @@ small_tag n field m (low, high) e s = elim (cases_lt n (2 ^ 64)) [
 
 integer_leaf : (l : Leaf) (v w : List ℕ) → leaf_tag l ≡ 2 → v ≡ w → LeafContents l v →
     leaf_integer l ≡ Some (signed_number w)
-integer_leaf l v w t e m = ap leaf_integer (leaf_alone l (integer (signed_number w)) v t m (ap signed_number (sym e)))
+integer_leaf l v w t e m =
+    ap leaf_integer (LeafContents-unique l (integer (signed_number w)) v t m (ap signed_number (sym e)))
 
 -- the tree of an INTEGER's contents octets
 integer_tree : (o : ℕ) (y : List ℕ) (b : Tree ℕ) (k : Bool) (w : List ℕ) (h : ℕ) → Encodes o y b →
@@ -158,14 +159,15 @@ leaf_encoded o y (leaf p l) k n w h t s e =
     (s.0, sym z.tag, subst (LeafContents l) z.contents s.5)
 leaf_encoded o y (group p g bs) k n w h t s e =
     let z = one y Universal Universal s.1 k (group_tag g) n s.2 w s.3 h s.4 e in
-    leaf_tag_no_group n g t (sym z.tag)
+    is_leaf_tag-not_group_tag n g t (sym z.tag)
 leaf_encoded o y (explicit c p m b) k n w h t s e =
     let z = one y c Universal true k m n s.2 w s.3 h s.4 e in
     s.1 z.class
 leaf_encoded o y (unknown c j p m v) k n w h t s e =
     let z = one y c Universal j k m n v w s.1 h s.2 e in
     elim s.3 [
-      | inl known ↦ not_known (sym (leaf_tag_known n t) ∙ ap is_known_tag (sym z.tag) ∙ unknown_known m known.1)
+      | inl known ↦
+          not_known (sym (is_known_tag-is_leaf_tag n t) ∙ ap is_known_tag (sym z.tag) ∙ is_known_tag-unknown m known.1)
       | inr other ↦ other.0 z.class
     ]
   where
@@ -186,7 +188,7 @@ is_leaf x b r n e class tag small t =
 -- the tree is the leaf that the contents octets mean
 pub leaf_is : (o n : ℕ) (v : List ℕ) (b : Tree ℕ) (l : Leaf) → IsLeafOf o n v b → n ≡ leaf_tag l → LeafContents l v →
     (p : ℕ) × (b ≡ leaf p l)
-leaf_is o n v (leaf p m) l s t e = (p, ap (leaf p) (leaf_alone m l v (sym s.1 ∙ t) s.2 e))
+leaf_is o n v (leaf p m) l s t e = (p, ap (leaf p) (LeafContents-unique m l v (sym s.1 ∙ t) s.2 e))
 leaf_is o n v (group p g bs) l s t e = absurd s
 leaf_is o n v (explicit c p m b) l s t e = absurd s
 leaf_is o n v (unknown c k p m w) l s t e = absurd s
@@ -194,13 +196,13 @@ leaf_is o n v (unknown c k p m w) l s t e = absurd s
 -- contents octets of a leaf that was read have no fault
 pub leaf_faultless : (o n : ℕ) (v : List ℕ) (b : Tree ℕ) (fault : DecodeFault) → IsLeafOf o n v b →
     LeafFault n v fault → ⊥
-leaf_faultless o n v (leaf p m) fault s f = leaf_no_fault n v fault m s.1 s.2 f
+leaf_faultless o n v (leaf p m) fault s f = LeafContents-no_fault n v fault m s.1 s.2 f
 leaf_faultless o n v (group p g bs) fault s f = s
 leaf_faultless o n v (explicit c p m b) fault s f = s
 leaf_faultless o n v (unknown c k p m w) fault s f = s
 
 string_leaf : (kind : StringKind) → (string_tag kind < 64) × (is_leaf_tag (string_tag kind) ≡ true)
-string_leaf kind = (string_tag_small kind, leaf_tag_is (text kind []))
+string_leaf kind = (string_tag-lt kind, is_leaf_tag-leaf_tag (text kind []))
 
 pub is_text : (x : List ℕ) (b : Tree ℕ) (r : Entry) (kind : StringKind) (cs : List ℕ) → IsEntryOf x b r →
     r.class ≡ Universal → r.tag ≡ string_tag kind
@@ -316,10 +318,10 @@ primitive_encoded : (o : ℕ) (y : List ℕ) (b : Tree ℕ) (n : ℕ) (w : List 
     → Encoding y Universal false n w h → IsPrimitive n w b
 primitive_encoded o y (leaf p l) n w h t s e =
     let z = one y Universal Universal s.1 false (leaf_tag l) n s.2 w s.3 h s.4 e in
-    absurd (false≢true (sym t ∙ ap is_known_tag (sym z.tag) ∙ leaf_known l))
+    absurd (false≢true (sym t ∙ ap is_known_tag (sym z.tag) ∙ is_known_tag-leaf_tag l))
 primitive_encoded o y (group p g bs) n w h t s e =
     let z = one y Universal Universal s.1 false (group_tag g) n s.2 w s.3 h s.4 e in
-    absurd (false≢true (sym t ∙ ap is_known_tag (sym z.tag) ∙ group_known g))
+    absurd (false≢true (sym t ∙ ap is_known_tag (sym z.tag) ∙ is_known_tag-group_tag g))
 primitive_encoded o y (explicit c p m b) n w h t s e =
     let z = one y c Universal true false m n s.2 w s.3 h s.4 e in
     absurd (s.1 z.class)

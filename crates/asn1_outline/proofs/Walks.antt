@@ -6,8 +6,8 @@ use Rattle.std.proofs.lemmas.List.{length-reverse, reverse-append}
 use Rattle.asn1_headers.specs.Fault.{DecodeFault}
 use Rattle.asn1_headers.specs.declared.header.ASN1Class.TheVariants.{Universal}
 use Rattle.asn1_blocks.specs.HeadersBegun.{IsReadInside}
-use Rattle.asn1_blocks.specs.Inner.OpenFrames.{IsKindOf, is_tried}
-use Rattle.asn1_blocks.specs.Inner.ReaderSteps.{IsEntered, in_frame, left, opened_at}
+use Rattle.asn1_blocks.specs.Inner.OpenFrames.{IsKindOf, is_attempt}
+use Rattle.asn1_blocks.specs.Inner.ReaderSteps.{IsEntered, in_frame, work_left, opened_at}
 use Rattle.asn1_blocks.specs.Places.{HeaderFound}
 use Rattle.asn1_blocks.specs.declared.parsed.PlacedHeader.{PlacedHeader}
 use Rattle.asn1_blocks.specs.declared.reading.FrameKind.{FrameKind}
@@ -30,12 +30,13 @@ abbrev pub Walk : Type 0
 Walk = Reader EntryBuilder EntryItems
 
 -- what a frame is of says whether it is an attempt
-attempt_class : (kind : FrameKind) (h : PlacedHeader) → IsKindOf kind h → is_tried kind ≡ true → h.class ≢ Universal
+attempt_class : (kind : FrameKind) (h : PlacedHeader) → IsKindOf kind h → is_attempt kind ≡ true → h.class ≢ Universal
 attempt_class Whole h is tries = absurd is
 attempt_class (Group g) h is tries = absurd (false≢true tries)
 attempt_class Attempt h is tries = is.0
 
-group_class : (kind : FrameKind) (h : PlacedHeader) → IsKindOf kind h → (is_tried kind ≡ true → ⊥) → h.class ≡ Universal
+group_class : (kind : FrameKind) (h : PlacedHeader) → IsKindOf kind h → (is_attempt kind ≡ true → ⊥) →
+    h.class ≡ Universal
 group_class Whole h is other = absurd is
 group_class (Group g) h is other = is.0
 group_class Attempt h is other = absurd (other refl)
@@ -215,7 +216,7 @@ entry_within x f g gs p rs w =
 pub kept : (x : List ℕ) (f g : Framed) (gs : List Framed) (p : ℕ) (rs front more : List Entry) (fault : DecodeFault)
     (o : ℕ) → rs ≡ front ++ more
     → AreOpen x f (g ∷ gs) p front → HeadersFaultAt x f.extent.start p f.extent.end fault o →
-    is_tried f.extent.kind ≡ true
+    is_attempt f.extent.kind ≡ true
     → AreOpen x (counted g) gs f.extent.end (take (suc f.items.entry) rs)
 kept x f g gs p rs front more fault o whole w q tries =
     let h = w.header in
@@ -251,7 +252,7 @@ pub record IsOut (x : List ℕ) (g : Framed) (gs : List Framed) (rs : List Entry
 pub out : (x : List ℕ) (f g : Framed) (gs : List Framed) (p : ℕ) (rs front more : List Entry) (fault : DecodeFault)
     (o : ℕ) → rs ≡ front ++ more
     → AreOpen x f (g ∷ gs) p front → HeadersFaultAt x f.extent.start p f.extent.end fault o →
-    (is_tried f.extent.kind ≡ true → ⊥) → IsOut x g gs rs fault o
+    (is_attempt f.extent.kind ≡ true → ⊥) → IsOut x g gs rs fault o
 out x f g gs p rs front more fault o whole w q group =
     let h = w.header in
     let head = shape_entry w.offset h 0 (suc f.items.entry) (length gs) in
@@ -325,7 +326,7 @@ module _ (x : List ℕ) (w : Walk) where
         fault =
             w.fault;
       })
-      (left (length x) w.index w.outer.items)
+      (work_left (length x) w.index w.outer.items)
   leaf_taken h b i walking found inside pushed more =
       let rs = w.builder.entries.items in
       let gs = reverse w.outer.items in
@@ -350,7 +351,7 @@ module _ (x : List ℕ) (w : Walk) where
       b.entries.items ≡ w.builder.entries.items
       ++ shape_entry w.index h 0 (suc (length w.builder.entries.items)) (length w.outer.items) ∷ [] →
       IsEntered (record w { builder = b }) (in_frame (opened_at w.index kind h) (record { entry = n; count = 0 })) r →
-      GoesOn x r (left (length x) w.index w.outer.items)
+      GoesOn x r (work_left (length x) w.index w.outer.items)
   frame_entered h b n kind r walking found inside is_kind at pushed e =
       let rs = w.builder.entries.items in
       let gs = reverse w.outer.items in
@@ -384,7 +385,7 @@ module _ (x : List ℕ) (w : Walk) where
 
     -- an attempt stays as it came
     pub faulty_kept :
-        (b : EntryBuilder) (i : EntryItems) → is_tried w.inner.extent.kind ≡ true →
+        (b : EntryBuilder) (i : EntryItems) → is_attempt w.inner.extent.kind ≡ true →
         b.entries.items ≡ take (suc w.inner.items.entry) w.builder.entries.items → i ≡ one_item_more g.items →
         GoesOn x (record {
           inner = record g { items = i };
@@ -407,7 +408,7 @@ module _ (x : List ℕ) (w : Walk) where
         }
 
     -- a group hands the fault on
-    pub faulty_out : (is_tried w.inner.extent.kind ≡ true → ⊥)
+    pub faulty_out : (is_attempt w.inner.extent.kind ≡ true → ⊥)
         → IsFaulty x (record { inner = g; outer = outer; index = w.index; builder = w.builder; fault = w.fault }) fault
         o most
     faulty_out group =

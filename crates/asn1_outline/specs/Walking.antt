@@ -5,7 +5,7 @@ use Rattle.asn1_headers.specs.Fault.{DecodeFault, OutOfMemoryOr}
 use Rattle.asn1_headers.specs.declared.error.ASN1DecodeErr.TheVariants.{OutOfMemory}
 use Rattle.asn1_blocks.specs.HeadersBegun.{IsReadInside}
 use Rattle.asn1_blocks.specs.Inner.OpenFrames.{IsKindOf}
-use Rattle.asn1_blocks.specs.Inner.ReaderSteps.{left}
+use Rattle.asn1_blocks.specs.Inner.ReaderSteps.{work_left}
 use Rattle.asn1_blocks.specs.Places.{HeaderFound}
 use Rattle.asn1_blocks.specs.declared.parsed.PlacedHeader.{PlacedHeader}
 use Rattle.asn1_blocks.specs.declared.reading.OpenFrame.{OpenFrame}
@@ -68,7 +68,7 @@ IsReading document w = AreOpen document w.inner (reverse w.outer.items) w.index 
 -- reading goes on, with less left to do
 pub record GoesOn (document : List ℕ) (w : Reader EntryBuilder EntryItems) (most : ℕ) : Type 0 where
   pub reading : IsReading document w
-  pub nearer : left (length document) w.index w.outer.items < most
+  pub nearer : work_left (length document) w.index w.outer.items < most
 
 -- the octets have this fault, or memory ran out
 abbrev pub HasStopped : List ℕ → Reader EntryBuilder EntryItems → Type 0
@@ -101,4 +101,4 @@ pub record IsFaulty (document : List ℕ) (w : Reader EntryBuilder EntryItems) (
   pub whole : w.builder.entries.items ≡ front ++ more
   pub opened : AreOpen document w.inner (reverse w.outer.items) reached front
   pub stops : HeadersFaultAt document w.inner.extent.start reached w.inner.extent.end fault offset
-  pub nearer : left (length document) w.inner.extent.end w.outer.items ≤ most
+  pub nearer : work_left (length document) w.inner.extent.end w.outer.items ≤ most

@@ -13,7 +13,7 @@ use crate::outline::Outline;
 use asn1_blocks::block::{ASN1Block, GroupKind};
 use asn1_blocks::contents::leaf_block;
 use asn1_blocks::held::HeldBlocks;
-use asn1_blocks::owed::{explicit_block, group_block, kept_block};
+use asn1_blocks::postponed::{explicit_block, group_block, unknown_block};
 use asn1_blocks::parsed::{PlacedHeader, header_within};
 use asn1_blocks::reading::Attempt;
 use asn1_headers::error::ASN1DecodeErr;
@@ -138,5 +138,5 @@ fn tagged_block(
     if inside.len() == 1 {
         return explicit_block(alloc, attempt, inside.into_only());
     }
-    kept_block(alloc, attempt, contents)
+    unknown_block(alloc, attempt, contents)
 }

@@ -1,7 +1,7 @@
 // Entries by headers alone: a loop over open frames as that of `read_into`, for another grammar.
 ghost use Rattle.std.specs.Prelude.{◌≡◌, ◌∷◌, IfErr, IfOk, OnOk, length, reverse};
 ghost use Rattle.asn1_headers.specs.Fault.{OutOfMemoryOr, fault_of};
-ghost use Rattle.asn1_blocks.specs.Inner.ReaderSteps.{left};
+ghost use Rattle.asn1_blocks.specs.Inner.ReaderSteps.{work_left};
 ghost use Rattle.asn1_blocks.specs.Places.{HeaderFound};
 ghost use Rattle.asn1_outline.specs.Shapes.{AreEntriesOfShapes, FirstHeaderFaultAt};
 ghost use Rattle.asn1_outline.specs.Walking.{AreOpen, GoesOn, HasTurned, IsFaulty, IsReading, Leads};
@@ -68,7 +68,7 @@ pub fn list_headers(alloc: Global, octets: &[u8]) -> Result<Vec<Entry>, LocatedE
 fn take_turn(alloc: Global, octets: &[u8], reader: &mut Reader<EntryBuilder, EntryItems>) -> Turn
     requires reading { IsReading octets.now reader.old }
     ensures { HasTurned octets.now result reader.new
-        (left (length octets.now) reader.old.index reader.old.outer.items) }
+        (work_left (length octets.now) reader.old.index reader.old.outer.items) }
 {
     if reader.index == reader.inner.extent.end {
         return match reader.outer.pop() {
@@ -99,7 +99,7 @@ fn take(
     requires reading { IsReading octets.now reader.old }
     requires found { HeaderFound octets.now reader.old.index reader.old.inner.extent.end header }
     ensures { OnOk result (GoesOn octets.now reader.new
-        (left (length octets.now) reader.old.index reader.old.outer.items)) }
+        (work_left (length octets.now) reader.old.index reader.old.outer.items)) }
 {
     let offset = reader.index;
     let entry = reader.builder.entries.len();
@@ -131,7 +131,7 @@ fn close(
     requires opened { AreOpen _octets.now reader.old.inner (parent ∷ reverse reader.old.outer.items)
         reader.old.index reader.old.builder.entries.items }
     ensures { OnOk result (GoesOn _octets.now reader.new
-        (left (length _octets.now) reader.old.index (parent ∷ reader.old.outer.items))) }
+        (work_left (length _octets.now) reader.old.index (parent ∷ reader.old.outer.items))) }
 {
     let items = reader.inner.items;
     reader.builder.seal(items);
@@ -144,9 +144,9 @@ fn close(
 #[inline(never)]
 fn fail(octets: &[u8], reader: &mut Reader<EntryBuilder, EntryItems>, error: ASN1DecodeErr) -> Turn
     requires failed { OutOfMemoryOr (λ fault. IsFaulty octets.now reader.old fault reader.old.index
-        (left (length octets.now) reader.old.index reader.old.outer.items)) error }
+        (work_left (length octets.now) reader.old.index reader.old.outer.items)) error }
     ensures { HasTurned octets.now result reader.new
-        (left (length octets.now) reader.old.index reader.old.outer.items) }
+        (work_left (length octets.now) reader.old.index reader.old.outer.items) }
 {
     if is_out_of_memory(&error) {
         reader.fault = error;
@@ -163,9 +163,9 @@ fn refuse(
     error: ASN1DecodeErr,
 ) -> Turn
     requires faulty { IsFaulty _octets.now reader.old (fault_of error) reader.old.index
-        (left (length _octets.now) reader.old.index reader.old.outer.items) }
+        (work_left (length _octets.now) reader.old.index reader.old.outer.items) }
     ensures { HasTurned _octets.now result reader.new
-        (left (length _octets.now) reader.old.index reader.old.outer.items) }
+        (work_left (length _octets.now) reader.old.index reader.old.outer.items) }
 {
     while let Some(parent) = reader.outer.pop() {
         let attempt = is_attempt(&reader.inner.extent.kind);

@@ -14,9 +14,9 @@ use Rattle.asn1_headers.specs.declared.header.ASN1Class.TheVariants.{Universal}
 use Rattle.asn1_blocks.specs.Contents.{LeafFault}
 use Rattle.asn1_blocks.specs.Grammar.{Encodes}
 use Rattle.asn1_blocks.specs.Tree.{Tree}
-use Rattle.asn1_blocks.proofs.Faults.{UniversalContents, is_group, is_leaf, is_unknown, universal_contents}
-use Rattle.asn1_blocks.proofs.Leaves.{leaf_fault_tag, leaf_no_fault, leaf_tag_known, leaf_tag_no_group, unknown_known}
-use Rattle.asn1_blocks.proofs.OneReading.{encodes_block}
+use Rattle.asn1_blocks.proofs.Faults.{UniversalContents, is_group, is_leaf, is_unknown, UniversalContents-block}
+use Rattle.asn1_blocks.proofs.Leaves.{LeafFault-is_leaf_tag, LeafContents-no_fault, is_known_tag-is_leaf_tag, is_leaf_tag-not_group_tag, is_known_tag-unknown}
+use Rattle.asn1_blocks.proofs.OneReading.{IsBlock-encodes}
 use Rattle.hex.specs.Hex.{encode_lower}
 use Rattle.serde_json.specs.Data.{Data, Items, null, string}
 use Rattle.serde_json.specs.View.{view}
@@ -49,9 +49,11 @@ primitive_of class false tag e = refl
 no_leaf_fault : (tag : ℕ) (contents : List ℕ) (e : DecodeFault) → LeafFault tag contents e →
     UniversalContents tag contents → ⊥
 no_leaf_fault tag contents e wrong (is_unknown u) =
-    false≢true (sym (unknown_known tag u) ∙ leaf_tag_known tag (leaf_fault_tag tag contents e wrong))
-no_leaf_fault tag contents e wrong (is_leaf l t q) = leaf_no_fault tag contents e l t q wrong
-no_leaf_fault tag contents e wrong (is_group g t bs) = leaf_tag_no_group tag g (leaf_fault_tag tag contents e wrong) t
+    false≢true
+    (sym (is_known_tag-unknown tag u) ∙ is_known_tag-is_leaf_tag tag (LeafFault-is_leaf_tag tag contents e wrong))
+no_leaf_fault tag contents e wrong (is_leaf l t q) = LeafContents-no_fault tag contents e l t q wrong
+no_leaf_fault tag contents e wrong (is_group g t bs) =
+    is_leaf_tag-not_group_tag tag g (LeafFault-is_leaf_tag tag contents e wrong) t
 
 right_no_fault :
     (octets : List ℕ) (class : ASN1Class) (constructed : Bool) (tag : ℕ) (contents : List ℕ) (header : ℕ) (b : Tree ℕ)
@@ -59,8 +61,8 @@ right_no_fault :
     Encodes 0 octets b → LeafFault tag contents e → ⊥
 right_no_fault octets class constructed tag contents header b e u encoding encodes wrong =
     no_leaf_fault tag contents e wrong
-    (universal_contents octets constructed tag contents header
-    (subst (λ z. Encoding octets z constructed tag contents header) u encoding) (encodes_block 0 octets b encodes))
+    (UniversalContents-block octets constructed tag contents header
+    (subst (λ z. Encoding octets z constructed tag contents header) u encoding) (IsBlock-encodes 0 octets b encodes))
 
 -- what the fault tells
 told_named :

@@ -20,9 +20,9 @@ use Rattle.asn1_blocks.specs.Grammar.{Encodes, EncodesAll, IsDocument}
 use Rattle.asn1_blocks.specs.Places.{EncodingAt}
 use Rattle.asn1_blocks.specs.Tree.{Leaf, Trees, explicit, group, leaf, unknown}
 use Rattle.asn1_blocks.specs.View.{tree_offset}
-use Rattle.asn1_blocks.proofs.Leaves.{leaf_no_group}
-use Rattle.asn1_blocks.proofs.OneReading.{all_alone, only}
-use Rattle.asn1_blocks.proofs.Slices.{encodes_offset}
+use Rattle.asn1_blocks.proofs.Leaves.{leaf_tag-not_group_tag}
+use Rattle.asn1_blocks.proofs.OneReading.{EncodesAll-unique, EncodesAll-single}
+use Rattle.asn1_blocks.proofs.Slices.{tree_offset-encodes}
 use Rattle.asn1_outline.specs.Entries.{AreEntriesOf, HasHeaderAt, no_entry}
 use Rattle.asn1_outline.specs.Structure.{AreNodes, IsNode, Node, Nodes, more_nodes, no_node, no_nodes, node, node_in_order, node_tree, nodes_depths, nodes_in_order, nodes_trees}
 use Rattle.asn1_outline.specs.declared.entry.Entry.{Entry}
@@ -102,7 +102,7 @@ mutual
   node_canonical x (node (explicit c o n b) ns) y rest s e is all =
       let is_canonical = here x y rest o c true n e.2 e.3 s e.4 all.0 in
       let stands = contents_stand x y rest c true n e.2 o e.3 s e.4 in
-      let held = subst (λ z. EncodesAll (o + e.3) e.2 z) (sym is.0) (only (o + e.3) e.2 b e.5) in
+      let held = subst (λ z. EncodesAll (o + e.3) e.2 z) (sym is.0) (EncodesAll-single (o + e.3) e.2 b e.5) in
       let inside = nodes_canonical x ns (o + e.3) e.2 rest stands held is.1 all.1 in
       renamed c true true n e.2 (canonical b) y is_canonical.shortest refl
       (inside ∙ ap all_canonical is.0 ∙ append-nil (canonical b))
@@ -115,7 +115,7 @@ mutual
   nodes_canonical x no_nodes place v rest s e are all = e
   nodes_canonical x (more_nodes n ns) place v rest s e are all =
       let both = parted x (node_in_order n) (nodes_in_order ns) all in
-      let at = encodes_offset place e.first (node_tree n) e.item in
+      let at = tree_offset-encodes place e.first (node_tree n) e.item in
       let front = first_in x place v e.first e.rest rest s e.whole in
       let first = node_canonical x n e.first (e.rest ++ rest)
       (subst (λ z. drop z x ≡ e.first ++ (e.rest ++ rest)) (sym at) front)
@@ -138,7 +138,7 @@ entries_canonical x bs cs rs are all d e =
     subst (HasCanonicalAt x) own.offset (all k (omega (arith, h, many)))) in
     let own : EncodesAll 0 x (nodes_trees ns) = subst (λ z. EncodesAll 0 x z) (sym are.trees) e.blocks in
     nodes_canonical x ns 0 x [] (sym (append-nil x)) own are.structure each
-    ∙ ap all_canonical (are.trees ∙ all_alone 0 x bs cs e.blocks d.blocks)
+    ∙ ap all_canonical (are.trees ∙ EncodesAll-unique 0 x bs cs e.blocks d.blocks)
 
 -- each entry has the header at its offset
 pub header_of :
@@ -290,8 +290,8 @@ group_at x r s is constructed = canonical_at x r s (record {
   where
     of : (l : Leaf) → r.tag ≡ leaf_tag l → ⊥
     of l t = elim is [
-      | inl sequence ↦ leaf_no_group l Sequence (sym t ∙ sequence)
-      | inr set ↦ leaf_no_group l Set (sym t ∙ set)
+      | inl sequence ↦ leaf_tag-not_group_tag l Sequence (sym t ∙ sequence)
+      | inr set ↦ leaf_tag-not_group_tag l Set (sym t ∙ set)
     ]
 
 pub leaf_at :

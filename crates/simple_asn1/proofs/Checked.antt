@@ -6,9 +6,9 @@ use Rattle.asn1_headers.specs.declared.error.ASN1DecodeErr.TheVariants.{OutOfMem
 use Rattle.asn1_headers.specs.declared.error.LocatedErr.{LocatedErr}
 use Rattle.asn1_blocks.specs.Grammar.{FirstFaultAt, IsDocument}
 use Rattle.asn1_blocks.specs.Tree.{Trees}
-use Rattle.asn1_blocks.proofs.FaultsAlone.{first_place_alone}
-use Rattle.asn1_blocks.proofs.OneReading.{all_alone}
-use Rattle.asn1_blocks.proofs.Readings.{IsPlaced, document_no_fault}
+use Rattle.asn1_blocks.proofs.FaultsAlone.{FirstFaultAt-unique}
+use Rattle.asn1_blocks.proofs.OneReading.{EncodesAll-unique}
+use Rattle.asn1_blocks.proofs.Readings.{IsPlaced, IsDocument-no_fault}
 use Rattle.simple_asn1.specs.Canonical.{all_canonical}
 
 -- the octets are a document
@@ -19,7 +19,8 @@ memory_alone : (octets : List ℕ) (bs : Trees ℕ) (e : LocatedErr) → length 
     IsPlaced octets e
     → e.error ≡ OutOfMemory
 memory_alone octets bs e small d (inl memory) = memory
-memory_alone octets bs e small d (inr p) = absurd (document_no_fault octets bs (fault_of e.error) small d (e.offset, p))
+memory_alone octets bs e small d (inr p) =
+    absurd (IsDocument-no_fault octets bs (fault_of e.error) small d (e.offset, p))
 
 pub accepted_here : {A : Type 0} (octets : List ℕ) (r : Result A LocatedErr) → length octets < 2 ^ 64 →
     IfErr r (IsPlaced octets)
@@ -32,13 +33,13 @@ place_alone : (octets : List ℕ) (e : LocatedErr) (fault : DecodeFault) (o : �
     → FirstFaultAt octets fault o → OutOfMemoryOr (λ f. (f ≡ fault) × (e.offset ≡ o)) e.error
 place_alone octets e fault o small (inl memory) p = inl memory
 place_alone octets e fault o small (inr q) p =
-    inr (first_place_alone octets (fault_of e.error) fault e.offset o small q p)
+    inr (FirstFaultAt-unique octets (fault_of e.error) fault e.offset o small q p)
 
 pub refused_here : {A : Type 0} (octets : List ℕ) (r : Result A LocatedErr) → length octets < 2 ^ 64 →
     IfOk r (λ v. IsSome octets)
     → IfErr r (IsPlaced octets) → (fault : DecodeFault) (o : ℕ) → FirstFaultAt octets fault o
     → IsErrAnd r (λ e. OutOfMemoryOr (λ f. (f ≡ fault) × (e.offset ≡ o)) e.error)
-refused_here octets (Ok v) small (bs, d) err fault o p = absurd (document_no_fault octets bs fault small d (o, p))
+refused_here octets (Ok v) small (bs, d) err fault o p = absurd (IsDocument-no_fault octets bs fault small d (o, p))
 refused_here octets (Err e) small ok err fault o p = place_alone octets e fault o small err p
 
 pub checked_document : {A : Type 0} (octets : List ℕ) (r : Result A LocatedErr) → OnOk r (IsSome octets) →
@@ -61,5 +62,5 @@ pub written_accepted : (octets : List ℕ) (r : Result (Option (Vec ℕ Global))
     IfErr r (IsPlaced octets)
     → (bs : Trees ℕ) → IsDocument octets bs → MatchResult r (IsWritten octets bs) (λ e. e.error ≡ OutOfMemory)
 written_accepted octets (Ok v) small (cs, e, is) err bs d =
-    subst (λ z. IsWritten octets z v) (all_alone 0 octets cs bs e.blocks d.blocks) is
+    subst (λ z. IsWritten octets z v) (EncodesAll-unique 0 octets cs bs e.blocks d.blocks) is
 written_accepted octets (Err e) small ok err bs d = memory_alone octets bs e small d err

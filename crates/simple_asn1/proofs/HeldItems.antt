@@ -10,9 +10,9 @@ use Rattle.asn1_blocks.specs.Faithful.{IsFaithful, AreFaithful}
 use Rattle.asn1_blocks.specs.Grammar.{IsBlock}
 use Rattle.asn1_blocks.specs.Tree.{Tree, Trees, explicit, group, leaf, more_trees, no_trees, shapes, unknown}
 use Rattle.asn1_blocks.specs.View.{view, views}
-use Rattle.asn1_blocks.proofs.BlockLists.{count, count_views}
-use Rattle.asn1_blocks.proofs.Faults.{one_block, tree_count}
-use Rattle.asn1_blocks.proofs.OneReading.{all_alone}
+use Rattle.asn1_blocks.proofs.BlockLists.{tree_count, tree_count-views}
+use Rattle.asn1_blocks.proofs.Faults.{tree_count-block}
+use Rattle.asn1_blocks.proofs.OneReading.{EncodesAll-unique}
 use Rattle.asn1_headers.specs.declared.error.ASN1EncodeErr.{ASN1EncodeErr}
 use Rattle.simple_asn1.specs.Canonical.{all_canonical, canonical, first_of, first_write_fault, shortest_encoding, write_fault}
 use Rattle.simple_asn1.specs.HeldBlocks.{Holds, HoldsNothing, items_trees}
@@ -24,7 +24,7 @@ pub one_held : (t : Tree ℕ) (xs ys : Trees ℕ) → Holds t xs → Holds t ys 
 one_held (leaf o l) xs ys h k = absurd h
 one_held (group o g items) xs ys h k = h ∙ sym k
 one_held (explicit class o tag b) xs ys h k = h ∙ sym k
-one_held (unknown class true o tag contents) xs ys h k = all_alone 0 contents xs ys h k
+one_held (unknown class true o tag contents) xs ys h k = EncodesAll-unique 0 contents xs ys h k
 one_held (unknown class false o tag contents) xs ys h k = absurd h
 
 -- what is found of a tree that holds blocks
@@ -42,7 +42,7 @@ first_of_none : (a : Option ASN1EncodeErr) → first_of a None ≡ a
 first_of_none None = refl
 first_of_none (Some e) = refl
 
-placed_count : (o : ℕ) (bs : Trees ℕ) → tree_count (all_placed o bs) ≡ count bs
+placed_count : (o : ℕ) (bs : Trees ℕ) → tree_count (all_placed o bs) ≡ tree_count bs
 placed_count o no_trees = refl
 placed_count o (more_trees b bs) = ap suc (placed_count (o + length (canonical b)) bs)
 
@@ -75,8 +75,9 @@ made_of_several class tag xs t several e writable small = subst (IsMadeOf class 
   faithful = λ ne f.
       let no_block : IsBlock (all_canonical (views xs)) → ⊥ = λ b.
       several
-      (sym (placed_count 0 (views xs) ∙ count_views xs)
-      ∙ one_block 0 (all_canonical (views xs)) (all_placed 0 (views xs)) (all_canonical_encodes 0 (views xs) small f)
+      (sym (placed_count 0 (views xs) ∙ tree_count-views xs)
+      ∙ tree_count-block 0 (all_canonical (views xs)) (all_placed 0 (views xs))
+      (all_canonical_encodes 0 (views xs) small f)
       b) in
       inr (ne, λ p. no_block p.1);
 }

@@ -21,11 +21,11 @@ use Rattle.asn1_blocks.specs.Grammar.{Encodes, EncodesAll}
 use Rattle.asn1_blocks.specs.Places.{joined}
 use Rattle.simple_asn1.specs.Inner.InPlace.{AreCanonical, AreCanonicalContents, BeginsShortest, IsOfGroup, LeavesBoth}
 use Rattle.asn1_headers.proofs.Prefixes.{encoding_alone, identifier_alone, identifier_some, length_alone, same_split}
-use Rattle.asn1_blocks.proofs.OneReading.{block_some, encodes_block, only}
-use Rattle.asn1_blocks.proofs.Faults.{block_encoding}
-use Rattle.asn1_blocks.proofs.Leaves.{group_known, leaf_known, leaf_no_group}
+use Rattle.asn1_blocks.proofs.OneReading.{IsBlock-not_empty, IsBlock-encodes, EncodesAll-single}
+use Rattle.asn1_blocks.proofs.Faults.{IsEncoding-block}
+use Rattle.asn1_blocks.proofs.Leaves.{is_known_tag-group_tag, is_known_tag-leaf_tag, leaf_tag-not_group_tag}
 use Rattle.asn1_headers.proofs.Shortest.{shortest_identifier_is, shortest_identifier_le, shortest_identifier_only, shortest_length_is, shortest_length_le, shortest_length_only}
-use Rattle.asn1_blocks.proofs.Slices.{encodes_joined}
+use Rattle.asn1_blocks.proofs.Slices.{EncodesAll-joined}
 use Rattle.simple_asn1.proofs.Strict.{canonical_encoding}
 
 regroup : (i s c x : List ℕ) → i ++ (s ++ (c ++ x)) ≡ (i ++ (s ++ c)) ++ x
@@ -85,7 +85,7 @@ all_front o y z w (more_trees b bs) small s e =
     ap length (ap (λ q. q ++ z) s.whole ∙ append_assoc s.first s.rest z) ∙ length-append s.first (s.rest ++ z) in
     let m : length s.first + length (s.rest ++ z) ≡ length (canonical b) + length (all_canonical bs ++ w) =
     sym (length-append s.first (s.rest ++ z)) ∙ (ap length d ∙ length-append (canonical b) (all_canonical bs ++ w)) in
-    let F = block_encoding s.first (encodes_block o s.first b s.item) in
+    let F = IsEncoding-block s.first (IsBlock-encodes o s.first b s.item) in
     let G = canonical_encoding b (omega (arith, small, n, m)) in
     let h = encoding_alone _ _ _ _ _ _ _ _ _ _ _ _ (s.rest ++ z) (all_canonical bs ++ w) F.encoding G.encoding d in
     let r = all_front (o + length s.first) s.rest z w bs (omega (arith, small, n)) s.items h.rest in
@@ -98,7 +98,7 @@ none_canonical x none o (more_trees b bs) s =
     absurd (omega (
       arith,
       none,
-      block_some s.first (encodes_block o s.first b s.item),
+      IsBlock-not_empty s.first (IsBlock-encodes o s.first b s.item),
       ap length s.whole,
       length-append s.first s.rest,
     ))
@@ -158,7 +158,7 @@ past x own rest c k n few keeps e after o (more_trees (explicit d p m b) bs) s =
     let within = keeps.within (λ u. one.1 (f.class ∙ u)) (sym f.constructed) in
     let place = o + one.3 in
     let item : EncodesAll place own (more_trees b no_trees) =
-    only place own b (subst (λ z. Encodes place z b) q.0 one.5) in
+    EncodesAll-single place own b (subst (λ z. Encodes place z b) q.0 one.5) in
     let written : own ≡ canonical b = within place (more_trees b no_trees) item ∙ append-nil (canonical b) in
     let here = f.encoding
     ∙ same_encoding c d k true n m one.2 (canonical b) (sym f.class) (sym f.constructed) (sym f.tag)
@@ -182,7 +182,7 @@ into x rest g m few small e after o (more_trees (leaf p l) bs) s =
     let f = front x s.first s.rest one.2 [] rest Universal Universal one.1 true (leaf_tag l) (group_tag g) one.3 m
     s.whole one.4
     small e in
-    absurd (leaf_no_group l g f.tag)
+    absurd (leaf_tag-not_group_tag l g f.tag)
 into x rest g m few small e after o (more_trees (explicit d p n b) bs) s =
     let one = s.item in
     let f = front x s.first s.rest one.2 [] rest d Universal true true n (group_tag g) one.3 m s.whole one.4 small e in
@@ -210,7 +210,7 @@ into x rest g m few small e after o (more_trees (group p h held) bs) s =
     let fits : length (contents ++ r) < 2 ^ 64 =
     omega (arith, few, size, ap length s.whole, length-append s.first r, length-append contents r) in
     let all : EncodesAll place (contents ++ r) (joined held bs) =
-    encodes_joined place contents r held bs one.5 (subst (λ z. EncodesAll z r bs) size s.items) in
+    EncodesAll-joined place contents r held bs one.5 (subst (λ z. EncodesAll z r bs) size s.items) in
     let written = f.whole
     ∙ (after place (joined held bs) (subst (λ z. EncodesAll place z (joined held bs)) f.whole all)
     ∙ joined_canonical held bs) in
@@ -252,9 +252,9 @@ pub unruled : (c : ASN1Class) (k : Bool) (n : ℕ) (own : List ℕ) → (c ≡ U
     (c ≢ Universal → k ≡ true → ⊥)
     → AreCanonicalContents c k n own
 unruled c k n own plain closed = record {
-  no_group = λ u g e. false≢true (sym (plain u) ∙ ap is_known_tag e ∙ group_known g);
-  primitive = λ u l e. absurd (false≢true (sym (plain u) ∙ ap is_known_tag e ∙ leaf_known l));
-  leaf = λ u l e p. absurd (false≢true (sym (plain u) ∙ ap is_known_tag e ∙ leaf_known l));
+  no_group = λ u g e. false≢true (sym (plain u) ∙ ap is_known_tag e ∙ is_known_tag-group_tag g);
+  primitive = λ u l e. absurd (false≢true (sym (plain u) ∙ ap is_known_tag e ∙ is_known_tag-leaf_tag l));
+  leaf = λ u l e p. absurd (false≢true (sym (plain u) ∙ ap is_known_tag e ∙ is_known_tag-leaf_tag l));
   within = λ other e. absurd (closed other e);
 }
 

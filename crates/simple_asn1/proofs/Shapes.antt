@@ -5,7 +5,7 @@ use Rattle.simple_asn1.specs.Canonical.{all_canonical, canonical, first_of, firs
 use Rattle.asn1_blocks.specs.Contents.{group_tag, leaf_contents, leaf_tag}
 use Rattle.asn1_blocks.specs.Faithful.{IsFaithful, AreFaithful, all_normalized}
 use Rattle.asn1_blocks.specs.Tree.{Leaf, Tree, Trees, leaf, group, explicit, unknown, no_trees, more_trees, mapped, all_mapped, shape, shapes}
-use Rattle.asn1_blocks.proofs.Leaves.{leaf_same_contents, leaf_same_tag}
+use Rattle.asn1_blocks.proofs.Leaves.{leaf_contents-normalized_leaf, leaf_tag-normalized_leaf}
 
 module _ {O P : Type 0} (f : O → P) (h : Leaf → Leaf) (same_tag : (l : Leaf) → leaf_tag (h l) ≡ leaf_tag l)
     (same_contents : (l : Leaf) → leaf_contents (h l) ≡ leaf_contents l) where
@@ -33,7 +33,7 @@ canonical_shapes bs = all_canonical_mapped (λ _. tt) (λ l. l) (λ l. refl) (λ
 
 -- octets of bit strings of no bits are not written
 pub canonical_all_normalized : {O : Type 0} (bs : Trees O) → all_canonical (all_normalized bs) ≡ all_canonical bs
-canonical_all_normalized bs = all_canonical_mapped (λ o. o) _ leaf_same_tag leaf_same_contents bs
+canonical_all_normalized bs = all_canonical_mapped (λ o. o) _ leaf_tag-normalized_leaf leaf_contents-normalized_leaf bs
 
 mutual
   pub write_fault_shape : {O : Type 0} (b : Tree O) → write_fault (shape b) ≡ write_fault b

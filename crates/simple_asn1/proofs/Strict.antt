@@ -20,14 +20,14 @@ use Rattle.simple_asn1.specs.ReadBack.{CanonicalDocument}
 use Rattle.simple_asn1.specs.Strict.{EqualByOctets, FirstNotCanonical, EachIsCanonical, StrictFault, top_octets}
 use Rattle.asn1_leaves.proofs.Leaves.Known.{Known-octets}
 use Rattle.asn1_headers.proofs.Prefixes.{encoding_alone, same_split}
-use Rattle.asn1_blocks.proofs.OneReading.{encodes_block, all_alone}
+use Rattle.asn1_blocks.proofs.OneReading.{IsBlock-encodes, EncodesAll-unique}
 use Rattle.asn1_blocks.specs.Places.{IsEncoding}
-use Rattle.asn1_blocks.proofs.Faults.{block_encoding}
-use Rattle.asn1_blocks.proofs.FaultsAlone.{first_fault_alone}
+use Rattle.asn1_blocks.proofs.Faults.{IsEncoding-block}
+use Rattle.asn1_blocks.proofs.FaultsAlone.{FirstFault-unique}
 use Rattle.simple_asn1.proofs.Totality.{document_or_fault}
-use Rattle.asn1_blocks.proofs.Readings.{document_no_fault}
+use Rattle.asn1_blocks.proofs.Readings.{IsDocument-no_fault}
 use Rattle.asn1_leaves.proofs.SliceSplit.{drop-slice_range}
-use Rattle.asn1_blocks.proofs.Slices.{encodes_offset, end_is, slice_here}
+use Rattle.asn1_blocks.proofs.Slices.{tree_offset-encodes, end_before-encodes, slice_range-middle}
 use Rattle.simple_asn1.proofs.WriteSteps.{none_of_both}
 use Rattle.simple_asn1.proofs.Placed.{contents_le, header_size, shortest_encodes}
 use Rattle.simple_asn1.proofs.Shapes.{canonical_shapes}
@@ -65,12 +65,12 @@ octets_here :
 octets_here i u x b bs w s =
     let n = ap length w ∙ length-append u x in
     let m = ap length s.whole ∙ length-append s.first s.rest in
-    let o = encodes_offset (length u) s.first b s.item in
-    let e = end_is (length u + length s.first) (length i) s.rest bs s.items (omega (arith, n, m)) in
+    let o = tree_offset-encodes (length u) s.first b s.item in
+    let e = end_before-encodes (length u + length s.first) (length i) s.rest bs s.items (omega (arith, n, m)) in
     let d : i ≡ u ++ (s.first ++ s.rest) = w ∙ ap (λ z. u ++ z) s.whole in
     let k : length u + length s.first ≡ length (u ++ s.first) = omega (arith, length-append u s.first) in
     record {
-      octets = slice_here i u s.first s.rest (tree_offset b) (end_before bs (length i)) d o e;
+      octets = slice_range-middle i u s.first s.rest (tree_offset b) (end_before bs (length i)) d o e;
       at = o;
       end = e;
       whole = d ∙ sym (append_assoc u s.first s.rest);
@@ -149,7 +149,7 @@ written_stand no_trees i u x w small s e = tt
 written_stand (more_trees b bs) i u x w small s e =
     let p = octets_here i u x b bs w s in
     let l = ap length e ∙ length-append (canonical b) (all_canonical bs) in
-    let F = block_encoding s.first (encodes_block (length u) s.first b s.item) in
+    let F = IsEncoding-block s.first (IsBlock-encodes (length u) s.first b s.item) in
     let G = canonical_encoding b (omega (arith, small, l)) in
     let h = encoding_alone _ _ _ _ _ _ _ _ _ _ _ _ s.rest (all_canonical bs) F.encoding G.encoding (sym s.whole ∙ e)
     in (
@@ -200,7 +200,7 @@ canonical_no_first : (i : List ℕ) (bs cs : Trees ℕ) (n : ℕ) → length i <
     IsDocument i cs
     → FirstNotCanonical i cs n → ⊥
 canonical_no_first i bs cs n small d a f =
-    let same : cs ≡ bs = all_alone 0 i cs bs a.blocks d.0.blocks in
+    let same : cs ≡ bs = EncodesAll-unique 0 i cs bs a.blocks d.0.blocks in
     stand_no_first i bs n ((stand_exactly i bs small d.0).0 d.1) (subst (λ z. FirstNotCanonical i z n) same f)
 
 pub strict_either : (i : List ℕ) → length i < 2 ^ 64 →
@@ -215,22 +215,22 @@ strict_either i small = elim (document_or_fault i small) [
 
 pub strict_not_both : (i : List ℕ) (bs : Trees ℕ) (e : DecodeFault) → length i < 2 ^ 64 → CanonicalDocument i bs →
     StrictFault i e → ⊥
-strict_not_both i bs e small d (inl f) = document_no_fault i bs e small d.0 f
+strict_not_both i bs e small d (inl f) = IsDocument-no_fault i bs e small d.0 f
 strict_not_both i bs e small d (inr (n, (cs, a, f), g)) = canonical_no_first i bs cs n small d a f
 
 pub strict_fault_alone : (i : List ℕ) (e d : DecodeFault) → length i < 2 ^ 64 → StrictFault i e → StrictFault i d →
     e ≡ d
-strict_fault_alone i e d small (inl p) (inl q) = first_fault_alone i e d p q small
-strict_fault_alone i e d small (inl p) (inr (n, (bs, a, f), g)) = absurd (document_no_fault i bs e small a p)
-strict_fault_alone i e d small (inr (n, (bs, a, f), g)) (inl q) = absurd (document_no_fault i bs d small a q)
+strict_fault_alone i e d small (inl p) (inl q) = FirstFault-unique i e d p q small
+strict_fault_alone i e d small (inl p) (inr (n, (bs, a, f), g)) = absurd (IsDocument-no_fault i bs e small a p)
+strict_fault_alone i e d small (inr (n, (bs, a, f), g)) (inl q) = absurd (IsDocument-no_fault i bs d small a q)
 strict_fault_alone i e d small (inr (n, (bs, a, f), g)) (inr (m, (cs, b, h), k)) =
-    let same : cs ≡ bs = all_alone 0 i cs bs b.blocks a.blocks in
+    let same : cs ≡ bs = EncodesAll-unique 0 i cs bs b.blocks a.blocks in
     g ∙ (ap not_canonical (first_alone i bs n m f (subst (λ z. FirstNotCanonical i z m) same h)) ∙ sym k)
 
 pub strict_equal : (i : List ℕ) (bs : Trees ℕ) → CanonicalDocument i bs → EqualByOctets i bs
 strict_equal i bs d other cs e = (
   λ p. d.1 ∙ (sym (canonical_shapes bs) ∙ (ap all_canonical p ∙ (canonical_shapes cs ∙ sym e.1))),
-  λ q. ap shapes (all_alone 0 i bs cs d.0.blocks (subst (λ z. EncodesAll 0 z cs) (sym q) e.0.blocks)),
+  λ q. ap shapes (EncodesAll-unique 0 i bs cs d.0.blocks (subst (λ z. EncodesAll 0 z cs) (sym q) e.0.blocks)),
 )
 
 -- an answer that is a canonical document or a strict fault is the only one
@@ -238,7 +238,7 @@ pub strict_accepted :
     (i : List ℕ) (r : Result (Vec ASN1Block Global) ASN1DecodeErr) → length i < 2 ^ 64 →
     IfOk r (λ v. CanonicalDocument i (views v.items)) → IfErr r (OutOfMemoryOr (StrictFault i)) →
     (bs : Trees ℕ) → CanonicalDocument i bs → MatchResult r (λ v. views v.items ≡ bs) (λ e. e ≡ OutOfMemory)
-strict_accepted i (Ok v) small ok err bs d = all_alone 0 i (views v.items) bs ok.0.blocks d.0.blocks
+strict_accepted i (Ok v) small ok err bs d = EncodesAll-unique 0 i (views v.items) bs ok.0.blocks d.0.blocks
 strict_accepted i (Err e) small ok (inl memory) bs d = memory
 strict_accepted i (Err e) small ok (inr fault) bs d = absurd (strict_not_both i bs (fault_of e) small d fault)
 

@@ -6,7 +6,7 @@ use Rattle.asn1_headers.specs.declared.error.ASN1DecodeErr.{ASN1DecodeErr}
 use Rattle.asn1_headers.specs.declared.error.ASN1DecodeErr.TheVariants.{OutOfMemory}
 use Rattle.asn1_blocks.specs.Grammar.{IsDocument}
 use Rattle.asn1_blocks.specs.Tree.{Trees}
-use Rattle.asn1_blocks.proofs.OneReading.{all_alone}
+use Rattle.asn1_blocks.proofs.OneReading.{EncodesAll-unique}
 use Rattle.asn1_outline.specs.Entries.{AreEntriesOf}
 use Rattle.asn1_outline.specs.Outlines.{entries_in}
 use Rattle.asn1_outline.specs.declared.outline.Outline.{Outline}
@@ -23,7 +23,7 @@ pub outline_accepted :
     IfErr r (OutOfMemoryOr (StrictFault i)) → (bs : Trees ℕ) → CanonicalDocument i bs →
     MatchResult r (λ outline. AreEntriesOf i bs (entries_in outline)) (λ e. e ≡ OutOfMemory)
 outline_accepted i (Ok outline) small (cs, d, are) err bs e =
-    subst (λ z. AreEntriesOf i z (entries_in outline)) (all_alone 0 i cs bs d.0.blocks e.0.blocks) are
+    subst (λ z. AreEntriesOf i z (entries_in outline)) (EncodesAll-unique 0 i cs bs d.0.blocks e.0.blocks) are
 outline_accepted i (Err e) small ok (inl memory) bs d = memory
 outline_accepted i (Err e) small ok (inr fault) bs d = absurd (strict_not_both i bs (fault_of e) small d fault)
 
@@ -37,4 +37,4 @@ outline_refused i (Err e) small ok (inr first) fault f = inr (strict_fault_alone
 
 -- a document that has the octets of its blocks has those of its only reading
 pub canonical_here : (i : List ℕ) (bs cs : Trees ℕ) → CanonicalDocument i bs → IsDocument i cs → i ≡ all_canonical cs
-canonical_here i bs cs d e = d.1 ∙ ap all_canonical (all_alone 0 i bs cs d.0.blocks e.blocks)
+canonical_here i bs cs d e = d.1 ∙ ap all_canonical (EncodesAll-unique 0 i bs cs d.0.blocks e.blocks)

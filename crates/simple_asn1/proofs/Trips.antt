@@ -8,10 +8,10 @@ use Rattle.asn1_blocks.specs.Faithful.{AreFaithful}
 use Rattle.asn1_headers.specs.Fault.{fault_of}
 use Rattle.asn1_blocks.specs.Grammar.{IsDocument}
 use Rattle.asn1_blocks.specs.Tree.{Tree, Trees, leaf, group, explicit, unknown, no_trees, more_trees, shape, shapes}
-use Rattle.asn1_blocks.proofs.OneReading.{all_alone}
+use Rattle.asn1_blocks.proofs.OneReading.{EncodesAll-unique}
 use Rattle.simple_asn1.proofs.Placed.{all_placed, all_canonical_encodes, canonical_some, shapes_placed, all_faithful_writable}
 use Rattle.simple_asn1.proofs.Shapes.{canonical_shapes, write_fault_shapes}
-use Rattle.asn1_blocks.proofs.Readings.{document_no_fault}
+use Rattle.asn1_blocks.proofs.Readings.{IsDocument-no_fault}
 
 mutual
   shape_of_shape : (t : Tree (Unit {0})) → shape t ≡ t
@@ -38,7 +38,8 @@ document_of (more_trees b bs) k small = record {
 read_shapes : (ss : Trees (Unit {0})) (bs : Trees ℕ) → AreFaithful ss → length (all_canonical ss) < 2 ^ 64
     → IsDocument (all_canonical ss) bs → shapes bs ≡ ss
 read_shapes ss bs f small d =
-    ap shapes (all_alone 0 (all_canonical ss) bs (all_placed 0 ss) d.blocks (all_canonical_encodes 0 ss small f))
+    ap shapes
+    (EncodesAll-unique 0 (all_canonical ss) bs (all_placed 0 ss) d.blocks (all_canonical_encodes 0 ss small f))
     ∙ (shapes_placed 0 ss ∙ shapes_of_shapes ss)
 
 none_some : {A : Type 0} (x : A) → None ≡ Some x → ⊥
@@ -71,4 +72,4 @@ module _ {T D : Type 0} (reads : Trees ℕ → Result (T × Trees ℕ) D → Typ
   trip_decode from e k (inl (bs, d, r)) = inl (bs, read_shapes ss bs k.1 small d, r)
   trip_decode from e k (inr (f, inl m, g)) = inr (subst (λ z. from z e) m g)
   trip_decode from e k (inr (f, inr r, g)) =
-      absurd (document_no_fault (all_canonical ss) (all_placed 0 ss) (fault_of f) small (document_of ss k small) r)
+      absurd (IsDocument-no_fault (all_canonical ss) (all_placed 0 ss) (fault_of f) small (document_of ss k small) r)

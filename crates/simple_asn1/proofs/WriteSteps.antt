@@ -17,8 +17,8 @@ use Rattle.asn1_blocks.specs.View.{view, views}
 use Rattle.asn1_blocks.specs.Inner.OwnContents.{own_contents, own_fault}
 use Rattle.simple_asn1.specs.Inner.WriteWalk.{all_own_octets, contents_of, contents_size_of, first_own_fault, identifier_of, measured_blocks, measured_sizes, own_octets}
 use Rattle.simple_asn1.specs.declared.write.measure.Measured.{Measured}
-use Rattle.asn1_blocks.proofs.BlockLists.{count, count_views}
-use Rattle.asn1_blocks.proofs.TreeOrders.{from_place}
+use Rattle.asn1_blocks.proofs.BlockLists.{tree_count, tree_count-views}
+use Rattle.asn1_blocks.proofs.TreeOrders.{BeginsAtPlace-drop}
 
 pub canonical_parts : (b : Tree ℕ) →
     canonical b ≡ identifier_of b ++ (shortest_length (length (contents_of b)) ++ contents_of b)
@@ -136,10 +136,10 @@ pub record Step (b : ASN1Block) (left : List ASN1Block) (sizes : List ℕ) (m n 
 pub step : (b : ASN1Block) (left after : List ASN1Block) (sizes : List ℕ) (m n : ℕ) → IsNext b left after →
     m ≡ length sizes
     → sizes ≡ sizes_back after
-    → n ≡ count (inside (view b)) → Step b left sizes m n
+    → n ≡ tree_count (inside (view b)) → Step b left sizes m n
 step b left after sizes m n x w s k =
     let j : sizes ≡ sizes_back x.rest ++ sizes_back x.held = s ∙ (ap sizes_back x.then ∙ back_join x.held x.rest) in
-    let u : length x.held ≡ n = sym (count_views x.held) ∙ (ap count x.holds ∙ sym k) in
+    let u : length x.held ≡ n = sym (tree_count-views x.held) ∙ (ap tree_count x.holds ∙ sym k) in
     let t : length sizes ≡ length (sizes_back x.rest) + length (sizes_back x.held) =
     ap length j ∙ length-append (sizes_back x.rest) (sizes_back x.held) in
     let q : length (sizes_back x.rest) ≡ m - n = omega (arith, t, length_back x.held, u, w) in
@@ -161,8 +161,9 @@ pub step_at : (order : List ASN1Block) (i j : ℕ) (b : ASN1Block) (sizes : List
     → views held ≡ inside (view b) → (left : List ASN1Block) → IsInTreeOrder (drop j order) left →
     Step b left sizes m (length held)
 step_at order i j b sizes m held e l g w s k left h =
-    let p = from_place order left i j b e l g h in
-    step b left p.after sizes m (length held) p.next w (s p.after p.ordered) (sym (count_views held) ∙ ap count k)
+    let p = BeginsAtPlace-drop order left i j b e l g h in
+    step b left p.after sizes m (length held) p.next w (s p.after p.ordered)
+    (sym (tree_count-views held) ∙ ap tree_count k)
 
 -- the number at a place of a list of numbers, of which those before it are by f and the others by g
 pub place_at : (f g : ASN1Block → ℕ) (order : List ASN1Block) (i j : ℕ) (x : ASN1Block) (sizes : List ℕ) → j + 1 ≡ i →

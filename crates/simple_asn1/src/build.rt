@@ -20,7 +20,7 @@ ghost use Rattle.simple_asn1.specs.HeldBlocks.{Holds};
 use crate::write::write_all;
 use asn1_blocks::block::ASN1Block;
 use asn1_blocks::held::HeldBlocks;
-use asn1_blocks::owed::explicit_block;
+use asn1_blocks::postponed::explicit_block;
 use asn1_blocks::reading::Attempt;
 use asn1_headers::error::ASN1EncodeErr;
 use asn1_headers::header::ASN1Class;

@@ -5,7 +5,7 @@ use Rattle.simple_asn1.specs.Places.{EncodingAt}
 use Rattle.simple_asn1.specs.Structure.{IsEncodedIn, IsStructure, Nodes, nodes_depths, nodes_in_order, tree_at}
 use Rattle.simple_asn1.specs.Tree.{Tree}
 use Rattle.simple_asn1.specs.View.{tree_offset}
-use Rattle.asn1_blocks.proofs.Slices.{encoding_at_alone}
+use Rattle.asn1_blocks.proofs.Slices.{EncodingAt-unique}
 use Rattle.asn1_outline.proofs.Entries.{entries_length, entry_at}
 use Rattle.asn1_outline.proofs.Standing.{encoding_of, structure_stands}
 use Rattle.asn1_outline.specs.Entries.{AreEntries, HasHeaderAt, no_entry}
@@ -31,7 +31,7 @@ header_stands x b e octets (y, at, h) o s =
       tag_field = h.tag_field;
       contents_field = h.contents_field;
     } in
-    subst (λ w. HasHeader w (block_of e)) (encoding_at_alone x (tree_offset b) y octets here there) own
+    subst (λ w. HasHeader w (block_of e)) (EncodingAt-unique x (tree_offset b) y octets here there) own
 
 -- the records of a document
 pub entries_records : (x : List ℕ) (ns : Nodes) (es : List Entry) → IsStructure x ns →

@@ -9,7 +9,7 @@ use Rattle.asn1_blocks.specs.HeadersBegun.{IsReadInside}
 use Rattle.asn1_blocks.specs.Places.{HeaderFound}
 use Rattle.asn1_blocks.specs.Inner.LeafBlocks.{IsSingleAt}
 use Rattle.asn1_blocks.specs.Inner.ReaderSteps.{HasEndedIn, HasKept, HasLeaf, HasOpened, in_frame}
-use Rattle.asn1_blocks.proofs.OneReading.{encodes_alone}
+use Rattle.asn1_blocks.proofs.OneReading.{Encodes-unique}
 use Rattle.asn1_outline.specs.Entries.{no_entry}
 use Rattle.asn1_outline.specs.Listing.{IsBegun, all_hold, sealed, with_items}
 use Rattle.asn1_outline.specs.declared.entry.Entry.{Entry}
@@ -67,7 +67,7 @@ front_leaf x h offset limit depth a b i r n found shut (t, none, encoded) begun 
         let own = subst (λ z. IsBegun x offset z depth r) (at all w) begun in
         let step = leaf_built x h offset limit depth (whole_builder a all w) (whole_builder b (all ++ r ∷ []) v) i r
         found shut (t, none, encoded) own refl in
-        let same = (encodes_alone offset y y [] [] step.tree t step.encoded encoded refl).1 in
+        let same = (Encodes-unique offset y y [] [] step.tree t step.encoded encoded refl).1 in
         let next = step.more.holds e fs ts rest d held in (
           all ++ r ∷ [],
           v,

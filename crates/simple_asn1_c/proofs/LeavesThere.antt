@@ -3,9 +3,9 @@ use Rattle.std.proofs.Common.{◌≡◌, ◌⊎◌, ℕ, ◌<◌, ◌^◌, List,
 use Rattle.std.proofs.lemmas.Bool.{cases_lt}
 use Rattle.asn1_headers.proofs.Prefixes.{encoding_alone}
 use Rattle.asn1_headers.specs.declared.header.ASN1Class.TheVariants.{Universal}
-use Rattle.asn1_blocks.proofs.Leaves.{leaf_no_fault}
-use Rattle.asn1_blocks.proofs.OneReading.{block_some, encodes_block, only, only_tree}
-use Rattle.asn1_blocks.proofs.Slices.{encoding_at_alone}
+use Rattle.asn1_blocks.proofs.Leaves.{LeafContents-no_fault}
+use Rattle.asn1_blocks.proofs.OneReading.{IsBlock-not_empty, IsBlock-encodes, EncodesAll-single, Encodes-single}
+use Rattle.asn1_blocks.proofs.Slices.{EncodingAt-unique}
 use Rattle.asn1_outline.specs.Entries.{HasTag}
 use Rattle.simple_asn1.specs.Contents.{LeafContents, LeafFault, leaf_tag}
 use Rattle.simple_asn1.specs.Fault.{DecodeFault}
@@ -27,8 +27,8 @@ module _ (octets : List ℕ) (offset : ℕ) where
       IsLeafAt octets offset l
   leaf_here l v u means =
       let s : Encodes 0 u.whole (leaf 0 l) = (refl, u.constructed, v, u.header, u.encoding, means) in
-      let some = block_some u.whole (encodes_block 0 u.whole (leaf 0 l) s) in
-      (0, (u.whole, u.at, record { some = some; blocks = only 0 u.whole (leaf 0 l) s }))
+      let some = IsBlock-not_empty u.whole (IsBlock-encodes 0 u.whole (leaf 0 l) s) in
+      (0, (u.whole, u.at, record { some = some; blocks = EncodesAll-single 0 u.whole (leaf 0 l) s }))
 
   -- the encoding of a leaf that is read alone
   pub record LeafThere (l : Leaf) : Type 0 where
@@ -38,7 +38,7 @@ module _ (octets : List ℕ) (offset : ℕ) where
 
   pub leaf_there : (l : Leaf) → IsLeafAt octets offset l → LeafThere l
   leaf_there l (o, (x, at, d)) =
-      let s = only_tree 0 x (leaf o l) d.blocks in record {
+      let s = Encodes-single 0 x (leaf o l) d.blocks in record {
         contents = s.2;
         universal = record { whole = x; at = at; constructed = s.1; header = s.3; encoding = s.4 };
         meaning = s.5;
@@ -48,7 +48,7 @@ module _ (octets : List ℕ) (offset : ℕ) where
   pub one_universal : (m n : ℕ) (v w : List ℕ) → UniversalAt octets offset m v → UniversalAt octets offset n w →
       (m ≡ n) × (v ≡ w)
   one_universal m n v w a b =
-      let same = encoding_at_alone octets offset a.whole b.whole a.at b.at in
+      let same = EncodingAt-unique octets offset a.whole b.whole a.at b.at in
       let here = subst (λ z. Encoding z Universal a.constructed m v a.header) same a.encoding in
       let e = encoding_alone b.whole b.whole Universal Universal a.constructed b.constructed m n v w a.header b.header
       [] [] here b.encoding refl in
@@ -97,6 +97,6 @@ module _ (octets : List ℕ) (offset : ℕ) where
           let (l, tl, is) = leaf_of value in
           let w = leaf_there l is in
           let (tag, contents) = one_universal (leaf_tag l) n w.contents v w.universal u in
-          leaf_no_fault n v fault l (sym tag) (subst (LeafContents l) contents w.meaning) f),
+          LeafContents-no_fault n v fault l (sym tag) (subst (LeafContents l) contents w.meaning) f),
       is_at_fault n t v u fault (first_fault n v u fault f) e,
     )

@@ -18,7 +18,7 @@ use Rattle.asn1_numbers.specs.Octets.{AreOctets}
 use Rattle.simple_asn1.specs.DottedDecimal.{dotted_decimal}
 use Rattle.simple_asn1.specs.Places.{EncodingAt}
 use Rattle.simple_asn1.specs.Tree.{object_identifier}
-use Rattle.asn1_blocks.proofs.Slices.{encoding_at_alone}
+use Rattle.asn1_blocks.proofs.Slices.{EncodingAt-unique}
 use Rattle.asn1_headers.proofs.Prefixes.{encoding_alone}
 use Rattle.simple_asn1_c.proofs.Headers.{contents_behind}
 use Rattle.simple_asn1_c.proofs.LeavesThere.{leaf_there, one_universal}
@@ -140,7 +140,7 @@ pub tag_few : (octets : List ℕ) (offset : ℕ) (before after : List ℕ) (o : 
     AnswersTag octets offset before after o
     → (x : List ℕ) → (at : EncodingAt octets offset x) → o.count ≤ 3 * at.encoding.header
 tag_few octets offset before after o (tag_was_found tag (y, there, class, constructed, contents, header, e) put) x at =
-    let same : y ≡ x = encoding_at_alone octets offset y x there at in
+    let same : y ≡ x = EncodingAt-unique octets offset y x there at in
     let f = at.encoding.encoding in
     let own = at.encoding in
     let z = encoding_alone y x class own.class constructed own.constructed tag own.tag contents own.contents header

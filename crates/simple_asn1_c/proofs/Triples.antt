@@ -5,8 +5,8 @@ use Rattle.asn1_headers.specs.Header.{Encoding}
 use Rattle.asn1_headers.specs.declared.header.ASN1Class.TheVariants.{Universal}
 use Rattle.asn1_blocks.specs.declared.block.GroupKind.TheVariants.{Sequence, Set}
 use Rattle.asn1_headers.proofs.Prefixes.{encoding_alone}
-use Rattle.asn1_blocks.proofs.Leaves.{leaf_tag_is, leaf_tag_no_group}
-use Rattle.asn1_blocks.proofs.Slices.{encoding_at_alone}
+use Rattle.asn1_blocks.proofs.Leaves.{is_leaf_tag-leaf_tag, is_leaf_tag-not_group_tag}
+use Rattle.asn1_blocks.proofs.Slices.{EncodingAt-unique}
 use Rattle.asn1_outline.proofs.Entries.{entry_at as node_entry}
 use Rattle.asn1_outline.proofs.Standing.{encoding_of, structure_stands}
 use Rattle.asn1_outline.specs.Entries.{AreEntries, IsEntry}
@@ -41,7 +41,7 @@ tagged : (x : List ℕ) (n : Node) (i d tag : ℕ) (e : Entry) (y : List ℕ) �
 tagged x n i d tag e y is s small (class, number) =
     let b = node_tree n in
     let (octets, at, h) = is.header in
-    let same = encoding_at_alone x (tree_offset b) octets y (subst (λ o. EncodingAt x o octets) is.offset at)
+    let same = EncodingAt-unique x (tree_offset b) octets y (subst (λ o. EncodingAt x o octets) is.offset at)
     (encoding_of x b y s) in
     let t = small_tag h.tag e.tag tag h.tag_field number small in
     let own = subst (λ c. Encoding octets c e.constructed h.tag h.contents e.header) class h.encoding in
@@ -60,7 +60,7 @@ sequence_of x (leaf p l) t =
     let s = t.encoded in
     let z = encoding_alone t.octets t.octets Universal Universal s.1 t.constructed (leaf_tag l) 16 s.2 t.contents s.3
     t.header [] [] s.4 t.encoding refl in
-    absurd (leaf_tag_no_group (leaf_tag l) Sequence (leaf_tag_is l) z.tag)
+    absurd (is_leaf_tag-not_group_tag (leaf_tag l) Sequence (is_leaf_tag-leaf_tag l) z.tag)
 sequence_of x (group p Sequence bs) t = (bs, refl)
 sequence_of x (group p Set bs) t =
     let s = t.encoded in
@@ -92,7 +92,7 @@ leaf_of x (group p g bs) m t =
     let n = leaf_tag m in
     let z = encoding_alone t.octets t.octets Universal Universal s.1 t.constructed (group_tag g) n s.2 t.contents s.3
     t.header [] [] s.4 t.encoding refl in
-    absurd (leaf_tag_no_group n g (leaf_tag_is m) (sym z.tag))
+    absurd (is_leaf_tag-not_group_tag n g (is_leaf_tag-leaf_tag m) (sym z.tag))
 leaf_of x (explicit c p n b) m t =
     let s = t.encoded in
     let z = encoding_alone t.octets t.octets c Universal true t.constructed n (leaf_tag m) s.2 t.contents s.3 t.header
@@ -142,7 +142,7 @@ universal_entry :
 universal_entry x n i d tag e y k v h is s f small =
     let b = node_tree n in
     let (octets, at, own) = is.header in
-    let same = encoding_at_alone x (tree_offset b) octets y (subst (λ o. EncodingAt x o octets) is.offset at)
+    let same = EncodingAt-unique x (tree_offset b) octets y (subst (λ o. EncodingAt x o octets) is.offset at)
     (encoding_of x b y s) in
     let z = encoding_alone octets y e.class Universal e.constructed k own.tag tag own.contents v e.header h [] []
     own.encoding f (ap (λ w. w ++ []) same) in

@@ -4,7 +4,7 @@ use Rattle.std.specs.List.{slice_range}
 use Rattle.simple_asn1.specs.Shapes.{AreShapes, HasItems, HasShapes, Shapes, as_it_came, entries_of, no_more, not_read, one_more, read_inside}
 use Rattle.asn1_blocks.specs.Places.{HeaderFound}
 use Rattle.asn1_blocks.specs.declared.parsed.PlacedHeader.{PlacedHeader}
-use Rattle.asn1_blocks.proofs.ReadSteps.{slice_length}
+use Rattle.asn1_blocks.proofs.ReadSteps.{length-slice_range}
 use Rattle.asn1_outline.proofs.Standing.{two_more}
 
 -- a header has two octets
@@ -12,8 +12,9 @@ two_octets : (x : List ℕ) (p e : ℕ) (h : PlacedHeader) → e ≤ length x �
 two_octets x p e h within f =
     let more = two_more (slice_range x p h.end) h.class h.constructed h.tag (slice_range x h.start h.end) (h.start - p)
     f.encoding in
-    let all = slice_length x p h.end (omega (arith, f.starts_after, f.order)) (omega (arith, f.ends_within, within)) in
-    let contents = slice_length x h.start h.end f.order (omega (arith, f.ends_within, within)) in
+    let all =
+    length-slice_range x p h.end (omega (arith, f.starts_after, f.order)) (omega (arith, f.ends_within, within)) in
+    let contents = length-slice_range x h.start h.end f.order (omega (arith, f.ends_within, within)) in
     omega (arith, more, all, contents, f.starts_after, f.order)
 
 mutual

@@ -2,7 +2,7 @@
 use Rattle.std.proofs.Common.{◌≡◌, ℕ, ◌+◌, ◌-◌, ◌<◌, ◌≤◌, ◌^◌, true, List, [], ◌∷◌, ◌++◌, inl, inr, length, refl, sym, ap, ◌∙◌, subst, arith}
 use Rattle.std.specs.List.{slice_range}
 use Rattle.asn1_blocks.specs.declared.block.GroupKind.{GroupKind}
-use Rattle.asn1_blocks.specs.declared.reading.Attempt as owed
+use Rattle.asn1_blocks.specs.declared.reading.Attempt as declared
 use Rattle.asn1_blocks.specs.declared.reading.FrameKind.{FrameKind}
 use Rattle.asn1_blocks.specs.declared.reading.FrameKind.TheVariants.{Whole, Group, Attempt}
 use Rattle.asn1_headers.specs.Fault.{DecodeFault}
@@ -12,14 +12,14 @@ use Rattle.asn1_blocks.specs.HeadersBegun.{HeadersBegun, begun_some, inside_firs
 use Rattle.asn1_blocks.specs.Inner.OpenFrames.{AreOpen, Frame, IsAttemptAt, IsGroupAt, IsHeaded, IsReadTo, IsStopping, StopsAt, as_it_came}
 use Rattle.asn1_blocks.specs.Inner.ReaderSteps.{IsFaultyDocument}
 use Rattle.asn1_blocks.specs.Tree.{Tree, trees_of}
-use Rattle.asn1_blocks.proofs.Faults.{block_is_blocks, block_fault_no_block, blocks_fault_no_blocks}
-use Rattle.asn1_blocks.proofs.FaultyBlocks.{fault_after}
-use Rattle.asn1_blocks.proofs.Frames.Advances.{Follows, opened_places, opened_bound}
-use Rattle.asn1_blocks.proofs.Frames.Slices.{slice_all}
-use Rattle.asn1_blocks.proofs.HeaderCounts.{begun_le, begun_join, begun_opened}
-use Rattle.asn1_blocks.proofs.Leaves.{group_tag_is}
-use Rattle.asn1_blocks.proofs.OneReading.{encodes_blocks}
-use Rattle.asn1_blocks.proofs.ReadSteps.{slice_length, slice_join}
+use Rattle.asn1_blocks.proofs.Faults.{AreBlocks-single, BlockFaultAt-not_block, BlocksFaultAt-not_blocks}
+use Rattle.asn1_blocks.proofs.FaultyBlocks.{BlocksFaultAt-behind_blocks}
+use Rattle.asn1_blocks.proofs.Frames.Advances.{Follows, AreOpen-places, AreOpen-headers_le}
+use Rattle.asn1_blocks.proofs.Frames.Slices.{slice_range-all}
+use Rattle.asn1_blocks.proofs.HeaderCounts.{HeadersBegun-le_length, HeadersBegun-append, HeadersBegun-read_inside}
+use Rattle.asn1_blocks.proofs.Leaves.{is_group_tag-group_tag}
+use Rattle.asn1_blocks.proofs.OneReading.{AreBlocks-encodes}
+use Rattle.asn1_blocks.proofs.ReadSteps.{length-slice_range, slice_range-append}
 
 -- contents octets that have a fault
 pub record HasFaultyContents (octets contents : List ℕ) (start : ℕ) (e : DecodeFault) (offset n : ℕ) : Type 0 where
@@ -29,43 +29,44 @@ pub record HasFaultyContents (octets contents : List ℕ) (start : ℕ) (e : Dec
   pub begun : HeadersBegun contents n
 
 -- the contents octets of a frame where a block is at fault are at fault themselves
-refused_read : (octets : List ℕ) (f : Frame) (p : ℕ) (e : DecodeFault) (offset a b : ℕ) → IsReadTo octets f p a →
+HasFaultyContents-read : (octets : List ℕ) (f : Frame) (p : ℕ) (e : DecodeFault) (offset a b : ℕ) →
+    IsReadTo octets f p a →
     StopsAt octets f p e offset b
     → HasFaultyContents octets (slice_range octets f.extent.start f.extent.end) f.extent.start e offset (a + b)
-refused_read octets f p e offset a b r s =
+HasFaultyContents-read octets f p e offset a b r s =
     let from = f.extent.start in
     let to = f.extent.end in
     let front = slice_range octets from p in
     let rest = slice_range octets p to in
-    let whole : slice_range octets from to ≡ front ++ rest = slice_join octets from p to r.from r.to in
-    let k = encodes_blocks from front (trees_of f.trees) r.encoded in
-    let l : length front ≡ p - from = slice_length octets from p r.from (omega (arith, r.to, r.within)) in
-    let some : 0 < length rest = omega (arith, slice_length octets p to r.to r.within, s.here) in
+    let whole : slice_range octets from to ≡ front ++ rest = slice_range-append octets from p to r.from r.to in
+    let k = AreBlocks-encodes from front (trees_of f.trees) r.encoded in
+    let l : length front ≡ p - from = length-slice_range octets from p r.from (omega (arith, r.to, r.within)) in
+    let some : 0 < length rest = omega (arith, length-slice_range octets p to r.to r.within, s.here) in
     record {
       after = length front + s.inside;
-      fault = fault_after (slice_range octets from to) front rest e s.inside whole k some
+      fault = BlocksFaultAt-behind_blocks (slice_range octets from to) front rest e s.inside whole k some
           (subst (λ z. BlockFaultAt z rest e s.inside) (sym l) s.stops);
       innermost = omega (arith, s.innermost, r.from, l);
-      begun = subst (λ z. HeadersBegun z (a + b)) (sym whole) (begun_join front rest a b k r.begun s.begun);
+      begun = subst (λ z. HeadersBegun z (a + b)) (sym whole) (HeadersBegun-append front rest a b k r.begun s.begun);
     }
 
 -- a group whose contents octets are at fault
-pub group_stops : (octets : List ℕ) (g : Frame) (o s e : ℕ) (y : GroupKind) (fault : DecodeFault) (offset a : ℕ)
+pub StopsAt-group : (octets : List ℕ) (g : Frame) (o s e : ℕ) (y : GroupKind) (fault : DecodeFault) (offset a : ℕ)
     → length octets < 2 ^ 64 → g.extent.start ≤ o
     → o < s → s ≤ e → e ≤ g.extent.end → g.extent.end ≤ length octets → IsGroupAt octets y o s e
     → HasFaultyContents octets (slice_range octets s e) s fault offset a → StopsAt octets g o fault offset (1 + a)
-group_stops octets g o s e y fault offset a small low lt le fits within G r =
+StopsAt-group octets g o s e y fault offset a small low lt le fits within G r =
     let end = g.extent.end in
     let i = o - g.extent.start in
     let first = slice_range octets o e in
     let behind = slice_range octets e end in
     let rest = slice_range octets o end in
-    let d = slice_join octets o e end (omega arith) fits in
-    let len = slice_length octets o end (omega arith) within in
+    let d = slice_range-append octets o e end (omega arith) fits in
+    let len = length-slice_range octets o end (omega arith) within in
     let stops : BlockFaultAt i rest fault ((s - o) + r.after) = at_item first behind d y G.encoding r.fault in
     let no_block = nothing_after
-    (λ x z c b. block_fault_no_block i rest x z fault ((s - o) + r.after) stops (omega (arith, len, small)) c b) in
-    let inside = inside_first first behind d G.encoding (inl (refl, group_tag_is y)) r.begun in
+    (λ x z c b. BlockFaultAt-not_block i rest x z fault ((s - o) + r.after) stops (omega (arith, len, small)) c b) in
+    let inside = inside_first first behind d G.encoding (inl (refl, is_group_tag-group_tag y)) r.begun in
     record {
       here = omega arith;
       inside = (s - o) + r.after;
@@ -75,36 +76,37 @@ group_stops octets g o s e y fault offset a small low lt le fits within G r =
     }
 
 -- a fault leaves a group
-stop_group : (octets : List ℕ) (f g : Frame) (gs : List Frame) (e : DecodeFault) (offset n : ℕ) (y : GroupKind) →
+IsStopping-leave_group : (octets : List ℕ) (f g : Frame) (gs : List Frame) (e : DecodeFault) (offset n : ℕ)
+    (y : GroupKind) →
     length octets < 2 ^ 64
     → f.extent.kind ≡ Group y → IsStopping octets f (g ∷ gs) e offset n → IsStopping octets g gs e offset n
-stop_group octets f g gs e offset n y small k w =
+IsStopping-leave_group octets f g gs e offset n y small k w =
     let o = w.opened in
     let x = f.extent.offset in
     let s = f.extent.start in
     let H = subst (λ z. IsHeaded octets z x s f.extent.end) k o.headed in
-    let r = refused_read octets f w.reached e offset o.own w.own o.read w.stops in
-    let v = opened_places octets g gs x o.before o.around in
+    let r = HasFaultyContents-read octets f w.reached e offset o.own w.own o.read w.stops in
+    let v = AreOpen-places octets g gs x o.before o.around in
     record {
       reached = x;
       before = o.before;
       own = 1 + (o.own + w.own);
       opened = o.around;
-      stops = group_stops octets g x s f.extent.end y e offset (o.own + w.own) small v.from o.after
+      stops = StopsAt-group octets g x s f.extent.end y e offset (o.own + w.own) small v.from o.after
           (omega (arith, o.read.from, o.read.to)) o.ends_within
           v.within H r;
       total = omega (arith, w.total, o.total);
     }
 
 -- a fault goes on to the frame around it
-pub stop_pop : (octets : List ℕ) (f g : Frame) (gs : List Frame) (e : DecodeFault) (offset n : ℕ) →
+pub IsStopping-leave_frame : (octets : List ℕ) (f g : Frame) (gs : List Frame) (e : DecodeFault) (offset n : ℕ) →
     length octets < 2 ^ 64
     → (f.extent.kind ≡ Attempt → ⊥) → IsStopping octets f (g ∷ gs) e offset n → IsStopping octets g gs e offset n
-stop_pop octets f g gs e offset n small other w = go f.extent.kind refl
+IsStopping-leave_frame octets f g gs e offset n small other w = go f.extent.kind refl
   where
     go : (k : FrameKind) → f.extent.kind ≡ k → IsStopping octets g gs e offset n
     go Whole d = absurd (subst (λ z. IsHeaded octets z f.extent.offset f.extent.start f.extent.end) d w.opened.headed)
-    go (Group y) d = stop_group octets f g gs e offset n y small d w
+    go (Group y) d = IsStopping-leave_group octets f g gs e offset n y small d w
     go Attempt d = absurd (other d)
 
 -- what a closed frame is in the frame around it
@@ -117,32 +119,33 @@ pub record IsClosed (octets : List ℕ) (g : Frame) (gs : List Frame) (end : ℕ
   pub total : n ≡ before + own
 
 -- contents octets with a fault are no blocks
-pub stop_no_blocks : (octets : List ℕ) (f g : Frame) (gs : List Frame) (e : DecodeFault) (offset n : ℕ) →
+pub IsStopping-not_blocks : (octets : List ℕ) (f g : Frame) (gs : List Frame) (e : DecodeFault) (offset n : ℕ) →
     length octets < 2 ^ 64
     → IsStopping octets f (g ∷ gs) e offset n → AreBlocks (slice_range octets f.extent.start f.extent.end) → ⊥
-stop_no_blocks octets f g gs e offset n small w =
+IsStopping-not_blocks octets f g gs e offset n small w =
     let o = w.opened in
     let contents = slice_range octets f.extent.start f.extent.end in
-    let r = refused_read octets f w.reached e offset o.own w.own o.read w.stops in
-    let l = slice_length octets f.extent.start f.extent.end (omega (arith, o.read.from, o.read.to)) o.read.within in
+    let r = HasFaultyContents-read octets f w.reached e offset o.own w.own o.read w.stops in
+    let l =
+    length-slice_range octets f.extent.start f.extent.end (omega (arith, o.read.from, o.read.to)) o.read.within in
     let short : length contents < 2 ^ 64 = omega (arith, l, small, o.read.within) in
-    blocks_fault_no_blocks contents e r.after r.fault short
+    BlocksFaultAt-not_blocks contents e r.after r.fault short
 
 -- a fault closes an attempt
-pub stop_attempt : (octets : List ℕ) (f g : Frame) (gs : List Frame) (e : DecodeFault) (offset n : ℕ)
-    (a : owed.Attempt) → length octets < 2 ^ 64
+pub IsClosed-failed_attempt : (octets : List ℕ) (f g : Frame) (gs : List Frame) (e : DecodeFault) (offset n : ℕ)
+    (a : declared.Attempt) → length octets < 2 ^ 64
     → a.offset ≡ f.extent.offset → IsAttemptAt octets a f.extent.start f.extent.end →
     IsStopping octets f (g ∷ gs) e offset n
     → IsClosed octets g gs f.extent.end (as_it_came octets a f.extent.start f.extent.end) n
-stop_attempt octets f g gs e offset n a small here H w =
+IsClosed-failed_attempt octets f g gs e offset n a small here H w =
     let o = w.opened in
     let s = f.extent.start in
     let z = f.extent.end in
     let contents = slice_range octets s z in
     let F = H.encoding in
-    let r = refused_read octets f w.reached e offset o.own w.own o.read w.stops in
-    let no_block = λ (i : (true ≡ true) × IsBlock contents). stop_no_blocks octets f g gs e offset n small w
-    (block_is_blocks contents i.1) in
+    let r = HasFaultyContents-read octets f w.reached e offset o.own w.own o.read w.stops in
+    let no_block = λ (i : (true ≡ true) × IsBlock contents). IsStopping-not_blocks octets f g gs e offset n small w
+    (AreBlocks-single contents i.1) in
     let m = o.own + w.own in
     record {
       reached = a.offset;
@@ -153,7 +156,7 @@ stop_attempt octets f g gs e offset n a small here H w =
         from = omega (arith, here, o.after, o.read.from, o.read.to);
         to = o.ends_within;
         encoded = (refl, s - a.offset, F, inr (H.other, no_block));
-        begun = begun_opened (slice_range octets a.offset z) a.class true a.tag contents (s - a.offset) m F
+        begun = HeadersBegun-read_inside (slice_range octets a.offset z) a.class true a.tag contents (s - a.offset) m F
             (inr (H.other, refl)) (of_other_class F H.other)
             r.begun;
       };
@@ -161,17 +164,18 @@ stop_attempt octets f g gs e offset n a small here H w =
     }
 
 -- the contents octets of the outermost frame are the document
-pub whole_document : (octets : List ℕ) (f : Frame) → f.extent.start ≡ 0 → f.extent.end ≡ length octets
+pub slice_range-document : (octets : List ℕ) (f : Frame) → f.extent.start ≡ 0 → f.extent.end ≡ length octets
     → slice_range octets f.extent.start f.extent.end ≡ octets
-whole_document octets f s e =
-    ap (λ z. slice_range octets z f.extent.end) s ∙ (ap (slice_range octets 0) e ∙ slice_all octets)
+slice_range-document octets f s e =
+    ap (λ z. slice_range octets z f.extent.end) s ∙ (ap (slice_range octets 0) e ∙ slice_range-all octets)
 
 -- a fault in no attempt
-pub stop_document : (octets : List ℕ) (f : Frame) (e : DecodeFault) (offset n : ℕ) → IsStopping octets f [] e offset n
+pub IsFaultyDocument-stopping : (octets : List ℕ) (f : Frame) (e : DecodeFault) (offset n : ℕ) →
+    IsStopping octets f [] e offset n
     → IsFaultyDocument octets e offset n
-stop_document octets f e offset n w =
-    let r = refused_read octets f w.reached e offset w.before w.own w.opened.read w.stops in
-    let d = whole_document octets f w.opened.whole.start w.opened.whole.end in
+IsFaultyDocument-stopping octets f e offset n w =
+    let r = HasFaultyContents-read octets f w.reached e offset w.before w.own w.opened.read w.stops in
+    let d = slice_range-document octets f w.opened.whole.start w.opened.whole.end in
     let begun = subst (λ z. HeadersBegun z (w.before + w.own)) d r.begun in
     let whole : BlocksFaultAt octets e r.after = subst (λ z. BlocksFaultAt z e r.after) d r.fault in
     let o : r.after ≡ offset = omega (arith, r.innermost, w.opened.whole.start) in
@@ -187,16 +191,17 @@ pub record StoppingPlaces (octets : List ℕ) (f : Frame) (n : ℕ) : Type 0 whe
   pub within : f.extent.end ≤ length octets
   pub bound : n ≤ length octets
 
-pub stopping_places : (octets : List ℕ) (f : Frame) (gs : List Frame) (e : DecodeFault) (offset n : ℕ) →
+-- a frame in which reading stops lies in the octets, which have a header an octet at most
+pub IsStopping-places : (octets : List ℕ) (f : Frame) (gs : List Frame) (e : DecodeFault) (offset n : ℕ) →
     IsStopping octets f gs e offset n
     → StoppingPlaces octets f n
-stopping_places octets f gs e offset n w =
+IsStopping-places octets f gs e offset n w =
     let p = w.reached in
-    let v = opened_places octets f gs p w.before w.opened in
-    let most = begun_le (slice_range octets p f.extent.end) w.own w.stops.begun in
-    let l = slice_length octets p f.extent.end v.to v.within in
+    let v = AreOpen-places octets f gs p w.before w.opened in
+    let most = HeadersBegun-le_length (slice_range octets p f.extent.end) w.own w.stops.begun in
+    let l = length-slice_range octets p f.extent.end v.to v.within in
     record {
       order = omega (arith, v.from, v.to);
       within = v.within;
-      bound = omega (arith, w.total, opened_bound octets f gs p w.before w.opened, most, l, v.within, v.to);
+      bound = omega (arith, w.total, AreOpen-headers_le octets f gs p w.before w.opened, most, l, v.within, v.to);
     }

@@ -6,38 +6,39 @@ use Rattle.asn1_blocks.specs.declared.reading.Extent.{Extent}
 use Rattle.asn1_blocks.specs.declared.reading.OpenFrame.{OpenFrame}
 use Rattle.asn1_blocks.specs.declared.reading.Reader.{Reader}
 use Rattle.asn1_blocks.specs.Inner.OpenFrames.{AreOpen}
-use Rattle.asn1_blocks.specs.Inner.ReaderSteps.{CanEnd, EndsAs, GoesOn, HasEnded, HasEndedIn, Holding, Reads, frame, frames, left}
+use Rattle.asn1_blocks.specs.Inner.ReaderSteps.{CanEnd, EndsAs, GoesOn, HasEnded, HasEndedIn, Holding, Reads, frame, frames, work_left}
 use Rattle.asn1_blocks.specs.Tree.{Tree}
-use Rattle.asn1_blocks.proofs.Frames.Advances.{opened_more, opened_places}
-use Rattle.asn1_blocks.proofs.Frames.Closing.{close_frame, end_document, ended, inside_other}
+use Rattle.asn1_blocks.proofs.Frames.Advances.{AreOpen-follows, AreOpen-places}
+use Rattle.asn1_blocks.proofs.Frames.Closing.{IsClosed-frame, IsDocumentRead-end, IsEnded-exists, AreOpen-not_whole}
 use Rattle.asn1_blocks.proofs.Frames.Stopping.{IsClosed}
 
 -- a list with more than n items
-pub record IsNested {X : Type 0} (xs : List X) (n : ℕ) : Type 0 where
+pub record HasNext {X : Type 0} (xs : List X) (n : ℕ) : Type 0 where
   pub next : X
   pub others : List X
   pub are : xs ≡ next ∷ others
   pub count : n ≡ length others
 
-pub nested : {X : Type 0} (xs : List X) (n : ℕ) → suc n ≡ length xs → IsNested xs n
-nested [] n e = absurd (omega (arith, e))
-nested (x ∷ xs) n e = record { next = x; others = xs; are = refl; count = omega (arith, e) }
+-- a list that has more than n items has a first
+pub HasNext-longer : {X : Type 0} (xs : List X) (n : ℕ) → suc n ≡ length xs → HasNext xs n
+HasNext-longer [] n e = absurd (omega (arith, e))
+HasNext-longer (x ∷ xs) n e = record { next = x; others = xs; are = refl; count = omega (arith, e) }
 
 module _ {B I : Type 0} (Holds : Holding B I) (octets : List ℕ) where
   -- the innermost frame has one tree more, and reading goes on behind it
-  pub goes_on :
+  pub GoesOn-follows :
       (e : Extent) (j : I) (outer : Vec (OpenFrame I) Global) (end : ℕ) (b : B) (fault : ASN1DecodeErr)
       (ts : List (Tree ℕ)) (rest : List (List (Tree ℕ)))
-      (t : Tree ℕ) (n most : ℕ) → left (length octets) end outer.items < most →
+      (t : Tree ℕ) (n most : ℕ) → work_left (length octets) end outer.items < most →
       length (reverse outer.items) ≡ length rest →
       Holds octets b (record { extent = e; items = j } ∷ reverse outer.items) ((ts ++ t ∷ []) ∷ rest) →
       IsClosed octets (record { extent = e; trees = ts }) (frames (reverse outer.items) rest) end t n →
       GoesOn Holds octets (record
       { inner = record { extent = e; items = j }; outer = outer; index = end; builder = b; fault = fault }) n most
-  goes_on e j outer end b fault ts rest t n most near m h c =
+  GoesOn-follows e j outer end b fault ts rest t n most near m h c =
       let gs = frames (reverse outer.items) rest in
       let more =
-      opened_more octets (record { extent = e; trees = ts }) gs c.reached end c.before c.own t c.opened c.follows in
+      AreOpen-follows octets (record { extent = e; trees = ts }) gs c.reached end c.before c.own t c.opened c.follows in
       record {
         reading = record {
           trees = ts ++ t ∷ [];
@@ -53,22 +54,29 @@ module _ {B I : Type 0} (Holds : Holding B I) (octets : List ℕ) where
   -- the frame k ended inside the frame h
   module _ (b : B) (k h : OpenFrame I) (outer : Vec (OpenFrame I) Global) (n : ℕ)
       (w : Reads Holds octets b k (h ∷ reverse outer.items) k.extent.end n) where
-    N : IsNested w.outer (length (reverse outer.items))
-    N = nested w.outer (length (reverse outer.items)) w.matched
+    -- the trees of the frame around, and those of the frames around that
+    enclosing : HasNext w.outer (length (reverse outer.items))
+    enclosing = HasNext-longer w.outer (length (reverse outer.items)) w.matched
 
-    ending : AreOpen octets (frame k w.trees) (frames (h ∷ reverse outer.items) (N.next ∷ N.others)) k.extent.end n
-    ending = subst (λ z. AreOpen octets (frame k w.trees) (frames (h ∷ reverse outer.items) z) k.extent.end n) N.are
+    -- the frame that has ended is open inside the frame around
+    AreOpen-enclosing : AreOpen octets (frame k w.trees)
+        (frames (h ∷ reverse outer.items) (enclosing.next ∷ enclosing.others)) k.extent.end n
+    AreOpen-enclosing =
+        subst (λ z. AreOpen octets (frame k w.trees) (frames (h ∷ reverse outer.items) z) k.extent.end n) enclosing.are
         w.opened
 
     -- the frame that has ended can be closed
-    pub can_end : (depth : ℕ) → depth ≡ length outer.items → CanEnd Holds octets k depth b h.items
-    can_end depth d =
-        let v = opened_places octets (frame k w.trees) (frames (h ∷ reverse outer.items) (N.next ∷ N.others))
-        k.extent.end n ending in
+    pub CanEnd-inside : (depth : ℕ) → depth ≡ length outer.items → CanEnd Holds octets k depth b h.items
+    CanEnd-inside depth d =
+        let v =
+        AreOpen-places octets (frame k w.trees) (frames (h ∷ reverse outer.items) (enclosing.next ∷ enclosing.others))
+        k.extent.end n AreOpen-enclosing in
         record {
-          kind = inside_other octets (frame k w.trees) (frame h N.next) (frames (reverse outer.items) N.others)
-              k.extent.end n ending;
-          after = ending.after;
+          kind =
+              AreOpen-not_whole octets (frame k w.trees) (frame h enclosing.next)
+              (frames (reverse outer.items) enclosing.others)
+              k.extent.end n AreOpen-enclosing;
+          after = AreOpen-enclosing.after;
           order = omega (arith, v.from, v.to);
           within = v.within;
           extent = h.extent;
@@ -79,8 +87,8 @@ module _ {B I : Type 0} (Holds : Holding B I) (octets : List ℕ) where
         }
 
     -- reading goes on behind a frame that was closed
-    pub ended_goes_on : (depth : ℕ) (c : B) (j : I) (fault : ASN1DecodeErr) (most : ℕ) → depth ≡ length outer.items →
-        HasEndedIn Holds octets k depth b h.items c j → left (length octets) k.extent.end outer.items < most →
+    pub GoesOn-ended : (depth : ℕ) (c : B) (j : I) (fault : ASN1DecodeErr) (most : ℕ) → depth ≡ length outer.items →
+        HasEndedIn Holds octets k depth b h.items c j → work_left (length octets) k.extent.end outer.items < most →
         GoesOn Holds octets
         (record {
           inner = record { extent = h.extent; items = j };
@@ -90,31 +98,37 @@ module _ {B I : Type 0} (Holds : Holding B I) (octets : List ℕ) where
               c;
           fault = fault;
         }) n most
-    ended_goes_on depth c j fault most d is near =
+    GoesOn-ended depth c j fault most d is near =
         let gs = reverse outer.items in
-        let (t, tree) = ended octets k.extent.kind k.extent.offset k.extent.start k.extent.end w.trees ending.headed in
-        let before = subst (λ z. Holds octets b (k ∷ h ∷ gs) (w.trees ∷ z)) N.are w.holds in
+        let (t, tree) =
+        IsEnded-exists octets k.extent.kind k.extent.offset k.extent.start k.extent.end w.trees
+        AreOpen-enclosing.headed in
+        let before = subst (λ z. Holds octets b (k ∷ h ∷ gs) (w.trees ∷ z)) enclosing.are w.holds in
         let whole : EndsAs octets k.extent w.trees t = record {
           tree = tree;
-          headed = ending.headed;
-          after = ending.after;
-          order = omega (arith, ending.read.from, ending.read.to);
-          encoded = ending.read.encoded;
+          headed = AreOpen-enclosing.headed;
+          after = AreOpen-enclosing.after;
+          order = omega (arith, AreOpen-enclosing.read.from, AreOpen-enclosing.read.to);
+          encoded = AreOpen-enclosing.read.encoded;
         } in
         let after =
-        is.holds h.extent gs w.trees N.next N.others t (omega (arith, d, length-reverse outer.items)) whole before in
-        let closed = close_frame octets (frame k w.trees) (frame h N.next) (frames gs N.others) n t tree ending in
-        goes_on h.extent j outer k.extent.end c fault N.next N.others t n most near N.count after closed
+        is.holds h.extent gs w.trees enclosing.next enclosing.others t
+        (omega (arith, d, length-reverse outer.items)) whole before in
+        let closed =
+        IsClosed-frame octets (frame k w.trees) (frame h enclosing.next)
+        (frames gs enclosing.others) n t tree AreOpen-enclosing in
+        GoesOn-follows h.extent j outer k.extent.end c fault enclosing.next enclosing.others t n most near
+        enclosing.count after closed
 
   -- the document ended
-  pub document_ended : (r : Reader B I) (n : ℕ) → Reads Holds octets r.builder r.inner [] r.inner.extent.end n →
+  pub HasEnded-document : (r : Reader B I) (n : ℕ) → Reads Holds octets r.builder r.inner [] r.inner.extent.end n →
       HasEnded Holds octets r n
-  document_ended r n w = go w.outer w.matched w.holds w.opened
+  HasEnded-document r n w = go w.outer w.matched w.holds w.opened
     where
       go : (outer : List (List (Tree ℕ))) → 0 ≡ length outer → Holds octets r.builder (r.inner ∷ []) (w.trees ∷ outer)
           → AreOpen octets (frame r.inner w.trees) (frames {I = I} [] outer) r.inner.extent.end n →
           HasEnded Holds octets r n
       go [] m h o =
-          let d = end_document octets (frame r.inner w.trees) n o in
+          let d = IsDocumentRead-end octets (frame r.inner w.trees) n o in
           record { trees = w.trees; holds = h; encoded = d.encoded; begun = d.begun }
       go (us ∷ rest) m h o = absurd (omega (arith, m))

@@ -5,9 +5,10 @@ use Rattle.asn1_headers.specs.declared.error.ASN1DecodeErr.TheVariants.{OutOfMem
 use Rattle.asn1_blocks.specs.declared.reading.Reader.{Reader}
 use Rattle.asn1_blocks.specs.Inner.ReaderSteps.{HasStepped, Holding}
 
-pub stepped_memory : {A B I : Type 0} (Holds : Holding B I) (octets : List ℕ) (t : Result A ASN1DecodeErr)
+-- a step that ran out of memory leads to nothing else
+pub HasStepped-out_of_memory : {A B I : Type 0} (Holds : Holding B I) (octets : List ℕ) (t : Result A ASN1DecodeErr)
     (r : Reader B I) (n most : ℕ)
     → IsErr t × IsErrAnd t (λ e. e ≡ OutOfMemory)
     → HasStepped Holds octets t r n most
-stepped_memory Holds octets (Ok x) r n most h = absurd h.1
-stepped_memory Holds octets (Err e) r n most h = inl h.1
+HasStepped-out_of_memory Holds octets (Ok x) r n most h = absurd h.1
+HasStepped-out_of_memory Holds octets (Err e) r n most h = inl h.1

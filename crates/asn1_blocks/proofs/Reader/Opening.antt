@@ -11,10 +11,10 @@ use Rattle.asn1_blocks.specs.declared.parsed.PlacedHeader.{PlacedHeader}
 use Rattle.asn1_blocks.specs.HeadersBegun.{IsReadInside}
 use Rattle.asn1_blocks.specs.Inner.OpenFrames.{AreOpen, IsKindOf, IsStopping}
 use Rattle.asn1_blocks.specs.Places.{HeaderFound}
-use Rattle.asn1_blocks.specs.Inner.ReaderSteps.{GoesOn, HasLeaf, HasOpened, Holding, IsEntered, IsFaulty, IsLeafFault, IsReading, frame, frames, left, opened_at}
-use Rattle.asn1_blocks.proofs.Frames.Advances.{opened_bound, opened_places}
-use Rattle.asn1_blocks.proofs.Frames.Opening.{header_stopping, headed_by, leaf_follows, leaf_stopping, opened_open}
-use Rattle.asn1_blocks.proofs.Reader.Closing.{goes_on}
+use Rattle.asn1_blocks.specs.Inner.ReaderSteps.{GoesOn, HasLeaf, HasOpened, Holding, IsEntered, IsFaulty, IsLeafFault, IsReading, frame, frames, work_left, opened_at}
+use Rattle.asn1_blocks.proofs.Frames.Advances.{AreOpen-headers_le, AreOpen-places}
+use Rattle.asn1_blocks.proofs.Frames.Opening.{IsStopping-header, IsHeaded-by_header, Follows-leaf, IsStopping-leaf, AreOpen-open}
+use Rattle.asn1_blocks.proofs.Reader.Closing.{GoesOn-follows}
 
 -- where the reader is
 pub record ReaderPlaces {B I : Type 0} (octets : List ℕ) (r : Reader B I) (n : ℕ) : Type 0 where
@@ -24,27 +24,28 @@ pub record ReaderPlaces {B I : Type 0} (octets : List ℕ) (r : Reader B I) (n :
   pub bound : n ≤ r.index
 
 module _ {B I : Type 0} (Holds : Holding B I) (octets : List ℕ) where
-  pub reader_places : (r : Reader B I) (n : ℕ) → IsReading Holds octets r n → ReaderPlaces octets r n
-  reader_places r n w =
+  -- the index of a reader lies in its innermost frame, and its frame in the octets
+  pub IsReading-places : (r : Reader B I) (n : ℕ) → IsReading Holds octets r n → ReaderPlaces octets r n
+  IsReading-places r n w =
       let f = frame r.inner w.trees in
       let gs = frames (reverse r.outer.items) w.outer in
-      let v = opened_places octets f gs r.index n w.opened in
-      record { from = v.from; to = v.to; within = v.within; bound = opened_bound octets f gs r.index n w.opened }
+      let v = AreOpen-places octets f gs r.index n w.opened in
+      record { from = v.from; to = v.to; within = v.within; bound = AreOpen-headers_le octets f gs r.index n w.opened }
 
   -- a frame was opened at the header
-  pub open_goes_on :
+  pub GoesOn-open :
       (a r : Reader B I) (h : PlacedHeader) (n depth : ℕ) (kind : FrameKind) (items : I) (b : B) →
       depth ≡ length a.outer.items → IsKindOf kind h →
       HasOpened Holds octets h a.index depth a.builder items b →
       IsEntered (record { inner = a.inner; outer = a.outer; index = a.index; builder = b; fault = a.fault })
       (record { extent = opened_at a.index kind h; items = items }) r →
       HeaderFound octets a.index a.inner.extent.end h → IsReading Holds octets a n →
-      GoesOn Holds octets r (n + 1) (left (length octets) a.index a.outer.items)
-  open_goes_on a r h n depth kind items b d is new u found w =
+      GoesOn Holds octets r (n + 1) (work_left (length octets) a.index a.outer.items)
+  GoesOn-open a r h n depth kind items b d is new u found w =
       let outer = a.outer.items in
       let f : OpenFrame I = record { extent = opened_at a.index kind h; items = items } in
-      let headed = headed_by octets kind a.index a.inner.extent.end h is found in
-      let o = opened_open octets (frame a.inner w.trees) (frame f []) (frames (reverse outer) w.outer) a.index n refl
+      let headed = IsHeaded-by_header octets kind a.index a.inner.extent.end h is found in
+      let o = AreOpen-open octets (frame a.inner w.trees) (frame f []) (frames (reverse outer) w.outer) a.index n refl
       headed refl found.starts_after found.order found.ends_within
       w.opened in
       let k =
@@ -54,7 +55,7 @@ module _ {B I : Type 0} (Holds : Holding B I) (octets : List ℕ) where
       let all = w.trees ∷ w.outer in
       let l : length r.outer.items ≡ length outer + 1 =
       omega (arith, ap length u.outer, length-append outer (a.inner ∷ [])) in
-      let v = reader_places a n w in
+      let v = IsReading-places a n w in
       record {
         reading = record {
           trees = [];
@@ -73,7 +74,7 @@ module _ {B I : Type 0} (Holds : Holding B I) (octets : List ℕ) where
       }
 
   -- a leaf stands at the header
-  pub leaf_goes_on :
+  pub GoesOn-leaf :
       (a : Reader B I) (h : PlacedHeader) (n depth : ℕ) (b : B) (j : I) → depth ≡ length a.outer.items →
       HeaderFound octets a.index a.inner.extent.end h →
       (IsReadInside h.class h.constructed h.tag → ⊥) →
@@ -88,30 +89,30 @@ module _ {B I : Type 0} (Holds : Holding B I) (octets : List ℕ) where
             b;
         fault = a.fault;
       }) (n + 1)
-      (left (length octets) a.index a.outer.items)
-  leaf_goes_on a h n depth b j d found shut leaf w =
+      (work_left (length octets) a.index a.outer.items)
+  GoesOn-leaf a h n depth b j d found shut leaf w =
       let gs = reverse a.outer.items in
-      let v = reader_places a n w in
+      let v = IsReading-places a n w in
       let held =
       leaf.more.holds a.inner.extent gs w.trees w.outer (omega (arith, d, length-reverse a.outer.items)) w.holds in
-      goes_on Holds octets a.inner.extent j a.outer h.end b a.fault w.trees w.outer leaf.tree (n + 1)
-      (left (length octets) a.index a.outer.items)
+      GoesOn-follows Holds octets a.inner.extent j a.outer h.end b a.fault w.trees w.outer leaf.tree (n + 1)
+      (work_left (length octets) a.index a.outer.items)
       (omega (arith, found.starts_after, found.order, found.ends_within, v.within)) w.matched held
       (record {
         reached = a.index;
         before = n;
         own = 1;
         opened = w.opened;
-        follows = leaf_follows octets (frame a.inner w.trees) a.index h leaf.tree found shut leaf.encoded;
+        follows = Follows-leaf octets (frame a.inner w.trees) a.index h leaf.tree found shut leaf.encoded;
         total = refl;
       })
 
   -- the reader as it was, where a fault is
-  still_faulty : (a : Reader B I) (e : DecodeFault) (n m : ℕ) (w : IsReading Holds octets a n)
+  IsFaulty-still : (a : Reader B I) (e : DecodeFault) (n m : ℕ) (w : IsReading Holds octets a n)
       → IsStopping octets (frame a.inner w.trees) (frames (reverse a.outer.items) w.outer) e a.index m
-      → IsFaulty Holds octets a e m (left (length octets) a.index a.outer.items)
-  still_faulty a e n m w s =
-      let v = reader_places a n w in
+      → IsFaulty Holds octets a e m (work_left (length octets) a.index a.outer.items)
+  IsFaulty-still a e n m w s =
+      let v = IsReading-places a n w in
       record {
         refused = record {
           trees = w.trees;
@@ -127,19 +128,19 @@ module _ {B I : Type 0} (Holds : Holding B I) (octets : List ℕ) where
       }
 
   -- the header is at fault
-  pub header_faulty : (a : Reader B I) (e : DecodeFault) (n : ℕ) → length octets < 2 ^ 64
+  pub IsFaulty-header : (a : Reader B I) (e : DecodeFault) (n : ℕ) → length octets < 2 ^ 64
       → a.index ≢ a.inner.extent.end → IsReading Holds octets a n
       → HeaderFault (a.index - a.inner.extent.start) (slice_range octets a.index a.inner.extent.end) e
-      → IsFaulty Holds octets a e (n + 1) (left (length octets) a.index a.outer.items)
-  header_faulty a e n small ne w u =
-      let v = reader_places a n w in
+      → IsFaulty Holds octets a e (n + 1) (work_left (length octets) a.index a.outer.items)
+  IsFaulty-header a e n small ne w u =
+      let v = IsReading-places a n w in
       let here : a.index < a.inner.extent.end = omega (arith, v.to, ne) in
-      still_faulty a e n (n + 1) w
-      (header_stopping octets (frame a.inner w.trees) (frames (reverse a.outer.items) w.outer) a.index n e small here
+      IsFaulty-still a e n (n + 1) w
+      (IsStopping-header octets (frame a.inner w.trees) (frames (reverse a.outer.items) w.outer) a.index n e small here
       w.opened u)
 
   -- the contents octets of a leaf are
-  pub leaf_faulty : (a : Reader B I) (h : PlacedHeader) (e : DecodeFault) (n : ℕ) (b : B) (j : I) →
+  pub IsFaulty-leaf : (a : Reader B I) (h : PlacedHeader) (e : DecodeFault) (n : ℕ) (b : B) (j : I) →
       length octets < 2 ^ 64
       → HeaderFound octets a.index a.inner.extent.end h → (IsReadInside h.class h.constructed h.tag → ⊥)
       → IsLeafFault octets h a.builder a.inner.items b j e → IsReading Holds octets a n
@@ -152,9 +153,9 @@ module _ {B I : Type 0} (Holds : Holding B I) (octets : List ℕ) where
             b;
         fault = a.fault;
       }) e (n + 1)
-      (left (length octets) a.index a.outer.items)
-  leaf_faulty a h e n b j small found shut is w =
-      let stops = leaf_stopping octets (frame a.inner w.trees) (frames (reverse a.outer.items) w.outer) a.index n h e
+      (work_left (length octets) a.index a.outer.items)
+  IsFaulty-leaf a h e n b j small found shut is w =
+      let stops = IsStopping-leaf octets (frame a.inner w.trees) (frames (reverse a.outer.items) w.outer) a.index n h e
       small found w.opened shut is.class
       is.fault in
       let Faulty = λ (c : B) (k : I). IsFaulty Holds octets
@@ -166,6 +167,6 @@ module _ {B I : Type 0} (Holds : Holding B I) (octets : List ℕ) where
             c;
         fault = a.fault;
       }) e (n + 1)
-      (left (length octets) a.index a.outer.items) in
+      (work_left (length octets) a.index a.outer.items) in
       subst (λ z. Faulty z j) (sym is.builder)
-      (subst (λ z. Faulty a.builder z) (sym is.items) (still_faulty a e n (n + 1) w stops))
+      (subst (λ z. Faulty a.builder z) (sym is.items) (IsFaulty-still a e n (n + 1) w stops))

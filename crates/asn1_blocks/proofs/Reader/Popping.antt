@@ -2,9 +2,9 @@
 use Rattle.std.proofs.Common.{◌≡◌, List, [], ◌∷◌, ◌++◌, length, reverse, refl, ap, ◌∙◌, arith}
 use Rattle.std.proofs.lemmas.List.{reverse-append}
 
-pub reverse_push : {X : Type 0} (old new : List X) (x : X) → old ≡ new ++ x ∷ [] → reverse old ≡ x ∷ reverse new
-reverse_push old new x e = ap reverse e ∙ reverse-append new (x ∷ [])
+pub reverse-append_last : {X : Type 0} (old new : List X) (x : X) → old ≡ new ++ x ∷ [] → reverse old ≡ x ∷ reverse new
+reverse-append_last old new x e = ap reverse e ∙ reverse-append new (x ∷ [])
 
-pub reverse_none : {X : Type 0} (xs : List X) → length xs ≡ 0 → reverse xs ≡ []
-reverse_none [] e = refl
-reverse_none (x ∷ xs) e = absurd (omega (arith, e))
+pub reverse-empty : {X : Type 0} (xs : List X) → length xs ≡ 0 → reverse xs ≡ []
+reverse-empty [] e = refl
+reverse-empty (x ∷ xs) e = absurd (omega (arith, e))

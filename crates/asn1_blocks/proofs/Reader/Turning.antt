@@ -7,18 +7,18 @@ use Rattle.asn1_blocks.specs.declared.reading.OpenFrame.{OpenFrame}
 use Rattle.asn1_blocks.specs.declared.reading.Reader.{Reader}
 use Rattle.asn1_blocks.specs.HeadersBegun.{begun_none}
 use Rattle.asn1_blocks.specs.Inner.ReaderSteps.{GoesOn, HasEnded, HasRecovered, Holding, IsFaulty, IsFaultyDocument, IsStepped, Reads, StartsEmpty}
-use Rattle.asn1_blocks.proofs.Frames.Slices.{slice_none}
+use Rattle.asn1_blocks.proofs.Frames.Slices.{slice_range-empty}
 
 module _ {B I : Type 0} (Holds : Holding B I) (octets : List ℕ) where
   -- nothing is read yet
-  pub first_reading : (b : B) (items : I) (outer : List (OpenFrame I)) → outer ≡ [] → StartsEmpty Holds octets b items
+  pub Reads-first : (b : B) (items : I) (outer : List (OpenFrame I)) → outer ≡ [] → StartsEmpty Holds octets b items
       → Reads Holds octets b
       (record { extent = record { kind = Whole; offset = 0; start = 0; end = length octets }; items = items })
       (reverse outer) 0 0
-  first_reading b items outer none h =
+  Reads-first b items outer none h =
       let f : OpenFrame I =
       record { extent = record { kind = Whole; offset = 0; start = 0; end = length octets }; items = items } in
-      let z = slice_none octets 0 in
+      let z = slice_range-empty octets 0 in
       let first : Reads Holds octets b f [] 0 0 = record {
         trees = [];
         outer = [];
@@ -39,26 +39,31 @@ module _ {B I : Type 0} (Holds : Holding B I) (octets : List ℕ) where
       subst (λ x. Reads Holds octets b f (reverse x) 0 0) (sym none) first
 
   -- no step is left
-  pub stepped_end : (s : Option (Result (Unit {0}) ASN1DecodeErr)) (r : Reader B I) (n most : ℕ) → s ≡ None →
+  pub IsStepped-ended : (s : Option (Result (Unit {0}) ASN1DecodeErr)) (r : Reader B I) (n most : ℕ) → s ≡ None →
       IsStepped Holds octets s r n most
       → HasEnded Holds octets r n
-  stepped_end s r n most e w = subst (λ z. IsStepped Holds octets z r n most) e w
+  IsStepped-ended s r n most e w = subst (λ z. IsStepped Holds octets z r n most) e w
 
-  pub stepped_on : (s : Option (Result (Unit {0}) ASN1DecodeErr)) (x : Unit {0}) (r : Reader B I) (n most : ℕ) →
+  -- after a step that succeeded reading goes on
+  pub IsStepped-goes_on : (s : Option (Result (Unit {0}) ASN1DecodeErr)) (x : Unit {0}) (r : Reader B I) (n most : ℕ) →
       s ≡ Some (Ok x)
       → IsStepped Holds octets s r n most → GoesOn Holds octets r n most
-  stepped_on s x r n most e w = subst (λ z. IsStepped Holds octets z r n most) e w
+  IsStepped-goes_on s x r n most e w = subst (λ z. IsStepped Holds octets z r n most) e w
 
-  pub stepped_wrong : (s : Option (Result (Unit {0}) ASN1DecodeErr)) (x : ASN1DecodeErr) (r : Reader B I) (n most : ℕ) →
+  -- a step that failed ran out of memory or met a fault
+  pub IsStepped-fault : (s : Option (Result (Unit {0}) ASN1DecodeErr)) (x : ASN1DecodeErr) (r : Reader B I)
+      (n most : ℕ) →
       s ≡ Some (Err x)
       → IsStepped Holds octets s r n most → OutOfMemoryOr (λ fault. IsFaulty Holds octets r fault n most) x
-  stepped_wrong s x r n most e w = subst (λ z. IsStepped Holds octets z r n most) e w
+  IsStepped-fault s x r n most e w = subst (λ z. IsStepped Holds octets z r n most) e w
 
   -- reading goes on behind a fault, or the fault is that of the document
-  pub recovered_on : (b : Bool) (r : Reader B I) (n most : ℕ) → b ≡ true → HasRecovered Holds octets b r n most →
+  pub HasRecovered-goes_on : (b : Bool) (r : Reader B I) (n most : ℕ) → b ≡ true →
+      HasRecovered Holds octets b r n most →
       GoesOn Holds octets r n most
-  recovered_on b r n most e w = subst (λ z. HasRecovered Holds octets z r n most) e w
+  HasRecovered-goes_on b r n most e w = subst (λ z. HasRecovered Holds octets z r n most) e w
 
-  pub recovered_stop : (b : Bool) (r : Reader B I) (n most : ℕ) → b ≡ false → HasRecovered Holds octets b r n most
+  -- where a reader does not recover, its fault is that of the document
+  pub HasRecovered-stops : (b : Bool) (r : Reader B I) (n most : ℕ) → b ≡ false → HasRecovered Holds octets b r n most
       → OutOfMemoryOr (λ fault. IsFaultyDocument octets fault r.index n) r.fault
-  recovered_stop b r n most e w = subst (λ z. HasRecovered Holds octets z r n most) e w
+  HasRecovered-stops b r n most e w = subst (λ z. HasRecovered Holds octets z r n most) e w

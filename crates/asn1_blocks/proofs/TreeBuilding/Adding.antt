@@ -1,4 +1,4 @@
--- One tree more in the innermost frame, as a block or owed.
+-- One tree more in the innermost frame, as a block or a postponed one.
 use Rattle.std.proofs.Common.{◌≡◌, ℕ, List, [], ◌∷◌, ◌++◌, inl, inr, length, map, take, drop, refl, sym, ap, ◌∙◌, subst, append_assoc}
 use Rattle.std.proofs.lemmas.List.{take-append-drop}
 use Rattle.asn1_blocks.specs.declared.block.ASN1Block.{ASN1Block}
@@ -6,102 +6,112 @@ use Rattle.asn1_blocks.specs.declared.block.GroupKind.{GroupKind}
 use Rattle.asn1_blocks.specs.declared.reading.Attempt.{Attempt}
 use Rattle.asn1_blocks.specs.declared.reading.Extent.{Extent}
 use Rattle.asn1_blocks.specs.declared.reading.OpenFrame.{OpenFrame}
-use Rattle.asn1_blocks.specs.declared.owed.Owed.{Owed}
-use Rattle.asn1_blocks.specs.declared.owed.Owed.TheVariants as OwedAs
+use Rattle.asn1_blocks.specs.declared.postponed.Postponed.{Postponed}
+use Rattle.asn1_blocks.specs.declared.postponed.Postponed.TheVariants as PostponedAs
 use Rattle.asn1_blocks.specs.declared.read.FrameBlocks.{FrameBlocks}
 use Rattle.asn1_blocks.specs.declared.read.TreeBuilder.{TreeBuilder}
 use Rattle.asn1_blocks.specs.Inner.OpenFrames.{around, as_it_came}
-use Rattle.asn1_blocks.specs.Inner.Owed.{Leads}
-use Rattle.asn1_blocks.specs.Inner.TreeBuilding.{AllHold, IsKept, IsOwed, IsAdded}
+use Rattle.asn1_blocks.specs.Inner.Postponed.{Builds}
+use Rattle.asn1_blocks.specs.Inner.TreeBuilding.{AllHold, IsAddedAsItCame, IsPostponed, IsAdded}
+use Rattle.asn1_blocks.specs.Inner.ReaderSteps.{in_frame}
 use Rattle.asn1_blocks.specs.Tree.{Tree, group, trees_of}
 use Rattle.asn1_blocks.specs.View.{view}
-use Rattle.asn1_blocks.proofs.OwedBlocks.{leads_around, leads_group, leads_kept, leads_ready}
-use Rattle.asn1_blocks.proofs.TreeBuilding.Holding.{IsGrown, IsOwing, IsPushing, all_owed, all_pushed}
+use Rattle.asn1_blocks.proofs.PostponedBlocks.{Builds-explicit, Builds-group, Builds-as_it_came, Builds-ready}
+use Rattle.asn1_blocks.proofs.TreeBuilding.Holding.{AddsTree, PostponesTree, PushesBlock, AllHold-postpone, AllHold-push}
 
--- one more is owed
-ready_grown : (octets : List ℕ) (es : List Owed) (b : ASN1Block) →
-    IsGrown octets es (es ++ OwedAs.Ready b ∷ []) (view b)
-ready_grown octets es b =
-    record { more = OwedAs.Ready b ∷ []; whole = refl; leads = λ ds us h. leads_ready octets ds us b h }
+-- a postponed block that is ready is one tree more
+AddsTree-ready : (octets : List ℕ) (es : List Postponed) (b : ASN1Block) →
+    AddsTree octets es (es ++ PostponedAs.Ready b ∷ []) (view b)
+AddsTree-ready octets es b =
+    record { more = PostponedAs.Ready b ∷ []; whole = refl; leads = λ ds us h. Builds-ready octets ds us b h }
 
-kept_grown : (octets : List ℕ) (es : List Owed) (a : Attempt) (from to : ℕ)
-    → IsGrown octets es (es ++ OwedAs.Kept a from to ∷ []) (as_it_came octets a from to)
-kept_grown octets es a from to =
-    record { more = OwedAs.Kept a from to ∷ []; whole = refl; leads = λ ds us h. leads_kept octets ds us a from to h }
+-- a postponed encoding that stays as it came is one tree more
+AddsTree-as_it_came : (octets : List ℕ) (es : List Postponed) (a : Attempt) (from to : ℕ)
+    → AddsTree octets es (es ++ PostponedAs.AsItCame a from to ∷ []) (as_it_came octets a from to)
+AddsTree-as_it_came octets es a from to =
+    record {
+      more = PostponedAs.AsItCame a from to ∷ [];
+      whole = refl;
+      leads = λ ds us h. Builds-as_it_came octets ds us a
+          from to h;
+    }
 
--- what a frame that ended owes, and one that gathers it
-ended_whole : (es : List Owed) (n : ℕ) (e : Owed) → es ++ e ∷ [] ≡ take n es ++ (drop n es ++ e ∷ [])
-ended_whole es n e = ap (λ z. z ++ e ∷ []) (sym (take-append-drop n es)) ∙ append_assoc (take n es) (drop n es) (e ∷ [])
+-- the postponed blocks before a place, those behind it, and one more
+append-take_drop : (es : List Postponed) (n : ℕ) (e : Postponed) → es ++ e ∷ [] ≡ take n es ++ (drop n es ++ e ∷ [])
+append-take_drop es n e =
+    ap (λ z. z ++ e ∷ []) (sym (take-append-drop n es)) ∙ append_assoc (take n es) (drop n es) (e ∷ [])
 
-pub group_grown : (octets : List ℕ) (es : List Owed) (n : ℕ) (ts : List (Tree ℕ)) (g : GroupKind) (o owes : ℕ)
+-- a postponed group takes in the postponed blocks from a place on
+pub AddsTree-group : (octets : List ℕ) (es : List Postponed) (n : ℕ) (ts : List (Tree ℕ)) (g : GroupKind) (o behind : ℕ)
     (first : List ASN1Block)
-    → owes ≡ length ts
-    → Leads octets (drop n es) ts →
-    IsGrown octets (take n es) (es ++ OwedAs.Group g o first owes ∷ [])
+    → behind ≡ length ts
+    → Builds octets (drop n es) ts →
+    AddsTree octets (take n es) (es ++ PostponedAs.Group g o first behind ∷ [])
     (group o g (trees_of (map view first ++ ts)))
-group_grown octets es n ts g o owes first l k =
-    let e = OwedAs.Group g o first owes in
+AddsTree-group octets es n ts g o behind first l k =
+    let e = PostponedAs.Group g o first behind in
     record {
       more = drop n es ++ e ∷ [];
-      whole = ended_whole es n e;
+      whole = append-take_drop es n e;
       leads =
-          λ ds us h. leads_group octets ds (drop n es) us ts g o owes first l h k;
+          λ ds us h. Builds-group octets ds (drop n es) us ts g o behind first l h k;
     }
 
-pub around_grown : (octets : List ℕ) (es : List Owed) (n : ℕ) (x : Tree ℕ) (a : Attempt) →
-    Leads octets (drop n es) (x ∷ [])
-    → IsGrown octets (take n es) (es ++ OwedAs.Explicit a ∷ []) (around a x)
-around_grown octets es n x a k =
-    let e = OwedAs.Explicit a in
+-- a postponed explicit block takes in the one postponed block from a place on
+pub AddsTree-explicit : (octets : List ℕ) (es : List Postponed) (n : ℕ) (x : Tree ℕ) (a : Attempt) →
+    Builds octets (drop n es) (x ∷ [])
+    → AddsTree octets (take n es) (es ++ PostponedAs.Explicit a ∷ []) (around a x)
+AddsTree-explicit octets es n x a k =
+    let e = PostponedAs.Explicit a in
     record {
       more = drop n es ++ e ∷ [];
-      whole = ended_whole es n e;
+      whole = append-take_drop es n e;
       leads =
-          λ ds us h. leads_around octets ds (drop n es) us x a h k;
+          λ ds us h. Builds-explicit octets ds (drop n es) us x a h k;
     }
 
--- the frame's items were i and are j
-abbrev pub of_extent : Extent → FrameBlocks → OpenFrame FrameBlocks
-of_extent e i = record { extent = e; items = i }
-
+-- the builder a became r, and the items of the frame were i and are j
 module _ (octets : List ℕ) (a r : TreeBuilder) (i j : FrameBlocks) (e : Extent) (gs : List (OpenFrame FrameBlocks))
     (ts : List (Tree ℕ))
     (rest : List (List (Tree ℕ))) where
-  -- one more is owed, which gathers what a frame that ended owes
-  pub owed_more : (es : List Owed) (o : Owed) (t : Tree ℕ) → IsOwed a i o r j →
-      IsGrown octets es (a.owed.items ++ o ∷ []) t
-      → AllHold octets es (of_extent e i) gs ts rest →
-      AllHold octets r.owed.items (of_extent e j) gs (ts ++ t ∷ []) rest
-  owed_more es o t u grown h =
-      let all = a.owed.items ++ o ∷ [] in
-      let owing : IsOwing octets es all (of_extent e i) (of_extent e j) t =
+  -- one block more is postponed, which takes in the postponed blocks of a frame that ended
+  pub AllHold-add_postponed : (es : List Postponed) (o : Postponed) (t : Tree ℕ) → IsPostponed a i o r j →
+      AddsTree octets es (a.postponed.items ++ o ∷ []) t
+      → AllHold octets es (in_frame e i) gs ts rest →
+      AllHold octets r.postponed.items (in_frame e j) gs (ts ++ t ∷ []) rest
+  AllHold-add_postponed es o t u grown h =
+      let all = a.postponed.items ++ o ∷ [] in
+      let owing : PostponesTree octets es all (in_frame e i) (in_frame e j) t =
       record { before = u.before; first = u.first; count = u.count; grown = grown } in
-      subst (λ z. AllHold octets z (of_extent e j) gs (ts ++ t ∷ []) rest) (sym u.owed)
-      (all_owed octets es all (of_extent e i) (of_extent e j) gs ts rest t owing h)
+      subst (λ z. AllHold octets z (in_frame e j) gs (ts ++ t ∷ []) rest) (sym u.postponed)
+      (AllHold-postpone octets es all (in_frame e i) (in_frame e j) gs ts rest t owing h)
 
   -- a block was added
-  pub push_more : (b : ASN1Block) → IsAdded a i b r j
-      → AllHold octets a.owed.items (of_extent e i) gs ts rest →
-      AllHold octets r.owed.items (of_extent e j) gs (ts ++ view b ∷ []) rest
-  push_more b (inl u) h =
-      let pushing : IsPushing (of_extent e i) (of_extent e j) b =
+  pub AllHold-add_block : (b : ASN1Block) → IsAdded a i b r j
+      → AllHold octets a.postponed.items (in_frame e i) gs ts rest →
+      AllHold octets r.postponed.items (in_frame e j) gs (ts ++ view b ∷ []) rest
+  AllHold-add_block b (inl u) h =
+      let pushing : PushesBlock (in_frame e i) (in_frame e j) b =
       record { before = u.before; first = u.first; count = u.count; none = u.none } in
-      subst (λ z. AllHold octets z (of_extent e j) gs (ts ++ view b ∷ []) rest) (sym u.owed)
-      (all_pushed octets a.owed.items (of_extent e i) (of_extent e j) gs ts rest b pushing h)
-  push_more b (inr u) h = owed_more a.owed.items (OwedAs.Ready b) (view b) u (ready_grown octets a.owed.items b) h
+      subst (λ z. AllHold octets z (in_frame e j) gs (ts ++ view b ∷ []) rest) (sym u.postponed)
+      (AllHold-push octets a.postponed.items (in_frame e i) (in_frame e j) gs ts rest b pushing h)
+  AllHold-add_block b (inr u) h =
+      AllHold-add_postponed a.postponed.items (PostponedAs.Ready b) (view b) u
+      (AddsTree-ready octets a.postponed.items b) h
 
   -- a block with this tree
-  pub tree_more : (b : ASN1Block) (t : Tree ℕ) → view b ≡ t → IsAdded a i b r j
-      → AllHold octets a.owed.items (of_extent e i) gs ts rest →
-      AllHold octets r.owed.items (of_extent e j) gs (ts ++ t ∷ []) rest
-  tree_more b t is u h =
-      subst (λ z. AllHold octets r.owed.items (of_extent e j) gs (ts ++ z ∷ []) rest) is (push_more b u h)
+  pub AllHold-add_tree : (b : ASN1Block) (t : Tree ℕ) → view b ≡ t → IsAdded a i b r j
+      → AllHold octets a.postponed.items (in_frame e i) gs ts rest →
+      AllHold octets r.postponed.items (in_frame e j) gs (ts ++ t ∷ []) rest
+  AllHold-add_tree b t is u h =
+      subst (λ z. AllHold octets r.postponed.items (in_frame e j) gs (ts ++ z ∷ []) rest) is (AllHold-add_block b u h)
 
   -- an encoding stays as it came
-  pub kept_more : (k : Attempt) (start end : ℕ) → IsKept octets a i k start end r j →
-      AllHold octets a.owed.items (of_extent e i) gs ts rest
-      → AllHold octets r.owed.items (of_extent e j) gs (ts ++ as_it_came octets k start end ∷ []) rest
-  kept_more k start end (inl (b, is, added)) h = tree_more b (as_it_came octets k start end) is added h
-  kept_more k start end (inr u) h =
-      owed_more a.owed.items (OwedAs.Kept k start end) (as_it_came octets k start end) u
-      (kept_grown octets a.owed.items k start end) h
+  pub AllHold-add_as_it_came : (k : Attempt) (start end : ℕ) → IsAddedAsItCame octets a i k start end r j →
+      AllHold octets a.postponed.items (in_frame e i) gs ts rest
+      → AllHold octets r.postponed.items (in_frame e j) gs (ts ++ as_it_came octets k start end ∷ []) rest
+  AllHold-add_as_it_came k start end (inl (b, is, added)) h =
+      AllHold-add_tree b (as_it_came octets k start end) is added h
+  AllHold-add_as_it_came k start end (inr u) h =
+      AllHold-add_postponed a.postponed.items (PostponedAs.AsItCame k start end) (as_it_came octets k start end) u
+      (AddsTree-as_it_came octets a.postponed.items k start end) h

@@ -15,48 +15,45 @@ use Rattle.asn1_leaves.specs.Contents.Moment.{Moment}
 use Rattle.asn1_leaves.specs.StringKind.{StringKind-discrete}
 use Rattle.asn1_blocks.specs.Tree.{Leaf, Leaf-discrete}
 
-pub eqb_yes : (m n : ℕ) → (m == n) ≡ true → m ≡ n
-eqb_yes m n = (Decides-eqb m n).0
+pub eqb-same : (m n : ℕ) → m ≡ n → (m == n) ≡ true
+eqb-same m n = (Decides-eqb m n).1
 
-pub yes_eqb : (m n : ℕ) → m ≡ n → (m == n) ≡ true
-yes_eqb m n = (Decides-eqb m n).1
-
-pub equal_bit : (j k : Bool) → constructed_bit j ≡ constructed_bit k → j ≡ k
-equal_bit true true e = refl
-equal_bit false false e = refl
-equal_bit true false e = absurd (omega (arith, e))
-equal_bit false true e = absurd (omega (arith, e))
+pub constructed_bit-injective : (j k : Bool) → constructed_bit j ≡ constructed_bit k → j ≡ k
+constructed_bit-injective true true e = refl
+constructed_bit-injective false false e = refl
+constructed_bit-injective true false e = absurd (omega (arith, e))
+constructed_bit-injective false true e = absurd (omega (arith, e))
 
 -- equality that a test decides
-by_test : {A : Type 0} (test : A → A → Bool) → ((a b : A) → Decides (test a b) (a ≡ b)) → Discrete A
-by_test test decides a b = elim (cases_Bool (test a b)) [
+Discrete-by_test : {A : Type 0} (test : A → A → Bool) → ((a b : A) → Decides (test a b) (a ≡ b)) → Discrete A
+Discrete-by_test test decides a b = elim (cases_Bool (test a b)) [
   | inl same ↦ yes ((decides a b).0 same)
   | inr other ↦ no (λ e. false≢true (sym other ∙ (decides a b).1 e))
 ]
 
-lists_decided : Discrete (List ℕ)
-lists_decided = by_test bytes_eq bytes_eq-Decides
+octets-discrete : Discrete (List ℕ)
+octets-discrete = Discrete-by_test bytes_eq bytes_eq-Decides
 
 -- the fields of a moment but its year
 fields : Moment → List ℕ
 fields m = m.month ∷ m.day ∷ m.hour ∷ m.minute ∷ m.second ∷ m.nanosecond ∷ []
 
 -- moments with equal fields are equal
-fields_equal :
+Moment-same_fields :
     (y y' : ℤ) (m m' d d' h h' i i' s s' n n' : ℕ) → y ≡ y' →
     m ∷ d ∷ h ∷ i ∷ s ∷ n ∷ [] ≡ m' ∷ d' ∷ h' ∷ i' ∷ s' ∷ n' ∷ [] →
     ◌≡◌ {A = Moment}
     (record { year = y; month = m; day = d; hour = h; minute = i; second = s; nanosecond = n })
     (record { year = y'; month = m'; day = d'; hour = h'; minute = i'; second = s'; nanosecond = n' })
-fields_equal y y' m m' d d' h h' i i' s s' n n' e f = cc
+Moment-same_fields y y' m m' d d' h h' i i' s s' n n' e f = cc
 
-moment_decides :
+Moment-decides :
     (m n : Moment) → Decides (int_eq m.year n.year && bytes_eq (fields m) (fields n)) (m ≡ n)
 unfolding fields
-moment_decides m n = (
+Moment-decides m n = (
   λ e.
       let q = and_parts (int_eq m.year n.year) (bytes_eq (fields m) (fields n)) e in
-      fields_equal m.year n.year m.month n.month m.day n.day m.hour n.hour m.minute n.minute m.second
+      Moment-same_fields m.year n.year m.month n.month m.day n.day m.hour n.hour m.minute n.minute m.second
       n.second m.nanosecond n.nanosecond ((Decides-int_eq m.year n.year).0 q.0)
       ((bytes_eq-Decides (fields m) (fields n)).0 q.1),
   λ e.
@@ -64,31 +61,31 @@ moment_decides m n = (
       ((bytes_eq-Decides (fields m) (fields n)).1 (ap fields e)),
 )
 
-moments_decided : Discrete Moment
-moments_decided = by_test (λ m n. int_eq m.year n.year && bytes_eq (fields m) (fields n)) moment_decides
+Moment-discrete : Discrete Moment
+Moment-discrete = Discrete-by_test (λ m n. int_eq m.year n.year && bytes_eq (fields m) (fields n)) Moment-decides
 
 -- whether two leaves are equal, by whether the values of their kinds are
-pub leaves_decided : Discrete Leaf
-leaves_decided =
-    Leaf-discrete Bool-discrete ℤ_discrete ℕ_discrete lists_decided StringKind-discrete moments_decided
+pub leaf-discrete : Discrete Leaf
+leaf-discrete =
+    Leaf-discrete Bool-discrete ℤ_discrete ℕ_discrete octets-discrete StringKind-discrete Moment-discrete
 
 abbrev pub is_yes : {A : Type 0} → Dec A → Bool
 is_yes (yes a) = true
 is_yes (no a) = false
 
 abbrev pub same_leaf : Leaf → Leaf → Bool
-same_leaf l m = is_yes (leaves_decided l m)
+same_leaf l m = is_yes (leaf-discrete l m)
 
-yes_holds : {A : Type 0} (d : Dec A) → is_yes d ≡ true → A
-yes_holds (yes a) e = a
-yes_holds (no a) e = absurd (false≢true e)
+is_yes-holds : {A : Type 0} (d : Dec A) → is_yes d ≡ true → A
+is_yes-holds (yes a) e = a
+is_yes-holds (no a) e = absurd (false≢true e)
 
-holds_yes : {A : Type 0} (d : Dec A) → A → is_yes d ≡ true
-holds_yes (yes a) b = refl
-holds_yes (no a) b = absurd (a b)
+is_yes-true : {A : Type 0} (d : Dec A) → A → is_yes d ≡ true
+is_yes-true (yes a) b = refl
+is_yes-true (no a) b = absurd (a b)
 
-pub leaf_yes : (l m : Leaf) → same_leaf l m ≡ true → l ≡ m
-leaf_yes l m e = yes_holds (leaves_decided l m) e
+pub same_leaf-equal : (l m : Leaf) → same_leaf l m ≡ true → l ≡ m
+same_leaf-equal l m e = is_yes-holds (leaf-discrete l m) e
 
-pub leaf_same : (l : Leaf) → same_leaf l l ≡ true
-leaf_same l = holds_yes (leaves_decided l l) refl
+pub same_leaf-refl : (l : Leaf) → same_leaf l l ≡ true
+same_leaf-refl l = is_yes-true (leaf-discrete l l) refl

@@ -2,7 +2,7 @@
 use Rattle.std.specs.Prelude.{◌≡◌, ◌≢◌, ℕ, ◌+◌, ◌-◌, ◌<◌, ◌≤◌, Bool, true, false, List, [], ◌∷◌, length, slice_range}
 use Rattle.asn1_blocks.specs.declared.block.GroupKind.{GroupKind}
 use Rattle.asn1_headers.specs.declared.header.ASN1Class.TheVariants.{Universal}
-use Rattle.asn1_blocks.specs.declared.reading.Attempt as other
+use Rattle.asn1_blocks.specs.declared.reading.Attempt as declared
 use Rattle.asn1_blocks.specs.declared.parsed.PlacedHeader.{PlacedHeader}
 use Rattle.asn1_blocks.specs.declared.reading.Extent.{Extent}
 use Rattle.asn1_blocks.specs.declared.reading.FrameKind.{FrameKind}
@@ -22,22 +22,22 @@ IsKindOf (Group g) h = (h.class ≡ Universal) × (h.tag ≡ group_tag g)
 IsKindOf Attempt h = (h.class ≢ Universal) × (h.constructed ≡ true)
 
 -- whether the frame is an attempt
-abbrev pub is_tried : FrameKind → Bool
-is_tried Whole = false
-is_tried (Group g) = false
-is_tried Attempt = true
+abbrev pub is_attempt : FrameKind → Bool
+is_attempt Whole = false
+is_attempt (Group g) = false
+is_attempt Attempt = true
 
 -- an attempt that ended with one block, and one that stays as it came
-abbrev pub around : other.Attempt → Tree ℕ → Tree ℕ
+abbrev pub around : declared.Attempt → Tree ℕ → Tree ℕ
 around a item = explicit a.class a.offset a.tag item
 
-abbrev pub as_it_came : List ℕ → other.Attempt → ℕ → ℕ → Tree ℕ
+abbrev pub as_it_came : List ℕ → declared.Attempt → ℕ → ℕ → Tree ℕ
 as_it_came octets a start end = unknown a.class true a.offset a.tag (slice_range octets start end)
 
-abbrev pub attempted : List ℕ → other.Attempt → ℕ → ℕ → List (Tree ℕ) → Tree ℕ
-attempted octets a start end [] = as_it_came octets a start end
-attempted octets a start end (t ∷ []) = around a t
-attempted octets a start end (t ∷ u ∷ ts) = as_it_came octets a start end
+abbrev pub attempt_tree : List ℕ → declared.Attempt → ℕ → ℕ → List (Tree ℕ) → Tree ℕ
+attempt_tree octets a start end [] = as_it_came octets a start end
+attempt_tree octets a start end (t ∷ []) = around a t
+attempt_tree octets a start end (t ∷ u ∷ ts) = as_it_came octets a start end
 
 -- contents octets that are being read, and the trees so far
 pub record Frame : Type 0 where
@@ -59,29 +59,29 @@ pub record IsGroupAt (octets : List ℕ) (g : GroupKind) (offset start end : ℕ
   pub encoding : IsEncodingBetween octets Universal constructed (group_tag g) offset start end
 
 -- a constructed encoding of another class than Universal has these contents octets
-pub record IsAttemptAt (octets : List ℕ) (a : other.Attempt) (start end : ℕ) : Type 0 where
+pub record IsAttemptAt (octets : List ℕ) (a : declared.Attempt) (start end : ℕ) : Type 0 where
   pub other : a.class ≢ Universal
   pub encoding : IsEncodingBetween octets a.class true a.tag a.offset start end
 
 -- whichever attempt begins at the offset and ends there, it is this one
-abbrev pub IsAttemptAlone : List ℕ → ℕ → ℕ → other.Attempt → Type 0
+abbrev pub IsAttemptAlone : List ℕ → ℕ → ℕ → declared.Attempt → Type 0
 IsAttemptAlone octets offset end a =
-    (b : other.Attempt) (start : ℕ) → b.offset ≡ offset → IsAttemptAt octets b start end → a ≡ b
+    (b : declared.Attempt) (start : ℕ) → b.offset ≡ offset → IsAttemptAt octets b start end → a ≡ b
 
 -- the header at the offset stands before these contents octets
 abbrev pub IsHeaded : List ℕ → FrameKind → ℕ → ℕ → ℕ → Type 0
 IsHeaded octets Whole offset start end = ⊥
 IsHeaded octets (Group g) offset start end = IsGroupAt octets g offset start end
 IsHeaded octets Attempt offset start end =
-    (a : other.Attempt) × (a.offset ≡ offset) × IsAttemptAt octets a start end
+    (a : declared.Attempt) × (a.offset ≡ offset) × IsAttemptAt octets a start end
 
 -- a frame that ended with these trees is this tree
 abbrev pub IsEnded : List ℕ → FrameKind → ℕ → ℕ → ℕ → List (Tree ℕ) → Tree ℕ → Type 0
 IsEnded octets Whole offset start end ts t = ⊥
 IsEnded octets (Group g) offset start end ts t = t ≡ group offset g (trees_of ts)
 IsEnded octets Attempt offset start end ts t =
-    (a : other.Attempt) × (a.offset ≡ offset) × IsAttemptAt octets a start end
-    × (t ≡ attempted octets a start end ts)
+    (a : declared.Attempt) × (a.offset ≡ offset) × IsAttemptAt octets a start end
+    × (t ≡ attempt_tree octets a start end ts)
 
 -- the frame of the document
 pub record IsDocumentFrame (octets : List ℕ) (f : Frame) : Type 0 where

@@ -3,7 +3,7 @@ use Rattle.std.specs.Prelude.{◌≡◌, ◌≢◌, ℕ, ◌+◌, ◌*◌, ◌-�
 use Rattle.asn1_headers.specs.declared.header.ASN1Class.TheVariants.{Universal}
 use Rattle.asn1_blocks.specs.declared.parsed.PlacedHeader.{PlacedHeader}
 use Rattle.asn1_headers.specs.declared.error.ASN1DecodeErr.{ASN1DecodeErr}
-use Rattle.asn1_blocks.specs.declared.reading.Attempt as other
+use Rattle.asn1_blocks.specs.declared.reading.Attempt as declared
 use Rattle.asn1_blocks.specs.declared.reading.Extent.{Extent}
 use Rattle.asn1_blocks.specs.declared.reading.FrameKind.{FrameKind}
 use Rattle.asn1_blocks.specs.declared.reading.FrameKind.TheVariants.{Whole}
@@ -87,7 +87,7 @@ pub record HasEndedIn {B I : Type 0} (Holds : Holding B I) (octets : List ℕ) (
 
 -- the frame is an attempt that can be kept
 pub record CanBeKept (octets : List ℕ) (e : Extent) : Type 0 where
-  pub attempt : other.Attempt
+  pub attempt : declared.Attempt
   pub offset : attempt.offset ≡ e.offset
   pub headed : IsAttemptAt octets attempt e.start e.end
   pub after : e.offset < e.start
@@ -99,7 +99,7 @@ pub record CanBeKept (octets : List ℕ) (e : Extent) : Type 0 where
 pub record HasKept {B I : Type 0} (Holds : Holding B I) (octets : List ℕ) (f : OpenFrame I) (depth : ℕ)
     (a : B) (i : I) (b : B) (j : I) : Type 0 where
   pub holds : (inside : List (OpenFrame I)) (lost : List (List (Tree ℕ))) (e : Extent) (fs : List (OpenFrame I))
-      (ts us : List (Tree ℕ)) (rest : List (List (Tree ℕ))) (k : other.Attempt) → depth ≡ length fs →
+      (ts us : List (Tree ℕ)) (rest : List (List (Tree ℕ))) (k : declared.Attempt) → depth ≡ length fs →
       length inside ≡ length lost → k.offset ≡ f.extent.offset →
       IsAttemptAt octets k f.extent.start f.extent.end →
       (AreBlocks (slice_range octets f.extent.start f.extent.end) → ⊥) →
@@ -139,20 +139,20 @@ pub record IsRefused {B I : Type 0} (Holds : Holding B I) (octets : List ℕ)
   pub stopping : IsStopping octets (frame f trees) (frames gs outer) e offset n
 
 -- how much is left to do: each turn goes on in the octets, or closes a frame
-abbrev pub left : {I : Type 0} → ℕ → ℕ → List (OpenFrame I) → ℕ
-left size index outer = 2 * (size - index) + length outer
+abbrev pub work_left : {I : Type 0} → ℕ → ℕ → List (OpenFrame I) → ℕ
+work_left size index outer = 2 * (size - index) + length outer
 
 -- a fault in the innermost frame, of the block that the reader has come to, with less left to do behind it
 pub record IsFaulty {B I : Type 0} (Holds : Holding B I) (octets : List ℕ) (r : Reader B I)
     (e : DecodeFault) (n most : ℕ) : Type 0 where
   pub refused : IsRefused Holds octets r.builder r.inner (reverse r.outer.items) e r.index n
-  pub nearer : left (length octets) r.inner.extent.end r.outer.items ≤ most
+  pub nearer : work_left (length octets) r.inner.extent.end r.outer.items ≤ most
 
 -- reading goes on, with less left to do
 pub record GoesOn {B I : Type 0} (Holds : Holding B I) (octets : List ℕ) (r : Reader B I)
     (n most : ℕ) : Type 0 where
   pub reading : IsReading Holds octets r n
-  pub nearer : left (length octets) r.index r.outer.items < most
+  pub nearer : work_left (length octets) r.index r.outer.items < most
 
 -- where a step leads: reading goes on, memory ran out, or there is a fault in the innermost frame
 abbrev pub HasStepped : {A B I : Type 0} → Holding B I → List ℕ → Result A ASN1DecodeErr → Reader B I

@@ -9,19 +9,21 @@ use Rattle.asn1_blocks.specs.View.{view}
 use Rattle.asn1_blocks.proofs.contents.check_by_reading.Goals as goal
 
 -- a leaf that was read is meant
-read_found : (tag : ℕ) (contents : List ℕ) (b : Tree ℕ) → IsLeafOf 0 tag contents b → IsNoLeafOrMeant tag contents
-read_found tag contents (leaf o l) m = inr (l, m.1, m.2)
-read_found tag contents (group o g bs) m = absurd m
-read_found tag contents (explicit c o n b) m = absurd m
-read_found tag contents (unknown c k o n v) m = absurd m
+IsNoLeafOrMeant-read : (tag : ℕ) (contents : List ℕ) (b : Tree ℕ) → IsLeafOf 0 tag contents b →
+    IsNoLeafOrMeant tag contents
+IsNoLeafOrMeant-read tag contents (leaf o l) m = inr (l, m.1, m.2)
+IsNoLeafOrMeant-read tag contents (group o g bs) m = absurd m
+IsNoLeafOrMeant-read tag contents (explicit c o n b) m = absurd m
+IsNoLeafOrMeant-read tag contents (unknown c k o n v) m = absurd m
 
-option_found : (tag : ℕ) (contents : List ℕ) (found : Option ASN1Block)
+-- contents octets of which a leaf or none was read
+IsNoLeafOrMeant-found : (tag : ℕ) (contents : List ℕ) (found : Option ASN1Block)
     → MatchOption found (is_leaf_tag tag ≡ false) (λ b. IsLeafOf 0 tag contents (view b)) → IsNoLeafOrMeant tag contents
-option_found tag contents None none = inl none
-option_found tag contents (Some b) m = read_found tag contents (view b) m
+IsNoLeafOrMeant-found tag contents None none = inl none
+IsNoLeafOrMeant-found tag contents (Some b) m = IsNoLeafOrMeant-read tag contents (view b) m
 
 pub returns-clause-found : goal.returns-clause-found
 returns-clause-found c =
     let contents = c.args.contents.now in
-    let found = option_found c.in_ok-tag.tag contents c.in_ok-leaf.leaf c.in_ok-leaf.ensures.found in
+    let found = IsNoLeafOrMeant-found c.in_ok-tag.tag contents c.in_ok-leaf.leaf c.in_ok-leaf.ensures.found in
     subst (λ z. IsNoLeafOrMeant z contents) c.in_ok-tag.ensures found

@@ -1,7 +1,6 @@
 -- For `contents::check_contents`: what it returns is right (`encoded`, `refused`).
-use Rattle.std.proofs.Common.{◌≡◌, ℕ, List, Bool, true, inl, inr, refl, sym, subst, Result, Ok, Err, OnOk}
-use Rattle.std.proofs.lemmas.Result.{IfErr-weaker}
-use Rattle.asn1_headers.specs.declared.error.ASN1DecodeErr.{ASN1DecodeErr}
+use Rattle.std.proofs.Common.{◌≡◌, ℕ, List, Bool, true, inl, inr, refl, sym, subst}
+use Rattle.std.proofs.lemmas.Result.{IfErr-weaker, on_ok_weaker}
 use Rattle.asn1_headers.specs.declared.header.ASN1Class.{ASN1Class}
 use Rattle.asn1_headers.specs.declared.header.ASN1Class.TheVariants.{Universal}
 use Rattle.asn1_headers.specs.Header.{Encoding}
@@ -9,25 +8,21 @@ use Rattle.asn1_blocks.specs.Contents.{is_group_tag}
 use Rattle.asn1_blocks.specs.HeadersBegun.{IsReadInside}
 use Rattle.asn1_blocks.specs.Inner.LeafBlocks.{IsNoLeafOrMeant, IsSingleAt}
 use Rattle.asn1_blocks.specs.Tree.{leaf, unknown}
-use Rattle.asn1_blocks.proofs.Leaves.{unknown_tag, group_tag_of, leaf_tag_of, tag_kind, group_tag_is}
+use Rattle.asn1_blocks.proofs.Leaves.{unknown_tag, group_tag_of, leaf_tag_of, TagKind-total, is_group_tag-group_tag}
 use Rattle.asn1_blocks.proofs.contents.check_contents.Goals as goal
 
 -- a leaf, or contents octets that have no rule
-universal_single : (k : Bool) (n : ℕ) (contents : List ℕ) → (IsReadInside Universal k n → ⊥) →
+IsSingleAt-universal : (k : Bool) (n : ℕ) (contents : List ℕ) → (IsReadInside Universal k n → ⊥) →
     IsNoLeafOrMeant n contents
     → (offset : ℕ) (octets : List ℕ) (h : ℕ) → Encoding octets Universal k n contents h → IsSingleAt offset octets
-universal_single k n contents shut (inr (l, t, m)) offset octets h F =
+IsSingleAt-universal k n contents shut (inr (l, t, m)) offset octets h F =
     let own = subst (λ z. Encoding octets Universal k z contents h) t F in
     (leaf offset l, refl, (refl, k, contents, h, own, m))
-universal_single k n contents shut (inl none) offset octets h F = elim (tag_kind n) [
+IsSingleAt-universal k n contents shut (inl none) offset octets h F = elim (TagKind-total n) [
   | unknown_tag e ↦ (unknown Universal k offset n contents, refl, (refl, h, F, inl (refl, e)))
-  | group_tag_of g e ↦ absurd (shut (inl (refl, subst (λ z. is_group_tag z ≡ true) (sym e) (group_tag_is g))))
+  | group_tag_of g e ↦ absurd (shut (inl (refl, subst (λ z. is_group_tag z ≡ true) (sym e) (is_group_tag-group_tag g))))
   | leaf_tag_of e ↦ absurd (cc)
 ]
-
-passed : {P Q : Type 0} (r : Result (Unit {0}) ASN1DecodeErr) → (P → Q) → OnOk r P → OnOk r Q
-passed (Ok x) f p = f p
-passed (Err e) f p = tt
 
 pub returns-in-Universal-clause-encoded : goal.returns-in-Universal-clause-encoded
 returns-in-Universal-clause-encoded c =
@@ -39,9 +34,9 @@ returns-in-Universal-clause-encoded c =
     λ d e. subst (λ z. (IsReadInside z h.constructed h.tag → ⊥) → IsNoLeafOrMeant h.tag c.args.contents.now
     → (offset : ℕ) (octets : List ℕ) (i : ℕ) → Encoding octets z h.constructed h.tag c.args.contents.now i →
     IsSingleAt offset octets) (sym e)
-    (universal_single h.constructed h.tag c.args.contents.now)
+    (IsSingleAt-universal h.constructed h.tag c.args.contents.now)
     in
-    passed c.check_leaf.result (all h.class c.in-Universal.is c.requires.closed) c.check_leaf.ensures.found
+    on_ok_weaker c.check_leaf.result (all h.class c.in-Universal.is c.requires.closed) c.check_leaf.ensures.found
 
 pub returns-in-Universal-clause-refused : goal.returns-in-Universal-clause-refused
 returns-in-Universal-clause-refused c =

@@ -5,37 +5,38 @@ use Rattle.asn1_headers.specs.declared.header.ASN1Class.{ASN1Class}
 use Rattle.asn1_blocks.specs.declared.block.ASN1Block.{ASN1Block, Explicit, Integer}
 use Rattle.asn1_blocks.specs.Inner.TreeOrder.{inside}
 use Rattle.asn1_blocks.specs.View.{view, views}
-use Rattle.asn1_blocks.proofs.BlockLists.{count, count_views}
-use Rattle.asn1_blocks.proofs.CopySteps.{explicit_of_copy, sequence_of_copies, set_of_copies, view_explicit}
+use Rattle.asn1_blocks.proofs.BlockLists.{tree_count, tree_count-views}
+use Rattle.asn1_blocks.proofs.CopySteps.{view-Explicit_copy, view-Sequence_copies, view-Set_copies, view-Explicit}
 use Rattle.asn1_blocks.proofs.contents.copy_over.Goals as goal
 
 -- what is held for an explicit block is one block
-holds_one : (held : List ASN1Block) (b : ASN1Block) (c : ASN1Class) (o n : ℕ) (inner : Box ASN1Block Global) →
+length-held_one : (held : List ASN1Block) (b : ASN1Block) (c : ASN1Class) (o n : ℕ) (inner : Box ASN1Block Global) →
     b ≡ Explicit c o n inner
     → views held ≡ inside (view b) → length held ≡ 1
-holds_one held b c o n inner is e = sym (count_views held)
-    ∙ (ap count e ∙ ap (λ z. count (inside z)) (ap view is ∙ view_explicit c o n inner))
+length-held_one held b c o n inner is e = sym (tree_count-views held)
+    ∙ (ap tree_count e ∙ ap (λ z. tree_count (inside z)) (ap view is ∙ view-Explicit c o n inner))
 
 pub take_last-requires : goal.take_last-requires
 take_last-requires c =
     let r = c.in-Explicit in
-    let one = holds_one c.args.held.now c.args.b.now r.c r.o r.t r.field-3 r.is c.requires in
+    let one = length-held_one c.args.held.now c.args.b.now r.c r.o r.t r.field-3 r.is c.requires in
     omega (arith, one)
 
 -- the last of a list of one is that one
-only : (kept : List ASN1Block) (b : ASN1Block) → length (kept ++ b ∷ []) ≡ 1 → kept ++ b ∷ [] ≡ b ∷ []
-only [] b e = refl
-only (x ∷ kept) b e = absurd (omega (arith, e, length-append kept (b ∷ [])))
+append-one : (kept : List ASN1Block) (b : ASN1Block) → length (kept ++ b ∷ []) ≡ 1 → kept ++ b ∷ [] ≡ b ∷ []
+append-one [] b e = refl
+append-one (x ∷ kept) b e = absurd (omega (arith, e, length-append kept (b ∷ [])))
 
 pub returns-in_ok-boxed-in-Explicit : goal.returns-in_ok-boxed-in-Explicit
 returns-in_ok-boxed-in-Explicit c =
     let r = c.in-Explicit in
     let copy = c.take_last.result in
-    let one = holds_one c.args.held.now c.args.b.now r.c r.o r.t r.field-3 r.is c.requires in
-    let last = only _ copy (ap length (sym c.take_last.ensures) ∙ one) in
+    let one = length-held_one c.args.held.now c.args.b.now r.c r.o r.t r.field-3 r.is c.requires in
+    let last = append-one _ copy (ap length (sym c.take_last.ensures) ∙ one) in
     let e = ap views (sym (c.take_last.ensures ∙ last)) ∙ (c.requires ∙ ap (λ b. inside (view b)) r.is) in
     ap (λ n. view (Explicit r.c r.o n c.in_ok-boxed-in-Explicit.field-0)) c.in_ok-tag-in-Explicit.ensures
-    ∙ (explicit_of_copy r.c r.o r.t r.field-3 c.in_ok-boxed-in-Explicit.field-0 copy c.in_ok-boxed-in-Explicit.ensures e
+    ∙ (view-Explicit_copy r.c r.o r.t r.field-3 c.in_ok-boxed-in-Explicit.field-0 copy c.in_ok-boxed-in-Explicit.ensures
+    e
     ∙ ap view (sym r.is))
 
 pub returns-in_ok-clone-in-Integer : goal.returns-in_ok-clone-in-Integer
@@ -47,13 +48,13 @@ pub returns-in-Sequence : goal.returns-in-Sequence
 returns-in-Sequence c =
     let r = c.in-Sequence in
     let e = ap views c.take_all.ensures.all ∙ (c.requires ∙ ap (λ b. inside (view b)) r.is) in
-    sequence_of_copies r.o r.field-1 c.take_all.result e ∙ ap view (sym r.is)
+    view-Sequence_copies r.o r.field-1 c.take_all.result e ∙ ap view (sym r.is)
 
 pub returns-in-Set : goal.returns-in-Set
 returns-in-Set c =
     let r = c.in-Set in
     let e = ap views c.take_all-in-Set.ensures.all ∙ (c.requires ∙ ap (λ b. inside (view b)) r.is) in
-    set_of_copies r.o r.field-1 c.take_all-in-Set.result e ∙ ap view (sym r.is)
+    view-Set_copies r.o r.field-1 c.take_all-in-Set.result e ∙ ap view (sym r.is)
 
 pub returns-in_err-clone-in-Integer : goal.returns-in_err-clone-in-Integer
 returns-in_err-clone-in-Integer c = grind (arith, common_steps)

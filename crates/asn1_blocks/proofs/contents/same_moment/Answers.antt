@@ -11,16 +11,16 @@ use Rattle.asn1_leaves.specs.Contents.Moment.{Moment, moment_of}
 use Rattle.asn1_blocks.proofs.contents.same_moment.Goals as goal
 
 -- moments at the same nanosecond have the same fields
-same_fields : (a b : DateTime) → civil_nanos a ≡ civil_nanos b → moment_of a ≡ moment_of b
-same_fields a b e =
+moment_of-same_nanosecond : (a b : DateTime) → civil_nanos a ≡ civil_nanos b → moment_of a ≡ moment_of b
+moment_of-same_nanosecond a b e =
     let (day, time) = civil_nanos_injective a b e in
     let (y, m, d) = epoch_day_injective a.date b.date day in
     let (h, i, s, n) = time_nanos_injective a.time b.time time in
     cc
 
 -- moments with the same fields are at the same nanosecond
-same_nanosecond : (a b : DateTime) → moment_of a ≡ moment_of b → civil_nanos a ≡ civil_nanos b
-same_nanosecond a b e =
+civil_nanos-same_fields : (a b : DateTime) → moment_of a ≡ moment_of b → civil_nanos a ≡ civil_nanos b
+civil_nanos-same_fields a b e =
     let day : epoch_day a.date ≡ epoch_day b.date =
     epoch_day_same a.date b.date (ap (λ (m : Moment). m.year) e) (ap (λ (m : Moment). m.month) e)
     (ap (λ (m : Moment). m.day) e) in
@@ -37,5 +37,8 @@ pub returns : goal.returns
 returns c =
     let a = c.args.a.now in
     let b = c.args.b.now in
-    let d = Decides-int_eq (civil_nanos a) (civil_nanos b) in
-    (λ h. same_fields a b (d.0 (sym c.eq.ensures ∙ h)), λ e. c.eq.ensures ∙ d.1 (same_nanosecond a b e))
+    let d = Decides-int_eq (civil_nanos a) (civil_nanos b) in (
+      λ h. moment_of-same_nanosecond a b (d.0 (sym c.eq.ensures ∙ h)),
+      λ e. c.eq.ensures
+          ∙ d.1 (civil_nanos-same_fields a b e),
+    )

@@ -9,20 +9,24 @@ use Rattle.asn1_blocks.specs.View.{view}
 use Rattle.asn1_blocks.proofs.contents.same_own.Goals as goal
 
 -- the shape of an object identifier
-abbrev own : List ℕ → Tree (Unit {0})
-own ns = leaf tt (object_identifier ns)
+abbrev oid_shape : List ℕ → Tree (Unit {0})
+oid_shape ns = leaf tt (object_identifier ns)
 
-own_is : (o : ℕ) (ns : List ℕ) → own_shape (view (ObjectIdentifier o ns)) ≡ own ns
-own_is o ns = search (rules, the_lemmas)
+-- the shape of an OBJECT IDENTIFIER is that of its numbers
+own_shape-oid : (o : ℕ) (ns : List ℕ) → own_shape (view (ObjectIdentifier o ns)) ≡ oid_shape ns
+own_shape-oid o ns = search (rules, the_lemmas)
 
-own_alone : (ms ns : List ℕ) → own ms ≡ own ns → ms ≡ ns
-own_alone ms ns e = cc
+-- object identifiers of the same shape are equal
+oid_shape-injective : (ms ns : List ℕ) → oid_shape ms ≡ oid_shape ns → ms ≡ ns
+oid_shape-injective ms ns e = cc
 
 pub returns-in-ObjectIdentifier-ObjectIdentifier : goal.returns-in-ObjectIdentifier-ObjectIdentifier
 returns-in-ObjectIdentifier-ObjectIdentifier c =
     let r = c.in-ObjectIdentifier-ObjectIdentifier in
     let d = slice_eq-Decides Decides-eqb r.s r.t c.eq-in-ObjectIdentifier-ObjectIdentifier.result
     c.eq-in-ObjectIdentifier-ObjectIdentifier.ensures in
-    let a : own_shape (view c.args.a.now) ≡ own r.s = ap (λ b. own_shape (view b)) r.is-0 ∙ own_is r.field-0-0 r.s in
-    let b : own_shape (view c.args.b.now) ≡ own r.t = ap (λ b. own_shape (view b)) r.is-1 ∙ own_is r.field-0-1 r.t in
-    (λ h. a ∙ (ap own (d.0 h) ∙ sym b), λ e. d.1 (own_alone r.s r.t (sym a ∙ (e ∙ b))))
+    let a : own_shape (view c.args.a.now) ≡ oid_shape r.s =
+    ap (λ b. own_shape (view b)) r.is-0 ∙ own_shape-oid r.field-0-0 r.s in
+    let b : own_shape (view c.args.b.now) ≡ oid_shape r.t =
+    ap (λ b. own_shape (view b)) r.is-1 ∙ own_shape-oid r.field-0-1 r.t in
+    (λ h. a ∙ (ap oid_shape (d.0 h) ∙ sym b), λ e. d.1 (oid_shape-injective r.s r.t (sym a ∙ (e ∙ b))))

@@ -10,44 +10,44 @@ use Rattle.asn1_leaves.specs.Contents.Text.{text_form, TextFault}
 use Rattle.asn1_blocks.proofs.contents.universal_leaf.Goals as goal
 
 -- the fault of a string of characters goes on
-passed : (kind : StringKind) (tag : ℕ) (contents : List ℕ) (d : ASN1DecodeErr)
+IfErr-text_fault : (kind : StringKind) (tag : ℕ) (contents : List ℕ) (d : ASN1DecodeErr)
     (r : Result (Option ASN1Block) ASN1DecodeErr)
     → IsErr r × IsErrAnd r (λ e. e ≡ d)
     → tag ≡ string_tag kind → OutOfMemoryOr (TextFault (text_form kind) contents) d →
     IfErr r (OutOfMemoryOr (LeafFault tag contents))
-passed kind tag contents d (Ok x) h t f = tt
-passed kind tag contents d (Err e) h t (inl memory) = inl (h.1 ∙ memory)
-passed kind tag contents d (Err e) h t (inr f) =
+IfErr-text_fault kind tag contents d (Ok x) h t f = tt
+IfErr-text_fault kind tag contents d (Err e) h t (inl memory) = inl (h.1 ∙ memory)
+IfErr-text_fault kind tag contents d (Err e) h t (inr f) =
     inr (of_text kind t (subst (λ z. TextFault (text_form kind) contents (fault_of z)) (sym h.1) f))
 
 pub returns-in_err-read-in-Some-eq12-clause-refused : goal.returns-in_err-read-in-Some-eq12-clause-refused
 returns-in_err-read-in-Some-eq12-clause-refused c =
     let t : c.args.tag.now ≡ 12 = grind (arith, common_steps) in
-    passed utf8 c.args.tag.now c.args.contents.now _ c.from_residual-in_err-read-in-Some-eq12.result
+    IfErr-text_fault utf8 c.args.tag.now c.args.contents.now _ c.from_residual-in_err-read-in-Some-eq12.result
     c.from_residual-in_err-read-in-Some-eq12.ensures t c.in_err-read-in-Some-eq12.ensures.refused
 
 pub returns-in_err-read-in-Some-eq19-clause-refused : goal.returns-in_err-read-in-Some-eq19-clause-refused
 returns-in_err-read-in-Some-eq19-clause-refused c =
     let t : c.args.tag.now ≡ 19 = grind (arith, common_steps) in
-    passed printable c.args.tag.now c.args.contents.now _ c.from_residual-in_err-read-in-Some-eq19.result
+    IfErr-text_fault printable c.args.tag.now c.args.contents.now _ c.from_residual-in_err-read-in-Some-eq19.result
     c.from_residual-in_err-read-in-Some-eq19.ensures t c.in_err-read-in-Some-eq19.ensures.refused
 
 pub returns-in_err-read-in-Some-eq20-clause-refused : goal.returns-in_err-read-in-Some-eq20-clause-refused
 returns-in_err-read-in-Some-eq20-clause-refused c =
     let t : c.args.tag.now ≡ 20 = grind (arith, common_steps) in
-    passed teletex c.args.tag.now c.args.contents.now _ c.from_residual-in_err-read-in-Some-eq20.result
+    IfErr-text_fault teletex c.args.tag.now c.args.contents.now _ c.from_residual-in_err-read-in-Some-eq20.result
     c.from_residual-in_err-read-in-Some-eq20.ensures t c.in_err-read-in-Some-eq20.ensures.refused
 
 pub returns-in_err-read-in-Some-eq28-clause-refused : goal.returns-in_err-read-in-Some-eq28-clause-refused
 returns-in_err-read-in-Some-eq28-clause-refused c =
     let t : c.args.tag.now ≡ 28 = grind (arith, common_steps) in
-    passed universal c.args.tag.now c.args.contents.now _ c.from_residual-in_err-read-in-Some-eq28.result
+    IfErr-text_fault universal c.args.tag.now c.args.contents.now _ c.from_residual-in_err-read-in-Some-eq28.result
     c.from_residual-in_err-read-in-Some-eq28.ensures t c.in_err-read-in-Some-eq28.ensures.refused
 
 pub returns-in_err-read-in-Some-eq30-clause-refused : goal.returns-in_err-read-in-Some-eq30-clause-refused
 returns-in_err-read-in-Some-eq30-clause-refused c =
     let t : c.args.tag.now ≡ 30 = grind (arith, common_steps) in
-    passed bmp c.args.tag.now c.args.contents.now _ c.from_residual-in_err-read-in-Some-eq30.result
+    IfErr-text_fault bmp c.args.tag.now c.args.contents.now _ c.from_residual-in_err-read-in-Some-eq30.result
     c.from_residual-in_err-read-in-Some-eq30.ensures t c.in_err-read-in-Some-eq30.ensures.refused
 
 pub returns-in_err-read-in-Some-eq1-clause-found : goal.returns-in_err-read-in-Some-eq1-clause-found

@@ -2,25 +2,25 @@
 use Rattle.std.proofs.Common.{◌≡◌, ◌++◌, ℕ, List, ◌∙◌, take, drop, ap, sym, subst}
 use Rattle.std.proofs.lemmas.List.{take-append-drop}
 use Rattle.asn1_blocks.specs.Places.{EncodingAt, IsEncoding}
-use Rattle.asn1_blocks.proofs.EncodingSizes.{encoding_of, none_past_end}
-use Rattle.asn1_blocks.proofs.Slices.{encoding_at_alone}
+use Rattle.asn1_blocks.proofs.EncodingSizes.{EncodingAt-tree, EncodingAt-not_past_end}
+use Rattle.asn1_blocks.proofs.Slices.{EncodingAt-unique}
 use Rattle.asn1_blocks.proofs.encoding.encoding_at.Goals as goal
 
 pub returns-then-offset-document-clause-block : goal.returns-then-offset-document-clause-block
 returns-then-offset-document-clause-block c octets t =
-    none_past_end c.args.document.now c.args.offset c.if-offset-document.true octets
-    (encoding_of c.args.document.now c.args.offset octets t)
+    EncodingAt-not_past_end c.args.document.now c.args.offset c.if-offset-document.true octets
+    (EncodingAt-tree c.args.document.now c.args.offset octets t)
 
 pub returns-in_default-clause-block : goal.returns-in_default-clause-block
 returns-in_default-clause-block c octets t =
-    let p = encoding_of c.args.document.now c.args.offset octets t in
+    let p = EncodingAt-tree c.args.document.now c.args.offset octets t in
     c.in_default.ensures.none octets p.rest (c.split_at.ensures.back ∙ p.at_offset) p.encoding
 
 -- the front of what stands at the offset, as long as its header says
-stands_here : (document : List ℕ) (o n : ℕ) (rest front : List ℕ) → rest ≡ drop o document → front ≡ take n rest →
+EncodingAt-front : (document : List ℕ) (o n : ℕ) (rest front : List ℕ) → rest ≡ drop o document → front ≡ take n rest →
     IsEncoding (take n rest)
     → EncodingAt document o front
-stands_here document o n rest front r f are = record {
+EncodingAt-front document o n rest front r f are = record {
   rest = drop n (drop o document);
   at_offset = sym (take-append-drop n (drop o document))
       ∙ ap (λ z. z ++ drop n (drop o document)) (sym (f ∙ ap (take n) r));
@@ -30,7 +30,8 @@ stands_here document o n rest front r f are = record {
 pub returns-clause-found : goal.returns-clause-found
 returns-clause-found c =
     let (_, _, are) = c.in-Some.ensures.found in
-    stands_here c.args.document.now c.args.offset c.in-Some.size _ _ c.split_at.ensures.back c.split_at-2.ensures.front
+    EncodingAt-front c.args.document.now c.args.offset c.in-Some.size _ _ c.split_at.ensures.back
+    c.split_at-2.ensures.front
     are
 
 pub returns-clause-block : goal.returns-clause-block
@@ -38,5 +39,5 @@ returns-clause-block c octets t =
     let document = c.args.document.now in
     let (_, _, are) = c.in-Some.ensures.found in
     let here =
-    stands_here document c.args.offset c.in-Some.size _ _ c.split_at.ensures.back c.split_at-2.ensures.front are in
-    encoding_at_alone document c.args.offset _ octets here (encoding_of document c.args.offset octets t)
+    EncodingAt-front document c.args.offset c.in-Some.size _ _ c.split_at.ensures.back c.split_at-2.ensures.front are in
+    EncodingAt-unique document c.args.offset _ octets here (EncodingAt-tree document c.args.offset octets t)

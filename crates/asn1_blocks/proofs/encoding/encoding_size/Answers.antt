@@ -4,16 +4,16 @@ use Rattle.std.proofs.Common.{◌≡◌, ◌+◌, ◌<◌, ◌≤◌, length, dr
 use Rattle.std.proofs.lemmas.List.{length-take-le}
 use Rattle.asn1_headers.specs.Header.{BeginsWithNo, IsLength}
 use Rattle.asn1_blocks.specs.Places.{IsEncoding}
-use Rattle.asn1_blocks.proofs.EncodingSizes.{no_identifier_here, no_length_here, no_contents_here, encoding_here, encoding_two}
+use Rattle.asn1_blocks.proofs.EncodingSizes.{IsEncoding-not_without_identifier, IsEncoding-not_without_length, IsEncoding-not_cut_off, IsEncoding-front, IsEncoding-two_le}
 use Rattle.asn1_blocks.proofs.encoding.encoding_size.Goals as goal
 
 pub returns-in_default-clause-none : goal.returns-in_default-clause-none
-returns-in_default-clause-none c = no_identifier_here c.args.octets.now c.in_default.ensures.none
+returns-in_default-clause-none c = IsEncoding-not_without_identifier c.args.octets.now c.in_default.ensures.none
 
 pub returns-in-Err-clause-none : goal.returns-in-Err-clause-none
 returns-in-Err-clause-none c =
     let (_, le, tag, t) = c.in-Some.ensures.found in
-    no_length_here c.args.octets.now c.in-Some.identifier tag t
+    IsEncoding-not_without_length c.args.octets.now c.in-Some.identifier tag t
     (subst (BeginsWithNo IsLength) c.split_at.ensures.back c.in-Err.ensures.refused)
 
 pub returns-in_default-checked_add-clause-none : goal.returns-in_default-checked_add-clause-none
@@ -26,7 +26,7 @@ returns-in_default-checked_add-clause-none c =
     let u = c.in-Ok.ensures.found in
     let e = c.split_at.ensures.back in
     let few : l ≤ length (drop i octets) = subst (λ z. l ≤ length z) e u.0 in
-    no_contents_here octets i l m tag t le (subst (λ z. IsLength (take l z) m) e u.1) few
+    IsEncoding-not_cut_off octets i l m tag t le (subst (λ z. IsLength (take l z) m) e u.1) few
     (omega (arith, c.in_default-checked_add.ensures))
 
 pub returns-then-size-octets-clause-found : goal.returns-then-size-octets-clause-found
@@ -43,10 +43,10 @@ returns-then-size-octets-clause-found c =
     let s : n ≡ i + l + m = omega (arith, c.in-Some-checked_add.ensures) in
     let fits : n ≤ length octets = omega arith in
     let p : IsEncoding (take (i + l + m) octets) =
-    encoding_here octets i l m tag t le (subst (λ z. IsLength (take l z) m) e u.1) few
+    IsEncoding-front octets i l m tag t le (subst (λ z. IsLength (take l z) m) e u.1) few
     (omega (arith, s, fits)) in
     let q : IsEncoding (take n octets) = subst (λ z. IsEncoding (take z octets)) (sym s) p in
-    (omega (arith, encoding_two (take n octets) q, length-take-le n octets fits), fits, q)
+    (omega (arith, IsEncoding-two_le (take n octets) q, length-take-le n octets fits), fits, q)
 
 pub returns-else-size-octets-clause-none : goal.returns-else-size-octets-clause-none
 returns-else-size-octets-clause-none c =
@@ -61,7 +61,11 @@ returns-else-size-octets-clause-none c =
     let few : l ≤ length (drop i octets) = subst (λ z. l ≤ length z) e u.0 in
     let s : n ≡ i + l + m = omega (arith, c.in-Some-checked_add.ensures) in
     let short : length octets < n = omega arith in
-    no_contents_here octets i l m tag t le (subst (λ z. IsLength (take l z) m) e u.1) few (omega (arith, s, short))
+    IsEncoding-not_cut_off octets i l m tag t le (subst (λ z. IsLength (take l z) m) e u.1) few (omega (
+      arith,
+      s,
+      short,
+    ))
 
 pub returns-in_default-clause-found : goal.returns-in_default-clause-found
 returns-in_default-clause-found c = grind (arith, common_steps)

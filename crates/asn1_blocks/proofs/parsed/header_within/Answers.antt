@@ -3,7 +3,7 @@ use Rattle.std.proofs.Common.{◌+◌, ◌-◌, ◌^◌, inl, inr, refl, subst, 
 use Rattle.std.proofs.lemmas.Bool.{cases_lt}
 use Rattle.std.specs.List.{slice_range}
 use Rattle.asn1_headers.specs.HeaderFault.{HeaderFault}
-use Rattle.asn1_blocks.proofs.PlacedHeaders.{far_at, long_at, placed}
+use Rattle.asn1_blocks.proofs.PlacedHeaders.{HeaderFault-too_far, HeaderFault-too_long, HeaderFound-fits}
 use Rattle.asn1_blocks.proofs.parsed.header_within.Goals as goal
 
 pub returns-then-announced-rest-clause-refused : goal.returns-then-announced-rest-clause-refused
@@ -15,18 +15,20 @@ returns-then-announced-rest-clause-refused c =
     elim (cases_lt (before + h.announced) (2 ^ 64)) [
       | inl near ↦
           inr (subst (HeaderFault offset rest) (sym (c.too_long.ensures.near near))
-          (long_at rest h.size h.announced h.class h.constructed h.tag c.in_ok-header.ensures.found before offset refl
+          (HeaderFault-too_long rest h.size h.announced h.class h.constructed h.tag c.in_ok-header.ensures.found before
+          offset refl
           near
           (omega (arith, c.if-announced-rest.true))))
       | inr far ↦
           inr (subst (HeaderFault offset rest) (sym (c.too_long.ensures.far far))
-          (far_at rest h.size h.announced h.class h.constructed h.tag c.in_ok-header.ensures.found before offset refl
+          (HeaderFault-too_far rest h.size h.announced h.class h.constructed h.tag c.in_ok-header.ensures.found before
+          offset refl
           far))
     ]
 
 pub returns-clause-found : goal.returns-clause-found
 returns-clause-found c =
     let h = c.in_ok-header.header in
-    placed c.args.octets.now c.args.offset c.args.end h.size h.announced h.class h.constructed h.tag
+    HeaderFound-fits c.args.octets.now c.args.offset c.args.end h.size h.announced h.class h.constructed h.tag
     c.in_ok-header.ensures.found
     (omega (arith, c.requires.more)) (omega (arith, c.requires.within)) (omega (arith, c.if-announced-rest.false))

@@ -1,11 +1,12 @@
 -- For `read::read_blocks`: `read_into` may be called.
 use Rattle.std.proofs.Common.{None, length, refl}
 use Rattle.asn1_blocks.specs.declared.reading.FrameKind.TheVariants.{Whole}
-use Rattle.asn1_blocks.proofs.TreeBuilding.Ending.{starts_empty}
+use Rattle.asn1_blocks.proofs.TreeBuilding.Ending.{AllHold-empty}
 use Rattle.asn1_blocks.proofs.read.read_blocks.Goals as goal
 
 pub read_into-requires-clause-empty : goal.read_into-requires-clause-empty
 read_into-requires-clause-empty c =
-    starts_empty c.args.i.now (record { kind = Whole; offset = 0; start = 0; end = length c.args.i.now })
-    (record { owed = c.new.result; outermost = None })
-    (record { first = c.in-Ok.first; owed_before = 0; owed_count = 0 }) c.new.ensures.items refl refl c.in-Ok.ensures
+    AllHold-empty c.args.i.now (record { kind = Whole; offset = 0; start = 0; end = length c.args.i.now })
+    (record { postponed = c.new.result; outermost = None })
+    (record { first = c.in-Ok.first; postponed_before = 0; postponed_count = 0 })
+    c.new.ensures.items refl refl c.in-Ok.ensures

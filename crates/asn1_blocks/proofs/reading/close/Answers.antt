@@ -3,23 +3,25 @@ use Rattle.std.proofs.Common.{◌≡◌, ℕ, ◌<◌, List, ◌∷◌, length, 
 use Rattle.std.proofs.lemmas.Grind.{common_steps}
 use Rattle.asn1_blocks.specs.declared.reading.OpenFrame.{OpenFrame}
 use Rattle.asn1_blocks.specs.declared.reading.Reader.{Reader}
-use Rattle.asn1_blocks.specs.Inner.ReaderSteps.{Holding, Reads, left}
-use Rattle.asn1_blocks.proofs.Reader.Closing.{can_end, ended_goes_on}
-use Rattle.asn1_blocks.proofs.Reader.Memory.{stepped_memory}
+use Rattle.asn1_blocks.specs.Inner.ReaderSteps.{Holding, Reads, work_left}
+use Rattle.asn1_blocks.proofs.Reader.Closing.{CanEnd-inside, GoesOn-ended}
+use Rattle.asn1_blocks.proofs.Reader.Memory.{HasStepped-out_of_memory}
 use Rattle.asn1_blocks.proofs.reading.close.Goals as goal
 
 -- the frame that ended, as it was taken out of the reader
-ended : {B I : Type 0} (Holds : Holding B I) (octets : List ℕ) (r : Reader B I) (k f h : OpenFrame I) (n : ℕ) →
+Reads-taken : {B I : Type 0} (Holds : Holding B I) (octets : List ℕ) (r : Reader B I) (k f h : OpenFrame I) (n : ℕ) →
     k ≡ r.inner → h ≡ f
     → Reads Holds octets r.builder r.inner (f ∷ reverse r.outer.items) r.inner.extent.end n
     → Reads Holds octets r.builder k (h ∷ reverse r.outer.items) k.extent.end n
-ended Holds octets r k f h n own new w =
+Reads-taken Holds octets r k f h n own new w =
     subst (λ z. Reads Holds octets r.builder k (z ∷ reverse r.outer.items) k.extent.end n) (sym new)
     (subst (λ z. Reads Holds octets r.builder z (f ∷ reverse r.outer.items) z.extent.end n) (sym own) w)
 
-left_at : {B I : Type 0} (octets : List ℕ) (r : Reader B I) (k f : OpenFrame I) → k ≡ r.inner
-    → left (length octets) k.extent.end r.outer.items < left (length octets) r.inner.extent.end (f ∷ r.outer.items)
-left_at {B} {I} octets r k f own =
+-- less work is left when a frame was taken out of the list
+work_left-taken_lt : {B I : Type 0} (octets : List ℕ) (r : Reader B I) (k f : OpenFrame I) → k ≡ r.inner
+    → work_left (length octets) k.extent.end r.outer.items < work_left (length octets) r.inner.extent.end
+    (f ∷ r.outer.items)
+work_left-taken_lt {B} {I} octets r k f own =
     let e : k.extent.end ≡ r.inner.extent.end = ap (λ (z : OpenFrame I). z.extent.end) own in
     omega (arith, e)
 
@@ -29,15 +31,17 @@ close-requires g c =
     let k = (c.replace-items.result) in
     let h = c.replace-items.new.dest in
     let n = c.requires.reading.0 in
-    let w = ended g.B.Builder.holds c.args.octets.now r k c.args.parent h n c.replace-items.ensures.value
+    let w = Reads-taken g.B.Builder.holds c.args.octets.now r k c.args.parent h n c.replace-items.ensures.value
     c.replace-items.ensures.after
     c.requires.reading.1 in
     let depth : c.len-depth.result ≡ length r.outer.items = grind (arith, common_steps) in
-    can_end g.B.Builder.holds c.args.octets.now r.builder k h r.outer n w c.len-depth.result depth
+    CanEnd-inside g.B.Builder.holds c.args.octets.now r.builder k h r.outer n w c.len-depth.result depth
 
 pub returns-in_err-close : goal.returns-in_err-close
 returns-in_err-close g c =
-    record { stepped = λ n w. stepped_memory g.B.Builder.holds c.args.octets.now _ _ n _ c.from_residual.ensures }
+    record {
+      stepped = λ n w. HasStepped-out_of_memory g.B.Builder.holds c.args.octets.now _ _ n _ c.from_residual.ensures;
+    }
 
 pub returns : goal.returns
 returns g c =
@@ -48,9 +52,9 @@ returns g c =
           let k = (c.replace-items.result) in
           let h = c.replace-items.new.dest in
           let own = c.replace-items.ensures.value in
-          let w = ended g.B.Builder.holds octets r k c.args.parent h n own c.replace-items.ensures.after read in
+          let w = Reads-taken g.B.Builder.holds octets r k c.args.parent h n own c.replace-items.ensures.after read in
           let depth : c.len-depth.result ≡ length r.outer.items = grind (arith, common_steps) in
-          ended_goes_on g.B.Builder.holds octets r.builder k h r.outer n w c.len-depth.result c.close.new.self
+          GoesOn-ended g.B.Builder.holds octets r.builder k h r.outer n w c.len-depth.result c.close.new.self
           c.close.new.parent r.fault _ depth
-          c.in_ok-close.ensures (left_at octets r k c.args.parent own);
+          c.in_ok-close.ensures (work_left-taken_lt octets r k c.args.parent own);
     }

@@ -2,21 +2,21 @@
 -- `bounded`, `refused`), `take_step` and `recover` may be called, and its loop ends.
 use Rattle.std.proofs.Common.{◌≡◌, ◌<◌, false, true, Some, inl, inr, length, ap, ◌∙◌, arith}
 use Rattle.std.proofs.lemmas.Grind.{common_steps}
+use Rattle.std.proofs.lemmas.List.{nil_from_length}
 use Rattle.asn1_blocks.specs.HeadersBegun.{begun_none}
-use Rattle.asn1_blocks.proofs.ReadSteps.{no_octets}
-use Rattle.asn1_blocks.proofs.Reader.Opening.{reader_places}
-use Rattle.asn1_blocks.proofs.Reader.Turning.{first_reading, recovered_on, recovered_stop, stepped_end, stepped_on, stepped_wrong}
+use Rattle.asn1_blocks.proofs.Reader.Opening.{IsReading-places}
+use Rattle.asn1_blocks.proofs.Reader.Turning.{Reads-first, HasRecovered-goes_on, HasRecovered-stops, IsStepped-ended, IsStepped-goes_on, IsStepped-fault}
 use Rattle.asn1_blocks.proofs.reading.read_into.Goals as goal
 
 pub returns-then-is_empty-clause-counted : goal.returns-then-is_empty-clause-counted
 returns-then-is_empty-clause-counted g c =
     let none : length c.args.octets.now ≡ 0 = grind (arith, common_steps) in
-    inr (0, begun_none (no_octets c.args.octets.now none), omega arith)
+    inr (0, begun_none (nil_from_length c.args.octets.now none), omega arith)
 
 pub turns-init : goal.turns-init
 turns-init g c = (
   0,
-  first_reading g.B.Builder.holds c.args.octets.now c.args.builder c.args.items c.in-Ok.outer.items
+  Reads-first g.B.Builder.holds c.args.octets.now c.args.builder c.args.items c.in-Ok.outer.items
       c.in-Ok.ensures.items c.requires.empty,
   omega arith,
 )
@@ -24,7 +24,7 @@ turns-init g c = (
 pub take_step-requires-clause-reading : goal.take_step-requires-clause-reading
 take_step-requires-clause-reading g c =
     let (n, w, e) = c.turns.invariant in
-    let v = reader_places g.B.Builder.holds c.args.octets.now c.turns.reader n w in
+    let v = IsReading-places g.B.Builder.holds c.args.octets.now c.turns.reader n w in
     (n, w, omega (arith, v.bound, v.to, v.within, e, c.requires.room))
 
 pub returns-in-None-clause-document : goal.returns-in-None-clause-document
@@ -32,7 +32,7 @@ returns-in-None-clause-document g c =
     let (n, w, e) = c.turns.invariant in
     let t = c.take_step.ensures.stepped n c.args.count.now w e in
     let r = c.take_step.new.reader in
-    let d = stepped_end g.B.Builder.holds c.args.octets.now c.take_step.result r t.begun _ c.in-None.is t.stepped in
+    let d = IsStepped-ended g.B.Builder.holds c.args.octets.now c.take_step.result r t.begun _ c.in-None.is t.stepped in
     let some : 0 < length c.args.octets.now = grind (arith, common_steps) in
     record {
       trees = d.trees;
@@ -46,7 +46,7 @@ pub returns-in-None-clause-counted : goal.returns-in-None-clause-counted
 returns-in-None-clause-counted g c =
     let (n, w, e) = c.turns.invariant in
     let t = c.take_step.ensures.stepped n c.args.count.now w e in
-    let d = stepped_end g.B.Builder.holds c.args.octets.now c.take_step.result c.take_step.new.reader t.begun _
+    let d = IsStepped-ended g.B.Builder.holds c.args.octets.now c.take_step.result c.take_step.new.reader t.begun _
     c.in-None.is t.stepped in
     (t.begun, d.begun, t.counted)
 
@@ -66,7 +66,7 @@ pub turns-smaller-in-Some-Ok : goal.turns-smaller-in-Some-Ok
 turns-smaller-in-Some-Ok g c =
     let (n, w, e) = c.turns.invariant in
     let t = c.take_step.ensures.stepped n c.args.count.now w e in
-    let on = stepped_on g.B.Builder.holds c.args.octets.now c.take_step.result _ c.take_step.new.reader t.begun _
+    let on = IsStepped-goes_on g.B.Builder.holds c.args.octets.now c.take_step.result _ c.take_step.new.reader t.begun _
     (c.in-Some-Ok.is ∙ ap Some c.in-Some-Ok.field-0-is)
     t.stepped in
     on.nearer
@@ -75,7 +75,7 @@ pub turns-preserved-in-Some-Ok : goal.turns-preserved-in-Some-Ok
 turns-preserved-in-Some-Ok g c =
     let (n, w, e) = c.turns.invariant in
     let t = c.take_step.ensures.stepped n c.args.count.now w e in
-    let on = stepped_on g.B.Builder.holds c.args.octets.now c.take_step.result _ c.take_step.new.reader t.begun _
+    let on = IsStepped-goes_on g.B.Builder.holds c.args.octets.now c.take_step.result _ c.take_step.new.reader t.begun _
     (c.in-Some-Ok.is ∙ ap Some c.in-Some-Ok.field-0-is)
     t.stepped in
     (t.begun, on.reading, t.counted)
@@ -84,7 +84,8 @@ pub recover-requires-clause-failed : goal.recover-requires-clause-failed
 recover-requires-clause-failed g c =
     let (n, w, e) = c.turns.invariant in
     let t = c.take_step.ensures.stepped n c.args.count.now w e in
-    let wrong = stepped_wrong g.B.Builder.holds c.args.octets.now c.take_step.result _ c.take_step.new.reader t.begun _
+    let wrong =
+    IsStepped-fault g.B.Builder.holds c.args.octets.now c.take_step.result _ c.take_step.new.reader t.begun _
     (c.in-Some-Err.is ∙ ap Some c.in-Some-Err.field-0-is)
     t.stepped in
     (t.begun, _, wrong)
@@ -93,11 +94,12 @@ pub returns-then-not-recover-clause-refused : goal.returns-then-not-recover-clau
 returns-then-not-recover-clause-refused g c =
     let (n, w, e) = c.turns.invariant in
     let t = c.take_step.ensures.stepped n c.args.count.now w e in
-    let wrong = stepped_wrong g.B.Builder.holds c.args.octets.now c.take_step.result _ c.take_step.new.reader t.begun _
+    let wrong =
+    IsStepped-fault g.B.Builder.holds c.args.octets.now c.take_step.result _ c.take_step.new.reader t.begun _
     (c.in-Some-Err.is ∙ ap Some c.in-Some-Err.field-0-is)
     t.stepped in
     let stops : c.recover.result ≡ false = grind (arith, common_steps) in
-    let s = recovered_stop g.B.Builder.holds c.args.octets.now c.recover.result c.recover.new.reader t.begun _ stops
+    let s = HasRecovered-stops g.B.Builder.holds c.args.octets.now c.recover.result c.recover.new.reader t.begun _ stops
     (c.recover.ensures.recovered t.begun _ wrong) in
     elim s [ inl memory ↦ inl memory | inr f ↦ inr (inr f.fault) ]
 
@@ -105,11 +107,12 @@ pub returns-then-not-recover-clause-counted : goal.returns-then-not-recover-clau
 returns-then-not-recover-clause-counted g c =
     let (n, w, e) = c.turns.invariant in
     let t = c.take_step.ensures.stepped n c.args.count.now w e in
-    let wrong = stepped_wrong g.B.Builder.holds c.args.octets.now c.take_step.result _ c.take_step.new.reader t.begun _
+    let wrong =
+    IsStepped-fault g.B.Builder.holds c.args.octets.now c.take_step.result _ c.take_step.new.reader t.begun _
     (c.in-Some-Err.is ∙ ap Some c.in-Some-Err.field-0-is)
     t.stepped in
     let stops : c.recover.result ≡ false = grind (arith, common_steps) in
-    let s = recovered_stop g.B.Builder.holds c.args.octets.now c.recover.result c.recover.new.reader t.begun _ stops
+    let s = HasRecovered-stops g.B.Builder.holds c.args.octets.now c.recover.result c.recover.new.reader t.begun _ stops
     (c.recover.ensures.recovered t.begun _ wrong) in
     elim s [ inl memory ↦ inl memory | inr f ↦ inr (t.begun, f.begun, t.counted) ]
 
@@ -129,11 +132,13 @@ pub turns-smaller : goal.turns-smaller
 turns-smaller g c =
     let (n, w, e) = c.turns.invariant in
     let t = c.take_step.ensures.stepped n c.args.count.now w e in
-    let wrong = stepped_wrong g.B.Builder.holds c.args.octets.now c.take_step.result _ c.take_step.new.reader t.begun _
+    let wrong =
+    IsStepped-fault g.B.Builder.holds c.args.octets.now c.take_step.result _ c.take_step.new.reader t.begun _
     (c.in-Some-Err.is ∙ ap Some c.in-Some-Err.field-0-is)
     t.stepped in
     let goes : c.recover.result ≡ true = grind (arith, common_steps) in
-    let on = recovered_on g.B.Builder.holds c.args.octets.now c.recover.result c.recover.new.reader t.begun _ goes
+    let on =
+    HasRecovered-goes_on g.B.Builder.holds c.args.octets.now c.recover.result c.recover.new.reader t.begun _ goes
     (c.recover.ensures.recovered t.begun _ wrong) in
     on.nearer
 
@@ -141,10 +146,12 @@ pub turns-preserved : goal.turns-preserved
 turns-preserved g c =
     let (n, w, e) = c.turns.invariant in
     let t = c.take_step.ensures.stepped n c.args.count.now w e in
-    let wrong = stepped_wrong g.B.Builder.holds c.args.octets.now c.take_step.result _ c.take_step.new.reader t.begun _
+    let wrong =
+    IsStepped-fault g.B.Builder.holds c.args.octets.now c.take_step.result _ c.take_step.new.reader t.begun _
     (c.in-Some-Err.is ∙ ap Some c.in-Some-Err.field-0-is)
     t.stepped in
     let goes : c.recover.result ≡ true = grind (arith, common_steps) in
-    let on = recovered_on g.B.Builder.holds c.args.octets.now c.recover.result c.recover.new.reader t.begun _ goes
+    let on =
+    HasRecovered-goes_on g.B.Builder.holds c.args.octets.now c.recover.result c.recover.new.reader t.begun _ goes
     (c.recover.ensures.recovered t.begun _ wrong) in
     (t.begun, on.reading, t.counted)

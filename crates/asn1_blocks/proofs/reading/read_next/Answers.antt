@@ -4,22 +4,23 @@ use Rattle.std.proofs.lemmas.Bool.{false≢true}
 use Rattle.std.proofs.lemmas.Grind.{common_steps}
 use Rattle.std.proofs.lemmas.Result.{err_from_is_err_and}
 use Rattle.asn1_blocks.specs.HeadersBegun.{IsReadInside}
-use Rattle.asn1_blocks.proofs.Reader.Opening.{header_faulty, leaf_faulty, leaf_goes_on, open_goes_on, reader_places}
+use Rattle.asn1_blocks.proofs.Reader.Opening.{IsFaulty-header, IsFaulty-leaf, GoesOn-leaf, GoesOn-open, IsReading-places}
 use Rattle.asn1_blocks.proofs.reading.read_next.Goals as goal
 
 pub header_within-requires-clause-from : goal.header_within-requires-clause-from
 header_within-requires-clause-from g c =
-    (reader_places g.B.Builder.holds c.args.octets.now c.args.reader.now c.requires.reading.0 c.requires.reading.1).from
+    (IsReading-places g.B.Builder.holds c.args.octets.now c.args.reader.now c.requires.reading.0
+    c.requires.reading.1).from
 
 pub header_within-requires-clause-more : goal.header_within-requires-clause-more
 header_within-requires-clause-more g c =
     let v =
-    reader_places g.B.Builder.holds c.args.octets.now c.args.reader.now c.requires.reading.0 c.requires.reading.1 in
+    IsReading-places g.B.Builder.holds c.args.octets.now c.args.reader.now c.requires.reading.0 c.requires.reading.1 in
     omega (arith, v.to, c.requires.more)
 
 pub header_within-requires-clause-within : goal.header_within-requires-clause-within
 header_within-requires-clause-within g c =
-    (reader_places g.B.Builder.holds c.args.octets.now c.args.reader.now c.requires.reading.0
+    (IsReading-places g.B.Builder.holds c.args.octets.now c.args.reader.now c.requires.reading.0
     c.requires.reading.1).within
 
 pub returns-in_err-header-clause-stepped : goal.returns-in_err-header-clause-stepped
@@ -27,7 +28,7 @@ returns-in_err-header-clause-stepped g c n w =
     let p = err_from_is_err_and c.from_residual.result c.from_residual.ensures.1 in
     rw (p.1, p.2) (elim c.in_err-header.ensures.refused [
       | inl memory ↦ inl memory
-      | inr fault ↦ inr (header_faulty g.B.Builder.holds c.args.octets.now c.args.reader.now _ n c.requires.small
+      | inr fault ↦ inr (IsFaulty-header g.B.Builder.holds c.args.octets.now c.args.reader.now _ n c.requires.small
           c.requires.more w fault)
     ])
 
@@ -35,7 +36,7 @@ pub open-requires-clause-found : goal.open-requires-clause-found
 open-requires-clause-found g c = (
   _,
   c.in_ok-header.ensures.found,
-  (reader_places g.B.Builder.holds c.args.octets.now c.args.reader.now c.requires.reading.0
+  (IsReading-places g.B.Builder.holds c.args.octets.now c.args.reader.now c.requires.reading.0
       c.requires.reading.1).within,
 )
 
@@ -43,7 +44,7 @@ pub leaf-requires-clause-found : goal.leaf-requires-clause-found
 leaf-requires-clause-found g c = (
   _,
   c.in_ok-header.ensures.found,
-  (reader_places g.B.Builder.holds c.args.octets.now c.args.reader.now c.requires.reading.0
+  (IsReading-places g.B.Builder.holds c.args.octets.now c.args.reader.now c.requires.reading.0
       c.requires.reading.1).within,
 )
 
@@ -51,7 +52,7 @@ pub returns-then-is_read_inside-clause-stepped : goal.returns-then-is_read_insid
 returns-then-is_read_inside-clause-stepped g c n w =
     let a = c.args.reader.now in
     let depth : c.len-depth.result ≡ length a.outer.items = grind (arith, common_steps) in
-    open_goes_on g.B.Builder.holds c.args.octets.now a c.enter.new.reader c.in_ok-header.header n c.len-depth.result
+    GoesOn-open g.B.Builder.holds c.args.octets.now a c.enter.new.reader c.in_ok-header.header n c.len-depth.result
     c.kind_of.result
     c.in_ok-items.items c.open.new.self depth c.kind_of.ensures c.in_ok-items.ensures c.in_ok-enter.ensures
     c.in_ok-header.ensures.found w
@@ -64,7 +65,7 @@ returns-in_err-leaf-clause-stepped g c n w =
     let p = err_from_is_err_and c.from_residual-in_err-leaf.result c.from_residual-in_err-leaf.ensures.1 in
     rw (p.1, p.2) (elim c.in_err-leaf.ensures.refused [
       | inl memory ↦ inl memory
-      | inr fault ↦ inr (leaf_faulty g.B.Builder.holds c.args.octets.now c.args.reader.now h _ n c.leaf.new.self
+      | inr fault ↦ inr (IsFaulty-leaf g.B.Builder.holds c.args.octets.now c.args.reader.now h _ n c.leaf.new.self
           c.leaf.new.items c.requires.small
           c.in_ok-header.ensures.found leaf fault w)
     ])
@@ -75,6 +76,6 @@ returns-clause-stepped g c n w =
     let a = c.args.reader.now in
     let leaf : IsReadInside h.class h.constructed h.tag → ⊥ = grind (arith, common_steps) in
     let depth : c.len-depth.result ≡ length a.outer.items = grind (arith, common_steps) in
-    leaf_goes_on g.B.Builder.holds c.args.octets.now a h n c.len-depth.result c.leaf.new.self c.leaf.new.items depth
+    GoesOn-leaf g.B.Builder.holds c.args.octets.now a h n c.len-depth.result c.leaf.new.self c.leaf.new.items depth
     c.in_ok-header.ensures.found leaf
     c.in_ok-leaf.ensures.built w

@@ -4,7 +4,7 @@ use Rattle.std.proofs.lemmas.Grind.{common_steps}
 use Rattle.std.proofs.Common.{arith}
 use Rattle.asn1_headers.specs.declared.error.ASN1DecodeErr.TheVariants.{OutOfMemory}
 use Rattle.asn1_blocks.specs.Inner.ReaderSteps.{IsFaulty}
-use Rattle.asn1_blocks.proofs.Frames.Opening.{fault_here}
+use Rattle.asn1_blocks.proofs.Frames.Opening.{OutOfMemoryOr-fault}
 use Rattle.asn1_blocks.proofs.reading.recover.Goals as goal
 
 pub refuse-requires-clause-faulty : goal.refuse-requires-clause-faulty
@@ -12,7 +12,7 @@ refuse-requires-clause-faulty g c =
     let other : c.args.e ≡ OutOfMemory → ⊥ = grind (arith, common_steps) in (
       c.requires.failed.0,
       c.requires.failed.1,
-      fault_here (λ z. IsFaulty g.B.Builder.holds c.args.octets.now c.args.reader.now z c.requires.failed.0
+      OutOfMemoryOr-fault (λ z. IsFaulty g.B.Builder.holds c.args.octets.now c.args.reader.now z c.requires.failed.0
           c.requires.failed.1) c.args.e
           c.requires.failed.2 other,
     )
@@ -23,6 +23,6 @@ returns g c =
     record {
       recovered = λ n most w.
           c.refuse.ensures.recovered n most
-          (fault_here (λ z. IsFaulty g.B.Builder.holds c.args.octets.now c.args.reader.now z n most) c.args.e w
+          (OutOfMemoryOr-fault (λ z. IsFaulty g.B.Builder.holds c.args.octets.now c.args.reader.now z n most) c.args.e w
           other);
     }

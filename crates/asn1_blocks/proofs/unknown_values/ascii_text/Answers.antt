@@ -5,13 +5,13 @@ use Rattle.std.specs.List.{list_all}
 use Rattle.std.proofs.lemmas.Bool.{and_from}
 use Rattle.std.proofs.lemmas.Grind.{common_steps}
 use Rattle.asn1_blocks.specs.UnknownValues.{is_ascii_character, is_ascii_tag}
-use Rattle.asn1_blocks.proofs.AsciiTexts.{characters_ascii}
+use Rattle.asn1_blocks.proofs.AsciiTexts.{IsAscii-characters}
 use Rattle.asn1_blocks.proofs.unknown_values.ascii_text.Goals as goal
 
 pub text_of_ascii-requires : goal.text_of_ascii-requires
 text_of_ascii-requires c =
     let all : list_all (is_ascii_character c.args.tag) c.args.contents.now ≡ true = grind (arith, common_steps) in
-    characters_ascii c.args.tag c.args.contents.now all
+    IsAscii-characters c.args.tag c.args.contents.now all
 
 pub returns : goal.returns
 returns c =

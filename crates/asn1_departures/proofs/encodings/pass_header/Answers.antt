@@ -4,7 +4,7 @@ use Rattle.asn1_headers.specs.Fault.{fault_of}
 use Rattle.asn1_headers.specs.HeaderFault.{HeaderFault}
 use Rattle.asn1_departures.specs.Departures.{at_front}
 use Rattle.asn1_departures.specs.Steps.{rest_of}
-use Rattle.asn1_blocks.proofs.ReadSteps.{slice_length}
+use Rattle.asn1_blocks.proofs.ReadSteps.{length-slice_range}
 use Rattle.asn1_departures.proofs.Fronts.{is_at_end-parts}
 use Rattle.asn1_departures.proofs.Walk.{slice_range-end_of_contents, HeaderFaultBehind-end}
 use Rattle.asn1_departures.proofs.encodings.pass_header.Goals as goal
@@ -31,7 +31,7 @@ returns-in-Err-clause-refused c =
     let more = c.requires.more in
     let here : at.index - 0 ≡ at.index = omega arith in
     let some : 0 < length (rest_of x at.index) =
-    omega (arith, more, slice_length x at.index (length x) (omega (arith, more)) (omega arith)) in
+    omega (arith, more, length-slice_range x at.index (length x) (omega (arith, more)) (omega arith)) in
     elim c.in-Err.ensures.refused [
       | inl memory ↦ inl memory
       | inr fault ↦ inr (at_front some

@@ -1,7 +1,7 @@
 -- For `walk::refuse`: its loop keeps its invariant and what it returns is right.
 use Rattle.std.proofs.Common.{◌≡◌, [], true, inr, arith}
 use Rattle.std.proofs.lemmas.Grind.{common_steps}
-use Rattle.asn1_blocks.specs.Inner.OpenFrames.{is_tried}
+use Rattle.asn1_blocks.specs.Inner.OpenFrames.{is_attempt}
 use Rattle.asn1_outline.proofs.Listed.{if_ok}
 use Rattle.asn1_outline.proofs.Walks.{faulty_kept, faulty_out, faulty_whole, turned}
 use Rattle.asn1_outline.proofs.walk.refuse.Goals as goal
@@ -11,7 +11,7 @@ returns-then-attempt c =
     let x = c.args._octets.now in
     let w = c.loop-parent.reader in
     let g = c.in-Some.parent in
-    let tries : is_tried w.inner.extent.kind ≡ true = grind (arith, common_steps) in
+    let tries : is_attempt w.inner.extent.kind ≡ true = grind (arith, common_steps) in
     turned x _ _ c.add-step.result c.turn_of.result c.turn_of.new.reader c.turn_of.ensures
     (if_ok c.add-step.result
     (faulty_kept x w g c.pop.new.self _ _ _ c.loop-parent.invariant.faulty c.in-Some.ensures.items c.cut.new.self
@@ -24,7 +24,7 @@ loop-parent-preserved c =
     let x = c.args._octets.now in
     let w = c.loop-parent.reader in
     let g = c.in-Some.parent in
-    let group : is_tried w.inner.extent.kind ≡ true → ⊥ = grind (arith, common_steps) in
+    let group : is_attempt w.inner.extent.kind ≡ true → ⊥ = grind (arith, common_steps) in
     record {
       faulty = faulty_out x w g c.pop.new.self _ _ _ c.loop-parent.invariant.faulty c.in-Some.ensures.items group;
     }

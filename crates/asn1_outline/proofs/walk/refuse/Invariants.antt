@@ -1,7 +1,7 @@
 -- For `walk::refuse`: what each turn of its loop keeps and what grows less, so that it ends.
 use Rattle.std.proofs.Common.{length}
 use Rattle.asn1_headers.specs.Fault.{fault_of}
-use Rattle.asn1_blocks.specs.Inner.ReaderSteps.{left}
+use Rattle.asn1_blocks.specs.Inner.ReaderSteps.{work_left}
 use Rattle.asn1_outline.specs.Walking.{IsFaulty}
 use Rattle.asn1_outline.proofs.walk.refuse.Given as goal
 
@@ -9,7 +9,7 @@ use Rattle.asn1_outline.proofs.walk.refuse.Given as goal
 abbrev pub invariant-loop-parent : goal.invariant-loop-parent
 invariant-loop-parent l = record {
   faulty : IsFaulty l._octets l.reader (fault_of l.error) l.reader.index
-      (left (length l._octets) l.fn.reader.index l.fn.reader.outer.items);
+      (work_left (length l._octets) l.fn.reader.index l.fn.reader.outer.items);
 }
 
 abbrev pub decreases-loop-parent : goal.decreases-loop-parent

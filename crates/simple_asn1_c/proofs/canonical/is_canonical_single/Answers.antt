@@ -2,14 +2,15 @@
 use Rattle.std.proofs.Common.{◌<◌, ◌^◌, length, ap, sym, ◌∙◌, arith}
 use Rattle.std.specs.Prelude.{not}
 use Rattle.std.proofs.lemmas.Grind.{common_steps}
-use Rattle.asn1_blocks.proofs.Leaves.{unknown_said}
+use Rattle.asn1_blocks.proofs.Leaves.{IsUnknownTag-iff_not_known}
 use Rattle.simple_asn1_c.proofs.CanonicalRecords.{empty_group, empty_is, other_block, universal_unknown_block, universal_leaf_block}
 use Rattle.simple_asn1_c.proofs.canonical.is_canonical_single.Goals as goal
 
 pub returns-then-not-is_known : goal.returns-then-not-is_known
 returns-then-not-is_known c said =
     let small : length c.args.contents.now < 2 ^ 64 = grind (arith, common_steps) in
-    let without = (unknown_said c.args.tag c.is_known.result c.is_known.ensures).0 (ap not c.if-not-is_known.true) in
+    let without =
+    (IsUnknownTag-iff_not_known c.args.tag c.is_known.result c.is_known.ensures).0 (ap not c.if-not-is_known.true) in
     universal_unknown_block c.args.class c.args.constructed c.args.tag c.args.contents.now small c.in-Universal.is
     without
 

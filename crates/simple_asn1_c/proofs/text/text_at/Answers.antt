@@ -4,7 +4,7 @@ use Rattle.std.specs.Prelude.{IsUtf8}
 use Rattle.std.specs.Str.{chars}
 use Rattle.asn1_headers.specs.Fault.{fault_of}
 use Rattle.asn1_leaves.specs.Contents.Text.{TextContents, TextFault, text_form}
-use Rattle.asn1_blocks.proofs.Leaves.{string_tag_small}
+use Rattle.asn1_blocks.proofs.Leaves.{string_tag-lt}
 use Rattle.simple_asn1.specs.Contents.{leaf_tag, of_text, string_tag}
 use Rattle.simple_asn1.specs.Tree.{Leaf, text}
 use Rattle.simple_asn1_c.specs.Room.{ArePut}
@@ -18,7 +18,7 @@ leaf_of : (octets : List ℕ) (offset : ℕ) → (utf8 : List ℕ) × IsTextAt o
 leaf_of octets offset (s, (kind, is)) = (text kind (chars s), (kind, refl), is)
 
 small : (tag : ℕ) → IsTextTag tag → tag < 2 ^ 64
-small tag (kind, e) = omega (arith, e, string_tag_small kind)
+small tag (kind, e) = omega (arith, e, string_tag-lt kind)
 
 pub returns-in-Err : goal.returns-in-Err
 returns-in-Err c =
@@ -50,7 +50,7 @@ returns-then-are_own_text c =
     let v = c.in-Ok.found.1.now in
     let (n, u, number) = c.in-Ok.ensures.found in
     let (kind, tag, form) = c.in-Some.ensures in
-    let same : n ≡ string_tag kind = small_tag n c.in-Ok.found.0 (string_tag kind) number tag (string_tag_small kind) in
+    let same : n ≡ string_tag kind = small_tag n c.in-Ok.found.0 (string_tag kind) number tag (string_tag-lt kind) in
     let means = subst (λ z. TextContents z (chars v) v) form (c.if-are_own_text.ensures.meant refl) in
     let is =
     leaf_here octets offset (text kind (chars v)) v (subst (λ z. UniversalAt octets offset z v) same u) means in
@@ -64,7 +64,7 @@ returns-in-Ok-read c =
     let s = string_bytes c.in-Ok-read.text in
     let (n, u, number) = c.in-Ok.ensures.found in
     let (kind, tag, form) = c.in-Some.ensures in
-    let same : n ≡ string_tag kind = small_tag n c.in-Ok.found.0 (string_tag kind) number tag (string_tag_small kind) in
+    let same : n ≡ string_tag kind = small_tag n c.in-Ok.found.0 (string_tag kind) number tag (string_tag-lt kind) in
     let means = subst (λ z. TextContents z (chars s) v) form c.in-Ok-read.ensures.found in
     let is =
     leaf_here octets offset (text kind (chars s)) v (subst (λ z. UniversalAt octets offset z v) same u) means in
@@ -82,7 +82,7 @@ returns-in-Err-read c =
     let put = c.nothing_put-in-Err-read.ensures in
     let (n, u, number) = c.in-Ok.ensures.found in
     let (kind, tag, form) = c.in-Some.ensures in
-    let same : n ≡ string_tag kind = small_tag n c.in-Ok.found.0 (string_tag kind) number tag (string_tag_small kind) in
+    let same : n ≡ string_tag kind = small_tag n c.in-Ok.found.0 (string_tag kind) number tag (string_tag-lt kind) in
     let told = put.status ∙ c.status_of_fault.ensures in
     elim c.in-Err-read.ensures.refused [
       | inl memory ↦ text_is_missing (inl (told ∙ ap (λ z. status_of (fault_of z)) memory)) put.offset put.count refl

@@ -3,24 +3,23 @@
 use Rattle.std.proofs.Common.{◌≡◌, ◌↔◌, List, ◌∷◌, [], ◌++◌, ◌<◌, ◌+◌, arith, length, take, refl, sym, ap, ◌∙◌}
 use Rattle.std.proofs.lemmas.Bool.{false≢true}
 use Rattle.std.proofs.lemmas.Grind.{common_steps}
-use Rattle.std.proofs.lemmas.List.{take_all, take_more}
+use Rattle.std.proofs.lemmas.List.{take_all, take_more, nil_from_length}
 use Rattle.asn1_blocks.specs.declared.block.ASN1Block.{ASN1Block}
 use Rattle.asn1_blocks.specs.HeadersBegun.{all_blocks_in}
 use Rattle.asn1_blocks.specs.View.{view, views}
 use Rattle.asn1_blocks.specs.Tree.{more_trees, no_trees, shape, shapes}
-use Rattle.asn1_blocks.proofs.BlockLists.{same_length, shape_at, shapes_push}
-use Rattle.asn1_blocks.proofs.SameSteps.{AreSame, blocks_at, fewer_blocks, lasts}
-use Rattle.asn1_blocks.proofs.TreeOrders.{none_in}
+use Rattle.asn1_blocks.proofs.BlockLists.{length-same_shapes, shape-get_or, shapes-append_last}
+use Rattle.asn1_blocks.proofs.SameSteps.{AreSame, blocks_in-get_or_le, all_blocks_in-last_lt, AreSame-by_lasts}
 use Rattle.asn1_blocks.proofs.block.same.+same.Goals as goal
 
 pub same_all-returns-in_default : goal.same_all-returns-in_default
 same_all-returns-in_default t c =
     let v = c.loop-x.v.now in
     let w = c.loop-x.w.now in
-    let e : v ≡ [] = none_in v (grind (arith, common_steps)) in (
+    let e : v ≡ [] = nil_from_length v (grind (arith, common_steps)) in (
       λ h. c.loop-x.invariant.same.0
-          (ap (λ z. shapes (views z)) (e ∙ sym (none_in w (grind (arith, common_steps, h))))),
-      λ s. let n = same_length v w (c.loop-x.invariant.same.1 s) in grind (arith, common_steps, n),
+          (ap (λ z. shapes (views z)) (e ∙ sym (nil_from_length w (grind (arith, common_steps, h))))),
+      λ s. let n = length-same_shapes v w (c.loop-x.invariant.same.1 s) in grind (arith, common_steps, n),
     )
 
 pub same_all-returns-in_default-split_last : goal.same_all-returns-in_default-split_last
@@ -28,13 +27,15 @@ same_all-returns-in_default-split_last t c =
     let v = c.loop-x.v.now in
     let w = c.loop-x.w.now in (
       λ h. absurd (false≢true h),
-      λ s. let n = same_length v w (c.loop-x.invariant.same.1 s) in
+      λ s. let n = length-same_shapes v w (c.loop-x.invariant.same.1 s) in
           absurd (grind (arith, common_steps, n, ap (λ z. length z) c.in-Some.ensures.cases.0)),
     )
 
 pub same_all-returns-then-not-same_own : goal.same_all-returns-then-not-same_own
 same_all-returns-then-not-same_own t c =
-    let l = lasts c.loop-x.v.now c.loop-x.w.now c.in-Some.v_front.now c.in-Some-split_last.w_front.now c.in-Some.x.now
+    let l =
+    AreSame-by_lasts c.loop-x.v.now c.loop-x.w.now c.in-Some.v_front.now c.in-Some-split_last.w_front.now
+    c.in-Some.x.now
     c.in-Some-split_last.y.now
     c.in-Some.ensures.cases.0 c.in-Some-split_last.ensures.cases.0 in (
       λ h. absurd (false≢true h),
@@ -43,12 +44,14 @@ same_all-returns-then-not-same_own t c =
 
 pub same_all-same_each-requires : goal.same_all-same_each-requires
 same_all-same_each-requires t c =
-    let f = fewer_blocks c.loop-x.v.now c.in-Some.v_front.now c.in-Some.x.now c.in-Some.ensures.cases.0 in
+    let f = all_blocks_in-last_lt c.loop-x.v.now c.in-Some.v_front.now c.in-Some.x.now c.in-Some.ensures.cases.0 in
     (omega (arith, f.0, c.loop-x.invariant.fewer), tt)
 
 pub same_all-returns-then-not-same_each : goal.same_all-returns-then-not-same_each
 same_all-returns-then-not-same_each t c =
-    let l = lasts c.loop-x.v.now c.loop-x.w.now c.in-Some.v_front.now c.in-Some-split_last.w_front.now c.in-Some.x.now
+    let l =
+    AreSame-by_lasts c.loop-x.v.now c.loop-x.w.now c.in-Some.v_front.now c.in-Some-split_last.w_front.now
+    c.in-Some.x.now
     c.in-Some-split_last.y.now
     c.in-Some.ensures.cases.0 c.in-Some-split_last.ensures.cases.0 in (
       λ h. absurd (false≢true h),
@@ -57,17 +60,17 @@ same_all-returns-then-not-same_each t c =
 
 pub same_all-loop-x-smaller : goal.same_all-loop-x-smaller
 same_all-loop-x-smaller t c =
-    let f = fewer_blocks c.loop-x.v.now c.in-Some.v_front.now c.in-Some.x.now c.in-Some.ensures.cases.0 in
+    let f = all_blocks_in-last_lt c.loop-x.v.now c.in-Some.v_front.now c.in-Some.x.now c.in-Some.ensures.cases.0 in
     omega (arith, f.1, ap (λ z. all_blocks_in z) c.blocks_inside-v.ensures)
 
 pub same_all-loop-x-preserved : goal.same_all-loop-x-preserved
 same_all-loop-x-preserved t c =
     let x = c.in-Some.x.now in
     let y = c.in-Some-split_last.y.now in
-    let l = lasts c.loop-x.v.now c.loop-x.w.now c.in-Some.v_front.now c.in-Some-split_last.w_front.now x y
+    let l = AreSame-by_lasts c.loop-x.v.now c.loop-x.w.now c.in-Some.v_front.now c.in-Some-split_last.w_front.now x y
     c.in-Some.ensures.cases.0
     c.in-Some-split_last.ensures.cases.0 in
-    let f = fewer_blocks c.loop-x.v.now c.in-Some.v_front.now x c.in-Some.ensures.cases.0 in
+    let f = all_blocks_in-last_lt c.loop-x.v.now c.in-Some.v_front.now x c.in-Some.ensures.cases.0 in
     let a = ap shapes c.blocks_inside-v.ensures in
     let b = ap shapes c.blocks_inside-w.ensures in
     record {
@@ -82,18 +85,19 @@ same_all-loop-x-preserved t c =
 pub same_each-returns-then-a-b : goal.same_each-returns-then-a-b
 same_each-returns-then-a-b t c = (
   λ h. absurd (false≢true h),
-  λ e. absurd (c.if-a-b.true (grind (arith, common_steps, same_length c.args.a.now c.args.b.now e))),
+  λ e. absurd (c.if-a-b.true (grind (arith, common_steps, length-same_shapes c.args.a.now c.args.b.now e))),
 )
 
 pub same_each-same_all-requires : goal.same_each-same_all-requires
 same_each-same_all-requires t c =
-    let n = blocks_at c.args.a.now c.loop-i.i c.index-a-i.result (grind (arith, common_steps)) c.index-a-i.is in
+    let n =
+    blocks_in-get_or_le c.args.a.now c.loop-i.i c.index-a-i.result (grind (arith, common_steps)) c.index-a-i.is in
     (grind (arith, common_steps, n, ap (λ z. all_blocks_in (views z)) c.from_ref.ensures.value), tt)
 
 -- a list of one block
-alone : (xs ys : List ASN1Block) (x y : ASN1Block) → xs ≡ x ∷ [] → ys ≡ y ∷ [] →
+AreSame-single : (xs ys : List ASN1Block) (x y : ASN1Block) → xs ≡ x ∷ [] → ys ≡ y ∷ [] →
     AreSame xs ys ↔ (shape (view x) ≡ shape (view y))
-alone xs ys x y e f =
+AreSame-single xs ys x y e f =
     let p = ap (λ z. shapes (views z)) e in
     let q = ap (λ z. shapes (views z)) f in (
       λ s. let t : AreSame (x ∷ []) (y ∷ []) = sym p ∙ (s ∙ q) in
@@ -107,12 +111,12 @@ same_each-returns-then-not-same_all t c =
     let ys = c.args.b.now in
     let i = c.loop-i.i in
     let l : i < length xs = grind (arith, common_steps) in
-    let o = alone c.from_ref.result.now c.from_ref-in-loop-i.result.now c.index-a-i.result c.index-b-i.result
+    let o = AreSame-single c.from_ref.result.now c.from_ref-in-loop-i.result.now c.index-a-i.result c.index-b-i.result
     c.from_ref.ensures.value
     c.from_ref-in-loop-i.ensures.value in (
       λ h. absurd (false≢true h),
       λ e. absurd (false≢true (c.if-not-same_all.ensures.1 (o.1
-          (ap (λ z. shape (view z)) c.index-a-i.is ∙ (shape_at xs ys c.index-a-i.result c.index-b-i.result i e l
+          (ap (λ z. shape (view z)) c.index-a-i.is ∙ (shape-get_or xs ys c.index-a-i.result c.index-b-i.result i e l
           ∙ ap (λ z. shape (view z)) (sym c.index-b-i.is)))))),
     )
 
@@ -125,7 +129,7 @@ same_each-loop-i-preserved t c =
     let m : i < length ys = grind (arith, common_steps) in
     let x = c.index-a-i.result in
     let y = c.index-b-i.result in
-    let o = alone c.from_ref.result.now c.from_ref-in-loop-i.result.now x y c.from_ref.ensures.value
+    let o = AreSame-single c.from_ref.result.now c.from_ref-in-loop-i.result.now x y c.from_ref.ensures.value
     c.from_ref-in-loop-i.ensures.value in
     let f : shape (view x) ≡ shape (view y) = o.0 (c.if-not-same_all.ensures.0 refl) in
     let p : take (i + 1) xs ≡ take i xs ++ x ∷ [] =
@@ -133,7 +137,7 @@ same_each-loop-i-preserved t c =
     let q : take (i + 1) ys ≡ take i ys ++ y ∷ [] =
     take_more ys i y m ∙ ap (λ z. take i ys ++ z ∷ []) (sym c.index-b-i.is) in
     ap (λ z. shapes (views z)) p
-    ∙ (shapes_push (take i xs) (take i ys) x y c.loop-i.invariant f ∙ ap (λ z. shapes (views z)) (sym q))
+    ∙ (shapes-append_last (take i xs) (take i ys) x y c.loop-i.invariant f ∙ ap (λ z. shapes (views z)) (sym q))
 
 pub same_each-returns : goal.same_each-returns
 same_each-returns t c =

@@ -3,7 +3,7 @@ use Rattle.std.proofs.Common.{◌-◌, inl, inr, refl}
 use Rattle.std.proofs.lemmas.Result.{err_from_is_err_and}
 use Rattle.std.specs.List.{slice_range}
 use Rattle.asn1_blocks.specs.View.{view}
-use Rattle.asn1_blocks.proofs.TreeBuilding.Adding.{push_more}
+use Rattle.asn1_blocks.proofs.TreeBuilding.Adding.{AllHold-add_block}
 use Rattle.asn1_blocks.proofs.read.TreeBuilderBuilder.leaf.Goals as goal
 
 pub returns : goal.returns
@@ -19,7 +19,8 @@ returns c =
             found.encoding;
         more = record {
           holds = λ e fs ts rest depth w.
-              push_more octets c.args.self.now c.push_block.new.self c.args.items.now c.push_block.new.items e fs ts
+              AllHold-add_block octets c.args.self.now c.push_block.new.self c.args.items.now c.push_block.new.items e
+              fs ts
               rest block c.in_ok-push_block.ensures w;
         };
       };

@@ -5,7 +5,7 @@ use Rattle.std.specs.Prelude.{IfNone, IfSome, IsSomeAnd}
 use Rattle.asn1_blocks.specs.Places.{EncodingAt, HasNoEncodingAt}
 use Rattle.asn1_blocks.specs.Tree.{Tree}
 use Rattle.asn1_blocks.specs.View.{tree_offset}
-use Rattle.asn1_blocks.proofs.Slices.{encoding_at_alone}
+use Rattle.asn1_blocks.proofs.Slices.{EncodingAt-unique}
 use Rattle.asn1_outline.specs.Structure.{IsEncodedIn, tree_at}
 use Rattle.asn1_outline.proofs.Lent.{found_entry, found_within}
 use Rattle.asn1_outline.proofs.Standing.{encoding_of, structure_stands}
@@ -20,7 +20,7 @@ encoded_found x o b octets None found none at s =
     none octets (subst (λ z. EncodingAt x z octets) at (encoding_of x b octets s))
 encoded_found x o b octets (Some r) found none at s =
     subst (IsEncodedIn x b)
-    (encoding_at_alone x o octets r.now (subst (λ z. EncodingAt x z octets) at (encoding_of x b octets s)) found) s
+    (EncodingAt-unique x o octets r.now (subst (λ z. EncodingAt x z octets) at (encoding_of x b octets s)) found) s
 
 pub returns-in_default-clause-found : goal.returns-in_default-clause-found
 returns-in_default-clause-found c ns d h =

@@ -1,7 +1,7 @@
 -- For `outline::Outline::from_der_counted`: what it returns is right (`accepts`, `refuses`, `counted`, `grown`,
 -- `bounded`) and its result keeps the invariant of its type.
 use Rattle.std.proofs.Common.{◌<◌, ◌^◌, Err, length, arith}
-use Rattle.asn1_blocks.proofs.Readings.{document_accepted_here, fault_refused_here}
+use Rattle.asn1_blocks.proofs.Readings.{IsDocument-accepted_located, FirstFaultAt-refused}
 use Rattle.asn1_outline.proofs.Answered.{none_refused, only_entries}
 use Rattle.std.proofs.lemmas.Grind.{merely}
 use Rattle.asn1_outline.proofs.outline.Outline.from_der_counted.Goals as goal
@@ -17,12 +17,12 @@ returns-in-Ok-clause-refuses c fault o p =
 pub returns-in-Err-clause-accepts : goal.returns-in-Err-clause-accepts
 returns-in-Err-clause-accepts c =
     let small : length c.args.octets.now < 2 ^ 64 = omega arith in
-    document_accepted_here c.args.octets.now (Err c.in-Err.located) small tt c.in-Err.ensures.refused
+    IsDocument-accepted_located c.args.octets.now (Err c.in-Err.located) small tt c.in-Err.ensures.refused
 
 pub returns-in-Err-clause-refuses : goal.returns-in-Err-clause-refuses
 returns-in-Err-clause-refuses c =
     let small : length c.args.octets.now < 2 ^ 64 = omega arith in
-    fault_refused_here c.args.octets.now (Err c.in-Err.located) small tt c.in-Err.ensures.refused
+    FirstFaultAt-refused c.args.octets.now (Err c.in-Err.located) small tt c.in-Err.ensures.refused
 
 pub returns-in-Ok-clause-counted : goal.returns-in-Ok-clause-counted
 returns-in-Ok-clause-counted c = c.in-Ok.ensures.counted

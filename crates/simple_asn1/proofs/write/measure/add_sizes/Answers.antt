@@ -12,7 +12,7 @@ use Rattle.asn1_blocks.specs.Inner.TreeOrder.{IsInTreeOrder}
 use Rattle.asn1_blocks.specs.View.{view}
 use Rattle.simple_asn1.specs.Inner.WriteWalk.{contents_size_of, measured_blocks, measured_sizes, own_size_of}
 use Rattle.simple_asn1.specs.declared.write.measure.Measured.{Measured}
-use Rattle.asn1_blocks.proofs.TreeOrders.{order_drop}
+use Rattle.asn1_blocks.proofs.TreeOrders.{IsInTreeOrder-drop}
 use Rattle.simple_asn1.proofs.WriteSteps.{length_canonical, length_contents, place_at, step_at, sum_back, total_of}
 use Rattle.simple_asn1.proofs.write.measure.add_sizes.Goals as goal
 
@@ -33,7 +33,7 @@ take_sum-requires c =
       arith,
       c.loop-i.invariant.within,
     ))) ∙ ap (λ z. get_or z j x.block.now) c.loop-i.invariant.blocks in
-    let some = order_drop order c.requires.ordered.0 j c.requires.ordered.1 (omega (arith, l)) in
+    let some = IsInTreeOrder-drop order c.requires.ordered.0 j c.requires.ordered.1 (omega (arith, l)) in
     let s = step_at order i j x.block.now c.loop-i.sizes.items (length c.loop-i.sizes.items) c.blocks_inside.result.now
     (omega arith) l g
     (λ k. length c.loop-i.sizes.items) c.loop-i.invariant.sizes c.blocks_inside.ensures some.0 some.1 in
@@ -65,7 +65,7 @@ loop-i-preserved c =
     let steps = step_at order i j b c.loop-i.sizes.items c.loop-i.sizes.len c.blocks_inside.result.now a l g
     c.loop-i.sizes.ok.0 c.loop-i.invariant.sizes
     c.blocks_inside.ensures in
-    let some = order_drop order c.requires.ordered.0 j c.requires.ordered.1 (omega (arith, l)) in
+    let some = IsInTreeOrder-drop order c.requires.ordered.0 j c.requires.ordered.1 (omega (arith, l)) in
     let s = steps some.0 some.1 in
     let p = place_at own_size_of contents_size_of order i j b (measured_sizes c.loop-i.list) a l g
     c.loop-i.invariant.contents in

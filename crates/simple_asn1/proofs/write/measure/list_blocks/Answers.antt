@@ -8,7 +8,7 @@ use Rattle.asn1_blocks.specs.Inner.TreeOrder.{IsNext, ahead}
 use Rattle.asn1_blocks.specs.View.{views}
 use Rattle.simple_asn1.specs.Inner.WriteWalk.{measured_blocks, measured_sizes, own_size_of}
 use Rattle.simple_asn1.specs.declared.write.measure.Measured.{Measured}
-use Rattle.asn1_blocks.proofs.TreeOrders.{IsFound, fewer_ahead, found_all, found_next}
+use Rattle.asn1_blocks.proofs.TreeOrders.{IsFoundBefore, all_blocks_in-next, IsInTreeOrder-found, IsFoundBefore-next}
 use Rattle.simple_asn1.proofs.WriteSteps.{fault_next}
 use Rattle.simple_asn1.proofs.write.measure.list_blocks.Goals as goal
 
@@ -16,7 +16,7 @@ pub loop-walk-smaller : goal.loop-walk-smaller
 loop-walk-smaller c =
     let n : IsNext c.in-Some.block.now (ahead c.loop-walk.walk) (ahead c.next.new.self) =
     rw c.in-Some.is at c.in_ok-block.ensures in
-    omega (arith, fewer_ahead c.in-Some.block.now (ahead c.loop-walk.walk) (ahead c.next.new.self) n)
+    omega (arith, all_blocks_in-next c.in-Some.block.now (ahead c.loop-walk.walk) (ahead c.next.new.self) n)
 
 pub loop-walk-preserved : goal.loop-walk-preserved
 loop-walk-preserved c =
@@ -30,8 +30,8 @@ loop-walk-preserved c =
     let own = c.loop-walk.invariant.own in
     record {
       found =
-          subst (λ z. IsFound z (ahead c.next.new.self) c.args.blocks.now) (sym e)
-          (found_next (measured_blocks c.loop-walk.list.items) (ahead c.loop-walk.walk) (ahead c.next.new.self)
+          subst (λ z. IsFoundBefore z (ahead c.next.new.self) c.args.blocks.now) (sym e)
+          (IsFoundBefore-next (measured_blocks c.loop-walk.list.items) (ahead c.loop-walk.walk) (ahead c.next.new.self)
           c.args.blocks.now b
           c.loop-walk.invariant.found n);
       own =
@@ -47,6 +47,6 @@ loop-walk-preserved c =
 
 pub returns-clause-ordered : goal.returns-clause-ordered
 returns-clause-ordered c =
-    found_all (measured_blocks c.loop-walk.list.items) (ahead c.loop-walk.walk) c.args.blocks.now
+    IsInTreeOrder-found (measured_blocks c.loop-walk.list.items) (ahead c.loop-walk.walk) c.args.blocks.now
     c.loop-walk.invariant.found
     (rw c.in_default.is at c.in_ok-block.ensures)

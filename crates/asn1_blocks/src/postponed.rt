@@ -1,9 +1,9 @@
-// What is owed: blocks whose octets are not copied yet, since a fault may still refuse what stands around them.
+// Postponed blocks, whose octets are not copied yet, since a fault may still refuse what stands around them.
 ghost use Rattle.std.specs.Prelude.{◌≡◌, true, [], map, slice_range, IfOk, OnOk};
 ghost use Rattle.asn1_blocks.specs.Tree.{group, unknown};
 ghost use Rattle.asn1_blocks.specs.View.{view, views};
 ghost use Rattle.asn1_blocks.specs.Inner.OpenFrames.{around};
-ghost use Rattle.asn1_blocks.specs.Inner.Owed.{after, after_all};
+ghost use Rattle.asn1_blocks.specs.Inner.Postponed.{trees_after, trees_after_all};
 
 use crate::block::discard::discard_one;
 use crate::block::{ASN1Block, GroupKind};
@@ -11,24 +11,24 @@ use crate::held::{HeldBlocks, boxed};
 use crate::reading::Attempt;
 use std::alloc::{AllocError, Global};
 
-// A block that is owed: how it is built of those before it, once the encoding has ended.
-pub enum Owed {
+// A postponed block: how it is built of those before it, once the encoding has ended.
+pub enum Postponed {
     // A block as it is.
     Ready(ASN1Block),
     // A SEQUENCE or SET at the offset: its first items, and how many of the last blocks are its others.
     Group(GroupKind, usize, HeldBlocks, usize),
     // An encoding of another class around the last block.
     Explicit(Attempt),
-    // One that stays as it came: where its contents octets begin and end in the document.
-    Kept(Attempt, usize, usize),
+    // An encoding that stays as it came: where its contents octets begin and end in the document.
+    AsItCame(Attempt, usize, usize),
 }
 
-impl Drop for Owed {
+impl Drop for Postponed {
     fn drop(self) {
         match self {
-            Owed::Ready(block) => discard_one(block),
-            Owed::Group(_, _, first, _) => drop(first),
-            Owed::Explicit(_) | Owed::Kept(_, _, _) => {}
+            Postponed::Ready(block) => discard_one(block),
+            Postponed::Group(_, _, first, _) => drop(first),
+            Postponed::Explicit(_) | Postponed::AsItCame(_, _, _) => {}
         }
     }
 }
@@ -59,7 +59,11 @@ pub fn explicit_block(
 }
 
 // A constructed encoding that stays as it came.
-pub fn kept_block(alloc: Global, attempt: Attempt, contents: &[u8]) -> Result<ASN1Block, AllocError>
+pub fn unknown_block(
+    alloc: Global,
+    attempt: Attempt,
+    contents: &[u8],
+) -> Result<ASN1Block, AllocError>
     ensures { IfOk result (λ b.
         view b ≡ unknown attempt.class true attempt.offset attempt.tag contents.now) }
 {
@@ -77,27 +81,27 @@ fn octets_between(octets: &[u8], start: usize, end: usize) -> &[u8]
     between
 }
 
-impl Owed {
+impl Postponed {
     // Builds the block, of those so far.
     fn build(self, alloc: Global, octets: &[u8], blocks: &mut HeldBlocks) -> Result<(), AllocError>
-        ensures { OnOk result (map view blocks.new ≡ after octets.now self (map view blocks.old)) }
+        ensures { OnOk result (map view blocks.new ≡ trees_after octets.now self (map view blocks.old)) }
     {
         let block = match self {
-            Owed::Ready(block) => block,
-            Owed::Group(kind, offset, first, behind) => {
+            Postponed::Ready(block) => block,
+            Postponed::Group(kind, offset, first, behind) => {
                 let others = blocks.split_off(blocks.len().saturating_sub(behind))?;
                 let mut items = first;
                 items.append(others)?;
                 group_block(kind, offset, items)
             }
-            Owed::Explicit(attempt) => {
+            Postponed::Explicit(attempt) => {
                 let Some(item) = blocks.pop() else {
                     return Ok(());
                 };
                 explicit_block(alloc, attempt, item)?
             }
-            Owed::Kept(attempt, start, end) => {
-                kept_block(alloc, attempt, octets_between(octets, start, end))?
+            Postponed::AsItCame(attempt, start, end) => {
+                unknown_block(alloc, attempt, octets_between(octets, start, end))?
             }
         };
         blocks.push(block)?;
@@ -105,12 +109,16 @@ impl Owed {
     }
 }
 
-// Builds what is owed, one block after another.
-pub fn build(alloc: Global, octets: &[u8], owed: Vec<Owed>) -> Result<HeldBlocks, AllocError>
-    ensures { IfOk result (λ v. map view v ≡ after_all octets.now owed.items []) }
+// Builds the postponed blocks, one after another.
+pub fn build(
+    alloc: Global,
+    octets: &[u8],
+    postponed: Vec<Postponed>,
+) -> Result<HeldBlocks, AllocError>
+    ensures { IfOk result (λ v. map view v ≡ trees_after_all octets.now postponed.items []) }
 {
     let mut blocks = HeldBlocks::new(alloc);
-    for one in owed {
+    for one in postponed {
         one.build(alloc, octets, &mut blocks)?;
     }
     Ok(blocks)
