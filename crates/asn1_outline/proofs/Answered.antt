@@ -13,12 +13,15 @@ abbrev pub AreOfDocument : List ℕ → List Entry → Type 0
 AreOfDocument octets es = (bs : Trees ℕ) × IsDocument octets bs × AreEntriesOf octets bs es
 
 -- entries of a document are of its trees, whichever trees it is read as
-pub only_entries : (octets : List ℕ) (es : List Entry) (bs : Trees ℕ) → AreOfDocument octets es → IsDocument octets bs →
+pub AreEntriesOf-any_trees : (octets : List ℕ) (es : List Entry) (bs : Trees ℕ) → AreOfDocument octets es →
+    IsDocument octets bs →
     AreEntriesOf octets bs es
-only_entries octets es bs (cs, d, are) e =
+AreEntriesOf-any_trees octets es bs (cs, d, are) e =
     subst (λ z. AreEntriesOf octets z es) (EncodesAll-unique 0 octets cs bs d.blocks e.blocks) are
 
-pub none_refused : (octets : List ℕ) (es : List Entry) (fault : DecodeFault) (o : ℕ) → length octets < 2 ^ 64 →
+-- octets with entries of a document have no first fault
+pub AreOfDocument-no_fault : (octets : List ℕ) (es : List Entry) (fault : DecodeFault) (o : ℕ) →
+    length octets < 2 ^ 64 →
     AreOfDocument octets es
     → FirstFaultAt octets fault o → ⊥
-none_refused octets es fault o small (bs, d, are) p = IsDocument-no_fault octets bs fault small d (o, p)
+AreOfDocument-no_fault octets es fault o small (bs, d, are) p = IsDocument-no_fault octets bs fault small d (o, p)

@@ -1,14 +1,16 @@
 -- The entry of a header that was found.
-use Rattle.std.proofs.Common.{◌≡◌, ℕ, ◌-◌, ◌≤◌, ◌++◌, List, drop, length, sym, arith}
+use Rattle.std.proofs.Common.{◌≡◌, ℕ, suc, ◌-◌, ◌≤◌, ◌^◌, ◌++◌, List, drop, length, min, refl, sym, arith}
 use Rattle.std.specs.List.{slice_range}
 use Rattle.asn1_leaves.proofs.SliceSplit.{drop-slice_range}
 use Rattle.asn1_blocks.specs.Places.{HeaderFound}
 use Rattle.asn1_blocks.specs.declared.parsed.PlacedHeader.{PlacedHeader}
 use Rattle.asn1_blocks.proofs.ReadSteps.{length-slice_range}
 use Rattle.asn1_outline.specs.Entries.{HasHeaderAt, HasTag}
+use Rattle.asn1_outline.specs.Listing.{IsBegun}
+use Rattle.asn1_outline.specs.Shapes.{shape_entry}
 
--- an entry that is begun says which header stands at its offset
-pub begun_header :
+-- the entry of a header that was found says which header stands at its offset
+HasHeaderAt-found :
     (x : List ℕ) (offset limit : ℕ) (h : PlacedHeader) (tag items next depth : ℕ) → HeaderFound x offset limit h →
     limit ≤ length x → HasTag h.tag tag →
     HasHeaderAt x (record {
@@ -22,7 +24,7 @@ pub begun_header :
       next = next;
       depth = depth;
     })
-begun_header x offset limit h tag items next depth found within is =
+HasHeaderAt-found x offset limit h tag items next depth found within is =
     let octets = slice_range x offset h.end in
     let contents = slice_range x h.start h.end in
     let l : length contents ≡ h.end - h.start =
@@ -44,3 +46,17 @@ begun_header x offset limit h tag items next depth found within is =
       },
       record { tag = h.tag; contents = contents; encoding = found.encoding; tag_field = is; contents_field = sym l },
     )
+
+-- the entry of a header that was found is one without items
+pub IsBegun-found :
+    (x : List ℕ) (offset limit entry depth : ℕ) (h : PlacedHeader) → HeaderFound x offset limit h → limit ≤ length x →
+    IsBegun x offset entry depth (shape_entry offset h 0 (suc entry) depth)
+IsBegun-found x offset limit entry depth h found within =
+    let tag = min h.tag (2 ^ 64 - 1) in
+    record {
+      header = HasHeaderAt-found x offset limit h tag 0 (suc entry) depth found within (omega arith, omega arith);
+      offset = refl;
+      items = refl;
+      next = refl;
+      depth = refl;
+    }

@@ -10,40 +10,42 @@ use Rattle.asn1_outline.specs.Building.{IsNext, IsTaken, built_trees, items_of, 
 use Rattle.asn1_outline.specs.Entries.{IsOutline, no_entry}
 use Rattle.asn1_outline.specs.Structure.{Holds, IsNode, IsStructure, Node, Nodes, no_node, node, node_at, node_count, node_in_order, node_items, node_tree, nodes_in_order, nodes_trees}
 use Rattle.asn1_outline.specs.declared.entry.Entry.{Entry}
-use Rattle.asn1_outline.proofs.Built.{map_reverse, split_same}
-use Rattle.asn1_outline.proofs.Iterating.{nodes_go_on}
-use Rattle.asn1_outline.proofs.Lent.{at_entry, items_at, many_nodes}
-use Rattle.asn1_outline.proofs.Roots.{count_listed, drop_listed, roots_at}
-use Rattle.asn1_outline.proofs.Standing.{structure_stands}
+use Rattle.asn1_outline.proofs.Built.{map-reverse, append-same_length}
+use Rattle.asn1_outline.proofs.Iterating.{IsInOrderFrom-nodes}
+use Rattle.asn1_outline.proofs.Lent.{IsEntryOf-implies, items-node_count, length-nodes_in_order}
+use Rattle.asn1_outline.proofs.Roots.{length-listed, drop-listed, RootsAt-node}
+use Rattle.asn1_outline.proofs.Standing.{IsStanding-structure}
 
--- one block more
-pub pushed : (left : List ASN1Block) (block : ASN1Block) →
+-- the trees that are built, after one block more is pushed
+pub built_trees-append_last : (left : List ASN1Block) (block : ASN1Block) →
     built_trees (left ++ block ∷ []) ≡ view block ∷ built_trees left
-pushed left block = ap reverse (map-append view left (block ∷ [])) ∙ reverse-append (map view left) (view block ∷ [])
+built_trees-append_last left block =
+    ap reverse (map-append view left (block ∷ [])) ∙ reverse-append (map view left) (view block ∷ [])
 
--- the only one
-pub only_built : (built new : List ASN1Block) (t : Tree ℕ) (last : Option ASN1Block) → built_trees built ≡ t ∷ []
+-- where one tree is built, the last block is its
+pub view-only_built : (built new : List ASN1Block) (t : Tree ℕ) (last : Option ASN1Block) → built_trees built ≡ t ∷ []
     → MatchOption last ((built ≡ []) × (new ≡ [])) (λ block. built ≡ new ++ block ∷ []) →
     IsSomeAnd last (λ block. view block ≡ t)
-only_built built new t None are (none, _) =
+view-only_built built new t None are (none, _) =
     let no : [] ≡ t ∷ [] = sym (ap built_trees none) ∙ are in
     absurd (cc)
-only_built built new t (Some block) are is =
-    let one : view block ∷ built_trees new ≡ t ∷ [] = sym (pushed new block) ∙ sym (ap built_trees is) ∙ are in
+view-only_built built new t (Some block) are is =
+    let one : view block ∷ built_trees new ≡ t ∷ [] =
+    sym (built_trees-append_last new block) ∙ sym (ap built_trees is) ∙ are in
     let same : view block ≡ t = cc in
     same
 
 -- the blocks of a node's items were built last
-pub taken_items :
+pub map-view_taken_items :
     (n : Node) (old taken new : List ASN1Block) (count : ℕ) (rest : List (Tree ℕ)) → IsTaken old count taken new →
     count ≡ node_count (node_items n) →
     built_trees old ≡ items_of n ++ rest →
     (map view taken ≡ items_of n) × (built_trees new ≡ drop (node_count (node_items n)) (built_trees old))
-taken_items n old taken new count rest t c begins =
+map-view_taken_items n old taken new count rest t c begins =
     let all : built_trees old ≡ map view taken ++ built_trees new =
-    sym (map_reverse view old) ∙ ap (map view) t.split ∙ map-append view taken (reverse new)
-    ∙ ap (λ z. map view taken ++ z) (map_reverse view new) in
-    let many = count_listed (node_items n) in
+    sym (map-reverse view old) ∙ ap (map view) t.split ∙ map-append view taken (reverse new)
+    ∙ ap (λ z. map view taken ++ z) (map-reverse view new) in
+    let many = length-listed (node_items n) in
     let some : count ≤ length old =
     omega (
       arith,
@@ -55,64 +57,67 @@ taken_items n old taken new count rest t c begins =
       length-map old view,
     ) in
     let as_many : length (map view taken) ≡ length (items_of n) = length-map taken view ∙ t.many some ∙ c ∙ sym many in
-    let (own, left) = split_same (map view taken) (items_of n) (built_trees new) rest as_many (sym all ∙ begins) in
+    let (own, left) =
+    append-same_length (map view taken) (items_of n) (built_trees new) rest as_many (sym all ∙ begins) in
     let cut : drop (node_count (node_items n)) (built_trees old) ≡ rest =
-    ap (drop (node_count (node_items n))) begins ∙ drop_listed (node_items n) rest in
+    ap (drop (node_count (node_items n))) begins ∙ drop-listed (node_items n) rest in
     (own, left ∙ sym cut)
 
 -- what a node's tree holds
-held_by : (x : List ℕ) (n : Node) → IsNode x n → Holds x (node_tree n) (nodes_trees (node_items n))
-held_by x (node b ns) is = is.0
+Holds-node_items : (x : List ℕ) (n : Node) → IsNode x n → Holds x (node_tree n) (nodes_trees (node_items n))
+Holds-node_items x (node b ns) is = is.0
 
 module _ (octets : List ℕ) (es : List Entry) (ns : Nodes) (lent : ∥ IsOutline octets es ∥₁) (d : IsStructure octets ns)
     (k : ℕ) (h : k < length es) where
-  pub sub_is : (j : ℕ) → j < length (node_in_order (node_at ns k)) →
+  pub get_or-node_in_order : (j : ℕ) → j < length (node_in_order (node_at ns k)) →
       get_or (node_in_order (node_at ns k)) j no_node ≡ node_at ns (k + j)
-  sub_is j l =
+  get_or-node_in_order j l =
       let whole = nodes_in_order ns in
       let own = node_in_order (node_at ns k) in
-      let (rest, on) = nodes_go_on ns k (omega (arith, h, many_nodes octets es ns k lent d)) in
+      let (rest, on) = IsInOrderFrom-nodes ns k (omega (arith, h, length-nodes_in_order octets es ns k lent d)) in
       sym (get_or_append_left own rest no_node j l) ∙ ap (λ z. get_or z j no_node) (sym on)
       ∙ get_or-drop k whole j no_node
 
   -- the entry of one of them comes next, once all after it are built
-  pub next_is : (j : ℕ) → j < length (node_in_order (node_at ns k)) → k + j < length es → (ahead : List (Tree ℕ))
+  pub IsNext-entry : (j : ℕ) → j < length (node_in_order (node_at ns k)) → k + j < length es → (ahead : List (Tree ℕ))
       → ahead ≡ roots (drop (j + 1) (node_in_order (node_at ns k))) →
       IsNext octets (node_at ns (k + j)) (get_or es (k + j) no_entry) ahead
-  next_is j l within ahead built =
+  IsNext-entry j l within ahead built =
       let n = node_at ns (k + j) in
       let r = get_or es (k + j) no_entry in
-      let (y, s, is) = structure_stands octets ns d (k + j) (omega (arith, within, many_nodes octets es ns k lent d)) in
+      let (y, s, is) =
+      IsStanding-structure octets ns d (k + j) (omega (arith, within, length-nodes_in_order octets es ns k lent d)) in
       let prop : IsProp (r.offset ≡ tree_offset (node_tree n)) = hlevel props in
-      let roots_here = roots_at (node_at ns k) j l in
+      let roots_here = RootsAt-node (node_at ns k) j l in
       record {
         node = record {
           octets = y;
           encoded = s;
-          offset = at_entry octets es ns (k + j) lent d (r.offset ≡ tree_offset (node_tree n)) prop within
+          offset = IsEntryOf-implies octets es ns (k + j) lent d (r.offset ≡ tree_offset (node_tree n)) prop within
               (λ e. e.offset_is);
-          holds = held_by octets n is;
+          holds = Holds-node_items octets n is;
         };
-        items = items_at octets es ns (k + j) lent d within;
+        items = items-node_count octets es ns (k + j) lent d within;
         rest = roots_here.rest;
-        ahead_is = built ∙ roots_here.ahead ∙ ap (λ z. items_of z ++ roots_here.rest) (sub_is j l);
+        ahead_is = built ∙ roots_here.ahead ∙ ap (λ z. items_of z ++ roots_here.rest) (get_or-node_in_order j l);
       }
 
   -- the trees from a node on are built once its block is pushed
-  pub built_more : (j : ℕ) → j < length (node_in_order (node_at ns k)) →
+  pub built_trees-block_pushed : (j : ℕ) → j < length (node_in_order (node_at ns k)) →
       (old left new : List ASN1Block) (block : ASN1Block)
       → built_trees old ≡ roots (drop (j + 1) (node_in_order (node_at ns k))) →
       view block ≡ node_tree (node_at ns (k + j))
       → built_trees left ≡ drop (node_count (node_items (node_at ns (k + j)))) (built_trees old) →
       new ≡ left ++ block ∷ []
       → built_trees new ≡ roots (drop j (node_in_order (node_at ns k)))
-  built_more j l old left new block built is rest push =
+  built_trees-block_pushed j l old left new block built is rest push =
       let own = node_in_order (node_at ns k) in
       let m = get_or own j no_node in
-      let same = sub_is j l in
+      let same = get_or-node_in_order j l in
       let tree : view block ≡ node_tree m = is ∙ ap node_tree (sym same) in
       let others : built_trees left ≡ drop (node_count (node_items m)) (roots (drop (j + 1) own)) =
       rest ∙ ap (λ z. drop (node_count (node_items z)) (built_trees old)) (sym same)
       ∙ ap (drop (node_count (node_items m))) built in
-      ap built_trees push ∙ pushed left block ∙ ap (λ z. z ∷ built_trees left) tree ∙ ap (λ z. node_tree m ∷ z) others
-      ∙ sym (roots_at (node_at ns k) j l).here
+      ap built_trees push ∙ built_trees-append_last left block ∙ ap (λ z. z ∷ built_trees left) tree
+      ∙ ap (λ z. node_tree m ∷ z) others
+      ∙ sym (RootsAt-node (node_at ns k) j l).here

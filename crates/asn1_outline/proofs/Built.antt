@@ -1,6 +1,6 @@
 -- The block of an entry is that of its node.
-use Rattle.std.proofs.Common.{◌≡◌, ◌≢◌, ℕ, ◌-◌, ◌++◌, Bool, true, List, [], ◌∷◌, drop, take, inl, inr, length, map, Result, Ok, Err, refl, sym, ap, ◌∙◌, subst, arith}
-use Rattle.std.specs.Prelude.{IfOk, reverse, slice_range}
+use Rattle.std.proofs.Common.{◌≡◌, ◌≢◌, ℕ, ◌-◌, ◌++◌, Bool, true, List, [], ◌∷◌, drop, take, inl, inr, length, map, refl, sym, ap, ◌∙◌, subst, arith}
+use Rattle.std.specs.Prelude.{reverse, slice_range}
 use Rattle.std.proofs.lemmas.List.{drop_at, map-append, reverse-append, take_at}
 use Rattle.asn1_headers.specs.Header.{Encoding}
 use Rattle.asn1_headers.specs.declared.header.ASN1Class.{ASN1Class}
@@ -21,16 +21,16 @@ use Rattle.asn1_blocks.proofs.OneReading.{Encodes-unique, IsBlock-encodes, Encod
 use Rattle.asn1_blocks.proofs.Slices.{EncodingAt-unique}
 use Rattle.asn1_outline.specs.Building.{IsNodeAt, items_of, listed}
 use Rattle.asn1_outline.specs.Structure.{Holds, IsEncodedIn, Node, node_items, node_tree, nodes_trees}
-use Rattle.asn1_outline.proofs.Fields.{same_encoding}
-use Rattle.asn1_outline.proofs.Roots.{trees_listed}
-use Rattle.asn1_outline.proofs.Standing.{encoding_of}
+use Rattle.asn1_outline.proofs.Roots.{trees_of-listed}
+use Rattle.asn1_outline.proofs.Standing.{EncodingAt-encoded}
+use Rattle.asn1_outline.proofs.Values.{SameEncoding-octets}
 
 -- the octets behind a header that was found are those of the tree there
-pub encoded_here :
+pub Encodes-found_header :
     (x : List ℕ) (b : Tree ℕ) (octets : List ℕ) (o : ℕ) (g : PlacedHeader) → IsEncodedIn x b octets →
     o ≡ tree_offset b → HeaderFound x o (length x) g →
     Encodes o (slice_range x o g.end) b
-encoded_here x b octets o g s at found =
+Encodes-found_header x b octets o g s at found =
     let y = slice_range x o g.end in
     let there : EncodingAt x o y = record {
       rest = drop g.end x;
@@ -44,47 +44,51 @@ encoded_here x b octets o g s at found =
         encoding = found.encoding;
       };
     } in
-    let own = subst (λ z. EncodingAt x z octets) (sym at) (encoding_of x b octets s) in
+    let own = subst (λ z. EncodingAt x z octets) (sym at) (EncodingAt-encoded x b octets s) in
     let same = EncodingAt-unique x o octets y own there in
     subst (λ z. Encodes o z b) same (subst (λ z. Encodes z octets b) (sym at) s.encoded)
 
 module _ (x : List ℕ) (o : ℕ) (y : List ℕ) (n : ℕ) (v : List ℕ) (h : ℕ) (bs : Trees ℕ) where
   -- a SEQUENCE or SET
-  pub group_there : (k : Bool) (g : GroupKind) (b : Tree ℕ) → Encoding y Universal k (group_tag g) v h → Encodes o y b →
+  pub Encodes-group : (k : Bool) (g : GroupKind) (b : Tree ℕ) → Encoding y Universal k (group_tag g) v h →
+      Encodes o y b →
       Holds x b bs
       → b ≡ group o g bs
-  group_there k g (leaf p l) e s q =
-      absurd (leaf_tag-not_group_tag l g (same_encoding y _ _ _ _ _ _ _ _ _ _ s.4 e).tag)
-  group_there k g (group p i items) e s q =
-      let kind : i ≡ g = group_tag-injective i g (same_encoding y _ _ _ _ _ _ _ _ _ _ s.4 e).tag in
-      let at : p ≡ o = s.0 in
+  Encodes-group k g (leaf p l) e (_, _, _, _, F, _) q =
+      absurd (leaf_tag-not_group_tag l g (SameEncoding-octets y _ _ _ _ _ _ _ _ _ _ F e).tag)
+  Encodes-group k g (group p i items) e (place, _, _, _, F, _) q =
+      let kind : i ≡ g = group_tag-injective i g (SameEncoding-octets y _ _ _ _ _ _ _ _ _ _ F e).tag in
+      let at : p ≡ o = place in
       let own : bs ≡ items = q in
       cc
-  group_there k g (explicit c p m b) e s q = absurd (s.1 (same_encoding y _ _ _ _ _ _ _ _ _ _ s.4 e).class)
-  group_there k g (unknown c j p m w) e s q =
-      let z = same_encoding y _ _ _ _ _ _ _ _ _ _ s.2 e in
-      absurd (elim s.3 [
+  Encodes-group k g (explicit c p m b) e (_, other, _, _, F, _) q =
+      absurd (other (SameEncoding-octets y _ _ _ _ _ _ _ _ _ _ F e).class)
+  Encodes-group k g (unknown c j p m w) e (_, _, F, stays) q =
+      let z = SameEncoding-octets y _ _ _ _ _ _ _ _ _ _ F e in
+      absurd (elim stays [
         | inl known ↦ known.1.1 g z.tag
         | inr other ↦ other.0 z.class
       ])
 
   module _ (c : ASN1Class) (other : c ≢ Universal) (e : Encoding y c true n v h) where
     -- an encoding of another class around one block
-    pub explicit_there : (b t : Tree ℕ) → Encodes o y b → Holds x b bs → bs ≡ more_trees t no_trees →
+    pub Encodes-explicit : (b t : Tree ℕ) → Encodes o y b → Holds x b bs → bs ≡ more_trees t no_trees →
         b ≡ explicit c o n t
-    explicit_there (leaf p l) t s q one = absurd (other (sym (same_encoding y _ _ _ _ _ _ _ _ _ _ s.4 e).class))
-    explicit_there (group p i items) t s q one = absurd (other (sym (same_encoding y _ _ _ _ _ _ _ _ _ _ s.4 e).class))
-    explicit_there (explicit d p m a) t s q one =
-        let z = same_encoding y _ _ _ _ _ _ _ _ _ _ s.4 e in
+    Encodes-explicit (leaf p l) t (_, _, _, _, F, _) q one =
+        absurd (other (sym (SameEncoding-octets y _ _ _ _ _ _ _ _ _ _ F e).class))
+    Encodes-explicit (group p i items) t (_, _, _, _, F, _) q one =
+        absurd (other (sym (SameEncoding-octets y _ _ _ _ _ _ _ _ _ _ F e).class))
+    Encodes-explicit (explicit d p m a) t (place, _, _, _, F, _) q one =
+        let z = SameEncoding-octets y _ _ _ _ _ _ _ _ _ _ F e in
         let class : d ≡ c = z.class in
         let tag : m ≡ n = z.tag in
-        let at : p ≡ o = s.0 in
+        let at : p ≡ o = place in
         let all : more_trees a no_trees ≡ more_trees t no_trees = sym q ∙ one in
         let own : a ≡ t = cc in
         cc
-    explicit_there (unknown d j p m w) t s q one =
-        let z = same_encoding y _ _ _ _ _ _ _ _ _ _ s.2 e in
-        absurd (elim s.3 [
+    Encodes-explicit (unknown d j p m w) t (_, _, F, stays) q one =
+        let z = SameEncoding-octets y _ _ _ _ _ _ _ _ _ _ F e in
+        absurd (elim stays [
           | inl known ↦ other (sym z.class ∙ known.0)
           | inr rest ↦ elim q [
             | inl (bit, place, u, f) ↦ rest.1
@@ -97,96 +101,104 @@ module _ (x : List ℕ) (o : ℕ) (y : List ℕ) (n : ℕ) (v : List ℕ) (h : �
         no_more t r = absurd (cc)
 
     -- an encoding of which no block is kept stays as it came
-    pub kept_there : (b : Tree ℕ) → Encodes o y b → Holds x b bs → ((t : Tree ℕ) → bs ≡ more_trees t no_trees → ⊥) →
+    pub Encodes-as_it_came : (b : Tree ℕ) → Encodes o y b → Holds x b bs →
+        ((t : Tree ℕ) → bs ≡ more_trees t no_trees → ⊥) →
         b ≡ unknown c true o n v
-    kept_there (leaf p l) s q none = absurd (other (sym (same_encoding y _ _ _ _ _ _ _ _ _ _ s.4 e).class))
-    kept_there (group p i items) s q none = absurd (other (sym (same_encoding y _ _ _ _ _ _ _ _ _ _ s.4 e).class))
-    kept_there (explicit d p m a) s q none = absurd (none a q)
-    kept_there (unknown d j p m w) s q none =
-        let z = same_encoding y _ _ _ _ _ _ _ _ _ _ s.2 e in
+    Encodes-as_it_came (leaf p l) (_, _, _, _, F, _) q none =
+        absurd (other (sym (SameEncoding-octets y _ _ _ _ _ _ _ _ _ _ F e).class))
+    Encodes-as_it_came (group p i items) (_, _, _, _, F, _) q none =
+        absurd (other (sym (SameEncoding-octets y _ _ _ _ _ _ _ _ _ _ F e).class))
+    Encodes-as_it_came (explicit d p m a) s q none = absurd (none a q)
+    Encodes-as_it_came (unknown d j p m w) (place, _, F, _) q none =
+        let z = SameEncoding-octets y _ _ _ _ _ _ _ _ _ _ F e in
         let class : d ≡ c = z.class in
         let bit : j ≡ true = z.constructed in
         let tag : m ≡ n = z.tag in
         let own : w ≡ v = z.contents in
-        let at : p ≡ o = s.0 in
+        let at : p ≡ o = place in
         cc
 
 -- the tree of a node at the offset where a header was found
 module _ (x : List ℕ) (o : ℕ) (n : Node) (g : PlacedHeader) (found : HeaderFound x o (length x) g) (at : IsNodeAt x o n)
   where
-    here : Encodes o (slice_range x o g.end) (node_tree n)
-    here = encoded_here x (node_tree n) at.octets o g at.encoded at.offset found
+    -- the octets of the header that was found encode the node's tree
+    Encodes-node_tree : Encodes o (slice_range x o g.end) (node_tree n)
+    Encodes-node_tree = Encodes-found_header x (node_tree n) at.octets o g at.encoded at.offset found
 
-    pub group_at : (kind : GroupKind) → g.class ≡ Universal → g.tag ≡ group_tag kind →
+    -- the tree of a node at the header of a SEQUENCE or SET is a group of its items
+    pub node_tree-group : (kind : GroupKind) → g.class ≡ Universal → g.tag ≡ group_tag kind →
         node_tree n ≡ group o kind (nodes_trees (node_items n))
-    group_at kind class tag =
+    node_tree-group kind class tag =
         let y = slice_range x o g.end in
         let v = slice_range x g.start g.end in
         let e = subst (λ z. Encoding y z g.constructed (group_tag kind) v (g.start - o)) class
         (subst (λ z. Encoding y g.class g.constructed z v (g.start - o)) tag found.encoding) in
-        group_there x o y 0 v (g.start - o) (nodes_trees (node_items n)) g.constructed kind (node_tree n) e here
+        Encodes-group x o y 0 v (g.start - o) (nodes_trees (node_items n)) g.constructed kind
+        (node_tree n) e Encodes-node_tree
         at.holds
 
-    pub leaf_at : (b : Tree ℕ) →
+    -- the tree of a node is the block that the contents octets at its header encode
+    pub node_tree-leaf : (b : Tree ℕ) →
         ((octets : List ℕ) (h : ℕ) → Encoding octets g.class g.constructed g.tag (slice_range x g.start g.end) h →
         Encodes o octets b)
         → b ≡ node_tree n
-    leaf_at b means =
+    node_tree-leaf b means =
         let y = slice_range x o g.end in
         let (_, same, _) =
-        Encodes-unique o y y [] [] b (node_tree n) (means y (g.start - o) found.encoding) here refl in
+        Encodes-unique o y y [] [] b (node_tree n) (means y (g.start - o) found.encoding) Encodes-node_tree refl in
         same
 
     module _ (other : g.class ≢ Universal) (set : g.constructed ≡ true) where
-      around_it : Encoding (slice_range x o g.end) g.class true g.tag (slice_range x g.start g.end) (g.start - o)
-      around_it = subst (λ z. Encoding (slice_range x o g.end) g.class z g.tag (slice_range x g.start g.end)
+      Encoding-constructed : Encoding (slice_range x o g.end) g.class true g.tag (slice_range x g.start g.end)
+          (g.start - o)
+      Encoding-constructed = subst (λ z. Encoding (slice_range x o g.end) g.class z g.tag (slice_range x g.start g.end)
           (g.start - o)) set found.encoding
 
-      pub explicit_at : (t : Tree ℕ) → items_of n ≡ t ∷ [] → node_tree n ≡ explicit g.class o g.tag t
-      explicit_at t one =
+      pub node_tree-explicit : (t : Tree ℕ) → items_of n ≡ t ∷ [] → node_tree n ≡ explicit g.class o g.tag t
+      node_tree-explicit t one =
           let bs = nodes_trees (node_items n) in
-          let only : bs ≡ more_trees t no_trees = sym (trees_listed bs) ∙ ap trees_of one in
-          explicit_there x o (slice_range x o g.end) g.tag (slice_range x g.start g.end) (g.start - o) bs g.class other
-          around_it
-          (node_tree n) t here at.holds only
+          let only : bs ≡ more_trees t no_trees = sym (trees_of-listed bs) ∙ ap trees_of one in
+          Encodes-explicit x o (slice_range x o g.end) g.tag (slice_range x g.start g.end)
+          (g.start - o) bs g.class other
+          Encoding-constructed
+          (node_tree n) t Encodes-node_tree at.holds only
 
-      pub kept_at : length (items_of n) ≢ 1 → node_tree n ≡ unknown g.class true o g.tag (slice_range x g.start g.end)
-      kept_at many =
+      pub node_tree-as_it_came : length (items_of n) ≢ 1 →
+          node_tree n ≡ unknown g.class true o g.tag (slice_range x g.start g.end)
+      node_tree-as_it_came many =
           let bs = nodes_trees (node_items n) in
-          kept_there x o (slice_range x o g.end) g.tag (slice_range x g.start g.end) (g.start - o) bs g.class other
-          around_it
-          (node_tree n) here at.holds (λ t only. many (ap (λ z. length (listed z)) only))
+          Encodes-as_it_came x o (slice_range x o g.end) g.tag (slice_range x g.start g.end)
+          (g.start - o) bs g.class other
+          Encoding-constructed
+          (node_tree n) Encodes-node_tree at.holds (λ t only. many (ap (λ z. length (listed z)) only))
 
--- what holds of a value holds of it otherwise
-pub for_ok : {A E : Type 0} (r : Result A E) (P Q : A → Type 0) → IfOk r P → ((a : A) → P a → Q a) → IfOk r Q
-for_ok (Ok a) P Q h f = f a h
-for_ok (Err e) P Q h f = tt
-
-pub map_reverse : {A B : Type 0} (f : A → B) (xs : List A) → map f (reverse xs) ≡ reverse (map f xs)
-map_reverse f [] = refl
-map_reverse f (x ∷ xs) =
+pub map-reverse : {A B : Type 0} (f : A → B) (xs : List A) → map f (reverse xs) ≡ reverse (map f xs)
+map-reverse f [] = refl
+map-reverse f (x ∷ xs) =
     ap (map f) (reverse-append (x ∷ []) xs) ∙ map-append f (reverse xs) (x ∷ [])
-    ∙ ap (λ z. z ++ f x ∷ []) (map_reverse f xs)
+    ∙ ap (λ z. z ++ f x ∷ []) (map-reverse f xs)
     ∙ sym (reverse-append (f x ∷ []) (map f xs))
 
 -- lists of one length in equal lists
-pub split_same : {A : Type 0} (s t x y : List A) → length s ≡ length t → s ++ x ≡ t ++ y → (s ≡ t) × (x ≡ y)
-split_same s t x y l e =
+pub append-same_length : {A : Type 0} (s t x y : List A) → length s ≡ length t → s ++ x ≡ t ++ y → (s ≡ t) × (x ≡ y)
+append-same_length s t x y l e =
     let n = length s in (
       sym (take_at s x n refl) ∙ ap (take n) e ∙ take_at t y n (sym l),
       sym (drop_at s x n refl) ∙ ap (drop n) e ∙ drop_at t y n (sym l),
     )
 
 -- a constructed encoding of another class, whatever is inside
-pub tagged_is :
+pub node_tree-other_class :
     (x : List ℕ) (o : ℕ) (n : Node) (g : PlacedHeader) (found : HeaderFound x o (length x) g) (at : IsNodeAt x o n)
     (inside : List ASN1Block) (t : Tree ℕ) →
     g.class ≢ Universal → g.constructed ≡ true → map view inside ≡ items_of n →
     ((item : ASN1Block) → inside ≡ item ∷ [] → t ≡ explicit g.class o g.tag (view item)) →
     (length inside ≢ 1 → t ≡ unknown g.class true o g.tag (slice_range x g.start g.end)) → t ≡ node_tree n
-tagged_is x o n g found at [] t other set own one kept =
-    kept (λ e. omega (arith, e)) ∙ sym (kept_at x o n g found at other set (λ e. omega (arith, e, ap length own)))
-tagged_is x o n g found at (b ∷ []) t other set own one kept =
-    one b refl ∙ sym (explicit_at x o n g found at other set (view b) (sym own))
-tagged_is x o n g found at (a ∷ b ∷ bs) t other set own one kept =
-    kept (λ e. omega (arith, e)) ∙ sym (kept_at x o n g found at other set (λ e. omega (arith, e, ap length own)))
+node_tree-other_class x o n g found at [] t other set own one kept =
+    kept (λ e. omega (arith, e)) ∙ sym
+    (node_tree-as_it_came x o n g found at other set (λ e. omega (arith, e, ap length own)))
+node_tree-other_class x o n g found at (b ∷ []) t other set own one kept =
+    one b refl ∙ sym (node_tree-explicit x o n g found at other set (view b) (sym own))
+node_tree-other_class x o n g found at (a ∷ b ∷ bs) t other set own one kept =
+    kept (λ e. omega (arith, e)) ∙ sym
+    (node_tree-as_it_came x o n g found at other set (λ e. omega (arith, e, ap length own)))

@@ -6,63 +6,64 @@ use Rattle.asn1_outline.specs.Entries.{AreEntries, HasHeaderAt, IsEntry, no_entr
 use Rattle.asn1_outline.specs.Listing.{IsBegun, with_items}
 use Rattle.asn1_outline.specs.Structure.{Node, no_node, no_nodes, node, node_depths, node_in_order, nodes_depths, nodes_in_order, nodes_of}
 use Rattle.asn1_outline.specs.declared.entry.Entry.{Entry}
-use Rattle.asn1_outline.proofs.Structures.{count_nodes}
+use Rattle.asn1_outline.proofs.Structures.{node_count-nodes_of}
 
 -- as many entries as nodes
-pub entries_length : (x : List ℕ) (i : ℕ) (ns : List Node) (ds : List ℕ) (rs : List Entry) → AreEntries x i ns ds rs →
+pub length-entries : (x : List ℕ) (i : ℕ) (ns : List Node) (ds : List ℕ) (rs : List Entry) → AreEntries x i ns ds rs →
     length rs ≡ length ns
-entries_length x i [] [] [] e = refl
-entries_length x i [] [] (r ∷ rs) e = absurd e
-entries_length x i [] (d ∷ ds) rs e = absurd e
-entries_length x i (n ∷ ns) [] rs e = absurd e
-entries_length x i (n ∷ ns) (d ∷ ds) [] e = absurd e
-entries_length x i (n ∷ ns) (d ∷ ds) (r ∷ rs) e = ap suc (entries_length x (suc i) ns ds rs e.1)
+length-entries x i [] [] [] e = refl
+length-entries x i [] [] (r ∷ rs) e = absurd e
+length-entries x i [] (d ∷ ds) rs e = absurd e
+length-entries x i (n ∷ ns) [] rs e = absurd e
+length-entries x i (n ∷ ns) (d ∷ ds) [] e = absurd e
+length-entries x i (n ∷ ns) (d ∷ ds) (r ∷ rs) e = ap suc (length-entries x (suc i) ns ds rs e.1)
 
 -- entries of nodes, and then of others
-pub entries_append :
+pub AreEntries-append :
     (x : List ℕ) (i j : ℕ) (ns ms : List Node) (ds es : List ℕ) (rs ss : List Entry) → j ≡ i + length ns →
     AreEntries x i ns ds rs → AreEntries x j ms es ss → AreEntries x i (ns ++ ms) (ds ++ es) (rs ++ ss)
-entries_append x i j [] ms [] es [] ss at e f = subst (λ z. AreEntries x z ms es ss) (omega (arith, at)) f
-entries_append x i j [] ms [] es (r ∷ rs) ss at e f = absurd e
-entries_append x i j [] ms (d ∷ ds) es rs ss at e f = absurd e
-entries_append x i j (n ∷ ns) ms [] es rs ss at e f = absurd e
-entries_append x i j (n ∷ ns) ms (d ∷ ds) es [] ss at e f = absurd e
-entries_append x i j (n ∷ ns) ms (d ∷ ds) es (r ∷ rs) ss at e f =
-    (e.0, entries_append x (suc i) j ns ms ds es rs ss (omega (arith, at)) e.1 f)
+AreEntries-append x i j [] ms [] es [] ss at e f = subst (λ z. AreEntries x z ms es ss) (omega (arith, at)) f
+AreEntries-append x i j [] ms [] es (r ∷ rs) ss at e f = absurd e
+AreEntries-append x i j [] ms (d ∷ ds) es rs ss at e f = absurd e
+AreEntries-append x i j (n ∷ ns) ms [] es rs ss at e f = absurd e
+AreEntries-append x i j (n ∷ ns) ms (d ∷ ds) es [] ss at e f = absurd e
+AreEntries-append x i j (n ∷ ns) ms (d ∷ ds) es (r ∷ rs) ss at e f =
+    (e.0, AreEntries-append x (suc i) j ns ms ds es rs ss (omega (arith, at)) e.1 f)
 
 -- the last of nodes
-pub order_more : (ns : List Node) (n : Node) →
+pub nodes_in_order-append_last : (ns : List Node) (n : Node) →
     nodes_in_order (nodes_of (ns ++ n ∷ [])) ≡ nodes_in_order (nodes_of ns) ++ node_in_order n
-order_more [] n = append-nil (node_in_order n)
-order_more (m ∷ ns) n =
-    ap (λ z. node_in_order m ++ z) (order_more ns n)
+nodes_in_order-append_last [] n = append-nil (node_in_order n)
+nodes_in_order-append_last (m ∷ ns) n =
+    ap (λ z. node_in_order m ++ z) (nodes_in_order-append_last ns n)
     ∙ sym (append_assoc (node_in_order m) (nodes_in_order (nodes_of ns)) (node_in_order n))
 
-pub depths_more : (d : ℕ) (ns : List Node) (n : Node) →
+pub nodes_depths-append_last : (d : ℕ) (ns : List Node) (n : Node) →
     nodes_depths d (nodes_of (ns ++ n ∷ [])) ≡ nodes_depths d (nodes_of ns) ++ node_depths d n
-depths_more d [] n = append-nil (node_depths d n)
-depths_more d (m ∷ ns) n =
-    ap (λ z. node_depths d m ++ z) (depths_more d ns n)
+nodes_depths-append_last d [] n = append-nil (node_depths d n)
+nodes_depths-append_last d (m ∷ ns) n =
+    ap (λ z. node_depths d m ++ z) (nodes_depths-append_last d ns n)
     ∙ sym (append_assoc (node_depths d m) (nodes_depths d (nodes_of ns)) (node_depths d n))
 
--- one node more has these entries
-pub entries_more :
+-- entries of nodes, and then those of one node more
+pub AreEntries-append_node :
     (x : List ℕ) (i j d : ℕ) (ns : List Node) (n : Node) (rs ss : List Entry) → j ≡ i + length rs →
     AreEntries x i (nodes_in_order (nodes_of ns)) (nodes_depths d (nodes_of ns)) rs →
     AreEntries x j (node_in_order n) (node_depths d n) ss →
     AreEntries x i (nodes_in_order (nodes_of (ns ++ n ∷ []))) (nodes_depths d (nodes_of (ns ++ n ∷ []))) (rs ++ ss)
-entries_more x i j d ns n rs ss at e f =
+AreEntries-append_node x i j d ns n rs ss at e f =
     let own = nodes_in_order (nodes_of ns) in
-    let l = entries_length x i _ _ rs e in
-    let all = entries_append x i j own (node_in_order n) (nodes_depths d (nodes_of ns)) (node_depths d n) rs ss
+    let l = length-entries x i _ _ rs e in
+    let all = AreEntries-append x i j own (node_in_order n) (nodes_depths d (nodes_of ns)) (node_depths d n) rs ss
     (omega (arith, at, l)) e f in
-    subst (λ z. AreEntries x i z (nodes_depths d (nodes_of (ns ++ n ∷ []))) (rs ++ ss)) (sym (order_more ns n))
-    (subst (λ z. AreEntries x i (own ++ node_in_order n) z (rs ++ ss)) (sym (depths_more d ns n)) all)
+    subst (λ z. AreEntries x i z (nodes_depths d (nodes_of (ns ++ n ∷ []))) (rs ++ ss))
+    (sym (nodes_in_order-append_last ns n))
+    (subst (λ z. AreEntries x i (own ++ node_in_order n) z (rs ++ ss)) (sym (nodes_depths-append_last d ns n)) all)
 
 -- the entry of a block that holds none
-pub begun_entry : (x : List ℕ) (o i d : ℕ) (t : Tree ℕ) (r : Entry) → tree_offset t ≡ o → IsBegun x o i d r
+pub AreEntries-without_items : (x : List ℕ) (o i d : ℕ) (t : Tree ℕ) (r : Entry) → tree_offset t ≡ o → IsBegun x o i d r
     → AreEntries x i (node_in_order (node t no_nodes)) (node_depths d (node t no_nodes)) (r ∷ [])
-begun_entry x o i d t r at b = (
+AreEntries-without_items x o i d t r at b = (
   record {
     header = b.header;
     offset = b.offset ∙ sym at;
@@ -75,8 +76,9 @@ begun_entry x o i d t r at b = (
 )
 
 -- how many it holds says nothing of its header
-sealed_header : (x : List ℕ) (r : Entry) (items next : ℕ) → HasHeaderAt x r → HasHeaderAt x (with_items items next r)
-sealed_header x r items next (y, at, h) = (
+HasHeaderAt-with_items : (x : List ℕ) (r : Entry) (items next : ℕ) → HasHeaderAt x r →
+    HasHeaderAt x (with_items items next r)
+HasHeaderAt-with_items x r items next (y, at, h) = (
   y,
   at,
   record {
@@ -90,35 +92,35 @@ sealed_header x r items next (y, at, h) = (
 )
 
 -- the entry of a block that holds others, before the entries of these
-pub sealed_entry :
+pub AreEntries-with_items :
     (x : List ℕ) (o i d items next : ℕ) (t : Tree ℕ) (ns : List Node) (r : Entry) (rs : List Entry) →
     tree_offset t ≡ o →
     items ≡ length ns → next ≡ i + suc (length rs) → IsBegun x o i d r →
     AreEntries x (suc i) (nodes_in_order (nodes_of ns)) (nodes_depths (suc d) (nodes_of ns)) rs →
     AreEntries x i (node_in_order (node t (nodes_of ns))) (node_depths d (node t (nodes_of ns)))
     (with_items items next r ∷ rs)
-sealed_entry x o i d items next t ns r rs at n m b e =
-    let l = entries_length x (suc i) _ _ rs e in
+AreEntries-with_items x o i d items next t ns r rs at n m b e =
+    let l = length-entries x (suc i) _ _ rs e in
     let size : length (node_in_order (node t (nodes_of ns))) ≡ suc (length (nodes_in_order (nodes_of ns))) = refl in
     let own : IsEntry x (node t (nodes_of ns)) i d (with_items items next r) = record {
-      header = sealed_header x r items next b.header;
+      header = HasHeaderAt-with_items x r items next b.header;
       offset = b.offset ∙ sym at;
-      items = n ∙ sym (count_nodes ns);
+      items = n ∙ sym (node_count-nodes_of ns);
       next = omega (arith, m, l, size);
       depth = b.depth;
     } in
     (own, e)
 
--- each entry
-pub entry_at :
+-- the entry at each place is that of the node there
+pub IsEntry-get_or :
     (x : List ℕ) (i : ℕ) (ns : List Node) (ds : List ℕ) (rs : List Entry) → AreEntries x i ns ds rs → (k : ℕ) →
     k < length ns →
     IsEntry x (get_or ns k no_node) (i + k) (get_or ds k 0) (get_or rs k no_entry)
-entry_at x i [] ds rs e k h = absurd (omega (arith, h))
-entry_at x i (n ∷ ns) [] rs e k h = absurd e
-entry_at x i (n ∷ ns) (d ∷ ds) [] e k h = absurd e
-entry_at x i (n ∷ ns) (d ∷ ds) (r ∷ rs) e zero h = subst (λ z. IsEntry x n z d r) (omega arith) e.0
-entry_at x i (n ∷ ns) (d ∷ ds) (r ∷ rs) e (suc k) h =
+IsEntry-get_or x i [] ds rs e k h = absurd (omega (arith, h))
+IsEntry-get_or x i (n ∷ ns) [] rs e k h = absurd e
+IsEntry-get_or x i (n ∷ ns) (d ∷ ds) [] e k h = absurd e
+IsEntry-get_or x i (n ∷ ns) (d ∷ ds) (r ∷ rs) e zero h = subst (λ z. IsEntry x n z d r) (omega arith) e.0
+IsEntry-get_or x i (n ∷ ns) (d ∷ ds) (r ∷ rs) e (suc k) h =
     let at : suc i + k ≡ i + suc k = omega arith in
     subst (λ z. IsEntry x (get_or ns k no_node) z (get_or ds k 0) (get_or rs k no_entry)) at
-    (entry_at x (suc i) ns ds rs e.1 k (omega (arith, h)))
+    (IsEntry-get_or x (suc i) ns ds rs e.1 k (omega (arith, h)))

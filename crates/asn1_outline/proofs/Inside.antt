@@ -7,8 +7,8 @@ use Rattle.asn1_outline.specs.Entries.{IsOutline, no_entry}
 use Rattle.asn1_outline.specs.Iterated.{side_by_side}
 use Rattle.asn1_outline.specs.Structure.{IsStructure, Nodes, no_node, node_at, node_in_order, node_items, nodes_in_order, nodes_trees, tree_at}
 use Rattle.asn1_outline.specs.declared.entry.Entry.{Entry}
-use Rattle.asn1_outline.proofs.Iterating.{LeadOver, nodes_go_on, one_further, order_of, side_by_side_trees}
-use Rattle.asn1_outline.proofs.Lent.{many_nodes, next_at, next_within}
+use Rattle.asn1_outline.proofs.Iterating.{LeadOver, IsInOrderFrom-nodes, drop-next, node_in_order-items, trees_of-side_by_side}
+use Rattle.asn1_outline.proofs.Lent.{length-nodes_in_order, next-node_in_order, next-within}
 
 module _ (octets : List ℕ) (es : List Entry) (ns : Nodes) (lent : ∥ IsOutline octets es ∥₁) (d : IsStructure octets ns)
   where
@@ -19,8 +19,9 @@ module _ (octets : List ℕ) (es : List Entry) (ns : Nodes) (lent : ∥ IsOutlin
         let whole = nodes_in_order ns in
         let leads : LeadOver whole 0 es = λ k h.
         let at : k ≡ 0 + k = omega arith in
-        next_at octets es ns k lent d h ∙ ap (λ z. z + length (node_in_order (get_or whole z no_node))) at in
-        side_by_side_trees whole ns 0 es [] (sym (append-nil whole)) (many_nodes octets es ns 0 lent d) leads
+        next-node_in_order octets es ns k lent d h ∙ ap (λ z. z + length (node_in_order (get_or whole z no_node))) at in
+        trees_of-side_by_side whole ns 0 es [] (sym (append-nil whole))
+        (length-nodes_in_order octets es ns 0 lent d) leads
 
     -- the entries directly inside the one at an index are those of its node's items
     pub inside_trees : (k : ℕ) → k < length es
@@ -32,20 +33,20 @@ module _ (octets : List ℕ) (es : List Entry) (ns : Nodes) (lent : ∥ IsOutlin
         let m = node_at ns k in
         let items = nodes_in_order (node_items m) in
         let next = (get_or es k no_entry).next in
-        let many = many_nodes octets es ns k lent d in
-        let (rest, on) = nodes_go_on ns k (omega (arith, h, many)) in
+        let many = length-nodes_in_order octets es ns k lent d in
+        let (rest, on) = IsInOrderFrom-nodes ns k (omega (arith, h, many)) in
         let behind : drop (k + 1) whole ≡ items ++ rest =
-        one_further whole k m (items ++ rest) (on ∙ ap (λ z. z ++ rest) (order_of m)) in
-        let over : next ≡ k + length (node_in_order m) = next_at octets es ns k lent d h in
-        let (first, last) = next_within octets es k lent h in
+        drop-next whole k m (items ++ rest) (on ∙ ap (λ z. z ++ rest) (node_in_order-items m)) in
+        let over : next ≡ k + length (node_in_order m) = next-node_in_order octets es ns k lent d h in
+        let (first, last) = next-within octets es k lent h in
         let size = next - (k + 1) in
         let fits : size ≤ length (drop (k + 1) es) = omega (arith, first, last, length-drop (k + 1) es) in
         let count : length (take size (drop (k + 1) es)) ≡ size = length-take-le size (drop (k + 1) es) fits in
         let as_many : length (take size (drop (k + 1) es)) ≡ length items =
-        omega (arith, count, over, ap length (order_of m)) in
+        omega (arith, count, over, ap length (node_in_order-items m)) in
         let leads : LeadOver whole (k + 1) (take size (drop (k + 1) es)) = λ j l.
         let same : get_or (take size (drop (k + 1) es)) j no_entry ≡ get_or es (k + 1 + j) no_entry =
         get_or-take size (drop (k + 1) es) j no_entry (omega (arith, l, count)) ∙ get_or-drop (k + 1) es j no_entry in
         ap (λ (z : Entry). z.next) same
-        ∙ next_at octets es ns (k + 1 + j) lent d (omega (arith, l, count, fits, length-drop (k + 1) es)) in
-        side_by_side_trees whole (node_items m) (k + 1) (take size (drop (k + 1) es)) rest behind as_many leads
+        ∙ next-node_in_order octets es ns (k + 1 + j) lent d (omega (arith, l, count, fits, length-drop (k + 1) es)) in
+        trees_of-side_by_side whole (node_items m) (k + 1) (take size (drop (k + 1) es)) rest behind as_many leads

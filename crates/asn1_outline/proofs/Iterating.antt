@@ -9,48 +9,48 @@ use Rattle.asn1_outline.specs.Iterated.{HasEntryIn, side_by_side, still_to_come}
 use Rattle.asn1_outline.specs.Structure.{Node, Nodes, more_nodes, no_node, no_nodes, node, node_in_order, node_items, node_tree, nodes_in_order, nodes_trees}
 use Rattle.asn1_outline.specs.declared.entry.Entry.{Entry}
 
--- to skip so many is to begin after them
-pub skip_first : (n i : ℕ) (rs : List Entry) → side_by_side n i rs ≡ side_by_side 0 (i + min n (length rs)) (drop n rs)
-skip_first zero i [] = refl
-skip_first (suc n) i [] = refl
-skip_first zero i (r ∷ rs) =
+-- to skip n entries side by side is to begin behind them
+pub side_by_side-skip : (n i : ℕ) (rs : List Entry) →
+    side_by_side n i rs ≡ side_by_side 0 (i + min n (length rs)) (drop n rs)
+side_by_side-skip zero i [] = refl
+side_by_side-skip (suc n) i [] = refl
+side_by_side-skip zero i (r ∷ rs) =
     let at : i ≡ i + min 0 (length (r ∷ rs)) = omega arith in
     ap (λ z. side_by_side 0 z (r ∷ rs)) at
-skip_first (suc n) i (r ∷ rs) =
+side_by_side-skip (suc n) i (r ∷ rs) =
     let at : i + 1 + min n (length rs) ≡ i + min (suc n) (length (r ∷ rs)) = omega arith in
-    skip_first n (i + 1) rs ∙ ap (λ z. side_by_side 0 z (drop n rs)) at
-
-drop_on : {A : Type 0} (m n : ℕ) (xs : List A) → drop m (drop n xs) ≡ drop (n + m) xs
-drop_on m n xs = drop-drop m n xs
+    side_by_side-skip n (i + 1) rs ∙ ap (λ z. side_by_side 0 z (drop n rs)) at
 
 -- what stands at a place of a list
-get_here : (rs : List Entry) (i : ℕ) (r : Entry) (rest : List Entry) → drop i rs ≡ r ∷ rest → slice_get rs i ≡ Some r
-get_here [] zero r rest e =
+slice_get-drop : (rs : List Entry) (i : ℕ) (r : Entry) (rest : List Entry) → drop i rs ≡ r ∷ rest →
+    slice_get rs i ≡ Some r
+slice_get-drop [] zero r rest e =
     let none : [] ≡ r ∷ rest = e in
     absurd (cc)
-get_here [] (suc i) r rest e =
+slice_get-drop [] (suc i) r rest e =
     let none : [] ≡ r ∷ rest = e in
     absurd (cc)
-get_here (x ∷ rs) zero r rest e =
+slice_get-drop (x ∷ rs) zero r rest e =
     let all : x ∷ rs ≡ r ∷ rest = e in
     let same : x ≡ r = cc in
     ap Some same
-get_here (x ∷ rs) (suc i) r rest e = get_here rs i r rest e
+slice_get-drop (x ∷ rs) (suc i) r rest e = slice_get-drop rs i r rest e
 
-pub one_further : {A : Type 0} (rs : List A) (i : ℕ) (r : A) (rest : List A) → drop i rs ≡ r ∷ rest →
+-- what follows the first of the rest of a list
+pub drop-next : {A : Type 0} (rs : List A) (i : ℕ) (r : A) (rest : List A) → drop i rs ≡ r ∷ rest →
     drop (i + 1) rs ≡ rest
-one_further rs i r rest e = sym (drop_on 1 i rs) ∙ ap (drop 1) e
+drop-next rs i r rest e = sym (drop-drop 1 i rs) ∙ ap (drop 1) e
 
 -- each entry stands at its index
-pub side_by_side_entries : (all : List Entry) (n i : ℕ) (rs after : List Entry) → drop i all ≡ rs ++ after →
+pub All-side_by_side : (all : List Entry) (n i : ℕ) (rs after : List Entry) → drop i all ≡ rs ++ after →
     All (HasEntryIn all) (side_by_side n i rs)
-side_by_side_entries all n i [] after e k d h = absurd (omega (arith, h))
-side_by_side_entries all zero i (r ∷ rs) after e zero d h = get_here all i r (rs ++ after) e
-side_by_side_entries all zero i (r ∷ rs) after e (suc k) d h =
-    side_by_side_entries all (r.next - (i + 1)) (i + 1) rs after (one_further all i r (rs ++ after) e) k d
+All-side_by_side all n i [] after e k d h = absurd (omega (arith, h))
+All-side_by_side all zero i (r ∷ rs) after e zero d h = slice_get-drop all i r (rs ++ after) e
+All-side_by_side all zero i (r ∷ rs) after e (suc k) d h =
+    All-side_by_side all (r.next - (i + 1)) (i + 1) rs after (drop-next all i r (rs ++ after) e) k d
     (omega (arith, h))
-side_by_side_entries all (suc n) i (r ∷ rs) after e k d h =
-    side_by_side_entries all n (i + 1) rs after (one_further all i r (rs ++ after) e) k d h
+All-side_by_side all (suc n) i (r ∷ rs) after e k d h =
+    All-side_by_side all n (i + 1) rs after (drop-next all i r (rs ++ after) e) k d h
 
 -- the entries are of nodes that stand in order from the index on: each leads over those inside it
 abbrev pub LeadOver : List Node → ℕ → List Entry → Type 0
@@ -58,16 +58,16 @@ LeadOver whole i rs = (k : ℕ) → k < length rs →
     (get_or rs k no_entry).next ≡ i + k + length (node_in_order (get_or whole (i + k) no_node))
 
 -- entries side by side are those of the nodes alone, without those inside them
-pub side_by_side_trees :
+pub trees_of-side_by_side :
     (whole : List Node) (ns : Nodes) (i : ℕ) (rs : List Entry) (rest : List Node) →
     drop i whole ≡ nodes_in_order ns ++ rest →
     length rs ≡ length (nodes_in_order ns) → LeadOver whole i rs →
     trees_of (map (λ (item : ℕ × Entry). node_tree (get_or whole item.0 no_node)) (side_by_side 0 i rs))
     ≡ nodes_trees ns
-side_by_side_trees whole no_nodes i [] rest e l over = refl
-side_by_side_trees whole no_nodes i (r ∷ rs) rest e l over = absurd (omega (arith, l))
-side_by_side_trees whole (more_nodes (node b ms) ns) i [] rest e l over = absurd (omega (arith, l))
-side_by_side_trees whole (more_nodes (node b ms) ns) i (r ∷ rs) rest e l over =
+trees_of-side_by_side whole no_nodes i [] rest e l over = refl
+trees_of-side_by_side whole no_nodes i (r ∷ rs) rest e l over = absurd (omega (arith, l))
+trees_of-side_by_side whole (more_nodes (node b ms) ns) i [] rest e l over = absurd (omega (arith, l))
+trees_of-side_by_side whole (more_nodes (node b ms) ns) i (r ∷ rs) rest e l over =
     let inside = nodes_in_order ms in
     let behind = nodes_in_order ns in
     let size = length inside in
@@ -81,10 +81,10 @@ side_by_side_trees whole (more_nodes (node b ms) ns) i (r ∷ rs) rest e l over 
     let skip : r.next - (i + 1) ≡ size = omega (arith, lead) in
     let at : i + 1 + min size (length rs) ≡ j = omega (arith, many) in
     let next : side_by_side (r.next - (i + 1)) (i + 1) rs ≡ side_by_side 0 j (drop size rs) =
-    ap (λ z. side_by_side z (i + 1) rs) skip ∙ skip_first size (i + 1) rs
+    ap (λ z. side_by_side z (i + 1) rs) skip ∙ side_by_side-skip size (i + 1) rs
     ∙ ap (λ z. side_by_side 0 z (drop size rs)) at in
     let further : drop j whole ≡ behind ++ rest =
-    sym (drop_on (suc size) i whole) ∙ ap (drop (suc size)) whole_is
+    sym (drop-drop (suc size) i whole) ∙ ap (drop (suc size)) whole_is
     ∙ drop_at front (behind ++ rest) (suc size) refl in
     let fewer : length (drop size rs) ≡ length behind = omega (arith, length-drop size rs, many) in
     let leads : LeadOver whole j (drop size rs) = λ k h.
@@ -92,7 +92,7 @@ side_by_side_trees whole (more_nodes (node b ms) ns) i (r ∷ rs) rest e l over 
     ap (λ (z : Entry). z.next) (get_or-drop size rs k no_entry)
     ∙ over (suc (size + k)) (omega (arith, h, length-drop size rs))
     ∙ ap (λ z. z + length (node_in_order (get_or whole z no_node))) to in
-    let others = side_by_side_trees whole ns j (drop size rs) rest further fewer leads in
+    let others = trees_of-side_by_side whole ns j (drop size rs) rest further fewer leads in
     let same : i ≡ i + 0 = omega arith in
     let tree : node_tree (get_or whole i no_node) ≡ b =
     ap (λ z. node_tree (get_or whole z no_node)) same ∙ ap node_tree here in
@@ -102,26 +102,28 @@ side_by_side_trees whole (more_nodes (node b ms) ns) i (r ∷ rs) rest e l over 
     ∙ ap (λ z. more_trees z (nodes_trees ns)) tree
 
 -- a node, and then those inside it
-pub order_of : (n : Node) → node_in_order n ≡ n ∷ nodes_in_order (node_items n)
-order_of (node b ns) = refl
+pub node_in_order-items : (n : Node) → node_in_order n ≡ n ∷ nodes_in_order (node_items n)
+node_in_order-items (node b ns) = refl
 
 -- nodes in order go on with one of them
-abbrev pub GoesOn : List Node → ℕ → Type 0
-GoesOn ns k = (rest : List Node) × (drop k ns ≡ node_in_order (get_or ns k no_node) ++ rest)
+abbrev pub IsInOrderFrom : List Node → ℕ → Type 0
+IsInOrderFrom ns k = (rest : List Node) × (drop k ns ≡ node_in_order (get_or ns k no_node) ++ rest)
 
 mutual
-  pub node_goes_on : (n : Node) (k : ℕ) → k < length (node_in_order n) → GoesOn (node_in_order n) k
-  node_goes_on (node b ns) zero h = ([], sym (append-nil (node b ns ∷ nodes_in_order ns)))
-  node_goes_on (node b ns) (suc k) h = nodes_go_on ns k (omega (arith, h))
+  -- each node inside a node is followed by its own in order
+  pub IsInOrderFrom-node : (n : Node) (k : ℕ) → k < length (node_in_order n) → IsInOrderFrom (node_in_order n) k
+  IsInOrderFrom-node (node b ns) zero h = ([], sym (append-nil (node b ns ∷ nodes_in_order ns)))
+  IsInOrderFrom-node (node b ns) (suc k) h = IsInOrderFrom-nodes ns k (omega (arith, h))
 
-  pub nodes_go_on : (ns : Nodes) (k : ℕ) → k < length (nodes_in_order ns) → GoesOn (nodes_in_order ns) k
-  nodes_go_on no_nodes k h = absurd (omega (arith, h))
-  nodes_go_on (more_nodes n ns) k h =
+  -- each node of nodes in order is followed by its own
+  pub IsInOrderFrom-nodes : (ns : Nodes) (k : ℕ) → k < length (nodes_in_order ns) → IsInOrderFrom (nodes_in_order ns) k
+  IsInOrderFrom-nodes no_nodes k h = absurd (omega (arith, h))
+  IsInOrderFrom-nodes (more_nodes n ns) k h =
       let front = node_in_order n in
       let behind = nodes_in_order ns in
       elim (cases_lt k (length front)) [
         | inl lt ↦
-            let (rest, e) = node_goes_on n k lt in
+            let (rest, e) = IsInOrderFrom-node n k lt in
             let own = node_in_order (get_or front k no_node) in
             let there : drop k (front ++ behind) ≡ own ++ (rest ++ behind) =
             drop-append-le k front behind (omega (arith, lt)) ∙ ap (λ z. z ++ behind) e
@@ -132,10 +134,10 @@ mutual
             )
         | inr ge ↦
             let size = length front in
-            let (rest, e) = nodes_go_on ns (k - size) (omega (arith, h, ge, length-append front behind)) in
+            let (rest, e) = IsInOrderFrom-nodes ns (k - size) (omega (arith, h, ge, length-append front behind)) in
             let at : k ≡ size + (k - size) = omega (arith, ge) in
             let there : drop k (front ++ behind) ≡ drop (k - size) behind =
-            ap (λ z. drop z (front ++ behind)) at ∙ sym (drop_on (k - size) size (front ++ behind))
+            ap (λ z. drop z (front ++ behind)) at ∙ sym (drop-drop (k - size) size (front ++ behind))
             ∙ ap (drop (k - size)) (drop_at front behind size refl) in (
               rest,
               there ∙ e ∙ ap (λ z. node_in_order z ++ rest)
@@ -144,15 +146,15 @@ mutual
       ]
 
 -- one step past an entry and those inside it
-pub stepped :
+pub still_to_come-step :
     (all : Bool) (i inside : ℕ) (r : Entry) (rs rest : List Entry) → all ≡ false → rs ≡ r ∷ rest →
     inside ≡ min (r.next - (i + 1)) (length rest) →
     still_to_come all i rs ≡ (i, r) ∷ still_to_come all (i + 1 + inside) (drop inside rest)
-stepped all i inside r rs rest side whole count =
+still_to_come-step all i inside r rs rest side whole count =
     let n = r.next - (i + 1) in
     let behind : drop n rest ≡ drop inside rest = sym (drop_min n rest) ∙ ap (λ z. drop z rest) (sym count) in
     let next : side_by_side n (i + 1) rest ≡ still_to_come false (i + 1 + inside) (drop inside rest) =
-    skip_first n (i + 1) rest ∙ ap (λ z. side_by_side 0 (i + 1 + z) (drop n rest)) (sym count)
+    side_by_side-skip n (i + 1) rest ∙ ap (λ z. side_by_side 0 (i + 1 + z) (drop n rest)) (sym count)
     ∙ ap (side_by_side 0 (i + 1 + inside)) behind in
     ap (λ z. still_to_come z i rs) side ∙ ap (side_by_side 0 i) whole
     ∙ ap (λ z. (i, r) ∷ z) (next ∙ ap (λ z. still_to_come z (i + 1 + inside) (drop inside rest)) (sym side))

@@ -5,7 +5,7 @@ pub mod Standing
 pub mod Listed
 mod Iterating
 mod Answered
-mod Values
+pub mod Values
 mod Fields
 mod Lent
 mod Inside

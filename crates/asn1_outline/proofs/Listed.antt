@@ -1,5 +1,5 @@
 -- The entries of frames that are open, and of those that end.
-use Rattle.std.proofs.Common.{◌≡◌, ℕ, suc, ◌+◌, ◌-◌, ◌<◌, ◌≤◌, ◌++◌, List, [], ◌∷◌, Err, None, Ok, OnOk, Result, drop, inl, inr, length, set, take, refl, sym, ap, ◌∙◌, subst, arith, append_assoc, append-nil, length-append}
+use Rattle.std.proofs.Common.{◌≡◌, ℕ, suc, ◌+◌, ◌-◌, ◌<◌, ◌≤◌, ◌++◌, List, [], ◌∷◌, None, drop, inl, inr, length, set, take, refl, sym, ap, ◌∙◌, subst, arith, append_assoc, append-nil, length-append}
 use Rattle.std.specs.List.{slice_range}
 use Rattle.std.proofs.lemmas.List.{length-map, map-append}
 use Rattle.std.proofs.Math.Seq.{get_or-append_seam, set-append_seam}
@@ -28,44 +28,39 @@ use Rattle.asn1_outline.specs.Structure.{Holds, IsNode, IsTaggedAt, Node, no_nod
 use Rattle.asn1_outline.specs.declared.entry.Entry.{Entry}
 use Rattle.asn1_outline.specs.declared.listing.EntryBuilder.{EntryBuilder}
 use Rattle.asn1_outline.specs.declared.listing.EntryItems.{EntryItems}
-use Rattle.asn1_outline.proofs.Entries.{begun_entry, entries_more, sealed_entry}
-use Rattle.asn1_outline.proofs.Structures.{are_more, trees_nodes}
+use Rattle.asn1_outline.proofs.Entries.{AreEntries-without_items, AreEntries-append_node, AreEntries-with_items}
+use Rattle.asn1_outline.proofs.Structures.{AreNodes-append, trees_of-nodes}
 
--- a step that was taken, where memory was there
-pub if_ok : {A E : Type 0} {P Q : Type 0} (r : Result A E) → (P → Q) → OnOk r P → OnOk r Q
-if_ok (Ok x) f p = f p
-if_ok (Err e) f p = tt
+-- the items of a frame after one more
+abbrev pub with_one_more : EntryItems → EntryItems
+with_one_more i = record i { count = i.count + 1 }
 
--- the items of a frame are one more
-abbrev pub one_more : EntryItems → EntryItems
-one_more i = record i { count = i.count + 1 }
-
--- one block more, and its entries
-more_trees_of :
+-- entries of trees, and those of one tree more
+AreOfTrees-append :
     (x : List ℕ) (i j d : ℕ) (ts : List (Tree ℕ)) (n : Node) (rs ss : List Entry) → j ≡ i + length rs → IsNode x n →
     AreOfTrees x i d ts rs →
     AreEntries x j (node_in_order n) (node_depths d n) ss → AreOfTrees x i d (ts ++ node_tree n ∷ []) (rs ++ ss)
-more_trees_of x i j d ts n rs ss at is a e = record {
+AreOfTrees-append x i j d ts n rs ss at is a e = record {
   nodes = a.nodes ++ n ∷ [];
   trees = map-append node_tree a.nodes (n ∷ []) ∙ ap (λ z. z ++ node_tree n ∷ []) a.trees;
-  structure = are_more x a.nodes n a.structure is;
-  entries = entries_more x i j d a.nodes n rs ss at a.entries e;
+  structure = AreNodes-append x a.nodes n a.structure is;
+  entries = AreEntries-append_node x i j d a.nodes n rs ss at a.entries e;
 }
 
 -- the frame has one block more, and these entries more
-all_added :
+AllHold-add :
     (x : List ℕ) (rs ss : List Entry) (e : Extent) (i : EntryItems) (gs : List (OpenFrame EntryItems))
     (ts : List (Tree ℕ)) (rest : List (List (Tree ℕ)))
     (n : Node) → IsNode x n → AreEntries x (length rs) (node_in_order n) (node_depths (length gs) n) ss →
     AllHold x rs (in_frame e i) gs ts rest →
-    AllHold x (rs ++ ss) (in_frame e (one_more i)) gs (ts ++ node_tree n ∷ []) rest
-all_added x rs ss e i [] ts [] n is w a = (
+    AllHold x (rs ++ ss) (in_frame e (with_one_more i)) gs (ts ++ node_tree n ∷ []) rest
+AllHold-add x rs ss e i [] ts [] n is w a = (
   omega (arith, a.0, length-append ts (node_tree n ∷ [])),
-  more_trees_of x 0 (length rs) 0 ts n rs ss (omega arith) is a.1 w,
+  AreOfTrees-append x 0 (length rs) 0 ts n rs ss (omega arith) is a.1 w,
 )
-all_added x rs ss e i [] ts (us ∷ rest) n is w a = absurd a
-all_added x rs ss e i (h ∷ gs) ts [] n is w a = absurd a
-all_added x rs ss e i (h ∷ gs) ts (us ∷ rest) n is w a =
+AllHold-add x rs ss e i [] ts (us ∷ rest) n is w a = absurd a
+AllHold-add x rs ss e i (h ∷ gs) ts [] n is w a = absurd a
+AllHold-add x rs ss e i (h ∷ gs) ts (us ∷ rest) n is w a =
     let size : length rs ≡ suc i.entry + length a.own =
     omega (arith, ap length a.whole, length-append a.front (a.head ∷ a.own), a.entry) in
     record {
@@ -76,19 +71,19 @@ all_added x rs ss e i (h ∷ gs) ts (us ∷ rest) n is w a =
       entry = a.entry;
       count = omega (arith, a.count, length-append ts (node_tree n ∷ []));
       begun = a.begun;
-      blocks = more_trees_of x (suc i.entry) (length rs) (suc (length gs)) ts n a.own ss size is a.blocks w;
+      blocks = AreOfTrees-append x (suc i.entry) (length rs) (suc (length gs)) ts n a.own ss size is a.blocks w;
       around = a.around;
     }
 
--- a new frame inside
-all_opened :
+-- a new frame inside those that are open, with its entry
+all_hold-open :
     (x : List ℕ) (rs : List Entry) (r : Entry) (f g : OpenFrame EntryItems) (gs : List (OpenFrame EntryItems))
     (trees : List (List (Tree ℕ))) →
     IsBegun x f.extent.offset f.items.entry (length gs) r → f.items.entry ≡ length rs → f.items.count ≡ 0 →
     all_hold x rs (g ∷ gs) trees →
     all_hold x (rs ++ r ∷ []) (f ∷ g ∷ gs) ([] ∷ trees)
-all_opened x rs r f g gs [] b at none a = absurd a
-all_opened x rs r f g gs (us ∷ rest) b at none a = record {
+all_hold-open x rs r f g gs [] b at none a = absurd a
+all_hold-open x rs r f g gs (us ∷ rest) b at none a = record {
   front = rs;
   head = r;
   own = [];
@@ -100,71 +95,74 @@ all_opened x rs r f g gs (us ∷ rest) b at none a = record {
   around = a;
 }
 
-pub opened :
+-- the builder of entries holds a new frame, whose entry has no items
+pub HasOpened-entry_builder :
     (x : List ℕ) (h : PlacedHeader) (offset depth : ℕ) (a b : EntryBuilder) (i : EntryItems) (r : Entry) →
     IsBegun x offset i.entry depth r →
     i.entry ≡ length a.entries.items → i.count ≡ 0 → b.entries.items ≡ a.entries.items ++ r ∷ [] →
     HasOpened builder_holds x h offset depth a i b
-opened x h offset depth a b i r begun at none is = record {
+HasOpened-entry_builder x h offset depth a b i r begun at none is = record {
   holds = λ kind f fs trees d k w.
       let e = opened_at offset kind h in
       let deep = subst (λ z. IsBegun x offset i.entry z r) d begun in
       subst (λ z. all_hold x z (in_frame e i ∷ f ∷ fs) ([] ∷ trees)) (sym is)
-      (all_opened x a.entries.items r (in_frame e i) f fs trees deep at none w);
+      (all_hold-open x a.entries.items r (in_frame e i) f fs trees deep at none w);
 }
 
 -- a leaf, or an encoding that is not read inside, holds none
-none_held : (x : List ℕ) (o e : ℕ) (h : PlacedHeader) (t : Tree ℕ) (v : List ℕ) (i : ℕ) → tree_items t ≡ None →
+Holds-none : (x : List ℕ) (o e : ℕ) (h : PlacedHeader) (t : Tree ℕ) (v : List ℕ) (i : ℕ) → tree_items t ≡ None →
     Encodes o (slice_range x o e) t
     → Encoding (slice_range x o e) h.class h.constructed h.tag v i → (IsReadInside h.class h.constructed h.tag → ⊥) →
     Holds x t no_trees
-none_held x o e h (leaf p l) v i none s found shut = refl
-none_held x o e h (group p g bs) v i none s found shut = absurd (cc)
-none_held x o e h (explicit c p n b) v i none s found shut = absurd (cc)
-none_held x o e h (unknown c k p n w) v i none s found shut =
+Holds-none x o e h (leaf p l) v i none s found shut = refl
+Holds-none x o e h (group p g bs) v i none s found shut = absurd (cc)
+Holds-none x o e h (explicit c p n b) v i none s found shut = absurd (cc)
+Holds-none x o e h (unknown c k p n w) v i none s found shut =
     let y = slice_range x o e in
     let same = encoding_alone y y c h.class k h.constructed n h.tag w v s.1 i [] [] s.2 found refl in
     inr (refl, λ (other, bit, are). shut (inr (λ z. other (same.class ∙ z), sym same.constructed ∙ bit)))
 
 -- a block that holds none stands at the header
-pub leaf_built :
+pub HasLeaf-entry_builder :
     (x : List ℕ) (h : PlacedHeader) (offset limit depth : ℕ) (a b : EntryBuilder) (i : EntryItems) (r : Entry) →
     HeaderFound x offset limit h →
     (IsReadInside h.class h.constructed h.tag → ⊥) → IsSingleAt offset (slice_range x offset h.end) →
     IsBegun x offset (length a.entries.items) depth r → b.entries.items ≡ a.entries.items ++ r ∷ [] →
-    HasLeaf builder_holds x offset h.end depth a i b (one_more i)
-leaf_built x h offset limit depth a b i r found shut (t, none, encoded) begun is =
+    HasLeaf builder_holds x offset h.end depth a i b (with_one_more i)
+HasLeaf-entry_builder x h offset limit depth a b i r found shut (t, none, encoded) begun is =
     let o = tree_offset-encodes offset (slice_range x offset h.end) t encoded in
-    let holds = none_held x offset h.end h t _ _ none encoded found.encoding shut in
+    let holds = Holds-none x offset h.end h t _ _ none encoded found.encoding shut in
     record {
       tree = t;
       encoded = encoded;
       more = record {
         holds = λ e fs ts rest d w.
             let deep = subst (λ z. IsBegun x offset (length a.entries.items) z r) d begun in
-            let own = begun_entry x offset (length a.entries.items) (length fs) t r o deep in
-            subst (λ z. AllHold x z (in_frame e (one_more i)) fs (ts ++ t ∷ []) rest) (sym is)
-            (all_added x a.entries.items (r ∷ []) e i fs ts rest (node t no_nodes) (holds, tt) own w);
+            let own = AreEntries-without_items x offset (length a.entries.items) (length fs) t r o deep in
+            subst (λ z. AllHold x z (in_frame e (with_one_more i)) fs (ts ++ t ∷ []) rest) (sym is)
+            (AllHold-add x a.entries.items (r ∷ []) e i fs ts rest (node t no_nodes) (holds, tt) own w);
       };
     }
 
 -- the entries up to one that stands after some
-pub take_after : (front : List Entry) (r : Entry) (own : List Entry) →
+pub take-behind_front : (front : List Entry) (r : Entry) (own : List Entry) →
     take (suc (length front)) (front ++ r ∷ own) ≡ front ++ r ∷ []
-take_after [] r own = refl
-take_after (y ∷ front) r own = ap (λ z. y ∷ z) (take_after front r own)
+take-behind_front [] r own = refl
+take-behind_front (y ∷ front) r own = ap (λ z. y ∷ z) (take-behind_front front r own)
 
-pub sealed_after : (front : List Entry) (r : Entry) (own : List Entry) (items : ℕ)
+-- to set the items of an entry behind others changes it alone
+pub sealed-behind_front : (front : List Entry) (r : Entry) (own : List Entry) (items : ℕ)
     → sealed (front ++ r ∷ own) (length front) items ≡ front ++ with_items items (length (front ++ r ∷ own)) r ∷ own
-sealed_after front r own items =
+sealed-behind_front front r own items =
     ap (λ z. set (front ++ r ∷ own) (length front) (with_items items (length (front ++ r ∷ own)) z))
     (get_or-append_seam front r own no_entry)
     ∙ set-append_seam front r own (with_items items (length (front ++ r ∷ own)) r)
 
 -- an encoding of another class, and its contents octets
-tagged : (x : List ℕ) (a : other.Attempt) (start end : ℕ) → a.offset < start → start ≤ end → IsAttemptAt x a start end
+IsTaggedAt-attempt : (x : List ℕ) (a : other.Attempt) (start end : ℕ) → a.offset < start → start ≤ end →
+    IsAttemptAt x a start end
     → IsTaggedAt x a.class a.offset a.tag (slice_range x start end) start
-tagged x a start end lt le at = record {
+IsTaggedAt-attempt x a start end lt le at = record {
   octets = slice_range x a.offset end;
   rest = drop end x;
   header = start - a.offset;
@@ -175,26 +173,27 @@ tagged x a start end lt le at = record {
 }
 
 -- a frame that ended holds the blocks that it has
-attempt_holds :
+Holds-attempt :
     (x : List ℕ) (a : other.Attempt) (s e : ℕ) (ts : List (Tree ℕ)) (bs : Trees ℕ) → trees_of ts ≡ bs → a.offset < s →
     s ≤ e → IsAttemptAt x a s e →
     EncodesAll s (slice_range x s e) (trees_of ts) → Holds x (attempt_tree x a s e ts) bs
-attempt_holds x a s e [] bs same lt le at w =
-    inl (refl, s, tagged x a s e lt le at, subst (EncodesAll s (slice_range x s e)) same w)
-attempt_holds x a s e (t ∷ []) bs same lt le at w = sym same
-attempt_holds x a s e (t ∷ u ∷ ts) bs same lt le at w =
-    inl (refl, s, tagged x a s e lt le at, subst (EncodesAll s (slice_range x s e)) same w)
+Holds-attempt x a s e [] bs same lt le at w =
+    inl (refl, s, IsTaggedAt-attempt x a s e lt le at, subst (EncodesAll s (slice_range x s e)) same w)
+Holds-attempt x a s e (t ∷ []) bs same lt le at w = sym same
+Holds-attempt x a s e (t ∷ u ∷ ts) bs same lt le at w =
+    inl (refl, s, IsTaggedAt-attempt x a s e lt le at, subst (EncodesAll s (slice_range x s e)) same w)
 
-attempted_offset : (x : List ℕ) (a : other.Attempt) (s e : ℕ) (ts : List (Tree ℕ)) →
+tree_offset-attempt_tree : (x : List ℕ) (a : other.Attempt) (s e : ℕ) (ts : List (Tree ℕ)) →
     tree_offset (attempt_tree x a s e ts) ≡ a.offset
-attempted_offset x a s e [] = refl
-attempted_offset x a s e (t ∷ []) = refl
-attempted_offset x a s e (t ∷ u ∷ ts) = refl
+tree_offset-attempt_tree x a s e [] = refl
+tree_offset-attempt_tree x a s e (t ∷ []) = refl
+tree_offset-attempt_tree x a s e (t ∷ u ∷ ts) = refl
 
-ended_holds : (x : List ℕ) (e : Extent) (ts : List (Tree ℕ)) (t : Tree ℕ) (bs : Trees ℕ) → trees_of ts ≡ bs →
+-- the tree of a frame that ended holds the trees of the frame
+Holds-ended : (x : List ℕ) (e : Extent) (ts : List (Tree ℕ)) (t : Tree ℕ) (bs : Trees ℕ) → trees_of ts ≡ bs →
     EndsAs x e ts t
     → Holds x t bs × (tree_offset t ≡ e.offset)
-ended_holds x e ts t bs same w = go e.kind refl
+Holds-ended x e ts t bs same w = go e.kind refl
   where
     go : (kind : FrameKind) → e.kind ≡ kind → Holds x t bs × (tree_offset t ≡ e.offset)
     go Whole d = absurd (subst (λ z. IsEnded x z e.offset e.start e.end ts t) d w.tree)
@@ -203,29 +202,32 @@ ended_holds x e ts t bs same w = go e.kind refl
         (subst (λ z. Holds x z bs) (sym is) (sym same), ap tree_offset is)
     go Attempt d =
         let (a, here, at, is) = subst (λ z. IsEnded x z e.offset e.start e.end ts t) d w.tree in
-        let holds = attempt_holds x a e.start e.end ts bs same (omega (arith, here, w.after)) w.order at w.encoded in
-        (subst (λ z. Holds x z bs) (sym is) holds, ap tree_offset is ∙ (attempted_offset x a e.start e.end ts ∙ here))
+        let holds = Holds-attempt x a e.start e.end ts bs same (omega (arith, here, w.after)) w.order at w.encoded in (
+          subst (λ z. Holds x z bs) (sym is) holds,
+          ap tree_offset is
+              ∙ (tree_offset-attempt_tree x a e.start e.end ts ∙ here),
+        )
 
 -- the entry of a frame
-pub entry_within : (x : List ℕ) (rs : List Entry) (f h : OpenFrame EntryItems) (gs : List (OpenFrame EntryItems))
+pub entry-lt_length : (x : List ℕ) (rs : List Entry) (f h : OpenFrame EntryItems) (gs : List (OpenFrame EntryItems))
     (trees : List (List (Tree ℕ)))
     → all_hold x rs (f ∷ h ∷ gs) trees → f.items.entry < length rs
-entry_within x rs f h gs [] a = absurd a
-entry_within x rs f h gs (ts ∷ []) a = absurd a
-entry_within x rs f h gs (ts ∷ us ∷ rest) a =
+entry-lt_length x rs f h gs [] a = absurd a
+entry-lt_length x rs f h gs (ts ∷ []) a = absurd a
+entry-lt_length x rs f h gs (ts ∷ us ∷ rest) a =
     omega (arith, ap length a.whole, length-append a.front (a.head ∷ a.own), a.entry)
 
--- the frame ended: its entry is of all that it holds
-pub ended : (x : List ℕ) (a b : EntryBuilder) (f : OpenFrame EntryItems) (i : EntryItems) (depth : ℕ)
+-- an entry whose items are set is that of the tree that ended
+pub HasEndedIn-entry_builder : (x : List ℕ) (a b : EntryBuilder) (f : OpenFrame EntryItems) (i : EntryItems) (depth : ℕ)
     → b.entries.items ≡ sealed a.entries.items f.items.entry f.items.count →
-    HasEndedIn builder_holds x f depth a i b (one_more i)
-ended x a b f i depth is = record {
+    HasEndedIn builder_holds x f depth a i b (with_one_more i)
+HasEndedIn-entry_builder x a b f i depth is = record {
   holds = λ e fs ts us rest t d ends w.
       let rs = a.entries.items in
       let blocks = w.blocks in
       let same : trees_of ts ≡ nodes_trees (nodes_of blocks.nodes) =
-      sym (ap trees_of blocks.trees) ∙ trees_nodes blocks.nodes in
-      let (holds, place) = ended_holds x f.extent ts t (nodes_trees (nodes_of blocks.nodes)) same ends in
+      sym (ap trees_of blocks.trees) ∙ trees_of-nodes blocks.nodes in
+      let (holds, place) = Holds-ended x f.extent ts t (nodes_trees (nodes_of blocks.nodes)) same ends in
       let n = node t (nodes_of blocks.nodes) in
       let size : length rs ≡ length w.front + suc (length w.own) =
       ap length w.whole ∙ length-append w.front (w.head ∷ w.own) in
@@ -235,21 +237,22 @@ ended x a b f i depth is = record {
       let own = subst (λ z. AreEntries x (suc z) (nodes_in_order all) (nodes_depths (suc (length fs)) all) w.own)
       w.entry blocks.entries in
       let begun = subst (λ z. IsBegun x f.extent.offset z (length fs) w.head) w.entry w.begun in
-      let entries = sealed_entry x f.extent.offset (length w.front) (length fs) f.items.count (length rs) t blocks.nodes
+      let entries =
+      AreEntries-with_items x f.extent.offset (length w.front) (length fs) f.items.count (length rs) t blocks.nodes
       w.head w.own place count size
       begun own in
       let new = with_items f.items.count (length rs) w.head ∷ w.own in
       let made : sealed rs f.items.entry f.items.count ≡ w.front ++ new =
       ap (λ z. sealed z f.items.entry f.items.count) w.whole
       ∙ ap (λ z. sealed (w.front ++ w.head ∷ w.own) z f.items.count) w.entry
-      ∙ sealed_after w.front w.head w.own f.items.count
+      ∙ sealed-behind_front w.front w.head w.own f.items.count
       ∙ ap (λ z. w.front ++ with_items f.items.count (length z) w.head ∷ w.own) (sym w.whole) in
-      subst (λ z. AllHold x z (in_frame e (one_more i)) fs (us ++ t ∷ []) rest) (sym (is ∙ made))
-      (all_added x w.front new e i fs us rest n (holds, blocks.structure) entries w.around);
+      subst (λ z. AllHold x z (in_frame e (with_one_more i)) fs (us ++ t ∷ []) rest) (sym (is ∙ made))
+      (AllHold-add x w.front new e i fs us rest n (holds, blocks.structure) entries w.around);
 }
 
 -- frames that were dropped leave what those around hold
-pub record IsLeft (x : List ℕ) (rs : List Entry) (f : OpenFrame EntryItems) (gs : List (OpenFrame EntryItems))
+pub record HoldsFront (x : List ℕ) (rs : List Entry) (f : OpenFrame EntryItems) (gs : List (OpenFrame EntryItems))
     (ts : List (Tree ℕ))
     (rest : List (List (Tree ℕ))) : Type 0 where
   pub front : List Entry
@@ -257,39 +260,42 @@ pub record IsLeft (x : List ℕ) (rs : List Entry) (f : OpenFrame EntryItems) (g
   pub whole : rs ≡ front ++ more
   pub holds : AllHold x front f gs ts rest
 
-inner_left :
+-- what a frame holds is held by the first of the entries, whatever frames inside it add
+HoldsFront-inside :
     (x : List ℕ) (rs : List Entry) (k : OpenFrame EntryItems) (inside : List (OpenFrame EntryItems))
     (f : OpenFrame EntryItems)
     (gs : List (OpenFrame EntryItems)) (l : List (Tree ℕ)) (lost : List (List (Tree ℕ))) (ts : List (Tree ℕ))
     (rest : List (List (Tree ℕ))) →
-    length inside ≡ length lost → AllHold x rs k (inside ++ f ∷ gs) l (lost ++ ts ∷ rest) → IsLeft x rs f gs ts rest
-inner_left x rs k [] f gs l [] ts rest m a =
+    length inside ≡ length lost → AllHold x rs k (inside ++ f ∷ gs) l (lost ++ ts ∷ rest) → HoldsFront x rs f gs ts rest
+HoldsFront-inside x rs k [] f gs l [] ts rest m a =
     record { front = a.front; more = a.head ∷ a.own; whole = a.whole; holds = a.around }
-inner_left x rs k [] f gs l (u ∷ lost) ts rest m a = absurd (omega (arith, m))
-inner_left x rs k (y ∷ inside) f gs l [] ts rest m a = absurd (omega (arith, m))
-inner_left x rs k (y ∷ inside) f gs l (u ∷ lost) ts rest m a =
-    let w = inner_left x a.front y inside f gs u lost ts rest (omega (arith, m)) a.around in
+HoldsFront-inside x rs k [] f gs l (u ∷ lost) ts rest m a = absurd (omega (arith, m))
+HoldsFront-inside x rs k (y ∷ inside) f gs l [] ts rest m a = absurd (omega (arith, m))
+HoldsFront-inside x rs k (y ∷ inside) f gs l (u ∷ lost) ts rest m a =
+    let w = HoldsFront-inside x a.front y inside f gs u lost ts rest (omega (arith, m)) a.around in
     let all = a.whole ∙ (ap (λ z. z ++ a.head ∷ a.own) w.whole ∙ append_assoc w.front w.more (a.head ∷ a.own)) in
     record { front = w.front; more = w.more ++ a.head ∷ a.own; whole = all; holds = w.holds }
 
-frames_left :
+-- what a frame holds is held by the first of the entries, with or without frames inside it
+HoldsFront-all :
     (x : List ℕ) (rs : List Entry) (inside : List (OpenFrame EntryItems)) (f : OpenFrame EntryItems)
     (gs : List (OpenFrame EntryItems))
     (lost : List (List (Tree ℕ))) (ts : List (Tree ℕ)) (rest : List (List (Tree ℕ))) → length inside ≡ length lost →
-    all_hold x rs (inside ++ f ∷ gs) (lost ++ ts ∷ rest) → IsLeft x rs f gs ts rest
-frames_left x rs [] f gs [] ts rest m a = record { front = rs; more = []; whole = sym (append-nil rs); holds = a }
-frames_left x rs [] f gs (u ∷ lost) ts rest m a = absurd (omega (arith, m))
-frames_left x rs (y ∷ inside) f gs [] ts rest m a = absurd (omega (arith, m))
-frames_left x rs (y ∷ inside) f gs (u ∷ lost) ts rest m a =
-    inner_left x rs y inside f gs u lost ts rest (omega (arith, m)) a
+    all_hold x rs (inside ++ f ∷ gs) (lost ++ ts ∷ rest) → HoldsFront x rs f gs ts rest
+HoldsFront-all x rs [] f gs [] ts rest m a = record { front = rs; more = []; whole = sym (append-nil rs); holds = a }
+HoldsFront-all x rs [] f gs (u ∷ lost) ts rest m a = absurd (omega (arith, m))
+HoldsFront-all x rs (y ∷ inside) f gs [] ts rest m a = absurd (omega (arith, m))
+HoldsFront-all x rs (y ∷ inside) f gs (u ∷ lost) ts rest m a =
+    HoldsFront-inside x rs y inside f gs u lost ts rest (omega (arith, m)) a
 
--- a fault ended the attempt: there are no entries after its own
-pub kept : (x : List ℕ) (a b : EntryBuilder) (f : OpenFrame EntryItems) (i : EntryItems) (depth : ℕ)
-    → b.entries.items ≡ take (suc f.items.entry) a.entries.items → HasKept builder_holds x f depth a i b (one_more i)
-kept x a b f i depth is = record {
+-- an attempt that a fault ended has its own entry alone
+pub HasKept-entry_builder : (x : List ℕ) (a b : EntryBuilder) (f : OpenFrame EntryItems) (i : EntryItems) (depth : ℕ)
+    → b.entries.items ≡ take (suc f.items.entry) a.entries.items →
+    HasKept builder_holds x f depth a i b (with_one_more i)
+HasKept-entry_builder x a b f i depth is = record {
   holds = λ inside lost e fs ts us rest k d m here tried none held.
       let rs = a.entries.items in
-      let left = frames_left x rs inside f (in_frame e i ∷ fs) lost ts (us ∷ rest) m held in
+      let left = HoldsFront-all x rs inside f (in_frame e i ∷ fs) lost ts (us ∷ rest) m held in
       let w = left.holds in
       let t = as_it_came x k f.extent.start f.extent.end in
       let all : rs ≡ w.front ++ w.head ∷ (w.own ++ left.more) =
@@ -297,19 +303,19 @@ kept x a b f i depth is = record {
       let made : take (suc f.items.entry) rs ≡ w.front ++ w.head ∷ [] =
       ap (take (suc f.items.entry)) all
       ∙ ap (λ z. take (suc z) (w.front ++ w.head ∷ (w.own ++ left.more))) w.entry
-      ∙ take_after w.front w.head (w.own ++ left.more) in
+      ∙ take-behind_front w.front w.head (w.own ++ left.more) in
       let place = subst (λ z. IsBegun x z f.items.entry (length fs) w.head) (sym here) w.begun in
       let at = subst (λ z. IsBegun x k.offset z (length fs) w.head) w.entry place in
-      let own = begun_entry x k.offset (length w.front) (length fs) t w.head refl at in
-      subst (λ z. AllHold x z (in_frame e (one_more i)) fs (us ++ t ∷ []) rest) (sym (is ∙ made))
-      (all_added x w.front (w.head ∷ []) e i fs us rest (node t no_nodes)
+      let own = AreEntries-without_items x k.offset (length w.front) (length fs) t w.head refl at in
+      subst (λ z. AllHold x z (in_frame e (with_one_more i)) fs (us ++ t ∷ []) rest) (sym (is ∙ made))
+      (AllHold-add x w.front (w.head ∷ []) e i fs us rest (node t no_nodes)
       (inr (refl, λ (other, bit, are). none are), tt) own w.around);
 }
 
--- in the end the entries are those of the document
-pub document_entries : (x : List ℕ) (rs : List Entry) (ts : List (Tree ℕ)) → IsDocument x (trees_of ts) →
+-- entries of all trees of a document are those of the document
+pub AreEntriesOf-document : (x : List ℕ) (rs : List Entry) (ts : List (Tree ℕ)) → IsDocument x (trees_of ts) →
     AreOfTrees x 0 0 ts rs
     → (bs : Trees ℕ) × IsDocument x bs × AreEntriesOf x bs rs
-document_entries x rs ts d a =
-    let trees : nodes_trees (nodes_of a.nodes) ≡ trees_of ts = sym (trees_nodes a.nodes) ∙ ap trees_of a.trees in
+AreEntriesOf-document x rs ts d a =
+    let trees : nodes_trees (nodes_of a.nodes) ≡ trees_of ts = sym (trees_of-nodes a.nodes) ∙ ap trees_of a.trees in
     (trees_of ts, d, record { nodes = nodes_of a.nodes; trees = trees; structure = a.structure; entries = a.entries })

@@ -15,9 +15,9 @@ use Rattle.asn1_blocks.proofs.ReadSteps.{slice_range-append, length-slice_range}
 use Rattle.asn1_outline.specs.Shapes.{AreShapes, FirstHeaderFaultAt, HasItems, HasShapes, HeadersFaultAt, Shapes, as_it_came, in_header, in_item, in_later, more_shapes, no_more, not_read, one_more, read_inside}
 
 -- at a place there is one header
-pub header_alone : (x : List ℕ) (p e : ℕ) (h g : PlacedHeader) → e ≤ length x → HeaderFound x p e h →
+pub HeaderFound-unique : (x : List ℕ) (p e : ℕ) (h g : PlacedHeader) → e ≤ length x → HeaderFound x p e h →
     HeaderFound x p e g → h ≡ g
-header_alone x p e h g within f f' =
+HeaderFound-unique x p e h g within f f' =
     let y = slice_range x p h.end in
     let z = slice_range x p g.end in
     let whole : y ++ drop h.end x ≡ z ++ drop g.end x =
@@ -44,10 +44,10 @@ header_alone x p e h g within f f' =
     same
 
 -- no header is at fault where one is found
-pub header_no_fault : (x : List ℕ) (s p e : ℕ) (h : PlacedHeader) (fault : DecodeFault) → length x < 2 ^ 64 →
+pub HeaderFound-no_fault : (x : List ℕ) (s p e : ℕ) (h : PlacedHeader) (fault : DecodeFault) → length x < 2 ^ 64 →
     e ≤ length x → HeaderFound x p e h
     → HeaderFault (p - s) (slice_range x p e) fault → ⊥
-header_no_fault x s p e h fault small within f w =
+HeaderFound-no_fault x s p e h fault small within f w =
     let before : p ≤ h.end = omega (arith, f.starts_after, f.order) in
     let l = length-slice_range x p e (omega (arith, before, f.ends_within)) within in
     HeaderFault-not_encoding (p - s) (slice_range x p e) (slice_range x p h.end) (slice_range x h.end e) fault h.class
@@ -57,112 +57,126 @@ header_no_fault x s p e h fault small within f w =
 
 module _ (x : List ℕ) (small : length x < 2 ^ 64) where
   mutual
-    shapes_no_fault : (s p e : ℕ) (a : Shapes) (fault : DecodeFault) (o : ℕ) → e ≤ length x → AreShapes x p e a →
+    -- octets whose headers have shapes have no header fault
+    AreShapes-no_fault : (s p e : ℕ) (a : Shapes) (fault : DecodeFault) (o : ℕ) → e ≤ length x → AreShapes x p e a →
         HeadersFaultAt x s p e fault o → ⊥
-    shapes_no_fault s p e a fault o within (no_more end) (in_header more w) = omega (arith, end, more)
-    shapes_no_fault s p e a fault o within (no_more end) (in_item f u i q) =
+    AreShapes-no_fault s p e a fault o within (no_more end) (in_header more w) = omega (arith, end, more)
+    AreShapes-no_fault s p e a fault o within (no_more end) (in_item f u i q) =
         omega (arith, end, f.starts_after, f.order, f.ends_within)
-    shapes_no_fault s p e a fault o within (no_more end) (in_later f i q) =
+    AreShapes-no_fault s p e a fault o within (no_more end) (in_later f i q) =
         omega (arith, end, f.starts_after, f.order, f.ends_within)
-    shapes_no_fault s p e a fault o within (one_more f i r) (in_header more w) =
-        header_no_fault x s p e _ fault small within f w
-    shapes_no_fault s p e a fault o within (one_more {header = h} {items = items} f i r)
+    AreShapes-no_fault s p e a fault o within (one_more f i r) (in_header more w) =
+        HeaderFound-no_fault x s p e _ fault small within f w
+    AreShapes-no_fault s p e a fault o within (one_more {header = h} {items = items} f i r)
         (in_item {header = g} f' u j q) =
-        let same : g ≡ h = header_alone x p e g h within f' f in
+        let same : g ≡ h = HeaderFound-unique x p e g h within f' f in
         let q' = subst (λ z. HeadersFaultAt x z.start z.start z.end fault o) same q in
-        items_no_fault h items fault o (omega (arith, f.ends_within, within)) i
+        HasItems-no_fault h items fault o (omega (arith, f.ends_within, within)) i
         (ap (λ (z : PlacedHeader). z.class) (sym same) ∙ u)
         (subst (λ z. IsReadInside z.class z.constructed z.tag) same j) q'
-    shapes_no_fault s p e a fault o within (one_more {header = h} {rest = rest} f i r) (in_later {header = g} f' j q) =
-        let same : g ≡ h = header_alone x p e g h within f' f in
-        shapes_no_fault s h.end e rest fault o within r (subst (λ z. HeadersFaultAt x s z.end e fault o) same q)
+    AreShapes-no_fault s p e a fault o within (one_more {header = h} {rest = rest} f i r)
+        (in_later {header = g} f' j q) =
+        let same : g ≡ h = HeaderFound-unique x p e g h within f' f in
+        AreShapes-no_fault s h.end e rest fault o within r (subst (λ z. HeadersFaultAt x s z.end e fault o) same q)
 
-    items_no_fault : (h : PlacedHeader) (a : Shapes) (fault : DecodeFault) (o : ℕ) → h.end ≤ length x → HasItems x h a →
+    -- an encoding with items has no header fault in its contents octets
+    HasItems-no_fault : (h : PlacedHeader) (a : Shapes) (fault : DecodeFault) (o : ℕ) → h.end ≤ length x →
+        HasItems x h a →
         h.class ≡ Universal
         → IsReadInside h.class h.constructed h.tag → HeadersFaultAt x h.start h.start h.end fault o → ⊥
-    items_no_fault h a fault o within (read_inside i are) u j q =
-        shapes_no_fault h.start h.start h.end a fault o within are q
-    items_no_fault h a fault o within (as_it_came other c p) u j q = other u
-    items_no_fault h a fault o within (not_read shut) u j q = shut j
+    HasItems-no_fault h a fault o within (read_inside i are) u j q =
+        AreShapes-no_fault h.start h.start h.end a fault o within are q
+    HasItems-no_fault h a fault o within (as_it_came other c p) u j q = other u
+    HasItems-no_fault h a fault o within (not_read shut) u j q = shut j
 
   mutual
-    shapes_alone : (p e : ℕ) (a b : Shapes) → e ≤ length x → AreShapes x p e a → AreShapes x p e b → a ≡ b
-    shapes_alone p e a b within (no_more end) (no_more end') = refl
-    shapes_alone p e a b within (no_more end) (one_more f i r) =
+    -- octets have one list of shapes
+    AreShapes-unique : (p e : ℕ) (a b : Shapes) → e ≤ length x → AreShapes x p e a → AreShapes x p e b → a ≡ b
+    AreShapes-unique p e a b within (no_more end) (no_more end') = refl
+    AreShapes-unique p e a b within (no_more end) (one_more f i r) =
         absurd (omega (arith, end, f.starts_after, f.order, f.ends_within))
-    shapes_alone p e a b within (one_more f i r) (no_more end) =
+    AreShapes-unique p e a b within (one_more f i r) (no_more end) =
         absurd (omega (arith, end, f.starts_after, f.order, f.ends_within))
-    shapes_alone p e a b within (one_more {header = h} {items = items} {rest = rest} f i r)
+    AreShapes-unique p e a b within (one_more {header = h} {items = items} {rest = rest} f i r)
         (one_more {header = g} {items = items'} {rest = rest'} f' i' r') =
-        let same : g ≡ h = header_alone x p e g h within f' f in
+        let same : g ≡ h = HeaderFound-unique x p e g h within f' f in
         let inside : items ≡ items' =
-        items_alone h items items' (omega (arith, f.ends_within, within)) i
+        HasItems-unique h items items' (omega (arith, f.ends_within, within)) i
         (subst (λ z. HasItems x z items') same i') in
         let after : rest ≡ rest' =
-        shapes_alone h.end e rest rest' within r (subst (λ z. AreShapes x z.end e rest') same r') in
+        AreShapes-unique h.end e rest rest' within r (subst (λ z. AreShapes x z.end e rest') same r') in
         ap (λ z. more_shapes p z items rest) (sym same) ∙ ap (λ z. more_shapes p g z rest) inside
         ∙ ap (λ z. more_shapes p g items' z) after
 
-    items_alone : (h : PlacedHeader) (a b : Shapes) → h.end ≤ length x → HasItems x h a → HasItems x h b → a ≡ b
-    items_alone h a b within (read_inside i are) (read_inside i' are') = shapes_alone h.start h.end a b within are are'
-    items_alone h a b within (read_inside i are) (as_it_came {fault = fault} {offset = o} other c p) =
-        absurd (shapes_no_fault h.start h.start h.end a fault o within are p)
-    items_alone h a b within (read_inside i are) (not_read shut) = absurd (shut i)
-    items_alone h a b within (as_it_came {fault = fault} {offset = o} other c p) (read_inside i are) =
-        absurd (shapes_no_fault h.start h.start h.end b fault o within are p)
-    items_alone h a b within (as_it_came other c p) (as_it_came other' c' p') = refl
-    items_alone h a b within (as_it_came other c p) (not_read shut) = refl
-    items_alone h a b within (not_read shut) (read_inside i are) = absurd (shut i)
-    items_alone h a b within (not_read shut) (as_it_came other c p) = refl
-    items_alone h a b within (not_read shut) (not_read shut') = refl
+    -- an encoding has one list of items
+    HasItems-unique : (h : PlacedHeader) (a b : Shapes) → h.end ≤ length x → HasItems x h a → HasItems x h b → a ≡ b
+    HasItems-unique h a b within (read_inside i are) (read_inside i' are') =
+        AreShapes-unique h.start h.end a b within are are'
+    HasItems-unique h a b within (read_inside i are) (as_it_came {fault = fault} {offset = o} other c p) =
+        absurd (AreShapes-no_fault h.start h.start h.end a fault o within are p)
+    HasItems-unique h a b within (read_inside i are) (not_read shut) = absurd (shut i)
+    HasItems-unique h a b within (as_it_came {fault = fault} {offset = o} other c p) (read_inside i are) =
+        absurd (AreShapes-no_fault h.start h.start h.end b fault o within are p)
+    HasItems-unique h a b within (as_it_came other c p) (as_it_came other' c' p') = refl
+    HasItems-unique h a b within (as_it_came other c p) (not_read shut) = refl
+    HasItems-unique h a b within (not_read shut) (read_inside i are) = absurd (shut i)
+    HasItems-unique h a b within (not_read shut) (as_it_came other c p) = refl
+    HasItems-unique h a b within (not_read shut) (not_read shut') = refl
 
-  fault_alone : (s p e : ℕ) (a b : DecodeFault) (o q : ℕ) → e ≤ length x → HeadersFaultAt x s p e a o →
+  -- octets have one first header fault, at one place
+  HeadersFaultAt-unique : (s p e : ℕ) (a b : DecodeFault) (o q : ℕ) → e ≤ length x → HeadersFaultAt x s p e a o →
       HeadersFaultAt x s p e b q
       → (a ≡ b) × (o ≡ q)
-  fault_alone s p e a b o q within (in_header more w) (in_header more' w') =
+  HeadersFaultAt-unique s p e a b o q within (in_header more w) (in_header more' w') =
       (HeaderFault-unique (p - s) (slice_range x p e) a b w w', refl)
-  fault_alone s p e a b o q within (in_header more w) (in_item f u i t) =
-      absurd (header_no_fault x s p e _ a small within f w)
-  fault_alone s p e a b o q within (in_header more w) (in_later f i t) =
-      absurd (header_no_fault x s p e _ a small within f w)
-  fault_alone s p e a b o q within (in_item f u i t) (in_header more w) =
-      absurd (header_no_fault x s p e _ b small within f w)
-  fault_alone s p e a b o q within (in_later f i t) (in_header more w) =
-      absurd (header_no_fault x s p e _ b small within f w)
-  fault_alone s p e a b o q within (in_item {header = h} f u i t) (in_item {header = g} f' u' i' t') =
-      let same : g ≡ h = header_alone x p e g h within f' f in
-      fault_alone h.start h.start h.end a b o q (omega (arith, f.ends_within, within)) t
+  HeadersFaultAt-unique s p e a b o q within (in_header more w) (in_item f u i t) =
+      absurd (HeaderFound-no_fault x s p e _ a small within f w)
+  HeadersFaultAt-unique s p e a b o q within (in_header more w) (in_later f i t) =
+      absurd (HeaderFound-no_fault x s p e _ a small within f w)
+  HeadersFaultAt-unique s p e a b o q within (in_item f u i t) (in_header more w) =
+      absurd (HeaderFound-no_fault x s p e _ b small within f w)
+  HeadersFaultAt-unique s p e a b o q within (in_later f i t) (in_header more w) =
+      absurd (HeaderFound-no_fault x s p e _ b small within f w)
+  HeadersFaultAt-unique s p e a b o q within (in_item {header = h} f u i t) (in_item {header = g} f' u' i' t') =
+      let same : g ≡ h = HeaderFound-unique x p e g h within f' f in
+      HeadersFaultAt-unique h.start h.start h.end a b o q (omega (arith, f.ends_within, within)) t
       (subst (λ z. HeadersFaultAt x z.start z.start z.end b q) same t')
-  fault_alone s p e a b o q within (in_item {header = h} f u i t) (in_later {header = g} {items = items} f' i' t') =
-      let same : g ≡ h = header_alone x p e g h within f' f in
-      absurd (items_no_fault h items a o (omega (arith, f.ends_within, within))
+  HeadersFaultAt-unique s p e a b o q within (in_item {header = h} f u i t)
+      (in_later {header = g} {items = items} f' i' t') =
+      let same : g ≡ h = HeaderFound-unique x p e g h within f' f in
+      absurd (HasItems-no_fault h items a o (omega (arith, f.ends_within, within))
       (subst (λ z. HasItems x z items) same i') u i t)
-  fault_alone s p e a b o q within (in_later {header = h} {items = items} f i t) (in_item {header = g} f' u i' t') =
-      let same : h ≡ g = header_alone x p e h g within f f' in
-      absurd (items_no_fault g items b q (omega (arith, f'.ends_within, within))
+  HeadersFaultAt-unique s p e a b o q within (in_later {header = h} {items = items} f i t)
+      (in_item {header = g} f' u i' t') =
+      let same : h ≡ g = HeaderFound-unique x p e h g within f f' in
+      absurd (HasItems-no_fault g items b q (omega (arith, f'.ends_within, within))
       (subst (λ z. HasItems x z items) same i) u i' t')
-  fault_alone s p e a b o q within (in_later {header = h} f i t) (in_later {header = g} f' i' t') =
-      let same : g ≡ h = header_alone x p e g h within f' f in
-      fault_alone s h.end e a b o q within t (subst (λ z. HeadersFaultAt x s z.end e b q) same t')
+  HeadersFaultAt-unique s p e a b o q within (in_later {header = h} f i t) (in_later {header = g} f' i' t') =
+      let same : g ≡ h = HeaderFound-unique x p e g h within f' f in
+      HeadersFaultAt-unique s h.end e a b o q within t (subst (λ z. HeadersFaultAt x s z.end e b q) same t')
 
-  pub has_shapes_alone : (a b : Shapes) → HasShapes x a → HasShapes x b → a ≡ b
-  has_shapes_alone a b h g = shapes_alone 0 (length x) a b (omega arith) h.shapes g.shapes
+  -- a document of headers has one list of shapes
+  pub HasShapes-unique : (a b : Shapes) → HasShapes x a → HasShapes x b → a ≡ b
+  HasShapes-unique a b h g = AreShapes-unique 0 (length x) a b (omega arith) h.shapes g.shapes
 
-  pub has_shapes_no_fault : (a : Shapes) (fault : DecodeFault) (o : ℕ) → HasShapes x a → FirstHeaderFaultAt x fault o →
+  -- a document of headers has no first header fault
+  pub HasShapes-no_fault : (a : Shapes) (fault : DecodeFault) (o : ℕ) → HasShapes x a → FirstHeaderFaultAt x fault o →
       ⊥
-  has_shapes_no_fault a fault o h (inl (none, is, at)) = omega (arith, h.some, ap length none)
-  has_shapes_no_fault a fault o h (inr w) = shapes_no_fault 0 0 (length x) a fault o (omega arith) h.shapes w
+  HasShapes-no_fault a fault o h (inl (none, is, at)) = omega (arith, h.some, ap length none)
+  HasShapes-no_fault a fault o h (inr w) = AreShapes-no_fault 0 0 (length x) a fault o (omega arith) h.shapes w
 
-  fault_some : (s p e : ℕ) (fault : DecodeFault) (o : ℕ) → HeadersFaultAt x s p e fault o → p < e
-  fault_some s p e fault o (in_header more w) = more
-  fault_some s p e fault o (in_item f u i t) = omega (arith, f.starts_after, f.order, f.ends_within)
-  fault_some s p e fault o (in_later f i t) = omega (arith, f.starts_after, f.order, f.ends_within)
+  -- a header fault has octets behind its place
+  HeadersFaultAt-lt_end : (s p e : ℕ) (fault : DecodeFault) (o : ℕ) → HeadersFaultAt x s p e fault o → p < e
+  HeadersFaultAt-lt_end s p e fault o (in_header more w) = more
+  HeadersFaultAt-lt_end s p e fault o (in_item f u i t) = omega (arith, f.starts_after, f.order, f.ends_within)
+  HeadersFaultAt-lt_end s p e fault o (in_later f i t) = omega (arith, f.starts_after, f.order, f.ends_within)
 
-  pub first_header_fault_alone : (a b : DecodeFault) (o q : ℕ) → FirstHeaderFaultAt x a o → FirstHeaderFaultAt x b q →
+  -- the first header fault is one, at one place
+  pub FirstHeaderFaultAt-unique : (a b : DecodeFault) (o q : ℕ) → FirstHeaderFaultAt x a o → FirstHeaderFaultAt x b q →
       (a ≡ b) × (o ≡ q)
-  first_header_fault_alone a b o q (inl (none, is, at)) (inl (none', is', at')) = (is ∙ sym is', at ∙ sym at')
-  first_header_fault_alone a b o q (inl (none, is, at)) (inr w) =
-      absurd (omega (arith, ap length none, fault_some 0 0 (length x) b q w))
-  first_header_fault_alone a b o q (inr w) (inl (none, is, at)) =
-      absurd (omega (arith, ap length none, fault_some 0 0 (length x) a o w))
-  first_header_fault_alone a b o q (inr w) (inr w') = fault_alone 0 0 (length x) a b o q (omega arith) w w'
+  FirstHeaderFaultAt-unique a b o q (inl (none, is, at)) (inl (none', is', at')) = (is ∙ sym is', at ∙ sym at')
+  FirstHeaderFaultAt-unique a b o q (inl (none, is, at)) (inr w) =
+      absurd (omega (arith, ap length none, HeadersFaultAt-lt_end 0 0 (length x) b q w))
+  FirstHeaderFaultAt-unique a b o q (inr w) (inl (none, is, at)) =
+      absurd (omega (arith, ap length none, HeadersFaultAt-lt_end 0 0 (length x) a o w))
+  FirstHeaderFaultAt-unique a b o q (inr w) (inr w') = HeadersFaultAt-unique 0 0 (length x) a b o q (omega arith) w w'

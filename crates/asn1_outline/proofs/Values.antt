@@ -27,12 +27,12 @@ use Rattle.asn1_blocks.proofs.Slices.{EncodingAt-unique}
 use Rattle.asn1_outline.specs.Entries.{AreEntries, HasTag, no_entry}
 use Rattle.asn1_outline.specs.Structure.{IsStructure, Nodes, nodes_depths, nodes_in_order, tree_at}
 use Rattle.asn1_outline.specs.Values.{EachIsOfItsTree, IsEntryOf, IsNoLeafWith, IsNoPrimitive, IsPrimitive}
-use Rattle.asn1_outline.proofs.Entries.{entries_length, entry_at}
-use Rattle.asn1_outline.proofs.Standing.{contents_stand, encoding_of, structure_stands}
+use Rattle.asn1_outline.proofs.Entries.{length-entries, IsEntry-get_or}
+use Rattle.asn1_outline.proofs.Standing.{drop-contents, EncodingAt-encoded, IsStanding-structure}
 use Rattle.asn1_outline.specs.declared.entry.Entry.{Entry}
 
 -- the tree's octets, and the contents octets where the entry has them
-pub record Contents (x : List ℕ) (b : Tree ℕ) (r : Entry) : Type 0 where
+pub record EntryContents (x : List ℕ) (b : Tree ℕ) (r : Entry) : Type 0 where
   pub octets : List ℕ
   pub tag : ℕ
   pub contents : List ℕ
@@ -43,14 +43,16 @@ pub record Contents (x : List ℕ) (b : Tree ℕ) (r : Entry) : Type 0 where
   pub are : slice_range x (r.offset + r.header) (r.offset + r.header + r.contents) ≡ contents
 
 -- the slice where octets stand
-pub slice_at : (x v rest : List ℕ) (s e : ℕ) → drop s x ≡ v ++ rest → length v ≡ e - s → slice_range x s e ≡ v
-slice_at x v rest s e st l = ap (take (e - s)) st ∙ take_at v rest (e - s) l
+pub slice_range-at_offset : (x v rest : List ℕ) (s e : ℕ) → drop s x ≡ v ++ rest → length v ≡ e - s →
+    slice_range x s e ≡ v
+slice_range-at_offset x v rest s e st l = ap (take (e - s)) st ∙ take_at v rest (e - s) l
 
-pub contents_of : (x : List ℕ) (b : Tree ℕ) (r : Entry) → IsEntryOf x b r → Contents x b r
-contents_of x b r e =
+-- the contents octets of an entry of a tree
+pub EntryContents-entry : (x : List ℕ) (b : Tree ℕ) (r : Entry) → IsEntryOf x b r → EntryContents x b r
+EntryContents-entry x b r e =
     let (y, at, h) = e.header in
     let own = e.encoded in
-    let there = encoding_of x b e.octets own in
+    let there = EncodingAt-encoded x b e.octets own in
     let same : y ≡ e.octets =
     EncodingAt-unique x (tree_offset b) y e.octets (subst (λ n. EncodingAt x n y) e.offset_is at) there in
     let stands : drop r.offset x ≡ y ++ at.rest = at.at_offset in
@@ -62,7 +64,7 @@ contents_of x b r e =
       length-append h.encoding.identifier (h.encoding.len ++ h.contents),
       length-append h.encoding.len h.contents,
     ) in
-    let after = contents_stand x y at.rest r.class r.constructed h.tag h.contents r.offset r.header stands h.encoding in
+    let after = drop-contents x y at.rest r.class r.constructed h.tag h.contents r.offset r.header stands h.encoding in
     let some = encoding_some y r.class r.constructed h.tag h.contents r.header h.encoding in
     record {
       octets = y;
@@ -72,100 +74,107 @@ contents_of x b r e =
       encoded = subst (λ z. Encodes (tree_offset b) z b) (sym same) own.encoded;
       number = h.tag_field;
       within = omega (arith, size, some, ap length stands, length-append y at.rest, length-drop r.offset x);
-      are = slice_at x h.contents at.rest (r.offset + r.header) (r.offset + r.header + r.contents) after
+      are = slice_range-at_offset x h.contents at.rest (r.offset + r.header) (r.offset + r.header + r.contents) after
           (omega (arith, h.contents_field));
     }
 
--- octets have one header
-one : (y : List ℕ) (c d : ASN1Class) (j k : Bool) (m n : ℕ) (v w : List ℕ) (g h : ℕ) → Encoding y c j m v g →
+-- octets are an encoding in one way
+pub SameEncoding-octets : (y : List ℕ) (c d : ASN1Class) (j k : Bool) (m n : ℕ) (v w : List ℕ) (g h : ℕ) →
+    Encoding y c j m v g →
     Encoding y d k n w h
     → SameEncoding y y c d j k m n v w g h [] []
-one y c d j k m n v w g h p q = encoding_alone y y c d j k m n v w g h [] [] p q refl
+SameEncoding-octets y c d j k m n v w g h p q = encoding_alone y y c d j k m n v w g h [] [] p q refl
 
 -- a small number is the tag's
-small_tag : (n field m : ℕ) → HasTag n field → field ≡ m → m < 64 → n ≡ m
-small_tag n field m (low, high) e s = elim (cases_lt n (2 ^ 64)) [
+pub HasTag-small : (n field m : ℕ) → HasTag n field → field ≡ m → m < 64 → n ≡ m
+HasTag-small n field m (low, high) e s = elim (cases_lt n (2 ^ 64)) [
   | inl lt ↦ sym (low lt) ∙ e
   | inr ge ↦ absurd (omega (arith, high ge, e, s))
 ]
 
-integer_leaf : (l : Leaf) (v w : List ℕ) → leaf_tag l ≡ 2 → v ≡ w → LeafContents l v →
+-- the contents octets of an INTEGER are its number
+leaf_integer-signed_number : (l : Leaf) (v w : List ℕ) → leaf_tag l ≡ 2 → v ≡ w → LeafContents l v →
     leaf_integer l ≡ Some (signed_number w)
-integer_leaf l v w t e m =
+leaf_integer-signed_number l v w t e m =
     ap leaf_integer (LeafContents-unique l (integer (signed_number w)) v t m (ap signed_number (sym e)))
 
 -- the tree of an INTEGER's contents octets
-integer_tree : (o : ℕ) (y : List ℕ) (b : Tree ℕ) (k : Bool) (w : List ℕ) (h : ℕ) → Encodes o y b →
+tree_integer-encoding : (o : ℕ) (y : List ℕ) (b : Tree ℕ) (k : Bool) (w : List ℕ) (h : ℕ) → Encodes o y b →
     Encoding y Universal k 2 w h
     → tree_integer b ≡ Some (signed_number w)
-integer_tree o y (leaf p l) k w h s e =
-    let z = one y Universal Universal s.1 k (leaf_tag l) 2 s.2 w s.3 h s.4 e in
-    integer_leaf l s.2 w z.tag z.contents s.5
-integer_tree o y (group p Sequence bs) k w h s e =
-    let z = one y Universal Universal s.1 k 16 2 s.2 w s.3 h s.4 e in
+tree_integer-encoding o y (leaf p l) k w h (_, bit, contents, header, F, means) e =
+    let z = SameEncoding-octets y Universal Universal bit k (leaf_tag l) 2 contents w header h F e in
+    leaf_integer-signed_number l contents w z.tag z.contents means
+tree_integer-encoding o y (group p Sequence bs) k w h (_, bit, contents, header, F, _) e =
+    let z = SameEncoding-octets y Universal Universal bit k 16 2 contents w header h F e in
     absurd (omega (arith, z.tag))
-integer_tree o y (group p Set bs) k w h s e =
-    let z = one y Universal Universal s.1 k 17 2 s.2 w s.3 h s.4 e in
+tree_integer-encoding o y (group p Set bs) k w h (_, bit, contents, header, F, _) e =
+    let z = SameEncoding-octets y Universal Universal bit k 17 2 contents w header h F e in
     absurd (omega (arith, z.tag))
-integer_tree o y (explicit c p n b) k w h s e =
-    let z = one y c Universal true k n 2 s.2 w s.3 h s.4 e in
-    absurd (s.1 z.class)
-integer_tree o y (unknown c j p n v) k w h s e =
-    let z = one y c Universal j k n 2 v w s.1 h s.2 e in
-    elim s.3 [
+tree_integer-encoding o y (explicit c p n b) k w h (_, other, contents, header, F, _) e =
+    let z = SameEncoding-octets y c Universal true k n 2 contents w header h F e in
+    absurd (other z.class)
+tree_integer-encoding o y (unknown c j p n v) k w h (_, header, F, stays) e =
+    let z = SameEncoding-octets y c Universal j k n 2 v w header h F e in
+    elim stays [
       | inl known ↦ absurd (known.1.0 (integer (pos 0)) z.tag)
       | inr other ↦ absurd (other.0 z.class)
     ]
 
-pub is_integer : (x : List ℕ) (b : Tree ℕ) (r : Entry) → IsEntryOf x b r → r.class ≡ Universal → r.tag ≡ 2
+-- the tree of an entry of class Universal with the tag number 2 is its INTEGER
+pub tree_integer-entry : (x : List ℕ) (b : Tree ℕ) (r : Entry) → IsEntryOf x b r → r.class ≡ Universal → r.tag ≡ 2
     → tree_integer b ≡ Some (signed_number (slice_range x (r.offset + r.header) (r.offset + r.header + r.contents)))
-is_integer x b r e class tag =
-    let c = contents_of x b r e in
-    let t = small_tag c.tag r.tag 2 c.number tag (omega arith) in
+tree_integer-entry x b r e class tag =
+    let c = EntryContents-entry x b r e in
+    let t = HasTag-small c.tag r.tag 2 c.number tag (omega arith) in
     let own = subst (λ z. Encoding c.octets z r.constructed c.tag c.contents r.header) class c.encoding in
     let two = subst (λ z. Encoding c.octets Universal r.constructed z c.contents r.header) t own in
-    integer_tree (tree_offset b) c.octets b r.constructed c.contents r.header c.encoded two
+    tree_integer-encoding (tree_offset b) c.octets b r.constructed c.contents r.header c.encoded two
     ∙ ap (λ z. Some (signed_number z)) (sym c.are)
 
 -- a tree whose encoding has another class or tag number than an INTEGER is none
-no_integer_leaf : (o : ℕ) (y : List ℕ) (b : Tree ℕ) (c : ASN1Class) (k : Bool) (n : ℕ) (w : List ℕ) (h : ℕ) →
+tree_integer-other_encoding : (o : ℕ) (y : List ℕ) (b : Tree ℕ) (c : ASN1Class) (k : Bool) (n : ℕ) (w : List ℕ)
+    (h : ℕ) →
     Encodes o y b → Encoding y c k n w h
     → ((c ≡ Universal) × (n ≡ 2) → ⊥) → tree_integer b ≡ None
-no_integer_leaf o y (leaf p (integer m)) c k n w h s e other =
-    let z = one y Universal c s.1 k 2 n s.2 w s.3 h s.4 e in
+tree_integer-other_encoding o y (leaf p (integer m)) c k n w h (_, bit, contents, header, F, _) e other =
+    let z = SameEncoding-octets y Universal c bit k 2 n contents w header h F e in
     absurd (other (sym z.class, sym z.tag))
-no_integer_leaf o y (leaf p l) c k n w h s e other = refl
-no_integer_leaf o y (group p g bs) c k n w h s e other = refl
-no_integer_leaf o y (explicit d p m b) c k n w h s e other = refl
-no_integer_leaf o y (unknown d j p m v) c k n w h s e other = refl
+tree_integer-other_encoding o y (leaf p l) c k n w h s e other = refl
+tree_integer-other_encoding o y (group p g bs) c k n w h s e other = refl
+tree_integer-other_encoding o y (explicit d p m b) c k n w h s e other = refl
+tree_integer-other_encoding o y (unknown d j p m v) c k n w h s e other = refl
 
-pub is_no_integer : (x : List ℕ) (b : Tree ℕ) (r : Entry) → IsEntryOf x b r →
+-- the tree of an entry with another class or tag number is no INTEGER
+pub tree_integer-other_entry : (x : List ℕ) (b : Tree ℕ) (r : Entry) → IsEntryOf x b r →
     ((r.class ≡ Universal) × (r.tag ≡ 2) → ⊥) → tree_integer b ≡ None
-is_no_integer x b r e other =
-    let c = contents_of x b r e in
-    no_integer_leaf (tree_offset b) c.octets b r.class r.constructed c.tag c.contents r.header c.encoded c.encoding
+tree_integer-other_entry x b r e other =
+    let c = EntryContents-entry x b r e in
+    tree_integer-other_encoding (tree_offset b)
+    c.octets b r.class r.constructed c.tag c.contents r.header c.encoded c.encoding
     (λ (d, t). other (d, c.number.0 (omega (arith, t)) ∙ t))
 
 -- an entry of a document lies within its octets
-pub is_within : (x : List ℕ) (b : Tree ℕ) (r : Entry) → IsEntryOf x b r → r.offset + r.header + r.contents ≤ length x
-is_within x b r e = (contents_of x b r e).within
+pub IsEntryOf-within : (x : List ℕ) (b : Tree ℕ) (r : Entry) → IsEntryOf x b r →
+    r.offset + r.header + r.contents ≤ length x
+IsEntryOf-within x b r e = (EntryContents-entry x b r e).within
 
 -- the tree of an entry of class Universal with the tag of a leaf
-leaf_encoded : (o : ℕ) (y : List ℕ) (b : Tree ℕ) (k : Bool) (n : ℕ) (w : List ℕ) (h : ℕ) → is_leaf_tag n ≡ true →
+IsLeafOf-encoding : (o : ℕ) (y : List ℕ) (b : Tree ℕ) (k : Bool) (n : ℕ) (w : List ℕ) (h : ℕ) → is_leaf_tag n ≡ true →
     Encodes o y b → Encoding y Universal k n w h
     → IsLeafOf o n w b
-leaf_encoded o y (leaf p l) k n w h t s e =
-    let z = one y Universal Universal s.1 k (leaf_tag l) n s.2 w s.3 h s.4 e in
-    (s.0, sym z.tag, subst (LeafContents l) z.contents s.5)
-leaf_encoded o y (group p g bs) k n w h t s e =
-    let z = one y Universal Universal s.1 k (group_tag g) n s.2 w s.3 h s.4 e in
+IsLeafOf-encoding o y (leaf p l) k n w h t (at, bit, contents, header, F, means) e =
+    let z = SameEncoding-octets y Universal Universal bit k (leaf_tag l) n contents w header h F e in
+    (at, sym z.tag, subst (LeafContents l) z.contents means)
+IsLeafOf-encoding o y (group p g bs) k n w h t (_, bit, contents, header, F, _) e =
+    let z = SameEncoding-octets y Universal Universal bit k (group_tag g) n contents w header h F e in
     is_leaf_tag-not_group_tag n g t (sym z.tag)
-leaf_encoded o y (explicit c p m b) k n w h t s e =
-    let z = one y c Universal true k m n s.2 w s.3 h s.4 e in
-    s.1 z.class
-leaf_encoded o y (unknown c j p m v) k n w h t s e =
-    let z = one y c Universal j k m n v w s.1 h s.2 e in
-    elim s.3 [
+IsLeafOf-encoding o y (explicit c p m b) k n w h t (_, other, contents, header, F, _) e =
+    let z = SameEncoding-octets y c Universal true k m n contents w header h F e in
+    other z.class
+IsLeafOf-encoding o y (unknown c j p m v) k n w h t (_, header, F, stays) e =
+    let z = SameEncoding-octets y c Universal j k m n v w header h F e in
+    elim stays [
       | inl known ↦
           not_known (sym (is_known_tag-is_leaf_tag n t) ∙ ap is_known_tag (sym z.tag) ∙ is_known_tag-unknown m known.1)
       | inr other ↦ other.0 z.class
@@ -174,238 +183,255 @@ leaf_encoded o y (unknown c j p m v) k n w h t s e =
     not_known : true ≡ false → ⊥
     not_known q = absurd (cc)
 
-pub is_leaf : (x : List ℕ) (b : Tree ℕ) (r : Entry) (n : ℕ) → IsEntryOf x b r → r.class ≡ Universal → r.tag ≡ n →
+-- the tree of an entry of class Universal with the tag of a leaf is that leaf
+pub IsLeafOf-entry : (x : List ℕ) (b : Tree ℕ) (r : Entry) (n : ℕ) → IsEntryOf x b r → r.class ≡ Universal → r.tag ≡ n →
     n < 64 → is_leaf_tag n ≡ true
     → IsLeafOf (tree_offset b) n (slice_range x (r.offset + r.header) (r.offset + r.header + r.contents)) b
-is_leaf x b r n e class tag small t =
-    let c = contents_of x b r e in
+IsLeafOf-entry x b r n e class tag small t =
+    let c = EntryContents-entry x b r e in
     let own = subst (λ z. Encoding c.octets z r.constructed c.tag c.contents r.header) class c.encoding in
     let two = subst (λ z. Encoding c.octets Universal r.constructed z c.contents r.header)
-    (small_tag c.tag r.tag n c.number tag small) own in
+    (HasTag-small c.tag r.tag n c.number tag small) own in
     subst (λ z. IsLeafOf (tree_offset b) n z b) (sym c.are)
-    (leaf_encoded (tree_offset b) c.octets b r.constructed n c.contents r.header t c.encoded two)
+    (IsLeafOf-encoding (tree_offset b) c.octets b r.constructed n c.contents r.header t c.encoded two)
 
 -- the tree is the leaf that the contents octets mean
-pub leaf_is : (o n : ℕ) (v : List ℕ) (b : Tree ℕ) (l : Leaf) → IsLeafOf o n v b → n ≡ leaf_tag l → LeafContents l v →
+pub IsLeafOf-leaf : (o n : ℕ) (v : List ℕ) (b : Tree ℕ) (l : Leaf) → IsLeafOf o n v b → n ≡ leaf_tag l →
+    LeafContents l v →
     (p : ℕ) × (b ≡ leaf p l)
-leaf_is o n v (leaf p m) l s t e = (p, ap (leaf p) (LeafContents-unique m l v (sym s.1 ∙ t) s.2 e))
-leaf_is o n v (group p g bs) l s t e = absurd s
-leaf_is o n v (explicit c p m b) l s t e = absurd s
-leaf_is o n v (unknown c k p m w) l s t e = absurd s
+IsLeafOf-leaf o n v (leaf p m) l (_, tag, means) t e =
+    (p, ap (leaf p) (LeafContents-unique m l v (sym tag ∙ t) means e))
+IsLeafOf-leaf o n v (group p g bs) l s t e = absurd s
+IsLeafOf-leaf o n v (explicit c p m b) l s t e = absurd s
+IsLeafOf-leaf o n v (unknown c k p m w) l s t e = absurd s
 
 -- contents octets of a leaf that was read have no fault
-pub leaf_faultless : (o n : ℕ) (v : List ℕ) (b : Tree ℕ) (fault : DecodeFault) → IsLeafOf o n v b →
+pub IsLeafOf-no_fault : (o n : ℕ) (v : List ℕ) (b : Tree ℕ) (fault : DecodeFault) → IsLeafOf o n v b →
     LeafFault n v fault → ⊥
-leaf_faultless o n v (leaf p m) fault s f = LeafContents-no_fault n v fault m s.1 s.2 f
-leaf_faultless o n v (group p g bs) fault s f = s
-leaf_faultless o n v (explicit c p m b) fault s f = s
-leaf_faultless o n v (unknown c k p m w) fault s f = s
+IsLeafOf-no_fault o n v (leaf p m) fault (_, tag, means) f = LeafContents-no_fault n v fault m tag means f
+IsLeafOf-no_fault o n v (group p g bs) fault s f = s
+IsLeafOf-no_fault o n v (explicit c p m b) fault s f = s
+IsLeafOf-no_fault o n v (unknown c k p m w) fault s f = s
 
-string_leaf : (kind : StringKind) → (string_tag kind < 64) × (is_leaf_tag (string_tag kind) ≡ true)
-string_leaf kind = (string_tag-lt kind, is_leaf_tag-leaf_tag (text kind []))
+is_leaf_tag-string_tag : (kind : StringKind) → (string_tag kind < 64) × (is_leaf_tag (string_tag kind) ≡ true)
+is_leaf_tag-string_tag kind = (string_tag-lt kind, is_leaf_tag-leaf_tag (text kind []))
 
-pub is_text : (x : List ℕ) (b : Tree ℕ) (r : Entry) (kind : StringKind) (cs : List ℕ) → IsEntryOf x b r →
+-- the tree of an entry of a string is its characters
+pub tree_text-entry : (x : List ℕ) (b : Tree ℕ) (r : Entry) (kind : StringKind) (cs : List ℕ) → IsEntryOf x b r →
     r.class ≡ Universal → r.tag ≡ string_tag kind
     → TextContents (text_form kind) cs (slice_range x (r.offset + r.header) (r.offset + r.header + r.contents)) →
     tree_text b ≡ Some cs
-is_text x b r kind cs e class tag means =
-    let (small, t) = string_leaf kind in
+tree_text-entry x b r kind cs e class tag means =
+    let (small, t) = is_leaf_tag-string_tag kind in
     let v = slice_range x (r.offset + r.header) (r.offset + r.header + r.contents) in
-    let (p, same) = leaf_is (tree_offset b) (string_tag kind) v b (text kind cs)
-    (is_leaf x b r (string_tag kind) e class tag small t) refl means in
+    let (p, same) = IsLeafOf-leaf (tree_offset b) (string_tag kind) v b (text kind cs)
+    (IsLeafOf-entry x b r (string_tag kind) e class tag small t) refl means in
     ap tree_text same
 
-pub is_no_faulty_text : (x : List ℕ) (b : Tree ℕ) (r : Entry) (kind : StringKind) (fault : DecodeFault) →
+-- the contents octets of an entry of a string have no fault
+pub IsEntryOf-no_text_fault : (x : List ℕ) (b : Tree ℕ) (r : Entry) (kind : StringKind) (fault : DecodeFault) →
     IsEntryOf x b r → r.class ≡ Universal
     → r.tag ≡ string_tag kind
     → TextFault (text_form kind) (slice_range x (r.offset + r.header) (r.offset + r.header + r.contents)) fault → ⊥
-is_no_faulty_text x b r kind fault e class tag f =
-    let (small, t) = string_leaf kind in
+IsEntryOf-no_text_fault x b r kind fault e class tag f =
+    let (small, t) = is_leaf_tag-string_tag kind in
     let v = slice_range x (r.offset + r.header) (r.offset + r.header + r.contents) in
-    leaf_faultless (tree_offset b) (string_tag kind) v b fault (is_leaf x b r (string_tag kind) e class tag small t)
+    IsLeafOf-no_fault (tree_offset b) (string_tag kind) v b fault
+    (IsLeafOf-entry x b r (string_tag kind) e class tag small t)
     (of_text kind refl f)
 
 -- a tree of no string
-no_text_leaf : (o : ℕ) (y : List ℕ) (b : Tree ℕ) (c : ASN1Class) (k : Bool) (n : ℕ) (w : List ℕ) (h : ℕ) →
+tree_text-other_encoding : (o : ℕ) (y : List ℕ) (b : Tree ℕ) (c : ASN1Class) (k : Bool) (n : ℕ) (w : List ℕ) (h : ℕ) →
     Encodes o y b → Encoding y c k n w h
     → ((kind : StringKind) → (c ≡ Universal) × (n ≡ string_tag kind) → ⊥) → tree_text b ≡ None
-no_text_leaf o y (leaf p (text kind cs)) c k n w h s e other =
-    let z = one y Universal c s.1 k (string_tag kind) n s.2 w s.3 h s.4 e in
+tree_text-other_encoding o y (leaf p (text kind cs)) c k n w h (_, bit, contents, header, F, _) e other =
+    let z = SameEncoding-octets y Universal c bit k (string_tag kind) n contents w header h F e in
     absurd (other kind (sym z.class, sym z.tag))
-no_text_leaf o y (leaf p l) c k n w h s e other = refl
-no_text_leaf o y (group p g bs) c k n w h s e other = refl
-no_text_leaf o y (explicit d p m b) c k n w h s e other = refl
-no_text_leaf o y (unknown d j p m v) c k n w h s e other = refl
+tree_text-other_encoding o y (leaf p l) c k n w h s e other = refl
+tree_text-other_encoding o y (group p g bs) c k n w h s e other = refl
+tree_text-other_encoding o y (explicit d p m b) c k n w h s e other = refl
+tree_text-other_encoding o y (unknown d j p m v) c k n w h s e other = refl
 
-pub is_no_text : (x : List ℕ) (b : Tree ℕ) (r : Entry) → IsEntryOf x b r →
+-- the tree of an entry with the tag number of no string has no text
+pub tree_text-other_entry : (x : List ℕ) (b : Tree ℕ) (r : Entry) → IsEntryOf x b r →
     ((kind : StringKind) → (r.class ≡ Universal) × (r.tag ≡ string_tag kind) → ⊥)
     → tree_text b ≡ None
-is_no_text x b r e other =
-    let c = contents_of x b r e in
-    no_text_leaf (tree_offset b) c.octets b r.class r.constructed c.tag c.contents r.header c.encoded c.encoding
-    (λ kind (d, t). other kind (d, c.number.0 (omega (arith, t, (string_leaf kind).0)) ∙ t))
+tree_text-other_entry x b r e other =
+    let c = EntryContents-entry x b r e in
+    tree_text-other_encoding (tree_offset b)
+    c.octets b r.class r.constructed c.tag c.contents r.header c.encoded c.encoding
+    (λ kind (d, t). other kind (d, c.number.0 (omega (arith, t, (is_leaf_tag-string_tag kind).0)) ∙ t))
 
 -- each entry of a document is of its node's tree
-pub entry_of_node : (x : List ℕ) (ns : Nodes) (rs : List Entry) → IsStructure x ns →
+pub IsEntryOf-node : (x : List ℕ) (ns : Nodes) (rs : List Entry) → IsStructure x ns →
     AreEntries x 0 (nodes_in_order ns) (nodes_depths 0 ns) rs
     → (k : ℕ) → k < length (nodes_in_order ns) → IsEntryOf x (tree_at ns k) (get_or rs k no_entry)
-entry_of_node x ns rs d are k h =
-    let w = entry_at x 0 (nodes_in_order ns) (nodes_depths 0 ns) rs are k h in
-    let (y, s, is) = structure_stands x ns d k h in
+IsEntryOf-node x ns rs d are k h =
+    let w = IsEntry-get_or x 0 (nodes_in_order ns) (nodes_depths 0 ns) rs are k h in
+    let (y, s, is) = IsStanding-structure x ns d k h in
     record { octets = y; encoded = s; offset_is = w.offset; header = w.header }
 
-pub each_of_its_tree : EachIsOfItsTree
-each_of_its_tree x bs rs d all k h =
+-- each entry of an outline is that of the tree of its node
+pub EachIsOfItsTree-structure : EachIsOfItsTree
+EachIsOfItsTree-structure x bs rs d all k h =
     let ns = all.nodes in
     let own : IsStructure x ns = (subst (IsDocument x) (sym all.trees) d, all.structure) in
-    let l = entries_length x 0 (nodes_in_order ns) (nodes_depths 0 ns) rs all.entries in
-    entry_of_node x ns rs own all.entries k (omega (arith, h, l))
+    let l = length-entries x 0 (nodes_in_order ns) (nodes_depths 0 ns) rs all.entries in
+    IsEntryOf-node x ns rs own all.entries k (omega (arith, h, l))
 
 -- a tree of class Universal with a leaf's tag alone is a leaf with it
-pub no_leaf_with : (x : List ℕ) (b : Tree ℕ) (r : Entry) (n : ℕ) → IsEntryOf x b r → n < 64 →
+pub IsNoLeafWith-entry : (x : List ℕ) (b : Tree ℕ) (r : Entry) (n : ℕ) → IsEntryOf x b r → n < 64 →
     ((r.class ≡ Universal) × (r.tag ≡ n) → ⊥)
     → IsNoLeafWith n b
-no_leaf_with x b r n e small other o l is tag =
-    let c = contents_of x b r e in
+IsNoLeafWith-entry x b r n e small other o l is tag =
+    let c = EntryContents-entry x b r e in
     let s : Encodes (tree_offset b) c.octets (leaf o l) =
     subst (λ z. Encodes (tree_offset b) c.octets z) is c.encoded in
+    let (_, bit, contents, header, F, _) = s in
     let z =
-    one c.octets Universal r.class s.1 r.constructed (leaf_tag l) c.tag s.2 c.contents s.3 r.header s.4 c.encoding in
+    SameEncoding-octets c.octets Universal r.class bit r.constructed
+    (leaf_tag l) c.tag contents c.contents header r.header F c.encoding in
     let number : c.tag ≡ n = sym z.tag ∙ tag in
     other (sym z.class, c.number.0 (omega (arith, number, small)) ∙ number)
 
-pub no_boolean : (b : Tree ℕ) → IsNoLeafWith 1 b → tree_boolean b ≡ None
-no_boolean (leaf o (boolean v)) other = absurd (other o (boolean v) refl refl)
-no_boolean (leaf o l) other = refl
-no_boolean (group o g bs) other = refl
-no_boolean (explicit c o n b) other = refl
-no_boolean (unknown c k o n v) other = refl
+pub tree_boolean-none : (b : Tree ℕ) → IsNoLeafWith 1 b → tree_boolean b ≡ None
+tree_boolean-none (leaf o (boolean v)) other = absurd (other o (boolean v) refl refl)
+tree_boolean-none (leaf o l) other = refl
+tree_boolean-none (group o g bs) other = refl
+tree_boolean-none (explicit c o n b) other = refl
+tree_boolean-none (unknown c k o n v) other = refl
 
-pub no_bits : (b : Tree ℕ) → IsNoLeafWith 3 b → tree_bits b ≡ None
-no_bits (leaf o (bit_string n v)) other = absurd (other o (bit_string n v) refl refl)
-no_bits (leaf o l) other = refl
-no_bits (group o g bs) other = refl
-no_bits (explicit c o n b) other = refl
-no_bits (unknown c k o n v) other = refl
+pub tree_bits-none : (b : Tree ℕ) → IsNoLeafWith 3 b → tree_bits b ≡ None
+tree_bits-none (leaf o (bit_string n v)) other = absurd (other o (bit_string n v) refl refl)
+tree_bits-none (leaf o l) other = refl
+tree_bits-none (group o g bs) other = refl
+tree_bits-none (explicit c o n b) other = refl
+tree_bits-none (unknown c k o n v) other = refl
 
-pub no_oid : (b : Tree ℕ) → IsNoLeafWith 6 b → tree_oid b ≡ None
-no_oid (leaf o (object_identifier ns)) other = absurd (other o (object_identifier ns) refl refl)
-no_oid (leaf o l) other = refl
-no_oid (group o g bs) other = refl
-no_oid (explicit c o n b) other = refl
-no_oid (unknown c k o n v) other = refl
+pub tree_oid-none : (b : Tree ℕ) → IsNoLeafWith 6 b → tree_oid b ≡ None
+tree_oid-none (leaf o (object_identifier ns)) other = absurd (other o (object_identifier ns) refl refl)
+tree_oid-none (leaf o l) other = refl
+tree_oid-none (group o g bs) other = refl
+tree_oid-none (explicit c o n b) other = refl
+tree_oid-none (unknown c k o n v) other = refl
 
-pub no_octets : (b : Tree ℕ) → IsNoLeafWith 4 b → tree_octets b ≡ None
-no_octets (leaf o (octet_string v)) other = absurd (other o (octet_string v) refl refl)
-no_octets (leaf o l) other = refl
-no_octets (group o g bs) other = refl
-no_octets (explicit c o n b) other = refl
-no_octets (unknown c k o n v) other = refl
+pub tree_octets-none : (b : Tree ℕ) → IsNoLeafWith 4 b → tree_octets b ≡ None
+tree_octets-none (leaf o (octet_string v)) other = absurd (other o (octet_string v) refl refl)
+tree_octets-none (leaf o l) other = refl
+tree_octets-none (group o g bs) other = refl
+tree_octets-none (explicit c o n b) other = refl
+tree_octets-none (unknown c k o n v) other = refl
 
-pub are_octets : (o : ℕ) (v : List ℕ) (b : Tree ℕ) → IsLeafOf o 4 v b → tree_octets b ≡ Some v
-are_octets o v b s = let (p, same) = leaf_is o 4 v b (octet_string v) s refl refl in ap tree_octets same
+pub tree_octets-leaf : (o : ℕ) (v : List ℕ) (b : Tree ℕ) → IsLeafOf o 4 v b → tree_octets b ≡ Some v
+tree_octets-leaf o v b s = let (p, same) = IsLeafOf-leaf o 4 v b (octet_string v) s refl refl in ap tree_octets same
 
 -- what was found as the octets of an entry are those of its tree
-pub octets_found : {A : Type 0} (now : A → List ℕ) (found : Option A) (b : Tree ℕ)
+pub tree_octets-found : {A : Type 0} (now : A → List ℕ) (found : Option A) (b : Tree ℕ)
     → MatchOption found (IsNoLeafWith 4 b) (λ v. IsLeafOf (tree_offset b) 4 (now v) b)
     → MatchOption found (tree_octets b ≡ None) (λ v. tree_octets b ≡ Some (now v))
-octets_found now None b h = no_octets b h
-octets_found now (Some v) b h = are_octets (tree_offset b) (now v) b h
+tree_octets-found now None b h = tree_octets-none b h
+tree_octets-found now (Some v) b h = tree_octets-leaf (tree_offset b) (now v) b h
 
 -- a primitive encoding of class Universal whose tag number has no rule stays as it came
-primitive_encoded : (o : ℕ) (y : List ℕ) (b : Tree ℕ) (n : ℕ) (w : List ℕ) (h : ℕ) → is_known_tag n ≡ false →
+IsPrimitive-encoding : (o : ℕ) (y : List ℕ) (b : Tree ℕ) (n : ℕ) (w : List ℕ) (h : ℕ) → is_known_tag n ≡ false →
     Encodes o y b
     → Encoding y Universal false n w h → IsPrimitive n w b
-primitive_encoded o y (leaf p l) n w h t s e =
-    let z = one y Universal Universal s.1 false (leaf_tag l) n s.2 w s.3 h s.4 e in
+IsPrimitive-encoding o y (leaf p l) n w h t (_, bit, contents, header, F, _) e =
+    let z = SameEncoding-octets y Universal Universal bit false (leaf_tag l) n contents w header h F e in
     absurd (false≢true (sym t ∙ ap is_known_tag (sym z.tag) ∙ is_known_tag-leaf_tag l))
-primitive_encoded o y (group p g bs) n w h t s e =
-    let z = one y Universal Universal s.1 false (group_tag g) n s.2 w s.3 h s.4 e in
+IsPrimitive-encoding o y (group p g bs) n w h t (_, bit, contents, header, F, _) e =
+    let z = SameEncoding-octets y Universal Universal bit false (group_tag g) n contents w header h F e in
     absurd (false≢true (sym t ∙ ap is_known_tag (sym z.tag) ∙ is_known_tag-group_tag g))
-primitive_encoded o y (explicit c p m b) n w h t s e =
-    let z = one y c Universal true false m n s.2 w s.3 h s.4 e in
-    absurd (s.1 z.class)
-primitive_encoded o y (unknown c j p m v) n w h t s e =
-    let z = one y c Universal j false m n v w s.1 h s.2 e in
+IsPrimitive-encoding o y (explicit c p m b) n w h t (_, other, contents, header, F, _) e =
+    let z = SameEncoding-octets y c Universal true false m n contents w header h F e in
+    absurd (other z.class)
+IsPrimitive-encoding o y (unknown c j p m v) n w h t (_, header, F, _) e =
+    let z = SameEncoding-octets y c Universal j false m n v w header h F e in
     let class = z.class in
     let constructed = z.constructed in
     let tag = z.tag in
     let contents = z.contents in
     cc
 
-pub is_primitive : (x : List ℕ) (b : Tree ℕ) (r : Entry) → IsEntryOf x b r → r.class ≡ Universal →
+-- an entry of a primitive encoding whose tag number has no rule has a tree that stays as it came
+pub IsPrimitive-entry : (x : List ℕ) (b : Tree ℕ) (r : Entry) → IsEntryOf x b r → r.class ≡ Universal →
     r.constructed ≡ false → r.tag < 64
     → is_known_tag r.tag ≡ false →
     IsPrimitive r.tag (slice_range x (r.offset + r.header) (r.offset + r.header + r.contents)) b
-is_primitive x b r e class constructed small t =
-    let c = contents_of x b r e in
+IsPrimitive-entry x b r e class constructed small t =
+    let c = EntryContents-entry x b r e in
     let own = subst (λ z. Encoding c.octets z r.constructed c.tag c.contents r.header) class c.encoding in
     let two = subst (λ z. Encoding c.octets Universal z c.tag c.contents r.header) constructed own in
     let three = subst (λ z. Encoding c.octets Universal false z c.contents r.header)
-    (small_tag c.tag r.tag r.tag c.number refl small) two in
+    (HasTag-small c.tag r.tag r.tag c.number refl small) two in
     subst (λ z. IsPrimitive r.tag z b) (sym c.are)
-    (primitive_encoded (tree_offset b) c.octets b r.tag c.contents r.header t c.encoded three)
+    (IsPrimitive-encoding (tree_offset b) c.octets b r.tag c.contents r.header t c.encoded three)
 
-pub primitive_found : {A : Type 0} (now : A → List ℕ) (found : Option A) (x : List ℕ) (b : Tree ℕ) (r : Entry) →
+-- the slice that was found has the contents octets of a primitive tree
+pub IsPrimitive-found : {A : Type 0} (now : A → List ℕ) (found : Option A) (x : List ℕ) (b : Tree ℕ) (r : Entry) →
     IsEntryOf x b r
     → r.class ≡ Universal → r.constructed ≡ false → r.tag < 64 → is_known_tag r.tag ≡ false
     → MatchOption found (length x < r.offset + r.header + r.contents)
     (λ v. now v ≡ slice_range x (r.offset + r.header) (r.offset + r.header + r.contents))
     → MatchOption found (IsNoPrimitive b) (λ v. IsPrimitive r.tag (now v) b)
-primitive_found now None x b r e class constructed small t h = absurd (omega (arith, h, is_within x b r e))
-primitive_found now (Some v) x b r e class constructed small t h =
-    subst (λ z. IsPrimitive r.tag z b) (sym h) (is_primitive x b r e class constructed small t)
+IsPrimitive-found now None x b r e class constructed small t h = absurd (omega (arith, h, IsEntryOf-within x b r e))
+IsPrimitive-found now (Some v) x b r e class constructed small t h =
+    subst (λ z. IsPrimitive r.tag z b) (sym h) (IsPrimitive-entry x b r e class constructed small t)
 
 -- the entry of a primitive encoding of class Universal that stays as it came has its class, bit and tag number
-pub primitive_entry : (x : List ℕ) (b : Tree ℕ) (r : Entry) (n : ℕ) (v : List ℕ) → IsEntryOf x b r → IsPrimitive n v b
+pub IsPrimitive-fields : (x : List ℕ) (b : Tree ℕ) (r : Entry) (n : ℕ) (v : List ℕ) → IsEntryOf x b r →
+    IsPrimitive n v b
     → (r.class ≡ Universal) × (r.constructed ≡ false) × (n < 2 ^ 64 → r.tag ≡ n)
-primitive_entry x b r n v e is =
-    let c = contents_of x b r e in
+IsPrimitive-fields x b r n v e is =
+    let c = EntryContents-entry x b r e in
     let s : Encodes (tree_offset b) c.octets (unknown Universal false (tree_offset b) n v) =
     subst (λ z. Encodes (tree_offset b) c.octets z) is c.encoded in
-    let z = one c.octets Universal r.class false r.constructed n c.tag v c.contents s.1 r.header s.2 c.encoding in
+    let (_, header, F, _) = s in
+    let z =
+    SameEncoding-octets c.octets Universal r.class false r.constructed n c.tag v c.contents header r.header F
+    c.encoding in
     (sym z.class, sym z.constructed, λ small. c.number.0 (omega (arith, small, z.tag)) ∙ sym z.tag)
 
 -- a tree that is no primitive encoding of class Universal is no ENUMERATED
-pub no_enumerated : (b : Tree ℕ) → IsNoPrimitive b → tree_enumerated b ≡ None
-no_enumerated (unknown Universal false o n v) other = absurd (other n v refl)
-no_enumerated (unknown Universal true o n v) other = refl
-no_enumerated (unknown Application k o n v) other = refl
-no_enumerated (unknown ContextSpecific k o n v) other = refl
-no_enumerated (unknown Private k o n v) other = refl
-no_enumerated (leaf o l) other = refl
-no_enumerated (group o g bs) other = refl
-no_enumerated (explicit c o n b) other = refl
+pub tree_enumerated-none : (b : Tree ℕ) → IsNoPrimitive b → tree_enumerated b ≡ None
+tree_enumerated-none (unknown Universal false o n v) other = absurd (other n v refl)
+tree_enumerated-none (unknown Universal true o n v) other = refl
+tree_enumerated-none (unknown Application k o n v) other = refl
+tree_enumerated-none (unknown ContextSpecific k o n v) other = refl
+tree_enumerated-none (unknown Private k o n v) other = refl
+tree_enumerated-none (leaf o l) other = refl
+tree_enumerated-none (group o g bs) other = refl
+tree_enumerated-none (explicit c o n b) other = refl
 
-pub no_ascii_text : (b : Tree ℕ) → IsNoPrimitive b → tree_ascii_text b ≡ None
-no_ascii_text (unknown Universal false o n v) other = absurd (other n v refl)
-no_ascii_text (unknown Universal true o n v) other = refl
-no_ascii_text (unknown Application k o n v) other = refl
-no_ascii_text (unknown ContextSpecific k o n v) other = refl
-no_ascii_text (unknown Private k o n v) other = refl
-no_ascii_text (leaf o l) other = refl
-no_ascii_text (group o g bs) other = refl
-no_ascii_text (explicit c o n b) other = refl
+pub tree_ascii_text-none : (b : Tree ℕ) → IsNoPrimitive b → tree_ascii_text b ≡ None
+tree_ascii_text-none (unknown Universal false o n v) other = absurd (other n v refl)
+tree_ascii_text-none (unknown Universal true o n v) other = refl
+tree_ascii_text-none (unknown Application k o n v) other = refl
+tree_ascii_text-none (unknown ContextSpecific k o n v) other = refl
+tree_ascii_text-none (unknown Private k o n v) other = refl
+tree_ascii_text-none (leaf o l) other = refl
+tree_ascii_text-none (group o g bs) other = refl
+tree_ascii_text-none (explicit c o n b) other = refl
 
 -- the tree of an entry with another tag number is no ENUMERATED
-pub not_enumerated : (x : List ℕ) (b : Tree ℕ) (r : Entry) → IsEntryOf x b r → (r.tag ≡ 10 → ⊥) →
+pub tree_enumerated-other_tag : (x : List ℕ) (b : Tree ℕ) (r : Entry) → IsEntryOf x b r → (r.tag ≡ 10 → ⊥) →
     tree_enumerated b ≡ None
-not_enumerated x (unknown Universal false o n v) r e other = elim (cases_Bool (n == 10)) [
+tree_enumerated-other_tag x (unknown Universal false o n v) r e other = elim (cases_Bool (n == 10)) [
   | inl here ↦
       let ten : n ≡ 10 = grind (arith, nat_tests, here) in
-      absurd (other ((primitive_entry x (unknown Universal false o n v) r n v e refl).2 (omega (arith, ten)) ∙ ten))
+      absurd (other ((IsPrimitive-fields x (unknown Universal false o n v) r n v e refl).2 (omega (arith, ten)) ∙ ten))
   | inr there ↦ ap (λ z. if z && is_shortest_integer v then Some (signed_number v) else None) there
 ]
-not_enumerated x (unknown Universal true o n v) r e other = refl
-not_enumerated x (unknown Application k o n v) r e other = refl
-not_enumerated x (unknown ContextSpecific k o n v) r e other = refl
-not_enumerated x (unknown Private k o n v) r e other = refl
-not_enumerated x (leaf o l) r e other = refl
-not_enumerated x (group o g bs) r e other = refl
-not_enumerated x (explicit c o n b) r e other = refl
+tree_enumerated-other_tag x (unknown Universal true o n v) r e other = refl
+tree_enumerated-other_tag x (unknown Application k o n v) r e other = refl
+tree_enumerated-other_tag x (unknown ContextSpecific k o n v) r e other = refl
+tree_enumerated-other_tag x (unknown Private k o n v) r e other = refl
+tree_enumerated-other_tag x (leaf o l) r e other = refl
+tree_enumerated-other_tag x (group o g bs) r e other = refl
+tree_enumerated-other_tag x (explicit c o n b) r e other = refl
 
-ascii_small : (n : ℕ) → is_ascii_tag n ≡ true → n < 64
-ascii_small n e = elim (or_cases ((n == 18) || (n == 26)) (n == 27) e) [
+is_ascii_tag-lt : (n : ℕ) → is_ascii_tag n ≡ true → n < 64
+is_ascii_tag-lt n e = elim (or_cases ((n == 18) || (n == 26)) (n == 27) e) [
   | inr a ↦ grind (arith, nat_tests, a)
   | inl a ↦ elim (or_cases (n == 18) (n == 26) a) [
     | inl b ↦ grind (arith, nat_tests, b)
@@ -413,42 +439,46 @@ ascii_small n e = elim (or_cases ((n == 18) || (n == 26)) (n == 27) e) [
   ]
 ]
 
-pub not_ascii_text : (x : List ℕ) (b : Tree ℕ) (r : Entry) → IsEntryOf x b r → is_ascii_tag r.tag ≡ false →
+pub tree_ascii_text-other_tag : (x : List ℕ) (b : Tree ℕ) (r : Entry) → IsEntryOf x b r → is_ascii_tag r.tag ≡ false →
     tree_ascii_text b ≡ None
-not_ascii_text x (unknown Universal false o n v) r e other = elim (cases_Bool (is_ascii_tag n)) [
+tree_ascii_text-other_tag x (unknown Universal false o n v) r e other = elim (cases_Bool (is_ascii_tag n)) [
   | inl here ↦
       let same =
-      (primitive_entry x (unknown Universal false o n v) r n v e refl).2 (omega (arith, ascii_small n here)) in
+      (IsPrimitive-fields x (unknown Universal false o n v) r n v e refl).2 (omega (arith, is_ascii_tag-lt n here)) in
       absurd (false≢true (sym other ∙ ap is_ascii_tag same ∙ here))
   | inr there ↦ ap (λ z. if z && list_all (is_ascii_character n) v then Some v else None) there
 ]
-not_ascii_text x (unknown Universal true o n v) r e other = refl
-not_ascii_text x (unknown Application k o n v) r e other = refl
-not_ascii_text x (unknown ContextSpecific k o n v) r e other = refl
-not_ascii_text x (unknown Private k o n v) r e other = refl
-not_ascii_text x (leaf o l) r e other = refl
-not_ascii_text x (group o g bs) r e other = refl
-not_ascii_text x (explicit c o n b) r e other = refl
+tree_ascii_text-other_tag x (unknown Universal true o n v) r e other = refl
+tree_ascii_text-other_tag x (unknown Application k o n v) r e other = refl
+tree_ascii_text-other_tag x (unknown ContextSpecific k o n v) r e other = refl
+tree_ascii_text-other_tag x (unknown Private k o n v) r e other = refl
+tree_ascii_text-other_tag x (leaf o l) r e other = refl
+tree_ascii_text-other_tag x (group o g bs) r e other = refl
+tree_ascii_text-other_tag x (explicit c o n b) r e other = refl
 
-pub no_moment : (b : Tree ℕ) → IsNoLeafWith 23 b → IsNoLeafWith 24 b → tree_moment b ≡ None
-no_moment (leaf o (utc_time m)) other more = absurd (other o (utc_time m) refl refl)
-no_moment (leaf o (generalized_time m)) other more = absurd (more o (generalized_time m) refl refl)
-no_moment (leaf o l) other more = refl
-no_moment (group o g bs) other more = refl
-no_moment (explicit c o n b) other more = refl
-no_moment (unknown c k o n v) other more = refl
+pub tree_moment-none : (b : Tree ℕ) → IsNoLeafWith 23 b → IsNoLeafWith 24 b → tree_moment b ≡ None
+tree_moment-none (leaf o (utc_time m)) other more = absurd (other o (utc_time m) refl refl)
+tree_moment-none (leaf o (generalized_time m)) other more = absurd (more o (generalized_time m) refl refl)
+tree_moment-none (leaf o l) other more = refl
+tree_moment-none (group o g bs) other more = refl
+tree_moment-none (explicit c o n b) other more = refl
+tree_moment-none (unknown c k o n v) other more = refl
 
 -- a tree has the tag number of its octets
-tag_encoded : (o : ℕ) (y : List ℕ) (b : Tree ℕ) (c : ASN1Class) (k : Bool) (n : ℕ) (w : List ℕ) (h : ℕ) →
+tree_tag-encoding : (o : ℕ) (y : List ℕ) (b : Tree ℕ) (c : ASN1Class) (k : Bool) (n : ℕ) (w : List ℕ) (h : ℕ) →
     Encodes o y b → Encoding y c k n w h
     → tree_tag b ≡ n
-tag_encoded o y (leaf p l) c k n w h s e = (one y Universal c s.1 k (leaf_tag l) n s.2 w s.3 h s.4 e).tag
-tag_encoded o y (group p g bs) c k n w h s e = (one y Universal c s.1 k (group_tag g) n s.2 w s.3 h s.4 e).tag
-tag_encoded o y (explicit d p m b) c k n w h s e = (one y d c true k m n s.2 w s.3 h s.4 e).tag
-tag_encoded o y (unknown d j p m v) c k n w h s e = (one y d c j k m n v w s.1 h s.2 e).tag
+tree_tag-encoding o y (leaf p l) c k n w h (_, bit, contents, header, F, _) e =
+    (SameEncoding-octets y Universal c bit k (leaf_tag l) n contents w header h F e).tag
+tree_tag-encoding o y (group p g bs) c k n w h (_, bit, contents, header, F, _) e =
+    (SameEncoding-octets y Universal c bit k (group_tag g) n contents w header h F e).tag
+tree_tag-encoding o y (explicit d p m b) c k n w h (_, _, contents, header, F, _) e =
+    (SameEncoding-octets y d c true k m n contents w header h F e).tag
+tree_tag-encoding o y (unknown d j p m v) c k n w h (_, header, F, _) e =
+    (SameEncoding-octets y d c j k m n v w header h F e).tag
 
 -- the identifier octets at an entry's offset, and what follows them
-record Identified (x : List ℕ) (b : Tree ℕ) (o : ℕ) : Type 0 where
+record HasIdentifierAt (x : List ℕ) (b : Tree ℕ) (o : ℕ) : Type 0 where
   identifier : List ℕ
   after : List ℕ
   class : ASN1Class
@@ -456,14 +486,16 @@ record Identified (x : List ℕ) (b : Tree ℕ) (o : ℕ) : Type 0 where
   stands : drop o x ≡ identifier ++ after
   are : IsIdentifier identifier class constructed (tree_tag b)
 
-identified : (x : List ℕ) (b : Tree ℕ) (r : Entry) → IsEntryOf x b r → Identified x b r.offset
-identified x b r e =
+-- identifier octets of an entry's tree stand at its offset
+HasIdentifierAt-entry : (x : List ℕ) (b : Tree ℕ) (r : Entry) → IsEntryOf x b r → HasIdentifierAt x b r.offset
+HasIdentifierAt-entry x b r e =
     let s = e.encoded in
     let y = e.octets in
-    let own = (encoding_of x b y s).encoding in
+    let own = (EncodingAt-encoded x b y s).encoding in
     let f = own.encoding in
     let there : drop r.offset x ≡ y ++ s.rest = subst (λ z. drop z x ≡ y ++ s.rest) (sym e.offset_is) s.at_offset in
-    let tag = tag_encoded (tree_offset b) y b own.class own.constructed own.tag own.contents own.header s.encoded f in
+    let tag =
+    tree_tag-encoding (tree_offset b) y b own.class own.constructed own.tag own.contents own.header s.encoded f in
     record {
       identifier = f.identifier;
       after = (f.len ++ own.contents) ++ s.rest;
@@ -474,20 +506,22 @@ identified x b r e =
     }
 
 -- identifier octets at the offset of an entry have the tag number of its tree
-pub tag_is : (x : List ℕ) (b : Tree ℕ) (r : Entry) (end : ℕ) (c : ASN1Class) (k : Bool) (n : ℕ) → IsEntryOf x b r
+pub tree_tag-identifier : (x : List ℕ) (b : Tree ℕ) (r : Entry) (end : ℕ) (c : ASN1Class) (k : Bool) (n : ℕ) →
+    IsEntryOf x b r
     → IsIdentifier (slice_range x r.offset end) c k n → n ≡ tree_tag b
-tag_is x b r end c k n e own =
-    let i = identified x b r e in
+tree_tag-identifier x b r end c k n e own =
+    let i = HasIdentifierAt-entry x b r e in
     let rest = drop (end - r.offset) (drop r.offset x) in
     let whole : slice_range x r.offset end ++ rest ≡ i.identifier ++ i.after =
     take-append-drop (end - r.offset) (drop r.offset x) ∙ i.stands in
     (identifier_alone (slice_range x r.offset end) i.identifier rest i.after c i.class k i.constructed n (tree_tag b)
     own i.are whole).tag
 
-pub tag_stands : (x : List ℕ) (b : Tree ℕ) (r : Entry) → IsEntryOf x b r →
+-- identifier octets stand at the offset of an entry
+pub IsEntryOf-has_identifier : (x : List ℕ) (b : Tree ℕ) (r : Entry) → IsEntryOf x b r →
     BeginsWithNo IsSomeIdentifier (drop r.offset x) → ⊥
-tag_stands x b r e none =
-    let i = identified x b r e in
+IsEntryOf-has_identifier x b r e none =
+    let i = HasIdentifierAt-entry x b r e in
     let front : take (length i.identifier) (drop r.offset x) ≡ i.identifier =
     ap (take (length i.identifier)) i.stands ∙ take_at i.identifier i.after (length i.identifier) refl in
     none (tree_tag b) (length i.identifier)

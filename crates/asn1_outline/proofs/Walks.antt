@@ -2,7 +2,7 @@
 use Rattle.std.proofs.Common.{◌≡◌, ◌≢◌, ℕ, suc, ◌+◌, ◌<◌, ◌≤◌, ◌++◌, true, List, [], ◌∷◌, Err, Global, Ok, OnOk, Result, Vec, inl, inr, length, reverse, take, refl, sym, ap, ◌∙◌, subst, arith, append_assoc, append-nil, length-append}
 use Rattle.std.proofs.lemmas.Bool.{false≢true}
 use Rattle.std.specs.declared.alloc.AllocError.{AllocError}
-use Rattle.std.proofs.lemmas.List.{length-reverse, reverse-append}
+use Rattle.std.proofs.lemmas.List.{length-reverse}
 use Rattle.asn1_headers.specs.Fault.{DecodeFault}
 use Rattle.asn1_headers.specs.declared.header.ASN1Class.TheVariants.{Universal}
 use Rattle.asn1_blocks.specs.HeadersBegun.{IsReadInside}
@@ -15,41 +15,43 @@ use Rattle.asn1_blocks.specs.declared.reading.FrameKind.TheVariants.{Whole, Grou
 use Rattle.asn1_blocks.specs.declared.reading.OpenFrame.{OpenFrame}
 use Rattle.asn1_blocks.specs.declared.reading.Reader.{Reader}
 use Rattle.asn1_blocks.specs.declared.reading.Turn.{Turn}
+use Rattle.asn1_blocks.proofs.Reader.Popping.{reverse-append_last}
 use Rattle.asn1_outline.specs.Listing.{sealed, with_items}
 use Rattle.asn1_outline.specs.Shapes.{AreShapes, HasItems, HeadersFaultAt, Shapes, as_it_came, entries_of, in_item, in_later, more_shapes, no_more, no_shapes, one_more, read_inside, shape_count, shape_entry}
 use Rattle.asn1_outline.specs.Walking.{AreOpen, GoesOn, HasTurned, IsFaulty, IsReadTo, IsReading, Leads}
 use Rattle.asn1_outline.specs.declared.entry.Entry.{Entry}
 use Rattle.asn1_outline.specs.declared.listing.EntryBuilder.{EntryBuilder}
 use Rattle.asn1_outline.specs.declared.listing.EntryItems.{EntryItems}
-use Rattle.asn1_outline.proofs.Listed.{sealed_after, take_after}
+use Rattle.asn1_outline.proofs.Listed.{sealed-behind_front, take-behind_front, with_one_more}
 
-abbrev pub Framed : Type 0
-Framed = OpenFrame EntryItems
+abbrev pub EntryFrame : Type 0
+EntryFrame = OpenFrame EntryItems
 
 abbrev pub Walk : Type 0
 Walk = Reader EntryBuilder EntryItems
 
 -- what a frame is of says whether it is an attempt
-attempt_class : (kind : FrameKind) (h : PlacedHeader) → IsKindOf kind h → is_attempt kind ≡ true → h.class ≢ Universal
-attempt_class Whole h is tries = absurd is
-attempt_class (Group g) h is tries = absurd (false≢true tries)
-attempt_class Attempt h is tries = is.0
+class-attempt : (kind : FrameKind) (h : PlacedHeader) → IsKindOf kind h → is_attempt kind ≡ true → h.class ≢ Universal
+class-attempt Whole h is tries = absurd is
+class-attempt (Group g) h is tries = absurd (false≢true tries)
+class-attempt Attempt h is tries = is.0
 
-group_class : (kind : FrameKind) (h : PlacedHeader) → IsKindOf kind h → (is_attempt kind ≡ true → ⊥) →
+-- a frame that is no attempt has the class Universal
+class-group : (kind : FrameKind) (h : PlacedHeader) → IsKindOf kind h → (is_attempt kind ≡ true → ⊥) →
     h.class ≡ Universal
-group_class Whole h is other = absurd is
-group_class (Group g) h is other = is.0
-group_class Attempt h is other = absurd (other refl)
+class-group Whole h is other = absurd is
+class-group (Group g) h is other = is.0
+class-group Attempt h is other = absurd (other refl)
 
 -- the entry of an encoding, and those of what is inside it
-abbrev pub with_inside : ℕ → PlacedHeader → Shapes → ℕ → ℕ → List Entry
-with_inside offset h items at depth =
+abbrev pub entries_from : ℕ → PlacedHeader → Shapes → ℕ → ℕ → List Entry
+entries_from offset h items at depth =
     shape_entry offset h (shape_count items) (suc at + length (entries_of (suc at) (suc depth) items))
     depth ∷ entries_of (suc at) (suc depth) items
 
 -- nothing is read yet
-pub read_none : (x : List ℕ) (s e i d : ℕ) → s ≤ e → e ≤ length x → IsReadTo x s e s i d 0 []
-read_none x s e i d order within = record {
+pub IsReadTo-start : (x : List ℕ) (s e i d : ℕ) → s ≤ e → e ≤ length x → IsReadTo x s e s i d 0 []
+IsReadTo-start x s e i d order within = record {
   from = omega arith;
   to = order;
   within = within;
@@ -61,11 +63,11 @@ read_none x s e i d order within = record {
 }
 
 -- one encoding more
-read_more : (x : List ℕ) (s e p i d n at : ℕ) (own : List Entry) (h : PlacedHeader) (items : Shapes) →
+IsReadTo-one_more : (x : List ℕ) (s e p i d n at : ℕ) (own : List Entry) (h : PlacedHeader) (items : Shapes) →
     at ≡ i + length own → IsReadTo x s e p i d n own
-    → HeaderFound x p e h → HasItems x h items → IsReadTo x s e h.end i d (n + 1) (own ++ with_inside p h items at d)
-read_more x s e p i d n at own h items here w f inside =
-    let new = with_inside p h items at d in
+    → HeaderFound x p e h → HasItems x h items → IsReadTo x s e h.end i d (n + 1) (own ++ entries_from p h items at d)
+IsReadTo-one_more x s e p i d n at own h items here w f inside =
+    let new = entries_from p h items at d in
     let next : suc at + length (entries_of (suc at) (suc d) items) ≡ i + length (own ++ new) =
     omega (arith, here, length-append own new) in
     record {
@@ -83,32 +85,38 @@ read_more x s e p i d n at own h items here w f inside =
       counted = λ rest. omega (arith, w.counted (more_shapes p h items rest));
     }
 
-abbrev pub counted : Framed → Framed
-counted f = record f { items = record f.items { count = f.items.count + 1 } }
+-- the frame with one item more
+abbrev pub with_one_counted : EntryFrame → EntryFrame
+with_one_counted f = record f { items = record f.items { count = f.items.count + 1 } }
 
 -- the places of the innermost frame
-pub record Places (x : List ℕ) (f : Framed) (p : ℕ) : Type 0 where
+pub record FramePlaces (x : List ℕ) (f : EntryFrame) (p : ℕ) : Type 0 where
   pub from : f.extent.start ≤ p
   pub to : p ≤ f.extent.end
   pub within : f.extent.end ≤ length x
 
-pub places : (x : List ℕ) (f : Framed) (gs : List Framed) (p : ℕ) (rs : List Entry) → AreOpen x f gs p rs → Places x f p
-places x f [] p rs w = record { from = w.read.from; to = w.read.to; within = w.read.within }
-places x f (g ∷ gs) p rs w = record { from = w.read.from; to = w.read.to; within = w.read.within }
+-- the innermost of open frames has been read to a place between its start and its end
+pub AreOpen-places : (x : List ℕ) (f : EntryFrame) (gs : List EntryFrame) (p : ℕ) (rs : List Entry) →
+    AreOpen x f gs p rs → FramePlaces x f p
+AreOpen-places x f [] p rs w = record { from = w.read.from; to = w.read.to; within = w.read.within }
+AreOpen-places x f (g ∷ gs) p rs w = record { from = w.read.from; to = w.read.to; within = w.read.within }
 
 -- the innermost frame has one encoding more
-pub taken : (x : List ℕ) (f : Framed) (gs : List Framed) (p : ℕ) (rs : List Entry) (h : PlacedHeader) (items : Shapes) →
+pub AreOpen-one_more : (x : List ℕ) (f : EntryFrame) (gs : List EntryFrame) (p : ℕ) (rs : List Entry) (h : PlacedHeader)
+    (items : Shapes) →
     AreOpen x f gs p rs
     → HeaderFound x p f.extent.end h → HasItems x h items →
-    AreOpen x (counted f) gs h.end (rs ++ with_inside p h items (length rs) (length gs))
-taken x f [] p rs h items w found inside = record {
+    AreOpen x (with_one_counted f) gs h.end (rs ++ entries_from p h items (length rs) (length gs))
+AreOpen-one_more x f [] p rs h items w found inside = record {
   start = w.start;
   end = w.end;
-  read = read_more x f.extent.start f.extent.end p 0 0 f.items.count (length rs) rs h items (omega arith) w.read found
+  read =
+      IsReadTo-one_more x f.extent.start f.extent.end p 0 0 f.items.count (length rs) rs h items
+      (omega arith) w.read found
       inside;
 }
-taken x f (g ∷ gs) p rs h items w found inside =
-    let new = with_inside p h items (length rs) (length (g ∷ gs)) in
+AreOpen-one_more x f (g ∷ gs) p rs h items w found inside =
+    let new = entries_from p h items (length rs) (length (g ∷ gs)) in
     let at : length rs ≡ suc f.items.entry + length w.own =
     omega (
       arith,
@@ -128,21 +136,24 @@ taken x f (g ∷ gs) p rs h items w found inside =
       start = w.start;
       end = w.end;
       kind = w.kind;
-      read = read_more x f.extent.start f.extent.end p (suc f.items.entry) (suc (length gs)) f.items.count (length rs)
+      read =
+          IsReadTo-one_more x f.extent.start f.extent.end p (suc f.items.entry) (suc (length gs)) f.items.count
+          (length rs)
           w.own h items at w.read found inside;
       around = w.around;
     }
 
--- a frame begins in it
-pub entered : (x : List ℕ) (f g : Framed) (gs : List Framed) (p : ℕ) (rs : List Entry) (h : PlacedHeader) →
+-- a frame begins in the innermost one
+pub AreOpen-enter : (x : List ℕ) (f g : EntryFrame) (gs : List EntryFrame) (p : ℕ) (rs : List Entry)
+    (h : PlacedHeader) →
     AreOpen x g gs p rs → HeaderFound x p g.extent.end h
     → IsReadInside h.class h.constructed h.tag → f.extent.start ≡ h.start → f.extent.end ≡ h.end →
     f.items.entry ≡ length rs → f.items.count ≡ 0
     → IsKindOf f.extent.kind h
     → AreOpen x f (g ∷ gs) h.start (rs ++ shape_entry p h 0 (suc (length rs)) (length gs) ∷ [])
-entered x f g gs p rs h w found inside start end entry none kind =
-    let v = places x g gs p rs w in
-    let read = read_none x h.start h.end (suc f.items.entry) (suc (length gs)) found.order
+AreOpen-enter x f g gs p rs h w found inside start end entry none kind =
+    let v = AreOpen-places x g gs p rs w in
+    let read = IsReadTo-start x h.start h.end (suc f.items.entry) (suc (length gs)) found.order
     (omega (arith, found.ends_within, v.within)) in
     record {
       offset = p;
@@ -163,11 +174,12 @@ entered x f g gs p rs h w found inside start end entry none kind =
       around = w;
     }
 
--- the innermost frame ended
-pub closed : (x : List ℕ) (f g : Framed) (gs : List Framed) (p : ℕ) (rs : List Entry) → p ≡ f.extent.end →
+-- a frame that has ended is one item more of the frame around it
+pub AreOpen-close : (x : List ℕ) (f g : EntryFrame) (gs : List EntryFrame) (p : ℕ) (rs : List Entry) →
+    p ≡ f.extent.end →
     AreOpen x f (g ∷ gs) p rs
-    → AreOpen x (counted g) gs p (sealed rs f.items.entry f.items.count)
-closed x f g gs p rs ended w =
+    → AreOpen x (with_one_counted g) gs p (sealed rs f.items.entry f.items.count)
+AreOpen-close x f g gs p rs ended w =
     let h = w.header in
     let n = f.items.count in
     let d = length gs in
@@ -175,9 +187,9 @@ closed x f g gs p rs ended w =
     let are : AreShapes x f.extent.start f.extent.end all = w.read.shapes no_shapes (no_more ended) in
     let inside : HasItems x h all = read_inside w.inside
     (subst (λ z. AreShapes x z h.end all) w.start (subst (λ z. AreShapes x f.extent.start z all) w.end are)) in
-    let made = taken x g gs w.offset w.front h all w.around w.found inside in
-    let at : AreOpen x (counted g) gs p (w.front ++ with_inside w.offset h all (length w.front) d) =
-    subst (λ z. AreOpen x (counted g) gs z (w.front ++ with_inside w.offset h all (length w.front) d))
+    let made = AreOpen-one_more x g gs w.offset w.front h all w.around w.found inside in
+    let at : AreOpen x (with_one_counted g) gs p (w.front ++ entries_from w.offset h all (length w.front) d) =
+    subst (λ z. AreOpen x (with_one_counted g) gs z (w.front ++ entries_from w.offset h all (length w.front) d))
     (sym w.end ∙ sym ended) made in
     let size : length rs ≡ length w.front + suc (length w.own) =
     ap length w.whole ∙ length-append w.front (shape_entry w.offset h 0 (suc f.items.entry) d ∷ w.own) in
@@ -186,7 +198,7 @@ closed x f g gs p rs ended w =
     let count : shape_count all ≡ n = omega (arith, w.read.counted no_shapes) in
     let next : suc (length w.front) + length (entries_of (suc (length w.front)) (suc d) all) ≡ length rs =
     omega (arith, ap length own, size) in
-    let same : w.front ++ with_inside w.offset h all (length w.front) d ≡ w.front
+    let same : w.front ++ entries_from w.offset h all (length w.front) d ≡ w.front
     ++ shape_entry w.offset h n (length rs) d ∷ w.own =
     ap (λ z. w.front ++ shape_entry w.offset h z
     (suc (length w.front) + length (entries_of (suc (length w.front)) (suc d) all)) d
@@ -197,14 +209,14 @@ closed x f g gs p rs ended w =
     let seal : sealed rs f.items.entry n ≡ w.front ++ shape_entry w.offset h n (length rs) d ∷ w.own =
     ap (λ z. sealed z f.items.entry n) w.whole
     ∙ ap (λ z. sealed (w.front ++ head ∷ w.own) z n) w.entry
-    ∙ sealed_after w.front head w.own n
+    ∙ sealed-behind_front w.front head w.own n
     ∙ ap (λ z. w.front ++ with_items n (length z) head ∷ w.own) (sym w.whole) in
-    subst (AreOpen x (counted g) gs p) (same ∙ sym seal) at
+    subst (AreOpen x (with_one_counted g) gs p) (same ∙ sym seal) at
 
 -- there is an entry of the innermost frame
-pub entry_within : (x : List ℕ) (f g : Framed) (gs : List Framed) (p : ℕ) (rs : List Entry) →
+pub entry-lt_length : (x : List ℕ) (f g : EntryFrame) (gs : List EntryFrame) (p : ℕ) (rs : List Entry) →
     AreOpen x f (g ∷ gs) p rs → f.items.entry < length rs
-entry_within x f g gs p rs w =
+entry-lt_length x f g gs p rs w =
     omega (
       arith,
       ap length w.whole,
@@ -212,35 +224,37 @@ entry_within x f g gs p rs w =
       length-append w.front (shape_entry w.offset w.header 0 (suc f.items.entry) (length gs) ∷ w.own),
     )
 
--- a fault in the innermost frame, an attempt, which stays as it came
-pub kept : (x : List ℕ) (f g : Framed) (gs : List Framed) (p : ℕ) (rs front more : List Entry) (fault : DecodeFault)
+-- an attempt with a fault stays as it came, and is one item more of the frame around it
+pub AreOpen-failed_attempt : (x : List ℕ) (f g : EntryFrame) (gs : List EntryFrame) (p : ℕ) (rs front more : List Entry)
+    (fault : DecodeFault)
     (o : ℕ) → rs ≡ front ++ more
     → AreOpen x f (g ∷ gs) p front → HeadersFaultAt x f.extent.start p f.extent.end fault o →
     is_attempt f.extent.kind ≡ true
-    → AreOpen x (counted g) gs f.extent.end (take (suc f.items.entry) rs)
-kept x f g gs p rs front more fault o whole w q tries =
+    → AreOpen x (with_one_counted g) gs f.extent.end (take (suc f.items.entry) rs)
+AreOpen-failed_attempt x f g gs p rs front more fault o whole w q tries =
     let h = w.header in
     let d = length gs in
     let q' : HeadersFaultAt x h.start h.start h.end fault o =
     subst (λ z. HeadersFaultAt x z z h.end fault o) w.start
     (subst (λ z. HeadersFaultAt x f.extent.start f.extent.start z fault o) w.end (w.read.fault fault o q)) in
-    let other : h.class ≢ Universal = attempt_class f.extent.kind h w.kind tries in
+    let other : h.class ≢ Universal = class-attempt f.extent.kind h w.kind tries in
     let bit : h.constructed ≡ true = elim w.inside [ inl u ↦ absurd (other u.0) | inr u ↦ u.1 ] in
-    let made = taken x g gs w.offset w.front h no_shapes w.around w.found (as_it_came other bit q') in
+    let made = AreOpen-one_more x g gs w.offset w.front h no_shapes w.around w.found (as_it_came other bit q') in
     let head = shape_entry w.offset h 0 (suc f.items.entry) d in
-    let own : w.front ++ with_inside w.offset h no_shapes (length w.front) d ≡ w.front ++ head ∷ [] =
+    let own : w.front ++ entries_from w.offset h no_shapes (length w.front) d ≡ w.front ++ head ∷ [] =
     ap (λ z. w.front ++ shape_entry w.offset h 0 z d ∷ []) (omega (arith, w.entry)) in
     let all : rs ≡ w.front ++ head ∷ (w.own ++ more) =
     whole ∙ ap (λ z. z ++ more) w.whole ∙ append_assoc w.front (head ∷ w.own) more in
     let cut : take (suc f.items.entry) rs ≡ w.front ++ head ∷ [] =
     ap (take (suc f.items.entry)) all
     ∙ ap (λ z. take (suc z) (w.front ++ head ∷ (w.own ++ more))) w.entry
-    ∙ take_after w.front head (w.own ++ more) in
-    subst (λ z. AreOpen x (counted g) gs z (take (suc f.items.entry) rs)) (sym w.end)
-    (subst (AreOpen x (counted g) gs h.end) (own ∙ sym cut) made)
+    ∙ take-behind_front w.front head (w.own ++ more) in
+    subst (λ z. AreOpen x (with_one_counted g) gs z (take (suc f.items.entry) rs)) (sym w.end)
+    (subst (AreOpen x (with_one_counted g) gs h.end) (own ∙ sym cut) made)
 
 -- the frame left is a group, whose fault is one of the frame around it
-pub record IsOut (x : List ℕ) (g : Framed) (gs : List Framed) (rs : List Entry) (fault : DecodeFault) (o : ℕ) : Type 0
+pub record FaultGoesOut (x : List ℕ) (g : EntryFrame) (gs : List EntryFrame) (rs : List Entry) (fault : DecodeFault)
+    (o : ℕ) : Type 0
   where
     pub reached : ℕ
     pub front : List Entry
@@ -249,11 +263,13 @@ pub record IsOut (x : List ℕ) (g : Framed) (gs : List Framed) (rs : List Entry
     pub opened : AreOpen x g gs reached front
     pub stops : HeadersFaultAt x g.extent.start reached g.extent.end fault o
 
-pub out : (x : List ℕ) (f g : Framed) (gs : List Framed) (p : ℕ) (rs front more : List Entry) (fault : DecodeFault)
+-- a fault in a group is one of the frame around it
+pub FaultGoesOut-group : (x : List ℕ) (f g : EntryFrame) (gs : List EntryFrame) (p : ℕ) (rs front more : List Entry)
+    (fault : DecodeFault)
     (o : ℕ) → rs ≡ front ++ more
     → AreOpen x f (g ∷ gs) p front → HeadersFaultAt x f.extent.start p f.extent.end fault o →
-    (is_attempt f.extent.kind ≡ true → ⊥) → IsOut x g gs rs fault o
-out x f g gs p rs front more fault o whole w q group =
+    (is_attempt f.extent.kind ≡ true → ⊥) → FaultGoesOut x g gs rs fault o
+FaultGoesOut-group x f g gs p rs front more fault o whole w q group =
     let h = w.header in
     let head = shape_entry w.offset h 0 (suc f.items.entry) (length gs) in
     let q' : HeadersFaultAt x h.start h.start h.end fault o =
@@ -265,18 +281,20 @@ out x f g gs p rs front more fault o whole w q group =
       more = head ∷ (w.own ++ more);
       whole = whole ∙ ap (λ z. z ++ more) w.whole ∙ append_assoc w.front (head ∷ w.own) more;
       opened = w.around;
-      stops = in_item w.found (group_class f.extent.kind h w.kind group) w.inside q';
+      stops = in_item w.found (class-group f.extent.kind h w.kind group) w.inside q';
     }
 
--- the frame around it ends behind it
-pub end_after : (x : List ℕ) (f g : Framed) (gs : List Framed) (p : ℕ) (rs : List Entry) → AreOpen x f (g ∷ gs) p rs →
+-- a frame ends within the frame around it
+pub end-enclosing_le : (x : List ℕ) (f g : EntryFrame) (gs : List EntryFrame) (p : ℕ) (rs : List Entry) →
+    AreOpen x f (g ∷ gs) p rs →
     f.extent.end ≤ g.extent.end
-end_after x f g gs p rs w = omega (arith, w.end, w.found.ends_within)
+end-enclosing_le x f g gs p rs w = omega (arith, w.end, w.found.ends_within)
 
 -- the document was read where no frame is open but its own, and that has ended
-pub whole_read : (x : List ℕ) (f : Framed) (p : ℕ) (rs : List Entry) → p ≡ f.extent.end → AreOpen x f [] p rs
+pub AreShapes-document : (x : List ℕ) (f : EntryFrame) (p : ℕ) (rs : List Entry) → p ≡ f.extent.end →
+    AreOpen x f [] p rs
     → (all : Shapes) × AreShapes x 0 (length x) all × (rs ≡ entries_of 0 0 all)
-whole_read x f p rs ended w =
+AreShapes-document x f p rs ended w =
     let all = w.read.and_then no_shapes in
     let are = w.read.shapes no_shapes (no_more ended) in
     let own : entries_of 0 0 all ≡ rs = w.read.entries no_shapes ∙ append-nil rs in (
@@ -285,39 +303,33 @@ whole_read x f p rs ended w =
       sym own,
     )
 
-pub whole_fault : (x : List ℕ) (f : Framed) (p : ℕ) (rs : List Entry) (fault : DecodeFault) (o : ℕ) →
+-- a fault in the frame of the document is one of the document
+pub HeadersFaultAt-document : (x : List ℕ) (f : EntryFrame) (p : ℕ) (rs : List Entry) (fault : DecodeFault) (o : ℕ) →
     AreOpen x f [] p rs
     → HeadersFaultAt x f.extent.start p f.extent.end fault o → HeadersFaultAt x 0 0 (length x) fault o
-whole_fault x f p rs fault o w q =
+HeadersFaultAt-document x f p rs fault o w q =
     subst (λ z. HeadersFaultAt x z z (length x) fault o) w.start
     (subst (λ z. HeadersFaultAt x f.extent.start f.extent.start z fault o) w.end (w.read.fault fault o q))
 
 -- frames that are open stay so when equal frames, place and entries stand for them
-pub same_open : (x : List ℕ) (f f' : Framed) (gs gs' : List Framed) (p p' : ℕ) (rs rs' : List Entry) → f' ≡ f →
+pub AreOpen-equal : (x : List ℕ) (f f' : EntryFrame) (gs gs' : List EntryFrame) (p p' : ℕ) (rs rs' : List Entry) →
+    f' ≡ f →
     gs' ≡ gs → p' ≡ p → rs' ≡ rs
     → AreOpen x f gs p rs → AreOpen x f' gs' p' rs'
-same_open x f f' gs gs' p p' rs rs' a b c d w =
+AreOpen-equal x f f' gs gs' p p' rs rs' a b c d w =
     subst (AreOpen x f' gs' p') (sym d)
     (subst (λ z. AreOpen x f' gs' z rs) (sym c)
     (subst (λ z. AreOpen x f' z p rs) (sym b) (subst (λ z. AreOpen x z gs p rs) (sym a) w)))
 
--- the last frame of a list is the first of those from the innermost on
-pub turned_round : (xs ys : List Framed) (g : Framed) → xs ≡ ys ++ g ∷ [] → reverse xs ≡ g ∷ reverse ys
-turned_round xs ys g e = ap reverse e ∙ reverse-append ys (g ∷ [])
-
--- the frame's items are one more
-abbrev pub one_item_more : EntryItems → EntryItems
-one_item_more i = record { entry = i.entry; count = i.count + 1 }
-
 module _ (x : List ℕ) (w : Walk) where
   -- a leaf is taken
-  pub leaf_taken :
+  pub GoesOn-leaf :
       (h : PlacedHeader) (b : EntryBuilder) (i : EntryItems) → IsReading x w →
       HeaderFound x w.index w.inner.extent.end h →
       HasItems x h no_shapes →
       b.entries.items ≡ w.builder.entries.items
       ++ shape_entry w.index h 0 (suc (length w.builder.entries.items)) (length w.outer.items) ∷ [] →
-      i ≡ one_item_more w.inner.items →
+      i ≡ with_one_more w.inner.items →
       GoesOn x (record {
         inner = record w.inner { items = i };
         outer = w.outer;
@@ -327,23 +339,25 @@ module _ (x : List ℕ) (w : Walk) where
             w.fault;
       })
       (work_left (length x) w.index w.outer.items)
-  leaf_taken h b i walking found inside pushed more =
+  GoesOn-leaf h b i walking found inside pushed more =
       let rs = w.builder.entries.items in
       let gs = reverse w.outer.items in
-      let v = places x w.inner gs w.index rs walking in
-      let now = taken x w.inner gs w.index rs h no_shapes walking found inside in
-      let same : b.entries.items ≡ rs ++ with_inside w.index h no_shapes (length rs) (length gs) =
+      let v = AreOpen-places x w.inner gs w.index rs walking in
+      let now = AreOpen-one_more x w.inner gs w.index rs h no_shapes walking found inside in
+      let same : b.entries.items ≡ rs ++ entries_from w.index h no_shapes (length rs) (length gs) =
       pushed
       ∙ ap (λ z. rs ++ shape_entry w.index h 0 z (length w.outer.items) ∷ []) (omega arith)
       ∙ ap (λ z. rs ++ shape_entry w.index h 0 (suc (length rs) + 0) z ∷ []) (sym (length-reverse w.outer.items)) in
       record {
-        reading = same_open x (counted w.inner) (record w.inner { items = i }) gs gs h.end h.end _ b.entries.items
+        reading =
+            AreOpen-equal x (with_one_counted w.inner)
+            (record w.inner { items = i }) gs gs h.end h.end _ b.entries.items
             (ap (λ (z : EntryItems). record w.inner { items = z }) more) refl refl same now;
         nearer = omega (arith, found.starts_after, found.order, found.ends_within, v.within);
       }
 
   -- a frame is entered
-  pub frame_entered :
+  pub GoesOn-enter :
       (h : PlacedHeader) (b : EntryBuilder) (n : ℕ) (kind : FrameKind) (r : Walk) → IsReading x w →
       HeaderFound x w.index w.inner.extent.end h →
       IsReadInside h.class h.constructed h.tag → IsKindOf kind h →
@@ -352,19 +366,20 @@ module _ (x : List ℕ) (w : Walk) where
       ++ shape_entry w.index h 0 (suc (length w.builder.entries.items)) (length w.outer.items) ∷ [] →
       IsEntered (record w { builder = b }) (in_frame (opened_at w.index kind h) (record { entry = n; count = 0 })) r →
       GoesOn x r (work_left (length x) w.index w.outer.items)
-  frame_entered h b n kind r walking found inside is_kind at pushed e =
+  GoesOn-enter h b n kind r walking found inside is_kind at pushed e =
       let rs = w.builder.entries.items in
       let gs = reverse w.outer.items in
-      let f : Framed = in_frame (opened_at w.index kind h) (record { entry = n; count = 0 }) in
-      let v = places x w.inner gs w.index rs walking in
-      let now = entered x f w.inner gs w.index rs h walking found inside refl refl at refl is_kind in
+      let f : EntryFrame = in_frame (opened_at w.index kind h) (record { entry = n; count = 0 }) in
+      let v = AreOpen-places x w.inner gs w.index rs walking in
+      let now = AreOpen-enter x f w.inner gs w.index rs h walking found inside refl refl at refl is_kind in
       let same : r.builder.entries.items ≡ rs ++ shape_entry w.index h 0 (suc (length rs)) (length gs) ∷ [] =
       ap (λ (z : EntryBuilder). z.entries.items) e.builder
       ∙ pushed
       ∙ ap (λ z. rs ++ shape_entry w.index h 0 (suc (length rs)) z ∷ []) (sym (length-reverse w.outer.items)) in
       record {
-        reading = same_open x f r.inner (w.inner ∷ gs) (reverse r.outer.items) h.start r.index _ r.builder.entries.items
-            e.inner (turned_round r.outer.items w.outer.items w.inner e.outer) e.index same now;
+        reading =
+            AreOpen-equal x f r.inner (w.inner ∷ gs) (reverse r.outer.items) h.start r.index _ r.builder.entries.items
+            e.inner (reverse-append_last r.outer.items w.outer.items w.inner e.outer) e.index same now;
         nearer = omega (
           arith,
           e.index,
@@ -377,16 +392,17 @@ module _ (x : List ℕ) (w : Walk) where
         );
       }
 
-  module _ (g : Framed) (outer : Vec Framed Global) (fault : DecodeFault) (o most : ℕ)
+  module _ (g : EntryFrame) (outer : Vec EntryFrame Global) (fault : DecodeFault) (o most : ℕ)
       (faulty : IsFaulty x w fault o most) (popped : w.outer.items ≡ outer.items ++ g ∷ []) where
-    inside_it : AreOpen x w.inner (g ∷ reverse outer.items) faulty.reached faulty.front
-    inside_it = subst (λ z. AreOpen x w.inner z faulty.reached faulty.front)
-        (turned_round w.outer.items outer.items g popped) faulty.opened
+    -- what is open where a fault is, with the frame around that was taken out of the list
+    AreOpen-popped : AreOpen x w.inner (g ∷ reverse outer.items) faulty.reached faulty.front
+    AreOpen-popped = subst (λ z. AreOpen x w.inner z faulty.reached faulty.front)
+        (reverse-append_last w.outer.items outer.items g popped) faulty.opened
 
     -- an attempt stays as it came
-    pub faulty_kept :
+    pub GoesOn-failed_attempt :
         (b : EntryBuilder) (i : EntryItems) → is_attempt w.inner.extent.kind ≡ true →
-        b.entries.items ≡ take (suc w.inner.items.entry) w.builder.entries.items → i ≡ one_item_more g.items →
+        b.entries.items ≡ take (suc w.inner.items.entry) w.builder.entries.items → i ≡ with_one_more g.items →
         GoesOn x (record {
           inner = record g { items = i };
           outer = outer;
@@ -395,28 +411,33 @@ module _ (x : List ℕ) (w : Walk) where
               b;
           fault = w.fault;
         }) most
-    faulty_kept b i tries cut more =
+    GoesOn-failed_attempt b i tries cut more =
         let gs = reverse outer.items in
         let rs = w.builder.entries.items in
-        let now = kept x w.inner g gs faulty.reached rs faulty.front faulty.more fault o faulty.whole inside_it
+        let now =
+        AreOpen-failed_attempt x w.inner g gs faulty.reached rs faulty.front faulty.more fault o faulty.whole
+        AreOpen-popped
         faulty.stops tries in
         record {
-          reading = same_open x (counted g) (record g { items = i }) gs gs w.inner.extent.end w.inner.extent.end _
+          reading =
+              AreOpen-equal x (with_one_counted g)
+              (record g { items = i }) gs gs w.inner.extent.end w.inner.extent.end _
               b.entries.items
               (ap (λ (z : EntryItems). record g { items = z }) more) refl refl cut now;
           nearer = omega (arith, faulty.nearer, ap length popped, length-append outer.items (g ∷ []));
         }
 
     -- a group hands the fault on
-    pub faulty_out : (is_attempt w.inner.extent.kind ≡ true → ⊥)
+    pub IsFaulty-enclosing : (is_attempt w.inner.extent.kind ≡ true → ⊥)
         → IsFaulty x (record { inner = g; outer = outer; index = w.index; builder = w.builder; fault = w.fault }) fault
         o most
-    faulty_out group =
+    IsFaulty-enclosing group =
         let gs = reverse outer.items in
         let rs = w.builder.entries.items in
-        let on = out x w.inner g gs faulty.reached rs faulty.front faulty.more fault o faulty.whole inside_it
+        let on =
+        FaultGoesOut-group x w.inner g gs faulty.reached rs faulty.front faulty.more fault o faulty.whole AreOpen-popped
         faulty.stops group in
-        let after = end_after x w.inner g gs faulty.reached faulty.front inside_it in
+        let after = end-enclosing_le x w.inner g gs faulty.reached faulty.front AreOpen-popped in
         record {
           reached = on.reached;
           front = on.front;
@@ -428,16 +449,16 @@ module _ (x : List ℕ) (w : Walk) where
         }
 
   -- a fault with no frame around it is that of the document
-  pub faulty_whole : (fault : DecodeFault) (o most : ℕ) → IsFaulty x w fault o most → w.outer.items ≡ []
+  pub HeadersFaultAt-faulty : (fault : DecodeFault) (o most : ℕ) → IsFaulty x w fault o most → w.outer.items ≡ []
       → HeadersFaultAt x 0 0 (length x) fault o
-  faulty_whole fault o most faulty none =
-      whole_fault x w.inner faulty.reached faulty.front fault o
+  HeadersFaultAt-faulty fault o most faulty none =
+      HeadersFaultAt-document x w.inner faulty.reached faulty.front fault o
       (subst (λ z. AreOpen x w.inner (reverse z) faulty.reached faulty.front) none faulty.opened) faulty.stops
 
   -- where a step leads
-  pub turned : (most : ℕ) (step : Result (Unit {0}) AllocError) (t : Turn) (r : Walk) → Leads step w t r →
+  pub HasTurned-stepped : (most : ℕ) (step : Result (Unit {0}) AllocError) (t : Turn) (r : Walk) → Leads step w t r →
       OnOk step (GoesOn x w most)
       → HasTurned x t r most
-  turned most (Ok u) t r is on =
+  HasTurned-stepped most (Ok u) t r is on =
       subst (λ z. HasTurned x z r most) (sym is.0) (subst (λ z. GoesOn x z most) (sym is.1) on)
-  turned most (Err a) t r is on = subst (λ z. HasTurned x z r most) (sym is.0) (inl is.1)
+  HasTurned-stepped most (Err a) t r is on = subst (λ z. HasTurned x z r most) (sym is.0) (inl is.1)

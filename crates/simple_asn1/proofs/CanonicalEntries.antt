@@ -26,8 +26,8 @@ use Rattle.asn1_blocks.proofs.Slices.{tree_offset-encodes}
 use Rattle.asn1_outline.specs.Entries.{AreEntriesOf, HasHeaderAt, no_entry}
 use Rattle.asn1_outline.specs.Structure.{AreNodes, IsNode, Node, Nodes, more_nodes, no_node, no_nodes, node, node_in_order, node_tree, nodes_depths, nodes_in_order, nodes_trees}
 use Rattle.asn1_outline.specs.declared.entry.Entry.{Entry}
-use Rattle.asn1_outline.proofs.Entries.{entries_length, entry_at}
-use Rattle.asn1_outline.proofs.Standing.{contents_stand, two_more}
+use Rattle.asn1_outline.proofs.Entries.{length-entries, IsEntry-get_or}
+use Rattle.asn1_outline.proofs.Standing.{drop-contents, length-contents_le}
 use Rattle.simple_asn1.specs.Canonical.{all_canonical, canonical, shortest_encoding}
 use Rattle.simple_asn1.specs.Inner.InEntries.{HasCanonicalAt, HasShortestAt, IsCanonicalEncoding}
 use Rattle.simple_asn1.specs.Inner.InPlace.{AreCanonicalContents}
@@ -94,14 +94,14 @@ mutual
       (is_canonical.primitive refl l refl) (is_canonical.leaf refl l refl e.5)
   node_canonical x (node (group o g items) ns) y rest s e is all =
       let is_canonical = here x y rest o Universal e.1 (group_tag g) e.2 e.3 s e.4 all.0 in
-      let stands = contents_stand x y rest Universal e.1 (group_tag g) e.2 o e.3 s e.4 in
+      let stands = drop-contents x y rest Universal e.1 (group_tag g) e.2 o e.3 s e.4 in
       let held = subst (λ z. EncodesAll (o + e.3) e.2 z) (sym is.0) e.5 in
       let inside = nodes_canonical x ns (o + e.3) e.2 rest stands held is.1 all.1 in
       renamed Universal e.1 true (group_tag g) e.2 (all_canonical items) y is_canonical.shortest
       (is_canonical.group refl g refl) (inside ∙ ap all_canonical is.0)
   node_canonical x (node (explicit c o n b) ns) y rest s e is all =
       let is_canonical = here x y rest o c true n e.2 e.3 s e.4 all.0 in
-      let stands = contents_stand x y rest c true n e.2 o e.3 s e.4 in
+      let stands = drop-contents x y rest c true n e.2 o e.3 s e.4 in
       let held = subst (λ z. EncodesAll (o + e.3) e.2 z) (sym is.0) (EncodesAll-single (o + e.3) e.2 b e.5) in
       let inside = nodes_canonical x ns (o + e.3) e.2 rest stands held is.1 all.1 in
       renamed c true true n e.2 (canonical b) y is_canonical.shortest refl
@@ -132,9 +132,9 @@ pub entries_canonical :
 entries_canonical x bs cs rs are all d e =
     let ns = are.nodes in
     let order = nodes_in_order ns in
-    let many = entries_length x 0 order (nodes_depths 0 ns) rs are.entries in
+    let many = length-entries x 0 order (nodes_depths 0 ns) rs are.entries in
     let each = each_stands x order (λ k h.
-    let own = entry_at x 0 order (nodes_depths 0 ns) rs are.entries k h in
+    let own = IsEntry-get_or x 0 order (nodes_depths 0 ns) rs are.entries k h in
     subst (HasCanonicalAt x) own.offset (all k (omega (arith, h, many)))) in
     let own : EncodesAll 0 x (nodes_trees ns) = subst (λ z. EncodesAll 0 x z) (sym are.trees) e.blocks in
     nodes_canonical x ns 0 x [] (sym (append-nil x)) own are.structure each
@@ -147,8 +147,8 @@ pub header_of :
 header_of x bs rs are k h =
     let order = nodes_in_order are.nodes in
     let depths = nodes_depths 0 are.nodes in
-    (entry_at x 0 order depths rs are.entries k
-    (omega (arith, h, entries_length x 0 order depths rs are.entries))).header
+    (IsEntry-get_or x 0 order depths rs are.entries k
+    (omega (arith, h, length-entries x 0 order depths rs are.entries))).header
 
 -- the slice where octets stand
 slice_at : (x v rest : List ℕ) (s e : ℕ) → drop s x ≡ v ++ rest → length v ≡ e - s → slice_range x s e ≡ v
@@ -174,12 +174,12 @@ module _ (x y v : List ℕ) (r : Entry) (n : ℕ) (at : EncodingAt x r.offset y)
       omega (arith, whole_size, some, ap length at.at_offset, length-append y at.rest, length-drop r.offset x)
 
   pub two_octets : 2 ≤ r.header
-  two_octets = omega (arith, whole_size, size, two_more y r.class r.constructed n v r.header e)
+  two_octets = omega (arith, whole_size, size, length-contents_le y r.class r.constructed n v r.header e)
 
   -- the contents octets of the entry stand behind its header
   pub contents_there : slice_range x (r.offset + r.header) (r.offset + r.header + r.contents) ≡ v
   contents_there =
-      let after = contents_stand x y at.rest r.class r.constructed n v r.offset r.header at.at_offset e in
+      let after = drop-contents x y at.rest r.class r.constructed n v r.offset r.header at.at_offset e in
       slice_at x v at.rest (r.offset + r.header) (r.offset + r.header + r.contents) after (omega (arith, size))
 
   -- the header stands at the front

@@ -6,8 +6,8 @@ use Rattle.simple_asn1.specs.Structure.{IsEncodedIn, IsStructure, Nodes, nodes_d
 use Rattle.simple_asn1.specs.Tree.{Tree}
 use Rattle.simple_asn1.specs.View.{tree_offset}
 use Rattle.asn1_blocks.proofs.Slices.{EncodingAt-unique}
-use Rattle.asn1_outline.proofs.Entries.{entries_length, entry_at}
-use Rattle.asn1_outline.proofs.Standing.{encoding_of, structure_stands}
+use Rattle.asn1_outline.proofs.Entries.{length-entries, IsEntry-get_or}
+use Rattle.asn1_outline.proofs.Standing.{EncodingAt-encoded, IsStanding-structure}
 use Rattle.asn1_outline.specs.Entries.{AreEntries, HasHeaderAt, no_entry}
 use Rattle.asn1_outline.specs.declared.entry.Entry.{Entry}
 use Rattle.simple_asn1_c.specs.Records.{AreRecords, HasHeader, IsRecordAt, block_of, no_record}
@@ -18,7 +18,7 @@ pub header_stands : (x : List ℕ) (b : Tree ℕ) (e : Entry) (octets : List ℕ
     e.offset ≡ tree_offset b → IsEncodedIn x b octets
     → HasHeader octets (block_of e)
 header_stands x b e octets (y, at, h) o s =
-    let there = encoding_of x b octets s in
+    let there = EncodingAt-encoded x b octets s in
     let here = subst (λ n. EncodingAt x n y) o at in
     let own : HasHeader y (block_of e) = record {
       class = e.class;
@@ -38,10 +38,10 @@ pub entries_records : (x : List ℕ) (ns : Nodes) (es : List Entry) → IsStruct
     AreEntries x 0 (nodes_in_order ns) (nodes_depths 0 ns) es
     → AreRecords x ns (map block_of es)
 entries_records x ns es d are k h =
-    let w = entry_at x 0 (nodes_in_order ns) (nodes_depths 0 ns) es are k h in
+    let w = IsEntry-get_or x 0 (nodes_in_order ns) (nodes_depths 0 ns) es are k h in
     let e = get_or es k no_entry in
-    let (octets, s, is) = structure_stands x ns d k h in
-    let l = entries_length x 0 (nodes_in_order ns) (nodes_depths 0 ns) es are in
+    let (octets, s, is) = IsStanding-structure x ns d k h in
+    let l = length-entries x 0 (nodes_in_order ns) (nodes_depths 0 ns) es are in
     let own : IsRecordAt x ns k (block_of e) = record {
       octets = octets;
       encoded = s;

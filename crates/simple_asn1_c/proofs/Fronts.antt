@@ -15,7 +15,7 @@ use Rattle.asn1_outline.specs.Listing.{IsBegun, all_hold, sealed, with_items}
 use Rattle.asn1_outline.specs.declared.entry.Entry.{Entry}
 use Rattle.asn1_outline.specs.declared.listing.EntryBuilder.{EntryBuilder}
 use Rattle.asn1_outline.specs.declared.listing.EntryItems.{EntryItems}
-use Rattle.asn1_outline.proofs.Listed.{ended, kept, leaf_built, one_more, opened}
+use Rattle.asn1_outline.proofs.Listed.{HasEndedIn-entry_builder, HasKept-entry_builder, HasLeaf-entry_builder, with_one_more, HasOpened-entry_builder}
 use Rattle.simple_asn1_c.specs.Inner.Fronts.{IsFront, holds_front}
 use Rattle.simple_asn1_c.specs.declared.front.FrontBuilder.{FrontBuilder}
 
@@ -45,7 +45,8 @@ pub front_opened :
 front_opened x h offset depth a b i r begun at none is = record {
   holds = λ kind f fs trees d k (all, w, held).
       let v = is all w in
-      let step = opened x h offset depth (whole_builder a all w) (whole_builder b (all ++ r ∷ []) v) i r begun
+      let step =
+      HasOpened-entry_builder x h offset depth (whole_builder a all w) (whole_builder b (all ++ r ∷ []) v) i r begun
       (at all w) none refl in
       (all ++ r ∷ [], v, step.holds kind f fs trees d k held);
 }
@@ -56,7 +57,7 @@ pub front_leaf :
     IsSingleAt offset (slice_range x offset h.end) →
     IsBegun x offset n depth r → ((all : List Entry) → IsFront a all → n ≡ length all) →
     ((all : List Entry) → IsFront a all → IsFront b (all ++ r ∷ [])) →
-    HasLeaf holds_front x offset h.end depth a i b (one_more i)
+    HasLeaf holds_front x offset h.end depth a i b (with_one_more i)
 front_leaf x h offset limit depth a b i r n found shut (t, none, encoded) begun at is = record {
   tree = t;
   encoded = encoded;
@@ -65,14 +66,15 @@ front_leaf x h offset limit depth a b i r n found shut (t, none, encoded) begun 
         let v = is all w in
         let y = slice_range x offset h.end in
         let own = subst (λ z. IsBegun x offset z depth r) (at all w) begun in
-        let step = leaf_built x h offset limit depth (whole_builder a all w) (whole_builder b (all ++ r ∷ []) v) i r
+        let step =
+        HasLeaf-entry_builder x h offset limit depth (whole_builder a all w) (whole_builder b (all ++ r ∷ []) v) i r
         found shut (t, none, encoded) own refl in
         let same = (Encodes-unique offset y y [] [] step.tree t step.encoded encoded refl).1 in
         let next = step.more.holds e fs ts rest d held in (
           all ++ r ∷ [],
           v,
           subst
-              (λ z. all_hold x (all ++ r ∷ []) (in_frame e (one_more i) ∷ fs) ((ts ++ z ∷ []) ∷ rest)) same next,
+              (λ z. all_hold x (all ++ r ∷ []) (in_frame e (with_one_more i) ∷ fs) ((ts ++ z ∷ []) ∷ rest)) same next,
         );
   };
 }
@@ -80,23 +82,26 @@ front_leaf x h offset limit depth a b i r n found shut (t, none, encoded) begun 
 pub front_ended :
     (x : List ℕ) (a b : FrontBuilder) (f : OpenFrame EntryItems) (i : EntryItems) (depth : ℕ) →
     ((all : List Entry) → IsFront a all → IsFront b (sealed all f.items.entry f.items.count)) →
-    HasEndedIn holds_front x f depth a i b (one_more i)
+    HasEndedIn holds_front x f depth a i b (with_one_more i)
 front_ended x a b f i depth is = record {
   holds = λ e fs ts us rest t d ends (all, w, held).
       let v = is all w in
       let step =
-      ended x (whole_builder a all w) (whole_builder b (sealed all f.items.entry f.items.count) v) f i depth refl in
+      HasEndedIn-entry_builder x (whole_builder a all w)
+      (whole_builder b (sealed all f.items.entry f.items.count) v) f i depth refl in
       (sealed all f.items.entry f.items.count, v, step.holds e fs ts us rest t d ends held);
 }
 
 pub front_kept :
     (x : List ℕ) (a b : FrontBuilder) (f : OpenFrame EntryItems) (i : EntryItems) (depth : ℕ) →
     ((all : List Entry) → IsFront a all → IsFront b (take (suc f.items.entry) all)) →
-    HasKept holds_front x f depth a i b (one_more i)
+    HasKept holds_front x f depth a i b (with_one_more i)
 front_kept x a b f i depth is = record {
   holds = λ inside lost e fs ts us rest k d m here tried none (all, w, held).
       let v = is all w in
-      let step = kept x (whole_builder a all w) (whole_builder b (take (suc f.items.entry) all) v) f i depth refl in
+      let step =
+      HasKept-entry_builder x (whole_builder a all w)
+      (whole_builder b (take (suc f.items.entry) all) v) f i depth refl in
       (take (suc f.items.entry) all, v, step.holds inside lost e fs ts us rest k d m here tried none held);
 }
 

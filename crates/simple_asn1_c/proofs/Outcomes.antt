@@ -10,7 +10,7 @@ use Rattle.simple_asn1.specs.Shapes.{FirstHeaderFaultAt, HasShapes, Shapes, entr
 use Rattle.simple_asn1.specs.Structure.{IsStructure, Nodes, nodes_depths, nodes_in_order}
 use Rattle.simple_asn1.specs.Tree.{Trees}
 use Rattle.simple_asn1_c.specs.Answers.{AnswersCheck, AnswersOutline, AnswersRead, AnswersReadStrict, AnswersRewrite, IsCanonicalStructure, IsNoMemory, IsRefused, IsRefusedByHeader, IsRefusedStrict, had_header_fault, had_no_memory, had_no_memory_strict, had_no_memory_to_check, had_no_memory_to_outline, had_no_memory_to_write, had_no_room, had_no_room_strict, had_no_room_to_write, is_no_document, was_outlined, was_read, was_read_strict, was_refused, was_refused_strict, was_refused_to_write, was_written}
-use Rattle.asn1_outline.proofs.Entries.{entries_length}
+use Rattle.asn1_outline.proofs.Entries.{length-entries}
 use Rattle.asn1_outline.specs.Entries.{AreEntries, AreEntriesOf}
 use Rattle.asn1_outline.specs.declared.entry.Entry.{Entry}
 use Rattle.simple_asn1_c.specs.Records.{AreRecords, IsRecordAt, block_of, no_record}
@@ -57,7 +57,7 @@ put_count : (octets : List ℕ) (ns : Nodes) (es : List Entry) →
     AreEntries octets 0 (nodes_in_order ns) (nodes_depths 0 ns) es
     → length (map block_of es) ≡ length (nodes_in_order ns)
 put_count octets ns es are =
-    length-map es block_of ∙ entries_length octets 0 (nodes_in_order ns) (nodes_depths 0 ns) es are
+    length-map es block_of ∙ length-entries octets 0 (nodes_in_order ns) (nodes_depths 0 ns) es are
 
 pub read_answer :
     (octets : List ℕ) (bs : Trees ℕ) (es found : List Entry) (before after : List Block) (o : Outcome) → found ≡ es →

@@ -7,8 +7,8 @@ use Rattle.asn1_blocks.specs.declared.block.GroupKind.TheVariants.{Sequence, Set
 use Rattle.asn1_headers.proofs.Prefixes.{encoding_alone}
 use Rattle.asn1_blocks.proofs.Leaves.{is_leaf_tag-leaf_tag, is_leaf_tag-not_group_tag}
 use Rattle.asn1_blocks.proofs.Slices.{EncodingAt-unique}
-use Rattle.asn1_outline.proofs.Entries.{entry_at as node_entry}
-use Rattle.asn1_outline.proofs.Standing.{encoding_of, structure_stands}
+use Rattle.asn1_outline.proofs.Entries.{IsEntry-get_or as node_entry}
+use Rattle.asn1_outline.proofs.Standing.{EncodingAt-encoded, IsStanding-structure}
 use Rattle.asn1_outline.specs.Entries.{AreEntries, IsEntry}
 use Rattle.asn1_outline.specs.Triple.{BeginWithTriple, IsUniversal, entry_at}
 use Rattle.asn1_outline.specs.declared.entry.Entry.{Entry}
@@ -42,7 +42,7 @@ tagged x n i d tag e y is s small (class, number) =
     let b = node_tree n in
     let (octets, at, h) = is.header in
     let same = EncodingAt-unique x (tree_offset b) octets y (subst (λ o. EncodingAt x o octets) is.offset at)
-    (encoding_of x b y s) in
+    (EncodingAt-encoded x b y s) in
     let t = small_tag h.tag e.tag tag h.tag_field number small in
     let own = subst (λ c. Encoding octets c e.constructed h.tag h.contents e.header) class h.encoding in
     record {
@@ -143,7 +143,7 @@ universal_entry x n i d tag e y k v h is s f small =
     let b = node_tree n in
     let (octets, at, own) = is.header in
     let same = EncodingAt-unique x (tree_offset b) octets y (subst (λ o. EncodingAt x o octets) is.offset at)
-    (encoding_of x b y s) in
+    (EncodingAt-encoded x b y s) in
     let z = encoding_alone octets y e.class Universal e.constructed k own.tag tag own.contents v e.header h [] []
     own.encoding f (ap (λ w. w ++ []) same) in
     (z.class, own.tag_field.0 (omega (arith, z.tag, small)) ∙ z.tag)
@@ -189,7 +189,7 @@ module _ (x : List ℕ) (es : List Entry) (ns : Nodes) (d : IsStructure x ns)
       let is : node_at ns k ≡ n =
       ap (λ z. get_or all z no_node) same ∙ sym (get_or-drop k all 0 no_node) ∙ ap (λ z. get_or z 0 no_node) e
       ∙ first_of n rest in
-      let (y, s, h) = structure_stands x ns d k within in
+      let (y, s, h) = IsStanding-structure x ns d k within in
       let deep = get_or (nodes_depths 0 ns) k 0 in
       let own = node_entry x 0 all (nodes_depths 0 ns) es are k within in
       let here : 0 + k ≡ k = omega arith in

@@ -2,14 +2,14 @@
 use Rattle.std.proofs.Common.{◌≡◌, ℕ, ◌+◌, ◌*◌, ◌++◌, ◌≤◌, List, [], drop, length, sym, ap, arith, append-nil, length-append}
 use Rattle.simple_asn1.specs.Grammar.{Encodes, EncodesAll}
 use Rattle.simple_asn1.specs.Structure.{AreNodes, IsNode, IsStructure, Node, Nodes, more_nodes, no_nodes, node, node_in_order, node_tree, nodes_in_order, nodes_trees}
-use Rattle.asn1_outline.proofs.Standing.{first_stands, held_in, rest_stands}
+use Rattle.asn1_outline.proofs.Standing.{drop-first, HeldIn-holds, drop-rest}
 
 mutual
   two_in : (x : List ℕ) (n : Node) (place : ℕ) (y rest : List ℕ) → drop place x ≡ y ++ rest →
       Encodes place y (node_tree n) → IsNode x n
       → 2 * length (node_in_order n) ≤ length y
   two_in x (node b ns) place y rest s e is =
-      let h = held_in x place b y rest (nodes_trees ns) s e is.0 in
+      let h = HeldIn-holds x place b y rest (nodes_trees ns) s e is.0 in
       let more = two_among x ns h.place h.contents h.rest h.at_offset h.encoded is.1 in
       omega (arith, more, h.shorter)
 
@@ -19,9 +19,9 @@ mutual
   two_among x no_nodes place v rest s e are = omega arith
   two_among x (more_nodes n ns) place v rest s e are =
       let here =
-      two_in x n place e.first (e.rest ++ rest) (first_stands x place v e.first e.rest rest s e.whole) e.item are.0 in
+      two_in x n place e.first (e.rest ++ rest) (drop-first x place v e.first e.rest rest s e.whole) e.item are.0 in
       let after = two_among x ns (place + length e.first) e.rest rest
-      (rest_stands x place v e.first e.rest rest s e.whole) e.items are.1 in
+      (drop-rest x place v e.first e.rest rest s e.whole) e.items are.1 in
       let joined = length-append (node_in_order n) (nodes_in_order ns) in
       omega (arith, here, after, ap length e.whole, length-append e.first e.rest, joined)
 

@@ -5,12 +5,13 @@ use Rattle.simple_asn1.specs.Shapes.{AreShapes, HasItems, HasShapes, Shapes, as_
 use Rattle.asn1_blocks.specs.Places.{HeaderFound}
 use Rattle.asn1_blocks.specs.declared.parsed.PlacedHeader.{PlacedHeader}
 use Rattle.asn1_blocks.proofs.ReadSteps.{length-slice_range}
-use Rattle.asn1_outline.proofs.Standing.{two_more}
+use Rattle.asn1_outline.proofs.Standing.{length-contents_le}
 
 -- a header has two octets
 two_octets : (x : List ℕ) (p e : ℕ) (h : PlacedHeader) → e ≤ length x → HeaderFound x p e h → p + 2 ≤ h.start
 two_octets x p e h within f =
-    let more = two_more (slice_range x p h.end) h.class h.constructed h.tag (slice_range x h.start h.end) (h.start - p)
+    let more =
+    length-contents_le (slice_range x p h.end) h.class h.constructed h.tag (slice_range x h.start h.end) (h.start - p)
     f.encoding in
     let all =
     length-slice_range x p h.end (omega (arith, f.starts_after, f.order)) (omega (arith, f.ends_within, within)) in

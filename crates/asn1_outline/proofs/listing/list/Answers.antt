@@ -1,7 +1,7 @@
 -- For `listing::list`: what it returns is right (`document`) and `read_into` may be called.
 use Rattle.std.proofs.Common.{[], refl, subst, sym}
 use Rattle.asn1_outline.specs.Listing.{AreOfTrees}
-use Rattle.asn1_outline.proofs.Listed.{document_entries}
+use Rattle.asn1_outline.proofs.Listed.{AreEntriesOf-document}
 use Rattle.asn1_outline.proofs.listing.list.Goals as goal
 
 pub read_into-requires-clause-empty : goal.read_into-requires-clause-empty
@@ -14,4 +14,4 @@ read_into-requires-clause-empty c = (
 pub returns-in-Ok-read_into-clause-document : goal.returns-in-Ok-read_into-clause-document
 returns-in-Ok-read_into-clause-document c =
     let d = c.in-Ok-read_into.ensures.document in
-    document_entries c.args.octets.now c.in-Ok-read_into.builder.entries.items d.trees d.document d.holds.1
+    AreEntriesOf-document c.args.octets.now c.in-Ok-read_into.builder.entries.items d.trees d.document d.holds.1

@@ -1,15 +1,15 @@
 -- For `walk::close`: what it returns is right and `seal` may be called.
 use Rattle.std.proofs.Common.{reverse, sym, subst, arith}
+use Rattle.std.proofs.lemmas.Result.{on_ok_weaker}
 use Rattle.asn1_outline.specs.Walking.{AreOpen}
 use Rattle.asn1_outline.specs.declared.listing.EntryItems.{EntryItems}
-use Rattle.asn1_outline.proofs.Listed.{if_ok}
-use Rattle.asn1_outline.proofs.Walks.{closed, counted, entry_within}
+use Rattle.asn1_outline.proofs.Walks.{AreOpen-close, with_one_counted, entry-lt_length}
 use Rattle.asn1_outline.proofs.walk.close.Goals as goal
 
 pub seal-requires : goal.seal-requires
 seal-requires c =
     let w = c.args.reader.now in
-    entry_within c.args._octets.now w.inner c.args.parent (reverse w.outer.items) w.index w.builder.entries.items
+    entry-lt_length c.args._octets.now w.inner c.args.parent (reverse w.outer.items) w.index w.builder.entries.items
     c.requires.opened
 
 pub returns : goal.returns
@@ -18,9 +18,9 @@ returns c =
     let w = c.args.reader.now in
     let g = c.args.parent in
     let rs = w.builder.entries.items in
-    let now = closed x w.inner g (reverse w.outer.items) w.index rs c.requires.ended c.requires.opened in
-    let same = subst (AreOpen x (counted g) (reverse w.outer.items) w.index) (sym c.seal.ensures) now in
-    if_ok c.add.result
+    let now = AreOpen-close x w.inner g (reverse w.outer.items) w.index rs c.requires.ended c.requires.opened in
+    let same = subst (AreOpen x (with_one_counted g) (reverse w.outer.items) w.index) (sym c.seal.ensures) now in
+    on_ok_weaker c.add.result
     (λ more. record {
       reading = subst (λ (z : EntryItems). AreOpen x (record g { items = z }) (reverse w.outer.items) w.index
           c.seal.new.self.entries.items) (sym more) same;

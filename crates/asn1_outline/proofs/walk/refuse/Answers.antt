@@ -1,9 +1,9 @@
 -- For `walk::refuse`: its loop keeps its invariant and what it returns is right.
 use Rattle.std.proofs.Common.{◌≡◌, [], true, inr, arith}
 use Rattle.std.proofs.lemmas.Grind.{common_steps}
+use Rattle.std.proofs.lemmas.Result.{on_ok_weaker}
 use Rattle.asn1_blocks.specs.Inner.OpenFrames.{is_attempt}
-use Rattle.asn1_outline.proofs.Listed.{if_ok}
-use Rattle.asn1_outline.proofs.Walks.{faulty_kept, faulty_out, faulty_whole, turned}
+use Rattle.asn1_outline.proofs.Walks.{GoesOn-failed_attempt, IsFaulty-enclosing, HeadersFaultAt-faulty, HasTurned-stepped}
 use Rattle.asn1_outline.proofs.walk.refuse.Goals as goal
 
 pub returns-then-attempt : goal.returns-then-attempt
@@ -12,9 +12,10 @@ returns-then-attempt c =
     let w = c.loop-parent.reader in
     let g = c.in-Some.parent in
     let tries : is_attempt w.inner.extent.kind ≡ true = grind (arith, common_steps) in
-    turned x _ _ c.add-step.result c.turn_of.result c.turn_of.new.reader c.turn_of.ensures
-    (if_ok c.add-step.result
-    (faulty_kept x w g c.pop.new.self _ _ _ c.loop-parent.invariant.faulty c.in-Some.ensures.items c.cut.new.self
+    HasTurned-stepped x _ _ c.add-step.result c.turn_of.result c.turn_of.new.reader c.turn_of.ensures
+    (on_ok_weaker c.add-step.result
+    (GoesOn-failed_attempt x w g c.pop.new.self _ _ _ c.loop-parent.invariant.faulty c.in-Some.ensures.items
+    c.cut.new.self
     c.add-step.new.self tries
     c.cut.ensures)
     c.add-step.ensures)
@@ -26,11 +27,12 @@ loop-parent-preserved c =
     let g = c.in-Some.parent in
     let group : is_attempt w.inner.extent.kind ≡ true → ⊥ = grind (arith, common_steps) in
     record {
-      faulty = faulty_out x w g c.pop.new.self _ _ _ c.loop-parent.invariant.faulty c.in-Some.ensures.items group;
+      faulty =
+          IsFaulty-enclosing x w g c.pop.new.self _ _ _ c.loop-parent.invariant.faulty c.in-Some.ensures.items group;
     }
 
 pub returns : goal.returns
 returns c =
     let w = c.loop-parent.reader in
     let none : w.outer.items ≡ [] = grind (arith, common_steps) in
-    inr (faulty_whole c.args._octets.now w _ _ _ c.loop-parent.invariant.faulty none)
+    inr (HeadersFaultAt-faulty c.args._octets.now w _ _ _ c.loop-parent.invariant.faulty none)

@@ -1,10 +1,10 @@
 -- For `walk::take`: what it returns is right.
 use Rattle.std.proofs.Common.{◌≡◌, ◌++◌, [], ◌∷◌, suc, length, ap, ◌∙◌, arith}
 use Rattle.std.proofs.lemmas.Grind.{common_steps}
+use Rattle.std.proofs.lemmas.Result.{on_ok_weaker}
 use Rattle.asn1_blocks.specs.HeadersBegun.{IsReadInside}
 use Rattle.asn1_outline.specs.Shapes.{not_read, shape_entry}
-use Rattle.asn1_outline.proofs.Listed.{if_ok}
-use Rattle.asn1_outline.proofs.Walks.{frame_entered, leaf_taken}
+use Rattle.asn1_outline.proofs.Walks.{GoesOn-enter, GoesOn-leaf}
 use Rattle.asn1_outline.proofs.walk.take.Goals as goal
 
 pub returns-then-is_read_inside : goal.returns-then-is_read_inside
@@ -18,8 +18,8 @@ returns-then-is_read_inside c =
     let block = c.begun-block.ensures
     ∙ ap (λ z. shape_entry w.index h 0 (suc z) c.len.result) n
     ∙ ap (λ z. shape_entry w.index h 0 (suc (length rs)) z) d in
-    if_ok c.enter.result
-    (frame_entered c.args.octets.now w h c.push.new.self c.len-entry.result c.kind_of.result c.enter.new.reader
+    on_ok_weaker c.enter.result
+    (GoesOn-enter c.args.octets.now w h c.push.new.self c.len-entry.result c.kind_of.result c.enter.new.reader
     c.requires.reading c.requires.found
     inside c.kind_of.ensures n (c.in_ok-push.ensures ∙ ap (λ z. rs ++ z ∷ []) block))
     c.enter.ensures
@@ -35,5 +35,5 @@ returns c =
     let block = c.begun-block.ensures
     ∙ ap (λ z. shape_entry w.index h 0 (suc z) c.len.result) n
     ∙ ap (λ z. shape_entry w.index h 0 (suc (length rs)) z) d in
-    leaf_taken c.args.octets.now w h c.push.new.self c.add.new.self c.requires.reading c.requires.found (not_read leaf)
+    GoesOn-leaf c.args.octets.now w h c.push.new.self c.add.new.self c.requires.reading c.requires.found (not_read leaf)
     (c.in_ok-push.ensures ∙ ap (λ z. rs ++ z ∷ []) block) c.in_ok-add.ensures

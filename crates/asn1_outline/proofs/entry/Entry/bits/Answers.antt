@@ -5,15 +5,16 @@ use Rattle.asn1_blocks.specs.BlockParts.{tree_bits}
 use Rattle.asn1_blocks.specs.Contents.{of_bit_string}
 use Rattle.asn1_blocks.specs.Tree.{bit_string}
 use Rattle.asn1_blocks.specs.View.{tree_offset}
-use Rattle.asn1_outline.proofs.Values.{leaf_faultless, leaf_is, no_bits}
+use Rattle.asn1_outline.proofs.Values.{IsLeafOf-no_fault, IsLeafOf-leaf, tree_bits-none}
 use Rattle.asn1_outline.proofs.entry.Entry.bits.Goals as goal
 
 pub returns-in_default : goal.returns-in_default
-returns-in_default c b e = no_bits b (c.in_default.ensures b e)
+returns-in_default c b e = tree_bits-none b (c.in_default.ensures b e)
 
 pub returns-in-Ok : goal.returns-in-Ok
 returns-in-Ok c b e =
-    let (p, same) = leaf_is (tree_offset b) 3 c.in-Some.contents.now b (bit_string c.in-Ok.bits.0 c.in-Ok.bits.1.items)
+    let (p, same) =
+    IsLeafOf-leaf (tree_offset b) 3 c.in-Some.contents.now b (bit_string c.in-Ok.bits.0 c.in-Ok.bits.1.items)
     (c.in-Some.ensures b e) refl c.in-Ok.ensures.found in
     ap tree_bits same
 
@@ -21,6 +22,6 @@ pub returns-in-Err : goal.returns-in-Err
 returns-in-Err c b e = elim c.in-Err.ensures.refused [
   | inl memory ↦ memory
   | inr fault ↦
-      absurd (leaf_faultless (tree_offset b) 3 c.in-Some.contents.now b (fault_of c.in-Err.e) (c.in-Some.ensures b e)
+      absurd (IsLeafOf-no_fault (tree_offset b) 3 c.in-Some.contents.now b (fault_of c.in-Err.e) (c.in-Some.ensures b e)
       (of_bit_string refl fault))
 ]

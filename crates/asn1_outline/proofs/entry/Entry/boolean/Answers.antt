@@ -5,19 +5,20 @@ use Rattle.asn1_blocks.specs.BlockParts.{tree_boolean}
 use Rattle.asn1_blocks.specs.Contents.{of_boolean}
 use Rattle.asn1_blocks.specs.Tree.{boolean}
 use Rattle.asn1_blocks.specs.View.{tree_offset}
-use Rattle.asn1_outline.proofs.Values.{leaf_faultless, leaf_is, no_boolean}
+use Rattle.asn1_outline.proofs.Values.{IsLeafOf-no_fault, IsLeafOf-leaf, tree_boolean-none}
 use Rattle.asn1_outline.proofs.entry.Entry.boolean.Goals as goal
 
 pub returns-in_default : goal.returns-in_default
-returns-in_default c b e = no_boolean b (c.in_default.ensures b e)
+returns-in_default c b e = tree_boolean-none b (c.in_default.ensures b e)
 
 pub returns-in-Ok : goal.returns-in-Ok
 returns-in-Ok c b e =
-    let (p, same) = leaf_is (tree_offset b) 1 c.in-Some.contents.now b (boolean c.in-Ok.yes) (c.in-Some.ensures b e)
+    let (p, same) =
+    IsLeafOf-leaf (tree_offset b) 1 c.in-Some.contents.now b (boolean c.in-Ok.yes) (c.in-Some.ensures b e)
     refl c.in-Ok.ensures.found in
     ap tree_boolean same
 
 pub returns-in-Err : goal.returns-in-Err
 returns-in-Err c b e =
-    absurd (leaf_faultless (tree_offset b) 1 c.in-Some.contents.now b (fault_of c.in-Err.e) (c.in-Some.ensures b e)
+    absurd (IsLeafOf-no_fault (tree_offset b) 1 c.in-Some.contents.now b (fault_of c.in-Err.e) (c.in-Some.ensures b e)
     (of_boolean refl c.in-Err.ensures.refused))

@@ -1,13 +1,13 @@
 -- For `entry::Entry::enumerated`: what it returns is right.
 use Rattle.std.proofs.Common.{◌≡◌, arith}
 use Rattle.std.proofs.lemmas.Grind.{common_steps}
-use Rattle.asn1_outline.proofs.Values.{no_enumerated, not_enumerated}
+use Rattle.asn1_outline.proofs.Values.{tree_enumerated-none, tree_enumerated-other_tag}
 use Rattle.asn1_outline.proofs.entry.Entry.enumerated.Goals as goal
 
 pub returns-then-self-ne10 : goal.returns-then-self-ne10
 returns-then-self-ne10 c b e =
     let other : c.args.self.now.tag ≡ 10 → ⊥ = grind (arith, common_steps) in
-    not_enumerated c.args.document.now b c.args.self.now e other
+    tree_enumerated-other_tag c.args.document.now b c.args.self.now e other
 
 pub returns-in-None : goal.returns-in-None
-returns-in-None c b e = no_enumerated b (c.in-None.ensures b e)
+returns-in-None c b e = tree_enumerated-none b (c.in-None.ensures b e)

@@ -5,15 +5,15 @@ use Rattle.asn1_blocks.specs.BlockParts.{tree_oid}
 use Rattle.asn1_blocks.specs.Contents.{of_object_identifier}
 use Rattle.asn1_blocks.specs.Tree.{object_identifier}
 use Rattle.asn1_blocks.specs.View.{tree_offset}
-use Rattle.asn1_outline.proofs.Values.{leaf_faultless, leaf_is, no_oid}
+use Rattle.asn1_outline.proofs.Values.{IsLeafOf-no_fault, IsLeafOf-leaf, tree_oid-none}
 use Rattle.asn1_outline.proofs.entry.Entry.oid.Goals as goal
 
 pub returns-in_default : goal.returns-in_default
-returns-in_default c b e = no_oid b (c.in_default.ensures b e)
+returns-in_default c b e = tree_oid-none b (c.in_default.ensures b e)
 
 pub returns-in-Ok : goal.returns-in-Ok
 returns-in-Ok c b e =
-    let (p, same) = leaf_is (tree_offset b) 6 c.in-Some.contents.now b (object_identifier c.in-Ok.oid)
+    let (p, same) = IsLeafOf-leaf (tree_offset b) 6 c.in-Some.contents.now b (object_identifier c.in-Ok.oid)
     (c.in-Some.ensures b e) refl c.in-Ok.ensures.found in
     ap tree_oid same
 
@@ -21,6 +21,6 @@ pub returns-in-Err : goal.returns-in-Err
 returns-in-Err c b e = elim c.in-Err.ensures.refused [
   | inl memory ↦ memory
   | inr fault ↦
-      absurd (leaf_faultless (tree_offset b) 6 c.in-Some.contents.now b (fault_of c.in-Err.e) (c.in-Some.ensures b e)
+      absurd (IsLeafOf-no_fault (tree_offset b) 6 c.in-Some.contents.now b (fault_of c.in-Err.e) (c.in-Some.ensures b e)
       (of_object_identifier refl fault))
 ]

@@ -3,24 +3,24 @@ use Rattle.std.proofs.Common.{◌≡◌, ◌++◌, [], ◌∷◌, refl, reverse,
 use Rattle.std.proofs.lemmas.Grind.{common_steps}
 use Rattle.std.proofs.lemmas.Result.{err_from_is_err_and}
 use Rattle.asn1_blocks.specs.HeadersBegun.{IsReadInside}
-use Rattle.asn1_outline.proofs.Checks.{goes_behind, goes_inside, header_faulty, walked_in}
+use Rattle.asn1_outline.proofs.Checks.{GoesOn-behind, GoesOn-inside, IsFaulty-header, IsWalkedTo-innermost}
 use Rattle.asn1_outline.proofs.header_check.HeaderWalk.read_next.Goals as goal
 
 pub header_within-requires-clause-from : goal.header_within-requires-clause-from
 header_within-requires-clause-from c =
     let w = c.args.self.now in
-    (walked_in c.args.octets.now w.inner (reverse w.outer.items) w.index c.requires.walked).from
+    (IsWalkedTo-innermost c.args.octets.now w.inner (reverse w.outer.items) w.index c.requires.walked).from
 
 pub header_within-requires-clause-more : goal.header_within-requires-clause-more
 header_within-requires-clause-more c =
     let w = c.args.self.now in
-    let v = walked_in c.args.octets.now w.inner (reverse w.outer.items) w.index c.requires.walked in
+    let v = IsWalkedTo-innermost c.args.octets.now w.inner (reverse w.outer.items) w.index c.requires.walked in
     omega (arith, v.to, c.requires.more)
 
 pub header_within-requires-clause-within : goal.header_within-requires-clause-within
 header_within-requires-clause-within c =
     let w = c.args.self.now in
-    (walked_in c.args.octets.now w.inner (reverse w.outer.items) w.index c.requires.walked).within
+    (IsWalkedTo-innermost c.args.octets.now w.inner (reverse w.outer.items) w.index c.requires.walked).within
 
 pub returns-in_err-header : goal.returns-in_err-header
 returns-in_err-header c =
@@ -28,7 +28,7 @@ returns-in_err-header c =
     rw (p.1, p.2) (elim c.in_err-header.ensures.refused [
       | inl memory ↦ (inl memory, omega arith)
       | inr fault ↦ (
-        inr (header_faulty c.args.octets.now c.args.self.now c.requires.walked _ c.requires.more fault),
+        inr (IsFaulty-header c.args.octets.now c.args.self.now c.requires.walked _ c.requires.more fault),
         omega arith,
       )
     ])
@@ -37,7 +37,7 @@ pub returns-then-not-is_read_inside : goal.returns-then-not-is_read_inside
 returns-then-not-is_read_inside c =
     let h = c.in_ok-header.header in
     let leaf : IsReadInside h.class h.constructed h.tag → ⊥ = grind (arith, common_steps) in
-    goes_behind c.args.octets.now c.args.self.now c.requires.walked h c.in_ok-header.ensures.found leaf
+    GoesOn-behind c.args.octets.now c.args.self.now c.requires.walked h c.in_ok-header.ensures.found leaf
 
 pub returns : goal.returns
 returns c =
@@ -45,5 +45,6 @@ returns c =
     let w = c.args.self.now in
     let inside : IsReadInside h.class h.constructed h.tag = c.if-not-is_read_inside.ensures.0 refl in
     let pushed : c.push.new.self.items ≡ w.outer.items ++ w.inner ∷ [] = c.in_ok-push.ensures.items in
-    goes_inside c.args.octets.now w c.requires.walked h c.is_attempt.result c.push.new.self c.in_ok-header.ensures.found
+    GoesOn-inside c.args.octets.now w c.requires.walked h c.is_attempt.result c.push.new.self
+    c.in_ok-header.ensures.found
     inside c.is_attempt.ensures pushed

@@ -1,14 +1,15 @@
 -- For `header_check::HeaderWalk::recover`: its loop keeps its invariant and what it returns is right.
 use Rattle.std.proofs.Common.{◌≡◌, ◌++◌, [], ◌∷◌, arith}
 use Rattle.std.proofs.lemmas.Grind.{common_steps}
-use Rattle.asn1_outline.proofs.Checks.{attempt_kept, fault_goes_out}
+use Rattle.asn1_outline.proofs.Checks.{GoesOn-failed_attempt, IsFaulty-enclosing}
 use Rattle.asn1_outline.proofs.header_check.HeaderWalk.recover.Goals as goal
 
 pub returns-then-attempt : goal.returns-then-attempt
 returns-then-attempt c =
     let w = c.loop-around.self in
     let popped : w.outer.items ≡ c.pop.new.self.items ++ c.in-Some.around ∷ [] = grind (arith, common_steps) in
-    attempt_kept c.args._octets.now w c.in-Some.around c.pop.new.self _ _ _ c.loop-around.invariant.faulty popped
+    GoesOn-failed_attempt c.args._octets.now w c.in-Some.around c.pop.new.self _ _ _ c.loop-around.invariant.faulty
+    popped
     c.if-attempt.true
 
 pub loop-around-preserved : goal.loop-around-preserved
@@ -16,6 +17,7 @@ loop-around-preserved c =
     let w = c.loop-around.self in
     let popped : w.outer.items ≡ c.pop.new.self.items ++ c.in-Some.around ∷ [] = grind (arith, common_steps) in
     record {
-      faulty = fault_goes_out c.args._octets.now w c.in-Some.around c.pop.new.self _ _ _ c.loop-around.invariant.faulty
+      faulty =
+          IsFaulty-enclosing c.args._octets.now w c.in-Some.around c.pop.new.self _ _ _ c.loop-around.invariant.faulty
           popped c.if-attempt.false;
     }

@@ -2,7 +2,7 @@
 use Rattle.std.proofs.Common.{◌≡◌, ◌+◌, ◌-◌, ◌∷◌, min, length, sym, ap, ◌∙◌, rules, arith}
 use Rattle.std.proofs.lemmas.List.{take_rest}
 use Rattle.asn1_outline.specs.Iterated.{still_to_come}
-use Rattle.asn1_outline.proofs.Iterating.{stepped}
+use Rattle.asn1_outline.proofs.Iterating.{still_to_come-step}
 use Rattle.asn1_outline.proofs.iter.EntriesIterator.next.Goals as goal
 
 pub returns-clause-steps : goal.returns-clause-steps
@@ -12,7 +12,8 @@ returns-clause-steps c =
     let rest = c.in_ok-entry.rest.now in
     let n = c.min-inside.result in
     let count : n ≡ min (r.next - (it.index + 1)) (length rest) = search rules in
-    sym c.self.view_is ∙ stepped it.all it.index n r it.rest.now rest c.if-self.false c.in_ok-entry.ensures.cases.0
+    sym c.self.view_is ∙ still_to_come-step it.all it.index n r it.rest.now rest c.if-self.false
+    c.in_ok-entry.ensures.cases.0
     count
     ∙ ap (λ z. (it.index, r) ∷ still_to_come it.all (it.index + 1 + n) z) (sym (take_rest rest n))
 
@@ -24,6 +25,6 @@ returns-clause-goes c =
     let n = c.min-inside.result in
     let count : n ≡ min (r.next - (it.index + 1)) (length rest) = search rules in
     let step = sym c.self.view_is
-    ∙ stepped it.all it.index n r it.rest.now rest c.if-self.false c.in_ok-entry.ensures.cases.0 count
+    ∙ still_to_come-step it.all it.index n r it.rest.now rest c.if-self.false c.in_ok-entry.ensures.cases.0 count
     ∙ ap (λ z. (it.index, r) ∷ still_to_come it.all (it.index + 1 + n) z) (sym (take_rest rest n)) in
     record { on = λ finite. (tt, tt, omega (arith, ap length step)); keeps = tt; rests = λ _. tt }

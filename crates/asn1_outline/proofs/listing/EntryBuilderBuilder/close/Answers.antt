@@ -1,13 +1,14 @@
 -- For `listing::EntryBuilderBuilder::close`: what it returns is right and `seal` may be called.
 use Rattle.std.proofs.Common.{subst, sym}
+use Rattle.std.proofs.lemmas.Result.{on_ok_weaker}
 use Rattle.asn1_blocks.specs.Inner.ReaderSteps.{HasEndedIn, in_frame}
 use Rattle.asn1_outline.specs.Listing.{builder_holds}
-use Rattle.asn1_outline.proofs.Listed.{ended, entry_within, if_ok}
+use Rattle.asn1_outline.proofs.Listed.{HasEndedIn-entry_builder, entry-lt_length}
 use Rattle.asn1_outline.proofs.listing.EntryBuilderBuilder.close.Goals as goal
 
 pub seal-requires : goal.seal-requires
 seal-requires c =
-    entry_within c.args._octets.now c.args.self.now.entries.items (in_frame c.args._extent c.args.items)
+    entry-lt_length c.args._octets.now c.args.self.now.entries.items (in_frame c.args._extent c.args.items)
     (in_frame c.requires.extent c.args.parent.now)
     c.requires.outer c.requires.trees c.requires.holds
 
@@ -18,6 +19,6 @@ returns c =
     let a = c.args.self.now in
     let b = c.seal.new.self in
     let i = c.args.parent.now in
-    if_ok c.add.result (λ u. subst (λ z. HasEndedIn builder_holds x f c.args._depth a i b z) (sym u)
-    (ended x a b f i c.args._depth c.seal.ensures))
+    on_ok_weaker c.add.result (λ u. subst (λ z. HasEndedIn builder_holds x f c.args._depth a i b z) (sym u)
+    (HasEndedIn-entry_builder x a b f i c.args._depth c.seal.ensures))
     c.add.ensures

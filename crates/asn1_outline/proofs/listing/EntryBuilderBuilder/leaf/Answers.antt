@@ -5,7 +5,7 @@ use Rattle.std.specs.List.{slice_range}
 use Rattle.std.proofs.lemmas.Grind.{common_steps}
 use Rattle.asn1_blocks.specs.Inner.ReaderSteps.{HasLeaf}
 use Rattle.asn1_outline.specs.Listing.{IsBegun, builder_holds}
-use Rattle.asn1_outline.proofs.Listed.{leaf_built}
+use Rattle.asn1_outline.proofs.Listed.{HasLeaf-entry_builder}
 use Rattle.asn1_outline.proofs.listing.EntryBuilderBuilder.leaf.Goals as goal
 
 pub returns : goal.returns
@@ -20,7 +20,8 @@ returns c =
     let at : c.len.result ≡ length a.entries.items = grind (arith, common_steps) in
     let begun = subst (λ z. IsBegun x o z c.args.depth c.started-block.result) at c.started-block.ensures in
     let single = c.in_ok-check_contents.ensures.encoded o (slice_range x o h.end) (h.start - o) found.encoding in
-    let built = leaf_built x h o limit c.args.depth a b i c.started-block.result found c.requires.leaf single begun
+    let built =
+    HasLeaf-entry_builder x h o limit c.args.depth a b i c.started-block.result found c.requires.leaf single begun
     c.in_ok-push.ensures in
     record {
       built = subst (λ z. HasLeaf builder_holds x o h.end c.args.depth a i b z) (sym c.in_ok-add.ensures) built;

@@ -5,7 +5,7 @@ use Rattle.std.specs.Prelude.{MatchOption}
 use Rattle.std.specs.Str.{chars}
 use Rattle.asn1_blocks.specs.UnknownValues.{tree_ascii_text}
 use Rattle.asn1_outline.specs.Structure.{tree_at}
-use Rattle.asn1_outline.proofs.Lent.{found_entry, none_there, option_prop}
+use Rattle.asn1_outline.proofs.Lent.{IsEntryOf-looked_up, tree_at-none, MatchOption-is_prop}
 use Rattle.asn1_outline.proofs.outline.Outline.ascii_text.Goals as goal
 
 pub returns : goal.returns
@@ -14,15 +14,15 @@ returns c ns d =
     let t = tree_at ns c.args.index in
     let found = c.ascii_text.result in
     let set : IsSet (Option (List ℕ)) = hlevel props in
-    found_entry o.octets.now o.entries.items ns c.args.index o.document d c.deref.result.now c.in-Some.entry.now
+    IsEntryOf-looked_up o.octets.now o.entries.items ns c.args.index o.document d c.deref.result.now c.in-Some.entry.now
     c.deref.ensures.value
     c.in-Some.ensures.lookup.3
     (MatchOption found (tree_ascii_text t ≡ None) (λ x. tree_ascii_text t ≡ Some (chars x.now)))
-    (option_prop found (tree_ascii_text t) (λ x. chars x.now) set)
+    (MatchOption-is_prop found (tree_ascii_text t) (λ x. chars x.now) set)
     (λ e. c.ascii_text.ensures t e)
 
 pub returns-in_default : goal.returns-in_default
 returns-in_default c ns d =
     let o = c.args.self.now in
-    ap tree_ascii_text (none_there o.octets.now o.entries.items ns c.args.index o.document d c.deref.result.now
+    ap tree_ascii_text (tree_at-none o.octets.now o.entries.items ns c.args.index o.document d c.deref.result.now
     c.deref.ensures.value c.in_default.ensures.lookup.3)

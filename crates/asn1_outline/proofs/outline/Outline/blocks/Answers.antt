@@ -6,14 +6,14 @@ use Rattle.asn1_outline.specs.Iterated.{HasEntryIn, side_by_side}
 use Rattle.asn1_outline.specs.Structure.{tree_at}
 use Rattle.asn1_outline.specs.declared.entry.Entry.{Entry}
 use Rattle.asn1_outline.proofs.Inside.{outermost_trees}
-use Rattle.asn1_outline.proofs.Iterating.{side_by_side_entries}
+use Rattle.asn1_outline.proofs.Iterating.{All-side_by_side}
 use Rattle.asn1_outline.proofs.outline.Outline.blocks.Goals as goal
 
 pub returns-clause-entries : goal.returns-clause-entries
 returns-clause-entries c =
     let es = c.args.self.now.entries.items in
     let same : c.over.result ≡ side_by_side 0 0 es = c.over.ensures ∙ ap (side_by_side 0 0) c.as_slice.ensures.value in
-    subst (All (HasEntryIn es)) (sym same) (side_by_side_entries es 0 0 es [] (sym (append-nil es)))
+    subst (All (HasEntryIn es)) (sym same) (All-side_by_side es 0 0 es [] (sym (append-nil es)))
 
 pub returns-clause-trees : goal.returns-clause-trees
 returns-clause-trees c ns d =

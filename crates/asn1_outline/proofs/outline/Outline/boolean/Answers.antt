@@ -4,7 +4,7 @@ use Rattle.std.proofs.Props.{props}
 use Rattle.std.specs.Prelude.{MatchOption}
 use Rattle.asn1_blocks.specs.BlockParts.{tree_boolean}
 use Rattle.asn1_outline.specs.Structure.{tree_at}
-use Rattle.asn1_outline.proofs.Lent.{found_entry, none_there, option_prop}
+use Rattle.asn1_outline.proofs.Lent.{IsEntryOf-looked_up, tree_at-none, MatchOption-is_prop}
 use Rattle.asn1_outline.proofs.outline.Outline.boolean.Goals as goal
 
 pub returns : goal.returns
@@ -13,10 +13,10 @@ returns c ns d =
     let t = tree_at ns c.args.index in
     let found = c.in-Ok.found in
     let set : IsSet (Option (Bool)) = hlevel props in
-    found_entry o.octets.now o.entries.items ns c.args.index o.document d c.deref.result.now c.in-Some.entry.now
+    IsEntryOf-looked_up o.octets.now o.entries.items ns c.args.index o.document d c.deref.result.now c.in-Some.entry.now
     c.deref.ensures.value
     c.in-Some.ensures.lookup.3 (MatchOption found (tree_boolean t ≡ None) (λ x. tree_boolean t ≡ Some (x)))
-    (option_prop found (tree_boolean t) (λ x. x) set)
+    (MatchOption-is_prop found (tree_boolean t) (λ x. x) set)
     (λ e. c.in-Ok.ensures t e)
 
 pub returns-in_default-boolean : goal.returns-in_default-boolean
@@ -24,7 +24,7 @@ returns-in_default-boolean c ns d =
     let o = c.args.self.now in
     let t = tree_at ns c.args.index in
     let set : IsSet (Option Bool) = hlevel props in
-    found_entry o.octets.now o.entries.items ns c.args.index o.document d c.deref.result.now c.in-Some.entry.now
+    IsEntryOf-looked_up o.octets.now o.entries.items ns c.args.index o.document d c.deref.result.now c.in-Some.entry.now
     c.deref.ensures.value
     c.in-Some.ensures.lookup.3 (tree_boolean t ≡ None) (set (tree_boolean t) None)
     (λ e. absurd (c.in_default-boolean.ensures t e))
@@ -32,5 +32,5 @@ returns-in_default-boolean c ns d =
 pub returns-in_default : goal.returns-in_default
 returns-in_default c ns d =
     let o = c.args.self.now in
-    ap tree_boolean (none_there o.octets.now o.entries.items ns c.args.index o.document d c.deref.result.now
+    ap tree_boolean (tree_at-none o.octets.now o.entries.items ns c.args.index o.document d c.deref.result.now
     c.deref.ensures.value c.in_default.ensures.lookup.3)

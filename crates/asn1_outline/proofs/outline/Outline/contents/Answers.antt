@@ -7,29 +7,31 @@ use Rattle.asn1_blocks.specs.Tree.{Tree}
 use Rattle.asn1_blocks.specs.View.{tree_offset}
 use Rattle.asn1_outline.specs.Structure.{HasContents, IsEncodedIn, tree_at}
 use Rattle.asn1_outline.specs.declared.entry.Entry.{Entry}
-use Rattle.asn1_outline.proofs.Fields.{contents_are, header_is}
-use Rattle.asn1_outline.proofs.Lent.{found_entry, found_within}
-use Rattle.asn1_outline.proofs.Standing.{contents_stand, encoding_of, structure_stands}
-use Rattle.asn1_outline.proofs.Values.{is_within, slice_at}
+use Rattle.asn1_outline.proofs.Fields.{contents-of_encoding, header-of_encoding}
+use Rattle.asn1_outline.proofs.Lent.{IsEntryOf-looked_up, nodes-within}
+use Rattle.asn1_outline.proofs.Standing.{drop-contents, EncodingAt-encoded, IsStanding-structure}
+use Rattle.asn1_outline.proofs.Values.{IsEntryOf-within, slice_range-at_offset}
 use Rattle.asn1_outline.proofs.outline.Outline.contents.Goals as goal
 
 -- the slice that an entry's fields name has the contents octets
-contents_found :
+HasContents-found :
     (x : List ℕ) (b : Tree ℕ) (r : Entry) (y : List ℕ) (s : IsEncodedIn x b y) (found : Option (Bor (List ℕ))) →
     r.offset ≡ tree_offset b →
-    r.header ≡ (encoding_of x b y s).encoding.header → r.contents ≡ length (encoding_of x b y s).encoding.contents →
+    r.header ≡ (EncodingAt-encoded x b y s).encoding.header →
+    r.contents ≡ length (EncodingAt-encoded x b y s).encoding.contents →
     r.offset + r.header + r.contents ≤ length x →
     MatchOption found (length x < r.offset + r.header + r.contents)
     (λ slice. slice.now ≡ slice_range x (r.offset + r.header) (r.offset + r.header + r.contents)) →
     IsSomeAnd found (λ slice. HasContents x b slice.now)
-contents_found x b r y s None at h n within past = omega (arith, within, past)
-contents_found x b r y s (Some slice) at h n within is =
-    let are = (encoding_of x b y s).encoding in
+HasContents-found x b r y s None at h n within past = omega (arith, within, past)
+HasContents-found x b r y s (Some slice) at h n within is =
+    let are = (EncodingAt-encoded x b y s).encoding in
     let start : r.offset + r.header ≡ tree_offset b + are.header = omega (arith, at, h) in
-    let after = contents_stand x y s.rest are.class are.constructed are.tag are.contents (tree_offset b) are.header
+    let after = drop-contents x y s.rest are.class are.constructed are.tag are.contents (tree_offset b) are.header
     s.at_offset are.encoding in
     let here = subst (λ z. drop z x ≡ are.contents ++ s.rest) (sym start) after in
-    let same = is ∙ slice_at x are.contents s.rest (r.offset + r.header) (r.offset + r.header + r.contents) here
+    let same =
+    is ∙ slice_range-at_offset x are.contents s.rest (r.offset + r.header) (r.offset + r.header + r.contents) here
     (omega (arith, n)) in
     subst (HasContents x b) (sym same) (record {
       octets = y;
@@ -56,21 +58,23 @@ returns-clause-found c ns d h =
     let all = c.deref.result.now in
     let is = c.deref.ensures.value in
     let found = c.in-Some.ensures.lookup.3 in
-    let (y, s, node) = structure_stands x ns d k (found_within x es ns k o.document d h) in
-    let are = (encoding_of x t y s).encoding in
+    let (y, s, node) = IsStanding-structure x ns d k (nodes-within x es ns k o.document d h) in
+    let are = (EncodingAt-encoded x t y s).encoding in
     let stands_prop : IsProp (r.offset ≡ tree_offset t) = hlevel props in
     let header_prop : IsProp (r.header ≡ are.header) = hlevel props in
     let contents_prop : IsProp (r.contents ≡ length are.contents) = hlevel props in
     let within_prop : IsProp (r.offset + r.header + r.contents ≤ length x) = hlevel props in
     let stands =
-    found_entry x es ns k o.document d all r is found (r.offset ≡ tree_offset t) stands_prop (λ e. e.offset_is) in
-    let header = found_entry x es ns k o.document d all r is found (r.header ≡ are.header) header_prop
-    (λ e. header_is x t r y are.class are.constructed are.tag are.contents are.header e s are.encoding) in
-    let contents = found_entry x es ns k o.document d all r is found (r.contents ≡ length are.contents) contents_prop
-    (λ e. contents_are x t r y are.class are.constructed are.tag are.contents are.header e s are.encoding) in
-    let within = found_entry x es ns k o.document d all r is found (r.offset + r.header + r.contents ≤ length x)
-    within_prop (λ e. is_within x t r e) in
-    contents_found x t r y s c.contents_in.result stands header contents within c.contents_in.ensures
+    IsEntryOf-looked_up x es ns k o.document d all r is found (r.offset ≡ tree_offset t) stands_prop
+    (λ e. e.offset_is) in
+    let header = IsEntryOf-looked_up x es ns k o.document d all r is found (r.header ≡ are.header) header_prop
+    (λ e. header-of_encoding x t r y are.class are.constructed are.tag are.contents are.header e s are.encoding) in
+    let contents =
+    IsEntryOf-looked_up x es ns k o.document d all r is found (r.contents ≡ length are.contents) contents_prop
+    (λ e. contents-of_encoding x t r y are.class are.constructed are.tag are.contents are.header e s are.encoding) in
+    let within = IsEntryOf-looked_up x es ns k o.document d all r is found (r.offset + r.header + r.contents ≤ length x)
+    within_prop (λ e. IsEntryOf-within x t r e) in
+    HasContents-found x t r y s c.contents_in.result stands header contents within c.contents_in.ensures
 
 pub returns-clause-none : goal.returns-clause-none
 returns-clause-none c h = absurd (omega (arith, h, c.in-Some.ensures.lookup.3.0, ap length c.deref.ensures.value))

@@ -7,20 +7,21 @@ use Rattle.asn1_blocks.specs.Tree.{Tree}
 use Rattle.asn1_blocks.specs.View.{tree_offset}
 use Rattle.asn1_blocks.proofs.Slices.{EncodingAt-unique}
 use Rattle.asn1_outline.specs.Structure.{IsEncodedIn, tree_at}
-use Rattle.asn1_outline.proofs.Lent.{found_entry, found_within}
-use Rattle.asn1_outline.proofs.Standing.{encoding_of, structure_stands}
+use Rattle.asn1_outline.proofs.Lent.{IsEntryOf-looked_up, nodes-within}
+use Rattle.asn1_outline.proofs.Standing.{EncodingAt-encoded, IsStanding-structure}
 use Rattle.asn1_outline.proofs.outline.Outline.encoding.Goals as goal
 
 -- the encoding at the offset of a tree is the one that encodes it
-encoded_found : (x : List ℕ) (o : ℕ) (b : Tree ℕ) (octets : List ℕ) (r : Option (Bor (List ℕ))) →
+IsEncodedIn-found : (x : List ℕ) (o : ℕ) (b : Tree ℕ) (octets : List ℕ) (r : Option (Bor (List ℕ))) →
     IfSome r (λ found. EncodingAt x o found.now)
     → IfNone r (HasNoEncodingAt x o) → tree_offset b ≡ o → IsEncodedIn x b octets →
     IsSomeAnd r (λ found. IsEncodedIn x b found.now)
-encoded_found x o b octets None found none at s =
-    none octets (subst (λ z. EncodingAt x z octets) at (encoding_of x b octets s))
-encoded_found x o b octets (Some r) found none at s =
+IsEncodedIn-found x o b octets None found none at s =
+    none octets (subst (λ z. EncodingAt x z octets) at (EncodingAt-encoded x b octets s))
+IsEncodedIn-found x o b octets (Some r) found none at s =
     subst (IsEncodedIn x b)
-    (EncodingAt-unique x o octets r.now (subst (λ z. EncodingAt x z octets) at (encoding_of x b octets s)) found) s
+    (EncodingAt-unique x o octets r.now (subst (λ z. EncodingAt x z octets) at (EncodingAt-encoded x b octets s)) found)
+    s
 
 pub returns-in_default-clause-found : goal.returns-in_default-clause-found
 returns-in_default-clause-found c ns d h =
@@ -33,12 +34,12 @@ returns-clause-found c ns d h =
     let t = tree_at ns k in
     let prop : IsProp (tree_offset t ≡ c.in-Some.entry.now.offset) = hlevel props in
     let at : tree_offset t ≡ c.in-Some.entry.now.offset =
-    found_entry o.octets.now o.entries.items ns k o.document d c.deref.result.now c.in-Some.entry.now
+    IsEntryOf-looked_up o.octets.now o.entries.items ns k o.document d c.deref.result.now c.in-Some.entry.now
     c.deref.ensures.value
     c.in-Some.ensures.lookup.3 (tree_offset t ≡ c.in-Some.entry.now.offset) prop (λ e. sym e.offset_is) in
     let (octets, s, is) =
-    structure_stands o.octets.now ns d k (found_within o.octets.now o.entries.items ns k o.document d h) in
-    encoded_found o.octets.now c.in-Some.entry.now.offset t octets c.encoding_at.result c.encoding_at.ensures.found
+    IsStanding-structure o.octets.now ns d k (nodes-within o.octets.now o.entries.items ns k o.document d h) in
+    IsEncodedIn-found o.octets.now c.in-Some.entry.now.offset t octets c.encoding_at.result c.encoding_at.ensures.found
     c.encoding_at.ensures.none at s
 
 pub returns-clause-none : goal.returns-clause-none

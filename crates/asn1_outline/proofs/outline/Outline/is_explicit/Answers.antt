@@ -2,9 +2,9 @@
 use Rattle.std.proofs.Common.{◌≡◌, ◌<◌, length, sym, ap, subst}
 use Rattle.std.proofs.Props.{props}
 use Rattle.asn1_outline.specs.Structure.{is_explicit, node_at, tree_at}
-use Rattle.asn1_outline.proofs.Fields.{explicit_is}
-use Rattle.asn1_outline.proofs.Lent.{found_entry, found_items, found_within, none_there}
-use Rattle.asn1_outline.proofs.Standing.{structure_stands}
+use Rattle.asn1_outline.proofs.Fields.{is_explicit-tested}
+use Rattle.asn1_outline.proofs.Lent.{IsEntryOf-looked_up, items-looked_up, nodes-within, tree_at-none}
+use Rattle.asn1_outline.proofs.Standing.{IsStanding-structure}
 use Rattle.asn1_outline.proofs.outline.Outline.is_explicit.Goals as goal
 
 pub returns : goal.returns
@@ -16,17 +16,17 @@ returns c ns d =
     let r = c.in-Some.entry.now in
     let found = c.in-Some.ensures.lookup.3 in
     let within = subst (λ z. k < length z) c.deref.ensures.value found.0 in
-    let (octets, s, is) = structure_stands x ns d k (found_within x es ns k o.document d within) in
-    let items = found_items x es ns k o.document d c.deref.result.now r c.deref.ensures.value found in
+    let (octets, s, is) = IsStanding-structure x ns d k (nodes-within x es ns k o.document d within) in
+    let items = items-looked_up x es ns k o.document d c.deref.result.now r c.deref.ensures.value found in
     let said = c.is_explicit.result in
     let prop : IsProp (said ≡ is_explicit (tree_at ns k)) = hlevel props in
-    found_entry x es ns k o.document d c.deref.result.now r c.deref.ensures.value found
+    IsEntryOf-looked_up x es ns k o.document d c.deref.result.now r c.deref.ensures.value found
     (said ≡ is_explicit (tree_at ns k)) prop
-    (λ e. explicit_is x r (node_at ns k) said is e items c.is_explicit.ensures)
+    (λ e. is_explicit-tested x r (node_at ns k) said is e items c.is_explicit.ensures)
 
 pub returns-in_default : goal.returns-in_default
 returns-in_default c ns d =
     let o = c.args.self.now in
-    sym (ap is_explicit (none_there o.octets.now o.entries.items ns c.args.index o.document d c.deref.result.now
+    sym (ap is_explicit (tree_at-none o.octets.now o.entries.items ns c.args.index o.document d c.deref.result.now
     c.deref.ensures.value
     c.in_default.ensures.lookup.3))

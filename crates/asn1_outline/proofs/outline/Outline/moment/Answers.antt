@@ -5,7 +5,7 @@ use Rattle.std.specs.Prelude.{MatchOption}
 use Rattle.asn1_leaves.specs.Contents.Moment.{Moment, moment_of}
 use Rattle.asn1_blocks.specs.BlockParts.{tree_moment}
 use Rattle.asn1_outline.specs.Structure.{tree_at}
-use Rattle.asn1_outline.proofs.Lent.{found_entry, none_there, option_prop}
+use Rattle.asn1_outline.proofs.Lent.{IsEntryOf-looked_up, tree_at-none, MatchOption-is_prop}
 use Rattle.asn1_outline.proofs.outline.Outline.moment.Goals as goal
 
 pub returns : goal.returns
@@ -14,14 +14,14 @@ returns c ns d =
     let t = tree_at ns c.args.index in
     let found = c.in-Ok.found in
     let set : IsSet (Option (Moment)) = hlevel props in
-    found_entry o.octets.now o.entries.items ns c.args.index o.document d c.deref.result.now c.in-Some.entry.now
+    IsEntryOf-looked_up o.octets.now o.entries.items ns c.args.index o.document d c.deref.result.now c.in-Some.entry.now
     c.deref.ensures.value
     c.in-Some.ensures.lookup.3 (MatchOption found (tree_moment t ≡ None) (λ x. tree_moment t ≡ Some (moment_of x)))
-    (option_prop found (tree_moment t) (λ x. moment_of x) set)
+    (MatchOption-is_prop found (tree_moment t) (λ x. moment_of x) set)
     (λ e. c.in-Ok.ensures t e)
 
 pub returns-in_default : goal.returns-in_default
 returns-in_default c ns d =
     let o = c.args.self.now in
-    ap tree_moment (none_there o.octets.now o.entries.items ns c.args.index o.document d c.deref.result.now
+    ap tree_moment (tree_at-none o.octets.now o.entries.items ns c.args.index o.document d c.deref.result.now
     c.deref.ensures.value c.in_default.ensures.lookup.3)

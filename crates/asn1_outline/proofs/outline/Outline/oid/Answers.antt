@@ -4,7 +4,7 @@ use Rattle.std.proofs.Props.{props}
 use Rattle.std.specs.Prelude.{MatchOption}
 use Rattle.asn1_blocks.specs.BlockParts.{tree_oid}
 use Rattle.asn1_outline.specs.Structure.{tree_at}
-use Rattle.asn1_outline.proofs.Lent.{found_entry, none_there, option_prop}
+use Rattle.asn1_outline.proofs.Lent.{IsEntryOf-looked_up, tree_at-none, MatchOption-is_prop}
 use Rattle.asn1_outline.proofs.outline.Outline.oid.Goals as goal
 
 pub returns-in-Ok : goal.returns-in-Ok
@@ -13,14 +13,14 @@ returns-in-Ok c ns d =
     let t = tree_at ns c.args.index in
     let found = c.in-Ok.found in
     let set : IsSet (Option (List ℕ)) = hlevel props in
-    found_entry o.octets.now o.entries.items ns c.args.index o.document d c.deref.result.now c.in-Some.entry.now
+    IsEntryOf-looked_up o.octets.now o.entries.items ns c.args.index o.document d c.deref.result.now c.in-Some.entry.now
     c.deref.ensures.value
     c.in-Some.ensures.lookup.3 (MatchOption found (tree_oid t ≡ None) (λ x. tree_oid t ≡ Some (x)))
-    (option_prop found (tree_oid t) (λ x. x) set)
+    (MatchOption-is_prop found (tree_oid t) (λ x. x) set)
     (λ e. c.in-Ok.ensures t e)
 
 pub returns-in_default : goal.returns-in_default
 returns-in_default c ns d =
     let o = c.args.self.now in
-    ap tree_oid (none_there o.octets.now o.entries.items ns c.args.index o.document d c.deref.result.now
+    ap tree_oid (tree_at-none o.octets.now o.entries.items ns c.args.index o.document d c.deref.result.now
     c.deref.ensures.value c.in_default.ensures.lookup.3)

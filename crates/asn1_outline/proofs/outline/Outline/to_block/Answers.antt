@@ -4,9 +4,9 @@ use Rattle.std.proofs.lemmas.List.{drop_all, get_or_default}
 use Rattle.asn1_outline.specs.Building.{IsNext, built_trees, roots}
 use Rattle.asn1_outline.specs.Entries.{no_entry}
 use Rattle.asn1_outline.specs.Structure.{node_at, node_in_order, tree_at}
-use Rattle.asn1_outline.proofs.BuildSteps.{built_more, next_is, only_built}
-use Rattle.asn1_outline.proofs.Lent.{looked_up, next_at, next_within}
-use Rattle.asn1_outline.proofs.Roots.{roots_whole}
+use Rattle.asn1_outline.proofs.BuildSteps.{built_trees-block_pushed, IsNext-entry, view-only_built}
+use Rattle.asn1_outline.proofs.Lent.{get_or-looked_up, next-node_in_order, next-within}
+use Rattle.asn1_outline.proofs.Roots.{roots-one_node}
 use Rattle.asn1_outline.proofs.outline.Outline.to_block.Goals as goal
 
 pub loop-i-init : goal.loop-i-init
@@ -16,8 +16,8 @@ loop-i-init c =
     let es = o.entries.items in
     let k = c.args.index in
     let (h, is) =
-    looked_up es c.deref.result.now k c.in-Some.entry.now c.deref.ensures.value c.in-Some.ensures.lookup.3 in
-    let (first, last) = next_within x es k o.document h in
+    get_or-looked_up es c.deref.result.now k c.in-Some.entry.now c.deref.ensures.value c.in-Some.ensures.lookup.3 in
+    let (first, last) = next-within x es k o.document h in
     let next = ap (λ z. z.next) is in
     record {
       from = omega (arith, first, next);
@@ -25,7 +25,7 @@ loop-i-init c =
       to = omega (arith, next);
       built = λ ns d.
           let own = node_in_order (node_at ns k) in
-          let over = next_at x es ns k o.document d h in
+          let over = next-node_in_order x es ns k o.document d h in
           ap built_trees c.new-built.ensures
           ∙ sym (ap roots (drop_all (c.in-Some.entry.now.next - k) own (omega (arith, over, next))));
     }
@@ -39,25 +39,25 @@ loop-i-preserved c =
     let i = c.loop-i.i in
     let j = i - 1 - k in
     let (h, is) =
-    looked_up es c.deref.result.now k c.in-Some.entry.now c.deref.ensures.value c.in-Some.ensures.lookup.3 in
+    get_or-looked_up es c.deref.result.now k c.in-Some.entry.now c.deref.ensures.value c.in-Some.ensures.lookup.3 in
     record {
       from = omega arith;
       within = omega arith;
       to = omega arith;
       built = λ ns d.
           let own = node_in_order (node_at ns k) in
-          let over = next_at x es ns k o.document d h in
+          let over = next-node_in_order x es ns k o.document d h in
           let l : j < length own = omega (arith, over) in
           let within : k + j < length es = omega arith in
           let one : i - k ≡ j + 1 = omega arith in
           let here : i - 1 ≡ k + j = omega arith in
           let built = c.loop-i.invariant.built ns d ∙ ap (λ z. roots (drop z own)) one in
-          let next = next_is x es ns o.document d k h j l within (built_trees c.loop-i.built) built in
+          let next = IsNext-entry x es ns o.document d k h j l within (built_trees c.loop-i.built) built in
           let same : c.index.result.now ≡ get_or es (k + j) no_entry =
           c.index.ensures ∙ get_or_default es (i - 1) c.index.result.now no_entry (omega arith)
           ∙ ap (λ z. get_or es z no_entry) here in
           let own_next = subst (λ z. IsNext x (node_at ns (k + j)) z (built_trees c.loop-i.built)) (sym same) next in
-          built_more x es ns o.document d k h j l c.loop-i.built c.block_of.new.built c.push.new.self
+          built_trees-block_pushed x es ns o.document d k h j l c.loop-i.built c.block_of.new.built c.push.new.self
           c.in_ok-block.block built
           (c.in_ok-block.ensures.block (node_at ns (k + j)) own_next)
           (c.in_ok-block.ensures.rest (node_at ns (k + j)) own_next) c.in_ok-push.ensures;
@@ -68,5 +68,5 @@ returns-clause-found c ns d h =
     let k = c.args.index in
     let own = node_in_order (node_at ns k) in
     let none : c.loop-i.i - k ≡ 0 = omega arith in
-    let all = c.loop-i.invariant.built ns d ∙ ap (λ z. roots (drop z own)) none ∙ roots_whole (node_at ns k) in
-    only_built c.loop-i.built c.pop.new.self (tree_at ns k) c.pop.result all c.pop.ensures
+    let all = c.loop-i.invariant.built ns d ∙ ap (λ z. roots (drop z own)) none ∙ roots-one_node (node_at ns k) in
+    view-only_built c.loop-i.built c.pop.new.self (tree_at ns k) c.pop.result all c.pop.ensures

@@ -1,7 +1,7 @@
 -- For `within::FrontBuilderBuilder::close`: what it returns is right.
 use Rattle.std.proofs.Common.{subst, sym}
+use Rattle.std.proofs.lemmas.Result.{on_ok_weaker}
 use Rattle.asn1_blocks.specs.Inner.ReaderSteps.{HasEndedIn, in_frame}
-use Rattle.asn1_outline.proofs.Listed.{if_ok}
 use Rattle.simple_asn1_c.specs.Inner.Fronts.{holds_front}
 use Rattle.simple_asn1_c.proofs.Fronts.{front_ended}
 use Rattle.simple_asn1_c.proofs.within.FrontBuilderBuilder.close.Goals as goal
@@ -13,6 +13,6 @@ returns c =
     let a = c.args.self.now in
     let b = c.seal.new.self in
     let i = c.args.parent.now in
-    if_ok c.add.result
+    on_ok_weaker c.add.result
     (λ u. subst (λ z. HasEndedIn holds_front x f c.args._depth a i b z) (sym u)
     (front_ended x a b f i c.args._depth c.seal.ensures)) c.add.ensures

@@ -1,7 +1,7 @@
 -- For `within::FrontBuilderBuilder::keep`: what it returns is right.
 use Rattle.std.proofs.Common.{subst, sym}
+use Rattle.std.proofs.lemmas.Result.{on_ok_weaker}
 use Rattle.asn1_blocks.specs.Inner.ReaderSteps.{HasKept, in_frame}
-use Rattle.asn1_outline.proofs.Listed.{if_ok}
 use Rattle.simple_asn1_c.specs.Inner.Fronts.{holds_front}
 use Rattle.simple_asn1_c.proofs.Fronts.{front_kept}
 use Rattle.simple_asn1_c.proofs.within.FrontBuilderBuilder.keep.Goals as goal
@@ -13,6 +13,6 @@ returns c =
     let a = c.args.self.now in
     let b = c.cut.new.self in
     let i = c.args.parent.now in
-    if_ok c.add.result
+    on_ok_weaker c.add.result
     (λ u. subst (λ z. HasKept holds_front x f c.args._depth a i b z) (sym u)
     (front_kept x a b f i c.args._depth c.cut.ensures)) c.add.ensures
